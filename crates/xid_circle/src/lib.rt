@@ -1,0 +1,97 @@
+//! Transaction ids and places in a table.
+//!
+//! A transaction id is a number of 32 bits. Ids are given one after another, and after the last number the next is 3
+//! again, so they stand on a circle and have no order as plain numbers (PostgreSQL manual, Routine Vacuuming, "Preventing
+//! Transaction ID Wraparound Failures"). The contract promises that [`precedes`], [`next`] and [`distance`] are what
+//! `specs/Circle.antt` defines, and by [`order_of_giving`] that within less than half of the circle the order of ids is
+//! that in which they were given. Whoever compares ids keeps those that are in use within such a window.
+#![tactic(auto)]
+
+ghost use Rattle.std.specs.Prelude.{◌≡◌, ◌≤◌, IsTrue, ◌↔◌};
+ghost use Rattle.xid_circle.specs.Circle.{distance_of, IsNormal, next_of, Precedes, OrderIsThatOfGiving};
+
+/// A transaction id. 0, 1 and 2 are no ids of transactions; all others are normal.
+#[derive(Clone, Copy, Debug, PartialEq, Eq)]
+pub struct Xid(pub u32);
+
+impl Xid {
+    /// No id, as the deleter of a version that nobody deleted.
+    pub const INVALID: Xid = Xid(0);
+    /// Once meant a row that everybody sees. A mark in the row says so here, and no row has this id.
+    pub const FROZEN: Xid = Xid(2);
+    /// The first normal id, which also follows the last number.
+    pub const FIRST_NORMAL: Xid = Xid(3);
+
+    /// Whether a transaction can have this id: it is 3 or more.
+    pub fn is_normal(self) -> bool
+        ensures { IsTrue result ↔ IsNormal self.0 }
+    {
+        self.0 >= Xid::FIRST_NORMAL.0
+    }
+}
+
+/// The place of a version in the table: a page, counted from 0, and a slot of that page, counted from 1.
+#[derive(Clone, Copy, Debug, PartialEq, Eq)]
+pub struct Tid {
+    pub page: u32,
+    pub slot: u16,
+}
+
+/// Whether `a` stands before `b` on the circle: `a - b`, modulo 2^32 and read as signed, is negative. Both ids are normal.
+pub fn precedes(a: Xid, b: Xid) -> bool
+    requires normal { IsNormal a.0 }
+    requires normal_too { IsNormal b.0 }
+    ensures { IsTrue result ↔ Precedes a.0 b.0 }
+{
+    a.0.wrapping_sub(b.0).cast_signed() < 0
+}
+
+/// The id that is given after the normal id `a`: 3 after 4294967295, else one more.
+pub fn next(a: Xid) -> Xid
+    requires { IsNormal a.0 }
+    ensures value { result.0 ≡ next_of a.0 }
+    ensures normal { IsNormal result.0 }
+{
+    if a.0 == u32::MAX {
+        Xid::FIRST_NORMAL
+    } else {
+        Xid(a.0 + 1)
+    }
+}
+
+/// How many numbers `to` lies above `from`, going round: `to - from` modulo 2^32, so the numbers 0, 1 and 2, which are
+/// never given, count too. Both ids are normal.
+pub fn distance(from: Xid, to: Xid) -> u32
+    requires normal { IsNormal from.0 }
+    requires normal_too { IsNormal to.0 }
+    ensures { result ≡ distance_of from.0 to.0 }
+{
+    to.0.wrapping_sub(from.0)
+}
+
+/// The law of the circle: of ids that are given after one id, less than once round and less than 2^31 away from it, that
+/// precedes which was given first. It does nothing; its contract is the law.
+pub fn order_of_giving()
+    ensures { OrderIsThatOfGiving }
+{}
+
+#[cfg(test)]
+mod tests {
+    use super::{Tid, Xid, distance, next, order_of_giving, precedes};
+
+    #[test]
+    fn ids_go_round(rt: HostRuntime) {
+        assert!(rt; precedes(Xid(4294967295), Xid(3)));
+        assert!(rt; !precedes(Xid(3), Xid(4294967295)));
+        assert!(rt; !precedes(Xid(2147483650), Xid(3)));
+        assert!(rt; precedes(Xid(3), Xid(2147483650)));
+        assert_eq!(rt; next(Xid(4294967295)), Xid(3));
+        assert_eq!(rt; next(Xid(3)), Xid(4));
+        assert_eq!(rt; distance(Xid(4294967294), Xid(3)), 5);
+        assert!(rt; Xid(3).is_normal());
+        assert!(rt; !Xid::FROZEN.is_normal());
+        order_of_giving();
+        let place = Tid { page: 0, slot: 1 };
+        assert_eq!(rt; place, place);
+    }
+}
