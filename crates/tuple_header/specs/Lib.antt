@@ -1,0 +1,4 @@
+pub mod Version
+pub mod Layout
+pub mod Faults
+pub mod Marks
