@@ -1,0 +1,21 @@
+//! A page of the table, as a list of slots.
+//!
+//! A page has at most 291 slots, numbered from 1; a slot is unused, holds a version, leads to another slot, or is dead
+//! (PostgreSQL manual, Database Page Layout). The contract sees a [`Page`] as the record of `specs/View.antt`: its slots, a
+//! change number, the all-visible flag, and how many slots can be added without memory. It promises that a call changes
+//! nothing but what it names, that [`Page::add`] takes the lowest unused slot and is full exactly where the version is
+//! larger than the room, and that each slot that is afterwards not the same otherwise than in hints raises the change
+//! number by one, modulo 2^64. What stands at a number, the room and the change number are defined in `specs/Slots.antt`,
+//! hints in `specs/Hints.antt`; `proofs/SlotLemmas.antt` says, for the crates above, what each change does to the map from
+//! numbers to slots.
+#![tactic(auto)]
+
+mod hints;
+mod page;
+mod slot;
+
+pub use page::{AddFault, Page};
+pub use slot::Slot;
+
+#[cfg(test)]
+mod tests;

@@ -1,0 +1,289 @@
+//! Pages.
+
+ghost use Rattle.std.specs.Prelude.{◌≡◌, ◌≤◌, ◌<◌, ◌+◌, ◌%◌, ◌^◌, ℕ, ◌*◌, IsTrue, [], true, false, length, sum_by, OnOk, OnErr, IfOk, IfSome, IsSome, ◌↔◌, None, if◌then◌else◌, option_copied};
+ghost use Rattle.tuple_header.specs.Version.{rounded_size_of};
+ghost use Rattle.tuple_header.specs.Faults.{header_fault};
+ghost use Rattle.page_slots.specs.Slots.{is_unused, is_dead, leads_to, slot_at, header_at, row_at, key_at, IsThere, IsNormalAt, the_slot, with_slot, with_header_at, has_unused, free_number, with_added, taken, room_of, next_change, change_unless, differs_in_hints_alone};
+
+use crate::hints::differ_in_hints_alone;
+use crate::slot::{Slot, first_unused, taken_by_all};
+use std::alloc::{AllocError, Global};
+use std::marker::Model;
+use thiserror::Error;
+use tuple_header::{Header, Row, Tuple, size};
+
+/// Why a version was not added.
+#[derive(Clone, Copy, Debug, PartialEq, Eq, Error)]
+pub enum AddFault {
+    /// The version's size is over the page's room.
+    #[error("there is no room on the page")]
+    Full,
+    /// A new slot was needed, and memory for it was refused.
+    #[error("there is no memory")]
+    NoMemory,
+}
+
+/// A page of the table: at most 291 slots, whose pointers and versions take at most 8168 bytes.
+#[derive(Debug, Drop)]
+pub struct Page {
+    slots: Vec<Slot>,
+    change: u64,
+    flag: bool,
+}
+
+impl Model for Page {
+    ghost use Rattle.std.specs.Prelude.{◌-◌, ◌+◌, ◌*◌, ◌≤◌, vec_len, vec_capacity, length, sum_by};
+    ghost use Rattle.page_slots.specs.View.{PageView};
+
+    ghost Value = { PageView };
+
+    ghost use Rattle.page_slots.specs.Slots.{taken};
+
+    ghost view = { λ p. record { slots = p.slots.items; change = p.change; flag = p.flag; spare = vec_capacity p.slots - vec_len p.slots } };
+
+    ghost invariant = { λ p. (length p.slots.items ≤ 291) × (4 * length p.slots.items + sum_by taken p.slots.items ≤ 8168) };
+}
+
+impl Page {
+    /// A page with no slot, never changed, on which not all is visible to all.
+    pub fn new(alloc: Global) -> Self
+        ensures slots { result.slots ≡ [] }
+        ensures change { result.change ≡ 0 }
+        ensures flag { result.flag ≡ false }
+    {
+        Page {
+            slots: Vec::new(alloc),
+            change: 0,
+            flag: false,
+        }
+    }
+
+    /// The number of slots, at most 291.
+    pub fn slots(&self) -> u16
+        ensures count { result ≡ length self.now.slots }
+        ensures limit { result ≤ 291 }
+    {
+        self.slots.len() as u16
+    }
+
+    /// How often a slot was changed otherwise than in hints, modulo 2^64.
+    pub fn change(&self) -> u64
+        ensures { result ≡ self.now.change }
+    {
+        self.change
+    }
+
+    /// Whether all versions are visible to all, as last set.
+    pub fn flag(&self) -> bool
+        ensures { result ≡ self.now.flag }
+    {
+        self.flag
+    }
+
+    /// Sets whether all versions are visible to all. The change number stays.
+    pub fn set_flag(&mut self, flag: bool)
+        ensures { self.new ≡ record self.old { flag = flag } }
+    {
+        self.flag = flag;
+    }
+
+    // The slot of this number, if there is one.
+    fn get(&self, number: u16) -> Option<&Slot>
+        ensures { option_copied result ≡ slot_at self.now.slots number }
+    {
+        if number == 0 || usize::from(number) > self.slots.len() {
+            return None;
+        }
+        Some(&self.slots[usize::from(number) - 1])
+    }
+
+    /// The slot of this number, by value, if there is one. It takes no memory.
+    pub fn slot(&self, number: u16) -> Option<Slot>
+        ensures value { result ≡ slot_at self.now.slots number }
+        ensures there { IsSome result ↔ IsThere self.now.slots number }
+    {
+        Some(self.get(number)?.copy())
+    }
+
+    /// The header of the version in the slot of this number, if that is there and normal.
+    pub fn header(&self, number: u16) -> Option<Header>
+        ensures value { result ≡ header_at self.now.slots number }
+        ensures there { IsSome result → IsThere self.now.slots number }
+        ensures normal { IsSome result ↔ IsNormalAt self.now.slots number }
+        ensures faultless { IfSome result (λ header. header_fault header ≡ None) }
+    {
+        self.get(number)?.header()
+    }
+
+    /// The key of the version in the slot of this number, if that is there and normal.
+    pub fn key(&self, number: u16) -> Option<u64>
+        ensures value { result ≡ key_at self.now.slots number }
+        ensures there { IsSome result → IsThere self.now.slots number }
+        ensures normal { IsSome result ↔ IsNormalAt self.now.slots number }
+    {
+        self.get(number)?.key()
+    }
+
+    /// The row of the version in the slot of this number, if that is there and normal. It takes no memory.
+    pub fn row(&self, number: u16) -> Option<Row>
+        ensures value { result ≡ row_at self.now.slots number }
+        ensures there { IsSome result → IsThere self.now.slots number }
+        ensures normal { IsSome result ↔ IsNormalAt self.now.slots number }
+    {
+        self.get(number)?.row()
+    }
+
+    /// The number that the next version added gets: of the lowest unused slot, or else of a new last one. It is 292 where
+    /// there is no place.
+    pub fn free_number(&self) -> u16
+        ensures value { result ≡ free_number self.now.slots }
+        ensures limit { result ≤ 292 }
+    {
+        first_unused(&self.slots) as u16 + 1
+    }
+
+    /// The largest size of a version that fits, in bytes, as if versions were moved together: of 8168 bytes what neither
+    /// versions nor pointers of 4 bytes take, less 4 for a new slot where none is unused.
+    pub fn room(&self) -> usize
+        ensures value { result ≡ room_of self.now.slots }
+        ensures limit { result ≤ 8164 }
+        ensures place { 0 < result → free_number self.now.slots ≤ 291 }
+    {
+        room_in(&self.slots)
+    }
+}
+
+fn room_in(slots: &[Slot]) -> usize
+    requires few { length slots.now ≤ 291 }
+    requires fit { 4 * length slots.now + sum_by taken slots.now ≤ 8168 }
+    ensures value { result ≡ room_of slots.now }
+    ensures limit { result ≤ 8164 }
+    ensures place { 0 < result → free_number slots.now ≤ 291 }
+{
+    let free = 8168 - (4 * slots.len() + taken_by_all(slots));
+    if first_unused(slots) < slots.len() {
+        free
+    } else if slots.len() < 291 {
+        free.saturating_sub(4)
+    } else {
+        0
+    }
+}
+
+impl Page {
+    /// Adds a version in the lowest unused slot, or else in a new last one, and answers the slot's number. It is full
+    /// exactly where the version's size is over the room.
+    pub fn add(&mut self, version: Tuple) -> Result<u16, AddFault>
+        ensures full { (result ≡ Err AddFault.Full) ↔ (room_of self.old.slots < rounded_size_of version.row) }
+        ensures memory { result ≡ Err AddFault.NoMemory → self.old.spare ≡ 0 }
+        ensures memory_only_to_grow { result ≡ Err AddFault.NoMemory → has_unused self.old.slots ≡ false }
+        ensures number { IfOk result (λ n. n ≡ free_number self.old.slots) }
+        ensures limit { IfOk result (λ n. n ≤ 291) }
+        ensures slots { OnOk result (self.new.slots ≡ with_added self.old.slots (Slot.Normal version)) }
+        ensures change { OnOk result (self.new.change ≡ next_change self.old.change) }
+        ensures spare { OnOk result (self.old.spare ≤ self.new.spare + 1) }
+        ensures spare_kept { has_unused self.old.slots ≡ true → self.old.spare ≤ self.new.spare }
+        ensures flag { self.new.flag ≡ self.old.flag }
+        ensures err_slots { OnErr result (self.new.slots ≡ self.old.slots) }
+        ensures err_change { OnErr result (self.new.change ≡ self.old.change) }
+        ensures err_spare { OnErr result (self.old.spare ≤ self.new.spare) }
+    {
+        if size(&version) > self.room() {
+            return Err(AddFault::Full);
+        }
+        let index = first_unused(&self.slots);
+        if index < self.slots.len() {
+            self.slots[index] = Slot::Normal(version);
+        } else {
+            self.slots
+                .push(Slot::Normal(version))
+                .map_err(|_| AddFault::NoMemory)?;
+        }
+        self.change = self.change.wrapping_add(1);
+        Ok(index as u16 + 1)
+    }
+
+    /// Makes room in memory for `count` more slots, so that the next `count` versions are added without asking for any.
+    pub fn make_room(&mut self, count: usize) -> Result<(), AllocError>
+        ensures room { OnOk result (count ≤ self.new.spare) }
+        ensures refused { OnErr result (self.old.spare < count) }
+        ensures spare { self.old.spare ≤ self.new.spare }
+        ensures slots { self.new.slots ≡ self.old.slots }
+        ensures change { self.new.change ≡ self.old.change }
+        ensures flag { self.new.flag ≡ self.old.flag }
+    {
+        self.slots.try_reserve(count)
+    }
+
+    /// Gives the version in the slot of this number another header. The change number is raised where the header differs
+    /// otherwise than in hints.
+    pub fn set_header(&mut self, number: u16, header: Header)
+        requires normal { IsNormalAt self.old.slots number }
+        requires faultless { header_fault header ≡ None }
+        ensures slots { self.new.slots ≡ with_header_at self.old.slots number header }
+        ensures change { self.new.change ≡ change_unless (differs_in_hints_alone (the_slot self.old.slots number) header) self.old.change }
+        ensures flag { self.new.flag ≡ self.old.flag }
+        ensures spare { self.new.spare ≡ self.old.spare }
+    {
+        let index = usize::from(number) - 1;
+        if let Slot::Normal(version) = &mut self.slots[index] {
+            let hints_alone = differ_in_hints_alone(&version.header, &header);
+            version.header = header;
+            if !hints_alone {
+                self.change = self.change.wrapping_add(1);
+            }
+        }
+    }
+
+    /// Makes the slot of this number unused. The change number is raised where it was not unused.
+    pub fn set_unused(&mut self, number: u16)
+        requires { IsThere self.old.slots number }
+        ensures { self.new ≡ record self.old {
+          slots = with_slot self.old.slots number Slot.Unused;
+          change = change_unless (is_unused (the_slot self.old.slots number)) self.old.change;
+        } }
+    {
+        let same = self.slots[usize::from(number) - 1].is_unused();
+        self.put(number, Slot::Unused, same);
+    }
+
+    /// Makes the slot of this number dead. The change number is raised where it was not dead.
+    pub fn set_dead(&mut self, number: u16)
+        requires { IsThere self.old.slots number }
+        ensures { self.new ≡ record self.old {
+          slots = with_slot self.old.slots number Slot.Dead;
+          change = change_unless (is_dead (the_slot self.old.slots number)) self.old.change;
+        } }
+    {
+        let same = self.slots[usize::from(number) - 1].is_dead();
+        self.put(number, Slot::Dead, same);
+    }
+
+    /// Makes the slot of this number lead to the slot `target`. The change number is raised where it did not lead there.
+    pub fn set_redirect(&mut self, number: u16, target: u16)
+        requires there { IsThere self.old.slots number }
+        requires target_there { IsThere self.old.slots target }
+        ensures { self.new ≡ record self.old {
+          slots = with_slot self.old.slots number (Slot.Redirect target);
+          change = change_unless (leads_to target (the_slot self.old.slots number)) self.old.change;
+        } }
+    {
+        let same = self.slots[usize::from(number) - 1].leads_to(target);
+        self.put(number, Slot::Redirect(target), same);
+    }
+
+    // Puts a slot that takes no bytes in the place of its number.
+    fn put(&mut self, number: u16, slot: Slot, same: bool)
+        requires there { IsThere self.old.slots number }
+        requires no_larger { taken slot ≡ 0 }
+        ensures { self.new ≡ record self.old {
+          slots = with_slot self.old.slots number slot;
+          change = change_unless same self.old.change;
+        } }
+    {
+        self.slots[usize::from(number) - 1] = slot;
+        if !same {
+            self.change = self.change.wrapping_add(1);
+        }
+    }
+}
