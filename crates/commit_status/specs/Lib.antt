@@ -1,0 +1,4 @@
+pub mod Window
+pub mod Changes
+pub mod Laws
+pub mod Table
