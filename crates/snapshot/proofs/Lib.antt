@@ -1,0 +1,4 @@
+pub mod Marks
+pub mod Earliest
+pub mod Takes
+pub mod Sights

@@ -1,0 +1,142 @@
+-- What a snapshot that is taken now lists.
+use Rattle.std.proofs.Common.{◌≡◌, ℕ, ◌≤◌, ◌||◌, Bool, true, false, if◌then◌else◌, List, [], ◌∷◌, ◌++◌, Some, None, slice_get, arith, ⊎_elim, refl, sym, ap, ◌∙◌, subst, append_assoc}
+use Rattle.std.proofs.lemmas.List.{append-nil}
+use Rattle.std.specs.List.{Contains, fold}
+use Rattle.std.proofs.lemmas.List.Elements.{Contains-append_left, Contains-append_right, Contains-append_cases}
+use Rattle.commit_status.specs.Window.{Window, IsWindow, IsUpToNext, turns, place, next_id}
+use Rattle.commit_status.proofs.Places.{some-from_is, upto-place, upto-next}
+use Rattle.snapshot.specs.Snap.{Snap, earlier, empty_at, are_many, listing, taken}
+use Rattle.snapshot.specs.Laws.{AreOpen, IsInWindow}
+use Rattle.snapshot.proofs.Earliest.{earlier-is, contains-cases, contains-head, contains-tail}
+
+-- the snapshot that lists these open transactions
+pub record Lists (w : Window) (next : ℕ) (owns : List (List ℕ)) (s : Snap) : Type 0 where
+  pub xmax : s.xmax ≡ next
+  pub upto : IsUpToNext w s.xmin
+  pub below : turns w.first s.xmin ≤ turns w.first next
+  pub low : (own : List ℕ) (top : ℕ) → Contains owns own → slice_get own 0 ≡ Some top → turns w.first s.xmin ≤ turns w.first top
+  pub tops : (own : List ℕ) (top : ℕ) → Contains owns own → slice_get own 0 ≡ Some top → Contains s.listed top
+  pub children : s.overflowed ≡ false → (own : List ℕ) (x : ℕ) → Contains owns own → Contains own x → Contains s.listed x
+  pub only : (x : ℕ) → Contains s.listed x → (own : List ℕ) × Contains owns own × Contains own x
+
+none-in : {X : Type 0} (x : X) → ¬ Contains [] x
+none-in x (k, h, e) = absurd (omega arith)
+
+one-in : {X : Type 0} (x y : X) → Contains (x ∷ []) y → x ≡ y
+one-in x y c = ⊎_elim (λ e. e) (λ t. absurd (none-in y t)) (contains-cases x y [] c)
+
+made : Snap → ℕ → List ℕ → Bool → Snap
+made s top children many = record {
+  xmin = earlier s.xmin top;
+  xmax = s.xmax;
+  listed = s.listed ++ top ∷ (if many then [] else children);
+  overflowed = s.overflowed || many;
+}
+
+not_or : (a b : Bool) → a || b ≡ false → (a ≡ false) × (b ≡ false)
+not_or true b e = absurd (cc)
+not_or false true e = absurd (cc)
+not_or false false e = (refl, refl)
+
+kept-in : (top : ℕ) (children : List ℕ) (many : Bool) (x : ℕ) → Contains (top ∷ (if many then [] else children)) x → Contains (top ∷ children) x
+kept-in top children true x c = ⊎_elim (λ e. subst (Contains (top ∷ children)) e (contains-head top children)) (λ t. absurd (none-in x t)) (contains-cases top x [] c)
+kept-in top children false x c = c
+
+all-in : (top : ℕ) (children : List ℕ) (many : Bool) (x : ℕ) → many ≡ false → Contains (top ∷ children) x → Contains (top ∷ (if many then [] else children)) x
+all-in top children true x e c = absurd (cc)
+all-in top children false x e c = c
+
+lists-none : (w : Window) (next : ℕ) → IsUpToNext w next → Lists w next [] (empty_at next)
+lists-none w next up = record {
+  xmax = refl;
+  upto = up;
+  below = omega arith;
+  low = λ own top c at. absurd (none-in own c);
+  tops = λ own top c at. absurd (none-in own c);
+  children = λ e own x c m. absurd (none-in own c);
+  only = λ x c. absurd (none-in x c);
+}
+
+lists-made : (w : Window) (next : ℕ) (owns : List (List ℕ)) (s : Snap) (top : ℕ) (children : List ℕ) (many : Bool) → IsWindow w → IsUpToNext w top
+    → Lists w next owns s → Lists w next (owns ++ (top ∷ children) ∷ []) (made s top children many)
+unfolding made
+lists-made w next owns s top children many is up l =
+    let e = earlier-is w s.xmin top is l.upto up in
+    let left = e.left in
+    let right = e.right in
+    let below = l.below in
+    record {
+      xmax = l.xmax;
+      upto = e.upto;
+      below = omega arith;
+      low = λ own t c at. ⊎_elim
+          (λ old. let lo = l.low own t old at in omega arith)
+          (λ new. let same : top ≡ t = (let i = one-in (top ∷ children) own new in let s : Some top ≡ Some t = ap (λ o. slice_get o 0) i ∙ at in cc) in
+          subst (λ v. turns w.first (earlier s.xmin top) ≤ turns w.first v) same right)
+          (Contains-append_cases owns ((top ∷ children) ∷ []) own c);
+      tops = λ own t c at. ⊎_elim
+          (λ old. Contains-append_left s.listed _ t (l.tops own t old at))
+          (λ new. let same : top ≡ t = (let i = one-in (top ∷ children) own new in let s : Some top ≡ Some t = ap (λ o. slice_get o 0) i ∙ at in cc) in
+          Contains-append_right s.listed _ t (subst (Contains (top ∷ (if many then [] else children))) same (contains-head top _)))
+          (Contains-append_cases owns ((top ∷ children) ∷ []) own c);
+      children = λ none own x c m. ⊎_elim
+          (λ old. Contains-append_left s.listed _ x (l.children (not_or s.overflowed many none).0 own x old m))
+          (λ new. Contains-append_right s.listed _ x (all-in top children many x (not_or s.overflowed many none).1
+          (subst (λ o. Contains o x) (sym (one-in (top ∷ children) own new)) m)))
+          (Contains-append_cases owns ((top ∷ children) ∷ []) own c);
+      only = λ x c. ⊎_elim
+          (λ old. let found = l.only x old in (found.0, Contains-append_left owns ((top ∷ children) ∷ []) found.0 found.1, found.2))
+          (λ new. (top ∷ children, Contains-append_right owns ((top ∷ children) ∷ []) (top ∷ children) (contains-head (top ∷ children) []), kept-in top children many x new))
+          (Contains-append_cases s.listed (top ∷ (if many then [] else children)) x c);
+    }
+
+lists-more : (w : Window) (next : ℕ) (owns : List (List ℕ)) (s : Snap) (own : List ℕ) → IsWindow w → ((top : ℕ) → slice_get own 0 ≡ Some top → IsUpToNext w top)
+    → Lists w next owns s → Lists w next (owns ++ own ∷ []) (listing s own)
+unfolding made
+lists-more w next owns s (top ∷ children) is up l = lists-made w next owns s top children (are_many children) is (up top refl) l
+lists-more w next owns s [] is up l = record {
+  xmax = l.xmax;
+  upto = l.upto;
+  below = l.below;
+  low = λ own t c at. ⊎_elim (λ old. l.low own t old at) (λ new. absurd (let i = one-in [] own new in let s : None ≡ Some t = ap (λ o. slice_get o 0) i ∙ at in cc))
+      (Contains-append_cases owns ([] ∷ []) own c);
+  tops = λ own t c at. ⊎_elim (λ old. l.tops own t old at) (λ new. absurd (let i = one-in [] own new in let s : None ≡ Some t = ap (λ o. slice_get o 0) i ∙ at in cc))
+      (Contains-append_cases owns ([] ∷ []) own c);
+  children = λ none own x c m. ⊎_elim (λ old. l.children none own x old m) (λ new. absurd (none-in x (subst (λ o. Contains o x) (sym (one-in [] own new)) m)))
+      (Contains-append_cases owns ([] ∷ []) own c);
+  only = λ x c. let found = l.only x c in (found.0, Contains-append_left owns ([] ∷ []) found.0 found.1, found.2);
+}
+
+lists-all : (rest : List (List ℕ)) (w : Window) (next : ℕ) (owns : List (List ℕ)) (s : Snap) → IsWindow w
+    → ((own : List ℕ) (top : ℕ) → Contains rest own → slice_get own 0 ≡ Some top → IsUpToNext w top)
+    → Lists w next owns s → Lists w next (owns ++ rest) (fold listing s rest)
+lists-all [] w next owns s is up l = subst (λ os. Lists w next os s) (sym (append-nil owns)) l
+lists-all (own ∷ rest) w next owns s is up l =
+    subst (λ os. Lists w next os (fold listing s (own ∷ rest))) (append_assoc owns (own ∷ []) rest)
+    (lists-all rest w next (owns ++ own ∷ []) (listing s own) is (λ o t c. up o t (contains-tail own o rest c))
+    (lists-more w next owns s own is (λ t. up own t (contains-head own rest)) l))
+
+-- an own id is in the window
+pub own-upto : (w : Window) (owns : List (List ℕ)) (own : List ℕ) (x : ℕ) → AreOpen w owns → Contains owns own → Contains own x → IsUpToNext w x
+own-upto w owns own x open_ c m =
+    let found = some-from_is (place w x) (open_.active own x c m).is_given in
+    upto-place w x found.0 found.1
+
+pub first-in : (own : List ℕ) (t : ℕ) → slice_get own 0 ≡ Some t → Contains own t
+first-in [] t at = absurd (cc)
+first-in (x ∷ own) t at = let e : x ≡ t = (let s : Some x ≡ Some t = at in cc) in subst (Contains (x ∷ own)) e (contains-head x own)
+
+-- what is taken lists them all
+pub taken-lists : (w : Window) (owns : List (List ℕ)) → IsWindow w → AreOpen w owns → Lists w (next_id w) owns (taken (next_id w) owns)
+taken-lists w owns is open_ =
+    lists-all owns w (next_id w) [] (empty_at (next_id w)) is (λ own t c at. own-upto w owns own t open_ c (first-in own t at))
+    (lists-none w (next_id w) (upto-next w is))
+
+pub taken-in_window : (w : Window) (owns : List (List ℕ)) → IsWindow w → AreOpen w owns → IsInWindow w (taken (next_id w) owns)
+taken-in_window w owns is open_ =
+    let l = taken-lists w owns is open_ in
+    record {
+      xmin = l.upto;
+      xmax = subst (IsUpToNext w) (sym l.xmax) (upto-next w is);
+      ordered = subst (λ n. turns w.first (taken (next_id w) owns).xmin ≤ turns w.first n) (sym l.xmax) l.below;
+    }

@@ -1,0 +1,17 @@
+//! What a reader sees of other transactions, and the ids that are its own.
+#![tactic(auto)]
+
+mod horizon;
+mod laws;
+mod own;
+mod snapshot;
+#[cfg(test)]
+mod tests;
+
+pub use horizon::earlier;
+pub use laws::{
+    earliest_is_first, finished_is_seen, later_is_unseen, open_is_unseen, past_is_seen,
+    sees_by_top, taken_is_in_window,
+};
+pub use own::OwnIds;
+pub use snapshot::Snapshot;

@@ -1,0 +1,171 @@
+//! A session's own ids.
+
+ghost use Rattle.std.specs.Prelude.{◌≡◌, ◌≢◌, ◌+◌, ◌<◌, ◌≤◌, ◌↔◌, [], ◌∷◌, ◌++◌, IsTrue, IfSome, OnOk, OnErr, slice_get, Contains, length, take};
+ghost use Rattle.std.specs.Option.{option_map};
+ghost use Rattle.xid_circle.specs.Circle.{IsNormal};
+ghost use Rattle.commit_status.specs.Changes.{numbers};
+ghost use Rattle.snapshot.specs.Own.{newest, older};
+
+use smallvec::SmallVec;
+use std::alloc::{AllocError, Global};
+use std::marker::Model;
+use xid_circle::Xid;
+
+/// The ids of an open transaction that are not rolled back, in order of giving: the first is the topmost. Marks
+/// remember how many there were at each savepoint.
+#[derive(Drop)]
+pub struct OwnIds {
+    ids: Vec<Xid>,
+    // how many ids there were at each savepoint, the oldest first
+    marks: SmallVec<usize, 4>,
+}
+
+impl Model for OwnIds {
+    ghost use Rattle.std.specs.Prelude.{◌-◌, length, reverse, vec_len, vec_capacity};
+    ghost use Rattle.commit_status.specs.Changes.{numbers};
+    ghost use Rattle.snapshot.specs.Own.{Own, fronts, AreMarks, AreNormal};
+
+    ghost Value = { Own };
+
+    ghost view = { λ o. record {
+      ids = numbers o.ids.items;
+      saved = fronts (numbers o.ids.items) (reverse o.marks.items);
+      spare = vec_capacity o.ids - vec_len o.ids;
+    } };
+
+    ghost invariant = { λ o. AreNormal o.ids.items × AreMarks (length o.ids.items) (reverse o.marks.items) };
+}
+
+impl OwnIds {
+    /// No id, and no savepoint.
+    pub fn new(alloc: Global) -> Self
+        ensures ids { result.ids ≡ [] }
+        ensures saved { result.saved ≡ [] }
+    {
+        OwnIds {
+            ids: Vec::new(alloc),
+            marks: SmallVec::new(alloc),
+        }
+    }
+
+    /// The topmost id, if there is one.
+    pub fn first(&self) -> Option<Xid>
+        ensures value { option_map (λ x. x.0) result ≡ slice_get self.now.ids 0 }
+        ensures normal { IfSome result (λ x. IsNormal x.0) }
+    {
+        self.ids.first().copied()
+    }
+
+    /// Whether there is no id.
+    pub fn is_empty(&self) -> bool
+        ensures { IsTrue result ↔ (self.now.ids ≡ []) }
+    {
+        self.ids.is_empty()
+    }
+
+    /// The ids, in order of giving.
+    pub fn as_slice(&self) -> &[Xid]
+        ensures { numbers result.now ≡ self.now.ids }
+    {
+        self.ids.as_slice()
+    }
+
+    /// Whether an id is one of them.
+    pub fn contains(&self, x: Xid) -> bool
+        ensures { IsTrue result ↔ Contains self.now.ids x.0 }
+    {
+        is_among(&self.ids, x)
+    }
+
+    /// Makes room for `count` more ids.
+    pub fn make_room(&mut self, count: usize) -> Result<(), AllocError>
+        ensures room { OnOk result (count ≤ self.new.spare) }
+        ensures refused { OnErr result (self.old.spare < count) }
+        ensures spare { self.old.spare ≤ self.new.spare }
+        ensures ids { self.new.ids ≡ self.old.ids }
+        ensures saved { self.new.saved ≡ self.old.saved }
+    {
+        self.ids.reserve(count)
+    }
+
+    /// Adds the id that was given last. It takes no memory.
+    pub fn push(&mut self, x: Xid)
+        requires room { 0 < self.old.spare }
+        requires normal { IsNormal x.0 }
+        ensures ids { self.new.ids ≡ self.old.ids ++ x.0 ∷ [] }
+        ensures saved { self.new.saved ≡ self.old.saved }
+        ensures spare { self.old.spare ≡ self.new.spare + 1 }
+    {
+        self.ids.push_reserved(x);
+    }
+
+    /// The number of savepoints.
+    pub fn savepoints(&self) -> usize
+        ensures { result ≡ length self.now.saved }
+    {
+        self.marks.len()
+    }
+
+    /// Begins a savepoint: remembers how many ids there are.
+    pub fn save(&mut self) -> Result<(), AllocError>
+        ensures ids { self.new.ids ≡ self.old.ids }
+        ensures spare { self.new.spare ≡ self.old.spare }
+        ensures saved { OnOk result (self.new.saved ≡ self.old.ids ∷ self.old.saved) }
+        ensures refused { OnErr result (self.new ≡ self.old) }
+    {
+        let count = self.ids.len();
+        self.marks.reserve(1)?;
+        self.marks.push_reserved(count);
+        Ok(())
+    }
+
+    fn newest_mark(&self) -> usize
+        requires { self.now.saved ≢ [] }
+        ensures within { result ≤ length self.now.ids }
+        ensures value { newest self.now.saved ≡ take result self.now.ids }
+    {
+        self.marks[self.marks.len() - 1]
+    }
+
+    /// The ids that were given since the newest savepoint.
+    pub fn since_save(&self) -> &[Xid]
+        requires { self.now.saved ≢ [] }
+        ensures { self.now.ids ≡ newest self.now.saved ++ numbers result.now }
+    {
+        let count = self.newest_mark();
+        &self.ids[count..]
+    }
+
+    /// Goes back to the newest savepoint, and keeps it: the ids since then are dropped. It takes no memory.
+    pub fn roll_back(&mut self)
+        requires { self.old.saved ≢ [] }
+        ensures ids { self.new.ids ≡ newest self.old.saved }
+        ensures saved { self.new.saved ≡ self.old.saved }
+        ensures spare { self.old.spare ≤ self.new.spare }
+    {
+        let count = self.newest_mark();
+        self.ids.truncate(count);
+    }
+
+    /// Forgets the newest savepoint, and keeps the ids since then. It takes no memory.
+    pub fn release(&mut self)
+        requires { self.old.saved ≢ [] }
+        ensures ids { self.new.ids ≡ self.old.ids }
+        ensures saved { self.new.saved ≡ older self.old.saved }
+        ensures spare { self.new.spare ≡ self.old.spare }
+    {
+        let _ = self.marks.pop();
+    }
+}
+
+/// Whether an id is in a list.
+fn is_among(ids: &[Xid], x: Xid) -> bool
+    ensures { IsTrue result ↔ Contains (numbers ids.now) x.0 }
+{
+    for id in ids {
+        if *id == x {
+            return true;
+        }
+    }
+    false
+}
