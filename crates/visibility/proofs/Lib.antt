@@ -1,0 +1,5 @@
+pub mod Headers
+pub mod Verdicts
+pub mod Parts
+pub mod HintLemmas
+pub mod Dead

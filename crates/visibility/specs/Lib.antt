@@ -1,0 +1,3 @@
+pub mod Visible
+pub mod Laws
+pub mod Hints
