@@ -1,0 +1,12 @@
+//! The chain of versions that a slot leads to.
+#![tactic(auto)]
+
+mod fetching;
+mod roots;
+#[cfg(test)]
+mod tests;
+mod walk;
+
+pub use fetching::fetch;
+pub use roots::root_of;
+pub use walk::{chain, chain_is_one};

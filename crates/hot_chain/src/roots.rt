@@ -1,0 +1,38 @@
+//! The root whose chain holds a slot.
+
+ghost use Rattle.std.specs.Prelude.{◌≡◌, ◌↔◌, ◌<◌, ℕ, IsTrue};
+ghost use Rattle.hot_chain.specs.Chain.{has_aborted, is_root, LeadsTo, IsLowestRoot};
+
+use crate::walk::chain;
+use commit_status::StatusTable;
+use page_slots::{Page, Slot};
+
+/// Whether an index entry may lead to a slot: it holds a version that isn't heap-only, or is a redirect.
+fn is_root(page: &Page, number: u16) -> bool
+    ensures { result ≡ is_root page.now.slots number }
+{
+    match page.slot(number) {
+        Some(Slot::Normal(version)) => !version.header.is_heap_only(),
+        Some(Slot::Redirect(_)) => true,
+        _ => false,
+    }
+}
+
+/// Whether a slot is a root or a redirect whose chain holds another.
+fn leads_to(page: &Page, root: u16, slot: u16, table: &StatusTable) -> bool
+    ensures { IsTrue result ↔ LeadsTo (has_aborted table.now) page.now.slots root slot }
+{
+    is_root(page, root) && chain(page, root, table).contains(&slot)
+}
+
+/// The lowest root or redirect whose chain holds a slot.
+pub fn root_of(page: &Page, slot: u16, table: &StatusTable) -> Option<u16>
+    ensures { IsLowestRoot (has_aborted table.now) page.now.slots slot result }
+{
+    for root in 1..page.slots() + 1 {
+        if leads_to(page, root, slot, table) {
+            return Some(root);
+        }
+    }
+    None
+}

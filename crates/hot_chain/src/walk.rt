@@ -1,0 +1,80 @@
+//! The walk along a chain. It trusts nothing that it reads: it returns on any page, and visits no slot twice.
+
+ghost use Rattle.std.specs.Prelude.{◌≡◌, IfSome, ◌↔◌, IsTrue};
+ghost use Rattle.page_slots.specs.Slots.{IsThere};
+ghost use Rattle.commit_status.specs.Window.{status_of};
+ghost use Rattle.hot_chain.specs.Chain.{has_aborted, first_of, is_replaced, next_of, IsChain};
+ghost use Rattle.hot_chain.specs.Laws.{ChainIsOne};
+
+use arrayvec::ArrayVec;
+use commit_status::{Status, StatusTable};
+use page_slots::{Page, Slot};
+use tuple_header::Header;
+use xid_circle::Xid;
+
+fn has_aborted(x: Xid, table: &StatusTable) -> bool
+    ensures { result ≡ has_aborted table.now x.0 }
+{
+    matches!(table.status(x), Status::Aborted)
+}
+
+/// Where the chain of a slot starts.
+fn first(page: &Page, number: u16) -> Option<u16>
+    ensures value { result ≡ first_of page.now.slots number }
+    ensures there { IfSome result (λ n. IsThere page.now.slots n) }
+{
+    match page.slot(number) {
+        Some(Slot::Normal(_)) => Some(number),
+        Some(Slot::Redirect(target)) => match page.header(target) {
+            Some(_) => Some(target),
+            None => None,
+        },
+        _ => None,
+    }
+}
+
+/// Whether a later version of its row replaced a version, by an update that may count.
+fn is_replaced(header: &Header, table: &StatusTable) -> bool
+    ensures { result ≡ is_replaced (has_aborted table.now) header.now }
+{
+    header.is_hot_updated() && header.xmax.0 != 0 && !has_aborted(header.xmax, table)
+}
+
+/// Where the chain goes on from a version: to the heap-only version in the slot of its ctid that its deleter made.
+fn next(page: &Page, number: u16, table: &StatusTable) -> Option<u16>
+    ensures value { result ≡ next_of (has_aborted table.now) page.now.slots number }
+    ensures there { IfSome result (λ n. IsThere page.now.slots n) }
+{
+    let header = page.header(number)?;
+    if !is_replaced(&header, table) {
+        return None;
+    }
+    match page.header(header.ctid.slot) {
+        Some(later) if later.is_heap_only() && later.xmin.0 == header.xmax.0 => Some(
+            header.ctid.slot,
+        ),
+        _ => None,
+    }
+}
+
+/// The slots of the chain that a slot leads to, in order, on any page. It takes no memory.
+pub fn chain(page: &Page, number: u16, table: &StatusTable) -> ArrayVec<u16, 292>
+    ensures { IsChain (has_aborted table.now) page.now.slots number result.items }
+{
+    let _count = page.slots();
+    let mut visited: ArrayVec<u16, 292> = ArrayVec::new();
+    let mut at = first(page, number);
+    'walk: while let Some(n) = at {
+        if visited.contains(&n) {
+            break;
+        }
+        visited.push(n);
+        at = next(page, n, table);
+    }
+    visited
+}
+
+/// The law of chains: a slot has one. It does nothing; its contract is the law.
+pub fn chain_is_one()
+    ensures { ChainIsOne }
+{}
