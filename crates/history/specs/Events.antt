@@ -1,0 +1,35 @@
+-- What may happen in a world, step by step, and what comes of it.
+use Rattle.std.specs.Prelude.{◌≡◌, ℕ, ◌<◌, ◌≤◌, List, length, Some, None, IsSome, ℤ, ◌≤ℤ◌}
+use Rattle.tuple_header.specs.declared.version.Row.{Row}
+use Rattle.history.specs.History.{IsLate}
+use Rattle.history.specs.World.{World, OpenSession, Cursor, view, ClosesRing, IsReady, IsWriter, MayWrite, IsBlocked}
+use Rattle.history.specs.Cursors.{HandsOut, HandsOutKeys, keys_of}
+use Rattle.history.specs.Moves.{stepped, change, begun, with_row, without_row, as_failed, blocked_by, with_savepoint, rolled_back_to, without_savepoint, aborted, committed_by, with_index_cursor, with_heap_cursor, with_keys_cursor, with_taken, without_cursor}
+
+-- a step of the session s leads from the world w to another. A step that reads, or that is refused and leaves the
+-- session usable, only passes
+pub data Happens (w : World) (s : ℕ) : World → Type 0 where
+  passes : Happens w s (stepped w s)
+  begins : s < 64 → w.session s ≡ None → Happens w s (begun w s)
+  inserts : (row : Row) (m : OpenSession) → MayWrite w s row.key m → view w.history m row.key ≡ None → Happens w s (change w s (with_row row))
+  updates : (row : Row) (m : OpenSession) → MayWrite w s row.key m → IsSome (view w.history m row.key) → Happens w s (change w s (with_row row))
+  deletes : (key : ℕ) (m : OpenSession) → MayWrite w s key m → IsSome (view w.history m key) → Happens w s (change w s (without_row key))
+  conflicts : (key : ℕ) (m : OpenSession) → IsWriter w s m → IsLate w.history m.start key → Happens w s (change w s as_failed)
+  waits : (key o : ℕ) (m : OpenSession) → IsBlocked w s key o m → ¬ ClosesRing w.waits_for s o → Happens w s (blocked_by w s o)
+  deadlocks : (key o : ℕ) (m : OpenSession) → IsBlocked w s key o m → ClosesRing w.waits_for s o → Happens w s (change w s as_failed)
+  saves : (m : OpenSession) → IsWriter w s m → length m.levels ≤ 32 → Happens w s (change w s with_savepoint)
+  rolls_back_to : (m : OpenSession) → w.session s ≡ Some m → m.cursor ≡ None → 1 < length m.levels → Happens w s (rolled_back_to w s)
+  releases : (m : OpenSession) → IsWriter w s m → 1 < length m.levels → Happens w s (change w s without_savepoint)
+  commits : (m : OpenSession) → IsReady w s m → Happens w s (committed_by w s)
+  aborts : (m : OpenSession) → w.session s ≡ Some m → Happens w s (aborted w s)
+  opens_index : (index : ℕ) (low high : ℤ) (m : OpenSession) → IsWriter w s m → low ≤ℤ high → Happens w s (change w s (with_index_cursor w.history index low high))
+  opens_heap : (m : OpenSession) → IsWriter w s m → Happens w s (change w s (with_heap_cursor w.history))
+  opens_keys : (low high : ℤ) (m : OpenSession) → IsWriter w s m → low ≤ℤ high → Happens w s (change w s (with_keys_cursor w.history low high))
+  takes : (n : ℕ) (rows : List Row) (m : OpenSession) (c : Cursor) → IsReady w s m → m.cursor ≡ Some c → HandsOut c.order n c.rest rows → Happens w s (change w s (with_taken (keys_of rows)))
+  takes_keys : (n : ℕ) (keys : List ℕ) (m : OpenSession) (c : Cursor) → IsReady w s m → m.cursor ≡ Some c → HandsOutKeys c.order n c.rest keys → Happens w s (change w s (with_taken keys))
+  closes : (m : OpenSession) → IsReady w s m → IsSome m.cursor → Happens w s (change w s without_cursor)
+
+-- steps of any sessions, one after another, lead from the one world to the other
+pub data Leads (from : World) : World → Type 0 where
+  stays : Leads from from
+  goes_on : (before after : World) (s : ℕ) → Leads from before → Happens before s after → Leads from after

@@ -1,0 +1,9 @@
+pub mod History
+pub mod World
+pub mod Cursors
+pub mod Moves
+pub mod Events
+pub mod Laws
+pub mod Order
+pub mod Plain
+pub mod Answers

@@ -1,0 +1,111 @@
+-- What each kind of step makes of the world. The kinds are those of the manual's section on transactions: BEGIN, the
+-- writes, SAVEPOINT, ROLLBACK TO, RELEASE, COMMIT, ROLLBACK, and the calls of a cursor.
+use Rattle.std.specs.Prelude.{ℕ, ◌==◌, not, if◌then◌else◌, List, [], ◌∷◌, ◌++◌, length, Option, Some, None, true, false, ℤ}
+use Rattle.std.specs.Option.{option_map}
+use Rattle.tuple_header.specs.declared.version.Row.{Row}
+use Rattle.history.specs.History.{Write, Transaction}
+use Rattle.history.specs.World.{World, OpenSession, Cursor, Order, by_index, by_heap, by_keys, joined, view}
+use Rattle.history.specs.Cursors.{kept_where, rows_within, without}
+
+-- the session has done a step, which ends its own wait
+abbrev pub stepped : World → ℕ → World
+stepped w s = record w { waits_for = λ t. if t == s then None else w.waits_for t }
+
+-- by its step the session becomes this, or idle
+abbrev pub put : World → ℕ → Option OpenSession → World
+put w s m = record (stepped w s) { session = λ t. if t == s then m else w.session t }
+
+-- by its step the open session changes
+abbrev pub change : World → ℕ → (OpenSession → OpenSession) → World
+change w s f = put w s (option_map f (w.session s))
+
+-- nobody waits for the session any more: it gave back the keys of a level, or of all
+abbrev pub awaited_no_more : World → ℕ → World
+awaited_no_more w s = record w { waits_for = λ t. kept_where (λ o. not (o == s)) (w.waits_for t) }
+
+-- a session begins on all that has committed
+abbrev pub begun : World → ℕ → World
+begun w s = put w s (Some (record { start = length w.history; levels = [] ∷ []; failed = false; cursor = None }))
+
+-- the write joins the newest level
+abbrev pub add_write : Write → List (List Write) → List (List Write)
+add_write write [] = (write ∷ []) ∷ []
+add_write write (level ∷ older) = (level ++ write ∷ []) ∷ older
+
+abbrev pub with_write : Write → OpenSession → OpenSession
+with_write write m = record m { levels = add_write write m.levels }
+
+abbrev pub with_row : Row → OpenSession → OpenSession
+with_row row m = with_write (record { key = row.key; row = Some row }) m
+
+abbrev pub without_row : ℕ → OpenSession → OpenSession
+without_row key m = with_write (record { key = key; row = None }) m
+
+-- the session can only be rolled back
+abbrev pub as_failed : OpenSession → OpenSession
+as_failed m = record m { failed = true }
+
+-- the session waits for o
+abbrev pub blocked_by : World → ℕ → ℕ → World
+blocked_by w s o = record w { waits_for = λ t. if t == s then Some o else w.waits_for t }
+
+-- a savepoint begins a level
+abbrev pub with_savepoint : OpenSession → OpenSession
+with_savepoint m = record m { levels = [] ∷ m.levels }
+
+-- the newest savepoint's level is emptied, and the savepoint stays
+abbrev pub empty_newest : List (List Write) → List (List Write)
+empty_newest [] = []
+empty_newest (level ∷ older) = [] ∷ older
+
+abbrev pub to_savepoint : OpenSession → OpenSession
+to_savepoint m = record m { levels = empty_newest m.levels; failed = false }
+
+abbrev pub rolled_back_to : World → ℕ → World
+rolled_back_to w s = awaited_no_more (change w s to_savepoint) s
+
+-- the newest savepoint's level joins the one below
+abbrev pub join_newest : List (List Write) → List (List Write)
+join_newest (level ∷ below ∷ older) = (below ++ level) ∷ older
+join_newest levels = levels
+
+abbrev pub without_savepoint : OpenSession → OpenSession
+without_savepoint m = record m { levels = join_newest m.levels }
+
+-- the session is idle, and what it had written is gone
+abbrev pub aborted : World → ℕ → World
+aborted w s = awaited_no_more (put w s None) s
+
+abbrev pub transaction_of : OpenSession → Transaction
+transaction_of m = record { start = m.start; writes = joined m.levels }
+
+abbrev pub appended : List Transaction → Option OpenSession → List Transaction
+appended history None = history
+appended history (Some m) = history ++ transaction_of m ∷ []
+
+-- all that the session wrote joins the history as one transaction
+abbrev pub committed_by : World → ℕ → World
+committed_by w s = record (aborted w s) { history = appended w.history (w.session s) }
+
+-- a cursor over the rows that the session reads as it is opened
+abbrev pub opened : Order → (ℕ → Option Row) → OpenSession → OpenSession
+opened order rest m = record m { cursor = Some (record { order = order; rest = rest }) }
+
+abbrev pub with_index_cursor : List Transaction → ℕ → ℤ → ℤ → OpenSession → OpenSession
+with_index_cursor history index low high m = opened (by_index index) (rows_within index low high (view history m)) m
+
+abbrev pub with_heap_cursor : List Transaction → OpenSession → OpenSession
+with_heap_cursor history m = opened by_heap (view history m) m
+
+abbrev pub with_keys_cursor : List Transaction → ℤ → ℤ → OpenSession → OpenSession
+with_keys_cursor history low high m = opened by_keys (rows_within 0 low high (view history m)) m
+
+-- the cursor has handed out the rows of these keys
+abbrev pub past : List ℕ → Cursor → Cursor
+past keys cursor = record cursor { rest = without keys cursor.rest }
+
+abbrev pub with_taken : List ℕ → OpenSession → OpenSession
+with_taken keys m = record m { cursor = option_map (past keys) m.cursor }
+
+abbrev pub without_cursor : OpenSession → OpenSession
+without_cursor m = record m { cursor = None }

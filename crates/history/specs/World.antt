@@ -1,0 +1,83 @@
+-- The history and the sessions that are open on it.
+use Rattle.std.specs.Prelude.{◌≡◌, ◌≢◌, ℕ, zero, suc, List, [], ◌∷◌, ◌++◌, Option, Some, None, Bool, false, IsSome}
+use Rattle.tuple_header.specs.declared.version.Row.{Row}
+use Rattle.history.specs.History.{Write, Transaction, written, reading, IsLate}
+
+-- in which way a cursor goes over its rows: in the order of an index, in any order, or by their keys alone
+pub data Order : Type 0 where
+  by_index : (index : ℕ) → Order
+  by_heap : Order
+  by_keys : Order
+
+-- what a cursor has not handed out yet: of each key its row as it was when the cursor was opened
+pub record Cursor : Type 0 where
+  pub order : Order
+  pub rest : ℕ → Option Row
+
+-- an open session: how many transactions had committed when it began; what it wrote at each level, the newest level
+-- first, and within a level the oldest write first; whether it can only be rolled back; its cursor. A savepoint
+-- begins a level, so there is always one more than there are savepoints
+pub record OpenSession : Type 0 where
+  pub start : ℕ
+  pub levels : List (List Write)
+  pub failed : Bool
+  pub cursor : Option Cursor
+
+-- all that has committed, the sessions that are open, and for whom each waits
+pub record World : Type 0 where
+  pub history : List Transaction
+  pub session : ℕ → Option OpenSession
+  pub waits_for : ℕ → Option ℕ
+
+-- nothing has committed, and no session is open
+abbrev pub empty : World
+empty = record { history = []; session = λ _. None; waits_for = λ _. None }
+
+-- what the levels say together, the oldest write first
+abbrev pub joined : List (List Write) → List Write
+joined [] = []
+joined (level ∷ older) = joined older ++ level
+
+-- what the session's own last write to the key says
+abbrev pub own_write : OpenSession → ℕ → Option (Option Row)
+own_write m key = written (joined m.levels) key
+
+-- the row that the session reads
+abbrev pub view : List Transaction → OpenSession → ℕ → Option Row
+view history m key = reading history m.start (joined m.levels) key
+
+-- the session is open and has the key in its levels
+abbrev pub Holds : World → ℕ → ℕ → Type 0
+Holds w s key = (m : OpenSession) × (w.session s ≡ Some m) × IsSome (own_write m key)
+
+-- following i waits from o, s is reached
+abbrev pub ReachesIn : (ℕ → Option ℕ) → ℕ → ℕ → ℕ → Type 0
+ReachesIn waits zero o s = o ≡ s
+ReachesIn waits (suc i) o s = (p : ℕ) × (waits o ≡ Some p) × ReachesIn waits i p s
+
+-- were s to wait for o, the waits would close a ring ("Deadlocks" in the manual's section on explicit locking)
+abbrev pub ClosesRing : (ℕ → Option ℕ) → ℕ → ℕ → Type 0
+ClosesRing waits s o = (i : ℕ) × ReachesIn waits i o s
+
+-- the session is open and has not failed
+pub record IsReady (w : World) (s : ℕ) (m : OpenSession) : Type 0 where
+  pub there : w.session s ≡ Some m
+  pub sound : m.failed ≡ false
+
+-- nor has it a cursor, which forbids its own session's writes
+pub record IsWriter (w : World) (s : ℕ) (m : OpenSession) : Type 0 where
+  pub ready : IsReady w s m
+  pub bare : m.cursor ≡ None
+
+-- its write of the key meets none that committed since its start, and none of another open session
+pub record MayWrite (w : World) (s key : ℕ) (m : OpenSession) : Type 0 where
+  pub writer : IsWriter w s m
+  pub in_time : ¬ IsLate w.history m.start key
+  pub unheld : (o : ℕ) → o ≢ s → ¬ Holds w o key
+
+-- its write of the key has to wait for the session o, which holds it
+pub record IsBlocked (w : World) (s key o : ℕ) (m : OpenSession) : Type 0 where
+  pub writer : IsWriter w s m
+  pub in_time : ¬ IsLate w.history m.start key
+  pub other : o ≢ s
+  pub held : Holds w o key
