@@ -1,0 +1,192 @@
+-- What each step of a session does to its own agreement.
+use Rattle.std.proofs.Common.{◌≡◌, ◌≢◌, ℕ, ◌<◌, List, [], ◌∷◌, ◌++◌, length, Option, Some, None, Bool, true, false, refl, sym, ap, ◌∙◌, subst, ◌⊎◌, inl, inr, arith, slice_get}
+use Rattle.std.specs.Prelude.{IsSome, Contains}
+use Rattle.std.proofs.lemmas.Bool.{cases_eq}
+use Rattle.std.proofs.lemmas.Option.{same_Some, none-some}
+use Rattle.std.proofs.lemmas.List.Elements.{Contains-push_cases, Contains-append_left, Contains-push}
+use Rattle.xid_circle.specs.declared.Tid.{Tid}
+use Rattle.tuple_header.specs.Version.{Version}
+use Rattle.commit_status.specs.declared.status.Status.{Status}
+use Rattle.commit_status.specs.declared.status.Status.TheVariants.{InProgress, Committed, Aborted}
+use Rattle.snapshot.specs.Snap.{Snap}
+use Rattle.history.specs.History.{Write, Transaction, committed, written, reading, IsLate}
+use Rattle.history.specs.World.{World, OpenSession, joined, own_write}
+use Rattle.history.specs.Moves.{add_write, with_row, without_row, as_failed}
+use Rattle.history.proofs.HistoryLemmas.{IsLate-now, joined-add_write}
+use Rattle.session_relation.specs.Heap.{Session}
+use Rattle.session_relation.specs.Visible.{IsFresh, IsCommitted, IsActive, Sees, Reads, by_itself, by_others, VisibleBy, IsVisible, Touches, IsOwn, At, maker, deleter}
+use Rattle.session_relation.specs.Changes.{Adds, Alters, Gives, SameSight}
+use Rattle.session_relation.specs.Agrees.{Shows, ReaderAgrees, LevelsAgree, SessionAgrees}
+use Rattle.session_relation.proofs.ShowsLemmas.{Shows-same}
+use Rattle.session_relation.proofs.Statuses.{keeps-give, none_given, IsCommitted-give, IsActive-give_cases}
+use Rattle.session_relation.proofs.Versions.{VisibleBy-same}
+use Rattle.session_relation.proofs.Readers.{IsNew, IsDeleted, IsIdle, ReaderAgrees-same, ReaderAgrees-add_other, ReaderAgrees-delete_other, ReaderAgrees-insert, ReaderAgrees-delete, Levels-map, wrote_before}
+use Rattle.session_relation.proofs.Traces.{TracesAgree-same, TracesAgree-add, TracesAgree-delete, unseen_still}
+use Rattle.session_relation.proofs.Others.{same_reader, reads_before}
+
+-- the id is the session's, of its newest level
+pub record IsCurrent (e : Session) (x : ℕ) : Type 0 where
+  pub mine : Contains e.own x
+  pub newest : (before : List ℕ) → slice_get e.saved 0 ≡ Some before → ¬ Contains before x
+
+-- a write: the session as it is has it, and as it was at each savepoint does not
+levels_write : {status : ℕ → Option Status} {store store' : Tid → Option Version} {history : List Transaction} {sees : ℕ → Type 0} {start : ℕ} (new : Write) (own : List ℕ) (saved : List (List ℕ)) (levels : List (List Write))
+    → (ReaderAgrees status store history sees start own (joined levels) → ReaderAgrees status store' history sees start own (joined levels ++ new ∷ []))
+    → ((before own' : List ℕ) (writes : List Write) → slice_get saved 0 ≡ Some before → ((x : ℕ) → Contains before x → Contains own x) → ((x : ℕ) → Contains own' x → Contains before x) → ReaderAgrees status store history sees start own' writes → ReaderAgrees status store' history sees start own' writes)
+    → LevelsAgree status store history sees start own saved levels → LevelsAgree status store' history sees start own saved (add_write new levels)
+levels_write new own [] [] here there h = absurd h
+levels_write {status} {store} {store'} {history} {sees} {start} new own [] (ws ∷ []) here there h =
+    subst (λ writes. ReaderAgrees status store' history sees start own writes) (sym (joined-add_write new (ws ∷ []))) (here h)
+levels_write new own [] (ws ∷ (vs ∷ levels)) here there h = absurd h
+levels_write new own (before ∷ saved) [] here there h = absurd h
+levels_write {status} {store} {store'} {history} {sees} {start} new own (before ∷ saved) (ws ∷ levels) here there h = (
+  subst (λ writes. ReaderAgrees status store' history sees start own writes) (sym (joined-add_write new (ws ∷ levels))) (here h.0),
+  h.1,
+  Levels-map before saved levels (λ own' writes among r. there before own' writes refl h.1 among r) h.2,
+)
+
+in_time-write : (history : List Transaction) (start : ℕ) (new : Write) (levels : List (List Write)) → ¬ IsLate history start new.key → ((k : ℕ) → IsSome (written (joined levels) k) → ¬ IsLate history start k)
+    → (k : ℕ) → IsSome (written (joined (add_write new levels)) k) → ¬ IsLate history start k
+in_time-write history start new levels in_time before k wrote late = elim (cases_eq k new.key) [
+  | inl same ↦ in_time (subst (λ j. IsLate history start j) same late)
+  | inr ne ↦ before k (wrote_before (joined levels) new k ne (subst (λ ws. IsSome (written ws k)) (joined-add_write new levels) wrote)) late
+]
+
+pub SessionAgrees-insert : {status : ℕ → Option Status} {store store' : Tid → Option Version} {history : List Transaction} {sees : ℕ → Type 0} {e : Session} {m : OpenSession} (x : ℕ) (place : Tid) (new : Version)
+    → Adds store store' place new → IsNew x new → IsCurrent e x → reading history m.start (joined m.levels) new.row.key ≡ None → ¬ IsLate history m.start new.row.key
+    → SessionAgrees status store history sees e m → SessionAgrees status store' history sees e (with_row new.row m)
+SessionAgrees-insert {status} {store} {store'} {history} {sees} {e} {m} x place new adds is_new current none in_time h = record {
+  same_failed = h.same_failed;
+  same_cursor = h.same_cursor;
+  levels = levels_write (record { key = new.row.key; row = Some new.row }) e.own e.saved m.levels
+      (λ r. ReaderAgrees-insert x place new adds is_new current.mine none r)
+      (λ before own' writes is subset among r. ReaderAgrees-add_other x place new adds is_new (h.own_active x current.mine) (λ mine. current.newest before is (among x mine)) r) h.levels;
+  traces = TracesAgree-add x place new adds is_new (h.own_active x current.mine) h.traces;
+  began = h.began;
+  in_time = in_time-write history m.start (record { key = new.row.key; row = Some new.row }) m.levels in_time h.in_time;
+  active_unseen = h.active_unseen;
+  own_active = h.own_active;
+}
+
+pub SessionAgrees-delete : {status : ℕ → Option Status} {store store' : Tid → Option Version} {history : List Transaction} {sees : ℕ → Type 0} {e : Session} {m : OpenSession} (x : ℕ) (place : Tid) (old new : Version)
+    → Alters store store' place old new → IsDeleted x old new → IsCurrent e x → IsVisible status sees e.own old → ¬ IsLate history m.start old.row.key → ((y : ℕ) → deleter old ≡ Some y → ¬ IsCommitted status y)
+    → SessionAgrees status store history sees e m → SessionAgrees status store' history sees e (without_row old.row.key m)
+SessionAgrees-delete {status} {store} {store'} {history} {sees} {e} {m} x place old new alters deleted current seen in_time dead h = record {
+  same_failed = h.same_failed;
+  same_cursor = h.same_cursor;
+  levels = levels_write (record { key = old.row.key; row = None }) e.own e.saved m.levels
+      (λ r. ReaderAgrees-delete x place old new alters deleted current.mine seen r)
+      (λ before own' writes is subset among r. ReaderAgrees-delete_other x place old new alters deleted (h.own_active x current.mine) (λ mine. current.newest before is (among x mine))
+      (record { uncommitted = dead; foreign = λ y is mine. seen.kept y is (by_itself (subset y (among y mine))) }) r) h.levels;
+  traces = TracesAgree-delete x place old new alters deleted (h.own_active x current.mine) dead h.traces;
+  began = h.began;
+  in_time = in_time-write history m.start (record { key = old.row.key; row = None }) m.levels in_time h.in_time;
+  active_unseen = h.active_unseen;
+  own_active = h.own_active;
+}
+
+-- the session is given an id
+pub SessionAgrees-give : {status status' : ℕ → Option Status} {store : Tid → Option Version} {history : List Transaction} {sees sees' : ℕ → Type 0} {e : Session} {m : OpenSession} (x : ℕ)
+    → Gives status status' x → SameSight status sees sees' → ¬ Sees sees' x → ((p : Tid) (y : ℕ) (v : Version) → At store p v → Touches y v → IsSome (status y))
+    → SessionAgrees status store history sees e m
+    → SessionAgrees status' store history sees' (record e { own = e.own ++ x ∷ [] }) m
+SessionAgrees-give {status} {status'} {store} {history} {sees} {sees'} {e} {m} x gives same unseen given h = record {
+  same_failed = h.same_failed;
+  same_cursor = h.same_cursor;
+  levels = levels e.own e.saved m.levels h.levels;
+  traces = TracesAgree-same (λ y done. keeps-give gives y Committed done) (λ y done. IsCommitted-give gives y done) same h.traces;
+  began = h.began;
+  in_time = h.in_time;
+  active_unseen = λ y active. elim (IsActive-give_cases gives y active) [
+    | inl old ↦ unseen_still same y InProgress old (h.active_unseen y old)
+    | inr now ↦ λ seen. unseen (subst (λ z. Sees sees' z) now seen)
+  ];
+  own_active = λ y mine. elim (Contains-push_cases e.own x y mine) [
+    | inl old ↦ keeps-give gives y InProgress (h.own_active y old)
+    | inr now ↦ subst (λ z. IsActive status' z) now gives.active
+  ];
+}
+  where
+    old_own : (own : List ℕ) (p : Tid) (y : ℕ) (v : Version) → At store p v → Touches y v → Contains (own ++ x ∷ []) y → Contains own y
+    old_own own p y v at touch mine = elim (Contains-push_cases own x y mine) [
+      | inl old ↦ old
+      | inr now ↦ absurd (none_given (status x) gives.fresh (subst (λ z. IsSome (status z)) (sym now) (given p y v at touch)))
+    ]
+
+    to : (own : List ℕ) (y : ℕ) → Reads status sees own y → Reads status' sees' (own ++ x ∷ []) y
+    to own y (by_itself mine) = by_itself (Contains-append_left own (x ∷ []) y mine)
+    to own y (by_others seen done) = by_others ((same y Committed done).0 seen) (keeps-give gives y Committed done)
+
+    back : (own : List ℕ) (p : Tid) (y : ℕ) (v : Version) → At store p v → Touches y v → Reads status' sees' (own ++ x ∷ []) y → Reads status sees own y
+    back own p y v at touch (by_itself mine) = by_itself (old_own own p y v at touch mine)
+    back own p y v at touch (by_others seen done) = (let was = IsCommitted-give gives y done in by_others ((same y Committed was).1 seen) was)
+
+    top : (own : List ℕ) (writes : List Write) → ReaderAgrees status store history sees m.start own writes → ReaderAgrees status' store history sees' m.start (own ++ x ∷ []) writes
+    top own writes r = ReaderAgrees-same (λ p y v at touch. to own y) (back own) (λ p y v at touch mine. Contains-append_left own (x ∷ []) y mine) (old_own own) (λ k. refl) (λ k. refl) r
+
+    levels : (own : List ℕ) (saved : List (List ℕ)) (levels : List (List Write)) → LevelsAgree status store history sees m.start own saved levels
+        → LevelsAgree status' store history sees' m.start (own ++ x ∷ []) saved levels
+    levels own [] [] h = absurd h
+    levels own [] (ws ∷ []) h = top own (joined (ws ∷ [])) h
+    levels own [] (ws ∷ (vs ∷ rest)) h = absurd h
+    levels own (before ∷ saved) [] h = absurd h
+    levels own (before ∷ saved) (ws ∷ rest) h = (
+      top own (joined (ws ∷ rest)) h.0,
+      λ y mine. Contains-append_left own (x ∷ []) y (h.1 y mine),
+      Levels-map before saved rest (λ own' writes among r. same_reader own' writes (λ y done. keeps-give gives y Committed done) same (reads_before own' (λ y done. IsCommitted-give gives y done) same) (λ k. refl) r) h.2,
+    )
+
+-- the session fails
+pub SessionAgrees-fail : {status : ℕ → Option Status} {store : Tid → Option Version} {history : List Transaction} {sees : ℕ → Type 0} {e : Session} {m : OpenSession}
+    → SessionAgrees status store history sees e m → SessionAgrees status store history sees (record e { failed = true }) (as_failed m)
+SessionAgrees-fail h = record {
+  same_failed = refl;
+  same_cursor = h.same_cursor;
+  levels = h.levels;
+  traces = h.traces;
+  began = h.began;
+  in_time = h.in_time;
+  active_unseen = h.active_unseen;
+  own_active = h.own_active;
+}
+
+pub none_own : (x : ℕ) → ¬ Contains [] x
+none_own x among = let below : among.0 < 0 = among.1 in absurd (omega arith)
+
+-- a session as it begins
+abbrev pub new_session : Snap → Session
+new_session snapshot = record { snapshot = snapshot; own = []; saved = []; failed = false }
+
+abbrev pub fresh_model : World → OpenSession
+fresh_model w = record { start = length w.history; levels = [] ∷ []; failed = false; cursor = None }
+
+pub SessionAgrees-begin : {status : ℕ → Option Status} {store : Tid → Option Version} {sees : ℕ → Type 0} (snapshot : Snap) (w : World)
+    → IsFresh status sees
+    → Shows store (VisibleBy (IsCommitted status)) (committed w.history (length w.history))
+    → ((p : Tid) (y : ℕ) (v : Version) → At store p v → deleter v ≡ Some y → IsCommitted status y → (x : ℕ) → maker v ≡ Some x → IsCommitted status x)
+    → SessionAgrees status store w.history sees (new_session snapshot) (fresh_model w)
+SessionAgrees-begin {status} {store} {sees} snapshot w fresh current made = record {
+  same_failed = refl;
+  same_cursor = refl;
+  levels = record {
+    rows = Shows-same (λ p v at seen. VisibleBy-same (λ x touch. to x) (λ x touch. back x) seen) (λ p v at seen. VisibleBy-same (λ x touch. back x) (λ x touch. to x) seen) (λ k. refl) current;
+    whole = λ p y v at is reads x maker. to x (made p y v at is (back y reads) x maker);
+    written_own = λ k wrote. cc;
+    own_written = λ p v at own. absurd (none_own own.0 own.2);
+  };
+  traces = record {
+    late_missed = λ k late. absurd (IsLate-now w.history k late);
+    missed_late = λ p v at missed. absurd (missed.3 (fresh.finished missed.0 missed.2));
+  };
+  began = omega arith;
+  in_time = λ k wrote. cc;
+  active_unseen = fresh.active;
+  own_active = λ x own. absurd (none_own x own);
+}
+  where
+    to : (x : ℕ) → IsCommitted status x → Reads status sees [] x
+    to x done = by_others (fresh.finished x done) done
+
+    back : (x : ℕ) → Reads status sees [] x → IsCommitted status x
+    back x (by_itself own) = absurd (none_own x own)
+    back x (by_others seen done) = done

@@ -1,0 +1,12 @@
+pub mod Versions
+pub mod ShowsLemmas
+pub mod Statuses
+pub mod Readers
+pub mod SessionsLemmas
+pub mod Traces
+pub mod Others
+pub mod Itself
+pub mod Steps
+pub mod Commit
+pub mod Runs
+pub mod Follows

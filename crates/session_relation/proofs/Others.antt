@@ -1,0 +1,117 @@
+-- What each step does to the agreement of another session.
+use Rattle.std.proofs.Common.{◌≡◌, ◌≢◌, ℕ, ◌≤◌, List, [], ◌∷◌, ◌++◌, length, Option, Some, None, Bool, true, false, refl, sym, ap, ◌∙◌, subst, ◌⊎◌, inl, inr, arith, length-append}
+use Rattle.std.specs.Prelude.{IsSome, Contains}
+use Rattle.xid_circle.specs.declared.Tid.{Tid}
+use Rattle.tuple_header.specs.Version.{Version}
+use Rattle.commit_status.specs.declared.status.Status.{Status}
+use Rattle.commit_status.specs.declared.status.Status.TheVariants.{InProgress, Committed, Aborted}
+use Rattle.history.specs.History.{Write, Transaction, committed, written, IsLate}
+use Rattle.history.specs.World.{OpenSession, own_write}
+use Rattle.history.proofs.HistoryLemmas.{committed-push_before, IsLate-push_cases}
+use Rattle.session_relation.specs.Heap.{Session}
+use Rattle.session_relation.specs.Visible.{IsCommitted, IsActive, Sees, Reads, by_itself, by_others, Touches, At, deleter}
+use Rattle.session_relation.specs.Changes.{Adds, Alters, Gives, Finishes, SameSight}
+use Rattle.session_relation.specs.Agrees.{ReaderAgrees, SessionAgrees}
+use Rattle.session_relation.proofs.Statuses.{keeps-give, IsCommitted-give, IsActive-give_cases, IsCommitted-finish_old, IsCommitted-commit_cases, IsCommitted-abort, IsActive-finish, IsActive-finish_other, Reads-status}
+use Rattle.session_relation.proofs.Readers.{IsNew, IsDeleted, IsIdle, ReaderAgrees-same, ReaderAgrees-add_other, ReaderAgrees-delete_other, Levels-map}
+use Rattle.session_relation.proofs.Traces.{Carries, TracesAgree-same, TracesAgree-add, TracesAgree-delete, TracesAgree-commit, unseen_still}
+
+pub SessionAgrees-add_other : {status : ℕ → Option Status} {store store' : Tid → Option Version} {history : List Transaction} {sees : ℕ → Type 0} {e : Session} {m : OpenSession} (x : ℕ) (place : Tid) (new : Version)
+    → Adds store store' place new → IsNew x new → IsActive status x → ¬ Contains e.own x
+    → SessionAgrees status store history sees e m → SessionAgrees status store' history sees e m
+SessionAgrees-add_other {status} {store} {store'} {history} {sees} {e} {m} x place new adds is_new active foreign h = record {
+  same_failed = h.same_failed;
+  same_cursor = h.same_cursor;
+  levels = Levels-map e.own e.saved m.levels (λ own writes among r. ReaderAgrees-add_other x place new adds is_new active (λ mine. foreign (among x mine)) r) h.levels;
+  traces = TracesAgree-add x place new adds is_new active h.traces;
+  began = h.began;
+  in_time = h.in_time;
+  active_unseen = h.active_unseen;
+  own_active = h.own_active;
+}
+
+pub SessionAgrees-delete_other : {status : ℕ → Option Status} {store store' : Tid → Option Version} {history : List Transaction} {sees : ℕ → Type 0} {e : Session} {m : OpenSession} (x : ℕ) (place : Tid) (old new : Version)
+    → Alters store store' place old new → IsDeleted x old new → IsActive status x → ¬ Contains e.own x → IsIdle status e.own old
+    → SessionAgrees status store history sees e m → SessionAgrees status store' history sees e m
+SessionAgrees-delete_other {status} {store} {store'} {history} {sees} {e} {m} x place old new alters deleted active foreign idle h = record {
+  same_failed = h.same_failed;
+  same_cursor = h.same_cursor;
+  levels = Levels-map e.own e.saved m.levels (λ own writes among r. ReaderAgrees-delete_other x place old new alters deleted active (λ mine. foreign (among x mine)) (record { uncommitted = idle.uncommitted; foreign = λ y is mine. idle.foreign y is (among y mine) }) r) h.levels;
+  traces = TracesAgree-delete x place old new alters deleted active idle.uncommitted h.traces;
+  began = h.began;
+  in_time = h.in_time;
+  active_unseen = h.active_unseen;
+  own_active = h.own_active;
+}
+
+-- the statuses change, and the reader cannot tell
+pub same_reader : {status status' : ℕ → Option Status} {store : Tid → Option Version} {history history' : List Transaction} {sees sees' : ℕ → Type 0} {start : ℕ} (own : List ℕ) (writes : List Write)
+    → ((x : ℕ) → IsCommitted status x → IsCommitted status' x) → SameSight status sees sees' → ((x : ℕ) → Reads status' sees' own x → Reads status sees own x)
+    → ((k : ℕ) → committed history' start k ≡ committed history start k)
+    → ReaderAgrees status store history sees start own writes → ReaderAgrees status' store history' sees' start own writes
+same_reader own writes to same back before r =
+    ReaderAgrees-same (λ p x v at touch reads. Reads-status (to x) (λ done. (same x Committed done).0) reads) (λ p x v at touch reads. back x reads) (λ p x v at touch mine. mine) (λ p x v at touch mine. mine) (λ k. refl) before r
+
+-- what is read after a change that commits nothing was read before it
+pub reads_before : {status status' : ℕ → Option Status} {sees sees' : ℕ → Type 0} (own : List ℕ) → ((x : ℕ) → IsCommitted status' x → IsCommitted status x) → SameSight status sees sees'
+    → (x : ℕ) → Reads status' sees' own x → Reads status sees own x
+reads_before own back same x reads = elim reads [
+  | by_itself mine ↦ by_itself mine
+  | by_others seen done ↦ by_others ((same x Committed (back x done)).1 seen) (back x done)
+]
+
+-- another session is given an id
+pub SessionAgrees-give_other : {status status' : ℕ → Option Status} {store : Tid → Option Version} {history : List Transaction} {sees sees' : ℕ → Type 0} {e : Session} {m : OpenSession} (x : ℕ)
+    → Gives status status' x → SameSight status sees sees' → ¬ Sees sees' x
+    → SessionAgrees status store history sees e m → SessionAgrees status' store history sees' e m
+SessionAgrees-give_other {status} {status'} {store} {history} {sees} {sees'} {e} {m} x gives same unseen h = record {
+  same_failed = h.same_failed;
+  same_cursor = h.same_cursor;
+  levels = Levels-map e.own e.saved m.levels (λ own writes among r. same_reader own writes (λ y done. keeps-give gives y Committed done) same (reads_before own (λ y done. IsCommitted-give gives y done) same) (λ k. refl) r) h.levels;
+  traces = TracesAgree-same (λ y done. keeps-give gives y Committed done) (λ y done. IsCommitted-give gives y done) same h.traces;
+  began = h.began;
+  in_time = h.in_time;
+  active_unseen = λ y active. elim (IsActive-give_cases gives y active) [
+    | inl old ↦ unseen_still same y InProgress old (h.active_unseen y old)
+    | inr now ↦ λ seen. unseen (subst (λ z. Sees sees' z) now seen)
+  ];
+  own_active = λ y own. keeps-give gives y InProgress (h.own_active y own);
+}
+
+-- ids of another session are rolled back
+pub SessionAgrees-abort_other : {status status' : ℕ → Option Status} {store : Tid → Option Version} {history : List Transaction} {sees sees' : ℕ → Type 0} {e : Session} {m : OpenSession} (P : ℕ → Type 0)
+    → Finishes status status' P Aborted → SameSight status sees sees' → ((x : ℕ) → P x → ¬ Contains e.own x)
+    → SessionAgrees status store history sees e m → SessionAgrees status' store history sees' e m
+SessionAgrees-abort_other {status} {status'} {store} {history} {sees} {sees'} {e} {m} P finishes same foreign h = record {
+  same_failed = h.same_failed;
+  same_cursor = h.same_cursor;
+  levels = Levels-map e.own e.saved m.levels (λ own writes among r. same_reader own writes (λ y done. IsCommitted-finish_old finishes y done) same (reads_before own (λ y done. IsCommitted-abort finishes y done) same) (λ k. refl) r) h.levels;
+  traces = TracesAgree-same (λ y done. IsCommitted-finish_old finishes y done) (λ y done. IsCommitted-abort finishes y done) same h.traces;
+  began = h.began;
+  in_time = h.in_time;
+  active_unseen = λ y after. let old = (IsActive-finish (λ e. cc) finishes y after).0 in unseen_still same y InProgress old (h.active_unseen y old);
+  own_active = λ y own. IsActive-finish_other finishes y (λ p. foreign y p own) (h.own_active y own);
+}
+
+-- another session commits
+pub SessionAgrees-commit_other : {status status' : ℕ → Option Status} {store : Tid → Option Version} {history : List Transaction} {sees sees' : ℕ → Type 0} {e : Session} {m : OpenSession} (own : List ℕ) (t : Transaction)
+    → Finishes status status' (λ x. Contains own x) Committed → SameSight status sees sees' → ((x : ℕ) → Contains own x → ¬ Contains e.own x) → Carries store own t
+    → ((k : ℕ) → IsSome (own_write m k) → IsSome (written t.writes k) → ⊥)
+    → SessionAgrees status store history sees e m → SessionAgrees status' store (history ++ t ∷ []) sees' e m
+SessionAgrees-commit_other {status} {status'} {store} {history} {sees} {sees'} {e} {m} own t finishes same foreign carries alone h = record {
+  same_failed = h.same_failed;
+  same_cursor = h.same_cursor;
+  levels = Levels-map e.own e.saved m.levels (λ own' writes among r. same_reader own' writes (λ y done. IsCommitted-finish_old finishes y done) same (back own') (λ k. committed-push_before history t m.start k h.began) r) h.levels;
+  traces = TracesAgree-commit own t finishes same carries h.began (λ x mine. h.active_unseen x (finishes.active x mine)) h.traces;
+  began = (let old = h.began in omega (arith, length-append history (t ∷ [])));
+  in_time = λ k wrote late. elim (IsLate-push_cases history t m.start k late) [ inl old ↦ h.in_time k wrote old | inr theirs ↦ alone k wrote theirs ];
+  active_unseen = λ y after. let old = (IsActive-finish (λ e. cc) finishes y after).0 in unseen_still same y InProgress old (h.active_unseen y old);
+  own_active = λ y mine. IsActive-finish_other finishes y (λ p. foreign y p mine) (h.own_active y mine);
+}
+  where
+    back : (own' : List ℕ) (x : ℕ) → Reads status' sees' own' x → Reads status sees own' x
+    back own' x (by_itself mine) = by_itself mine
+    back own' x (by_others seen done) = elim (IsCommitted-commit_cases finishes x done) [
+      | inl theirs ↦ (let active = finishes.active x theirs in absurd (h.active_unseen x active ((same x InProgress active).1 seen)))
+      | inr old ↦ by_others ((same x Committed old).1 seen) old
+    ]

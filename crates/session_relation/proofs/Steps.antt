@@ -1,0 +1,269 @@
+-- Each step keeps the engine's agreement with the model.
+use Rattle.std.proofs.Common.{◌≡◌, ◌≢◌, ℕ, ◌<◌, List, [], ◌∷◌, ◌++◌, length, Option, Some, None, Bool, true, false, cond, nat_eq, refl, sym, ap, ◌∙◌, subst, ◌⊎◌, inl, inr}
+use Rattle.std.specs.Prelude.{IsSome, Contains}
+use Rattle.std.proofs.lemmas.Bool.{cases_eq}
+use Rattle.std.proofs.lemmas.Option.{same_Some, none-some}
+use Rattle.std.proofs.lemmas.List.Elements.{Contains-push_cases, Contains-append_left, Contains-append_right, Contains-append_cases, Contains-push}
+use Rattle.xid_circle.specs.declared.Tid.{Tid}
+use Rattle.tuple_header.specs.Version.{Version}
+use Rattle.commit_status.specs.declared.status.Status.{Status}
+use Rattle.commit_status.specs.declared.status.Status.TheVariants.{InProgress, Committed, Aborted}
+use Rattle.snapshot.specs.Snap.{Snap}
+use Rattle.history.specs.History.{Write, committed, written, reading, IsLate}
+use Rattle.history.specs.World.{World, OpenSession, joined, own_write, Holds, empty}
+use Rattle.history.specs.Moves.{put, stepped, begun, with_row, as_failed, aborted}
+use Rattle.history.specs.Cursors.{kept_where}
+use Rattle.std.specs.Prelude.{not, ◌==◌}
+use Rattle.history.proofs.HistoryLemmas.{at_same, at_other, joined-add_write}
+use Rattle.session_relation.specs.Heap.{Session, Heap}
+use Rattle.session_relation.specs.Visible.{IsFresh, IsCommitted, IsActive, Sees, Reads, VisibleBy, Touches, made_by, deleted_by, At, maker, deleter}
+use Rattle.session_relation.specs.Changes.{Adds, Gives, Finishes, SameSight}
+use Rattle.session_relation.specs.Agrees.{Shows, SessionAgrees, Agrees}
+use Rattle.session_relation.proofs.ShowsLemmas.{Shows-same, Shows-add_unseen}
+use Rattle.session_relation.proofs.Statuses.{keeps-give, none_given, some_of, IsCommitted-give, IsActive-give_cases, IsCommitted-finish_old, IsCommitted-abort, IsActive-finish, given-finish, given-give}
+use Rattle.session_relation.proofs.Versions.{VisibleBy-same, Adds-cases, active_not_committed}
+use Rattle.session_relation.proofs.Readers.{IsNew, touches_new, wrote_before}
+use Rattle.session_relation.proofs.Others.{SessionAgrees-add_other, SessionAgrees-give_other, SessionAgrees-abort_other}
+use Rattle.session_relation.proofs.Itself.{IsCurrent, new_session, fresh_model, none_own, SessionAgrees-begin, SessionAgrees-fail, SessionAgrees-insert, SessionAgrees-give}
+use Rattle.session_relation.proofs.SessionsLemmas.{at_value, Matches, opened-change, idle-change, owned-change, apart-change, alone-change}
+
+-- one session alone changed, and is this now
+pub record OnlyIs (before after : ℕ → Option Session) (s : ℕ) (now : Option Session) : Type 0 where
+  pub others : (o : ℕ) → o ≢ s → after o ≡ before o
+  pub itself : after s ≡ now
+
+-- the sight of the open snapshots is as it was
+abbrev pub SameSights : Heap → (Snap → ℕ → Type 0) → Type 0
+SameSights h sees' = (o : ℕ) (e : Session) → h.session o ≡ Some e → SameSight h.status (h.sees e.snapshot) (sees' e.snapshot)
+
+pub waits-put : (w : World) (s : ℕ) → ((t : ℕ) → w.waits_for t ≡ None) → (t : ℕ) → (stepped w s).waits_for t ≡ None
+waits-put w s none t = elim (cases_eq t s) [
+  | inl same ↦ ap (λ t. cond (nat_eq t s) None (w.waits_for t)) same ∙ at_same s None (w.waits_for s)
+  | inr ne ↦ at_other t s None (w.waits_for t) ne ∙ none t
+]
+
+pub waits-aborted : (w : World) (s : ℕ) → ((t : ℕ) → w.waits_for t ≡ None) → (t : ℕ) → (aborted w s).waits_for t ≡ None
+waits-aborted w s none t = ap (λ o. kept_where (λ p. not (p == s)) o) (waits-put w s none t)
+
+pub cases_Contains : (xs : List ℕ) (x : ℕ) → Contains xs x ⊎ (¬ Contains xs x)
+cases_Contains [] x = inr (none_own x)
+cases_Contains (y ∷ ys) x = elim (cases_eq y x) [
+  | inl same ↦ inl (Contains-append_left (y ∷ []) ys x (subst (λ z. Contains (y ∷ []) z) same (Contains-push [] y)))
+  | inr ne ↦ elim (cases_Contains ys x) [
+    | inl there ↦ inl (Contains-append_right (y ∷ []) ys x there)
+    | inr absent ↦ inr (λ among. elim (Contains-append_cases (y ∷ []) ys x among) [
+      | inl here ↦ elim (Contains-push_cases [] y x here) [ inl none ↦ none_own x none | inr same ↦ ne same ]
+      | inr there ↦ absent there
+    ])
+  ]
+]
+
+-- a session begins
+pub Agrees-begin : (h : Heap) (w : World) (s : ℕ) (snapshot : Snap) (session' : ℕ → Option Session)
+    → OnlyIs h.session session' s (Some (new_session snapshot)) → h.session s ≡ None → IsFresh h.status (h.sees snapshot)
+    → Agrees h w → Agrees (record h { session = session' }) (begun w s)
+Agrees-begin h w s snapshot session' only idle fresh agrees = record {
+  opened = opened-change h h' w w' s agrees only.others models (λ o e m ne at there old. old)
+      (λ e. at_value (λ e. Matches h' w' s e) (session' s) (new_session snapshot) e only.itself
+      (fresh_model w, at_same s (Some (fresh_model w)) (w.session s), SessionAgrees-begin snapshot w fresh agrees.current agrees.made));
+  idle = idle-change h h' w w' s agrees only.others models (λ at. absurd (none-some (new_session snapshot) (sym at ∙ only.itself)));
+  waits = waits-put w s agrees.waits;
+  current = agrees.current;
+  made = agrees.made;
+  given = agrees.given;
+  owned = owned-change h h' w w' s agrees only.others models (λ x active. inl (active, λ e at. absurd (none-some e (sym idle ∙ at))));
+  apart = apart-change h h' w w' s agrees only.others models (λ o x e f ne at bt own own'. let is : e ≡ new_session snapshot = same_Some e (new_session snapshot) (sym at ∙ only.itself) in none_own x (subst (λ (e : Session). Contains e.own x) is own));
+  alone = alone-change h h' w w' s agrees only.others models (λ o k ne p q. let is : p.0 ≡ fresh_model w = same_Some p.0 (fresh_model w) (sym p.1 ∙ at_same s (Some (fresh_model w)) (w.session s)) in
+      (let wrote : IsSome (own_write (fresh_model w) k) = subst (λ m. IsSome (own_write m k)) is p.2 in cc));
+}
+  where
+    h' : Heap
+    h' = record h { session = session' }
+
+    w' : World
+    w' = begun w s
+
+    models : (o : ℕ) → o ≢ s → w'.session o ≡ w.session o
+    models o ne = at_other o s (Some (fresh_model w)) (w.session o) ne
+
+-- the session fails
+pub Agrees-fail : (h : Heap) (w : World) (s : ℕ) (e : Session) (m : OpenSession) (session' : ℕ → Option Session)
+    → OnlyIs h.session session' s (Some (record e { failed = true })) → h.session s ≡ Some e → w.session s ≡ Some m
+    → SessionAgrees h.status h.version w.history (h.sees e.snapshot) e m
+    → Agrees h w → Agrees (record h { session = session' }) (put w s (Some (as_failed m)))
+Agrees-fail h w s e m session' only at there mine agrees = record {
+  opened = opened-change h h' w w' s agrees only.others models (λ o f n ne bt there' old. old)
+      (λ f. at_value (λ f. Matches h' w' s f) (session' s) e' f only.itself
+      (as_failed m, at_same s (Some (as_failed m)) (w.session s), SessionAgrees-fail mine));
+  idle = idle-change h h' w w' s agrees only.others models (λ at'. absurd (none-some e' (sym at' ∙ only.itself)));
+  waits = waits-put w s agrees.waits;
+  current = agrees.current;
+  made = agrees.made;
+  given = agrees.given;
+  owned = owned-change h h' w w' s agrees only.others models (λ x active. elim (cases_Contains e.own x) [
+    | inl ours ↦ inr (e', only.itself, ours)
+    | inr other ↦ inl (active, λ f bt own. other (let is : f ≡ e = same_Some f e (sym bt ∙ at) in subst (λ (e : Session). Contains e.own x) is own))
+  ]);
+  apart = apart-change h h' w w' s agrees only.others models (λ o x f g ne bt ct own own'. let is : f ≡ e' = same_Some f e' (sym bt ∙ only.itself) in
+      ne (agrees.apart o s g e x ct at own' (subst (λ (e : Session). Contains e.own x) is own)));
+  alone = alone-change h h' w w' s agrees only.others models (λ o k ne p q. let is : p.0 ≡ as_failed m = same_Some p.0 (as_failed m) (sym p.1 ∙ at_same s (Some (as_failed m)) (w.session s)) in
+      ne (agrees.alone o s k q (m, there, subst (λ m. IsSome (own_write m k)) is p.2)));
+}
+  where
+    e' : Session
+    e' = record e { failed = true }
+
+    h' : Heap
+    h' = record h { session = session' }
+
+    w' : World
+    w' = put w s (Some (as_failed m))
+
+    models : (o : ℕ) → o ≢ s → w'.session o ≡ w.session o
+    models o ne = at_other o s (Some (as_failed m)) (w.session o) ne
+
+-- to be given an id is no step of the model
+pub Agrees-give : (h : Heap) (w : World) (s : ℕ) (e : Session) (x : ℕ) (status' : ℕ → Option Status) (sees' : Snap → ℕ → Type 0) (session' : ℕ → Option Session)
+    → OnlyIs h.session session' s (Some (record e { own = e.own ++ x ∷ [] })) → h.session s ≡ Some e
+    → Gives h.status status' x → SameSights h sees' → ((o : ℕ) (f : Session) → h.session o ≡ Some f → ¬ Sees (sees' f.snapshot) x)
+    → Agrees h w → Agrees (record h { status = status'; sees = sees'; session = session' }) w
+Agrees-give h w s e x status' sees' session' only at gives same unseen agrees = record {
+  opened = opened-change h h' w w s agrees only.others (λ o ne. refl) (λ o f m ne bt there old. SessionAgrees-give_other x gives (same o f bt) (unseen o f bt) old)
+      (λ f. let old = agrees.opened s e at in at_value (λ f. Matches h' w s f) (session' s) new f only.itself
+      (old.0, old.1, SessionAgrees-give x gives (same s e at) (unseen s e at) agrees.given old.2));
+  idle = idle-change h h' w w s agrees only.others (λ o ne. refl) (λ at'. absurd (none-some new (sym at' ∙ only.itself)));
+  waits = agrees.waits;
+  current = Shows-same (λ p v bt seen. VisibleBy-same (λ y touch. to y) (λ y touch. back y) seen) (λ p v bt seen. VisibleBy-same (λ y touch. back y) (λ y touch. to y) seen) (λ k. refl) agrees.current;
+  made = λ p y v bt is done z maker. to z (agrees.made p y v bt is (back y done) z maker);
+  given = λ p y v bt touch. given-give gives y (agrees.given p y v bt touch);
+  owned = owned-change h h' w w s agrees only.others (λ o ne. refl) (λ y active. elim (IsActive-give_cases gives y active) [
+    | inl old ↦ elim (cases_Contains e.own y) [
+      | inl mine ↦ inr (new, only.itself, Contains-append_left e.own (x ∷ []) y mine)
+      | inr other ↦ inl (old, λ f bt own. other (let is : f ≡ e = same_Some f e (sym bt ∙ at) in subst (λ (e : Session). Contains e.own y) is own))
+    ]
+    | inr now ↦ inr (new, only.itself, subst (λ z. Contains (e.own ++ x ∷ []) z) (sym now) (Contains-push e.own x))
+  ]);
+  apart = apart-change h h' w w s agrees only.others (λ o ne. refl) (λ o y f g ne bt ct own own'.
+      let is : f ≡ new = same_Some f new (sym bt ∙ only.itself) in
+      elim (Contains-push_cases e.own x y (subst (λ (e : Session). Contains e.own y) is own)) [
+        | inl old ↦ ne (agrees.apart o s g e y ct at own' old)
+        | inr now ↦ none_given (h.status x) gives.fresh (some_of InProgress (h.status x) (subst (λ z. IsActive h.status z) (sym now) ((agrees.opened o g ct).2.own_active y own')))
+      ]);
+  alone = agrees.alone;
+}
+  where
+    new : Session
+    new = record e { own = e.own ++ x ∷ [] }
+
+    h' : Heap
+    h' = record h { status = status'; sees = sees'; session = session' }
+
+    to : (y : ℕ) → IsCommitted h.status y → IsCommitted status' y
+    to y done = keeps-give gives y Committed done
+
+    back : (y : ℕ) → IsCommitted status' y → IsCommitted h.status y
+    back y done = IsCommitted-give gives y done
+
+-- a session that has an id writes a row
+pub Agrees-insert : (h : Heap) (w : World) (s : ℕ) (e : Session) (m : OpenSession) (x : ℕ) (place : Tid) (new : Version) (store' : Tid → Option Version)
+    → Adds h.version store' place new → IsNew x new → h.session s ≡ Some e → IsCurrent e x → w.session s ≡ Some m
+    → reading w.history m.start (joined m.levels) new.row.key ≡ None → ¬ IsLate w.history m.start new.row.key → ((o : ℕ) → o ≢ s → ¬ Holds w o new.row.key)
+    → SessionAgrees h.status h.version w.history (h.sees e.snapshot) e m
+    → Agrees h w → Agrees (record h { version = store' }) (put w s (Some (with_row new.row m)))
+Agrees-insert h w s e m x place new store' adds is_new at current there none in_time unheld mine agrees = record {
+  opened = opened-change h h' w w' s agrees (λ o ne. refl) models
+      (λ o f n ne bt there' old. SessionAgrees-add_other x place new adds is_new active (λ foreign. ne (agrees.apart o s f e x bt at foreign current.mine)) old)
+      (λ e' at'. let is : e ≡ e' = same_Some e e' (sym at ∙ at') in
+      subst (λ e. Matches h' w' s e) is
+      (with_row new.row m, at_same s (Some (with_row new.row m)) (w.session s), SessionAgrees-insert x place new adds is_new current none in_time mine));
+  idle = idle-change h h' w w' s agrees (λ o ne. refl) models (λ at'. absurd (none-some e (sym at' ∙ at)));
+  waits = waits-put w s agrees.waits;
+  current = Shows-add_unseen adds (λ p v bt seen. seen) (λ p v bt seen. seen) (λ seen. active_not_committed h.status x active (seen.made x is_new.made)) agrees.current;
+  made = λ p y u at' is done. elim (Adds-cases adds p u at') [
+    | inl old ↦ agrees.made p y u old is done
+    | inr now ↦ absurd (none-some y (sym is_new.kept ∙ (ap (λ (u : Version). deleter u) (sym now.1) ∙ is)))
+  ];
+  given = λ p y v at' touch. elim (Adds-cases adds p v at') [
+    | inl old ↦ agrees.given p y v old touch
+    | inr now ↦ some_of InProgress (h.status y) (subst (λ z. IsActive h.status z) (sym (touches_new y is_new (subst (λ (u : Version). Touches y u) now.1 touch))) active)
+  ];
+  owned = agrees.owned;
+  apart = agrees.apart;
+  alone = alone-change h h' w w' s agrees (λ o ne. refl) models (λ o k ne p q. elim (cases_eq k new.row.key) [
+    | inl same ↦ unheld o ne (subst (λ k. Holds w o k) same q)
+    | inr ne' ↦ (let is : p.0 ≡ with_row new.row m = same_Some p.0 (with_row new.row m) (sym p.1 ∙ at_same s (Some (with_row new.row m)) (w.session s)) in
+        ne (agrees.alone o s k q (
+          m,
+          there,
+          wrote_before (joined m.levels) write k ne'
+              (subst (λ ws. IsSome (written ws k)) (joined-add_write write m.levels) (subst (λ m. IsSome (own_write m k)) is p.2)),
+        )))
+  ]);
+}
+  where
+    write : Write
+    write = record { key = new.row.key; row = Some new.row }
+
+    h' : Heap
+    h' = record h { version = store' }
+
+    w' : World
+    w' = put w s (Some (with_row new.row m))
+
+    active : IsActive h.status x
+    active = mine.own_active x current.mine
+
+    models : (o : ℕ) → o ≢ s → w'.session o ≡ w.session o
+    models o ne = at_other o s (Some (with_row new.row m)) (w.session o) ne
+
+-- a session is rolled back
+pub Agrees-abort : (h : Heap) (w : World) (s : ℕ) (e : Session) (status' : ℕ → Option Status) (sees' : Snap → ℕ → Type 0) (session' : ℕ → Option Session)
+    → OnlyIs h.session session' s None → h.session s ≡ Some e → Finishes h.status status' (λ x. Contains e.own x) Aborted → SameSights h sees'
+    → Agrees h w → Agrees (record h { status = status'; sees = sees'; session = session' }) (aborted w s)
+Agrees-abort h w s e status' sees' session' only at finishes same agrees = record {
+  opened = opened-change h h' w w' s agrees only.others models
+      (λ o f m ne bt there old. SessionAgrees-abort_other (λ x. Contains e.own x) finishes (same o f bt) (λ x mine theirs. ne (agrees.apart o s f e x bt at theirs mine)) old)
+      (λ e' at'. absurd (none-some e' (sym only.itself ∙ at')));
+  idle = idle-change h h' w w' s agrees only.others models (λ at'. at_same s None (w.session s));
+  waits = waits-aborted w s agrees.waits;
+  current = Shows-same (λ p v at' seen. VisibleBy-same (λ y touch. to y) (λ y touch. back y) seen) (λ p v at' seen. VisibleBy-same (λ y touch. back y) (λ y touch. to y) seen) (λ k. refl) agrees.current;
+  made = λ p y v at' is done z maker. to z (agrees.made p y v at' is (back y done) z maker);
+  given = λ p y v at' touch. given-finish finishes y (agrees.given p y v at' touch);
+  owned = owned-change h h' w w' s agrees only.others models (λ y after. let left = IsActive-finish (λ e. cc) finishes y after in
+      inl (left.0, λ e' at' own'. let is : e' ≡ e = same_Some e' e (sym at' ∙ at) in left.1 (subst (λ (e : Session). Contains e.own y) is own')));
+  apart = apart-change h h' w w' s agrees only.others models (λ o y e' f ne at'. absurd (none-some e' (sym only.itself ∙ at')));
+  alone = alone-change h h' w w' s agrees only.others models (λ o k ne p q. absurd (none-some p.0 (sym (at_same s None (w.session s)) ∙ p.1)));
+}
+  where
+    h' : Heap
+    h' = record h { status = status'; sees = sees'; session = session' }
+
+    w' : World
+    w' = aborted w s
+
+    to : (y : ℕ) → IsCommitted h.status y → IsCommitted status' y
+    to y done = IsCommitted-finish_old finishes y done
+
+    back : (y : ℕ) → IsCommitted status' y → IsCommitted h.status y
+    back y done = IsCommitted-abort finishes y done
+
+    models : (o : ℕ) → o ≢ s → w'.session o ≡ w.session o
+    models o ne = at_other o s None (w.session o) ne
+
+-- nothing is there, and no session is open
+pub Agrees-empty : (h : Heap) → ((p : Tid) → h.version p ≡ None) → ((x : ℕ) → h.status x ≡ None) → ((s : ℕ) → h.session s ≡ None) → Agrees h empty
+Agrees-empty h bare unused idle = record {
+  opened = λ s e at. absurd (none-some e (sym (idle s) ∙ at));
+  idle = λ s at. refl;
+  waits = λ s. refl;
+  current = record {
+    sound = λ p v at seen. absurd (none-some v (sym (bare p) ∙ at));
+    there = λ k r is. absurd (none-some r is);
+    one = λ p q v u at bt seen seen' key. absurd (none-some v (sym (bare p) ∙ at));
+  };
+  made = λ p y v at is done x maker. absurd (none-some v (sym (bare p) ∙ at));
+  given = λ p x v at touch. absurd (none-some v (sym (bare p) ∙ at));
+  owned = λ x active. absurd (none-some InProgress (sym (unused x) ∙ active));
+  apart = λ s o e f x at bt own own'. absurd (none-some e (sym (idle s) ∙ at));
+  alone = λ s o k p q. absurd (none-some p.0 p.1);
+}

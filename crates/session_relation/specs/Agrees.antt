@@ -1,0 +1,71 @@
+-- When an engine, as its readers see it, agrees with a history that is never cleaned.
+use Rattle.std.specs.Prelude.{◌≡◌, ◌≢◌, ℕ, ◌<◌, ◌≤◌, Bool, false, List, [], ◌∷◌, length, Option, Some, None, IsSome, slice_get, Contains}
+use Rattle.xid_circle.specs.declared.Tid.{Tid}
+use Rattle.tuple_header.specs.declared.version.Row.{Row}
+use Rattle.tuple_header.specs.Version.{Version}
+use Rattle.commit_status.specs.declared.status.Status.{Status}
+use Rattle.snapshot.specs.Snap.{Snap}
+use Rattle.history.specs.History.{Write, Transaction, written, committed, reading, IsLate}
+use Rattle.history.specs.World.{World, OpenSession, joined, own_write, Holds}
+use Rattle.session_relation.specs.Heap.{Session, Heap}
+use Rattle.session_relation.specs.Visible.{IsCommitted, IsActive, Sees, Reads, IsVisible, VisibleBy, Touches, IsMissed, IsOwn, At, SomeVersion, maker, deleter}
+
+-- the versions that are seen show exactly these rows, each by one version
+pub record Shows (store : Tid → Option Version) (seen : Version → Type 0) (row : ℕ → Option Row) : Type 0 where
+  pub sound : (p : Tid) (v : Version) → At store p v → seen v → row v.row.key ≡ Some v.row
+  pub there : (k : ℕ) (r : Row) → row k ≡ Some r → SomeVersion store k seen
+  pub one : (p q : Tid) (v u : Version) → At store p v → At store q u → seen v → seen u → v.row.key ≡ u.row.key → p ≡ q
+
+-- a reader, with these ids of its own, agrees with who began at start and has written this
+pub record ReaderAgrees (status : ℕ → Option Status) (store : Tid → Option Version) (history : List Transaction) (sees : ℕ → Type 0) (start : ℕ) (own : List ℕ) (writes : List Write) : Type 0 where
+  pub rows : Shows store (IsVisible status sees own) (reading history start writes)
+  -- whoever reads the deletion reads the making
+  pub whole : (p : Tid) (y : ℕ) (v : Version) → At store p v → deleter v ≡ Some y → Reads status sees own y → (x : ℕ) → maker v ≡ Some x → Reads status sees own x
+  pub written_own : (k : ℕ) → IsSome (written writes k) → SomeVersion store k (IsOwn own)
+  pub own_written : (p : Tid) (v : Version) → At store p v → IsOwn own v → IsSome (written writes v.row.key)
+
+-- the session as it is, and as it was at each savepoint, the newest first
+abbrev pub LevelsAgree : (ℕ → Option Status) → (Tid → Option Version) → List Transaction → (ℕ → Type 0) → ℕ → List ℕ → List (List ℕ) → List (List Write) → Type 0
+LevelsAgree status store history sees start own [] (writes ∷ []) = ReaderAgrees status store history sees start own (joined (writes ∷ []))
+LevelsAgree status store history sees start own (before ∷ saved) (writes ∷ levels) =
+    ReaderAgrees status store history sees start own (joined (writes ∷ levels)) × ((x : ℕ) → Contains before x → Contains own x) × LevelsAgree status store history sees start before saved levels
+LevelsAgree _ _ _ _ _ _ _ _ = ⊥
+
+-- a key is late exactly where a version of it has a committed id that the snapshot does not see
+pub record TracesAgree (status : ℕ → Option Status) (store : Tid → Option Version) (history : List Transaction) (sees : ℕ → Type 0) (start : ℕ) : Type 0 where
+  pub late_missed : (k : ℕ) → IsLate history start k → SomeVersion store k (IsMissed status sees)
+  pub missed_late : (p : Tid) (v : Version) → At store p v → IsMissed status sees v → IsLate history start v.row.key
+
+-- an open session agrees with the model's
+pub record SessionAgrees (status : ℕ → Option Status) (store : Tid → Option Version) (history : List Transaction) (sees : ℕ → Type 0) (e : Session) (m : OpenSession) : Type 0 where
+  pub same_failed : e.failed ≡ m.failed
+  -- no cursor is open yet
+  pub same_cursor : m.cursor ≡ None
+  -- it reads its view, and could return to each savepoint
+  pub levels : LevelsAgree status store history sees m.start e.own e.saved m.levels
+  pub traces : TracesAgree status store history sees m.start
+  pub began : m.start ≤ length history
+  -- no key that it has written is late
+  pub in_time : (k : ℕ) → IsSome (own_write m k) → ¬ IsLate history m.start k
+  pub active_unseen : (x : ℕ) → IsActive status x → ¬ Sees sees x
+  pub own_active : (x : ℕ) → Contains e.own x → IsActive status x
+
+-- the engine agrees with the model
+pub record Agrees (h : Heap) (w : World) : Type 0 where
+  -- each session reads its view, and has exact traces
+  pub opened : (s : ℕ) (e : Session) → h.session s ≡ Some e → (m : OpenSession) × (w.session s ≡ Some m) × SessionAgrees h.status h.version w.history (h.sees e.snapshot) e m
+  -- same sessions
+  pub idle : (s : ℕ) → h.session s ≡ None → w.session s ≡ None
+  -- no wait is recorded yet
+  pub waits : (s : ℕ) → w.waits_for s ≡ None
+  -- a new session would read what is committed
+  pub current : Shows h.version (VisibleBy (IsCommitted h.status)) (committed w.history (length w.history))
+  -- whose deletion is committed, its making is
+  pub made : (p : Tid) (y : ℕ) (v : Version) → At h.version p v → deleter v ≡ Some y → IsCommitted h.status y → (x : ℕ) → maker v ≡ Some x → IsCommitted h.status x
+  -- each id on a page lies in the window
+  pub given : (p : Tid) (x : ℕ) (v : Version) → At h.version p v → Touches x v → IsSome (h.status x)
+  -- each id in progress is one open session's
+  pub owned : (x : ℕ) → IsActive h.status x → (s : ℕ) × (e : Session) × (h.session s ≡ Some e) × Contains e.own x
+  pub apart : (s o : ℕ) (e f : Session) (x : ℕ) → h.session s ≡ Some e → h.session o ≡ Some f → Contains e.own x → Contains f.own x → s ≡ o
+  -- no two open sessions hold one key
+  pub alone : (s o k : ℕ) → Holds w s k → Holds w o k → s ≡ o

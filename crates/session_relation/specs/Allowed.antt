@@ -1,0 +1,97 @@
+-- Which replies the history allows to a step, and what the world is after each.
+use Rattle.std.specs.Prelude.{◌≡◌, ℕ, ◌<◌, ◌≤◌, List, [], ◌∷◌, length, Some, None, Bool, true, IsSome}
+use Rattle.history.specs.History.{IsLate}
+use Rattle.history.specs.World.{World, OpenSession, empty, view, IsReady, IsWriter, MayWrite, IsBlocked}
+use Rattle.history.specs.Moves.{stepped, begun, change, with_row, as_failed, aborted, committed_by}
+use Rattle.history.specs.Laws.{FirstCommitterWins, HeldInTime, HeldOnce}
+use Rattle.session_relation.specs.declared.step.Step.{Step}
+use Rattle.session_relation.specs.declared.step.Step.TheVariants.{Begin, Get, Insert, Commit, Abort}
+use Rattle.session_relation.specs.declared.reply.Reply.{Reply}
+use Rattle.session_relation.specs.declared.reply.Reply.TheVariants.{Done, Found, Committed, RolledBack, Refused}
+use Rattle.session_relation.specs.declared.reply.Refusal.{Refusal}
+use Rattle.session_relation.specs.declared.reply.Refusal.TheVariants.{NotOpen, AlreadyOpen, Failed, AlreadyThere, Conflict, Busy, TooLarge, NoRoom, NeedsFreeze, NoMemory, NoSuchSession}
+use Rattle.session_relation.specs.Words.{RowText, FitsRow, row_of}
+
+abbrev pub IsOpen : World → ℕ → OpenSession → Type 0
+IsOpen w s m = w.session s ≡ Some m
+
+abbrev pub session_of : Step → ℕ
+session_of (Begin s) = s
+session_of (Get s k) = s
+session_of (Insert s row) = s
+session_of (Commit s) = s
+session_of (Abort s) = s
+
+-- there is no such session, or it is not open
+abbrev pub AllowsClosed : World → ℕ → Refusal → Type 0
+AllowsClosed w s NoSuchSession = 64 ≤ s
+AllowsClosed w s NotOpen = (s < 64) × (w.session s ≡ None)
+AllowsClosed w s refusal = ⊥
+
+-- or it has failed
+abbrev pub AllowsUnready : World → ℕ → Refusal → Type 0
+AllowsUnready w s Failed = (m : OpenSession) × IsOpen w s m × (m.failed ≡ true)
+AllowsUnready w s refusal = AllowsClosed w s refusal
+
+-- what is asked of an insert before others count: the session may write, the row fits, and it reads none of the key
+pub record IsInsert (w : World) (s : ℕ) (row : RowText) (m : OpenSession) : Type 0 where
+  pub writer : IsWriter w s m
+  pub fits : FitsRow row
+  pub absent : view w.history m row.key ≡ None
+
+abbrev pub AllowsInsert : World → ℕ → RowText → Refusal → Type 0
+AllowsInsert w s row TooLarge = (m : OpenSession) × IsWriter w s m × (1024 < length row.body)
+AllowsInsert w s row AlreadyThere = (m : OpenSession) × IsWriter w s m × FitsRow row × IsSome (view w.history m row.key)
+AllowsInsert w s row Conflict = (m : OpenSession) × IsInsert w s row m × IsLate w.history m.start row.key
+AllowsInsert w s row (Busy o) = (m : OpenSession) × IsInsert w s row m × IsBlocked w s row.key o m
+AllowsInsert w s row NeedsFreeze = (m : OpenSession) × IsInsert w s row m × MayWrite w s row.key m
+AllowsInsert w s row NoRoom = (m : OpenSession) × IsInsert w s row m × MayWrite w s row.key m
+AllowsInsert w s row NoMemory = Unit {0}
+AllowsInsert w s row refusal = AllowsUnready w s refusal
+
+-- the history allows the reply to the step
+abbrev pub Allows : World → Step → Reply → Type 0
+Allows w (Begin s) Done = (s < 64) × (w.session s ≡ None)
+Allows w (Begin s) (Refused NoSuchSession) = 64 ≤ s
+Allows w (Begin s) (Refused AlreadyOpen) = (m : OpenSession) × IsOpen w s m
+Allows w (Begin s) (Refused NoMemory) = Unit {0}
+Allows w (Get s k) (Found row) = (m : OpenSession) × IsReady w s m × (row ≡ view w.history m k)
+Allows w (Get s k) (Refused refusal) = AllowsUnready w s refusal
+Allows w (Insert s row) Done = (m : OpenSession) × IsInsert w s row m × MayWrite w s row.key m
+Allows w (Insert s row) (Refused refusal) = AllowsInsert w s row refusal
+Allows w (Commit s) Committed = (m : OpenSession) × IsReady w s m
+Allows w (Commit s) RolledBack = (m : OpenSession) × IsOpen w s m × (m.failed ≡ true)
+Allows w (Commit s) (Refused refusal) = AllowsClosed w s refusal
+Allows w (Abort s) RolledBack = (m : OpenSession) × IsOpen w s m
+Allows w (Abort s) (Refused refusal) = AllowsClosed w s refusal
+Allows w step reply = ⊥
+
+-- the world after the reply. A step that reads or is refused only ends the session's own wait
+abbrev pub next : World → Step → Reply → World
+next w (Begin s) Done = begun w s
+next w (Insert s row) Done = change w s (with_row (row_of row))
+next w (Insert s row) (Refused Conflict) = change w s as_failed
+next w (Commit s) Committed = committed_by w s
+next w (Commit s) RolledBack = aborted w s
+next w (Abort s) RolledBack = aborted w s
+next w step reply = stepped w (session_of step)
+
+-- the history allows the replies to the steps, one after another
+abbrev pub IsRun : World → List Step → List Reply → Type 0
+IsRun w [] [] = Unit {0}
+IsRun w (step ∷ steps) (reply ∷ replies) = Allows w step reply × IsRun (next w step reply) steps replies
+IsRun w steps replies = ⊥
+
+-- the world after them
+abbrev pub after : World → List Step → List Reply → World
+after w (step ∷ steps) (reply ∷ replies) = after (next w step reply) steps replies
+after w steps replies = w
+
+-- what is so of the world after any run from the empty one
+pub record IsLawful (w : World) : Type 0 where
+  pub first_committer_wins : FirstCommitterWins w.history
+  pub held_in_time : HeldInTime w
+  pub held_once : HeldOnce w
+
+abbrev pub RunsAreLawful : Type 0
+RunsAreLawful = (steps : List Step) (replies : List Reply) → IsRun empty steps replies → IsLawful (after empty steps replies)

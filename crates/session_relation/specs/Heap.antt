@@ -1,0 +1,24 @@
+-- An engine as its readers see it: what stands where, what became of each id, and who reads.
+use Rattle.std.specs.Prelude.{ℕ, Bool, List, Option}
+use Rattle.xid_circle.specs.declared.Tid.{Tid}
+use Rattle.tuple_header.specs.Version.{Version}
+use Rattle.commit_status.specs.declared.status.Status.{Status}
+use Rattle.snapshot.specs.Snap.{Snap}
+
+-- an open session
+pub record Session : Type 0 where
+  pub snapshot : Snap
+  -- its ids that are not rolled back
+  pub own : List ℕ
+  -- for each savepoint, the newest first, the ids that it had then
+  pub saved : List (List ℕ)
+  pub failed : Bool
+
+pub record Heap : Type 1 where
+  -- the version at each place
+  pub version : Tid → Option Version
+  -- what became of each id; none where it is not in the window
+  pub status : ℕ → Option Status
+  -- whether a snapshot sees an id
+  pub sees : Snap → ℕ → Type 0
+  pub session : ℕ → Option Session

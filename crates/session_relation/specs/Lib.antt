@@ -1,0 +1,7 @@
+pub mod Words
+pub mod Allowed
+pub mod Heap
+pub mod Visible
+pub mod Changes
+pub mod Agrees
+pub mod Finds

@@ -1,0 +1,43 @@
+//! The replies to steps.
+
+use tuple_header::Row;
+
+/// Why a step was not done. After each, the history and every session's rows are as they were; `Conflict` makes the
+/// transaction fail.
+#[derive(Clone, Copy, Debug, PartialEq, Eq)]
+pub enum Refusal {
+    /// The session is not open.
+    NotOpen,
+    /// The session is open already.
+    AlreadyOpen,
+    /// The transaction has failed: it can only be aborted, or committed, which rolls it back.
+    Failed,
+    /// The session reads a row of the key.
+    AlreadyThere,
+    /// A transaction that committed since the session began wrote the key.
+    Conflict,
+    /// This other open session has written the key.
+    Busy(u8),
+    /// The body has more than 1024 bytes.
+    TooLarge,
+    /// No page has room for the row, and there may be no further page.
+    NoRoom,
+    /// No id can be given before old ids are frozen.
+    NeedsFreeze,
+    /// Memory was refused.
+    NoMemory,
+    /// The session's number is over 63.
+    NoSuchSession,
+}
+
+/// The reply to a step.
+#[derive(Debug, Drop)]
+pub enum Reply {
+    Done,
+    /// The row that was asked for, if there is one.
+    Found(Option<Row>),
+    Committed,
+    /// The transaction was rolled back: by `Abort`, or by `Commit` of one that had failed.
+    RolledBack,
+    Refused(Refusal),
+}

@@ -1,0 +1,65 @@
+//! The steps that sessions may take.
+
+ghost use Rattle.std.specs.Prelude.{◌≡◌, IfOk};
+
+use std::alloc::{AllocError, Global};
+use std::marker::Model;
+
+/// A row to be written, whose body may be of any length.
+#[derive(Debug, Drop)]
+pub struct RowIn {
+    pub key: u64,
+    pub cols: [i64; 4],
+    pub body: Vec<u8>,
+}
+
+impl Model for RowIn {
+    ghost use Rattle.session_relation.specs.Words.{RowText};
+
+    ghost Value = { RowText };
+
+    ghost view = { λ r. record { key = r.key; cols = r.cols; body = r.body.items } };
+}
+
+/// One call of a session, which is named by its number, from 0 to 63.
+#[derive(Debug, Drop)]
+pub enum Step {
+    /// Opens the session: it reads what was committed by now.
+    Begin(u8),
+    /// Reads the row of a key.
+    Get(u8, u64),
+    /// Writes a row of a key that has none.
+    Insert(u8, RowIn),
+    /// Makes what the session wrote part of the history, unless it has failed, and closes it.
+    Commit(u8),
+    /// Drops what the session wrote, and closes it.
+    Abort(u8),
+}
+
+impl RowIn {
+    /// An equal row.
+    pub fn copy(&self, alloc: Global) -> Result<RowIn, AllocError>
+        ensures { IfOk result (λ row. row ≡ self.now) }
+    {
+        Ok(RowIn {
+            key: self.key,
+            cols: self.cols,
+            body: Vec::from_slice(alloc, self.body.as_slice())?,
+        })
+    }
+}
+
+impl Step {
+    /// An equal step.
+    pub fn copy(&self, alloc: Global) -> Result<Step, AllocError>
+        ensures { IfOk result (λ step. step ≡ self.now) }
+    {
+        match self {
+            Step::Begin(s) => Ok(Step::Begin(*s)),
+            Step::Get(s, key) => Ok(Step::Get(*s, *key)),
+            Step::Insert(s, row) => Ok(Step::Insert(*s, row.copy(alloc)?)),
+            Step::Commit(s) => Ok(Step::Commit(*s)),
+            Step::Abort(s) => Ok(Step::Abort(*s)),
+        }
+    }
+}
