@@ -1,0 +1,15 @@
+pub mod Windows
+pub mod OwnIdsLemmas
+pub mod StateLemmas
+pub mod New
+pub mod Owns
+pub mod Taking
+pub mod Ends
+pub mod Follows
+pub mod Searches
+pub mod Writes
+pub mod WriteLemmas
+pub mod Hindrance
+pub mod Adding
+pub mod Inserting
+pub mod Running

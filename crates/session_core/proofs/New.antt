@@ -1,0 +1,47 @@
+-- A new engine agrees with the empty history.
+use Rattle.std.proofs.Common.{◌≡◌, ℕ, ◌<◌, List, [], length, map, replicate, Option, Some, None, slice_get, refl, sym, ap, ◌∙◌, subst, arith}
+use Rattle.std.specs.Option.{option_map, option_and_then}
+use Rattle.std.proofs.lemmas.List.{length-replicate}
+use Rattle.std.proofs.lemmas.Option.{none-some, slice_get_past}
+use Rattle.xid_circle.specs.declared.Tid.{Tid}
+use Rattle.commit_status.specs.Window.{Window, IsWindow, place, status_of, IsCommitted}
+use Rattle.commit_status.proofs.Places.{place-lt}
+use Rattle.commit_status.proofs.Giving.{finished-place}
+use Rattle.page_slots.specs.Slots.{version_at}
+use Rattle.page_slots.specs.View.{PageView}
+use Rattle.page_slots.specs.declared.slot.Slot.{Slot}
+use Rattle.heap_write.specs.Heap.{version_in, slots_of}
+use Rattle.history.specs.World.{empty}
+use Rattle.session_relation.proofs.Steps.{Agrees-empty}
+use Rattle.session_core.specs.declared.session.Session.{Session}
+use Rattle.session_core.specs.State.{State, session_at, seen, state_of, reader_of}
+use Rattle.session_core.specs.Agrees.{Agrees}
+use Rattle.session_core.proofs.StateLemmas.{none-open}
+
+no-place : (w : Window) (x : ℕ) → w.entries ≡ [] → place w x ≡ None
+no-place w x bare = of (place w x) refl
+  where
+    of : (o : Option ℕ) → place w x ≡ o → place w x ≡ None
+    of None is = is
+    of (Some i) is = absurd (let lt = place-lt w x i is in let none = ap length bare in omega arith)
+
+no-version : (pages : List (List Slot)) (p : Tid) → pages ≡ [] → version_in pages p ≡ None
+no-version pages p bare =
+    ap (λ o. option_and_then (λ slots. version_at slots p.slot) o) (slice_get_past pages p.page (let none = ap length bare in omega arith))
+
+pub Agrees-new : (st : State) → st.heap.pages ≡ [] → st.heap.table.entries ≡ [] → IsWindow st.heap.table → st.sessions ≡ replicate 64 None → Agrees st empty
+Agrees-new st pages entries window idle = record {
+  found = Agrees-empty (seen st)
+      (λ p. no-version (slots_of st.heap) p (ap (λ (pages : List PageView). map (λ (p : PageView). p.slots) pages) pages))
+      (λ x. ap (λ o. option_map (λ _. status_of st.heap.table x) o) (no-place st.heap.table x entries))
+      (λ s. ap (option_map reader_of) (closed s));
+  sound = record {
+    count = ap length idle ∙ length-replicate {A = Option Session} 64 None;
+    window = window;
+    sessions = λ s e at. absurd (none-some e (sym (closed s) ∙ at));
+    tops = λ x done. absurd (let at = finished-place st.heap.table x (λ active. cc) in none-some at.0 (sym (no-place st.heap.table x entries) ∙ at.1));
+  };
+}
+  where
+    closed : (s : ℕ) → session_at st s ≡ None
+    closed s = ap (λ (xs : List (Option Session)). session_at (record st { sessions = xs }) s) idle ∙ none-open 64 s

@@ -1,0 +1,116 @@
+-- The own ids of the open sessions after one session changed.
+use Rattle.std.proofs.Common.{◌≡◌, ◌≢◌, ℕ, ◌<◌, ◌+◌, List, [], ◌∷◌, ◌++◌, length, set, Option, Some, None, slice_get, refl, sym, ap, ◌∙◌, subst, ◌⊎◌, inl, inr, arith}
+use Rattle.std.specs.Prelude.{Contains, IsSome}
+use Rattle.std.specs.Option.{option_flatten, option_map}
+use Rattle.std.proofs.lemmas.Bool.{cases_eq}
+use Rattle.std.proofs.lemmas.Option.{same_Some, none-some, slice_get_within, slice_get_past}
+use Rattle.std.proofs.lemmas.Bool.{cases_lt}
+use Rattle.std.proofs.lemmas.List.Elements.{Contains-push_cases}
+use Rattle.commit_status.specs.declared.status.Status.{Status}
+use Rattle.commit_status.specs.Window.{Window, IsWindow, IsActive, next_id, place}
+use Rattle.commit_status.specs.Changes.{Gives, Finishes}
+use Rattle.commit_status.proofs.Places.{next-none}
+use Rattle.commit_status.proofs.Giving.{gives-active_old, gives-active_next}
+use Rattle.commit_status.proofs.Finishing.{finishes-active_other}
+use Rattle.history.proofs.Places.{slice_get-set_same, slice_get-set_other}
+use Rattle.session_relation.proofs.Itself.{none_own}
+use Rattle.session_core.specs.declared.session.Session.{Session}
+use Rattle.session_core.specs.State.{as_failed}
+use Rattle.session_core.specs.Keeps.{open_at, OwnIdsKeep}
+
+pub open-within : (xs : List (Option Session)) (s : ℕ) (e : Session) → open_at xs s ≡ Some e → s < length xs
+open-within xs s e at = elim (cases_lt s (length xs)) [ inl lt ↦ lt | inr past ↦ absurd (none-some e (sym (ap option_flatten (slice_get_past xs s past)) ∙ at)) ]
+
+pub open-set_same : (xs : List (Option Session)) (s : ℕ) (v : Option Session) → s < length xs → open_at (set xs s v) s ≡ v
+open-set_same xs s v within = ap option_flatten (slice_get-set_same xs s v within)
+
+pub open-set_other : (xs : List (Option Session)) (s o : ℕ) (v : Option Session) → o ≢ s → open_at (set xs s v) o ≡ open_at xs o
+open-set_other xs s o v ne = ap option_flatten (slice_get-set_other xs s o v ne)
+
+pub open-set_cases : (xs : List (Option Session)) (s o : ℕ) (v : Option Session) (e : Session) → s < length xs → open_at (set xs s v) o ≡ Some e
+    → ((o ≡ s) × (v ≡ Some e)) ⊎ ((o ≢ s) × (open_at xs o ≡ Some e))
+open-set_cases xs s o v e within at = elim (cases_eq o s) [
+  | inl same ↦ inl (same, sym (open-set_same xs s v within) ∙ (ap (open_at (set xs s v)) (sym same) ∙ at))
+  | inr ne ↦ inr (ne, sym (open-set_other xs s o v ne) ∙ at)
+]
+
+-- the session at one place changes: its ids are in progress, and nobody else's
+keep-set : (xs : List (Option Session)) (w v : Window) (s : ℕ) (now : Option Session) → s < length xs → OwnIdsKeep xs w
+    → ((o : ℕ) (e : Session) (x : ℕ) → o ≢ s → open_at xs o ≡ Some e → Contains e.own.ids x → IsActive v x)
+    → ((e : Session) (x : ℕ) → now ≡ Some e → Contains e.own.ids x → IsActive v x)
+    → ((o : ℕ) (e f : Session) (x : ℕ) → o ≢ s → now ≡ Some e → open_at xs o ≡ Some f → Contains e.own.ids x → Contains f.own.ids x → ⊥)
+    → OwnIdsKeep (set xs s now) v
+keep-set xs w v s now within h others mine alone = record {
+  active = λ o e x at own. elim (open-set_cases xs s o now e within at) [
+    | inl same ↦ mine e x same.1 own
+    | inr other ↦ others o e x other.0 other.1 own
+  ];
+  apart = λ o p e f x at bt own own'. elim (open-set_cases xs s o now e within at) [
+    | inl same ↦ elim (open-set_cases xs s p now f within bt) [
+      | inl same' ↦ same.0 ∙ sym same'.0
+      | inr other ↦ absurd (alone p e f x other.0 same.1 other.1 own own')
+    ]
+    | inr other ↦ elim (open-set_cases xs s p now f within bt) [
+      | inl same ↦ absurd (alone o f e x other.0 same.1 other.1 own' own)
+      | inr other' ↦ h.apart o p e f x other.1 other'.1 own own'
+    ]
+  ];
+}
+
+-- a session is opened, and has no ids
+pub keep-open : (xs : List (Option Session)) (w : Window) (s : ℕ) (e : Session) → s < length xs → e.own.ids ≡ [] → OwnIdsKeep xs w → OwnIdsKeep (set xs s (Some e)) w
+keep-open xs w s e within none h = keep-set xs w w s (Some e) within h
+    (λ o f x ne at own. h.active o f x at own)
+    (λ f x is own. absurd (empty f x is own))
+    (λ o f g x ne is at own own'. empty f x is own)
+  where
+    empty : (f : Session) (x : ℕ) → Some e ≡ Some f → ¬ Contains f.own.ids x
+    empty f x is own = none_own x (subst (λ ids. Contains ids x) (ap (λ (f : Session). f.own.ids) (sym (same_Some e f is)) ∙ none) own)
+
+-- a session is closed, and its ids are finished
+pub keep-close : (xs : List (Option Session)) (w v : Window) (s : ℕ) (e : Session) (status : Status) → open_at xs s ≡ Some e → Finishes w v e.own.ids status → OwnIdsKeep xs w → OwnIdsKeep (set xs s None) v
+keep-close xs w v s e status at finishes h = keep-set xs w v s None (open-within xs s e at) h
+    (λ o f x ne bt own. finishes-active_other w v e.own.ids status x finishes (λ mine. ne (h.apart o s f e x bt at own mine)) (h.active o f x bt own))
+    (λ f x is own. absurd (none-some f is))
+    (λ o f g x ne is bt own own'. none-some f is)
+
+-- no session is there
+pub keep-idle : (xs : List (Option Session)) (w : Window) (s : ℕ) → s < length xs → OwnIdsKeep xs w → OwnIdsKeep (set xs s None) w
+keep-idle xs w s within h = keep-set xs w w s None within h
+    (λ o f x ne bt own. h.active o f x bt own)
+    (λ f x is own. absurd (none-some f is))
+    (λ o f g x ne is bt own own'. none-some f is)
+
+-- the session's ids stay as they are
+pub keep-same : (xs : List (Option Session)) (w : Window) (s : ℕ) (e e' : Session) → open_at xs s ≡ Some e → e'.own.ids ≡ e.own.ids → OwnIdsKeep xs w → OwnIdsKeep (set xs s (Some e')) w
+keep-same xs w s e e' at same h = keep-set xs w w s (Some e') (open-within xs s e at) h
+    (λ o f x ne bt own. h.active o f x bt own)
+    (λ f x is own. h.active s e x at (mine f x is own))
+    (λ o f g x ne is bt own own'. ne (h.apart o s g e x bt at own' (mine f x is own)))
+  where
+    mine : (f : Session) (x : ℕ) → Some e' ≡ Some f → Contains f.own.ids x → Contains e.own.ids x
+    mine f x is own = subst (λ ids. Contains ids x) (ap (λ (f : Session). f.own.ids) (sym (same_Some e' f is)) ∙ same) own
+
+none-given : (o : Option ℕ) → o ≡ None → IsSome o → ⊥
+none-given None e some = cc
+none-given (Some i) e some = cc
+
+-- the session is given the next id
+pub keep-give : (xs : List (Option Session)) (w v : Window) (s : ℕ) (e e' : Session) → open_at xs s ≡ Some e → e'.own.ids ≡ e.own.ids ++ next_id w ∷ []
+    → IsWindow w → IsWindow v → Gives w v None → OwnIdsKeep xs w → OwnIdsKeep (set xs s (Some e')) v
+keep-give xs w v s e e' at same is is' gives h = keep-set xs w v s (Some e') (open-within xs s e at) h
+    (λ o f x ne bt own. gives-active_old w v None x is is' gives (h.active o f x bt own))
+    (λ f x same own. elim (mine f x same own) [
+      | inl old ↦ gives-active_old w v None x is is' gives (h.active s e x at old)
+      | inr now ↦ subst (λ y. IsActive v y) now (gives-active_next w v None is' gives)
+    ])
+    (λ o f g x ne same bt own own'. elim (mine f x same own) [
+      | inl old ↦ ne (h.apart o s g e x bt at own' old)
+      | inr now ↦ fresh (subst (λ y. IsActive w y) (sym now) (h.active o g x bt own'))
+    ])
+  where
+    mine : (f : Session) (x : ℕ) → Some e' ≡ Some f → Contains f.own.ids x → Contains e.own.ids x ⊎ (next_id w ≡ x)
+    mine f x is own = Contains-push_cases e.own.ids (next_id w) x (subst (λ ids. Contains ids x) (ap (λ (f : Session). f.own.ids) (sym (same_Some e' f is)) ∙ same) own)
+
+    fresh : ¬ IsActive w (next_id w)
+    fresh active = let none = next-none w is in let some = active.is_given in none-given (place w (next_id w)) none some

@@ -1,0 +1,62 @@
+-- The state of an engine as its own changes leave it.
+use Rattle.std.proofs.Common.{◌≡◌, ◌≢◌, ℕ, ◌<◌, List, [], length, set, replicate, zero, suc, Option, Some, None, slice_get, get_or, refl, sym, ap, ◌∙◌, subst, arith}
+use Rattle.std.proofs.Math.ListN.{length-set}
+use Rattle.std.specs.Prelude.{Contains}
+use Rattle.std.specs.Option.{option_flatten, option_map}
+use Rattle.std.proofs.lemmas.Option.{slice_get_read, none-some, same_Some}
+use Rattle.std.proofs.lemmas.List.{set-get_or}
+use Rattle.commit_status.specs.declared.status.Status.{Status}
+use Rattle.commit_status.specs.Window.{Window, IsActive}
+use Rattle.commit_status.specs.Changes.{Finishes}
+use Rattle.session_relation.specs.Heap as relation
+use Rattle.session_relation.proofs.Steps.{OnlyIs}
+use Rattle.session_core.specs.declared.session.Session.{Session}
+use Rattle.session_core.specs.State.{State, session_at, put_session, reader_of, seen, as_failed}
+use Rattle.session_core.specs.Keeps.{open_at, OwnIdsKeep, EngineKeeps}
+use Rattle.session_core.proofs.OwnIdsLemmas.{open-within, open-set_same, open-set_other, keep-open, keep-close, keep-idle, keep-same}
+
+-- a session, by a read of its place
+pub open-read : (xs : List (Option Session)) (s : ℕ) (o : Option Session) → s < length xs → o ≡ get_or xs s o → open_at xs s ≡ o
+open-read xs s o within read = ap option_flatten (slice_get_read xs (length xs) s o refl within read)
+
+-- nobody has a session after all are made idle
+pub none-open : (n s : ℕ) → open_at (replicate n None) s ≡ None
+none-open zero s = refl
+none-open (suc n) zero = refl
+none-open (suc n) (suc s) = none-open n s
+
+pub keeps-idle : (xs : List (Option Session)) (w : Window) → xs ≡ replicate 64 None → length xs ≡ 64 → EngineKeeps xs w
+keeps-idle xs w is count = record {
+  count = count;
+  own = record {
+    active = λ s e x at own. absurd (none-some e (sym (closed s) ∙ at));
+    apart = λ s o e f x at bt own own'. absurd (none-some e (sym (closed s) ∙ at));
+  };
+}
+  where
+    closed : (s : ℕ) → open_at xs s ≡ None
+    closed s = ap (λ xs. open_at xs s) is ∙ none-open 64 s
+
+pub keeps-open : (xs : List (Option Session)) (w : Window) (s : ℕ) (e : Session) → s < length xs → e.own.ids ≡ [] → EngineKeeps xs w → EngineKeeps (set xs s (Some e)) w
+keeps-open xs w s e within none h = record { count = length-set xs s (Some e) ∙ h.count; own = keep-open xs w s e within none h.own }
+
+pub keeps-close : (xs : List (Option Session)) (w v : Window) (s : ℕ) (e : Session) (status : Status) → open_at xs s ≡ Some e → Finishes w v e.own.ids status → EngineKeeps xs w → EngineKeeps (set xs s None) v
+keeps-close xs w v s e status at finishes h = record { count = length-set xs s None ∙ h.count; own = keep-close xs w v s e status at finishes h.own }
+
+pub keeps-shut : (xs : List (Option Session)) (w : Window) (s : ℕ) → s < length xs → EngineKeeps xs w → EngineKeeps (set xs s None) w
+keeps-shut xs w s within h = record { count = length-set xs s None ∙ h.count; own = keep-idle xs w s within h.own }
+
+-- a session that fails keeps its ids
+pub keeps-fail : (xs : List (Option Session)) (w : Window) (s : ℕ) (o : Option Session) → s < length xs → o ≡ get_or xs s o → EngineKeeps xs w → EngineKeeps (set xs s (option_map as_failed o)) w
+keeps-fail xs w s None within read h = keeps-shut xs w s within h
+keeps-fail xs w s (Some e) within read h = record {
+  count = length-set xs s (Some (as_failed e)) ∙ h.count;
+  own = keep-same xs w s e (as_failed e) (open-read xs s (Some e) within read) refl h.own;
+}
+
+-- of the sessions that readers see, one changes
+pub only-set : (st : State) (s : ℕ) (now : Option Session) → s < length st.sessions → OnlyIs (seen st).session (seen (put_session st s now)).session s (option_map reader_of now)
+only-set st s now within = record {
+  others = λ o ne. ap (option_map reader_of) (open-set_other st.sessions s o now ne);
+  itself = ap (option_map reader_of) (open-set_same st.sessions s now within);
+}

@@ -1,0 +1,147 @@
+-- What the steps of the table of ids change of what readers see.
+use Rattle.std.proofs.Common.{◌≡◌, ◌≢◌, ℕ, ◌<◌, ◌≤◌, List, length, Option, Some, None, Bool, true, false, refl, sym, ap, ◌∙◌, subst, ◌⊎◌, inl, inr, arith}
+use Rattle.std.specs.Prelude.{IsSome, Contains}
+use Rattle.std.specs.Option.{option_map}
+use Rattle.std.proofs.lemmas.Bool.{cases_eq, cases_Bool}
+use Rattle.std.proofs.lemmas.Option.{same_Some, none-some}
+use Rattle.xid_circle.specs.Circle.{Precedes}
+use Rattle.commit_status.specs.declared.status.Status.{Status}
+use Rattle.commit_status.specs.declared.status.Status.TheVariants.{InProgress, Committed, Aborted}
+use Rattle.commit_status.specs.Window.{Window, IsWindow, IsGiven, IsInProgress, IsUpToNext, place, status_of, next_id, top_of, turns}
+use Rattle.commit_status.specs.Window as window
+use Rattle.commit_status.specs.Changes as change
+use Rattle.commit_status.proofs.Turns.{turns-given}
+use Rattle.commit_status.proofs.Places.{next-none, upto-next, precedes-turns, some-from_is, is-from_some}
+use Rattle.commit_status.proofs.Giving.{gives-place_old, gives-place_cases, gives-place_next, gives-status, gives-top_old, gives-active_next, gives-upto, finished-place}
+use Rattle.commit_status.proofs.Finishing.{finishes-top, finishes-given, finishes-upto}
+use Rattle.commit_status.proofs.ChangesLemmas.{finishes-place}
+use Rattle.snapshot.specs.Snap.{Snap, Sees, SeesAlone, tested, is_before}
+use Rattle.snapshot.specs.Laws.{IsInWindow}
+use Rattle.snapshot.proofs.Sights.{sees-top}
+use Rattle.snapshot.proofs.Earliest.{before-precedes, precedes-before, contains-cases, contains-head, contains-tail}
+use Rattle.session_relation.specs.Visible.{IsCommitted, IsActive}
+use Rattle.session_relation.specs.Changes.{Gives, Finishes, SameSight}
+use Rattle.session_relation.proofs.Steps.{cases_Contains}
+use Rattle.session_core.specs.State.{state_of}
+
+-- the status of an id of the window
+
+mapped-some : (o : Option ℕ) (a b : Status) → option_map (λ _. a) o ≡ Some b → IsSome o × (a ≡ b)
+mapped-some None a b is = absurd (none-some b is)
+mapped-some (Some i) a b is = (refl, same_Some a b is)
+
+mapped-is : (o : Option ℕ) (a b : Status) → IsSome o → a ≡ b → option_map (λ _. a) o ≡ Some b
+mapped-is None a b some same = cc
+mapped-is (Some i) a b some same = ap Some same
+
+pub state-some : (w : Window) (x : ℕ) (s : Status) → state_of w x ≡ Some s → IsGiven w x × (status_of w x ≡ s)
+state-some w x s is = mapped-some (place w x) (status_of w x) s is
+
+pub state-is : (w : Window) (x : ℕ) (s : Status) → IsGiven w x → status_of w x ≡ s → state_of w x ≡ Some s
+state-is w x s given same = mapped-is (place w x) (status_of w x) s given same
+
+pub active-to : (w : Window) (x : ℕ) → IsActive (state_of w) x → window.IsActive w x
+active-to w x is = let h = state-some w x InProgress is in record { is_given = h.0; unfinished = h.1 }
+
+pub active-from : (w : Window) (x : ℕ) → window.IsActive w x → IsActive (state_of w) x
+active-from w x h = state-is w x InProgress h.is_given h.unfinished
+
+pub committed-to : (w : Window) (x : ℕ) → IsCommitted (state_of w) x → window.IsCommitted w x
+committed-to w x is = (state-some w x Committed is).1
+
+pub committed-from : (w : Window) (x : ℕ) → window.IsCommitted w x → IsCommitted (state_of w) x
+committed-from w x is = let at = finished-place w x (λ active. cc) in state-is w x Committed (is-from_some (place w x) at.0 at.1) is
+
+-- an id is given
+
+same-option : (o p : Option ℕ) → ((i : ℕ) → o ≡ Some i → p ≡ Some i) → ((i : ℕ) → p ≡ Some i → o ≡ Some i) → p ≡ o
+same-option None None to back = refl
+same-option None (Some i) to back = sym (back i refl)
+same-option (Some i) p to back = to i refl
+
+pub place-others : (w v : Window) (x : ℕ) → IsWindow v → change.Gives w v None → x ≢ next_id w → place v x ≡ place w x
+place-others w v x is gives ne = same-option (place w x) (place v x)
+    (λ i at. gives-place_old w v None x i gives at)
+    (λ i at. elim (gives-place_cases w v None x i is gives at) [ inl old ↦ old | inr now ↦ absurd (ne now.0) ])
+
+pub Gives-from : (w v : Window) → IsWindow w → IsWindow v → change.Gives w v None → Gives (state_of w) (state_of v) (next_id w)
+Gives-from w v is is' gives = record {
+  fresh = ap (λ o. option_map (λ _. status_of w (next_id w)) o) (next-none w is);
+  active = active-from v (next_id w) (gives-active_next w v None is' gives);
+  others = λ y ne. ap (λ s. option_map (λ _. s) (place v y)) (gives-status w v None y is is' gives) ∙ ap (λ o. option_map (λ _. status_of w y) o) (place-others w v y is' gives ne);
+}
+
+-- nothing that is up to the next id is after it
+next-turns : (w : Window) → IsWindow w → turns w.first (next_id w) ≡ length w.entries
+next-turns w is = turns-given w.first (length w.entries) is.normal is.fits (let short = is.short in let limit = is.limit in omega arith)
+
+not-before : (w : Window) (y : ℕ) → IsWindow w → IsUpToNext w y → ¬ Precedes (next_id w) y
+not-before w y is upto before =
+    let lt = (precedes-turns w (next_id w) y is (upto-next w is) upto).0 before in
+    let le = upto.reached in absurd (omega (arith, next-turns w is))
+
+pub unseen-next : (s : Snap) (w v : Window) → IsWindow w → IsInWindow w s → ¬ Sees s v (next_id w)
+unseen-next s w v is within (Sees.early before) = not-before w s.xmin is within.xmin before
+unseen-next s w v is within (Sees.between before alone) = not-before w s.xmax is within.xmax before
+
+pub SameSight-give : (s : Snap) (w v : Window) → IsWindow w → IsWindow v → change.Gives w v None → SameSight (state_of w) (λ x. Sees s w x) (λ x. Sees s v x)
+SameSight-give s w v is is' gives x status at = (
+  λ sees. sees-top s v w x (same x other) sees,
+  λ sees. sees-top s w v x (sym (same x other)) sees,
+)
+  where
+    other : x ≢ next_id w
+    other e = none-some status (sym (ap (λ o. option_map (λ _. status_of w x) o) (ap (λ y. place w y) e ∙ next-none w is)) ∙ at)
+
+    same : (x : ℕ) → x ≢ next_id w → top_of v x ≡ top_of w x
+    same x ne = gives-top_old w v None x is is' gives ne
+
+-- ids are finished
+
+pub Finishes-from : (w v : Window) (ids : List ℕ) (end : Status) → ((x : ℕ) → Contains ids x → window.IsActive w x) → change.Finishes w v ids end
+    → Finishes (state_of w) (state_of v) (λ x. Contains ids x) end
+Finishes-from w v ids end active f = record {
+  active = λ x mine. active-from w x (active x mine);
+  each = λ x. elim (f.each x) [
+    | inl mine ↦ inl (mine.0, state-is v x end (finishes-given w v ids end x f mine.1) mine.2)
+    | inr other ↦ inr (other.0, ap (λ s. option_map (λ _. s) (place v x)) other.1 ∙ ap (λ o. option_map (λ _. status_of w x) o) (finishes-place w v ids end x f))
+  ];
+}
+
+pub SameSight-finish : (s : Snap) (w v : Window) (ids : List ℕ) (end : Status) → change.Finishes w v ids end → SameSight (state_of w) (λ x. Sees s w x) (λ x. Sees s v x)
+SameSight-finish s w v ids end f x status at = (
+  λ sees. sees-top s v w x (finishes-top w v ids end x f) sees,
+  λ sees. sees-top s w v x (sym (finishes-top w v ids end x f)) sees,
+)
+
+-- what is seen is decided
+
+decided-before : (a b : ℕ) → Precedes a b ⊎ (¬ Precedes a b)
+decided-before a b = elim (cases_Bool (is_before a b)) [
+  | inl yes' ↦ inl (before-precedes a b yes')
+  | inr no' ↦ inr (λ before. let yes' = precedes-before a b before in cc)
+]
+
+decided-alone : (s : Snap) (x : ℕ) → SeesAlone s x ⊎ (¬ SeesAlone s x)
+decided-alone s x = elim (decided-before x s.xmin) [
+  | inl soon ↦ inl (SeesAlone.early soon)
+  | inr late ↦ elim (decided-before x s.xmax) [
+    | inl before ↦ elim (cases_Contains s.listed x) [
+      | inl among ↦ inr (λ alone. elim alone [ SeesAlone.early soon ↦ late soon | SeesAlone.unlisted before' absent ↦ absent among ])
+      | inr absent ↦ inl (SeesAlone.unlisted before absent)
+    ]
+    | inr past ↦ inr (λ alone. elim alone [ SeesAlone.early soon ↦ late soon | SeesAlone.unlisted before absent ↦ past before ])
+  ]
+]
+
+pub decided : (s : Snap) (w : Window) (x : ℕ) → Sees s w x ⊎ (¬ Sees s w x)
+decided s w x = elim (decided-before x s.xmin) [
+  | inl soon ↦ inl (Sees.early soon)
+  | inr late ↦ elim (decided-before x s.xmax) [
+    | inl before ↦ elim (decided-alone s (tested s w x)) [
+      | inl alone ↦ inl (Sees.between before alone)
+      | inr not ↦ inr (λ sees. elim sees [ Sees.early soon ↦ late soon | Sees.between before' alone ↦ not alone ])
+    ]
+    | inr past ↦ inr (λ sees. elim sees [ Sees.early soon ↦ late soon | Sees.between before alone ↦ past before ])
+  ]
+]

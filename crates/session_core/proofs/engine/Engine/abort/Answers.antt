@@ -1,0 +1,5 @@
+use Rattle.session_core.proofs.Follows.{Follows-abort}
+use Rattle.session_core.proofs.engine.Engine.abort.Goals as goal
+
+pub returns : goal.returns
+returns c = Follows-abort c.args.self.now _ c.args.s c.in-Ok.field-0.now c.in-Ok.ensures.1 c.close.ensures

@@ -1,0 +1,38 @@
+-- When an engine agrees with a world of the history.
+use Rattle.std.specs.Prelude.{◌≡◌, ℕ, [], length, Some, None, slice_get, Contains}
+use Rattle.history.specs.World.{World}
+use Rattle.snapshot.specs.Laws.{IsInWindow}
+use Rattle.commit_status.specs.Window.{Window, IsWindow, IsCommitted, IsInProgress, top_of}
+use Rattle.session_relation.specs.declared.step.Step.{Step}
+use Rattle.session_relation.specs.declared.reply.Reply.{Reply}
+use Rattle.session_relation.specs.Allowed.{Allows, next}
+use Rattle.session_relation.specs.Agrees as relation
+use Rattle.session_core.specs.declared.session.Session.{Session}
+use Rattle.session_core.specs.State.{State, session_at, seen}
+
+-- what the ids of an open session keep
+pub record SessionKeeps (w : Window) (e : Session) : Type 0 where
+  -- the ids that its snapshot names are in the window
+  pub snapshot : IsInWindow w e.snapshot
+  -- its first id is the topmost parent of each
+  pub topmost : (x : ℕ) → Contains e.own.ids x → slice_get e.own.ids 0 ≡ Some (top_of w x)
+  -- there are no savepoints yet
+  pub unsaved : e.own.saved ≡ []
+
+-- what the ids of an engine keep
+pub record Sound (st : State) : Type 0 where
+  pub count : length st.sessions ≡ 64
+  -- the window is shorter than half the circle
+  pub window : IsWindow st.heap.table
+  pub sessions : (s : ℕ) (e : Session) → session_at st s ≡ Some e → SessionKeeps st.heap.table e
+  -- what is committed, its topmost parent is not in progress
+  pub tops : (x : ℕ) → IsCommitted st.heap.table x → ¬ IsInProgress st.heap.table (top_of st.heap.table x)
+
+pub record Agrees (st : State) (w : World) : Type 0 where
+  -- each session reads its view, a new one would read what is committed; same sessions; exact traces
+  pub found : relation.Agrees (seen st) w
+  pub sound : Sound st
+
+-- whatever world the engine agreed with, the history allows the reply, and the engine agrees with the next world
+abbrev pub Follows : State → Step → Reply → State → Type 0
+Follows old step reply new = (w : World) → Agrees old w → Allows w step reply × Agrees new (next w step reply)

@@ -1,0 +1,7 @@
+pub mod Keeps
+pub mod State
+pub mod Agrees
+pub mod Refuses
+pub mod Changes
+pub mod Writes
+pub mod Runs

@@ -1,0 +1,17 @@
+-- Why a session cannot be used.
+use Rattle.std.specs.Prelude.{◌≡◌, ℕ, ◌<◌, ◌≤◌, Some, None, true}
+use Rattle.session_relation.specs.declared.reply.Refusal.{Refusal}
+use Rattle.session_relation.specs.declared.reply.Refusal.TheVariants.{NoSuchSession, NotOpen, Failed}
+use Rattle.session_core.specs.declared.session.Session.{Session}
+use Rattle.session_core.specs.State.{State, session_at}
+
+-- there is none of that number, or it is not open
+abbrev pub Refuses : State → ℕ → Refusal → Type 0
+Refuses st s NoSuchSession = 64 ≤ s
+Refuses st s NotOpen = (s < 64) × (session_at st s ≡ None)
+Refuses st s refusal = ⊥
+
+-- or it has failed
+abbrev pub RefusesReady : State → ℕ → Refusal → Type 0
+RefusesReady st s Failed = (s < 64) × (e : Session) × (session_at st s ≡ Some e) × (e.failed ≡ true)
+RefusesReady st s refusal = Refuses st s refusal

@@ -1,0 +1,49 @@
+-- An engine as its callers see it, and what its readers see of it.
+use Rattle.std.specs.Prelude.{◌≡◌, ℕ, Bool, true, List, [], ◌∷◌, Option, Some, None, slice_get, slice_set}
+use Rattle.std.specs.Option.{option_map, option_flatten}
+use Rattle.snapshot.specs.Snap.{Snap, Sees}
+use Rattle.snapshot.specs.Own.{Own}
+use Rattle.commit_status.specs.declared.status.Status.{Status}
+use Rattle.commit_status.specs.Window.{Window, place, status_of}
+use Rattle.heap_write.specs.Heap.{HeapView, version_in, slots_of}
+use Rattle.session_relation.specs.declared.settings.Settings.{Settings}
+use Rattle.session_relation.specs.Heap.{Heap}
+use Rattle.session_relation.specs.Heap as relation
+use Rattle.session_core.specs.declared.session.Session.{Session}
+
+pub record State : Type 0 where
+  pub settings : Settings
+  pub heap : HeapView
+  pub sessions : List (Option Session)
+
+abbrev pub session_at : State → ℕ → Option Session
+session_at st s = option_flatten (slice_get st.sessions s)
+
+-- what became of an id of the window
+abbrev pub state_of : Window → ℕ → Option Status
+state_of w x = option_map (λ _. status_of w x) (place w x)
+
+abbrev pub reader_of : Session → relation.Session
+reader_of e = record { snapshot = e.snapshot; own = e.own.ids; saved = e.own.saved; failed = e.failed }
+
+-- the engine as its readers see it
+abbrev pub seen : State → Heap
+seen st = record {
+  version = version_in (slots_of st.heap);
+  status = state_of st.heap.table;
+  sees = λ snapshot x. Sees snapshot st.heap.table x;
+  session = λ s. option_map reader_of (session_at st s);
+}
+
+-- the own ids of the open sessions
+abbrev pub owns_of : List (Option Session) → List (List ℕ)
+owns_of [] = []
+owns_of (None ∷ sessions) = owns_of sessions
+owns_of (Some e ∷ sessions) = e.own.ids ∷ owns_of sessions
+
+-- another session, or none, in this place
+abbrev pub put_session : State → ℕ → Option Session → State
+put_session st s e = record st { sessions = slice_set st.sessions s e }
+
+abbrev pub as_failed : Session → Session
+as_failed e = record e { failed = true }

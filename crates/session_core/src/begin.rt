@@ -1,0 +1,59 @@
+//! A session begins.
+
+ghost use Rattle.std.specs.Prelude.{◌≡◌, IfOk};
+ghost use Rattle.snapshot.specs.Snap.{taken};
+ghost use Rattle.xid_circle.specs.Circle.{IsNormal};
+ghost use Rattle.commit_status.specs.Window.{next_id};
+ghost use Rattle.session_core.specs.State.{owns_of};
+ghost use Rattle.session_relation.specs.declared.step.Step.{Step};
+ghost use Rattle.session_core.specs.Agrees.{Follows};
+
+use crate::engine::Engine;
+use crate::session::Session;
+use session_relation::{Refusal, Reply};
+use snapshot::Snapshot;
+use std::alloc::{AllocError, Global};
+use xid_circle::Xid;
+
+/// A snapshot of the ids as they are.
+fn take_snapshot(
+    alloc: Global,
+    next: Xid,
+    sessions: &[Option<Session>],
+) -> Result<Snapshot, AllocError>
+    requires { IsNormal next.0 }
+    ensures { IfOk result (λ s. s ≡ taken next.0 (owns_of sessions.now)) }
+{
+    let mut snapshot = Snapshot::at(alloc, next);
+    for session in sessions {
+        if let Some(session) = session {
+            snapshot.list(&session.own)?;
+        }
+    }
+    Ok(snapshot)
+}
+
+impl Engine {
+    fn snapshot(&self) -> Result<Snapshot, AllocError>
+        ensures { IfOk result (λ s. s ≡ taken (next_id self.now.heap.table) (owns_of self.now.sessions)) }
+    {
+        take_snapshot(self.alloc, self.heap.table().next(), &self.sessions)
+    }
+
+    /// Opens the session: it reads what was committed by now. Refusals in order: NoSuchSession, AlreadyOpen.
+    pub(crate) fn begin(&mut self, s: u8) -> Reply
+        ensures { Follows self.old (Step.Begin s) result self.new }
+    {
+        match self.opened(s) {
+            Ok(_) => Reply::Refused(Refusal::AlreadyOpen),
+            Err(Refusal::NotOpen) => match self.snapshot() {
+                Ok(snapshot) => {
+                    self.open(s, snapshot);
+                    Reply::Done
+                }
+                Err(_) => Reply::Refused(Refusal::NoMemory),
+            },
+            Err(refusal) => Reply::Refused(refusal),
+        }
+    }
+}

@@ -1,0 +1,38 @@
+//! A step of the engine.
+
+ghost use Rattle.std.specs.Prelude.{◌≡◌, MatchResult, Some};
+ghost use Rattle.history.specs.World.{World, OpenSession, view};
+ghost use Rattle.session_relation.specs.Allowed.{AllowsClosed};
+ghost use Rattle.session_core.specs.Agrees.{Agrees, Follows};
+
+use crate::engine::Engine;
+use session_relation::{Refusal, Reply, Row, Step};
+
+impl Engine {
+    /// Does one step, and gives its reply: whatever world of the history the engine agrees with, the history allows
+    /// the reply, and the engine agrees with the next world.
+    pub fn step(&mut self, step: Step) -> Reply
+        ensures { Follows self.old step result self.new }
+    {
+        match step {
+            Step::Begin(s) => self.begin(s),
+            Step::Get(s, key) => self.get(s, key),
+            Step::Insert(s, row) => self.insert(s, row),
+            Step::Commit(s) => self.commit(s),
+            Step::Abort(s) => self.abort(s),
+        }
+    }
+
+    /// The row of the key that the session reads, also in a transaction that has failed. It is no step, and takes no
+    /// memory. Refusals in order: NoSuchSession, NotOpen.
+    pub fn read(&self, s: u8, key: u64) -> Result<Option<Row>, Refusal>
+        ensures { (w : World) → Agrees self.now w → MatchResult result
+            (λ row. (m : OpenSession) × (w.session s ≡ Some m) × (row ≡ view w.history m key))
+            (λ refusal. AllowsClosed w s refusal) }
+    {
+        match self.opened(s) {
+            Ok(session) => Ok(self.heap.row(key, &session.snapshot, &session.own)),
+            Err(refusal) => Err(refusal),
+        }
+    }
+}
