@@ -1,0 +1,134 @@
+-- The first line.
+use Rattle.std.proofs.Common.{◌≡◌, subst, ℕ, ◌+◌, ◌<◌, ◌≤◌, ◌⊎◌, inl, inr, arith, List, [], ◌∷◌, ◌++◌, take, drop, refl, ap, append_assoc, ◌∙◌, sym, Option, Some, Result, Ok, Err, position, IfSome}
+use Rattle.std.specs.Bool.{◌==◌}
+use Rattle.std.proofs.lemmas.Option.{IfSome_then, same_Some}
+use Rattle.std.proofs.lemmas.List.{append-nil}
+use Rattle.std.specs.Io.KnownBytes.{Appends}
+use Rattle.script.specs.Engine.{Settings, AreSettings, State, Agrees, empty, SettingsFault, FirstFault, MaxPages, StopAge, FreezeMinAge, FirstXid, DeadLimit, NoMemoryForSettings}
+use Rattle.script.specs.Grammar.{heading, with_feed}
+use Rattle.script.specs.Reading.{settings_at}
+use Rattle.script.specs.Pieces.{Takes, Gives}
+use Rattle.script.specs.Script.{Outcome, IsBadHeading, Begins, answers_of, lines_of}
+use Rattle.script.specs.Steps.{Uses, Advance, Advances}
+use Rattle.script.specs.Next.{IsNext}
+use Rattle.script.specs.declared.run.Next.{Next}
+use Rattle.script.specs.declared.run.Next.TheVariants.{Line, Bad, End}
+use Rattle.script.specs.declared.fault.ShellFault.{ShellFault}
+use Rattle.script.specs.declared.fault.ShellFault.TheVariants.{BadLine, Input, Output, NoMemory}
+use Rattle.script.proofs.PiecesLemmas.{Appends-Appends}
+use Rattle.script.proofs.HeadingLaws.{settings_at_says, settings_at-heading, Free-heading}
+use Rattle.script.proofs.RunLemmas.{Uses-refl, Uses-Takes, Uses-front, Uses-known, no_text, text_is, position-split}
+
+first_known : (before now : Option (List ℕ)) (old p : List ℕ) → old ≡ [] → Takes before now old p → IfSome before (λ input. (rest : List ℕ) × (now ≡ Some rest) × (input ≡ p ++ rest))
+first_known before now old p none t =
+    IfSome_then before (Uses-known before now old [] p (Uses-Takes before before now old [] old p (Uses-refl before old) t))
+    (λ input k. (k.0, k.1, sym (ap (λ r. r ++ input) none) ∙ k.2))
+
+empty_case : (s : Settings) (more : List ℕ) → [] ≡ with_feed (heading s) ++ more → ⊥
+empty_case s more e = cc
+
+bad_if : (next : Next) (p rest input : List ℕ) → IsNext next p (Some rest) → ((n : ℕ) → next ≡ Line n → ⊥) → input ≡ p ++ rest → IsBadHeading input
+bad_if (Line n) p rest input h other e = absurd (other n refl)
+bad_if Bad p rest input h other e = λ s more fits flags short f. no_text p rest (heading s) more h (Free-heading s fits) short (sym e ∙ f)
+bad_if End p rest input h other e = λ s more fits flags short f. empty_case s more (sym h.1 ∙ sym (ap (λ r. r ++ rest) h.0) ∙ sym e ∙ f)
+
+pub bad_first : (before now : Option (List ℕ)) (old p : List ℕ) (next : Next) → old ≡ [] → Takes before now old p → IsNext next p now → ((n : ℕ) → next ≡ Line n → ⊥) → IfSome before (λ input. IsBadHeading input)
+bad_first before now old p next none t h other =
+    IfSome_then before (first_known before now old p none t) (λ input k. bad_if next p k.0 input (rw k.1 at h) other k.2)
+
+pub bad_text : (before now : Option (List ℕ)) (old p : List ℕ) (n : ℕ) → old ≡ [] → Takes before now old p → position (λ b. b == 10) p ≡ Some n
+    → ((s : Settings) → AreSettings s → settings_at (take n p) ≡ Some s → ⊥) → IfSome before (λ input. IsBadHeading input)
+bad_text before now old p n none t at other =
+    IfSome_then before (first_known before now old p none t) (λ input k. λ s more fits flags short f.
+    other s fits (ap settings_at (text_is p k.0 n (heading s) more at (Free-heading s fits) (sym k.2 ∙ f)) ∙ settings_at-heading s fits flags))
+
+pub first_used : (before now : Option (List ℕ)) (old p : List ℕ) (n : ℕ) (s : Settings) → old ≡ [] → Takes before now old p → position (λ b. b == 10) p ≡ Some n → settings_at (take n p) ≡ Some s
+    → Uses before now [] (with_feed (heading s)) (drop (n + 1) p)
+first_used before now old p n s none t at h =
+    let says = settings_at_says (take n p) s h in
+    let u = Uses-front before now old [] p (with_feed (heading s)) (drop (n + 1) p) (position-split p n at ∙ ap (λ x. with_feed x ++ drop (n + 1) p) says.text) (Uses-Takes before before now old [] old p (Uses-refl before old) t) in
+    subst (λ (o : List ℕ). Uses before now o (with_feed (heading s)) (drop (n + 1) p)) none u
+
+nothing_first : (a b c : Option (List ℕ)) (x : List ℕ) → Appends a b [] → Appends b c x → Appends a c x
+nothing_first a b c x h k = Appends-Appends a b c [] x h k
+
+begun_first : (a b c : Option (List ℕ)) (x : List ℕ) → Appends a b [] → Begins b c x → Begins a c x
+begun_first a b c x h k = (k.0, (k.1.0, nothing_first a b c k.1.0 h k.1.1, k.1.2))
+
+outcome_is : (s : Settings) (input bytes : List ℕ) (w0 w1 w2 : Option (List ℕ)) (r : Result (Unit {0}) ShellFault) → AreSettings s → Appends w0 w1 [] → input ≡ with_feed (heading s) ++ bytes → Advance empty bytes w1 w2 [] r → Outcome r input w0 w2
+outcome_is s input bytes w0 w1 w2 (Ok u) fits q e h = (
+  s,
+  h.events,
+  record { in_range = fits; allowed = h.ran.allowed; run = h.ran.run },
+  e ∙ ap (λ x. with_feed (heading s) ++ x) (h.lines ∙ ap (λ x. lines_of h.events ++ x) h.ends.0 ∙ append-nil (lines_of h.events)),
+  nothing_first w0 w1 w2 (answers_of h.events) q h.ends.1,
+)
+outcome_is s input bytes w0 w1 w2 (Err (BadLine n)) fits q e h =
+    inr (
+      s,
+      h.events,
+      h.left,
+      record { in_range = fits; allowed = h.ran.allowed; run = h.ran.run },
+      e ∙ ap (λ x. with_feed (heading s) ++ x) h.lines ∙ sym (append_assoc (with_feed (heading s)) (lines_of h.events) h.left),
+      h.ends.1,
+      h.ends.0,
+      nothing_first w0 w1 w2 (answers_of h.events) q h.ends.2,
+    )
+outcome_is s input bytes w0 w1 w2 (Err Input) fits q e h =
+    inr (
+      s,
+      h.events,
+      h.left,
+      record { in_range = fits; allowed = h.ran.allowed; run = h.ran.run },
+      e ∙ ap (λ x. with_feed (heading s) ++ x) h.lines ∙ sym (append_assoc (with_feed (heading s)) (lines_of h.events) h.left),
+      begun_first w0 w1 w2 (answers_of h.events) q h.ends,
+    )
+outcome_is s input bytes w0 w1 w2 (Err Output) fits q e h =
+    inr (
+      s,
+      h.events,
+      h.left,
+      record { in_range = fits; allowed = h.ran.allowed; run = h.ran.run },
+      e ∙ ap (λ x. with_feed (heading s) ++ x) h.lines ∙ sym (append_assoc (with_feed (heading s)) (lines_of h.events) h.left),
+      begun_first w0 w1 w2 (answers_of h.events) q h.ends,
+    )
+outcome_is s input bytes w0 w1 w2 (Err NoMemory) fits q e h =
+    inr (
+      s,
+      h.events,
+      h.left,
+      record { in_range = fits; allowed = h.ran.allowed; run = h.ran.run },
+      e ∙ ap (λ x. with_feed (heading s) ++ x) h.lines ∙ sym (append_assoc (with_feed (heading s)) (lines_of h.events) h.left),
+      begun_first w0 w1 w2 (answers_of h.events) q h.ends,
+    )
+
+pub outcome_from : (before now : Option (List ℕ)) (p text : List ℕ) (from : State) (s : Settings) (w0 w1 w2 : Option (List ℕ)) (r : Result (Unit {0}) ShellFault)
+    → Uses before now [] (with_feed (heading s)) p → AreSettings s → Appends w0 w1 [] → Agrees from empty → text ≡ [] → Advances from now w1 w2 p text r → IfSome before (λ input. Outcome r input w0 w2)
+outcome_from before now p text from s w0 w1 w2 r u fits q agrees none h =
+    IfSome_then before (Uses-known before now [] (with_feed (heading s)) p u) (λ input k.
+    outcome_is s input (p ++ k.0) w0 w1 w2 r fits q k.2 (rw (k.1, none) at (h empty agrees)))
+
+-- a setting that is out of range isn't in range
+outside : (a low high : ℕ) → (a < low) ⊎ (high < a) → (low ≤ a) × (a ≤ high) → ⊥
+outside a low high (inl below) r = let at = r.0 in omega arith
+outside a low high (inr above) r = let at = r.1 in omega arith
+
+out_of_range : (s : Settings) (f : SettingsFault) → FirstFault s f → (f ≡ NoMemoryForSettings → ⊥) → AreSettings s → ⊥
+out_of_range s MaxPages h other k = outside s.max_pages 1 65536 h.0 k.max_pages
+out_of_range s StopAge h other k = outside s.stop_age 1 2144483648 h.0 k.stop_age
+out_of_range s FreezeMinAge h other k = let out = h.0 in let least = k.freeze_min_age in omega arith
+out_of_range s FirstXid h other k = let out = h.0 in let first = k.first_xid.0 in omega arith
+out_of_range s DeadLimit h other k = outside s.dead_limit 1 4096 h.0 k.dead_limit
+out_of_range s NoMemoryForSettings h other k = other refl
+
+pub bad_settings : (before now : Option (List ℕ)) (old p : List ℕ) (n : ℕ) (s : Settings) (f : SettingsFault) → old ≡ [] → Takes before now old p → position (λ b. b == 10) p ≡ Some n
+    → Some s ≡ settings_at (take n p) → FirstFault s f → (f ≡ NoMemoryForSettings → ⊥) → IfSome before (λ input. IsBadHeading input)
+bad_settings before now old p n s f none t at read fault other =
+    bad_text before now old p n none t at (λ s' fits e. out_of_range s f fault other (subst AreSettings (sym (same_Some s s' (read ∙ e))) fits))
+
+nil_front : (xs ys : List ℕ) → [] ≡ xs ++ ys → xs ≡ []
+nil_front [] ys e = refl
+nil_front (x ∷ xs) ys e = cc
+
+pub nothing_given : (a b : Option (List ℕ)) (text left : List ℕ) → text ≡ [] → Gives a b text left → Appends a b []
+nothing_given a b text left none h = rw (← nil_front h.0 left (sym none ∙ h.2)) h.1

@@ -1,0 +1,9 @@
+pub mod ByteLemmas
+pub mod NumberLaws
+pub mod ReadingLemmas
+pub mod PiecesLemmas
+pub mod GrammarLaws
+pub mod HeadingLaws
+pub mod RunLemmas
+pub mod FirstLemmas
+pub mod TellingLemmas

@@ -1,0 +1,262 @@
+-- Lines that are used, one after another.
+use Rattle.std.proofs.Common.{◌≡◌, ℕ, ◌+◌, ◌<◌, ◌≤◌, ◌⊎◌, inl, inr, List, [], ◌∷◌, ◌++◌, length, take, drop, refl, ap, append_assoc, length-append, ◌∙◌, sym, subst, arith, Option, None, Some, Result, Ok, Err, position, IfSome, IsErrAnd, true}
+use Rattle.std.specs.Bool.{◌==◌}
+use Rattle.std.specs.List.{AllByRecursion}
+use Rattle.std.proofs.lemmas.List.{append-nil, length-take-le}
+use Rattle.std.proofs.lemmas.Grind.{flat_map-append}
+use Rattle.std.specs.Io.KnownBytes.{Appends}
+use Rattle.script.specs.Engine.{World, State, Step, Reply, Allows, next, IsRun, Agrees}
+use Rattle.script.specs.Grammar.{IsAllowed, Fits, spelling, with_feed}
+use Rattle.script.specs.Answers.{Shown}
+use Rattle.script.specs.Pieces.{Takes, Gives, HasNoLine}
+use Rattle.script.specs.Script.{Event, did, showed_ids, showed_page, line_of, answer_of, steps_of, replies_of, lines_of, answers_of, IsBadLine, Begins, IsRefused, IsCaused}
+use Rattle.script.specs.Steps.{Moves, Ends, Advance, Uses, Does}
+use Rattle.script.specs.declared.line.Line.{Line}
+use Rattle.script.specs.declared.watch.Watch.{Watch}
+use Rattle.script.specs.declared.fault.ShellFault.{ShellFault}
+use Rattle.script.specs.declared.fault.ShellFault.TheVariants.{BadLine, Input, Output, NoMemory}
+use Rattle.script.proofs.ByteLemmas.{place, Free, place-free, place-append_found, place-append_past, place-split, position_found, position_none}
+use Rattle.script.proofs.GrammarLaws.{Free-spelling}
+use Rattle.std.proofs.lemmas.Option.{IfSome_then}
+use Rattle.std.proofs.Math.Seq.{take-append_seam}
+use Rattle.std.proofs.lemmas.List.{take-append-le}
+use Rattle.script.proofs.PiecesLemmas.{Consumes-Consumes, Appends-Appends, Keeps-nothing, Keeps-refl, Gives-Gives, Gives-refl}
+
+pub Uses-refl : (a : Option (List ℕ)) (p : List ℕ) → Uses a a p [] p
+Uses-refl a p = ([], Keeps-nothing a a (Keeps-refl a), append-nil p)
+
+-- more is read
+pub Uses-Takes : (a b c : Option (List ℕ)) (old used p q : List ℕ) → Uses a b old used p → Takes b c p q → Uses a c old used q
+Uses-Takes a b c old used p q h k = (
+  h.0 ++ k.0,
+  Consumes-Consumes a b c h.0 k.0 h.1 k.1,
+  sym (append_assoc old h.0 k.0) ∙ ap (λ r. r ++ k.0) h.2 ∙ append_assoc used p k.0 ∙ ap (λ r. used ++ r) (sym k.2),
+)
+
+-- a front of what is pending is used
+pub Uses-front : (a b : Option (List ℕ)) (old used p front q : List ℕ) → p ≡ front ++ q → Uses a b old used p → Uses a b old (used ++ front) q
+Uses-front a b old used p front q e h = (h.0, h.1, h.2 ∙ ap (λ r. used ++ r) e ∙ sym (append_assoc used front q))
+
+-- what is known of the input
+pub Uses-known : (a b : Option (List ℕ)) (old used p : List ℕ) → Uses a b old used p
+    → IfSome a (λ input. (rest : List ℕ) × (b ≡ Some rest) × (old ++ input ≡ used ++ (p ++ rest)))
+Uses-known None b old used p h = tt
+Uses-known (Some xs) None old used p h = absurd h.1
+Uses-known (Some xs) (Some ys) old used p h =
+    (ys, refl, ap (λ r. old ++ r) h.1 ∙ sym (append_assoc old h.0 ys) ∙ ap (λ r. r ++ ys) h.2 ∙ append_assoc used p ys)
+
+pub Gives-push : (a b : Option (List ℕ)) (text left more new : List ℕ) → Gives a b text left → new ≡ left ++ more → Gives a b (text ++ more) new
+Gives-push a b text left more new h e = (h.0, h.1, ap (λ r. r ++ more) h.2 ∙ append_assoc h.0 left more ∙ ap (λ r. h.0 ++ r) (sym e))
+
+-- the world that events lead to
+abbrev Reaches : World → List Event → World → Type 0
+Reaches from [] to = from ≡ to
+Reaches from (did step reply ∷ events) to = Allows from step reply × Reaches (next from step reply) events to
+Reaches from (showed_ids n below ∷ events) to = Reaches from events to
+Reaches from (showed_page p shown ∷ events) to = Reaches from events to
+
+Reaches-run : (from : World) (events : List Event) (to : World) → Reaches from events to → IsRun from (steps_of events) (replies_of events)
+Reaches-run from [] to h = tt
+Reaches-run from (did step reply ∷ events) to h = (h.0, Reaches-run (next from step reply) events to h.1)
+Reaches-run from (showed_ids n below ∷ events) to h = Reaches-run from events to h
+Reaches-run from (showed_page p shown ∷ events) to h = Reaches-run from events to h
+
+Reaches-did : (from : World) (events : List Event) (to : World) (step : Step) (reply : Reply) → Reaches from events to → Allows to step reply
+    → Reaches from (events ++ did step reply ∷ []) (next to step reply)
+Reaches-did from [] to step reply h k = (subst (λ (w : World). Allows w step reply) (sym h) k, ap (λ (w : World). next w step reply) h)
+Reaches-did from (did s r ∷ events) to step reply h k = (h.0, Reaches-did (next from s r) events to step reply h.1 k)
+Reaches-did from (showed_ids n below ∷ events) to step reply h k = Reaches-did from events to step reply h k
+Reaches-did from (showed_page p shown ∷ events) to step reply h k = Reaches-did from events to step reply h k
+
+Reaches-ids : (from : World) (events : List Event) (to : World) (n below : ℕ) → Reaches from events to → Reaches from (events ++ showed_ids n below ∷ []) to
+Reaches-ids from [] to n below h = h
+Reaches-ids from (did s r ∷ events) to n below h = (h.0, Reaches-ids (next from s r) events to n below h.1)
+Reaches-ids from (showed_ids m b ∷ events) to n below h = Reaches-ids from events to n below h
+Reaches-ids from (showed_page p shown ∷ events) to n below h = Reaches-ids from events to n below h
+
+Reaches-page : (from : World) (events : List Event) (to : World) (p : ℕ) (shown : Option Shown) → Reaches from events to → Reaches from (events ++ showed_page p shown ∷ []) to
+Reaches-page from [] to p shown h = h
+Reaches-page from (did s r ∷ events) to p shown h = (h.0, Reaches-page (next from s r) events to p shown h.1)
+Reaches-page from (showed_ids m b ∷ events) to p shown h = Reaches-page from events to p shown h
+Reaches-page from (showed_page q other ∷ events) to p shown h = Reaches-page from events to p shown h
+
+-- one more event, after which the engine agrees with the world that it leads to
+Reaches-push : (from : World) (events : List Event) (to : World) (e : Event) (a b : State) → Reaches from events to → Agrees a to → Moves a e b
+    → (w : World) × Reaches from (events ++ e ∷ []) w × Agrees b w
+Reaches-push from events to (did step reply) a b h k m =
+    let f = m to k in
+    (next to step reply, Reaches-did from events to step reply h f.0, f.1)
+Reaches-push from events to (showed_ids n below) a b h k m = (to, Reaches-ids from events to n below h, subst (λ (s : State). Agrees s to) m k)
+Reaches-push from events to (showed_page p shown) a b h k m = (to, Reaches-page from events to p shown h, subst (λ (s : State). Agrees s to) m k)
+
+pub allowed-push : (events : List Event) (e : Event) → AllByRecursion (λ e. IsAllowed (line_of e)) events → IsAllowed (line_of e) → AllByRecursion (λ e. IsAllowed (line_of e)) (events ++ e ∷ [])
+allowed-push [] e h k = (k, tt)
+allowed-push (x ∷ xs) e h k = (h.0, allowed-push xs e h.1 k)
+
+pub lines_of-push : (events : List Event) (e : Event) → lines_of (events ++ e ∷ []) ≡ lines_of events ++ with_feed (spelling (line_of e))
+lines_of-push events e = flat_map-append (λ e. with_feed (spelling (line_of e))) events (e ∷ []) ∙ ap (λ x. lines_of events ++ x) (append-nil (with_feed (spelling (line_of e))))
+
+pub answers_of-push : (events : List Event) (e : Event) → answers_of (events ++ e ∷ []) ≡ answers_of events ++ with_feed (answer_of e)
+answers_of-push events e = flat_map-append (λ e. with_feed (answer_of e)) events (e ∷ []) ∙ ap (λ x. answers_of events ++ x) (append-nil (with_feed (answer_of e)))
+
+-- how far the lines have come
+pub record Progress (from : World) (state : State) (before now : Option (List ℕ)) (old new : List ℕ) (w0 w1 : Option (List ℕ)) (text left : List ℕ) (number : ℕ) : Type 0 where
+  pub events : List Event
+  pub to : World
+  pub allowed : AllByRecursion (λ e. IsAllowed (line_of e)) events
+  pub reaches : Reaches from events to
+  pub agrees : Agrees state to
+  pub uses : Uses before now old (lines_of events) new
+  pub gives : Gives w0 w1 (text ++ answers_of events) left
+  pub number_is : number ≡ length events + 2
+
+pub Progress-start : (from : World) (state : State) (before : Option (List ℕ)) (old : List ℕ) (w0 : Option (List ℕ)) (text : List ℕ) → Agrees state from → Progress from state before before old old w0 w0 text text 2
+Progress-start from state before old w0 text agrees = record {
+  events = [];
+  to = from;
+  allowed = tt;
+  reaches = refl;
+  agrees = agrees;
+  uses = Uses-refl before old;
+  gives = rw (append-nil text) (Gives-refl w0 text);
+  number_is = refl;
+}
+
+-- more is read, and some of the text is written
+pub Progress-more : (from : World) (state : State) (before now now' : Option (List ℕ)) (old new new' : List ℕ) (w0 w1 w2 : Option (List ℕ)) (text left left' : List ℕ) (number : ℕ)
+    → Progress from state before now old new w0 w1 text left number → Takes now now' new new' → Gives w1 w2 left left' → Progress from state before now' old new' w0 w2 text left' number
+Progress-more from state before now now' old new new' w0 w1 w2 text left left' number h t g = record {
+  events = h.events;
+  to = h.to;
+  allowed = h.allowed;
+  reaches = h.reaches;
+  agrees = h.agrees;
+  uses = Uses-Takes before now now' old (lines_of h.events) new new' h.uses t;
+  gives = Gives-Gives w0 w1 w2 (text ++ answers_of h.events) left left' h.gives g;
+  number_is = h.number_is;
+}
+
+pub position-split : (p : List ℕ) (n : ℕ) → position (λ b. b == 10) p ≡ Some n → p ≡ with_feed (take n p) ++ drop (n + 1) p
+position-split p n h =
+    let f = position_found 10 p n h in
+    let s = rw f.1 at (place-split 10 p (rw f.1 f.0)) in
+    s ∙ sym (append_assoc (take n p) (10 ∷ []) (drop (n + 1) p))
+
+-- a line is used, and its answer stands behind the text
+pub Progress-line : (from : World) (state state' : State) (before now : Option (List ℕ)) (old new : List ℕ) (w0 w1 : Option (List ℕ)) (text left left' : List ℕ) (number n : ℕ)
+    → Progress from state before now old new w0 w1 text left number → position (λ b. b == 10) new ≡ Some n → n ≤ 4096 → n < length new → Does (take n new) state state' left left'
+    → Progress from state' before now old (drop (n + 1) new) w0 w1 text left' (number + 1)
+Progress-line from state state' before now old new w0 w1 text left left' number n h at short within d =
+    let e = d.0 in
+    let size : length (take n new) ≡ n = length-take-le n new (omega arith) in
+    let r = Reaches-push from h.events h.to e state state' h.reaches h.agrees d.3 in
+    record {
+      events = h.events ++ e ∷ [];
+      to = r.0;
+      allowed = allowed-push h.events e h.allowed (record { fits = d.1; short = rw (← d.2) (omega arith) });
+      reaches = r.1;
+      agrees = r.2;
+      uses = rw (lines_of-push h.events e) (Uses-front before now old (lines_of h.events) new (with_feed (spelling (line_of e))) (drop (n + 1) new) (position-split new n at ∙ ap (λ x. with_feed x ++ drop (n + 1) new) d.2) h.uses);
+      gives = rw (answers_of-push h.events e) (rw (← append_assoc text (answers_of h.events) (with_feed (answer_of e))) (Gives-push w0 w1 (text ++ answers_of h.events) left (with_feed (answer_of e)) left' h.gives d.4));
+      number_is = ap (λ k. k + 1) h.number_is ∙ omega (arith, length-append h.events (e ∷ []));
+    }
+
+-- a line at the front ends at the first line feed
+first_feed : (s : List ℕ) (all more : List ℕ) → Free 10 s → all ≡ with_feed s ++ more → place 10 all ≡ length s
+first_feed s all more free e = ap (λ xs. place 10 xs) (e ∙ append_assoc s (10 ∷ []) more) ∙ place-free 10 s more free
+
+long_case : (p rest : List ℕ) (k : ℕ) → 4096 < length p → ((n : ℕ) → position (λ b. b == 10) p ≡ Some n → 4096 < n) → place 10 (p ++ rest) ≡ k → k ≤ 4096 → (o : Option ℕ) → position (λ b. b == 10) p ≡ o → ⊥
+long_case p rest k long h first short None e = let past = place-append_past 10 p rest (position_none 10 p e) in omega arith
+long_case p rest k long h first short (Some n) e =
+    let f = position_found 10 p n e in
+    let same = place-append_found 10 p rest (rw f.1 f.0) in
+    let far = h n e in
+    omega (arith, f.1)
+
+torn_case : (p s more : List ℕ) → position (λ b. b == 10) p ≡ None → Free 10 s → p ≡ with_feed s ++ more → ⊥
+torn_case p s more none free e =
+    let first = first_feed s p more free e in
+    let past = position_none 10 p none in
+    let size : length p ≡ length s + 1 + length more = ap (λ (xs : List ℕ). length xs) e ∙ length-append (with_feed s) more ∙ ap (λ k. k + length more) (length-append s (10 ∷ [])) in
+    omega arith
+
+pub no_text : (p rest s more : List ℕ) → HasNoLine p (Some rest) → Free 10 s → length s ≤ 4096 → p ++ rest ≡ with_feed s ++ more → ⊥
+no_text p rest s more h free short e = elim h.1 [
+  | inl long ↦ long_case p rest (length s) long.0 long.1 (first_feed s (p ++ rest) more free e) short (position (λ b. b == 10) p) refl
+  | inr torn ↦ torn_case p s more torn.0 free (sym (append-nil p) ∙ ap (λ r. p ++ r) (sym torn.1) ∙ e)
+]
+
+pub text_is : (p rest : List ℕ) (n : ℕ) (s more : List ℕ) → position (λ b. b == 10) p ≡ Some n → Free 10 s → p ++ rest ≡ with_feed s ++ more → take n p ≡ s
+text_is p rest n s more at free e =
+    let f = position_found 10 p n at in
+    let first = first_feed s (p ++ rest) more free e in
+    let same = place-append_found 10 p rest (rw f.1 f.0) in
+    let size : n ≡ length s = sym f.1 ∙ sym same ∙ first in
+    let front : take n (p ++ rest) ≡ take n p = take-append-le n p rest (omega (arith, f.0)) in
+    sym front ∙ ap (λ xs. take n xs) (e ∙ append_assoc s (10 ∷ []) more) ∙ ap (λ k. take k (s ++ (10 ∷ more))) size ∙ take-append_seam s (10 ∷ more)
+
+pub bad_from_none : (p rest : List ℕ) → HasNoLine p (Some rest) → IsBadLine (p ++ rest)
+bad_from_none p rest h = record {
+  some = rw (length-append p rest) (omega (arith, h.0));
+  bad = λ l more allowed e. no_text p rest (spelling l) more h (Free-spelling l allowed.fits) allowed.short e;
+}
+
+pub bad_from_line : (p rest : List ℕ) (n : ℕ) → position (λ b. b == 10) p ≡ Some n → ((l : Line) → Fits l → take n p ≡ spelling l → ⊥) → IsBadLine (p ++ rest)
+bad_from_line p rest n at h =
+    let f = position_found 10 p n at in
+    record {
+      some = rw (length-append p rest) (omega (arith, f.0));
+      bad = λ l more allowed e. h l allowed.fits (text_is p rest n (spelling l) more at (Free-spelling l allowed.fits) e);
+    }
+
+ends_fault : (e : ShellFault) (watch : Watch) → IsRefused e watch → (k : ℕ) (left : List ℕ) (before after : Option (List ℕ)) (text : List ℕ) → Begins before after text → Ends (Err e) k left before after text
+ends_fault (BadLine n) watch f k left before after text b = absurd f
+ends_fault Input watch f k left before after text b = b
+ends_fault Output watch f k left before after text b = b
+ends_fault NoMemory watch f k left before after text b = b
+
+-- that a growth was refused is noted
+pub refused_growth : (e : ShellFault) (watch : Watch) → e ≡ NoMemory → watch.memory ≡ true → IsRefused e watch
+refused_growth e watch is noted = rw is noted
+
+-- a refusal is a cause
+pub Refused-caused : (e : ShellFault) (watch : Watch) → IsRefused e watch → IsCaused e watch
+Refused-caused (BadLine n) watch h = absurd h
+Refused-caused Input watch h = h
+Refused-caused Output watch h = h
+Refused-caused NoMemory watch h = h
+
+pub adv_fault : (from : World) (state : State) (before now : Option (List ℕ)) (old new : List ℕ) (w0 w1 w2 : Option (List ℕ)) (text left : List ℕ) (number : ℕ) (e : ShellFault) (watch : Watch)
+    → Progress from state before now old new w0 w1 text left number → IsRefused e watch → Begins w1 w2 left → IfSome before (λ bytes. Advance from (old ++ bytes) w0 w2 text (Err e))
+adv_fault from state before now old new w0 w1 w2 text left number e watch h f b =
+    IfSome_then before (Uses-known before now old (lines_of h.events) new h.uses) (λ input k. record {
+      events = h.events;
+      ran = record { allowed = h.allowed; run = Reaches-run from h.events h.to h.reaches };
+      left = new ++ k.0;
+      lines = k.2;
+      ends = ends_fault e watch f (length h.events) (new ++ k.0) w0 w2 (text ++ answers_of h.events) (b.0, Gives-Gives w0 w1 w2 (text ++ answers_of h.events) left b.0 h.gives b.1);
+    })
+
+Gives-rest : (a b c : Option (List ℕ)) (text left : List ℕ) → Gives a b text left → Appends b c left → Appends a c text
+Gives-rest a b c text left h k = rw h.2 (Appends-Appends a b c h.0 left h.1 k)
+
+closed_fault : (from : World) (state : State) (before now : Option (List ℕ)) (old new : List ℕ) (w0 w1 w2 : Option (List ℕ)) (text left : List ℕ) (number : ℕ) (r : Result (Unit {0}) ShellFault) (watch : Watch)
+    → Progress from state before now old new w0 w1 text left number → IsErrAnd r (λ e. IsRefused e watch) → Begins w1 w2 left → IfSome before (λ bytes. Advance from (old ++ bytes) w0 w2 text r)
+closed_fault from state before now old new w0 w1 w2 text left number (Ok u) watch h f b = absurd f
+closed_fault from state before now old new w0 w1 w2 text left number (Err e) watch h f b = adv_fault from state before now old new w0 w1 w2 text left number e watch h f b
+
+pub adv_close : (from : World) (state : State) (before now : Option (List ℕ)) (old new : List ℕ) (w0 w1 w2 : Option (List ℕ)) (text left : List ℕ) (number : ℕ) (end r : Result (Unit {0}) ShellFault) (watch : Watch)
+    → (h : Progress from state before now old new w0 w1 text left number)
+    → ((r ≡ end) × Appends w1 w2 left) ⊎ (IsErrAnd r (λ e. IsRefused e watch) × Begins w1 w2 left)
+    → ((rest : List ℕ) (T : List ℕ) → now ≡ Some rest → Appends w0 w2 T → Ends end (length h.events) (new ++ rest) w0 w2 T)
+    → IfSome before (λ bytes. Advance from (old ++ bytes) w0 w2 text r)
+adv_close from state before now old new w0 w1 w2 text left number end r watch h c ends = elim c [
+  | inl whole ↦ rw whole.0 (IfSome_then before (Uses-known before now old (lines_of h.events) new h.uses) (λ input k. record {
+    events = h.events;
+    ran = record { allowed = h.allowed; run = Reaches-run from h.events h.to h.reaches };
+    left = new ++ k.0;
+    lines = k.2;
+    ends = ends k.0 (text ++ answers_of h.events) k.1 (Gives-rest w0 w1 w2 (text ++ answers_of h.events) left h.gives whole.1);
+  }))
+  | inr fault ↦ closed_fault from state before now old new w0 w1 w2 text left number r watch h fault.0 fault.1
+]

@@ -1,0 +1,28 @@
+use Rattle.std.proofs.Common.{◌≡◌, sym, None, ◌∙◌, ap, rules, refl}
+use Rattle.std.proofs.lemmas.Option.{none-some}
+use Rattle.script.specs.Script.{did, showed_ids, showed_page}
+use Rattle.script.specs.declared.line.Line.TheVariants.{Do, Ids, Page}
+use Rattle.script.specs.Reading.{line_at}
+use Rattle.script.proofs.GrammarLaws.{line_at_says, line_at-spelling}
+use Rattle.script.proofs.run.do_line.Goals as goal
+
+pub returns-in_ok-answer-in-Some-Do-clause-done : goal.returns-in_ok-answer-in-Some-Do-clause-done
+returns-in_ok-answer-in-Some-Do-clause-done c =
+    let says = line_at_says c.args.line.now (Do c.in-Some-Do.step) (search rules) in
+    (did c.in-Some-Do.step c.step.result, says.0, says.1, c.step.ensures, c.in_ok-answer-in-Some-Do.ensures)
+
+pub returns-in_ok-tell_ids-in-Some-Ids-clause-done : goal.returns-in_ok-tell_ids-in-Some-Ids-clause-done
+returns-in_ok-tell_ids-in-Some-Ids-clause-done c =
+    let says = line_at_says c.args.line.now Ids (search rules) in
+    (showed_ids c.ids.result.0.0 c.ids.result.1.0, says.0, says.1, refl, c.in_ok-tell_ids-in-Some-Ids.ensures)
+
+pub returns-in_ok-show_page-in-Some-Page-clause-done : goal.returns-in_ok-show_page-in-Some-Page-clause-done
+returns-in_ok-show_page-in-Some-Page-clause-done c =
+    let says = line_at_says c.args.line.now (Page c.in-Some-Page.number) (search rules) in
+    let shown = c.in_ok-show_page-in-Some-Page.ensures in
+    (showed_page c.in-Some-Page.number shown.0, says.0, says.1, refl, shown.1)
+
+pub returns-in-None-clause-bad : goal.returns-in-None-clause-bad
+returns-in-None-clause-bad c l fits e =
+    let read : line_at c.args.line.now ≡ None = search rules in
+    none-some l (sym read ∙ ap line_at e ∙ line_at-spelling l fits)

@@ -1,0 +1,7 @@
+use Rattle.script.proofs.FirstLemmas.{outcome_from}
+use Rattle.script.proofs.run.run_watched.Goals as goal
+
+pub returns-clause-outcome : goal.returns-clause-outcome
+returns-clause-outcome g c =
+    let b = c.in-Ok-first_line.ensures.begins in
+    outcome_from _ _ _ _ _ b.0 _ _ _ _ b.3 b.2 c.in-Ok-first_line.ensures.quiet b.1 c.in-Ok-first_line.ensures.none c.run_lines.ensures.advances

@@ -1,0 +1,15 @@
+-- What the shell speaks of in the engine: its steps and replies, and which replies the history allows.
+pub use Rattle.history.specs.World.{World, empty}
+pub use Rattle.session_relation.specs.Words.{RowText, AreSettings, FirstFault}
+pub use Rattle.session_relation.specs.Allowed.{Allows, next, IsRun}
+pub use Rattle.session_core.specs.State.{State}
+pub use Rattle.session_core.specs.Agrees.{Agrees, Follows}
+pub use Rattle.session_relation.specs.declared.settings.Settings.{Settings}
+pub use Rattle.session_relation.specs.declared.settings.SettingsFault.{SettingsFault}
+pub use Rattle.session_relation.specs.declared.settings.SettingsFault.TheVariants.{MaxPages, StopAge, FreezeMinAge, FirstXid, DeadLimit, NoMemory as NoMemoryForSettings}
+pub use Rattle.session_relation.specs.declared.step.Step.{Step}
+pub use Rattle.session_relation.specs.declared.step.Step.TheVariants.{Begin, Get, Insert, Commit, Abort}
+pub use Rattle.session_relation.specs.declared.reply.Reply.{Reply}
+pub use Rattle.session_relation.specs.declared.reply.Reply.TheVariants.{Done, Found, Committed, RolledBack, Refused}
+pub use Rattle.session_relation.specs.declared.reply.Refusal.{Refusal}
+pub use Rattle.session_relation.specs.declared.reply.Refusal.TheVariants.{NotOpen, AlreadyOpen, Failed, AlreadyThere, Conflict, Busy, TooLarge, NoRoom, NeedsFreeze, NoMemory as NoMemoryForStep, NoSuchSession}

@@ -1,0 +1,71 @@
+-- The lines of a script. Each value has one spelling, so a line is allowed just where it is the spelling of a value in range.
+use Rattle.std.specs.Prelude.{◌≡◌, ℕ, ℤ, ◌/◌, ◌%◌, ◌^◌, ◌<◌, ◌≤◌, List, [], ◌∷◌, ◌++◌, length, codes, Bool, false, if◌then◌else◌, FitsSigned}
+use Rattle.std.specs.Int.{w64}
+use Rattle.std.specs.List.{flat_map, AllByRecursion}
+use Rattle.std.specs.Fmt.{decimal, signed_decimal, digit_glyph}
+use Rattle.script.specs.Engine.{Settings, Step, Begin, Get, Insert, Commit, Abort}
+use Rattle.script.specs.declared.line.Line.{Line}
+use Rattle.script.specs.declared.line.Line.TheVariants.{Do, Ids, Page}
+
+-- a space, and then a word: one space separates words
+abbrev pub spaced : List ℕ → List ℕ
+spaced word = 32 ∷ word
+
+-- a line and its line feed
+abbrev pub with_feed : List ℕ → List ℕ
+with_feed text = text ++ 10 ∷ []
+
+-- two lower case hexadecimal digits for each byte
+abbrev pub hex_text : List ℕ → List ℕ
+hex_text bytes = flat_map (λ b. digit_glyph false (b / 16) ∷ digit_glyph false (b % 16) ∷ []) bytes
+
+-- a body in hexadecimal digits, or a minus where it is empty
+abbrev pub body_text : List ℕ → List ℕ
+body_text [] = 45 ∷ []
+body_text (b ∷ bs) = hex_text (b ∷ bs)
+
+-- a row: its key, its columns and its body
+abbrev pub row_text : ℕ → List ℤ → List ℕ → List ℕ
+row_text k cols body = decimal k ++ (flat_map (λ c. spaced (signed_decimal c)) cols ++ spaced (body_text body))
+
+-- a digit for a column: 1 where it has an index
+abbrev pub flag_text : Bool → List ℕ
+flag_text b = (if b then 49 else 48) ∷ []
+
+-- the first line: `heap PAGES STOP MIN FIRST DEAD COLS`
+abbrev pub heading : Settings → List ℕ
+heading s = codes "heap" ++ spaced (decimal s.max_pages ++ spaced (decimal s.stop_age ++ spaced (decimal s.freeze_min_age
+    ++ spaced (decimal s.first_xid ++ spaced (decimal s.dead_limit ++ spaced (flat_map flag_text s.indexed))))))
+
+-- a line that asks for a step
+abbrev pub step_text : Step → List ℕ
+step_text (Begin s) = codes "begin" ++ spaced (decimal s)
+step_text (Get s k) = codes "get" ++ spaced (decimal s ++ spaced (decimal k))
+step_text (Insert s row) = codes "insert" ++ spaced (decimal s ++ spaced (row_text row.key row.cols row.body))
+step_text (Commit s) = codes "commit" ++ spaced (decimal s)
+step_text (Abort s) = codes "abort" ++ spaced (decimal s)
+
+-- any line but the first
+abbrev pub spelling : Line → List ℕ
+spelling (Do step) = step_text step
+spelling Ids = codes "ids"
+spelling (Page p) = codes "page" ++ spaced (decimal p)
+
+-- each number of a step is in the range of its type: a session's of 8 bits, a key's of 64, a column's of 64 with its sign
+abbrev pub StepFits : Step → Type 0
+StepFits (Begin s) = s < 2 ^ 8
+StepFits (Get s k) = (s < 2 ^ 8) × (k < 2 ^ 64)
+StepFits (Insert s row) = (s < 2 ^ 8) × (row.key < 2 ^ 64) × (length row.cols ≡ 4) × AllByRecursion (λ c. FitsSigned w64 c) row.cols
+    × AllByRecursion (λ b. b < 2 ^ 8) row.body
+StepFits (Commit s) = s < 2 ^ 8
+StepFits (Abort s) = s < 2 ^ 8
+
+abbrev pub Fits : Line → Type 0
+Fits (Do step) = StepFits step
+Fits Ids = Unit {0}
+Fits (Page p) = p < 2 ^ 32
+
+-- what a line may spell: values in range, in at most 4096 bytes
+pub record IsAllowed (l : Line) : Type 0 where
+  pub fits : Fits l
+  pub short : length (spelling l) ≤ 4096

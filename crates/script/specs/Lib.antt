@@ -1,0 +1,10 @@
+pub mod Engine
+pub mod Grammar
+pub mod Answers
+pub mod Status
+pub mod Script
+pub mod Verbs
+pub mod Reading
+pub mod Pieces
+pub mod Next
+pub mod Steps

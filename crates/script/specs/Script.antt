@@ -1,0 +1,96 @@
+-- Whole scripts: the lines that were read, the run of the history that they make, and what is written.
+use Rattle.std.specs.Prelude.{◌≡◌, ℕ, ◌+◌, ◌<◌, ◌≤◌, ◌⊎◌, List, [], ◌∷◌, ◌++◌, length, Option, Ok, Err, Result, true}
+use Rattle.std.specs.List.{flat_map, AllByRecursion}
+use Rattle.std.specs.Io.KnownBytes.{Appends}
+use Rattle.script.specs.Engine.{Settings, AreSettings, Step, Reply, empty, IsRun}
+use Rattle.script.specs.Pieces.{Gives}
+use Rattle.script.specs.Grammar.{heading, spelling, with_feed, IsAllowed}
+use Rattle.script.specs.Answers.{reply_text, ids_text, Shown, shown_text}
+use Rattle.script.specs.declared.line.Line.{Line}
+use Rattle.script.specs.declared.line.Line.TheVariants.{Do, Ids, Page}
+use Rattle.script.specs.declared.fault.ShellFault.{ShellFault}
+use Rattle.script.specs.declared.fault.ShellFault.TheVariants.{BadLine, Input, Output, NoMemory}
+use Rattle.script.specs.declared.watch.Watch.{Watch}
+
+-- a line that was read and answered: a step with its reply, or a look at the ids or at a page with what it showed
+pub data Event : Type 0 where
+  did : Step → Reply → Event
+  showed_ids : ℕ → ℕ → Event
+  showed_page : ℕ → Option Shown → Event
+
+abbrev pub line_of : Event → Line
+line_of (did step reply) = Do step
+line_of (showed_ids next frozen_below) = Ids
+line_of (showed_page p shown) = Page p
+
+abbrev pub answer_of : Event → List ℕ
+answer_of (did step reply) = reply_text reply
+answer_of (showed_ids next frozen_below) = ids_text next frozen_below
+answer_of (showed_page p shown) = shown_text p shown
+
+-- looks are no steps of the history
+abbrev pub steps_in : Event → List Step
+steps_in (did step reply) = step ∷ []
+steps_in look = []
+
+abbrev pub replies_in : Event → List Reply
+replies_in (did step reply) = reply ∷ []
+replies_in look = []
+
+abbrev pub steps_of : List Event → List Step
+steps_of events = flat_map steps_in events
+
+abbrev pub replies_of : List Event → List Reply
+replies_of events = flat_map replies_in events
+
+-- the lines of the events, and those of their answers
+abbrev pub lines_of : List Event → List ℕ
+lines_of events = flat_map (λ e. with_feed (spelling (line_of e))) events
+
+abbrev pub answers_of : List Event → List ℕ
+answers_of events = flat_map (λ e. with_feed (answer_of e)) events
+
+-- allowed lines whose steps and replies are a run of the history from its beginning
+pub record IsScriptRun (settings : Settings) (events : List Event) : Type 0 where
+  pub in_range : AreSettings settings
+  pub allowed : AllByRecursion (λ e. IsAllowed (line_of e)) events
+  pub run : IsRun empty (steps_of events) (replies_of events)
+
+abbrev pub script : Settings → List Event → List ℕ
+script settings events = with_feed (heading settings) ++ lines_of events
+
+-- something is there, and an allowed line isn't at its front: so it is torn, too long, empty, unknown or out of range
+pub record IsBadLine (rest : List ℕ) : Type 0 where
+  pub some : 0 < length rest
+  pub bad : (l : Line) (more : List ℕ) → IsAllowed l → rest ≡ with_feed (spelling l) ++ more → ⊥
+
+-- no first line with settings in range is at the front
+abbrev pub IsBadHeading : List ℕ → Type 0
+IsBadHeading input = (s : Settings) (more : List ℕ) → AreSettings s → length s.indexed ≡ 4 → length (heading s) ≤ 4096 → input ≡ with_feed (heading s) ++ more → ⊥
+
+-- a beginning of the text was written
+abbrev pub Begins : Option (List ℕ) → Option (List ℕ) → List ℕ → Type 0
+Begins before after text = (left : List ℕ) × Gives before after text left
+
+-- what a script's result says of its input and of what was written: without a fault all lines were read and answered; after bad
+-- line n those before it were, and it is the first that isn't allowed; after another fault a beginning of the answers was written
+abbrev pub Outcome : Result (Unit {0}) ShellFault → List ℕ → Option (List ℕ) → Option (List ℕ) → Type 0
+Outcome (Ok u) input before after = (settings : Settings) × (events : List Event)
+    × IsScriptRun settings events × (input ≡ script settings events) × Appends before after (answers_of events)
+Outcome (Err (BadLine n)) input before after = ((n ≡ 1) × Appends before after [] × IsBadHeading input)
+    ⊎ ((settings : Settings) × (events : List Event) × (rest : List ℕ) × IsScriptRun settings events
+    × (input ≡ script settings events ++ rest) × IsBadLine rest × (n ≡ length events + 2) × Appends before after (answers_of events))
+Outcome (Err fault) input before after = Appends before after []
+    ⊎ ((settings : Settings) × (events : List Event) × (rest : List ℕ) × IsScriptRun settings events
+    × (input ≡ script settings events ++ rest) × Begins before after (answers_of events))
+
+-- a fault that isn't a bad line comes only where the reader, the writer or a growth refused
+abbrev pub IsRefused : ShellFault → Watch → Type 0
+IsRefused (BadLine n) watch = ⊥
+IsRefused Input watch = watch.input ≡ true
+IsRefused Output watch = watch.output ≡ true
+IsRefused NoMemory watch = watch.memory ≡ true
+
+abbrev pub IsCaused : ShellFault → Watch → Type 0
+IsCaused (BadLine n) watch = Unit {0}
+IsCaused fault watch = IsRefused fault watch

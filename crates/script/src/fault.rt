@@ -1,0 +1,37 @@
+//! Why a script ends early.
+
+ghost use Rattle.std.specs.Prelude.{◌≡◌};
+ghost use Rattle.script.specs.Status.{status_of};
+
+use thiserror::Error;
+
+/// Why a script ended before its end. The words are those of the program's standard error.
+#[derive(Clone, Copy, Debug, PartialEq, Eq, Error)]
+pub enum ShellFault {
+    /// The line of this number, counted from 1, isn't allowed.
+    #[error("bad line {0}")]
+    BadLine(u64),
+    /// The reader answered an error.
+    #[error("input fault")]
+    Input,
+    /// The writer answered an error, or took nothing.
+    #[error("output fault")]
+    Output,
+    /// A growth was refused, or the numbers of lines, which end at 2^64 - 1, ran out.
+    #[error("no memory")]
+    NoMemory,
+}
+
+impl ShellFault {
+    /// The status that the program ends with: 1 after a bad line, 2 after a fault of the reader or the writer, 3 for want of
+    /// memory.
+    pub fn status(&self) -> u8
+        ensures { result ≡ status_of self.now }
+    {
+        match self {
+            ShellFault::BadLine(_) => 1,
+            ShellFault::Input | ShellFault::Output => 2,
+            ShellFault::NoMemory => 3,
+        }
+    }
+}

@@ -1,0 +1,19 @@
+//! The script of the shell: lines to steps, replies to text.
+#![tactic(auto)]
+
+mod answer;
+mod fault;
+mod heading;
+mod input;
+mod line;
+mod output;
+mod run;
+mod telling;
+#[cfg(test)]
+mod tests;
+mod watch;
+mod words;
+
+pub use fault::ShellFault;
+pub use run::{run_script, run_watched};
+pub use watch::Watch;

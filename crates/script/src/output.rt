@@ -1,0 +1,54 @@
+//! Writing, by a loop over `write`.
+
+ghost use Rattle.std.specs.Prelude.{◌≡◌, ◌<◌, ◌≤◌, [], List, ℕ, length, take, IfOk, OnOk, OnErr, IfErr};
+ghost use Rattle.std.specs.Io.KnownBytes.{Appends};
+ghost use Rattle.script.specs.Pieces.{Gives};
+ghost use Rattle.script.specs.Script.{IsRefused};
+
+use crate::fault::ShellFault;
+use crate::watch::Watch;
+use std::io::{ErrorKind, Write};
+
+// Writes once, and again where the write was interrupted. A writer that takes nothing has refused.
+fn write_some<W: Write>(watch: &mut Watch, writer: &mut W, rest: &[u8]) -> Result<usize, ShellFault>
+    ensures bound { IfOk result (λ n. n ≤ length rest.now) }
+    ensures some { IfOk result (λ n. 0 < n) }
+    ensures bytes { IfOk result (λ n. Appends (W.contents writer.old) (W.contents writer.new) (take n rest.now)) }
+    ensures err { OnErr result (Appends (W.contents writer.old) (W.contents writer.new) []) }
+    ensures fault { IfErr result (λ e. IsRefused e watch.new) }
+{
+    for _ in 0..u64::MAX {
+        match watch.write(writer, rest) {
+            Ok(0) => return Err(ShellFault::Output),
+            Ok(n) => return Ok(n),
+            Err(e) => {
+                if e.kind() != ErrorKind::Interrupted {
+                    return Err(ShellFault::Output);
+                }
+            }
+        }
+    }
+    match watch.write(writer, rest) {
+        Ok(0) | Err(_) => Err(ShellFault::Output),
+        Ok(n) => Ok(n),
+    }
+}
+
+// Writes the text and empties it. After a fault a beginning of it was written.
+pub(crate) fn write_out<W: Write>(
+    watch: &mut Watch,
+    text: &mut Vec<u8>,
+    writer: &mut W,
+) -> Result<(), ShellFault>
+    ensures ok { OnOk result (text.new.items ≡ []) }
+    ensures all { OnOk result (Appends (W.contents writer.old) (W.contents writer.new) text.old.items) }
+    ensures front { (left : List ℕ) × Gives (W.contents writer.old) (W.contents writer.new) text.old.items left }
+    ensures fault { IfErr result (λ e. IsRefused e watch.new) }
+{
+    let mut written = 0;
+    while written < text.len() {
+        written += write_some(watch, writer, &text[written..])?;
+    }
+    text.clear();
+    Ok(())
+}

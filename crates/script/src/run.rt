@@ -1,0 +1,262 @@
+//! A script from its first line to its end.
+
+ghost use Rattle.std.specs.Prelude.{◌≡◌, ◌++◌, List, ℕ, [], Option, IfSome, IfOk, IfErr, OnOk, IsErrAnd, ◌⊎◌};
+ghost use Rattle.std.specs.Bool.{OnTrue, OnFalse};
+ghost use Rattle.std.specs.Io.KnownBytes.{Appends};
+ghost use Rattle.script.specs.Engine.{Settings, AreSettings, Agrees, empty};
+ghost use Rattle.script.specs.Grammar.{Fits, spelling, heading, with_feed};
+ghost use Rattle.script.specs.Script.{Outcome, Begins, IsRefused, IsCaused};
+ghost use Rattle.script.specs.Answers.{Shown, shown_text};
+ghost use Rattle.script.specs.Pieces.{Takes, Gives};
+ghost use Rattle.script.specs.Next.{IsNext};
+ghost use Rattle.script.specs.Steps.{Advances, Does, Uses, MatchesHeading};
+ghost use Rattle.script.specs.declared.line.Line.{Line};
+
+use crate::answer::answer;
+use crate::fault::ShellFault;
+use crate::heading::settings_at;
+use crate::input::{MAX_LINE, Pending};
+use crate::line::{Line, line_at};
+use crate::output::write_out;
+use crate::telling::{tell_ids, tell_no_page, tell_page};
+use crate::watch::Watch;
+use session_core::{Engine, SettingsFault};
+use std::alloc::{AllocError, Global};
+use std::io::{Read, Write};
+
+// The text that is written out though more could be read without waiting.
+const FULL: usize = 32768;
+
+#[derive(Drop)]
+enum Next {
+    Line(usize),
+    Bad,
+    End,
+}
+
+// Finds the next line. Before it reads, it writes what is to be written, so that nobody waits for an answer.
+fn next_line<R: Read, W: Write>(
+    watch: &mut Watch,
+    pending: &mut Pending,
+    reader: &mut R,
+    text: &mut Vec<u8>,
+    writer: &mut W,
+) -> Result<Next, ShellFault>
+    ensures takes { Takes (R.remaining reader.old) (R.remaining reader.new) pending.old pending.new }
+    ensures gives { IfOk result (λ _. Gives (W.contents writer.old) (W.contents writer.new) text.old.items text.new.items) }
+    ensures front { (left : List ℕ) × Gives (W.contents writer.old) (W.contents writer.new) text.old.items left }
+    ensures line { IfOk result (λ next. IsNext next pending.new (R.remaining reader.new)) }
+    ensures fault { IfErr result (λ e. IsRefused e watch.new) }
+{
+    while pending.len() <= MAX_LINE {
+        if let Some(n) = pending.line_feed() {
+            return Ok(if n <= MAX_LINE {
+                Next::Line(n)
+            } else {
+                Next::Bad
+            });
+        }
+        write_out(watch, text, writer)?;
+        if pending.refill(watch, reader)? == 0 {
+            return Ok(if pending.len() == 0 {
+                Next::End
+            } else {
+                Next::Bad
+            });
+        }
+    }
+    match pending.line_feed() {
+        Some(n) if n <= MAX_LINE => Ok(Next::Line(n)),
+        _ => Ok(Next::Bad),
+    }
+}
+
+// Shows a page, or that it isn't there.
+fn show_page(text: &mut Vec<u8>, engine: &Engine, number: u32) -> Result<(), AllocError>
+    ensures { OnOk result ((shown : Option Shown) × (text.new.items ≡ text.old.items ++ with_feed (shown_text number shown))) }
+{
+    match (engine.page(number), engine.page_bits(number)) {
+        (Some(page), Some(bits)) => tell_page(text, number, page, bits),
+        _ => tell_no_page(text),
+    }
+}
+
+// Does what a line asks for, and adds its answer; false where the line isn't allowed.
+fn do_line(
+    alloc: Global,
+    engine: &mut Engine,
+    text: &mut Vec<u8>,
+    line: &[u8],
+) -> Result<bool, AllocError>
+    ensures done { IfOk result (λ b. OnTrue b (Does line.now engine.old engine.new text.old.items text.new.items)) }
+    ensures bad { IfOk result (λ b. OnFalse b ((l : Line) → Fits l → line.now ≡ spelling l → ⊥)) }
+    ensures same { IfOk result (λ b. OnFalse b (text.new.items ≡ text.old.items)) }
+{
+    match line_at(alloc, line)? {
+        Some(Line::Do(step)) => {
+            answer(text, &engine.step(step))?;
+            Ok(true)
+        }
+        Some(Line::Ids) => {
+            let (next, frozen_below) = engine.ids();
+            tell_ids(text, next, frozen_below)?;
+            Ok(true)
+        }
+        Some(Line::Page(number)) => {
+            show_page(text, engine, number)?;
+            Ok(true)
+        }
+        None => Ok(false),
+    }
+}
+
+// Writes what is to be written, and gives the result.
+fn close<W: Write>(
+    watch: &mut Watch,
+    text: &mut Vec<u8>,
+    writer: &mut W,
+    end: Result<(), ShellFault>,
+) -> Result<(), ShellFault>
+    ensures { ((result ≡ end) × Appends (W.contents writer.old) (W.contents writer.new) text.old.items)
+        ⊎ (IsErrAnd result (λ e. IsRefused e watch.new) × Begins (W.contents writer.old) (W.contents writer.new) text.old.items) }
+{
+    match write_out(watch, text, writer) {
+        Ok(()) => end,
+        Err(fault) => Err(fault),
+    }
+}
+
+fn write_if_full<W: Write>(
+    watch: &mut Watch,
+    text: &mut Vec<u8>,
+    writer: &mut W,
+) -> Result<(), ShellFault>
+    ensures ok { OnOk result (Gives (W.contents writer.old) (W.contents writer.new) text.old.items text.new.items) }
+    ensures front { Begins (W.contents writer.old) (W.contents writer.new) text.old.items }
+    ensures fault { IfErr result (λ e. IsRefused e watch.new) }
+{
+    if text.len() < FULL {
+        return Ok(());
+    }
+    write_out(watch, text, writer)
+}
+
+// Does the lines behind the first, up to the end of the script or its first bad line. Lines have numbers of 64 bits: a script that
+// needs more of them ends as where a growth was refused.
+fn run_lines<R: Read, W: Write>(
+    alloc: Global,
+    watch: &mut Watch,
+    engine: &mut Engine,
+    pending: &mut Pending,
+    reader: &mut R,
+    text: &mut Vec<u8>,
+    writer: &mut W,
+) -> Result<(), ShellFault>
+    ensures advances { Advances engine.old (R.remaining reader.old) (W.contents writer.old) (W.contents writer.new) pending.old text.old.items result }
+    ensures caused { IfErr result (λ e. IsCaused e watch.new) }
+{
+    for number in 2..u64::MAX {
+        let next = match next_line(watch, pending, reader, text, writer) {
+            Ok(next) => next,
+            Err(fault) => return Err(fault),
+        };
+        let n = match next {
+            Next::Line(n) => n,
+            Next::Bad => return close(watch, text, writer, Err(ShellFault::BadLine(number))),
+            Next::End => return close(watch, text, writer, Ok(())),
+        };
+        match do_line(alloc, engine, text, &pending.as_slice()[..n]) {
+            Ok(true) => {}
+            Ok(false) => return close(watch, text, writer, Err(ShellFault::BadLine(number))),
+            Err(_) => return Err(watch.no_memory()),
+        }
+        pending.consume(n + 1);
+        if let Err(fault) = write_if_full(watch, text, writer) {
+            return Err(fault);
+        }
+    }
+    Err(watch.no_memory())
+}
+
+// Makes the engine that the first line asks for, and uses that line.
+fn first_line<R: Read, W: Write>(
+    alloc: Global,
+    watch: &mut Watch,
+    pending: &mut Pending,
+    reader: &mut R,
+    text: &mut Vec<u8>,
+    writer: &mut W,
+) -> Result<Engine, ShellFault>
+    requires { (pending.old ≡ []) × (text.old.items ≡ []) }
+    ensures begins { IfOk result (λ e. (s : Settings) × Agrees e empty × AreSettings s
+        × Uses (R.remaining reader.old) (R.remaining reader.new) [] (with_feed (heading s)) pending.new) }
+    ensures quiet { Appends (W.contents writer.old) (W.contents writer.new) [] }
+    ensures none { OnOk result (text.new.items ≡ []) }
+    ensures fails { IfErr result (λ e. MatchesHeading e (R.remaining reader.old)) }
+    ensures caused { IfErr result (λ e. IsCaused e watch.new) }
+{
+    let next = match next_line(watch, pending, reader, text, writer) {
+        Ok(next) => next,
+        Err(fault) => return Err(fault),
+    };
+    let Next::Line(n) = next else {
+        return Err(ShellFault::BadLine(1));
+    };
+    let Some(settings) = settings_at(&pending.as_slice()[..n]) else {
+        return Err(ShellFault::BadLine(1));
+    };
+    match Engine::new(alloc, settings) {
+        Ok(engine) => {
+            pending.consume(n + 1);
+            Ok(engine)
+        }
+        Err(fault) => match fault {
+            SettingsFault::NoMemory => Err(watch.no_memory()),
+            _ => Err(ShellFault::BadLine(1)),
+        },
+    }
+}
+
+/// Reads a script, and writes the answers to its lines, as `run_script` does. The watch says afterwards which call was refused:
+/// a fault of the reader is answered only where its last read answered an error, one of the writer only where its last write
+/// answered an error or took nothing, want of memory only where a growth was refused.
+pub fn run_watched<R: Read, W: Write>(
+    alloc: Global,
+    watch: &mut Watch,
+    reader: &mut R,
+    writer: &mut W,
+) -> Result<(), ShellFault>
+    ensures outcome { IfSome (R.remaining reader.old) (λ input. Outcome result input (W.contents writer.old) (W.contents writer.new)) }
+    ensures caused { IfErr result (λ e. IsCaused e watch.new) }
+{
+    let mut text = Vec::new(alloc);
+    let mut pending = match Pending::new(alloc) {
+        Ok(pending) => pending,
+        Err(_) => return Err(watch.no_memory()),
+    };
+    let mut engine = match first_line(alloc, watch, &mut pending, reader, &mut text, writer) {
+        Ok(engine) => engine,
+        Err(fault) => return Err(fault),
+    };
+    run_lines(
+        alloc,
+        watch,
+        &mut engine,
+        &mut pending,
+        reader,
+        &mut text,
+        writer,
+    )
+}
+
+/// Reads a script, and writes the answers to its lines.
+pub fn run_script<R: Read, W: Write>(
+    alloc: Global,
+    reader: &mut R,
+    writer: &mut W,
+) -> Result<(), ShellFault>
+    ensures { IfSome (R.remaining reader.old) (λ input. Outcome result input (W.contents writer.old) (W.contents writer.new)) }
+{
+    let mut watch = Watch::new();
+    run_watched(alloc, &mut watch, reader, writer)
+}
