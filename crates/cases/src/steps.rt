@@ -1,0 +1,212 @@
+//! Each kind of step with each answer that it may have.
+
+ghost use Rattle.std.specs.Prelude.{◌≡◌};
+
+use page_slots::Page;
+use session_core::{Engine, Refusal, Reply, RowIn, Settings, Step};
+use std::alloc::{AllocError, Global};
+use std::test::Fail;
+
+// What is asked. An insert has a key, and a body of so many bytes.
+#[derive(Clone, Copy, Debug)]
+enum Ask {
+    Begin(u8),
+    Get(u8, u64),
+    Insert(u8, u64, usize),
+    Commit(u8),
+    Abort(u8),
+}
+
+// What has to be answered. A row has the key that was asked for, and a body of so many bytes.
+#[derive(Clone, Copy, Debug)]
+enum Answer {
+    Done,
+    Row(usize),
+    NoRow,
+    Committed,
+    RolledBack,
+    Refused(Refusal),
+}
+
+// The ids end with 6: the next one would be 4 away from the first.
+const SETTINGS: Settings = Settings {
+    max_pages: 1,
+    stop_age: 4,
+    freeze_min_age: 0,
+    first_xid: 3,
+    dead_limit: 64,
+    indexed: [false; 4],
+};
+
+const COLUMNS: [i64; 4] = [5, -6, 0, 9];
+
+const STEPS: [(Ask, Answer); 49] = [
+    (Ask::Get(0, 1), Answer::Refused(Refusal::NotOpen)),
+    (Ask::Insert(0, 1, 0), Answer::Refused(Refusal::NotOpen)),
+    (Ask::Commit(0), Answer::Refused(Refusal::NotOpen)),
+    (Ask::Abort(0), Answer::Refused(Refusal::NotOpen)),
+    (Ask::Begin(64), Answer::Refused(Refusal::NoSuchSession)),
+    (Ask::Get(64, 1), Answer::Refused(Refusal::NoSuchSession)),
+    (
+        Ask::Insert(255, 1, 0),
+        Answer::Refused(Refusal::NoSuchSession),
+    ),
+    (Ask::Commit(64), Answer::Refused(Refusal::NoSuchSession)),
+    (Ask::Abort(64), Answer::Refused(Refusal::NoSuchSession)),
+    (Ask::Begin(0), Answer::Done),
+    (Ask::Begin(0), Answer::Refused(Refusal::AlreadyOpen)),
+    (Ask::Begin(1), Answer::Done),
+    (Ask::Begin(63), Answer::Done),
+    // Id 3, slot 1.
+    (Ask::Insert(0, 1, 0), Answer::Done),
+    (Ask::Insert(0, 1, 0), Answer::Refused(Refusal::AlreadyThere)),
+    (Ask::Insert(0, 2, 1025), Answer::Refused(Refusal::TooLarge)),
+    // The body is looked at before the key.
+    (Ask::Insert(0, 1, 1025), Answer::Refused(Refusal::TooLarge)),
+    (Ask::Insert(1, 1, 0), Answer::Refused(Refusal::Busy(0))),
+    (Ask::Get(1, 1), Answer::NoRow),
+    (Ask::Get(0, 1), Answer::Row(0)),
+    (Ask::Commit(0), Answer::Committed),
+    (Ask::Insert(1, 1, 0), Answer::Refused(Refusal::Conflict)),
+    (Ask::Get(1, 1), Answer::Refused(Refusal::Failed)),
+    (Ask::Insert(1, 9, 1025), Answer::Refused(Refusal::Failed)),
+    (Ask::Begin(1), Answer::Refused(Refusal::AlreadyOpen)),
+    (Ask::Commit(1), Answer::RolledBack),
+    (Ask::Begin(1), Answer::Done),
+    (Ask::Get(1, 1), Answer::Row(0)),
+    (Ask::Get(63, 1), Answer::NoRow),
+    (Ask::Insert(1, 1, 0), Answer::Refused(Refusal::AlreadyThere)),
+    // Id 4, slot 2.
+    (Ask::Insert(1, 3, 1024), Answer::Done),
+    (Ask::Abort(1), Answer::RolledBack),
+    // What was aborted stands in nobody's way. Id 5, slot 3.
+    (Ask::Insert(63, 3, 0), Answer::Done),
+    // The session began before key 1 was committed.
+    (Ask::Insert(63, 1, 0), Answer::Refused(Refusal::Conflict)),
+    (Ask::Abort(63), Answer::RolledBack),
+    (Ask::Begin(2), Answer::Done),
+    // Id 6, slots 4 to 9. Of 8168 bytes 36 go to slots, and 2 * 72 and 7 * 1096 to versions; 316 are left, 4 for a slot.
+    (Ask::Insert(2, 4, 1024), Answer::Done),
+    (Ask::Insert(2, 5, 1024), Answer::Done),
+    (Ask::Insert(2, 6, 1024), Answer::Done),
+    (Ask::Insert(2, 7, 1024), Answer::Done),
+    (Ask::Insert(2, 8, 1024), Answer::Done),
+    (Ask::Insert(2, 9, 1024), Answer::Done),
+    (Ask::Insert(2, 10, 247), Answer::Refused(Refusal::NoRoom)),
+    // 66 and 246 bytes are 312. Slot 10.
+    (Ask::Insert(2, 10, 246), Answer::Done),
+    (Ask::Get(2, 10), Answer::Row(246)),
+    (Ask::Commit(2), Answer::Committed),
+    (Ask::Begin(3), Answer::Done),
+    // There is neither an id nor room.
+    (Ask::Insert(3, 11, 0), Answer::Refused(Refusal::NeedsFreeze)),
+    (Ask::Abort(3), Answer::RolledBack),
+];
+
+fn row_of(alloc: Global, key: u64, length: usize) -> Result<RowIn, AllocError> {
+    let mut body = Vec::with_capacity(alloc, length)?;
+    for _ in 0..length {
+        body.push(0x61)?;
+    }
+    Ok(RowIn {
+        key,
+        cols: COLUMNS,
+        body,
+    })
+}
+
+fn step_of(alloc: Global, ask: Ask) -> Result<Step, AllocError> {
+    Ok(match ask {
+        Ask::Begin(s) => Step::Begin(s),
+        Ask::Get(s, key) => Step::Get(s, key),
+        Ask::Insert(s, key, length) => Step::Insert(s, row_of(alloc, key, length)?),
+        Ask::Commit(s) => Step::Commit(s),
+        Ask::Abort(s) => Step::Abort(s),
+    })
+}
+
+// Where a growth is refused, as a run of this test with a failing allocation has it, the second try meets none.
+fn step_anyhow(alloc: Global, ask: Ask) -> Result<Step, AllocError> {
+    match step_of(alloc, ask) {
+        Ok(step) => Ok(step),
+        Err(_) => step_of(alloc, ask),
+    }
+}
+
+fn is_no_memory(reply: &Reply) -> bool {
+    match reply {
+        Reply::Refused(refusal) => *refusal == Refusal::NoMemory,
+        _ => false,
+    }
+}
+
+fn may_grow(ask: Ask) -> bool {
+    match ask {
+        Ask::Begin(_) | Ask::Insert(_, _, _) => true,
+        Ask::Get(_, _) | Ask::Commit(_) | Ask::Abort(_) => false,
+    }
+}
+
+fn key_of(ask: Ask) -> u64 {
+    match ask {
+        Ask::Get(_, key) => key,
+        _ => 0,
+    }
+}
+
+fn is(reply: &Reply, ask: Ask, answer: Answer) -> bool {
+    match (reply, answer) {
+        (Reply::Done, Answer::Done) => true,
+        (Reply::Committed, Answer::Committed) => true,
+        (Reply::RolledBack, Answer::RolledBack) => true,
+        (Reply::Found(None), Answer::NoRow) => true,
+        (Reply::Found(Some(row)), Answer::Row(length)) => {
+            row.key == key_of(ask)
+                && row.cols == COLUMNS
+                && row.body.len() == length
+                && row.body.iter().all(|byte| *byte == 0x61)
+        }
+        (Reply::Refused(given), Answer::Refused(refusal)) => *given == refusal,
+        _ => false,
+    }
+}
+
+// What is shown of an engine beside its replies: the next id, that below which all are frozen, and how often the page was changed.
+fn shown(engine: &Engine) -> (u32, u32, Option<u64>) {
+    let (next, frozen_below) = engine.ids();
+    (next.0, frozen_below.0, engine.page(0).map(Page::change))
+}
+
+fn new_engine(alloc: Global) -> Option<Engine> {
+    match Engine::new(alloc, SETTINGS) {
+        Ok(engine) => Some(engine),
+        Err(_) => Engine::new(alloc, SETTINGS).ok(),
+    }
+}
+
+// With `rt try --test --fail-alloc N` the step that meets the refusal answers so, changes nothing, and is done when it is asked
+// for again. (The other tests of this crate fail then, as they should: they ask for ample memory.)
+#[test]
+fn every_kind_of_step(rt: HostRuntime) -> Result<(), Fail> {
+    let mut engine = new_engine(rt.alloc()).ok_or("no engine")?;
+    assert!(rt; engine.page(0).is_none());
+    for (ask, answer) in STEPS {
+        let before = shown(&engine);
+        let mut reply = engine.step(step_anyhow(rt.alloc(), ask)?);
+        if is_no_memory(&reply) {
+            assert!(rt; may_grow(ask), "{ask:?}");
+            assert!(rt; shown(&engine) == before, "{ask:?}");
+            reply = engine.step(step_anyhow(rt.alloc(), ask)?);
+        }
+        assert!(rt;
+            is(&reply, ask, answer),
+            "{ask:?} answered {reply:?} and not {answer:?}"
+        );
+    }
+    assert_eq!(rt; shown(&engine), (7, 3, Some(10)));
+    let page = engine.page(0).ok_or("no page")?;
+    assert_eq!(rt; page.slots(), 10);
+    assert_eq!(rt; page.room(), 0);
+    assert!(rt; engine.page(1).is_none());
+    Ok(())
+}
