@@ -1,9 +1,3 @@
 pub mod Places
 pub mod HistoryLemmas
 pub mod RunLemmas
-pub mod Rings
-pub mod Lists
-pub mod Sessions
-pub mod Late
-pub mod Worlds
-pub mod Ordered

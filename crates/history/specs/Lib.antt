@@ -4,6 +4,3 @@ pub mod Cursors
 pub mod Moves
 pub mod Events
 pub mod Laws
-pub mod Order
-pub mod Plain
-pub mod Answers

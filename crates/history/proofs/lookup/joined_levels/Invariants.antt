@@ -1,6 +1,0 @@
-use Rattle.std.proofs.Common.{◌≡◌, take}
-use Rattle.history.specs.World.{joined}
-use Rattle.history.proofs.lookup.joined_levels.Given as goal
-
-abbrev pub invariant-loop-level : goal.invariant-loop-level
-invariant-loop-level l = l.all ≡ joined (take l.level-index l.levels)

@@ -1,8 +1,0 @@
-use Rattle.std.proofs.Common.{◌≡◌, replicate, None}
-use Rattle.history.proofs.plain.PlainHistory.new.Given as goal
-
-abbrev pub invariant-loop : goal.invariant-loop
-invariant-loop l = l.sessions.items ≡ replicate l.counter None
-
-abbrev pub invariant-loop-2 : goal.invariant-loop-2
-invariant-loop-2 l = l.waits.items ≡ replicate l.counter None

@@ -1,0 +1,54 @@
+-- Looking for a late transaction.
+use Rattle.std.proofs.Common.{◌≡◌, ◌≢◌, ℕ, ◌+◌, ◌<◌, ◌≤◌, List, length, get_or, slice_get, Option, Some, None, Bool, true, false, refl, sym, ap, ◌∙◌, subst, arith, inl, inr}
+use Rattle.std.specs.Prelude.{IsSome, IsTrue, ◌↔◌}
+use Rattle.std.specs.Option.{is_some}
+use Rattle.std.proofs.lemmas.Bool.{cases_eq}
+use Rattle.std.proofs.lemmas.Option.{slice_get_read, slice_get_within, same_Some}
+use Rattle.history.specs.History.{Transaction, written, IsLate}
+use Rattle.plain_history.proofs.Sessions.{wrote_some}
+
+pub is_some-true : {A : Type 0} (o : Option A) → IsSome o → is_some o ≡ true
+is_some-true None some = cc
+is_some-true (Some x) some = refl
+
+-- the test of an option that equals another
+pub some_says : {A : Type 0} (o result : Option A) (answer : Bool) → result ≡ o → answer ≡ is_some result → IsTrue answer ↔ IsSome o
+some_says o result answer of_it says =
+    (λ yes. wrote_some o result of_it (sym says ∙ yes), λ some. says ∙ (ap is_some of_it ∙ is_some-true o some))
+
+-- nobody before n, from the start on, wrote the key
+abbrev pub NoneBefore : List Transaction → ℕ → ℕ → ℕ → Type 0
+NoneBefore history start key n = (i : ℕ) (t : Transaction) → i < n → slice_get history i ≡ Some t → start ≤ i → IsSome (written t.writes key) → ⊥
+
+abbrev pub NotHere : List Transaction → ℕ → ℕ → ℕ → Type 0
+NotHere history start key n = (t : Transaction) → slice_get history n ≡ Some t → start ≤ n → IsSome (written t.writes key) → ⊥
+
+pub none_later : (history : List Transaction) (start key n : ℕ) → NoneBefore history start key n → NotHere history start key n → NoneBefore history start key (n + 1)
+none_later history start key n before here i t lt at le wrote = elim (cases_eq i n) [
+  | inl same ↦ here t (subst (λ j. slice_get history j ≡ Some t) same at) (subst (λ j. start ≤ j) same le) wrote
+  | inr differs ↦ before i t (less i n lt differs) at le wrote
+]
+  where
+    less : (a b : ℕ) → a < b + 1 → a ≢ b → a < b
+    less a b lt ne = grind arith
+
+pub none_early : (history : List Transaction) (start key n : ℕ) → n < start → NotHere history start key n
+none_early history start key n early t at le wrote = absurd (omega arith)
+
+pub none_here : (history : List Transaction) (start key n : ℕ) (x : Transaction) (answer : Bool) → n < length history → x ≡ get_or history n x → answer ≡ false
+    → (IsSome (written x.writes key) → IsTrue answer) → NotHere history start key n
+none_here history start key n x answer within is isnt says t at le wrote =
+    let same : x ≡ t = same_Some x t (sym (slice_get_read history (length history) n x refl within is) ∙ at) in
+    let yes : answer ≡ true = says (subst (λ (u : Transaction). IsSome (written u.writes key)) (sym same) wrote) in
+    absurd (let never : false ≡ true = sym isnt ∙ yes in cc)
+
+pub not_late : (history : List Transaction) (start key n : ℕ) → length history ≤ n → NoneBefore history start key n → IsTrue false ↔ IsLate history start key
+not_late history start key n all before = (
+  λ yes. absurd (let never : false ≡ true = yes in cc),
+  λ late. absurd (let within : late.0 < length history = slice_get_within history late.0 late.1 late.3 in before late.0 late.1 (omega arith) late.3 late.2 late.4),
+)
+
+pub late_here : (history : List Transaction) (start key n : ℕ) (x : Transaction) → n < length history → x ≡ get_or history n x → start ≤ n → IsSome (written x.writes key)
+    → IsTrue true ↔ IsLate history start key
+late_here history start key n x within is le wrote =
+    (λ yes. (n, x, le, slice_get_read history (length history) n x refl within is, wrote), λ late. refl)

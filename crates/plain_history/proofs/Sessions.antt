@@ -1,0 +1,87 @@
+-- The sessions of a world as a list.
+use Rattle.std.proofs.Common.{◌≡◌, ◌≢◌, ℕ, ◌+◌, ◌<◌, ◌≤◌, List, length, get_or, Option, Some, None, Bool, true, false, refl, sym, ap, ◌∙◌, subst, arith, inl, inr}
+use Rattle.std.specs.Prelude.{IsSome, IsTrue, ◌↔◌}
+use Rattle.std.specs.Option.{option_map, option_flatten, is_some}
+use Rattle.std.proofs.lemmas.Bool.{cases_eq, cases_lt}
+use Rattle.std.proofs.lemmas.Option.{slice_get_read, slice_get_past, same_Some, none-some}
+use Rattle.plain_history.specs.declared.plain.PlainSession.{PlainSession}
+use Rattle.tuple_header.specs.declared.version.Row.{Row}
+use Rattle.history.specs.World.{OpenSession, own_write}
+use Rattle.plain_history.specs.Plain.{open_of, session_in}
+
+pub session_in-read : (sessions : List (Option PlainSession)) (o : ℕ) (x : Option PlainSession) → o < length sessions → x ≡ get_or sessions o x
+    → session_in sessions o ≡ option_map open_of x
+session_in-read sessions o x within is = ap (λ y. option_map open_of (option_flatten y)) (slice_get_read sessions (length sessions) o x refl within is)
+
+pub session_in-at : (sessions : List (Option PlainSession)) (o : ℕ) (x : Option PlainSession) (m : PlainSession) → o < length sessions → x ≡ get_or sessions o x → x ≡ Some m
+    → session_in sessions o ≡ Some (open_of m)
+session_in-at sessions o x m within is there = session_in-read sessions o x within is ∙ ap (option_map open_of) there
+
+pub session_in-none : (sessions : List (Option PlainSession)) (o : ℕ) (x : Option PlainSession) → o < length sessions → x ≡ get_or sessions o x → x ≡ None
+    → session_in sessions o ≡ None
+session_in-none sessions o x within is there = session_in-read sessions o x within is ∙ ap (option_map open_of) there
+
+pub session_in-past : (sessions : List (Option PlainSession)) (o : ℕ) → length sessions ≤ o → session_in sessions o ≡ None
+session_in-past sessions o past = ap (λ y. option_map open_of (option_flatten y)) (slice_get_past sessions o past)
+
+pub wrote_some : {A : Type 0} (o result : Option A) → result ≡ o → is_some result ≡ true → IsSome o
+wrote_some None result e h = cc
+wrote_some (Some x) result e h = refl
+
+pub wrote_none : {A : Type 0} (o result : Option A) → result ≡ o → is_some result ≡ false → IsSome o → ⊥
+wrote_none o result e h some = cc
+
+-- no other session below o holds the key
+abbrev pub NoneBelow : List (Option PlainSession) → ℕ → ℕ → ℕ → Type 0
+NoneBelow sessions s key n = (o : ℕ) (m : OpenSession) → o < n → o ≢ s → session_in sessions o ≡ Some m → IsSome (own_write m key) → ⊥
+
+pub none_further : (sessions : List (Option PlainSession)) (s key n : ℕ) → NoneBelow sessions s key n
+    → ((m : OpenSession) → n ≢ s → session_in sessions n ≡ Some m → IsSome (own_write m key) → ⊥) → NoneBelow sessions s key (n + 1)
+none_further sessions s key n below here o m lt ne at wrote = elim (cases_eq o n) [
+  | inl same ↦ here m (subst (λ p. p ≢ s) same ne) (subst (λ p. session_in sessions p ≡ Some m) same at) wrote
+  | inr differs ↦ below o m (less o n lt differs) ne at wrote
+]
+  where
+    less : (a b : ℕ) → a < b + 1 → a ≢ b → a < b
+    less a b lt ne = grind arith
+
+pub none_at_all : (sessions : List (Option PlainSession)) (s key n : ℕ) → length sessions ≤ n → NoneBelow sessions s key n
+    → (o : ℕ) (m : OpenSession) → o ≢ s → session_in sessions o ≡ Some m → IsSome (own_write m key) → ⊥
+none_at_all sessions s key n all below o m ne at wrote = elim (cases_lt o n) [
+  | inl lt ↦ below o m lt ne at wrote
+  | inr past ↦ absurd (none-some m (sym (session_in-past sessions o (omega arith)) ∙ at))
+]
+
+-- where the session at n holds nothing
+pub holds_nothing : (sessions : List (Option PlainSession)) (s key n : ℕ) (x : Option PlainSession) → n < length sessions → x ≡ get_or sessions n x
+    → ((p : PlainSession) → x ≡ Some p → n ≢ s → IsSome (own_write (open_of p) key) → ⊥)
+    → (m : OpenSession) → n ≢ s → session_in sessions n ≡ Some m → IsSome (own_write m key) → ⊥
+holds_nothing sessions s key n None within is none m ne at wrote = absurd (none-some m (sym (session_in-read sessions n None within is) ∙ at))
+holds_nothing sessions s key n (Some p) within is none m ne at wrote =
+    none p refl ne (subst (λ q. IsSome (own_write q key)) (same_Some m (open_of p) (sym at ∙ session_in-read sessions n (Some p) within is)) wrote)
+
+-- whether the open session holds the key
+pub holds_says : (session : Option PlainSession) (p : PlainSession) (key : ℕ) (own : Option (Option Row)) (result : Bool) → session ≡ Some p
+    → own ≡ own_write (open_of p) key → result ≡ is_some own
+    → IsTrue result ↔ ((m : OpenSession) × (option_map open_of session ≡ Some m) × IsSome (own_write m key))
+holds_says session p key own result is of_it says = (
+  λ yes. (open_of p, ap (option_map open_of) is, wrote_some (own_write (open_of p) key) own of_it (sym says ∙ yes)),
+  λ (m, at, wrote). says ∙ is_some-true own (subst IsSome (ap (λ n. own_write n key) (same_Some m (open_of p) (sym at ∙ ap (option_map open_of) is)) ∙ sym of_it) wrote),
+)
+  where
+    is_some-true : {A : Type 0} (o : Option A) → IsSome o → is_some o ≡ true
+    is_some-true None some = cc
+    is_some-true (Some x) some = refl
+
+abbrev pub Holding : List (Option PlainSession) → ℕ → ℕ → Type 0
+Holding sessions o key = (m : OpenSession) × (session_in sessions o ≡ Some m) × IsSome (own_write m key)
+
+pub holder_found : (sessions : List (Option PlainSession)) (key o : ℕ) (x : Option PlainSession) → o < length sessions → x ≡ get_or sessions o x
+    → (m : OpenSession) × (option_map open_of x ≡ Some m) × IsSome (own_write m key) → Holding sessions o key
+holder_found sessions key o x within is found = (found.0, session_in-read sessions o x within is ∙ found.1, found.2)
+
+pub holder_not : (sessions : List (Option PlainSession)) (key o : ℕ) (x : Option PlainSession) (result : Bool) → o < length sessions → x ≡ get_or sessions o x
+    → result ≡ false → ((m : OpenSession) × (option_map open_of x ≡ Some m) × IsSome (own_write m key) → IsTrue result)
+    → (m : OpenSession) → session_in sessions o ≡ Some m → IsSome (own_write m key) → ⊥
+holder_not sessions key o x result within is isnt says m at wrote =
+    let yes : result ≡ true = says (m, sym (session_in-read sessions o x within is) ∙ at, wrote) in absurd (let never : false ≡ true = sym isnt ∙ yes in cc)

@@ -1,0 +1,203 @@
+-- What a change of the lists makes of the world.
+use Rattle.std.proofs.Common.{◌≡◌, ℕ, ◌<◌, List, [], ◌∷◌, length, set, slice_get, Option, Some, None, Bool, true, false, cond, nat_eq, refl, sym, ap, ◌∙◌, subst, arith, inl, inr, replicate, get_or, map, not, take, drop, max}
+use Rattle.std.specs.Prelude.{zero, suc, Result, Ok, Err, OnOk, OnErr, IfOk, IsTrue}
+use mathlib.Core.Path.{fun_ext}
+use Rattle.std.specs.Option.{option_map, option_flatten}
+use Rattle.std.proofs.lemmas.Bool.{cases_eq}
+use Rattle.plain_history.specs.declared.plain.PlainSession.{PlainSession}
+use Rattle.history.specs.History.{Transaction}
+use Rattle.history.specs.World.{OpenSession, World, Cursor, Order, empty}
+use Rattle.history.specs.Cursors.{kept_where}
+use Rattle.history.specs.Moves.{stepped, put, change, blocked_by, awaited_no_more, aborted, transaction_of, appended, committed_by, past, with_taken}
+use Rattle.tuple_header.specs.declared.version.Row.{Row}
+use Rattle.plain_history.specs.declared.cursor.PlainOrder.{PlainOrder}
+use Rattle.plain_history.specs.declared.cursor.PlainOrder.TheVariants.{Index, Heap, Keys}
+use Rattle.plain_history.specs.declared.refusal.Handed.{Handed}
+use Rattle.plain_history.specs.declared.refusal.Handed.TheVariants.{Rows, Keys as HandedKeys, End}
+use Rattle.history.specs.Cursors.{keys_of, HandsOut, HandsOutKeys}
+use Rattle.plain_history.specs.Order.{KeptCursor, IsInOrder, index_of, row_in}
+use Rattle.plain_history.proofs.Ordered.{row_in-drop, next_rows}
+use Rattle.plain_history.specs.Answers.{with_transaction, HandsFrom, HandsOn}
+use Rattle.plain_history.specs.Plain.{Plain, open_of, order_of, cursor_of, session_in, wait_in, world_of}
+use Rattle.history.proofs.Places.{slice_get-set_same, slice_get-set_other}
+use Rattle.plain_history.proofs.Sessions.{session_in-read}
+use Rattle.history.proofs.HistoryLemmas.{at_same, at_other}
+
+abbrev world : List Transaction → (ℕ → Option OpenSession) → (ℕ → Option ℕ) → World
+world history session waits = record { history = history; session = session; waits_for = waits }
+
+same_world : (history : List Transaction) (sessions sessions' : ℕ → Option OpenSession) (waits waits' : ℕ → Option ℕ) → ((s : ℕ) → sessions s ≡ sessions' s) → ((s : ℕ) → waits s ≡ waits' s)
+    → world history sessions waits ≡ world history sessions' waits'
+same_world history sessions sessions' waits waits' same same' =
+    ap (λ f. world history f waits) (fun_ext same) ∙ ap (world history sessions') (fun_ext same')
+
+-- one place of the lists
+session_in-set : (sessions : List (Option PlainSession)) (s : ℕ) (x : Option PlainSession) → s < length sessions → (t : ℕ)
+    → session_in (set sessions s x) t ≡ cond (nat_eq t s) (option_map open_of x) (session_in sessions t)
+session_in-set sessions s x within t = elim (cases_eq t s) [
+  | inl same ↦ subst (λ u. session_in (set sessions s x) u ≡ cond (nat_eq u s) (option_map open_of x) (session_in sessions u)) (sym same)
+      (ap (λ y. option_map open_of (option_flatten y)) (slice_get-set_same sessions s x within) ∙ sym (at_same s (option_map open_of x) (session_in sessions s)))
+  | inr ne ↦ ap (λ y. option_map open_of (option_flatten y)) (slice_get-set_other sessions s t x ne) ∙ sym (at_other t s (option_map open_of x) (session_in sessions t) ne)
+]
+
+wait_in-set : (waits : List (Option ℕ)) (s : ℕ) (x : Option ℕ) → s < length waits → (t : ℕ) → wait_in (set waits s x) t ≡ cond (nat_eq t s) x (wait_in waits t)
+wait_in-set waits s x within t = elim (cases_eq t s) [
+  | inl same ↦ subst (λ u. wait_in (set waits s x) u ≡ cond (nat_eq u s) x (wait_in waits u)) (sym same)
+      (ap option_flatten (slice_get-set_same waits s x within) ∙ sym (at_same s x (wait_in waits s)))
+  | inr ne ↦ ap option_flatten (slice_get-set_other waits s t x ne) ∙ sym (at_other t s x (wait_in waits t) ne)
+]
+
+pub world-step : (p : Plain) (s : ℕ) → s < length p.waits → world_of (record p { waits = set p.waits s None }) ≡ stepped (world_of p) s
+world-step p s within = same_world p.history (session_in p.sessions) (session_in p.sessions) (wait_in (set p.waits s None)) (λ t. cond (nat_eq t s) None (wait_in p.waits t))
+    (λ t. refl) (wait_in-set p.waits s None within)
+
+pub world-wait : (p : Plain) (s o : ℕ) → s < length p.waits → world_of (record p { waits = set p.waits s (Some o) }) ≡ blocked_by (world_of p) s o
+world-wait p s o within = same_world p.history (session_in p.sessions) (session_in p.sessions) (wait_in (set p.waits s (Some o))) (λ t. cond (nat_eq t s) (Some o) (wait_in p.waits t))
+    (λ t. refl) (wait_in-set p.waits s (Some o) within)
+
+pub world-put : (p : Plain) (s : ℕ) (x : Option PlainSession) → s < length p.sessions → s < length p.waits
+    → world_of (record p { sessions = set p.sessions s x; waits = set p.waits s None }) ≡ put (world_of p) s (option_map open_of x)
+world-put p s x within within' = same_world p.history (session_in (set p.sessions s x)) (λ t. cond (nat_eq t s) (option_map open_of x) (session_in p.sessions t))
+    (wait_in (set p.waits s None)) (λ t. cond (nat_eq t s) None (wait_in p.waits t)) (session_in-set p.sessions s x within) (wait_in-set p.waits s None within')
+
+pub world-change : (p : Plain) (s : ℕ) (x y : Option PlainSession) (f : OpenSession → OpenSession) → s < length p.sessions → s < length p.waits
+    → option_map open_of y ≡ option_map f (option_map open_of x) → x ≡ get_or p.sessions s x
+    → world_of (record p { sessions = set p.sessions s y; waits = set p.waits s None }) ≡ change (world_of p) s f
+world-change p s x y f within within' becomes is =
+    world-put p s y within within' ∙ ap (put (world_of p) s) (becomes ∙ ap (option_map f) (sym (session_in-read p.sessions s x within is)))
+
+pub world-same : (p : Plain) (s : ℕ) (x y : Option PlainSession) → s < length p.sessions → s < length p.waits
+    → option_map open_of y ≡ option_map open_of x → x ≡ get_or p.sessions s x
+    → world_of (record p { sessions = set p.sessions s y; waits = set p.waits s None }) ≡ stepped (world_of p) s
+world-same p s x y within within' stays is =
+    same_world p.history (session_in (set p.sessions s y)) (session_in p.sessions) (wait_in (set p.waits s None)) (λ t. cond (nat_eq t s) None (wait_in p.waits t))
+    (λ t. session_in-set p.sessions s y within t ∙ unchanged t) (wait_in-set p.waits s None within')
+  where
+    unchanged : (t : ℕ) → cond (nat_eq t s) (option_map open_of y) (session_in p.sessions t) ≡ session_in p.sessions t
+    unchanged t = elim (cases_eq t s) [
+      | inl same ↦ subst (λ u. cond (nat_eq u s) (option_map open_of y) (session_in p.sessions u) ≡ session_in p.sessions u) (sym same)
+          (at_same s (option_map open_of y) (session_in p.sessions s) ∙ (stays ∙ sym (session_in-read p.sessions s x within is)))
+      | inr ne ↦ at_other t s (option_map open_of y) (session_in p.sessions t) ne
+    ]
+
+wait_in-map : (f : Option ℕ → Option ℕ) (waits : List (Option ℕ)) (t : ℕ) → f None ≡ None → wait_in (map f waits) t ≡ f (wait_in waits t)
+wait_in-map f [] t none = sym none
+wait_in-map f (x ∷ waits) zero none = refl
+wait_in-map f (x ∷ waits) (suc t) none = wait_in-map f waits t none
+
+pub world-awake : (p : Plain) (s : ℕ) → world_of (record p { waits = map (kept_where (λ o. not (nat_eq o s))) p.waits }) ≡ awaited_no_more (world_of p) s
+world-awake p s = same_world p.history (session_in p.sessions) (session_in p.sessions) (wait_in (map (kept_where (λ o. not (nat_eq o s))) p.waits)) (λ t. kept_where (λ o. not (nat_eq o s)) (wait_in p.waits t))
+    (λ t. refl) (λ t. wait_in-map (kept_where (λ o. not (nat_eq o s))) p.waits t refl)
+
+-- no session and no wait
+session_in-none : (n t : ℕ) → session_in (replicate n None) t ≡ None
+session_in-none n t = ap (option_map open_of) (flat n t)
+  where
+    flat : {A : Type 0} (n t : ℕ) → option_flatten {T = A} (slice_get (replicate n None) t) ≡ None
+    flat zero t = refl
+    flat (suc n) zero = refl
+    flat (suc n) (suc t) = flat n t
+
+wait_in-none : (n t : ℕ) → wait_in (replicate n None) t ≡ None
+wait_in-none zero t = refl
+wait_in-none (suc n) zero = refl
+wait_in-none (suc n) (suc t) = wait_in-none n t
+
+pub world-empty : (n m : ℕ) → world_of (record { history = []; sessions = replicate n None; waits = replicate m None }) ≡ empty
+world-empty n m = same_world [] (session_in (replicate n None)) (λ t. None) (wait_in (replicate m None)) (λ t. None) (session_in-none n) (wait_in-none m)
+
+-- The same, for a list state that is seen as q.
+
+-- a step by which the session changes, or stays as it is
+pub changes : (p q : Plain) (s : ℕ) (x y : Option PlainSession) (f : OpenSession → OpenSession) → p ≡ q → s < length p.sessions → s < length p.waits
+    → x ≡ get_or p.sessions s x → option_map open_of y ≡ option_map f (option_map open_of x)
+    → world_of (record p { sessions = set p.sessions s y; waits = set p.waits s None }) ≡ change (world_of q) s f
+changes p q s x y f seen within within' is becomes = world-change p s x y f within within' becomes is ∙ ap (λ (q : Plain). change (world_of q) s f) seen
+
+pub stays_so : (p q : Plain) (s : ℕ) (x y : Option PlainSession) → p ≡ q → s < length p.sessions → s < length p.waits
+    → x ≡ get_or p.sessions s x → option_map open_of y ≡ option_map open_of x
+    → world_of (record p { sessions = set p.sessions s y; waits = set p.waits s None }) ≡ stepped (world_of q) s
+stays_so p q s x y seen within within' is stays = world-same p s x y within within' stays is ∙ ap (λ (q : Plain). stepped (world_of q) s) seen
+
+pub on_ok : {A E P Q : Type 0} (r : Result A E) → (P → Q) → OnOk r P → OnOk r Q
+on_ok (Ok x) f p = f p
+on_ok (Err e) f p = p
+
+pub on_err : {A E P Q : Type 0} (r : Result A E) → (P → Q) → OnErr r P → OnErr r Q
+on_err (Ok x) f p = p
+on_err (Err e) f p = f p
+
+pub get_or_twice : {A : Type 0} (xs : List A) (i : ℕ) (d : A) → get_or xs i d ≡ get_or xs i (get_or xs i d)
+get_or_twice [] i d = refl
+get_or_twice (x ∷ xs) zero d = refl
+get_or_twice (x ∷ xs) (suc i) d = get_or_twice xs i d
+
+-- a transaction joins the history, and its session ends
+pub commits_so : (w mid after : World) (s : ℕ) (t : Transaction) (m : OpenSession) → w.session s ≡ Some m → t ≡ transaction_of m
+    → mid ≡ with_transaction w t → after ≡ aborted mid s → after ≡ committed_by w s
+commits_so w mid after s t m at is appends ends =
+    ends ∙ (ap (λ v. aborted v s) (appends ∙ ap (with_transaction w) is) ∙ ap (λ n. record (aborted w s) { history = appended w.history n }) (sym at))
+
+pub if_ok : {A E : Type 0} {P Q : A → Type 0} (r : Result A E) → ((x : A) → P x → Q x) → IfOk r P → IfOk r Q
+if_ok (Ok x) f p = f x p
+if_ok (Err e) f p = p
+
+-- What a cursor hands out.
+
+pub not_empty : {A : Type 0} (xs : List A) (answer : Bool) → (xs ≡ [] → IsTrue answer) → answer ≡ false → 0 < length xs
+not_empty [] answer says isnt = let yes : answer ≡ true = says refl in absurd (let never : false ≡ true = sym isnt ∙ yes in cc)
+not_empty (x ∷ xs) answer says isnt = omega arith
+
+abbrev kept : Order → (ℕ → Option Row) → Cursor
+kept order rest = record { order = order; rest = rest }
+
+moves_past : (index n : ℕ) (order : Order) (rows : List Row) → IsInOrder index rows → kept order (row_in (drop n rows)) ≡ past (keys_of (take n rows)) (kept order (row_in rows))
+moves_past index n order rows in_order = ap (kept order) (fun_ext (row_in-drop index n rows in_order))
+
+moved : (order order' : PlainOrder) (rest rest' : List Row) (count : ℕ) → IsInOrder (index_of order) rest → order' ≡ order → rest' ≡ drop count rest
+    → cursor_of (record { order = order'; rest = rest' }) ≡ past (keys_of (take count rest)) (cursor_of (record { order = order; rest = rest }))
+moved order order' rest rest' count in_order same is =
+    ap (λ o. kept (order_of o) (row_in rest')) same ∙ (ap (λ l. kept (order_of order) (row_in l)) is ∙ moves_past (index_of order) count (order_of order) rest in_order)
+
+hands_out : (order : PlainOrder) (rest : List Row) (n count : ℕ) → (order ≡ Keys → ⊥) → IsInOrder (index_of order) rest → 0 < length rest → count ≡ max 1 n
+    → HandsOut (order_of order) n (row_in rest) (take count rest)
+hands_out (Index index) rest n count isnt in_order some is = next_rows index n count rest in_order some is
+hands_out Heap rest n count isnt in_order some is = (next_rows 0 n count rest in_order some is).part
+hands_out Keys rest n count isnt in_order some is = absurd (isnt refl)
+
+hands_out_keys : (order : PlainOrder) (rest : List Row) (n count : ℕ) → order ≡ Keys → IsInOrder (index_of order) rest → 0 < length rest → count ≡ max 1 n
+    → HandsOutKeys (order_of order) n (row_in rest) (keys_of (take count rest))
+hands_out_keys (Index index) rest n count is_keys in_order some is = absurd (cc)
+hands_out_keys Heap rest n count is_keys in_order some is = absurd (cc)
+hands_out_keys Keys rest n count is_keys in_order some is = (take count rest, next_rows 0 n count rest in_order some is, refl)
+
+pub hands-rows : (old new : KeptCursor) (n count : ℕ) (rows : List Row) → (old.order ≡ Keys → ⊥) → IsInOrder (index_of old.order) old.rest → 0 < length old.rest → count ≡ max 1 n
+    → rows ≡ take count old.rest → (new.order ≡ old.order) × (new.rest ≡ drop count old.rest)
+    → HandsOut (order_of old.order) n (row_in old.rest) rows × (cursor_of new ≡ past (keys_of rows) (cursor_of old))
+hands-rows old new n count rows isnt in_order some is rows_are rest_is =
+    subst (λ l. HandsOut (order_of old.order) n (row_in old.rest) l × (cursor_of new ≡ past (keys_of l) (cursor_of old))) (sym rows_are)
+    (hands_out old.order old.rest n count isnt in_order some is, moved old.order new.order old.rest new.rest count in_order rest_is.0 rest_is.1)
+
+pub hands-keys : (old new : KeptCursor) (n count : ℕ) (keys : List ℕ) → old.order ≡ Keys → IsInOrder (index_of old.order) old.rest → 0 < length old.rest → count ≡ max 1 n
+    → keys ≡ keys_of (take count old.rest) → (new.order ≡ old.order) × (new.rest ≡ drop count old.rest)
+    → HandsOutKeys (order_of old.order) n (row_in old.rest) keys × (cursor_of new ≡ past keys (cursor_of old))
+hands-keys old new n count keys is_keys in_order some is keys_are rest_is =
+    subst (λ l. HandsOutKeys (order_of old.order) n (row_in old.rest) l × (cursor_of new ≡ past l (cursor_of old))) (sym keys_are)
+    (hands_out_keys old.order old.rest n count is_keys in_order some is, moved old.order new.order old.rest new.rest count in_order rest_is.0 rest_is.1)
+
+-- and what the world is then
+pub hands_on : (p q : Plain) (s : ℕ) (x y : Option PlainSession) (n : ℕ) (handed : Handed) → p ≡ q → s < length p.sessions → s < length p.waits → x ≡ get_or p.sessions s x
+    → HandsFrom n handed (option_map open_of x) (option_map open_of y) → (m : OpenSession) → (world_of q).session s ≡ Some m
+    → HandsOn (world_of q) s n m handed (world_of (record p { sessions = set p.sessions s y; waits = set p.waits s None }))
+hands_on p q s x y n (Rows rows) seen within within' is hands m at = (
+  λ c there. hands.0 m c (sym (session_in-read p.sessions s x within is) ∙ (ap (λ (r : Plain). session_in r.sessions s) seen ∙ at)) there,
+  changes p q s x y (with_taken (keys_of rows.items)) seen within within' is hands.1,
+)
+hands_on p q s x y n (HandedKeys keys) seen within within' is hands m at = (
+  λ c there. hands.0 m c (sym (session_in-read p.sessions s x within is) ∙ (ap (λ (r : Plain). session_in r.sessions s) seen ∙ at)) there,
+  changes p q s x y (with_taken keys.items) seen within within' is hands.1,
+)
+hands_on p q s x y n End seen within within' is hands m at = (
+  λ c there. hands.0 m c (sym (session_in-read p.sessions s x within is) ∙ (ap (λ (r : Plain). session_in r.sessions s) seen ∙ at)) there,
+  stays_so p q s x y seen within within' is hands.1,
+)

@@ -1,0 +1,61 @@
+-- The plain program's cursors: their rows as lists in the order of an index.
+use Rattle.std.specs.Prelude.{◌≡◌, ◌≢◌, ℕ, ◌==◌, ◌&&◌, ◌||◌, nat_lt, int_lt, int_le, if◌then◌else◌, Bool, true, List, [], ◌∷◌, Option, None, find}
+use Rattle.std.specs.List.{list_any}
+use Rattle.std.specs.Option.{option_or}
+use Rattle.std.specs.Ordering.{int_eq}
+use Rattle.tuple_header.specs.declared.version.Row.{Row}
+use Rattle.plain_history.specs.declared.cursor.PlainOrder.{PlainOrder}
+use Rattle.plain_history.specs.declared.cursor.PlainOrder.TheVariants.{Index, Heap, Keys}
+use Rattle.plain_history.specs.declared.cursor.Bounds.{Bounds}
+use Rattle.plain_history.specs.declared.cursor.Bounds.TheVariants.{All, Within}
+use Rattle.history.specs.Cursors.{value_in, kept_where}
+
+pub record KeptCursor : Type 0 where
+  pub order : PlainOrder
+  pub rest : List Row
+
+-- the index in whose order the rows stand; those of a heap cursor may stand in any
+abbrev pub index_of : PlainOrder → ℕ
+index_of (Index index) = index
+index_of Heap = 0
+index_of Keys = 0
+
+-- of each key its row in the list
+abbrev pub row_in : List Row → ℕ → Option Row
+row_in rows key = find (λ row. row.key == key) rows
+
+abbrev pub comes_before : ℕ → Row → Row → Bool
+comes_before index a b =
+    int_lt (value_in index a) (value_in index b) || (int_eq (value_in index a) (value_in index b) && nat_lt a.key b.key)
+
+abbrev pub ComesBeforeAll : ℕ → Row → List Row → Type 0
+ComesBeforeAll index row [] = Unit {0}
+ComesBeforeAll index row (other ∷ rows) = (comes_before index row other ≡ true) × ComesBeforeAll index row rows
+
+-- each row comes before those behind it, and none of them has its key
+abbrev pub IsInOrder : ℕ → List Row → Type 0
+IsInOrder index [] = Unit {0}
+IsInOrder index (row ∷ rows) = ComesBeforeAll index row rows × (row_in rows row.key ≡ None) × IsInOrder index rows
+
+-- the row put before the first that it comes before
+abbrev pub placed : ℕ → Row → List Row → List Row
+placed index row [] = row ∷ []
+placed index row (other ∷ rows) = if comes_before index row other then row ∷ other ∷ rows else other ∷ placed index row rows
+
+abbrev pub is_wanted : Bounds → ℕ → Row → Bool
+is_wanted All index row = true
+is_wanted (Within low high) index row = int_le low (value_in index row) && int_le (value_in index row) high
+
+abbrev pub wanted : Bounds → ℕ → (ℕ → Option Row) → ℕ → Option Row
+wanted bounds index rows key = kept_where (is_wanted bounds index) (rows key)
+
+abbrev pub has : List ℕ → ℕ → Bool
+has keys key = list_any (λ k. k == key) keys
+
+-- the row of the key is there too
+abbrev pub Adds : (ℕ → Option Row) → ℕ → List Row → List Row → Type 0
+Adds rows key old new = (row_in new key ≡ option_or (row_in old key) (rows key)) × ((k : ℕ) → k ≢ key → row_in new k ≡ row_in old k)
+
+-- of these keys, and of no other, the list has the rows
+abbrev pub Covers : (ℕ → Option Row) → List Row → List ℕ → Type 0
+Covers rows list keys = (key : ℕ) → row_in list key ≡ (if has keys key then rows key else None)

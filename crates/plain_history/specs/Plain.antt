@@ -1,0 +1,44 @@
+-- The world that the plain program's lists stand for.
+use Rattle.std.specs.Prelude.{ℕ, List, ◌∷◌, Option, IfSome, ◌≡◌, slice_get}
+use Rattle.std.specs.Option.{option_map, option_flatten}
+use Rattle.tuple_header.specs.declared.version.Row.{Row}
+use Rattle.plain_history.specs.declared.cursor.PlainOrder.{PlainOrder}
+use Rattle.plain_history.specs.declared.cursor.PlainOrder.TheVariants.{Index, Heap, Keys}
+use Rattle.plain_history.specs.Order.{KeptCursor, row_in}
+use Rattle.plain_history.specs.declared.plain.PlainSession.{PlainSession}
+use Rattle.history.specs.History.{Transaction}
+use Rattle.history.specs.World.{World, OpenSession, Cursor, Order, by_index, by_heap, by_keys}
+
+pub record Plain : Type 0 where
+  pub history : List Transaction
+  pub sessions : List (Option PlainSession)
+  pub waits : List (Option ℕ)
+
+abbrev pub order_of : PlainOrder → Order
+order_of (Index index) = by_index index
+order_of Heap = by_heap
+order_of Keys = by_keys
+
+-- the row, if there is one, is of the key
+abbrev pub IsOf : ℕ → Option Row → Type 0
+IsOf key row = IfSome row (λ r. r.key ≡ key)
+
+abbrev pub cursor_of : KeptCursor → Cursor
+cursor_of c = record { order = order_of c.order; rest = row_in c.rest }
+
+abbrev pub open_of : PlainSession → OpenSession
+open_of m = record {
+  start = m.start;
+  levels = m.newest ∷ m.older.items;
+  failed = m.failed;
+  cursor = option_map cursor_of m.cursor;
+}
+
+abbrev pub session_in : List (Option PlainSession) → ℕ → Option OpenSession
+session_in sessions s = option_map open_of (option_flatten (slice_get sessions s))
+
+abbrev pub wait_in : List (Option ℕ) → ℕ → Option ℕ
+wait_in waits s = option_flatten (slice_get waits s)
+
+abbrev pub world_of : Plain → World
+world_of p = record { history = p.history; session = session_in p.sessions; waits_for = wait_in p.waits }

@@ -1,0 +1,175 @@
+//! What a step changes: one session, the waits, or the history.
+
+ghost use Rattle.history.specs.Cursors.{kept_where};
+ghost use Rattle.std.specs.Prelude.{◌==◌, map, not, ◌≡◌, ◌∷◌, ◌++◌, [], OnOk, OnErr, Some, None};
+ghost use Rattle.std.specs.Option.{option_map};
+ghost use Rattle.history.specs.World.{OpenSession};
+ghost use Rattle.history.specs.Moves.{stepped, put, change, as_failed, with_write, with_savepoint, to_savepoint, without_savepoint, rolled_back_to, blocked_by, awaited_no_more, aborted, begun, without_cursor};
+ghost use Rattle.plain_history.specs.Plain.{open_of, world_of};
+ghost use Rattle.plain_history.specs.Answers.{Becomes, Stays, with_transaction, after_refusal};
+
+use crate::cursor::PlainCursor;
+use crate::plain::{PlainHistory, PlainLevel, PlainSession, PlainTransaction, PlainWrite};
+use crate::refusal::Refused;
+use std::alloc::{AllocError, Global};
+use std::mem;
+
+fn fail(session: &mut Option<PlainSession>)
+    ensures { Becomes session.old session.new as_failed }
+{
+    if let Some(session) = session {
+        session.failed = true;
+    }
+}
+
+fn write(session: &mut Option<PlainSession>, write: PlainWrite) -> Result<(), AllocError>
+    ensures ok { OnOk result (Becomes session.old session.new (with_write write)) }
+    ensures err { OnErr result (Stays session.old session.new) }
+{
+    if let Some(session) = session {
+        session.newest.push(write)?;
+    }
+    Ok(())
+}
+
+fn save(session: &mut Option<PlainSession>, alloc: Global) -> Result<(), AllocError>
+    ensures ok { OnOk result (Becomes session.old session.new with_savepoint) }
+    ensures err { OnErr result (Stays session.old session.new) }
+{
+    if let Some(session) = session {
+        session.older.insert(0, PlainLevel::new(alloc))?;
+        let level = mem::replace(&mut session.newest, PlainLevel::new(alloc));
+        session.older[0] = level;
+    }
+    Ok(())
+}
+
+fn roll_back(session: &mut Option<PlainSession>)
+    ensures { Becomes session.old session.new to_savepoint }
+{
+    if let Some(session) = session {
+        session.newest.clear();
+        session.failed = false;
+    }
+}
+
+fn release(session: &mut Option<PlainSession>) -> Result<(), AllocError>
+    ensures ok { OnOk result (Becomes session.old session.new without_savepoint) }
+    ensures err { OnErr result (Stays session.old session.new) }
+{
+    if let Some(session) = session {
+        session.join_newest()?;
+    }
+    Ok(())
+}
+
+fn close(session: &mut Option<PlainSession>)
+    ensures { Becomes session.old session.new without_cursor }
+{
+    if let Some(session) = session {
+        session.cursor = None;
+    }
+}
+
+impl PlainHistory {
+    /// The session's own wait ends.
+    pub(crate) fn end_wait(&mut self, s: u8)
+        ensures { world_of self.new ≡ stepped (world_of self.old) s }
+    {
+        self.waits[s as usize] = None;
+    }
+
+    pub(crate) fn wait_for(&mut self, s: u8, o: u8)
+        ensures { world_of self.new ≡ blocked_by (world_of self.old) s o }
+    {
+        self.waits[s as usize] = Some(o);
+    }
+
+    /// Nobody waits for the session any more.
+    pub(crate) fn wake(&mut self, s: u8)
+        ensures { world_of self.new ≡ awaited_no_more (world_of self.old) s }
+    {
+        wake_all(&mut self.waits, s);
+    }
+
+    pub(crate) fn put(&mut self, s: u8, session: Option<PlainSession>)
+        ensures { world_of self.new ≡ put (world_of self.old) s (option_map open_of session) }
+    {
+        self.waits[s as usize] = None;
+        self.sessions[s as usize] = session;
+    }
+
+    pub(crate) fn fail(&mut self, s: u8)
+        ensures { world_of self.new ≡ change (world_of self.old) s as_failed }
+    {
+        self.waits[s as usize] = None;
+        fail(&mut self.sessions[s as usize]);
+    }
+
+    pub(crate) fn write(&mut self, s: u8, new: PlainWrite) -> Result<(), AllocError>
+        ensures ok { OnOk result (world_of self.new ≡ change (world_of self.old) s (with_write new)) }
+        ensures err { OnErr result (world_of self.new ≡ stepped (world_of self.old) s) }
+    {
+        self.waits[s as usize] = None;
+        write(&mut self.sessions[s as usize], new)
+    }
+
+    pub(crate) fn save(&mut self, s: u8) -> Result<(), AllocError>
+        ensures ok { OnOk result (world_of self.new ≡ change (world_of self.old) s with_savepoint) }
+        ensures err { OnErr result (world_of self.new ≡ stepped (world_of self.old) s) }
+    {
+        self.waits[s as usize] = None;
+        save(&mut self.sessions[s as usize], self.alloc)
+    }
+
+    /// What the newest savepoint's level has is dropped.
+    pub(crate) fn roll_back(&mut self, s: u8)
+        ensures { world_of self.new ≡ change (world_of self.old) s to_savepoint }
+    {
+        self.waits[s as usize] = None;
+        roll_back(&mut self.sessions[s as usize]);
+    }
+
+    pub(crate) fn join(&mut self, s: u8) -> Result<(), AllocError>
+        ensures ok { OnOk result (world_of self.new ≡ change (world_of self.old) s without_savepoint) }
+        ensures err { OnErr result (world_of self.new ≡ stepped (world_of self.old) s) }
+    {
+        self.waits[s as usize] = None;
+        release(&mut self.sessions[s as usize])
+    }
+
+    /// The cursor is closed.
+    pub(crate) fn shut(&mut self, s: u8)
+        ensures { world_of self.new ≡ change (world_of self.old) s without_cursor }
+    {
+        self.waits[s as usize] = None;
+        close(&mut self.sessions[s as usize]);
+    }
+
+    /// The transaction joins the history.
+    pub(crate) fn append(&mut self, transaction: PlainTransaction) -> Result<(), AllocError>
+        ensures ok { OnOk result (world_of self.new ≡ with_transaction (world_of self.old) transaction) }
+        ensures err { OnErr result (world_of self.new ≡ world_of self.old) }
+    {
+        self.history.push(transaction)?;
+        Ok(())
+    }
+}
+
+fn wake_all(waits: &mut [Option<u8>], s: u8)
+    ensures { waits.new ≡ map (kept_where (λ o. not (o == s))) waits.old }
+{
+    for wait in waits.iter_mut() {
+        wake_one(wait, s);
+    }
+}
+
+fn wake_one(wait: &mut Option<u8>, s: u8)
+    ensures { wait.new ≡ kept_where (λ o. not (o == s)) wait.old }
+{
+    if let Some(o) = *wait {
+        if o == s {
+            *wait = None;
+        }
+    }
+}

@@ -1,0 +1,107 @@
+//! The tests of a step, in their order.
+
+ghost use Rattle.std.specs.Prelude.{◌≡◌, ◌<◌, ◌≤◌, OnOk, IfErr, IfOk, IsSome, Some, None, length};
+ghost use Rattle.history.specs.World.{OpenSession, IsReady, IsWriter, MayWrite, view};
+ghost use Rattle.plain_history.specs.Plain.{open_of, world_of};
+ghost use Rattle.plain_history.specs.Answers.{RefusesOpen, RefusesReady, RefusesWriter, RefusesInsert, RefusesReplace, Meets, MayInsert, MayReplace};
+
+use crate::lookup::{closes_ring, holder, is_late};
+use crate::plain::{PlainHistory, PlainSession};
+use crate::refusal::Refused;
+
+impl PlainHistory {
+    /// The session, which is open.
+    pub(crate) fn open_session(&self, s: u8) -> Result<&PlainSession, Refused>
+        ensures within { OnOk result (s < 64) }
+        ensures ok { IfOk result (λ m. ((world_of self.now).session s ≡ Some (open_of m.now))) }
+        ensures err { IfErr result (λ why. RefusesOpen (world_of self.now) s why) }
+    {
+        if s >= 64 {
+            return Err(Refused::NoSuchSession);
+        }
+        match &self.sessions[s as usize] {
+            Some(session) => Ok(session),
+            None => Err(Refused::NotOpen),
+        }
+    }
+
+    /// The session, which has not failed.
+    pub(crate) fn ready_session(&self, s: u8) -> Result<&PlainSession, Refused>
+        ensures ok { IfOk result (λ m. IsReady (world_of self.now) s (open_of m.now)) }
+        ensures err { IfErr result (λ why. RefusesReady (world_of self.now) s why) }
+    {
+        match self.open_session(s) {
+            Ok(session) => {
+                if session.failed {
+                    Err(Refused::Failed)
+                } else {
+                    Ok(session)
+                }
+            }
+            Err(why) => Err(why),
+        }
+    }
+
+    /// The session, which has no cursor either.
+    pub(crate) fn writer(&self, s: u8) -> Result<&PlainSession, Refused>
+        ensures ok { IfOk result (λ m. IsWriter (world_of self.now) s (open_of m.now)) }
+        ensures err { IfErr result (λ why. RefusesWriter (world_of self.now) s why) }
+    {
+        match self.ready_session(s) {
+            Ok(session) => match &session.cursor {
+                Some(_) => Err(Refused::CursorOpen),
+                None => Ok(session),
+            },
+            Err(why) => Err(why),
+        }
+    }
+
+    /// The tests of a write that stand behind those of the view.
+    fn check_conflicts(&self, s: u8, session: &PlainSession, key: u64) -> Result<(), Refused>
+        requires { IsWriter (world_of self.now) s (open_of session.now) }
+        ensures ok { OnOk result (MayWrite (world_of self.now) s key (open_of session.now)) }
+        ensures err { IfErr result (λ why. Meets (world_of self.now) s key (open_of session.now) why) }
+    {
+        if is_late(&self.history, session.start, key) {
+            return Err(Refused::Conflict);
+        }
+        match holder(&self.sessions, s, key) {
+            None => Ok(()),
+            Some(o) => {
+                if closes_ring(&self.waits, s, o) {
+                    Err(Refused::Deadlock)
+                } else {
+                    Err(Refused::Busy(o))
+                }
+            }
+        }
+    }
+
+    /// May the session insert the key?
+    pub(crate) fn check_insert(&self, s: u8, key: u64) -> Result<(), Refused>
+        ensures ok { OnOk result (MayInsert (world_of self.now) s key) }
+        ensures err { IfErr result (λ why. RefusesInsert (world_of self.now) s key why) }
+    {
+        match self.writer(s) {
+            Ok(session) => match session.view(&self.history, key) {
+                Some(_) => Err(Refused::AlreadyThere),
+                None => self.check_conflicts(s, session, key),
+            },
+            Err(why) => Err(why),
+        }
+    }
+
+    /// May the session update or delete the key?
+    pub(crate) fn check_replace(&self, s: u8, key: u64) -> Result<(), Refused>
+        ensures ok { OnOk result (MayReplace (world_of self.now) s key) }
+        ensures err { IfErr result (λ why. RefusesReplace (world_of self.now) s key why) }
+    {
+        match self.writer(s) {
+            Ok(session) => match session.view(&self.history, key) {
+                Some(_) => self.check_conflicts(s, session, key),
+                None => Err(Refused::NotThere),
+            },
+            Err(why) => Err(why),
+        }
+    }
+}

@@ -1,0 +1,191 @@
+//! The steps of a cursor.
+
+ghost use Rattle.std.specs.Prelude.{◌≡◌, Some, OnOk, OnErr, IfOk, IfErr, IsSome};
+ghost use Rattle.std.specs.Option.{option_map};
+ghost use Rattle.history.specs.World.{OpenSession, IsReady, IsWriter};
+ghost use Rattle.history.specs.Moves.{change, stepped, with_index_cursor, with_heap_cursor, with_keys_cursor, without_cursor};
+ghost use Rattle.plain_history.specs.Plain.{open_of, world_of};
+ghost use Rattle.plain_history.specs.Answers.{after_refusal, OrMemory, Becomes, Stays, RefusesWriter, RefusesBounds, RefusesNext, MayOpen, MayOpenWithin, HasCursor, HandsFrom, HandsOn, HandsBy, opens};
+
+use crate::cursor::{Bounds, PlainCursor, PlainOrder, rows_of};
+use crate::plain::{PlainHistory, PlainSession, PlainTransaction};
+use crate::refusal::{Handed, Refused};
+use std::alloc::{AllocError, Global};
+
+fn set_cursor(
+    session: &mut Option<PlainSession>,
+    history: &[PlainTransaction],
+    alloc: Global,
+    order: PlainOrder,
+    bounds: Bounds,
+) -> Result<(), AllocError>
+    ensures ok { OnOk result (Becomes session.old session.new (opens history.now order bounds)) }
+    ensures err { OnErr result (Stays session.old session.new) }
+{
+    if let Some(session) = session {
+        let rest = rows_of(alloc, history, session, order.index(), bounds)?;
+        session.cursor = Some(PlainCursor { order, rest });
+    }
+    Ok(())
+}
+
+fn hand_out(session: &mut Option<PlainSession>, alloc: Global, n: u16) -> Result<Handed, AllocError>
+    ensures ok { IfOk result (λ handed. HandsFrom n handed (option_map open_of session.old) (option_map open_of session.new)) }
+    ensures err { OnErr result (Stays session.old session.new) }
+{
+    if let Some(session) = session {
+        if let Some(cursor) = &mut session.cursor {
+            return cursor.hand_out(alloc, n);
+        }
+    }
+    Ok(Handed::End)
+}
+
+impl PlainHistory {
+    fn check_writer(&self, s: u8) -> Result<(), Refused>
+        ensures ok { OnOk result (MayOpen (world_of self.now) s) }
+        ensures err { IfErr result (λ why. RefusesWriter (world_of self.now) s why) }
+    {
+        match self.writer(s) {
+            Ok(_) => Ok(()),
+            Err(why) => Err(why),
+        }
+    }
+
+    fn check_bounds(&self, s: u8, low: i128, high: i128) -> Result<(), Refused>
+        ensures ok { OnOk result (MayOpenWithin (world_of self.now) s low high) }
+        ensures err { IfErr result (λ why. RefusesBounds (world_of self.now) s low high why) }
+    {
+        match self.writer(s) {
+            Ok(_) => {
+                if high < low {
+                    Err(Refused::BadBounds)
+                } else {
+                    Ok(())
+                }
+            }
+            Err(why) => Err(why),
+        }
+    }
+
+    fn check_cursor(&self, s: u8) -> Result<(), Refused>
+        ensures ok { OnOk result (HasCursor (world_of self.now) s) }
+        ensures err { IfErr result (λ why. RefusesNext (world_of self.now) s why) }
+    {
+        match self.ready_session(s) {
+            Ok(session) => match &session.cursor {
+                Some(_) => Ok(()),
+                None => Err(Refused::NoCursor),
+            },
+            Err(why) => Err(why),
+        }
+    }
+
+    fn open(&mut self, s: u8, order: PlainOrder, bounds: Bounds) -> Result<(), AllocError>
+        ensures ok { OnOk result (world_of self.new ≡ change (world_of self.old) s (opens self.old.history order bounds)) }
+        ensures err { OnErr result (world_of self.new ≡ stepped (world_of self.old) s) }
+    {
+        self.waits[s as usize] = None;
+        set_cursor(
+            &mut self.sessions[s as usize],
+            &self.history,
+            self.alloc,
+            order,
+            bounds,
+        )
+    }
+
+    /// Opens a cursor over the rows whose value in the index lies from low to high, in order of value and key. Index 0
+    /// orders by the key, index c + 1 by column c.
+    pub fn open_index(&mut self, s: u8, index: u8, low: i128, high: i128) -> Result<(), Refused>
+        ensures done { OnOk result (MayOpenWithin (world_of self.old) s low high × (world_of self.new ≡ change (world_of self.old) s (with_index_cursor self.old.history index low high))) }
+        ensures refused { IfErr result (λ why. OrMemory why (MayOpenWithin (world_of self.old) s low high) (RefusesBounds (world_of self.old) s low high why) × (world_of self.new ≡ after_refusal (world_of self.old) s why)) }
+    {
+        match self.check_bounds(s, low, high) {
+            Ok(()) => match self.open(s, PlainOrder::Index(index), Bounds::Within(low, high)) {
+                Ok(()) => Ok(()),
+                Err(_) => Err(Refused::NoMemory),
+            },
+            Err(why) => {
+                self.refuse(s, why);
+                Err(why)
+            }
+        }
+    }
+
+    /// Opens a cursor over all rows that the session reads.
+    pub fn open_heap(&mut self, s: u8) -> Result<(), Refused>
+        ensures done { OnOk result (MayOpen (world_of self.old) s × (world_of self.new ≡ change (world_of self.old) s (with_heap_cursor self.old.history))) }
+        ensures refused { IfErr result (λ why. OrMemory why (MayOpen (world_of self.old) s) (RefusesWriter (world_of self.old) s why) × (world_of self.new ≡ after_refusal (world_of self.old) s why)) }
+    {
+        match self.check_writer(s) {
+            Ok(()) => match self.open(s, PlainOrder::Heap, Bounds::All) {
+                Ok(()) => Ok(()),
+                Err(_) => Err(Refused::NoMemory),
+            },
+            Err(why) => {
+                self.refuse(s, why);
+                Err(why)
+            }
+        }
+    }
+
+    /// Opens a cursor over the keys from low to high.
+    pub fn open_keys(&mut self, s: u8, low: i128, high: i128) -> Result<(), Refused>
+        ensures done { OnOk result (MayOpenWithin (world_of self.old) s low high × (world_of self.new ≡ change (world_of self.old) s (with_keys_cursor self.old.history low high))) }
+        ensures refused { IfErr result (λ why. OrMemory why (MayOpenWithin (world_of self.old) s low high) (RefusesBounds (world_of self.old) s low high why) × (world_of self.new ≡ after_refusal (world_of self.old) s why)) }
+    {
+        match self.check_bounds(s, low, high) {
+            Ok(()) => match self.open(s, PlainOrder::Keys, Bounds::Within(low, high)) {
+                Ok(()) => Ok(()),
+                Err(_) => Err(Refused::NoMemory),
+            },
+            Err(why) => {
+                self.refuse(s, why);
+                Err(why)
+            }
+        }
+    }
+
+    fn fetch(&mut self, s: u8, n: u16) -> Result<Handed, AllocError>
+        ensures ok { IfOk result (λ handed. (m : OpenSession) → (world_of self.old).session s ≡ Some m → HandsOn (world_of self.old) s n m handed (world_of self.new)) }
+        ensures err { OnErr result (world_of self.new ≡ stepped (world_of self.old) s) }
+    {
+        self.waits[s as usize] = None;
+        hand_out(&mut self.sessions[s as usize], self.alloc, n)
+    }
+
+    /// The next n rows of the cursor, or all that are left; 0 counts as 1. A heap cursor hands out as many.
+    pub fn next(&mut self, s: u8, n: u16) -> Result<Handed, Refused>
+        ensures handed { IfOk result (λ handed. HandsBy (world_of self.old) s n handed (world_of self.new)) }
+        ensures refused { IfErr result (λ why. OrMemory why (HasCursor (world_of self.old) s) (RefusesNext (world_of self.old) s why) × (world_of self.new ≡ after_refusal (world_of self.old) s why)) }
+    {
+        match self.check_cursor(s) {
+            Ok(()) => match self.fetch(s, n) {
+                Ok(handed) => Ok(handed),
+                Err(_) => Err(Refused::NoMemory),
+            },
+            Err(why) => {
+                self.refuse(s, why);
+                Err(why)
+            }
+        }
+    }
+
+    /// Closes the cursor.
+    pub fn close(&mut self, s: u8) -> Result<(), Refused>
+        ensures done { OnOk result (HasCursor (world_of self.old) s × (world_of self.new ≡ change (world_of self.old) s without_cursor)) }
+        ensures refused { IfErr result (λ why. RefusesNext (world_of self.old) s why × (world_of self.new ≡ after_refusal (world_of self.old) s why)) }
+    {
+        match self.check_cursor(s) {
+            Ok(()) => {
+                self.shut(s);
+                Ok(())
+            }
+            Err(why) => {
+                self.refuse(s, why);
+                Err(why)
+            }
+        }
+    }
+}

@@ -1,0 +1,19 @@
+//! A plain slow program that computes the history that is never cleaned: it keeps the committed transactions and the open
+//! sessions as lists, and looks through them for each answer. Its contracts are the definitions of the crate `history`.
+#![tactic(auto)]
+
+mod change;
+mod check;
+mod cursor;
+mod fetch;
+mod lookup;
+mod plain;
+mod refusal;
+mod steps;
+
+pub use cursor::{Bounds, PlainCursor, PlainOrder};
+pub use plain::{PlainHistory, PlainLevel, PlainSession, PlainTransaction, PlainWrite};
+pub use refusal::{Handed, Outcome, Refused};
+
+#[cfg(test)]
+mod tests;

@@ -1,0 +1,255 @@
+//! Look-ups in the history and in the sessions.
+
+ghost use Rattle.std.specs.Prelude.{◌≡◌, ◌≢◌, ℕ, ◌≤◌, ◌<◌, ◌↔◌, IsTrue, IsSome, MatchOption, length, IfOk, IfSome, OnOk, Some, ◌++◌};
+ghost use Rattle.history.specs.History.{said, written, latest, committed, IsLate};
+ghost use Rattle.history.specs.World.{joined, own_write, view, ClosesRing, OpenSession, Holds};
+ghost use Rattle.std.specs.Option.{option_map};
+ghost use Rattle.plain_history.specs.Plain.{IsOf, open_of, session_in, wait_in, world_of};
+
+use crate::plain::{PlainHistory, PlainLevel, PlainSession, PlainTransaction, PlainWrite};
+use arrayvec::ArrayVec;
+use std::alloc::{AllocError, Global};
+use tuple_header::Row;
+
+fn copy_of(row: &Option<Row>) -> Option<Row>
+    ensures { result ≡ row.now }
+{
+    match row {
+        Some(row) => Some(row.copy()),
+        None => None,
+    }
+}
+
+impl PlainWrite {
+    fn copy(&self) -> PlainWrite
+        ensures { result ≡ self.now }
+    {
+        PlainWrite {
+            key: self.key,
+            row: copy_of(&self.row),
+        }
+    }
+
+    /// What the write says of the key, if it is of that key.
+    fn said(&self, key: u64) -> Option<Option<Row>>
+        ensures value { result ≡ said self.now key }
+        ensures keyed { IfSome result (λ row. IsOf key row) }
+    {
+        if self.key == key {
+            Some(copy_of(&self.row))
+        } else {
+            None
+        }
+    }
+}
+
+impl PlainTransaction {
+    fn written(&self, key: u64) -> Option<Option<Row>>
+        ensures value { result ≡ written self.now.writes key }
+        ensures keyed { IfSome result (λ row. IsOf key row) }
+    {
+        self.writes.written(key)
+    }
+
+    fn wrote(&self, key: u64) -> bool
+        ensures { IsTrue result ↔ IsSome (written self.now.writes key) }
+    {
+        self.written(key).is_some()
+    }
+}
+
+impl PlainLevel {
+    /// What the last write to the key says.
+    pub(crate) fn written(&self, key: u64) -> Option<Option<Row>>
+        ensures value { result ≡ written self.now key }
+        ensures keyed { IfSome result (λ row. IsOf key row) }
+    {
+        last_written(&self.writes, key)
+    }
+}
+
+fn last_written(writes: &[PlainWrite], key: u64) -> Option<Option<Row>>
+    ensures value { result ≡ written writes.now key }
+    ensures keyed { IfSome result (λ row. IsOf key row) }
+{
+    let mut last = None;
+    for write in writes {
+        if let Some(said) = write.said(key) {
+            last = Some(said);
+        }
+    }
+    last
+}
+
+/// What the newest level that wrote the key says of it.
+fn written_in(levels: &[PlainLevel], key: u64) -> Option<Option<Row>>
+    ensures value { result ≡ written (joined levels.now) key }
+    ensures keyed { IfSome result (λ row. IsOf key row) }
+{
+    for level in levels {
+        if let Some(said) = level.written(key) {
+            return Some(said);
+        }
+    }
+    None
+}
+
+fn latest_in(history: &[PlainTransaction], key: u64) -> Option<Option<Row>>
+    ensures value { result ≡ latest history.now key }
+    ensures keyed { IfSome result (λ row. IsOf key row) }
+{
+    let mut last = None;
+    for transaction in history {
+        if let Some(said) = transaction.written(key) {
+            last = Some(said);
+        }
+    }
+    last
+}
+
+/// The row of the key after the first n transactions.
+fn committed_in(history: &[PlainTransaction], n: usize, key: u64) -> Option<Row>
+    ensures value { result ≡ committed history.now n key }
+    ensures keyed { IsOf key result }
+{
+    let said = if n < history.len() {
+        latest_in(&history[..n], key)
+    } else {
+        latest_in(history, key)
+    };
+    match said {
+        Some(row) => row,
+        None => None,
+    }
+}
+
+impl PlainSession {
+    pub(crate) fn own_write(&self, key: u64) -> Option<Option<Row>>
+        ensures value { result ≡ own_write (open_of self.now) key }
+        ensures keyed { IfSome result (λ row. IsOf key row) }
+    {
+        match self.newest.written(key) {
+            Some(said) => Some(said),
+            None => written_in(&self.older, key),
+        }
+    }
+
+    /// All that the session wrote, the oldest write first.
+    pub(crate) fn joined(&self, alloc: Global) -> Result<PlainLevel, AllocError>
+        ensures { IfOk result (λ all. all ≡ joined (open_of self.now).levels) }
+    {
+        let mut all = joined_levels(alloc, &self.older)?;
+        all.extend(&self.newest)?;
+        Ok(all)
+    }
+
+    /// The row that the session reads.
+    pub(crate) fn view(&self, history: &[PlainTransaction], key: u64) -> Option<Row>
+        ensures value { result ≡ view history.now (open_of self.now) key }
+        ensures keyed { IsOf key result }
+    {
+        match self.own_write(key) {
+            Some(row) => row,
+            None => committed_in(history, self.start, key),
+        }
+    }
+}
+
+impl PlainLevel {
+    /// Puts a copy of later writes behind these.
+    fn extend(&mut self, later: &PlainLevel) -> Result<(), AllocError>
+        ensures { OnOk result (self.new ≡ self.old ++ later.now) }
+    {
+        extend_with(&mut self.writes, &later.writes)
+    }
+}
+
+fn extend_with(writes: &mut Vec<PlainWrite>, later: &[PlainWrite]) -> Result<(), AllocError>
+    ensures { OnOk result (writes.new.items ≡ writes.old.items ++ later.now) }
+{
+    for write in later {
+        writes.push(write.copy())?;
+    }
+    Ok(())
+}
+
+/// All writes of the levels, the oldest write first.
+fn joined_levels(alloc: Global, levels: &[PlainLevel]) -> Result<PlainLevel, AllocError>
+    ensures { IfOk result (λ all. all ≡ joined levels.now) }
+{
+    let mut all = PlainLevel::new(alloc);
+    for level in levels {
+        let mut longer = PlainLevel::new(alloc);
+        longer.extend(level)?;
+        longer.extend(&all)?;
+        all = longer;
+    }
+    Ok(all)
+}
+
+/// Did a transaction that committed since the start write the key?
+pub(crate) fn is_late(history: &[PlainTransaction], start: usize, key: u64) -> bool
+    ensures { IsTrue result ↔ IsLate history.now start key }
+{
+    for n in 0..history.len() {
+        if start <= n && history[n].wrote(key) {
+            return true;
+        }
+    }
+    false
+}
+
+/// Another open session that has the key in its levels.
+pub(crate) fn holder(sessions: &[Option<PlainSession>], s: u8, key: u64) -> Option<u8>
+    requires { length sessions.now ≤ 256 }
+    ensures { MatchOption result
+        ((o : ℕ) (m : OpenSession) → o ≢ s → session_in sessions.now o ≡ Some m → IsSome (own_write m key) → ⊥)
+        (λ o. (o ≢ s) × ((m : OpenSession) × (session_in sessions.now o ≡ Some m) × IsSome (own_write m key))) }
+{
+    for o in 0..sessions.len() {
+        if o != s as usize && holds(&sessions[o], key) {
+            return Some(o as u8);
+        }
+    }
+    None
+}
+
+/// Is the session open, with the key in its levels?
+fn holds(session: &Option<PlainSession>, key: u64) -> bool
+    ensures { IsTrue result ↔ ((m : OpenSession) × (option_map open_of session.now ≡ Some m) × IsSome (own_write m key)) }
+{
+    match session {
+        Some(session) => session.own_write(key).is_some(),
+        None => false,
+    }
+}
+
+/// Would a wait of s for o close a ring?
+pub(crate) fn closes_ring(waits: &[Option<u8>], s: u8, o: u8) -> bool
+    ensures { IsTrue result ↔ ClosesRing (wait_in waits.now) s o }
+{
+    let mut seen: ArrayVec<u8, 256> = ArrayVec::new();
+    let mut at = Some(o);
+    'walk: while let Some(t) = at {
+        if t == s {
+            return true;
+        }
+        if seen.contains(&t) {
+            break;
+        }
+        seen.push(t);
+        at = wait_of(waits, t);
+    }
+    false
+}
+
+fn wait_of(waits: &[Option<u8>], s: u8) -> Option<u8>
+    ensures value { result ≡ wait_in waits.now s }
+    ensures small { (o : ℕ) → result ≡ Some o → o < 256 }
+{
+    match waits.get(s as usize) {
+        Some(Some(o)) => Some(*o),
+        Some(None) => None,
+        None => None,
+    }
+}

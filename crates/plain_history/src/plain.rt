@@ -1,0 +1,162 @@
+//! The plain program's state: the history and the sessions as lists.
+
+ghost use Rattle.std.specs.Prelude.{◌≡◌, [], ◌∷◌, ◌++◌, OnOk, OnErr, IfOk};
+ghost use Rattle.history.specs.World.{empty};
+ghost use Rattle.history.specs.Moves.{without_savepoint};
+ghost use Rattle.plain_history.specs.Plain.{open_of, world_of};
+
+use crate::cursor::PlainCursor;
+use std::alloc::{AllocError, Global};
+use std::marker::Model;
+use tuple_header::Row;
+
+/// A key with a row, or with none.
+#[derive(Drop)]
+pub struct PlainWrite {
+    pub(crate) key: u64,
+    pub(crate) row: Option<Row>,
+}
+
+impl Model for PlainWrite {
+    ghost use Rattle.history.specs.History.{Write};
+
+    ghost Value = { Write };
+
+    ghost view = { λ w. record { key = w.key; row = w.row } };
+
+    ghost use Rattle.std.specs.Prelude.{◌≡◌, IfSome};
+
+    ghost invariant = { λ w. IfSome w.row (λ row. row.key ≡ w.key) };
+}
+
+/// Writes, the oldest first.
+#[derive(Drop)]
+pub struct PlainLevel {
+    pub(crate) writes: Vec<PlainWrite>,
+}
+
+impl Model for PlainLevel {
+    ghost use Rattle.std.specs.Prelude.{List};
+    ghost use Rattle.history.specs.History.{Write};
+
+    ghost Value = { List Write };
+
+    ghost view = { λ l. l.writes.items };
+}
+
+/// A committed transaction.
+#[derive(Drop)]
+pub struct PlainTransaction {
+    pub(crate) start: usize,
+    pub(crate) writes: PlainLevel,
+}
+
+impl Model for PlainTransaction {
+    ghost use Rattle.history.specs.History.{Transaction};
+
+    ghost Value = { Transaction };
+
+    ghost view = { λ t. record { start = t.start; writes = t.writes } };
+}
+
+/// An open session. The levels of the savepoints below the newest stand in `older`, the newest of them first.
+#[derive(Drop)]
+pub struct PlainSession {
+    pub(crate) start: usize,
+    pub(crate) newest: PlainLevel,
+    pub(crate) older: Vec<PlainLevel>,
+    pub(crate) failed: bool,
+    pub(crate) cursor: Option<PlainCursor>,
+}
+
+/// The history and the sessions, as lists. It is slow on purpose: each answer is looked up in the whole history.
+#[derive(Drop)]
+pub struct PlainHistory {
+    pub(crate) alloc: Global,
+    pub(crate) history: Vec<PlainTransaction>,
+    // A place for each number of a u8, of which 0 to 63 are ever taken.
+    pub(crate) sessions: Vec<Option<PlainSession>>,
+    pub(crate) waits: Vec<Option<u8>>,
+}
+
+impl Model for PlainHistory {
+    ghost use Rattle.std.specs.Prelude.{◌≡◌, length};
+    ghost use Rattle.plain_history.specs.Plain.{Plain};
+
+    ghost Value = { Plain };
+
+    ghost view = { λ p. record { history = p.history.items; sessions = p.sessions.items; waits = p.waits.items } };
+
+    ghost invariant = { λ p. (length p.sessions.items ≡ 256) × (length p.waits.items ≡ 256) };
+}
+
+impl PlainLevel {
+    pub(crate) fn new(alloc: Global) -> PlainLevel
+        ensures { result ≡ [] }
+    {
+        PlainLevel {
+            writes: Vec::new(alloc),
+        }
+    }
+
+    pub(crate) fn push(&mut self, write: PlainWrite) -> Result<(), AllocError>
+        ensures ok { OnOk result (self.new ≡ self.old ++ write ∷ []) }
+        ensures err { OnErr result (self.new ≡ self.old) }
+    {
+        self.writes.push(write)?;
+        Ok(())
+    }
+
+    /// Puts the later writes behind these.
+    pub(crate) fn append(&mut self, later: &mut PlainLevel) -> Result<(), AllocError>
+        ensures ok { OnOk result (self.new ≡ self.old ++ later.old) }
+        ensures err { OnErr result ((self.new ≡ self.old) × (later.new ≡ later.old)) }
+    {
+        self.writes.append(&mut later.writes)
+    }
+}
+
+impl PlainLevel {
+    pub(crate) fn clear(&mut self)
+        ensures { self.new ≡ [] }
+    {
+        self.writes.clear();
+    }
+}
+
+impl PlainSession {
+    /// The newest level joins the one below, if there is one.
+    pub(crate) fn join_newest(&mut self) -> Result<(), AllocError>
+        ensures ok { OnOk result (open_of self.new ≡ without_savepoint (open_of self.old)) }
+        ensures err { OnErr result (open_of self.new ≡ open_of self.old) }
+    {
+        if self.older.is_empty() {
+            return Ok(());
+        }
+        self.older[0].append(&mut self.newest)?;
+        self.newest = self.older.remove(0);
+        Ok(())
+    }
+}
+
+impl PlainHistory {
+    /// Nothing has committed, and no session is open.
+    pub fn new(alloc: Global) -> Result<PlainHistory, AllocError>
+        ensures { IfOk result (λ p. world_of p ≡ empty) }
+    {
+        let mut sessions = Vec::new(alloc);
+        for _ in 0..256usize {
+            sessions.push(None)?;
+        }
+        let mut waits = Vec::new(alloc);
+        for _ in 0..256usize {
+            waits.push(None)?;
+        }
+        Ok(PlainHistory {
+            alloc,
+            history: Vec::new(alloc),
+            sessions,
+            waits,
+        })
+    }
+}

@@ -1,0 +1,328 @@
+//! The steps of a session. Each makes its tests in order, and then its transition; a refused one leaves what its refusal
+//! says.
+
+ghost use Rattle.std.specs.Prelude.{◌≡◌, ◌<◌, ◌≤◌, OnOk, IfErr, IfOk, IsSome, Some, None, length};
+ghost use Rattle.history.specs.History.{committed};
+ghost use Rattle.history.specs.World.{OpenSession, IsReady, IsWriter, view};
+ghost use Rattle.history.specs.Moves.{begun, change, with_row, without_row, with_savepoint, rolled_back_to, without_savepoint, aborted, committed_by, stepped};
+ghost use Rattle.plain_history.specs.Plain.{open_of, world_of};
+ghost use Rattle.plain_history.specs.Answers.{after_refusal, OrMemory, RefusesBegin, RefusesOpen, RefusesReady, RefusesInsert, RefusesReplace, RefusesSave, RefusesRollBack, RefusesRelease, MayInsert, MayReplace, Reads, MaySave, MayRollBack, MayRelease, MayCommit, WouldCommit, Ends};
+
+use crate::plain::{PlainHistory, PlainLevel, PlainSession, PlainTransaction, PlainWrite};
+use crate::refusal::{Outcome, Refused};
+use tuple_header::Row;
+
+impl PlainHistory {
+    /// What a refused step leaves.
+    pub(crate) fn refuse(&mut self, s: u8, why: Refused)
+        ensures { world_of self.new ≡ after_refusal (world_of self.old) s why }
+    {
+        match why {
+            Refused::Conflict => self.fail(s),
+            Refused::Deadlock => self.fail(s),
+            Refused::Busy(o) => self.wait_for(s, o),
+            _ => self.end_wait(s),
+        }
+    }
+
+    fn check_begin(&self, s: u8) -> Result<(), Refused>
+        ensures ok { OnOk result ((s < 64) × ((world_of self.now).session s ≡ None)) }
+        ensures err { IfErr result (λ why. RefusesBegin (world_of self.now) s why) }
+    {
+        match self.open_session(s) {
+            Ok(_) => Err(Refused::AlreadyOpen),
+            Err(Refused::NotOpen) => Ok(()),
+            Err(_) => Err(Refused::NoSuchSession),
+        }
+    }
+
+    /// Opens an idle session on what has committed.
+    pub fn begin(&mut self, s: u8) -> Result<(), Refused>
+        ensures done { OnOk result ((s < 64) × ((world_of self.old).session s ≡ None) × (world_of self.new ≡ begun (world_of self.old) s)) }
+        ensures refused { IfErr result (λ why. RefusesBegin (world_of self.old) s why × (world_of self.new ≡ after_refusal (world_of self.old) s why)) }
+    {
+        match self.check_begin(s) {
+            Ok(()) => {
+                self.start(s);
+                Ok(())
+            }
+            Err(why) => {
+                self.refuse(s, why);
+                Err(why)
+            }
+        }
+    }
+
+    fn start(&mut self, s: u8)
+        ensures { world_of self.new ≡ begun (world_of self.old) s }
+    {
+        let session = PlainSession {
+            start: self.history.len(),
+            newest: PlainLevel::new(self.alloc),
+            older: Vec::new(self.alloc),
+            failed: false,
+            cursor: None,
+        };
+        self.put(s, Some(session));
+    }
+
+    fn check_get(&self, s: u8, key: u64) -> Result<Option<Row>, Refused>
+        ensures ok { IfOk result (λ row. Reads (world_of self.now) s key row) }
+        ensures err { IfErr result (λ why. RefusesReady (world_of self.now) s why) }
+    {
+        match self.ready_session(s) {
+            Ok(session) => Ok(session.view(&self.history, key)),
+            Err(why) => Err(why),
+        }
+    }
+
+    /// The row that the session reads.
+    pub fn get(&mut self, s: u8, key: u64) -> Result<Option<Row>, Refused>
+        ensures found { IfOk result (λ row. Reads (world_of self.old) s key row) }
+        ensures refused { IfErr result (λ why. RefusesReady (world_of self.old) s why) }
+        ensures next { world_of self.new ≡ stepped (world_of self.old) s }
+    {
+        let answer = self.check_get(s, key);
+        self.end_wait(s);
+        answer
+    }
+
+    /// Inserts a row whose key the session doesn't see.
+    pub fn insert(&mut self, s: u8, row: Row) -> Result<(), Refused>
+        ensures done { OnOk result (MayInsert (world_of self.old) s row.key × (world_of self.new ≡ change (world_of self.old) s (with_row row))) }
+        ensures refused { IfErr result (λ why. OrMemory why (MayInsert (world_of self.old) s row.key) (RefusesInsert (world_of self.old) s row.key why) × (world_of self.new ≡ after_refusal (world_of self.old) s why)) }
+    {
+        match self.check_insert(s, row.key) {
+            Ok(()) => self.write_row(s, row),
+            Err(why) => {
+                self.refuse(s, why);
+                Err(why)
+            }
+        }
+    }
+
+    /// Gives the session's row of the key another value.
+    pub fn update(&mut self, s: u8, row: Row) -> Result<(), Refused>
+        ensures done { OnOk result (MayReplace (world_of self.old) s row.key × (world_of self.new ≡ change (world_of self.old) s (with_row row))) }
+        ensures refused { IfErr result (λ why. OrMemory why (MayReplace (world_of self.old) s row.key) (RefusesReplace (world_of self.old) s row.key why) × (world_of self.new ≡ after_refusal (world_of self.old) s why)) }
+    {
+        match self.check_replace(s, row.key) {
+            Ok(()) => self.write_row(s, row),
+            Err(why) => {
+                self.refuse(s, why);
+                Err(why)
+            }
+        }
+    }
+
+    fn write_row(&mut self, s: u8, row: Row) -> Result<(), Refused>
+        ensures ok { OnOk result (world_of self.new ≡ change (world_of self.old) s (with_row row)) }
+        ensures err { IfErr result (λ why. (why ≡ Refused.NoMemory) × (world_of self.new ≡ stepped (world_of self.old) s)) }
+    {
+        let new = PlainWrite {
+            key: row.key,
+            row: Some(row),
+        };
+        match self.write(s, new) {
+            Ok(()) => Ok(()),
+            Err(_) => Err(Refused::NoMemory),
+        }
+    }
+
+    /// Deletes the session's row of the key.
+    pub fn delete(&mut self, s: u8, key: u64) -> Result<(), Refused>
+        ensures done { OnOk result (MayReplace (world_of self.old) s key × (world_of self.new ≡ change (world_of self.old) s (without_row key))) }
+        ensures refused { IfErr result (λ why. OrMemory why (MayReplace (world_of self.old) s key) (RefusesReplace (world_of self.old) s key why) × (world_of self.new ≡ after_refusal (world_of self.old) s why)) }
+    {
+        match self.check_replace(s, key) {
+            Ok(()) => match self.write(s, PlainWrite { key, row: None }) {
+                Ok(()) => Ok(()),
+                Err(_) => Err(Refused::NoMemory),
+            },
+            Err(why) => {
+                self.refuse(s, why);
+                Err(why)
+            }
+        }
+    }
+
+    fn check_save(&self, s: u8) -> Result<(), Refused>
+        ensures ok { OnOk result (MaySave (world_of self.now) s) }
+        ensures err { IfErr result (λ why. RefusesSave (world_of self.now) s why) }
+    {
+        match self.writer(s) {
+            Ok(session) => {
+                if session.older.len() < 32 {
+                    Ok(())
+                } else {
+                    Err(Refused::TooDeep)
+                }
+            }
+            Err(why) => Err(why),
+        }
+    }
+
+    /// Makes a savepoint, of which a session has at most 32.
+    pub fn savepoint(&mut self, s: u8) -> Result<(), Refused>
+        ensures done { OnOk result (MaySave (world_of self.old) s × (world_of self.new ≡ change (world_of self.old) s with_savepoint)) }
+        ensures refused { IfErr result (λ why. OrMemory why (MaySave (world_of self.old) s) (RefusesSave (world_of self.old) s why) × (world_of self.new ≡ after_refusal (world_of self.old) s why)) }
+    {
+        match self.check_save(s) {
+            Ok(()) => match self.save(s) {
+                Ok(()) => Ok(()),
+                Err(_) => Err(Refused::NoMemory),
+            },
+            Err(why) => {
+                self.refuse(s, why);
+                Err(why)
+            }
+        }
+    }
+
+    fn check_roll_back(&self, s: u8) -> Result<(), Refused>
+        ensures ok { OnOk result (MayRollBack (world_of self.now) s) }
+        ensures err { IfErr result (λ why. RefusesRollBack (world_of self.now) s why) }
+    {
+        match self.open_session(s) {
+            Ok(session) => {
+                if let Some(_) = &session.cursor {
+                    Err(Refused::CursorOpen)
+                } else if session.older.is_empty() {
+                    Err(Refused::NoSavepoint)
+                } else {
+                    Ok(())
+                }
+            }
+            Err(why) => Err(why),
+        }
+    }
+
+    /// Takes back what was written since the newest savepoint, which stays. A failed session is usable again.
+    pub fn roll_back_to(&mut self, s: u8) -> Result<(), Refused>
+        ensures done { OnOk result (MayRollBack (world_of self.old) s × (world_of self.new ≡ rolled_back_to (world_of self.old) s)) }
+        ensures refused { IfErr result (λ why. RefusesRollBack (world_of self.old) s why × (world_of self.new ≡ after_refusal (world_of self.old) s why)) }
+    {
+        match self.check_roll_back(s) {
+            Ok(()) => {
+                self.roll_back(s);
+                self.wake(s);
+                Ok(())
+            }
+            Err(why) => {
+                self.refuse(s, why);
+                Err(why)
+            }
+        }
+    }
+
+    fn check_release(&self, s: u8) -> Result<(), Refused>
+        ensures ok { OnOk result (MayRelease (world_of self.now) s) }
+        ensures err { IfErr result (λ why. RefusesRelease (world_of self.now) s why) }
+    {
+        match self.writer(s) {
+            Ok(session) => {
+                if session.older.is_empty() {
+                    Err(Refused::NoSavepoint)
+                } else {
+                    Ok(())
+                }
+            }
+            Err(why) => Err(why),
+        }
+    }
+
+    /// Forgets the newest savepoint; what was written since joins the level below.
+    pub fn release(&mut self, s: u8) -> Result<(), Refused>
+        ensures done { OnOk result (MayRelease (world_of self.old) s × (world_of self.new ≡ change (world_of self.old) s without_savepoint)) }
+        ensures refused { IfErr result (λ why. OrMemory why (MayRelease (world_of self.old) s) (RefusesRelease (world_of self.old) s why) × (world_of self.new ≡ after_refusal (world_of self.old) s why)) }
+    {
+        match self.check_release(s) {
+            Ok(()) => match self.join(s) {
+                Ok(()) => Ok(()),
+                Err(_) => Err(Refused::NoMemory),
+            },
+            Err(why) => {
+                self.refuse(s, why);
+                Err(why)
+            }
+        }
+    }
+
+    /// Ends the session. What it wrote joins the history, unless it has failed.
+    pub fn commit(&mut self, s: u8) -> Result<Outcome, Refused>
+        ensures done { IfOk result (λ outcome. Ends (world_of self.old) s outcome (world_of self.new)) }
+        ensures refused { IfErr result (λ why. OrMemory why (MayCommit (world_of self.old) s) (RefusesOpen (world_of self.old) s why) × (world_of self.new ≡ after_refusal (world_of self.old) s why)) }
+    {
+        match self.transaction(s) {
+            Ok(transaction) => match self.append(transaction) {
+                Ok(()) => {
+                    self.end(s);
+                    Ok(Outcome::Committed)
+                }
+                Err(_) => {
+                    self.end_wait(s);
+                    Err(Refused::NoMemory)
+                }
+            },
+            Err(Refused::Failed) => {
+                self.end(s);
+                Ok(Outcome::RolledBack)
+            }
+            Err(why) => {
+                self.refuse(s, why);
+                Err(why)
+            }
+        }
+    }
+
+    /// Ends the session, and drops what it wrote.
+    pub fn abort(&mut self, s: u8) -> Result<(), Refused>
+        ensures done { OnOk result (IsSome ((world_of self.old).session s) × (world_of self.new ≡ aborted (world_of self.old) s)) }
+        ensures refused { IfErr result (λ why. RefusesOpen (world_of self.old) s why × (world_of self.new ≡ after_refusal (world_of self.old) s why)) }
+    {
+        match self.check_open(s) {
+            Ok(()) => {
+                self.end(s);
+                Ok(())
+            }
+            Err(why) => {
+                self.refuse(s, why);
+                Err(why)
+            }
+        }
+    }
+
+    fn check_open(&self, s: u8) -> Result<(), Refused>
+        ensures ok { OnOk result (IsSome ((world_of self.now).session s)) }
+        ensures err { IfErr result (λ why. RefusesOpen (world_of self.now) s why) }
+    {
+        match self.open_session(s) {
+            Ok(_) => Ok(()),
+            Err(why) => Err(why),
+        }
+    }
+
+    fn end(&mut self, s: u8)
+        ensures { world_of self.new ≡ aborted (world_of self.old) s }
+    {
+        self.put(s, None);
+        self.wake(s);
+    }
+
+    /// The transaction that the session would commit.
+    fn transaction(&self, s: u8) -> Result<PlainTransaction, Refused>
+        ensures ok { IfOk result (λ t. WouldCommit (world_of self.now) s t) }
+        ensures err { IfErr result (λ why. OrMemory why (MayCommit (world_of self.now) s) (RefusesReady (world_of self.now) s why)) }
+    {
+        match self.ready_session(s) {
+            Ok(session) => match session.joined(self.alloc) {
+                Ok(writes) => Ok(PlainTransaction {
+                    start: session.start,
+                    writes,
+                }),
+                Err(_) => Err(Refused::NoMemory),
+            },
+            Err(why) => Err(why),
+        }
+    }
+}
