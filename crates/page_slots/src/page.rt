@@ -153,6 +153,13 @@ impl Page {
     }
 }
 
+/// Counts one more change.
+fn raise(change: &mut u64)
+    ensures { change.new ≡ next_change change.old }
+{
+    *change = change.wrapping_add(1);
+}
+
 fn room_in(slots: &[Slot]) -> usize
     requires few { length slots.now ≤ 291 }
     requires fit { 4 * length slots.now + sum_by taken slots.now ≤ 8168 }
@@ -199,7 +206,7 @@ impl Page {
                 .push(Slot::Normal(version))
                 .map_err(|_| AddFault::NoMemory)?;
         }
-        self.change = self.change.wrapping_add(1);
+        raise(&mut self.change);
         Ok(index as u16 + 1)
     }
 
@@ -230,7 +237,7 @@ impl Page {
             let hints_alone = differ_in_hints_alone(&version.header, &header);
             version.header = header;
             if !hints_alone {
-                self.change = self.change.wrapping_add(1);
+                raise(&mut self.change);
             }
         }
     }
@@ -283,7 +290,7 @@ impl Page {
     {
         self.slots[usize::from(number) - 1] = slot;
         if !same {
-            self.change = self.change.wrapping_add(1);
+            raise(&mut self.change);
         }
     }
 }

@@ -35,7 +35,7 @@ returns-then-not-hints_alone-clause-change c =
     let there = there-from_normal slots c.args.number (subst P (sym c.self.view_is) c.requires.normal) in
     let is = the_slot-read slots c.args.number c.from-index.result c.index_mut.result.now c.in-Normal.version there c.from-index.ensures c.index_mut.ensures.value c.in-Normal.is in
     let hints : same_but_hints c.version.inside.header c.args.header ≡ false = sym c.differ_in_hints_alone-hints_alone.ensures ∙ c.if-not-hints_alone.true in
-    rw (← c.self.view_is) (rw is (rw (← c.version.view_is) (rw hints refl)))
+    rw (← c.self.view_is) (rw is (rw (← c.version.view_is) (rw hints c.raise.ensures)))
 
 pub returns-else-not-hints_alone-clause-change : goal.returns-else-not-hints_alone-clause-change
 returns-else-not-hints_alone-clause-change c =
