@@ -8,8 +8,7 @@ use Rattle.std.proofs.lemmas.List.{map_more, get_or-map, length-map}
 use Rattle.xid_circle.specs.declared.Xid.{Xid}
 use Rattle.commit_status.specs.declared.status.Status.{Status}
 use Rattle.commit_status.specs.declared.status.Status.TheVariants.{InProgress}
-use Rattle.commit_status.specs.declared.table.Entry.{Entry}
-use Rattle.commit_status.specs.Window.{Window, IsWindow, IsGiven, IsActive, place, place_in, entry_of, status_in, parent_in, status_of}
+use Rattle.commit_status.specs.Window.{Entry, Window, IsWindow, IsGiven, IsActive, place, place_in, entry_of, status_in, parent_in, status_of}
 use Rattle.commit_status.specs.Changes.{numbers, Finishes}
 use Rattle.commit_status.proofs.Places.{place-lt, place-one, is-from_some}
 use Rattle.commit_status.proofs.Tables.{window_of}

@@ -3,8 +3,7 @@ use Rattle.std.proofs.Common.{◌≡◌, ◌≢◌, ℕ, zero, suc, ◌+◌, ◌
 use Rattle.std.proofs.lemmas.Bool.{cases_eq, cases_lt}
 use Rattle.xid_circle.specs.Circle.{next_of, given}
 use Rattle.commit_status.specs.declared.status.Status.TheVariants.{InProgress}
-use Rattle.commit_status.specs.declared.table.Entry.{Entry}
-use Rattle.commit_status.specs.Window.{Window, IsWindow, IsGiven, IsActive, IsUpToNext, turns, place, entry_of, status_in, parent_in, status_of, parent_of, ancestor_in, top_of, next_id}
+use Rattle.commit_status.specs.Window.{Entry, Window, IsWindow, IsGiven, IsActive, IsUpToNext, turns, place, entry_of, status_in, parent_in, status_of, parent_of, ancestor_in, top_of, next_id}
 use Rattle.commit_status.specs.Changes.{Gives}
 use Rattle.commit_status.proofs.Places.{IsAt, at-from_place, place-from_at, given-place, place-given, place-lt, none-unless, next-none, is-from_some, some-from_is}
 use Rattle.commit_status.proofs.Ancestors.{parent-place, parent-not_next, height-le, ancestor-none, ancestor-some, ancestor-enough, parent-cases, top-none, top-parent}

@@ -4,8 +4,7 @@ use Rattle.std.specs.Option.{option_map}
 use Rattle.xid_circle.specs.declared.Xid.{Xid}
 use Rattle.std.proofs.lemmas.Bool.{cases_lt}
 use Rattle.xid_circle.specs.Circle.{IsNormal, distance_of, next_of, given}
-use Rattle.commit_status.specs.declared.table.Entry.{Entry}
-use Rattle.commit_status.specs.Window.{Window, IsWindow, IsGivenBefore, IsUpToNext, IsGiven, turns, place, parent_in, parent_at, next_id}
+use Rattle.commit_status.specs.Window.{Entry, Window, IsWindow, IsGivenBefore, IsUpToNext, IsGiven, turns, place, parent_in, parent_at, next_id}
 use Rattle.commit_status.specs.Table.{IsTable}
 use Rattle.commit_status.proofs.Turns.{turns-given, given-turns, given-given, age-at}
 use Rattle.commit_status.proofs.Places.{at-from_place, given-place, some-from_is}
@@ -172,3 +171,10 @@ under-given v w None r same e h q at = absurd (cc)
 under-given v w (Some x) r same e h q at =
     let is : x.0 ≡ q = (let s : Some x.0 ≡ Some q = sym e ∙ at in cc) in
     some-from_is (place v q) (subst (λ u. IsSome (place u q)) (sym same) (subst (λ y. IsSome (place w y)) is h))
+
+-- and is an id
+pub parent-is_normal : (w : Window) (o : Option Xid) → IfSome o (λ p. IsGiven w p.0) → IfSome o (λ p. IsNormal p.0)
+parent-is_normal w None h = h
+parent-is_normal w (Some x) h =
+    let found = some-from_is (place w x.0) h in
+    (at-from_place w.first (length w.entries) x.0 found.0 found.1).normal

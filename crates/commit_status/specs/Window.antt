@@ -5,7 +5,11 @@ use Rattle.std.specs.Option.{option_and_then, option_map, unwrap_or}
 use Rattle.xid_circle.specs.Circle.{IsNormal, given}
 use Rattle.commit_status.specs.declared.status.Status.{Status}
 use Rattle.commit_status.specs.declared.status.Status.TheVariants.{InProgress, Committed, Aborted}
-use Rattle.commit_status.specs.declared.table.Entry.{Entry}
+
+-- what is known of an id: what became of it, and the id under which it was begun
+pub record Entry : Type 0 where
+  pub status : Status
+  pub parent : Option ℕ
 
 pub record Window : Type 0 where
   -- the oldest id that is remembered: all before it are frozen

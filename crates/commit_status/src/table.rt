@@ -1,22 +1,67 @@
 //! The table of ids.
 
-ghost use Rattle.std.specs.Prelude.{◌≡◌, ℕ, ◌+◌, ◌^◌, ◌∷◌, ◌-◌, ◌<◌, ◌≤◌, ◌↔◌, [], drop, IsTrue, IsSome, IfSome, IfOk, OnOk, OnErr, length, vec_len, vec_capacity, Contains};
+ghost use Rattle.std.specs.Prelude.{◌≡◌, ℕ, ◌+◌, ◌^◌, ◌∷◌, ◌-◌, ◌<◌, ◌≤◌, ◌↔◌, [], drop, option_copied, IsTrue, IsSome, IfSome, IfOk, OnOk, OnErr, length, vec_len, vec_capacity, Contains};
 ghost use Rattle.std.specs.Option.{option_map};
 ghost use Rattle.xid_circle.specs.Circle.{IsNormal, distance_of, given};
 ghost use Rattle.commit_status.specs.Window.{next_id, turns, place_in, entry_of, status_of, parent_of, top_of, IsGiven, IsActive, IsUpToNext, IsWindow};
-ghost use Rattle.commit_status.specs.Changes.{numbers, Gives, CanGive, Finishes, Truncates};
+ghost use Rattle.commit_status.specs.Changes.{numbers, begun, Gives, CanGive, Finishes, Truncates};
 
 use crate::status::{GiveFault, Status};
 use std::alloc::{AllocError, Global};
 use std::marker::Model;
+use std::mem::size_of;
 use xid_circle::{Xid, distance, next};
 
-/// What is known of an id.
-#[derive(Clone, Copy, Debug)]
-struct Entry {
+/// What is known of an id, in eight bytes.
+#[derive(Debug, Drop)]
+struct Known {
     status: Status,
-    // the number of the id under which it was begun
-    parent: Option<u32>,
+    // the number of the id under which it was begun, or 0
+    parent: u32,
+}
+
+const _: () = prove!(size_of::<Known>() == 8);
+
+impl Model for Known {
+    ghost use Rattle.commit_status.specs.Window.{Entry};
+    ghost use Rattle.commit_status.specs.Table.{parent_from};
+
+    ghost Value = { Entry };
+
+    ghost view = { λ k. record { status = k.status; parent = parent_from k.parent } };
+}
+
+impl Known {
+    /// An id that was just given.
+    fn begun(parent: Option<Xid>) -> Known
+        requires { IfSome parent (λ p. IsNormal p.0) }
+        ensures { result ≡ begun (option_map (λ p. p.0) parent) }
+    {
+        let parent = match parent {
+            Some(x) => x.0,
+            None => 0,
+        };
+        Known {
+            status: Status::InProgress,
+            parent,
+        }
+    }
+
+    fn parent(&self) -> Option<Xid>
+        ensures { option_map (λ p. p.0) result ≡ self.now.parent }
+    {
+        if self.parent == 0 {
+            None
+        } else {
+            Some(Xid(self.parent))
+        }
+    }
+
+    fn finish(&mut self, status: Status)
+        ensures { self.new ≡ record self.old { status = status } }
+    {
+        self.status = status;
+    }
 }
 
 /// The status and the parent of each id from the oldest that is remembered up to the next one.
@@ -25,7 +70,7 @@ pub struct StatusTable {
     first: Xid,
     next: Xid,
     stop_age: u32,
-    entries: Vec<Entry>,
+    entries: Vec<Known>,
 }
 
 impl Model for StatusTable {
@@ -89,17 +134,8 @@ fn place_in(first: Xid, count: usize, x: Xid) -> Option<usize>
     if place < count { Some(place) } else { None }
 }
 
-fn number_of(id: Option<Xid>) -> Option<u32>
-    ensures { result ≡ option_map (λ x. x.0) id }
-{
-    match id {
-        Some(x) => Some(x.0),
-        None => None,
-    }
-}
-
 /// Forgets the first `count` entries.
-fn forget(entries: &mut Vec<Entry>, count: usize)
+fn forget(entries: &mut Vec<Known>, count: usize)
     requires { count ≤ vec_len entries.old }
     ensures items { entries.new.items ≡ drop count entries.old.items }
     ensures room { vec_capacity entries.old - vec_len entries.old ≤ vec_capacity entries.new - vec_len entries.new }
@@ -177,10 +213,7 @@ impl StatusTable {
         if distance(self.first, self.next) >= self.stop_age {
             return Err(GiveFault::NeedsFreeze);
         }
-        let entry = Entry {
-            status: Status::InProgress,
-            parent: number_of(parent),
-        };
+        let entry = Known::begun(parent);
         if self.entries.reserve(1).is_err() {
             return Err(GiveFault::NoMemory);
         }
@@ -209,11 +242,11 @@ impl StatusTable {
         place_in(self.first, self.entries.len(), x).is_some()
     }
 
-    fn entry(&self, x: Xid) -> Option<Entry>
-        ensures { result ≡ entry_of self.now x.0 }
+    fn entry(&self, x: Xid) -> Option<&Known>
+        ensures { option_copied result ≡ entry_of self.now x.0 }
     {
         match place_in(self.first, self.entries.len(), x) {
-            Some(place) => Some(self.entries[place]),
+            Some(place) => Some(&self.entries[place]),
             None => None,
         }
     }
@@ -231,11 +264,7 @@ impl StatusTable {
     fn parent_of(&self, x: Xid) -> Option<Xid>
         ensures { option_map (λ p. p.0) result ≡ parent_of self.now x.0 }
     {
-        let entry = self.entry(x)?;
-        match entry.parent {
-            Some(number) => Some(Xid(number)),
-            None => None,
-        }
+        self.entry(x)?.parent()
     }
 
     /// The first ancestor of an id that is before the window if there is one, else its topmost ancestor: itself
@@ -257,11 +286,7 @@ impl StatusTable {
         ensures { Finishes self.old self.new (x.0 ∷ []) status }
     {
         if let Some(place) = place_in(self.first, self.entries.len(), x) {
-            let entry = self.entries[place];
-            self.entries[place] = Entry {
-                status,
-                parent: entry.parent,
-            };
+            self.entries[place].finish(status);
         }
     }
 
