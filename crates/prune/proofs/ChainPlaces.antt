@@ -1,0 +1,146 @@
+-- The places of a chain.
+use Rattle.std.proofs.Common.{◌≡◌, ℕ, zero, suc, ◌+◌, ◌-◌, ◌<◌, ◌≤◌, Bool, true, false, nat_eq, List, length, take, get_or, not, Option, Some, arith, ⊎_elim, sym, ap, ◌∙◌, refl, subst}
+use Rattle.std.specs.List.{list_any, Contains}
+use Rattle.std.specs.Option.{option_and_then}
+use Rattle.std.proofs.lemmas.List.{length-take-le, get_or-take}
+use Rattle.std.proofs.lemmas.Option.{get_or_from_slice_get, slice_get_within, slice_get-get_or}
+use Rattle.page_slots.specs.declared.slot.Slot.{Slot}
+use Rattle.page_slots.specs.Slots.{version_at}
+use Rattle.page_slots.proofs.SlotLemmas.{slot_at-from_version_at}
+use Rattle.tuple_header.specs.Version.{Version}
+use Rattle.tuple_header.specs.Marks.{is_heap_only}
+use Rattle.commit_status.specs.Window.{Window}
+use Rattle.hot_chain.specs.Chain.{has_aborted, first_of, start_in, is_root, is_root_in, IsChain, LeadsTo}
+use Rattle.hot_chain.proofs.Chains.{any-place, place-any, contains-any, any-contains}
+use Rattle.prune.specs.Cutting.{IsCutCount, ReachesIn, Reaches, link, IsCut, NoSharedSlots}
+use Rattle.prune.specs.Pruning.{IsOf, IsLoose}
+use Rattle.prune.proofs.Links.{same_some, link-of, member-version}
+
+pub place-of : (q : ℕ) (xs : List ℕ) → Contains xs q → (j : ℕ) × (j < length xs) × (get_or xs j 0 ≡ q)
+place-of q xs c = any-place q xs (contains-any q xs c)
+
+pub at-place : (q : ℕ) (xs : List ℕ) (j : ℕ) → j < length xs → get_or xs j 0 ≡ q → Contains xs q
+at-place q xs j h e = any-contains q xs (place-any q xs j h e)
+
+-- a slot among the first of a chain
+pub place-in_front : (q cut : ℕ) (xs : List ℕ) → cut ≤ length xs → list_any (nat_eq q) (take cut xs) ≡ true → (j : ℕ) × (j < cut) × (get_or xs j 0 ≡ q)
+place-in_front q cut xs within e =
+    let p = any-place q (take cut xs) e in
+    let long = length-take-le cut xs within in
+    let below : p.0 < cut = (let h = p.1 in omega arith) in
+    (p.0, below, sym (get_or-take cut xs p.0 0 below) ∙ p.2)
+
+pub in_front-place : (q cut j : ℕ) (xs : List ℕ) → cut ≤ length xs → j < cut → get_or xs j 0 ≡ q → list_any (nat_eq q) (take cut xs) ≡ true
+in_front-place q cut j xs within h e =
+    let long = length-take-le cut xs within in
+    place-any q (take cut xs) j (omega arith) (get_or-take cut xs j 0 h ∙ e)
+
+-- a version leads to itself first
+pub first-normal : (slots : List Slot) (n : ℕ) (t : Version) → version_at slots n ≡ Some t → first_of slots n ≡ Some n
+first-normal slots n t e = ap (option_and_then (start_in slots n)) (slot_at-from_version_at slots n t e)
+
+pub chain-first : (aborted : ℕ → Bool) (slots : List Slot) (n k : ℕ) (chain : List ℕ) → IsChain aborted slots n chain → first_of slots n ≡ Some k
+    → (0 < length chain) × (get_or chain 0 0 ≡ k)
+chain-first aborted slots n k chain c e =
+    let at = c.start ∙ e in (slice_get_within chain 0 k at, get_or_from_slice_get chain 0 k 0 at)
+
+-- whatever comes after the first is heap-only
+pub later-heap_only : (aborted : ℕ → Bool) (slots : List Slot) (n : ℕ) (chain : List ℕ) (j : ℕ) (t : Version) → IsChain aborted slots n chain
+    → j < length chain → 0 < j → version_at slots (get_or chain j 0) ≡ Some t → is_heap_only t.header ≡ true
+later-heap_only aborted slots n chain zero t c h some e = absurd (omega arith)
+later-heap_only aborted slots n chain (suc i) t c h some e =
+    let one : i + 1 ≡ suc i = omega arith in
+    let l = link-of aborted slots (get_or chain i 0) (get_or chain (i + 1) 0) (c.linked i (omega arith)) in
+    let same : l.new ≡ t = same_some l.new t (sym l.to ∙ ap (λ k. version_at slots (get_or chain k 0)) one ∙ e) in
+    subst (λ (v : Version). is_heap_only v.header ≡ true) same l.heap_only
+
+pub root-plain : (slots : List Slot) (n : ℕ) (t : Version) → is_root slots n ≡ true → version_at slots n ≡ Some t → is_heap_only t.header ≡ false
+root-plain slots n t starts e =
+    let f = ap is_root_in (slot_at-from_version_at slots n t e) in plain (is_heap_only t.header) (sym f ∙ starts)
+  where
+    plain : (b : Bool) → not b ≡ true → b ≡ false
+    plain true e = absurd (cc)
+    plain false e = refl
+
+-- a root in any chain stands first there
+pub root-first : (aborted : ℕ → Bool) (slots : List Slot) (root n : ℕ) (chain : List ℕ) → IsChain aborted slots root chain → is_root slots n ≡ true
+    → Contains chain n → get_or chain 0 0 ≡ n
+root-first aborted slots root n chain c starts holds = by p.0 p.1 p.2
+  where
+    p : (j : ℕ) × (j < length chain) × (get_or chain j 0 ≡ n)
+    p = place-of n chain holds
+
+    by : (j : ℕ) → j < length chain → get_or chain j 0 ≡ n → get_or chain 0 0 ≡ n
+    by zero h e = e
+    by (suc j) h e =
+        let v = member-version aborted slots root chain (suc j) c h in
+        let yes = later-heap_only aborted slots root chain (suc j) v.version c h (omega arith) v.there in
+        let plain = root-plain slots n v.version starts (ap (version_at slots) (sym e) ∙ v.there) in
+        absurd (cc)
+
+-- so it leads to itself
+pub root-leads : (aborted : ℕ → Bool) (slots : List Slot) (root n : ℕ) (chain : List ℕ) → IsChain aborted slots root chain → is_root slots n ≡ true
+    → Contains chain n → LeadsTo aborted slots n n
+root-leads aborted slots root n chain c starts holds =
+    let p = place-of n chain holds in
+    let v = member-version aborted slots root chain p.0 c p.1 in
+    let first = root-first aborted slots root n chain c starts holds in
+    let some : 0 < length chain = (let h = p.1 in omega arith) in
+    let at : version_at slots n ≡ Some v.version = ap (version_at slots) (sym p.2) ∙ v.there in
+    record {
+      starts = starts;
+      chain = chain;
+      is_chain = record {
+        start = slice_get-get_or chain 0 0 some ∙ ap Some first ∙ sym (first-normal slots n v.version at);
+        linked = c.linked;
+        distinct = c.distinct;
+        end = c.end;
+      };
+      holds = holds;
+    }
+
+-- where no slot is in two chains, a slot is of one root alone
+pub of-one : (aborted : ℕ → Bool) (slots : List Slot) (a b n : ℕ) (c d : List ℕ) → NoSharedSlots aborted slots → IsOf aborted slots a c n → IsOf aborted slots b d n → a ≡ b
+of-one aborted slots a b n c d apart x y = ⊎_elim
+    (λ xa. ⊎_elim (λ yb. sym xa ∙ yb) (λ yd. itself a b c d x.starts y (subst (Contains d) xa yd)) y.holds)
+    (λ xc. ⊎_elim (λ yb. sym (itself b a d c y.starts x (subst (Contains c) yb xc)))
+    (λ yd. apart a b n (record { starts = x.starts; chain = c; is_chain = x.is_chain; holds = xc }) (record { starts = y.starts; chain = d; is_chain = y.is_chain; holds = yd })) y.holds)
+    x.holds
+  where
+    itself : (a b : ℕ) (c d : List ℕ) → is_root slots a ≡ true → IsOf aborted slots b d n → Contains d a → a ≡ b
+    itself a b c d starts y holds = apart a b a (root-leads aborted slots b a d y.is_chain starts holds)
+        (record { starts = y.starts; chain = d; is_chain = y.is_chain; holds = holds })
+
+pub of-not_loose : (aborted : ℕ → Bool) (slots : List Slot) (root n : ℕ) (chain : List ℕ) → IsOf aborted slots root chain n → ¬ IsLoose aborted slots n
+of-not_loose aborted slots root n chain o l = ⊎_elim
+    (λ same. let e = ap (is_root slots) same in let s = o.starts in let f = l.no_root in absurd (cc))
+    (λ holds. l.unreached root (record { starts = o.starts; chain = chain; is_chain = o.is_chain; holds = holds })) o.holds
+
+-- From slot to slot.
+
+pub forward : (next : ℕ → Option ℕ) (chain : List ℕ) (i j : ℕ) → ((i : ℕ) → i + 1 < length chain → next (get_or chain i 0) ≡ Some (get_or chain (i + 1) 0))
+    → i + j < length chain → ReachesIn next j (get_or chain i 0) (get_or chain (i + j) 0)
+forward next chain i zero linked within =
+    let e : i ≡ i + 0 = omega arith in
+    ap (λ k. get_or chain k 0) e
+forward next chain i (suc j) linked within =
+    let e : i + 1 + j ≡ i + suc j = omega arith in (
+      get_or chain (i + 1) 0,
+      linked i (omega arith),
+      subst (λ k. ReachesIn next j (get_or chain (i + 1) 0) (get_or chain k 0)) e (forward next chain (i + 1) j linked (omega arith)),
+    )
+
+pub reaches-places : (w : Window) (slots : List Slot) (n : ℕ) (chain : List ℕ) (i k : ℕ) → IsChain (has_aborted w) slots n chain → i ≤ k → k < length chain
+    → Reaches (link w slots) (get_or chain i 0) (get_or chain k 0)
+reaches-places w slots n chain i k c le within =
+    let gap : i + (k - i) ≡ k = omega arith in
+    record { turns = k - i; along = subst (λ j. ReachesIn (link w slots) (k - i) (get_or chain i 0) (get_or chain j 0)) gap (forward (link w slots) chain i (k - i) c.linked (omega arith)) }
+
+-- what is in the front of a chain that is cut is cut
+pub front-cut : (w : Window) (horizon : ℕ) (slots : List Slot) (n : ℕ) (chain : List ℕ) (cut i : ℕ) → IsChain (has_aborted w) slots n chain
+    → IsCutCount w horizon slots chain cut → i < cut → IsCut w horizon slots (get_or chain i 0)
+front-cut w horizon slots n chain cut i c count h = record {
+  last = get_or chain (cut - 1) 0;
+  later = reaches-places w slots n chain i (cut - 1) c (omega arith) (let l = count.within in omega arith);
+  dead = count.dead (omega arith);
+}

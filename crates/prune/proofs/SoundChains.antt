@@ -1,0 +1,253 @@
+-- The chains of a sound page: links and lists say the same.
+use Rattle.std.proofs.Common.{◌≡◌, ℕ, zero, suc, ◌+◌, ◌-◌, ◌<◌, ◌≤◌, ◌==◌, ◌&&◌, Bool, true, false, not, nat_eq, if◌then◌else◌, List, [], ◌∷◌, ◌++◌, length, length-append, get_or, take, Option, Some, None, is_some, arith, ⊎_elim, sym, ap, ◌∙◌, refl, subst, slice_get}
+use Rattle.std.specs.List.{list_any}
+use Rattle.std.specs.Option.{option_and_then, option_map}
+use Rattle.std.proofs.lemmas.Bool.{cases_lt, cases_Bool, eqb-true}
+use Rattle.std.proofs.lemmas.Option.{slice_get-get_or}
+use Rattle.page_slots.specs.declared.slot.Slot.{Slot}
+use Rattle.page_slots.specs.declared.slot.Slot.TheVariants.{Unused, Normal, Redirect, Dead}
+use Rattle.page_slots.specs.Slots.{slot_at, version_at}
+use Rattle.tuple_header.specs.Version.{Version}
+use Rattle.tuple_header.specs.declared.version.Header.{Header}
+use Rattle.tuple_header.specs.Marks.{is_frozen, is_heap_only}
+use Rattle.commit_status.specs.Window.{Window, IsAborted}
+use Rattle.visibility.specs.Visible.{IsFrozen}
+use Rattle.hot_chain.specs.Chain.{has_aborted, is_root, is_root_in, first_of, start_in, next_of, IsChain, IsEnd, LeadsTo}
+use Rattle.hot_chain.proofs.Walks.{Walk, walk-none, walk-more, walk-room, chain-from_walk}
+use Rattle.hot_chain.proofs.Chains.{any-place}
+use Rattle.prune.specs.declared.action.Action.{Action}
+use Rattle.prune.specs.declared.action.Action.TheVariants as action
+use Rattle.prune.specs.Cutting.{IsDeadAt, IsCutCount, IsCut, ReachesIn, Reaches, link, NoSharedSlots}
+use Rattle.prune.specs.Pruning.{root_action, chain_action, loose_in, loose_action, IsOf, Does, by_root, by_none, IsPruned}
+use Rattle.prune.specs.Sound.{entry_in, entry_of, IsIn, SoundPage}
+use Rattle.prune.proofs.Links.{same_some, link-of, first-version, version-there}
+use Rattle.prune.proofs.Listing.{chosen, passed, same-eq}
+use Rattle.prune.proofs.ChainPlaces.{place-of, at-place, in_front-place, first-normal, chain-first, reaches-places}
+use Rattle.prune.proofs.Removing.{acted-version, pruned-removes}
+use Rattle.prune.proofs.Unseen.{aborted-has}
+use Rattle.prune.proofs.CheckLemmas.{plain-root}
+
+-- each slot has a chain
+pub record SomeChain (aborted : ℕ → Bool) (slots : List Slot) (n : ℕ) : Type 0 where
+  pub chain : List ℕ
+  pub is : IsChain aborted slots n chain
+
+pub chain-exists : (aborted : ℕ → Bool) (slots : List Slot) (n : ℕ) → length slots ≤ 291 → SomeChain aborted slots n
+chain-exists aborted slots n few =
+    go 292 [] (first_of slots n) (walk-none next (first_of slots n) (first_of slots n) refl first-small) (omega arith)
+  where
+    next : ℕ → Option ℕ
+    next = next_of aborted slots
+
+    first-small : (k : ℕ) → first_of slots n ≡ Some k → k < 292
+    first-small k e = let v = first-version slots n k e in let there = (version-there slots k v.version v.there).1 in omega arith
+
+    next-small : (m k : ℕ) → next_of aborted slots m ≡ Some k → k < 292
+    next-small m k e = let l = link-of aborted slots m k e in let there = (version-there slots k l.new l.to).1 in omega arith
+
+    go : (fuel : ℕ) (visited : List ℕ) (at : Option ℕ) → Walk (next_of aborted slots) (first_of slots n) visited at → 292 ≤ fuel + length visited → SomeChain aborted slots n
+    go fuel visited None w h = record { chain = visited; is = chain-from_walk aborted slots n visited None w tt }
+    go zero visited (Some m) w h = ⊎_elim
+        (λ t. record { chain = visited; is = chain-from_walk aborted slots n visited (Some m) w t })
+        (λ f. absurd (let room = walk-room (next_of aborted slots) (first_of slots n) visited m w f in omega arith))
+        (cases_Bool (list_any (nat_eq m) visited))
+    go (suc fuel) visited (Some m) w h = ⊎_elim
+        (λ t. record { chain = visited; is = chain-from_walk aborted slots n visited (Some m) w t })
+        (λ f.
+        let long = length-append visited (m ∷ []) in
+        go fuel (visited ++ m ∷ []) (next_of aborted slots m) (walk-more (next_of aborted slots) (first_of slots n) visited m (next_of aborted slots m) w f refl (next-small m)) (omega arith))
+        (cases_Bool (list_any (nat_eq m) visited))
+
+-- the last of a chain leads nowhere
+end-none : (w : Window) (horizon : ℕ) (slots : List Slot) (n : ℕ) (chain : List ℕ) (last : ℕ) (o : Option ℕ) → SoundPage w horizon slots → IsChain (has_aborted w) slots n chain
+    → last + 1 ≡ length chain → link w slots (get_or chain last 0) ≡ o → IsEnd chain o → o ≡ None
+end-none w horizon slots n chain last None sound c size e end = refl
+end-none w horizon slots n chain last (Some y) sound c size e end =
+    let p = any-place y chain end in
+    let r = reaches-places w slots n chain p.0 last c (let b = p.1 in omega arith) (omega arith) in
+    absurd (sound.ends (get_or chain last 0) y e (subst (λ x. Reaches (link w slots) x (get_or chain last 0)) p.2 r))
+
+pub chain-ends : (w : Window) (horizon : ℕ) (slots : List Slot) (n : ℕ) (chain : List ℕ) (last : ℕ) → SoundPage w horizon slots → IsChain (has_aborted w) slots n chain
+    → last + 1 ≡ length chain → link w slots (get_or chain last 0) ≡ None
+chain-ends w horizon slots n chain last sound c size =
+    let place : length chain - 1 ≡ last = omega arith in
+    end-none w horizon slots n chain last (link w slots (get_or chain last 0)) sound c size refl
+    (subst (λ k. IsEnd chain (link w slots (get_or chain k 0))) place (c.end (omega arith)))
+
+-- what a chain's slot comes to is in the chain
+pub record IsLater (chain : List ℕ) (i j x : ℕ) : Type 0 where
+  pub within : i + j < length chain
+  pub is : x ≡ get_or chain (i + j) 0
+
+pub exact : (w : Window) (horizon : ℕ) (slots : List Slot) (n : ℕ) (chain : List ℕ) (i j x : ℕ) → SoundPage w horizon slots → IsChain (has_aborted w) slots n chain
+    → i < length chain → ReachesIn (link w slots) j (get_or chain i 0) x → IsLater chain i j x
+exact w horizon slots n chain i zero x sound c within along =
+    let e : i ≡ i + 0 = omega arith in
+    record { within = omega arith; is = sym along ∙ ap (λ k. get_or chain k 0) e }
+exact w horizon slots n chain i (suc j) x sound c within along = ⊎_elim
+    (λ more.
+    let same : along.0 ≡ get_or chain (i + 1) 0 = same_some along.0 (get_or chain (i + 1) 0) (sym along.1 ∙ c.linked i more) in
+    let rest = exact w horizon slots n chain (i + 1) j x sound c more (subst (λ k. ReachesIn (link w slots) j k x) same along.2) in
+    let e : i + 1 + j ≡ i + suc j = omega arith in
+    record { within = subst (λ k. k < length chain) e rest.within; is = rest.is ∙ ap (λ k. get_or chain k 0) e })
+    (λ past.
+    let none = chain-ends w horizon slots n chain i sound c (omega arith) in
+    let f : None ≡ Some along.0 = sym none ∙ along.1 in
+    absurd (cc))
+    (cases_lt (i + 1) (length chain))
+
+-- what comes after the last dead version is not cut
+pub uncut-place : (w : Window) (horizon : ℕ) (slots : List Slot) (n : ℕ) (chain : List ℕ) (cut j : ℕ) → SoundPage w horizon slots → IsChain (has_aborted w) slots n chain
+    → IsCutCount w horizon slots chain cut → cut ≤ j → j < length chain → ¬ IsCut w horizon slots (get_or chain j 0)
+uncut-place w horizon slots n chain cut j sound c count le within is =
+    let later = exact w horizon slots n chain j is.later.turns is.last sound c within is.later.along in
+    count.none_after (j + is.later.turns) (omega arith) later.within (subst (IsDeadAt w horizon slots) later.is is.dead)
+
+-- Entries.
+
+pub entry-root : (slots : List Slot) (n e : ℕ) → entry_of slots n ≡ Some e → is_root slots n ≡ true
+entry-root slots n e leads = by (slot_at slots n) leads
+  where
+    by : (o : Option Slot) → entry_in n o ≡ Some e → is_root_in o ≡ true
+    by None f = absurd (cc)
+    by (Some Unused) f = absurd (cc)
+    by (Some (Normal t)) f = plain (is_heap_only t.header) f
+      where
+        plain : (b : Bool) → (if b then None else Some n) ≡ Some e → not b ≡ true
+        plain true g = absurd (cc)
+        plain false g = refl
+    by (Some (Redirect k)) f = refl
+    by (Some Dead) f = absurd (cc)
+
+-- a root's entry is where its chain starts
+pub first-entry : (slots : List Slot) (n f : ℕ) → is_root slots n ≡ true → first_of slots n ≡ Some f → entry_of slots n ≡ Some f
+first-entry slots n f starts first = by (slot_at slots n) starts first
+  where
+    by : (o : Option Slot) → is_root_in o ≡ true → option_and_then (start_in slots n) o ≡ Some f → entry_in n o ≡ Some f
+    by None s e = absurd (cc)
+    by (Some Unused) s e = absurd (cc)
+    by (Some (Normal t)) s e = plain (is_heap_only t.header) s e
+      where
+        plain : (b : Bool) → not b ≡ true → Some n ≡ Some f → (if b then None else Some n) ≡ Some f
+        plain true s e = absurd (cc)
+        plain false s e = e
+    by (Some (Redirect k)) s e = there (is_some (version_at slots k)) e
+      where
+        there : (b : Bool) → (if b then Some k else None) ≡ Some f → Some k ≡ Some f
+        there true e = e
+        there false e = absurd (cc)
+    by (Some Dead) s e = absurd (cc)
+
+pub entry-first : (w : Window) (horizon : ℕ) (slots : List Slot) (n e : ℕ) → SoundPage w horizon slots → entry_of slots n ≡ Some e → first_of slots n ≡ Some e
+entry-first w horizon slots n e sound leads = by (slot_at slots n) refl leads
+  where
+    by : (o : Option Slot) → slot_at slots n ≡ o → entry_in n o ≡ Some e → option_and_then (start_in slots n) o ≡ Some e
+    by None at f = absurd (cc)
+    by (Some Unused) at f = absurd (cc)
+    by (Some (Normal t)) at f = plain (is_heap_only t.header) f
+      where
+        plain : (b : Bool) → (if b then None else Some n) ≡ Some e → Some n ≡ Some e
+        plain true g = absurd (cc)
+        plain false g = g
+    by (Some (Redirect k)) at f =
+        let target = sound.redirects n k at in
+        ap (λ (o : Option Version). if is_some o then Some k else None) target.there ∙ f
+    by (Some Dead) at f = absurd (cc)
+
+pub in-leads : (w : Window) (horizon : ℕ) (slots : List Slot) (root n : ℕ) → SoundPage w horizon slots → IsIn w slots root n → LeadsTo (has_aborted w) slots root n
+in-leads w horizon slots root n sound i =
+    let c = chain-exists (has_aborted w) slots root sound.few in
+    let first = chain-first (has_aborted w) slots root i.entry c.chain c.is (entry-first w horizon slots root i.entry sound i.leads) in
+    let later = exact w horizon slots root c.chain 0 i.later.turns n sound c.is first.0 (subst (λ k. ReachesIn (link w slots) i.later.turns k n) (sym first.1) i.later.along) in
+    record { starts = entry-root slots root i.entry i.leads; chain = c.chain; is_chain = c.is; holds = at-place n c.chain (0 + i.later.turns) later.within (sym later.is) }
+
+pub leads-in : (w : Window) (slots : List Slot) (root n : ℕ) → LeadsTo (has_aborted w) slots root n → IsIn w slots root n
+leads-in w slots root n l =
+    let p = place-of n l.chain l.holds in
+    let some : 0 < length l.chain = (let h = p.1 in omega arith) in
+    let first = sym l.is_chain.start ∙ slice_get-get_or l.chain 0 0 some in
+    record {
+      entry = get_or l.chain 0 0;
+      leads = first-entry slots root (get_or l.chain 0 0) l.starts first;
+      later = subst (λ k. Reaches (link w slots) (get_or l.chain 0 0) k) p.2 (reaches-places w slots root l.chain 0 p.0 l.is_chain (omega arith) p.1);
+    }
+
+pub sound-unshared : (w : Window) (horizon : ℕ) (slots : List Slot) → SoundPage w horizon slots → NoSharedSlots (has_aborted w) slots
+sound-unshared w horizon slots sound a b n x y = sound.alone a b n (leads-in w slots a n x) (leads-in w slots b n y)
+
+-- What stays is not cut.
+
+root-none : (cut : ℕ) (o : Option ℕ) → root_action cut o ≡ None → cut ≡ 0
+root-none zero o e = refl
+root-none (suc cut) None e = absurd (cc)
+root-none (suc cut) (Some k) e = absurd (cc)
+
+pub record IsPlace (chain : List ℕ) (cut n : ℕ) : Type 0 where
+  pub place : ℕ
+  pub after : cut ≤ place
+  pub within : place < length chain
+  pub is : get_or chain place 0 ≡ n
+
+-- a version to which nothing is done comes after what is cut
+spared-place : (aborted : ℕ → Bool) (slots : List Slot) (root cut n : ℕ) (chain : List ℕ) (t : Version) → version_at slots n ≡ Some t → IsOf aborted slots root chain n → cut ≤ length chain
+    → chain_action root chain cut n ≡ None → IsPlace chain cut n
+spared-place aborted slots root cut n chain t at o within none = ⊎_elim
+    (λ yes_root.
+    let same = eqb-true n root yes_root in
+    let zero_is = root-none cut (slice_get chain cut) (sym (chosen (n == root) (root_action cut (slice_get chain cut)) (if list_any (nat_eq n) (take cut chain) then Some action.Unuse else None) yes_root) ∙ none) in
+    let first = chain-first aborted slots root n chain o.is_chain (ap (first_of slots) (sym same) ∙ first-normal slots n t at) in
+    record { place = 0; after = omega arith; within = first.0; is = first.1 })
+    (λ other. ⊎_elim
+    (λ same. absurd (let e = same-eq n root same in cc))
+    (λ holds.
+    let p = place-of n chain holds in
+    ⊎_elim
+    (λ lt.
+    let front = in_front-place n cut p.0 chain within lt p.2 in
+    let e = sym (chosen (list_any (nat_eq n) (take cut chain)) (Some action.Unuse) None front)
+    ∙ sym (passed (n == root) (root_action cut (slice_get chain cut)) (if list_any (nat_eq n) (take cut chain) then Some action.Unuse else None) other) ∙ none in
+    absurd (cc))
+    (λ ge. record { place = p.0; after = ge; within = p.1; is = p.2 })
+    (cases_lt p.0 cut))
+    o.holds)
+    (cases_Bool (n == root))
+
+thaw : (h : Header) → ¬ IsFrozen h → is_frozen h ≡ false
+thaw h never = ⊎_elim (λ t. absurd (never t)) (λ f. f) (cases_Bool (is_frozen h))
+
+lost-some : (w : Window) (slots : List Slot) (n : ℕ) (t : Version) → version_at slots n ≡ Some t → is_heap_only t.header ≡ true → ¬ IsFrozen t.header → IsAborted w t.header.xmin.0
+    → loose_action w slots n ≡ Some action.Unuse
+lost-some w slots n t at heap_only thawed aborted =
+    ap (loose_in w) (ap (option_map (λ v. v.header)) at) ∙ three (is_heap_only t.header) (is_frozen t.header) (has_aborted w t.header.xmin.0) heap_only (thaw t.header thawed) (aborted-has w t.header.xmin.0 aborted)
+  where
+    three : (a b c : Bool) → a ≡ true → b ≡ false → c ≡ true → (if a && (not b && c) then Some action.Unuse else None) ≡ Some action.Unuse
+    three true false true e f g = refl
+    three false b c e f g = absurd (cc)
+    three a true c e f g = absurd (cc)
+    three a b false e f g = absurd (cc)
+
+pub version-kept : (w : Window) (horizon : ℕ) (slots after : List Slot) (n : ℕ) (t : Version) → SoundPage w horizon slots → IsPruned w horizon slots after → version_at after n ≡ Some t
+    → (version_at slots n ≡ Some t) × ¬ IsCut w horizon slots n
+version-kept w horizon slots after n t sound p at =
+    let old = (pruned-removes w horizon slots after p).kept n t at in
+    let each = p.each n (version-there slots n t old) in
+    let none = (acted-version (slot_at slots n) (slot_at after n) each.answer t each.is at).0 in
+    (old, by each.answer old each.does none)
+  where
+    by : (o : Option Action) → version_at slots n ≡ Some t → Does w horizon slots n o → o ≡ None → ¬ IsCut w horizon slots n
+    by o old (by_root root chain cut i c e) none =
+        let s = spared-place (has_aborted w) slots root cut n chain t old i c.within (sym e ∙ none) in
+        subst (λ k. ¬ IsCut w horizon slots k) s.is (uncut-place w horizon slots root chain cut s.place sound i.is_chain c s.after s.within)
+    by o old (by_none l e) none = λ cut. ⊎_elim
+        (λ heap_only. ⊎_elim
+        (λ u. let f = lost-some w slots n t old heap_only u.0 u.1 in let g : Some action.Unuse ≡ None = sym f ∙ sym e ∙ none in absurd (cc))
+        (λ r. l.unreached r.root (in-leads w horizon slots r.root n sound r.leads))
+        (sound.owned n t old heap_only))
+        (λ plain. let starts = plain-root slots n t old plain in let off = l.no_root in absurd (cc))
+        (cases_Bool (is_heap_only t.header))
+
+-- no version is dead
+pub pruned-none_dead : (w : Window) (horizon : ℕ) (slots after : List Slot) → SoundPage w horizon slots → IsPruned w horizon slots after → (n : ℕ) → ¬ IsDeadAt w horizon after n
+pruned-none_dead w horizon slots after sound p n dead =
+    let old = version-kept w horizon slots after n dead.version sound p dead.there in
+    old.1 (record { last = n; later = record { turns = 0; along = refl }; dead = record { version = dead.version; there = old.0; dead = dead.dead } })

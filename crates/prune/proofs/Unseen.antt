@@ -1,0 +1,138 @@
+-- No reader sees a version that is cut.
+use Rattle.std.proofs.Common.{◌≡◌, ◌≢◌, ◌⊎◌, ◌↔◌, ℕ, zero, suc, true, false, List, Some, inl, inr, ⊎_elim, sym, ap, ◌∙◌, refl, subst}
+use Rattle.std.specs.List.{Contains}
+use Rattle.page_slots.specs.declared.slot.Slot.{Slot}
+use Rattle.page_slots.specs.Slots.{version_at}
+use Rattle.tuple_header.specs.Version.{Version}
+use Rattle.commit_status.specs.declared.status.Status.TheVariants.{InProgress, Committed, Aborted}
+use Rattle.commit_status.specs.Window.{Window, IsActive, IsCommitted, IsAborted, IsUpToNext, status_of}
+use Rattle.commit_status.proofs.Places.{upto-place}
+use Rattle.commit_status.proofs.Giving.{finished-place}
+use Rattle.snapshot.specs.Snap.{Snap}
+use Rattle.snapshot.proofs.Sights.{past-seen}
+use Rattle.visibility.specs.Visible.{IsFrozen, Reads, VisibleBy, IsDead}
+use Rattle.hot_chain.specs.Chain.{has_aborted, is_aborted}
+use Rattle.prune.specs.Cutting.{link, ReachesIn, IsCut, Removes}
+use Rattle.prune.specs.Readers.{FindsBy, IsReader, IsOpenReader, KeepsFound}
+use Rattle.prune.specs.Sound.{SoundPage}
+use Rattle.prune.proofs.Links.{link-of, same_some}
+
+pub record IsUndoneAt (w : Window) (slots : List Slot) (n : ℕ) : Type 0 where
+  pub version : Version
+  pub there : version_at slots n ≡ Some version
+  pub thawed : ¬ IsFrozen version.header
+  pub aborted : IsAborted w version.header.xmin.0
+
+-- deleted by a committed id that the reader counts
+pub record IsGone (w : Window) (slots : List Slot) (R : ℕ → Type 0) (n : ℕ) : Type 0 where
+  pub version : Version
+  pub there : version_at slots n ≡ Some version
+  pub deleted : IsCommitted w version.header.xmax.0
+  pub counted : R version.header.xmax.0
+
+pub aborted-has : (w : Window) (x : ℕ) → IsAborted w x → has_aborted w x ≡ true
+aborted-has w x e = ap is_aborted e
+
+-- 0 is no id, so it is not committed
+pub committed-some : (w : Window) (x : ℕ) → IsCommitted w x → x ≢ 0
+committed-some w x done same =
+    let none : status_of w 0 ≡ InProgress = refl in
+    let e : Committed ≡ InProgress = sym done ∙ ap (status_of w) same ∙ none in
+    absurd (cc)
+
+-- a link leads to no version whose maker is aborted
+undone-unlinked : (w : Window) (slots : List Slot) (n k : ℕ) → link w slots n ≡ Some k → ¬ IsUndoneAt w slots k
+undone-unlinked w slots n k next u =
+    let l = link-of (has_aborted w) slots n k next in
+    let same : u.version ≡ l.new = same_some u.version l.new (sym u.there ∙ l.to) in
+    let id : u.version.header.xmin.0 ≡ l.old.header.xmax.0 = ap (λ (v : Version). v.header.xmin.0) same ∙ l.made in
+    let e : has_aborted w l.old.header.xmax.0 ≡ true = ap (has_aborted w) (sym id) ∙ aborted-has w u.version.header.xmin.0 u.aborted in
+    let f : false ≡ true = sym l.live ∙ e in
+    absurd (cc)
+
+undone-alone : (w : Window) (slots : List Slot) (i n k : ℕ) → ReachesIn (link w slots) i n k → IsUndoneAt w slots k → IsUndoneAt w slots n
+undone-alone w slots zero n k same u = subst (IsUndoneAt w slots) (sym same) u
+undone-alone w slots (suc i) n k along u =
+    absurd (undone-unlinked w slots n along.0 along.1 (undone-alone w slots i along.0 k along.2 u))
+
+gone-before : (w : Window) (horizon : ℕ) (slots : List Slot) (R : ℕ → Type 0) (n k : ℕ) → SoundPage w horizon slots → IsReader w horizon slots R
+    → link w slots n ≡ Some k → IsGone w slots R k → IsGone w slots R n
+gone-before w horizon slots R n k sound reader next gone =
+    let l = link-of (has_aborted w) slots n k next in
+    let same : gone.version ≡ l.new = same_some gone.version l.new (sym gone.there ∙ l.to) in
+    let deleted : IsCommitted w l.new.header.xmax.0 = subst (λ (v : Version). IsCommitted w v.header.xmax.0) same gone.deleted in
+    let counted : R l.new.header.xmax.0 = subst (λ (v : Version). R v.header.xmax.0) same gone.counted in
+    let thawed : ¬ IsFrozen l.new.header = sound.unfrozen n k l.new next l.to in
+    let made : IsCommitted w l.new.header.xmin.0 = ⊎_elim (λ f. absurd (thawed f)) (λ c. c) (sound.made k l.new l.to deleted) in
+    let seen : R l.new.header.xmin.0 = ⊎_elim (λ f. absurd (thawed f)) (λ r. r) (reader.in_order k l.new l.to deleted counted) in
+    record {
+      version = l.old;
+      there = l.from;
+      deleted = subst (IsCommitted w) l.made made;
+      counted = subst R l.made seen;
+    }
+
+gone-along : (w : Window) (horizon : ℕ) (slots : List Slot) (R : ℕ → Type 0) (i n k : ℕ) → SoundPage w horizon slots → IsReader w horizon slots R
+    → ReachesIn (link w slots) i n k → IsGone w slots R k → IsGone w slots R n
+gone-along w horizon slots R zero n k sound reader same gone = subst (IsGone w slots R) (sym same) gone
+gone-along w horizon slots R (suc i) n k sound reader along gone =
+    gone-before w horizon slots R n along.0 sound reader along.1 (gone-along w horizon slots R i along.0 k sound reader along.2 gone)
+
+-- what is cut was never made, or the reader sees it deleted
+cut-cases : (w : Window) (horizon : ℕ) (slots : List Slot) (R : ℕ → Type 0) (n : ℕ) → SoundPage w horizon slots → IsReader w horizon slots R
+    → IsCut w horizon slots n → IsUndoneAt w slots n ⊎ IsGone w slots R n
+cut-cases w horizon slots R n sound reader cut = by cut.dead.version cut.dead.there cut.dead.dead
+  where
+    by : (t : Version) → version_at slots cut.last ≡ Some t → IsDead w horizon t.header → IsUndoneAt w slots n ⊎ IsGone w slots R n
+    by t at (IsDead.never_was thawed aborted) =
+        inl (undone-alone w slots cut.later.turns n cut.last cut.later.along (record { version = t; there = at; thawed = thawed; aborted = aborted }))
+    by t at (IsDead.is_past done before) =
+        inr (gone-along w horizon slots R cut.later.turns n cut.last sound reader cut.later.along
+        (record { version = t; there = at; deleted = done; counted = reader.past t.header.xmax.0 done before }))
+
+pub cut-unseen : (w : Window) (horizon : ℕ) (slots : List Slot) (R : ℕ → Type 0) (n : ℕ) (t : Version) → SoundPage w horizon slots → IsReader w horizon slots R
+    → version_at slots n ≡ Some t → VisibleBy R t.header → ¬ IsCut w horizon slots n
+cut-unseen w horizon slots R n t sound reader at seen cut = ⊎_elim never gone (cut-cases w horizon slots R n sound reader cut)
+  where
+    never : IsUndoneAt w slots n → ⊥
+    never u =
+        let same : u.version ≡ t = same_some u.version t (sym u.there ∙ at) in
+        let thawed = subst (λ (v : Version). ¬ IsFrozen v.header) same u.thawed in
+        let aborted = subst (λ (v : Version). IsAborted w v.header.xmin.0) same u.aborted in
+        ⊎_elim (λ f. thawed f) (λ r. reader.none_aborted t.header.xmin.0 aborted r) seen.made
+
+    gone : IsGone w slots R n → ⊥
+    gone g =
+        let same : g.version ≡ t = same_some g.version t (sym g.there ∙ at) in
+        let deleted = subst (λ (v : Version). IsCommitted w v.header.xmax.0) same g.deleted in
+        seen.kept (committed-some w t.header.xmax.0 deleted) (subst (λ (v : Version). R v.header.xmax.0) same g.counted)
+
+-- where all that goes would be cut, each reader finds what it found
+pub removed-found : (w : Window) (horizon : ℕ) (slots after : List Slot) (R : ℕ → Type 0) → SoundPage w horizon slots → Removes w horizon slots after
+    → IsReader w horizon slots R → (n : ℕ) (t : Version) → FindsBy R slots n t ↔ FindsBy R after n t
+removed-found w horizon slots after R sound removes reader n t = (
+  (λ f. ⊎_elim (λ there. record { there = there; seen = f.seen }) (λ cut. absurd (cut-unseen w horizon slots R n t sound reader f.there f.seen cut)) (removes.gone n t f.there)),
+  (λ f. record { there = removes.kept n t f.there; seen = f.seen }),
+)
+
+-- A snapshot with own ids is such a reader.
+
+committed-upto : (w : Window) (x : ℕ) → IsCommitted w x → IsUpToNext w x
+committed-upto w x done =
+    let found = finished-place w x (λ e. let f : Committed ≡ InProgress = sym done ∙ e in cc) in
+    upto-place w x found.0 found.1
+
+aborted-unread : (w : Window) (s : Snap) (own : List ℕ) (x : ℕ) → ((y : ℕ) → Contains own y → IsActive w y) → IsAborted w x → ¬ Reads w s own x
+aborted-unread w s own x active gone (Reads.by_itself c) = let e : Aborted ≡ InProgress = sym gone ∙ (active x c).unfinished in absurd (cc)
+aborted-unread w s own x active gone (Reads.by_others sees done) = let e : Aborted ≡ Committed = sym gone ∙ done in absurd (cc)
+
+pub open-reader : (w : Window) (horizon : ℕ) (slots : List Slot) (s : Snap) (own : List ℕ) → IsOpenReader w horizon slots s own → IsReader w horizon slots (Reads w s own)
+open-reader w horizon slots s own r = record {
+  past = λ x done before. Reads.by_others (past-seen w s horizon x r.window r.snapshot r.horizon_upto (committed-upto w x done) r.low before) done;
+  none_aborted = λ x gone. aborted-unread w s own x r.active gone;
+  in_order = r.in_order;
+}
+
+pub removed-keeps_found : (w : Window) (horizon : ℕ) (slots after : List Slot) → SoundPage w horizon slots → Removes w horizon slots after → KeepsFound w horizon slots after
+removed-keeps_found w horizon slots after sound removes s own r n t =
+    removed-found w horizon slots after (Reads w s own) sound removes (open-reader w horizon slots s own r) n t

@@ -1,0 +1,38 @@
+use Rattle.std.proofs.Common.{ap, ◌∙◌}
+use Rattle.page_slots.specs.View.{PageView}
+use Rattle.prune.proofs.Listing.{applied-flag, applied-spare}
+use Rattle.prune.proofs.Planned.{plan-pruned}
+use Rattle.prune.proofs.Removing.{pruned-removes, pruned-keeps_roots}
+use Rattle.prune.proofs.Unseen.{removed-keeps_found}
+use Rattle.prune.proofs.SoundChains.{pruned-none_dead}
+use Rattle.prune.proofs.applying.prune.Goals as goal
+
+pub returns-clause-pruned : goal.returns-clause-pruned
+returns-clause-pruned c = plan-pruned c.args.table.now c.args.horizon.0 c.args.page.now c.apply.new.page (record { actions = c.in_ok-actions.actions.actions.items; plan = c.in_ok-actions.ensures.exact; is = c.apply.ensures })
+
+pub returns-clause-removes : goal.returns-clause-removes
+returns-clause-removes c =
+    pruned-removes c.args.table.now c.args.horizon.0 c.args.page.now.slots c.apply.new.page.slots
+    (plan-pruned c.args.table.now c.args.horizon.0 c.args.page.now c.apply.new.page (record { actions = c.in_ok-actions.actions.actions.items; plan = c.in_ok-actions.ensures.exact; is = c.apply.ensures }))
+
+pub returns-clause-roots : goal.returns-clause-roots
+returns-clause-roots c = λ apart.
+    pruned-keeps_roots c.args.table.now c.args.horizon.0 c.args.page.now.slots c.apply.new.page.slots apart
+    (plan-pruned c.args.table.now c.args.horizon.0 c.args.page.now c.apply.new.page (record { actions = c.in_ok-actions.actions.actions.items; plan = c.in_ok-actions.ensures.exact; is = c.apply.ensures }))
+
+pub returns-clause-flag : goal.returns-clause-flag
+returns-clause-flag c = ap (λ (p : PageView). p.flag) c.apply.ensures ∙ applied-flag c.in_ok-actions.actions.actions.items c.args.page.now
+
+pub returns-clause-spare : goal.returns-clause-spare
+returns-clause-spare c = ap (λ (p : PageView). p.spare) c.apply.ensures ∙ applied-spare c.in_ok-actions.actions.actions.items c.args.page.now
+
+pub returns-clause-never_seen : goal.returns-clause-never_seen
+returns-clause-never_seen c = λ sound.
+    removed-keeps_found c.args.table.now c.args.horizon.0 c.args.page.now.slots c.apply.new.page.slots sound
+    (pruned-removes c.args.table.now c.args.horizon.0 c.args.page.now.slots c.apply.new.page.slots
+    (plan-pruned c.args.table.now c.args.horizon.0 c.args.page.now c.apply.new.page (record { actions = c.in_ok-actions.actions.actions.items; plan = c.in_ok-actions.ensures.exact; is = c.apply.ensures })))
+
+pub returns-clause-none_dead : goal.returns-clause-none_dead
+returns-clause-none_dead c = λ sound.
+    pruned-none_dead c.args.table.now c.args.horizon.0 c.args.page.now.slots c.apply.new.page.slots sound
+    (plan-pruned c.args.table.now c.args.horizon.0 c.args.page.now c.apply.new.page (record { actions = c.in_ok-actions.actions.actions.items; plan = c.in_ok-actions.ensures.exact; is = c.apply.ensures }))

@@ -1,0 +1,9 @@
+pub mod Cutting
+pub mod Actions
+pub mod Pruning
+pub mod Readers
+pub mod Sound
+pub mod Checks
+pub mod Laws
+pub mod Marks
+pub mod Named

@@ -1,0 +1,30 @@
+-- What a plan names, as an array by numbers of slots.
+use Rattle.std.specs.Prelude.{◌≡◌, ℕ, ◌<◌, ◌≤◌, true, List, length, Option, Some, None, IsSome, slice_index, slice_index_or}
+use Rattle.page_slots.specs.declared.slot.Slot.{Slot}
+use Rattle.page_slots.specs.Slots.{header_at}
+use Rattle.tuple_header.specs.declared.version.Header.{Header}
+use Rattle.tuple_header.specs.Marks.{is_heap_only}
+use Rattle.commit_status.specs.Window.{Window}
+use Rattle.prune.specs.declared.action.Action.{Action}
+use Rattle.prune.specs.declared.marks.Mark.{Mark}
+use Rattle.prune.specs.declared.marks.Mark.TheVariants.{Loose}
+use Rattle.prune.specs.Pruning.{loose_action}
+use Rattle.prune.specs.Marks.{mark_at}
+use Rattle.prune.specs.declared.action.Action.TheVariants as action
+
+abbrev pub named_at : List (Option Action) → ℕ → Option Action
+named_at named n = slice_index_or named n None
+
+-- the first so many of these slots are named, and the next one isn't
+pub record IsNamedFront (named : List (Option Action)) (numbers : List ℕ) (front : ℕ) : Type 0 where
+  pub within : front ≤ length numbers
+  pub all : (i : ℕ) → i < front → IsSome (named_at named (slice_index numbers i))
+  pub next : front < length numbers → named_at named (slice_index numbers front) ≡ None
+
+-- where it holds a heap-only version, the slot becomes unused
+abbrev pub BecomesUnused : List Slot → List (Option Action) → ℕ → Type 0
+BecomesUnused slots named n = (h : Header) → header_at slots n ≡ Some h → is_heap_only h ≡ true → named_at named n ≡ Some action.Unuse
+
+-- where no chain reaches the slot and it is named, what is done to it is what pruning does
+abbrev pub IsLooseRight : Window → List Slot → List Mark → List (Option Action) → ℕ → Type 0
+IsLooseRight w slots marks named n = mark_at marks n ≡ Loose → (a : Action) → named_at named n ≡ Some a → loose_action w slots n ≡ Some a

@@ -1,0 +1,189 @@
+//! Whether a plan may be applied to a page.
+
+ghost use Rattle.std.specs.Prelude.{◌≡◌, ◌≤◌, ◌<◌, ◌↔◌, ℕ, IsTrue, None, Some, true, length, slice_index};
+ghost use Rattle.xid_circle.specs.Circle.{IsNormal};
+ghost use Rattle.tuple_header.specs.Marks.{is_heap_only};
+ghost use Rattle.hot_chain.specs.Chain.{is_root};
+ghost use Rattle.prune.specs.Actions.{AreInOrder, CanApply, action_of};
+ghost use Rattle.prune.specs.Pruning.{loose_action};
+ghost use Rattle.prune.specs.Marks.{AreNumbers};
+ghost use Rattle.prune.specs.Checks.{HasFront, Checks};
+ghost use Rattle.prune.specs.Named.{named_at, IsNamedFront, BecomesUnused, IsLooseRight};
+
+use crate::action::{Action, PrunePlan};
+use crate::marks::{Mark, Marks, cut_count, is_root, marks_of, root_action};
+use crate::planning::loose_action;
+use commit_status::StatusTable;
+use hot_chain::chain;
+use page_slots::Page;
+use xid_circle::Xid;
+
+/// What a plan does to each slot, by its number, from 0 to 291.
+type Named = [Option<Action>; 292];
+
+/// Whether a plan was made for the page as it is now.
+fn is_fresh(page: &Page, plan: &PrunePlan) -> bool
+    ensures { IsTrue result ↔ (plan.now.change ≡ page.now.change) }
+{
+    plan.change == page.change()
+}
+
+/// Whether the slots that are named are strictly ascending, and on a page of so many.
+fn are_in_order(count: u16, actions: &[(u16, Action)]) -> bool
+    ensures { IsTrue result ↔ AreInOrder count 0 actions.now }
+{
+    let mut last = 0;
+    for action in actions {
+        if action.0 <= last || count < action.0 {
+            return false;
+        }
+        last = action.0;
+    }
+    true
+}
+
+/// What these actions do to each slot.
+fn named_by(actions: &[(u16, Action)]) -> Named
+    requires { AreInOrder 291 0 actions.now }
+    ensures { (n : ℕ) → named_at result n ≡ action_of actions.now n }
+{
+    let mut named = [None; 292];
+    for action in actions {
+        named[usize::from(action.0)] = Some(action.1);
+    }
+    named
+}
+
+/// How many of the first of these slots are named, up to one that isn't.
+fn front_of(named: &Named, numbers: &[u16]) -> usize
+    requires { AreNumbers numbers.now }
+    ensures { IsNamedFront named.now numbers.now result }
+{
+    for (i, number) in numbers.iter().enumerate() {
+        if named[usize::from(*number)].is_none() {
+            return i;
+        }
+    }
+    numbers.len()
+}
+
+/// Whether none of these slots is named.
+fn are_unnamed(named: &Named, numbers: &[u16]) -> bool
+    requires { AreNumbers numbers.now }
+    ensures { IsTrue result ↔ ((i : ℕ) → i < length numbers.now → named_at named.now (slice_index numbers.now i) ≡ None) }
+{
+    for number in numbers {
+        if named[usize::from(*number)].is_some() {
+            return false;
+        }
+    }
+    true
+}
+
+/// Whether a slot becomes unused, if it holds a heap-only version.
+fn becomes_unused(page: &Page, named: &Named, number: u16) -> bool
+    requires { number < 292 }
+    ensures { IsTrue result ↔ BecomesUnused page.now.slots named.now number }
+{
+    let action = named[usize::from(number)];
+    match page.header(number) {
+        Some(header) => !header.is_heap_only() || matches!(action, Some(Action::Unuse)),
+        None => true,
+    }
+}
+
+/// Whether each of these slots does so.
+fn become_unused(page: &Page, named: &Named, numbers: &[u16]) -> bool
+    requires { AreNumbers numbers.now }
+    ensures { IsTrue result ↔ ((i : ℕ) → i < length numbers.now → BecomesUnused page.now.slots named.now (slice_index numbers.now i)) }
+{
+    for number in numbers {
+        if !becomes_unused(page, named, *number) {
+            return false;
+        }
+    }
+    true
+}
+
+/// Whether two answers are the same.
+fn are_same(a: Option<Action>, b: Option<Action>) -> bool
+    ensures { IsTrue result ↔ (a ≡ b) }
+{
+    a == b
+}
+
+/// Whether of a root's chain a front is named that pruning would cut too, and becomes what goes with the first that is kept.
+fn has_front(page: &Page, named: &Named, root: u16, table: &StatusTable, horizon: Xid) -> bool
+    requires normal { IsNormal horizon.0 }
+    requires number { root < 292 }
+    ensures { IsTrue result ↔ HasFront table.now horizon.0 page.now.slots (named_at named.now) root }
+{
+    let _limit = page.slots();
+    let slots = chain(page, root, table);
+    let numbers = slots.as_slice();
+    let front = front_of(named, numbers);
+    if !are_unnamed(named, &numbers[front..]) {
+        return false;
+    }
+    if !become_unused(page, named, &numbers[..front]) {
+        return false;
+    }
+    if cut_count(page, numbers, table, horizon) < front {
+        return false;
+    }
+    are_same(named[usize::from(root)], root_action(front, numbers))
+}
+
+/// Whether each root's chain has such a front.
+fn have_fronts(page: &Page, named: &Named, table: &StatusTable, horizon: Xid) -> bool
+    requires { IsNormal horizon.0 }
+    ensures { IsTrue result ↔ ((root : ℕ) → is_root page.now.slots root ≡ true → HasFront table.now horizon.0 page.now.slots (named_at named.now) root) }
+{
+    for root in 1..page.slots() + 1 {
+        if is_root(page, root) && !has_front(page, named, root, table, horizon) {
+            return false;
+        }
+    }
+    true
+}
+
+/// Whether what is done to a slot that no chain reaches is what pruning does to it.
+fn is_accounted(page: &Page, marks: &Marks, named: &Named, number: u16, table: &StatusTable) -> bool
+    requires { number < 292 }
+    ensures { IsTrue result ↔ IsLooseRight table.now page.now.slots marks.now named.now number }
+{
+    let mark = marks[usize::from(number)];
+    let action = named[usize::from(number)];
+    match mark {
+        Mark::Held(_) => true,
+        Mark::Loose => { action.is_none() || are_same(action, loose_action(page, number, table)) }
+    }
+}
+
+/// Whether it is so of each slot.
+fn are_accounted(page: &Page, marks: &Marks, named: &Named, table: &StatusTable) -> bool
+    ensures { IsTrue result ↔ ((n : ℕ) → 1 ≤ n → n ≤ length page.now.slots → IsLooseRight table.now page.now.slots marks.now named.now n) }
+{
+    for number in 1..page.slots() + 1 {
+        if !is_accounted(page, marks, named, number, table) {
+            return false;
+        }
+    }
+    true
+}
+
+/// Whether a plan may be applied to a page, whoever made it, and when: it has the page's change number, its slots are
+/// strictly ascending and on the page, of each chain it cuts a front that pruning at this horizon, a normal id, would cut
+/// too, and every other slot that it names holds an aborted heap-only version that no chain reaches. It takes no memory.
+pub fn check_plan(page: &Page, plan: &PrunePlan, table: &StatusTable, horizon: Xid) -> bool
+    requires { IsNormal horizon.0 }
+    ensures exact { IsTrue result ↔ Checks table.now horizon.0 page.now plan.now.change plan.now.actions.items }
+    ensures can_apply { IsTrue result → CanApply (length page.now.slots) plan.now.actions.items }
+{
+    if !is_fresh(page, plan) || !are_in_order(page.slots(), &plan.actions) {
+        return false;
+    }
+    let named = named_by(&plan.actions);
+    let marks = marks_of(page, table, horizon);
+    have_fronts(page, &named, table, horizon) && are_accounted(page, &marks, &named, table)
+}

@@ -1,0 +1,33 @@
+//! Pruning: what no reader can see any more is taken from the chains of a page.
+//!
+//! Of the chain of each root or redirect the front goes, up to and with its last dead version. Heap-only versions leave
+//! their slots unused, since no index entry leads to them; the root becomes a redirect to the first version that is kept,
+//! or dead if none is. An aborted heap-only version that no chain reaches goes too (README.HOT, "Pruning"; the manual's
+//! "Heap-Only Tuples" and "Routine Vacuuming").
+//!
+//! [`plan`] says what is to be done without changing the page, [`check_plan`] whether a plan may be applied, whoever made
+//! it, and when, [`apply`] does what it names and nothing else, and [`prune`] is the first and the last of these.
+//! `specs/Cutting.antt` defines what is cut, by a chain's list on any page and by its links, `specs/Pruning.antt` what
+//! becomes of each slot, `specs/Checks.antt` which plans check, `specs/Sound.antt` and `specs/Readers.antt` on which pages
+//! no reader misses anything. Those who see a page as a list of slots use `Removes` (what goes would be cut), `IsPruned`
+//! (the outcome slot by slot) and the laws, which are contracts of functions that do nothing.
+#![tactic(auto)]
+
+mod action;
+mod applying;
+mod checking;
+mod laws;
+mod marks;
+mod planning;
+#[cfg(test)]
+mod tests;
+
+pub use action::{Action, PrunePlan};
+pub use applying::{apply, prune};
+pub use checking::check_plan;
+pub use laws::{
+    checked_is_never_seen, checked_raises, checks_at_either_end, flat_stays_flat,
+    nothing_dead_stays, pruning_has_one_outcome, pruning_is_done_once, pruning_is_never_seen,
+    removing_is_never_seen, sound_is_unshared, sound_stays_sound,
+};
+pub use planning::plan;

@@ -1,0 +1,69 @@
+//! The plan of a page's pruning.
+
+ghost use Rattle.std.specs.Prelude.{◌≡◌, ◌<◌, length, IfOk};
+ghost use Rattle.xid_circle.specs.Circle.{IsNormal};
+ghost use Rattle.prune.specs.Actions.{CanApply};
+ghost use Rattle.prune.specs.Pruning.{loose_action, IsPlan};
+ghost use Rattle.hot_chain.specs.Chain.{has_aborted};
+ghost use Rattle.prune.specs.Cutting.{NoSharedSlots};
+ghost use Rattle.prune.specs.Checks.{Checks};
+ghost use Rattle.prune.specs.Marks.{mark_at, planned};
+
+use crate::action::{Action, PrunePlan};
+use crate::marks::{Mark, Marks, marks_of};
+use commit_status::{Status, StatusTable};
+use page_slots::Page;
+use std::alloc::{AllocError, Global};
+use xid_circle::Xid;
+
+/// What becomes of a slot that no chain reaches.
+pub(crate) fn loose_action(page: &Page, number: u16, table: &StatusTable) -> Option<Action>
+    ensures { result ≡ loose_action table.now page.now.slots number }
+{
+    let header = page.header(number)?;
+    let is_aborted = matches!(table.status(header.xmin), Status::Aborted);
+    if header.is_heap_only() && !header.is_frozen() && is_aborted {
+        Some(Action::Unuse)
+    } else {
+        None
+    }
+}
+
+/// What becomes of a slot with this mark.
+fn action_at(page: &Page, marks: &Marks, number: u16, table: &StatusTable) -> Option<Action>
+    requires { number < 292 }
+    ensures { result ≡ planned table.now page.now.slots number (mark_at marks.now number) }
+{
+    match marks[usize::from(number)] {
+        Mark::Held(action) => action,
+        Mark::Loose => loose_action(page, number, table),
+    }
+}
+
+/// The changes of pruning a page at this horizon, a normal id, in order of slots: of each chain the front up to and with
+/// the last dead version goes. Where no slot is in the chains of two roots or redirects, there is one such plan, and it
+/// checks. It refuses only for want of memory. (README.HOT, "Pruning")
+pub fn plan(
+    alloc: Global,
+    page: &Page,
+    table: &StatusTable,
+    horizon: Xid,
+) -> Result<PrunePlan, AllocError>
+    requires { IsNormal horizon.0 }
+    ensures change { IfOk result (λ plan. plan.change ≡ page.now.change) }
+    ensures can_apply { IfOk result (λ plan. CanApply (length page.now.slots) plan.actions.items) }
+    ensures exact { IfOk result (λ plan. IsPlan table.now horizon.0 page.now.slots plan.actions.items) }
+    ensures checks { IfOk result (λ plan. NoSharedSlots (has_aborted table.now) page.now.slots → Checks table.now horizon.0 page.now plan.change plan.actions.items) }
+{
+    let marks = marks_of(page, table, horizon);
+    let mut actions = Vec::new(alloc);
+    for number in 1..page.slots() + 1 {
+        if let Some(action) = action_at(page, &marks, number, table) {
+            actions.push((number, action))?;
+        }
+    }
+    Ok(PrunePlan {
+        change: page.change(),
+        actions,
+    })
+}
