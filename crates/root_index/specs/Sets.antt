@@ -1,0 +1,51 @@
+-- What calls do to the set of entries, and what they look for in it.
+use Rattle.std.specs.Prelude.{◌≡◌, ◌↔◌, ◌⊎◌, ◌<◌, ◌<ℤ◌, ℕ, ℤ, List, ◌≤◌, length, slice_get, Option, Some, None, Contains}
+use Rattle.xid_circle.specs.declared.Tid.{Tid}
+use Rattle.root_index.specs.declared.entry.Entry.{Entry}
+use Rattle.root_index.specs.Order.{Precedes, IsAscending}
+
+-- the same entries and this one
+pub record Adds (old new : List Entry) (entry : Entry) : Type 0 where
+  pub ascending : IsAscending new
+  pub members : (e : Entry) → Contains new e ↔ (Contains old e ⊎ (e ≡ entry))
+
+-- the same entries but those that lead to one of these places
+pub record Removes (old new : List Entry) (dead : List Tid) : Type 0 where
+  pub ascending : IsAscending new
+  pub members : (e : Entry) → Contains new e ↔ (Contains old e × ¬ Contains dead e.tid)
+
+-- the first of the entries that have P, if any has
+abbrev pub IsLeast : List Entry → (Entry → Type 0) → Option Entry → Type 0
+IsLeast entries P None = (e : Entry) → Contains entries e → ¬ P e
+IsLeast entries P (Some first) = Contains entries first × P first × ((e : Entry) → Contains entries e → P e → ¬ Precedes e first)
+
+-- after this entry, be it in the set or not; where there is none, any entry
+abbrev pub IsAfter : Option Entry → Entry → Type 0
+IsAfter None e = Unit {0}
+IsAfter (Some from) e = Precedes from e
+
+-- of a lower value, or of this value and a lower key
+abbrev pub IsBelow : ℤ → ℕ → Entry → Type 0
+IsBelow value key e = (e.value <ℤ value) ⊎ ((e.value ≡ value) × (e.key < key))
+
+-- of this value and this key
+abbrev pub IsOf : ℤ → ℕ → Entry → Type 0
+IsOf value key e = (e.value ≡ value) × (e.key ≡ key)
+
+-- Places in the list, counted from 0.
+
+-- the entry stands at this place
+abbrev pub IsAt : List Entry → Entry → ℕ → Type 0
+IsAt entries entry i = slice_get entries i ≡ Some entry
+
+-- the entries from this place on have P, and none before it has
+pub record IsStart (entries : List Entry) (P : Entry → Type 0) (i : ℕ) : Type 0 where
+  pub in_range : i ≤ length entries
+  pub before : (k : ℕ) (e : Entry) → k < i → slice_get entries k ≡ Some e → ¬ P e
+  pub from : (k : ℕ) (e : Entry) → i ≤ k → slice_get entries k ≡ Some e → P e
+
+-- the entry is not there, and would stand at this place
+pub record IsGapFor (entries : List Entry) (entry : Entry) (i : ℕ) : Type 0 where
+  pub in_range : i ≤ length entries
+  pub before : (k : ℕ) (e : Entry) → k < i → slice_get entries k ≡ Some e → Precedes e entry
+  pub after : (k : ℕ) (e : Entry) → i ≤ k → slice_get entries k ≡ Some e → Precedes entry e
