@@ -1,0 +1,5 @@
+pub mod Headers
+pub mod Writes
+pub mod Keeps
+pub mod Laws
+pub mod Lives
