@@ -1,0 +1,164 @@
+-- Ids that made or deleted a version: in a chain, along the entries, and on the heap.
+use Rattle.std.proofs.Common.{◌≡◌, ◌⊎◌, ◌↔◌, ℕ, zero, suc, ℤ, ◌+◌, ◌<◌, Bool, false, List, [], get_or, map, Option, Some, None, refl, sym, ap, ◌∙◌, subst, ⊎_elim, arith, slice_get}
+use Rattle.std.specs.List.{Contains}
+use Rattle.std.specs.Prelude.{IsTrue, MatchOption}
+use Rattle.std.specs.Option.{option_map}
+use Rattle.std.proofs.lemmas.Bool.{cases_lt}
+use Rattle.std.proofs.lemmas.Option.{none-some, same_Some}
+use Rattle.xid_circle.specs.declared.Tid.{Tid}
+use Rattle.xid_circle.specs.declared.Xid.{Xid}
+use Rattle.tuple_header.specs.Version.{Version}
+use Rattle.tuple_header.specs.declared.version.Header.{Header}
+use Rattle.tuple_header.specs.declared.version.Row.{Row}
+use Rattle.page_slots.specs.declared.slot.Slot.{Slot}
+use Rattle.page_slots.specs.Slots.{version_at, header_at}
+use Rattle.page_slots.specs.View.{PageView}
+use Rattle.commit_status.specs.declared.status.Status.TheVariants.{InProgress, Committed, Aborted}
+use Rattle.commit_status.specs.Window.{Window, IsCommitted, IsInProgress, IsAborted}
+use Rattle.snapshot.specs.Snap.{Snap}
+use Rattle.visibility.specs.Visible.{IsFrozen}
+use Rattle.hot_chain.specs.Chain.{has_aborted, IsChain}
+use Rattle.hot_chain.proofs.Chains.{chain-one}
+use Rattle.prune.proofs.ChainPlaces.{place-of}
+use Rattle.prune.proofs.SoundChains.{in-leads}
+use Rattle.root_index.specs.declared.entry.Entry.{Entry}
+use Rattle.root_index.specs.Sets.{IsOf}
+use Rattle.sound_entries.specs.Pages.{slots_on, version_in}
+use Rattle.sound_entries.specs.Entries.{IsSound}
+use Rattle.sound_entries.specs.Leading.{IsUndone, Touches, IsByIndex}
+use Rattle.sound_entries.specs.Looking.{IsMissed, IsForeign, SomeAmong, SomeAt, SomeOf, SomeOnHeap}
+use Rattle.sound_entries.proofs.Leads.{found, touched-made}
+use Rattle.sound_entries.proofs.Fetching.{slots-there, slots-none, listed-in}
+
+-- One version.
+
+pub not-true : (b : Bool) (P : Type 0) → (IsTrue b ↔ P) → b ≡ false → ¬ P
+not-true b P is wrong p = let right = is.1 p in cc
+
+-- neither the maker nor the deleter of the version
+pub none-touched : (h : Header) (P : ℕ → Type 0) → (IsFrozen h ⊎ (¬ P h.xmin.0)) → ((h.xmax.0 ≡ 0) ⊎ (¬ P h.xmax.0)) → (x : ℕ) → Touches h x → ¬ P x
+none-touched h P maker deleter x (Touches.made unfrozen is) p = ⊎_elim (λ frozen. unfrozen frozen) (λ none. none (subst P (sym is) p)) maker
+none-touched h P maker deleter x (Touches.deleted some is) p = ⊎_elim (λ gone. some gone) (λ none. none (subst P (sym is) p)) deleter
+
+-- Slots one after another.
+
+abbrev pub NoneTo : (ℕ → Header → Type 0) → List Slot → List ℕ → ℕ → Type 0
+NoneTo P slots chain i = (x j : ℕ) (u : Version) → j < i → version_at slots (get_or chain j 0) ≡ Some u → P x u.header → ⊥
+
+pub none-more : (P : ℕ → Header → Type 0) (slots : List Slot) (chain : List ℕ) (i : ℕ) → NoneTo P slots chain i
+    → ((u : Version) → version_at slots (get_or chain i 0) ≡ Some u → (x : ℕ) → P x u.header → ⊥) → NoneTo P slots chain (i + 1)
+none-more P slots chain i below here x j u within at has = ⊎_elim
+    (λ lt. below x j u lt at has)
+    (λ ge. let same : j ≡ i = omega arith in here u (ap (λ k. version_at slots (get_or chain k 0)) (sym same) ∙ at) x has)
+    (cases_lt j i)
+
+pub none-here : (P : ℕ → Header → Type 0) (slots : List Slot) (n : ℕ) (h : Header) (r : Option Header) → r ≡ header_at slots n → r ≡ Some h → ((x : ℕ) → P x h → ⊥)
+    → (u : Version) → version_at slots n ≡ Some u → (x : ℕ) → P x u.header → ⊥
+none-here P slots n h r value is none u at x has =
+    let same : u.header ≡ h = same_Some u.header h (sym (ap (option_map (λ (t : Version). t.header)) at) ∙ sym value ∙ is) in
+    none x (subst (P x) same has)
+
+pub none-other : (P : ℕ → Header → Type 0) (slots : List Slot) (n : ℕ) (r : Option Header) → r ≡ header_at slots n → r ≡ None
+    → (u : Version) → version_at slots n ≡ Some u → (x : ℕ) → P x u.header → ⊥
+none-other P slots n r value is u at x has = none-some u.header (sym is ∙ value ∙ ap (option_map (λ (t : Version). t.header)) at)
+
+-- The chain of a place.
+
+abbrev pub IsIdAmong : (ℕ → Header → Type 0) → List Slot → List ℕ → Option Xid → Type 0
+IsIdAmong P slots chain answer = MatchOption answer ((x : ℕ) → SomeAmong (P x) slots chain → ⊥) (λ x. SomeAmong (P x.0) slots chain)
+
+abbrev pub IsIdAt : Window → (ℕ → Header → Type 0) → List (List Slot) → Tid → Option Xid → Type 0
+IsIdAt w P pages p answer = MatchOption answer ((x : ℕ) → SomeAt w (P x) pages p → ⊥) (λ x. SomeAt w (P x.0) pages p)
+
+pub at-page : (w : Window) (P : ℕ → Header → Type 0) (pages : List PageView) (p : Tid) (page : PageView) (chain : List ℕ) (answer : Option Xid) → slice_get pages p.page ≡ Some page
+    → IsChain (has_aborted w) page.slots p.slot chain → IsIdAmong P page.slots chain answer → IsIdAt w P (map (λ (q : PageView). q.slots) pages) p answer
+at-page w P pages p page chain None at is none = λ x some.
+    let same = slots-there pages p.page page at in
+    let here = subst (λ slots. IsChain (has_aborted w) slots p.slot some.chain) same some.is_chain in
+    let one = chain-one (has_aborted w) page.slots p.slot some.chain chain here is in
+    none x (subst (SomeAmong (P x) page.slots) one (subst (λ slots. SomeAmong (P x) slots some.chain) same some.some))
+at-page w P pages p page chain (Some x) at is some =
+    let same = slots-there pages p.page page at in
+    record {
+      chain = chain;
+      is_chain = subst (λ slots. IsChain (has_aborted w) slots p.slot chain) (sym same) is;
+      some = subst (λ slots. SomeAmong (P x.0) slots chain) (sym same) some;
+    }
+
+pub at-nowhere : (w : Window) (P : ℕ → Header → Type 0) (pages : List PageView) (p : Tid) → slice_get pages p.page ≡ None
+    → (x : ℕ) → SomeAt w (P x) (map (λ (q : PageView). q.slots) pages) p → ⊥
+at-nowhere w P pages p none x some =
+    let there = subst (λ slots. version_at slots (get_or some.chain some.some.place 0) ≡ Some some.some.version) (slots-none pages p.page none) some.some.there in
+    never (get_or some.chain some.some.place 0) some.some.version there
+  where
+    never : (n : ℕ) (t : Version) → version_at [] n ≡ Some t → ⊥
+    never zero t e = none-some t e
+    never (suc n) t e = none-some t e
+
+-- Along the entries.
+
+pub none-of : (w : Window) (P : ℕ → Header → Type 0) (pages : List (List Slot)) (entries : List Entry) (value : ℤ) (key : ℕ)
+    → ((e : Entry) → Contains entries e → IsOf value key e → (x : ℕ) → SomeAt w (P x) pages e.tid → ⊥) → (x : ℕ) → SomeOf w (P x) pages entries value key → ⊥
+none-of w P pages entries value key none x s = none s.entry s.there s.of x s.at
+
+-- On the heap.
+
+some-on_heap : (value_of : Row → ℤ) (w : Window) (horizon : ℕ) (pages : List (List Slot)) (entries : List Entry) (P : Header → Type 0) → IsSound value_of w horizon pages entries
+    → ((p : Tid) (t : Version) → version_in pages p ≡ Some t → P t.header → ¬ IsUndone w t.header)
+    → (value : ℤ) (key : ℕ) → SomeOf w P pages entries value key ↔ SomeOnHeap value_of pages value key P
+some-on_heap value_of w horizon pages entries P sound made value key = (
+  (λ s.
+      let slots = slots_on pages s.entry.tid.page in
+      let a = s.at.some in
+      let p : Tid = record { page = s.entry.tid.page; slot = get_or s.at.chain a.place 0 } in
+      let i : IsByIndex w pages entries value key (λ t. P t.header) p a.version = record {
+        entry = s.entry;
+        of = s.of;
+        leads = record {
+          there = s.there;
+          page = refl;
+          chain = listed-in w slots s.entry.tid.slot a.place s.at.chain (sound.index.leads s.entry s.there) s.at.is_chain a.within;
+        };
+        there = a.there;
+        has = a.has;
+      } in
+      (p, a.version, (found value_of w horizon pages entries sound (λ t. P t.header) made value key p a.version).1 i)),
+  (λ h.
+      let p = h.0 in
+      let i = (found value_of w horizon pages entries sound (λ t. P t.header) made value key p h.1).0 h.2 in
+      let slots = slots_on pages i.entry.tid.page in
+      let l = in-leads w horizon slots i.entry.tid.slot p.slot (sound.heap i.entry.tid.page) i.leads.chain in
+      let q = place-of p.slot l.chain l.holds in
+      record {
+        entry = i.entry;
+        there = i.leads.there;
+        of = i.of;
+        at = record {
+          chain = l.chain;
+          is_chain = l.is_chain;
+          some = record {
+            place = q.0;
+            version = h.1;
+            within = q.1;
+            there = ap (version_at slots) q.2 ∙ ap (λ n. version_at (slots_on pages n) p.slot) (sym i.leads.page) ∙ i.there;
+            has = i.has;
+          };
+        };
+      }),
+)
+
+pub missed-on_heap : (value_of : Row → ℤ) (w : Window) (horizon : ℕ) (pages : List (List Slot)) (entries : List Entry) (s : Snap) (x : ℕ) → IsSound value_of w horizon pages entries
+    → (value : ℤ) (key : ℕ) → SomeOf w (IsMissed w s x) pages entries value key ↔ SomeOnHeap value_of pages value key (IsMissed w s x)
+missed-on_heap value_of w horizon pages entries s x sound value key = some-on_heap value_of w horizon pages entries (IsMissed w s x) sound
+    (λ p t at missed. touched-made w horizon (slots_on pages p.page) p.slot x t (sound.heap p.page) at (alive missed.done) missed.touch) value key
+  where
+    alive : IsCommitted w x → ¬ IsAborted w x
+    alive done gone = let e : Committed ≡ Aborted = sym done ∙ gone in cc
+
+pub foreign-on_heap : (value_of : Row → ℤ) (w : Window) (horizon : ℕ) (pages : List (List Slot)) (entries : List Entry) (own : List ℕ) (x : ℕ) → IsSound value_of w horizon pages entries
+    → (value : ℤ) (key : ℕ) → SomeOf w (IsForeign w own x) pages entries value key ↔ SomeOnHeap value_of pages value key (IsForeign w own x)
+foreign-on_heap value_of w horizon pages entries own x sound value key = some-on_heap value_of w horizon pages entries (IsForeign w own x) sound
+    (λ p t at held. touched-made w horizon (slots_on pages p.page) p.slot x t (sound.heap p.page) at (alive held.active) held.touch) value key
+  where
+    alive : IsInProgress w x → ¬ IsAborted w x
+    alive active gone = let e : InProgress ≡ Aborted = sym active ∙ gone in cc

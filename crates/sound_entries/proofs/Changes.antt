@@ -1,0 +1,288 @@
+-- Writes and pruning leave the entries right.
+use Rattle.std.proofs.Common.{◌≡◌, ◌⊎◌, ◌≤◌, ℕ, ℤ, Bool, true, false, not, if◌then◌else◌, List, Option, Some, None, refl, sym, ap, ◌∙◌, subst, ⊎_elim, inl, inr}
+use Rattle.std.specs.Option.{option_map, option_and_then}
+use Rattle.std.proofs.lemmas.Bool.{cases_eq}
+use Rattle.tuple_header.specs.Version.{Version}
+use Rattle.tuple_header.specs.declared.version.Row.{Row}
+use Rattle.tuple_header.specs.Marks.{is_heap_only}
+use Rattle.page_slots.specs.declared.slot.Slot.{Slot}
+use Rattle.page_slots.specs.declared.slot.Slot.TheVariants.{Unused, Normal, Redirect, Dead}
+use Rattle.page_slots.specs.Slots.{slot_at, version_at, version_of, free_number}
+use Rattle.page_slots.proofs.SlotLemmas.{there-from_slot_at, slot_at-from_version_at, version_at-from_slot_at, free_number-was, slot_at-with_added}
+use Rattle.commit_status.specs.Window.{Window, IsActive}
+use Rattle.hot_chain.specs.Chain.{has_aborted, is_root, is_root_in}
+use Rattle.prune.specs.declared.action.Action.{Action}
+use Rattle.prune.specs.Actions.{acted}
+use Rattle.prune.specs.Pruning.{Does, by_root, by_none, IsPruned, loose_in, loose_action, lead}
+use Rattle.prune.specs.Sound.{entry_in, IsIn, SoundPage}
+use Rattle.prune.proofs.Links.{same_some, member-version}
+use Rattle.prune.proofs.ChainPlaces.{place-of}
+use Rattle.prune.proofs.Removing.{pruned-removes}
+use Rattle.prune.proofs.SoundChains.{entry-root}
+use Rattle.prune.proofs.SoundAfter.{pruned-sound, pruned-keeps_chains}
+use Rattle.page_writes.specs.Headers.{root_header, heap_only_header, replaced_header}
+use Rattle.page_writes.specs.Writes.{with_root, with_replaced, with_updated}
+use Rattle.page_writes.specs.Keeps.{IsFree, KeepsEntries}
+use Rattle.page_writes.specs.Laws.{AddsRoot, TakesAway, UpdatesHere}
+use Rattle.page_writes.proofs.Growth.{none-some}
+use Rattle.page_writes.proofs.Slotted.{root-added, taken-away, updated-here, replaced-at, updated-slots}
+use Rattle.root_index.specs.declared.entry.Entry.{Entry}
+use Rattle.root_index.specs.Sets.{Adds, IsOf}
+use Rattle.sound_entries.specs.Pages.{slots_on, version_in, SoundHeap, Puts}
+use Rattle.sound_entries.specs.Entries.{entry_for, MayBeLed, IsSound, StaysLed, same_version, led_on, died, StaysSound}
+use Rattle.sound_entries.proofs.Leads.{chained-version}
+use Rattle.sound_entries.proofs.Going.{Resembles, PageGoesOn, stays-as, page-same, puts-pages, stay-sound, stay-led, add-sound}
+
+-- Roots.
+
+some-entry : (n : ℕ) (o : Option Slot) → is_root_in o ≡ true → (e : ℕ) × (entry_in n o ≡ Some e)
+some-entry n None root = absurd (cc)
+some-entry n (Some Unused) root = absurd (cc)
+some-entry n (Some (Normal t)) root = (n, by (is_heap_only t.header) root)
+  where
+    by : (b : Bool) → not b ≡ true → (if b then None else Some n) ≡ Some n
+    by true e = absurd (cc)
+    by false e = refl
+some-entry n (Some (Redirect k)) root = (k, refl)
+some-entry n (Some Dead) root = absurd (cc)
+
+-- a root is in its own chain, or leads to one that is
+roots-back : (w v : Window) (slots after : List Slot) (IsNew : ℕ → Type 0) → ((root n : ℕ) → IsIn v after root n → (is_root slots root ≡ true) ⊎ IsNew root)
+    → (n : ℕ) → is_root after n ≡ true → (is_root slots n ≡ true) ⊎ IsNew n
+roots-back w v slots after IsNew back n root =
+    let e = some-entry n (slot_at after n) root in
+    back n e.0 (record { entry = e.0; leads = e.1; later = record { turns = 0; along = refl } })
+
+in-root : (w : Window) (slots : List Slot) (root n : ℕ) → IsIn w slots root n → is_root slots root ≡ true
+in-root w slots root n i = entry-root slots root i.entry i.leads
+
+-- no entry leads to a slot for a new version
+free-unled : (slots : List Slot) → ¬ MayBeLed (slot_at slots (free_number slots))
+free-unled slots may = ⊎_elim
+    (λ none. not-none (subst (λ o. MayBeLed o) none may))
+    (λ unused. not-unused (subst (λ o. MayBeLed o) unused may))
+    (free_number-was slots)
+  where
+    not-none : ¬ MayBeLed None
+    not-none m = ⊎_elim (λ e. cc) (λ e. cc) m
+
+    not-unused : ¬ MayBeLed (Some Unused)
+    not-unused m = ⊎_elim (λ e. cc) (λ e. cc) m
+
+-- a version that stays in its chain
+still-in : (value_of : Row → ℤ) (w : Window) (horizon : ℕ) (slots after : List Slot) (root n : ℕ) (t : Version) → SoundPage w horizon slots → KeepsEntries w slots after
+    → IsIn w slots root n → version_at after n ≡ Some t → Resembles value_of w slots root t.row
+still-in value_of w horizon slots after root n t sound keeps i at =
+    let v = chained-version w horizon slots root n sound i in
+    let h = keeps.versions n v.version v.there in
+    let row : t.row ≡ v.version.row = ap (λ (z : Version). z.row) (same_some t h.version (sym at ∙ h.there)) ∙ h.row in
+    record { place = n; version = v.version; within = i; there = v.there; value = ap value_of row; key = ap (λ (r : Row). r.key) row }
+
+-- a version whose header alone changes
+stays-replaced : (w : Window) (slots after : List Slot) (m : ℕ) (t u : Version) → KeepsEntries w slots after → slot_at slots m ≡ Some (Normal t) → slot_at after m ≡ Some (Normal u)
+    → u.row ≡ t.row → u.header.xmin.0 ≡ t.header.xmin.0 → MayBeLed (slot_at slots m) → MayBeLed (slot_at after m) × StaysLed (slot_at slots m) (slot_at after m)
+stays-replaced w slots after m t u keeps here put row maker may = (
+  ⊎_elim (λ root. inl (keeps.roots m root)) (λ dead. absurd (let e : Some Dead ≡ Some (Normal t) = sym dead ∙ here in cc)) may,
+  same_version t u here put row maker,
+)
+
+-- Each step on its page.
+
+adds-page : (value_of : Row → ℤ) (w : Window) (horizon : ℕ) (slots after : List Slot) → SoundPage w horizon slots → AddsRoot w horizon slots after (free_number slots)
+    → PageGoesOn value_of w w slots after (λ n. n ≡ free_number slots)
+adds-page value_of w horizon slots after sound a = record {
+  stays = λ n may. ⊎_elim
+      (λ here. absurd (free-unled slots (subst (λ k. MayBeLed (slot_at slots k)) here may)))
+      (λ other. stays-as (slot_at slots n) (slot_at after n) (a.others n other) may)
+      (cases_eq n (free_number slots));
+  roots = λ n root. roots-back w w slots after (λ k. k ≡ free_number slots)
+      (λ r m i. ⊎_elim (λ old. inl (in-root w slots r m old)) (λ new. inr new.0) (a.chains.1 r m i)) n root;
+  chains = λ root n t i at. ⊎_elim (λ old. inl (still-in value_of w horizon slots after root n t sound a.entries old at)) (λ new. inr new.0) (a.chains.1 root n i);
+}
+
+-- the chain of a new root is the new version
+own-chain : (value_of : Row → ℤ) (w : Window) (horizon n : ℕ) (slots after : List Slot) (new : Version) → AddsRoot w horizon slots after (free_number slots)
+    → slot_at after (free_number slots) ≡ Some (Normal new) → (i : ℕ) (t : Version) → IsIn w after (free_number slots) i → version_at after i ≡ Some t
+    → IsOf (value_of t.row) t.row.key (entry_for value_of new.row n (free_number slots))
+own-chain value_of w horizon n slots after new a added i t within at = ⊎_elim
+    (λ was. absurd (free-unled slots (inl (in-root w slots (free_number slots) i was))))
+    (λ here.
+    let one : t ≡ new = same_some t new (sym at ∙ ap (version_at after) here.1 ∙ version_at-from_slot_at after (free_number slots) new added) in
+    (ap (λ (z : Version). value_of z.row) (sym one), ap (λ (z : Version). z.row.key) (sym one)))
+    (a.chains.1 (free_number slots) i within)
+
+takes-page : (value_of : Row → ℤ) (w : Window) (horizon k x page place : ℕ) (slots : List Slot) → SoundPage w horizon slots → IsFree w slots k
+    → TakesAway w horizon slots (with_replaced slots k x page place false) k → PageGoesOn value_of w w slots (with_replaced slots k x page place false) (λ n. ⊥)
+takes-page value_of w horizon k x page place slots sound f a =
+    let after = with_replaced slots k x page place false in
+    let t = f.version in
+    let here = slot_at-from_version_at slots k t f.there in
+    record {
+      stays = λ n may. ⊎_elim
+          (λ same. subst (λ i. MayBeLed (slot_at slots i) → MayBeLed (slot_at after i) × StaysLed (slot_at slots i) (slot_at after i)) (sym same)
+          (stays-replaced w slots after k t (record t { header = replaced_header t.header x page place false }) a.entries here (replaced-at slots k x page place false t here) refl refl) may)
+          (λ other. stays-as (slot_at slots n) (slot_at after n) (a.others n other) may)
+          (cases_eq n k);
+      roots = λ n root. roots-back w w slots after (λ i. ⊥) (λ r m i. inl (in-root w slots r m (a.chains r m i))) n root;
+      chains = λ root n t i at. inl (still-in value_of w horizon slots after root n t sound a.entries (a.chains root n i) at);
+    }
+
+updates-page : (value_of : Row → ℤ) (w : Window) (horizon k x page : ℕ) (slots : List Slot) (row : Row) (old : Version) → SoundPage w horizon slots → free_number slots ≤ 291
+    → version_at slots k ≡ Some old → value_of row ≡ value_of old.row → row.key ≡ old.row.key
+    → UpdatesHere w horizon slots (with_updated slots k x page row) k (free_number slots) → PageGoesOn value_of w w slots (with_updated slots k x page row) (λ n. ⊥)
+updates-page value_of w horizon k x page slots row old sound few there value key a =
+    let after = with_updated slots k x page row in
+    let free = free_number slots in
+    let here = slot_at-from_version_at slots k old there in
+    let r = updated-slots slots k x page row old sound.few few here in
+    let new : Version = record { header = heap_only_header x page free; row = row } in
+    record {
+      stays = λ n may. ⊎_elim
+          (λ same. subst (λ i. MayBeLed (slot_at slots i) → MayBeLed (slot_at after i) × StaysLed (slot_at slots i) (slot_at after i)) (sym same)
+          (stays-replaced w slots after k old (record old { header = replaced_header old.header x page free true }) a.entries here r.put refl refl) may)
+          (λ off. ⊎_elim
+          (λ same. absurd (free-unled slots (subst (λ i. MayBeLed (slot_at slots i)) same may)))
+          (λ other. stays-as (slot_at slots n) (slot_at after n) (a.others n off other) may)
+          (cases_eq n free))
+          (cases_eq n k);
+      roots = λ n root. roots-back w w slots after (λ i. ⊥)
+          (λ r m i. ⊎_elim (λ was. inl (in-root w slots r m was)) (λ y. inl (in-root w slots r k y.0)) (a.chains.1 r m i)) n root;
+      chains = λ root n t i at. ⊎_elim
+          (λ was. inl (still-in value_of w horizon slots after root n t sound a.entries was at))
+          (λ y.
+          let one : t ≡ new = same_some t new (sym at ∙ ap (version_at after) y.1 ∙ version_at-from_slot_at after free new r.added) in
+          inl (record {
+            place = k;
+            version = old;
+            within = y.0;
+            there = there;
+            value = ap (λ (z : Version). value_of z.row) one ∙ value;
+            key = ap (λ (z : Version). z.row.key) one ∙ key;
+          }))
+          (a.chains.1 root n i);
+    }
+
+dead-stays : (w : Window) (horizon : ℕ) (slots after : List Slot) (n : ℕ) → IsPruned w horizon slots after → slot_at slots n ≡ Some Dead → slot_at after n ≡ Some Dead
+dead-stays w horizon slots after n p at =
+    let each = p.each n (there-from_slot_at slots n Dead at) in
+    by each.answer each.does each.is
+  where
+    by : (o : Option Action) → Does w horizon slots n o → slot_at after n ≡ acted (slot_at slots n) o → slot_at after n ≡ Some Dead
+    by o (by_root root chain cut i c e) is = absurd (⊎_elim
+        (λ same. let off : false ≡ true = ap is_root_in (sym at) ∙ ap (is_root slots) same ∙ i.starts in cc)
+        (λ holds.
+        let q = place-of n chain holds in
+        let v = member-version (has_aborted w) slots root chain q.0 i.is_chain q.1 in
+        none-some (version_at slots n) v.version (ap (option_and_then version_of) at) (ap (version_at slots) (sym q.2) ∙ v.there))
+        i.holds)
+    by o (by_none loose e) is =
+        let none : loose_action w slots n ≡ None = ap (λ (s : Option Slot). loose_in w (option_map (λ t. t.header) (option_and_then version_of s))) at in
+        is ∙ ap (acted (slot_at slots n)) (e ∙ none) ∙ at
+
+prunes-page : (value_of : Row → ℤ) (w : Window) (horizon : ℕ) (slots after : List Slot) → SoundPage w horizon slots → IsPruned w horizon slots after
+    → PageGoesOn value_of w w slots after (λ n. ⊥)
+prunes-page value_of w horizon slots after sound p =
+    let chains = pruned-keeps_chains w horizon slots after sound p in
+    record {
+      stays = λ n may. ⊎_elim
+          (λ root. ⊎_elim
+          (λ same. stays-as (slot_at slots n) (slot_at after n) same may)
+          (λ led. leads n root led.0 led.1)
+          (chains.roots n root))
+          (λ dead. let is = dead-stays w horizon slots after n p dead in (inr is, died is))
+          may;
+      roots = λ n root. roots-back w w slots after (λ i. ⊥) (λ r m i. inl (in-root w slots r m (chains.no_new r m i))) n root;
+      chains = λ root n t i at. inl (record {
+        place = n;
+        version = t;
+        within = chains.no_new root n i;
+        there = (pruned-removes w horizon slots after p).kept n t at;
+        value = refl;
+        key = refl;
+      });
+    }
+  where
+    leads : (n : ℕ) → is_root slots n ≡ true → (kept : Option ℕ) → slot_at after n ≡ Some (lead kept) → MayBeLed (slot_at after n) × StaysLed (slot_at slots n) (slot_at after n)
+    leads n root None is = (inr is, died is)
+    leads n root (Some k) is = (inl (ap is_root_in is), led_on k root is)
+
+-- Each step on the pages.
+
+heap-puts : (w : Window) (horizon n : ℕ) (pages pages' : List (List Slot)) (after : List Slot) → SoundHeap w horizon pages → Puts pages pages' n after → SoundPage w horizon after
+    → SoundHeap w horizon pages'
+heap-puts w horizon n pages pages' after heap puts sound m = ⊎_elim
+    (λ same. subst (λ k. SoundPage w horizon (slots_on pages' k)) (sym same) (subst (SoundPage w horizon) (sym puts.put) sound))
+    (λ other. subst (SoundPage w horizon) (sym (puts.others m other)) (heap m))
+    (cases_eq m n)
+
+stays-on : (value_of : Row → ℤ) (w : Window) (horizon n : ℕ) (pages pages' : List (List Slot)) (entries : List Entry) (after : List Slot) → IsSound value_of w horizon pages entries
+    → Puts pages pages' n after → SoundPage w horizon after → PageGoesOn value_of w w (slots_on pages n) after (λ k. ⊥) → StaysSound value_of w horizon pages pages' entries entries
+stays-on value_of w horizon n pages pages' entries after sound puts page step =
+    let goes = puts-pages value_of w pages pages' n after (λ m k. ⊥) puts step in
+    record {
+      sound = record {
+        heap = heap-puts w horizon n pages pages' after sound.heap puts page;
+        index = stay-sound value_of w w pages pages' entries sound.index goes;
+      };
+      led = stay-led value_of w w pages pages' entries sound.index (λ m k. ⊥) goes entries;
+    }
+
+pub taking-stays : (value_of : Row → ℤ) (w : Window) (horizon n k x page place : ℕ) (pages pages' : List (List Slot)) (entries : List Entry)
+    → IsSound value_of w horizon pages entries → IsActive w x → IsFree w (slots_on pages n) k
+    → Puts pages pages' n (with_replaced (slots_on pages n) k x page place false)
+    → StaysSound value_of w horizon pages pages' entries entries
+taking-stays value_of w horizon n k x page place pages pages' entries sound active free puts =
+    let slots = slots_on pages n in
+    let a = taken-away w horizon k x page place slots (sound.heap n) active free in
+    stays-on value_of w horizon n pages pages' entries (with_replaced slots k x page place false) sound puts a.sound (takes-page value_of w horizon k x page place slots (sound.heap n) free a)
+
+pub updating-stays : (value_of : Row → ℤ) (w : Window) (horizon n k x page : ℕ) (pages pages' : List (List Slot)) (entries : List Entry) (row : Row) (old : Version)
+    → IsSound value_of w horizon pages entries → IsActive w x → IsFree w (slots_on pages n) k → free_number (slots_on pages n) ≤ 291
+    → version_in pages (record { page = n; slot = k }) ≡ Some old → value_of row ≡ value_of old.row → row.key ≡ old.row.key
+    → Puts pages pages' n (with_updated (slots_on pages n) k x page row)
+    → StaysSound value_of w horizon pages pages' entries entries
+updating-stays value_of w horizon n k x page pages pages' entries row old sound active free few there value key puts =
+    let slots = slots_on pages n in
+    let a = updated-here w horizon k x page slots row (sound.heap n) active free few in
+    stays-on value_of w horizon n pages pages' entries (with_updated slots k x page row) sound puts a.sound
+    (updates-page value_of w horizon k x page slots row old (sound.heap n) few there value key a)
+
+pub pruning-stays : (value_of : Row → ℤ) (w : Window) (horizon n : ℕ) (pages pages' : List (List Slot)) (entries : List Entry) (after : List Slot)
+    → IsSound value_of w horizon pages entries → IsPruned w horizon (slots_on pages n) after → Puts pages pages' n after
+    → StaysSound value_of w horizon pages pages' entries entries
+pruning-stays value_of w horizon n pages pages' entries after sound p puts =
+    stays-on value_of w horizon n pages pages' entries after sound puts (pruned-sound w horizon (slots_on pages n) after (sound.heap n) p)
+    (prunes-page value_of w horizon (slots_on pages n) after (sound.heap n) p)
+
+pub growing-stays : (value_of : Row → ℤ) (w : Window) (horizon n : ℕ) (pages pages' : List (List Slot)) (entries : List Entry)
+    → IsSound value_of w horizon pages entries → Puts pages pages' n (slots_on pages n) → StaysSound value_of w horizon pages pages' entries entries
+growing-stays value_of w horizon n pages pages' entries sound puts =
+    stays-on value_of w horizon n pages pages' entries (slots_on pages n) sound puts (sound.heap n) (page-same value_of w w (slots_on pages n) (λ k. ⊥) (λ root k i. i))
+
+pub adding-stays : (value_of : Row → ℤ) (w : Window) (horizon x n : ℕ) (pages pages' : List (List Slot)) (entries entries' : List Entry) (updated : Bool) (row : Row)
+    → IsSound value_of w horizon pages entries → IsActive w x → free_number (slots_on pages n) ≤ 291
+    → Puts pages pages' n (with_root (slots_on pages n) updated x n row) → Adds entries entries' (entry_for value_of row n (free_number (slots_on pages n)))
+    → StaysSound value_of w horizon pages pages' entries entries'
+adding-stays value_of w horizon x n pages pages' entries entries' updated row sound active few puts adds =
+    let slots = slots_on pages n in
+    let k = free_number slots in
+    let new : Version = record { header = root_header updated x n k; row = row } in
+    let after = with_root slots updated x n row in
+    let a = root-added w horizon x n slots updated row (sound.heap n) active few in
+    let added : slot_at after k ≡ Some (Normal new) = slot_at-with_added slots (Normal new) in
+    let step = adds-page value_of w horizon slots after (sound.heap n) a in
+    let goes = puts-pages value_of w pages pages' n after (λ m i. (m ≡ n) × (i ≡ k)) puts (record {
+      stays = step.stays;
+      roots = λ i root. ⊎_elim (λ was. inl was) (λ here. inr (refl, here)) (step.roots i root);
+      chains = λ root i t within at. ⊎_elim (λ was. inl was) (λ here. inr (refl, here)) (step.chains root i t within at);
+    }) in
+    record {
+      sound = record {
+        heap = heap-puts w horizon n pages pages' after sound.heap puts a.sound;
+        index = add-sound value_of w w pages pages' entries sound.index (entry_for value_of row n k) entries' goes adds (free-unled slots)
+            (inl (subst (λ s. is_root s k ≡ true) (sym puts.put) (in-root w after k k a.chains.0)))
+            (subst (λ s. (i : ℕ) (t : Version) → IsIn w s k i → version_at s i ≡ Some t → IsOf (value_of t.row) t.row.key (entry_for value_of row n k)) (sym puts.put)
+            (λ i t within at. own-chain value_of w horizon n slots after new a added i t within at));
+      };
+      led = stay-led value_of w w pages pages' entries sound.index (λ m i. (m ≡ n) × (i ≡ k)) goes entries';
+    }

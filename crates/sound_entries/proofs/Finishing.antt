@@ -1,0 +1,87 @@
+-- What becomes of transactions and of the horizon leaves the entries right: chains only break.
+use Rattle.std.proofs.Common.{◌≡◌, ◌≤◌, ℕ, ℤ, zero, suc, false, List, Option, Some, sym, ◌∙◌, ⊎_elim}
+use Rattle.std.specs.List.{Contains}
+use Rattle.std.proofs.lemmas.Bool.{cases_Bool}
+use Rattle.tuple_header.specs.declared.version.Row.{Row}
+use Rattle.page_slots.specs.declared.slot.Slot.{Slot}
+use Rattle.commit_status.specs.declared.status.Status.{Status}
+use Rattle.commit_status.specs.declared.status.Status.TheVariants.{InProgress, Committed, Aborted}
+use Rattle.commit_status.specs.Window.{Window, IsWindow, IsActive, IsAborted, IsUpToNext, turns}
+use Rattle.commit_status.specs.Changes.{Gives, Finishes}
+use Rattle.commit_status.proofs.Giving.{gives-status}
+use Rattle.commit_status.proofs.Finishing.{finishes-other}
+use Rattle.hot_chain.specs.Chain.{has_aborted}
+use Rattle.prune.specs.Cutting.{link, ReachesIn}
+use Rattle.prune.specs.Sound.{IsIn}
+use Rattle.prune.proofs.Links.{link-of}
+use Rattle.prune.proofs.Removing.{has-aborted}
+use Rattle.prune.proofs.Unseen.{aborted-has}
+use Rattle.page_writes.specs.Laws.{DeletedWhatWasMade, AloneDeletedTheirs}
+use Rattle.page_writes.proofs.Statuses.{successor-from, replaced-live, giving-sound, committing-sound, aborting-sound, later-sound}
+use Rattle.root_index.specs.declared.entry.Entry.{Entry}
+use Rattle.sound_entries.specs.Pages.{slots_on, SoundHeap}
+use Rattle.sound_entries.specs.Entries.{IsSound, StaysSound}
+use Rattle.sound_entries.proofs.Going.{PageGoesOn, page-same, stay-sound, stay-led}
+
+-- Where what was aborted stays so, no link comes.
+
+module _ (w v : Window) (aborted : (x : ℕ) → IsAborted w x → IsAborted v x) where
+  link-back : (slots : List Slot) (n k : ℕ) → link v slots n ≡ Some k → link w slots n ≡ Some k
+  link-back slots n k next =
+      let l = link-of (has_aborted v) slots n k next in
+      let live = alive l.old.header.xmax.0 l.live in
+      successor-from (has_aborted w) slots n k l.old l.new l.from l.to (replaced-live (has_aborted v) (has_aborted w) l.old.header l.replaced live) l.place l.heap_only l.made
+    where
+      alive : (x : ℕ) → has_aborted v x ≡ false → has_aborted w x ≡ false
+      alive x live = ⊎_elim
+          (λ gone. let too = aborted-has v x (aborted x (has-aborted w x gone)) in absurd (cc))
+          (λ e. e) (cases_Bool (has_aborted w x))
+
+  along-back : (slots : List Slot) (i n k : ℕ) → ReachesIn (link v slots) i n k → ReachesIn (link w slots) i n k
+  along-back slots zero n k same = same
+  along-back slots (suc i) n k along = (along.0, link-back slots n along.0 along.1, along-back slots i along.0 k along.2)
+
+  in-back : (slots : List Slot) (root n : ℕ) → IsIn v slots root n → IsIn w slots root n
+  in-back slots root n i =
+      record { entry = i.entry; leads = i.leads; later = record { turns = i.later.turns; along = along-back slots i.later.turns i.entry n i.later.along } }
+
+  statuses-stay : (value_of : Row → ℤ) (horizon later : ℕ) (pages : List (List Slot)) (entries : List Entry) → IsSound value_of w horizon pages entries → SoundHeap v later pages
+      → StaysSound value_of v later pages pages entries entries
+  statuses-stay value_of horizon later pages entries sound heap = record {
+    sound = record { heap = heap; index = stay-sound value_of w v pages pages entries sound.index goes };
+    led = stay-led value_of w v pages pages entries sound.index (λ m k. ⊥) goes entries;
+  }
+    where
+      goes : (m : ℕ) → PageGoesOn value_of w v (slots_on pages m) (slots_on pages m) (λ k. ⊥)
+      goes m = page-same value_of w v (slots_on pages m) (λ k. ⊥) (in-back (slots_on pages m))
+
+pub giving-stays : (value_of : Row → ℤ) (w v : Window) (horizon : ℕ) (parent : Option ℕ) (pages : List (List Slot)) (entries : List Entry)
+    → IsSound value_of w horizon pages entries → IsWindow w → IsWindow v → Gives w v parent → StaysSound value_of v horizon pages pages entries entries
+giving-stays value_of w v horizon parent pages entries sound before after gives =
+    statuses-stay w v (λ x gone. gives-status w v parent x before after gives ∙ gone) value_of horizon horizon pages entries sound
+    (λ n. giving-sound w v horizon parent (slots_on pages n) before after gives (sound.heap n))
+
+gone-still : (w v : Window) (ids : List ℕ) (status : Status) (x : ℕ) → ((y : ℕ) → Contains ids y → IsActive w y) → Finishes w v ids status → IsAborted w x → IsAborted v x
+gone-still w v ids status x active f gone =
+    finishes-other w v ids status x f (λ c. let e : Aborted ≡ InProgress = sym gone ∙ (active x c).unfinished in cc) ∙ gone
+
+pub committing-stays : (value_of : Row → ℤ) (w v : Window) (horizon : ℕ) (ids : List ℕ) (pages : List (List Slot)) (entries : List Entry)
+    → IsSound value_of w horizon pages entries → ((x : ℕ) → Contains ids x → IsActive w x) → Finishes w v ids Committed
+    → ((n : ℕ) → DeletedWhatWasMade w (slots_on pages n) ids) → StaysSound value_of v horizon pages pages entries entries
+committing-stays value_of w v horizon ids pages entries sound active f theirs =
+    statuses-stay w v (λ x gone. gone-still w v ids Committed x active f gone) value_of horizon horizon pages entries sound
+    (λ n. committing-sound w v horizon ids (slots_on pages n) active f (theirs n) (sound.heap n))
+
+pub aborting-stays : (value_of : Row → ℤ) (w v : Window) (horizon : ℕ) (ids : List ℕ) (pages : List (List Slot)) (entries : List Entry)
+    → IsSound value_of w horizon pages entries → ((x : ℕ) → Contains ids x → IsActive w x) → Finishes w v ids Aborted
+    → ((n : ℕ) → AloneDeletedTheirs w (slots_on pages n) ids) → StaysSound value_of v horizon pages pages entries entries
+aborting-stays value_of w v horizon ids pages entries sound active f theirs =
+    statuses-stay w v (λ x gone. gone-still w v ids Aborted x active f gone) value_of horizon horizon pages entries sound
+    (λ n. aborting-sound w v horizon ids (slots_on pages n) active f (theirs n) (sound.heap n))
+
+pub later-stays : (value_of : Row → ℤ) (w : Window) (horizon later : ℕ) (pages : List (List Slot)) (entries : List Entry)
+    → IsSound value_of w horizon pages entries → IsWindow w → IsUpToNext w horizon → IsUpToNext w later → turns w.first horizon ≤ turns w.first later
+    → StaysSound value_of w later pages pages entries entries
+later-stays value_of w horizon later pages entries sound is uh ul low =
+    statuses-stay w w (λ x gone. gone) value_of horizon later pages entries sound
+    (λ n. later-sound w horizon later (slots_on pages n) is uh ul low (sound.heap n))

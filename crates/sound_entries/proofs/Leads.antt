@@ -1,0 +1,105 @@
+-- One entry leads to each version that isn't undone, so that what is found by the index is what is found on the heap.
+use Rattle.std.proofs.Common.{◌≡◌, ◌↔◌, ℕ, ℤ, List, Some, refl, sym, ap, ◌∙◌, subst, ⊎_elim}
+use Rattle.std.specs.List.{Contains}
+use Rattle.std.proofs.lemmas.Bool.{cases_Bool}
+use Rattle.xid_circle.specs.declared.Tid.{Tid}
+use Rattle.tuple_header.specs.Version.{Version}
+use Rattle.tuple_header.specs.declared.version.Row.{Row}
+use Rattle.tuple_header.specs.Marks.{is_heap_only}
+use Rattle.page_slots.specs.declared.slot.Slot.{Slot}
+use Rattle.page_slots.specs.Slots.{version_at}
+use Rattle.commit_status.specs.declared.status.Status.TheVariants.{InProgress, Committed, Aborted}
+use Rattle.commit_status.specs.Window.{Window, IsActive, IsAborted}
+use Rattle.snapshot.specs.Snap.{Snap}
+use Rattle.visibility.specs.Visible.{Reads, VisibleBy, IsVisible}
+use Rattle.prune.specs.Sound.{IsIn, SoundPage, SomeRoot}
+use Rattle.prune.proofs.Links.{SomeVersion, member-version}
+use Rattle.prune.proofs.ChainPlaces.{place-of}
+use Rattle.prune.proofs.SoundChains.{entry-root, in-leads}
+use Rattle.page_writes.proofs.Growth.{entry-normal}
+use Rattle.root_index.specs.declared.entry.Entry.{Entry}
+use Rattle.sound_entries.specs.Pages.{slots_on, version_in}
+use Rattle.sound_entries.specs.Entries.{IsSound}
+use Rattle.sound_entries.specs.Leading.{IsUndone, Touches, LedByOne, IsOnHeap, IsByIndex}
+
+-- On one page.
+
+-- what is in a chain is a version
+pub chained-version : (w : Window) (horizon : ℕ) (slots : List Slot) (root n : ℕ) → SoundPage w horizon slots → IsIn w slots root n → SomeVersion slots n
+chained-version w horizon slots root n sound i =
+    let l = in-leads w horizon slots root n sound i in
+    let p = place-of n l.chain l.holds in
+    let v = member-version _ slots root l.chain p.0 l.is_chain p.1 in
+    record { version = v.version; there = subst (λ k. version_at slots k ≡ Some v.version) p.2 v.there }
+
+root-of : (w : Window) (horizon : ℕ) (slots : List Slot) (n : ℕ) (t : Version) → SoundPage w horizon slots → version_at slots n ≡ Some t → ¬ IsUndone w t.header → SomeRoot w slots n
+root-of w horizon slots n t sound at done = ⊎_elim
+    (λ heap_only. ⊎_elim (λ undone. absurd (done (record { thawed = undone.0; aborted = undone.1 }))) (λ r. r) (sound.owned n t at heap_only))
+    (λ plain. record { root = n; leads = record { entry = n; leads = entry-normal slots n t at plain; later = record { turns = 0; along = refl } } })
+    (cases_Bool (is_heap_only t.header))
+
+-- a version that an id touched which isn't aborted was made
+pub touched-made : (w : Window) (horizon : ℕ) (slots : List Slot) (n x : ℕ) (t : Version) → SoundPage w horizon slots → version_at slots n ≡ Some t → ¬ IsAborted w x
+    → Touches t.header x → ¬ IsUndone w t.header
+touched-made w horizon slots n x t sound at alive (Touches.made thawed is) undone = alive (subst (IsAborted w) is undone.aborted)
+touched-made w horizon slots n x t sound at alive (Touches.deleted some is) undone = alive (subst (IsAborted w) is (sound.undone n t at undone.thawed undone.aborted some))
+
+-- a version that a reader sees was made, if the reader counts nothing that is aborted
+pub seen-made : (w : Window) (R : ℕ → Type 0) (t : Version) → ((x : ℕ) → IsAborted w x → ¬ R x) → VisibleBy R t.header → ¬ IsUndone w t.header
+seen-made w R t none seen undone = ⊎_elim (λ frozen. undone.thawed frozen) (λ counts. none t.header.xmin.0 undone.aborted counts) seen.made
+
+-- On all pages.
+
+pub tid-same : (p q : Tid) → p.page ≡ q.page → p.slot ≡ q.slot → p ≡ q
+tid-same p q a b = by p.page p.slot q.page q.slot a b
+  where
+    place : ℕ → ℕ → Tid
+    place n k = record { page = n; slot = k }
+
+    by : (a b c d : ℕ) → a ≡ c → b ≡ d → place a b ≡ place c d
+    by a b c d e f = rw (e, f) refl
+
+module _ (value_of : Row → ℤ) (w : Window) (horizon : ℕ) (pages : List (List Slot)) (entries : List Entry) (sound : IsSound value_of w horizon pages entries) where
+  pub led_by_one : (p : Tid) (t : Version) → version_in pages p ≡ Some t → ¬ IsUndone w t.header → LedByOne w pages entries p (value_of t.row) t.row.key
+  led_by_one p t at done =
+      let slots = slots_on pages p.page in
+      let r = root-of w horizon slots p.slot t (sound.heap p.page) at done in
+      let s = sound.index.led (record { page = p.page; slot = r.root }) (entry-root slots r.root r.leads.entry r.leads.leads) in
+      let page : p.page ≡ s.entry.tid.page = sym (ap (λ (q : Tid). q.page) s.at) in
+      let chain = subst (λ (q : Tid). IsIn w (slots_on pages q.page) q.slot p.slot) (sym s.at) r.leads in
+      record {
+        entry = s.entry;
+        of = sound.index.alike s.entry p.slot t s.there chain (ap (λ n. version_at (slots_on pages n) p.slot) (sym page) ∙ at);
+        leads = record { there = s.there; page = page; chain = chain };
+        only = λ f l.
+            let here = subst (λ n. IsIn w (slots_on pages n) f.tid.slot p.slot) (sym l.page) l.chain in
+            let slot : f.tid.slot ≡ s.entry.tid.slot = (sound.heap p.page).alone f.tid.slot r.root p.slot here r.leads ∙ sym (ap (λ (q : Tid). q.slot) s.at) in
+            sound.index.one f s.entry l.there s.there (tid-same f.tid s.entry.tid (sym l.page ∙ page) slot);
+      }
+
+  -- what P says only of versions that were made is found by the index exactly where it is found on the heap
+  pub found : (P : Version → Type 0) → ((p : Tid) (t : Version) → version_in pages p ≡ Some t → P t → ¬ IsUndone w t.header)
+      → (value : ℤ) (key : ℕ) (p : Tid) (t : Version) → IsOnHeap value_of pages value key P p t ↔ IsByIndex w pages entries value key P p t
+  found P made value key p t = (
+    (λ h.
+        let l = led_by_one p t h.there (made p t h.there h.has) in
+        record { entry = l.entry; of = (l.of.0 ∙ h.of_value, l.of.1 ∙ h.of_key); leads = l.leads; there = h.there; has = h.has }),
+    (λ i.
+        let at = ap (λ n. version_at (slots_on pages n) p.slot) (sym i.leads.page) ∙ i.there in
+        let of = sound.index.alike i.entry p.slot t i.leads.there i.leads.chain at in
+        record { there = i.there; of_value = sym of.0 ∙ i.of.0; of_key = sym of.1 ∙ i.of.1; has = i.has }),
+  )
+
+  pub visible-found : (s : Snap) (own : List ℕ) → ((x : ℕ) → Contains own x → IsActive w x) → (value : ℤ) (key : ℕ) (p : Tid) (t : Version)
+      → IsOnHeap value_of pages value key (λ t. IsVisible w s own t.header) p t ↔ IsByIndex w pages entries value key (λ t. IsVisible w s own t.header) p t
+  visible-found s own active value key p t =
+      found (λ t. IsVisible w s own t.header) (λ q u at seen. seen-made w (Reads w s own) u (λ x gone. unread x gone) seen) value key p t
+    where
+      unread : (x : ℕ) → IsAborted w x → ¬ Reads w s own x
+      unread x gone (Reads.by_itself c) = let e : Aborted ≡ InProgress = sym gone ∙ (active x c).unfinished in absurd (cc)
+      unread x gone (Reads.by_others sees done) = let e : Aborted ≡ Committed = sym gone ∙ done in absurd (cc)
+
+  pub touched-found : (x : ℕ) → ¬ IsAborted w x → (value : ℤ) (key : ℕ) (p : Tid) (t : Version)
+      → IsOnHeap value_of pages value key (λ t. Touches t.header x) p t ↔ IsByIndex w pages entries value key (λ t. Touches t.header x) p t
+  touched-found x alive value key p t =
+      found (λ t. Touches t.header x) (λ q u at touch. touched-made w horizon (slots_on pages q.page) q.slot x u (sound.heap q.page) at alive touch) value key p t

@@ -1,0 +1,161 @@
+-- Tables as lists of pages: none, one page put, one added; and entries that go.
+use Rattle.std.proofs.Common.{◌≡◌, ℕ, ℤ, zero, suc, ◌+◌, ◌<◌, true, false, List, [], ◌∷◌, ◌++◌, length, map, get_or, set, Option, Some, None, refl, sym, ap, ◌∙◌, ⊎_elim, arith, slice_get}
+use Rattle.std.specs.List.{Contains}
+use Rattle.std.specs.Option.{option_and_then}
+use Rattle.std.proofs.lemmas.Bool.{cases_lt}
+use Rattle.std.proofs.lemmas.List.{get_or-set_same, get_or-set_other, get_or_past}
+use Rattle.std.proofs.lemmas.Option.{none-some}
+use Rattle.std.proofs.Math.ListN.{get_or-append}
+use Rattle.std.proofs.Math.Seq.{get_or-append_seam}
+use Rattle.std.proofs.Common.{length-append}
+use Rattle.xid_circle.specs.declared.Tid.{Tid}
+use Rattle.tuple_header.specs.Version.{Version}
+use Rattle.tuple_header.specs.declared.version.Row.{Row}
+use Rattle.page_slots.specs.declared.slot.Slot.{Slot}
+use Rattle.page_slots.specs.declared.slot.Slot.TheVariants.{Redirect, Dead}
+use Rattle.page_slots.specs.Slots.{slot_at, version_at}
+use Rattle.commit_status.specs.Window.{Window}
+use Rattle.hot_chain.specs.Chain.{is_root_in}
+use Rattle.page_slots.specs.View.{PageView}
+use Rattle.heap_pages.specs.View.{PagesView, with_page}
+use Rattle.heap_pages.proofs.PageLemmas.{page-with_page, page-with_page_other, page-pushed, page-pushed_other}
+use Rattle.prune.specs.Cutting.{link}
+use Rattle.prune.specs.Sound.{IsIn, SoundPage}
+use Rattle.prune.proofs.Links.{link-of}
+use Rattle.root_index.specs.declared.entry.Entry.{Entry}
+use Rattle.root_index.specs.Sets.{Removes}
+use Rattle.sound_entries.specs.Pages.{slots_on, slot_in, version_in, Puts}
+use Rattle.sound_entries.specs.Entries.{IsSound, StaysSound}
+use Rattle.sound_entries.specs.Looking.{slots_of}
+use Rattle.sound_entries.proofs.Going.{stays-same}
+use Rattle.sound_entries.proofs.Fetching.{slots-there, slots-none}
+
+-- The lists.
+
+pub puts-set : (pages : List (List Slot)) (n : ℕ) (after : List Slot) → n < length pages → Puts pages (set pages n after) n after
+puts-set pages n after within = record {
+  put = get_or-set_same pages n after [] within;
+  others = λ m other. get_or-set_other pages n m after [] other;
+}
+
+pub puts-push : (pages : List (List Slot)) (after : List Slot) → Puts pages (pages ++ after ∷ []) (length pages) after
+puts-push pages after = record {
+  put = get_or-append_seam pages after [] [];
+  others = λ m other. ⊎_elim
+      (λ lt. get_or-append pages (after ∷ []) [] m lt)
+      (λ ge.
+      let long : length (pages ++ after ∷ []) ≡ length pages + 1 = length-append pages (after ∷ []) in
+      get_or_past (pages ++ after ∷ []) m [] (omega (arith, other)) ∙ sym (get_or_past pages m [] ge))
+      (cases_lt m (length pages));
+}
+
+-- what a page of the table has, by its slots
+slots-same : (ps qs : List PageView) (m : ℕ) → slice_get ps m ≡ slice_get qs m → slots_on (map (λ (p : PageView). p.slots) ps) m ≡ slots_on (map (λ (p : PageView). p.slots) qs) m
+slots-same ps qs m same = by (slice_get qs m) refl
+  where
+    by : (o : Option PageView) → slice_get qs m ≡ o → slots_on (map (λ (p : PageView). p.slots) ps) m ≡ slots_on (map (λ (p : PageView). p.slots) qs) m
+    by None at = slots-none ps m (same ∙ at) ∙ sym (slots-none qs m at)
+    by (Some page) at = slots-there ps m page (same ∙ at) ∙ sym (slots-there qs m page at)
+
+pub puts-with_page : (p : PagesView) (n : ℕ) (page : PageView) → n < length p.pages → Puts (slots_of p) (slots_of (with_page p n page)) n page.slots
+puts-with_page p n page within = record {
+  put = slots-there (with_page p n page).pages n page (page-with_page p n page within);
+  others = λ m other. slots-same (with_page p n page).pages p.pages m (page-with_page_other p n m page other);
+}
+
+pub puts-pushed : (pages : List PageView) (page : PageView)
+    → Puts (map (λ (p : PageView). p.slots) pages) (map (λ (p : PageView). p.slots) (pages ++ page ∷ [])) (length pages) page.slots
+puts-pushed pages page = record {
+  put = slots-there (pages ++ page ∷ []) (length pages) page (page-pushed pages page);
+  others = λ m other. slots-same (pages ++ page ∷ []) pages m (page-pushed_other pages m page other);
+}
+
+-- the version at a place, if its page is in use
+pub version-by_page : (pages : List (List Slot)) (p : Tid) → option_and_then (λ slots. version_at slots p.slot) (slice_get pages p.page) ≡ version_in pages p
+version-by_page pages p = by pages p.page p.slot
+  where
+    none : (k : ℕ) → None ≡ version_at [] k
+    none zero = refl
+    none (suc k) = refl
+
+    by : (ps : List (List Slot)) (n k : ℕ) → option_and_then (λ slots. version_at slots k) (slice_get ps n) ≡ version_at (get_or ps n []) k
+    by [] n k = none k
+    by (slots ∷ ps) zero k = refl
+    by (slots ∷ ps) (suc n) k = by ps n k
+
+-- Nothing.
+
+none-at : {P : Type 0} (n : ℕ) (s : Slot) → slot_at [] n ≡ Some s → P
+none-at zero s at = absurd (none-some s at)
+none-at (suc n) s at = absurd (none-some s at)
+
+no-version : {P : Type 0} (n : ℕ) (t : Version) → version_at [] n ≡ Some t → P
+no-version zero t at = absurd (none-some t at)
+no-version (suc n) t at = absurd (none-some t at)
+
+no-link : {P : Type 0} (w : Window) (n k : ℕ) → link w [] n ≡ Some k → P
+no-link w n k next = let l = link-of _ [] n k next in no-version n l.old l.from
+
+no-chain : {P : Type 0} (w : Window) (root n : ℕ) → IsIn w [] root n → P
+no-chain w zero n i = absurd (none-some i.entry i.leads)
+no-chain w (suc root) n i = absurd (none-some i.entry i.leads)
+
+empty-page : (w : Window) (horizon : ℕ) → SoundPage w horizon []
+empty-page w horizon = record {
+  few = omega arith;
+  made = λ n t at done. no-version n t at;
+  undone = λ n t at thawed gone some. no-version n t at;
+  unfrozen = λ n k u next at. no-link w n k next;
+  whole = λ n t at replaced. no-version n t at;
+  ends = λ n k next back. no-link w n k next;
+  redirects = λ n k at. none-at n (Redirect k) at;
+  owned = λ n t at heap_only. no-version n t at;
+  alone = λ a b n x y. no-chain w a n x;
+}
+
+none-among : {P : Type 0} (e : Entry) → Contains [] e → P
+none-among e there = let below : there.0 < 0 = there.1 in absurd (omega arith)
+
+no-root : {P : Type 0} (n : ℕ) → is_root_in (slot_at [] n) ≡ true → P
+no-root zero root = absurd (cc)
+no-root (suc n) root = absurd (cc)
+
+pub nothing-sound : (value_of : Row → ℤ) (w : Window) (horizon : ℕ) → IsSound value_of w horizon [] []
+nothing-sound value_of w horizon = record {
+  heap = λ n. empty-page w horizon;
+  index = record {
+    leads = λ e there. none-among e there;
+    led = λ p root. no-root p.slot root;
+    one = λ e f there among same. none-among e there;
+    alike = λ e n t there i at. none-among e there;
+  };
+}
+
+-- Entries that lead to dead slots go.
+
+pub going-stays : (value_of : Row → ℤ) (w : Window) (horizon : ℕ) (pages : List (List Slot)) (entries entries' : List Entry) (dead : List Tid) → IsSound value_of w horizon pages entries
+    → Removes entries entries' dead → ((p : Tid) → Contains dead p → slot_in pages p ≡ Some Dead) → StaysSound value_of w horizon pages pages entries entries'
+going-stays value_of w horizon pages entries entries' dead sound removes are_dead = record {
+  sound = record {
+    heap = sound.heap;
+    index = record {
+      leads = λ e there. sound.index.leads e (old e there);
+      led = λ p root.
+          let s = sound.index.led p root in
+          record {
+            entry = s.entry;
+            there = (removes.members s.entry).1 (s.there, λ among. not-root p (ap (slot_in pages) (sym s.at) ∙ are_dead s.entry.tid among) root);
+            at = s.at;
+          };
+      one = λ e f there among same. sound.index.one e f (old e there) (old f among) same;
+      alike = λ e n t there i at. sound.index.alike e n t (old e there) i at;
+    };
+  };
+  led = λ e there after. stays-same (slot_in pages e.tid) (sound.index.leads e there);
+}
+  where
+    old : (e : Entry) → Contains entries' e → Contains entries e
+    old e there = ((removes.members e).0 there).0
+
+    not-root : (p : Tid) → slot_in pages p ≡ Some Dead → is_root_in (slot_in pages p) ≡ true → ⊥
+    not-root p at root = let e : false ≡ true = sym (ap is_root_in at) ∙ root in cc

@@ -1,0 +1,5 @@
+use Rattle.sound_entries.proofs.Leads.{visible-found}
+use Rattle.sound_entries.proofs.laws.found_by_index.Goals as goal
+
+pub returns : goal.returns
+returns c = λ value_of w horizon pages entries s own sound active value key p t. visible-found value_of w horizon pages entries sound s own active value key p t

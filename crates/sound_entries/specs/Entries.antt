@@ -1,0 +1,59 @@
+-- Sound entries: what an index promises of the chains of versions that it leads to. (README.HOT: there is one entry for a
+-- chain, at its root, and all versions of the chain have the same indexed values; the entry stays right while the root
+-- becomes a redirect, and is taken away only after the root is dead.) The indexed value is any function of a row; in the
+-- primary index it is the key.
+use Rattle.std.specs.Prelude.{◌≡◌, ◌⊎◌, ℕ, ℤ, true, List, Option, Some, Contains}
+use Rattle.xid_circle.specs.declared.Tid.{Tid}
+use Rattle.tuple_header.specs.Version.{Version}
+use Rattle.tuple_header.specs.declared.version.Row.{Row}
+use Rattle.page_slots.specs.declared.slot.Slot.{Slot}
+use Rattle.page_slots.specs.declared.slot.Slot.TheVariants.{Normal, Redirect, Dead}
+use Rattle.page_slots.specs.Slots.{version_at}
+use Rattle.commit_status.specs.Window.{Window}
+use Rattle.hot_chain.specs.Chain.{is_root_in}
+use Rattle.prune.specs.Sound.{IsIn}
+use Rattle.root_index.specs.declared.entry.Entry.{Entry}
+use Rattle.root_index.specs.Sets.{IsOf}
+use Rattle.sound_entries.specs.Pages.{slots_on, slot_in, SoundHeap}
+
+-- the entry of a row's version at a place
+abbrev pub entry_for : (Row → ℤ) → Row → ℕ → ℕ → Entry
+entry_for value_of row page slot = record { value = value_of row; key = row.key; tid = record { page = page; slot = slot } }
+
+-- what an entry leads to: a version that isn't heap-only, a redirect, or a dead slot
+abbrev pub MayBeLed : Option Slot → Type 0
+MayBeLed o = (is_root_in o ≡ true) ⊎ (o ≡ Some Dead)
+
+pub record SomeEntry (entries : List Entry) (p : Tid) : Type 0 where
+  pub entry : Entry
+  pub there : Contains entries entry
+  pub at : entry.tid ≡ p
+
+pub record SoundEntries (value_of : Row → ℤ) (w : Window) (pages : List (List Slot)) (entries : List Entry) : Type 0 where
+  pub leads : (e : Entry) → Contains entries e → MayBeLed (slot_in pages e.tid)
+  -- each root and redirect has an entry
+  pub led : (p : Tid) → is_root_in (slot_in pages p) ≡ true → SomeEntry entries p
+  -- and no two lead to one place
+  pub one : (e f : Entry) → Contains entries e → Contains entries f → e.tid ≡ f.tid → e ≡ f
+  -- each version of its chain has the entry's value and key
+  pub alike : (e : Entry) (n : ℕ) (t : Version) → Contains entries e → IsIn w (slots_on pages e.tid.page) e.tid.slot n
+      → version_at (slots_on pages e.tid.page) n ≡ Some t → IsOf (value_of t.row) t.row.key e
+
+pub record IsSound (value_of : Row → ℤ) (w : Window) (horizon : ℕ) (pages : List (List Slot)) (entries : List Entry) : Type 0 where
+  pub heap : SoundHeap w horizon pages
+  pub index : SoundEntries value_of w pages entries
+
+-- The law of each step, for a slot that an entry leads to before and after: it holds the same version, by its row and its
+-- maker, or a redirect where a version or a redirect was, or is dead.
+pub data StaysLed (before after : Option Slot) : Type 0 where
+  same_version : (t u : Version) → before ≡ Some (Normal t) → after ≡ Some (Normal u) → u.row ≡ t.row → u.header.xmin.0 ≡ t.header.xmin.0 → StaysLed before after
+  led_on : (k : ℕ) → is_root_in before ≡ true → after ≡ Some (Redirect k) → StaysLed before after
+  died : after ≡ Some Dead → StaysLed before after
+
+abbrev pub KeepsLed : List (List Slot) → List (List Slot) → List Entry → List Entry → Type 0
+KeepsLed pages pages' entries entries' = (e : Entry) → Contains entries e → Contains entries' e → StaysLed (slot_in pages e.tid) (slot_in pages' e.tid)
+
+-- a step leaves the table sound, and keeps that law
+pub record StaysSound (value_of : Row → ℤ) (v : Window) (horizon : ℕ) (pages pages' : List (List Slot)) (entries entries' : List Entry) : Type 0 where
+  pub sound : IsSound value_of v horizon pages' entries'
+  pub led : KeepsLed pages pages' entries entries'

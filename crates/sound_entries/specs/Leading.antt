@@ -1,0 +1,51 @@
+-- What is found through the entries of an index, and what on the pages themselves.
+use Rattle.std.specs.Prelude.{◌≡◌, ◌≢◌, ℕ, ℤ, List, Some, Contains}
+use Rattle.xid_circle.specs.declared.Tid.{Tid}
+use Rattle.tuple_header.specs.Version.{Version}
+use Rattle.tuple_header.specs.declared.version.Header.{Header}
+use Rattle.tuple_header.specs.declared.version.Row.{Row}
+use Rattle.page_slots.specs.declared.slot.Slot.{Slot}
+use Rattle.commit_status.specs.Window.{Window, IsAborted}
+use Rattle.visibility.specs.Visible.{IsFrozen}
+use Rattle.prune.specs.Sound.{IsIn}
+use Rattle.root_index.specs.declared.entry.Entry.{Entry}
+use Rattle.root_index.specs.Sets.{IsOf}
+use Rattle.sound_entries.specs.Pages.{slots_on, version_in}
+
+-- its maker is aborted, and it is not frozen
+pub record IsUndone (w : Window) (h : Header) : Type 0 where
+  pub thawed : ¬ IsFrozen h
+  pub aborted : IsAborted w h.xmin.0
+
+-- an id made the version, which is not frozen, or deleted it
+pub data Touches (h : Header) (x : ℕ) : Type 0 where
+  made : ¬ IsFrozen h → h.xmin.0 ≡ x → Touches h x
+  deleted : h.xmax.0 ≢ 0 → h.xmax.0 ≡ x → Touches h x
+
+-- the place is in the chain that the entry leads to
+pub record Leads (w : Window) (pages : List (List Slot)) (entries : List Entry) (e : Entry) (p : Tid) : Type 0 where
+  pub there : Contains entries e
+  pub page : p.page ≡ e.tid.page
+  pub chain : IsIn w (slots_on pages e.tid.page) e.tid.slot p.slot
+
+-- one entry leads to the place, and no other
+pub record LedByOne (w : Window) (pages : List (List Slot)) (entries : List Entry) (p : Tid) (value : ℤ) (key : ℕ) : Type 0 where
+  pub entry : Entry
+  pub of : IsOf value key entry
+  pub leads : Leads w pages entries entry p
+  pub only : (f : Entry) → Leads w pages entries f p → f ≡ entry
+
+-- the place holds a version of this value and this key that has P
+pub record IsOnHeap (value_of : Row → ℤ) (pages : List (List Slot)) (value : ℤ) (key : ℕ) (P : Version → Type 0) (p : Tid) (t : Version) : Type 0 where
+  pub there : version_in pages p ≡ Some t
+  pub of_value : value_of t.row ≡ value
+  pub of_key : t.row.key ≡ key
+  pub has : P t
+
+-- the place is in a chain to which an entry of this value and this key leads, and holds a version that has P
+pub record IsByIndex (w : Window) (pages : List (List Slot)) (entries : List Entry) (value : ℤ) (key : ℕ) (P : Version → Type 0) (p : Tid) (t : Version) : Type 0 where
+  pub entry : Entry
+  pub of : IsOf value key entry
+  pub leads : Leads w pages entries entry p
+  pub there : version_in pages p ≡ Some t
+  pub has : P t

@@ -1,0 +1,5 @@
+pub mod Pages
+pub mod Entries
+pub mod Leading
+pub mod Laws
+pub mod Looking

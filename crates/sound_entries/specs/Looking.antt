@@ -1,0 +1,118 @@
+-- What a search along the entries of one value and one key finds. It goes by entries and chains alone, sound or not.
+use Rattle.std.specs.Prelude.{◌≡◌, ◌↔◌, ℕ, ℤ, ◌<◌, List, length, map, Option, Some, None, slice_index, Contains, MatchOption}
+use Rattle.xid_circle.specs.declared.Tid.{Tid}
+use Rattle.xid_circle.specs.declared.Xid.{Xid}
+use Rattle.tuple_header.specs.Version.{Version}
+use Rattle.tuple_header.specs.declared.version.Header.{Header}
+use Rattle.tuple_header.specs.declared.version.Row.{Row}
+use Rattle.page_slots.specs.declared.slot.Slot.{Slot}
+use Rattle.page_slots.specs.Slots.{version_at}
+use Rattle.commit_status.specs.Window.{Window, IsActive, IsCommitted, IsInProgress}
+use Rattle.snapshot.specs.Snap.{Snap, Sees}
+use Rattle.visibility.specs.Visible.{IsVisible}
+use Rattle.hot_chain.specs.Chain.{has_aborted, IsChain, Fetched}
+use Rattle.root_index.specs.declared.entry.Entry.{Entry}
+use Rattle.root_index.specs.Order.{Precedes}
+use Rattle.root_index.specs.Sets.{IsLeast, IsAfter, IsOf}
+use Rattle.heap_pages.specs.View.{PagesView}
+use Rattle.sound_entries.specs.Pages.{slots_on}
+use Rattle.sound_entries.specs.Entries.{IsSound}
+use Rattle.sound_entries.specs.Leading.{Touches, IsOnHeap}
+
+abbrev pub slots_of : PagesView → List (List Slot)
+slots_of p = map (λ page. page.slots) p.pages
+
+-- the first entry of this value and this key that comes after another one, or the first of all
+abbrev pub IsNextOf : List Entry → ℤ → ℕ → Option Entry → Option Entry → Type 0
+IsNextOf entries value key from answer = IsLeast entries (λ e. IsOf value key e × IsAfter from e) answer
+
+-- the first version that is seen in the chain of a place, if there is one
+abbrev pub FetchedAt : Window → (Header → Type 0) → List (List Slot) → Tid → Option Version → Type 0
+FetchedAt w seen pages p answer = Fetched (has_aborted w) seen (slots_on pages p.page) p.slot answer
+
+-- the row of the first version that is seen, by the entries in their order, and by the chain of each
+pub record IsFirstFound (w : Window) (seen : Header → Type 0) (pages : List (List Slot)) (entries : List Entry) (value : ℤ) (key : ℕ) (row : Row) : Type 0 where
+  pub entry : Entry
+  pub there : Contains entries entry
+  pub of : IsOf value key entry
+  pub version : Version
+  pub fetched : FetchedAt w seen pages entry.tid (Some version)
+  pub is_row : row ≡ version.row
+  pub none_before : (e : Entry) → Contains entries e → IsOf value key e → Precedes e entry → FetchedAt w seen pages e.tid None
+
+abbrev pub NoneFound : Window → (Header → Type 0) → List (List Slot) → List Entry → ℤ → ℕ → Type 0
+NoneFound w seen pages entries value key = (e : Entry) → Contains entries e → IsOf value key e → FetchedAt w seen pages e.tid None
+
+abbrev pub FirstFound : Window → (Header → Type 0) → List (List Slot) → List Entry → ℤ → ℕ → Option Row → Type 0
+FirstFound w seen pages entries value key answer = MatchOption answer (NoneFound w seen pages entries value key) (IsFirstFound w seen pages entries value key)
+
+-- Where the entries are sound, what is found is what stands on the heap: a row of a version there that is seen, where there
+-- is one.
+abbrev pub FoundIsOnHeap : Type 0
+FoundIsOnHeap = (value_of : Row → ℤ) (w : Window) (horizon : ℕ) (pages : List (List Slot)) (entries : List Entry) (s : Snap) (own : List ℕ) → IsSound value_of w horizon pages entries
+    → ((x : ℕ) → Contains own x → IsActive w x) → (value : ℤ) (key : ℕ) (answer : Option Row) → FirstFound w (IsVisible w s own) pages entries value key answer
+    → MatchOption answer
+    ((p : Tid) (t : Version) → ¬ IsOnHeap value_of pages value key (λ t. IsVisible w s own t.header) p t)
+    (λ row. (p : Tid) × (t : Version) × IsOnHeap value_of pages value key (λ t. IsVisible w s own t.header) p t × (row ≡ t.row))
+
+-- Where at most one version of the value and the key is seen, its row is found.
+abbrev pub TheRowIsFound : Type 0
+TheRowIsFound = (value_of : Row → ℤ) (w : Window) (horizon : ℕ) (pages : List (List Slot)) (entries : List Entry) (s : Snap) (own : List ℕ) → IsSound value_of w horizon pages entries
+    → ((x : ℕ) → Contains own x → IsActive w x) → (value : ℤ) (key : ℕ)
+    → ((p q : Tid) (t u : Version) → IsOnHeap value_of pages value key (λ t. IsVisible w s own t.header) p t → IsOnHeap value_of pages value key (λ t. IsVisible w s own t.header) q u → p ≡ q)
+    → (answer : Option Row) → FirstFound w (IsVisible w s own) pages entries value key answer
+    → (p : Tid) (t : Version) → IsOnHeap value_of pages value key (λ t. IsVisible w s own t.header) p t → answer ≡ Some t.row
+
+-- Ids that made or deleted a version.
+
+-- a committed one that the snapshot does not see
+pub record IsMissed (w : Window) (s : Snap) (x : ℕ) (h : Header) : Type 0 where
+  pub touch : Touches h x
+  pub done : IsCommitted w x
+  pub unseen : ¬ Sees s w x
+
+-- one in progress that is not the reader's own
+pub record IsForeign (w : Window) (own : List ℕ) (x : ℕ) (h : Header) : Type 0 where
+  pub touch : Touches h x
+  pub active : IsInProgress w x
+  pub foreign : ¬ Contains own x
+
+-- a version in one of these slots has P
+pub record SomeAmong (P : Header → Type 0) (slots : List Slot) (chain : List ℕ) : Type 0 where
+  pub place : ℕ
+  pub version : Version
+  pub within : place < length chain
+  pub there : version_at slots (slice_index chain place) ≡ Some version
+  pub has : P version.header
+
+-- a version in the chain of a place
+pub record SomeAt (w : Window) (P : Header → Type 0) (pages : List (List Slot)) (p : Tid) : Type 0 where
+  pub chain : List ℕ
+  pub is_chain : IsChain (has_aborted w) (slots_on pages p.page) p.slot chain
+  pub some : SomeAmong P (slots_on pages p.page) chain
+
+-- a version in the chain to which an entry of this value and this key leads
+pub record SomeOf (w : Window) (P : Header → Type 0) (pages : List (List Slot)) (entries : List Entry) (value : ℤ) (key : ℕ) : Type 0 where
+  pub entry : Entry
+  pub there : Contains entries entry
+  pub of : IsOf value key entry
+  pub at : SomeAt w P pages entry.tid
+
+-- an id is answered that P says of a version there, or there is none
+abbrev pub IsIdOf : Window → (ℕ → Header → Type 0) → List (List Slot) → List Entry → ℤ → ℕ → Option Xid → Type 0
+IsIdOf w P pages entries value key answer = MatchOption answer
+    ((x : ℕ) → ¬ SomeOf w (P x) pages entries value key)
+    (λ x. SomeOf w (P x.0) pages entries value key)
+
+-- a version on the heap
+abbrev pub SomeOnHeap : (Row → ℤ) → List (List Slot) → ℤ → ℕ → (Header → Type 0) → Type 0
+SomeOnHeap value_of pages value key P = (p : Tid) × (t : Version) × IsOnHeap value_of pages value key (λ t. P t.header) p t
+
+-- Where the entries are sound, such ids are those of versions on the heap.
+abbrev pub MissedIsOnHeap : Type 0
+MissedIsOnHeap = (value_of : Row → ℤ) (w : Window) (horizon : ℕ) (pages : List (List Slot)) (entries : List Entry) (s : Snap) (x : ℕ) → IsSound value_of w horizon pages entries
+    → (value : ℤ) (key : ℕ) → SomeOf w (IsMissed w s x) pages entries value key ↔ SomeOnHeap value_of pages value key (IsMissed w s x)
+
+abbrev pub ForeignIsOnHeap : Type 0
+ForeignIsOnHeap = (value_of : Row → ℤ) (w : Window) (horizon : ℕ) (pages : List (List Slot)) (entries : List Entry) (own : List ℕ) (x : ℕ) → IsSound value_of w horizon pages entries
+    → (value : ℤ) (key : ℕ) → SomeOf w (IsForeign w own x) pages entries value key ↔ SomeOnHeap value_of pages value key (IsForeign w own x)

@@ -1,0 +1,189 @@
+//! Looking along the entries of one value and one key. None takes memory.
+
+ghost use Rattle.std.specs.Prelude.{◌≡◌, ℕ, IfSome, MatchOption, None, Some};
+ghost use Rattle.root_index.specs.Sets.{IsOf};
+ghost use Rattle.visibility.specs.Visible.{IsVisible};
+ghost use Rattle.sound_entries.specs.Looking.{slots_of, IsNextOf, FetchedAt, FirstFound, FoundIsOnHeap, TheRowIsFound, IsMissed, IsForeign, SomeAt, IsIdOf, MissedIsOnHeap, ForeignIsOnHeap};
+
+use crate::touched::{foreign_among, missed_among};
+use commit_status::StatusTable;
+use heap_pages::Pages;
+use hot_chain::{chain, fetch};
+use root_index::{Entry, RootIndex};
+use snapshot::{OwnIds, Snapshot};
+use tuple_header::{Row, Tuple};
+use xid_circle::{Tid, Xid};
+
+/// An entry, if it is of this value and this key.
+fn only_of(found: Option<Entry>, value: i128, key: u64) -> Option<Entry>
+    ensures { MatchOption result ((e : _) → found ≡ Some e → ¬ IsOf value key e) (λ e. (found ≡ Some e) × IsOf value key e) }
+{
+    match found {
+        Some(entry) if entry.value == value && entry.key == key => Some(entry),
+        _ => None,
+    }
+}
+
+/// The first entry of this value and this key that comes after another one of these, or the first of all.
+fn next_of(index: &RootIndex, value: i128, key: u64, from: Option<Entry>) -> Option<Entry>
+    requires { IfSome from (IsOf value key) }
+    ensures { IsNextOf index.now.entries value key from result }
+{
+    match from {
+        None => only_of(index.first_from(value, key), value, key),
+        Some(_) => only_of(index.next_after(from), value, key),
+    }
+}
+
+/// The first version that the reader sees in the chain of a place. A page that is not in use has no chains.
+fn fetch_at(
+    pages: &Pages,
+    place: Tid,
+    snapshot: &Snapshot,
+    own: &OwnIds,
+    table: &StatusTable,
+) -> Option<Tuple>
+    ensures { FetchedAt table.now (IsVisible table.now snapshot.now own.now.ids) (slots_of pages.now) place result }
+{
+    match pages.page(place.page) {
+        Some(page) => fetch(page, place.slot, snapshot, own, table),
+        None => None,
+    }
+}
+
+/// The row of the first version that the reader sees, along the entries of this value and this key in their order, and
+/// along the chain of each. It takes no memory.
+pub fn row_of(
+    pages: &Pages,
+    index: &RootIndex,
+    value: i128,
+    key: u64,
+    snapshot: &Snapshot,
+    own: &OwnIds,
+    table: &StatusTable,
+) -> Option<Row>
+    ensures { FirstFound table.now (IsVisible table.now snapshot.now own.now.ids) (slots_of pages.now) index.now.entries value key result }
+{
+    index.is_ascending();
+    let mut next = next_of(index, value, key, None);
+    for _ in 0..index.len() {
+        match next {
+            None => return None,
+            Some(entry) => {
+                if let Some(version) = fetch_at(pages, entry.tid, snapshot, own, table) {
+                    return Some(version.row);
+                }
+                next = next_of(index, value, key, Some(entry));
+            }
+        }
+    }
+    None
+}
+
+/// A committed id that made or deleted a version in the chain of a place, and that the snapshot does not see.
+fn missed_at(pages: &Pages, place: Tid, snapshot: &Snapshot, table: &StatusTable) -> Option<Xid>
+    ensures { MatchOption result ((x : ℕ) → SomeAt table.now (IsMissed table.now snapshot.now x) (slots_of pages.now) place → ⊥)
+        (λ x. SomeAt table.now (IsMissed table.now snapshot.now x.0) (slots_of pages.now) place) }
+{
+    match pages.page(place.page) {
+        Some(page) => {
+            let slots = chain(page, place.slot, table);
+            missed_among(page, slots.as_slice(), snapshot, table)
+        }
+        None => None,
+    }
+}
+
+/// An id in progress, none of these, that made or deleted a version in the chain of a place.
+fn foreign_at(pages: &Pages, place: Tid, own: &OwnIds, table: &StatusTable) -> Option<Xid>
+    ensures { MatchOption result ((x : ℕ) → SomeAt table.now (IsForeign table.now own.now.ids x) (slots_of pages.now) place → ⊥)
+        (λ x. SomeAt table.now (IsForeign table.now own.now.ids x.0) (slots_of pages.now) place) }
+{
+    match pages.page(place.page) {
+        Some(page) => {
+            let slots = chain(page, place.slot, table);
+            foreign_among(page, slots.as_slice(), own, table)
+        }
+        None => None,
+    }
+}
+
+/// A committed id that made or deleted a version in a chain to which an entry of this value and this key leads, and that
+/// the snapshot does not see. It takes no memory.
+pub fn missed_of(
+    pages: &Pages,
+    index: &RootIndex,
+    value: i128,
+    key: u64,
+    snapshot: &Snapshot,
+    table: &StatusTable,
+) -> Option<Xid>
+    ensures { IsIdOf table.now (IsMissed table.now snapshot.now) (slots_of pages.now) index.now.entries value key result }
+{
+    index.is_ascending();
+    let mut next = next_of(index, value, key, None);
+    for _ in 0..index.len() {
+        match next {
+            None => return None,
+            Some(entry) => {
+                if let Some(x) = missed_at(pages, entry.tid, snapshot, table) {
+                    return Some(x);
+                }
+                next = next_of(index, value, key, Some(entry));
+            }
+        }
+    }
+    None
+}
+
+/// An id in progress, none of these, that made or deleted a version in a chain to which an entry of this value and this key
+/// leads. It takes no memory.
+pub fn holder_of(
+    pages: &Pages,
+    index: &RootIndex,
+    value: i128,
+    key: u64,
+    own: &OwnIds,
+    table: &StatusTable,
+) -> Option<Xid>
+    ensures { IsIdOf table.now (IsForeign table.now own.now.ids) (slots_of pages.now) index.now.entries value key result }
+{
+    index.is_ascending();
+    let mut next = next_of(index, value, key, None);
+    for _ in 0..index.len() {
+        match next {
+            None => return None,
+            Some(entry) => {
+                if let Some(x) = foreign_at(pages, entry.tid, own, table) {
+                    return Some(x);
+                }
+                next = next_of(index, value, key, Some(entry));
+            }
+        }
+    }
+    None
+}
+
+/// Where the entries are sound, the row that is found is that of a version on the heap, and none where there is none. It
+/// does nothing; its contract is the law.
+pub fn found_is_on_heap()
+    ensures { FoundIsOnHeap }
+{}
+
+/// Where the entries are sound and at most one version of the value and the key is seen, its row is found. It does nothing;
+/// its contract is the law.
+pub fn the_row_is_found()
+    ensures { TheRowIsFound }
+{}
+
+/// Where the entries are sound, the ids that `missed_of` looks for are those of versions on the heap. It does nothing; its
+/// contract is the law.
+pub fn missed_is_on_heap()
+    ensures { MissedIsOnHeap }
+{}
+
+/// Where the entries are sound, the ids that `holder_of` looks for are those of versions on the heap. It does nothing; its
+/// contract is the law.
+pub fn foreign_is_on_heap()
+    ensures { ForeignIsOnHeap }
+{}
