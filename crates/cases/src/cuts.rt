@@ -3,7 +3,7 @@
 ghost use Rattle.std.specs.Prelude.{◌≡◌};
 
 use crate::table::OLDER_SESSION;
-use script::{ShellFault, run_script};
+use script::{ShellFault, Watch, run_script};
 use std::test::Fail;
 
 fn count_lines(text: &[u8]) -> usize {
@@ -34,7 +34,8 @@ fn cut_after_each_byte(rt: HostRuntime) -> Result<(), Fail> {
         let lines = count_lines(reader);
         let is_whole = reader.last().copied() == Some(b'\n');
         let mut answers: Vec<u8> = Vec::new(rt.alloc());
-        let result = run_script(rt.alloc(), &mut reader, &mut answers);
+        let mut watch = Watch::new();
+        let result = run_script(rt.alloc(), &mut watch, &mut reader, &mut answers);
         if is_whole {
             assert_eq!(rt; result, Ok(()), "at {cut}");
         } else {

@@ -2,7 +2,7 @@
 
 ghost use Rattle.std.specs.Prelude.{◌≡◌};
 
-use page_slots::Page;
+use page_slots::{Page, Slot};
 use session_core::{Engine, Refusal, Reply, RowIn, Settings, Step};
 use std::alloc::{AllocError, Global};
 use std::test::Fail;
@@ -15,6 +15,7 @@ enum Ask {
     Insert(u8, u64, usize),
     Commit(u8),
     Abort(u8),
+    Prune(u32),
 }
 
 // What has to be answered. A row has the key that was asked for, and a body of so many bytes.
@@ -40,7 +41,7 @@ const SETTINGS: Settings = Settings {
 
 const COLUMNS: [i64; 4] = [5, -6, 0, 9];
 
-const STEPS: [(Ask, Answer); 49] = [
+const STEPS: [(Ask, Answer); 57] = [
     (Ask::Get(0, 1), Answer::Refused(Refusal::NotOpen)),
     (Ask::Insert(0, 1, 0), Answer::Refused(Refusal::NotOpen)),
     (Ask::Commit(0), Answer::Refused(Refusal::NotOpen)),
@@ -53,6 +54,7 @@ const STEPS: [(Ask, Answer); 49] = [
     ),
     (Ask::Commit(64), Answer::Refused(Refusal::NoSuchSession)),
     (Ask::Abort(64), Answer::Refused(Refusal::NoSuchSession)),
+    (Ask::Prune(0), Answer::Refused(Refusal::NoSuchPage)),
     (Ask::Begin(0), Answer::Done),
     (Ask::Begin(0), Answer::Refused(Refusal::AlreadyOpen)),
     (Ask::Begin(1), Answer::Done),
@@ -101,6 +103,14 @@ const STEPS: [(Ask, Answer); 49] = [
     // There is neither an id nor room.
     (Ask::Insert(3, 11, 0), Answer::Refused(Refusal::NeedsFreeze)),
     (Ask::Abort(3), Answer::RolledBack),
+    (Ask::Prune(1), Answer::Refused(Refusal::NoSuchPage)),
+    // Slots 2 and 3 hold what was aborted: they become dead. A second time there is nothing to do.
+    (Ask::Prune(0), Answer::Done),
+    (Ask::Prune(0), Answer::Done),
+    (Ask::Begin(3), Answer::Done),
+    (Ask::Get(3, 3), Answer::NoRow),
+    (Ask::Get(3, 10), Answer::Row(246)),
+    (Ask::Abort(3), Answer::RolledBack),
 ];
 
 fn row_of(alloc: Global, key: u64, length: usize) -> Result<RowIn, AllocError> {
@@ -122,6 +132,7 @@ fn step_of(alloc: Global, ask: Ask) -> Result<Step, AllocError> {
         Ask::Insert(s, key, length) => Step::Insert(s, row_of(alloc, key, length)?),
         Ask::Commit(s) => Step::Commit(s),
         Ask::Abort(s) => Step::Abort(s),
+        Ask::Prune(page) => Step::Prune(page),
     })
 }
 
@@ -142,7 +153,7 @@ fn is_no_memory(reply: &Reply) -> bool {
 
 fn may_grow(ask: Ask) -> bool {
     match ask {
-        Ask::Begin(_) | Ask::Insert(_, _, _) => true,
+        Ask::Begin(_) | Ask::Insert(_, _, _) | Ask::Prune(_) => true,
         Ask::Get(_, _) | Ask::Commit(_) | Ask::Abort(_) => false,
     }
 }
@@ -203,10 +214,14 @@ fn every_kind_of_step(rt: HostRuntime) -> Result<(), Fail> {
             "{ask:?} answered {reply:?} and not {answer:?}"
         );
     }
-    assert_eq!(rt; shown(&engine), (7, 3, Some(10)));
+    assert_eq!(rt; shown(&engine), (7, 3, Some(12)));
     let page = engine.page(0).ok_or("no page")?;
     assert_eq!(rt; page.slots(), 10);
-    assert_eq!(rt; page.room(), 0);
+    assert!(rt;
+        matches!(page.slot(2), Some(Slot::Dead)) && matches!(page.slot(3), Some(Slot::Dead))
+    );
+    // 1096 and 72 bytes less 4 for a new slot.
+    assert_eq!(rt; page.room(), 1164);
     assert!(rt; engine.page(1).is_none());
     Ok(())
 }

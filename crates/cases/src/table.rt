@@ -24,7 +24,7 @@ pub const OLDER_SESSION: Case = Case {
 };
 
 /// All scripts.
-pub const CASES: [Case; 8] = [
+pub const CASES: [Case; 9] = [
     Case {
         name: "get_from_an_empty_table",
         script: b"heap 4 1000 0 3 64 0000\nbegin 0\nget 0 1\n",
@@ -47,6 +47,14 @@ pub const CASES: [Case; 8] = [
         script: b"heap 4 1000 0 3 64 0000\nbegin 0\nbegin 1\ninsert 0 1 5 0 0 0 -\npage 0\n",
         body: 0,
         answers: b"ok\nok\nok\npage 0 change 1 visible 0 slots 1\n1 normal 3 0 1\n",
+        status: 0,
+        words: "",
+    },
+    Case {
+        name: "prune_kills_an_aborted_root",
+        script: b"heap 4 1000 0 3 64 0000\nbegin 0\ninsert 0 1 5 0 0 0 -\nabort 0\nprune 0\npage 0\n",
+        body: 0,
+        answers: b"ok\nok\nrolled back\nok\npage 0 change 2 visible 0 slots 1\n1 dead\n",
         status: 0,
         words: "",
     },

@@ -3,7 +3,7 @@
 ghost use Rattle.std.specs.Prelude.{◌≡◌};
 
 use crate::table::{CASES, Case};
-use script::run_script;
+use script::{Watch, run_script};
 use std::alloc::{AllocError, Global};
 use std::test::Fail;
 
@@ -29,7 +29,8 @@ fn worked_cases(rt: HostRuntime) -> Result<(), Fail> {
         let script = written_out(rt.alloc(), case)?;
         let mut reader = script.as_slice();
         let mut answers: Vec<u8> = Vec::new(rt.alloc());
-        match run_script(rt.alloc(), &mut reader, &mut answers) {
+        let mut watch = Watch::new();
+        match run_script(rt.alloc(), &mut watch, &mut reader, &mut answers) {
             Ok(()) => {
                 assert_eq!(rt; 0, case.status, "{name}");
                 assert_eq!(rt; "", case.words, "{name}");

@@ -1,5 +1,5 @@
 -- A table: its pages, and what became of its ids.
-use Rattle.std.specs.Prelude.{◌≡◌, ℕ, ◌+◌, ◌<◌, ◌≤◌, Bool, false, List, [], ◌∷◌, map, length, Option, Some, None, slice_get}
+use Rattle.std.specs.Prelude.{◌≡◌, ℕ, ◌<◌, ◌≤◌, Bool, false, List, [], ◌∷◌, map, length, Option, Some, None, slice_get, slice_set}
 use Rattle.std.specs.Option.{option_and_then}
 use Rattle.xid_circle.specs.Circle.{distance_of}
 use Rattle.xid_circle.specs.declared.Xid.{Xid}
@@ -13,6 +13,12 @@ use Rattle.page_slots.specs.declared.slot.Slot.{Slot}
 use Rattle.page_slots.specs.declared.slot.Slot.TheVariants.{Normal}
 use Rattle.commit_status.specs.Window.{Window, next_id}
 use Rattle.commit_status.specs.Changes.{Gives}
+use Rattle.prune.specs.Cutting.{Removes}
+use Rattle.prune.specs.Pruning.{IsPruned}
+use Rattle.heap_write.specs.declared.cleaning.PruneFault.{PruneFault}
+use Rattle.heap_write.specs.declared.cleaning.PruneFault.TheVariants as prune_fault
+use Rattle.heap_write.specs.declared.heap.WriteFault.{WriteFault}
+use Rattle.heap_write.specs.declared.heap.WriteFault.TheVariants as fault
 
 pub record HeapView : Type 0 where
   pub pages : List PageView
@@ -78,8 +84,34 @@ pub record Inserts (h h' : HeapView) (id : Option Xid) (row : Row) (x : ℕ) : T
   pub changes : map (λ p. p.change) h'.pages ≡ next_change (first_change h.pages) ∷ []
   pub flags : map (λ p. p.flag) h'.pages ≡ first_flag h.pages ∷ []
 
+-- one page is pruned at a horizon: what goes from it is cut, and its slots are what pruning makes of them
+pub record Prunes (h h' : HeapView) (number horizon : ℕ) : Type 0 where
+  pub before : PageView
+  pub after : PageView
+  pub at : slice_get h.pages number ≡ Some before
+  pub pages : h'.pages ≡ slice_set h.pages number after
+  pub table : h'.table ≡ h.table
+  pub flag : after.flag ≡ before.flag
+  pub pruned : IsPruned h.table horizon before.slots after.slots
+  pub removes : Removes h.table horizon before.slots after.slots
+
+-- why it is not: the page is not in use, or its plan found no memory
+abbrev pub Unpruned : HeapView → ℕ → PruneFault → Type 0
+Unpruned h number prune_fault.NoSuchPage = length h.pages ≤ number
+Unpruned h number prune_fault.NoMemory = number < length h.pages
+
 -- something has to grow: the table of ids, the list of pages, or the page's list of slots
 pub data NeedsMemory (h : HeapView) (id : Option Xid) : Type 0 where
   for_id : id ≡ None → h.table.spare ≡ 0 → NeedsMemory h id
   for_page : h.pages ≡ [] → NeedsMemory h id
   for_slot : has_unused (first_slots h.pages) ≡ false → first_spare h.pages ≡ 0 → NeedsMemory h id
+
+-- an id is there or can be given, and the row has room
+abbrev pub LacksNothing : HeapView → Option Xid → Row → Type 0
+LacksNothing h id row = (NeedsFreeze h.table id → ⊥) × HasRoom h row
+
+-- why the row is not written, of the first reason in this order
+abbrev pub Lacks : HeapView → Option Xid → Row → WriteFault → Type 0
+Lacks h id row fault.NeedsFreeze = NeedsFreeze h.table id
+Lacks h id row fault.NoRoom = (NeedsFreeze h.table id → ⊥) × (HasRoom h row → ⊥)
+Lacks h id row fault.NoMemory = LacksNothing h id row × NeedsMemory h id

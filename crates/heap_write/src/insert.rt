@@ -1,12 +1,12 @@
 //! A new row.
 
-ghost use Rattle.std.specs.Prelude.{◌≡◌, ◌≤◌, ◌<◌, ℕ, [], ◌∷◌, length, IsSome, IsTrue, IfOk, IfSome, OnOk, OnErr, IfErr, ◌↔◌, ◌⊎◌, Some, None, true, false};
+ghost use Rattle.std.specs.Prelude.{◌≡◌, ◌≤◌, ◌<◌, ℕ, [], ◌∷◌, length, IsSome, IsTrue, IfOk, IfSome, OnOk, OnErr, IfErr, MatchResult, MatchOption, ◌≢◌, ◌↔◌, ◌⊎◌, Some, None, true, false};
 ghost use Rattle.xid_circle.specs.Circle.{IsNormal, distance_of};
 ghost use Rattle.page_slots.specs.Slots.{room_of, free_number, with_added, has_unused, next_change};
 ghost use Rattle.page_slots.specs.declared.slot.Slot.{Slot};
 ghost use Rattle.tuple_header.specs.Version.{rounded_size_of};
 ghost use Rattle.commit_status.specs.Window.{IsWindow};
-ghost use Rattle.heap_write.specs.Heap.{NeedsFreeze, HasRoom, first_slots, version_made, TakesId, Keeps, Inserts, NeedsMemory};
+ghost use Rattle.heap_write.specs.Heap.{NeedsFreeze, HasRoom, first_slots, version_made, TakesId, Keeps, Inserts, NeedsMemory, LacksNothing, Lacks};
 
 use crate::heap::{HeapState, WriteFault};
 use commit_status::{GiveFault, StatusTable};
@@ -85,22 +85,31 @@ impl HeapState {
         ensures ok { IfOk result (λ x. Inserts self.old self.new id row x.0) }
         ensures window { OnOk result (IsWindow self.new.table) }
         ensures normal { IfOk result (λ x. IsNormal x.0) }
-        ensures needs_freeze { (result ≡ Err WriteFault.NeedsFreeze) ↔ NeedsFreeze self.old.table id }
-        ensures no_room { (result ≡ Err WriteFault.NoRoom) ↔ ((NeedsFreeze self.old.table id → ⊥) × (HasRoom self.old row → ⊥)) }
-        ensures no_memory { result ≡ Err WriteFault.NoMemory → NeedsMemory self.old id }
+        ensures exact { MatchResult result (λ x. LacksNothing self.old id row) (λ fault. Lacks self.old id row fault) }
         ensures err { OnErr result (Keeps self.old self.new) }
     {
-        if needs_freeze(&self.table, id) {
-            return Err(WriteFault::NeedsFreeze);
-        }
-        if size_of(&row) > self.room() {
-            return Err(WriteFault::NoRoom);
+        if let Some(fault) = self.lacks(id, &row) {
+            return Err(fault);
         }
         if self.pages.is_empty() {
             self.insert_first(id, row)
         } else {
             self.insert_more(id, row)
         }
+    }
+
+    /// What a row lacks to be written under the id, or under a new one where there is none: NeedsFreeze where an id is
+    /// needed and none can be given, else NoRoom where the row is larger than the room of the only page.
+    pub fn lacks(&self, id: Option<Xid>, row: &Row) -> Option<WriteFault>
+        ensures { MatchOption result (LacksNothing self.now id row.now) (λ fault. (fault ≢ WriteFault.NoMemory) × Lacks self.now id row.now fault) }
+    {
+        if needs_freeze(&self.table, id) {
+            return Some(WriteFault::NeedsFreeze);
+        }
+        if size_of(row) > self.room() {
+            return Some(WriteFault::NoRoom);
+        }
+        None
     }
 
     /// The room of the only page, or of one that would be made.
@@ -122,7 +131,7 @@ impl HeapState {
         ensures ok { IfOk result (λ x. Inserts self.old self.new id row x.0) }
         ensures window { OnOk result (IsWindow self.new.table) }
         ensures normal { IfOk result (λ x. IsNormal x.0) }
-        ensures fault { IfErr result (λ fault. fault ≡ WriteFault.NoMemory) }
+        ensures exact { MatchResult result (λ x. LacksNothing self.old id row) (λ fault. Lacks self.old id row fault) }
         ensures err { OnErr result (Keeps self.old self.new) }
     {
         let mut page = Page::new(self.alloc);
@@ -144,8 +153,7 @@ impl HeapState {
         ensures ok { IfOk result (λ x. Inserts self.old self.new id row x.0) }
         ensures window { OnOk result (IsWindow self.new.table) }
         ensures normal { IfOk result (λ x. IsNormal x.0) }
-        ensures fault { IfErr result (λ fault. fault ≡ WriteFault.NoMemory) }
-        ensures no_memory { result ≡ Err WriteFault.NoMemory → NeedsMemory self.old id }
+        ensures exact { MatchResult result (λ x. LacksNothing self.old id row) (λ fault. Lacks self.old id row fault) }
         ensures err { OnErr result (Keeps self.old self.new) }
     {
         let page = &mut self.pages[0];

@@ -5,10 +5,12 @@
 //! changes anything; so a refused write leaves pages and ids as they were.
 #![tactic(auto)]
 
+mod cleaning;
 mod heap;
 mod insert;
 mod search;
 
+pub use cleaning::PruneFault;
 pub use heap::{HeapState, WriteFault};
 
 #[cfg(test)]

@@ -12,11 +12,11 @@ use Rattle.std.proofs.lemmas.Slice.Eq.{bytes_eq-Decides}
 use Rattle.std.proofs.lemmas.Bool.{lt-leb, cases_lt}
 use Rattle.std.proofs.lemmas.List.{nil_from_length, append-nil}
 use Rattle.std.proofs.lemmas.Int.{ints}
-use Rattle.script.specs.Engine.{Begin, Get, Insert, Commit, Abort, RowText}
+use Rattle.script.specs.Engine.{Begin, Get, Insert, Commit, Abort, Prune, RowText}
 use Rattle.script.specs.declared.line.Line.{Line}
 use Rattle.script.specs.declared.line.Line.TheVariants.{Do, Ids, Page}
 use Rattle.script.specs.declared.line.Verb.{Verb}
-use Rattle.script.specs.declared.line.Verb.TheVariants.{Get as get_verb, Begin as begin_verb, Commit as commit_verb, Insert as insert_verb, Abort as abort_verb, Page as page_verb}
+use Rattle.script.specs.declared.line.Verb.TheVariants.{Get as get_verb, Begin as begin_verb, Commit as commit_verb, Insert as insert_verb, Abort as abort_verb, Prune as prune_verb, Page as page_verb}
 use Rattle.script.specs.Verbs.{verb_of, verb_text}
 use Rattle.script.specs.Grammar.{Fits, StepFits, spelling, spaced, hex_text, body_text, row_text}
 use Rattle.script.specs.Reading.{line_at, line_of, cut, number_of, number_then, column_of, column_then, nibble_of, pair_and, pairs_of, body_of, insert_of, get_of}
@@ -268,6 +268,7 @@ line_of_says begin_verb rest l h = let m = one_number (codes "begin") 255 (λ s.
 line_of_says commit_verb rest l h = let m = one_number (codes "commit") 255 (λ s. Do (Commit s)) rest l (omega arith) h in rw (← m.2) (omega (arith, m.1), m.3)
 line_of_says insert_verb rest l h = insert_of_says rest l h
 line_of_says abort_verb rest l h = let m = one_number (codes "abort") 255 (λ s. Do (Abort s)) rest l (omega arith) h in rw (← m.2) (omega (arith, m.1), m.3)
+line_of_says prune_verb rest l h = let m = one_number (codes "prune") 4294967295 (λ p. Do (Prune p)) rest l (omega arith) h in rw (← m.2) (omega (arith, m.1), m.3)
 line_of_says page_verb rest l h = let m = one_number (codes "page") 4294967295 (λ p. Page p) rest l (omega arith) h in rw (← m.2) (omega (arith, m.1), m.3)
 
 find_says : {A : Type 0} (p : A → Bool) (xs : List A) (y : A) → find p xs ≡ Some y → p y ≡ true
@@ -279,7 +280,7 @@ find_says p (x ∷ xs) y h = elim (chosen (p x) (Some x) (find p xs) (Some y) h)
 
 -- the verb that a word is found to be spells that word
 verb_of_says : (w : List ℕ) (verb : Verb) → verb_of w ≡ Some verb → w ≡ verb_text verb
-verb_of_says w verb h = verb_is w (verb_text verb) (find_says (λ verb. bytes_eq w (verb_text verb)) (get_verb ∷ begin_verb ∷ commit_verb ∷ insert_verb ∷ abort_verb ∷ page_verb ∷ []) verb h)
+verb_of_says w verb h = verb_is w (verb_text verb) (find_says (λ verb. bytes_eq w (verb_text verb)) (get_verb ∷ begin_verb ∷ commit_verb ∷ insert_verb ∷ abort_verb ∷ prune_verb ∷ page_verb ∷ []) verb h)
 
 pub line_at_says : (w : List ℕ) (l : Line) → line_at w ≡ Some l → Fits l × (w ≡ spelling l)
 unfolding line_at
@@ -354,6 +355,8 @@ line_at-spelling (Do (Commit s)) h =
     with_verb commit_verb (decimal s) (refl, (refl, (refl, (refl, (refl, (refl, tt)))))) refl refl ∙ ap (λ (o : Option ℕ). option_map (λ s. Do (Commit s)) o) (number_of-decimal 255 s (omega arith) (omega arith))
 line_at-spelling (Do (Abort s)) h =
     with_verb abort_verb (decimal s) (refl, (refl, (refl, (refl, (refl, tt))))) refl refl ∙ ap (λ (o : Option ℕ). option_map (λ s. Do (Abort s)) o) (number_of-decimal 255 s (omega arith) (omega arith))
+line_at-spelling (Do (Prune p)) h =
+    with_verb prune_verb (decimal p) (refl, (refl, (refl, (refl, (refl, tt))))) refl refl ∙ ap (λ (o : Option ℕ). option_map (λ p. Do (Prune p)) o) (number_of-decimal 4294967295 p (omega arith) (omega arith))
 line_at-spelling Ids h = ids_line
 line_at-spelling (Page p) h =
     with_verb page_verb (decimal p) (refl, (refl, (refl, (refl, tt)))) refl refl ∙ ap (λ (o : Option ℕ). option_map (λ p. Page p) o) (number_of-decimal 4294967295 p (omega arith) (omega arith))
@@ -391,6 +394,7 @@ verb_free begin_verb = (refl, (refl, (refl, (refl, (refl, tt)))))
 verb_free commit_verb = (refl, (refl, (refl, (refl, (refl, (refl, tt))))))
 verb_free insert_verb = (refl, (refl, (refl, (refl, (refl, (refl, tt))))))
 verb_free abort_verb = (refl, (refl, (refl, (refl, (refl, tt)))))
+verb_free prune_verb = (refl, (refl, (refl, (refl, (refl, tt)))))
 verb_free page_verb = (refl, (refl, (refl, (refl, tt))))
 
 -- no line feed is in a line's text
@@ -402,5 +406,6 @@ Free-spelling (Do (Insert s row)) h =
     Free-append 10 (codes "insert") (spaced (decimal s ++ spaced (row_text row.key row.cols row.body))) (verb_free insert_verb) (refl, Free-append 10 (decimal s) (spaced (row_text row.key row.cols row.body)) (decimal_free 10 s (omega arith) (omega (arith, h.0))) (refl, row_free row h.1 h.3 h.4))
 Free-spelling (Do (Commit s)) h = Free-append 10 (codes "commit") (spaced (decimal s)) (verb_free commit_verb) (one_free s (omega arith))
 Free-spelling (Do (Abort s)) h = Free-append 10 (codes "abort") (spaced (decimal s)) (verb_free abort_verb) (one_free s (omega arith))
+Free-spelling (Do (Prune p)) h = Free-append 10 (codes "prune") (spaced (decimal p)) (verb_free prune_verb) (one_free p (omega arith))
 Free-spelling Ids h = (refl, (refl, (refl, tt)))
 Free-spelling (Page p) h = Free-append 10 (codes "page") (spaced (decimal p)) (verb_free page_verb) (one_free p (omega arith))

@@ -4,7 +4,7 @@ use Rattle.std.specs.Fmt.{decimal}
 use Rattle.page_slots.specs.declared.slot.Slot.{Slot}
 use Rattle.page_slots.specs.declared.slot.Slot.TheVariants.{Unused, Normal, Redirect, Dead}
 use Rattle.page_slots.specs.Slots.{slot_at}
-use Rattle.script.specs.Engine.{Reply, Done, Found, Committed, RolledBack, Refused, Refusal, NotOpen, AlreadyOpen, Failed, AlreadyThere, Conflict, Busy, TooLarge, NoRoom, NeedsFreeze, NoMemoryForStep, NoSuchSession}
+use Rattle.script.specs.Engine.{Reply, Done, Found, Committed, RolledBack, Refused, Refusal, NotOpen, AlreadyOpen, Failed, AlreadyThere, Conflict, Busy, TooLarge, NoRoom, NeedsFreeze, NoMemoryForStep, NoSuchPage, NoSuchSession}
 use Rattle.script.specs.Grammar.{spaced, row_text}
 
 -- the number and the name of a refusal
@@ -19,6 +19,7 @@ refusal_text TooLarge = codes "13 TooLarge"
 refusal_text NoRoom = codes "14 NoRoom"
 refusal_text NeedsFreeze = codes "15 NeedsFreeze"
 refusal_text NoMemoryForStep = codes "16 NoMemory"
+refusal_text NoSuchPage = codes "19 NoSuchPage"
 refusal_text NoSuchSession = codes "23 NoSuchSession"
 
 -- what is written for a reply

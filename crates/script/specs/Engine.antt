@@ -8,8 +8,8 @@ pub use Rattle.session_relation.specs.declared.settings.Settings.{Settings}
 pub use Rattle.session_relation.specs.declared.settings.SettingsFault.{SettingsFault}
 pub use Rattle.session_relation.specs.declared.settings.SettingsFault.TheVariants.{MaxPages, StopAge, FreezeMinAge, FirstXid, DeadLimit, NoMemory as NoMemoryForSettings}
 pub use Rattle.session_relation.specs.declared.step.Step.{Step}
-pub use Rattle.session_relation.specs.declared.step.Step.TheVariants.{Begin, Get, Insert, Commit, Abort}
+pub use Rattle.session_relation.specs.declared.step.Step.TheVariants.{Begin, Get, Insert, Commit, Abort, Prune}
 pub use Rattle.session_relation.specs.declared.reply.Reply.{Reply}
 pub use Rattle.session_relation.specs.declared.reply.Reply.TheVariants.{Done, Found, Committed, RolledBack, Refused}
 pub use Rattle.session_relation.specs.declared.reply.Refusal.{Refusal}
-pub use Rattle.session_relation.specs.declared.reply.Refusal.TheVariants.{NotOpen, AlreadyOpen, Failed, AlreadyThere, Conflict, Busy, TooLarge, NoRoom, NeedsFreeze, NoMemory as NoMemoryForStep, NoSuchSession}
+pub use Rattle.session_relation.specs.declared.reply.Refusal.TheVariants.{NotOpen, AlreadyOpen, Failed, AlreadyThere, Conflict, Busy, TooLarge, NoRoom, NeedsFreeze, NoMemory as NoMemoryForStep, NoSuchPage, NoSuchSession}

@@ -3,7 +3,7 @@ use Rattle.std.specs.Prelude.{◌≡◌, ℕ, ℤ, ◌/◌, ◌%◌, ◌^◌, �
 use Rattle.std.specs.Int.{w64}
 use Rattle.std.specs.List.{flat_map, AllByRecursion}
 use Rattle.std.specs.Fmt.{decimal, signed_decimal, digit_glyph}
-use Rattle.script.specs.Engine.{Settings, Step, Begin, Get, Insert, Commit, Abort}
+use Rattle.script.specs.Engine.{Settings, Step, Begin, Get, Insert, Commit, Abort, Prune}
 use Rattle.script.specs.declared.line.Line.{Line}
 use Rattle.script.specs.declared.line.Line.TheVariants.{Do, Ids, Page}
 
@@ -44,6 +44,7 @@ step_text (Get s k) = codes "get" ++ spaced (decimal s ++ spaced (decimal k))
 step_text (Insert s row) = codes "insert" ++ spaced (decimal s ++ spaced (row_text row.key row.cols row.body))
 step_text (Commit s) = codes "commit" ++ spaced (decimal s)
 step_text (Abort s) = codes "abort" ++ spaced (decimal s)
+step_text (Prune p) = codes "prune" ++ spaced (decimal p)
 
 -- any line but the first
 abbrev pub spelling : Line → List ℕ
@@ -51,7 +52,8 @@ spelling (Do step) = step_text step
 spelling Ids = codes "ids"
 spelling (Page p) = codes "page" ++ spaced (decimal p)
 
--- each number of a step is in the range of its type: a session's of 8 bits, a key's of 64, a column's of 64 with its sign
+-- each number of a step is in the range of its type: a session's of 8 bits, a page's of 32, a key's of 64, a column's of 64
+-- with its sign
 abbrev pub StepFits : Step → Type 0
 StepFits (Begin s) = s < 2 ^ 8
 StepFits (Get s k) = (s < 2 ^ 8) × (k < 2 ^ 64)
@@ -59,6 +61,7 @@ StepFits (Insert s row) = (s < 2 ^ 8) × (row.key < 2 ^ 64) × (length row.cols 
     × AllByRecursion (λ b. b < 2 ^ 8) row.body
 StepFits (Commit s) = s < 2 ^ 8
 StepFits (Abort s) = s < 2 ^ 8
+StepFits (Prune p) = p < 2 ^ 32
 
 abbrev pub Fits : Line → Type 0
 Fits (Do step) = StepFits step

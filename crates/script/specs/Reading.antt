@@ -3,12 +3,12 @@ use Rattle.std.specs.Prelude.{ℕ, ℤ, pos, negsuc, ◌+◌, ◌-◌, ◌*◌, 
 use Rattle.std.specs.Option.{option_map}
 use Rattle.std.specs.Char.{is_ascii_digit}
 use Rattle.std.specs.Str.{bytes_eq}
-use Rattle.script.specs.Engine.{Settings, Begin, Get, Insert, Commit, Abort}
+use Rattle.script.specs.Engine.{Settings, Begin, Get, Insert, Commit, Abort, Prune}
 use Rattle.script.specs.Verbs.{verb_of}
 use Rattle.script.specs.declared.line.Line.{Line}
 use Rattle.script.specs.declared.line.Line.TheVariants.{Do, Ids, Page}
 use Rattle.script.specs.declared.line.Verb.{Verb}
-use Rattle.script.specs.declared.line.Verb.TheVariants.{Get as get_verb, Begin as begin_verb, Commit as commit_verb, Insert as insert_verb, Abort as abort_verb, Page as page_verb}
+use Rattle.script.specs.declared.line.Verb.TheVariants.{Get as get_verb, Begin as begin_verb, Commit as commit_verb, Insert as insert_verb, Abort as abort_verb, Prune as prune_verb, Page as page_verb}
 
 infixl 10 ◌>>=◌
 abbrev pub ◌>>=◌ : {A B : Type 0} → Option A → (A → Option B) → Option B
@@ -115,6 +115,7 @@ line_of begin_verb rest = option_map (λ s. Do (Begin s)) (number_of 255 rest)
 line_of commit_verb rest = option_map (λ s. Do (Commit s)) (number_of 255 rest)
 line_of insert_verb rest = insert_of rest
 line_of abort_verb rest = option_map (λ s. Do (Abort s)) (number_of 255 rest)
+line_of prune_verb rest = option_map (λ p. Do (Prune p)) (number_of 4294967295 rest)
 line_of page_verb rest = option_map (λ p. Page p) (number_of 4294967295 rest)
 
 -- what a line asks for

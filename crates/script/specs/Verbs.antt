@@ -2,7 +2,7 @@
 use Rattle.std.specs.Prelude.{List, ℕ, [], ◌∷◌, codes, find, Option}
 use Rattle.std.specs.Str.{bytes_eq}
 use Rattle.script.specs.declared.line.Verb.{Verb}
-use Rattle.script.specs.declared.line.Verb.TheVariants.{Get, Begin, Commit, Insert, Abort, Page}
+use Rattle.script.specs.declared.line.Verb.TheVariants.{Get, Begin, Commit, Insert, Abort, Prune, Page}
 
 abbrev pub verb_text : Verb → List ℕ
 verb_text Get = codes "get"
@@ -10,8 +10,9 @@ verb_text Begin = codes "begin"
 verb_text Commit = codes "commit"
 verb_text Insert = codes "insert"
 verb_text Abort = codes "abort"
+verb_text Prune = codes "prune"
 verb_text Page = codes "page"
 
 -- the verb of a word
 abbrev pub verb_of : List ℕ → Option Verb
-verb_of word = find (λ verb. bytes_eq word (verb_text verb)) (Get ∷ Begin ∷ Commit ∷ Insert ∷ Abort ∷ Page ∷ [])
+verb_of word = find (λ verb. bytes_eq word (verb_text verb)) (Get ∷ Begin ∷ Commit ∷ Insert ∷ Abort ∷ Prune ∷ Page ∷ [])

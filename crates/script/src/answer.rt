@@ -90,6 +90,7 @@ fn refusal(out: &mut Vec<u8>, refusal: Refusal) -> Result<(), AllocError>
         Refusal::NoRoom => out.extend_from_slice(b"14 NoRoom"),
         Refusal::NeedsFreeze => out.extend_from_slice(b"15 NeedsFreeze"),
         Refusal::NoMemory => out.extend_from_slice(b"16 NoMemory"),
+        Refusal::NoSuchPage => out.extend_from_slice(b"19 NoSuchPage"),
         Refusal::NoSuchSession => out.extend_from_slice(b"23 NoSuchSession"),
     }
 }

@@ -15,5 +15,5 @@ mod watch;
 mod words;
 
 pub use fault::ShellFault;
-pub use run::{run_script, run_watched};
+pub use run::run_script;
 pub use watch::Watch;

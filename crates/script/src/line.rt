@@ -27,6 +27,7 @@ pub enum Verb {
     Commit,
     Insert,
     Abort,
+    Prune,
     Page,
 }
 
@@ -44,6 +45,8 @@ fn verb_at(word: &[u8]) -> Option<Verb>
         Some(Verb::Insert)
     } else if word == b"abort".as_slice() {
         Some(Verb::Abort)
+    } else if word == b"prune".as_slice() {
+        Some(Verb::Prune)
     } else if word == b"page".as_slice() {
         Some(Verb::Page)
     } else {
@@ -100,11 +103,11 @@ fn session(word: &[u8]) -> Option<u8>
     Some(s as u8)
 }
 
-fn page(word: &[u8]) -> Option<Line>
-    ensures { result ≡ line_of Verb.Page word.now }
+fn page(word: &[u8]) -> Option<u32>
+    ensures { result ≡ number_of 4294967295 word.now }
 {
     let p = number(word, u64::from(u32::MAX))?;
-    Some(Line::Page(p as u32))
+    Some(p as u32)
 }
 
 // What a verb asks for with the words behind it.
@@ -117,7 +120,8 @@ fn line_with(alloc: Global, verb: Verb, rest: &[u8]) -> Result<Option<Line>, All
         Verb::Commit => Ok(session(rest).map(|s| Line::Do(Step::Commit(s)))),
         Verb::Insert => insert(alloc, rest),
         Verb::Abort => Ok(session(rest).map(|s| Line::Do(Step::Abort(s)))),
-        Verb::Page => Ok(page(rest)),
+        Verb::Prune => Ok(page(rest).map(|p| Line::Do(Step::Prune(p)))),
+        Verb::Page => Ok(page(rest).map(|p| Line::Page(p))),
     }
 }
 

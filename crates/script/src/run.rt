@@ -217,10 +217,10 @@ fn first_line<R: Read, W: Write>(
     }
 }
 
-/// Reads a script, and writes the answers to its lines, as `run_script` does. The watch says afterwards which call was refused:
-/// a fault of the reader is answered only where its last read answered an error, one of the writer only where its last write
-/// answered an error or took nothing, want of memory only where a growth was refused.
-pub fn run_watched<R: Read, W: Write>(
+/// Reads a script, and writes the answers to its lines. The watch says afterwards which call was refused: a fault of the
+/// reader is answered only where its last read answered an error, one of the writer only where its last write answered
+/// an error or took nothing, want of memory only where a growth was refused.
+pub fn run_script<R: Read, W: Write>(
     alloc: Global,
     watch: &mut Watch,
     reader: &mut R,
@@ -247,16 +247,4 @@ pub fn run_watched<R: Read, W: Write>(
         &mut text,
         writer,
     )
-}
-
-/// Reads a script, and writes the answers to its lines.
-pub fn run_script<R: Read, W: Write>(
-    alloc: Global,
-    reader: &mut R,
-    writer: &mut W,
-) -> Result<(), ShellFault>
-    ensures { IfSome (R.remaining reader.old) (λ input. Outcome result input (W.contents writer.old) (W.contents writer.new)) }
-{
-    let mut watch = Watch::new();
-    run_watched(alloc, &mut watch, reader, writer)
 }

@@ -3,7 +3,7 @@
 ghost use Rattle.std.specs.Prelude.{◌≡◌};
 
 use crate::fault::ShellFault;
-use crate::run::{run_script, run_watched};
+use crate::run::run_script;
 use crate::watch::Watch;
 use std::alloc::{AllocError, Global};
 use std::io;
@@ -111,13 +111,13 @@ fn whole_by_single_bytes(rt: HostRuntime) -> Result<(), Fail> {
     let mut reader = slow(SCRIPT, usize::MAX);
     let mut writer = small(rt.alloc(), usize::MAX);
     let mut watch = Watch::new();
-    run_watched(rt.alloc(), &mut watch, &mut reader, &mut writer)?;
+    run_script(rt.alloc(), &mut watch, &mut reader, &mut writer)?;
     assert_eq!(rt; writer.bytes.as_slice(), ANSWERS);
     assert!(rt; !watch.input && !watch.output && !watch.memory);
     let mut interrupted = slow(SCRIPT, usize::MAX);
     interrupted.interrupts = true;
     let mut second = small(rt.alloc(), usize::MAX);
-    run_script(rt.alloc(), &mut interrupted, &mut second)?;
+    run_script(rt.alloc(), &mut watch, &mut interrupted, &mut second)?;
     assert_eq!(rt; second.bytes.as_slice(), ANSWERS);
     Ok(())
 }
@@ -129,7 +129,7 @@ fn failing_read(rt: HostRuntime) -> Result<(), Fail> {
         let mut reader = slow(SCRIPT, n);
         let mut writer = small(rt.alloc(), usize::MAX);
         let mut watch = Watch::new();
-        let result = run_watched(rt.alloc(), &mut watch, &mut reader, &mut writer);
+        let result = run_script(rt.alloc(), &mut watch, &mut reader, &mut writer);
         assert_eq!(rt; result, Err(ShellFault::Input), "at {n}");
         let lines = feeds(&SCRIPT[..n]).saturating_sub(1);
         assert_eq!(rt; writer.bytes.as_slice(), first_answers(lines), "at {n}");
@@ -145,7 +145,7 @@ fn failing_write(rt: HostRuntime) -> Result<(), Fail> {
         let mut reader = SCRIPT;
         let mut writer = small(rt.alloc(), n);
         let mut watch = Watch::new();
-        let result = run_watched(rt.alloc(), &mut watch, &mut reader, &mut writer);
+        let result = run_script(rt.alloc(), &mut watch, &mut reader, &mut writer);
         assert_eq!(rt; result, Err(ShellFault::Output), "at {n}");
         assert_eq!(rt; writer.bytes.as_slice(), &ANSWERS[..n], "at {n}");
         assert!(rt; !watch.input && watch.output && !watch.memory);
@@ -159,7 +159,8 @@ fn torn(rt: HostRuntime) -> Result<(), Fail> {
     for cut in 0..SCRIPT.len() + 1 {
         let mut reader = &SCRIPT[..cut];
         let mut writer: Vec<u8> = Vec::new(rt.alloc());
-        let result = run_script(rt.alloc(), &mut reader, &mut writer);
+        let mut watch = Watch::new();
+        let result = run_script(rt.alloc(), &mut watch, &mut reader, &mut writer);
         let whole = feeds(&SCRIPT[..cut]);
         if SCRIPT[..cut].last().copied() == Some(b'\n') {
             assert_eq!(rt; result, Ok(()), "at {cut}");
@@ -182,7 +183,8 @@ fn run_line(alloc: Global, line: &[u8], written: &mut Vec<u8>) -> Result<(), She
         return Err(ShellFault::NoMemory);
     };
     let mut reader = script.as_slice();
-    run_script(alloc, &mut reader, written)
+    let mut watch = Watch::new();
+    run_script(alloc, &mut watch, &mut reader, written)
 }
 
 fn script_of(alloc: Global, line: &[u8]) -> Result<Vec<u8>, AllocError> {
@@ -196,7 +198,7 @@ fn script_of(alloc: Global, line: &[u8]) -> Result<Vec<u8>, AllocError> {
 
 #[test]
 fn allowed_lines(rt: HostRuntime) -> Result<(), Fail> {
-    let cases: [(&[u8], &[u8]); 12] = [
+    let cases: [(&[u8], &[u8]); 15] = [
         (b"begin 63", b"ok\nok\n"),
         (b"begin 0", b"ok\nerror 2 AlreadyOpen\n"),
         (b"begin 255", b"ok\nerror 23 NoSuchSession\n"),
@@ -211,6 +213,12 @@ fn allowed_lines(rt: HostRuntime) -> Result<(), Fail> {
         (b"ids", b"ok\nnext 3 frozen_below 3\n"),
         (b"page 0", b"ok\nerror 19 NoSuchPage\n"),
         (b"page 4294967295", b"ok\nerror 19 NoSuchPage\n"),
+        (b"prune 0", b"ok\nerror 19 NoSuchPage\n"),
+        (b"prune 4294967295", b"ok\nerror 19 NoSuchPage\n"),
+        (
+            b"insert 0 1 5 0 0 0 -\nabort 0\nprune 0\npage 0",
+            b"ok\nok\nrolled back\nok\npage 0 change 2 visible 0 slots 1\n1 dead\n",
+        ),
         (
             b"insert 0 1 5 0 0 0 -\nget 0 1\nids\npage 0",
             b"ok\nok\nrow 1 5 0 0 0 -\nnext 4 frozen_below 3\npage 0 change 1 visible 0 slots 1\n1 normal 3 0 1\n",
@@ -230,7 +238,7 @@ fn allowed_lines(rt: HostRuntime) -> Result<(), Fail> {
 
 #[test]
 fn bad_lines(rt: HostRuntime) -> Result<(), Fail> {
-    let cases: [&[u8]; 44] = [
+    let cases: [&[u8]; 47] = [
         b"",
         b" ",
         b"begin",
@@ -271,6 +279,9 @@ fn bad_lines(rt: HostRuntime) -> Result<(), Fail> {
         b"ids 0",
         b"page",
         b"page 4294967296",
+        b"prune",
+        b"prune 4294967296",
+        b"prune 0 0",
         b"vacuum finish",
         b"entries 0",
         b"heap 4 1000 0 3 64 0000",
@@ -360,7 +371,8 @@ fn headings(rt: HostRuntime) -> Result<(), Fail> {
     for (script, allowed) in cases {
         let mut reader = script;
         let mut written: Vec<u8> = Vec::new(rt.alloc());
-        let result = run_script(rt.alloc(), &mut reader, &mut written);
+        let mut watch = Watch::new();
+        let result = run_script(rt.alloc(), &mut watch, &mut reader, &mut written);
         if allowed {
             assert_eq!(rt; result, Ok(()), "{script:?}");
         } else {

@@ -1,19 +1,20 @@
 -- What the end of a session keeps.
-use Rattle.std.proofs.Common.{◌≡◌, ◌≢◌, ℕ, ◌≤◌, ◌<◌, List, length, set, Option, Some, None, slice_get, refl, sym, ap, ◌∙◌, subst, ◌⊎◌, inl, inr, arith}
+use Rattle.std.proofs.Common.{◌≡◌, ◌≢◌, ℕ, ◌≤◌, List, length, map, Some, None, slice_get, sym, ap, ◌∙◌, subst, ◌⊎◌, inl, inr}
 use Rattle.std.proofs.Math.ListN.{length-set}
 use Rattle.std.specs.Prelude.{Contains}
-use Rattle.std.proofs.lemmas.Option.{same_Some, none-some}
+use Rattle.std.proofs.lemmas.Option.{none-some}
 use Rattle.commit_status.specs.declared.status.Status.{Status}
-use Rattle.commit_status.specs.declared.status.Status.TheVariants.{InProgress, Committed, Aborted}
-use Rattle.commit_status.specs.Window.{Window, IsWindow, IsCommitted, IsInProgress, IsUpToNext, turns, top_of, status_of}
+use Rattle.commit_status.specs.declared.status.Status.TheVariants.{InProgress}
+use Rattle.commit_status.specs.Window.{Window, IsCommitted, IsInProgress, turns, top_of}
 use Rattle.commit_status.specs.Changes.{Finishes}
 use Rattle.commit_status.proofs.Finishing.{finishes-top, finishes-upto}
+use Rattle.page_slots.specs.View.{PageView}
 use Rattle.snapshot.specs.Laws.{IsInWindow}
 use Rattle.snapshot.specs.Snap.{Snap}
 use Rattle.snapshot.proofs.Takes.{first-in}
 use Rattle.session_core.specs.declared.session.Session.{Session}
 use Rattle.session_core.specs.State.{State, session_at}
-use Rattle.session_core.specs.Agrees.{Sound, SessionKeeps}
+use Rattle.session_core.specs.Agrees.{Sound, SessionKeeps, ArePagesFlat}
 use Rattle.session_core.specs.Changes.{Closes}
 use Rattle.session_core.proofs.OwnIdsLemmas.{open-within, open-set_cases}
 
@@ -59,6 +60,7 @@ Sound-closes st st' s e end ended at closes h = record {
     | inr other ↦ keeps-finish st.heap.table st'.heap.table e.own.ids end f finishes (h.sessions o f other.1)
   ];
   tops = tops-finish st.heap.table st'.heap.table e.own.ids end ended finishes (h.sessions s e at).topmost h.tops;
+  flat = subst (λ (pages : List PageView). ArePagesFlat (map (λ (p : PageView). p.slots) pages)) (sym closes.pages) h.flat;
 }
   where
     finishes : Finishes st.heap.table st'.heap.table e.own.ids end

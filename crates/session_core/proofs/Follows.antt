@@ -1,15 +1,13 @@
 -- The reply to each step of the engine follows the history.
-use Rattle.std.proofs.Common.{◌≡◌, ◌≢◌, ℕ, ◌<◌, ◌≤◌, List, [], length, map, set, Option, Some, None, true, false, slice_get, refl, sym, ap, ◌∙◌, subst, ◌⊎◌, inl, inr, arith}
+use Rattle.std.proofs.Common.{◌≡◌, ℕ, ◌<◌, ◌≤◌, List, [], length, map, Option, Some, None, true, false, refl, sym, ap, ◌∙◌, subst, inl, inr, arith}
 use Rattle.std.proofs.Math.ListN.{length-set}
 use Rattle.std.specs.Prelude.{Contains}
 use Rattle.std.specs.Option.{option_map}
-use Rattle.std.proofs.lemmas.Option.{same_Some, none-some}
+use Rattle.std.proofs.lemmas.Option.{same_Some}
 use Rattle.page_slots.specs.View.{PageView}
 use Rattle.commit_status.specs.declared.status.Status.{Status}
-use Rattle.commit_status.specs.declared.status.Status.TheVariants.{InProgress, Committed, Aborted}
-use Rattle.commit_status.specs.Window.{Window}
-use Rattle.commit_status.specs.Changes.{Finishes}
-use Rattle.snapshot.specs.Snap.{Snap, Sees, taken}
+use Rattle.commit_status.specs.declared.status.Status.TheVariants.{Committed, Aborted}
+use Rattle.snapshot.specs.Snap.{Snap}
 use Rattle.heap_write.specs.Heap.{version_in}
 use Rattle.history.specs.World.{World}
 use Rattle.session_relation.specs.declared.step.Step.{Step}
@@ -18,7 +16,7 @@ use Rattle.session_relation.specs.declared.reply.Reply.{Reply}
 use Rattle.session_relation.specs.declared.reply.Reply.TheVariants.{Done, Found, RolledBack, Refused}
 use Rattle.session_relation.specs.declared.reply.Reply.TheVariants as reply
 use Rattle.session_relation.specs.declared.reply.Refusal.{Refusal}
-use Rattle.session_relation.specs.declared.reply.Refusal.TheVariants.{NotOpen, AlreadyOpen, Failed, AlreadyThere, Conflict, Busy, TooLarge, NoRoom, NeedsFreeze, NoMemory, NoSuchSession}
+use Rattle.session_relation.specs.declared.reply.Refusal.TheVariants.{NotOpen, AlreadyOpen, Failed, AlreadyThere, Conflict, Busy, TooLarge, NoRoom, NeedsFreeze, NoMemory, NoSuchPage, NoSuchSession}
 use Rattle.session_relation.specs.Words.{RowText}
 use Rattle.session_relation.specs.Heap.{Heap}
 use Rattle.session_relation.specs.Agrees as relation
@@ -33,10 +31,10 @@ use Rattle.session_core.specs.State.{State, session_at, put_session, seen, state
 use Rattle.session_core.specs.Agrees.{Agrees, Sound, Follows, SessionKeeps}
 use Rattle.session_core.specs.Refuses.{Refuses, RefusesReady}
 use Rattle.session_core.specs.Changes.{Opens, Closes}
-use Rattle.session_core.proofs.OwnIdsLemmas.{open-within, open-set_same, open-set_other, open-set_cases}
+use Rattle.session_core.proofs.OwnIdsLemmas.{open-within, open-set_cases}
 use Rattle.session_core.proofs.StateLemmas.{only-set}
 use Rattle.session_core.proofs.Windows.{active-to, Finishes-from, SameSight-finish, decided}
-use Rattle.session_core.proofs.Owns.{reader-at, reader-is, now_taken, taken-fresh, taken-within}
+use Rattle.session_core.proofs.Owns.{reader-is, now_taken, taken-fresh, taken-within}
 use Rattle.session_core.proofs.Ends.{Sound-closes}
 
 -- a step that leaves the engine as it is
@@ -57,6 +55,7 @@ closed_by st s TooLarge is = absurd is
 closed_by st s NoRoom is = absurd is
 closed_by st s NeedsFreeze is = absurd is
 closed_by st s NoMemory is = absurd is
+closed_by st s NoSuchPage is = absurd is
 
 unready_by : (st : State) (s : ℕ) (r : Refusal) → RefusesReady st s r → theory.IsUnready (seen st) s r
 unready_by st s Failed is = (reader_of is.1, reader-is st s is.1 is.2, is.3)
@@ -70,6 +69,7 @@ unready_by st s TooLarge is = absurd is
 unready_by st s NoRoom is = absurd is
 unready_by st s NeedsFreeze is = absurd is
 unready_by st s NoMemory is = absurd is
+unready_by st s NoSuchPage is = absurd is
 
 pub Follows-closed_commit : (st : State) (s : ℕ) (r : Refusal) → Refuses st s r → Follows st (Commit s) (Refused r) st
 Follows-closed_commit st s r is = Follows-same st (Commit s) (Refused r) (theory.Follows-closed_commit (seen st) s r (closed_by st s r is))
@@ -83,8 +83,9 @@ Follows-unready_get st s k r is = Follows-same st (Get s k) (Refused r) (theory.
 pub Follows-already_open : (st : State) (s : ℕ) (e : Session) → session_at st s ≡ Some e → Follows st (Begin s) (Refused AlreadyOpen) st
 Follows-already_open st s e at = Follows-same st (Begin s) (Refused AlreadyOpen) (theory.Follows-already_open (seen st) s (reader_of e) (reader-is st s e at))
 
-pub Follows-begin_no_memory : (st : State) (s : ℕ) → Follows st (Begin s) (Refused NoMemory) st
-Follows-begin_no_memory st s = Follows-same st (Begin s) (Refused NoMemory) (theory.Follows-begin_refused (seen st) s NoMemory (λ w agrees. tt))
+pub Follows-begin_no_memory : (st : State) (s : ℕ) → s < 64 → session_at st s ≡ None → Follows st (Begin s) (Refused NoMemory) st
+Follows-begin_no_memory st s within idle =
+    Follows-same st (Begin s) (Refused NoMemory) (theory.Follows-begin_refused (seen st) s NoMemory (λ w agrees. (within, agrees.idle s (ap (option_map reader_of) idle))))
 
 pub Follows-no_such_session : (st : State) (s : ℕ) → 64 ≤ s → Follows st (Begin s) (Refused NoSuchSession) st
 Follows-no_such_session st s past = Follows-same st (Begin s) (Refused NoSuchSession) (theory.Follows-begin_refused (seen st) s NoSuchSession (λ w agrees. past))
@@ -103,6 +104,7 @@ Sound-opens st w s e within snapshot ids saved agrees = record {
     | inr other ↦ agrees.sound.sessions o f other.1
   ];
   tops = agrees.sound.tops;
+  flat = agrees.sound.flat;
 }
   where
     mine : SessionKeeps st.heap.table e
@@ -181,4 +183,5 @@ Sound-fails st s e within at sound = record {
     | inr other ↦ sound.sessions o f other.1
   ];
   tops = sound.tops;
+  flat = sound.flat;
 }

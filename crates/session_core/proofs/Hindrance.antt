@@ -1,12 +1,11 @@
 -- What keeps a session from writing a key, or nothing.
-use Rattle.std.proofs.Common.{◌≡◌, ◌≢◌, ◌↔◌, ℕ, ◌<◌, List, Option, Some, None, Bool, true, false, refl, sym, ap, ◌∙◌, subst}
+use Rattle.std.proofs.Common.{◌≡◌, ◌↔◌, ℕ, Option, Some, None, Bool, false, refl, sym, subst}
 use Rattle.std.specs.Prelude.{Contains, MatchOption, IsTrue, IsSome}
-use Rattle.std.proofs.lemmas.Option.{same_Some, none-some}
 use Rattle.tuple_header.specs.declared.version.Row.{Row}
 use Rattle.std.specs.Option.{option_map}
 use Rattle.commit_status.specs.declared.status.Status.{Status}
 use Rattle.commit_status.specs.declared.status.Status.TheVariants.{InProgress}
-use Rattle.commit_status.specs.Window.{Window, place, status_of}
+use Rattle.commit_status.specs.Window.{place, status_of}
 use Rattle.heap_write.specs.Heap.{HeapView, slots_of}
 use Rattle.heap_write.specs.Search as search
 use Rattle.history.specs.World.{World}
@@ -18,9 +17,9 @@ use Rattle.session_core.specs.State.{State, session_at, seen, state_of, reader_o
 use Rattle.session_core.specs.Agrees.{Agrees}
 use Rattle.session_core.specs.Keeps.{open_at}
 use Rattle.session_core.specs.Writes.{Reads, MayInsert}
-use Rattle.session_core.proofs.Searches.{finds-row, late-to, late-from, unheld-from, touches-to}
+use Rattle.session_core.proofs.Searches.{finds-row, late-from, unheld-from, touches-to}
 use Rattle.session_core.proofs.Owns.{reader-at}
-use Rattle.session_core.proofs.Windows.{state-some, state-is, active-to}
+use Rattle.session_core.proofs.Windows.{state-is}
 
 abbrev pub RowOf : HeapView → Session → ℕ → Option Row → Type 0
 RowOf h e key found = MatchOption found (search.NoVersion (slots_of h) (search.IsSeen h.table e.snapshot e.own.ids key)) (λ row. search.SomeVersion (slots_of h) (λ v. search.IsSeen h.table e.snapshot e.own.ids key v × (row ≡ v.row)))

@@ -1,5 +1,5 @@
 -- The write of a row follows the history.
-use Rattle.std.proofs.Common.{◌≡◌, ◌≢◌, ℕ, ◌<◌, ◌≤◌, List, [], ◌∷◌, ◌++◌, length, map, set, Option, Some, None, true, false, slice_get, get_or, refl, sym, ap, ◌∙◌, subst, ◌⊎◌, inl, inr, arith}
+use Rattle.std.proofs.Common.{◌≡◌, ◌≢◌, ℕ, ◌<◌, ◌≤◌, List, [], ◌∷◌, ◌++◌, length, set, Option, Some, None, false, slice_get, refl, sym, ap, ◌∙◌, subst, inl, inr, arith}
 use Rattle.std.proofs.Math.ListN.{length-set}
 use Rattle.std.specs.Prelude.{Contains, IsSome, Result, Ok, Err}
 use Rattle.std.specs.Option.{option_map}
@@ -7,10 +7,9 @@ use Rattle.std.proofs.lemmas.Bool.{cases_eq}
 use Rattle.std.proofs.lemmas.Option.{same_Some, none-some}
 use Rattle.std.proofs.lemmas.List.Elements.{Contains-push_cases}
 use Rattle.tuple_header.specs.declared.version.Row.{Row}
-use Rattle.tuple_header.specs.Version.{Version}
 use Rattle.page_slots.specs.declared.slot.Slot.{Slot}
-use Rattle.commit_status.specs.declared.status.Status.TheVariants.{InProgress, Committed}
-use Rattle.commit_status.specs.Window.{Window, IsWindow, IsCommitted, IsInProgress, IsUpToNext, IsGiven, next_id, status_of, top_of, turns, place}
+use Rattle.commit_status.specs.declared.status.Status.TheVariants.{InProgress}
+use Rattle.commit_status.specs.Window.{Window, IsWindow, IsCommitted, IsInProgress, IsGiven, next_id, status_of, top_of, turns, place}
 use Rattle.commit_status.specs.Changes as change
 use Rattle.commit_status.proofs.Places.{next-none}
 use Rattle.commit_status.proofs.Giving.{gives-status, gives-top_old, gives-top_alone, gives-upto, gives-active_next}
@@ -28,19 +27,18 @@ use Rattle.session_relation.specs.Heap.{Heap}
 use Rattle.session_relation.specs.Heap as relation
 use Rattle.session_relation.specs.Agrees as theory_agrees
 use Rattle.session_relation.specs.Allowed.{Allows, next}
-use Rattle.session_relation.specs.Visible.{IsVisible}
-use Rattle.session_relation.specs.Finds.{Finds, Begins, Free, IsLateFor, IsHeldBy}
+use Rattle.session_relation.specs.Finds.{Begins, Free, IsLateFor, IsHeldBy}
 use Rattle.session_relation.proofs.Itself.{IsCurrent, none_own}
-use Rattle.session_relation.proofs.Steps.{OnlyIs, SameSights}
+use Rattle.session_relation.proofs.Steps.{OnlyIs}
 use Rattle.session_relation.proofs.Follows as theory
 use Rattle.snapshot.proofs.Takes.{first-in}
 use Rattle.session_core.specs.declared.session.Session.{Session}
 use Rattle.session_core.specs.State.{State, session_at, put_session, seen, state_of, reader_of, as_failed}
-use Rattle.session_core.specs.Agrees.{Agrees, Sound, Follows, SessionKeeps}
+use Rattle.session_core.specs.Agrees.{Agrees, Sound, Follows, SessionKeeps, ArePagesFlat}
 use Rattle.session_core.specs.Keeps.{open_at, OwnIdsKeep, EngineKeeps}
 use Rattle.session_core.specs.Writes.{MayInsert, Hinders, Reads, SameSession, Wrote, under_own, under_new, Places, Tries, TriesWrite, refusal_for, reply_for, FollowsInsert}
 use Rattle.session_core.proofs.OwnIdsLemmas.{open-within, open-set_same, open-set_other, open-set_cases, keep-same, keep-give}
-use Rattle.session_core.proofs.StateLemmas.{only-set, keeps-shut}
+use Rattle.session_core.proofs.StateLemmas.{only-set}
 use Rattle.session_core.proofs.Windows.{Gives-from, SameSight-give, unseen-next, active-to}
 use Rattle.session_core.proofs.Owns.{reader-is, reader-at}
 use Rattle.session_relation.specs.declared.reply.Refusal.{Refusal}
@@ -48,7 +46,7 @@ use Rattle.session_relation.specs.declared.reply.Refusal.TheVariants.{NotOpen, A
 use Rattle.session_relation.specs.declared.reply.Refusal.TheVariants as refusal
 use Rattle.session_core.proofs.Searches.{held-to}
 use Rattle.session_core.proofs.Follows.{Follows-same, Follows-unready_insert, Sound-fails}
-use Rattle.session_core.proofs.Adding.{Adds-added, is-new, new_place}
+use Rattle.session_core.proofs.Adding.{Adds-added, is-new, new_place, flat-inserted}
 
 -- a session that has as much memory and is otherwise the same
 reader-same : (e e' : Session) → SameSession e e' → reader_of e' ≡ reader_of e
@@ -65,8 +63,8 @@ keeps-same w e e' same h = record {
 abbrev pub with_write : State → HeapView → ℕ → Session → State
 with_write st h s e = record { settings = st.settings; heap = h; sessions = set st.sessions s (Some e) }
 
-Sound-same : (st : State) (h : HeapView) (s : ℕ) (e e' : Session) → session_at st s ≡ Some e → SameSession e e' → h.table ≡ st.heap.table → Sound st → Sound (with_write st h s e')
-Sound-same st h s e e' at same table sound = record {
+Sound-same : (st : State) (h : HeapView) (s : ℕ) (e e' : Session) → session_at st s ≡ Some e → SameSession e e' → h.table ≡ st.heap.table → ArePagesFlat (slots_of h) → Sound st → Sound (with_write st h s e')
+Sound-same st h s e e' at same table flat sound = record {
   count = length-set st.sessions s (Some e') ∙ sound.count;
   window = rw table sound.window;
   sessions = λ o f bt. rw table (elim (open-set_cases st.sessions s o (Some e') f (open-within st.sessions s e at) bt) [
@@ -74,10 +72,11 @@ Sound-same st h s e e' at same table sound = record {
     | inr other ↦ sound.sessions o f other.1
   ]);
   tops = rw table sound.tops;
+  flat = flat;
 }
 
 -- the sessions that readers see stay
-sessions-same : (st : State) (h : HeapView) (s : ℕ) (e e' : Session) → session_at st s ≡ Some e → SameSession e e' → (o : ℕ) → (seen (with_write st h s e')).session o ≡ (seen st).session o
+pub sessions-same : (st : State) (h : HeapView) (s : ℕ) (e e' : Session) → session_at st s ≡ Some e → SameSession e e' → (o : ℕ) → (seen (with_write st h s e')).session o ≡ (seen st).session o
 sessions-same st h s e e' at same o = elim (cases_eq o s) [
   | inl here ↦ ap (λ o. option_map reader_of (open_at (set st.sessions s (Some e')) o)) here
       ∙ (ap (option_map reader_of) (open-set_same st.sessions s (Some e') (open-within st.sessions s e at)) ∙ (ap Some (reader-same e e' same) ∙ (sym (ap (option_map reader_of) at) ∙ ap (λ o. option_map reader_of (session_at st o)) (sym here))))
@@ -141,8 +140,8 @@ tops-give w v is is' gives tops x done active =
     ne same = let now = (gives-active_next w v None is' gives).unfinished in (let here : status_of v x ≡ InProgress = ap (status_of v) same ∙ now in cc)
 
 Sound-given : (st : State) (w : World) (h : HeapView) (s : ℕ) (e e' : Session) → session_at st s ≡ Some e → change.Gives st.heap.table h.table None → IsWindow h.table → e'.own.ids ≡ next_id st.heap.table ∷ []
-    → e'.snapshot ≡ e.snapshot → e'.own.saved ≡ e.own.saved → Agrees st w → Sound (with_write st h s e')
-Sound-given st w h s e e' at gives window ids snapshot saved agrees = record {
+    → e'.snapshot ≡ e.snapshot → e'.own.saved ≡ e.own.saved → ArePagesFlat (slots_of h) → Agrees st w → Sound (with_write st h s e')
+Sound-given st w h s e e' at gives window ids snapshot saved flat agrees = record {
   count = length-set st.sessions s (Some e') ∙ agrees.sound.count;
   window = window;
   sessions = λ o f bt. elim (open-set_cases st.sessions s o (Some e') f (open-within st.sessions s e at) bt) [
@@ -151,6 +150,7 @@ Sound-given st w h s e e' at gives window ids snapshot saved agrees = record {
         (λ x mine. (active-to st.heap.table x ((agrees.found.opened o (reader_of f) (reader-is st o f other.1)).2.own_active x mine)).is_given) (agrees.sound.sessions o f other.1)
   ];
   tops = tops-give st.heap.table h.table agrees.sound.window window gives agrees.sound.tops;
+  flat = flat;
 }
 
 -- The write.
@@ -173,13 +173,13 @@ refused : (st : State) (w : World) (h : HeapView) (s : ℕ) (row : Row) (text : 
     → Allows w (Insert s text) (Refused (refusal_for fault)) × Agrees (with_write st h s e') (next w (Insert s text) (Refused (refusal_for fault)))
 refused st w h s row text e' NeedsFreeze may fits same keeps stays agrees =
     let f = theory.Follows-needs_freeze (seen st) s (reader_of may.session) text (free-of st w s row text may fits same agrees) w agrees.found in
-    (f.0, record { found = Agrees-kept st (stepped w s) h s may.session e' may.reads.at stays keeps f.1; sound = Sound-same st h s may.session e' may.reads.at stays keeps.table agrees.sound })
+    (f.0, record { found = Agrees-kept st (stepped w s) h s may.session e' may.reads.at stays keeps f.1; sound = Sound-same st h s may.session e' may.reads.at stays keeps.table (subst ArePagesFlat (sym keeps.slots) agrees.sound.flat) agrees.sound })
 refused st w h s row text e' NoRoom may fits same keeps stays agrees =
     let f = theory.Follows-no_room (seen st) s (reader_of may.session) text (free-of st w s row text may fits same agrees) w agrees.found in
-    (f.0, record { found = Agrees-kept st (stepped w s) h s may.session e' may.reads.at stays keeps f.1; sound = Sound-same st h s may.session e' may.reads.at stays keeps.table agrees.sound })
+    (f.0, record { found = Agrees-kept st (stepped w s) h s may.session e' may.reads.at stays keeps f.1; sound = Sound-same st h s may.session e' may.reads.at stays keeps.table (subst ArePagesFlat (sym keeps.slots) agrees.sound.flat) agrees.sound })
 refused st w h s row text e' NoMemory may fits same keeps stays agrees =
-    let f = theory.Follows-no_memory (seen st) s text w agrees.found in
-    (f.0, record { found = Agrees-kept st (stepped w s) h s may.session e' may.reads.at stays keeps f.1; sound = Sound-same st h s may.session e' may.reads.at stays keeps.table agrees.sound })
+    let f = theory.Follows-no_memory (seen st) s (reader_of may.session) text (free-of st w s row text may fits same agrees) w agrees.found in
+    (f.0, record { found = Agrees-kept st (stepped w s) h s may.session e' may.reads.at stays keeps f.1; sound = Sound-same st h s may.session e' may.reads.at stays keeps.table (subst ArePagesFlat (sym keeps.slots) agrees.sound.flat) agrees.sound })
 
 -- of the sessions that readers see, one has another value
 only-write : (st : State) (h : HeapView) (s : ℕ) (e e' : Session) (r : relation.Session) → session_at st s ≡ Some e → reader_of e' ≡ r → OnlyIs (seen st).session (seen (with_write st h s e')).session s (Some r)
@@ -196,6 +196,9 @@ current-own e x first unsaved = record {
   newest = λ before is. absurd (none-some before (ap (λ (saved : List (List ℕ)). slice_get saved 0) (sym unsaved) ∙ is));
 }
 
+flat-written : {w : World} (st : State) (h : HeapView) (row : Row) (x : ℕ) → Places st.heap h row x → Agrees st w → ArePagesFlat (slots_of h)
+flat-written st h row x places agrees = subst ArePagesFlat (sym places.1) (flat-inserted st.heap.pages x row agrees.sound.flat)
+
 written-own : (st : State) (w : World) (h : HeapView) (s : ℕ) (row : Row) (text : RowText) (e' : Session) (x : ℕ) (may : MayInsert st s row.key) → FitsRow text → row ≡ row_of text
     → slice_get may.session.own.ids 0 ≡ Some x → h.table ≡ st.heap.table → SameSession may.session e' → Places st.heap h row x → Agrees st w
     → Allows w (Insert s text) Done × Agrees (with_write st h s e') (next w (Insert s text) Done)
@@ -210,7 +213,7 @@ written-own st w h s row text e' x may fits same first table stays places agrees
         found = theory.Agrees-sessions (with_parts st (slots_of h) h.table) w' (seen (with_write st h s e')).session (sessions-same st h s may.session e' may.reads.at stays)
             (subst (λ t. theory_agrees.Agrees (with_parts st (slots_of h) t) w') (sym table)
             (subst (λ slots. theory_agrees.Agrees (with_parts st slots st.heap.table) w') (sym places.1) f.1));
-        sound = Sound-same st h s may.session e' may.reads.at stays table agrees.sound;
+        sound = Sound-same st h s may.session e' may.reads.at stays table (flat-written st h row x places agrees) agrees.sound;
       },
     )
 
@@ -233,7 +236,7 @@ written-new st w h s row text e' may fits same none gives window ids snapshot sa
       f.0,
       record {
         found = subst (λ slots. theory_agrees.Agrees (record { version = version_in slots; status = state_of h.table; sees = λ s x. Sees s h.table x; session = (seen (with_write st h s e')).session }) (next w (Insert s text) Done)) (sym places.1) f.1;
-        sound = Sound-given st w h s may.session e' may.reads.at gives window ids snapshot saved agrees;
+        sound = Sound-given st w h s may.session e' may.reads.at gives window ids snapshot saved (flat-written st h row x places agrees) agrees;
       },
     )
 
@@ -313,6 +316,7 @@ Follows-hindered st s row TooLarge ne is text fits same w agrees = absurd is
 Follows-hindered st s row refusal.NoRoom ne is text fits same w agrees = absurd is
 Follows-hindered st s row refusal.NeedsFreeze ne is text fits same w agrees = absurd is
 Follows-hindered st s row refusal.NoMemory ne is text fits same w agrees = absurd is
+Follows-hindered st s row refusal.NoSuchPage ne is text fits same w agrees = absurd is
 
 pub Follows-too_large : (st : State) (s : ℕ) (e : Session) (text : RowText) → session_at st s ≡ Some e → e.failed ≡ false → 1024 < length text.body → Follows st (Insert s text) (Refused TooLarge) st
 Follows-too_large st s e text at sound large = Follows-same st (Insert s text) (Refused TooLarge) (theory.Follows-too_large (seen st) s (reader_of e) text (reader-is st s e at) sound large)

@@ -12,4 +12,7 @@ pub mod WriteLemmas
 pub mod Hindrance
 pub mod Adding
 pub mod Inserting
+pub mod Exactness
+pub mod Holding
+pub mod Cleaned
 pub mod Running

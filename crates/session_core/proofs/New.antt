@@ -1,10 +1,10 @@
 -- A new engine agrees with the empty history.
-use Rattle.std.proofs.Common.{◌≡◌, ℕ, ◌<◌, List, [], length, map, replicate, Option, Some, None, slice_get, refl, sym, ap, ◌∙◌, subst, arith}
+use Rattle.std.proofs.Common.{◌≡◌, ℕ, List, [], length, map, replicate, Option, Some, None, slice_get, refl, sym, ap, ◌∙◌, arith}
 use Rattle.std.specs.Option.{option_map, option_and_then}
 use Rattle.std.proofs.lemmas.List.{length-replicate}
 use Rattle.std.proofs.lemmas.Option.{none-some, slice_get_past}
 use Rattle.xid_circle.specs.declared.Tid.{Tid}
-use Rattle.commit_status.specs.Window.{Window, IsWindow, place, status_of, IsCommitted}
+use Rattle.commit_status.specs.Window.{Window, IsWindow, place, status_of}
 use Rattle.commit_status.proofs.Places.{place-lt}
 use Rattle.commit_status.proofs.Giving.{finished-place}
 use Rattle.page_slots.specs.Slots.{version_at}
@@ -14,7 +14,7 @@ use Rattle.heap_write.specs.Heap.{version_in, slots_of}
 use Rattle.history.specs.World.{empty}
 use Rattle.session_relation.proofs.Steps.{Agrees-empty}
 use Rattle.session_core.specs.declared.session.Session.{Session}
-use Rattle.session_core.specs.State.{State, session_at, seen, state_of, reader_of}
+use Rattle.session_core.specs.State.{State, session_at, seen, reader_of}
 use Rattle.session_core.specs.Agrees.{Agrees}
 use Rattle.session_core.proofs.StateLemmas.{none-open}
 
@@ -40,6 +40,7 @@ Agrees-new st pages entries window idle = record {
     window = window;
     sessions = λ s e at. absurd (none-some e (sym (closed s) ∙ at));
     tops = λ x done. absurd (let at = finished-place st.heap.table x (λ active. cc) in none-some at.0 (sym (no-place st.heap.table x entries) ∙ at.1));
+    flat = λ p slots at. absurd (none-some slots (sym (ap (λ (pages : List PageView). slice_get (map (λ (p : PageView). p.slots) pages) p) pages) ∙ at));
   };
 }
   where

@@ -1,9 +1,9 @@
 -- The own ids of the open sessions after one session changed.
-use Rattle.std.proofs.Common.{◌≡◌, ◌≢◌, ℕ, ◌<◌, ◌+◌, List, [], ◌∷◌, ◌++◌, length, set, Option, Some, None, slice_get, refl, sym, ap, ◌∙◌, subst, ◌⊎◌, inl, inr, arith}
+use Rattle.std.proofs.Common.{◌≡◌, ◌≢◌, ℕ, ◌<◌, List, [], ◌∷◌, ◌++◌, length, set, Option, Some, None, sym, ap, ◌∙◌, subst, ◌⊎◌, inl, inr}
 use Rattle.std.specs.Prelude.{Contains, IsSome}
-use Rattle.std.specs.Option.{option_flatten, option_map}
+use Rattle.std.specs.Option.{option_flatten}
 use Rattle.std.proofs.lemmas.Bool.{cases_eq}
-use Rattle.std.proofs.lemmas.Option.{same_Some, none-some, slice_get_within, slice_get_past}
+use Rattle.std.proofs.lemmas.Option.{same_Some, none-some, slice_get_past}
 use Rattle.std.proofs.lemmas.Bool.{cases_lt}
 use Rattle.std.proofs.lemmas.List.Elements.{Contains-push_cases}
 use Rattle.commit_status.specs.declared.status.Status.{Status}
@@ -15,7 +15,6 @@ use Rattle.commit_status.proofs.Finishing.{finishes-active_other}
 use Rattle.history.proofs.Places.{slice_get-set_same, slice_get-set_other}
 use Rattle.session_relation.proofs.Itself.{none_own}
 use Rattle.session_core.specs.declared.session.Session.{Session}
-use Rattle.session_core.specs.State.{as_failed}
 use Rattle.session_core.specs.Keeps.{open_at, OwnIdsKeep}
 
 pub open-within : (xs : List (Option Session)) (s : ℕ) (e : Session) → open_at xs s ≡ Some e → s < length xs

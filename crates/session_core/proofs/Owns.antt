@@ -1,12 +1,10 @@
 -- The own ids of all open sessions, and the snapshot that is taken of them.
-use Rattle.std.proofs.Common.{◌≡◌, ◌≢◌, ℕ, zero, suc, ◌<◌, List, [], ◌∷◌, ◌++◌, length, Option, Some, None, slice_get, refl, sym, ap, ◌∙◌, subst, ◌⊎◌, inl, inr, arith}
+use Rattle.std.proofs.Common.{◌≡◌, ℕ, zero, suc, ◌<◌, List, [], ◌∷◌, Option, Some, None, slice_get, refl, sym, ap, ◌∙◌, subst, inl, inr, arith}
 use Rattle.std.specs.Prelude.{Contains}
-use Rattle.std.specs.Option.{option_flatten, option_map}
-use Rattle.std.specs.List.{fold}
+use Rattle.std.specs.Option.{option_map}
 use Rattle.std.proofs.lemmas.Option.{same_Some, none-some}
-use Rattle.commit_status.specs.declared.status.Status.TheVariants.{InProgress, Committed}
-use Rattle.commit_status.specs.Window.{Window, IsWindow, IsActive, IsInProgress, next_id, status_of, top_of}
-use Rattle.snapshot.specs.Snap.{Snap, Sees, taken, listing, empty_at}
+use Rattle.commit_status.specs.Window.{next_id, top_of}
+use Rattle.snapshot.specs.Snap.{Snap, Sees, taken}
 use Rattle.snapshot.specs.Laws.{AreOpen, IsInWindow}
 use Rattle.snapshot.proofs.Sights.{open-unseen, finished-seen}
 use Rattle.snapshot.proofs.Takes.{taken-in_window}
@@ -16,9 +14,9 @@ use Rattle.session_relation.specs.Heap as relation
 use Rattle.session_relation.specs.Visible.{IsFresh}
 use Rattle.session_core.specs.declared.session.Session.{Session}
 use Rattle.session_core.specs.State.{State, session_at, seen, state_of, reader_of, owns_of}
-use Rattle.session_core.specs.Agrees.{Agrees, Sound, SessionKeeps}
+use Rattle.session_core.specs.Agrees.{Agrees}
 use Rattle.session_core.specs.Keeps.{open_at}
-use Rattle.session_core.proofs.Windows.{active-to, active-from, committed-to, committed-from}
+use Rattle.session_core.proofs.Windows.{active-to, active-from, committed-to}
 
 pub owns-some : (xs : List (Option Session)) (s : ℕ) (e : Session) → open_at xs s ≡ Some e → Contains (owns_of xs) e.own.ids
 owns-some [] s e at = cc

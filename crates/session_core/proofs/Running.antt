@@ -1,10 +1,10 @@
 -- A run of the engine goes on by one step.
-use Rattle.std.proofs.Common.{◌≡◌, ℕ, ◌<◌, ◌≤◌, ◌+◌, List, [], ◌∷◌, ◌++◌, take, get_or, length, sym, subst}
+use Rattle.std.proofs.Common.{ℕ, ◌<◌, ◌≤◌, ◌+◌, List, [], ◌∷◌, ◌++◌, take, get_or, length, sym, subst}
 use Rattle.std.proofs.lemmas.List.{take_more, take_all}
 use Rattle.session_relation.specs.declared.step.Step.{Step}
 use Rattle.session_relation.specs.declared.reply.Reply.{Reply}
 use Rattle.history.specs.World.{World, empty}
-use Rattle.session_relation.specs.Allowed.{IsRun, after, IsLawful}
+use Rattle.session_relation.specs.Allowed.{after, IsLawful}
 use Rattle.session_relation.proofs.Runs.{IsRun-push, after-push, lawful}
 use Rattle.session_core.specs.State.{State}
 use Rattle.session_core.specs.Agrees.{Agrees, Follows}

@@ -1,11 +1,9 @@
 -- What a search of the pages finds, as readers see it.
-use Rattle.std.proofs.Common.{◌≡◌, ◌≢◌, ℕ, List, Option, Some, None, Bool, true, false, refl, sym, ap, ◌∙◌, subst, ◌⊎◌, inl, inr, cond}
-use Rattle.std.specs.Prelude.{Contains, MatchOption, IsSome, ◌==◌}
-use Rattle.std.proofs.lemmas.Bool.{cases_Bool, cond-true, cond-false, eq-eqb, ne_eqb, cases_eq}
+use Rattle.std.proofs.Common.{◌≡◌, ◌≢◌, ℕ, List, Option, Some, None, Bool, true, false, refl, sym, ap, ◌∙◌, subst, inl, inr, cond}
+use Rattle.std.specs.Prelude.{MatchOption, ◌==◌}
+use Rattle.std.proofs.lemmas.Bool.{cases_Bool, cond-false, eq-eqb, ne_eqb}
 use Rattle.std.proofs.lemmas.Option.{same_Some, none-some}
-use Rattle.xid_circle.specs.declared.Tid.{Tid}
 use Rattle.tuple_header.specs.declared.version.Row.{Row}
-use Rattle.tuple_header.specs.declared.version.Header.{Header}
 use Rattle.tuple_header.specs.Version.{Version}
 use Rattle.tuple_header.specs.Marks.{is_frozen}
 use Rattle.page_slots.specs.declared.slot.Slot.{Slot}
@@ -14,12 +12,11 @@ use Rattle.snapshot.specs.Snap.{Snap, Sees}
 use Rattle.visibility.specs.Visible as visibility
 use Rattle.heap_write.specs.Heap.{version_in, slots_of}
 use Rattle.heap_write.specs.Search as search
-use Rattle.session_relation.specs.Heap.{Heap}
-use Rattle.session_relation.specs.Visible.{maker, deleter, Reads, by_itself, by_others, VisibleBy, IsVisible, Touches, made_by, deleted_by, IsCommitted, IsActive}
-use Rattle.session_relation.specs.Finds.{Finds, IsForeign, IsLateFor, IsHeldBy}
+use Rattle.session_relation.specs.Visible.{maker, deleter, Reads, by_itself, by_others, IsVisible, Touches, made_by, deleted_by, IsActive}
+use Rattle.session_relation.specs.Finds.{Finds, IsLateFor, IsHeldBy}
 use Rattle.session_core.specs.declared.session.Session.{Session}
 use Rattle.session_core.specs.State.{State, seen, state_of, reader_of}
-use Rattle.session_core.proofs.Windows.{committed-to, committed-from, active-to, active-from}
+use Rattle.session_core.proofs.Windows.{committed-to, committed-from, active-to}
 
 -- the maker and the deleter of a version
 

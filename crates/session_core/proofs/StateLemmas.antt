@@ -1,19 +1,16 @@
 -- The state of an engine as its own changes leave it.
-use Rattle.std.proofs.Common.{◌≡◌, ◌≢◌, ℕ, ◌<◌, List, [], length, set, replicate, zero, suc, Option, Some, None, slice_get, get_or, refl, sym, ap, ◌∙◌, subst, arith}
+use Rattle.std.proofs.Common.{◌≡◌, ℕ, ◌<◌, List, [], length, set, replicate, zero, suc, Option, Some, None, get_or, refl, sym, ap, ◌∙◌}
 use Rattle.std.proofs.Math.ListN.{length-set}
-use Rattle.std.specs.Prelude.{Contains}
 use Rattle.std.specs.Option.{option_flatten, option_map}
-use Rattle.std.proofs.lemmas.Option.{slice_get_read, none-some, same_Some}
-use Rattle.std.proofs.lemmas.List.{set-get_or}
+use Rattle.std.proofs.lemmas.Option.{slice_get_read, none-some}
 use Rattle.commit_status.specs.declared.status.Status.{Status}
-use Rattle.commit_status.specs.Window.{Window, IsActive}
+use Rattle.commit_status.specs.Window.{Window}
 use Rattle.commit_status.specs.Changes.{Finishes}
-use Rattle.session_relation.specs.Heap as relation
 use Rattle.session_relation.proofs.Steps.{OnlyIs}
 use Rattle.session_core.specs.declared.session.Session.{Session}
-use Rattle.session_core.specs.State.{State, session_at, put_session, reader_of, seen, as_failed}
-use Rattle.session_core.specs.Keeps.{open_at, OwnIdsKeep, EngineKeeps}
-use Rattle.session_core.proofs.OwnIdsLemmas.{open-within, open-set_same, open-set_other, keep-open, keep-close, keep-idle, keep-same}
+use Rattle.session_core.specs.State.{State, put_session, reader_of, seen, as_failed}
+use Rattle.session_core.specs.Keeps.{open_at, EngineKeeps}
+use Rattle.session_core.proofs.OwnIdsLemmas.{open-set_same, open-set_other, keep-open, keep-close, keep-idle, keep-same}
 
 -- a session, by a read of its place
 pub open-read : (xs : List (Option Session)) (s : ℕ) (o : Option Session) → s < length xs → o ≡ get_or xs s o → open_at xs s ≡ o

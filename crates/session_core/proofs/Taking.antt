@@ -1,8 +1,9 @@
 -- A snapshot is taken session by session.
-use Rattle.std.proofs.Common.{◌≡◌, ℕ, ◌+◌, ◌<◌, List, [], ◌∷◌, ◌++◌, length, take, get_or, Option, Some, None, refl, sym, ap, ◌∙◌}
-use Rattle.std.proofs.lemmas.List.{take_more}
+use Rattle.std.proofs.Common.{◌≡◌, ℕ, ◌+◌, ◌<◌, ◌≤◌, List, [], ◌∷◌, ◌++◌, length, take, drop, arith, length-append, get_or, Option, Some, None, refl, sym, ap, ◌∙◌, subst, if◌then◌else◌}
+use Rattle.std.proofs.lemmas.List.{take_more, take-append-drop}
 use Rattle.std.proofs.lemmas.List.Sums.{fold-append}
-use Rattle.snapshot.specs.Snap.{Snap, taken, listing, empty_at}
+use Rattle.std.specs.List.{fold}
+use Rattle.snapshot.specs.Snap.{Snap, taken, listing, empty_at, are_many}
 use Rattle.session_core.specs.declared.session.Session.{Session}
 use Rattle.session_core.specs.State.{owns_of}
 
@@ -29,3 +30,25 @@ taken-open next xs i o e within read some =
 pub none-unless : (o : Option Session) → ((e : Session) → o ≡ Some e → ⊥) → o ≡ None
 none-unless None h = refl
 none-unless (Some e) h = absurd (h e refl)
+
+-- A snapshot lists more and more.
+
+list-longer : (s : Snap) (own : List ℕ) → length s.listed ≤ length (listing s own).listed
+list-longer s [] = omega arith
+list-longer s (top ∷ children) = omega (arith, length-append s.listed (top ∷ (if are_many children then [] else children)))
+
+lists-longer : (s : Snap) (owns : List (List ℕ)) → length s.listed ≤ length (fold listing s owns).listed
+lists-longer s [] = omega arith
+lists-longer s (own ∷ owns) = let one = list-longer s own in let more = lists-longer (listing s own) owns in omega arith
+
+owns-append : (xs ys : List (Option Session)) → owns_of (xs ++ ys) ≡ owns_of xs ++ owns_of ys
+owns-append [] ys = refl
+owns-append (None ∷ xs) ys = owns-append xs ys
+owns-append (Some e ∷ xs) ys = ap (λ owns. e.own.ids ∷ owns) (owns-append xs ys)
+
+-- what the first sessions list, all list
+pub taken-longer : (next : ℕ) (xs : List (Option Session)) (i : ℕ) → length (taken next (owns_of (take i xs))).listed ≤ length (taken next (owns_of xs)).listed
+taken-longer next xs i =
+    let whole : taken next (owns_of xs) ≡ fold listing (taken next (owns_of (take i xs))) (owns_of (drop i xs)) =
+    ap (λ xs. taken next (owns_of xs)) (sym (take-append-drop i xs)) ∙ (ap (taken next) (owns-append (take i xs) (drop i xs)) ∙ fold-append listing (empty_at next) (owns_of (take i xs)) (owns_of (drop i xs))) in
+    subst (λ (s : Snap). length (taken next (owns_of (take i xs))).listed ≤ length s.listed) (sym whole) (lists-longer (taken next (owns_of (take i xs))) (owns_of (drop i xs)))

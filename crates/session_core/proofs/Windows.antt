@@ -1,24 +1,24 @@
 -- What the steps of the table of ids change of what readers see.
-use Rattle.std.proofs.Common.{◌≡◌, ◌≢◌, ℕ, ◌<◌, ◌≤◌, List, length, Option, Some, None, Bool, true, false, refl, sym, ap, ◌∙◌, subst, ◌⊎◌, inl, inr, arith}
+use Rattle.std.proofs.Common.{◌≡◌, ◌≢◌, ℕ, List, length, Option, Some, None, refl, sym, ap, ◌∙◌, ◌⊎◌, inl, inr, arith}
 use Rattle.std.specs.Prelude.{IsSome, Contains}
 use Rattle.std.specs.Option.{option_map}
-use Rattle.std.proofs.lemmas.Bool.{cases_eq, cases_Bool}
+use Rattle.std.proofs.lemmas.Bool.{cases_Bool}
 use Rattle.std.proofs.lemmas.Option.{same_Some, none-some}
 use Rattle.xid_circle.specs.Circle.{Precedes}
 use Rattle.commit_status.specs.declared.status.Status.{Status}
-use Rattle.commit_status.specs.declared.status.Status.TheVariants.{InProgress, Committed, Aborted}
+use Rattle.commit_status.specs.declared.status.Status.TheVariants.{InProgress, Committed}
 use Rattle.commit_status.specs.Window.{Window, IsWindow, IsGiven, IsInProgress, IsUpToNext, place, status_of, next_id, top_of, turns}
 use Rattle.commit_status.specs.Window as window
 use Rattle.commit_status.specs.Changes as change
 use Rattle.commit_status.proofs.Turns.{turns-given}
-use Rattle.commit_status.proofs.Places.{next-none, upto-next, precedes-turns, some-from_is, is-from_some}
-use Rattle.commit_status.proofs.Giving.{gives-place_old, gives-place_cases, gives-place_next, gives-status, gives-top_old, gives-active_next, gives-upto, finished-place}
-use Rattle.commit_status.proofs.Finishing.{finishes-top, finishes-given, finishes-upto}
+use Rattle.commit_status.proofs.Places.{next-none, upto-next, precedes-turns, is-from_some}
+use Rattle.commit_status.proofs.Giving.{gives-place_old, gives-place_cases, gives-status, gives-top_old, gives-active_next, finished-place}
+use Rattle.commit_status.proofs.Finishing.{finishes-top, finishes-given}
 use Rattle.commit_status.proofs.ChangesLemmas.{finishes-place}
 use Rattle.snapshot.specs.Snap.{Snap, Sees, SeesAlone, tested, is_before}
 use Rattle.snapshot.specs.Laws.{IsInWindow}
 use Rattle.snapshot.proofs.Sights.{sees-top}
-use Rattle.snapshot.proofs.Earliest.{before-precedes, precedes-before, contains-cases, contains-head, contains-tail}
+use Rattle.snapshot.proofs.Earliest.{before-precedes, precedes-before}
 use Rattle.session_relation.specs.Visible.{IsCommitted, IsActive}
 use Rattle.session_relation.specs.Changes.{Gives, Finishes, SameSight}
 use Rattle.session_relation.proofs.Steps.{cases_Contains}

@@ -1,21 +1,16 @@
 -- The tests of a write, and what it changes, follow the history.
-use Rattle.std.proofs.Common.{◌≡◌, ◌≢◌, ℕ, ◌<◌, ◌≤◌, List, [], ◌∷◌, ◌++◌, length, map, set, Option, Some, None, true, false, slice_get, refl, sym, ap, ◌∙◌, subst, ◌⊎◌, inl, inr, arith}
-use Rattle.std.specs.Prelude.{Contains, MatchOption}
-use Rattle.std.specs.Option.{option_map, option_and_then}
-use Rattle.std.proofs.lemmas.Option.{same_Some, none-some}
+use Rattle.std.proofs.Common.{◌≡◌, ℕ, Option, Some, false}
+use Rattle.std.specs.Prelude.{MatchOption}
 use Rattle.tuple_header.specs.declared.version.Row.{Row}
-use Rattle.tuple_header.specs.Version.{Version}
-use Rattle.commit_status.specs.Window.{Window}
-use Rattle.snapshot.specs.Snap.{Snap, Sees}
-use Rattle.heap_write.specs.Heap.{HeapView, version_in, slots_of}
+use Rattle.heap_write.specs.Heap.{slots_of}
 use Rattle.heap_write.specs.Search as search
 use Rattle.history.specs.World.{World, OpenSession, view}
-use Rattle.session_relation.specs.declared.step.Step.TheVariants.{Begin, Get, Insert, Commit, Abort}
-use Rattle.session_relation.specs.declared.reply.Reply.TheVariants.{Done, Found, RolledBack, Refused}
+use Rattle.session_relation.specs.declared.step.Step.TheVariants.{Get}
+use Rattle.session_relation.specs.declared.reply.Reply.TheVariants.{Found}
 use Rattle.session_relation.proofs.Follows as theory
 use Rattle.session_core.specs.declared.session.Session.{Session}
-use Rattle.session_core.specs.State.{State, session_at, put_session, seen, state_of, reader_of}
-use Rattle.session_core.specs.Agrees.{Agrees, Sound, Follows, SessionKeeps}
+use Rattle.session_core.specs.State.{State, session_at, seen, reader_of}
+use Rattle.session_core.specs.Agrees.{Agrees, Follows}
 use Rattle.session_core.proofs.Searches.{finds-row}
 use Rattle.session_core.proofs.Owns.{reader-is}
 use Rattle.session_core.proofs.Follows.{Follows-same}

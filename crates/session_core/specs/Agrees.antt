@@ -1,5 +1,5 @@
 -- When an engine agrees with a world of the history.
-use Rattle.std.specs.Prelude.{◌≡◌, ℕ, [], length, Some, None, slice_get, Contains}
+use Rattle.std.specs.Prelude.{◌≡◌, ℕ, List, [], length, Some, slice_get, Contains}
 use Rattle.history.specs.World.{World}
 use Rattle.snapshot.specs.Laws.{IsInWindow}
 use Rattle.commit_status.specs.Window.{Window, IsWindow, IsCommitted, IsInProgress, top_of}
@@ -7,6 +7,9 @@ use Rattle.session_relation.specs.declared.step.Step.{Step}
 use Rattle.session_relation.specs.declared.reply.Reply.{Reply}
 use Rattle.session_relation.specs.Allowed.{Allows, next}
 use Rattle.session_relation.specs.Agrees as relation
+use Rattle.page_slots.specs.declared.slot.Slot.{Slot}
+use Rattle.prune.specs.Pruning.{IsFlat}
+use Rattle.heap_write.specs.Heap.{slots_of}
 use Rattle.session_core.specs.declared.session.Session.{Session}
 use Rattle.session_core.specs.State.{State, session_at, seen}
 
@@ -19,7 +22,10 @@ pub record SessionKeeps (w : Window) (e : Session) : Type 0 where
   -- there are no savepoints yet
   pub unsaved : e.own.saved ≡ []
 
--- what the ids of an engine keep
+abbrev pub ArePagesFlat : List (List Slot) → Type 0
+ArePagesFlat pages = (p : ℕ) (slots : List Slot) → slice_get pages p ≡ Some slots → IsFlat slots
+
+-- what the ids and the pages of an engine keep
 pub record Sound (st : State) : Type 0 where
   pub count : length st.sessions ≡ 64
   -- the window is shorter than half the circle
@@ -27,6 +33,8 @@ pub record Sound (st : State) : Type 0 where
   pub sessions : (s : ℕ) (e : Session) → session_at st s ≡ Some e → SessionKeeps st.heap.table e
   -- what is committed, its topmost parent is not in progress
   pub tops : (x : ℕ) → IsCommitted st.heap.table x → ¬ IsInProgress st.heap.table (top_of st.heap.table x)
+  -- there are no updates yet: each version is alone in its chain
+  pub flat : ArePagesFlat (slots_of st.heap)
 
 pub record Agrees (st : State) (w : World) : Type 0 where
   -- each session reads its view, a new one would read what is committed; same sessions; exact traces

@@ -1,7 +1,7 @@
 -- What the type of an engine keeps, whatever was done with it.
-use Rattle.std.specs.Prelude.{◌≡◌, ℕ, List, length, Option, Some, None, slice_get, Contains}
+use Rattle.std.specs.Prelude.{◌≡◌, ℕ, List, length, Option, Some, slice_get, Contains}
 use Rattle.std.specs.Option.{option_flatten}
-use Rattle.commit_status.specs.Window.{Window, IsWindow, IsActive}
+use Rattle.commit_status.specs.Window.{Window, IsActive}
 use Rattle.session_core.specs.declared.session.Session.{Session}
 
 abbrev pub open_at : List (Option Session) → ℕ → Option Session

@@ -1,10 +1,9 @@
 -- An engine as its callers see it, and what its readers see of it.
-use Rattle.std.specs.Prelude.{◌≡◌, ℕ, Bool, true, List, [], ◌∷◌, Option, Some, None, slice_get, slice_set}
+use Rattle.std.specs.Prelude.{ℕ, true, List, [], ◌∷◌, ◌++◌, take, Option, Some, None, slice_get, slice_set}
 use Rattle.std.specs.Option.{option_map, option_flatten}
-use Rattle.snapshot.specs.Snap.{Snap, Sees}
-use Rattle.snapshot.specs.Own.{Own}
+use Rattle.snapshot.specs.Snap.{Sees, earliest}
 use Rattle.commit_status.specs.declared.status.Status.{Status}
-use Rattle.commit_status.specs.Window.{Window, place, status_of}
+use Rattle.commit_status.specs.Window.{Window, place, status_of, next_id}
 use Rattle.heap_write.specs.Heap.{HeapView, version_in, slots_of}
 use Rattle.session_relation.specs.declared.settings.Settings.{Settings}
 use Rattle.session_relation.specs.Heap.{Heap}
@@ -40,6 +39,20 @@ abbrev pub owns_of : List (Option Session) → List (List ℕ)
 owns_of [] = []
 owns_of (None ∷ sessions) = owns_of sessions
 owns_of (Some e ∷ sessions) = e.own.ids ∷ owns_of sessions
+
+-- what an open session holds the horizon back to: its snapshot's xmin, and its first id
+abbrev pub holds_back : Session → List ℕ
+holds_back e = e.snapshot.xmin ∷ take 1 e.own.ids
+
+abbrev pub held_back : List (Option Session) → List ℕ
+held_back [] = []
+held_back (None ∷ sessions) = held_back sessions
+held_back (Some e ∷ sessions) = holds_back e ++ held_back sessions
+
+-- The horizon: the earliest of all that open sessions hold back, and the next id. No open snapshot, nor one that is taken
+-- later, misses what committed before it. (The manual's "Routine Vacuuming"; GetOldestNonRemovableTransactionId.)
+abbrev pub horizon_of : State → ℕ
+horizon_of st = earliest (next_id st.heap.table) (held_back st.sessions)
 
 -- another session, or none, in this place
 abbrev pub put_session : State → ℕ → Option Session → State

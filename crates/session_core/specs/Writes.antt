@@ -1,5 +1,5 @@
 -- What the tests of a write say, and what a write changes.
-use Rattle.std.specs.Prelude.{◌≡◌, ℕ, ◌<◌, ◌≤◌, List, [], ◌∷◌, length, Option, Some, None, false, Contains, slice_get, Result, Ok, Err}
+use Rattle.std.specs.Prelude.{◌≡◌, ℕ, ◌≤◌, [], ◌∷◌, length, Option, Some, None, false, Contains, slice_get, Result, Ok, Err}
 use Rattle.tuple_header.specs.declared.version.Row.{Row}
 use Rattle.page_slots.specs.Slots.{with_added}
 use Rattle.page_slots.specs.declared.slot.Slot.TheVariants.{Normal}
@@ -23,6 +23,7 @@ use Rattle.session_core.specs.declared.session.Session.{Session}
 use Rattle.session_core.specs.State.{State, session_at, seen, reader_of}
 use Rattle.session_core.specs.Agrees.{Agrees, Follows}
 use Rattle.session_core.specs.Refuses.{RefusesReady}
+use Rattle.session_core.specs.Exact.{Outcome}
 
 -- the session is open, has not failed, and reads this row of the key, or none
 pub record Reads (st : State) (s : ℕ) (e : Session) (key : ℕ) (found : Option Row) : Type 0 where
@@ -75,7 +76,7 @@ Tries h h' e e' row (Err fault) = Keeps h h' × SameSession e e'
 -- the session is open
 abbrev pub TriesWrite : HeapView → HeapView → Option Session → Option Session → Row → Result (Unit {0}) WriteFault → Type 0
 TriesWrite h h' None now row r = ⊥
-TriesWrite h h' (Some e) now row r = (e' : Session) × (now ≡ Some e') × Tries h h' e e' row r
+TriesWrite h h' (Some e) now row r = (e' : Session) × (now ≡ Some e') × Tries h h' e e' row r × Outcome h e row r
 
 abbrev pub reply_for : Result (Unit {0}) WriteFault → Reply
 reply_for (Ok u) = Done

@@ -1,12 +1,13 @@
 //! A session begins.
 
-ghost use Rattle.std.specs.Prelude.{◌≡◌, IfOk};
+ghost use Rattle.std.specs.Prelude.{◌≡◌, ◌<◌, length, IfOk, OnErr};
 ghost use Rattle.snapshot.specs.Snap.{taken};
 ghost use Rattle.xid_circle.specs.Circle.{IsNormal};
 ghost use Rattle.commit_status.specs.Window.{next_id};
 ghost use Rattle.session_core.specs.State.{owns_of};
 ghost use Rattle.session_relation.specs.declared.step.Step.{Step};
 ghost use Rattle.session_core.specs.Agrees.{Follows};
+ghost use Rattle.session_core.specs.Exact.{MustList, Exact};
 
 use crate::engine::Engine;
 use crate::session::Session;
@@ -22,12 +23,16 @@ fn take_snapshot(
     sessions: &[Option<Session>],
 ) -> Result<Snapshot, AllocError>
     requires { IsNormal next.0 }
-    ensures { IfOk result (λ s. s ≡ taken next.0 (owns_of sessions.now)) }
+    ensures ok { IfOk result (λ s. s ≡ taken next.0 (owns_of sessions.now)) }
+    ensures err { OnErr result (8 < length (taken next.0 (owns_of sessions.now)).listed) }
 {
     let mut snapshot = Snapshot::at(alloc, next);
     for session in sessions {
         if let Some(session) = session {
-            snapshot.list(&session.own)?;
+            match snapshot.list(&session.own) {
+                Ok(()) => {}
+                Err(fault) => return Err(fault),
+            }
         }
     }
     Ok(snapshot)
@@ -35,14 +40,16 @@ fn take_snapshot(
 
 impl Engine {
     fn snapshot(&self) -> Result<Snapshot, AllocError>
-        ensures { IfOk result (λ s. s ≡ taken (next_id self.now.heap.table) (owns_of self.now.sessions)) }
+        ensures ok { IfOk result (λ s. s ≡ taken (next_id self.now.heap.table) (owns_of self.now.sessions)) }
+        ensures err { OnErr result (MustList self.now) }
     {
         take_snapshot(self.alloc, self.heap.table().next(), &self.sessions)
     }
 
     /// Opens the session: it reads what was committed by now. Refusals in order: NoSuchSession, AlreadyOpen.
     pub(crate) fn begin(&mut self, s: u8) -> Reply
-        ensures { Follows self.old (Step.Begin s) result self.new }
+        ensures follows { Follows self.old (Step.Begin s) result self.new }
+        ensures exact { Exact self.old (Step.Begin s) result self.new }
     {
         match self.opened(s) {
             Ok(_) => Reply::Refused(Refusal::AlreadyOpen),

@@ -3,6 +3,7 @@
 ghost use Rattle.std.specs.Prelude.{◌≡◌};
 ghost use Rattle.session_relation.specs.declared.step.Step.{Step};
 ghost use Rattle.session_core.specs.Agrees.{Follows};
+ghost use Rattle.session_core.specs.Exact.{Exact};
 
 use crate::engine::Engine;
 use commit_status::Status;
@@ -12,7 +13,8 @@ impl Engine {
     /// Makes what the session wrote part of the history, unless it has failed, and closes it. Refusals in order:
     /// NoSuchSession, NotOpen. It takes no memory.
     pub(crate) fn commit(&mut self, s: u8) -> Reply
-        ensures { Follows self.old (Step.Commit s) result self.new }
+        ensures follows { Follows self.old (Step.Commit s) result self.new }
+        ensures exact { Exact self.old (Step.Commit s) result self.new }
     {
         let failed = match self.opened(s) {
             Ok(session) => session.failed,
@@ -29,7 +31,8 @@ impl Engine {
 
     /// Drops what the session wrote, and closes it. Refusals in order: NoSuchSession, NotOpen. It takes no memory.
     pub(crate) fn abort(&mut self, s: u8) -> Reply
-        ensures { Follows self.old (Step.Abort s) result self.new }
+        ensures follows { Follows self.old (Step.Abort s) result self.new }
+        ensures exact { Exact self.old (Step.Abort s) result self.new }
     {
         match self.opened(s) {
             Ok(_) => {}

@@ -3,6 +3,7 @@
 ghost use Rattle.std.specs.Prelude.{◌≡◌};
 ghost use Rattle.session_relation.specs.declared.step.Step.{Step};
 ghost use Rattle.session_core.specs.Agrees.{Follows};
+ghost use Rattle.session_core.specs.Exact.{Exact};
 
 use crate::engine::Engine;
 use session_relation::Reply;
@@ -11,7 +12,8 @@ impl Engine {
     /// The row of the key that the session reads. Refusals in order: NoSuchSession, NotOpen, Failed. It takes no
     /// memory.
     pub(crate) fn get(&self, s: u8, key: u64) -> Reply
-        ensures { Follows self.now (Step.Get s key) result self.now }
+        ensures follows { Follows self.now (Step.Get s key) result self.now }
+        ensures exact { Exact self.now (Step.Get s key) result self.now }
     {
         match self.ready(s) {
             Ok(session) => Reply::Found(self.heap.row(key, &session.snapshot, &session.own)),

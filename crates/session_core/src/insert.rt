@@ -8,6 +8,7 @@ ghost use Rattle.heap_write.specs.Heap.{Keeps};
 ghost use Rattle.session_core.specs.State.{session_at};
 ghost use Rattle.session_core.specs.Keeps.{open_at};
 ghost use Rattle.session_core.specs.Agrees.{Follows};
+ghost use Rattle.session_core.specs.Exact.{Outcome, ExactInsert, Exact};
 ghost use Rattle.session_core.specs.Writes.{MayInsert, Hinders, SameSession, Wrote, FollowsInsert, TriesWrite, refusal_for, reply_for};
 
 use crate::engine::Engine;
@@ -54,6 +55,7 @@ fn write_row(heap: &mut HeapState, session: &mut Session, row: Row) -> Result<()
     ensures ok { OnOk result (Wrote heap.old heap.new session.old session.new row) }
     ensures err { OnErr result (Keeps heap.old heap.new) }
     ensures same { OnErr result (SameSession session.old session.new) }
+    ensures exact { Outcome heap.old session.old row result }
 {
     match session.own.first() {
         Some(x) => match heap.insert(Some(x), row) {
@@ -62,7 +64,10 @@ fn write_row(heap: &mut HeapState, session: &mut Session, row: Row) -> Result<()
         },
         None => {
             if session.own.make_room(1).is_err() {
-                return Err(WriteFault::NoMemory);
+                return Err(match heap.lacks(None, &row) {
+                    Some(fault) => fault,
+                    None => WriteFault::NoMemory,
+                });
             }
             match heap.insert(None, row) {
                 Ok(x) => {
@@ -139,7 +144,8 @@ impl Engine {
     fn write(&mut self, s: u8, row: Row) -> Reply
         requires within { s < 64 }
         requires may { MayInsert self.old s row.key }
-        ensures { FollowsInsert self.old s row result self.new }
+        ensures follows { FollowsInsert self.old s row result self.new }
+        ensures exact { ExactInsert self.old s row result self.new }
     {
         self.heap.table().is_window();
         let outcome = write_open(&mut self.heap, &mut self.sessions[s as usize], row);
@@ -149,7 +155,8 @@ impl Engine {
     /// Writes a row that is not too large.
     fn insert_row(&mut self, s: u8, row: Row) -> Reply
         requires { s < 64 }
-        ensures { FollowsInsert self.old s row result self.new }
+        ensures follows { FollowsInsert self.old s row result self.new }
+        ensures exact { ExactInsert self.old s row result self.new }
     {
         match self.hindrance(s, row.key) {
             None => self.write(s, row),
@@ -164,10 +171,10 @@ impl Engine {
     }
 
     /// Writes a row of a key that has none. Refusals in order: NoSuchSession, NotOpen, Failed, TooLarge,
-    /// AlreadyThere, Conflict, Busy, NeedsFreeze, NoRoom; NoMemory may stand in place of each of them where memory
-    /// was refused.
+    /// AlreadyThere, Conflict, Busy, NeedsFreeze, NoRoom, NoMemory.
     pub(crate) fn insert(&mut self, s: u8, row: RowIn) -> Reply
-        ensures { Follows self.old (Step.Insert s row) result self.new }
+        ensures follows { Follows self.old (Step.Insert s row) result self.new }
+        ensures exact { Exact self.old (Step.Insert s row) result self.new }
     {
         match self.ready(s) {
             Ok(_) => {}

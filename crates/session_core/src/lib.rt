@@ -6,6 +6,7 @@
 #![tactic(auto)]
 
 mod begin;
+mod cleaning;
 mod commit;
 mod engine;
 mod get;

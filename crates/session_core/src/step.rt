@@ -4,6 +4,7 @@ ghost use Rattle.std.specs.Prelude.{◌≡◌, MatchResult, Some};
 ghost use Rattle.history.specs.World.{World, OpenSession, view};
 ghost use Rattle.session_relation.specs.Allowed.{AllowsClosed};
 ghost use Rattle.session_core.specs.Agrees.{Agrees, Follows};
+ghost use Rattle.session_core.specs.Exact.{Exact};
 
 use crate::engine::Engine;
 use session_relation::{Refusal, Reply, Row, Step};
@@ -12,7 +13,8 @@ impl Engine {
     /// Does one step, and gives its reply: whatever world of the history the engine agrees with, the history allows
     /// the reply, and the engine agrees with the next world.
     pub fn step(&mut self, step: Step) -> Reply
-        ensures { Follows self.old step result self.new }
+        ensures follows { Follows self.old step result self.new }
+        ensures exact { Exact self.old step result self.new }
     {
         match step {
             Step::Begin(s) => self.begin(s),
@@ -20,6 +22,7 @@ impl Engine {
             Step::Insert(s, row) => self.insert(s, row),
             Step::Commit(s) => self.commit(s),
             Step::Abort(s) => self.abort(s),
+            Step::Prune(page) => self.prune(page),
         }
     }
 

@@ -1,7 +1,7 @@
 //! Sessions on one table, each reply reckoned by hand.
 
 use crate::{Engine, Refusal, Reply, RowIn, RunFault, Settings, SettingsFault, Step, run};
-use page_slots::Page;
+use page_slots::{Page, Slot};
 use std::alloc::Global;
 use std::test::Fail;
 use xid_circle::Xid;
@@ -65,6 +65,31 @@ fn a_failed_session_still_reads(rt: HostRuntime) -> Result<(), Fail> {
     assert!(rt; matches!(engine.step(Step::Begin(1)), Reply::Done));
     assert!(rt; has_key(engine.read(1, 7).ok().ok_or("not open")?, 7));
     assert!(rt; matches!(engine.step(Step::Abort(1)), Reply::RolledBack));
+    Ok(())
+}
+
+#[test]
+fn what_was_aborted_is_pruned(rt: HostRuntime) -> Result<(), Fail> {
+    let mut engine = Engine::new(rt.alloc(), SETTINGS).ok().ok_or("no engine")?;
+    assert!(rt;
+        matches!(
+            engine.step(Step::Prune(0)),
+            Reply::Refused(Refusal::NoSuchPage)
+        )
+    );
+    assert!(rt; matches!(engine.step(Step::Begin(0)), Reply::Done));
+    assert!(rt; matches!(engine.step(Step::Begin(1)), Reply::Done));
+    assert!(rt; matches!(engine.step(insert(rt.alloc(), 0, 7)), Reply::Done));
+    assert!(rt; matches!(engine.step(insert(rt.alloc(), 1, 8)), Reply::Done));
+    assert!(rt; matches!(engine.step(Step::Abort(0)), Reply::RolledBack));
+    assert!(rt; matches!(engine.step(Step::Prune(0)), Reply::Done));
+    let page = engine.page(0).ok_or("no page")?;
+    assert!(rt; matches!(page.slot(1), Some(Slot::Dead)));
+    assert!(rt; matches!(page.slot(2), Some(Slot::Normal(_))));
+    // two inserts and the slot that died
+    assert_eq!(rt; page.change(), 3);
+    let row = engine.read(1, 8).ok().ok_or("no session")?;
+    assert!(rt; has_key(row, 8));
     Ok(())
 }
 

@@ -1,30 +1,30 @@
 -- A session commits: all its ids at once.
-use Rattle.std.proofs.Common.{◌≡◌, ◌≢◌, ℕ, List, [], ◌∷◌, ◌++◌, length, Option, Some, None, Bool, true, false, refl, sym, ap, ◌∙◌, subst, ◌⊎◌, inl, inr}
+use Rattle.std.proofs.Common.{◌≡◌, ◌≢◌, ℕ, List, [], ◌∷◌, ◌++◌, length, Option, Some, None, false, refl, sym, ap, ◌∙◌, subst, ◌⊎◌, inl, inr}
 use Rattle.std.specs.Prelude.{IsSome, Contains}
-use Rattle.std.proofs.lemmas.Bool.{both_ways, cases_Bool}
+use Rattle.std.proofs.lemmas.Bool.{both_ways}
 use Rattle.std.specs.Option.{is_some}
 use Rattle.std.proofs.lemmas.Option.{same_Some, none-some}
 use Rattle.xid_circle.specs.declared.Tid.{Tid}
 use Rattle.tuple_header.specs.declared.version.Row.{Row}
 use Rattle.tuple_header.specs.Version.{Version}
 use Rattle.commit_status.specs.declared.status.Status.{Status}
-use Rattle.commit_status.specs.declared.status.Status.TheVariants.{InProgress, Committed, Aborted}
+use Rattle.commit_status.specs.declared.status.Status.TheVariants.{Committed}
 use Rattle.snapshot.specs.Snap.{Snap}
-use Rattle.history.specs.History.{Transaction, committed, written, own_or, IsLate}
-use Rattle.history.specs.World.{World, OpenSession, joined, own_write, Holds}
+use Rattle.history.specs.History.{Transaction, committed, own_or}
+use Rattle.history.specs.World.{World, OpenSession, joined, own_write}
 use Rattle.history.specs.Moves.{aborted, transaction_of, committed_by, appended}
 use Rattle.history.proofs.HistoryLemmas.{at_same, at_other, committed-push_all}
 use Rattle.session_relation.specs.Heap.{Session, Heap}
-use Rattle.session_relation.specs.Visible.{IsCommitted, IsActive, Sees, Reads, by_itself, by_others, VisibleBy, IsVisible, Touches, made_by, deleted_by, At, maker, deleter}
-use Rattle.session_relation.specs.Changes.{Finishes, SameSight}
-use Rattle.session_relation.specs.Agrees.{Shows, ReaderAgrees, SessionAgrees, Agrees}
+use Rattle.session_relation.specs.Visible.{IsCommitted, Sees, Reads, by_itself, by_others, VisibleBy, IsVisible, Touches, At}
+use Rattle.session_relation.specs.Changes.{Finishes}
+use Rattle.session_relation.specs.Agrees.{ReaderAgrees, SessionAgrees, Agrees}
 use Rattle.session_relation.proofs.ShowsLemmas.{Shows-by_key}
 use Rattle.session_relation.proofs.Statuses.{IsCommitted-finish_old, IsCommitted-commit_cases, IsCommitted-commit, IsActive-finish, given-finish}
 use Rattle.session_relation.proofs.Versions.{VisibleBy-same}
 use Rattle.session_relation.proofs.Readers.{Levels-top}
 use Rattle.session_relation.proofs.Traces.{Carries}
 use Rattle.session_relation.proofs.Others.{SessionAgrees-commit_other}
-use Rattle.session_relation.proofs.SessionsLemmas.{Matches, opened-change, idle-change, owned-change, apart-change, alone-change}
+use Rattle.session_relation.proofs.SessionsLemmas.{opened-change, idle-change, owned-change, apart-change, alone-change}
 use Rattle.session_relation.proofs.Steps.{OnlyIs, SameSights, waits-aborted}
 
 -- to be seen is decided: what cannot be unseen is seen

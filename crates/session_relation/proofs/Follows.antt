@@ -1,5 +1,5 @@
 -- The reply to each step is one that the history allows, and the engine agrees with the next world.
-use Rattle.std.proofs.Common.{◌≡◌, ◌≢◌, ℕ, ◌<◌, ◌≤◌, List, [], ◌∷◌, ◌++◌, length, slice_get, Option, Some, None, Bool, true, false, refl, sym, ap, ◌∙◌, subst, ◌⊎◌, inl, inr}
+use Rattle.std.proofs.Common.{◌≡◌, ◌≢◌, ℕ, ◌<◌, ◌≤◌, List, [], ◌∷◌, ◌++◌, length, slice_get, Option, Some, None, true, false, refl, sym, ap, ◌∙◌, subst, ◌⊎◌}
 use Rattle.std.specs.Prelude.{IsSome, Contains}
 use Rattle.std.specs.Option.{option_map}
 use Rattle.std.proofs.lemmas.Option.{same_Some, none-some}
@@ -9,29 +9,28 @@ use Rattle.tuple_header.specs.Version.{Version}
 use Rattle.commit_status.specs.declared.status.Status.{Status}
 use Rattle.commit_status.specs.declared.status.Status.TheVariants.{InProgress, Committed, Aborted}
 use Rattle.snapshot.specs.Snap.{Snap}
-use Rattle.history.specs.History.{Write, Transaction, reading, IsLate}
-use Rattle.history.specs.World.{World, OpenSession, joined, own_write, view, Holds, IsReady, IsWriter, MayWrite, IsBlocked}
-use Rattle.history.specs.Moves.{put, stepped, begun, change, with_row, as_failed, aborted, committed_by}
-use Rattle.session_relation.specs.declared.step.Step.{Step}
-use Rattle.session_relation.specs.declared.step.Step.TheVariants.{Begin, Get, Insert, Commit, Abort}
-use Rattle.session_relation.specs.declared.reply.Reply.{Reply}
+use Rattle.history.specs.History.{Write, Transaction, IsLate}
+use Rattle.history.specs.World.{World, OpenSession, own_write, view, Holds, IsWriter, MayWrite}
+use Rattle.history.specs.Moves.{put, stepped, with_row, as_failed}
+use Rattle.session_relation.specs.declared.step.Step.TheVariants.{Begin, Get, Insert, Commit, Abort, Prune}
 use Rattle.session_relation.specs.declared.reply.Reply.TheVariants.{Done, Found, RolledBack, Refused}
 use Rattle.session_relation.specs.declared.reply.Reply.TheVariants as reply
 use Rattle.session_relation.specs.declared.reply.Refusal.{Refusal}
-use Rattle.session_relation.specs.declared.reply.Refusal.TheVariants.{NotOpen, AlreadyOpen, Failed, AlreadyThere, Conflict, Busy, TooLarge, NoRoom, NeedsFreeze, NoMemory, NoSuchSession}
+use Rattle.session_relation.specs.declared.reply.Refusal.TheVariants.{NotOpen, AlreadyOpen, Failed, AlreadyThere, Conflict, Busy, TooLarge, NoRoom, NeedsFreeze, NoMemory, NoSuchPage, NoSuchSession}
 use Rattle.session_relation.specs.Words.{RowText, FitsRow, row_of}
-use Rattle.session_relation.specs.Allowed.{AllowsClosed, AllowsUnready, AllowsInsert, IsInsert, Allows, next, session_of}
+use Rattle.session_relation.specs.Allowed.{AllowsClosed, AllowsUnready, AllowsInsert, IsInsert, Allows, next}
 use Rattle.session_relation.specs.Heap.{Session, Heap}
-use Rattle.session_relation.specs.Visible.{IsFresh, IsActive, IsVisible, Sees, Touches, At, SomeVersion}
-use Rattle.session_relation.specs.Changes.{Adds, Gives, Finishes}
+use Rattle.session_relation.specs.Visible.{IsFresh, IsVisible, Sees}
+use Rattle.session_relation.specs.Changes.{Adds, Gives, Finishes, Removes, IsPast}
 use Rattle.session_relation.specs.Agrees.{Agrees, SessionAgrees, LevelsAgree, Shows}
-use Rattle.session_relation.specs.Finds.{Finds, IsForeign, IsLateFor, IsHeldBy, Begins, Free, Follows}
+use Rattle.session_relation.specs.Finds.{Finds, IsLateFor, IsHeldBy, Begins, Free, Follows}
 use Rattle.std.proofs.lemmas.List.Elements.{Contains-push}
 use Rattle.session_relation.proofs.Statuses.{none_given, some_of}
 use Rattle.session_relation.proofs.Readers.{IsNew, Levels-top}
 use Rattle.session_relation.proofs.Itself.{IsCurrent, new_session}
+use Rattle.session_relation.proofs.Pruning.{Agrees-prune}
 use Rattle.session_relation.proofs.Steps.{OnlyIs, SameSights, waits-put, Agrees-begin, Agrees-fail, Agrees-give, Agrees-insert, Agrees-abort}
-use Rattle.session_relation.proofs.Commit.{committed-is, with_transaction, Agrees-commit}
+use Rattle.session_relation.proofs.Commit.{committed-is, Agrees-commit}
 
 -- a step that only passes
 pub Agrees-stepped : (h : Heap) (w : World) (s : ℕ) → Agrees h w → Agrees h (stepped w s)
@@ -70,6 +69,7 @@ allows_closed h w s TooLarge agrees is = absurd is
 allows_closed h w s NoRoom agrees is = absurd is
 allows_closed h w s NeedsFreeze agrees is = absurd is
 allows_closed h w s NoMemory agrees is = absurd is
+allows_closed h w s NoSuchPage agrees is = absurd is
 
 allows_unready : (h : Heap) (w : World) (s : ℕ) (r : Refusal) → Agrees h w → IsUnready h s r → AllowsUnready w s r
 allows_unready h w s Failed agrees is = let open_ = agrees.opened s is.0 is.1 in (open_.0, open_.1, sym open_.2.same_failed ∙ is.2)
@@ -83,6 +83,7 @@ allows_unready h w s TooLarge agrees is = absurd is
 allows_unready h w s NoRoom agrees is = absurd is
 allows_unready h w s NeedsFreeze agrees is = absurd is
 allows_unready h w s NoMemory agrees is = absurd is
+allows_unready h w s NoSuchPage agrees is = absurd is
 
 unready_insert : (h : Heap) (w : World) (s : ℕ) (row : RowText) (r : Refusal) → Agrees h w → IsUnready h s r → AllowsInsert w s row r × Agrees h (next w (Insert s row) (Refused r))
 unready_insert h w s row Failed agrees is = (allows_unready h w s Failed agrees is, Agrees-stepped h w s agrees)
@@ -96,6 +97,7 @@ unready_insert h w s row TooLarge agrees is = absurd is
 unready_insert h w s row NoRoom agrees is = absurd is
 unready_insert h w s row NeedsFreeze agrees is = absurd is
 unready_insert h w s row NoMemory agrees is = absurd is
+unready_insert h w s row NoSuchPage agrees is = absurd is
 
 -- Refusals before a step is tried.
 
@@ -271,8 +273,9 @@ pub Follows-no_room : (h : Heap) (s : ℕ) (e : Session) (row : RowText) → Fre
 Follows-no_room h s e row free w agrees =
     (((agrees.opened s e free.begins.at).0, is_insert h w s e row free.begins agrees, may_write h w s e row free agrees), Agrees-stepped h w s agrees)
 
-pub Follows-no_memory : (h : Heap) (s : ℕ) (row : RowText) → Follows h (Insert s row) (Refused NoMemory) h
-Follows-no_memory h s row w agrees = (tt, Agrees-stepped h w s agrees)
+pub Follows-no_memory : (h : Heap) (s : ℕ) (e : Session) (row : RowText) → Free h s e row → Follows h (Insert s row) (Refused NoMemory) h
+Follows-no_memory h s e row free w agrees =
+    (((agrees.opened s e free.begins.at).0, is_insert h w s e row free.begins agrees, may_write h w s e row free agrees), Agrees-stepped h w s agrees)
 
 -- The row is written under an id that the session has.
 
@@ -337,6 +340,15 @@ Follows-insert_given h s e row x place new store' status' sees' session' free on
       newest = λ before is among. none_given (h.status x) gives.fresh
           (some_of InProgress (h.status x) (mine.own_active x (saved_within h.status h.version w.history (h.sees e.snapshot) m.start e.own e.saved m.levels before mine.levels is x among)));
     }
+
+-- Cleaning.
+
+pub Follows-prune : (h : Heap) (p : ℕ) (store' : Tid → Option Version) → Removes h.version store' (IsPast h.status h.sees h.session)
+    → Follows h (Prune p) Done (record h { version = store' })
+Follows-prune h p store' removes w agrees = (tt, Agrees-prune h w store' removes agrees)
+
+pub Follows-unpruned : (h : Heap) (p : ℕ) (r : Refusal) → ((w : World) → Allows w (Prune p) (Refused r)) → Follows h (Prune p) (Refused r) h
+Follows-unpruned h p r allows w agrees = (allows w, agrees)
 
 -- the same sessions are seen, session by session
 pub Agrees-sessions : (h : Heap) (w : World) (session' : ℕ → Option Session) → ((s : ℕ) → session' s ≡ h.session s) → Agrees h w → Agrees (record h { session = session' }) w

@@ -1,26 +1,25 @@
 -- What each step of a session does to its own agreement.
-use Rattle.std.proofs.Common.{◌≡◌, ◌≢◌, ℕ, ◌<◌, List, [], ◌∷◌, ◌++◌, length, Option, Some, None, Bool, true, false, refl, sym, ap, ◌∙◌, subst, ◌⊎◌, inl, inr, arith, slice_get}
+use Rattle.std.proofs.Common.{◌≡◌, ℕ, ◌<◌, List, [], ◌∷◌, ◌++◌, length, Option, Some, None, true, false, refl, sym, subst, inl, inr, arith, slice_get}
 use Rattle.std.specs.Prelude.{IsSome, Contains}
 use Rattle.std.proofs.lemmas.Bool.{cases_eq}
-use Rattle.std.proofs.lemmas.Option.{same_Some, none-some}
-use Rattle.std.proofs.lemmas.List.Elements.{Contains-push_cases, Contains-append_left, Contains-push}
+use Rattle.std.proofs.lemmas.List.Elements.{Contains-push_cases, Contains-append_left}
 use Rattle.xid_circle.specs.declared.Tid.{Tid}
 use Rattle.tuple_header.specs.Version.{Version}
 use Rattle.commit_status.specs.declared.status.Status.{Status}
-use Rattle.commit_status.specs.declared.status.Status.TheVariants.{InProgress, Committed, Aborted}
+use Rattle.commit_status.specs.declared.status.Status.TheVariants.{InProgress, Committed}
 use Rattle.snapshot.specs.Snap.{Snap}
 use Rattle.history.specs.History.{Write, Transaction, committed, written, reading, IsLate}
-use Rattle.history.specs.World.{World, OpenSession, joined, own_write}
+use Rattle.history.specs.World.{World, OpenSession, joined}
 use Rattle.history.specs.Moves.{add_write, with_row, without_row, as_failed}
 use Rattle.history.proofs.HistoryLemmas.{IsLate-now, joined-add_write}
 use Rattle.session_relation.specs.Heap.{Session}
-use Rattle.session_relation.specs.Visible.{IsFresh, IsCommitted, IsActive, Sees, Reads, by_itself, by_others, VisibleBy, IsVisible, Touches, IsOwn, At, maker, deleter}
+use Rattle.session_relation.specs.Visible.{IsFresh, IsCommitted, IsActive, Sees, Reads, by_itself, by_others, VisibleBy, IsVisible, Touches, At, maker, deleter}
 use Rattle.session_relation.specs.Changes.{Adds, Alters, Gives, SameSight}
 use Rattle.session_relation.specs.Agrees.{Shows, ReaderAgrees, LevelsAgree, SessionAgrees}
 use Rattle.session_relation.proofs.ShowsLemmas.{Shows-same}
 use Rattle.session_relation.proofs.Statuses.{keeps-give, none_given, IsCommitted-give, IsActive-give_cases}
 use Rattle.session_relation.proofs.Versions.{VisibleBy-same}
-use Rattle.session_relation.proofs.Readers.{IsNew, IsDeleted, IsIdle, ReaderAgrees-same, ReaderAgrees-add_other, ReaderAgrees-delete_other, ReaderAgrees-insert, ReaderAgrees-delete, Levels-map, wrote_before}
+use Rattle.session_relation.proofs.Readers.{IsNew, IsDeleted, ReaderAgrees-same, ReaderAgrees-add_other, ReaderAgrees-delete_other, ReaderAgrees-insert, ReaderAgrees-delete, Levels-map, wrote_before}
 use Rattle.session_relation.proofs.Traces.{TracesAgree-same, TracesAgree-add, TracesAgree-delete, unseen_still}
 use Rattle.session_relation.proofs.Others.{same_reader, reads_before}
 

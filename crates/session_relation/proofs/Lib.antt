@@ -7,6 +7,7 @@ pub mod Traces
 pub mod Others
 pub mod Itself
 pub mod Steps
+pub mod Pruning
 pub mod Commit
 pub mod Runs
 pub mod Follows

@@ -1,15 +1,15 @@
 -- What each step does to the agreement of another session.
-use Rattle.std.proofs.Common.{◌≡◌, ◌≢◌, ℕ, ◌≤◌, List, [], ◌∷◌, ◌++◌, length, Option, Some, None, Bool, true, false, refl, sym, ap, ◌∙◌, subst, ◌⊎◌, inl, inr, arith, length-append}
+use Rattle.std.proofs.Common.{◌≡◌, ℕ, List, [], ◌∷◌, ◌++◌, Option, refl, subst, inl, inr, arith, length-append}
 use Rattle.std.specs.Prelude.{IsSome, Contains}
 use Rattle.xid_circle.specs.declared.Tid.{Tid}
 use Rattle.tuple_header.specs.Version.{Version}
 use Rattle.commit_status.specs.declared.status.Status.{Status}
 use Rattle.commit_status.specs.declared.status.Status.TheVariants.{InProgress, Committed, Aborted}
-use Rattle.history.specs.History.{Write, Transaction, committed, written, IsLate}
+use Rattle.history.specs.History.{Write, Transaction, committed, written}
 use Rattle.history.specs.World.{OpenSession, own_write}
 use Rattle.history.proofs.HistoryLemmas.{committed-push_before, IsLate-push_cases}
 use Rattle.session_relation.specs.Heap.{Session}
-use Rattle.session_relation.specs.Visible.{IsCommitted, IsActive, Sees, Reads, by_itself, by_others, Touches, At, deleter}
+use Rattle.session_relation.specs.Visible.{IsCommitted, IsActive, Sees, Reads, by_itself, by_others}
 use Rattle.session_relation.specs.Changes.{Adds, Alters, Gives, Finishes, SameSight}
 use Rattle.session_relation.specs.Agrees.{ReaderAgrees, SessionAgrees}
 use Rattle.session_relation.proofs.Statuses.{keeps-give, IsCommitted-give, IsActive-give_cases, IsCommitted-finish_old, IsCommitted-commit_cases, IsCommitted-abort, IsActive-finish, IsActive-finish_other, Reads-status}

@@ -1,5 +1,5 @@
 -- What each step does to a reader's agreement.
-use Rattle.std.proofs.Common.{◌≡◌, ◌≢◌, ℕ, List, [], ◌∷◌, ◌++◌, Option, Some, None, Bool, refl, sym, ap, ◌∙◌, subst, ◌⊎◌, inl, inr}
+use Rattle.std.proofs.Common.{◌≡◌, ◌≢◌, ℕ, List, [], ◌∷◌, ◌++◌, Option, Some, None, refl, sym, ap, ◌∙◌, subst, inl, inr}
 use Rattle.std.specs.Prelude.{IsSome, Contains}
 use Rattle.std.proofs.lemmas.Bool.{cases_eq}
 use Rattle.std.proofs.lemmas.Option.{same_Some, none-some}
@@ -11,9 +11,9 @@ use Rattle.history.specs.History.{Write, Transaction, committed, written, own_or
 use Rattle.history.specs.World.{joined}
 use Rattle.history.proofs.HistoryLemmas.{written-push, said-same, said-other}
 use Rattle.std.specs.Option.{option_or}
-use Rattle.session_relation.specs.Visible.{IsCommitted, IsActive, Sees, Reads, by_itself, by_others, VisibleBy, IsVisible, Touches, made_by, deleted_by, IsMissed, IsOwn, At, SomeVersion, maker, deleter}
+use Rattle.session_relation.specs.Visible.{IsCommitted, IsActive, Reads, by_itself, by_others, IsVisible, Touches, made_by, deleted_by, IsOwn, At, maker, deleter}
 use Rattle.session_relation.specs.Changes.{Adds, Alters}
-use Rattle.session_relation.specs.Agrees.{Shows, ReaderAgrees, LevelsAgree}
+use Rattle.session_relation.specs.Agrees.{ReaderAgrees, LevelsAgree}
 use Rattle.session_relation.proofs.ShowsLemmas.{Shows-same, Shows-add_unseen, Shows-add_seen, Shows-alter_same, Shows-alter_hidden}
 use Rattle.session_relation.proofs.Versions.{SomeVersion-adds, SomeVersion-alters, Adds-cases, Alters-cases, VisibleBy-same, active_unread}
 

@@ -1,11 +1,11 @@
 -- What a change of the versions, of the test or of the rows does to `Shows`.
-use Rattle.std.proofs.Common.{◌≡◌, ◌≢◌, ℕ, Option, Some, None, Bool, true, false, refl, sym, ap, ◌∙◌, subst, ◌⊎◌, inl, inr}
+use Rattle.std.proofs.Common.{◌≡◌, ◌≢◌, ℕ, Option, Some, None, Bool, true, false, refl, sym, ap, ◌∙◌, subst, inl, inr}
 use Rattle.std.proofs.lemmas.Bool.{cases_eq, cases_Bool}
 use Rattle.std.proofs.lemmas.Option.{none-some}
 use Rattle.xid_circle.specs.declared.Tid.{Tid}
 use Rattle.tuple_header.specs.declared.version.Row.{Row}
 use Rattle.tuple_header.specs.Version.{Version}
-use Rattle.session_relation.specs.Visible.{At, SomeVersion}
+use Rattle.session_relation.specs.Visible.{At}
 use Rattle.session_relation.specs.Changes.{Adds, Alters}
 use Rattle.session_relation.specs.Agrees.{Shows}
 use Rattle.session_relation.proofs.Versions.{Adds-cases, Adds-old, Alters-cases, Alters-same, SomeVersion-alters}

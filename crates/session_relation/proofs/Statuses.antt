@@ -1,12 +1,12 @@
 -- What giving and finishing ids does to each id.
 use Rattle.std.proofs.Common.{◌≡◌, ◌≢◌, ℕ, List, Option, Some, None, refl, sym, ap, ◌∙◌, subst, ◌⊎◌, inl, inr}
-use Rattle.std.specs.Prelude.{Contains, Bool, IsSome}
+use Rattle.std.specs.Prelude.{IsSome}
 use Rattle.std.proofs.lemmas.Bool.{cases_eq}
-use Rattle.std.proofs.lemmas.Option.{same_Some, none-some}
+use Rattle.std.proofs.lemmas.Option.{none-some}
 use Rattle.commit_status.specs.declared.status.Status.{Status}
 use Rattle.commit_status.specs.declared.status.Status.TheVariants.{InProgress, Committed, Aborted}
-use Rattle.session_relation.specs.Visible.{IsCommitted, IsAborted, IsActive, Reads, by_itself, by_others, Sees}
-use Rattle.session_relation.specs.Changes.{Gives, Finishes, SameSight}
+use Rattle.session_relation.specs.Visible.{IsCommitted, IsActive, Reads, by_itself, by_others}
+use Rattle.session_relation.specs.Changes.{Gives, Finishes}
 
 -- an id is given
 

@@ -1,5 +1,5 @@
 -- Each step keeps the engine's agreement with the model.
-use Rattle.std.proofs.Common.{◌≡◌, ◌≢◌, ℕ, ◌<◌, List, [], ◌∷◌, ◌++◌, length, Option, Some, None, Bool, true, false, cond, nat_eq, refl, sym, ap, ◌∙◌, subst, ◌⊎◌, inl, inr}
+use Rattle.std.proofs.Common.{◌≡◌, ◌≢◌, ℕ, List, [], ◌∷◌, ◌++◌, Option, Some, None, true, cond, nat_eq, refl, sym, ap, ◌∙◌, subst, ◌⊎◌, inl, inr}
 use Rattle.std.specs.Prelude.{IsSome, Contains}
 use Rattle.std.proofs.lemmas.Bool.{cases_eq}
 use Rattle.std.proofs.lemmas.Option.{same_Some, none-some}
@@ -9,16 +9,16 @@ use Rattle.tuple_header.specs.Version.{Version}
 use Rattle.commit_status.specs.declared.status.Status.{Status}
 use Rattle.commit_status.specs.declared.status.Status.TheVariants.{InProgress, Committed, Aborted}
 use Rattle.snapshot.specs.Snap.{Snap}
-use Rattle.history.specs.History.{Write, committed, written, reading, IsLate}
+use Rattle.history.specs.History.{Write, written, reading, IsLate}
 use Rattle.history.specs.World.{World, OpenSession, joined, own_write, Holds, empty}
 use Rattle.history.specs.Moves.{put, stepped, begun, with_row, as_failed, aborted}
 use Rattle.history.specs.Cursors.{kept_where}
 use Rattle.std.specs.Prelude.{not, ◌==◌}
 use Rattle.history.proofs.HistoryLemmas.{at_same, at_other, joined-add_write}
 use Rattle.session_relation.specs.Heap.{Session, Heap}
-use Rattle.session_relation.specs.Visible.{IsFresh, IsCommitted, IsActive, Sees, Reads, VisibleBy, Touches, made_by, deleted_by, At, maker, deleter}
+use Rattle.session_relation.specs.Visible.{IsFresh, IsCommitted, IsActive, Sees, Touches, deleter}
 use Rattle.session_relation.specs.Changes.{Adds, Gives, Finishes, SameSight}
-use Rattle.session_relation.specs.Agrees.{Shows, SessionAgrees, Agrees}
+use Rattle.session_relation.specs.Agrees.{SessionAgrees, Agrees}
 use Rattle.session_relation.proofs.ShowsLemmas.{Shows-same, Shows-add_unseen}
 use Rattle.session_relation.proofs.Statuses.{keeps-give, none_given, some_of, IsCommitted-give, IsActive-give_cases, IsCommitted-finish_old, IsCommitted-abort, IsActive-finish, given-finish, given-give}
 use Rattle.session_relation.proofs.Versions.{VisibleBy-same, Adds-cases, active_not_committed}

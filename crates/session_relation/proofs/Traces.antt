@@ -1,15 +1,15 @@
 -- What each step does to the traces of what committed late.
-use Rattle.std.proofs.Common.{◌≡◌, ◌≢◌, ℕ, ◌≤◌, List, [], ◌∷◌, ◌++◌, length, Option, Some, None, Bool, true, false, refl, sym, ap, ◌∙◌, subst, ◌⊎◌, inl, inr}
+use Rattle.std.proofs.Common.{◌≡◌, ℕ, ◌≤◌, List, [], ◌∷◌, ◌++◌, length, Option, Some, sym, ap, ◌∙◌, subst, inl, inr}
 use Rattle.std.specs.Prelude.{IsSome, Contains}
-use Rattle.std.proofs.lemmas.Option.{same_Some, none-some}
+use Rattle.std.proofs.lemmas.Option.{same_Some}
 use Rattle.xid_circle.specs.declared.Tid.{Tid}
 use Rattle.tuple_header.specs.Version.{Version}
 use Rattle.tuple_header.specs.declared.version.Row.{Row}
 use Rattle.commit_status.specs.declared.status.Status.{Status}
-use Rattle.commit_status.specs.declared.status.Status.TheVariants.{InProgress, Committed, Aborted}
+use Rattle.commit_status.specs.declared.status.Status.TheVariants.{InProgress, Committed}
 use Rattle.history.specs.History.{Transaction, written, IsLate}
 use Rattle.history.proofs.HistoryLemmas.{IsLate-push_old, IsLate-push_new, IsLate-push_cases}
-use Rattle.session_relation.specs.Visible.{IsCommitted, IsActive, Sees, Touches, made_by, deleted_by, IsMissed, IsOwn, At, SomeVersion, maker, deleter}
+use Rattle.session_relation.specs.Visible.{IsCommitted, IsActive, Sees, Touches, made_by, deleted_by, IsMissed, IsOwn, At, SomeVersion, deleter}
 use Rattle.session_relation.specs.Changes.{Adds, Alters, Finishes, SameSight}
 use Rattle.session_relation.specs.Agrees.{TracesAgree}
 use Rattle.session_relation.proofs.Statuses.{IsCommitted-finish_old, IsCommitted-commit_cases, IsCommitted-commit}

@@ -1,13 +1,12 @@
 -- Places, and the versions that meet a test.
-use Rattle.std.proofs.Common.{◌≡◌, ◌≢◌, ℕ, ◌⊎◌, inl, inr, List, Option, Some, None, refl, sym, ap, ◌∙◌, subst}
-use Rattle.std.specs.Prelude.{Contains, Bool}
+use Rattle.std.proofs.Common.{◌≡◌, ◌≢◌, ℕ, ◌⊎◌, inl, inr, List, Option, sym, ap, ◌∙◌, subst}
+use Rattle.std.specs.Prelude.{Contains}
 use Rattle.std.proofs.lemmas.Bool.{cases_eq}
 use Rattle.std.proofs.lemmas.Option.{same_Some, none-some}
 use Rattle.xid_circle.specs.declared.Tid.{Tid}
 use Rattle.tuple_header.specs.Version.{Version}
 use Rattle.commit_status.specs.declared.status.Status.{Status}
-use Rattle.commit_status.specs.declared.status.Status.TheVariants.{InProgress, Committed, Aborted}
-use Rattle.session_relation.specs.Visible.{IsCommitted, IsActive, Sees, Reads, by_itself, by_others, VisibleBy, Touches, made_by, deleted_by, At, SomeVersion, maker, deleter}
+use Rattle.session_relation.specs.Visible.{IsCommitted, IsActive, Reads, by_itself, by_others, VisibleBy, Touches, made_by, deleted_by, At, SomeVersion}
 use Rattle.session_relation.specs.Changes.{Adds, Alters}
 
 -- two places are one or not

@@ -1,10 +1,9 @@
 -- When an engine, as its readers see it, agrees with a history that is never cleaned.
-use Rattle.std.specs.Prelude.{◌≡◌, ◌≢◌, ℕ, ◌<◌, ◌≤◌, Bool, false, List, [], ◌∷◌, length, Option, Some, None, IsSome, slice_get, Contains}
+use Rattle.std.specs.Prelude.{◌≡◌, ℕ, ◌≤◌, List, [], ◌∷◌, length, Option, Some, None, IsSome, Contains}
 use Rattle.xid_circle.specs.declared.Tid.{Tid}
 use Rattle.tuple_header.specs.declared.version.Row.{Row}
 use Rattle.tuple_header.specs.Version.{Version}
 use Rattle.commit_status.specs.declared.status.Status.{Status}
-use Rattle.snapshot.specs.Snap.{Snap}
 use Rattle.history.specs.History.{Write, Transaction, written, committed, reading, IsLate}
 use Rattle.history.specs.World.{World, OpenSession, joined, own_write, Holds}
 use Rattle.session_relation.specs.Heap.{Session, Heap}

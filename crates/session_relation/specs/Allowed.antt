@@ -1,26 +1,28 @@
 -- Which replies the history allows to a step, and what the world is after each.
-use Rattle.std.specs.Prelude.{◌≡◌, ℕ, ◌<◌, ◌≤◌, List, [], ◌∷◌, length, Some, None, Bool, true, IsSome}
+use Rattle.std.specs.Prelude.{◌≡◌, ℕ, ◌<◌, ◌≤◌, List, [], ◌∷◌, length, Option, Some, None, true, IsSome}
 use Rattle.history.specs.History.{IsLate}
 use Rattle.history.specs.World.{World, OpenSession, empty, view, IsReady, IsWriter, MayWrite, IsBlocked}
 use Rattle.history.specs.Moves.{stepped, begun, change, with_row, as_failed, aborted, committed_by}
 use Rattle.history.specs.Laws.{FirstCommitterWins, HeldInTime, HeldOnce}
 use Rattle.session_relation.specs.declared.step.Step.{Step}
-use Rattle.session_relation.specs.declared.step.Step.TheVariants.{Begin, Get, Insert, Commit, Abort}
+use Rattle.session_relation.specs.declared.step.Step.TheVariants.{Begin, Get, Insert, Commit, Abort, Prune}
 use Rattle.session_relation.specs.declared.reply.Reply.{Reply}
 use Rattle.session_relation.specs.declared.reply.Reply.TheVariants.{Done, Found, Committed, RolledBack, Refused}
 use Rattle.session_relation.specs.declared.reply.Refusal.{Refusal}
-use Rattle.session_relation.specs.declared.reply.Refusal.TheVariants.{NotOpen, AlreadyOpen, Failed, AlreadyThere, Conflict, Busy, TooLarge, NoRoom, NeedsFreeze, NoMemory, NoSuchSession}
+use Rattle.session_relation.specs.declared.reply.Refusal.TheVariants.{NotOpen, AlreadyOpen, Failed, AlreadyThere, Conflict, Busy, TooLarge, NoRoom, NeedsFreeze, NoMemory, NoSuchPage, NoSuchSession}
 use Rattle.session_relation.specs.Words.{RowText, FitsRow, row_of}
 
 abbrev pub IsOpen : World → ℕ → OpenSession → Type 0
 IsOpen w s m = w.session s ≡ Some m
 
-abbrev pub session_of : Step → ℕ
-session_of (Begin s) = s
-session_of (Get s k) = s
-session_of (Insert s row) = s
-session_of (Commit s) = s
-session_of (Abort s) = s
+-- whose step it is; cleaning is nobody's
+abbrev pub session_of : Step → Option ℕ
+session_of (Begin s) = Some s
+session_of (Get s k) = Some s
+session_of (Insert s row) = Some s
+session_of (Commit s) = Some s
+session_of (Abort s) = Some s
+session_of (Prune p) = None
 
 -- there is no such session, or it is not open
 abbrev pub AllowsClosed : World → ℕ → Refusal → Type 0
@@ -46,7 +48,7 @@ AllowsInsert w s row Conflict = (m : OpenSession) × IsInsert w s row m × IsLat
 AllowsInsert w s row (Busy o) = (m : OpenSession) × IsInsert w s row m × IsBlocked w s row.key o m
 AllowsInsert w s row NeedsFreeze = (m : OpenSession) × IsInsert w s row m × MayWrite w s row.key m
 AllowsInsert w s row NoRoom = (m : OpenSession) × IsInsert w s row m × MayWrite w s row.key m
-AllowsInsert w s row NoMemory = Unit {0}
+AllowsInsert w s row NoMemory = (m : OpenSession) × IsInsert w s row m × MayWrite w s row.key m
 AllowsInsert w s row refusal = AllowsUnready w s refusal
 
 -- the history allows the reply to the step
@@ -54,7 +56,7 @@ abbrev pub Allows : World → Step → Reply → Type 0
 Allows w (Begin s) Done = (s < 64) × (w.session s ≡ None)
 Allows w (Begin s) (Refused NoSuchSession) = 64 ≤ s
 Allows w (Begin s) (Refused AlreadyOpen) = (m : OpenSession) × IsOpen w s m
-Allows w (Begin s) (Refused NoMemory) = Unit {0}
+Allows w (Begin s) (Refused NoMemory) = (s < 64) × (w.session s ≡ None)
 Allows w (Get s k) (Found row) = (m : OpenSession) × IsReady w s m × (row ≡ view w.history m k)
 Allows w (Get s k) (Refused refusal) = AllowsUnready w s refusal
 Allows w (Insert s row) Done = (m : OpenSession) × IsInsert w s row m × MayWrite w s row.key m
@@ -64,9 +66,17 @@ Allows w (Commit s) RolledBack = (m : OpenSession) × IsOpen w s m × (m.failed 
 Allows w (Commit s) (Refused refusal) = AllowsClosed w s refusal
 Allows w (Abort s) RolledBack = (m : OpenSession) × IsOpen w s m
 Allows w (Abort s) (Refused refusal) = AllowsClosed w s refusal
+Allows w (Prune p) Done = Unit {0}
+Allows w (Prune p) (Refused NoSuchPage) = Unit {0}
+Allows w (Prune p) (Refused NoMemory) = Unit {0}
 Allows w step reply = ⊥
 
--- the world after the reply. A step that reads or is refused only ends the session's own wait
+-- a step that reads or is refused only ends the session's own wait
+abbrev pub passed : World → Option ℕ → World
+passed w None = w
+passed w (Some s) = stepped w s
+
+-- the world after the reply. Cleaning leaves it as it is
 abbrev pub next : World → Step → Reply → World
 next w (Begin s) Done = begun w s
 next w (Insert s row) Done = change w s (with_row (row_of row))
@@ -74,7 +84,7 @@ next w (Insert s row) (Refused Conflict) = change w s as_failed
 next w (Commit s) Committed = committed_by w s
 next w (Commit s) RolledBack = aborted w s
 next w (Abort s) RolledBack = aborted w s
-next w step reply = stepped w (session_of step)
+next w step reply = passed w (session_of step)
 
 -- the history allows the replies to the steps, one after another
 abbrev pub IsRun : World → List Step → List Reply → Type 0

@@ -1,10 +1,11 @@
 -- What the steps of an engine change of what its readers see.
-use Rattle.std.specs.Prelude.{◌⊎◌, ◌≡◌, ◌≢◌, ℕ, Bool, Option, Some, None}
+use Rattle.std.specs.Prelude.{◌⊎◌, ◌≡◌, ◌≢◌, ℕ, Option, Some, None}
 use Rattle.xid_circle.specs.declared.Tid.{Tid}
 use Rattle.tuple_header.specs.Version.{Version}
 use Rattle.commit_status.specs.declared.status.Status.{Status}
-use Rattle.commit_status.specs.declared.status.Status.TheVariants.{InProgress}
-use Rattle.session_relation.specs.Visible.{At, IsActive}
+use Rattle.snapshot.specs.Snap.{Snap}
+use Rattle.session_relation.specs.Heap.{Session}
+use Rattle.session_relation.specs.Visible.{At, IsActive, IsCommitted, IsAborted, Sees, maker, deleter}
 
 -- the version is put into a place that had none
 pub record Adds (store store' : Tid → Option Version) (p : Tid) (new : Version) : Type 0 where
@@ -17,6 +18,18 @@ pub record Alters (store store' : Tid → Option Version) (p : Tid) (v new : Ver
   pub before : At store p v
   pub here : At store' p new
   pub others : (q : Tid) → q ≢ p → store' q ≡ store q
+
+-- Nobody reads the version any more: who made it was rolled back, or who deleted it has committed and is seen by every
+-- open session. (The manual's "Routine Vacuuming": a version is removed once no transaction can see it.)
+pub data IsPast (status : ℕ → Option Status) (sees : Snap → ℕ → Type 0) (session : ℕ → Option Session) (v : Version) : Type 0 where
+  never_was : (x : ℕ) → maker v ≡ Some x → IsAborted status x → IsPast status sees session v
+  is_over : (y : ℕ) → deleter v ≡ Some y → IsCommitted status y → ((s : ℕ) (e : Session) → session s ≡ Some e → Sees (sees e.snapshot) y)
+      → IsPast status sees session v
+
+-- versions of P may go; no other does, and none comes or moves
+pub record Removes (store store' : Tid → Option Version) (P : Version → Type 0) : Type 0 where
+  pub kept : (p : Tid) (v : Version) → At store' p v → At store p v
+  pub gone : (p : Tid) (v : Version) → At store p v → At store' p v ⊎ P v
 
 -- the id is given, and is in progress
 pub record Gives (status status' : ℕ → Option Status) (x : ℕ) : Type 0 where

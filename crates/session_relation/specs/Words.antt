@@ -1,5 +1,5 @@
 -- What the words of a step mean.
-use Rattle.std.specs.Prelude.{◌≡◌, ℕ, ℤ, ◌<◌, ◌≤◌, ◌⊎◌, List, length}
+use Rattle.std.specs.Prelude.{ℕ, ℤ, ◌<◌, ◌≤◌, ◌⊎◌, List, length}
 use Rattle.tuple_header.specs.declared.version.Row.{Row}
 use Rattle.session_relation.specs.declared.settings.Settings.{Settings}
 use Rattle.session_relation.specs.declared.settings.SettingsFault.{SettingsFault}

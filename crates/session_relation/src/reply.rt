@@ -26,6 +26,8 @@ pub enum Refusal {
     NeedsFreeze,
     /// Memory was refused.
     NoMemory,
+    /// There are no more pages in use than the number that was named.
+    NoSuchPage,
     /// The session's number is over 63.
     NoSuchSession,
 }

@@ -21,7 +21,7 @@ impl Model for RowIn {
     ghost view = { λ r. record { key = r.key; cols = r.cols; body = r.body.items } };
 }
 
-/// One call of a session, which is named by its number, from 0 to 63.
+/// One call, most of a session, which is named by its number, from 0 to 63.
 #[derive(Debug, Drop)]
 pub enum Step {
     /// Opens the session: it reads what was committed by now.
@@ -34,6 +34,8 @@ pub enum Step {
     Commit(u8),
     /// Drops what the session wrote, and closes it.
     Abort(u8),
+    /// Takes from a page, counted from 0, what nobody can see any more.
+    Prune(u32),
 }
 
 impl RowIn {
@@ -60,6 +62,7 @@ impl Step {
             Step::Insert(s, row) => Ok(Step::Insert(*s, row.copy(alloc)?)),
             Step::Commit(s) => Ok(Step::Commit(*s)),
             Step::Abort(s) => Ok(Step::Abort(*s)),
+            Step::Prune(page) => Ok(Step::Prune(*page)),
         }
     }
 }

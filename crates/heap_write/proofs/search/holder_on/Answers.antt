@@ -1,4 +1,4 @@
-use Rattle.std.proofs.Common.{◌≡◌, ◌≤◌, ◌+◌, length, arith}
+use Rattle.std.proofs.Common.{◌+◌, arith}
 use Rattle.heap_write.specs.Search.{IsForeign}
 use Rattle.heap_write.proofs.SearchLemmas.{none-more, none-all, free-here, free-other}
 use Rattle.heap_write.proofs.search.holder_on.Goals as goal

@@ -1,4 +1,4 @@
-use Rattle.std.proofs.Common.{◌≡◌, ◌≤◌, ◌+◌, length, arith}
+use Rattle.std.proofs.Common.{◌+◌, arith}
 use Rattle.heap_write.specs.Search.{IsMissed}
 use Rattle.heap_write.proofs.SearchLemmas.{none-more, none-all, unmissed-here, unmissed-other}
 use Rattle.heap_write.proofs.search.is_late_on.Goals as goal

@@ -1,4 +1,4 @@
-use Rattle.std.proofs.Common.{◌≡◌, ℕ, sym, ◌∙◌, inl, inr, ◌⊎◌}
+use Rattle.std.proofs.Common.{ℕ, sym, ◌∙◌, inl, inr}
 use Rattle.commit_status.specs.Window.{IsCommitted}
 use Rattle.snapshot.specs.Snap.{Sees}
 use Rattle.heap_write.proofs.SearchLemmas.{none-missed, not-true}

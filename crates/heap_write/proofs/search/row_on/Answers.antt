@@ -1,4 +1,4 @@
-use Rattle.std.proofs.Common.{◌≡◌, ◌≤◌, ◌+◌, length, arith}
+use Rattle.std.proofs.Common.{◌+◌, arith}
 use Rattle.heap_write.specs.Search.{IsSeen}
 use Rattle.heap_write.proofs.SearchLemmas.{none-more, none-all, unseen-here, unseen-other}
 use Rattle.heap_write.proofs.search.row_on.Goals as goal

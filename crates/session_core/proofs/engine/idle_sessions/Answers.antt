@@ -1,4 +1,4 @@
-use Rattle.std.proofs.Common.{◌≡◌, ℕ, replicate, None, ap, ◌∙◌, arith}
+use Rattle.std.proofs.Common.{◌≡◌, replicate, None, ap, ◌∙◌, arith}
 use Rattle.session_core.proofs.engine.idle_sessions.Goals as goal
 
 pub returns : goal.returns

@@ -1,5 +1,5 @@
 use Rattle.session_core.proofs.Follows.{Follows-abort}
 use Rattle.session_core.proofs.engine.Engine.abort.Goals as goal
 
-pub returns : goal.returns
-returns c = Follows-abort c.args.self.now _ c.args.s c.in-Ok.field-0.now c.in-Ok.ensures.1 c.close.ensures
+pub returns-clause-follows : goal.returns-clause-follows
+returns-clause-follows c = Follows-abort c.args.self.now _ c.args.s c.in-Ok.field-0.now c.in-Ok.ensures.1 c.close.ensures

@@ -1,11 +1,10 @@
 use Rattle.std.proofs.Common.{◌≡◌, ℕ, ◌<◌, length, List, Option, Some, None, set, sym, ap, ◌∙◌, subst, refl, arith}
-use Rattle.std.specs.Prelude.{Contains}
 use Rattle.commit_status.specs.declared.status.Status.{Status}
 use Rattle.commit_status.specs.Window.{Window}
 use Rattle.commit_status.specs.Changes.{Finishes}
 use Rattle.session_core.specs.declared.session.Session.{Session}
 use Rattle.session_core.specs.Keeps.{EngineKeeps, open_at}
-use Rattle.session_core.specs.State.{State, session_at}
+use Rattle.session_core.specs.State.{State}
 use Rattle.session_core.specs.Changes.{Closes}
 use Rattle.session_core.proofs.StateLemmas.{open-read, keeps-close, keeps-shut}
 use Rattle.session_core.proofs.engine.Engine.close.Goals as goal

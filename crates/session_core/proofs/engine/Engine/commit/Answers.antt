@@ -1,8 +1,8 @@
 use Rattle.session_core.proofs.Follows.{Follows-commit, Follows-commit_failed}
 use Rattle.session_core.proofs.engine.Engine.commit.Goals as goal
 
-pub returns-then-failed : goal.returns-then-failed
-returns-then-failed c = Follows-commit_failed c.args.self.now _ c.args.s c.in-Ok.session.now c.in-Ok.ensures.1 c.if-failed.true c.close.ensures
+pub returns-then-failed-clause-follows : goal.returns-then-failed-clause-follows
+returns-then-failed-clause-follows c = Follows-commit_failed c.args.self.now _ c.args.s c.in-Ok.session.now c.in-Ok.ensures.1 c.if-failed.true c.close.ensures
 
-pub returns-else-failed : goal.returns-else-failed
-returns-else-failed c = Follows-commit c.args.self.now _ c.args.s c.in-Ok.session.now c.in-Ok.ensures.1 c.if-failed.false c.close-else-failed.ensures
+pub returns-else-failed-clause-follows : goal.returns-else-failed-clause-follows
+returns-else-failed-clause-follows c = Follows-commit c.args.self.now _ c.args.s c.in-Ok.session.now c.in-Ok.ensures.1 c.if-failed.false c.close-else-failed.ensures

@@ -1,6 +1,5 @@
-use Rattle.std.proofs.Common.{◌≡◌, ◌<◌, length, sym, ap, ◌∙◌, subst, arith}
+use Rattle.std.proofs.Common.{◌<◌, length, sym, ap, ◌∙◌, arith}
 use Rattle.std.specs.Option.{option_map}
-use Rattle.session_core.specs.Keeps.{EngineKeeps}
 use Rattle.session_core.specs.State.{State, session_at, put_session, as_failed}
 use Rattle.session_core.proofs.StateLemmas.{open-read, keeps-fail}
 use Rattle.session_core.proofs.engine.Engine.fail.Goals as goal

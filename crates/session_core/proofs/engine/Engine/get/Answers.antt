@@ -6,8 +6,8 @@ use Rattle.session_core.specs.State.{State}
 use Rattle.session_core.proofs.Writes.{Follows-get}
 use Rattle.session_core.proofs.engine.Engine.get.Goals as goal
 
-pub returns-in-Ok : goal.returns-in-Ok
-returns-in-Ok c =
+pub returns-in-Ok-clause-follows : goal.returns-in-Ok-clause-follows
+returns-in-Ok-clause-follows c =
     let e = c.in-Ok.session.now in
     let G : HeapView → Type 0 = λ h. MatchOption c.row.result (NoVersion (slots_of h) (IsSeen h.table e.snapshot e.own.ids c.args.key))
     (λ row. SomeVersion (slots_of h) (λ v. IsSeen h.table e.snapshot e.own.ids c.args.key v × (row ≡ v.row))) in

@@ -1,9 +1,7 @@
-use Rattle.std.proofs.Common.{◌≡◌, ℕ, List, Option, Some, None, ap, subst, sym, ◌∙◌}
-use Rattle.std.specs.Prelude.{Contains}
+use Rattle.std.proofs.Common.{◌≡◌, ℕ, Option, Some, None, ap, subst, sym, ◌∙◌}
 use Rattle.tuple_header.specs.declared.version.Row.{Row}
 use Rattle.heap_write.specs.Heap.{HeapView, slots_of}
 use Rattle.heap_write.specs.Search as search
-use Rattle.session_core.specs.declared.session.Session.{Session}
 use Rattle.session_core.specs.State.{State}
 use Rattle.session_core.specs.Keeps.{open_at}
 use Rattle.session_core.proofs.Searches.{late-to}

@@ -1,9 +1,13 @@
-use Rattle.std.proofs.Common.{◌≡◌, subst}
+use Rattle.session_relation.specs.Words.{row_of}
+use Rattle.session_core.proofs.Exactness.{exact-unready}
 use Rattle.session_core.proofs.Follows.{Follows-unready_insert}
 use Rattle.session_core.proofs.engine.Engine.insert.Goals as goal
 
-pub returns-in-Err : goal.returns-in-Err
-returns-in-Err c = Follows-unready_insert c.args.self.now c.args.s c.args.row c.in-Err.refusal c.in-Err.ensures
+pub returns-in-Err-clause-follows : goal.returns-in-Err-clause-follows
+returns-in-Err-clause-follows c = Follows-unready_insert c.args.self.now c.args.s c.args.row c.in-Err.refusal c.in-Err.ensures
 
-pub returns-in-Some : goal.returns-in-Some
-returns-in-Some c = c.insert_row.ensures c.args.row c.in-Some.ensures.0 c.in-Some.ensures.1
+pub returns-in-Some-clause-follows : goal.returns-in-Some-clause-follows
+returns-in-Some-clause-follows c = c.insert_row.ensures.follows c.args.row c.in-Some.ensures.0 c.in-Some.ensures.1
+
+pub returns-in-Err-clause-exact : goal.returns-in-Err-clause-exact
+returns-in-Err-clause-exact c = exact-unready c.args.self.now c.args.s (row_of c.args.row) c.in-Err.refusal c.in-Err.ensures

@@ -1,4 +1,4 @@
-use Rattle.std.proofs.Common.{◌≡◌, length, Option, None, ap, ◌∙◌}
+use Rattle.std.proofs.Common.{length, Option, None, ap, ◌∙◌}
 use Rattle.std.proofs.lemmas.List.{length-replicate}
 use Rattle.session_core.specs.declared.session.Session.{Session}
 use Rattle.session_core.proofs.StateLemmas.{keeps-idle}

@@ -1,4 +1,4 @@
-use Rattle.std.proofs.Common.{◌≡◌, ◌<◌, length, arith}
+use Rattle.std.proofs.Common.{◌<◌, length, arith}
 use Rattle.session_core.proofs.StateLemmas.{keeps-open}
 use Rattle.session_core.proofs.engine.Engine.open.Goals as goal
 

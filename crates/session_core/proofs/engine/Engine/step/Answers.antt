@@ -1,19 +1,41 @@
 use Rattle.std.proofs.Common.{sym, subst}
 use Rattle.session_relation.specs.declared.step.Step.{Step}
 use Rattle.session_core.specs.Agrees.{Follows}
+use Rattle.session_core.specs.Exact.{Exact}
 use Rattle.session_core.proofs.engine.Engine.step.Goals as goal
 
-pub returns-in-Begin : goal.returns-in-Begin
-returns-in-Begin c = subst (λ (step : Step). Follows c.args.self.now step c.begin.result c.begin.new.self) (sym c.in-Begin.is) c.begin.ensures
+pub returns-in-Begin-clause-follows : goal.returns-in-Begin-clause-follows
+returns-in-Begin-clause-follows c = subst (λ (step : Step). Follows c.args.self.now step c.begin.result c.begin.new.self) (sym c.in-Begin.is) c.begin.ensures.follows
 
-pub returns-in-Get : goal.returns-in-Get
-returns-in-Get c = subst (λ (step : Step). Follows c.args.self.now step c.get.result c.args.self.now) (sym c.in-Get.is) c.get.ensures
+pub returns-in-Begin-clause-exact : goal.returns-in-Begin-clause-exact
+returns-in-Begin-clause-exact c = subst (λ (step : Step). Exact c.args.self.now step c.begin.result c.begin.new.self) (sym c.in-Begin.is) c.begin.ensures.exact
 
-pub returns-in-Insert : goal.returns-in-Insert
-returns-in-Insert c = subst (λ (step : Step). Follows c.args.self.now step c.insert.result c.insert.new.self) (sym c.in-Insert.is) c.insert.ensures
+pub returns-in-Get-clause-follows : goal.returns-in-Get-clause-follows
+returns-in-Get-clause-follows c = subst (λ (step : Step). Follows c.args.self.now step c.get.result c.args.self.now) (sym c.in-Get.is) c.get.ensures.follows
 
-pub returns-in-Commit : goal.returns-in-Commit
-returns-in-Commit c = subst (λ (step : Step). Follows c.args.self.now step c.commit.result c.commit.new.self) (sym c.in-Commit.is) c.commit.ensures
+pub returns-in-Get-clause-exact : goal.returns-in-Get-clause-exact
+returns-in-Get-clause-exact c = subst (λ (step : Step). Exact c.args.self.now step c.get.result c.args.self.now) (sym c.in-Get.is) c.get.ensures.exact
 
-pub returns-in-Abort : goal.returns-in-Abort
-returns-in-Abort c = subst (λ (step : Step). Follows c.args.self.now step c.abort.result c.abort.new.self) (sym c.in-Abort.is) c.abort.ensures
+pub returns-in-Insert-clause-follows : goal.returns-in-Insert-clause-follows
+returns-in-Insert-clause-follows c = subst (λ (step : Step). Follows c.args.self.now step c.insert.result c.insert.new.self) (sym c.in-Insert.is) c.insert.ensures.follows
+
+pub returns-in-Insert-clause-exact : goal.returns-in-Insert-clause-exact
+returns-in-Insert-clause-exact c = subst (λ (step : Step). Exact c.args.self.now step c.insert.result c.insert.new.self) (sym c.in-Insert.is) c.insert.ensures.exact
+
+pub returns-in-Commit-clause-follows : goal.returns-in-Commit-clause-follows
+returns-in-Commit-clause-follows c = subst (λ (step : Step). Follows c.args.self.now step c.commit.result c.commit.new.self) (sym c.in-Commit.is) c.commit.ensures.follows
+
+pub returns-in-Commit-clause-exact : goal.returns-in-Commit-clause-exact
+returns-in-Commit-clause-exact c = subst (λ (step : Step). Exact c.args.self.now step c.commit.result c.commit.new.self) (sym c.in-Commit.is) c.commit.ensures.exact
+
+pub returns-in-Abort-clause-follows : goal.returns-in-Abort-clause-follows
+returns-in-Abort-clause-follows c = subst (λ (step : Step). Follows c.args.self.now step c.abort.result c.abort.new.self) (sym c.in-Abort.is) c.abort.ensures.follows
+
+pub returns-in-Abort-clause-exact : goal.returns-in-Abort-clause-exact
+returns-in-Abort-clause-exact c = subst (λ (step : Step). Exact c.args.self.now step c.abort.result c.abort.new.self) (sym c.in-Abort.is) c.abort.ensures.exact
+
+pub returns-in-Prune-clause-follows : goal.returns-in-Prune-clause-follows
+returns-in-Prune-clause-follows c = subst (λ (step : Step). Follows c.args.self.now step c.prune.result c.prune.new.self) (sym c.in-Prune.is) c.prune.ensures.follows
+
+pub returns-in-Prune-clause-exact : goal.returns-in-Prune-clause-exact
+returns-in-Prune-clause-exact c = subst (λ (step : Step). Exact c.args.self.now step c.prune.result c.prune.new.self) (sym c.in-Prune.is) c.prune.ensures.exact

@@ -1,0 +1,27 @@
+use Rattle.std.proofs.Common.{◌≡◌, ℕ, refl, sym, ap, ◌∙◌, subst}
+use Rattle.heap_write.specs.Heap.{HeapView, Prunes}
+use Rattle.session_relation.specs.declared.step.Step.TheVariants.{Prune}
+use Rattle.session_relation.specs.declared.reply.Reply.{Reply}
+use Rattle.session_relation.specs.declared.reply.Reply.TheVariants.{Refused}
+use Rattle.session_relation.specs.declared.reply.Refusal.TheVariants.{NoSuchPage, NoMemory}
+use Rattle.session_core.specs.State.{State, horizon_of}
+use Rattle.session_core.specs.Agrees.{Follows}
+use Rattle.session_core.proofs.Cleaned.{Follows-prune, Follows-no_such_page, Follows-prune_no_memory}
+use Rattle.session_core.proofs.engine.Engine.prune.Goals as goal
+use Rattle.session_core.proofs.engine.Engine.prune.Goals.{in-Ok, in-Err-NoSuchPage, in-Err-NoMemory}
+
+pub returns-clause-follows : goal.returns-clause-follows
+returns-clause-follows c =
+    let before : State = record { settings = c.self.inside.settings; heap = c.self.inside.heap; sessions = c.self.inside.sessions.items } in
+    let after : State = record before { heap = c.prune.new.self } in
+    let horizon : c.horizon-horizon.result.0 ≡ horizon_of before = c.horizon-horizon.ensures.value ∙ ap horizon_of (sym c.self.view_is) in
+    let P : State → Type 0 = λ st. Follows st (Prune c.args.page) c.match-prune.result after in
+    let R : Reply → Type 0 = λ r. Follows before (Prune c.args.page) r after in
+    let H : ℕ → Type 0 = λ x. Prunes before.heap after.heap c.args.page x in
+    subst P c.self.view_is (elim c.match-prune.branch [
+      | in-Ok w ↦ subst R (sym w.result-is) (Follows-prune before after c.args.page (record { settings = refl; sessions = refl; heap = subst H horizon w.in-Ok.ensures.ok }))
+      | in-Err-NoSuchPage w ↦ subst R (sym w.result-is)
+          (let G : HeapView → Type 0 = λ h. Follows before (Prune c.args.page) (Refused NoSuchPage) (record before { heap = h }) in subst G (sym w.in-Err-NoSuchPage.ensures.err) (Follows-no_such_page before c.args.page))
+      | in-Err-NoMemory w ↦ subst R (sym w.result-is)
+          (let G : HeapView → Type 0 = λ h. Follows before (Prune c.args.page) (Refused NoMemory) (record before { heap = h }) in subst G (sym w.in-Err-NoMemory.ensures.err) (Follows-prune_no_memory before c.args.page))
+    ])

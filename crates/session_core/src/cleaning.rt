@@ -1,0 +1,66 @@
+//! A page is cleaned while sessions go on.
+
+ghost use Rattle.std.specs.Prelude.{◌≡◌};
+ghost use Rattle.snapshot.specs.Snap.{earliest};
+ghost use Rattle.xid_circle.specs.Circle.{IsNormal};
+ghost use Rattle.session_relation.specs.declared.step.Step.{Step};
+ghost use Rattle.session_core.specs.State.{held_back, holds_back, horizon_of};
+ghost use Rattle.session_core.specs.Agrees.{Follows};
+ghost use Rattle.session_core.specs.Exact.{Exact};
+
+use crate::engine::Engine;
+use crate::session::Session;
+use heap_write::PruneFault;
+use session_relation::{Refusal, Reply};
+use snapshot::earlier;
+use xid_circle::Xid;
+
+/// The earlier of an id and those that the session holds back: its snapshot's xmin, and its first id.
+fn hold_back(session: &Session, x: Xid) -> Xid
+    requires { IsNormal x.0 }
+    ensures value { result.0 ≡ earliest x.0 (holds_back session.now) }
+    ensures normal { IsNormal result.0 }
+{
+    let held = earlier(x, session.snapshot.xmin());
+    match session.own.first() {
+        Some(first) => earlier(held, first),
+        None => held,
+    }
+}
+
+/// The earliest of the next id and what open sessions hold back.
+fn horizon(next: Xid, sessions: &[Option<Session>]) -> Xid
+    requires { IsNormal next.0 }
+    ensures value { result.0 ≡ earliest next.0 (held_back sessions.now) }
+    ensures normal { IsNormal result.0 }
+{
+    let mut horizon = next;
+    for session in sessions {
+        if let Some(session) = session {
+            horizon = hold_back(session, horizon);
+        }
+    }
+    horizon
+}
+
+impl Engine {
+    fn horizon(&self) -> Xid
+        ensures value { result.0 ≡ horizon_of self.now }
+        ensures normal { IsNormal result.0 }
+    {
+        horizon(self.heap.table().next(), &self.sessions)
+    }
+
+    /// Takes from the page what nobody can see any more. Refusals: NoSuchPage; NoMemory where its plan found none.
+    pub(crate) fn prune(&mut self, page: u32) -> Reply
+        ensures follows { Follows self.old (Step.Prune page) result self.new }
+        ensures exact { Exact self.old (Step.Prune page) result self.new }
+    {
+        let horizon = self.horizon();
+        match self.heap.prune(page, horizon) {
+            Ok(()) => Reply::Done,
+            Err(PruneFault::NoSuchPage) => Reply::Refused(Refusal::NoSuchPage),
+            Err(PruneFault::NoMemory) => Reply::Refused(Refusal::NoMemory),
+        }
+    }
+}
