@@ -2,19 +2,19 @@
 use Rattle.std.proofs.Common.{◌≡◌, ℕ, zero, suc, ℤ, ◌<◌, Bool, List, [], ◌∷◌, length, get_or, map, Option, Some, None, refl, sym, ap, ◌∙◌, subst, ⊎_elim, arith, slice_get}
 use Rattle.std.specs.List.{Contains, IsDistinct}
 use Rattle.std.specs.Prelude.{MatchOption}
-use Rattle.std.specs.Option.{option_and_then}
+use Rattle.std.specs.Option.{option_and_then, option_map}
 use Rattle.std.proofs.lemmas.Option.{slice_get-get_or, same_Some}
 use Rattle.xid_circle.specs.declared.Tid.{Tid}
 use Rattle.tuple_header.specs.Version.{Version}
 use Rattle.tuple_header.specs.declared.version.Header.{Header}
 use Rattle.tuple_header.specs.declared.version.Row.{Row}
 use Rattle.page_slots.specs.declared.slot.Slot.{Slot}
-use Rattle.page_slots.specs.Slots.{slot_at, version_at}
+use Rattle.page_slots.specs.Slots.{slot_at, version_at, header_at, row_at}
 use Rattle.page_slots.specs.View.{PageView}
 use Rattle.commit_status.specs.Window.{Window, IsActive}
 use Rattle.snapshot.specs.Snap.{Snap}
 use Rattle.visibility.specs.Visible.{IsVisible}
-use Rattle.hot_chain.specs.Chain.{has_aborted, first_of, start_in, IsChain, Fetched}
+use Rattle.hot_chain.specs.Chain.{has_aborted, first_of, start_in, IsChain, NoneSeen, Fetched}
 use Rattle.hot_chain.proofs.Chains.{chain-one}
 use Rattle.prune.specs.Sound.{IsIn, SoundPage}
 use Rattle.prune.proofs.ChainPlaces.{place-of, at-place}
@@ -24,7 +24,7 @@ use Rattle.root_index.specs.declared.entry.Entry.{Entry}
 use Rattle.sound_entries.specs.Pages.{slots_on, version_in}
 use Rattle.sound_entries.specs.Entries.{MayBeLed, IsSound}
 use Rattle.sound_entries.specs.Leading.{IsOnHeap, IsByIndex}
-use Rattle.sound_entries.specs.Looking.{FetchedAt, FirstFound}
+use Rattle.sound_entries.specs.Looking.{FetchedAt, FirstFound, IsSeenIn, IsSeenAt, IsFirstPlace, FirstPlace}
 use Rattle.sound_entries.proofs.Leads.{visible-found}
 
 -- what is in the list of a chain to which an entry may lead, is in the chain
@@ -111,6 +111,87 @@ pub fetched-nowhere : (w : Window) (seen : Header → Type 0) (pages : List Page
     → FetchedAt w seen (map (λ (q : PageView). q.slots) pages) p None
 fetched-nowhere w seen pages p none = subst (λ slots. Fetched (has_aborted w) seen slots p.slot None) (sym (slots-none pages p.page none)) (empty-fetched (has_aborted w) seen p.slot)
 
-pub fetched-on_page : (w : Window) (seen : Header → Type 0) (pages : List PageView) (p : Tid) (page : PageView) (answer : Option Version) → slice_get pages p.page ≡ Some page
-    → Fetched (has_aborted w) seen page.slots p.slot answer → FetchedAt w seen (map (λ (q : PageView). q.slots) pages) p answer
-fetched-on_page w seen pages p page answer at f = subst (λ slots. Fetched (has_aborted w) seen slots p.slot answer) (sym (slots-there pages p.page page at)) f
+some-header : (o : Option Version) (h : Header) → option_map (λ (t : Version). t.header) o ≡ Some h → (t : Version) × (o ≡ Some t) × (h ≡ t.header)
+some-header None h e = absurd (cc)
+some-header (Some t) h e = (t, refl, (let f : Some t.header ≡ Some h = e in cc))
+
+-- the version that a look-up of its header finds, is the first of these slots that is seen
+pub seen-here : (seen : Header → Type 0) (slots : List Slot) (chain : List ℕ) (i : ℕ) (r : Option Header) (h : Header) → i < length chain → r ≡ header_at slots (get_or chain i 0) → r ≡ Some h → seen h
+    → ((j : ℕ) (u : Version) → j < i → version_at slots (get_or chain j 0) ≡ Some u → ¬ seen u.header) → IsSeenIn seen slots chain (get_or chain i 0)
+seen-here seen slots chain i r h within value is has none =
+    let v = some-header (version_at slots (get_or chain i 0)) h (sym value ∙ is) in
+    record { index = i; slot = refl; version = v.0; first = record { within = within; there = v.1; is_seen = subst seen v.2 has; none_before = none } }
+
+pub seen-on_page : (w : Window) (seen : Header → Type 0) (pages : List PageView) (p : Tid) (page : PageView) (chain : List ℕ) → slice_get pages p.page ≡ Some page
+    → IsChain (has_aborted w) page.slots p.slot chain → (n : ℕ) → IsSeenIn seen page.slots chain n
+    → IsSeenAt w seen (map (λ (q : PageView). q.slots) pages) p (record { page = p.page; slot = n })
+seen-on_page w seen pages p page chain at is n first =
+    let same = slots-there pages p.page page at in
+    record {
+      page = refl;
+      chain = chain;
+      is_chain = subst (λ slots. IsChain (has_aborted w) slots p.slot chain) (sym same) is;
+      seen_in = subst (λ slots. IsSeenIn seen slots chain n) (sym same) first;
+    }
+
+pub none-on_page : (w : Window) (seen : Header → Type 0) (pages : List PageView) (p : Tid) (page : PageView) (chain : List ℕ) → slice_get pages p.page ≡ Some page
+    → IsChain (has_aborted w) page.slots p.slot chain → NoneSeen seen page.slots chain → FetchedAt w seen (map (λ (q : PageView). q.slots) pages) p None
+none-on_page w seen pages p page chain at is none =
+    subst (λ slots. Fetched (has_aborted w) seen slots p.slot None) (sym (slots-there pages p.page page at)) (chain, is, none)
+
+-- The row at a place.
+
+pub row-there : (pages : List PageView) (p : Tid) (page : PageView) → slice_get pages p.page ≡ Some page
+    → row_at page.slots p.slot ≡ option_map (λ (t : Version). t.row) (version_in (map (λ (q : PageView). q.slots) pages) p)
+row-there pages p page at = ap (λ slots. row_at slots p.slot) (sym (slots-there pages p.page page at))
+
+pub row-nowhere : (pages : List PageView) (p : Tid) → slice_get pages p.page ≡ None
+    → None ≡ option_map (λ (t : Version). t.row) (version_in (map (λ (q : PageView). q.slots) pages) p)
+row-nowhere pages p none = by p.slot ∙ ap (λ slots. row_at slots p.slot) (sym (slots-none pages p.page none))
+  where
+    by : (n : ℕ) → None ≡ row_at [] n
+    by zero = refl
+    by (suc n) = refl
+
+-- what is at the place of the first version that is seen
+seen-there : (w : Window) (seen : Header → Type 0) (pages : List (List Slot)) (p q : Tid) (s : IsSeenAt w seen pages p q) → version_in pages q ≡ Some s.seen_in.version
+seen-there w seen pages p q s =
+    ap (λ n. version_at (slots_on pages n) q.slot) s.page ∙ ap (version_at (slots_on pages p.page)) s.seen_in.slot ∙ s.seen_in.first.there
+
+pub row-found : (w : Window) (seen : Header → Type 0) (pages : List (List Slot)) (entries : List Entry) (value : ℤ) (key : ℕ) (q : Tid) (answer : Option Row)
+    → IsFirstPlace w seen pages entries value key q → answer ≡ option_map (λ (t : Version). t.row) (version_in pages q) → FirstFound w seen pages entries value key answer
+row-found w seen pages entries value key q answer f is =
+    let s = f.seen_at in
+    let there = seen-there w seen pages f.entry.tid q s in
+    subst (FirstFound w seen pages entries value key) (sym (is ∙ ap (option_map (λ (t : Version). t.row)) there)) (record {
+      entry = f.entry;
+      there = f.there;
+      of = f.of;
+      version = s.seen_in.version;
+      fetched = (s.chain, s.is_chain, (s.seen_in.index, s.seen_in.first));
+      is_row = refl;
+      none_before = f.none_before;
+    })
+
+pub place-on_heap : (value_of : Row → ℤ) (w : Window) (horizon : ℕ) (pages : List (List Slot)) (entries : List Entry) (s : Snap) (own : List ℕ) → IsSound value_of w horizon pages entries
+    → ((x : ℕ) → Contains own x → IsActive w x) → (value : ℤ) (key : ℕ) (answer : Option Tid) → FirstPlace w (IsVisible w s own) pages entries value key answer
+    → MatchOption answer
+    ((p : Tid) (t : Version) → ¬ IsOnHeap value_of pages value key (λ t. IsVisible w s own t.header) p t)
+    (λ p. (t : Version) × IsOnHeap value_of pages value key (λ t. IsVisible w s own t.header) p t)
+place-on_heap value_of w horizon pages entries s own sound active value key None none =
+    found-on_heap value_of w horizon pages entries s own sound active value key None none
+place-on_heap value_of w horizon pages entries s own sound active value key (Some q) f =
+    let slots = slots_on pages f.entry.tid.page in
+    let at = f.seen_at in
+    let chain = at.chain in
+    let seen = at.seen_in in
+    let t = seen.version in
+    let listed = listed-in w slots f.entry.tid.slot seen.index chain (sound.index.leads f.entry f.there) at.is_chain seen.first.within in
+    let i : IsByIndex w pages entries value key (λ t. IsVisible w s own t.header) q t = record {
+      entry = f.entry;
+      of = f.of;
+      leads = record { there = f.there; page = at.page; chain = subst (IsIn w slots f.entry.tid.slot) (sym seen.slot) listed };
+      there = seen-there w (IsVisible w s own) pages f.entry.tid q at;
+      has = seen.first.is_seen;
+    } in
+    (t, (visible-found value_of w horizon pages entries sound s own active value key q t).1 i)

@@ -45,7 +45,7 @@ module _ (w v : Window) (aborted : (x : ℕ) → IsAborted w x → IsAborted v x
   in-back slots root n i =
       record { entry = i.entry; leads = i.leads; later = record { turns = i.later.turns; along = along-back slots i.later.turns i.entry n i.later.along } }
 
-  statuses-stay : (value_of : Row → ℤ) (horizon later : ℕ) (pages : List (List Slot)) (entries : List Entry) → IsSound value_of w horizon pages entries → SoundHeap v later pages
+  pub statuses-stay : (value_of : Row → ℤ) (horizon later : ℕ) (pages : List (List Slot)) (entries : List Entry) → IsSound value_of w horizon pages entries → SoundHeap v later pages
       → StaysSound value_of v later pages pages entries entries
   statuses-stay value_of horizon later pages entries sound heap = record {
     sound = record { heap = heap; index = stay-sound value_of w v pages pages entries sound.index goes };

@@ -10,7 +10,7 @@ use Rattle.page_slots.specs.Slots.{version_at}
 use Rattle.commit_status.specs.Window.{Window, IsActive, IsCommitted, IsInProgress}
 use Rattle.snapshot.specs.Snap.{Snap, Sees}
 use Rattle.visibility.specs.Visible.{IsVisible}
-use Rattle.hot_chain.specs.Chain.{has_aborted, IsChain, Fetched}
+use Rattle.hot_chain.specs.Chain.{has_aborted, IsChain, IsFirstSeen, Fetched}
 use Rattle.root_index.specs.declared.entry.Entry.{Entry}
 use Rattle.root_index.specs.Order.{Precedes}
 use Rattle.root_index.specs.Sets.{IsLeast, IsAfter, IsOf}
@@ -62,6 +62,44 @@ TheRowIsFound = (value_of : Row → ℤ) (w : Window) (horizon : ℕ) (pages : L
     → ((p q : Tid) (t u : Version) → IsOnHeap value_of pages value key (λ t. IsVisible w s own t.header) p t → IsOnHeap value_of pages value key (λ t. IsVisible w s own t.header) q u → p ≡ q)
     → (answer : Option Row) → FirstFound w (IsVisible w s own) pages entries value key answer
     → (p : Tid) (t : Version) → IsOnHeap value_of pages value key (λ t. IsVisible w s own t.header) p t → answer ≡ Some t.row
+
+-- The place of what is found.
+
+-- the first version of these slots that is seen is in slot n
+pub record IsSeenIn (seen : Header → Type 0) (slots : List Slot) (chain : List ℕ) (n : ℕ) : Type 0 where
+  pub index : ℕ
+  pub slot : n ≡ slice_index chain index
+  pub version : Version
+  pub first : IsFirstSeen seen slots chain index version
+
+-- the first version that is seen in the chain of p is at q
+pub record IsSeenAt (w : Window) (seen : Header → Type 0) (pages : List (List Slot)) (p q : Tid) : Type 0 where
+  pub page : q.page ≡ p.page
+  pub chain : List ℕ
+  pub is_chain : IsChain (has_aborted w) (slots_on pages p.page) p.slot chain
+  pub seen_in : IsSeenIn seen (slots_on pages p.page) chain q.slot
+
+abbrev pub SeenAt : Window → (Header → Type 0) → List (List Slot) → Tid → Option Tid → Type 0
+SeenAt w seen pages p answer = MatchOption answer (FetchedAt w seen pages p None) (IsSeenAt w seen pages p)
+
+-- the place of the first version that is seen, by the entries in their order, and by the chain of each
+pub record IsFirstPlace (w : Window) (seen : Header → Type 0) (pages : List (List Slot)) (entries : List Entry) (value : ℤ) (key : ℕ) (q : Tid) : Type 0 where
+  pub entry : Entry
+  pub there : Contains entries entry
+  pub of : IsOf value key entry
+  pub seen_at : IsSeenAt w seen pages entry.tid q
+  pub none_before : (e : Entry) → Contains entries e → IsOf value key e → Precedes e entry → FetchedAt w seen pages e.tid None
+
+abbrev pub FirstPlace : Window → (Header → Type 0) → List (List Slot) → List Entry → ℤ → ℕ → Option Tid → Type 0
+FirstPlace w seen pages entries value key answer = MatchOption answer (NoneFound w seen pages entries value key) (IsFirstPlace w seen pages entries value key)
+
+-- Where the entries are sound, this is the place of a version on the heap that is seen, where there is one.
+abbrev pub PlaceIsOnHeap : Type 0
+PlaceIsOnHeap = (value_of : Row → ℤ) (w : Window) (horizon : ℕ) (pages : List (List Slot)) (entries : List Entry) (s : Snap) (own : List ℕ) → IsSound value_of w horizon pages entries
+    → ((x : ℕ) → Contains own x → IsActive w x) → (value : ℤ) (key : ℕ) (answer : Option Tid) → FirstPlace w (IsVisible w s own) pages entries value key answer
+    → MatchOption answer
+    ((p : Tid) (t : Version) → ¬ IsOnHeap value_of pages value key (λ t. IsVisible w s own t.header) p t)
+    (λ p. (t : Version) × IsOnHeap value_of pages value key (λ t. IsVisible w s own t.header) p t)
 
 -- Ids that made or deleted a version.
 

@@ -1,17 +1,22 @@
 //! Looking along the entries of one value and one key. None takes memory.
 
 ghost use Rattle.std.specs.Prelude.{◌≡◌, ℕ, IfSome, MatchOption, None, Some};
+ghost use Rattle.std.specs.Option.{option_map};
 ghost use Rattle.root_index.specs.Sets.{IsOf};
 ghost use Rattle.visibility.specs.Visible.{IsVisible};
-ghost use Rattle.sound_entries.specs.Looking.{slots_of, IsNextOf, FetchedAt, FirstFound, FoundIsOnHeap, TheRowIsFound, IsMissed, IsForeign, SomeAt, IsIdOf, MissedIsOnHeap, ForeignIsOnHeap};
+ghost use Rattle.hot_chain.specs.Chain.{NoneSeen};
+ghost use Rattle.sound_entries.specs.Pages.{version_in};
+ghost use Rattle.sound_entries.specs.Looking.{slots_of, IsNextOf, FirstFound, IsSeenIn, SeenAt, FirstPlace, FoundIsOnHeap, TheRowIsFound, PlaceIsOnHeap, IsMissed, IsForeign, SomeAt, IsIdOf, MissedIsOnHeap, ForeignIsOnHeap};
 
 use crate::touched::{foreign_among, missed_among};
 use commit_status::StatusTable;
 use heap_pages::Pages;
-use hot_chain::{chain, fetch};
+use hot_chain::chain;
+use page_slots::Page;
 use root_index::{Entry, RootIndex};
 use snapshot::{OwnIds, Snapshot};
-use tuple_header::{Row, Tuple};
+use tuple_header::Row;
+use visibility::visible_header;
 use xid_circle::{Tid, Xid};
 
 /// An entry, if it is of this value and this key.
@@ -35,18 +40,86 @@ fn next_of(index: &RootIndex, value: i128, key: u64, from: Option<Entry>) -> Opt
     }
 }
 
-/// The first version that the reader sees in the chain of a place. A page that is not in use has no chains.
-fn fetch_at(
+/// The first slot of these whose version the reader sees.
+fn first_seen(
+    page: &Page,
+    slots: &[u16],
+    snapshot: &Snapshot,
+    own: &OwnIds,
+    table: &StatusTable,
+) -> Option<u16>
+    ensures { MatchOption result (NoneSeen (IsVisible table.now snapshot.now own.now.ids) page.now.slots slots.now)
+        (IsSeenIn (IsVisible table.now snapshot.now own.now.ids) page.now.slots slots.now) }
+{
+    for slot in slots {
+        if let Some(header) = page.header(*slot) {
+            if visible_header(&header, snapshot, own, table) {
+                return Some(*slot);
+            }
+        }
+    }
+    None
+}
+
+/// The place of the first version that the reader sees in the chain of a place. A page that is not in use has no chains.
+fn seen_at(
     pages: &Pages,
     place: Tid,
     snapshot: &Snapshot,
     own: &OwnIds,
     table: &StatusTable,
-) -> Option<Tuple>
-    ensures { FetchedAt table.now (IsVisible table.now snapshot.now own.now.ids) (slots_of pages.now) place result }
+) -> Option<Tid>
+    ensures { SeenAt table.now (IsVisible table.now snapshot.now own.now.ids) (slots_of pages.now) place result }
+{
+    let page = match pages.page(place.page) {
+        Some(page) => page,
+        None => return None,
+    };
+    let slots = chain(page, place.slot, table);
+    match first_seen(page, slots.as_slice(), snapshot, own, table) {
+        Some(slot) => Some(Tid {
+            page: place.page,
+            slot,
+        }),
+        None => None,
+    }
+}
+
+/// The place of the first version that the reader sees, along the entries of this value and this key in their order, and
+/// along the chain of each. It takes no memory.
+pub fn place_of(
+    pages: &Pages,
+    index: &RootIndex,
+    value: i128,
+    key: u64,
+    snapshot: &Snapshot,
+    own: &OwnIds,
+    table: &StatusTable,
+) -> Option<Tid>
+    ensures { FirstPlace table.now (IsVisible table.now snapshot.now own.now.ids) (slots_of pages.now) index.now.entries value key result }
+{
+    index.is_ascending();
+    let mut next = next_of(index, value, key, None);
+    for _ in 0..index.len() {
+        match next {
+            None => return None,
+            Some(entry) => {
+                if let Some(place) = seen_at(pages, entry.tid, snapshot, own, table) {
+                    return Some(place);
+                }
+                next = next_of(index, value, key, Some(entry));
+            }
+        }
+    }
+    None
+}
+
+/// The row of the version at a place, if there is one.
+fn row_at(pages: &Pages, place: Tid) -> Option<Row>
+    ensures { result ≡ option_map (λ t. t.row) (version_in (slots_of pages.now) place) }
 {
     match pages.page(place.page) {
-        Some(page) => fetch(page, place.slot, snapshot, own, table),
+        Some(page) => page.row(place.slot),
         None => None,
     }
 }
@@ -64,20 +137,10 @@ pub fn row_of(
 ) -> Option<Row>
     ensures { FirstFound table.now (IsVisible table.now snapshot.now own.now.ids) (slots_of pages.now) index.now.entries value key result }
 {
-    index.is_ascending();
-    let mut next = next_of(index, value, key, None);
-    for _ in 0..index.len() {
-        match next {
-            None => return None,
-            Some(entry) => {
-                if let Some(version) = fetch_at(pages, entry.tid, snapshot, own, table) {
-                    return Some(version.row);
-                }
-                next = next_of(index, value, key, Some(entry));
-            }
-        }
+    match place_of(pages, index, value, key, snapshot, own, table) {
+        Some(place) => row_at(pages, place),
+        None => None,
     }
-    None
 }
 
 /// A committed id that made or deleted a version in the chain of a place, and that the snapshot does not see.
@@ -174,6 +237,12 @@ pub fn found_is_on_heap()
 /// its contract is the law.
 pub fn the_row_is_found()
     ensures { TheRowIsFound }
+{}
+
+/// Where the entries are sound, the place that is found is that of a version on the heap, and none where there is none. It
+/// does nothing; its contract is the law.
+pub fn place_is_on_heap()
+    ensures { PlaceIsOnHeap }
 {}
 
 /// Where the entries are sound, the ids that `missed_of` looks for are those of versions on the heap. It does nothing; its

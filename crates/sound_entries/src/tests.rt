@@ -8,8 +8,8 @@ use crate::{
     aborting_stays_sound, adding_stays_sound, committing_stays_sound, entries_go_sound,
     foreign_is_on_heap, found_by_index, found_is_on_heap, giving_stays_sound, holder_of,
     later_horizon_stays_sound, led_by_entry, led_by_two_steps, missed_is_on_heap, missed_of,
-    nothing_is_sound, pages_grow_sound, pruning_stays_sound, row_of, taking_stays_sound,
-    the_row_is_found, touched_by_index, updating_stays_sound,
+    nothing_is_sound, pages_grow_sound, place_is_on_heap, place_of, pruning_stays_sound, row_of,
+    taking_stays_sound, the_row_is_found, touched_by_index, updating_stays_sound,
 };
 use arrayvec::ArrayVec;
 use commit_status::{Status, StatusTable};
@@ -140,6 +140,30 @@ fn a_row_is_found_by_its_second_entry(rt: HostRuntime) -> Result<(), AllocError>
 }
 
 #[test]
+fn the_place_is_that_of_the_version_that_is_seen(rt: HostRuntime) -> Result<(), AllocError> {
+    let table = statuses(rt.alloc());
+    let pages = two_pages(rt.alloc())?;
+    let index = entries(rt.alloc())?;
+    let nobody = OwnIds::new(rt.alloc());
+    let writer = own(rt.alloc(), Xid(4))?;
+    let early = Snapshot::at(rt.alloc(), Xid(3));
+    let late = Snapshot::at(rt.alloc(), Xid(4));
+    let old = Some(Tid { page: 1, slot: 1 });
+    let new = Some(Tid { page: 1, slot: 3 });
+    assert_eq!(rt; place_of(&pages, &index, 7, 7, &late, &nobody, &table), old);
+    assert_eq!(rt; place_of(&pages, &index, 7, 7, &late, &writer, &table), new);
+    assert_eq!(rt;
+        place_of(&pages, &index, 7, 7, &early, &nobody, &table),
+        None
+    );
+    assert_eq!(rt;
+        place_of(&pages, &index, 9, 9, &late, &nobody, &table),
+        None
+    );
+    Ok(())
+}
+
+#[test]
 fn ids_are_found_by_the_entries_of_the_key(rt: HostRuntime) -> Result<(), AllocError> {
     let table = statuses(rt.alloc());
     let pages = two_pages(rt.alloc())?;
@@ -171,6 +195,10 @@ fn an_entry_of_a_page_that_is_not_in_use_leads_nowhere(rt: HostRuntime) -> Resul
     let nobody = OwnIds::new(rt.alloc());
     let early = Snapshot::at(rt.alloc(), Xid(3));
     assert!(rt; row_of(&pages, &index, 7, 7, &early, &nobody, &table).is_none());
+    assert_eq!(rt;
+        place_of(&pages, &index, 7, 7, &early, &nobody, &table),
+        None
+    );
     assert_eq!(rt; missed_of(&pages, &index, 7, 7, &early, &table), None);
     assert_eq!(rt; holder_of(&pages, &index, 7, 7, &nobody, &table), None);
     Ok(())
@@ -183,6 +211,7 @@ fn the_laws_do_nothing(rt: HostRuntime) {
     touched_by_index();
     found_is_on_heap();
     the_row_is_found();
+    place_is_on_heap();
     missed_is_on_heap();
     foreign_is_on_heap();
     nothing_is_sound();
