@@ -4,10 +4,14 @@
 #![tactic(auto)]
 
 #[cfg(test)]
+mod changes;
+#[cfg(test)]
 mod cuts;
 #[cfg(test)]
 mod steps;
 #[cfg(test)]
 mod table;
+#[cfg(test)]
+mod updates;
 #[cfg(test)]
 mod worked;

@@ -2,25 +2,28 @@
 
 ghost use Rattle.std.specs.Prelude.{◌≡◌};
 
+use crate::changes;
 use page_slots::{Page, Slot};
 use session_core::{Engine, Refusal, Reply, RowIn, Settings, Step};
 use std::alloc::{AllocError, Global};
 use std::test::Fail;
 
-// What is asked. An insert has a key, and a body of so many bytes.
+/// What is asked. An insert and an update have a key, and a body of so many bytes.
 #[derive(Clone, Copy, Debug)]
-enum Ask {
+pub enum Ask {
     Begin(u8),
     Get(u8, u64),
     Insert(u8, u64, usize),
+    Update(u8, u64, usize),
+    Delete(u8, u64),
     Commit(u8),
     Abort(u8),
     Prune(u32),
 }
 
-// What has to be answered. A row has the key that was asked for, and a body of so many bytes.
+/// What has to be answered. A row has the key that was asked for, and a body of so many bytes.
 #[derive(Clone, Copy, Debug)]
-enum Answer {
+pub enum Answer {
     Done,
     Row(usize),
     NoRow,
@@ -130,6 +133,8 @@ fn step_of(alloc: Global, ask: Ask) -> Result<Step, AllocError> {
         Ask::Begin(s) => Step::Begin(s),
         Ask::Get(s, key) => Step::Get(s, key),
         Ask::Insert(s, key, length) => Step::Insert(s, row_of(alloc, key, length)?),
+        Ask::Update(s, key, length) => Step::Update(s, row_of(alloc, key, length)?),
+        Ask::Delete(s, key) => Step::Delete(s, key),
         Ask::Commit(s) => Step::Commit(s),
         Ask::Abort(s) => Step::Abort(s),
         Ask::Prune(page) => Step::Prune(page),
@@ -153,8 +158,8 @@ fn is_no_memory(reply: &Reply) -> bool {
 
 fn may_grow(ask: Ask) -> bool {
     match ask {
-        Ask::Begin(_) | Ask::Insert(_, _, _) | Ask::Prune(_) => true,
         Ask::Get(_, _) | Ask::Commit(_) | Ask::Abort(_) => false,
+        _ => true,
     }
 }
 
@@ -188,27 +193,34 @@ fn shown(engine: &Engine) -> (u32, u32, Option<u64>) {
     (next.0, frozen_below.0, engine.page(0).map(Page::change))
 }
 
-fn new_engine(alloc: Global) -> Option<Engine> {
-    match Engine::new(alloc, SETTINGS) {
+fn new_engine(alloc: Global, settings: Settings) -> Option<Engine> {
+    match Engine::new(alloc, settings) {
         Ok(engine) => Some(engine),
-        Err(_) => Engine::new(alloc, SETTINGS).ok(),
+        Err(_) => Engine::new(alloc, settings).ok(),
     }
+}
+
+// The reply to a step. One that meets the refusal of a growth has to change nothing, and is asked for again.
+fn reply_to(alloc: Global, engine: &mut Engine, ask: Ask) -> Result<Reply, Fail> {
+    let before = shown(engine);
+    let reply = engine.step(step_anyhow(alloc, ask)?);
+    if !is_no_memory(&reply) {
+        return Ok(reply);
+    }
+    if !may_grow(ask) || shown(engine) != before {
+        return Err(Fail::from("a refused growth changed something"));
+    }
+    Ok(engine.step(step_anyhow(alloc, ask)?))
 }
 
 // With `rt try --test --fail-alloc N` the step that meets the refusal answers so, changes nothing, and is done when it is asked
 // for again. (The other tests of this crate fail then, as they should: they ask for ample memory.)
 #[test]
 fn every_kind_of_step(rt: HostRuntime) -> Result<(), Fail> {
-    let mut engine = new_engine(rt.alloc()).ok_or("no engine")?;
+    let mut engine = new_engine(rt.alloc(), SETTINGS).ok_or("no engine")?;
     assert!(rt; engine.page(0).is_none());
     for (ask, answer) in STEPS {
-        let before = shown(&engine);
-        let mut reply = engine.step(step_anyhow(rt.alloc(), ask)?);
-        if is_no_memory(&reply) {
-            assert!(rt; may_grow(ask), "{ask:?}");
-            assert!(rt; shown(&engine) == before, "{ask:?}");
-            reply = engine.step(step_anyhow(rt.alloc(), ask)?);
-        }
+        let reply = reply_to(rt.alloc(), &mut engine, ask)?;
         assert!(rt;
             is(&reply, ask, answer),
             "{ask:?} answered {reply:?} and not {answer:?}"
@@ -223,5 +235,32 @@ fn every_kind_of_step(rt: HostRuntime) -> Result<(), Fail> {
     // 1096 and 72 bytes less 4 for a new slot.
     assert_eq!(rt; page.room(), 1164);
     assert!(rt; engine.page(1).is_none());
+    Ok(())
+}
+
+#[test]
+fn updates_and_deletes(rt: HostRuntime) -> Result<(), Fail> {
+    let mut engine = new_engine(rt.alloc(), changes::SETTINGS).ok_or("no engine")?;
+    for (ask, answer) in changes::STEPS {
+        let reply = reply_to(rt.alloc(), &mut engine, ask)?;
+        assert!(rt;
+            is(&reply, ask, answer),
+            "{ask:?} answered {reply:?} and not {answer:?}"
+        );
+    }
+    assert_eq!(rt; shown(&engine), (8, 3, Some(27)));
+    let page = engine.page(0).ok_or("no page")?;
+    assert!(rt;
+        matches!(page.slot(1), Some(Slot::Dead)) && matches!(page.slot(3), Some(Slot::Redirect(4)))
+    );
+    assert!(rt;
+        matches!(page.slot(2), Some(Slot::Unused)) && matches!(page.slot(5), Some(Slot::Unused))
+    );
+    // Of 8168 bytes 44 go to slots, and 320 and 6 * 1096 to versions.
+    assert_eq!(rt; page.room(), 1228);
+    // Two roots of key 1, and one of each other key.
+    let index = engine.index(0).ok_or("no index")?;
+    assert_eq!(rt; index.len(), 8);
+    assert!(rt; engine.index(1).is_none());
     Ok(())
 }

@@ -3,45 +3,91 @@
 ghost use Rattle.std.specs.Prelude.{◌≡◌};
 
 use crate::table::{CASES, Case};
+use crate::updates::{CHAINS, PAGES};
 use script::{Watch, run_script};
 use std::alloc::{AllocError, Global};
 use std::test::Fail;
+
+// Two hexadecimal digits for each byte of a body.
+fn add_body(script: &mut Vec<u8>, digits: &[u8], count: usize) -> Result<(), AllocError> {
+    for _ in 0..count {
+        script.extend_from_slice(digits)?;
+    }
+    Ok(())
+}
 
 // The script with its bodies written out.
 fn written_out(alloc: Global, case: &Case) -> Result<Vec<u8>, AllocError> {
     let mut script = Vec::new(alloc);
     for byte in case.script {
-        if *byte == b'~' {
-            for _ in 0..case.body {
-                script.extend_from_slice(b"61")?;
-            }
-        } else {
-            script.push(*byte)?;
+        match *byte {
+            b'~' => add_body(&mut script, b"61", case.body)?,
+            b'^' => add_body(&mut script, b"62", case.other)?,
+            other => script.push(other)?,
         }
     }
     Ok(script)
+}
+
+// What a script wrote, and how it ended.
+#[derive(Drop)]
+struct Ended {
+    answers: Vec<u8>,
+    status: u8,
+    words: String,
+}
+
+fn run_case(alloc: Global, case: &Case) -> Result<Ended, AllocError> {
+    let script = written_out(alloc, case)?;
+    let mut reader = script.as_slice();
+    let mut answers: Vec<u8> = Vec::new(alloc);
+    let mut watch = Watch::new();
+    Ok(
+        match run_script(alloc, &mut watch, &mut reader, &mut answers) {
+            Ok(()) => Ended {
+                answers,
+                status: 0,
+                words: String::new(alloc),
+            },
+            Err(fault) => Ended {
+                answers,
+                status: fault.status(),
+                words: format!(in alloc; "{fault}")?,
+            },
+        },
+    )
 }
 
 #[test]
 fn worked_cases(rt: HostRuntime) -> Result<(), Fail> {
     for case in &CASES {
         let name = case.name;
-        let script = written_out(rt.alloc(), case)?;
-        let mut reader = script.as_slice();
-        let mut answers: Vec<u8> = Vec::new(rt.alloc());
-        let mut watch = Watch::new();
-        match run_script(rt.alloc(), &mut watch, &mut reader, &mut answers) {
-            Ok(()) => {
-                assert_eq!(rt; 0, case.status, "{name}");
-                assert_eq!(rt; "", case.words, "{name}");
-            }
-            Err(fault) => {
-                assert_eq!(rt; fault.status(), case.status, "{name}");
-                let words = format!(in rt.alloc(); "{fault}")?;
-                assert_eq!(rt; words.as_str(), case.words, "{name}");
-            }
-        }
-        assert_eq!(rt; answers.as_slice(), case.answers, "{name}");
+        let ended = run_case(rt.alloc(), case)?;
+        assert_eq!(rt; ended.answers.as_slice(), case.answers, "{name}");
+        assert_eq!(rt; ended.status, case.status, "{name}");
+        assert_eq!(rt; ended.words.as_str(), case.words, "{name}");
+    }
+    Ok(())
+}
+
+#[test]
+fn worked_chains(rt: HostRuntime) -> Result<(), Fail> {
+    for case in &CHAINS {
+        let name = case.name;
+        let ended = run_case(rt.alloc(), case)?;
+        assert_eq!(rt; ended.answers.as_slice(), case.answers, "{name}");
+        assert_eq!(rt; ended.status, case.status, "{name}");
+    }
+    Ok(())
+}
+
+#[test]
+fn worked_pages(rt: HostRuntime) -> Result<(), Fail> {
+    for case in &PAGES {
+        let name = case.name;
+        let ended = run_case(rt.alloc(), case)?;
+        assert_eq!(rt; ended.answers.as_slice(), case.answers, "{name}");
+        assert_eq!(rt; ended.status, case.status, "{name}");
     }
     Ok(())
 }

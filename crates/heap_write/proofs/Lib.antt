@@ -1,1 +1,7 @@
-pub mod SearchLemmas
+pub mod PageLemmas
+pub mod IdLemmas
+pub mod PlaceLemmas
+pub mod Reserving
+pub mod KeyLemmas
+pub mod Writing
+pub mod Updating

@@ -1,2 +1,5 @@
 pub mod Heap
-pub mod Search
+pub mod Writes
+pub mod Refusals
+pub mod Growth
+pub mod Steps

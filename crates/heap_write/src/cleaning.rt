@@ -1,11 +1,14 @@
 //! A page is cleaned.
 
-ghost use Rattle.std.specs.Prelude.{◌≡◌, OnOk, OnErr, IfErr};
+ghost use Rattle.std.specs.Prelude.{◌≡◌, ◌<◌, length, OnOk, OnErr, IfErr};
 ghost use Rattle.xid_circle.specs.Circle.{IsNormal};
-ghost use Rattle.heap_write.specs.Heap.{Prunes, Unpruned};
+ghost use Rattle.heap_write.specs.Heap.{page_on};
+ghost use Rattle.heap_write.specs.Writes.{Prunes};
+ghost use Rattle.heap_write.specs.Refusals.{Unpruned};
 
 use crate::heap::HeapState;
 use prune::prune;
+use std::alloc::AllocError;
 use thiserror::Error;
 use xid_circle::Xid;
 
@@ -29,13 +32,29 @@ impl HeapState {
         ensures fault { IfErr result (λ fault. Unpruned self.old number fault) }
         ensures err { OnErr result (self.new ≡ self.old) }
     {
-        if number as usize >= self.pages.len() {
+        if number >= self.pages.len() {
             return Err(PruneFault::NoSuchPage);
         }
-        let page = &mut self.pages[number as usize];
-        match prune(self.alloc, page, &self.table, horizon) {
+        match self.prune_page(number, horizon) {
             Ok(()) => Ok(()),
             Err(_) => Err(PruneFault::NoMemory),
         }
+    }
+
+    /// Prunes the page of this number, which is in use.
+    pub(crate) fn prune_page(&mut self, number: u32, horizon: Xid) -> Result<(), AllocError>
+        requires within { number < length self.old.pages.pages }
+        requires normal { IsNormal horizon.0 }
+        ensures ok { OnOk result (Prunes self.old self.new number horizon.0) }
+        ensures spare { OnOk result ((page_on self.new number).spare ≡ (page_on self.old number).spare) }
+        ensures table { self.new.table ≡ self.old.table }
+        ensures err { OnErr result (self.new ≡ self.old) }
+    {
+        prune(
+            self.alloc,
+            self.pages.page_mut(number),
+            &self.table,
+            horizon,
+        )
     }
 }

@@ -1,20 +1,25 @@
-//! The pages and the ids of a table.
+//! The pages, the ids and the index of a table.
 
-ghost use Rattle.std.specs.Prelude.{◌≡◌, ◌≤◌, ◌<◌, ℕ, [], length, slice_get, option_copied, Contains, IsSome, OnOk};
+ghost use Rattle.std.specs.Prelude.{◌≡◌, ◌≤◌, ◌<◌, ℕ, [], length, slice_get, option_copied, Contains};
 ghost use Rattle.xid_circle.specs.Circle.{IsNormal};
-ghost use Rattle.commit_status.specs.Window.{IsGiven, IsActive, IsWindow};
+ghost use Rattle.commit_status.specs.Window.{IsActive, IsWindow};
 ghost use Rattle.commit_status.specs.Changes.{numbers, Finishes};
 
 use commit_status::{Status, StatusTable};
+use heap_pages::Pages;
 use page_slots::Page;
+use root_index::RootIndex;
 use std::alloc::Global;
 use std::marker::Model;
 use thiserror::Error;
 use xid_circle::Xid;
 
-/// Why a row was not written.
+/// Why a write was not done, in the order of the tests.
 #[derive(Clone, Copy, Debug, PartialEq, Eq, Error)]
 pub enum WriteFault {
+    /// There is no version at the place, or it went when its page was pruned.
+    #[error("the version is gone")]
+    Gone,
     /// The write needs an id, and none can be given before old ids are frozen.
     #[error("old ids have to be frozen first")]
     NeedsFreeze,
@@ -25,32 +30,37 @@ pub enum WriteFault {
     NoMemory,
 }
 
-/// The pages of a table, and what became of each id. For now a table has one page at most.
+/// The pages of a table, what became of each id, and the index by key.
 #[derive(Debug, Drop)]
 pub struct HeapState {
     pub(crate) alloc: Global,
-    pub(crate) pages: Vec<Page>,
+    pub(crate) pages: Pages,
     pub(crate) table: StatusTable,
+    pub(crate) index: RootIndex,
+    pub(crate) max_pages: u32,
 }
 
 impl Model for HeapState {
-    ghost use Rattle.std.specs.Prelude.{◌≤◌, ◌-◌, length, vec_len, vec_capacity};
+    ghost use Rattle.std.specs.Prelude.{◌≤◌, length};
     ghost use Rattle.heap_write.specs.Heap.{HeapView};
 
     ghost Value = { HeapView };
 
-    ghost view = { λ h. record { pages = h.pages.items; spare = vec_capacity h.pages - vec_len h.pages; table = h.table } };
+    ghost view = { λ h. record { pages = h.pages; table = h.table; index = h.index; max_pages = h.max_pages } };
 
-    ghost invariant = { λ h. length h.pages.items ≤ 1 };
+    ghost invariant = { λ h. h.max_pages ≤ 65536 };
 }
 
 impl HeapState {
-    /// A table without pages, whose first id is `first`. No id is given `stop_age` numbers from the oldest that is
-    /// remembered, or further.
-    pub fn new(alloc: Global, first: Xid, stop_age: u32) -> Self
+    /// A table without pages, of which there may be `max_pages`, up to 65536, and whose first id is `first`. No id is given
+    /// `stop_age` numbers from the oldest that is remembered, or further.
+    pub fn new(alloc: Global, first: Xid, stop_age: u32, max_pages: u32) -> Self
         requires normal { IsNormal first.0 }
         requires limit { stop_age ≤ 2144483648 }
-        ensures pages { result.pages ≡ [] }
+        requires few { max_pages ≤ 65536 }
+        ensures pages { result.pages.pages ≡ [] }
+        ensures index { result.index.entries ≡ [] }
+        ensures max_pages { result.max_pages ≡ max_pages }
         ensures first { result.table.first ≡ first.0 }
         ensures stop_age { result.table.stop_age ≡ stop_age }
         ensures entries { result.table.entries ≡ [] }
@@ -60,8 +70,10 @@ impl HeapState {
         table.is_window();
         HeapState {
             alloc,
-            pages: Vec::new(alloc),
+            pages: Pages::new(alloc),
             table,
+            index: RootIndex::new(alloc),
+            max_pages,
         }
     }
 
@@ -72,18 +84,26 @@ impl HeapState {
         &self.table
     }
 
+    /// The index by key: an entry for the root of each chain.
+    pub fn index(&self) -> &RootIndex
+        ensures { result.now ≡ self.now.index }
+    {
+        &self.index
+    }
+
     /// The page of this number, counted from 0, if it is in use.
     pub fn page(&self, number: u32) -> Option<&Page>
-        ensures { option_copied result ≡ slice_get self.now.pages number }
+        ensures { option_copied result ≡ slice_get self.now.pages.pages number }
     {
-        self.pages.get(number as usize)
+        self.pages.page(number)
     }
 
     /// Gives these ids in progress their final status, all in one step. It takes no memory.
     pub fn finish(&mut self, ids: &[Xid], status: Status)
         requires { (x : ℕ) → Contains (numbers ids.now) x → IsActive self.old.table x }
         ensures pages { self.new.pages ≡ self.old.pages }
-        ensures spare { self.new.spare ≡ self.old.spare }
+        ensures index { self.new.index ≡ self.old.index }
+        ensures max_pages { self.new.max_pages ≡ self.old.max_pages }
         ensures finishes { Finishes self.old.table self.new.table (numbers ids.now) status }
         ensures window { IsWindow self.new.table }
     {

@@ -1,183 +1,124 @@
 //! A new row.
 
-ghost use Rattle.std.specs.Prelude.{◌≡◌, ◌≤◌, ◌<◌, ℕ, [], ◌∷◌, length, IsSome, IsTrue, IfOk, IfSome, OnOk, OnErr, IfErr, MatchResult, MatchOption, ◌≢◌, ◌↔◌, ◌⊎◌, Some, None, true, false};
-ghost use Rattle.xid_circle.specs.Circle.{IsNormal, distance_of};
-ghost use Rattle.page_slots.specs.Slots.{room_of, free_number, with_added, has_unused, next_change};
-ghost use Rattle.page_slots.specs.declared.slot.Slot.{Slot};
+ghost use Rattle.std.specs.Prelude.{◌≡◌, ◌≢◌, ◌<◌, ◌≤◌, ◌⊎◌, false, pos, IfErr, IfOk, IfSome, IsTrue, MatchOption, OnErr, ◌↔◌};
+ghost use Rattle.xid_circle.specs.Circle.{IsNormal};
+ghost use Rattle.page_slots.specs.Slots.{free_number};
 ghost use Rattle.tuple_header.specs.Version.{rounded_size_of};
 ghost use Rattle.commit_status.specs.Window.{IsWindow};
-ghost use Rattle.heap_write.specs.Heap.{NeedsFreeze, HasRoom, first_slots, version_made, TakesId, Keeps, Inserts, NeedsMemory, LacksNothing, Lacks};
+ghost use Rattle.root_index.specs.Sets.{Adds};
+ghost use Rattle.heap_write.specs.Heap.{key_value, page_on, Keeps};
+ghost use Rattle.heap_write.specs.Writes.{NeedsFreeze, TakesId, IsFull, PutsRoot, Inserts};
+ghost use Rattle.heap_write.specs.Refusals.{LacksForInsert, NeedsId};
+ghost use Rattle.heap_write.specs.Growth.{IsReady, target_number};
 
 use crate::heap::{HeapState, WriteFault};
-use commit_status::{GiveFault, StatusTable};
-use page_slots::Page;
-use tuple_header::{Header, Row, Tuple};
+use crate::ids::{needs_freeze, reserve_id, take_id};
+use crate::target::{Target, put_version, reserve_place, size_of};
+use heap_pages::Place;
+use root_index::{Entry, RootIndex};
+use tuple_header::Row;
 use xid_circle::{Tid, Xid};
 
-/// How many bytes a version of the row takes on a page.
-fn size_of(row: &Row) -> usize
-    ensures { result ≡ rounded_size_of row.now }
-{
-    (66 + row.body.len()).next_multiple_of(8)
-}
-
-/// Whether the write needs an id that cannot be given.
-fn needs_freeze(table: &StatusTable, id: Option<Xid>) -> bool
-    ensures { IsTrue result ↔ NeedsFreeze table.now id }
-{
-    match id {
-        Some(_) => false,
-        None => !table.can_give(1),
-    }
-}
-
-/// The id, or a new one where there is none.
-fn take_id(table: &mut StatusTable, id: Option<Xid>) -> Result<Xid, WriteFault>
-    requires free { NeedsFreeze table.old id → ⊥ }
-    requires normal { IfSome id (λ x. IsNormal x.0) }
-    ensures ok { IfOk result (λ x. TakesId table.old table.new id x.0) }
-    ensures normal { IfOk result (λ x. IsNormal x.0) }
-    ensures err { OnErr result (table.new ≡ table.old) }
-    ensures fault { IfErr result (λ fault. fault ≡ WriteFault.NoMemory) }
-    ensures no_memory { OnErr result ((id ≡ None) × (table.old.spare ≡ 0)) }
-    ensures window { OnOk result (IsWindow table.new) }
-{
-    let _next = table.next();
-    table.is_window();
-    match id {
-        Some(x) => Ok(x),
-        None => match table.give(None) {
-            Ok(x) => {
-                table.is_window();
-                Ok(x)
-            }
-            Err(GiveFault::NeedsFreeze) => unreachable!(),
-            Err(GiveFault::NoMemory) => Err(WriteFault::NoMemory),
-        },
-    }
-}
-
-/// Adds a version of the row to the first page, which has room and memory for it.
-fn add(page: &mut Page, x: Xid, row: Row)
-    requires normal { IsNormal x.0 }
-    requires room { rounded_size_of row ≤ room_of page.old.slots }
-    requires memory { (has_unused page.old.slots ≡ true) ⊎ (0 < page.old.spare) }
-    ensures slots { page.new.slots ≡ with_added page.old.slots (Slot.Normal (version_made x.0 page.old.slots row)) }
-    ensures change { page.new.change ≡ next_change page.old.change }
-    ensures flag { page.new.flag ≡ page.old.flag }
-{
-    let _room = page.room();
-    let slot = page.free_number();
-    let header = Header::inserted(x, Tid { page: 0, slot });
-    match page.add(Tuple { header, row }) {
-        Ok(_) => {}
-        Err(_) => unreachable!(),
-    }
-}
-
 impl HeapState {
-    /// Writes a row of a key that has none, under the id, or under a new one where there is none, and answers that
-    /// id. It answers NeedsFreeze exactly where an id is needed and none can be given, else NoRoom exactly where the
-    /// row is larger than the room of the only page, else NoMemory only where something had to grow. A refused write
-    /// changes nothing and gives no id.
+    /// Inserts a version of the row as a root, with an entry, under the id, or under a new one where there is none, and
+    /// answers that id. It answers NeedsFreeze exactly where an id is needed and none can be given, else NoRoom exactly
+    /// where all pages that there may be are in use and none has room, else NoMemory only where something has to grow. A
+    /// refused insert changes nothing and gives no id. (PostgreSQL, `heap_insert` in src/backend/access/heap/heapam.c.)
     pub fn insert(&mut self, id: Option<Xid>, row: Row) -> Result<Xid, WriteFault>
         requires { IfSome id (λ x. IsNormal x.0) }
         ensures ok { IfOk result (λ x. Inserts self.old self.new id row x.0) }
-        ensures window { OnOk result (IsWindow self.new.table) }
-        ensures normal { IfOk result (λ x. IsNormal x.0) }
-        ensures exact { MatchResult result (λ x. LacksNothing self.old id row) (λ fault. Lacks self.old id row fault) }
+        ensures fault { IfErr result (λ fault. LacksForInsert self.old id row fault) }
         ensures err { OnErr result (Keeps self.old self.new) }
+        ensures window { IsWindow self.new.table }
+        ensures normal { IfOk result (λ x. IsNormal x.0) }
     {
-        if let Some(fault) = self.lacks(id, &row) {
-            return Err(fault);
+        self.table.is_window();
+        if needs_freeze(&self.table, id) {
+            return Err(WriteFault::NeedsFreeze);
         }
-        if self.pages.is_empty() {
-            self.insert_first(id, row)
-        } else {
-            self.insert_more(id, row)
+        match reserve_place(self.alloc, &mut self.pages, size_of(&row), self.max_pages) {
+            Ok(Some(target)) => self.insert_at(target, id, row),
+            Ok(None) => Err(WriteFault::NoRoom),
+            Err(_) => Err(WriteFault::NoMemory),
         }
     }
 
-    /// What a row lacks to be written under the id, or under a new one where there is none: NeedsFreeze where an id is
-    /// needed and none can be given, else NoRoom where the row is larger than the room of the only page.
-    pub fn lacks(&self, id: Option<Xid>, row: &Row) -> Option<WriteFault>
-        ensures { MatchOption result (LacksNothing self.now id row.now) (λ fault. (fault ≢ WriteFault.NoMemory) × Lacks self.now id row.now fault) }
+    /// What an insert lacks that has as much memory as it needs: NeedsFreeze where an id is needed and none can be given,
+    /// else NoRoom where all pages that there may be are in use and none has room.
+    pub fn lacks_for_insert(&self, id: Option<Xid>, row: &Row) -> Option<WriteFault>
+        ensures { MatchOption result ((¬ NeedsFreeze self.now.table id) × (¬ IsFull self.now (rounded_size_of row.now))) (λ fault. (fault ≢ WriteFault.NoMemory) × LacksForInsert self.now id row.now fault) }
     {
         if needs_freeze(&self.table, id) {
             return Some(WriteFault::NeedsFreeze);
         }
-        if size_of(row) > self.room() {
-            return Some(WriteFault::NoRoom);
+        match self.pages.place_for(size_of(row), self.max_pages) {
+            Place::Nowhere => Some(WriteFault::NoRoom),
+            _ => None,
         }
-        None
     }
 
-    /// The room of the only page, or of one that would be made.
-    fn room(&self) -> usize
-        ensures { result ≡ room_of (first_slots self.now.pages) }
+    /// Whether a write under the id, or under a new one where there is none, needs an id that cannot be given before old
+    /// ids are frozen.
+    pub fn needs_freeze(&self, id: Option<Xid>) -> bool
+        ensures { IsTrue result ↔ NeedsFreeze self.now.table id }
     {
-        match self.pages.first() {
-            Some(page) => page.room(),
-            None => 8164,
-        }
+        needs_freeze(&self.table, id)
     }
 
-    /// Writes the first row of the table.
-    fn insert_first(&mut self, id: Option<Xid>, row: Row) -> Result<Xid, WriteFault>
-        requires none { self.old.pages ≡ [] }
-        requires free { NeedsFreeze self.old.table id → ⊥ }
-        requires normal { IfSome id (λ x. IsNormal x.0) }
-        requires room { HasRoom self.old row }
-        ensures ok { IfOk result (λ x. Inserts self.old self.new id row x.0) }
-        ensures window { OnOk result (IsWindow self.new.table) }
-        ensures normal { IfOk result (λ x. IsNormal x.0) }
-        ensures exact { MatchResult result (λ x. LacksNothing self.old id row) (λ fault. Lacks self.old id row fault) }
+    /// Inserts a version of the row where it goes, unless the index or the table of ids has to grow and cannot.
+    fn insert_at(&mut self, target: Target, id: Option<Xid>, row: Row) -> Result<Xid, WriteFault>
+        requires id { IfSome id (λ x. IsNormal x.0) }
+        requires free { ¬ NeedsFreeze self.old.table id }
+        requires ready { IsReady self.old.pages (rounded_size_of row) target }
+        ensures takes { IfOk result (λ x. TakesId self.old.table self.new.table id x.0) }
+        ensures root { IfOk result (λ x. PutsRoot self.old self.new false x.0 row (target_number self.old.pages.pages target)) }
+        ensures max_pages { self.new.max_pages ≡ self.old.max_pages }
+        ensures needs { OnErr result ((self.old.index.spare ≡ 0) ⊎ NeedsId self.old id) }
+        ensures fault { IfErr result (λ fault. fault ≡ WriteFault.NoMemory) }
         ensures err { OnErr result (Keeps self.old self.new) }
+        ensures window { IsWindow self.new.table }
+        ensures normal { IfOk result (λ x. IsNormal x.0) }
     {
-        let mut page = Page::new(self.alloc);
-        if page.make_room(1).is_err() || self.pages.reserve(1).is_err() {
+        if self.index.make_room(1).is_err() || reserve_id(&mut self.table, id).is_err() {
+            self.table.is_window();
             return Err(WriteFault::NoMemory);
         }
-        let x = take_id(&mut self.table, id)?;
-        add(&mut page, x, row);
-        self.pages.push_reserved(page);
+        let x = take_id(&mut self.table, id);
+        let _place = self.put_root(target, false, x, row);
         Ok(x)
     }
 
-    /// Writes a row on the page that is there.
-    fn insert_more(&mut self, id: Option<Xid>, row: Row) -> Result<Xid, WriteFault>
-        requires some { 0 < length self.old.pages }
-        requires free { NeedsFreeze self.old.table id → ⊥ }
-        requires normal { IfSome id (λ x. IsNormal x.0) }
-        requires room { HasRoom self.old row }
-        ensures ok { IfOk result (λ x. Inserts self.old self.new id row x.0) }
-        ensures window { OnOk result (IsWindow self.new.table) }
-        ensures normal { IfOk result (λ x. IsNormal x.0) }
-        ensures exact { MatchResult result (λ x. LacksNothing self.old id row) (λ fault. Lacks self.old id row fault) }
-        ensures err { OnErr result (Keeps self.old self.new) }
+    /// Makes a version of the row as a root where one goes, with an entry for it, and answers its place.
+    pub(crate) fn put_root(&mut self, target: Target, updated: bool, x: Xid, row: Row) -> Tid
+        requires normal { IsNormal x.0 }
+        requires ready { IsReady self.old.pages (rounded_size_of row) target }
+        requires entry { 0 < self.old.index.spare }
+        ensures root { PutsRoot self.old self.new updated x.0 row result.page }
+        ensures page { result.page ≡ target_number self.old.pages.pages target }
+        ensures slot { result.slot ≡ free_number (page_on self.old result.page).slots }
+        ensures limit { result.slot ≤ 291 }
+        ensures table { self.new.table ≡ self.old.table }
+        ensures max_pages { self.new.max_pages ≡ self.old.max_pages }
     {
-        let page = &mut self.pages[0];
-        make_room(page)?;
-        let x = take_id(&mut self.table, id)?;
-        add(&mut self.pages[0], x, row);
-        Ok(x)
+        let key = row.key;
+        let tid = put_version(&mut self.pages, target, updated, x, row);
+        enter(&mut self.index, key, tid);
+        tid
     }
 }
 
-/// Makes room in memory for one more version.
-fn make_room(page: &mut Page) -> Result<(), WriteFault>
-    ensures slots { page.new.slots ≡ page.old.slots }
-    ensures change { page.new.change ≡ page.old.change }
-    ensures flag { page.new.flag ≡ page.old.flag }
-    ensures ok { OnOk result ((has_unused page.old.slots ≡ true) ⊎ (0 < page.new.spare)) }
-    ensures fault { IfErr result (λ fault. fault ≡ WriteFault.NoMemory) }
-    ensures no_memory { OnErr result ((has_unused page.old.slots ≡ false) × (page.old.spare ≡ 0)) }
+/// Adds the entry for a root of the key, for which there is memory.
+fn enter(index: &mut RootIndex, key: u64, tid: Tid)
+    requires { 0 < index.old.spare }
+    ensures { Adds index.old.entries index.new.entries (record { value = pos key; key = key; tid = tid }) }
 {
-    if page.free_number() <= page.slots() {
-        return Ok(());
-    }
-    match page.make_room(1) {
-        Ok(()) => Ok(()),
-        Err(_) => Err(WriteFault::NoMemory),
+    let entry = Entry {
+        value: i128::from(key),
+        key,
+        tid,
+    };
+    match index.insert(entry) {
+        Ok(()) => {}
+        Err(_) => unreachable!(),
     }
 }

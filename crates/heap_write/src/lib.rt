@@ -1,14 +1,19 @@
-//! The table's pages with the status of its ids, and writes on them.
+//! A table: its pages, the status of its ids and its index by key, and writes on them.
 //!
-//! Callers see a [`HeapState`] as a `HeapView` (`specs/Heap.antt`): the list of its pages, each a list of slots, and
-//! the window of its ids. A write tests everything first, then asks for all the memory that it needs, and only then
-//! changes anything; so a refused write leaves pages and ids as they were.
+//! A write either is done and gives its id, or is refused for the first of its reasons, and then changes nothing; only an
+//! update that ends in NoRoom or Gone may have pruned the page of the old version. `specs/Writes.antt` says what each write
+//! does, and `specs/Refusals.antt` why one is refused. Whatever has to grow is grown before the first change, so that nothing is left
+//! half done (`specs/Growth.antt`). What is looked for is found through the index.
 #![tactic(auto)]
 
 mod cleaning;
+mod delete;
 mod heap;
+mod ids;
 mod insert;
-mod search;
+mod looking;
+mod target;
+mod update;
 
 pub use cleaning::PruneFault;
 pub use heap::{HeapState, WriteFault};

@@ -12,14 +12,14 @@ use Rattle.std.proofs.lemmas.Slice.Eq.{bytes_eq-Decides}
 use Rattle.std.proofs.lemmas.Bool.{lt-leb, cases_lt}
 use Rattle.std.proofs.lemmas.List.{nil_from_length, append-nil}
 use Rattle.std.proofs.lemmas.Int.{ints}
-use Rattle.script.specs.Engine.{Begin, Get, Insert, Commit, Abort, Prune, RowText}
+use Rattle.script.specs.Engine.{Begin, Get, Insert, Update, Delete, Commit, Abort, Prune, RowText}
 use Rattle.script.specs.declared.line.Line.{Line}
-use Rattle.script.specs.declared.line.Line.TheVariants.{Do, Ids, Page}
+use Rattle.script.specs.declared.line.Line.TheVariants.{Do, Ids, Page, Entries}
 use Rattle.script.specs.declared.line.Verb.{Verb}
-use Rattle.script.specs.declared.line.Verb.TheVariants.{Get as get_verb, Begin as begin_verb, Commit as commit_verb, Insert as insert_verb, Abort as abort_verb, Prune as prune_verb, Page as page_verb}
+use Rattle.script.specs.declared.line.Verb.TheVariants.{Get as get_verb, Begin as begin_verb, Commit as commit_verb, Insert as insert_verb, Update as update_verb, Delete as delete_verb, Abort as abort_verb, Prune as prune_verb, Page as page_verb, Entries as entries_verb}
 use Rattle.script.specs.Verbs.{verb_of, verb_text}
-use Rattle.script.specs.Grammar.{Fits, StepFits, spelling, spaced, hex_text, body_text, row_text}
-use Rattle.script.specs.Reading.{line_at, line_of, cut, number_of, number_then, column_of, column_then, nibble_of, pair_and, pairs_of, body_of, insert_of, get_of}
+use Rattle.script.specs.Grammar.{Fits, KeyFits, RowFits, spelling, spaced, hex_text, body_text, row_text, key_words, row_words}
+use Rattle.script.specs.Reading.{line_at, line_of, cut, number_of, number_then, column_of, column_then, nibble_of, pair_and, pairs_of, body_of, row_words_of, key_words_of}
 use Rattle.script.proofs.ByteLemmas.{Free, Free-append}
 use Rattle.script.proofs.NumberLaws.{guarded, unguarded, bound, mapped, both_true, cut_says, cut-free, number_of_says, number_of-decimal, number_then_says, number_then-decimal, decimal_free}
 
@@ -205,14 +205,14 @@ body_of-text (b ∷ bs) h =
     let more : eqb (length (digit_glyph false (b % 16) ∷ hex_text bs)) 0 ≡ false = grind (arith, nat_tests) in
     rw (more, and_none (eqb (digit_glyph false (b / 16)) 45)) (pairs_of-hex (b ∷ bs) h)
 
-get_of_says : (xs : List ℕ) (c : Line) → get_of xs ≡ Some c → Fits c × (codes "get" ++ spaced xs ≡ spelling c)
-unfolding get_of
-get_of_says xs c h =
-    let s = bound (number_then 255 xs) _ c h in
-    let k = bound (number_of (2 ^ 64 - 1) s.0.1) _ c s.2 in
+key_words_of_says : (xs : List ℕ) (p : ℕ × ℕ) → key_words_of xs ≡ Some p → KeyFits p.0 p.1 × (xs ≡ key_words p.0 p.1)
+unfolding key_words_of
+key_words_of_says xs p h =
+    let s = bound (number_then 255 xs) _ p h in
+    let k = bound (number_of (2 ^ 64 - 1) s.0.1) _ p s.2 in
     let s_is = number_then_says 255 xs s.0.0 s.0.1 (omega arith) s.1 in
     let k_is = number_of_says (2 ^ 64 - 1) s.0.1 k.0 (omega arith) k.1 in
-    rw (← same_Some _ c k.2) ((omega (arith, s_is.1), omega (arith, k_is.1)), ap (λ r. codes "get" ++ spaced r) (s_is.0 ∙ ap (λ r. decimal s.0.0 ++ spaced r) k_is.0))
+    rw (← same_Some _ p k.2) ((omega (arith, s_is.1), omega (arith, k_is.1)), s_is.0 ∙ ap (λ r. decimal s.0.0 ++ spaced r) k_is.0)
 
 pub row_chain : (xs r0 r1 r2 r3 r4 r5 ds dk s0 s1 s2 s3 sb : List ℕ) → xs ≡ ds ++ 32 ∷ r0 → r0 ≡ dk ++ 32 ∷ r1 → r1 ≡ s0 ++ 32 ∷ r2 → r2 ≡ s1 ++ 32 ∷ r3 → r3 ≡ s2 ++ 32 ∷ r4 → r4 ≡ s3 ++ 32 ∷ r5 → r5 ≡ sb
     → xs ≡ ds ++ 32 ∷ (dk ++ 32 ∷ (s0 ++ 32 ∷ (s1 ++ 32 ∷ (s2 ++ 32 ∷ (s3 ++ 32 ∷ sb)))))
@@ -226,16 +226,16 @@ regroup dk s0 s1 s2 s3 sb =
     let e0 : (s0 ++ 32 ∷ (s1 ++ 32 ∷ (s2 ++ 32 ∷ (s3 ++ [])))) ++ (32 ∷ sb) ≡ s0 ++ 32 ∷ (s1 ++ 32 ∷ (s2 ++ 32 ∷ (s3 ++ 32 ∷ sb))) = append_assoc s0 (32 ∷ (s1 ++ 32 ∷ (s2 ++ 32 ∷ (s3 ++ [])))) (32 ∷ sb) ∙ ap (λ r. s0 ++ 32 ∷ r) e1 in
     ap (λ r. dk ++ 32 ∷ r) (sym e0)
 
-insert_of_says : (xs : List ℕ) (c : Line) → insert_of xs ≡ Some c → Fits c × (codes "insert" ++ spaced xs ≡ spelling c)
-unfolding insert_of
-insert_of_says xs c h =
-    let s = bound (number_then 255 xs) _ c h in
-    let k = bound (number_then (2 ^ 64 - 1) s.0.1) _ c s.2 in
-    let c0 = bound (column_then k.0.1) _ c k.2 in
-    let c1 = bound (column_then c0.0.1) _ c c0.2 in
-    let c2 = bound (column_then c1.0.1) _ c c1.2 in
-    let c3 = bound (column_then c2.0.1) _ c c2.2 in
-    let b = bound (body_of c3.0.1) _ c c3.2 in
+row_words_of_says : (xs : List ℕ) (p : ℕ × RowText) → row_words_of xs ≡ Some p → RowFits p.0 p.1 × (xs ≡ row_words p.0 p.1)
+unfolding row_words_of
+row_words_of_says xs p h =
+    let s = bound (number_then 255 xs) _ p h in
+    let k = bound (number_then (2 ^ 64 - 1) s.0.1) _ p s.2 in
+    let c0 = bound (column_then k.0.1) _ p k.2 in
+    let c1 = bound (column_then c0.0.1) _ p c0.2 in
+    let c2 = bound (column_then c1.0.1) _ p c1.2 in
+    let c3 = bound (column_then c2.0.1) _ p c2.2 in
+    let b = bound (body_of c3.0.1) _ p c3.2 in
     let s_is = number_then_says 255 xs s.0.0 s.0.1 (omega arith) s.1 in
     let k_is = number_then_says (2 ^ 64 - 1) s.0.1 k.0.0 k.0.1 (omega arith) k.1 in
     let d0 = column_then_says k.0.1 c0.0.0 c0.0.1 c0.1 in
@@ -243,12 +243,10 @@ insert_of_says xs c h =
     let d2 = column_then_says c1.0.1 c2.0.0 c2.0.1 c2.1 in
     let d3 = column_then_says c2.0.1 c3.0.0 c3.0.1 c3.1 in
     let b_is = body_of_says c3.0.1 b.0 b.1 in
-    rw (← same_Some _ c b.2) (
+    rw (← same_Some _ p b.2) (
       (omega (arith, s_is.1), omega (arith, k_is.1), refl, (d0.1, (d1.1, (d2.1, (d3.1, tt)))), b_is.1),
-      ap (λ r. codes "insert" ++ spaced r) (
-          row_chain xs _ _ _ _ _ _ (decimal s.0.0) (decimal k.0.0) (signed_decimal c0.0.0) (signed_decimal c1.0.0) (signed_decimal c2.0.0) (signed_decimal c3.0.0) (body_text b.0) s_is.0 k_is.0 d0.0 d1.0 d2.0 d3.0 b_is.0
-          ∙ ap (λ r. decimal s.0.0 ++ 32 ∷ r) (regroup (decimal k.0.0) (signed_decimal c0.0.0) (signed_decimal c1.0.0) (signed_decimal c2.0.0) (signed_decimal c3.0.0) (body_text b.0))
-          ),
+      row_chain xs _ _ _ _ _ _ (decimal s.0.0) (decimal k.0.0) (signed_decimal c0.0.0) (signed_decimal c1.0.0) (signed_decimal c2.0.0) (signed_decimal c3.0.0) (body_text b.0) s_is.0 k_is.0 d0.0 d1.0 d2.0 d3.0 b_is.0
+          ∙ ap (λ r. decimal s.0.0 ++ 32 ∷ r) (regroup (decimal k.0.0) (signed_decimal c0.0.0) (signed_decimal c1.0.0) (signed_decimal c2.0.0) (signed_decimal c3.0.0) (body_text b.0)),
     )
 
 pub verb_is : (v w : List ℕ) → bytes_eq v w ≡ true → v ≡ w
@@ -262,14 +260,32 @@ one_number verb max make rest l fits h =
     let says = number_of_says max rest m.0 fits m.1 in
     (m.0, says.1, m.2, ap (λ r. verb ++ spaced r) says.0)
 
+-- a verb, a session and a key, or a row
+one_key : (verb : List ℕ) (make : ℕ × ℕ → Line) (rest : List ℕ) (l : Line) → option_map make (key_words_of rest) ≡ Some l
+    → (p : ℕ × ℕ) × KeyFits p.0 p.1 × (make p ≡ l) × (verb ++ spaced rest ≡ verb ++ spaced (key_words p.0 p.1))
+one_key verb make rest l h =
+    let m = mapped (key_words_of rest) make l h in
+    let says = key_words_of_says rest m.0 m.1 in
+    (m.0, says.0, m.2, ap (λ r. verb ++ spaced r) says.1)
+
+one_row : (verb : List ℕ) (make : ℕ × RowText → Line) (rest : List ℕ) (l : Line) → option_map make (row_words_of rest) ≡ Some l
+    → (p : ℕ × RowText) × RowFits p.0 p.1 × (make p ≡ l) × (verb ++ spaced rest ≡ verb ++ spaced (row_words p.0 p.1))
+one_row verb make rest l h =
+    let m = mapped (row_words_of rest) make l h in
+    let says = row_words_of_says rest m.0 m.1 in
+    (m.0, says.0, m.2, ap (λ r. verb ++ spaced r) says.1)
+
 line_of_says : (verb : Verb) (rest : List ℕ) (l : Line) → line_of verb rest ≡ Some l → Fits l × (verb_text verb ++ spaced rest ≡ spelling l)
-line_of_says get_verb rest l h = get_of_says rest l h
+line_of_says get_verb rest l h = let m = one_key (codes "get") (λ p. Do (Get p.0 p.1)) rest l h in rw (← m.2) (m.1, m.3)
 line_of_says begin_verb rest l h = let m = one_number (codes "begin") 255 (λ s. Do (Begin s)) rest l (omega arith) h in rw (← m.2) (omega (arith, m.1), m.3)
 line_of_says commit_verb rest l h = let m = one_number (codes "commit") 255 (λ s. Do (Commit s)) rest l (omega arith) h in rw (← m.2) (omega (arith, m.1), m.3)
-line_of_says insert_verb rest l h = insert_of_says rest l h
+line_of_says insert_verb rest l h = let m = one_row (codes "insert") (λ p. Do (Insert p.0 p.1)) rest l h in rw (← m.2) (m.1, m.3)
+line_of_says update_verb rest l h = let m = one_row (codes "update") (λ p. Do (Update p.0 p.1)) rest l h in rw (← m.2) (m.1, m.3)
+line_of_says delete_verb rest l h = let m = one_key (codes "delete") (λ p. Do (Delete p.0 p.1)) rest l h in rw (← m.2) (m.1, m.3)
 line_of_says abort_verb rest l h = let m = one_number (codes "abort") 255 (λ s. Do (Abort s)) rest l (omega arith) h in rw (← m.2) (omega (arith, m.1), m.3)
 line_of_says prune_verb rest l h = let m = one_number (codes "prune") 4294967295 (λ p. Do (Prune p)) rest l (omega arith) h in rw (← m.2) (omega (arith, m.1), m.3)
 line_of_says page_verb rest l h = let m = one_number (codes "page") 4294967295 (λ p. Page p) rest l (omega arith) h in rw (← m.2) (omega (arith, m.1), m.3)
+line_of_says entries_verb rest l h = let m = one_number (codes "entries") 255 (λ i. Entries i) rest l (omega arith) h in rw (← m.2) (omega (arith, m.1), m.3)
 
 find_says : {A : Type 0} (p : A → Bool) (xs : List A) (y : A) → find p xs ≡ Some y → p y ≡ true
 find_says p [] y h = absurd (none-some y h)
@@ -280,7 +296,7 @@ find_says p (x ∷ xs) y h = elim (chosen (p x) (Some x) (find p xs) (Some y) h)
 
 -- the verb that a word is found to be spells that word
 verb_of_says : (w : List ℕ) (verb : Verb) → verb_of w ≡ Some verb → w ≡ verb_text verb
-verb_of_says w verb h = verb_is w (verb_text verb) (find_says (λ verb. bytes_eq w (verb_text verb)) (get_verb ∷ begin_verb ∷ commit_verb ∷ insert_verb ∷ abort_verb ∷ prune_verb ∷ page_verb ∷ []) verb h)
+verb_of_says w verb h = verb_is w (verb_text verb) (find_says (λ verb. bytes_eq w (verb_text verb)) (get_verb ∷ begin_verb ∷ commit_verb ∷ insert_verb ∷ update_verb ∷ delete_verb ∷ abort_verb ∷ prune_verb ∷ page_verb ∷ entries_verb ∷ []) verb h)
 
 pub line_at_says : (w : List ℕ) (l : Line) → line_at w ≡ Some l → Fits l × (w ≡ spelling l)
 unfolding line_at
@@ -301,10 +317,10 @@ four (a ∷ b ∷ c ∷ []) h = absurd (omega arith)
 four (a ∷ b ∷ c ∷ d ∷ []) h = (a, b, c, d, refl)
 four (a ∷ b ∷ c ∷ d ∷ e ∷ r) h = absurd (omega arith)
 
-insert_of-row : (s k : ℕ) (c0 c1 c2 c3 : ℤ) (body : List ℕ) → s < 2 ^ 8 → k < 2 ^ 64 → FitsSigned w64 c0 → FitsSigned w64 c1 → FitsSigned w64 c2 → FitsSigned w64 c3 → AllByRecursion (λ b. b < 2 ^ 8) body
-    → insert_of (decimal s ++ 32 ∷ (decimal k ++ 32 ∷ (signed_decimal c0 ++ 32 ∷ (signed_decimal c1 ++ 32 ∷ (signed_decimal c2 ++ 32 ∷ (signed_decimal c3 ++ 32 ∷ body_text body)))))) ≡ Some (Do (Insert s (record { key = k; cols = c0 ∷ c1 ∷ c2 ∷ c3 ∷ []; body = body })))
-unfolding insert_of
-insert_of-row s k c0 c1 c2 c3 body hs hk h0 h1 h2 h3 hb =
+row_words_of-spelled : (s k : ℕ) (c0 c1 c2 c3 : ℤ) (body : List ℕ) → s < 2 ^ 8 → k < 2 ^ 64 → FitsSigned w64 c0 → FitsSigned w64 c1 → FitsSigned w64 c2 → FitsSigned w64 c3 → AllByRecursion (λ b. b < 2 ^ 8) body
+    → row_words_of (decimal s ++ 32 ∷ (decimal k ++ 32 ∷ (signed_decimal c0 ++ 32 ∷ (signed_decimal c1 ++ 32 ∷ (signed_decimal c2 ++ 32 ∷ (signed_decimal c3 ++ 32 ∷ body_text body)))))) ≡ Some (s, record { key = k; cols = c0 ∷ c1 ∷ c2 ∷ c3 ∷ []; body = body })
+unfolding row_words_of
+row_words_of-spelled s k c0 c1 c2 c3 body hs hk h0 h1 h2 h3 hb =
     rw (
       number_then-decimal 255 s (decimal k ++ 32 ∷ (signed_decimal c0 ++ 32 ∷ (signed_decimal c1 ++ 32 ∷ (signed_decimal c2 ++ 32 ∷ (signed_decimal c3 ++ 32 ∷ body_text body))))) (omega arith) (omega arith),
       number_then-decimal (2 ^ 64 - 1) k (signed_decimal c0 ++ 32 ∷ (signed_decimal c1 ++ 32 ∷ (signed_decimal c2 ++ 32 ∷ (signed_decimal c3 ++ 32 ∷ body_text body)))) (omega arith) (omega arith),
@@ -321,24 +337,24 @@ with_verb : (verb : Verb) (rest : List ℕ) → Free 32 (verb_text verb) → ver
 unfolding line_at
 with_verb verb rest free same other = rw (other, cut-free (verb_text verb) rest free, same) refl
 
-insert_line : (s k : ℕ) (c0 c1 c2 c3 : ℤ) (body : List ℕ) → s < 2 ^ 8 → k < 2 ^ 64 → FitsSigned w64 c0 → FitsSigned w64 c1 → FitsSigned w64 c2 → FitsSigned w64 c3 → AllByRecursion (λ b. b < 2 ^ 8) body
-    → insert_of (decimal s ++ spaced (row_text k (c0 ∷ c1 ∷ c2 ∷ c3 ∷ []) body)) ≡ Some (Do (Insert s (record { key = k; cols = c0 ∷ c1 ∷ c2 ∷ c3 ∷ []; body = body })))
-insert_line s k c0 c1 c2 c3 body hs hk h0 h1 h2 h3 hb =
-    ap (λ r. insert_of (decimal s ++ 32 ∷ r)) (sym (regroup (decimal k) (signed_decimal c0) (signed_decimal c1) (signed_decimal c2) (signed_decimal c3) (body_text body)))
-    ∙ insert_of-row s k c0 c1 c2 c3 body hs hk h0 h1 h2 h3 hb
+row_words_of-columns : (s k : ℕ) (c0 c1 c2 c3 : ℤ) (body : List ℕ) → s < 2 ^ 8 → k < 2 ^ 64 → FitsSigned w64 c0 → FitsSigned w64 c1 → FitsSigned w64 c2 → FitsSigned w64 c3 → AllByRecursion (λ b. b < 2 ^ 8) body
+    → row_words_of (decimal s ++ spaced (row_text k (c0 ∷ c1 ∷ c2 ∷ c3 ∷ []) body)) ≡ Some (s, record { key = k; cols = c0 ∷ c1 ∷ c2 ∷ c3 ∷ []; body = body })
+row_words_of-columns s k c0 c1 c2 c3 body hs hk h0 h1 h2 h3 hb =
+    ap (λ r. row_words_of (decimal s ++ 32 ∷ r)) (sym (regroup (decimal k) (signed_decimal c0) (signed_decimal c1) (signed_decimal c2) (signed_decimal c3) (body_text body)))
+    ∙ row_words_of-spelled s k c0 c1 c2 c3 body hs hk h0 h1 h2 h3 hb
 
-insert_row : (s : ℕ) (row : RowText) → StepFits (Insert s row) → insert_of (decimal s ++ spaced (row_text row.key row.cols row.body)) ≡ Some (Do (Insert s row))
-insert_row s row h =
+row_words_of-words : (s : ℕ) (row : RowText) → RowFits s row → row_words_of (row_words s row) ≡ Some (s, row)
+row_words_of-words s row h =
     let f = four row.cols h.2 in
     let all = rw f.4 at h.3 in
     let same : record row { cols = f.0 ∷ f.1 ∷ f.2 ∷ f.3 ∷ [] } ≡ row = ap (λ (cols : List ℤ). record row { cols = cols }) (sym f.4) in
-    ap (λ (cols : List ℤ). insert_of (decimal s ++ spaced (row_text row.key cols row.body))) f.4
-    ∙ insert_line s row.key f.0 f.1 f.2 f.3 row.body h.0 h.1 all.0 all.1.0 all.1.1.0 all.1.1.1.0 h.4
-    ∙ ap (λ (r : RowText). Some (Do (Insert s r))) same
+    ap (λ (cols : List ℤ). row_words_of (decimal s ++ spaced (row_text row.key cols row.body))) f.4
+    ∙ row_words_of-columns s row.key f.0 f.1 f.2 f.3 row.body h.0 h.1 all.0 all.1.0 all.1.1.0 all.1.1.1.0 h.4
+    ∙ ap (λ (r : RowText). Some (s, r)) same
 
-get_line : (s k : ℕ) → s < 2 ^ 8 → k < 2 ^ 64 → get_of (decimal s ++ 32 ∷ decimal k) ≡ Some (Do (Get s k))
-unfolding get_of
-get_line s k hs hk = rw (number_then-decimal 255 s (decimal k) (omega arith) (omega arith), number_of-decimal (2 ^ 64 - 1) k (omega arith) (omega arith)) refl
+key_words_of-words : (s k : ℕ) → s < 2 ^ 8 → k < 2 ^ 64 → key_words_of (key_words s k) ≡ Some (s, k)
+unfolding key_words_of
+key_words_of-words s k hs hk = rw (number_then-decimal 255 s (decimal k) (omega arith) (omega arith), number_of-decimal (2 ^ 64 - 1) k (omega arith) (omega arith)) refl
 
 ids_line : line_at (codes "ids") ≡ Some Ids
 unfolding line_at
@@ -348,9 +364,13 @@ pub line_at-spelling : (l : Line) → Fits l → line_at (spelling l) ≡ Some l
 line_at-spelling (Do (Begin s)) h =
     with_verb begin_verb (decimal s) (refl, (refl, (refl, (refl, (refl, tt))))) refl refl ∙ ap (λ (o : Option ℕ). option_map (λ s. Do (Begin s)) o) (number_of-decimal 255 s (omega arith) (omega arith))
 line_at-spelling (Do (Get s k)) h =
-    with_verb get_verb (decimal s ++ 32 ∷ decimal k) (refl, (refl, (refl, tt))) refl refl ∙ get_line s k h.0 h.1
+    with_verb get_verb (key_words s k) (refl, (refl, (refl, tt))) refl refl ∙ ap (λ (o : Option (ℕ × ℕ)). option_map (λ p. Do (Get p.0 p.1)) o) (key_words_of-words s k h.0 h.1)
 line_at-spelling (Do (Insert s row)) h =
-    with_verb insert_verb (decimal s ++ spaced (row_text row.key row.cols row.body)) (refl, (refl, (refl, (refl, (refl, (refl, tt)))))) refl refl ∙ insert_row s row h
+    with_verb insert_verb (row_words s row) (refl, (refl, (refl, (refl, (refl, (refl, tt)))))) refl refl ∙ ap (λ (o : Option (ℕ × RowText)). option_map (λ p. Do (Insert p.0 p.1)) o) (row_words_of-words s row h)
+line_at-spelling (Do (Update s row)) h =
+    with_verb update_verb (row_words s row) (refl, (refl, (refl, (refl, (refl, (refl, tt)))))) refl refl ∙ ap (λ (o : Option (ℕ × RowText)). option_map (λ p. Do (Update p.0 p.1)) o) (row_words_of-words s row h)
+line_at-spelling (Do (Delete s k)) h =
+    with_verb delete_verb (key_words s k) (refl, (refl, (refl, (refl, (refl, (refl, tt)))))) refl refl ∙ ap (λ (o : Option (ℕ × ℕ)). option_map (λ p. Do (Delete p.0 p.1)) o) (key_words_of-words s k h.0 h.1)
 line_at-spelling (Do (Commit s)) h =
     with_verb commit_verb (decimal s) (refl, (refl, (refl, (refl, (refl, (refl, tt)))))) refl refl ∙ ap (λ (o : Option ℕ). option_map (λ s. Do (Commit s)) o) (number_of-decimal 255 s (omega arith) (omega arith))
 line_at-spelling (Do (Abort s)) h =
@@ -360,6 +380,8 @@ line_at-spelling (Do (Prune p)) h =
 line_at-spelling Ids h = ids_line
 line_at-spelling (Page p) h =
     with_verb page_verb (decimal p) (refl, (refl, (refl, (refl, tt)))) refl refl ∙ ap (λ (o : Option ℕ). option_map (λ p. Page p) o) (number_of-decimal 4294967295 p (omega arith) (omega arith))
+line_at-spelling (Entries i) h =
+    with_verb entries_verb (decimal i) (refl, (refl, (refl, (refl, (refl, (refl, (refl, tt))))))) refl refl ∙ ap (λ (o : Option ℕ). option_map (λ i. Entries i) o) (number_of-decimal 255 i (omega arith) (omega arith))
 
 columns_free : (cols : List ℤ) → AllByRecursion (λ c. FitsSigned w64 c) cols → Free 10 (flat_map (λ c. spaced (signed_decimal c)) cols)
 columns_free [] h = tt
@@ -393,19 +415,30 @@ verb_free get_verb = (refl, (refl, (refl, tt)))
 verb_free begin_verb = (refl, (refl, (refl, (refl, (refl, tt)))))
 verb_free commit_verb = (refl, (refl, (refl, (refl, (refl, (refl, tt))))))
 verb_free insert_verb = (refl, (refl, (refl, (refl, (refl, (refl, tt))))))
+verb_free update_verb = (refl, (refl, (refl, (refl, (refl, (refl, tt))))))
+verb_free delete_verb = (refl, (refl, (refl, (refl, (refl, (refl, tt))))))
 verb_free abort_verb = (refl, (refl, (refl, (refl, (refl, tt)))))
 verb_free prune_verb = (refl, (refl, (refl, (refl, (refl, tt)))))
 verb_free page_verb = (refl, (refl, (refl, (refl, tt))))
+verb_free entries_verb = (refl, (refl, (refl, (refl, (refl, (refl, (refl, tt)))))))
+
+key_words_free : (s k : ℕ) → KeyFits s k → Free 10 (spaced (key_words s k))
+key_words_free s k h = (refl, Free-append 10 (decimal s) (spaced (decimal k)) (decimal_free 10 s (omega arith) (omega (arith, h.0))) (one_free k h.1))
+
+row_words_free : (s : ℕ) (row : RowText) → RowFits s row → Free 10 (spaced (row_words s row))
+row_words_free s row h =
+    (refl, Free-append 10 (decimal s) (spaced (row_text row.key row.cols row.body)) (decimal_free 10 s (omega arith) (omega (arith, h.0))) (refl, row_free row h.1 h.3 h.4))
 
 -- no line feed is in a line's text
 pub Free-spelling : (l : Line) → Fits l → Free 10 (spelling l)
 Free-spelling (Do (Begin s)) h = Free-append 10 (codes "begin") (spaced (decimal s)) (verb_free begin_verb) (one_free s (omega arith))
-Free-spelling (Do (Get s k)) h =
-    Free-append 10 (codes "get") (spaced (decimal s ++ spaced (decimal k))) (verb_free get_verb) (refl, Free-append 10 (decimal s) (spaced (decimal k)) (decimal_free 10 s (omega arith) (omega (arith, h.0))) (one_free k h.1))
-Free-spelling (Do (Insert s row)) h =
-    Free-append 10 (codes "insert") (spaced (decimal s ++ spaced (row_text row.key row.cols row.body))) (verb_free insert_verb) (refl, Free-append 10 (decimal s) (spaced (row_text row.key row.cols row.body)) (decimal_free 10 s (omega arith) (omega (arith, h.0))) (refl, row_free row h.1 h.3 h.4))
+Free-spelling (Do (Get s k)) h = Free-append 10 (codes "get") (spaced (key_words s k)) (verb_free get_verb) (key_words_free s k h)
+Free-spelling (Do (Insert s row)) h = Free-append 10 (codes "insert") (spaced (row_words s row)) (verb_free insert_verb) (row_words_free s row h)
+Free-spelling (Do (Update s row)) h = Free-append 10 (codes "update") (spaced (row_words s row)) (verb_free update_verb) (row_words_free s row h)
+Free-spelling (Do (Delete s k)) h = Free-append 10 (codes "delete") (spaced (key_words s k)) (verb_free delete_verb) (key_words_free s k h)
 Free-spelling (Do (Commit s)) h = Free-append 10 (codes "commit") (spaced (decimal s)) (verb_free commit_verb) (one_free s (omega arith))
 Free-spelling (Do (Abort s)) h = Free-append 10 (codes "abort") (spaced (decimal s)) (verb_free abort_verb) (one_free s (omega arith))
 Free-spelling (Do (Prune p)) h = Free-append 10 (codes "prune") (spaced (decimal p)) (verb_free prune_verb) (one_free p (omega arith))
 Free-spelling Ids h = (refl, (refl, (refl, tt)))
 Free-spelling (Page p) h = Free-append 10 (codes "page") (spaced (decimal p)) (verb_free page_verb) (one_free p (omega arith))
+Free-spelling (Entries i) h = Free-append 10 (codes "entries") (spaced (decimal i)) (verb_free entries_verb) (one_free i (omega arith))

@@ -7,3 +7,4 @@ pub mod HeadingLaws
 pub mod RunLemmas
 pub mod FirstLemmas
 pub mod TellingLemmas
+pub mod EntryLemmas

@@ -5,11 +5,11 @@ use Rattle.std.specs.List.{AllByRecursion}
 use Rattle.std.proofs.lemmas.List.{append-nil, length-take-le}
 use Rattle.std.proofs.lemmas.Grind.{flat_map-append}
 use Rattle.std.specs.Io.KnownBytes.{Appends}
-use Rattle.script.specs.Engine.{World, State, Step, Reply, Allows, next, IsRun, Agrees}
+use Rattle.script.specs.Engine.{World, State, Step, Reply, Entry, Allows, next, IsRun, Agrees}
 use Rattle.script.specs.Grammar.{IsAllowed, Fits, spelling, with_feed}
 use Rattle.script.specs.Answers.{Shown}
 use Rattle.script.specs.Pieces.{Takes, Gives, HasNoLine}
-use Rattle.script.specs.Script.{Event, did, showed_ids, showed_page, line_of, answer_of, steps_of, replies_of, lines_of, answers_of, IsBadLine, Begins, IsRefused, IsCaused}
+use Rattle.script.specs.Script.{Event, did, showed_ids, showed_page, showed_entries, line_of, answer_of, steps_of, replies_of, lines_of, answers_of, IsBadLine, Begins, IsRefused, IsCaused}
 use Rattle.script.specs.Steps.{Moves, Ends, Advance, Uses, Does}
 use Rattle.script.specs.declared.line.Line.{Line}
 use Rattle.script.specs.declared.watch.Watch.{Watch}
@@ -54,40 +54,45 @@ Reaches from [] to = from ≡ to
 Reaches from (did step reply ∷ events) to = Allows from step reply × Reaches (next from step reply) events to
 Reaches from (showed_ids n below ∷ events) to = Reaches from events to
 Reaches from (showed_page p shown ∷ events) to = Reaches from events to
+Reaches from (showed_entries i entries ∷ events) to = Reaches from events to
 
 Reaches-run : (from : World) (events : List Event) (to : World) → Reaches from events to → IsRun from (steps_of events) (replies_of events)
 Reaches-run from [] to h = tt
 Reaches-run from (did step reply ∷ events) to h = (h.0, Reaches-run (next from step reply) events to h.1)
 Reaches-run from (showed_ids n below ∷ events) to h = Reaches-run from events to h
 Reaches-run from (showed_page p shown ∷ events) to h = Reaches-run from events to h
+Reaches-run from (showed_entries i entries ∷ events) to h = Reaches-run from events to h
 
-Reaches-did : (from : World) (events : List Event) (to : World) (step : Step) (reply : Reply) → Reaches from events to → Allows to step reply
-    → Reaches from (events ++ did step reply ∷ []) (next to step reply)
-Reaches-did from [] to step reply h k = (subst (λ (w : World). Allows w step reply) (sym h) k, ap (λ (w : World). next w step reply) h)
-Reaches-did from (did s r ∷ events) to step reply h k = (h.0, Reaches-did (next from s r) events to step reply h.1 k)
-Reaches-did from (showed_ids n below ∷ events) to step reply h k = Reaches-did from events to step reply h k
-Reaches-did from (showed_page p shown ∷ events) to step reply h k = Reaches-did from events to step reply h k
+-- one more event, of a world that goes on where it is allowed
+abbrev GoesOn : World → Event → World → Type 0
+GoesOn from (did step reply) to = Allows from step reply × (to ≡ next from step reply)
+GoesOn from look to = from ≡ to
 
-Reaches-ids : (from : World) (events : List Event) (to : World) (n below : ℕ) → Reaches from events to → Reaches from (events ++ showed_ids n below ∷ []) to
-Reaches-ids from [] to n below h = h
-Reaches-ids from (did s r ∷ events) to n below h = (h.0, Reaches-ids (next from s r) events to n below h.1)
-Reaches-ids from (showed_ids m b ∷ events) to n below h = Reaches-ids from events to n below h
-Reaches-ids from (showed_page p shown ∷ events) to n below h = Reaches-ids from events to n below h
+Reaches-one : (from : World) (e : Event) (to : World) → GoesOn from e to → Reaches from (e ∷ []) to
+Reaches-one from (did step reply) to h = (h.0, sym h.1)
+Reaches-one from (showed_ids n below) to h = h
+Reaches-one from (showed_page p shown) to h = h
+Reaches-one from (showed_entries i entries) to h = h
 
-Reaches-page : (from : World) (events : List Event) (to : World) (p : ℕ) (shown : Option Shown) → Reaches from events to → Reaches from (events ++ showed_page p shown ∷ []) to
-Reaches-page from [] to p shown h = h
-Reaches-page from (did s r ∷ events) to p shown h = (h.0, Reaches-page (next from s r) events to p shown h.1)
-Reaches-page from (showed_ids m b ∷ events) to p shown h = Reaches-page from events to p shown h
-Reaches-page from (showed_page q other ∷ events) to p shown h = Reaches-page from events to p shown h
+Reaches-append : (from : World) (events : List Event) (to : World) (e : Event) (w : World) → Reaches from events to → GoesOn to e w → Reaches from (events ++ e ∷ []) w
+Reaches-append from [] to e w h k = Reaches-one from e w (subst (λ (v : World). GoesOn v e w) (sym h) k)
+Reaches-append from (did s r ∷ events) to e w h k = (h.0, Reaches-append (next from s r) events to e w h.1 k)
+Reaches-append from (showed_ids n below ∷ events) to e w h k = Reaches-append from events to e w h k
+Reaches-append from (showed_page p shown ∷ events) to e w h k = Reaches-append from events to e w h k
+Reaches-append from (showed_entries i entries ∷ events) to e w h k = Reaches-append from events to e w h k
 
--- one more event, after which the engine agrees with the world that it leads to
+-- the engine agrees with the world that one more event leads to
+goes_on : (to : World) (e : Event) (a b : State) → Agrees a to → Moves a e b → (w : World) × GoesOn to e w × Agrees b w
+goes_on to (did step reply) a b k m = let f = m to k in (next to step reply, (f.0, refl), f.1)
+goes_on to (showed_ids n below) a b k m = (to, refl, subst (λ (s : State). Agrees s to) m k)
+goes_on to (showed_page p shown) a b k m = (to, refl, subst (λ (s : State). Agrees s to) m k)
+goes_on to (showed_entries i entries) a b k m = (to, refl, subst (λ (s : State). Agrees s to) m k)
+
 Reaches-push : (from : World) (events : List Event) (to : World) (e : Event) (a b : State) → Reaches from events to → Agrees a to → Moves a e b
     → (w : World) × Reaches from (events ++ e ∷ []) w × Agrees b w
-Reaches-push from events to (did step reply) a b h k m =
-    let f = m to k in
-    (next to step reply, Reaches-did from events to step reply h f.0, f.1)
-Reaches-push from events to (showed_ids n below) a b h k m = (to, Reaches-ids from events to n below h, subst (λ (s : State). Agrees s to) m k)
-Reaches-push from events to (showed_page p shown) a b h k m = (to, Reaches-page from events to p shown h, subst (λ (s : State). Agrees s to) m k)
+Reaches-push from events to e a b h k m =
+    let g = goes_on to e a b k m in
+    (g.0, Reaches-append from events to e g.0 h g.1, g.2)
 
 pub allowed-push : (events : List Event) (e : Event) → AllByRecursion (λ e. IsAllowed (line_of e)) events → IsAllowed (line_of e) → AllByRecursion (λ e. IsAllowed (line_of e)) (events ++ e ∷ [])
 allowed-push [] e h k = (k, tt)

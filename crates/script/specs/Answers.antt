@@ -1,10 +1,11 @@
 -- What is written for a line, its line feed left out.
 use Rattle.std.specs.Prelude.{ℕ, zero, suc, List, [], ◌∷◌, ◌++◌, codes, length, Option, Some, None}
-use Rattle.std.specs.Fmt.{decimal}
+use Rattle.std.specs.List.{flat_map}
+use Rattle.std.specs.Fmt.{decimal, signed_decimal}
 use Rattle.page_slots.specs.declared.slot.Slot.{Slot}
 use Rattle.page_slots.specs.declared.slot.Slot.TheVariants.{Unused, Normal, Redirect, Dead}
 use Rattle.page_slots.specs.Slots.{slot_at}
-use Rattle.script.specs.Engine.{Reply, Done, Found, Committed, RolledBack, Refused, Refusal, NotOpen, AlreadyOpen, Failed, AlreadyThere, Conflict, Busy, TooLarge, NoRoom, NeedsFreeze, NoMemoryForStep, NoSuchPage, NoSuchSession}
+use Rattle.script.specs.Engine.{Reply, Done, Found, Committed, RolledBack, Refused, Refusal, NotOpen, AlreadyOpen, Failed, AlreadyThere, NotThere, Conflict, Busy, TooLarge, NoRoom, NeedsFreeze, NoMemoryForStep, NoSuchPage, NoSuchSession, Entry}
 use Rattle.script.specs.Grammar.{spaced, row_text}
 
 -- the number and the name of a refusal
@@ -13,6 +14,7 @@ refusal_text NotOpen = codes "1 NotOpen"
 refusal_text AlreadyOpen = codes "2 AlreadyOpen"
 refusal_text Failed = codes "3 Failed"
 refusal_text AlreadyThere = codes "4 AlreadyThere"
+refusal_text NotThere = codes "5 NotThere"
 refusal_text Conflict = codes "6 Conflict"
 refusal_text (Busy s) = codes "7 Busy" ++ spaced (decimal s)
 refusal_text TooLarge = codes "13 TooLarge"
@@ -77,3 +79,23 @@ pub record Shown : Type 0 where
 abbrev pub shown_text : ℕ → Option Shown → List ℕ
 shown_text number None = no_page_text
 shown_text number (Some shown) = page_text number shown.change shown.visible shown.slots
+
+-- an entry of an index: its value, its key, and the page and the slot that it leads to
+abbrev pub entry_text : Entry → List ℕ
+entry_text e = codes "entry" ++ (spaced (signed_decimal e.value) ++ (spaced (decimal e.key) ++ (spaced (decimal e.tid.page) ++ spaced (decimal e.tid.slot))))
+
+-- the lines of entries, in their order, each behind a line feed
+abbrev pub entry_lines : List Entry → List ℕ
+entry_lines entries = flat_map (λ e. 10 ∷ entry_text e) entries
+
+-- an index's own line, with the number of its entries
+abbrev pub index_head_text : ℕ → ℕ → List ℕ
+index_head_text number count = labelled (codes "entries") number ++ spaced (decimal count)
+
+abbrev pub no_index_text : List ℕ
+no_index_text = codes "error 20 NoSuchIndex"
+
+-- an index's line, and those of its entries, where there is such an index
+abbrev pub index_text : ℕ → Option (List Entry) → List ℕ
+index_text number None = no_index_text
+index_text number (Some entries) = index_head_text number (length entries) ++ entry_lines entries

@@ -1,15 +1,17 @@
--- What the shell speaks of in the engine: its steps and replies, and which replies the history allows.
+-- What the shell speaks of in the engine: its steps and replies, which replies the history allows, and its indexes.
 pub use Rattle.history.specs.World.{World, empty}
 pub use Rattle.session_relation.specs.Words.{RowText, AreSettings, FirstFault}
 pub use Rattle.session_relation.specs.Allowed.{Allows, next, IsRun}
-pub use Rattle.session_core.specs.State.{State}
+pub use Rattle.session_core.specs.State.{State, index_at}
 pub use Rattle.session_core.specs.Agrees.{Agrees, Follows}
 pub use Rattle.session_relation.specs.declared.settings.Settings.{Settings}
 pub use Rattle.session_relation.specs.declared.settings.SettingsFault.{SettingsFault}
 pub use Rattle.session_relation.specs.declared.settings.SettingsFault.TheVariants.{MaxPages, StopAge, FreezeMinAge, FirstXid, DeadLimit, NoMemory as NoMemoryForSettings}
 pub use Rattle.session_relation.specs.declared.step.Step.{Step}
-pub use Rattle.session_relation.specs.declared.step.Step.TheVariants.{Begin, Get, Insert, Commit, Abort, Prune}
+pub use Rattle.session_relation.specs.declared.step.Step.TheVariants.{Begin, Get, Insert, Update, Delete, Commit, Abort, Prune}
 pub use Rattle.session_relation.specs.declared.reply.Reply.{Reply}
 pub use Rattle.session_relation.specs.declared.reply.Reply.TheVariants.{Done, Found, Committed, RolledBack, Refused}
 pub use Rattle.session_relation.specs.declared.reply.Refusal.{Refusal}
-pub use Rattle.session_relation.specs.declared.reply.Refusal.TheVariants.{NotOpen, AlreadyOpen, Failed, AlreadyThere, Conflict, Busy, TooLarge, NoRoom, NeedsFreeze, NoMemory as NoMemoryForStep, NoSuchPage, NoSuchSession}
+pub use Rattle.session_relation.specs.declared.reply.Refusal.TheVariants.{NotOpen, AlreadyOpen, Failed, AlreadyThere, NotThere, Conflict, Busy, TooLarge, NoRoom, NeedsFreeze, NoMemory as NoMemoryForStep, NoSuchPage, NoSuchSession}
+pub use Rattle.root_index.specs.View.{IndexView}
+pub use Rattle.root_index.specs.declared.entry.Entry.{Entry}

@@ -3,9 +3,9 @@ use Rattle.std.specs.Prelude.{◌≡◌, ℕ, ℤ, ◌/◌, ◌%◌, ◌^◌, �
 use Rattle.std.specs.Int.{w64}
 use Rattle.std.specs.List.{flat_map, AllByRecursion}
 use Rattle.std.specs.Fmt.{decimal, signed_decimal, digit_glyph}
-use Rattle.script.specs.Engine.{Settings, Step, Begin, Get, Insert, Commit, Abort, Prune}
+use Rattle.script.specs.Engine.{Settings, RowText, Step, Begin, Get, Insert, Update, Delete, Commit, Abort, Prune}
 use Rattle.script.specs.declared.line.Line.{Line}
-use Rattle.script.specs.declared.line.Line.TheVariants.{Do, Ids, Page}
+use Rattle.script.specs.declared.line.Line.TheVariants.{Do, Ids, Page, Entries}
 
 -- a space, and then a word: one space separates words
 abbrev pub spaced : List ℕ → List ℕ
@@ -28,6 +28,14 @@ body_text (b ∷ bs) = hex_text (b ∷ bs)
 abbrev pub row_text : ℕ → List ℤ → List ℕ → List ℕ
 row_text k cols body = decimal k ++ (flat_map (λ c. spaced (signed_decimal c)) cols ++ spaced (body_text body))
 
+-- a session and a key
+abbrev pub key_words : ℕ → ℕ → List ℕ
+key_words s k = decimal s ++ spaced (decimal k)
+
+-- a session and a row
+abbrev pub row_words : ℕ → RowText → List ℕ
+row_words s row = decimal s ++ spaced (row_text row.key row.cols row.body)
+
 -- a digit for a column: 1 where it has an index
 abbrev pub flag_text : Bool → List ℕ
 flag_text b = (if b then 49 else 48) ∷ []
@@ -40,8 +48,10 @@ heading s = codes "heap" ++ spaced (decimal s.max_pages ++ spaced (decimal s.sto
 -- a line that asks for a step
 abbrev pub step_text : Step → List ℕ
 step_text (Begin s) = codes "begin" ++ spaced (decimal s)
-step_text (Get s k) = codes "get" ++ spaced (decimal s ++ spaced (decimal k))
-step_text (Insert s row) = codes "insert" ++ spaced (decimal s ++ spaced (row_text row.key row.cols row.body))
+step_text (Get s k) = codes "get" ++ spaced (key_words s k)
+step_text (Insert s row) = codes "insert" ++ spaced (row_words s row)
+step_text (Update s row) = codes "update" ++ spaced (row_words s row)
+step_text (Delete s k) = codes "delete" ++ spaced (key_words s k)
 step_text (Commit s) = codes "commit" ++ spaced (decimal s)
 step_text (Abort s) = codes "abort" ++ spaced (decimal s)
 step_text (Prune p) = codes "prune" ++ spaced (decimal p)
@@ -51,22 +61,34 @@ abbrev pub spelling : Line → List ℕ
 spelling (Do step) = step_text step
 spelling Ids = codes "ids"
 spelling (Page p) = codes "page" ++ spaced (decimal p)
+spelling (Entries i) = codes "entries" ++ spaced (decimal i)
 
--- each number of a step is in the range of its type: a session's of 8 bits, a page's of 32, a key's of 64, a column's of 64
--- with its sign
+-- a session's number has 8 bits, and a key 64
+abbrev pub KeyFits : ℕ → ℕ → Type 0
+KeyFits s k = (s < 2 ^ 8) × (k < 2 ^ 64)
+
+-- a row has four columns of 64 bits with their signs, and a body of bytes
+abbrev pub RowFits : ℕ → RowText → Type 0
+RowFits s row = (s < 2 ^ 8) × (row.key < 2 ^ 64) × (length row.cols ≡ 4) × AllByRecursion (λ c. FitsSigned w64 c) row.cols
+    × AllByRecursion (λ b. b < 2 ^ 8) row.body
+
+-- each number of a step is in the range of its type; a page's number has 32 bits
 abbrev pub StepFits : Step → Type 0
 StepFits (Begin s) = s < 2 ^ 8
-StepFits (Get s k) = (s < 2 ^ 8) × (k < 2 ^ 64)
-StepFits (Insert s row) = (s < 2 ^ 8) × (row.key < 2 ^ 64) × (length row.cols ≡ 4) × AllByRecursion (λ c. FitsSigned w64 c) row.cols
-    × AllByRecursion (λ b. b < 2 ^ 8) row.body
+StepFits (Get s k) = KeyFits s k
+StepFits (Insert s row) = RowFits s row
+StepFits (Update s row) = RowFits s row
+StepFits (Delete s k) = KeyFits s k
 StepFits (Commit s) = s < 2 ^ 8
 StepFits (Abort s) = s < 2 ^ 8
 StepFits (Prune p) = p < 2 ^ 32
 
+-- and each number of a line; an index's number has 8 bits
 abbrev pub Fits : Line → Type 0
 Fits (Do step) = StepFits step
 Fits Ids = Unit {0}
 Fits (Page p) = p < 2 ^ 32
+Fits (Entries i) = i < 2 ^ 8
 
 -- what a line may spell: values in range, in at most 4096 bytes
 pub record IsAllowed (l : Line) : Type 0 where

@@ -3,12 +3,12 @@ use Rattle.std.specs.Prelude.{ℕ, ℤ, pos, negsuc, ◌+◌, ◌-◌, ◌*◌, 
 use Rattle.std.specs.Option.{option_map}
 use Rattle.std.specs.Char.{is_ascii_digit}
 use Rattle.std.specs.Str.{bytes_eq}
-use Rattle.script.specs.Engine.{Settings, Begin, Get, Insert, Commit, Abort, Prune}
+use Rattle.script.specs.Engine.{Settings, RowText, Begin, Get, Insert, Update, Delete, Commit, Abort, Prune}
 use Rattle.script.specs.Verbs.{verb_of}
 use Rattle.script.specs.declared.line.Line.{Line}
-use Rattle.script.specs.declared.line.Line.TheVariants.{Do, Ids, Page}
+use Rattle.script.specs.declared.line.Line.TheVariants.{Do, Ids, Page, Entries}
 use Rattle.script.specs.declared.line.Verb.{Verb}
-use Rattle.script.specs.declared.line.Verb.TheVariants.{Get as get_verb, Begin as begin_verb, Commit as commit_verb, Insert as insert_verb, Abort as abort_verb, Prune as prune_verb, Page as page_verb}
+use Rattle.script.specs.declared.line.Verb.TheVariants.{Get as get_verb, Begin as begin_verb, Commit as commit_verb, Insert as insert_verb, Update as update_verb, Delete as delete_verb, Abort as abort_verb, Prune as prune_verb, Page as page_verb, Entries as entries_verb}
 
 infixl 10 ◌>>=◌
 abbrev pub ◌>>=◌ : {A B : Type 0} → Option A → (A → Option B) → Option B
@@ -66,8 +66,9 @@ unfoldable pub body_of : List ℕ → Option (List ℕ)
 body_of [] = None
 body_of (x ∷ xs) = if (x == 45) && (length xs == 0) then Some [] else pairs_of (x ∷ xs)
 
-unfoldable pub insert_of : List ℕ → Option Line
-insert_of xs = do
+-- a session and a row
+unfoldable pub row_words_of : List ℕ → Option (ℕ × RowText)
+row_words_of xs = do
   s ← number_then 255 xs
   k ← number_then (2 ^ 64 - 1) s.1
   c0 ← column_then k.1
@@ -75,13 +76,14 @@ insert_of xs = do
   c2 ← column_then c1.1
   c3 ← column_then c2.1
   body ← body_of c3.1
-  Some (Do (Insert s.0 (record { key = k.0; cols = c0.0 ∷ c1.0 ∷ c2.0 ∷ c3.0 ∷ []; body = body })))
+  Some (s.0, record { key = k.0; cols = c0.0 ∷ c1.0 ∷ c2.0 ∷ c3.0 ∷ []; body = body })
 
-unfoldable pub get_of : List ℕ → Option Line
-get_of xs = do
+-- a session and a key
+unfoldable pub key_words_of : List ℕ → Option (ℕ × ℕ)
+key_words_of xs = do
   s ← number_then 255 xs
   k ← number_of (2 ^ 64 - 1) s.1
-  Some (Do (Get s.0 k))
+  Some (s.0, k)
 
 -- a digit for each of the four columns
 unfoldable pub flag_of : ℕ → Option Bool
@@ -110,13 +112,16 @@ settings_at line = cut line >>= λ parts. if bytes_eq parts.0 (codes "heap") the
 
 -- what a verb asks for with the words behind it
 abbrev pub line_of : Verb → List ℕ → Option Line
-line_of get_verb rest = get_of rest
+line_of get_verb rest = option_map (λ p. Do (Get p.0 p.1)) (key_words_of rest)
 line_of begin_verb rest = option_map (λ s. Do (Begin s)) (number_of 255 rest)
 line_of commit_verb rest = option_map (λ s. Do (Commit s)) (number_of 255 rest)
-line_of insert_verb rest = insert_of rest
+line_of insert_verb rest = option_map (λ p. Do (Insert p.0 p.1)) (row_words_of rest)
+line_of update_verb rest = option_map (λ p. Do (Update p.0 p.1)) (row_words_of rest)
+line_of delete_verb rest = option_map (λ p. Do (Delete p.0 p.1)) (key_words_of rest)
 line_of abort_verb rest = option_map (λ s. Do (Abort s)) (number_of 255 rest)
 line_of prune_verb rest = option_map (λ p. Do (Prune p)) (number_of 4294967295 rest)
 line_of page_verb rest = option_map (λ p. Page p) (number_of 4294967295 rest)
+line_of entries_verb rest = option_map (λ i. Entries i) (number_of 255 rest)
 
 -- what a line asks for
 unfoldable pub line_at : List ℕ → Option Line

@@ -2,31 +2,34 @@
 use Rattle.std.specs.Prelude.{◌≡◌, ℕ, ◌+◌, ◌<◌, ◌≤◌, ◌⊎◌, List, [], ◌∷◌, ◌++◌, length, Option, Ok, Err, Result, true}
 use Rattle.std.specs.List.{flat_map, AllByRecursion}
 use Rattle.std.specs.Io.KnownBytes.{Appends}
-use Rattle.script.specs.Engine.{Settings, AreSettings, Step, Reply, empty, IsRun}
+use Rattle.script.specs.Engine.{Settings, AreSettings, Step, Reply, Entry, empty, IsRun}
 use Rattle.script.specs.Pieces.{Gives}
 use Rattle.script.specs.Grammar.{heading, spelling, with_feed, IsAllowed}
-use Rattle.script.specs.Answers.{reply_text, ids_text, Shown, shown_text}
+use Rattle.script.specs.Answers.{reply_text, ids_text, Shown, shown_text, index_text}
 use Rattle.script.specs.declared.line.Line.{Line}
-use Rattle.script.specs.declared.line.Line.TheVariants.{Do, Ids, Page}
+use Rattle.script.specs.declared.line.Line.TheVariants.{Do, Ids, Page, Entries}
 use Rattle.script.specs.declared.fault.ShellFault.{ShellFault}
 use Rattle.script.specs.declared.fault.ShellFault.TheVariants.{BadLine, Input, Output, NoMemory}
 use Rattle.script.specs.declared.watch.Watch.{Watch}
 
--- a line that was read and answered: a step with its reply, or a look at the ids or at a page with what it showed
+-- a line that was read and answered: a step with its reply, or a look at the ids, a page or an index with what it showed
 pub data Event : Type 0 where
   did : Step → Reply → Event
   showed_ids : ℕ → ℕ → Event
   showed_page : ℕ → Option Shown → Event
+  showed_entries : ℕ → Option (List Entry) → Event
 
 abbrev pub line_of : Event → Line
 line_of (did step reply) = Do step
 line_of (showed_ids next frozen_below) = Ids
 line_of (showed_page p shown) = Page p
+line_of (showed_entries i entries) = Entries i
 
 abbrev pub answer_of : Event → List ℕ
 answer_of (did step reply) = reply_text reply
 answer_of (showed_ids next frozen_below) = ids_text next frozen_below
 answer_of (showed_page p shown) = shown_text p shown
+answer_of (showed_entries i entries) = index_text i entries
 
 -- looks are no steps of the history
 abbrev pub steps_in : Event → List Step

@@ -2,17 +2,20 @@
 use Rattle.std.specs.Prelude.{List, ℕ, [], ◌∷◌, codes, find, Option}
 use Rattle.std.specs.Str.{bytes_eq}
 use Rattle.script.specs.declared.line.Verb.{Verb}
-use Rattle.script.specs.declared.line.Verb.TheVariants.{Get, Begin, Commit, Insert, Abort, Prune, Page}
+use Rattle.script.specs.declared.line.Verb.TheVariants.{Get, Begin, Commit, Insert, Update, Delete, Abort, Prune, Page, Entries}
 
 abbrev pub verb_text : Verb → List ℕ
 verb_text Get = codes "get"
 verb_text Begin = codes "begin"
 verb_text Commit = codes "commit"
 verb_text Insert = codes "insert"
+verb_text Update = codes "update"
+verb_text Delete = codes "delete"
 verb_text Abort = codes "abort"
 verb_text Prune = codes "prune"
 verb_text Page = codes "page"
+verb_text Entries = codes "entries"
 
 -- the verb of a word
 abbrev pub verb_of : List ℕ → Option Verb
-verb_of word = find (λ verb. bytes_eq word (verb_text verb)) (Get ∷ Begin ∷ Commit ∷ Insert ∷ Abort ∷ Prune ∷ Page ∷ [])
+verb_of word = find (λ verb. bytes_eq word (verb_text verb)) (Get ∷ Begin ∷ Commit ∷ Insert ∷ Update ∷ Delete ∷ Abort ∷ Prune ∷ Page ∷ Entries ∷ [])

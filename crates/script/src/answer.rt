@@ -81,6 +81,7 @@ fn refusal(out: &mut Vec<u8>, refusal: Refusal) -> Result<(), AllocError>
         Refusal::AlreadyOpen => out.extend_from_slice(b"2 AlreadyOpen"),
         Refusal::Failed => out.extend_from_slice(b"3 Failed"),
         Refusal::AlreadyThere => out.extend_from_slice(b"4 AlreadyThere"),
+        Refusal::NotThere => out.extend_from_slice(b"5 NotThere"),
         Refusal::Conflict => out.extend_from_slice(b"6 Conflict"),
         Refusal::Busy(s) => {
             out.extend_from_slice(b"7 Busy ")?;

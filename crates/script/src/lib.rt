@@ -2,6 +2,7 @@
 #![tactic(auto)]
 
 mod answer;
+mod entries;
 mod fault;
 mod heading;
 mod input;

@@ -1,8 +1,9 @@
 //! A line behind the first, and what it asks for.
 
 ghost use Rattle.std.specs.Prelude.{◌≡◌, IfOk};
+ghost use Rattle.std.specs.Option.{option_map};
 ghost use Rattle.script.specs.Verbs.{verb_of};
-ghost use Rattle.script.specs.Reading.{number_of, insert_of, get_of, line_of, line_at as line_at_of};
+ghost use Rattle.script.specs.Reading.{number_of, row_words_of, key_words_of, line_of, line_at as line_at_of};
 
 use crate::words::{body, column_then, cut, number, number_then};
 use session_core::{RowIn, Step};
@@ -17,6 +18,8 @@ pub enum Line {
     Ids,
     /// The slots of a page.
     Page(u32),
+    /// The entries of an index.
+    Entries(u8),
 }
 
 /// The first word of a line with several words.
@@ -26,9 +29,12 @@ pub enum Verb {
     Begin,
     Commit,
     Insert,
+    Update,
+    Delete,
     Abort,
     Prune,
     Page,
+    Entries,
 }
 
 // The verb that a word spells; the most usual come first.
@@ -43,20 +49,27 @@ fn verb_at(word: &[u8]) -> Option<Verb>
         Some(Verb::Commit)
     } else if word == b"insert".as_slice() {
         Some(Verb::Insert)
+    } else if word == b"update".as_slice() {
+        Some(Verb::Update)
+    } else if word == b"delete".as_slice() {
+        Some(Verb::Delete)
     } else if word == b"abort".as_slice() {
         Some(Verb::Abort)
     } else if word == b"prune".as_slice() {
         Some(Verb::Prune)
     } else if word == b"page".as_slice() {
         Some(Verb::Page)
+    } else if word == b"entries".as_slice() {
+        Some(Verb::Entries)
     } else {
         None
     }
 }
 
-#[tactic(auto, unfolding(crate::specs::Reading::insert_of))]
-fn insert(alloc: Global, text: &[u8]) -> Result<Option<Line>, AllocError>
-    ensures { IfOk result (λ o. o ≡ insert_of text.now) }
+// A session and a row.
+#[tactic(auto, unfolding(crate::specs::Reading::row_words_of))]
+fn row(alloc: Global, text: &[u8]) -> Result<Option<(u8, RowIn)>, AllocError>
+    ensures { IfOk result (λ o. option_map (λ p. (p.0, p.1)) o ≡ row_words_of text.now) }
 {
     let Some((s, rest)) = number_then(text, 255) else {
         return Ok(None);
@@ -84,23 +97,25 @@ fn insert(alloc: Global, text: &[u8]) -> Result<Option<Line>, AllocError>
         cols: [c0, c1, c2, c3],
         body,
     };
-    Ok(Some(Line::Do(Step::Insert(s as u8, row))))
+    Ok(Some((s as u8, row)))
 }
 
-#[tactic(auto, unfolding(crate::specs::Reading::get_of))]
-fn get(text: &[u8]) -> Option<Line>
-    ensures { result ≡ get_of text.now }
+// A session and a key.
+#[tactic(auto, unfolding(crate::specs::Reading::key_words_of))]
+fn key(text: &[u8]) -> Option<(u8, u64)>
+    ensures { option_map (λ p. (p.0, p.1)) result ≡ key_words_of text.now }
 {
     let (s, rest) = number_then(text, 255)?;
     let key = number(rest, u64::MAX)?;
-    Some(Line::Do(Step::Get(s as u8, key)))
+    Some((s as u8, key))
 }
 
-fn session(word: &[u8]) -> Option<u8>
+// A session or an index.
+fn number8(word: &[u8]) -> Option<u8>
     ensures { result ≡ number_of 255 word.now }
 {
-    let s = number(word, 255)?;
-    Some(s as u8)
+    let n = number(word, 255)?;
+    Some(n as u8)
 }
 
 fn page(word: &[u8]) -> Option<u32>
@@ -115,13 +130,16 @@ fn line_with(alloc: Global, verb: Verb, rest: &[u8]) -> Result<Option<Line>, All
     ensures { IfOk result (λ o. o ≡ line_of verb rest.now) }
 {
     match verb {
-        Verb::Get => Ok(get(rest)),
-        Verb::Begin => Ok(session(rest).map(|s| Line::Do(Step::Begin(s)))),
-        Verb::Commit => Ok(session(rest).map(|s| Line::Do(Step::Commit(s)))),
-        Verb::Insert => insert(alloc, rest),
-        Verb::Abort => Ok(session(rest).map(|s| Line::Do(Step::Abort(s)))),
+        Verb::Get => Ok(key(rest).map(|(s, key)| Line::Do(Step::Get(s, key)))),
+        Verb::Begin => Ok(number8(rest).map(|s| Line::Do(Step::Begin(s)))),
+        Verb::Commit => Ok(number8(rest).map(|s| Line::Do(Step::Commit(s)))),
+        Verb::Insert => Ok(row(alloc, rest)?.map(|(s, row)| Line::Do(Step::Insert(s, row)))),
+        Verb::Update => Ok(row(alloc, rest)?.map(|(s, row)| Line::Do(Step::Update(s, row)))),
+        Verb::Delete => Ok(key(rest).map(|(s, key)| Line::Do(Step::Delete(s, key)))),
+        Verb::Abort => Ok(number8(rest).map(|s| Line::Do(Step::Abort(s)))),
         Verb::Prune => Ok(page(rest).map(|p| Line::Do(Step::Prune(p)))),
         Verb::Page => Ok(page(rest).map(|p| Line::Page(p))),
+        Verb::Entries => Ok(number8(rest).map(|i| Line::Entries(i))),
     }
 }
 

@@ -3,16 +3,18 @@
 ghost use Rattle.std.specs.Prelude.{◌≡◌, ◌++◌, List, ℕ, [], Option, IfSome, IfOk, IfErr, OnOk, IsErrAnd, ◌⊎◌};
 ghost use Rattle.std.specs.Bool.{OnTrue, OnFalse};
 ghost use Rattle.std.specs.Io.KnownBytes.{Appends};
-ghost use Rattle.script.specs.Engine.{Settings, AreSettings, Agrees, empty};
+ghost use Rattle.std.specs.Option.{option_map};
+ghost use Rattle.script.specs.Engine.{Settings, AreSettings, Agrees, empty, index_at};
 ghost use Rattle.script.specs.Grammar.{Fits, spelling, heading, with_feed};
 ghost use Rattle.script.specs.Script.{Outcome, Begins, IsRefused, IsCaused};
-ghost use Rattle.script.specs.Answers.{Shown, shown_text};
+ghost use Rattle.script.specs.Answers.{Shown, shown_text, index_text};
 ghost use Rattle.script.specs.Pieces.{Takes, Gives};
 ghost use Rattle.script.specs.Next.{IsNext};
 ghost use Rattle.script.specs.Steps.{Advances, Does, Uses, MatchesHeading};
 ghost use Rattle.script.specs.declared.line.Line.{Line};
 
 use crate::answer::answer;
+use crate::entries::{tell_index, tell_no_index};
 use crate::fault::ShellFault;
 use crate::heading::settings_at;
 use crate::input::{MAX_LINE, Pending};
@@ -81,6 +83,16 @@ fn show_page(text: &mut Vec<u8>, engine: &Engine, number: u32) -> Result<(), All
     }
 }
 
+// Shows the entries of an index, or that it isn't there.
+fn show_index(text: &mut Vec<u8>, engine: &Engine, number: u8) -> Result<(), AllocError>
+    ensures { OnOk result (text.new.items ≡ text.old.items ++ with_feed (index_text number (option_map (λ index. index.entries) (index_at engine.now number)))) }
+{
+    match engine.index(number) {
+        Some(index) => tell_index(text, number, index),
+        None => tell_no_index(text),
+    }
+}
+
 // Does what a line asks for, and adds its answer; false where the line isn't allowed.
 fn do_line(
     alloc: Global,
@@ -104,6 +116,10 @@ fn do_line(
         }
         Some(Line::Page(number)) => {
             show_page(text, engine, number)?;
+            Ok(true)
+        }
+        Some(Line::Entries(number)) => {
+            show_index(text, engine, number)?;
             Ok(true)
         }
         None => Ok(false),

@@ -11,7 +11,7 @@ use std::alloc::AllocError;
 use xid_circle::Xid;
 
 // A space and a number.
-fn spaced_number(out: &mut Vec<u8>, n: u64) -> Result<(), AllocError>
+pub(crate) fn spaced_number(out: &mut Vec<u8>, n: u64) -> Result<(), AllocError>
     ensures { OnOk result (out.new.items ≡ out.old.items ++ spaced (decimal n)) }
 {
     out.push(b' ')?;
@@ -20,7 +20,7 @@ fn spaced_number(out: &mut Vec<u8>, n: u64) -> Result<(), AllocError>
 
 // A word or words, and a number behind them.
 #[tactic(auto, unfolding(crate::specs::Answers::labelled))]
-fn label(out: &mut Vec<u8>, words: &[u8], n: u64) -> Result<(), AllocError>
+pub(crate) fn label(out: &mut Vec<u8>, words: &[u8], n: u64) -> Result<(), AllocError>
     ensures { OnOk result (out.new.items ≡ out.old.items ++ labelled words.now n) }
 {
     out.extend_from_slice(words)?;

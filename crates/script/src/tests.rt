@@ -198,7 +198,7 @@ fn script_of(alloc: Global, line: &[u8]) -> Result<Vec<u8>, AllocError> {
 
 #[test]
 fn allowed_lines(rt: HostRuntime) -> Result<(), Fail> {
-    let cases: [(&[u8], &[u8]); 15] = [
+    let cases: [(&[u8], &[u8]); 24] = [
         (b"begin 63", b"ok\nok\n"),
         (b"begin 0", b"ok\nerror 2 AlreadyOpen\n"),
         (b"begin 255", b"ok\nerror 23 NoSuchSession\n"),
@@ -215,6 +215,27 @@ fn allowed_lines(rt: HostRuntime) -> Result<(), Fail> {
         (b"page 4294967295", b"ok\nerror 19 NoSuchPage\n"),
         (b"prune 0", b"ok\nerror 19 NoSuchPage\n"),
         (b"prune 4294967295", b"ok\nerror 19 NoSuchPage\n"),
+        (
+            b"update 64 0 -9223372036854775808 9223372036854775807 -1 0 00ff1a",
+            b"ok\nerror 23 NoSuchSession\n",
+        ),
+        (b"update 0 1 5 0 0 0 -", b"ok\nerror 5 NotThere\n"),
+        (b"delete 0 18446744073709551615", b"ok\nerror 5 NotThere\n"),
+        (b"delete 255 0", b"ok\nerror 23 NoSuchSession\n"),
+        (b"entries 0", b"ok\nentries 0 0\n"),
+        (b"entries 255", b"ok\nerror 20 NoSuchIndex\n"),
+        (
+            b"insert 0 18446744073709551615 0 0 0 0 -\ninsert 0 0 0 0 0 0 -\nentries 0",
+            b"ok\nok\nok\nentries 0 2\nentry 0 0 0 2\nentry 18446744073709551615 18446744073709551615 0 1\n",
+        ),
+        (
+            b"insert 0 1 5 0 0 0 -\nupdate 0 1 6 -7 0 0 00ff\nget 0 1\npage 0\nentries 0",
+            b"ok\nok\nok\nrow 1 6 -7 0 0 00ff\npage 0 change 3 visible 0 slots 2\n1 normal 3 3 1\n2 normal 3 0 1\nentries 0 1\nentry 1 1 0 1\n",
+        ),
+        (
+            b"insert 0 1 5 0 0 0 -\ndelete 0 1\nget 0 1\npage 0\nentries 0",
+            b"ok\nok\nok\nnone\npage 0 change 2 visible 0 slots 1\n1 normal 3 3 1\nentries 0 1\nentry 1 1 0 1\n",
+        ),
         (
             b"insert 0 1 5 0 0 0 -\nabort 0\nprune 0\npage 0",
             b"ok\nok\nrolled back\nok\npage 0 change 2 visible 0 slots 1\n1 dead\n",
@@ -238,7 +259,7 @@ fn allowed_lines(rt: HostRuntime) -> Result<(), Fail> {
 
 #[test]
 fn bad_lines(rt: HostRuntime) -> Result<(), Fail> {
-    let cases: [&[u8]; 47] = [
+    let cases: [&[u8]; 61] = [
         b"",
         b" ",
         b"begin",
@@ -283,9 +304,23 @@ fn bad_lines(rt: HostRuntime) -> Result<(), Fail> {
         b"prune 4294967296",
         b"prune 0 0",
         b"vacuum finish",
-        b"entries 0",
         b"heap 4 1000 0 3 64 0000",
-        b"update 0 1 5 0 0 0 -",
+        b"update",
+        b"update 256 1 5 0 0 0 -",
+        b"update 0 1 5 0 0 0",
+        b"update 0 1 5 0 0 0 0A",
+        b"update 0 1 5 0 0 0 - 1",
+        b"updates 0 1 5 0 0 0 -",
+        b"delete 0",
+        b"delete 256 1",
+        b"delete 0 18446744073709551616",
+        b"delete 0 1 -",
+        b"delete 0  1",
+        b"entries",
+        b"entries ",
+        b"entries 256",
+        b"entries -0",
+        b"entries 0 0",
     ];
     for line in cases {
         let mut written = Vec::new(rt.alloc());

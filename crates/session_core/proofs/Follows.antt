@@ -1,23 +1,32 @@
 -- The reply to each step of the engine follows the history.
-use Rattle.std.proofs.Common.{◌≡◌, ℕ, ◌<◌, ◌≤◌, List, [], length, map, Option, Some, None, true, false, refl, sym, ap, ◌∙◌, subst, inl, inr, arith}
+use Rattle.std.proofs.Common.{◌≡◌, ℕ, zero, suc, ◌<◌, ◌≤◌, List, [], ◌∷◌, ◌++◌, length, set, Option, Some, None, true, false, refl, sym, ap, ◌∙◌, subst, inl, inr, arith}
 use Rattle.std.proofs.Math.ListN.{length-set}
 use Rattle.std.specs.Prelude.{Contains}
 use Rattle.std.specs.Option.{option_map}
-use Rattle.std.proofs.lemmas.Option.{same_Some}
-use Rattle.page_slots.specs.View.{PageView}
+use Rattle.std.proofs.lemmas.Option.{same_Some, none-some}
+use Rattle.page_slots.specs.declared.slot.Slot.{Slot}
+use Rattle.page_slots.specs.declared.slot.Slot.TheVariants.{Unused, Normal, Redirect, Dead}
+use Rattle.commit_status.specs.Window.{IsUpToNext, next_id, turns}
+use Rattle.heap_pages.specs.View.{PagesView}
+use Rattle.sound_entries.specs.Pages.{version_in, slot_in}
+use Rattle.sound_entries.specs.Entries.{MayBeLed, same_version, led_on, died}
+use Rattle.sound_entries.specs.Entries as entries
+use Rattle.sound_entries.specs.Looking as looking
+use Rattle.sound_writes.specs.Table.{SoundTable}
+use Rattle.sound_writes.proofs.Keeping.{later-stays-sound}
 use Rattle.commit_status.specs.declared.status.Status.{Status}
 use Rattle.commit_status.specs.declared.status.Status.TheVariants.{Committed, Aborted}
-use Rattle.snapshot.specs.Snap.{Snap}
-use Rattle.heap_write.specs.Heap.{version_in}
+use Rattle.snapshot.specs.Snap.{Snap, earliest}
+use Rattle.heap_write.specs.Heap.{slots_of}
 use Rattle.history.specs.World.{World}
 use Rattle.session_relation.specs.declared.step.Step.{Step}
-use Rattle.session_relation.specs.declared.step.Step.TheVariants.{Begin, Get, Insert, Commit, Abort}
+use Rattle.session_relation.specs.declared.step.Step.TheVariants.{Begin, Get, Commit, Abort}
 use Rattle.session_relation.specs.declared.reply.Reply.{Reply}
 use Rattle.session_relation.specs.declared.reply.Reply.TheVariants.{Done, Found, RolledBack, Refused}
 use Rattle.session_relation.specs.declared.reply.Reply.TheVariants as reply
 use Rattle.session_relation.specs.declared.reply.Refusal.{Refusal}
-use Rattle.session_relation.specs.declared.reply.Refusal.TheVariants.{NotOpen, AlreadyOpen, Failed, AlreadyThere, Conflict, Busy, TooLarge, NoRoom, NeedsFreeze, NoMemory, NoSuchPage, NoSuchSession}
-use Rattle.session_relation.specs.Words.{RowText}
+use Rattle.session_relation.specs.declared.reply.Refusal.TheVariants.{NotOpen, AlreadyOpen, Failed, AlreadyThere, NotThere, Conflict, Busy, TooLarge, NoRoom, NeedsFreeze, NoMemory, NoSuchPage, NoSuchSession}
+use Rattle.session_relation.specs.Writes.{WriteStep, step_of}
 use Rattle.session_relation.specs.Heap.{Heap}
 use Rattle.session_relation.specs.Agrees as relation
 use Rattle.session_relation.specs.Allowed.{Allows, next}
@@ -26,29 +35,44 @@ use Rattle.session_relation.specs.Changes as change
 use Rattle.session_relation.proofs.Itself.{new_session, none_own}
 use Rattle.session_relation.proofs.Steps.{OnlyIs, SameSights}
 use Rattle.session_relation.proofs.Follows as theory
+use Rattle.session_relation.proofs.Hindrances as hindrances
 use Rattle.session_core.specs.declared.session.Session.{Session}
-use Rattle.session_core.specs.State.{State, session_at, put_session, seen, state_of, reader_of, as_failed}
-use Rattle.session_core.specs.Agrees.{Agrees, Sound, Follows, SessionKeeps}
+use Rattle.session_core.specs.State.{State, session_at, put_session, seen, state_of, reader_of, as_failed, holds_back, held_back, horizon_of}
+use Rattle.session_core.specs.Keeps.{open_at}
+use Rattle.session_core.specs.Agrees.{Agrees, Sound, Follows, SessionKeeps, StaysLed}
 use Rattle.session_core.specs.Refuses.{Refuses, RefusesReady}
 use Rattle.session_core.specs.Changes.{Opens, Closes}
 use Rattle.session_core.proofs.OwnIdsLemmas.{open-within, open-set_cases}
 use Rattle.session_core.proofs.StateLemmas.{only-set}
 use Rattle.session_core.proofs.Windows.{active-to, Finishes-from, SameSight-finish, decided}
 use Rattle.session_core.proofs.Owns.{reader-is, now_taken, taken-fresh, taken-within}
-use Rattle.session_core.proofs.Ends.{Sound-closes}
+use Rattle.session_core.proofs.Horizons.{back-cases, held-in, horizon-above, horizon-next, horizon-low, horizon-upto, upto-horizon, taken-late}
+use Rattle.session_core.proofs.Ends.{commits-sound, aborts-sound}
+
+-- the pages and the entries stay as they are
+stays-led : (o : Option Slot) → MayBeLed o → entries.StaysLed o o
+stays-led None may = elim may [ inl root ↦ absurd (let e : false ≡ true = root in cc) | inr dead ↦ died dead ]
+stays-led (Some Unused) may = elim may [ inl root ↦ absurd (let e : false ≡ true = root in cc) | inr dead ↦ died dead ]
+stays-led (Some (Normal t)) may = same_version t t refl refl refl refl
+stays-led (Some (Redirect k)) may = led_on k refl refl
+stays-led (Some Dead) may = died refl
+
+pub led-same : (st : State) (w : World) → Agrees st w → StaysLed st st
+led-same st w agrees e there still = stays-led (slot_in (slots_of st.heap) e.tid) (agrees.sound.table.sound.index.leads e there)
 
 -- a step that leaves the engine as it is
 pub Follows-same : (st : State) (step : Step) (r : Reply) → finds.Follows (seen st) step r (seen st) → Follows st step r st
-Follows-same st step r follows w agrees = let f = follows w agrees.found in (f.0, record { found = f.1; sound = agrees.sound })
+Follows-same st step r follows w agrees = let f = follows w agrees.found in (f.0, record { found = f.1; sound = agrees.sound }, led-same st w agrees)
 
 -- Refusals.
 
-closed_by : (st : State) (s : ℕ) (r : Refusal) → Refuses st s r → theory.IsClosed (seen st) s r
+pub closed_by : (st : State) (s : ℕ) (r : Refusal) → Refuses st s r → theory.IsClosed (seen st) s r
 closed_by st s NoSuchSession is = is
 closed_by st s NotOpen is = (is.0, ap (option_map reader_of) is.1)
 closed_by st s AlreadyOpen is = absurd is
 closed_by st s Failed is = absurd is
 closed_by st s AlreadyThere is = absurd is
+closed_by st s NotThere is = absurd is
 closed_by st s Conflict is = absurd is
 closed_by st s (Busy o) is = absurd is
 closed_by st s TooLarge is = absurd is
@@ -57,12 +81,13 @@ closed_by st s NeedsFreeze is = absurd is
 closed_by st s NoMemory is = absurd is
 closed_by st s NoSuchPage is = absurd is
 
-unready_by : (st : State) (s : ℕ) (r : Refusal) → RefusesReady st s r → theory.IsUnready (seen st) s r
+pub unready_by : (st : State) (s : ℕ) (r : Refusal) → RefusesReady st s r → theory.IsUnready (seen st) s r
 unready_by st s Failed is = (reader_of is.1, reader-is st s is.1 is.2, is.3)
 unready_by st s NoSuchSession is = is
 unready_by st s NotOpen is = (is.0, ap (option_map reader_of) is.1)
 unready_by st s AlreadyOpen is = absurd is
 unready_by st s AlreadyThere is = absurd is
+unready_by st s NotThere is = absurd is
 unready_by st s Conflict is = absurd is
 unready_by st s (Busy o) is = absurd is
 unready_by st s TooLarge is = absurd is
@@ -90,6 +115,21 @@ Follows-begin_no_memory st s within idle =
 pub Follows-no_such_session : (st : State) (s : ℕ) → 64 ≤ s → Follows st (Begin s) (Refused NoSuchSession) st
 Follows-no_such_session st s past = Follows-same st (Begin s) (Refused NoSuchSession) (theory.Follows-begin_refused (seen st) s NoSuchSession (λ w agrees. past))
 
+pub Follows-closed_begin : (st : State) (s : ℕ) (r : Refusal) → (r ≡ NotOpen → ⊥) → Refuses st s r → Follows st (Begin s) (Refused r) st
+Follows-closed_begin st s NoSuchSession ne is = Follows-no_such_session st s is
+Follows-closed_begin st s NotOpen ne is = absurd (ne refl)
+Follows-closed_begin st s AlreadyOpen ne is = absurd is
+Follows-closed_begin st s Failed ne is = absurd is
+Follows-closed_begin st s AlreadyThere ne is = absurd is
+Follows-closed_begin st s NotThere ne is = absurd is
+Follows-closed_begin st s Conflict ne is = absurd is
+Follows-closed_begin st s (Busy o) ne is = absurd is
+Follows-closed_begin st s TooLarge ne is = absurd is
+Follows-closed_begin st s NoRoom ne is = absurd is
+Follows-closed_begin st s NeedsFreeze ne is = absurd is
+Follows-closed_begin st s NoMemory ne is = absurd is
+Follows-closed_begin st s NoSuchPage ne is = absurd is
+
 -- Begin.
 
 opened_reader : (e : Session) (snapshot : Snap) → e.snapshot ≡ snapshot → e.own.ids ≡ [] → e.own.saved ≡ [] → e.failed ≡ false → reader_of e ≡ new_session snapshot
@@ -104,7 +144,8 @@ Sound-opens st w s e within snapshot ids saved agrees = record {
     | inr other ↦ agrees.sound.sessions o f other.1
   ];
   tops = agrees.sound.tops;
-  flat = agrees.sound.flat;
+  table = later-stays-sound st.heap (horizon_of st) (horizon_of (put_session st s (Some e))) agrees.sound.table agrees.sound.window (upto-horizon st w agrees)
+      (horizon-upto st.heap.table (set st.sessions s (Some e)) agrees.sound.window (held-then held-upto)) later-then;
 }
   where
     mine : SessionKeeps st.heap.table e
@@ -112,7 +153,34 @@ Sound-opens st w s e within snapshot ids saved agrees = record {
       snapshot = rw snapshot (taken-within st w agrees);
       topmost = λ x among. absurd (none_own x (subst (λ xs. Contains xs x) ids among));
       unsaved = saved;
+      single = (let none = ap length ids in omega arith);
     }
+
+    within' : s < length st.sessions
+    within' = (let count = agrees.sound.count in omega arith)
+
+    -- what holds of what others hold back, and of the xmin of the new snapshot, holds of all that is held back then
+    held-then : {P : ℕ → Type 0} → ((o : ℕ) (f : Session) (y : ℕ) → session_at st o ≡ Some f → Contains (holds_back f) y → P y) × P (now_taken st).xmin
+        → (o : ℕ) (f : Session) (y : ℕ) → open_at (set st.sessions s (Some e)) o ≡ Some f → Contains (holds_back f) y → P y
+    held-then {P} h o f y bt among = elim (open-set_cases st.sessions s o (Some e) f within' bt) [
+      | inr other ↦ h.0 o f y other.1 among
+      | inl same ↦ (let is : f ≡ e = sym (same_Some e f same.1) in
+          elim (back-cases e y (subst (λ (g : Session). Contains (holds_back g) y) is among)) [
+            | inl here ↦ subst P (ap (λ (s : Snap). s.xmin) (sym snapshot) ∙ here) h.1
+            | inr own ↦ absurd (none_own y (subst (λ xs. Contains xs y) ids own))
+          ])
+    ]
+
+    held-upto : ((o : ℕ) (f : Session) (y : ℕ) → session_at st o ≡ Some f → Contains (holds_back f) y → IsUpToNext st.heap.table y) × IsUpToNext st.heap.table (now_taken st).xmin
+    held-upto = (held-in st w agrees, (taken-within st w agrees).xmin)
+
+    later-then : turns st.heap.table.first (horizon_of st) ≤ turns st.heap.table.first (horizon_of (put_session st s (Some e)))
+    later-then = horizon-above st.heap.table (set st.sessions s (Some e)) (turns st.heap.table.first (horizon_of st)) agrees.sound.window (held-then held-upto)
+        (horizon-next st.heap.table st.sessions agrees.sound.window (held-in st w agrees))
+        (held-then (
+          (λ o f y bt among. horizon-low st.heap.table st.sessions o f y agrees.sound.window (held-in st w agrees) bt among),
+          taken-late st w agrees,
+        ))
 
 pub Follows-begin : (st st' : State) (s : ℕ) (snapshot : Snap) → s < 64 → session_at st s ≡ None → snapshot ≡ now_taken st → Opens st st' s snapshot → Follows st (Begin s) Done st'
 Follows-begin st st' s snapshot within idle is opens w agrees =
@@ -124,14 +192,14 @@ Follows-begin st st' s snapshot within idle is opens w agrees =
       itself = (only-set st s (Some e) (omega arith)).itself ∙ ap Some (opened_reader e (now_taken st) (opens.with_snapshot ∙ is) opens.no_ids opens.unsaved opens.sound);
     } in
     let f = theory.Follows-begin (seen st) s (now_taken st) (seen (put_session st s (Some e))).session now within (ap (option_map reader_of) idle) (λ w' found. taken-fresh st w agrees) w agrees.found in
-    subst (λ st'. Allows w (Begin s) Done × Agrees st' (next w (Begin s) Done)) (sym opens.is)
-    (f.0, record { found = f.1; sound = Sound-opens st w s e within (opens.with_snapshot ∙ is) opens.no_ids opens.unsaved agrees })
+    subst (λ st'. Allows w (Begin s) Done × Agrees st' (next w (Begin s) Done) × StaysLed st st') (sym opens.is)
+    (f.0, record { found = f.1; sound = Sound-opens st w s e within (opens.with_snapshot ∙ is) opens.no_ids opens.unsaved agrees }, led-same st w agrees)
 
 -- Commit and Abort.
 
 -- what readers see of other pages with the rest of the engine
-abbrev with_pages : State → List PageView → Heap
-with_pages st pages = record (seen st) { version = version_in (map (λ (p : PageView). p.slots) pages) }
+abbrev with_pages : State → PagesView → Heap
+with_pages st pages = record (seen st) { version = version_in (looking.slots_of pages) }
 
 module _ (st st' : State) (s : ℕ) (e : Session) (end : Status) (at : session_at st s ≡ Some e) (closes : Closes st st' s end) where
   only-closes : OnlyIs (seen st).session (seen st').session s None
@@ -155,33 +223,49 @@ pub Follows-abort : (st st' : State) (s : ℕ) (e : Session) → session_at st s
 Follows-abort st st' s e at closes w agrees =
     let f = theory.Follows-abort (seen st) s (reader_of e) (seen st').status (seen st').sees (seen st').session (only-closes st st' s e Aborted at closes) (reader-is st s e at)
     (own-finishes st st' s e Aborted at closes) (same-sights st st' s e Aborted at closes) w agrees.found in
-    (f.0, record { found = closed-with st st' s e Aborted at closes (next w (Abort s) RolledBack) f.1; sound = Sound-closes st st' s e Aborted (λ e. cc) at closes agrees.sound })
+    let sound' = aborts-sound st st' s e w at closes agrees in
+    (f.0, record { found = closed-with st st' s e Aborted at closes (next w (Abort s) RolledBack) f.1; sound = sound'.0 }, sound'.1)
 
 pub Follows-commit_failed : (st st' : State) (s : ℕ) (e : Session) → session_at st s ≡ Some e → e.failed ≡ true → Closes st st' s Aborted → Follows st (Commit s) RolledBack st'
 Follows-commit_failed st st' s e at failed closes w agrees =
     let f = theory.Follows-commit_failed (seen st) s (reader_of e) (seen st').status (seen st').sees (seen st').session (only-closes st st' s e Aborted at closes) (reader-is st s e at) failed
     (own-finishes st st' s e Aborted at closes) (same-sights st st' s e Aborted at closes) w agrees.found in
-    (f.0, record { found = closed-with st st' s e Aborted at closes (next w (Commit s) RolledBack) f.1; sound = Sound-closes st st' s e Aborted (λ e. cc) at closes agrees.sound })
+    let sound' = aborts-sound st st' s e w at closes agrees in
+    (f.0, record { found = closed-with st st' s e Aborted at closes (next w (Commit s) RolledBack) f.1; sound = sound'.0 }, sound'.1)
 
 pub Follows-commit : (st st' : State) (s : ℕ) (e : Session) → session_at st s ≡ Some e → e.failed ≡ false → Closes st st' s Committed → Follows st (Commit s) reply.Committed st'
 Follows-commit st st' s e at sound closes w agrees =
     let f = theory.Follows-commit (seen st) s (reader_of e) (seen st').status (seen st').sees (seen st').session (only-closes st st' s e Committed at closes) (reader-is st s e at) sound
     (own-finishes st st' s e Committed at closes) (same-sights st st' s e Committed at closes) (λ x. decided e.snapshot st.heap.table x) w agrees.found in
-    (f.0, record { found = closed-with st st' s e Committed at closes (next w (Commit s) reply.Committed) f.1; sound = Sound-closes st st' s e Committed (λ e. cc) at closes agrees.sound })
+    let sound' = commits-sound st st' s e w at closes agrees in
+    (f.0, record { found = closed-with st st' s e Committed at closes (next w (Commit s) reply.Committed) f.1; sound = sound'.0 }, sound'.1)
 
-pub Follows-unready_insert : (st : State) (s : ℕ) (text : RowText) (r : Refusal) → RefusesReady st s r → Follows st (Insert s text) (Refused r) st
-Follows-unready_insert st s text r is = Follows-same st (Insert s text) (Refused r) (theory.Follows-unready_insert (seen st) s text r (unready_by st s r is))
+-- Writes that are refused before they are tried.
+
+pub Follows-unready_write : (st : State) (s : ℕ) (write : WriteStep) (r : Refusal) → RefusesReady st s r → Follows st (step_of s write) (Refused r) st
+Follows-unready_write st s write r is = Follows-same st (step_of s write) (Refused r) (hindrances.Follows-unready_write (seen st) s write r (unready_by st s r is))
+
+pub Follows-too_large : (st : State) (s : ℕ) (e : Session) (write : WriteStep) → session_at st s ≡ Some e → e.failed ≡ false → hindrances.IsTooLarge write → Follows st (step_of s write) (Refused TooLarge) st
+Follows-too_large st s e write at sound large = Follows-same st (step_of s write) (Refused TooLarge) (hindrances.Follows-too_large (seen st) s (reader_of e) write (reader-is st s e at) sound large)
 
 -- a session that fails keeps its ids
+failed-back : (xs : List (Option Session)) (s : ℕ) (e : Session) → open_at xs s ≡ Some e → held_back (set xs s (Some (as_failed e))) ≡ held_back xs
+failed-back [] s e at = absurd (none-some e at)
+failed-back (None ∷ xs) zero e at = absurd (none-some e at)
+failed-back (Some f ∷ xs) zero e at = ap (λ (g : Session). holds_back g ++ held_back xs) (sym (same_Some f e at))
+failed-back (None ∷ xs) (suc s) e at = failed-back xs s e at
+failed-back (Some f ∷ xs) (suc s) e at = ap (λ ys. holds_back f ++ ys) (failed-back xs s e at)
+
 pub Sound-fails : (st : State) (s : ℕ) (e : Session) → s < length st.sessions → session_at st s ≡ Some e → Sound st → Sound (put_session st s (option_map as_failed (session_at st s)))
 Sound-fails st s e within at sound = record {
   count = length-set st.sessions s (option_map as_failed (session_at st s)) ∙ sound.count;
   window = sound.window;
   sessions = λ o f bt. elim (open-set_cases st.sessions s o (option_map as_failed (session_at st s)) f within bt) [
     | inl now ↦ subst (λ f. SessionKeeps st.heap.table f) (same_Some (as_failed e) f (sym (ap (option_map as_failed) at) ∙ now.1))
-        (record { snapshot = (sound.sessions s e at).snapshot; topmost = (sound.sessions s e at).topmost; unsaved = (sound.sessions s e at).unsaved })
+        (record { snapshot = (sound.sessions s e at).snapshot; topmost = (sound.sessions s e at).topmost; unsaved = (sound.sessions s e at).unsaved; single = (sound.sessions s e at).single })
     | inr other ↦ sound.sessions o f other.1
   ];
   tops = sound.tops;
-  flat = sound.flat;
+  table = subst (λ back. SoundTable st.heap (earliest (next_id st.heap.table) back))
+      (sym (ap (λ o. held_back (set st.sessions s (option_map as_failed o))) at ∙ failed-back st.sessions s e at)) sound.table;
 }

@@ -1,8 +1,8 @@
 -- A new engine agrees with the empty history.
-use Rattle.std.proofs.Common.{◌≡◌, ℕ, List, [], length, map, replicate, Option, Some, None, slice_get, refl, sym, ap, ◌∙◌, arith}
-use Rattle.std.specs.Option.{option_map, option_and_then}
+use Rattle.std.proofs.Common.{◌≡◌, ℕ, zero, suc, List, [], length, map, replicate, Option, Some, None, refl, sym, ap, ◌∙◌, arith}
+use Rattle.std.specs.Option.{option_map}
 use Rattle.std.proofs.lemmas.List.{length-replicate}
-use Rattle.std.proofs.lemmas.Option.{none-some, slice_get_past}
+use Rattle.std.proofs.lemmas.Option.{none-some}
 use Rattle.xid_circle.specs.declared.Tid.{Tid}
 use Rattle.commit_status.specs.Window.{Window, IsWindow, place, status_of}
 use Rattle.commit_status.proofs.Places.{place-lt}
@@ -10,11 +10,13 @@ use Rattle.commit_status.proofs.Giving.{finished-place}
 use Rattle.page_slots.specs.Slots.{version_at}
 use Rattle.page_slots.specs.View.{PageView}
 use Rattle.page_slots.specs.declared.slot.Slot.{Slot}
-use Rattle.heap_write.specs.Heap.{version_in, slots_of}
+use Rattle.sound_entries.specs.Pages.{version_in, slots_on}
+use Rattle.heap_write.specs.Heap.{slots_of}
+use Rattle.sound_writes.proofs.Keeping.{nothing-stays}
 use Rattle.history.specs.World.{empty}
 use Rattle.session_relation.proofs.Steps.{Agrees-empty}
 use Rattle.session_core.specs.declared.session.Session.{Session}
-use Rattle.session_core.specs.State.{State, session_at, seen, reader_of}
+use Rattle.session_core.specs.State.{State, session_at, seen, reader_of, horizon_of}
 use Rattle.session_core.specs.Agrees.{Agrees}
 use Rattle.session_core.proofs.StateLemmas.{none-open}
 
@@ -25,12 +27,18 @@ no-place w x bare = of (place w x) refl
     of None is = is
     of (Some i) is = absurd (let lt = place-lt w x i is in let none = ap length bare in omega arith)
 
-no-version : (pages : List (List Slot)) (p : Tid) → pages ≡ [] → version_in pages p ≡ None
-no-version pages p bare =
-    ap (λ o. option_and_then (λ slots. version_at slots p.slot) o) (slice_get_past pages p.page (let none = ap length bare in omega arith))
+none-at : (n : ℕ) → version_at [] n ≡ None
+none-at zero = refl
+none-at (suc n) = refl
 
-pub Agrees-new : (st : State) → st.heap.pages ≡ [] → st.heap.table.entries ≡ [] → IsWindow st.heap.table → st.sessions ≡ replicate 64 None → Agrees st empty
-Agrees-new st pages entries window idle = record {
+no-slots : (n : ℕ) → slots_on [] n ≡ []
+no-slots n = refl
+
+no-version : (pages : List (List Slot)) (p : Tid) → pages ≡ [] → version_in pages p ≡ None
+no-version pages p bare = ap (λ (pages : List (List Slot)). version_in pages p) bare ∙ (ap (λ (slots : List Slot). version_at slots p.slot) (no-slots p.page) ∙ none-at p.slot)
+
+pub Agrees-new : (st : State) → st.heap.pages.pages ≡ [] → st.heap.index.entries ≡ [] → st.heap.table.entries ≡ [] → IsWindow st.heap.table → st.sessions ≡ replicate 64 None → Agrees st empty
+Agrees-new st pages index entries window idle = record {
   found = Agrees-empty (seen st)
       (λ p. no-version (slots_of st.heap) p (ap (λ (pages : List PageView). map (λ (p : PageView). p.slots) pages) pages))
       (λ x. ap (λ o. option_map (λ _. status_of st.heap.table x) o) (no-place st.heap.table x entries))
@@ -40,7 +48,7 @@ Agrees-new st pages entries window idle = record {
     window = window;
     sessions = λ s e at. absurd (none-some e (sym (closed s) ∙ at));
     tops = λ x done. absurd (let at = finished-place st.heap.table x (λ active. cc) in none-some at.0 (sym (no-place st.heap.table x entries) ∙ at.1));
-    flat = λ p slots at. absurd (none-some slots (sym (ap (λ (pages : List PageView). slice_get (map (λ (p : PageView). p.slots) pages) p) pages) ∙ at));
+    table = nothing-stays st.heap (horizon_of st) pages index;
   };
 }
   where

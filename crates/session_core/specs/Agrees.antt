@@ -1,5 +1,5 @@
 -- When an engine agrees with a world of the history.
-use Rattle.std.specs.Prelude.{◌≡◌, ℕ, List, [], length, Some, slice_get, Contains}
+use Rattle.std.specs.Prelude.{◌≡◌, ◌≤◌, ℕ, [], length, Some, slice_get, Contains}
 use Rattle.history.specs.World.{World}
 use Rattle.snapshot.specs.Laws.{IsInWindow}
 use Rattle.commit_status.specs.Window.{Window, IsWindow, IsCommitted, IsInProgress, top_of}
@@ -7,11 +7,11 @@ use Rattle.session_relation.specs.declared.step.Step.{Step}
 use Rattle.session_relation.specs.declared.reply.Reply.{Reply}
 use Rattle.session_relation.specs.Allowed.{Allows, next}
 use Rattle.session_relation.specs.Agrees as relation
-use Rattle.page_slots.specs.declared.slot.Slot.{Slot}
-use Rattle.prune.specs.Pruning.{IsFlat}
+use Rattle.sound_entries.specs.Entries.{KeepsLed}
 use Rattle.heap_write.specs.Heap.{slots_of}
+use Rattle.sound_writes.specs.Table.{SoundTable}
 use Rattle.session_core.specs.declared.session.Session.{Session}
-use Rattle.session_core.specs.State.{State, session_at, seen}
+use Rattle.session_core.specs.State.{State, session_at, seen, horizon_of}
 
 -- what the ids of an open session keep
 pub record SessionKeeps (w : Window) (e : Session) : Type 0 where
@@ -19,11 +19,9 @@ pub record SessionKeeps (w : Window) (e : Session) : Type 0 where
   pub snapshot : IsInWindow w e.snapshot
   -- its first id is the topmost parent of each
   pub topmost : (x : ℕ) → Contains e.own.ids x → slice_get e.own.ids 0 ≡ Some (top_of w x)
-  -- there are no savepoints yet
+  -- there are no savepoints yet, and so no child ids
   pub unsaved : e.own.saved ≡ []
-
-abbrev pub ArePagesFlat : List (List Slot) → Type 0
-ArePagesFlat pages = (p : ℕ) (slots : List Slot) → slice_get pages p ≡ Some slots → IsFlat slots
+  pub single : length e.own.ids ≤ 1
 
 -- what the ids and the pages of an engine keep
 pub record Sound (st : State) : Type 0 where
@@ -33,14 +31,19 @@ pub record Sound (st : State) : Type 0 where
   pub sessions : (s : ℕ) (e : Session) → session_at st s ≡ Some e → SessionKeeps st.heap.table e
   -- what is committed, its topmost parent is not in progress
   pub tops : (x : ℕ) → IsCommitted st.heap.table x → ¬ IsInProgress st.heap.table (top_of st.heap.table x)
-  -- there are no updates yet: each version is alone in its chain
-  pub flat : ArePagesFlat (slots_of st.heap)
+  -- sound entries, on sound pages, at the present horizon
+  pub table : SoundTable st.heap (horizon_of st)
 
 pub record Agrees (st : State) (w : World) : Type 0 where
   -- each session reads its view, a new one would read what is committed; same sessions; exact traces
   pub found : relation.Agrees (seen st) w
   pub sound : Sound st
 
--- whatever world the engine agreed with, the history allows the reply, and the engine agrees with the next world
+-- what an index entry leads to before and after is the same version, a redirect to a later one of its row, or dead
+abbrev pub StaysLed : State → State → Type 0
+StaysLed old new = KeepsLed (slots_of old.heap) (slots_of new.heap) old.heap.index.entries new.heap.index.entries
+
+-- whatever world the engine agreed with, the history allows the reply, and the engine agrees with the next world; and no index
+-- entry leads to a slot that was given to another row
 abbrev pub Follows : State → Step → Reply → State → Type 0
-Follows old step reply new = (w : World) → Agrees old w → Allows w step reply × Agrees new (next w step reply)
+Follows old step reply new = (w : World) → Agrees old w → Allows w step reply × Agrees new (next w step reply) × StaysLed old new

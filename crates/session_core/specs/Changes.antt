@@ -20,6 +20,8 @@ pub record Opens (old new : State) (s : ℕ) (snapshot : Snap) : Type 0 where
 pub record Closes (old new : State) (s : ℕ) (status : Status) : Type 0 where
   pub settings : new.settings ≡ old.settings
   pub pages : new.heap.pages ≡ old.heap.pages
+  pub index : new.heap.index ≡ old.heap.index
+  pub max_pages : new.heap.max_pages ≡ old.heap.max_pages
   pub sessions : new.sessions ≡ slice_set old.sessions s None
   pub finishes : (e : Session) → session_at old s ≡ Some e → Finishes old.heap.table new.heap.table e.own.ids status
   pub window : (e : Session) → session_at old s ≡ Some e → IsWindow new.heap.table

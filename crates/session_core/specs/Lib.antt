@@ -2,7 +2,10 @@ pub mod Keeps
 pub mod State
 pub mod Agrees
 pub mod Refuses
+pub mod Tests
 pub mod Changes
-pub mod Exact
 pub mod Writes
+pub mod Exact
+pub mod Follows
 pub mod Runs
+pub mod Laws

@@ -1,11 +1,16 @@
 -- An engine as its callers see it, and what its readers see of it.
-use Rattle.std.specs.Prelude.{ℕ, true, List, [], ◌∷◌, ◌++◌, take, Option, Some, None, slice_get, slice_set}
+use Rattle.std.specs.Prelude.{ℕ, ◌==◌, if◌then◌else◌, true, List, [], ◌∷◌, ◌++◌, take, Option, Some, None, slice_get, slice_set}
 use Rattle.std.specs.Option.{option_map, option_flatten}
 use Rattle.snapshot.specs.Snap.{Sees, earliest}
 use Rattle.commit_status.specs.declared.status.Status.{Status}
 use Rattle.commit_status.specs.Window.{Window, place, status_of, next_id}
-use Rattle.heap_write.specs.Heap.{HeapView, version_in, slots_of}
+use Rattle.page_slots.specs.declared.slot.Slot.{Slot}
+use Rattle.root_index.specs.View.{IndexView}
+use Rattle.sound_entries.specs.Pages.{version_in}
+use Rattle.heap_write.specs.Heap.{HeapView, slots_of}
 use Rattle.session_relation.specs.declared.settings.Settings.{Settings}
+use Rattle.session_relation.specs.declared.reply.Refusal.{Refusal}
+use Rattle.session_relation.specs.declared.reply.Refusal.TheVariants.{Conflict}
 use Rattle.session_relation.specs.Heap.{Heap}
 use Rattle.session_relation.specs.Heap as relation
 use Rattle.session_core.specs.declared.session.Session.{Session}
@@ -18,6 +23,10 @@ pub record State : Type 0 where
 abbrev pub session_at : State → ℕ → Option Session
 session_at st s = option_flatten (slice_get st.sessions s)
 
+-- the index of this number, if there is one: the primary index alone
+abbrev pub index_at : State → ℕ → Option IndexView
+index_at st number = if number == 0 then Some st.heap.index else None
+
 -- what became of an id of the window
 abbrev pub state_of : Window → ℕ → Option Status
 state_of w x = option_map (λ _. status_of w x) (place w x)
@@ -25,14 +34,18 @@ state_of w x = option_map (λ _. status_of w x) (place w x)
 abbrev pub reader_of : Session → relation.Session
 reader_of e = record { snapshot = e.snapshot; own = e.own.ids; saved = e.own.saved; failed = e.failed }
 
+-- what readers see of these slots, ids and sessions
+abbrev pub seen_in : List (List Slot) → Window → List (Option Session) → Heap
+seen_in slots table sessions = record {
+  version = version_in slots;
+  status = state_of table;
+  sees = λ snapshot x. Sees snapshot table x;
+  session = λ s. option_map reader_of (option_flatten (slice_get sessions s));
+}
+
 -- the engine as its readers see it
 abbrev pub seen : State → Heap
-seen st = record {
-  version = version_in (slots_of st.heap);
-  status = state_of st.heap.table;
-  sees = λ snapshot x. Sees snapshot st.heap.table x;
-  session = λ s. option_map reader_of (session_at st s);
-}
+seen st = seen_in (slots_of st.heap) st.heap.table st.sessions
 
 -- the own ids of the open sessions
 abbrev pub owns_of : List (Option Session) → List (List ℕ)
@@ -60,3 +73,8 @@ put_session st s e = record st { sessions = slice_set st.sessions s e }
 
 abbrev pub as_failed : Session → Session
 as_failed e = record e { failed = true }
+
+-- the engine after the refusal of a write: a conflict makes the session fail
+abbrev pub refused_state : State → ℕ → Refusal → State
+refused_state st s Conflict = put_session st s (option_map as_failed (session_at st s))
+refused_state st s refusal = st

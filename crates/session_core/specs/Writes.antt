@@ -1,50 +1,20 @@
--- What the tests of a write say, and what a write changes.
-use Rattle.std.specs.Prelude.{◌≡◌, ℕ, ◌≤◌, [], ◌∷◌, length, Option, Some, None, false, Contains, slice_get, Result, Ok, Err}
+-- What a write changes, and why it is not done. It is said of the engine's own ids and pages.
+use Rattle.std.specs.Prelude.{◌≡◌, ◌⊎◌, ℕ, [], ◌∷◌, Option, Some, None, slice_get, Result, Ok, Err}
+use Rattle.std.specs.Option.{option_map}
+use Rattle.xid_circle.specs.declared.Xid.{Xid}
+use Rattle.xid_circle.specs.declared.Tid.{Tid}
 use Rattle.tuple_header.specs.declared.version.Row.{Row}
-use Rattle.page_slots.specs.Slots.{with_added}
-use Rattle.page_slots.specs.declared.slot.Slot.TheVariants.{Normal}
-use Rattle.commit_status.specs.Window.{IsWindow, next_id}
-use Rattle.commit_status.specs.Changes.{Gives}
-use Rattle.heap_write.specs.Heap.{HeapView, slots_of, first_slots, version_made, Keeps}
+use Rattle.tuple_header.specs.Version.{rounded_size_of}
+use Rattle.heap_write.specs.Heap.{HeapView, Keeps}
+use Rattle.heap_write.specs.Writes.{NeedsFreeze, IsFull, Readies, Inserts, Updates, Deletes}
+use Rattle.heap_write.specs.Refusals.{RootNeedsMemory, UpdateNeedsMemory, NeedsId, IsThere}
 use Rattle.heap_write.specs.declared.heap.WriteFault.{WriteFault}
-use Rattle.heap_write.specs.declared.heap.WriteFault.TheVariants.{NeedsFreeze, NoRoom, NoMemory}
-use Rattle.session_relation.specs.declared.reply.Refusal.TheVariants as refusal
-use Rattle.heap_write.specs.Search.{SomeVersion, IsForeign}
-use Rattle.history.specs.World.{World}
-use Rattle.session_relation.specs.declared.reply.Refusal.{Refusal}
-use Rattle.session_relation.specs.declared.reply.Refusal.TheVariants.{AlreadyThere, Conflict, Busy}
-use Rattle.session_relation.specs.declared.step.Step.TheVariants.{Insert}
+use Rattle.heap_write.specs.declared.heap.WriteFault.TheVariants as fault
 use Rattle.session_relation.specs.declared.reply.Reply.{Reply}
-use Rattle.session_relation.specs.declared.reply.Reply.TheVariants.{Done, Refused}
-use Rattle.session_relation.specs.Words.{RowText, FitsRow, row_of}
-use Rattle.session_relation.specs.Visible.{IsVisible}
-use Rattle.session_relation.specs.Finds.{Finds, IsLateFor, IsHeldBy}
+use Rattle.session_relation.specs.declared.reply.Reply.TheVariants as reply
+use Rattle.session_relation.specs.declared.reply.Refusal.{Refusal}
+use Rattle.session_relation.specs.declared.reply.Refusal.TheVariants as refusal
 use Rattle.session_core.specs.declared.session.Session.{Session}
-use Rattle.session_core.specs.State.{State, session_at, seen, reader_of}
-use Rattle.session_core.specs.Agrees.{Agrees, Follows}
-use Rattle.session_core.specs.Refuses.{RefusesReady}
-use Rattle.session_core.specs.Exact.{Outcome}
-
--- the session is open, has not failed, and reads this row of the key, or none
-pub record Reads (st : State) (s : ℕ) (e : Session) (key : ℕ) (found : Option Row) : Type 0 where
-  pub at : session_at st s ≡ Some e
-  pub sound : e.failed ≡ false
-  pub finds : Finds (seen st).version (IsVisible (seen st).status ((seen st).sees e.snapshot) e.own.ids) key found
-
--- whatever world the engine agrees with, nothing keeps the session from writing the key
-pub record MayInsert (st : State) (s key : ℕ) : Type 0 where
-  pub session : Session
-  pub reads : Reads st s session key None
-  pub timely : ¬ IsLateFor (seen st) (reader_of session) key
-  pub unheld : (w : World) → Agrees st w → (x : ℕ) → ¬ IsHeldBy (seen st) (reader_of session) key x
-
--- or this does
-abbrev pub Hinders : State → ℕ → ℕ → Refusal → Type 0
-Hinders st s key AlreadyThere = (e : Session) × (row : Row) × Reads st s e key (Some row)
-Hinders st s key Conflict = (e : Session) × Reads st s e key None × IsLateFor (seen st) (reader_of e) key
-Hinders st s key (Busy o) = (e : Session) × (f : Session) × (x : ℕ) × Reads st s e key None × (¬ IsLateFor (seen st) (reader_of e) key)
-    × SomeVersion (slots_of st.heap) (IsForeign st.heap.table e.own.ids key x) × (session_at st o ≡ Some f) × Contains f.own.ids x
-Hinders st s key refusal = RefusesReady st s refusal
 
 -- the session is as it was, though there may be more memory
 pub record SameSession (e e' : Session) : Type 0 where
@@ -53,35 +23,88 @@ pub record SameSession (e e' : Session) : Type 0 where
   pub saved : e'.own.saved ≡ e.own.saved
   pub failed : e'.failed ≡ e.failed
 
--- a version of the row, made by the id, is added to the only page
-abbrev pub Places : HeapView → HeapView → Row → ℕ → Type 0
-Places h h' row x = (length h.pages ≤ 1) × (slots_of h' ≡ with_added (first_slots h.pages) (Normal (version_made x (first_slots h.pages) row)) ∷ [])
+-- the session has the id x now: its first, under which it wrote, or a new one
+pub data WritesUnder (e e' : Session) (id : Option Xid) (x : ℕ) : Type 0 where
+  its_own : (y : Xid) → id ≡ Some y → x ≡ y.0 → slice_get e.own.ids 0 ≡ Some x → SameSession e e' → WritesUnder e e' id x
+  a_new : id ≡ None → e.own.ids ≡ [] → e'.own.ids ≡ x ∷ [] → e'.snapshot ≡ e.snapshot → e'.own.saved ≡ e.own.saved → e'.failed ≡ e.failed → WritesUnder e e' id x
 
--- the row is written under the session's first id, or under a new one
-pub data Wrote (h h' : HeapView) (e e' : Session) (row : Row) : Type 0 where
-  under_own : (x : ℕ) → slice_get e.own.ids 0 ≡ Some x → h'.table ≡ h.table → SameSession e e' → Places h h' row x → Wrote h h' e e' row
-  under_new : e.own.ids ≡ [] → Gives h.table h'.table None → IsWindow h'.table → e'.own.ids ≡ next_id h.table ∷ [] → e'.snapshot ≡ e.snapshot
-      → e'.own.saved ≡ e.own.saved → e'.failed ≡ e.failed → Places h h' row (next_id h.table) → Wrote h h' e e' row
+-- the session's first id, if it has one
+abbrev pub HasId : Session → Option Xid → Type 0
+HasId e id = option_map (λ (x : Xid). x.0) id ≡ slice_get e.own.ids 0
+
+-- its list of ids has to grow
+pub record OwnNeedsMemory (e : Session) : Type 0 where
+  pub none : e.own.ids ≡ []
+  pub full : e.own.spare ≡ 0
+
+-- What a write of a row, an update of the version at a place, or a deletion does to the heap under an id; or why it is not done,
+-- of the first reason in this order, and what that leaves. A fault of `Gone` comes only at a place without a version: where the
+-- session reads one, pruning leaves it.
+
+abbrev pub InsertFails : HeapView → HeapView → Session → Option Xid → Row → WriteFault → Type 0
+InsertFails h h' e id row fault.NeedsFreeze = NeedsFreeze h.table id × Keeps h h'
+InsertFails h h' e id row fault.NoRoom = (¬ NeedsFreeze h.table id) × IsFull h (rounded_size_of row) × Keeps h h'
+InsertFails h h' e id row fault.NoMemory = (¬ NeedsFreeze h.table id) × (¬ IsFull h (rounded_size_of row))
+    × (OwnNeedsMemory e ⊎ RootNeedsMemory h id (rounded_size_of row)) × Keeps h h'
+InsertFails h h' e id row fault.Gone = ⊥
+
+-- the page of the old version was made ready, and this is so of the heap then
+pub record AfterReadying (h h' : HeapView) (place : Tid) (horizon size : ℕ) (P : HeapView → Type 0) : Type 0 where
+  pub ready : HeapView
+  pub readies : Readies h ready place.page horizon size
+  pub has : P ready
+  pub keeps : Keeps ready h'
+
+abbrev pub UpdateFails : HeapView → HeapView → Session → Option Xid → Tid → Row → ℕ → WriteFault → Type 0
+UpdateFails h h' e id place row horizon fault.NeedsFreeze = NeedsFreeze h.table id × Keeps h h'
+UpdateFails h h' e id place row horizon fault.NoRoom = (¬ NeedsFreeze h.table id) × AfterReadying h h' place horizon (rounded_size_of row) (λ ready. IsFull ready (rounded_size_of row))
+UpdateFails h h' e id place row horizon fault.NoMemory = (¬ NeedsFreeze h.table id) × (OwnNeedsMemory e ⊎ UpdateNeedsMemory h id place (rounded_size_of row)) × Keeps h h'
+UpdateFails h h' e id place row horizon fault.Gone = ((¬ IsThere h place) × Keeps h h') ⊎ AfterReadying h h' place horizon (rounded_size_of row) (λ ready. ¬ IsThere ready place)
+
+abbrev pub DeleteFails : HeapView → HeapView → Session → Option Xid → Tid → WriteFault → Type 0
+DeleteFails h h' e id place fault.NeedsFreeze = NeedsFreeze h.table id × Keeps h h'
+DeleteFails h h' e id place fault.NoRoom = ⊥
+DeleteFails h h' e id place fault.NoMemory = (¬ NeedsFreeze h.table id) × (OwnNeedsMemory e ⊎ NeedsId h id) × Keeps h h'
+DeleteFails h h' e id place fault.Gone = (¬ IsThere h place) × Keeps h h'
+
+-- The session writes under its first id, or a new one; or all of it is as it was.
+pub record Done (e e' : Session) (changes : Option Xid → ℕ → Type 0) : Type 0 where
+  pub id : Option Xid
+  pub x : ℕ
+  pub under : WritesUnder e e' id x
+  pub change : changes id x
+
+pub record Refused (e e' : Session) (fails : Option Xid → Type 0) : Type 0 where
+  pub id : Option Xid
+  pub has_id : HasId e id
+  pub same : SameSession e e'
+  pub fault : fails id
+
+abbrev pub TriesInsert : HeapView → HeapView → Session → Session → Row → Result (Unit {0}) WriteFault → Type 0
+TriesInsert h h' e e' row (Ok u) = Done e e' (λ id x. Inserts h h' id row x)
+TriesInsert h h' e e' row (Err f) = Refused e e' (λ id. InsertFails h h' e id row f)
+
+abbrev pub TriesUpdate : HeapView → HeapView → Session → Session → Tid → Row → ℕ → Result (Unit {0}) WriteFault → Type 0
+TriesUpdate h h' e e' place row horizon (Ok u) = Done e e' (λ id x. Updates h h' id place row horizon x)
+TriesUpdate h h' e e' place row horizon (Err f) = Refused e e' (λ id. UpdateFails h h' e id place row horizon f)
+
+abbrev pub TriesDelete : HeapView → HeapView → Session → Session → Tid → Result (Unit {0}) WriteFault → Type 0
+TriesDelete h h' e e' place (Ok u) = Done e e' (λ id x. Deletes h h' id place x)
+TriesDelete h h' e e' place (Err f) = Refused e e' (λ id. DeleteFails h h' e id place f)
+
+-- an open session tried, and is still there
+abbrev pub OnOpen : Option Session → Option Session → (Session → Session → Type 0) → Type 0
+OnOpen None now tries = ⊥
+OnOpen (Some e) now tries = (e' : Session) × (now ≡ Some e') × tries e e'
+
+-- The reply. A version that is gone is no longer there.
 
 abbrev pub refusal_for : WriteFault → Refusal
-refusal_for NeedsFreeze = refusal.NeedsFreeze
-refusal_for NoRoom = refusal.NoRoom
-refusal_for NoMemory = refusal.NoMemory
-
--- the row is written by the session, or all is as it was
-abbrev pub Tries : HeapView → HeapView → Session → Session → Row → Result (Unit {0}) WriteFault → Type 0
-Tries h h' e e' row (Ok u) = Wrote h h' e e' row
-Tries h h' e e' row (Err fault) = Keeps h h' × SameSession e e'
-
--- the session is open
-abbrev pub TriesWrite : HeapView → HeapView → Option Session → Option Session → Row → Result (Unit {0}) WriteFault → Type 0
-TriesWrite h h' None now row r = ⊥
-TriesWrite h h' (Some e) now row r = (e' : Session) × (now ≡ Some e') × Tries h h' e e' row r × Outcome h e row r
+refusal_for fault.Gone = refusal.NotThere
+refusal_for fault.NeedsFreeze = refusal.NeedsFreeze
+refusal_for fault.NoRoom = refusal.NoRoom
+refusal_for fault.NoMemory = refusal.NoMemory
 
 abbrev pub reply_for : Result (Unit {0}) WriteFault → Reply
-reply_for (Ok u) = Done
-reply_for (Err fault) = Refused (refusal_for fault)
-
--- the reply to an insert of a row that is not too large
-abbrev pub FollowsInsert : State → ℕ → Row → Reply → State → Type 0
-FollowsInsert old s row reply new = (text : RowText) → FitsRow text → row ≡ row_of text → Follows old (Insert s text) reply new
+reply_for (Ok u) = reply.Done
+reply_for (Err f) = reply.Refused (refusal_for f)

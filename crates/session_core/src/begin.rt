@@ -53,14 +53,16 @@ impl Engine {
     {
         match self.opened(s) {
             Ok(_) => Reply::Refused(Refusal::AlreadyOpen),
-            Err(Refusal::NotOpen) => match self.snapshot() {
-                Ok(snapshot) => {
-                    self.open(s, snapshot);
-                    Reply::Done
-                }
-                Err(_) => Reply::Refused(Refusal::NoMemory),
+            Err(refusal) => match refusal {
+                Refusal::NotOpen => match self.snapshot() {
+                    Ok(snapshot) => {
+                        self.open(s, snapshot);
+                        Reply::Done
+                    }
+                    Err(_) => Reply::Refused(Refusal::NoMemory),
+                },
+                _ => Reply::Refused(refusal),
             },
-            Err(refusal) => Reply::Refused(refusal),
         }
     }
 }

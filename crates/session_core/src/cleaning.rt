@@ -44,7 +44,8 @@ fn horizon(next: Xid, sessions: &[Option<Session>]) -> Xid
 }
 
 impl Engine {
-    fn horizon(&self) -> Xid
+    /// The earliest id that an open session, or one that begins now, may still ask for.
+    pub(crate) fn horizon(&self) -> Xid
         ensures value { result.0 ≡ horizon_of self.now }
         ensures normal { IsNormal result.0 }
     {

@@ -6,7 +6,7 @@ ghost use Rattle.history.specs.World.{empty};
 ghost use Rattle.session_relation.specs.Words.{AreSettings, FirstFault};
 ghost use Rattle.commit_status.specs.Window.{next_id, IsActive, IsWindow};
 ghost use Rattle.commit_status.specs.Changes.{Finishes};
-ghost use Rattle.session_core.specs.State.{session_at, put_session, as_failed};
+ghost use Rattle.session_core.specs.State.{session_at, index_at, put_session, as_failed};
 ghost use Rattle.session_core.specs.Changes.{Opens, Closes};
 ghost use Rattle.session_core.specs.Agrees.{Agrees};
 ghost use Rattle.session_core.specs.Refuses.{Refuses, RefusesReady};
@@ -15,6 +15,7 @@ use crate::session::Session;
 use commit_status::Status;
 use heap_write::HeapState;
 use page_slots::Page;
+use root_index::RootIndex;
 use session_relation::{Refusal, Settings, SettingsFault};
 use snapshot::{OwnIds, Snapshot};
 use std::alloc::{AllocError, Global};
@@ -64,6 +65,8 @@ fn fail(session: &mut Option<Session>)
 fn end(heap: &mut HeapState, session: Option<Session>, status: Status)
     requires { (e : _) (x : ℕ) → session ≡ Some e → Contains e.own.ids x → IsActive heap.old.table x }
     ensures pages { heap.new.pages ≡ heap.old.pages }
+    ensures index { heap.new.index ≡ heap.old.index }
+    ensures max_pages { heap.new.max_pages ≡ heap.old.max_pages }
     ensures finishes { (e : _) → session ≡ Some e → Finishes heap.old.table heap.new.table e.own.ids status }
     ensures window { (e : _) → session ≡ Some e → IsWindow heap.new.table }
     ensures none { session ≡ None → heap.new.table ≡ heap.old.table }
@@ -92,7 +95,7 @@ impl Engine {
         Ok(Engine {
             alloc,
             settings,
-            heap: HeapState::new(alloc, first, settings.stop_age),
+            heap: HeapState::new(alloc, first, settings.stop_age, settings.max_pages),
             sessions,
         })
     }
@@ -108,14 +111,25 @@ impl Engine {
 
     /// The page of this number, counted from 0, if it is in use.
     pub fn page(&self, number: u32) -> Option<&Page>
-        ensures { option_copied result ≡ slice_get self.now.heap.pages number }
+        ensures { option_copied result ≡ slice_get self.now.heap.pages.pages number }
     {
         self.heap.page(number)
     }
 
+    /// The index of this number, if there is one: index 0 is the primary index, by key.
+    pub fn index(&self, number: u8) -> Option<&RootIndex>
+        ensures { option_copied result ≡ index_at self.now number }
+    {
+        if number == 0 {
+            Some(self.heap.index())
+        } else {
+            None
+        }
+    }
+
     /// The visibility map's bits of the page, if it is in use: 0, since no page has been cleaned yet.
     pub fn page_bits(&self, number: u32) -> Option<u8>
-        ensures { result ≡ option_map (λ _. 0) (slice_get self.now.heap.pages number) }
+        ensures { result ≡ option_map (λ _. 0) (slice_get self.now.heap.pages.pages number) }
     {
         match self.page(number) {
             Some(_) => Some(0),

@@ -2,20 +2,26 @@
 //!
 //! Callers see an [`Engine`] as a `State` (`specs/State.antt`). `specs/Agrees.antt` says when it agrees with a world of
 //! the history, and [`Engine::step`] promises that for every world that it agrees with, the history allows the reply,
-//! and the engine agrees with the next world.
+//! the engine agrees with the next world, and no index entry leads to a slot that was given to another row. Beside that it
+//! says exactly what the step does to ids and pages (`specs/Exact.antt`). [`views_by_index`] says what the index leads to.
 #![tactic(auto)]
 
 mod begin;
 mod cleaning;
 mod commit;
+mod delete;
 mod engine;
 mod get;
 mod insert;
+mod laws;
 mod runs;
 mod session;
 mod step;
+mod update;
+mod write;
 
 pub use engine::Engine;
+pub use laws::views_by_index;
 pub use page_slots::Page;
 pub use runs::{RunFault, run};
 pub use session_relation::{Refusal, Reply, Row, RowIn, Settings, SettingsFault, Step};

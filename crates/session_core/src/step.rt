@@ -20,6 +20,8 @@ impl Engine {
             Step::Begin(s) => self.begin(s),
             Step::Get(s, key) => self.get(s, key),
             Step::Insert(s, row) => self.insert(s, row),
+            Step::Update(s, row) => self.update(s, row),
+            Step::Delete(s, key) => self.delete(s, key),
             Step::Commit(s) => self.commit(s),
             Step::Abort(s) => self.abort(s),
             Step::Prune(page) => self.prune(page),

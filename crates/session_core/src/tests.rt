@@ -2,6 +2,7 @@
 
 use crate::{Engine, Refusal, Reply, RowIn, RunFault, Settings, SettingsFault, Step, run};
 use page_slots::{Page, Slot};
+use root_index::RootIndex;
 use std::alloc::Global;
 use std::test::Fail;
 use xid_circle::Xid;
@@ -107,6 +108,109 @@ fn a_run_of_steps(rt: HostRuntime) -> Result<(), Fail> {
     assert!(rt; matches!(replies[1], Reply::Done));
     assert!(rt; matches!(replies[2], Reply::Committed));
     assert!(rt; matches!(replies[3], Reply::Refused(Refusal::NotOpen)));
+    Ok(())
+}
+
+// A reply as it is told: of a row its first column alone.
+#[derive(Clone, Copy, Debug, PartialEq, Eq)]
+enum Answer {
+    Done,
+    Nothing,
+    Column(i64),
+    Committed,
+    RolledBack,
+    Refused(Refusal),
+}
+
+fn answer_of(reply: &Reply) -> Answer {
+    match reply {
+        Reply::Done => Answer::Done,
+        Reply::Found(None) => Answer::Nothing,
+        Reply::Found(Some(row)) => Answer::Column(row.cols[0]),
+        Reply::Committed => Answer::Committed,
+        Reply::RolledBack => Answer::RolledBack,
+        Reply::Refused(refusal) => Answer::Refused(*refusal),
+    }
+}
+
+// Writes another row of the key, with this column.
+fn update(alloc: Global, s: u8, key: u64, column: i64) -> Step {
+    let row = RowIn {
+        key,
+        cols: [column, 0, 0, 0],
+        body: Vec::new(alloc),
+    };
+    Step::Update(s, row)
+}
+
+#[test]
+fn a_row_is_changed_and_taken_away(rt: HostRuntime) -> Result<(), Fail> {
+    let alloc = rt.alloc();
+    let steps = [
+        Step::Begin(0),
+        update(alloc, 0, 7, 5),
+        insert(alloc, 0, 7),
+        update(alloc, 0, 7, 5),
+        Step::Commit(0),
+        Step::Begin(0),
+        Step::Begin(1),
+        update(alloc, 0, 7, 6),
+        update(alloc, 1, 7, 8),
+        Step::Get(0, 7),
+        Step::Get(1, 7),
+        Step::Delete(0, 7),
+        Step::Delete(0, 7),
+        Step::Get(0, 7),
+        Step::Commit(0),
+        Step::Get(1, 7),
+        Step::Delete(1, 7),
+        Step::Abort(1),
+        Step::Prune(0),
+    ];
+    let expected = [
+        Answer::Done,
+        Answer::Refused(Refusal::NotThere),
+        Answer::Done,
+        Answer::Done,
+        Answer::Committed,
+        Answer::Done,
+        Answer::Done,
+        Answer::Done,
+        Answer::Refused(Refusal::Busy(0)),
+        Answer::Column(6),
+        Answer::Column(5),
+        Answer::Done,
+        Answer::Refused(Refusal::NotThere),
+        Answer::Nothing,
+        Answer::Committed,
+        Answer::Column(5),
+        Answer::Refused(Refusal::Conflict),
+        Answer::RolledBack,
+        Answer::Done,
+    ];
+    let replies = run(alloc, SETTINGS, &steps).ok().ok_or("no run")?;
+    assert_eq!(rt; replies.len(), expected.len());
+    for (at, reply) in replies.iter().enumerate() {
+        assert_eq!(rt; Some(&answer_of(reply)), expected.get(at), "at {at}");
+    }
+    Ok(())
+}
+
+#[test]
+fn the_index_leads_to_roots(rt: HostRuntime) -> Result<(), Fail> {
+    let mut engine = Engine::new(rt.alloc(), SETTINGS).ok().ok_or("no engine")?;
+    assert!(rt; engine.index(1).is_none());
+    assert_eq!(rt; engine.index(0).map(RootIndex::len), Some(0));
+    for step in [
+        Step::Begin(0),
+        insert(rt.alloc(), 0, 7),
+        update(rt.alloc(), 0, 7, 5),
+    ] {
+        assert!(rt; matches!(engine.step(step), Reply::Done));
+    }
+    // the update stays in the chain, and makes no entry
+    assert_eq!(rt; engine.index(0).map(RootIndex::len), Some(1));
+    assert_eq!(rt; engine.page(0).map(Page::slots), Some(2));
     Ok(())
 }
 

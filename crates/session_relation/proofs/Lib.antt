@@ -7,7 +7,13 @@ pub mod Traces
 pub mod Others
 pub mod Itself
 pub mod Steps
+pub mod Deleting
+pub mod Updating
 pub mod Pruning
 pub mod Commit
 pub mod Runs
 pub mod Follows
+pub mod Hindrances
+pub mod Targets
+pub mod FollowsWrites
+pub mod Sights

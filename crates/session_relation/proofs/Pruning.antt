@@ -55,7 +55,7 @@ sees_over : {status : ℕ → Option Status} {sees : Snap → ℕ → Type 0} {s
     → (y : ℕ) → ((s : ℕ) (e : Session) → session s ≡ Some e → Sees (sees e.snapshot) y) → Sees (sees snapshot) y
 sees_over {status} {sees} {session} {snapshot} {own} reader y all = subst (λ (s : Snap). Sees (sees s) y) reader.same (all reader.number reader.is reader.at)
 
-past_unseen : {status : ℕ → Option Status} {sees : Snap → ℕ → Type 0} {session : ℕ → Option Session} {snapshot : Snap} {own : List ℕ} → IsReaderOf status sees session snapshot own
+pub past_unseen : {status : ℕ → Option Status} {sees : Snap → ℕ → Type 0} {session : ℕ → Option Session} {snapshot : Snap} {own : List ℕ} → IsReaderOf status sees session snapshot own
     → (v : Version) → IsPast status sees session v → ¬ IsVisible status (sees snapshot) own v
 past_unseen reader v (never_was x made aborted) seen = aborted_unread reader x aborted (seen.made x made)
 past_unseen reader v (is_over y by done all) seen = seen.kept y by (by_others (sees_over reader y all) done)

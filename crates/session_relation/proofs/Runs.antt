@@ -2,30 +2,33 @@
 use Rattle.std.proofs.Common.{◌≡◌, ℕ, List, [], ◌∷◌, ◌++◌, refl}
 use Rattle.history.specs.World.{World, empty}
 use Rattle.history.specs.Moves.{stepped}
-use Rattle.history.specs.Events.{Happens, passes, begins, inserts, conflicts, commits, aborts, Leads, stays, goes_on}
+use Rattle.history.specs.Events.{Happens, passes, begins, conflicts, commits, aborts, Leads, stays, goes_on}
+use Rattle.history.specs.Events as events
 use Rattle.history.proofs.RunLemmas.{Lawful-empty, Lawful-run}
 use Rattle.session_relation.specs.declared.step.Step.{Step}
-use Rattle.session_relation.specs.declared.step.Step.TheVariants.{Begin, Get, Insert, Commit, Abort, Prune}
+use Rattle.session_relation.specs.declared.step.Step.TheVariants.{Begin, Get, Insert, Update, Delete, Commit, Abort, Prune}
 use Rattle.session_relation.specs.declared.reply.Reply.{Reply}
 use Rattle.session_relation.specs.declared.reply.Reply.TheVariants.{Done, Found, Committed, RolledBack, Refused}
 use Rattle.session_relation.specs.declared.reply.Refusal.{Refusal}
-use Rattle.session_relation.specs.declared.reply.Refusal.TheVariants.{NotOpen, AlreadyOpen, Failed, AlreadyThere, Conflict, Busy, TooLarge, NoRoom, NeedsFreeze, NoMemory, NoSuchPage, NoSuchSession}
-use Rattle.session_relation.specs.Words.{RowText, row_of}
-use Rattle.session_relation.specs.Allowed.{Allows, AllowsInsert, next, IsRun, after, IsLawful}
+use Rattle.session_relation.specs.declared.reply.Refusal.TheVariants.{NotOpen, AlreadyOpen, Failed, AlreadyThere, NotThere, Conflict, Busy, TooLarge, NoRoom, NeedsFreeze, NoMemory, NoSuchPage, NoSuchSession}
+use Rattle.session_relation.specs.Words.{row_of}
+use Rattle.session_relation.specs.Writes.{WriteStep, inserts, updates, deletes, key_of}
+use Rattle.session_relation.specs.Allowed.{Allows, AllowsHindered, refused_write, next, IsRun, after, IsLawful}
 
-insert_happens : (w : World) (s : ℕ) (row : RowText) (r : Refusal) → AllowsInsert w s row r → Happens w s (next w (Insert s row) (Refused r))
-insert_happens w s row Conflict allows = conflicts row.key allows.0 allows.1.writer allows.2
-insert_happens w s row NotOpen allows = passes
-insert_happens w s row AlreadyOpen allows = passes
-insert_happens w s row Failed allows = passes
-insert_happens w s row AlreadyThere allows = passes
-insert_happens w s row (Busy o) allows = passes
-insert_happens w s row TooLarge allows = passes
-insert_happens w s row NoRoom allows = passes
-insert_happens w s row NeedsFreeze allows = passes
-insert_happens w s row NoMemory allows = passes
-insert_happens w s row NoSuchPage allows = absurd allows
-insert_happens w s row NoSuchSession allows = passes
+refused_happens : (w : World) (s : ℕ) (write : WriteStep) (r : Refusal) → AllowsHindered w s r write → Happens w s (refused_write w s r)
+refused_happens w s write Conflict allows = conflicts (key_of write) allows.0 allows.1.writer allows.2
+refused_happens w s write NotOpen allows = passes
+refused_happens w s write AlreadyOpen allows = passes
+refused_happens w s write Failed allows = passes
+refused_happens w s write AlreadyThere allows = passes
+refused_happens w s write NotThere allows = passes
+refused_happens w s write (Busy o) allows = passes
+refused_happens w s write TooLarge allows = passes
+refused_happens w s write NoRoom allows = passes
+refused_happens w s write NeedsFreeze allows = passes
+refused_happens w s write NoMemory allows = passes
+refused_happens w s write NoSuchPage allows = passes
+refused_happens w s write NoSuchSession allows = passes
 
 -- each step that is allowed leads on as a step of the history does
 leads_on : (from w : World) (step : Step) (reply : Reply) → Leads from w → Allows w step reply → Leads from (next w step reply)
@@ -39,11 +42,21 @@ leads_on from w (Get s k) (Found row) led allows = goes_on w (stepped w s) s led
 leads_on from w (Get s k) Committed led allows = absurd allows
 leads_on from w (Get s k) RolledBack led allows = absurd allows
 leads_on from w (Get s k) (Refused r) led allows = goes_on w (stepped w s) s led passes
-leads_on from w (Insert s row) Done led allows = goes_on w (next w (Insert s row) Done) s led (inserts (row_of row) allows.0 allows.2 allows.1.absent)
+leads_on from w (Insert s row) Done led allows = goes_on w (next w (Insert s row) Done) s led (events.inserts (row_of row) allows.0 allows.2 allows.1.asks.1)
 leads_on from w (Insert s row) (Found r) led allows = absurd allows
 leads_on from w (Insert s row) Committed led allows = absurd allows
 leads_on from w (Insert s row) RolledBack led allows = absurd allows
-leads_on from w (Insert s row) (Refused r) led allows = goes_on w (next w (Insert s row) (Refused r)) s led (insert_happens w s row r allows)
+leads_on from w (Insert s row) (Refused r) led allows = goes_on w (refused_write w s r) s led (refused_happens w s (inserts row) r allows)
+leads_on from w (Update s row) Done led allows = goes_on w (next w (Update s row) Done) s led (events.updates (row_of row) allows.0 allows.2 allows.1.asks.1)
+leads_on from w (Update s row) (Found r) led allows = absurd allows
+leads_on from w (Update s row) Committed led allows = absurd allows
+leads_on from w (Update s row) RolledBack led allows = absurd allows
+leads_on from w (Update s row) (Refused r) led allows = goes_on w (refused_write w s r) s led (refused_happens w s (updates row) r allows)
+leads_on from w (Delete s k) Done led allows = goes_on w (next w (Delete s k) Done) s led (events.deletes k allows.0 allows.2 allows.1.asks)
+leads_on from w (Delete s k) (Found r) led allows = absurd allows
+leads_on from w (Delete s k) Committed led allows = absurd allows
+leads_on from w (Delete s k) RolledBack led allows = absurd allows
+leads_on from w (Delete s k) (Refused r) led allows = goes_on w (refused_write w s r) s led (refused_happens w s (deletes k) r allows)
 leads_on from w (Commit s) Done led allows = absurd allows
 leads_on from w (Commit s) (Found row) led allows = absurd allows
 leads_on from w (Commit s) Committed led allows = goes_on w (next w (Commit s) Committed) s led (commits allows.0 allows.1)

@@ -2,15 +2,16 @@
 use Rattle.std.specs.Prelude.{◌≡◌, ℕ, ◌<◌, ◌≤◌, List, [], ◌∷◌, length, Option, Some, None, true, IsSome}
 use Rattle.history.specs.History.{IsLate}
 use Rattle.history.specs.World.{World, OpenSession, empty, view, IsReady, IsWriter, MayWrite, IsBlocked}
-use Rattle.history.specs.Moves.{stepped, begun, change, with_row, as_failed, aborted, committed_by}
+use Rattle.history.specs.Moves.{stepped, begun, change, with_row, without_row, as_failed, aborted, committed_by}
 use Rattle.history.specs.Laws.{FirstCommitterWins, HeldInTime, HeldOnce}
 use Rattle.session_relation.specs.declared.step.Step.{Step}
-use Rattle.session_relation.specs.declared.step.Step.TheVariants.{Begin, Get, Insert, Commit, Abort, Prune}
+use Rattle.session_relation.specs.declared.step.Step.TheVariants.{Begin, Get, Insert, Update, Delete, Commit, Abort, Prune}
 use Rattle.session_relation.specs.declared.reply.Reply.{Reply}
 use Rattle.session_relation.specs.declared.reply.Reply.TheVariants.{Done, Found, Committed, RolledBack, Refused}
 use Rattle.session_relation.specs.declared.reply.Refusal.{Refusal}
-use Rattle.session_relation.specs.declared.reply.Refusal.TheVariants.{NotOpen, AlreadyOpen, Failed, AlreadyThere, Conflict, Busy, TooLarge, NoRoom, NeedsFreeze, NoMemory, NoSuchPage, NoSuchSession}
-use Rattle.session_relation.specs.Words.{RowText, FitsRow, row_of}
+use Rattle.session_relation.specs.declared.reply.Refusal.TheVariants.{NotOpen, AlreadyOpen, Failed, AlreadyThere, NotThere, Conflict, Busy, TooLarge, NoRoom, NeedsFreeze, NoMemory, NoSuchPage, NoSuchSession}
+use Rattle.session_relation.specs.Words.{FitsRow, row_of}
+use Rattle.session_relation.specs.Writes.{WriteStep, inserts, updates, deletes, key_of, PutsRow, Asks}
 
 abbrev pub IsOpen : World → ℕ → OpenSession → Type 0
 IsOpen w s m = w.session s ≡ Some m
@@ -20,9 +21,16 @@ abbrev pub session_of : Step → Option ℕ
 session_of (Begin s) = Some s
 session_of (Get s k) = Some s
 session_of (Insert s row) = Some s
+session_of (Update s row) = Some s
+session_of (Delete s k) = Some s
 session_of (Commit s) = Some s
 session_of (Abort s) = Some s
 session_of (Prune p) = None
+
+-- the write suits the session: it may write, and what it reads of the key is what the write asks for
+pub record Suits (w : World) (s : ℕ) (write : WriteStep) (m : OpenSession) : Type 0 where
+  pub writer : IsWriter w s m
+  pub asks : Asks write (view w.history m (key_of write))
 
 -- there is no such session, or it is not open
 abbrev pub AllowsClosed : World → ℕ → Refusal → Type 0
@@ -35,21 +43,28 @@ abbrev pub AllowsUnready : World → ℕ → Refusal → Type 0
 AllowsUnready w s Failed = (m : OpenSession) × IsOpen w s m × (m.failed ≡ true)
 AllowsUnready w s refusal = AllowsClosed w s refusal
 
--- what is asked of an insert before others count: the session may write, the row fits, and it reads none of the key
-pub record IsInsert (w : World) (s : ℕ) (row : RowText) (m : OpenSession) : Type 0 where
-  pub writer : IsWriter w s m
-  pub fits : FitsRow row
-  pub absent : view w.history m row.key ≡ None
+-- or the write does not suit it: its row is too large, or the key has a row already, or has none
+abbrev pub AllowsUnsuited : World → ℕ → Refusal → WriteStep → Type 0
+AllowsUnsuited w s TooLarge (inserts row) = (m : OpenSession) × IsWriter w s m × (1024 < length row.body)
+AllowsUnsuited w s TooLarge (updates row) = (m : OpenSession) × IsWriter w s m × (1024 < length row.body)
+AllowsUnsuited w s AlreadyThere (inserts row) = (m : OpenSession) × IsWriter w s m × FitsRow row × IsSome (view w.history m row.key)
+AllowsUnsuited w s NotThere (updates row) = (m : OpenSession) × IsWriter w s m × FitsRow row × (view w.history m row.key ≡ None)
+AllowsUnsuited w s NotThere (deletes k) = (m : OpenSession) × IsWriter w s m × (view w.history m k ≡ None)
+AllowsUnsuited w s refusal write = AllowsUnready w s refusal
 
-abbrev pub AllowsInsert : World → ℕ → RowText → Refusal → Type 0
-AllowsInsert w s row TooLarge = (m : OpenSession) × IsWriter w s m × (1024 < length row.body)
-AllowsInsert w s row AlreadyThere = (m : OpenSession) × IsWriter w s m × FitsRow row × IsSome (view w.history m row.key)
-AllowsInsert w s row Conflict = (m : OpenSession) × IsInsert w s row m × IsLate w.history m.start row.key
-AllowsInsert w s row (Busy o) = (m : OpenSession) × IsInsert w s row m × IsBlocked w s row.key o m
-AllowsInsert w s row NeedsFreeze = (m : OpenSession) × IsInsert w s row m × MayWrite w s row.key m
-AllowsInsert w s row NoRoom = (m : OpenSession) × IsInsert w s row m × MayWrite w s row.key m
-AllowsInsert w s row NoMemory = (m : OpenSession) × IsInsert w s row m × MayWrite w s row.key m
-AllowsInsert w s row refusal = AllowsUnready w s refusal
+-- or it does, but a commit since the session began or another open session has written the key, or there is no id, no
+-- room or no memory for it
+abbrev pub AllowsHindered : World → ℕ → Refusal → WriteStep → Type 0
+AllowsHindered w s Conflict write = (m : OpenSession) × Suits w s write m × IsLate w.history m.start (key_of write)
+AllowsHindered w s (Busy o) write = (m : OpenSession) × Suits w s write m × IsBlocked w s (key_of write) o m
+AllowsHindered w s NeedsFreeze write = (m : OpenSession) × Suits w s write m × MayWrite w s (key_of write) m
+AllowsHindered w s NoRoom write = (m : OpenSession) × Suits w s write m × MayWrite w s (key_of write) m × PutsRow write
+AllowsHindered w s NoMemory write = (m : OpenSession) × Suits w s write m × MayWrite w s (key_of write) m
+AllowsHindered w s refusal write = AllowsUnsuited w s refusal write
+
+-- or nothing keeps the session from it
+abbrev pub AllowsWrite : World → ℕ → WriteStep → Type 0
+AllowsWrite w s write = (m : OpenSession) × Suits w s write m × MayWrite w s (key_of write) m
 
 -- the history allows the reply to the step
 abbrev pub Allows : World → Step → Reply → Type 0
@@ -59,8 +74,12 @@ Allows w (Begin s) (Refused AlreadyOpen) = (m : OpenSession) × IsOpen w s m
 Allows w (Begin s) (Refused NoMemory) = (s < 64) × (w.session s ≡ None)
 Allows w (Get s k) (Found row) = (m : OpenSession) × IsReady w s m × (row ≡ view w.history m k)
 Allows w (Get s k) (Refused refusal) = AllowsUnready w s refusal
-Allows w (Insert s row) Done = (m : OpenSession) × IsInsert w s row m × MayWrite w s row.key m
-Allows w (Insert s row) (Refused refusal) = AllowsInsert w s row refusal
+Allows w (Insert s row) Done = AllowsWrite w s (inserts row)
+Allows w (Insert s row) (Refused refusal) = AllowsHindered w s refusal (inserts row)
+Allows w (Update s row) Done = AllowsWrite w s (updates row)
+Allows w (Update s row) (Refused refusal) = AllowsHindered w s refusal (updates row)
+Allows w (Delete s k) Done = AllowsWrite w s (deletes k)
+Allows w (Delete s k) (Refused refusal) = AllowsHindered w s refusal (deletes k)
 Allows w (Commit s) Committed = (m : OpenSession) × IsReady w s m
 Allows w (Commit s) RolledBack = (m : OpenSession) × IsOpen w s m × (m.failed ≡ true)
 Allows w (Commit s) (Refused refusal) = AllowsClosed w s refusal
@@ -76,11 +95,20 @@ abbrev pub passed : World → Option ℕ → World
 passed w None = w
 passed w (Some s) = stepped w s
 
+-- after a refused write: a conflict makes the session fail
+abbrev pub refused_write : World → ℕ → Refusal → World
+refused_write w s Conflict = change w s as_failed
+refused_write w s refusal = stepped w s
+
 -- the world after the reply. Cleaning leaves it as it is
 abbrev pub next : World → Step → Reply → World
 next w (Begin s) Done = begun w s
 next w (Insert s row) Done = change w s (with_row (row_of row))
-next w (Insert s row) (Refused Conflict) = change w s as_failed
+next w (Insert s row) (Refused refusal) = refused_write w s refusal
+next w (Update s row) Done = change w s (with_row (row_of row))
+next w (Update s row) (Refused refusal) = refused_write w s refusal
+next w (Delete s k) Done = change w s (without_row k)
+next w (Delete s k) (Refused refusal) = refused_write w s refusal
 next w (Commit s) Committed = committed_by w s
 next w (Commit s) RolledBack = aborted w s
 next w (Abort s) RolledBack = aborted w s

@@ -7,7 +7,6 @@ use Rattle.commit_status.specs.declared.status.Status.{Status}
 use Rattle.history.specs.World.{World}
 use Rattle.session_relation.specs.declared.step.Step.{Step}
 use Rattle.session_relation.specs.declared.reply.Reply.{Reply}
-use Rattle.session_relation.specs.Words.{RowText, FitsRow}
 use Rattle.session_relation.specs.Allowed.{Allows, next}
 use Rattle.session_relation.specs.Heap.{Session, Heap}
 use Rattle.session_relation.specs.Visible.{IsActive, IsVisible, IsMissed, Touches, At, SomeVersion}
@@ -31,18 +30,17 @@ IsLateFor h e k = SomeVersion h.version k (IsMissed h.status (h.sees e.snapshot)
 abbrev pub IsHeldBy : Heap → Session → ℕ → ℕ → Type 0
 IsHeldBy h e k x = SomeVersion h.version k (λ v. IsForeign h.status e.own v x)
 
--- the engine's tests up to the key's absence are passed
-pub record Begins (h : Heap) (s : ℕ) (e : Session) (row : RowText) : Type 0 where
+-- the session is open and has not failed, and it finds this row of the key, or none
+pub record Begins (h : Heap) (s : ℕ) (e : Session) (k : ℕ) (found : Option Row) : Type 0 where
   pub at : h.session s ≡ Some e
   pub sound : e.failed ≡ false
-  pub fits : FitsRow row
-  pub absent : Finds h.version (IsVisible h.status (h.sees e.snapshot) e.own) row.key None
+  pub finds : Finds h.version (IsVisible h.status (h.sees e.snapshot) e.own) k found
 
--- nothing keeps the session from writing the key
-pub record Free (h : Heap) (s : ℕ) (e : Session) (row : RowText) : Type 0 where
-  pub begins : Begins h s e row
-  pub timely : ¬ IsLateFor h e row.key
-  pub unheld : (x : ℕ) → ¬ IsHeldBy h e row.key x
+-- nor does anything keep it from writing the key
+pub record Free (h : Heap) (s : ℕ) (e : Session) (k : ℕ) (found : Option Row) : Type 0 where
+  pub begins : Begins h s e k found
+  pub timely : ¬ IsLateFor h e k
+  pub unheld : (x : ℕ) → ¬ IsHeldBy h e k x
 
 -- whatever world the engine agreed with, the history allows the reply, and the engine agrees with the next world
 abbrev pub Follows : Heap → Step → Reply → Heap → Type 0

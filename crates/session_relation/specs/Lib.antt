@@ -1,4 +1,5 @@
 pub mod Words
+pub mod Writes
 pub mod Allowed
 pub mod Heap
 pub mod Visible

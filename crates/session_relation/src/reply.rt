@@ -14,6 +14,8 @@ pub enum Refusal {
     Failed,
     /// The session reads a row of the key.
     AlreadyThere,
+    /// The session reads no row of the key.
+    NotThere,
     /// A transaction that committed since the session began wrote the key.
     Conflict,
     /// This other open session has written the key.

@@ -30,6 +30,10 @@ pub enum Step {
     Get(u8, u64),
     /// Writes a row of a key that has none.
     Insert(u8, RowIn),
+    /// Writes another row of a key that has one.
+    Update(u8, RowIn),
+    /// Takes the row of a key away.
+    Delete(u8, u64),
     /// Makes what the session wrote part of the history, unless it has failed, and closes it.
     Commit(u8),
     /// Drops what the session wrote, and closes it.
@@ -60,6 +64,8 @@ impl Step {
             Step::Begin(s) => Ok(Step::Begin(*s)),
             Step::Get(s, key) => Ok(Step::Get(*s, *key)),
             Step::Insert(s, row) => Ok(Step::Insert(*s, row.copy(alloc)?)),
+            Step::Update(s, row) => Ok(Step::Update(*s, row.copy(alloc)?)),
+            Step::Delete(s, key) => Ok(Step::Delete(*s, *key)),
             Step::Commit(s) => Ok(Step::Commit(*s)),
             Step::Abort(s) => Ok(Step::Abort(*s)),
             Step::Prune(page) => Ok(Step::Prune(*page)),

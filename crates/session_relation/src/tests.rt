@@ -124,3 +124,25 @@ fn copies_are_equal(rt: HostRuntime) -> Result<(), Fail> {
     }
     Ok(())
 }
+
+#[test]
+fn copies_of_changes_are_equal(rt: HostRuntime) -> Result<(), Fail> {
+    let row = RowIn {
+        key: 8,
+        cols: [-5, 6, -7, 8],
+        body: Vec::from_slice(rt.alloc(), b"xy")?,
+    };
+    match Step::Update(62, row).copy(rt.alloc())? {
+        Step::Update(s, row) => {
+            assert!(rt; s == 62 && row.key == 8);
+            assert!(rt; row.cols == [-5, 6, -7, 8]);
+            assert!(rt; row.body.as_slice() == b"xy".as_slice());
+        }
+        _ => assert!(rt; false),
+    }
+    match Step::Delete(4, 11).copy(rt.alloc())? {
+        Step::Delete(s, key) => assert!(rt; s == 4 && key == 11),
+        _ => assert!(rt; false),
+    }
+    Ok(())
+}

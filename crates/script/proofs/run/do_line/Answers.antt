@@ -1,7 +1,9 @@
 use Rattle.std.proofs.Common.{◌≡◌, sym, None, ◌∙◌, ap, rules, refl}
+use Rattle.std.specs.Option.{option_map}
 use Rattle.std.proofs.lemmas.Option.{none-some}
-use Rattle.script.specs.Script.{did, showed_ids, showed_page}
-use Rattle.script.specs.declared.line.Line.TheVariants.{Do, Ids, Page}
+use Rattle.script.specs.Engine.{IndexView, index_at}
+use Rattle.script.specs.Script.{did, showed_ids, showed_page, showed_entries}
+use Rattle.script.specs.declared.line.Line.TheVariants.{Do, Ids, Page, Entries}
 use Rattle.script.specs.Reading.{line_at}
 use Rattle.script.proofs.GrammarLaws.{line_at_says, line_at-spelling}
 use Rattle.script.proofs.run.do_line.Goals as goal
@@ -21,6 +23,11 @@ returns-in_ok-show_page-in-Some-Page-clause-done c =
     let says = line_at_says c.args.line.now (Page c.in-Some-Page.number) (search rules) in
     let shown = c.in_ok-show_page-in-Some-Page.ensures in
     (showed_page c.in-Some-Page.number shown.0, says.0, says.1, refl, shown.1)
+
+pub returns-in_ok-show_index-in-Some-Entries-clause-done : goal.returns-in_ok-show_index-in-Some-Entries-clause-done
+returns-in_ok-show_index-in-Some-Entries-clause-done c =
+    let says = line_at_says c.args.line.now (Entries c.in-Some-Entries.number) (search rules) in
+    (showed_entries c.in-Some-Entries.number (option_map (λ index. index.entries) (index_at c.args.engine.now c.in-Some-Entries.number)), says.0, says.1, refl, c.in_ok-show_index-in-Some-Entries.ensures)
 
 pub returns-in-None-clause-bad : goal.returns-in-None-clause-bad
 returns-in-None-clause-bad c l fits e =

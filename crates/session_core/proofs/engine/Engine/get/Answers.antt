@@ -1,14 +1,17 @@
-use Rattle.std.proofs.Common.{◌≡◌, ap, subst}
-use Rattle.std.specs.Prelude.{MatchOption}
+use Rattle.std.proofs.Common.{ap, subst, pos}
+use Rattle.visibility.specs.Visible.{IsVisible}
+use Rattle.sound_entries.specs.Looking.{FirstFound}
 use Rattle.heap_write.specs.Heap.{HeapView, slots_of}
-use Rattle.heap_write.specs.Search.{NoVersion, SomeVersion, IsSeen}
 use Rattle.session_core.specs.State.{State}
-use Rattle.session_core.proofs.Writes.{Follows-get}
+use Rattle.session_core.proofs.Reading.{Follows-get}
+use Rattle.session_core.proofs.Follows.{Follows-unready_get}
 use Rattle.session_core.proofs.engine.Engine.get.Goals as goal
 
 pub returns-in-Ok-clause-follows : goal.returns-in-Ok-clause-follows
 returns-in-Ok-clause-follows c =
     let e = c.in-Ok.session.now in
-    let G : HeapView → Type 0 = λ h. MatchOption c.row.result (NoVersion (slots_of h) (IsSeen h.table e.snapshot e.own.ids c.args.key))
-    (λ row. SomeVersion (slots_of h) (λ v. IsSeen h.table e.snapshot e.own.ids c.args.key v × (row ≡ v.row))) in
+    let G : HeapView → Type 0 = λ h. FirstFound h.table (IsVisible h.table e.snapshot e.own.ids) (slots_of h) h.index.entries (pos c.args.key) c.args.key c.row.result in
     Follows-get c.args.self.now c.args.s e c.args.key c.row.result c.in-Ok.ensures.1 c.in-Ok.ensures.2 (subst G (ap (λ (st : State). st.heap) c.self.view_is) c.row.ensures)
+
+pub returns-in-Err-clause-follows : goal.returns-in-Err-clause-follows
+returns-in-Err-clause-follows c = Follows-unready_get c.args.self.now c.args.s c.args.key c.in-Err.refusal c.in-Err.ensures

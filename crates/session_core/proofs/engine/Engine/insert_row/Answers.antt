@@ -1,21 +1,22 @@
 use Rattle.std.proofs.Common.{sym, subst}
-use Rattle.session_relation.specs.declared.reply.Refusal.{Refusal}
-use Rattle.session_relation.specs.declared.reply.Refusal.TheVariants.{Conflict}
-use Rattle.session_relation.specs.declared.reply.Reply.TheVariants.{Refused}
-use Rattle.session_core.specs.State.{State}
-use Rattle.session_core.specs.Writes.{Hinders, FollowsInsert}
-use Rattle.session_core.proofs.Exactness.{exact-hindered}
-use Rattle.session_core.proofs.Inserting.{Follows-conflict, Follows-hindered}
+use Rattle.session_relation.specs.declared.reply.Reply.{Reply}
+use Rattle.session_core.specs.State.{State, refused_state}
+use Rattle.session_core.specs.Exact.{ExactInsert}
+use Rattle.session_core.specs.Follows.{FollowsInsert}
+use Rattle.session_core.proofs.Hindering.{Follows-hindered_insert, exact-hindered_insert, small-insert}
 use Rattle.session_core.proofs.engine.Engine.insert_row.Goals as goal
 
-pub returns-in-Conflict-clause-follows : goal.returns-in-Conflict-clause-follows
-returns-in-Conflict-clause-follows c =
-    let P : State → Type 0 = λ new. FollowsInsert c.args.self.now c.args.s c.args.row (Refused Conflict) new in
-    let H : Refusal → Type 0 = λ r. Hinders c.args.self.now c.args.s c.args.row.key r in
-    subst P (sym c.fail.ensures) (Follows-conflict c.args.self.now c.args.s c.args.row c.requires (subst H c.in-Conflict.is c.in-Some.ensures))
+pub refuse-requires : goal.refuse-requires
+refuse-requires c = λ is. small-insert c.args.self.now c.args.s c.args.row.key c.in-Err.refusal is c.in-Err.ensures
 
-pub returns-in_default-clause-follows : goal.returns-in_default-clause-follows
-returns-in_default-clause-follows c = Follows-hindered c.args.self.now c.args.s c.args.row c.in-Some.refusal c.in_default.not-Conflict c.in-Some.ensures
+pub returns-in-Err-clause-follows : goal.returns-in-Err-clause-follows
+returns-in-Err-clause-follows c =
+    let P : State → Reply → Type 0 = λ new reply. FollowsInsert c.args.self.now c.args.s c.args.row reply new in
+    subst (λ (new : State). P new c.refuse.result) (sym c.refuse.ensures.state)
+    (subst (λ (reply : Reply). P (refused_state c.args.self.now c.args.s c.in-Err.refusal) reply) (sym c.refuse.ensures.reply) (Follows-hindered_insert c.args.self.now c.args.s c.args.row c.in-Err.refusal c.in-Err.ensures))
 
-pub returns-in_default-clause-exact : goal.returns-in_default-clause-exact
-returns-in_default-clause-exact c = exact-hindered c.args.self.now c.args.s c.args.row c.in-Some.refusal c.in_default.not-Conflict c.in-Some.ensures
+pub returns-in-Err-clause-exact : goal.returns-in-Err-clause-exact
+returns-in-Err-clause-exact c =
+    let P : State → Reply → Type 0 = λ new reply. ExactInsert c.args.self.now c.args.s c.args.row reply new in
+    subst (λ (new : State). P new c.refuse.result) (sym c.refuse.ensures.state)
+    (subst (λ (reply : Reply). P (refused_state c.args.self.now c.args.s c.in-Err.refusal) reply) (sym c.refuse.ensures.reply) (exact-hindered_insert c.args.self.now c.args.s c.args.row c.in-Err.refusal c.in-Err.ensures))

@@ -1,5 +1,6 @@
 use Rattle.std.proofs.Common.{◌≡◌, ℕ, refl, sym, ap, ◌∙◌, subst}
-use Rattle.heap_write.specs.Heap.{HeapView, Prunes}
+use Rattle.heap_write.specs.Heap.{HeapView}
+use Rattle.heap_write.specs.Writes.{Prunes}
 use Rattle.session_relation.specs.declared.step.Step.TheVariants.{Prune}
 use Rattle.session_relation.specs.declared.reply.Reply.{Reply}
 use Rattle.session_relation.specs.declared.reply.Reply.TheVariants.{Refused}

@@ -39,3 +39,15 @@ returns-in-Prune-clause-follows c = subst (λ (step : Step). Follows c.args.self
 
 pub returns-in-Prune-clause-exact : goal.returns-in-Prune-clause-exact
 returns-in-Prune-clause-exact c = subst (λ (step : Step). Exact c.args.self.now step c.prune.result c.prune.new.self) (sym c.in-Prune.is) c.prune.ensures.exact
+
+pub returns-in-Update-clause-follows : goal.returns-in-Update-clause-follows
+returns-in-Update-clause-follows c = subst (λ (step : Step). Follows c.args.self.now step c.update.result c.update.new.self) (sym c.in-Update.is) c.update.ensures.follows
+
+pub returns-in-Update-clause-exact : goal.returns-in-Update-clause-exact
+returns-in-Update-clause-exact c = subst (λ (step : Step). Exact c.args.self.now step c.update.result c.update.new.self) (sym c.in-Update.is) c.update.ensures.exact
+
+pub returns-in-Delete-clause-follows : goal.returns-in-Delete-clause-follows
+returns-in-Delete-clause-follows c = subst (λ (step : Step). Follows c.args.self.now step c.delete.result c.delete.new.self) (sym c.in-Delete.is) c.delete.ensures.follows
+
+pub returns-in-Delete-clause-exact : goal.returns-in-Delete-clause-exact
+returns-in-Delete-clause-exact c = subst (λ (step : Step). Exact c.args.self.now step c.delete.result c.delete.new.self) (sym c.in-Delete.is) c.delete.ensures.exact

@@ -1,0 +1,100 @@
+-- The pages of a table by their numbers, and what keeps them.
+use Rattle.std.proofs.Common.{◌≡◌, ◌≢◌, ℕ, zero, suc, ◌<◌, ◌≤◌, inl, inr, List, [], length, set, Some, None, slice_get, sym, ap, subst, refl, ◌∙◌, arith}
+use Rattle.std.proofs.lemmas.Bool.{cases_lt, true≢false}
+use Rattle.std.proofs.lemmas.Option.{slice_get-get_or, slice_get_within}
+use Rattle.std.proofs.lemmas.List.{get_or_past, get_or-set_same, get_or-set_other, set-set, set-get_or, length-set}
+use Rattle.std.proofs.Math.Seq.{map-set_same}
+use Rattle.xid_circle.specs.declared.Tid.{Tid}
+use Rattle.page_slots.specs.View.{PageView}
+use Rattle.page_slots.specs.Slots.{IsNormalAt, room_of}
+use Rattle.prune.proofs.Links.{same_some}
+use Rattle.heap_write.specs.Heap.{HeapView, unused_page, SameIds, Keeps, PutsPage}
+use Rattle.heap_write.specs.Heap.PutsPage.{in_use, after_all}
+use Rattle.heap_write.specs.Refusals.{IsThere}
+use Rattle.heap_write.specs.Growth.{page_in, SamePage, SamePages}
+
+-- The page of a number.
+
+pub page-at : (pages : List PageView) (n : ℕ) (page : PageView) → slice_get pages n ≡ Some page → page_in pages n ≡ page
+page-at pages n page at =
+    same_some (page_in pages n) page (sym (slice_get-get_or pages n unused_page (slice_get_within pages n page at)) ∙ at)
+
+pub page-none : (pages : List PageView) (n : ℕ) → slice_get pages n ≡ None → page_in pages n ≡ unused_page
+page-none pages n none =
+    elim (cases_lt n (length pages)) [
+      | inl within ↦ absurd (let e : Some (page_in pages n) ≡ None = sym (slice_get-get_or pages n unused_page within) ∙ none in cc)
+      | inr past ↦ get_or_past pages n unused_page past
+    ]
+
+-- No version is on a page that is not in use.
+
+nothing-at : (slot : ℕ) → ¬ IsNormalAt [] slot
+nothing-at zero h = true≢false (sym h)
+nothing-at (suc i) h = true≢false (sym h)
+
+pub nothing-there : (h : HeapView) (place : Tid) → slice_get h.pages.pages place.page ≡ None → ¬ IsThere h place
+nothing-there h place none there =
+    nothing-at place.slot (subst (λ (p : PageView). IsNormalAt p.slots place.slot) (page-none h.pages.pages place.page none) there)
+
+pub there-within : (h : HeapView) (place : Tid) → IsThere h place → place.page < length h.pages.pages
+there-within h place there =
+    elim (cases_lt place.page (length h.pages.pages)) [
+      | inl within ↦ within
+      | inr past ↦ absurd (nothing-at place.slot (subst (λ (p : PageView). IsNormalAt p.slots place.slot) (get_or_past h.pages.pages place.page unused_page past) there))
+    ]
+
+pub room-none : (pages : List PageView) (n : ℕ) → slice_get pages n ≡ None → room_of (page_in pages n).slots ≡ 8164
+room-none pages n none = ap (λ (p : PageView). room_of p.slots) (page-none pages n none)
+
+-- Pages that have the same in them.
+
+pub same-pages : (pages : List PageView) → SamePages pages pages
+same-pages pages = record { slots = refl; changes = refl; flags = refl }
+
+pub same-set : (pages : List PageView) (n : ℕ) (page : PageView) → SamePage (page_in pages n) page → SamePages pages (set pages n page)
+same-set pages n page same = record {
+  slots = map-set_same (λ (p : PageView). p.slots) pages n page unused_page same.slots;
+  changes = map-set_same (λ (p : PageView). p.change) pages n page unused_page same.change;
+  flags = map-set_same (λ (p : PageView). p.flag) pages n page unused_page same.flag;
+}
+
+pub same-then : (a b c : List PageView) → SamePages a b → SamePages b c → SamePages a c
+same-then a b c first second = record {
+  slots = second.slots ∙ first.slots;
+  changes = second.changes ∙ first.changes;
+  flags = second.flags ∙ first.flags;
+}
+
+pub keeps : (h h' : HeapView) → SamePages h.pages.pages h'.pages.pages → SameIds h.table h'.table → h'.index.entries ≡ h.index.entries → h'.max_pages ≡ h.max_pages → Keeps h h'
+keeps h h' same ids entries max_pages = record {
+  slots = same.slots;
+  changes = same.changes;
+  flags = same.flags;
+  table = ids;
+  entries = entries;
+  max_pages = max_pages;
+}
+
+pub keeps-all : (h : HeapView) → Keeps h h
+keeps-all h = keeps h h (same-pages h.pages.pages) (record { first = refl; stop_age = refl; entries = refl }) refl refl
+
+-- A page in the place of another, twice.
+
+pub page-set : (pages : List PageView) (n : ℕ) (page : PageView) → n < length pages → page_in (set pages n page) n ≡ page
+page-set pages n page within = get_or-set_same pages n page unused_page within
+
+pub page-set_other : (pages : List PageView) (n m : ℕ) (page : PageView) → m ≢ n → page_in (set pages n page) m ≡ page_in pages m
+page-set_other pages n m page other = get_or-set_other pages n m page unused_page other
+
+pub puts-grown : (pages middle pages' : List PageView) (n : ℕ) (grown page : PageView) → n < length pages → middle ≡ set pages n grown → PutsPage middle pages' n page → PutsPage pages pages' n page
+puts-grown pages middle pages' n grown page within is (in_use lt e) = in_use within (e ∙ ap (λ ps. set ps n page) is ∙ set-set pages n grown page)
+puts-grown pages middle pages' n grown page within is (after_all over e) =
+    absurd (let long : length middle ≡ length pages = ap length is ∙ length-set pages n grown in let no : 1 ≤ 0 = omega (arith, within, over, long) in omega (arith, no))
+
+-- what was read, put back
+pub set-read : (pages : List PageView) (n : ℕ) (before after : PageView) → slice_get pages n ≡ Some before → after ≡ before → set pages n after ≡ pages
+set-read pages n before after at same = ap (λ p. set pages n p) (same ∙ sym (page-at pages n before at)) ∙ set-get_or pages n unused_page
+
+-- the same, of a table whose view is known
+pub keeps-viewed : (v h h' : HeapView) → v ≡ h → SamePages v.pages.pages h'.pages.pages → SameIds v.table h'.table → h'.index.entries ≡ v.index.entries → h'.max_pages ≡ v.max_pages → Keeps h h'
+keeps-viewed v h h' view_is same ids entries max_pages = subst (λ u. Keeps u h') view_is (keeps v h' same ids entries max_pages)

@@ -1,0 +1,109 @@
+-- What stands ready after memory was asked for.
+use Rattle.std.proofs.Common.{◌≡◌, ◌≢◌, ℕ, ◌<◌, ◌≤◌, Bool, false, Result, Ok, Err, List, length, set, Option, Some, None, slice_get, sym, ap, subst, refl, ◌∙◌, arith}
+use Rattle.std.proofs.lemmas.List.{length-set}
+use Rattle.std.proofs.lemmas.Option.{slice_get-get_or, slice_get_within}
+use Rattle.std.proofs.lemmas.Bool.{true≢false}
+use Rattle.std.specs.Prelude.{OnOk, is_err}
+use Rattle.xid_circle.specs.declared.Xid.{Xid}
+use Rattle.page_slots.specs.View.{PageView}
+use Rattle.page_slots.specs.Slots.{room_of}
+use Rattle.heap_pages.specs.View.{PagesView, with_page}
+use Rattle.heap_pages.specs.Choice.{HasRoom, IsPlaceFor}
+use Rattle.heap_pages.specs.declared.pages.Place.TheVariants as to
+use Rattle.heap_write.specs.declared.target.Target.{Target}
+use Rattle.heap_write.specs.declared.target.Target.TheVariants.{Page, New}
+use Rattle.heap_write.specs.Heap.{HeapView, unused_page, page_on}
+use Rattle.heap_write.specs.Writes.{IsFull}
+use Rattle.heap_write.specs.Refusals.{NeedsSlot, RootNeedsMemory}
+use Rattle.heap_write.specs.Growth.{page_in, HasSlot, SamePage, GrowsPage, place_of_target, IsReady, Reserves, PlaceNeedsMemory}
+use Rattle.heap_write.specs.Steps.{IsChosen}
+use Rattle.heap_write.proofs.PageLemmas.{page-at, page-set, page-set_other}
+use Rattle.heap_write.proofs.PlaceLemmas.{alike-same, alike-full, place-set, page-place, new-place}
+
+-- The page that was chosen has grown.
+
+pub same-at : (pages : List PageView) (n : ℕ) (before after : PageView) → slice_get pages n ≡ Some before → SamePage before after → SamePage (page_in pages n) after
+same-at pages n before after at same = subst (λ p. SamePage p after) (sym (page-at pages n before at)) same
+
+pub needs-at : (pages : List PageView) (n : ℕ) (before : PageView) → slice_get pages n ≡ Some before → NeedsSlot before → NeedsSlot (page_in pages n)
+needs-at pages n before at needs = subst (λ p. NeedsSlot p) (sym (page-at pages n before at)) needs
+
+pub grows : (pages : PagesView) (n : ℕ) (before after : PageView) → slice_get pages.pages n ≡ Some before → SamePage before after → HasSlot after
+    → GrowsPage pages (with_page pages n after) n
+grows pages n before after at same has_slot = record {
+  page = after;
+  pages_are = refl;
+  same = same-at pages.pages n before after at same;
+  has_slot = has_slot;
+}
+
+pub ready-grown : (pages : PagesView) (limit size n : ℕ) (after : PageView) → IsPlaceFor pages.pages limit size (to.Page n) → SamePage (page_in pages.pages n) after → HasSlot after
+    → IsReady (with_page pages n after) size (Page n)
+ready-grown pages limit size n after chosen same has_slot =
+    let at = page-place pages.pages limit size n chosen in
+    let is = sym (page-set pages.pages n after at.0) in (
+      subst (λ count. n < count) (sym (length-set pages.pages n after)) at.0,
+      subst (λ (p : PageView). size ≤ room_of p.slots) is (subst (λ slots. size ≤ room_of slots) (sym same.slots) at.1),
+      subst (λ p. HasSlot p) is has_slot,
+    )
+
+-- Why memory was needed.
+
+pub needs-memory : (h : HeapView) (id : Option Xid) (size : ℕ) → PlaceNeedsMemory h.pages.pages h.max_pages size → (¬ IsFull h size) × RootNeedsMemory h id size
+needs-memory h id size (PlaceNeedsMemory.for_page chosen) = (
+  λ full. let few = new-place h.pages.pages h.max_pages size chosen in let over = full.all_used in let no : 1 ≤ 0 = omega (arith, few, over) in omega (arith, no),
+  RootNeedsMemory.for_page chosen,
+)
+needs-memory h id size (PlaceNeedsMemory.for_slot n chosen slot) =
+    let at = page-place h.pages.pages h.max_pages size n chosen in
+    (λ full. full.no_room n (page_on h n) (slice_get-get_or h.pages.pages n unused_page at.0) at.1, RootNeedsMemory.for_slot n chosen slot)
+
+-- A page without room is not the one that was chosen.
+
+not-chosen : (pages : List PageView) (limit size n m : ℕ) → IsPlaceFor pages limit size (to.Page n) → ¬ HasRoom size (page_in pages m) → m ≢ n
+not-chosen pages limit size n m chosen full same = full (subst (λ k. HasRoom size (page_in pages k)) (sym same) (page-place pages limit size n chosen).1)
+
+pub unchosen-kept : (pages pages' : PagesView) (limit size m : ℕ) (found : Option Target) → Reserves pages pages' limit size found → ¬ HasRoom size (page_in pages.pages m)
+    → page_in pages'.pages m ≡ page_in pages.pages m
+unchosen-kept pages pages' limit size m None (chosen, same) full = ap (λ (p : PagesView). page_in p.pages m) same
+unchosen-kept pages pages' limit size m (Some (Page n)) (chosen, grown) full =
+    ap (λ (p : PagesView). page_in p.pages m) grown.pages_are ∙ page-set_other pages.pages n m grown.page (not-chosen pages.pages limit size n m chosen full)
+unchosen-kept pages pages' limit size m (Some (New page)) (chosen, same) full = ap (λ ps. page_in ps m) same
+
+-- what was chosen before its page grew is chosen after
+pub reserves-chosen : (pages : PagesView) (h : HeapView) (size : ℕ) (found : Option Target) → Reserves pages h.pages h.max_pages size found → IsChosen h size found
+reserves-chosen pages h size None (chosen, same) = subst (λ (p : PagesView). IsPlaceFor p.pages h.max_pages size to.Nowhere) (sym same) chosen
+reserves-chosen pages h size (Some (Page n)) (chosen, grown) =
+    subst (λ (p : PagesView). IsPlaceFor p.pages h.max_pages size (to.Page n)) (sym grown.pages_are)
+    (place-set pages.pages h.max_pages size n grown.page (to.Page n) (page-place pages.pages h.max_pages size n chosen).0
+    (alike-same size (page_in pages.pages n) grown.page grown.same.slots) chosen)
+reserves-chosen pages h size (Some (New page)) (chosen, same) = subst (λ ps. IsPlaceFor ps h.max_pages size to.NewPage) (sym same) chosen
+
+-- A page without room, and without room after it has changed.
+
+pub chosen-set : (h h' : HeapView) (size m : ℕ) (after : PageView) (found : Option Target) → m < length h.pages.pages → h'.pages.pages ≡ set h.pages.pages m after
+    → h'.max_pages ≡ h.max_pages → ¬ HasRoom size (page_on h m) → ¬ HasRoom size after → IsChosen h size found → IsChosen h' size found
+chosen-set h h' size m after found within is max_pages full still chosen =
+    rw (is, max_pages) (place-set h.pages.pages h.max_pages size m after (place_of_target found) within (alike-full size (page_on h m) after full still) chosen)
+
+pub ready-set : (pages pages' : PagesView) (size m : ℕ) (after : PageView) (target : Target) → pages'.pages ≡ set pages.pages m after → pages'.spare ≡ pages.spare
+    → ¬ HasRoom size (page_in pages.pages m) → IsReady pages size target → IsReady pages' size target
+ready-set pages pages' size m after (Page n) is spare full (within, room, has_slot) =
+    let other : n ≢ m = λ same. full (subst (λ k. size ≤ room_of (page_in pages.pages k).slots) same room) in
+    let kept = sym (ap (λ ps. page_in ps n) is ∙ page-set_other pages.pages m n after other) in
+    (subst (λ count. n < count) (sym (ap length is ∙ length-set pages.pages m after)) within, subst (λ (p : PageView). size ≤ room_of p.slots) kept room, subst (λ p. HasSlot p) kept has_slot)
+ready-set pages pages' size m after (New page) is spare full (fresh, room, more, few) =
+    (fresh, room, subst (λ s. 0 < s) (sym spare) more, subst (λ count. count < 65536) (sym (ap length is ∙ length-set pages.pages m after)) few)
+
+-- a page without room, that has grown in memory alone
+pub full-grown : (pages : List PageView) (n : ℕ) (before after : PageView) (size : ℕ) → slice_get pages n ≡ Some before → after.slots ≡ before.slots
+    → room_of (page_in pages n).slots < size → ¬ HasRoom size (page_in (set pages n after) n)
+full-grown pages n before after size at same small room =
+    let within = slice_get_within pages n before at in
+    let is : (page_in (set pages n after) n).slots ≡ (page_in pages n).slots = ap (λ (p : PageView). p.slots) (page-set pages n after within) ∙ same ∙ ap (λ (p : PageView). p.slots) (sym (page-at pages n before at)) in
+    let here : size ≤ room_of (page_in pages n).slots = subst (λ slots. size ≤ room_of slots) is room in
+    let no : 1 ≤ 0 = omega (arith, here, small) in omega (arith, no)
+
+pub spare-made : {E : Type 0} (r : Result (Unit {0}) E) (b : Bool) (spare : ℕ) → b ≡ is_err r → b ≡ false → OnOk r (1 ≤ spare) → 0 < spare
+spare-made (Ok x) b spare is fine room = omega (arith, room)
+spare-made (Err e) b spare is fine room = absurd (true≢false (sym is ∙ fine))

@@ -1,0 +1,99 @@
+-- An update that prunes first, put together.
+use Rattle.std.proofs.Common.{◌≡◌, ℕ, ◌<◌, ◌≤◌, inr, List, [], get_or, set, Option, Some, None, Result, Ok, Err, sym, ap, subst, ◌∙◌, arith}
+use Rattle.std.specs.Prelude.{IfErr, IfSome, OnErr}
+use Rattle.std.proofs.Math.ListN.{get_or-map}
+use Rattle.std.proofs.lemmas.Option.{slice_get_within}
+use Rattle.xid_circle.specs.declared.Xid.{Xid}
+use Rattle.xid_circle.specs.declared.Tid.{Tid}
+use Rattle.tuple_header.specs.declared.version.Row.{Row}
+use Rattle.tuple_header.specs.Version.{rounded_size_of}
+use Rattle.page_slots.specs.View.{PageView}
+use Rattle.page_slots.specs.declared.slot.Slot.{Slot}
+use Rattle.page_slots.specs.Slots.{room_of}
+use Rattle.heap_pages.specs.Choice.{HasRoom}
+use Rattle.commit_status.specs.Window.{Window}
+use Rattle.heap_write.specs.declared.target.Target.{Target}
+use Rattle.heap_write.specs.declared.heap.WriteFault.{WriteFault}
+use Rattle.heap_write.specs.declared.heap.WriteFault.TheVariants.{Gone, NeedsFreeze as needs_freeze, NoRoom, NoMemory}
+use Rattle.heap_write.specs.Heap.{HeapView, unused_page, page_on, Keeps}
+use Rattle.heap_write.specs.Writes.{NeedsFreeze, TakesId, Prunes, Replaces, Updates}
+use Rattle.heap_write.specs.Writes.Readies.{is_pruned}
+use Rattle.heap_write.specs.Refusals.{IsThere, WhenReady, FailsUpdate}
+use Rattle.heap_write.specs.Growth.{page_in, GrowsIds, IsReady}
+use Rattle.heap_write.specs.Steps.{IsChosen, FailsReady}
+use Rattle.heap_write.proofs.PageLemmas.{page-set, keeps-all}
+use Rattle.heap_write.proofs.IdLemmas.{takes-grown}
+use Rattle.heap_write.proofs.Reserving.{chosen-set, ready-set}
+
+pub both-err : {T E : Type 0} {A C : E → Type 0} {B : Type 0} (r : Result T E) → ((e : E) → A e → B → C e) → IfErr r A → OnErr r B → IfErr r C
+both-err (Ok x) f a b = a
+both-err (Err e) f a b = f e a b
+
+pub some-weaker : {A : Type 0} (o : Option A) (P Q : A → Type 0) → ((a : A) → P a → Q a) → IfSome o P → IfSome o Q
+some-weaker (Some a) P Q f h = f a h
+some-weaker None P Q f h = h
+
+no-room : (size room : ℕ) → room < size → ¬ (size ≤ room)
+no-room size room small large = let no : 1 ≤ 0 = omega (arith, small, large) in omega (arith, no)
+
+-- A page that is kept has the slots that it had.
+
+kept-slots : (h h1 : HeapView) (n : ℕ) → Keeps h h1 → (page_on h1 n).slots ≡ (page_on h n).slots
+kept-slots h h1 n keeps =
+    let f : PageView → List Slot = λ p. p.slots in
+    sym (get_or-map f h1.pages.pages n unused_page) ∙ ap (λ slots. get_or slots n []) keeps.slots ∙ get_or-map f h.pages.pages n unused_page
+
+pub kept-full : (h h1 : HeapView) (n size : ℕ) → Keeps h h1 → room_of (page_on h n).slots < size → ¬ HasRoom size (page_on h1 n)
+kept-full h h1 n size keeps full = no-room size (room_of (page_on h1 n).slots) (subst (λ slots. room_of slots < size) (sym (kept-slots h h1 n keeps)) full)
+
+-- Where a new version goes after the pruning of a page that had no room for it.
+
+pub pruned-chosen : (h ready : HeapView) (n horizon size : ℕ) (found : Option Target) → Prunes h ready n horizon → ¬ HasRoom size (page_on h n)
+    → IsChosen h size found → room_of (page_on ready n).slots < size → IsChosen ready size found
+pruned-chosen h ready n horizon size found p full chosen still =
+    let within = slice_get_within h.pages.pages n p.before p.at in
+    let pages : ready.pages.pages ≡ set h.pages.pages n p.after = ap (λ (v : HeapView). v.pages.pages) p.is in
+    let after = ap (λ ps. page_in ps n) pages ∙ page-set h.pages.pages n p.after within in
+    chosen-set h ready size n p.after found within pages (ap (λ (v : HeapView). v.max_pages) p.is) full
+    (no-room size (room_of p.after.slots) (subst (λ (q : PageView). room_of q.slots < size) after still)) chosen
+
+pub pruned-ready : (h ready : HeapView) (n horizon size : ℕ) (target : Target) → Prunes h ready n horizon → ¬ HasRoom size (page_on h n)
+    → IsReady h.pages size target → IsReady ready.pages size target
+pruned-ready h ready n horizon size target p full is_ready =
+    ready-set h.pages ready.pages size n p.after target (ap (λ (v : HeapView). v.pages.pages) p.is) (ap (λ (v : HeapView). v.pages.spare) p.is) full is_ready
+
+-- The update.
+
+pub updates : (h grown ready h' : HeapView) (id : Option Xid) (place : Tid) (row : Row) (horizon x : ℕ) → ¬ NeedsFreeze h.table id
+    → room_of (page_on h place.page).slots < rounded_size_of row → Keeps h grown → GrowsIds h.table grown.table id → Prunes grown ready place.page horizon
+    → TakesId ready.table h'.table id x → IsThere ready place → Replaces ready h' place x row → h'.max_pages ≡ ready.max_pages → Updates h h' id place row horizon x
+updates h grown ready h' id place row horizon x free full keeps grows prunes takes there replaces max_pages = record {
+  free = free;
+  takes_id = takes-grown h.table grown.table h'.table id x grows (subst (λ (w : Window). TakesId w h'.table id x) (ap (λ (v : HeapView). v.table) prunes.is) takes);
+  ready = ready;
+  readies = is_pruned full grown keeps prunes;
+  there = there;
+  replaces = replaces;
+  max_pages = max_pages ∙ ap (λ (v : HeapView). v.max_pages) prunes.is ∙ keeps.max_pages;
+}
+
+pub fails : (h grown ready h' : HeapView) (id : Option Xid) (place : Tid) (row : Row) (horizon : ℕ) (fault : WriteFault) → IsThere h place → ¬ NeedsFreeze h.table id
+    → room_of (page_on h place.page).slots < rounded_size_of row → Keeps h grown → Prunes grown ready place.page horizon → h' ≡ ready
+    → FailsReady ready place (rounded_size_of row) fault → FailsUpdate h h' id place row horizon fault
+fails h grown ready h' id place row horizon fault there free full keeps prunes same failed = by fault failed
+  where
+    when : (P : HeapView → Type 0) → P ready → WhenReady h h' id place horizon (rounded_size_of row) P
+    when P has = record {
+      there = there;
+      free = free;
+      ready = ready;
+      readies = is_pruned full grown keeps prunes;
+      has = has;
+      keeps = subst (λ v. Keeps ready v) (sym same) (keeps-all ready);
+    }
+
+    by : (fault : WriteFault) → FailsReady ready place (rounded_size_of row) fault → FailsUpdate h h' id place row horizon fault
+    by Gone gone = inr (when _ gone)
+    by needs_freeze never = absurd never
+    by NoRoom has = when _ has
+    by NoMemory never = absurd never

@@ -1,0 +1,179 @@
+-- Writes on a table that has grown before, said of the table as it was.
+use Rattle.std.proofs.Common.{◌≡◌, ◌≢◌, ℕ, ◌<◌, ◌≤◌, Bool, true, false, List, [], ◌∷◌, length, set, Option, Some, slice_get, sym, ap, subst, refl, ◌∙◌, arith}
+use Rattle.std.proofs.lemmas.List.{get_or_append_left}
+use Rattle.std.specs.Prelude.{IfOk, Result, Ok, Err}
+use Rattle.xid_circle.specs.declared.Xid.{Xid}
+use Rattle.xid_circle.specs.declared.Tid.{Tid}
+use Rattle.tuple_header.specs.declared.version.Row.{Row}
+use Rattle.tuple_header.specs.Version.{rounded_size_of}
+use Rattle.page_slots.specs.View.{PageView}
+use Rattle.page_slots.specs.Slots.{room_of, free_number, next_change, IsNormalAt}
+use Rattle.root_index.specs.declared.entry.Entry.{Entry}
+use Rattle.root_index.specs.Sets.{Adds}
+use Rattle.root_index.specs.View.{IndexView}
+use Rattle.std.proofs.lemmas.Option.{slice_get_within}
+use Rattle.page_writes.specs.Writes.{with_root, with_replaced, with_updated, replaced_change}
+use Rattle.sound_entries.specs.Entries.{entry_for}
+use Rattle.heap_pages.specs.View.{PagesView}
+use Rattle.heap_pages.specs.declared.pages.Place.TheVariants as to
+use Rattle.heap_write.specs.declared.target.Target.{Target}
+use Rattle.heap_write.specs.declared.target.Target.TheVariants.{Page, New}
+use Rattle.heap_write.specs.Heap.{HeapView, key_value, unused_page, page_on, PutsPage}
+use Rattle.heap_write.specs.Heap.PutsPage.{in_use, after_all}
+use Rattle.heap_write.specs.Writes.{NeedsFreeze, TakesId, GoesTo, PutsRoot, ReplacesHere, Inserts, Replaces}
+use Rattle.heap_write.specs.Writes.Replaces.{elsewhere}
+use Rattle.heap_write.specs.Refusals.{IsThere}
+use Rattle.heap_write.specs.Growth.{page_in, SamePage, Reserves, target_number}
+use Rattle.heap_write.specs.Steps.{IsChosen}
+use Rattle.heap_write.proofs.PageLemmas.{page-at, puts-grown, page-set, page-set_other, there-within}
+use Rattle.heap_write.proofs.PlaceLemmas.{page-place}
+
+-- what is so of both, where two things are said of what is done
+pub both-ok : {T E : Type 0} {A B C : T → Type 0} (r : Result T E) → ((x : T) → A x → B x → C x) → IfOk r A → IfOk r B → IfOk r C
+both-ok (Ok x) f a b = f x a b
+both-ok (Err e) f a b = a
+
+-- A table with more memory for a page.
+
+-- a write that puts page n on the second table puts it on the first
+pub record Grown (h h1 : HeapView) (n : ℕ) : Type 0 where
+  pub same : SamePage (page_on h n) (page_on h1 n)
+  pub puts : (pages' : List PageView) (page : PageView) → PutsPage h1.pages.pages pages' n page → PutsPage h.pages.pages pages' n page
+  pub entries : h1.index.entries ≡ h.index.entries
+
+pub grown-none : (h h1 : HeapView) (n : ℕ) → h1.pages.pages ≡ h.pages.pages → h1.index.entries ≡ h.index.entries → Grown h h1 n
+grown-none h h1 n same entries = record {
+  same = subst (λ pages. SamePage (page_on h n) (page_in pages n)) (sym same) (record { slots = refl; change = refl; flag = refl });
+  puts = λ pages' page puts. subst (λ pages. PutsPage pages pages' n page) same puts;
+  entries = entries;
+}
+
+pub grown-set : (h h1 : HeapView) (n : ℕ) (page : PageView) → n < length h.pages.pages → h1.pages.pages ≡ set h.pages.pages n page → SamePage (page_on h n) page
+    → h1.index.entries ≡ h.index.entries → Grown h h1 n
+grown-set h h1 n page within is same entries = record {
+  same = subst (λ p. SamePage (page_on h n) p) (sym (ap (λ pages. page_in pages n) is ∙ page-set h.pages.pages n page within)) same;
+  puts = λ pages' new puts. puts-grown h.pages.pages h1.pages.pages pages' n page new within is puts;
+  entries = entries;
+}
+
+pub root-grown : (h h1 h' : HeapView) (updated : Bool) (x : ℕ) (row : Row) (n : ℕ) → Grown h h1 n → PutsRoot h1 h' updated x row n → PutsRoot h h' updated x row n
+root-grown h h1 h' updated x row n grown root =
+    let E : List Entry → ℕ → Type 0 = λ entries slot. Adds entries h'.index.entries (entry_for key_value row n slot) in
+    record {
+      page = root.page;
+      puts = grown.puts h'.pages.pages root.page root.puts;
+      slots = root.slots ∙ ap (λ slots. with_root slots updated x n row) grown.same.slots;
+      change = root.change ∙ ap next_change grown.same.change;
+      flag = root.flag ∙ grown.same.flag;
+      within = subst (λ slots. free_number slots ≤ 291) grown.same.slots root.within;
+      entry = subst (λ slots. E h.index.entries (free_number slots)) grown.same.slots (subst (λ entries. E entries (free_number (page_on h1 n).slots)) grown.entries root.entry);
+    }
+
+pub here-grown : (h h1 h' : HeapView) (place : Tid) (x : ℕ) (row : Row) → Grown h h1 place.page → ReplacesHere h1 h' place x row → ReplacesHere h h' place x row
+here-grown h h1 h' place x row grown here = record {
+  page = here.page;
+  puts = grown.puts h'.pages.pages here.page here.puts;
+  slots = here.slots ∙ ap (λ slots. with_updated slots place.slot x place.page row) grown.same.slots;
+  change = here.change
+      ∙ ap (λ slots. replaced_change slots place.slot x place.page (free_number slots) true (next_change (page_on h1 place.page).change)) grown.same.slots
+      ∙ ap (λ change. replaced_change (page_on h place.page).slots place.slot x place.page (free_number (page_on h place.page).slots) true (next_change change)) grown.same.change;
+  flag = here.flag ∙ grown.same.flag;
+  within = subst (λ slots. free_number slots ≤ 291) grown.same.slots here.within;
+  entries = here.entries ∙ grown.entries;
+}
+
+-- An insert.
+
+-- where the place for a new version stands ready, it goes to the number of the target
+reserved-grown : (h h1 : HeapView) (size : ℕ) (target : Target) → Reserves h.pages h1.pages h.max_pages size (Some target) → h1.index.entries ≡ h.index.entries
+    → Grown h h1 (target_number h1.pages.pages target) × GoesTo h size (target_number h1.pages.pages target)
+reserved-grown h h1 size (Page n) (chosen, grows) entries = (
+  grown-set h h1 n grows.page (page-place h.pages.pages h.max_pages size n chosen).0 (ap (λ (p : PagesView). p.pages) grows.pages_are) grows.same entries,
+  record { place = to.Page n; chosen = chosen; number = refl },
+)
+reserved-grown h h1 size (New page) (chosen, same) entries = (
+  grown-none h h1 (length h1.pages.pages) same entries,
+  record { place = to.NewPage; chosen = chosen; number = ap (λ pages. Some (length pages)) (sym same) },
+)
+
+pub inserts : (h h1 h' : HeapView) (id : Option Xid) (row : Row) (x : ℕ) (target : Target) → ¬ NeedsFreeze h.table id
+    → Reserves h.pages h1.pages h.max_pages (rounded_size_of row) (Some target) → h1.index.entries ≡ h.index.entries
+    → TakesId h.table h'.table id x → PutsRoot h1 h' false x row (target_number h1.pages.pages target) → h'.max_pages ≡ h.max_pages → Inserts h h' id row x
+inserts h h1 h' id row x target free reserves entries takes root max_pages =
+    let number = target_number h1.pages.pages target in
+    let at = reserved-grown h h1 (rounded_size_of row) target reserves entries in
+    record {
+      free = free;
+      takes_id = takes;
+      number = number;
+      goes_to = at.1;
+      root = root-grown h h1 h' false x row number at.0 root;
+      max_pages = max_pages;
+    }
+
+-- An update to another page.
+
+pub puts-other : (pages pages' : List PageView) (n m : ℕ) (page : PageView) → m < length pages → m ≢ n → PutsPage pages pages' n page → page_in pages' m ≡ page_in pages m
+puts-other pages pages' n m page within other (in_use lt is) = ap (λ ps. page_in ps m) is ∙ page-set_other pages n m page other
+puts-other pages pages' n m page within other (after_all over is) = ap (λ ps. page_in ps m) is ∙ get_or_append_left pages (page ∷ []) unused_page m within
+
+-- a version goes to another page than one that has no room for it
+pub goes-elsewhere : (h : HeapView) (place : Tid) (size : ℕ) (target : Target) → IsThere h place → room_of (page_on h place.page).slots < size
+    → IsChosen h size (Some target) → (target_number h.pages.pages target ≢ place.page) × GoesTo h size (target_number h.pages.pages target)
+goes-elsewhere h place size (Page n) there full chosen = (
+  λ same. let room = (page-place h.pages.pages h.max_pages size n chosen).1 in
+      let here : size ≤ room_of (page_on h place.page).slots = subst (λ m. size ≤ room_of (page_on h m).slots) same room in let no : 1 ≤ 0 = omega (arith, here, full) in omega (arith, no),
+  record { place = to.Page n; chosen = chosen; number = refl },
+)
+goes-elsewhere h place size (New page) there full chosen = (
+  λ same. let within = there-within h place there in let no : 1 ≤ 0 = omega (arith, same, within) in omega (arith, no),
+  record { place = to.NewPage; chosen = chosen; number = refl },
+)
+
+-- what was done to the page of the old version
+pub record MovesAway (before after : PageView) (place successor : Tid) (x : ℕ) : Type 0 where
+  pub slots : after.slots ≡ with_replaced before.slots place.slot x successor.page successor.slot false
+  pub change : after.change ≡ replaced_change before.slots place.slot x successor.page successor.slot false before.change
+  pub flag : after.flag ≡ before.flag
+
+pub moves : (h h1 middle h' : HeapView) (place successor : Tid) (x : ℕ) (row : Row) (target : Target) (before after : PageView)
+    → h1.pages ≡ h.pages → h1.index ≡ h.index → IsThere h place → room_of (page_on h place.page).slots < rounded_size_of row
+    → IsChosen h (rounded_size_of row) (Some target) → PutsRoot h1 middle true x row successor.page
+    → successor.page ≡ target_number h1.pages.pages target → successor.slot ≡ free_number (page_on h1 successor.page).slots
+    → slice_get middle.pages.pages place.page ≡ Some before → MovesAway before after place successor x
+    → h'.pages.pages ≡ set middle.pages.pages place.page after → h'.index.entries ≡ middle.index.entries → Replaces h h' place x row
+moves h h1 middle h' place successor x row target before after same_pages same_index there full chosen root page slot at away pages entries =
+    let size = rounded_size_of row in
+    let same = ap (λ (p : PagesView). p.pages) same_pages in
+    let number : successor.page ≡ target_number h.pages.pages target = page ∙ ap (λ ps. target_number ps target) same in
+    let goes = goes-elsewhere h place size target there full chosen in
+    let other : successor.page ≢ place.page = λ e. goes.0 (sym number ∙ e) in
+    let free : successor.slot ≡ free_number (page_on h successor.page).slots = slot ∙ ap (λ (p : PagesView). free_number (page_in p.pages successor.page).slots) same_pages in
+    let grown = grown-none h h1 successor.page same (ap (λ (i : IndexView). i.entries) same_index) in
+    let is = page-at middle.pages.pages place.page before at in
+    let T : PageView → Tid → Type 0 = λ page to. MovesAway page after place to x in
+    let moved : T (page_on middle place.page) (record { page = successor.page; slot = free_number (page_on h successor.page).slots }) =
+    subst (λ page. T page (record { page = successor.page; slot = free_number (page_on h successor.page).slots })) (sym is) (subst (λ n. T before (record { page = successor.page; slot = n })) free away) in
+    elsewhere full successor.page other (subst (λ n. GoesTo h size n) (sym number) goes.1) middle (root-grown h h1 middle true x row successor.page grown root)
+    (record {
+      page = after;
+      puts = in_use (slice_get_within middle.pages.pages place.page before at) pages;
+      slots = moved.slots;
+      change = moved.change;
+      flag = moved.flag;
+      entries = entries;
+    })
+
+-- the old version is still there when the new one has come
+pub stays-there : (h h1 middle : HeapView) (place successor : Tid) (x : ℕ) (row : Row) (target : Target) (before : PageView)
+    → h1.pages ≡ h.pages → IsThere h place → room_of (page_on h place.page).slots < rounded_size_of row
+    → IsChosen h (rounded_size_of row) (Some target) → PutsRoot h1 middle true x row successor.page
+    → successor.page ≡ target_number h1.pages.pages target → slice_get middle.pages.pages place.page ≡ Some before → IsNormalAt before.slots place.slot
+stays-there h h1 middle place successor x row target before same_pages there full chosen root page at =
+    let same = ap (λ (p : PagesView). p.pages) same_pages in
+    let number : successor.page ≡ target_number h.pages.pages target = page ∙ ap (λ ps. target_number ps target) same in
+    let goes = goes-elsewhere h place (rounded_size_of row) target there full chosen in
+    let within : place.page < length h1.pages.pages = subst (λ ps. place.page < length ps) (sym same) (there-within h place there) in
+    let kept = puts-other h1.pages.pages middle.pages.pages successor.page place.page root.page within (λ e. goes.0 (sym number ∙ sym e)) root.puts in
+    let is : before ≡ page_on h place.page = sym (page-at middle.pages.pages place.page before at) ∙ kept ∙ ap (λ ps. page_in ps place.page) same in
+    subst (λ (p : PageView). IsNormalAt p.slots place.slot) (sym is) there

@@ -1,0 +1,43 @@
+use Rattle.std.proofs.Common.{subst}
+use Rattle.xid_circle.specs.declared.Xid.{Xid}
+use Rattle.heap_write.specs.Writes.{TakesId}
+use Rattle.heap_write.specs.Refusals.{IsThere}
+use Rattle.tuple_header.specs.Version.{rounded_size_of}
+use Rattle.heap_write.specs.Growth.{IsReady}
+use Rattle.heap_write.specs.Steps.{IsChosen}
+use Rattle.heap_write.proofs.Writing.{both-ok}
+use Rattle.heap_write.proofs.Updating.{both-err, some-weaker, kept-full, pruned-chosen, pruned-ready, updates, fails}
+use Rattle.heap_write.proofs.heap.HeapState.update_with_pruning.Goals as goal
+
+pub update_ready-requires-clause-chosen : goal.update_ready-requires-clause-chosen
+update_ready-requires-clause-chosen c small =
+    let size = rounded_size_of c.args.row in
+    let grown = c.reserve_update-reserved.new.self in
+    let chosen = subst (λ n. IsChosen grown n c.in-Ok.target) c.size_of.ensures.value c.in-Ok.ensures.chosen in
+    pruned-chosen grown c.prune_page.new.self c.args.place.page c.args.horizon.0 size c.in-Ok.target c.in-Ok-prune_page.ensures.ok
+    (kept-full c.args.self.now grown c.args.place.page size c.reserve_update-reserved.ensures.keeps c.requires.room) chosen small
+
+pub update_ready-requires-clause-ready : goal.update_ready-requires-clause-ready
+update_ready-requires-clause-ready c =
+    let size = rounded_size_of c.args.row in
+    let grown = c.reserve_update-reserved.new.self in
+    let full = kept-full c.args.self.now grown c.args.place.page size c.reserve_update-reserved.ensures.keeps c.requires.room in
+    some-weaker c.in-Ok.target (λ target. IsReady grown.pages c.size_of.result target) (λ target. IsReady c.prune_page.new.self.pages size target)
+    (λ target is_ready. pruned-ready grown c.prune_page.new.self c.args.place.page c.args.horizon.0 size target c.in-Ok-prune_page.ensures.ok full
+    (subst (λ n. IsReady grown.pages n target) c.size_of.ensures.value is_ready)) c.in-Ok.ensures.ready
+
+pub returns-in-Ok-prune_page-clause-ok : goal.returns-in-Ok-prune_page-clause-ok
+returns-in-Ok-prune_page-clause-ok c =
+    let done = c.update_ready.ensures in
+    let reserved = c.reserve_update-reserved.ensures in
+    let ready = c.prune_page.new.self in
+    let Begun : Xid → Type 0 = λ x. TakesId ready.table c.update_ready.new.self.table c.args.id x.0 × IsThere ready c.args.place in
+    let begun = both-ok {C = Begun} c.update_ready.result (λ x takes there. (takes, there)) done.takes done.there in
+    both-ok {A = Begun} c.update_ready.result (λ x first replaces. updates c.args.self.now c.reserve_update-reserved.new.self c.prune_page.new.self c.update_ready.new.self c.args.id c.args.place c.args.row
+    c.args.horizon.0 x.0 c.requires.free c.requires.room reserved.keeps reserved.grows_ids c.in-Ok-prune_page.ensures.ok first.0 first.1 replaces done.max_pages) begun done.replaces
+
+pub returns-in-Ok-prune_page-clause-fault : goal.returns-in-Ok-prune_page-clause-fault
+returns-in-Ok-prune_page-clause-fault c =
+    let done = c.update_ready.ensures in
+    both-err c.update_ready.result (λ fault failed same. fails c.args.self.now c.reserve_update-reserved.new.self c.prune_page.new.self c.update_ready.new.self c.args.id c.args.place c.args.row
+    c.args.horizon.0 fault c.requires.there c.requires.free c.requires.room c.reserve_update-reserved.ensures.keeps c.in-Ok-prune_page.ensures.ok same failed) done.fault done.err

@@ -1,0 +1,105 @@
+-- What stands ready before a write changes anything: memory for an id, a slot, a page and an entry.
+use Rattle.std.specs.Prelude.{◌≡◌, ◌⊎◌, ℕ, ◌<◌, ◌≤◌, Bool, true, false, List, [], length, map, Option, Some, None, slice_index_or}
+use Rattle.xid_circle.specs.declared.Xid.{Xid}
+use Rattle.tuple_header.specs.declared.version.Row.{Row}
+use Rattle.page_slots.specs.View.{PageView}
+use Rattle.page_slots.specs.Slots.{room_of, has_unused, free_number, next_change}
+use Rattle.commit_status.specs.Window.{Window}
+use Rattle.page_writes.specs.Writes.{with_root}
+use Rattle.heap_pages.specs.Choice.{IsPlaceFor}
+use Rattle.heap_pages.specs.View.{PagesView, with_page}
+use Rattle.heap_pages.specs.declared.pages.Place.{Place}
+use Rattle.heap_pages.specs.declared.pages.Place.TheVariants as place
+use Rattle.heap_write.specs.declared.target.Target.{Target}
+use Rattle.heap_write.specs.declared.target.Target.TheVariants.{Page, New}
+use Rattle.heap_write.specs.Heap.{unused_page, SameIds, PutsPage}
+use Rattle.heap_write.specs.Refusals.{NeedsSlot}
+
+-- Ids.
+
+-- an id is there, or the table can note one more
+abbrev pub HasId : Window → Option Xid → Type 0
+HasId w None = 0 < w.spare
+HasId w (Some x) = Unit {0}
+
+-- the ids are as they were; where one is to be given, there may be more memory
+abbrev pub GrowsIds : Window → Window → Option Xid → Type 0
+GrowsIds w w' None = SameIds w w'
+GrowsIds w w' (Some x) = w' ≡ w
+
+-- Slots and pages.
+
+-- the page of a number, or one that was never used
+abbrev pub page_in : List PageView → ℕ → PageView
+page_in pages n = slice_index_or pages n unused_page
+
+-- a slot is unused, or there is memory for one more
+abbrev pub HasSlot : PageView → Type 0
+HasSlot page = (has_unused page.slots ≡ true) ⊎ (0 < page.spare)
+
+-- the page is as it was, though there may be more memory
+pub record SamePage (page page' : PageView) : Type 0 where
+  pub slots : page'.slots ≡ page.slots
+  pub change : page'.change ≡ page.change
+  pub flag : page'.flag ≡ page.flag
+
+-- so are all pages
+pub record SamePages (pages pages' : List PageView) : Type 0 where
+  pub slots : map (λ (p : PageView). p.slots) pages' ≡ map (λ (p : PageView). p.slots) pages
+  pub changes : map (λ (p : PageView). p.change) pages' ≡ map (λ (p : PageView). p.change) pages
+  pub flags : map (λ (p : PageView). p.flag) pages' ≡ map (λ (p : PageView). p.flag) pages
+
+-- the page of this number alone may have more memory
+pub record GrowsPage (pages pages' : PagesView) (n : ℕ) : Type 0 where
+  pub page : PageView
+  pub pages_are : pages' ≡ with_page pages n page
+  pub same : SamePage (page_in pages.pages n) page
+  pub has_slot : HasSlot page
+
+-- Where a root is to go.
+
+-- a page that was never used, with memory for a slot
+pub record IsFresh (page : PageView) : Type 0 where
+  pub slots : page.slots ≡ []
+  pub change : page.change ≡ 0
+  pub flag : page.flag ≡ false
+  pub spare : 0 < page.spare
+
+abbrev pub target_number : List PageView → Target → ℕ
+target_number pages (Page n) = n
+target_number pages (New page) = length pages
+
+-- a version of this size can be put there without memory
+abbrev pub IsReady : PagesView → ℕ → Target → Type 0
+IsReady pages size (Page n) = (n < length pages.pages) × (size ≤ room_of (page_in pages.pages n).slots) × HasSlot (page_in pages.pages n)
+IsReady pages size (New page) = IsFresh page × (size ≤ room_of page.slots) × (0 < pages.spare) × (length pages.pages < 65536)
+
+-- the place that was chosen where a root is to go there, or nowhere
+abbrev pub place_of_target : Option Target → Place
+place_of_target None = place.Nowhere
+place_of_target (Some (Page n)) = place.Page n
+place_of_target (Some (New page)) = place.NewPage
+
+-- the pages have grown for it in memory alone
+abbrev pub GrowsFor : PagesView → PagesView → Option Target → Type 0
+GrowsFor pages pages' None = pages' ≡ pages
+GrowsFor pages pages' (Some (Page n)) = GrowsPage pages pages' n
+GrowsFor pages pages' (Some (New page)) = pages'.pages ≡ pages.pages
+
+-- the place for a version of this size stands ready, if there is one
+abbrev pub Reserves : PagesView → PagesView → ℕ → ℕ → Option Target → Type 0
+Reserves pages pages' limit size found = IsPlaceFor pages.pages limit size (place_of_target found) × GrowsFor pages pages' found
+
+-- the list of pages, or of a page's slots, has to grow for it
+pub data PlaceNeedsMemory (pages : List PageView) (limit size : ℕ) : Type 0 where
+  for_page : IsPlaceFor pages limit size place.NewPage → PlaceNeedsMemory pages limit size
+  for_slot : (n : ℕ) → IsPlaceFor pages limit size (place.Page n) → NeedsSlot (page_in pages n) → PlaceNeedsMemory pages limit size
+
+-- x made a version of the row as a root on the page of this number
+pub record PutsVersion (pages pages' : List PageView) (updated : Bool) (x : ℕ) (row : Row) (n : ℕ) : Type 0 where
+  pub page : PageView
+  pub puts : PutsPage pages pages' n page
+  pub slots : page.slots ≡ with_root (page_in pages n).slots updated x n row
+  pub change : page.change ≡ next_change (page_in pages n).change
+  pub flag : page.flag ≡ (page_in pages n).flag
+  pub within : free_number (page_in pages n).slots ≤ 291

@@ -1,0 +1,22 @@
+-- What stands between the steps of an update.
+use Rattle.std.specs.Prelude.{ℕ, Option}
+use Rattle.xid_circle.specs.declared.Tid.{Tid}
+use Rattle.heap_pages.specs.Choice.{IsPlaceFor}
+use Rattle.heap_write.specs.declared.heap.WriteFault.{WriteFault}
+use Rattle.heap_write.specs.declared.heap.WriteFault.TheVariants as fault
+use Rattle.heap_write.specs.declared.target.Target.{Target}
+use Rattle.heap_write.specs.Heap.{HeapView}
+use Rattle.heap_write.specs.Growth.{place_of_target}
+use Rattle.heap_write.specs.Writes.{IsFull}
+use Rattle.heap_write.specs.Refusals.{IsThere}
+
+-- a new version of this size goes there, or nowhere
+abbrev pub IsChosen : HeapView → ℕ → Option Target → Type 0
+IsChosen h size found = IsPlaceFor h.pages.pages h.max_pages size (place_of_target found)
+
+-- why an update is not done after the old version's page was pruned
+abbrev pub FailsReady : HeapView → Tid → ℕ → WriteFault → Type 0
+FailsReady h place size fault.Gone = ¬ IsThere h place
+FailsReady h place size fault.NoRoom = IsThere h place × IsFull h size
+FailsReady h place size fault.NeedsFreeze = ⊥
+FailsReady h place size fault.NoMemory = ⊥

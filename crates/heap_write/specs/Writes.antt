@@ -1,0 +1,135 @@
+-- What a write does to a table. (README.HOT: an update that stays on the page, and changes no indexed column, makes a heap-only
+-- version and no index entry; any other makes a root of its own, with an entry. PostgreSQL, heap_insert, heap_update and
+-- heap_delete in src/backend/access/heap/heapam.c.)
+use Rattle.std.specs.Prelude.{◌≡◌, ◌≢◌, ℕ, ◌<◌, ◌≤◌, Bool, true, false, length, slice_set, slice_get, Option, Some, None}
+use Rattle.xid_circle.specs.Circle.{distance_of}
+use Rattle.xid_circle.specs.declared.Xid.{Xid}
+use Rattle.xid_circle.specs.declared.Tid.{Tid}
+use Rattle.tuple_header.specs.declared.version.Row.{Row}
+use Rattle.tuple_header.specs.Version.{rounded_size_of}
+use Rattle.page_slots.specs.View.{PageView}
+use Rattle.page_slots.specs.Slots.{room_of, free_number, next_change, IsNormalAt}
+use Rattle.commit_status.specs.Window.{Window, next_id}
+use Rattle.commit_status.specs.Changes.{Gives}
+use Rattle.prune.specs.Actions.{applied}
+use Rattle.prune.specs.Cutting.{Removes}
+use Rattle.prune.specs.Pruning.{IsPruned, IsPlan}
+use Rattle.page_writes.specs.Writes.{with_root, with_replaced, with_updated, replaced_change}
+use Rattle.root_index.specs.Sets.{Adds}
+use Rattle.heap_pages.specs.Choice.{IsPlaceFor, HasRoom, NoPage}
+use Rattle.heap_pages.specs.declared.pages.Place.{Place}
+use Rattle.heap_pages.specs.declared.pages.Place.TheVariants.{Page, NewPage, Nowhere}
+use Rattle.sound_entries.specs.Entries.{entry_for}
+use Rattle.heap_write.specs.Heap.{HeapView, key_value, page_on, Keeps, PutsPage}
+
+-- Ids.
+
+-- the write needs an id that cannot be given
+abbrev pub NeedsFreeze : Window → Option Xid → Type 0
+NeedsFreeze w id = (id ≡ None) × (w.stop_age ≤ distance_of w.first (next_id w))
+
+-- the id is given, or is the one that was there
+abbrev pub TakesId : Window → Window → Option Xid → ℕ → Type 0
+TakesId w w' None x = (x ≡ next_id w) × Gives w w' None
+TakesId w w' (Some y) x = (x ≡ y.0) × (w' ≡ w)
+
+-- Places.
+
+-- all pages that there may be are in use, and none has room
+pub record IsFull (h : HeapView) (size : ℕ) : Type 0 where
+  pub all_used : h.max_pages ≤ length h.pages.pages
+  pub no_room : NoPage h.pages.pages (HasRoom size)
+
+abbrev pub number_of : ℕ → Place → Option ℕ
+number_of count (Page n) = Some n
+number_of count NewPage = Some count
+number_of count Nowhere = None
+
+-- a new version of this size goes to the page of this number
+pub record GoesTo (h : HeapView) (size n : ℕ) : Type 0 where
+  pub place : Place
+  pub chosen : IsPlaceFor h.pages.pages h.max_pages size place
+  pub number : number_of (length h.pages.pages) place ≡ Some n
+
+-- Changes of a page and the index.
+
+-- x makes a version of the row as a root on page n, with an entry for it
+pub record PutsRoot (h h' : HeapView) (updated : Bool) (x : ℕ) (row : Row) (n : ℕ) : Type 0 where
+  pub page : PageView
+  pub puts : PutsPage h.pages.pages h'.pages.pages n page
+  pub slots : page.slots ≡ with_root (page_on h n).slots updated x n row
+  pub change : page.change ≡ next_change (page_on h n).change
+  pub flag : page.flag ≡ (page_on h n).flag
+  pub within : free_number (page_on h n).slots ≤ 291
+  pub entry : Adds h.index.entries h'.index.entries (entry_for key_value row n (free_number (page_on h n).slots))
+
+-- x takes the version at a place away, and its successor is at another, or at its own where it has none; no entry changes
+pub record TakesAway (h h' : HeapView) (place : Tid) (x : ℕ) (successor : Tid) : Type 0 where
+  pub page : PageView
+  pub puts : PutsPage h.pages.pages h'.pages.pages place.page page
+  pub slots : page.slots ≡ with_replaced (page_on h place.page).slots place.slot x successor.page successor.slot false
+  pub change : page.change ≡ replaced_change (page_on h place.page).slots place.slot x successor.page successor.slot false (page_on h place.page).change
+  pub flag : page.flag ≡ (page_on h place.page).flag
+  pub entries : h'.index.entries ≡ h.index.entries
+
+-- x replaces the version at a place by a heap-only one of this row on the same page; no entry changes
+pub record ReplacesHere (h h' : HeapView) (place : Tid) (x : ℕ) (row : Row) : Type 0 where
+  pub page : PageView
+  pub puts : PutsPage h.pages.pages h'.pages.pages place.page page
+  pub slots : page.slots ≡ with_updated (page_on h place.page).slots place.slot x place.page row
+  pub change : page.change ≡ replaced_change (page_on h place.page).slots place.slot x place.page (free_number (page_on h place.page).slots) true (next_change (page_on h place.page).change)
+  pub flag : page.flag ≡ (page_on h place.page).flag
+  pub within : free_number (page_on h place.page).slots ≤ 291
+  pub entries : h'.index.entries ≡ h.index.entries
+
+-- one page is pruned at a horizon: what goes from it is cut, and its slots are what pruning makes of them
+pub record Prunes (h h' : HeapView) (number horizon : ℕ) : Type 0 where
+  pub before : PageView
+  pub after : PageView
+  pub at : slice_get h.pages.pages number ≡ Some before
+  pub is : h' ≡ record h { pages = record h.pages { pages = slice_set h.pages.pages number after } }
+  pub flag : after.flag ≡ before.flag
+  pub change : (actions : _) × IsPlan h.table horizon before.slots actions × (after.change ≡ (applied actions before).change)
+  pub pruned : IsPruned h.table horizon before.slots after.slots
+  pub removes : Removes h.table horizon before.slots after.slots
+
+-- Writes.
+
+-- a version of the row is inserted under the id
+pub record Inserts (h h' : HeapView) (id : Option Xid) (row : Row) (x : ℕ) : Type 0 where
+  pub free : ¬ NeedsFreeze h.table id
+  pub takes_id : TakesId h.table h'.table id x
+  pub number : ℕ
+  pub goes_to : GoesTo h (rounded_size_of row) number
+  pub root : PutsRoot h h' false x row number
+  pub max_pages : h'.max_pages ≡ h.max_pages
+
+-- the page of the old version is pruned where the row has no room on it, when there may be more memory
+pub data Readies (h h' : HeapView) (number horizon size : ℕ) : Type 0 where
+  has_room : size ≤ room_of (page_on h number).slots → h' ≡ h → Readies h h' number horizon size
+  is_pruned : room_of (page_on h number).slots < size → (grown : HeapView) → Keeps h grown → Prunes grown h' number horizon → Readies h h' number horizon size
+
+-- x replaces the version at a place by one of this row: on the same page where it has room there, else as a root elsewhere
+pub data Replaces (h h' : HeapView) (place : Tid) (x : ℕ) (row : Row) : Type 0 where
+  here : rounded_size_of row ≤ room_of (page_on h place.page).slots → ReplacesHere h h' place x row → Replaces h h' place x row
+  elsewhere : room_of (page_on h place.page).slots < rounded_size_of row → (number : ℕ) → number ≢ place.page → GoesTo h (rounded_size_of row) number
+      → (middle : HeapView) → PutsRoot h middle true x row number
+      → TakesAway middle h' place x (record { page = number; slot = free_number (page_on h number).slots }) → Replaces h h' place x row
+
+-- the version at a place is updated to this row under the id
+pub record Updates (h h' : HeapView) (id : Option Xid) (place : Tid) (row : Row) (horizon x : ℕ) : Type 0 where
+  pub free : ¬ NeedsFreeze h.table id
+  pub takes_id : TakesId h.table h'.table id x
+  pub ready : HeapView
+  pub readies : Readies h ready place.page horizon (rounded_size_of row)
+  pub there : IsNormalAt (page_on ready place.page).slots place.slot
+  pub replaces : Replaces ready h' place x row
+  pub max_pages : h'.max_pages ≡ h.max_pages
+
+-- the version at a place is deleted under the id
+pub record Deletes (h h' : HeapView) (id : Option Xid) (place : Tid) (x : ℕ) : Type 0 where
+  pub free : ¬ NeedsFreeze h.table id
+  pub takes_id : TakesId h.table h'.table id x
+  pub there : IsNormalAt (page_on h place.page).slots place.slot
+  pub away : TakesAway h h' place x place
+  pub max_pages : h'.max_pages ≡ h.max_pages

@@ -1,0 +1,128 @@
+//! Where a new root goes, with the memory that it takes.
+
+ghost use Rattle.std.specs.Prelude.{◌≡◌, ◌≤◌, IfOk, IfSome, OnOk, OnErr};
+ghost use Rattle.xid_circle.specs.Circle.{IsNormal};
+ghost use Rattle.page_slots.specs.Slots.{room_of, free_number, next_change};
+ghost use Rattle.page_writes.specs.Writes.{with_root};
+ghost use Rattle.tuple_header.specs.Version.{rounded_size_of};
+ghost use Rattle.heap_write.specs.Refusals.{NeedsSlot};
+ghost use Rattle.heap_write.specs.Growth.{HasSlot, SamePage, SamePages, page_in, IsFresh, IsReady, Reserves, PlaceNeedsMemory, target_number, PutsVersion};
+
+use heap_pages::{Pages, Place};
+use page_slots::Page;
+use page_writes::{insert_version, move_in};
+use std::alloc::{AllocError, Global};
+use tuple_header::Row;
+use xid_circle::{Tid, Xid};
+
+/// Where a new root goes.
+#[derive(Debug, Drop)]
+pub(crate) enum Target {
+    /// On the page of this number.
+    Page(u32),
+    /// On this page, which is to come after all others.
+    New(Page),
+}
+
+/// How many bytes a version of the row takes on a page.
+pub(crate) fn size_of(row: &Row) -> usize
+    ensures value { result ≡ rounded_size_of row.now }
+    ensures limit { result ≤ 1096 }
+{
+    (66 + row.body.len()).next_multiple_of(8)
+}
+
+/// Makes room in memory for one more slot where none is unused.
+pub(crate) fn reserve_slot(page: &mut Page) -> Result<(), AllocError>
+    ensures same { SamePage page.old page.new }
+    ensures room { OnOk result (HasSlot page.new) }
+    ensures needs { OnErr result (NeedsSlot page.old) }
+{
+    if page.free_number() <= page.slots() {
+        return Ok(());
+    }
+    page.make_room(1)
+}
+
+/// A page that was never used, with room in memory for a slot.
+fn fresh_page(alloc: Global) -> Result<Page, AllocError>
+    ensures { IfOk result (λ page. IsFresh page) }
+{
+    let mut page = Page::new(alloc);
+    match page.make_room(1) {
+        Ok(()) => Ok(page),
+        Err(fault) => Err(fault),
+    }
+}
+
+/// Makes room in memory for a new root of this size where it goes while at most `limit` pages may be in use, and answers
+/// where that is, if it goes anywhere.
+pub(crate) fn reserve_place(
+    alloc: Global,
+    pages: &mut Pages,
+    size: usize,
+    limit: u32,
+) -> Result<Option<Target>, AllocError>
+    requires fits { size ≤ 8164 }
+    requires few { limit ≤ 65536 }
+    ensures same { SamePages pages.old.pages pages.new.pages }
+    ensures reserves { IfOk result (λ found. Reserves pages.old pages.new limit size found) }
+    ensures ready { IfOk result (λ found. IfSome found (λ target. IsReady pages.new size target)) }
+    ensures needs { OnErr result (PlaceNeedsMemory pages.old.pages limit size) }
+{
+    match pages.place_for(size, limit) {
+        Place::Page(number) => match reserve_slot(pages.page_mut(number)) {
+            Ok(()) => Ok(Some(Target::Page(number))),
+            Err(fault) => Err(fault),
+        },
+        Place::NewPage => match pages.make_room(1) {
+            Ok(()) => match fresh_page(alloc) {
+                Ok(page) => Ok(Some(Target::New(page))),
+                Err(fault) => Err(fault),
+            },
+            Err(fault) => Err(fault),
+        },
+        Place::Nowhere => Ok(None),
+    }
+}
+
+/// Makes a version of the row on a page as a root, by an update or an insert, and answers its slot.
+fn add_root(page: &mut Page, number: u32, updated: bool, x: Xid, row: Row) -> u16
+    requires normal { IsNormal x.0 }
+    requires room { rounded_size_of row ≤ room_of page.old.slots }
+    requires memory { HasSlot page.old }
+    ensures number { result ≡ free_number page.old.slots }
+    ensures limit { result ≤ 291 }
+    ensures slots { page.new.slots ≡ with_root page.old.slots updated x.0 number row }
+    ensures change { page.new.change ≡ next_change page.old.change }
+    ensures flag { page.new.flag ≡ page.old.flag }
+{
+    if updated {
+        move_in(page, number, x, row)
+    } else {
+        insert_version(page, number, x, row)
+    }
+}
+
+/// Makes a version of the row as a root where one goes, and answers its place.
+pub(crate) fn put_version(pages: &mut Pages, target: Target, updated: bool, x: Xid, row: Row) -> Tid
+    requires normal { IsNormal x.0 }
+    requires ready { IsReady pages.old (rounded_size_of row) target }
+    ensures page { result.page ≡ target_number pages.old.pages target }
+    ensures slot { result.slot ≡ free_number (page_in pages.old.pages result.page).slots }
+    ensures limit { result.slot ≤ 291 }
+    ensures puts { PutsVersion pages.old.pages pages.new.pages updated x.0 row result.page }
+{
+    match target {
+        Target::Page(number) => {
+            let slot = add_root(pages.page_mut(number), number, updated, x, row);
+            Tid { page: number, slot }
+        }
+        Target::New(mut page) => {
+            let number = pages.len();
+            let slot = add_root(&mut page, number, updated, x, row);
+            pages.push_page(page);
+            Tid { page: number, slot }
+        }
+    }
+}

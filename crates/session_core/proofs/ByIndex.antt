@@ -1,0 +1,71 @@
+-- What is found through the index is what is found on the heap.
+use Rattle.std.proofs.Common.{◌≡◌, ℕ, List, [], length, Option, sym, ap, ◌∙◌, subst}
+use Rattle.std.specs.Prelude.{◌↔◌, pos, Contains}
+use Rattle.std.proofs.lemmas.Option.{same_Some}
+use Rattle.xid_circle.specs.declared.Tid.{Tid}
+use Rattle.tuple_header.specs.declared.version.Row.{Row}
+use Rattle.tuple_header.specs.Version.{Version}
+use Rattle.commit_status.specs.Window as window
+use Rattle.snapshot.specs.Snap.{Snap, Sees}
+use Rattle.visibility.specs.Visible as visibility
+use Rattle.sound_entries.specs.Leading.{IsOnHeap}
+use Rattle.sound_entries.proofs.Leads.{visible-found}
+use Rattle.heap_write.specs.Heap.{slots_of, key_value}
+use Rattle.history.specs.History.{committed}
+use Rattle.history.specs.World.{World, OpenSession, view}
+use Rattle.session_relation.specs.Visible.{IsCommitted, IsVisible, VisibleBy, by_itself, by_others}
+use Rattle.session_relation.specs.Agrees as relation
+use Rattle.session_relation.proofs.Itself.{none_own}
+use Rattle.session_relation.proofs.Follows as theory
+use Rattle.session_core.specs.State.{State, seen, state_of, reader_of, horizon_of}
+use Rattle.session_core.specs.Agrees.{Agrees}
+use Rattle.session_core.specs.Laws.{IsFound, FindsRows, ViewsByIndex}
+use Rattle.session_core.proofs.Windows.{active-to}
+use Rattle.session_core.proofs.Owns.{reader-is, now_taken, taken-fresh}
+use Rattle.session_core.proofs.Searches.{visible-to, visible-from}
+
+-- a reader whose own ids are in progress, and what it finds on the heap
+by-index : (st : State) (w : World) (s : Snap) (own : List ℕ) (row : ℕ → Option Row) → Agrees st w → ((x : ℕ) → Contains own x → window.IsActive st.heap.table x)
+    → relation.Shows (seen st).version (IsVisible (state_of st.heap.table) (λ x. Sees s st.heap.table x) own) row → FindsRows st.heap s own row
+by-index st w s own row agrees active shows = record {
+  sound = λ k p t found. let h = (on-heap k p t).1 found in ap row (sym h.of_key) ∙ shows.sound p t h.there (visible-to st.heap.table s own t h.has);
+  there = λ k r is. let some = shows.there k r is in
+      (some.0, some.1, (on-heap k some.0 some.1).0 (record { there = some.2; of_value = ap (λ n. pos n) some.3; of_key = some.3; has = visible-from st.heap.table s own some.1 some.4 }));
+  one = λ k p q t u found found'. let h = (on-heap k p t).1 found in let h' = (on-heap k q u).1 found' in
+      shows.one p q t u h.there h'.there (visible-to st.heap.table s own t h.has) (visible-to st.heap.table s own u h'.has) (h.of_key ∙ sym h'.of_key);
+}
+  where
+    on-heap : (k : ℕ) (p : Tid) (t : Version)
+        → IsOnHeap key_value (slots_of st.heap) (pos k) k (λ t. visibility.IsVisible st.heap.table s own t.header) p t ↔ IsFound st.heap s own k p t
+    on-heap k p t = visible-found key_value st.heap.table (horizon_of st) (slots_of st.heap) st.heap.index.entries agrees.sound.table.sound s own active (pos k) k p t
+
+-- one that would begin now sees what is committed
+fresh : (st : State) (w : World) → Agrees st w → relation.Shows (seen st).version (IsVisible (state_of st.heap.table) (λ x. Sees (now_taken st) st.heap.table x) []) (committed w.history (length w.history))
+fresh st w agrees = record {
+  sound = λ p v at sees. agrees.found.current.sound p v at (to v sees);
+  there = λ k r is. let some = agrees.found.current.there k r is in (some.0, some.1, some.2, some.3, from some.1 some.4);
+  one = λ p q v u at bt sees sees'. agrees.found.current.one p q v u at bt (to v sees) (to u sees');
+}
+  where
+    to : (v : Version) → IsVisible (state_of st.heap.table) (λ x. Sees (now_taken st) st.heap.table x) [] v → VisibleBy (IsCommitted (state_of st.heap.table)) v
+    to v sees = record {
+      made = λ x is. elim (sees.made x is) [ by_itself own ↦ absurd (none_own x own) | by_others seen' done ↦ done ];
+      kept = λ x is done. sees.kept x is (by_others ((taken-fresh st w agrees).finished x done) done);
+    }
+
+    from : (v : Version) → VisibleBy (IsCommitted (state_of st.heap.table)) v → IsVisible (state_of st.heap.table) (λ x. Sees (now_taken st) st.heap.table x) [] v
+    from v sees = record {
+      made = λ x is. let done = sees.made x is in by_others ((taken-fresh st w agrees).finished x done) done;
+      kept = λ x is reads. elim reads [ by_itself own ↦ none_own x own | by_others seen' done ↦ sees.kept x is done ];
+    }
+
+pub views-by-index : ViewsByIndex
+views-by-index st w agrees = (
+  λ s e m at there.
+      let open_ = agrees.found.opened s (reader_of e) (reader-is st s e at) in
+      let is : open_.0 ≡ m = same_Some open_.0 m (sym open_.1 ∙ there) in
+      by-index st w e.snapshot e.own.ids (view w.history m) agrees (λ x mine. active-to st.heap.table x (open_.2.own_active x mine))
+      (subst (λ (n : OpenSession). relation.Shows (seen st).version (IsVisible (state_of st.heap.table) (λ x. Sees e.snapshot st.heap.table x) e.own.ids) (view w.history n)) is
+      (theory.reads_rows (seen st) w s (reader_of e) (reader-is st s e at) agrees.found)),
+  by-index st w (now_taken st) [] (committed w.history (length w.history)) agrees (λ x mine. absurd (none_own x mine)) (fresh st w agrees),
+)

@@ -1,0 +1,84 @@
+//! A session takes the row of a key away.
+
+ghost use Rattle.std.specs.Prelude.{◌≡◌, ◌≢◌, None, Some};
+ghost use Rattle.session_relation.specs.declared.step.Step.{Step};
+ghost use Rattle.session_core.specs.Agrees.{Follows};
+ghost use Rattle.session_core.specs.Exact.{Exact};
+ghost use Rattle.session_core.specs.Tests.{MayWrite};
+ghost use Rattle.session_core.specs.Writes.{OnOpen, TriesDelete};
+
+use crate::engine::Engine;
+use crate::session::Session;
+use crate::write::reply_of;
+use heap_write::{HeapState, WriteFault};
+use session_relation::Reply;
+use xid_circle::Tid;
+
+/// Deletes the version at a place, under the session's id, or a new one.
+fn delete_for(heap: &mut HeapState, session: &mut Session, place: Tid) -> Result<(), WriteFault>
+    ensures { TriesDelete heap.old heap.new session.old session.new place result }
+{
+    match session.own.first() {
+        Some(x) => match heap.delete(Some(x), place) {
+            Ok(_) => Ok(()),
+            Err(fault) => Err(fault),
+        },
+        None => {
+            if session.own.make_room(1).is_err() {
+                return if heap.needs_freeze(None) {
+                    Err(WriteFault::NeedsFreeze)
+                } else {
+                    Err(WriteFault::NoMemory)
+                };
+            }
+            match heap.delete(None, place) {
+                Ok(x) => {
+                    session.own.push(x);
+                    Ok(())
+                }
+                Err(fault) => Err(fault),
+            }
+        }
+    }
+}
+
+/// Deletes for the session in this place, which is open.
+fn delete_open(
+    heap: &mut HeapState,
+    session: &mut Option<Session>,
+    place: Tid,
+) -> Result<(), WriteFault>
+    requires { session.old ≢ None }
+    ensures { OnOpen session.old session.new (λ e e'. TriesDelete heap.old heap.new e e' place result) }
+{
+    match session {
+        Some(session) => delete_for(heap, session, place),
+        None => unreachable!(),
+    }
+}
+
+impl Engine {
+    /// Deletes the version at a place, which nothing keeps the session from.
+    fn take_away(&mut self, s: u8, key: u64, place: Tid) -> Reply
+        requires { MayWrite self.old s key (Some place) }
+        ensures follows { Follows self.old (Step.Delete s key) result self.new }
+        ensures exact { Exact self.old (Step.Delete s key) result self.new }
+    {
+        self.heap.table().is_window();
+        let outcome = delete_open(&mut self.heap, &mut self.sessions[s as usize], place);
+        self.heap.table().is_window();
+        reply_of(outcome)
+    }
+
+    /// Takes the row of a key away. Refusals in order: NoSuchSession, NotOpen, Failed, NotThere, Conflict, Busy,
+    /// NeedsFreeze, NoMemory.
+    pub(crate) fn delete(&mut self, s: u8, key: u64) -> Reply
+        ensures follows { Follows self.old (Step.Delete s key) result self.new }
+        ensures exact { Exact self.old (Step.Delete s key) result self.new }
+    {
+        match self.occupied(s, key) {
+            Ok(place) => self.take_away(s, key, place),
+            Err(refusal) => self.refuse(s, refusal),
+        }
+    }
+}

@@ -1,0 +1,9 @@
+//! The law of what is found through the index. The function does nothing: its contract is the law.
+
+ghost use Rattle.session_core.specs.Laws.{ViewsByIndex};
+
+/// Whatever world the engine agrees with, each open session finds its view through the primary index, and one that would
+/// begin now finds what is committed.
+pub fn views_by_index()
+    ensures { ViewsByIndex }
+{}

@@ -1,0 +1,114 @@
+//! A session writes another row of a key that has one.
+
+ghost use Rattle.std.specs.Prelude.{◌≡◌, ◌≢◌, None, Some};
+ghost use Rattle.xid_circle.specs.Circle.{IsNormal};
+ghost use Rattle.session_relation.specs.declared.step.Step.{Step};
+ghost use Rattle.session_core.specs.Agrees.{Follows};
+ghost use Rattle.session_core.specs.Exact.{ExactUpdate, Exact};
+ghost use Rattle.session_core.specs.Follows.{FollowsUpdate};
+ghost use Rattle.session_core.specs.Tests.{MayWrite};
+ghost use Rattle.session_core.specs.Writes.{OnOpen, TriesUpdate};
+
+use crate::engine::Engine;
+use crate::session::Session;
+use crate::write::{reply_of, table_row};
+use heap_write::{HeapState, WriteFault};
+use session_relation::{Refusal, Reply, Row, RowIn};
+use xid_circle::{Tid, Xid};
+
+/// Updates the version at a place to the row, under the session's id, or a new one.
+fn update_for(
+    heap: &mut HeapState,
+    session: &mut Session,
+    place: Tid,
+    row: Row,
+    horizon: Xid,
+) -> Result<(), WriteFault>
+    requires { IsNormal horizon.0 }
+    ensures { TriesUpdate heap.old heap.new session.old session.new place row horizon.0 result }
+{
+    match session.own.first() {
+        Some(x) => match heap.update(Some(x), place, row, horizon) {
+            Ok(_) => Ok(()),
+            Err(fault) => Err(fault),
+        },
+        None => {
+            if session.own.make_room(1).is_err() {
+                return if heap.needs_freeze(None) {
+                    Err(WriteFault::NeedsFreeze)
+                } else {
+                    Err(WriteFault::NoMemory)
+                };
+            }
+            match heap.update(None, place, row, horizon) {
+                Ok(x) => {
+                    session.own.push(x);
+                    Ok(())
+                }
+                Err(fault) => Err(fault),
+            }
+        }
+    }
+}
+
+/// Updates for the session in this place, which is open.
+fn update_open(
+    heap: &mut HeapState,
+    session: &mut Option<Session>,
+    place: Tid,
+    row: Row,
+    horizon: Xid,
+) -> Result<(), WriteFault>
+    requires open { session.old ≢ None }
+    requires normal { IsNormal horizon.0 }
+    ensures { OnOpen session.old session.new (λ e e'. TriesUpdate heap.old heap.new e e' place row horizon.0 result) }
+{
+    match session {
+        Some(session) => update_for(heap, session, place, row, horizon),
+        None => unreachable!(),
+    }
+}
+
+impl Engine {
+    /// Updates the version at a place to the row, which nothing keeps the session from writing.
+    fn replace(&mut self, s: u8, place: Tid, row: Row) -> Reply
+        requires { MayWrite self.old s row.key (Some place) }
+        ensures follows { FollowsUpdate self.old s row result self.new }
+        ensures exact { ExactUpdate self.old s row result self.new }
+    {
+        self.heap.table().is_window();
+        let horizon = self.horizon();
+        let session = &mut self.sessions[s as usize];
+        let outcome = update_open(&mut self.heap, session, place, row, horizon);
+        self.heap.table().is_window();
+        reply_of(outcome)
+    }
+
+    /// Updates to a row that is not too large.
+    fn update_row(&mut self, s: u8, row: Row) -> Reply
+        ensures follows { FollowsUpdate self.old s row result self.new }
+        ensures exact { ExactUpdate self.old s row result self.new }
+    {
+        match self.occupied(s, row.key) {
+            Ok(place) => self.replace(s, place, row),
+            Err(refusal) => self.refuse(s, refusal),
+        }
+    }
+
+    /// Writes another row of a key that has one. Where the row has no room on the page of the version that it replaces,
+    /// that page is pruned first. Refusals in order: NoSuchSession, NotOpen, Failed, TooLarge, NotThere, Conflict, Busy,
+    /// NeedsFreeze, NoRoom, NoMemory.
+    pub(crate) fn update(&mut self, s: u8, row: RowIn) -> Reply
+        ensures follows { Follows self.old (Step.Update s row) result self.new }
+        ensures exact { Exact self.old (Step.Update s row) result self.new }
+    {
+        match self.ready(s) {
+            Ok(_) => {}
+            Err(refusal) => return Reply::Refused(refusal),
+        }
+        match table_row(&row) {
+            Some(row) => self.update_row(s, row),
+            None => Reply::Refused(Refusal::TooLarge),
+        }
+    }
+}

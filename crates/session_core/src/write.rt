@@ -1,0 +1,135 @@
+//! What every write of a session asks first, and what it answers.
+
+ghost use Rattle.std.specs.Prelude.{◌≡◌, ◌≢◌, ◌<◌, ℕ, length, MatchOption, MatchResult, Some, None, Contains};
+ghost use Rattle.session_relation.specs.Words.{FitsRow, row_of};
+ghost use Rattle.session_core.specs.Keeps.{open_at};
+ghost use Rattle.session_core.specs.State.{refused_state};
+ghost use Rattle.session_core.specs.Tests.{IsFree, Delays, MayWrite, HindersInsert, HindersChange};
+ghost use Rattle.session_core.specs.Writes.{refusal_for, reply_for};
+
+use crate::engine::Engine;
+use crate::session::Session;
+use arrayvec::ArrayVec;
+use heap_write::WriteFault;
+use session_relation::{Refusal, Reply, Row, RowIn};
+use xid_circle::{Tid, Xid};
+
+/// The row of the table, unless the body has more than 1024 bytes.
+pub(crate) fn table_row(row: &RowIn) -> Option<Row>
+    ensures { MatchOption result (1024 < length row.now.body) (λ r. FitsRow row.now × (r ≡ row_of row.now)) }
+{
+    let mut body = ArrayVec::new();
+    match body.try_extend_from_slice(row.body.as_slice()) {
+        Ok(()) => Some(Row {
+            key: row.key,
+            cols: row.cols,
+            body,
+        }),
+        Err(_) => None,
+    }
+}
+
+/// The session that has the id.
+fn owner(sessions: &[Option<Session>], x: Xid) -> Option<u8>
+    requires { length sessions.now ≡ 64 }
+    ensures { MatchOption result
+        ((s : ℕ) (e : _) → open_at sessions.now s ≡ Some e → Contains e.own.ids x.0 → ⊥)
+        (λ s. (e : _) × (open_at sessions.now s ≡ Some e) × Contains e.own.ids x.0) }
+{
+    for s in 0..sessions.len() {
+        if let Some(session) = &sessions[s] {
+            if session.own.contains(x) {
+                return Some(s as u8);
+            }
+        }
+    }
+    None
+}
+
+/// The refusal of a write that the heap did not do. A version that is gone is no longer there.
+fn refusal_of(fault: WriteFault) -> Refusal
+    ensures { result ≡ refusal_for fault }
+{
+    match fault {
+        WriteFault::Gone => Refusal::NotThere,
+        WriteFault::NeedsFreeze => Refusal::NeedsFreeze,
+        WriteFault::NoRoom => Refusal::NoRoom,
+        WriteFault::NoMemory => Refusal::NoMemory,
+    }
+}
+
+pub(crate) fn reply_of(outcome: Result<(), WriteFault>) -> Reply
+    ensures { result ≡ reply_for outcome }
+{
+    match outcome {
+        Ok(()) => Reply::Done,
+        Err(fault) => Reply::Refused(refusal_of(fault)),
+    }
+}
+
+impl Engine {
+    /// What keeps a session from writing the key, whatever it reads of it. Tests in order: Conflict, Busy.
+    fn delay(&self, session: &Session, key: u64) -> Option<Refusal>
+        ensures { MatchOption result (IsFree self.now session.now key) (λ refusal. Delays self.now session.now key refusal) }
+    {
+        if let Some(_) = self.heap.missed(key, &session.snapshot) {
+            return Some(Refusal::Conflict);
+        }
+        match self.heap.holder(key, &session.own) {
+            Some(x) => match owner(&self.sessions, x) {
+                Some(o) => Some(Refusal::Busy(o)),
+                None => None,
+            },
+            None => None,
+        }
+    }
+
+    /// What keeps the session from inserting a row of the key. Tests in order: NoSuchSession, NotOpen, Failed, AlreadyThere,
+    /// Conflict, Busy.
+    pub(crate) fn vacant(&self, s: u8, key: u64) -> Result<(), Refusal>
+        ensures { MatchResult result (λ _. MayWrite self.now s key None) (λ refusal. HindersInsert self.now s key refusal) }
+    {
+        match self.ready(s) {
+            Ok(session) => match self.heap.place_of(key, &session.snapshot, &session.own) {
+                Some(_) => Err(Refusal::AlreadyThere),
+                None => match self.delay(session, key) {
+                    None => Ok(()),
+                    Some(refusal) => Err(refusal),
+                },
+            },
+            Err(refusal) => Err(refusal),
+        }
+    }
+
+    /// The place of the version of the key that the session reads, which it may update or delete. Tests in order:
+    /// NoSuchSession, NotOpen, Failed, NotThere, Conflict, Busy.
+    pub(crate) fn occupied(&self, s: u8, key: u64) -> Result<Tid, Refusal>
+        ensures { MatchResult result (λ place. MayWrite self.now s key (Some place)) (λ refusal. HindersChange self.now s key refusal) }
+    {
+        match self.ready(s) {
+            Ok(session) => match self.heap.place_of(key, &session.snapshot, &session.own) {
+                None => Err(Refusal::NotThere),
+                Some(place) => match self.delay(session, key) {
+                    None => Ok(place),
+                    Some(refusal) => Err(refusal),
+                },
+            },
+            Err(refusal) => Err(refusal),
+        }
+    }
+
+    /// Answers the refusal of a write. A conflict makes the session fail.
+    pub(crate) fn refuse(&mut self, s: u8, refusal: Refusal) -> Reply
+        requires { refusal ≡ Refusal.Conflict → s < 64 }
+        ensures reply { result ≡ Reply.Refused refusal }
+        ensures state { self.new ≡ refused_state self.old s refusal }
+    {
+        match refusal {
+            Refusal::Conflict => {
+                self.fail(s);
+                Reply::Refused(Refusal::Conflict)
+            }
+            _ => Reply::Refused(refusal),
+        }
+    }
+}

@@ -1,0 +1,161 @@
+-- A write is done: the history allows it, and the engine agrees with the next world. Before it writes, the engine may
+-- have cleaned, and have given the session an id: what it is by now agrees with the same world.
+use Rattle.std.proofs.Common.{◌≡◌, ℕ, List, [], ◌∷◌, ◌++◌, slice_get, Option, Some, None, refl, sym, ap, ◌∙◌, subst}
+use Rattle.std.specs.Prelude.{IsSome, Contains}
+use Rattle.std.specs.Option.{option_map}
+use Rattle.std.proofs.lemmas.Option.{same_Some, none-some}
+use Rattle.std.proofs.lemmas.List.Elements.{Contains-push}
+use Rattle.xid_circle.specs.declared.Tid.{Tid}
+use Rattle.tuple_header.specs.declared.version.Row.{Row}
+use Rattle.tuple_header.specs.Version.{Version}
+use Rattle.commit_status.specs.declared.status.Status.{Status}
+use Rattle.commit_status.specs.declared.status.Status.TheVariants.{InProgress}
+use Rattle.snapshot.specs.Snap.{Snap}
+use Rattle.history.specs.History.{Write, Transaction, IsLate}
+use Rattle.history.specs.World.{World, OpenSession, view, Holds}
+use Rattle.history.specs.Moves.{put, with_row, without_row}
+use Rattle.session_relation.specs.declared.step.Step.TheVariants.{Insert, Update, Delete}
+use Rattle.session_relation.specs.declared.reply.Reply.TheVariants.{Done}
+use Rattle.session_relation.specs.Words.{RowText, FitsRow, row_of}
+use Rattle.session_relation.specs.Writes.{inserts, updates, deletes}
+use Rattle.session_relation.specs.Allowed.{Allows, next}
+use Rattle.session_relation.specs.Heap.{Session, Heap}
+use Rattle.session_relation.specs.Visible.{IsVisible, At, Sees}
+use Rattle.session_relation.specs.Changes.{Adds, Alters, Gives}
+use Rattle.session_relation.specs.Agrees.{LevelsAgree, SessionAgrees, Agrees}
+use Rattle.session_relation.specs.Finds.{Free, Follows}
+use Rattle.session_relation.proofs.Statuses.{none_given, some_of}
+use Rattle.session_relation.proofs.Readers.{IsNew, IsDeleted}
+use Rattle.session_relation.proofs.Itself.{IsCurrent}
+use Rattle.session_relation.proofs.Steps.{OnlyIs, SameSights, Agrees-give, Agrees-insert}
+use Rattle.session_relation.proofs.Deleting.{Agrees-delete}
+use Rattle.session_relation.proofs.Updating.{Agrees-update}
+use Rattle.session_relation.proofs.Hindrances.{allows_write}
+use Rattle.session_relation.proofs.Targets.{visible_given}
+
+-- the session and its model in the engine as it is now
+agrees_now : (now : Heap) (w : World) (s : ℕ) (e : Session) (m : OpenSession) → Agrees now w → now.session s ≡ Some e → w.session s ≡ Some m → SessionAgrees now.status now.version w.history (now.sees e.snapshot) e m
+agrees_now now w s e m agrees at there =
+    let open_ = agrees.opened s e at in
+    subst (λ (n : OpenSession). SessionAgrees now.status now.version w.history (now.sees e.snapshot) e n) (same_Some open_.0 m (sym open_.1 ∙ there)) open_.2
+
+pub insert_done : (h now : Heap) (w : World) (s : ℕ) (e e' : Session) (row : RowText) (x : ℕ) (place : Tid) (new : Version) (store' : Tid → Option Version)
+    → Free h s e row.key None → FitsRow row → Agrees h w → Agrees now w → now.session s ≡ Some e' → IsCurrent e' x
+    → Adds now.version store' place new → IsNew x new → new.row ≡ row_of row
+    → Allows w (Insert s row) Done × Agrees (record now { version = store' }) (next w (Insert s row) Done)
+insert_done h now w s e e' row x place new store' free fits agrees still at current adds is_new same =
+    let allows = allows_write h w s e (inserts row) None free (fits, refl) agrees in
+    let there : w.session s ≡ Some allows.0 = allows.2.writer.ready.there in
+    let key : new.row.key ≡ row.key = ap (λ (r : Row). r.key) same in (
+      allows,
+      subst (λ o. Agrees (record now { version = store' }) (put w s (option_map (with_row (row_of row)) o))) (sym there)
+          (subst (λ r. Agrees (record now { version = store' }) (put w s (Some (with_row r allows.0)))) same
+          (Agrees-insert now w s e' allows.0 x place new store' adds is_new at current there
+          (ap (view w.history allows.0) key ∙ allows.1.asks.1) (subst (λ k. ¬ IsLate w.history allows.0.start k) (sym key) allows.2.in_time)
+          (λ o ne holds. allows.2.unheld o ne (subst (λ k. Holds w o k) key holds)) (agrees_now now w s e' allows.0 still at there) still)),
+    )
+
+-- the new version is added, and then the old one is deleted
+pub update_done : (h now : Heap) (w : World) (s : ℕ) (e e' : Session) (row : RowText) (found : Option Row) (x : ℕ) (place q : Tid) (old old' new : Version) (added altered : Tid → Option Version)
+    → Free h s e row.key found → FitsRow row → IsSome found → Agrees h w → Agrees now w → now.session s ≡ Some e' → IsCurrent e' x
+    → At now.version place old → IsVisible now.status (now.sees e'.snapshot) e'.own old → old.row.key ≡ row.key
+    → Adds now.version added q new → IsNew x new → new.row ≡ row_of row → Alters added altered place old old' → IsDeleted x old old'
+    → Allows w (Update s row) Done × Agrees (record now { version = altered }) (next w (Update s row) Done)
+update_done h now w s e e' row found x place q old old' new added altered free fits some agrees still at current stood seen key adds is_new same alters deleted =
+    let allows = allows_write h w s e (updates row) found free (fits, some) agrees in
+    let there : w.session s ≡ Some allows.0 = allows.2.writer.ready.there in
+    let same_key : new.row.key ≡ old.row.key = ap (λ (r : Row). r.key) same ∙ sym key in (
+      allows,
+      subst (λ o. Agrees (record now { version = altered }) (put w s (option_map (with_row (row_of row)) o))) (sym there)
+          (subst (λ r. Agrees (record now { version = altered }) (put w s (Some (with_row r allows.0)))) same
+          (Agrees-update now w s e' allows.0 x place q old old' new added altered stood adds is_new same_key alters deleted at current there seen
+          (subst (λ k. ¬ IsLate w.history allows.0.start k) (sym key) allows.2.in_time)
+          (λ o ne holds. allows.2.unheld o ne (subst (λ k. Holds w o k) key holds)) (agrees_now now w s e' allows.0 still at there) still)),
+    )
+
+pub delete_done : (h now : Heap) (w : World) (s : ℕ) (e e' : Session) (key : ℕ) (found : Option Row) (x : ℕ) (place : Tid) (old old' : Version) (store' : Tid → Option Version)
+    → Free h s e key found → IsSome found → Agrees h w → Agrees now w → now.session s ≡ Some e' → IsCurrent e' x
+    → IsVisible now.status (now.sees e'.snapshot) e'.own old → old.row.key ≡ key → Alters now.version store' place old old' → IsDeleted x old old'
+    → Allows w (Delete s key) Done × Agrees (record now { version = store' }) (next w (Delete s key) Done)
+delete_done h now w s e e' key found x place old old' store' free some agrees still at current seen same alters deleted =
+    let allows = allows_write h w s e (deletes key) found free some agrees in
+    let there : w.session s ≡ Some allows.0 = allows.2.writer.ready.there in (
+      allows,
+      subst (λ o. Agrees (record now { version = store' }) (put w s (option_map (without_row key) o))) (sym there)
+          (subst (λ k. Agrees (record now { version = store' }) (put w s (Some (without_row k allows.0)))) same
+          (Agrees-delete now w s e' allows.0 x place old old' store' alters deleted at current there seen
+          (subst (λ k. ¬ IsLate w.history allows.0.start k) (sym same) allows.2.in_time)
+          (λ o ne holds. allows.2.unheld o ne (subst (λ k. Holds w o k) same holds)) (agrees_now now w s e' allows.0 still at there) still)),
+    )
+
+-- Under an id that the session has.
+
+pub Follows-insert : (h : Heap) (s : ℕ) (e : Session) (row : RowText) (x : ℕ) (place : Tid) (new : Version) (store' : Tid → Option Version)
+    → Free h s e row.key None → FitsRow row → IsCurrent e x → Adds h.version store' place new → IsNew x new → new.row ≡ row_of row
+    → Follows h (Insert s row) Done (record h { version = store' })
+Follows-insert h s e row x place new store' free fits current adds is_new same w agrees =
+    insert_done h h w s e e row x place new store' free fits agrees agrees free.begins.at current adds is_new same
+
+pub Follows-update : (h : Heap) (s : ℕ) (e : Session) (row : RowText) (found : Option Row) (x : ℕ) (place q : Tid) (old old' new : Version) (added altered : Tid → Option Version)
+    → Free h s e row.key found → FitsRow row → IsSome found → IsCurrent e x
+    → At h.version place old → IsVisible h.status (h.sees e.snapshot) e.own old → old.row.key ≡ row.key
+    → Adds h.version added q new → IsNew x new → new.row ≡ row_of row → Alters added altered place old old' → IsDeleted x old old'
+    → Follows h (Update s row) Done (record h { version = altered })
+Follows-update h s e row found x place q old old' new added altered free fits some current stood seen key adds is_new same alters deleted w agrees =
+    update_done h h w s e e row found x place q old old' new added altered free fits some agrees agrees free.begins.at current stood seen key adds is_new same alters deleted
+
+pub Follows-delete : (h : Heap) (s : ℕ) (e : Session) (key : ℕ) (found : Option Row) (x : ℕ) (place : Tid) (old old' : Version) (store' : Tid → Option Version)
+    → Free h s e key found → IsSome found → IsCurrent e x
+    → IsVisible h.status (h.sees e.snapshot) e.own old → old.row.key ≡ key → Alters h.version store' place old old' → IsDeleted x old old'
+    → Follows h (Delete s key) Done (record h { version = store' })
+Follows-delete h s e key found x place old old' store' free some current seen same alters deleted w agrees =
+    delete_done h h w s e e key found x place old old' store' free some agrees agrees free.begins.at current seen same alters deleted
+
+-- Under an id that the session is given.
+
+-- what a savepoint had, the session has
+saved_within : (status : ℕ → Option Status) (store : Tid → Option Version) (history : List Transaction) (sees : ℕ → Type 0) (start : ℕ) (own : List ℕ) (saved : List (List ℕ)) (levels : List (List Write)) (before : List ℕ)
+    → LevelsAgree status store history sees start own saved levels → slice_get saved 0 ≡ Some before → (x : ℕ) → Contains before x → Contains own x
+saved_within _ _ _ _ _ own [] levels before h is x among = absurd (none-some before is)
+saved_within _ _ _ _ _ own (first ∷ saved) [] before h is x among = absurd h
+saved_within _ _ _ _ _ own (first ∷ saved) (ws ∷ levels) before h is x among = h.1 x (subst (λ xs. Contains xs x) (sym (same_Some first before is)) among)
+
+pub current_given : (h : Heap) (w : World) (s : ℕ) (e : Session) (x : ℕ) (status' : ℕ → Option Status) → h.session s ≡ Some e → Gives h.status status' x → Agrees h w → IsCurrent (record e { own = e.own ++ x ∷ [] }) x
+current_given h w s e x status' at gives agrees = let open_ = agrees.opened s e at in record {
+  mine = Contains-push e.own x;
+  newest = λ before is among. none_given (h.status x) gives.fresh
+      (some_of InProgress (h.status x) (open_.2.own_active x (saved_within h.status h.version w.history (h.sees e.snapshot) open_.0.start e.own e.saved open_.0.levels before open_.2.levels is x among)));
+}
+
+pub Follows-insert_given : (h : Heap) (s : ℕ) (e : Session) (row : RowText) (x : ℕ) (place : Tid) (new : Version) (store' : Tid → Option Version)
+    (status' : ℕ → Option Status) (sees' : Snap → ℕ → Type 0) (session' : ℕ → Option Session) → Free h s e row.key None → FitsRow row
+    → OnlyIs h.session session' s (Some (record e { own = e.own ++ x ∷ [] })) → Gives h.status status' x
+    → SameSights h sees' → ((o : ℕ) (f : Session) → h.session o ≡ Some f → ¬ Sees (sees' f.snapshot) x)
+    → Adds h.version store' place new → IsNew x new → new.row ≡ row_of row
+    → Follows h (Insert s row) Done (record { version = store'; status = status'; sees = sees'; session = session' })
+Follows-insert_given h s e row x place new store' status' sees' session' free fits only gives sights unseen adds is_new same w agrees =
+    insert_done h (record h { status = status'; sees = sees'; session = session' }) w s e (record e { own = e.own ++ x ∷ [] }) row x place new store' free fits agrees
+    (Agrees-give h w s e x status' sees' session' only free.begins.at gives sights unseen agrees) only.itself (current_given h w s e x status' free.begins.at gives agrees) adds is_new same
+
+pub Follows-update_given : (h : Heap) (s : ℕ) (e : Session) (row : RowText) (found : Option Row) (x : ℕ) (place q : Tid) (old old' new : Version) (added altered : Tid → Option Version)
+    (status' : ℕ → Option Status) (sees' : Snap → ℕ → Type 0) (session' : ℕ → Option Session) → Free h s e row.key found → FitsRow row → IsSome found
+    → OnlyIs h.session session' s (Some (record e { own = e.own ++ x ∷ [] })) → Gives h.status status' x
+    → SameSights h sees' → ((o : ℕ) (f : Session) → h.session o ≡ Some f → ¬ Sees (sees' f.snapshot) x)
+    → At h.version place old → IsVisible h.status (h.sees e.snapshot) e.own old → old.row.key ≡ row.key
+    → Adds h.version added q new → IsNew x new → new.row ≡ row_of row → Alters added altered place old old' → IsDeleted x old old'
+    → Follows h (Update s row) Done (record { version = altered; status = status'; sees = sees'; session = session' })
+Follows-update_given h s e row found x place q old old' new added altered status' sees' session' free fits some only gives sights unseen stood seen key adds is_new same alters deleted w agrees =
+    update_done h (record h { status = status'; sees = sees'; session = session' }) w s e (record e { own = e.own ++ x ∷ [] }) row found x place q old old' new added altered free fits some agrees
+    (Agrees-give h w s e x status' sees' session' only free.begins.at gives sights unseen agrees) only.itself (current_given h w s e x status' free.begins.at gives agrees)
+    stood (visible_given h w s e x place old status' sees' free.begins.at gives sights agrees stood seen) key adds is_new same alters deleted
+
+pub Follows-delete_given : (h : Heap) (s : ℕ) (e : Session) (key : ℕ) (found : Option Row) (x : ℕ) (place : Tid) (old old' : Version) (store' : Tid → Option Version)
+    (status' : ℕ → Option Status) (sees' : Snap → ℕ → Type 0) (session' : ℕ → Option Session) → Free h s e key found → IsSome found
+    → OnlyIs h.session session' s (Some (record e { own = e.own ++ x ∷ [] })) → Gives h.status status' x
+    → SameSights h sees' → ((o : ℕ) (f : Session) → h.session o ≡ Some f → ¬ Sees (sees' f.snapshot) x)
+    → IsVisible h.status (h.sees e.snapshot) e.own old → old.row.key ≡ key → Alters h.version store' place old old' → IsDeleted x old old'
+    → Follows h (Delete s key) Done (record { version = store'; status = status'; sees = sees'; session = session' })
+Follows-delete_given h s e key found x place old old' store' status' sees' session' free some only gives sights unseen seen same alters deleted w agrees =
+    delete_done h (record h { status = status'; sees = sees'; session = session' }) w s e (record e { own = e.own ++ x ∷ [] }) key found x place old old' store' free some agrees
+    (Agrees-give h w s e x status' sees' session' only free.begins.at gives sights unseen agrees) only.itself (current_given h w s e x status' free.begins.at gives agrees)
+    (visible_given h w s e x place old status' sees' free.begins.at gives sights agrees alters.before seen) same alters deleted

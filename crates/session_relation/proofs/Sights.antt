@@ -1,0 +1,42 @@
+-- What snapshots see is told in other words, and no reader can tell.
+use Rattle.std.proofs.Common.{ℕ, List, Option, refl}
+use Rattle.xid_circle.specs.declared.Tid.{Tid}
+use Rattle.tuple_header.specs.Version.{Version}
+use Rattle.commit_status.specs.declared.status.Status.{Status}
+use Rattle.commit_status.specs.declared.status.Status.TheVariants.{InProgress}
+use Rattle.snapshot.specs.Snap.{Snap}
+use Rattle.history.specs.History.{Transaction}
+use Rattle.history.specs.World.{World, OpenSession}
+use Rattle.session_relation.specs.Heap.{Session, Heap}
+use Rattle.session_relation.specs.Changes.{SameSight}
+use Rattle.session_relation.specs.Agrees.{SessionAgrees, Agrees}
+use Rattle.session_relation.proofs.Readers.{Levels-map}
+use Rattle.session_relation.proofs.Traces.{TracesAgree-same, unseen_still}
+use Rattle.session_relation.proofs.Others.{same_reader, reads_before}
+use Rattle.session_relation.proofs.Steps.{SameSights}
+
+SessionAgrees-sights : {status : ℕ → Option Status} {store : Tid → Option Version} {history : List Transaction} {sees sees' : ℕ → Type 0} {e : Session} {m : OpenSession}
+    → SameSight status sees sees' → SessionAgrees status store history sees e m → SessionAgrees status store history sees' e m
+SessionAgrees-sights {status} {store} {history} {sees} {sees'} {e} {m} same h = record {
+  same_failed = h.same_failed;
+  same_cursor = h.same_cursor;
+  levels = Levels-map e.own e.saved m.levels (λ own writes among r. same_reader own writes (λ y done. done) same (reads_before own (λ y done. done) same) (λ k. refl) r) h.levels;
+  traces = TracesAgree-same (λ y done. done) (λ y done. done) same h.traces;
+  began = h.began;
+  in_time = h.in_time;
+  active_unseen = λ y active. unseen_still same y InProgress active (h.active_unseen y active);
+  own_active = h.own_active;
+}
+
+pub Agrees-sights : (h : Heap) (w : World) (sees' : Snap → ℕ → Type 0) → SameSights h sees' → Agrees h w → Agrees (record h { sees = sees' }) w
+Agrees-sights h w sees' same agrees = record {
+  opened = λ s e at. let open_ = agrees.opened s e at in (open_.0, open_.1, SessionAgrees-sights (same s e at) open_.2);
+  idle = agrees.idle;
+  waits = agrees.waits;
+  current = agrees.current;
+  made = agrees.made;
+  given = agrees.given;
+  owned = agrees.owned;
+  apart = agrees.apart;
+  alone = agrees.alone;
+}

@@ -1,0 +1,48 @@
+-- What who writes finds of each key, where it found one row of the key at most.
+use Rattle.std.specs.Prelude.{◌≡◌, ◌≢◌, ◌↔◌, ℕ, List, Option}
+use Rattle.xid_circle.specs.declared.Tid.{Tid}
+use Rattle.xid_circle.specs.declared.Xid.{Xid}
+use Rattle.tuple_header.specs.Version.{Version}
+use Rattle.tuple_header.specs.declared.version.Row.{Row}
+use Rattle.snapshot.specs.Snap.{Snap}
+use Rattle.heap_write.specs.Heap.{HeapView}
+use Rattle.heap_write.specs.Writes.{Inserts, Updates, Deletes}
+use Rattle.sound_writes.specs.Table.{SoundTable, MayTake}
+use Rattle.sound_writes.specs.Laws.{IsWriter}
+use Rattle.sound_writes.specs.Readers.{Finds, IsAuthor}
+
+-- no row of the key is found
+abbrev pub FindsNone : (Tid → Row → Type 0) → ℕ → Type 0
+FindsNone finds key = (p : Tid) (r : Row) → r.key ≡ key → ¬ finds p r
+
+-- none but at this place
+abbrev pub FindsNoneElsewhere : (Tid → Row → Type 0) → ℕ → Tid → Type 0
+FindsNoneElsewhere finds key place = (p : Tid) (r : Row) → r.key ≡ key → finds p r → p ≡ place
+
+-- this row of its key is found at the place, and no other anywhere
+abbrev pub FindsOnly : (Tid → Row → Type 0) → Tid → Row → Type 0
+FindsOnly finds place row = (p : Tid) (r : Row) → r.key ≡ row.key → finds p r ↔ ((p ≡ place) × (r ≡ row))
+
+-- of all other keys the same is found
+abbrev pub SameOfOthers : (Tid → Row → Type 0) → (Tid → Row → Type 0) → ℕ → Type 0
+SameOfOthers before after key = (p : Tid) (r : Row) → r.key ≢ key → before p r ↔ after p r
+
+-- the row is the only one of its key, somewhere, and the rest is as before
+pub record PutsRow (before after : Tid → Row → Type 0) (row : Row) : Type 0 where
+  pub place : Tid
+  pub only : FindsOnly after place row
+  pub others : SameOfOthers before after row.key
+
+abbrev pub InsertPutsRow : Type 0
+InsertPutsRow = (h h' : HeapView) (horizon : ℕ) (id : Option Xid) (row : Row) (x : ℕ) (s : Snap) (own own' : List ℕ) → SoundTable h horizon → IsWriter h h' id
+    → Inserts h h' id row x → IsAuthor h horizon id x s own own' → FindsNone (Finds h s own) row.key → PutsRow (Finds h s own) (Finds h' s own') row
+
+abbrev pub UpdatePutsRow : Type 0
+UpdatePutsRow = (h h' : HeapView) (horizon : ℕ) (id : Option Xid) (place : Tid) (t : Version) (row : Row) (x : ℕ) (s : Snap) (own own' : List ℕ) → SoundTable h horizon → IsWriter h h' id
+    → MayTake h id place t → row.key ≡ t.row.key → Updates h h' id place row horizon x → IsAuthor h horizon id x s own own'
+    → FindsNoneElsewhere (Finds h s own) row.key place → PutsRow (Finds h s own) (Finds h' s own') row
+
+abbrev pub DeleteTakesRow : Type 0
+DeleteTakesRow = (h h' : HeapView) (horizon : ℕ) (id : Option Xid) (place : Tid) (t : Version) (x : ℕ) (s : Snap) (own own' : List ℕ) → SoundTable h horizon → IsWriter h h' id
+    → MayTake h id place t → Deletes h h' id place x → IsAuthor h horizon id x s own own' → FindsNoneElsewhere (Finds h s own) t.row.key place
+    → FindsNone (Finds h' s own') t.row.key × SameOfOthers (Finds h s own) (Finds h' s own') t.row.key

@@ -1,0 +1,90 @@
+-- What readers find after a step. A reader is a snapshot and ids of its own. (The manual's "Transaction Isolation": a
+-- transaction sees its own changes, and nobody else sees them while it is open.)
+use Rattle.std.specs.Prelude.{◌≡◌, ◌≢◌, ◌⊎◌, ◌↔◌, ℕ, List, Option, Some, Contains}
+use Rattle.xid_circle.specs.declared.Tid.{Tid}
+use Rattle.xid_circle.specs.declared.Xid.{Xid}
+use Rattle.tuple_header.specs.Version.{Version}
+use Rattle.tuple_header.specs.declared.version.Header.{Header}
+use Rattle.tuple_header.specs.declared.version.Row.{Row}
+use Rattle.commit_status.specs.Window.{IsGiven}
+use Rattle.snapshot.specs.Snap.{Snap}
+use Rattle.visibility.specs.Visible.{IsVisible}
+use Rattle.prune.specs.Readers.{IsOpenReader}
+use Rattle.sound_entries.specs.Pages.{slots_on, version_in}
+use Rattle.heap_write.specs.Heap.{HeapView, slots_of}
+use Rattle.heap_write.specs.Writes.{Inserts, Updates, Deletes, Prunes}
+use Rattle.sound_writes.specs.Table.{SoundTable, MayTake}
+use Rattle.sound_writes.specs.Laws.{IsWriter}
+
+-- a version of this row stands at the place, and is seen
+pub record FindsAt (seen : Header → Type 0) (store : Tid → Option Version) (p : Tid) (row : Row) : Type 0 where
+  pub version : Version
+  pub there : store p ≡ Some version
+  pub is_seen : seen version.header
+  pub of_row : version.row ≡ row
+
+-- the reader finds the row at the place
+abbrev pub Finds : HeapView → Snap → List ℕ → Tid → Row → Type 0
+Finds h s own p row = FindsAt (IsVisible h.table s own) (version_in (slots_of h)) p row
+
+-- its snapshot is open, or was taken later, at this horizon, and its ids are in progress
+abbrev pub IsReader : HeapView → ℕ → Snap → List ℕ → Type 0
+IsReader h horizon s own = (n : ℕ) → IsOpenReader h.table horizon (slots_on (slots_of h) n) s own
+
+-- it finds the same rows at the same places
+abbrev pub FindsTheSame : HeapView → HeapView → Snap → List ℕ → Type 0
+FindsTheSame h h' s own = (p : Tid) (row : Row) → Finds h s own p row ↔ Finds h' s own p row
+
+-- Nobody can tell.
+
+abbrev pub PruningIsUnseen : Type 0
+PruningIsUnseen = (h h' : HeapView) (number horizon : ℕ) (s : Snap) (own : List ℕ) → SoundTable h horizon → Prunes h h' number horizon → IsReader h horizon s own
+    → FindsTheSame h h' s own
+
+-- a write is seen by nobody who doesn't own its id
+abbrev pub InsertingIsUnseen : Type 0
+InsertingIsUnseen = (h h' : HeapView) (horizon : ℕ) (id : Option Xid) (row : Row) (x : ℕ) (s : Snap) (own : List ℕ) → IsWriter h h' id → Inserts h h' id row x
+    → IsReader h horizon s own → ¬ Contains own x → FindsTheSame h h' s own
+
+abbrev pub UpdatingIsUnseen : Type 0
+UpdatingIsUnseen = (h h' : HeapView) (horizon : ℕ) (id : Option Xid) (place : Tid) (t : Version) (row : Row) (x : ℕ) (s : Snap) (own : List ℕ) → SoundTable h horizon → IsWriter h h' id
+    → MayTake h id place t → Updates h h' id place row horizon x → IsReader h horizon s own → ¬ Contains own x → FindsTheSame h h' s own
+
+abbrev pub DeletingIsUnseen : Type 0
+DeletingIsUnseen = (h h' : HeapView) (horizon : ℕ) (id : Option Xid) (place : Tid) (t : Version) (x : ℕ) (s : Snap) (own : List ℕ) → IsWriter h h' id
+    → MayTake h id place t → Deletes h h' id place x → IsReader h horizon s own → ¬ Contains own x → FindsTheSame h h' s own
+
+-- Who writes finds what it has written.
+
+-- the reader writes under the id, if one was given, and x is one of its ids then
+pub record IsAuthor (h : HeapView) (horizon : ℕ) (id : Option Xid) (x : ℕ) (s : Snap) (own own' : List ℕ) : Type 0 where
+  pub reader : IsReader h horizon s own
+  pub mine : (y : Xid) → id ≡ Some y → Contains own y.0
+  pub ids : (y : ℕ) → Contains own' y ↔ (Contains own y ⊎ (y ≡ x))
+  -- each deleter on a page is an id that was given
+  pub given : (p : Tid) (t : Version) → version_in (slots_of h) p ≡ Some t → t.header.xmax.0 ≢ 0 → IsGiven h.table t.header.xmax.0
+
+-- the same is found at each place, and this row at one more
+pub record FindsOneMore (before after : Tid → Row → Type 0) (row : Row) : Type 0 where
+  pub place : Tid
+  pub fresh : (r : Row) → ¬ before place r
+  pub each : (p : Tid) (r : Row) → after p r ↔ (before p r ⊎ ((p ≡ place) × (r ≡ row)))
+
+-- what is found elsewhere than at this place
+abbrev pub Elsewhere : Tid → (Tid → Row → Type 0) → Tid → Row → Type 0
+Elsewhere place finds p row = finds p row × (p ≢ place)
+
+abbrev pub InsertIsFound : Type 0
+InsertIsFound = (h h' : HeapView) (horizon : ℕ) (id : Option Xid) (row : Row) (x : ℕ) (s : Snap) (own own' : List ℕ) → SoundTable h horizon → IsWriter h h' id
+    → Inserts h h' id row x → IsAuthor h horizon id x s own own' → FindsOneMore (Finds h s own) (Finds h' s own') row
+
+-- the old row goes, and the new one comes
+abbrev pub UpdateIsFound : Type 0
+UpdateIsFound = (h h' : HeapView) (horizon : ℕ) (id : Option Xid) (place : Tid) (t : Version) (row : Row) (x : ℕ) (s : Snap) (own own' : List ℕ) → SoundTable h horizon → IsWriter h h' id
+    → MayTake h id place t → Updates h h' id place row horizon x → IsAuthor h horizon id x s own own'
+    → FindsOneMore (Elsewhere place (Finds h s own)) (Finds h' s own') row
+
+abbrev pub DeleteIsFound : Type 0
+DeleteIsFound = (h h' : HeapView) (horizon : ℕ) (id : Option Xid) (place : Tid) (t : Version) (x : ℕ) (s : Snap) (own own' : List ℕ) → SoundTable h horizon → IsWriter h h' id
+    → MayTake h id place t → Deletes h h' id place x → IsAuthor h horizon id x s own own'
+    → (p : Tid) (r : Row) → Finds h' s own' p r ↔ Elsewhere place (Finds h s own) p r
