@@ -5,9 +5,8 @@ use Rattle.std.specs.List.{AllByRecursion}
 use Rattle.std.proofs.lemmas.List.{append-nil, length-take-le}
 use Rattle.std.proofs.lemmas.Grind.{flat_map-append}
 use Rattle.std.specs.Io.KnownBytes.{Appends}
-use Rattle.script.specs.Engine.{World, State, Step, Reply, Entry, Allows, next, IsRun, Agrees}
+use Rattle.script.specs.Engine.{World, State, Allows, next, IsRun, Agrees}
 use Rattle.script.specs.Grammar.{IsAllowed, Fits, spelling, with_feed}
-use Rattle.script.specs.Answers.{Shown}
 use Rattle.script.specs.Pieces.{Takes, Gives, HasNoLine}
 use Rattle.script.specs.Script.{Event, did, showed_ids, showed_page, showed_entries, line_of, answer_of, steps_of, replies_of, lines_of, answers_of, IsBadLine, Begins, IsRefused, IsCaused}
 use Rattle.script.specs.Steps.{Moves, Ends, Advance, Uses, Does}

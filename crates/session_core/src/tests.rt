@@ -1,6 +1,6 @@
 //! Sessions on one table, each reply reckoned by hand.
 
-use crate::{Engine, Refusal, Reply, RowIn, RunFault, Settings, SettingsFault, Step, run};
+use crate::{Engine, Refusal, Reply, RowIn, RunFault, Settings, SettingsFault, Step, run, views_by_index};
 use page_slots::{Page, Slot};
 use root_index::RootIndex;
 use std::alloc::Global;
@@ -208,6 +208,7 @@ fn the_index_leads_to_roots(rt: HostRuntime) -> Result<(), Fail> {
     ] {
         assert!(rt; matches!(engine.step(step), Reply::Done));
     }
+    views_by_index();
     // the update stays in the chain, and makes no entry
     assert_eq!(rt; engine.index(0).map(RootIndex::len), Some(1));
     assert_eq!(rt; engine.page(0).map(Page::slots), Some(2));

@@ -8,8 +8,6 @@
 
 mod laws;
 mod readers;
-#[cfg(test)]
-mod tests;
 
 pub use laws::{
     aborting_stays_sound, committing_stays_sound, deleting_stays_sound, failing_update_stays_sound,

@@ -1,7 +1,7 @@
 use Rattle.std.proofs.Common.{◌≡◌, sym, None, ◌∙◌, ap, rules, refl}
 use Rattle.std.specs.Option.{option_map}
 use Rattle.std.proofs.lemmas.Option.{none-some}
-use Rattle.script.specs.Engine.{IndexView, index_at}
+use Rattle.script.specs.Engine.{index_at}
 use Rattle.script.specs.Script.{did, showed_ids, showed_page, showed_entries}
 use Rattle.script.specs.declared.line.Line.TheVariants.{Do, Ids, Page, Entries}
 use Rattle.script.specs.Reading.{line_at}
