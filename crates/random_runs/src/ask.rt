@@ -1,0 +1,116 @@
+//! What is asked of both programs.
+
+ghost use Rattle.std.specs.Prelude.{◌≡◌, ◌<◌, ◌≤◌, ◌+◌, ◌↔◌, IsTrue, length};
+ghost use Rattle.std.specs.Int.{next_multiple_of};
+
+use arrayvec::ArrayVec;
+use session_core::{RowIn, Step};
+use std::alloc::{AllocError, Global};
+use tuple_header::Row;
+
+/// The bytes of which every body is a part.
+#[derive(Drop)]
+pub(crate) struct Bodies {
+    pub(crate) bytes: Vec<u8>,
+}
+
+impl Bodies {
+    // The bytes from this place on, as many as are asked for, or all that there are.
+    fn part(&self, from: u16, count: u16) -> &[u8]
+        ensures { length result.now ≤ count }
+    {
+        let bytes = self.bytes.as_slice();
+        let start = (from as usize).min(bytes.len());
+        let end = (start + count as usize).min(bytes.len());
+        &bytes[start..end]
+    }
+}
+
+/// A row to be written, whose body is so many bytes from a place on.
+#[derive(Clone, Copy, Debug)]
+pub(crate) struct Written {
+    pub(crate) key: u64,
+    pub(crate) cols: [i64; 4],
+    pub(crate) from: u16,
+    pub(crate) length: u16,
+}
+
+impl Written {
+    fn row_in(self, alloc: Global, bodies: &Bodies) -> Result<RowIn, AllocError> {
+        Ok(RowIn {
+            key: self.key,
+            cols: self.cols,
+            body: Vec::from_slice(alloc, bodies.part(self.from, self.length))?,
+        })
+    }
+
+    /// The row of the table. A body of more than 1024 bytes is left out.
+    pub(crate) fn row(self, bodies: &Bodies) -> Row {
+        let cols = self.cols;
+        let mut body = ArrayVec::new();
+        let _ = body.try_extend_from_slice(bodies.part(self.from, self.length));
+        Row {
+            key: self.key,
+            cols,
+            body,
+        }
+    }
+
+    pub(crate) fn is_too_large(self) -> bool
+        ensures { IsTrue result ↔ (1024 < self.length) }
+    {
+        self.length > 1024
+    }
+
+    /// How many bytes a version of the row takes on a page: 66 and its body, rounded up to a multiple of 8.
+    pub(crate) fn size(self) -> usize
+        ensures { result ≡ next_multiple_of (66 + self.length) 8 }
+    {
+        (66 + self.length as usize).next_multiple_of(8)
+    }
+}
+
+/// A step. The first number is that of the session, or of the page to be pruned.
+#[derive(Clone, Copy, Debug)]
+pub(crate) enum Ask {
+    Begin(u8),
+    Get(u8, u64),
+    Insert(u8, Written),
+    Update(u8, Written),
+    Delete(u8, u64),
+    Commit(u8),
+    Abort(u8),
+    Prune(u32),
+}
+
+impl Ask {
+    /// The step of the engine.
+    pub(crate) fn step(self, alloc: Global, bodies: &Bodies) -> Result<Step, AllocError> {
+        Ok(match self {
+            Ask::Begin(s) => Step::Begin(s),
+            Ask::Get(s, key) => Step::Get(s, key),
+            Ask::Insert(s, written) => Step::Insert(s, written.row_in(alloc, bodies)?),
+            Ask::Update(s, written) => Step::Update(s, written.row_in(alloc, bodies)?),
+            Ask::Delete(s, key) => Step::Delete(s, key),
+            Ask::Commit(s) => Step::Commit(s),
+            Ask::Abort(s) => Step::Abort(s),
+            Ask::Prune(page) => Step::Prune(page),
+        })
+    }
+
+    /// The session that would write, if it is a write.
+    pub(crate) fn writer(self) -> Option<u8> {
+        match self {
+            Ask::Insert(s, _) | Ask::Update(s, _) | Ask::Delete(s, _) => Some(s),
+            _ => None,
+        }
+    }
+
+    /// The row that would be written, if it is a write of one.
+    pub(crate) fn written(self) -> Option<Written> {
+        match self {
+            Ask::Insert(_, written) | Ask::Update(_, written) => Some(written),
+            _ => None,
+        }
+    }
+}

@@ -1,0 +1,57 @@
+//! When two replies are the same.
+
+ghost use Rattle.std.specs.Prelude.{◌≡◌, ◌↔◌, IsTrue};
+
+use session_core::{Refusal, Reply, Row};
+
+/// Whether both refusals have one name, and Busy one session.
+pub(crate) fn same_refusal(given: Refusal, expected: Refusal) -> bool
+    ensures { IsTrue result ↔ (given ≡ expected) }
+{
+    given == expected
+}
+
+fn same_columns(a: &[i64; 4], b: &[i64; 4]) -> bool
+    ensures { IsTrue result ↔ (a.now ≡ b.now) }
+{
+    *a == *b
+}
+
+fn same_body(a: &[u8], b: &[u8]) -> bool
+    ensures { IsTrue result ↔ (a.now ≡ b.now) }
+{
+    a == b
+}
+
+fn same_row(a: &Row, b: &Row) -> bool
+    ensures { IsTrue result ↔ (a.now ≡ b.now) }
+{
+    a.key == b.key
+        && same_columns(&a.cols, &b.cols)
+        && same_body(a.body.as_slice(), b.body.as_slice())
+}
+
+/// Whether both are the same row, or both none.
+pub(crate) fn same_found(a: &Option<Row>, b: &Option<Row>) -> bool
+    ensures { IsTrue result ↔ (a.now ≡ b.now) }
+{
+    match (a, b) {
+        (Some(a), Some(b)) => same_row(a, b),
+        (None, None) => true,
+        _ => false,
+    }
+}
+
+/// Whether both replies are the same, rows and all.
+pub(crate) fn same_reply(a: &Reply, b: &Reply) -> bool
+    ensures { IsTrue result ↔ (a.now ≡ b.now) }
+{
+    match (a, b) {
+        (Reply::Done, Reply::Done) => true,
+        (Reply::Found(a), Reply::Found(b)) => same_found(a, b),
+        (Reply::Committed, Reply::Committed) => true,
+        (Reply::RolledBack, Reply::RolledBack) => true,
+        (Reply::Refused(a), Reply::Refused(b)) => same_refusal(*a, *b),
+        _ => false,
+    }
+}

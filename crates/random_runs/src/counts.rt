@@ -1,0 +1,147 @@
+//! How often each kind of reply came, and each kind of slot.
+
+ghost use Rattle.std.specs.Prelude.{◌<◌, IfSome};
+
+use page_slots::{Page, Slot};
+use session_core::{Refusal, Reply};
+use std::io;
+use tuple_header::Tuple;
+
+/// How many kinds there are.
+pub(crate) const KINDS: usize = 22;
+
+const NAMES: [&str; KINDS] = [
+    "Done",
+    "Found, a row",
+    "Found, none",
+    "Committed",
+    "RolledBack",
+    "NotOpen",
+    "AlreadyOpen",
+    "Failed",
+    "AlreadyThere",
+    "NotThere",
+    "Conflict",
+    "Busy",
+    "TooLarge",
+    "NoRoom",
+    "NeedsFreeze",
+    "NoSuchPage",
+    "NoSuchSession",
+    "unused slots at the end",
+    "redirects",
+    "dead slots",
+    "heap-only versions",
+    "versions whose successor is on another page",
+];
+
+/// Counts of all kinds.
+#[derive(Drop)]
+pub(crate) struct Counts {
+    counts: [u64; KINDS],
+}
+
+fn place_of_refusal(refusal: Refusal) -> Option<usize>
+    ensures { IfSome result (λ place. place < 22) }
+{
+    match refusal {
+        Refusal::NotOpen => Some(5),
+        Refusal::AlreadyOpen => Some(6),
+        Refusal::Failed => Some(7),
+        Refusal::AlreadyThere => Some(8),
+        Refusal::NotThere => Some(9),
+        Refusal::Conflict => Some(10),
+        Refusal::Busy(_) => Some(11),
+        Refusal::TooLarge => Some(12),
+        Refusal::NoRoom => Some(13),
+        Refusal::NeedsFreeze => Some(14),
+        Refusal::NoSuchPage => Some(15),
+        Refusal::NoSuchSession => Some(16),
+        Refusal::NoMemory => None,
+    }
+}
+
+fn place_of_reply(reply: &Reply) -> Option<usize>
+    ensures { IfSome result (λ place. place < 22) }
+{
+    match reply {
+        Reply::Done => Some(0),
+        Reply::Found(Some(_)) => Some(1),
+        Reply::Found(None) => Some(2),
+        Reply::Committed => Some(3),
+        Reply::RolledBack => Some(4),
+        Reply::Refused(refusal) => place_of_refusal(*refusal),
+    }
+}
+
+fn place_of_version(version: &Tuple, page: u32) -> Option<usize>
+    ensures { IfSome result (λ place. place < 22) }
+{
+    if version.header.ctid.page != page {
+        Some(21)
+    } else if version.header.is_heap_only() {
+        Some(20)
+    } else {
+        None
+    }
+}
+
+fn place_of_slot(slot: &Slot, page: u32) -> Option<usize>
+    ensures { IfSome result (λ place. place < 22) }
+{
+    match slot {
+        Slot::Unused => Some(17),
+        Slot::Redirect(_) => Some(18),
+        Slot::Dead => Some(19),
+        Slot::Normal(version) => place_of_version(version, page),
+    }
+}
+
+impl Counts {
+    /// Nothing is counted yet.
+    pub(crate) fn new() -> Counts {
+        Counts { counts: [0; KINDS] }
+    }
+
+    fn add(&mut self, place: Option<usize>)
+        requires { IfSome place (λ place. place < 22) }
+    {
+        if let Some(place) = place {
+            self.counts[place] = self.counts[place].saturating_add(1);
+        }
+    }
+
+    /// Counts a reply.
+    pub(crate) fn add_reply(&mut self, reply: &Reply) {
+        self.add(place_of_reply(reply));
+    }
+
+    /// Counts the slots of the page of this number.
+    pub(crate) fn add_page(&mut self, page: &Page, number: u32) {
+        for slot in 1..page.slots() + 1 {
+            if let Some(slot) = page.slot(slot) {
+                self.add(place_of_slot(&slot, number));
+            }
+        }
+    }
+
+    /// The name of a kind that never came, if there is one.
+    pub(crate) fn missing(&self) -> Option<&'static str> {
+        for place in 0..KINDS {
+            if self.counts[place] == 0 {
+                return Some(NAMES[place]);
+            }
+        }
+        None
+    }
+
+    /// Prints each count with its name.
+    pub(crate) fn print(&self, rt: &impl Print) -> io::Result<()> {
+        for place in 0..KINDS {
+            let count = self.counts[place];
+            let name = NAMES[place];
+            println!(rt; "{count} {name}")?;
+        }
+        Ok(())
+    }
+}

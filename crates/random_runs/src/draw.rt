@@ -1,0 +1,122 @@
+//! The steps that are drawn.
+
+ghost use Rattle.std.specs.Prelude.{◌⊎◌, ◌≤◌, Contains};
+
+use crate::ask::{Ask, Bodies, Written};
+use crate::generator::Generator;
+use std::alloc::{AllocError, Global};
+
+/// The keys: few, so that sessions meet.
+pub(crate) const KEYS: [u64; 12] = [
+    0,
+    1,
+    2,
+    3,
+    5,
+    8,
+    13,
+    4_294_967_295,
+    4_294_967_296,
+    9_223_372_036_854_775_808,
+    18_446_744_073_709_551_614,
+    18_446_744_073_709_551_615,
+];
+
+/// How a session stands, and whether it reads a row of the key that it is about to ask for.
+#[derive(Clone, Copy)]
+pub(crate) enum Standing {
+    Closed,
+    Failed,
+    Reads,
+    ReadsNone,
+}
+
+/// Bytes of which bodies are parts.
+pub(crate) fn draw_bodies(alloc: Global, generator: &mut Generator) -> Result<Bodies, AllocError> {
+    let mut bytes = Vec::new(alloc);
+    for _ in 0..4096usize {
+        bytes.push(generator.below(256) as u8)?;
+    }
+    Ok(Bodies { bytes })
+}
+
+/// One of the keys.
+pub(crate) fn draw_key(generator: &mut Generator) -> u64 {
+    KEYS[generator.below(12) as usize]
+}
+
+/// A session of those given, and now and then a number that is none.
+pub(crate) fn draw_session(generator: &mut Generator, sessions: &[u8]) -> u8
+    ensures { Contains sessions.now result ⊎ (64 ≤ result) }
+{
+    if sessions.is_empty() || generator.below(200) == 0 {
+        return 64 + generator.below(192) as u8;
+    }
+    generator.choose(sessions)
+}
+
+fn draw_length(generator: &mut Generator) -> u16 {
+    match generator.below(32) {
+        0..=7 => 0,
+        8..=16 => 1024,
+        17 => 1025,
+        18 => 1016 + generator.below(9) as u16,
+        _ => generator.below(400) as u16,
+    }
+}
+
+fn draw_row(generator: &mut Generator, key: u64) -> Written {
+    Written {
+        key,
+        cols: [
+            generator.number().cast_signed(),
+            generator.number().cast_signed(),
+            generator.number().cast_signed(),
+            generator.number().cast_signed(),
+        ],
+        from: generator.below(3000) as u16,
+        length: draw_length(generator),
+    }
+}
+
+// A write of the key. One in eight asks for what the session doesn't read: a row, or none.
+fn draw_write(generator: &mut Generator, s: u8, key: u64, reads: bool) -> Ask {
+    let has_row = reads != (generator.below(8) == 0);
+    if !has_row {
+        Ask::Insert(s, draw_row(generator, key))
+    } else if generator.below(4) == 0 {
+        Ask::Delete(s, key)
+    } else {
+        Ask::Update(s, draw_row(generator, key))
+    }
+}
+
+// Any step, but a beginning seldom.
+fn draw_any(generator: &mut Generator, s: u8, key: u64, reads: bool, pages: u32) -> Ask {
+    match generator.below(100) {
+        0..=14 => Ask::Get(s, key),
+        15..=80 => draw_write(generator, s, key, reads),
+        81..=87 => Ask::Commit(s),
+        88..=90 => Ask::Abort(s),
+        91 => Ask::Begin(s),
+        _ => Ask::Prune(generator.below(pages.saturating_add(1))),
+    }
+}
+
+/// A step of the session, or the pruning of a page. A closed session mostly begins, and one that has failed is often ended.
+pub(crate) fn draw_step(
+    generator: &mut Generator,
+    s: u8,
+    key: u64,
+    standing: Standing,
+    pages: u32,
+) -> Ask {
+    let choice = generator.below(8);
+    match standing {
+        Standing::Closed if choice < 7 => Ask::Begin(s),
+        Standing::Failed if choice < 2 => Ask::Commit(s),
+        Standing::Failed if choice < 5 => Ask::Abort(s),
+        Standing::Reads => draw_any(generator, s, key, true, pages),
+        _ => draw_any(generator, s, key, false, pages),
+    }
+}

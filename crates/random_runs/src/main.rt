@@ -1,0 +1,57 @@
+//! Runs the engine beside the plain program of the history on random steps, and compares every reply.
+//!
+//! That the history allows each reply of the engine is proved (`session_core`). This program asks the compiled engine and
+//! the plain program, whose contracts are the definitions of the history, the same, and compares what they answer. What the
+//! history leaves to an engine is compared with the engine's pages and ids. At the first difference it says where it is and
+//! ends with status 1, as it does where a kind of reply never came.
+#![tactic(auto)]
+
+mod ask;
+mod compare;
+mod counts;
+mod draw;
+mod generator;
+mod pair;
+mod plain_side;
+mod run;
+
+use counts::Counts;
+use draw::draw_bodies;
+use generator::Generator;
+use run::{RUNS, do_run, steps_of};
+use std::alloc::Global;
+use std::io;
+use std::process::ExitCode;
+
+// Whether each kind came.
+fn report(rt: &impl Print, counts: &Counts, steps: u64) -> io::Result<bool> {
+    println!(rt; "{steps} steps, each reply as the history has it")?;
+    counts.print(rt)?;
+    if let Some(name) = counts.missing() {
+        println!(rt; "never: {name}")?;
+        return Ok(false);
+    }
+    Ok(true)
+}
+
+// Whether each reply was as the history has it, and each kind came.
+fn do_all_runs(rt: &impl Print, alloc: Global) -> io::Result<bool> {
+    let bodies = draw_bodies(alloc, &mut Generator::new(RUNS))?;
+    let mut counts = Counts::new();
+    let mut steps: u64 = 0;
+    for run in 0..RUNS {
+        if let Err(failure) = do_run(alloc, &bodies, run, &mut counts) {
+            println!(rt; "run {run}: {failure:?}")?;
+            return Ok(false);
+        }
+        steps = steps.saturating_add(steps_of(run));
+    }
+    report(rt, &counts, steps)
+}
+
+fn main(rt: HostRuntime) -> ExitCode {
+    match do_all_runs(&rt, rt.alloc()) {
+        Ok(true) => ExitCode::SUCCESS,
+        _ => ExitCode::from(1),
+    }
+}

@@ -1,0 +1,277 @@
+//! The engine and the plain program side by side.
+
+ghost use Rattle.std.specs.Prelude.{◌≤◌, ◌↔◌, IsTrue};
+ghost use Rattle.std.specs.Prelude.{option_copied};
+ghost use Rattle.random_runs.specs.Rooms.{IsFull, AreFull};
+ghost use Rattle.xid_circle.specs.Circle.{IsNormal, distance_of};
+
+use crate::ask::{Ask, Bodies};
+use crate::compare::{same_found, same_reply};
+use crate::draw::{KEYS, Standing};
+use crate::plain_side::{answer, answer_and_undo, answer_to_too_large, refusal_of};
+use page_slots::Page;
+use plain_history::{PlainHistory, Refused};
+use session_core::{Engine, Refusal, Reply, Settings};
+use std::alloc::Global;
+use xid_circle::{Xid, distance, next};
+
+/// What differed.
+#[derive(Debug, Drop)]
+pub(crate) enum Difference {
+    /// The engine's reply, and the one that it has to give, if there is one.
+    Reply(Reply, Option<Reply>),
+    /// The engine's next id and the oldest remembered, and those that they have to be.
+    Ids((Xid, Xid), (Xid, Xid)),
+    /// What this session reads of this key.
+    View(u8, u64),
+    /// There was no memory to make the comparison.
+    NoMemory,
+}
+
+/// An engine, and the plain program that is asked the same.
+#[derive(Drop)]
+pub(crate) struct Pair {
+    engine: Engine,
+    plain: PlainHistory,
+    settings: Settings,
+    // Whether the session, if it is open, has been given an id.
+    has_id: [bool; 256],
+}
+
+// What was so before a step.
+#[derive(Clone, Copy)]
+struct Before {
+    ids: (Xid, Xid),
+    needs_freeze: bool,
+    has_page: bool,
+}
+
+// Whether from first to next is as far as ids may go.
+fn is_at_stop(first: Xid, next: Xid, stop_age: u32) -> bool
+    ensures { IsTrue result ↔ IsNormal first.0 × IsNormal next.0 × (stop_age ≤ distance_of first.0 next.0) }
+{
+    first.is_normal() && next.is_normal() && distance(first, next) >= stop_age
+}
+
+// The id after it, where it is one.
+fn after(x: Xid) -> Xid {
+    if x.is_normal() { next(x) } else { x }
+}
+
+// Whether the page is in use, and a version of this size does not fit.
+fn is_full_page(page: Option<&Page>, size: usize) -> bool
+    ensures { IsTrue result ↔ IsFull (option_copied page.entry) size }
+{
+    match page {
+        Some(page) => page.room() < size,
+        None => false,
+    }
+}
+
+fn is_done(reply: &Reply) -> bool {
+    matches!(reply, Reply::Done)
+}
+
+impl Pair {
+    /// Both new, with no rows.
+    pub(crate) fn new(alloc: Global, settings: Settings) -> Result<Pair, Difference> {
+        let Ok(engine) = Engine::new(alloc, settings) else {
+            return Err(Difference::NoMemory);
+        };
+        let Ok(plain) = PlainHistory::new(alloc) else {
+            return Err(Difference::NoMemory);
+        };
+        Ok(Pair {
+            engine,
+            plain,
+            settings,
+            has_id: [false; 256],
+        })
+    }
+
+    /// The engine's page of this number, if it is in use.
+    pub(crate) fn page(&self, number: u32) -> Option<&Page> {
+        self.engine.page(number)
+    }
+
+    /// How the session stands, and whether it reads a row of the key.
+    pub(crate) fn standing(&mut self, s: u8, key: u64) -> Standing {
+        match self.plain.get(s, key) {
+            Ok(Some(_)) => Standing::Reads,
+            Ok(None) => Standing::ReadsNone,
+            Err(Refused::Failed) => Standing::Failed,
+            Err(_) => Standing::Closed,
+        }
+    }
+
+    // Whether the step would need an id, and none may be given.
+    fn needs_freeze(&self, ask: Ask) -> bool {
+        let (next, first) = self.engine.ids();
+        match ask.writer() {
+            Some(s) => {
+                !self.has_id[s as usize] && is_at_stop(first, next, self.settings.stop_age)
+            }
+            None => false,
+        }
+    }
+
+    fn before(&self, ask: Ask) -> Before {
+        Before {
+            ids: self.engine.ids(),
+            needs_freeze: self.needs_freeze(ask),
+            has_page: match ask {
+                Ask::Prune(page) => self.engine.page(page).is_some(),
+                _ => false,
+            },
+        }
+    }
+
+    // Whether a version of this size fits on no page, and there may be no further page.
+    fn is_full(&self, size: usize) -> bool
+        ensures { IsTrue result ↔ AreFull self.now.engine.heap.pages.pages self.now.settings.max_pages size }
+    {
+        for number in 0..self.settings.max_pages {
+            if !is_full_page(self.engine.page(number), size) {
+                return false;
+            }
+        }
+        true
+    }
+
+    // Whether the reply is that there is no room, and there is none.
+    fn is_without_room(&self, ask: Ask, reply: &Reply) -> bool {
+        match (reply, ask.written()) {
+            (Reply::Refused(Refusal::NoRoom), Some(written)) => self.is_full(written.size()),
+            _ => false,
+        }
+    }
+
+    // What the engine has to reply to a write, where it has replied this: which write finds no room is left to it.
+    fn expected_of_write(
+        &mut self,
+        bodies: &Bodies,
+        s: u8,
+        ask: Ask,
+        before: Before,
+        reply: &Reply,
+    ) -> Option<Reply> {
+        if let Some(written) = ask.written() {
+            if written.is_too_large() {
+                return answer_to_too_large(&mut self.plain, s);
+            }
+        }
+        let lack = if before.needs_freeze {
+            Refusal::NeedsFreeze
+        } else if self.is_without_room(ask, reply) {
+            Refusal::NoRoom
+        } else {
+            return answer(&mut self.plain, bodies, ask);
+        };
+        match answer_and_undo(&mut self.plain, bodies, s, ask) {
+            Some(Reply::Done) => Some(Reply::Refused(lack)),
+            other => other,
+        }
+    }
+
+    // What the engine has to reply, where it has replied this.
+    fn expected(
+        &mut self,
+        bodies: &Bodies,
+        ask: Ask,
+        before: Before,
+        reply: &Reply,
+    ) -> Option<Reply> {
+        if let Some(s) = ask.writer() {
+            return self.expected_of_write(bodies, s, ask, before, reply);
+        }
+        match ask {
+            Ask::Prune(_) => {
+                if before.has_page {
+                    Some(Reply::Done)
+                } else {
+                    Some(Reply::Refused(Refusal::NoSuchPage))
+                }
+            }
+            _ => answer(&mut self.plain, bodies, ask),
+        }
+    }
+
+    // The ids that there have to be. A write that is done gives its session an id where it has none, and no other step
+    // changes them.
+    fn expected_ids(&mut self, ask: Ask, before: Before, reply: &Reply) -> (Xid, Xid) {
+        if !is_done(reply) {
+            return before.ids;
+        }
+        if let Ask::Begin(s) = ask {
+            self.has_id[s as usize] = false;
+        }
+        if let Some(s) = ask.writer() {
+            if !self.has_id[s as usize] {
+                self.has_id[s as usize] = true;
+                return (after(before.ids.0), before.ids.1);
+            }
+        }
+        before.ids
+    }
+
+    /// Does the step on both sides, and gives the reply, where it is as it has to be.
+    pub(crate) fn step(
+        &mut self,
+        alloc: Global,
+        bodies: &Bodies,
+        ask: Ask,
+    ) -> Result<Reply, Difference> {
+        let before = self.before(ask);
+        let Ok(step) = ask.step(alloc, bodies) else {
+            return Err(Difference::NoMemory);
+        };
+        let reply = self.engine.step(step);
+        if let (Reply::Refused(Refusal::Conflict), Some(s)) = (&reply, ask.writer()) {
+            // The engine's session has failed, and reads on. That of the plain program has not yet.
+            self.compare_views(&[s])?;
+        }
+        let Some(expected) = self.expected(bodies, ask, before, &reply) else {
+            return Err(Difference::Reply(reply, None));
+        };
+        if !same_reply(&reply, &expected) {
+            return Err(Difference::Reply(reply, Some(expected)));
+        }
+        let ids = self.engine.ids();
+        let expected_ids = self.expected_ids(ask, before, &reply);
+        if ids != expected_ids {
+            return Err(Difference::Ids(ids, expected_ids));
+        }
+        Ok(reply)
+    }
+
+    // Whether the session reads the same on both sides. The plain program has no call that reads in a failed session.
+    fn reads_alike(&mut self, s: u8, key: u64) -> bool {
+        let read = self.engine.read(s, key);
+        let expected = self.plain.get(s, key);
+        match (&read, &expected) {
+            (Ok(row), Ok(expected)) => same_found(row, expected),
+            (Ok(_), Err(Refused::Failed)) => true,
+            (Err(refusal), Err(why)) => refusal_of(*why) == Some(*refusal),
+            _ => false,
+        }
+    }
+
+    fn differing_key(&mut self, s: u8) -> Option<u64> {
+        for key in KEYS {
+            if !self.reads_alike(s, key) {
+                return Some(key);
+            }
+        }
+        None
+    }
+
+    /// Compares what each of the sessions reads of each key.
+    pub(crate) fn compare_views(&mut self, sessions: &[u8]) -> Result<(), Difference> {
+        for s in sessions {
+            if let Some(key) = self.differing_key(*s) {
+                return Err(Difference::View(*s, key));
+            }
+        }
+        Ok(())
+    }
+}

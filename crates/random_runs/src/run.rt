@@ -1,0 +1,120 @@
+//! Runs of steps on a new engine.
+
+use crate::ask::{Ask, Bodies};
+use crate::counts::Counts;
+use crate::draw::{draw_key, draw_session, draw_step};
+use crate::generator::Generator;
+use crate::pair::{Difference, Pair};
+use session_core::Settings;
+use std::alloc::Global;
+
+/// How many runs there are.
+pub(crate) const RUNS: u64 = 2600;
+
+// A few sessions, also the last ones. Of more than eight writers a snapshot asks for memory.
+const SESSIONS: [u8; 12] = [0, 63, 1, 2, 3, 62, 4, 5, 6, 31, 32, 33];
+
+// The ids end in the runs of the second: the next one after them is 3.
+const FIRST_IDS: [u32; 4] = [3, 4_294_967_290, 2_147_483_640, 1000];
+
+/// Where a run ended early: the number of the step, the step, and what differed.
+#[derive(Debug, Drop)]
+pub(crate) struct Failure {
+    pub(crate) step: u64,
+    pub(crate) ask: Option<Ask>,
+    pub(crate) difference: Difference,
+}
+
+fn settings_of(run: u64) -> Settings {
+    Settings {
+        max_pages: 1 + (run % 4) as u32,
+        stop_age: match run % 7 {
+            5 => 10,
+            6 => 25,
+            _ => 1_000_000,
+        },
+        freeze_min_age: 0,
+        first_xid: FIRST_IDS[(run / 4 % 4) as usize],
+        dead_limit: 64,
+        indexed: [false; 4],
+    }
+}
+
+fn sessions_of(run: u64) -> &'static [u8] {
+    match run / 16 % 5 {
+        0 => &SESSIONS[..2],
+        1 => &SESSIONS[..3],
+        2 => &SESSIONS[..5],
+        3 => &SESSIONS[..8],
+        _ => &SESSIONS,
+    }
+}
+
+/// How many steps the run has: 200 to 600.
+pub(crate) fn steps_of(run: u64) -> u64 {
+    200 + run % 5 * 100
+}
+
+fn compare_views(pair: &mut Pair, sessions: &[u8], step: u64) -> Result<(), Failure> {
+    match pair.compare_views(sessions) {
+        Ok(()) => Ok(()),
+        Err(difference) => Err(Failure {
+            step,
+            ask: None,
+            difference,
+        }),
+    }
+}
+
+fn count_pages(pair: &Pair, pages: u32, counts: &mut Counts) {
+    for number in 0..pages {
+        if let Some(page) = pair.page(number) {
+            counts.add_page(page, number);
+        }
+    }
+}
+
+fn new_pair(alloc: Global, settings: Settings) -> Result<Pair, Failure> {
+    match Pair::new(alloc, settings) {
+        Ok(pair) => Ok(pair),
+        Err(difference) => Err(Failure {
+            step: 0,
+            ask: None,
+            difference,
+        }),
+    }
+}
+
+/// Does the steps of the run, and compares each reply, and every 50 steps what all sessions read.
+pub(crate) fn do_run(
+    alloc: Global,
+    bodies: &Bodies,
+    run: u64,
+    counts: &mut Counts,
+) -> Result<(), Failure> {
+    let settings = settings_of(run);
+    let sessions = sessions_of(run);
+    let mut generator = Generator::new(run);
+    let mut pair = new_pair(alloc, settings)?;
+    for step in 0..steps_of(run) {
+        let s = draw_session(&mut generator, sessions);
+        let key = draw_key(&mut generator);
+        let standing = pair.standing(s, key);
+        let ask = draw_step(&mut generator, s, key, standing, settings.max_pages);
+        match pair.step(alloc, bodies, ask) {
+            Ok(reply) => counts.add_reply(&reply),
+            Err(difference) => {
+                return Err(Failure {
+                    step,
+                    ask: Some(ask),
+                    difference,
+                });
+            }
+        }
+        if step % 50 == 49 {
+            compare_views(&mut pair, sessions, step)?;
+        }
+    }
+    count_pages(&pair, settings.max_pages, counts);
+    Ok(())
+}
