@@ -1,6 +1,8 @@
 //! Sessions on one table, each reply reckoned by hand.
 
-use crate::{Engine, Refusal, Reply, RowIn, RunFault, Settings, SettingsFault, Step, run, views_by_index};
+use crate::{
+    Engine, Refusal, Reply, RowIn, RunFault, Settings, SettingsFault, Step, run, views_by_index,
+};
 use page_slots::{Page, Slot};
 use root_index::RootIndex;
 use std::alloc::Global;
