@@ -8,6 +8,10 @@ mod changes;
 #[cfg(test)]
 mod cuts;
 #[cfg(test)]
+mod levels;
+#[cfg(test)]
+mod savepoints;
+#[cfg(test)]
 mod steps;
 #[cfg(test)]
 mod table;

@@ -2,7 +2,7 @@
 
 ghost use Rattle.std.specs.Prelude.{◌≡◌};
 
-use crate::changes;
+use crate::{changes, levels};
 use page_slots::{Page, Slot};
 use session_core::{Engine, Refusal, Reply, RowIn, Settings, Step};
 use std::alloc::{AllocError, Global};
@@ -16,6 +16,9 @@ pub enum Ask {
     Insert(u8, u64, usize),
     Update(u8, u64, usize),
     Delete(u8, u64),
+    Savepoint(u8),
+    RollbackTo(u8),
+    Release(u8),
     Commit(u8),
     Abort(u8),
     Prune(u32),
@@ -135,6 +138,9 @@ fn step_of(alloc: Global, ask: Ask) -> Result<Step, AllocError> {
         Ask::Insert(s, key, length) => Step::Insert(s, row_of(alloc, key, length)?),
         Ask::Update(s, key, length) => Step::Update(s, row_of(alloc, key, length)?),
         Ask::Delete(s, key) => Step::Delete(s, key),
+        Ask::Savepoint(s) => Step::Savepoint(s),
+        Ask::RollbackTo(s) => Step::RollbackTo(s),
+        Ask::Release(s) => Step::Release(s),
         Ask::Commit(s) => Step::Commit(s),
         Ask::Abort(s) => Step::Abort(s),
         Ask::Prune(page) => Step::Prune(page),
@@ -158,7 +164,8 @@ fn is_no_memory(reply: &Reply) -> bool {
 
 fn may_grow(ask: Ask) -> bool {
     match ask {
-        Ask::Get(_, _) | Ask::Commit(_) | Ask::Abort(_) => false,
+        Ask::Get(_, _) | Ask::RollbackTo(_) | Ask::Release(_) => false,
+        Ask::Commit(_) | Ask::Abort(_) => false,
         _ => true,
     }
 }
@@ -262,5 +269,50 @@ fn updates_and_deletes(rt: HostRuntime) -> Result<(), Fail> {
     let index = engine.index(0).ok_or("no index")?;
     assert_eq!(rt; index.len(), 8);
     assert!(rt; engine.index(1).is_none());
+    Ok(())
+}
+
+#[test]
+fn savepoints(rt: HostRuntime) -> Result<(), Fail> {
+    let mut engine = new_engine(rt.alloc(), levels::SETTINGS).ok_or("no engine")?;
+    for (ask, answer) in levels::STEPS {
+        let reply = reply_to(rt.alloc(), &mut engine, ask)?;
+        assert!(rt;
+            is(&reply, ask, answer),
+            "{ask:?} answered {reply:?} and not {answer:?}"
+        );
+    }
+    assert_eq!(rt; shown(&engine), (9, 3, Some(10)));
+    let page = engine.page(0).ok_or("no page")?;
+    assert_eq!(rt; page.slots(), 6);
+    assert!(rt;
+        matches!(page.slot(2), Some(Slot::Unused)) && matches!(page.slot(4), Some(Slot::Dead))
+    );
+    // Of 8168 bytes 24 go to slots, and 80, 96 and 72 to versions.
+    assert_eq!(rt; page.room(), 7896);
+    Ok(())
+}
+
+// There may be 32 savepoints, and again as many after one was released.
+#[test]
+fn savepoints_one_above_another(rt: HostRuntime) -> Result<(), Fail> {
+    let mut engine = new_engine(rt.alloc(), levels::SETTINGS).ok_or("no engine")?;
+    let _ = reply_to(rt.alloc(), &mut engine, Ask::Begin(0))?;
+    for count in 0..34u64 {
+        let reply = reply_to(rt.alloc(), &mut engine, Ask::Savepoint(0))?;
+        let answer = if count < 32 {
+            Answer::Done
+        } else {
+            Answer::Refused(Refusal::TooDeep)
+        };
+        assert!(rt; is(&reply, Ask::Savepoint(0), answer), "{count}");
+    }
+    for ask in [Ask::RollbackTo(0), Ask::Release(0), Ask::Savepoint(0)] {
+        let reply = reply_to(rt.alloc(), &mut engine, ask)?;
+        assert!(rt; is(&reply, ask, Answer::Done), "{ask:?}");
+    }
+    let reply = reply_to(rt.alloc(), &mut engine, Ask::Savepoint(0))?;
+    assert!(rt; is(&reply, Ask::Savepoint(0), Answer::Refused(Refusal::TooDeep)));
+    assert_eq!(rt; shown(&engine), (3, 3, None));
     Ok(())
 }

@@ -2,6 +2,7 @@
 
 ghost use Rattle.std.specs.Prelude.{◌≡◌};
 
+use crate::savepoints::SAVEPOINTS;
 use crate::table::{CASES, Case};
 use crate::updates::{CHAINS, PAGES};
 use script::{Watch, run_script};
@@ -73,6 +74,17 @@ fn worked_cases(rt: HostRuntime) -> Result<(), Fail> {
 #[test]
 fn worked_chains(rt: HostRuntime) -> Result<(), Fail> {
     for case in &CHAINS {
+        let name = case.name;
+        let ended = run_case(rt.alloc(), case)?;
+        assert_eq!(rt; ended.answers.as_slice(), case.answers, "{name}");
+        assert_eq!(rt; ended.status, case.status, "{name}");
+    }
+    Ok(())
+}
+
+#[test]
+fn worked_savepoints(rt: HostRuntime) -> Result<(), Fail> {
+    for case in &SAVEPOINTS {
         let name = case.name;
         let ended = run_case(rt.alloc(), case)?;
         assert_eq!(rt; ended.answers.as_slice(), case.answers, "{name}");

@@ -1,31 +1,174 @@
--- Ids, where the table of them has grown.
-use Rattle.std.proofs.Common.{◌≡◌, ℕ, [], ◌∷◌, ◌++◌, Option, Some, None, sym, ap, subst, refl, ◌∙◌}
-use Rattle.xid_circle.specs.declared.Xid.{Xid}
-use Rattle.commit_status.specs.Window.{Window, next_id}
-use Rattle.commit_status.specs.Changes.{begun}
+-- The ids of a write: where there is more memory for them, and while they are given.
+use Rattle.std.proofs.Common.{◌≡◌, ◌≢◌, ℕ, suc, ◌+◌, ◌-◌, ◌<◌, ◌≤◌, inl, inr, List, [], ◌∷◌, ◌++◌, length, Option, Some, None, sym, ap, subst, refl, ◌∙◌, arith, append_assoc}
+use Rattle.std.proofs.lemmas.Bool.{cases_lt}
+use Rattle.std.proofs.lemmas.List.{append-nil}
+use Rattle.xid_circle.specs.Circle.{distance_of, given}
+use Rattle.commit_status.specs.Window.{Window, IsWindow, IsGiven, next_id, place_in}
+use Rattle.commit_status.specs.Changes.{begun, Gives, CanGive}
+use Rattle.commit_status.proofs.Giving.{gives-length, gives-place_next}
+use Rattle.commit_status.proofs.Places.{is-from_some}
+use Rattle.snapshot.specs.Own.{Own, lacks, newest_id, saved_with, saved_with_each, AreFronts}
+use Rattle.snapshot.proofs.Levels.{newest-push, lacks-newest, lacks-added, fronts-added}
 use Rattle.heap_write.specs.Heap.{SameIds}
-use Rattle.heap_write.specs.Writes.{NeedsFreeze, TakesId}
-use Rattle.heap_write.specs.Growth.{GrowsIds}
+use Rattle.heap_write.specs.Writes.{NeedsFreeze, GivesUnder, TakesIds, SameOwn}
+use Rattle.heap_write.specs.Growth.{HasIds}
+use Rattle.prune.proofs.Links.{same_some}
+
+-- More memory.
 
 pub same-ids : (w : Window) → SameIds w w
 same-ids w = record { first = refl; stop_age = refl; entries = refl }
 
-pub grows-same : (w v : Window) (id : Option Xid) → GrowsIds w v id → SameIds w v
-grows-same w v None same = same
-grows-same w v (Some x) is = subst (λ u. SameIds w u) (sym is) (same-ids w)
-
 same-next : (w v : Window) → SameIds w v → next_id v ≡ next_id w
 same-next w v same = rw (same.first, same.entries) refl
 
-free-same : (w v : Window) (id : Option Xid) → SameIds w v → NeedsFreeze v id → NeedsFreeze w id
-free-same w v id same h = (h.0, rw (sym same.first, sym same.stop_age, sym same.entries) h.1)
+given-same : (w v : Window) (x : ℕ) → SameIds w v → IsGiven w x → IsGiven v x
+given-same w v x same is = rw (same.first, same.entries) is
 
-pub free-grown : (w v : Window) (id : Option Xid) → GrowsIds w v id → ¬ NeedsFreeze w id → ¬ NeedsFreeze v id
-free-grown w v id grows free h = free (free-same w v id (grows-same w v id grows) h)
+pub newest-same : (w v : Window) (own grown : Own) → SameIds w v → SameOwn own grown → ((x : ℕ) → newest_id own.ids ≡ Some x → IsGiven w x)
+    → (x : ℕ) → newest_id grown.ids ≡ Some x → IsGiven v x
+newest-same w v own grown same same_own newest x is = given-same w v x same (newest x (ap newest_id (sym same_own.ids) ∙ is))
 
-pub takes-grown : (w v u : Window) (id : Option Xid) (x : ℕ) → GrowsIds w v id → TakesId v u id x → TakesId w u id x
-takes-grown w v u None x same takes = (
-  takes.0 ∙ same-next w v same,
-  record { first = takes.1.first ∙ same.first; stop_age = takes.1.stop_age ∙ same.stop_age; entries = takes.1.entries ∙ ap (λ es. es ++ begun None ∷ []) same.entries },
+pub lacks-same : (own grown : Own) → SameOwn own grown → lacks grown.ids grown.saved ≡ lacks own.ids own.saved
+lacks-same own grown same = rw (same.ids, same.saved) refl
+
+can-same : (w v : Window) (n m : ℕ) → SameIds w v → m ≡ n → CanGive w n → CanGive v m
+can-same w v n m same is can i lt = rw (same.first, same.stop_age, same.entries) (can i (subst (λ k. i < k) is lt))
+
+pub free-grown : (w v : Window) (own grown : Own) → SameIds w v → SameOwn own grown → ¬ NeedsFreeze w own → ¬ NeedsFreeze v grown
+free-grown w v own grown same same_own free needs =
+    free (λ can. needs (can-same w v (lacks own.ids own.saved) (lacks grown.ids grown.saved) same (lacks-same own grown same_own) can))
+
+gives-grown : (w v u : Window) (parent : Option ℕ) (ids : List ℕ) → SameIds w v → (length ids ≡ 0 → v ≡ w) → GivesUnder v parent ids u → GivesUnder w parent ids u
+gives-grown w v u parent [] same none gives = gives ∙ none refl
+gives-grown w v u parent (x ∷ xs) same none (between, is, gives, rest) = (
+  between,
+  is ∙ same-next w v same,
+  record { first = gives.first ∙ same.first; stop_age = gives.stop_age ∙ same.stop_age; entries = gives.entries ∙ ap (λ es. es ++ begun parent ∷ []) same.entries },
+  rest,
 )
-takes-grown w v u (Some y) x is takes = (takes.0, takes.1 ∙ is)
+
+-- what takes the ids after there is more memory takes them from the start
+pub takes-grown : (w v u : Window) (own grown own' : Own) (x : ℕ) → SameIds w v → SameOwn own grown → (lacks own.ids own.saved ≡ 0 → v ≡ w)
+    → TakesIds v u grown own' x → TakesIds w u own own' x
+takes-grown w v u own grown own' x same same_own none takes =
+    let count = takes.count ∙ lacks-same own grown same_own in
+    record {
+      given = takes.given;
+      count = count;
+      gives = gives-grown w v u (newest_id own.ids) takes.given same (λ empty. none (sym count ∙ empty))
+          (subst (λ ids. GivesUnder v (newest_id ids) takes.given u) same_own.ids takes.gives);
+      ids = takes.ids ∙ ap (λ ids. ids ++ takes.given) same_own.ids;
+      saved = takes.saved ∙ ap (λ saved. saved_with_each takes.given saved) same_own.saved;
+      newest = takes.newest;
+    }
+
+-- Giving.
+
+-- What holds while the ids are given, after so many: what takes the rest takes them all.
+pub record Giving (w0 : Window) (own0 : Own) (w : Window) (own : Own) (count : ℕ) : Type 0 where
+  pub more : lacks own.ids own.saved + count ≡ lacks own0.ids own0.saved
+  pub fronts : AreFronts own.ids own.saved
+  pub can : CanGive w (lacks own.ids own.saved)
+  pub room : HasIds w own
+  pub newest : (x : ℕ) → newest_id own.ids ≡ Some x → IsGiven w x
+  pub window : IsWindow w
+  pub whole : (w' : Window) (own' : Own) (x : ℕ) → TakesIds w w' own own' x → TakesIds w0 w' own0 own' x
+
+can-from : (w : Window) (own : Own) → ¬ NeedsFreeze w own → CanGive w (lacks own.ids own.saved)
+can-from w own free i lt =
+    elim (cases_lt (distance_of w.first (given w.first (length w.entries + i))) w.stop_age) [
+      | inl near ↦ near
+      | inr far ↦ absurd (free (λ can. let near = can i lt in let no : 1 ≤ 0 = omega (arith, near, far) in omega (arith, no)))
+    ]
+
+pub giving-start : (w : Window) (own : Own) → ¬ NeedsFreeze w own → HasIds w own → ((x : ℕ) → newest_id own.ids ≡ Some x → IsGiven w x)
+    → IsWindow w → AreFronts own.ids own.saved → Giving w own w own 0
+giving-start w own free room newest window fronts = record {
+  more = omega arith;
+  fronts = fronts;
+  can = can-from w own free;
+  room = room;
+  newest = newest;
+  window = window;
+  whole = λ w' own' x takes. takes;
+}
+
+-- one id was given, to the lowest level that had none
+pub record GivesOne (w v : Window) (own next : Own) (n : ℕ) : Type 0 where
+  pub lacked : lacks own.ids own.saved ≡ suc n
+  pub gives : Gives w v (newest_id own.ids)
+  pub ids : next.ids ≡ own.ids ++ next_id w ∷ []
+  pub saved : next.saved ≡ saved_with n (next_id w) own.saved
+
+newest-one : (w v : Window) (own next : Own) (n : ℕ) → GivesOne w v own next n → newest_id next.ids ≡ Some (next_id w)
+newest-one w v own next n one = ap newest_id one.ids ∙ newest-push own.ids (next_id w)
+
+lacks-one : (w v : Window) (own next : Own) (n : ℕ) → AreFronts own.ids own.saved → GivesOne w v own next n → lacks next.ids next.saved ≡ n
+lacks-one w v own next n fronts one = rw (one.ids, one.saved) (lacks-added own.ids own.saved (next_id w) n fronts one.lacked)
+
+takes-one : (w v u : Window) (own next own' : Own) (n x : ℕ) → AreFronts own.ids own.saved → GivesOne w v own next n → TakesIds v u next own' x → TakesIds w u own own' x
+takes-one w v u own next own' n x fronts one takes =
+    let count : length takes.given ≡ n = takes.count ∙ lacks-one w v own next n fronts one in
+    record {
+      given = next_id w ∷ takes.given;
+      count = ap suc count ∙ sym one.lacked;
+      gives = (v, refl, one.gives, subst (λ parent. GivesUnder v parent takes.given u) (newest-one w v own next n one) takes.gives);
+      ids = takes.ids ∙ ap (λ ids. ids ++ takes.given) one.ids ∙ append_assoc own.ids (next_id w ∷ []) takes.given;
+      saved = takes.saved ∙ ap (λ saved. saved_with_each takes.given saved) (one.saved ∙ ap (λ m. saved_with m (next_id w) own.saved) (sym count));
+      newest = takes.newest;
+    }
+
+can-one : (w v : Window) (own next : Own) (n : ℕ) → GivesOne w v own next n → CanGive w (suc n) → CanGive v n
+can-one w v own next n one can i lt =
+    let at : length v.entries + i ≡ length w.entries + suc i = let long = gives-length w v (newest_id own.ids) one.gives in omega (arith, long) in
+    rw (one.gives.first, one.gives.stop_age, at) (can (suc i) (omega (arith, lt)))
+
+pub giving-one : (w0 : Window) (own0 : Own) (w : Window) (own : Own) (count : ℕ) (v : Window) (next : Own) → Giving w0 own0 w own count → 0 < lacks own.ids own.saved
+    → Gives w v (newest_id own.ids) → next.ids ≡ own.ids ++ next_id w ∷ [] → next.saved ≡ saved_with (lacks own.ids own.saved - 1) (next_id w) own.saved
+    → w.spare ≤ v.spare + 1 → own.spare ≡ next.spare + 1 → IsWindow v → Giving w0 own0 v next (count + 1)
+giving-one w0 own0 w own count v next now lacking gives ids saved spare own_spare window =
+    let n = lacks own.ids own.saved - 1 in
+    let lacked : lacks own.ids own.saved ≡ suc n = omega (arith, lacking) in
+    let one : GivesOne w v own next n = record { lacked = lacked; gives = gives; ids = ids; saved = saved } in
+    let left = lacks-one w v own next n now.fronts one in
+    let more = now.more in
+    let in_table = now.room.in_table in
+    let in_own = now.room.in_own in
+    record {
+      more = omega (arith, left, lacked, more);
+      fronts = rw (ids, saved) (fronts-added own.ids own.saved (next_id w) n now.fronts lacked);
+      can = subst (λ m. CanGive v m) (sym left) (can-one w v own next n one (subst (λ m. CanGive w m) lacked now.can));
+      room = record { in_table = omega (arith, left, lacked, spare, in_table); in_own = omega (arith, left, lacked, own_spare, in_own) };
+      newest = λ x is.
+          let same : next_id w ≡ x = same_some (next_id w) x (sym (newest-one w v own next n one) ∙ is) in
+          subst (λ y. IsGiven v y) same (is-from_some (place_in v.first (length v.entries) (next_id w)) (length w.entries) (gives-place_next w v (newest_id own.ids) window gives));
+      window = window;
+      whole = λ w' own' x takes. now.whole w' own' x (takes-one w v w' own next own' n x now.fronts one takes);
+    }
+
+-- the next id can be given, and there is memory for it
+pub giving-near : (w0 : Window) (own0 : Own) (w : Window) (own : Own) (count : ℕ) → Giving w0 own0 w own count → 0 < lacks own.ids own.saved
+    → distance_of w.first (next_id w) < w.stop_age
+giving-near w0 own0 w own count now lacking =
+    let at : length w.entries + 0 ≡ length w.entries = omega arith in
+    subst (λ i. distance_of w.first (given w.first i) < w.stop_age) at (now.can 0 lacking)
+
+-- all are given
+pub giving-end : (w0 : Window) (own0 : Own) (w : Window) (own : Own) (count x : ℕ) → Giving w0 own0 w own count → lacks own.ids own.saved ≡ 0
+    → newest_id own.ids ≡ Some x → TakesIds w0 w own0 own x
+giving-end w0 own0 w own count x now none newest =
+    now.whole w own x (record { given = []; count = sym none; gives = refl; ids = sym (append-nil own.ids); saved = refl; newest = newest })
+
+-- while there are turns, a level lacks an id; after them none does
+pub giving-lacking : (w0 : Window) (own0 : Own) (w : Window) (own : Own) (count : ℕ) → Giving w0 own0 w own count → count < lacks own0.ids own0.saved → 0 < lacks own.ids own.saved
+giving-lacking w0 own0 w own count now lt = let more = now.more in omega (arith, more, lt)
+
+pub giving-over : (w0 : Window) (own0 : Own) (w : Window) (own : Own) (count : ℕ) → Giving w0 own0 w own count → lacks own0.ids own0.saved ≤ count → lacks own.ids own.saved ≡ 0
+giving-over w0 own0 w own count now le = let more = now.more in omega (arith, more, le)
+
+-- there is a newest id then
+pub giving-newest : (w0 : Window) (own0 : Own) (w : Window) (own : Own) (count : ℕ) → Giving w0 own0 w own count → lacks own0.ids own0.saved ≤ count → None ≢ newest_id own.ids
+giving-newest w0 own0 w own count now le none =
+    let newest = lacks-newest own.ids own.saved now.fronts (giving-over w0 own0 w own count now le) in
+    let e : None ≡ Some newest.0 = none ∙ newest.1 in absurd (cc)

@@ -5,3 +5,4 @@ pub mod Reserving
 pub mod KeyLemmas
 pub mod Writing
 pub mod Updating
+pub mod GivenIds

@@ -1,10 +1,13 @@
 -- What stands ready after memory was asked for.
-use Rattle.std.proofs.Common.{◌≡◌, ◌≢◌, ℕ, ◌<◌, ◌≤◌, Bool, false, Result, Ok, Err, List, length, set, Option, Some, None, slice_get, sym, ap, subst, refl, ◌∙◌, arith}
+use Rattle.std.proofs.Common.{◌≡◌, ◌≢◌, ℕ, ◌<◌, ◌≤◌, Bool, false, Result, Ok, Err, List, length, set, Option, Some, None, slice_get, sym, ap, subst, refl, ◌∙◌, arith, ◌⊎◌, ⊎_elim}
 use Rattle.std.proofs.lemmas.List.{length-set}
 use Rattle.std.proofs.lemmas.Option.{slice_get-get_or, slice_get_within}
 use Rattle.std.proofs.lemmas.Bool.{true≢false}
-use Rattle.std.specs.Prelude.{OnOk, is_err}
+use Rattle.std.specs.Prelude.{IfErr, OnOk, OnErr, is_err}
 use Rattle.xid_circle.specs.declared.Xid.{Xid}
+use Rattle.tuple_header.specs.declared.version.Row.{Row}
+use Rattle.tuple_header.specs.Version.{rounded_size_of}
+use Rattle.snapshot.specs.Own.{Own}
 use Rattle.page_slots.specs.View.{PageView}
 use Rattle.page_slots.specs.Slots.{room_of}
 use Rattle.heap_pages.specs.View.{PagesView, with_page}
@@ -13,8 +16,10 @@ use Rattle.heap_pages.specs.declared.pages.Place.TheVariants as to
 use Rattle.heap_write.specs.declared.target.Target.{Target}
 use Rattle.heap_write.specs.declared.target.Target.TheVariants.{Page, New}
 use Rattle.heap_write.specs.Heap.{HeapView, unused_page, page_on}
-use Rattle.heap_write.specs.Writes.{IsFull}
-use Rattle.heap_write.specs.Refusals.{NeedsSlot, RootNeedsMemory}
+use Rattle.heap_write.specs.declared.heap.WriteFault.{WriteFault}
+use Rattle.heap_write.specs.declared.heap.WriteFault.TheVariants.{NoMemory}
+use Rattle.heap_write.specs.Writes.{NeedsFreeze, IsFull}
+use Rattle.heap_write.specs.Refusals.{NeedsSlot, NeedsIds, RootNeedsMemory, LacksForInsert}
 use Rattle.heap_write.specs.Growth.{page_in, HasSlot, SamePage, GrowsPage, place_of_target, IsReady, Reserves, PlaceNeedsMemory}
 use Rattle.heap_write.specs.Steps.{IsChosen}
 use Rattle.heap_write.proofs.PageLemmas.{page-at, page-set, page-set_other}
@@ -49,14 +54,28 @@ ready-grown pages limit size n after chosen same has_slot =
 
 -- Why memory was needed.
 
-pub needs-memory : (h : HeapView) (id : Option Xid) (size : ℕ) → PlaceNeedsMemory h.pages.pages h.max_pages size → (¬ IsFull h size) × RootNeedsMemory h id size
-needs-memory h id size (PlaceNeedsMemory.for_page chosen) = (
+pub needs-memory : (h : HeapView) (own : Own) (size : ℕ) → PlaceNeedsMemory h.pages.pages h.max_pages size → (¬ IsFull h size) × RootNeedsMemory h own size
+needs-memory h own size (PlaceNeedsMemory.for_page chosen) = (
   λ full. let few = new-place h.pages.pages h.max_pages size chosen in let over = full.all_used in let no : 1 ≤ 0 = omega (arith, few, over) in omega (arith, no),
   RootNeedsMemory.for_page chosen,
 )
-needs-memory h id size (PlaceNeedsMemory.for_slot n chosen slot) =
+needs-memory h own size (PlaceNeedsMemory.for_slot n chosen slot) =
     let at = page-place h.pages.pages h.max_pages size n chosen in
     (λ full. full.no_room n (page_on h n) (slice_get-get_or h.pages.pages n unused_page at.0) at.1, RootNeedsMemory.for_slot n chosen slot)
+
+pub room-left : (h : HeapView) (size : ℕ) (target : Target) → IsChosen h size (Some target) → ¬ IsFull h size
+room-left h size (Page n) chosen full =
+    let at = page-place h.pages.pages h.max_pages size n chosen in
+    full.no_room n (page_on h n) (slice_get-get_or h.pages.pages n unused_page at.0) at.1
+room-left h size (New page) chosen full =
+    let few = new-place h.pages.pages h.max_pages size chosen in let over = full.all_used in let no : 1 ≤ 0 = omega (arith, few, over) in omega (arith, no)
+
+-- an insert for which there is room
+pub insert-refused : (h : HeapView) (own : Own) (row : Row) (r : Result Xid WriteFault) → ¬ NeedsFreeze h.table own → ¬ IsFull h (rounded_size_of row)
+    → IfErr r (λ fault. fault ≡ NoMemory) → OnErr r ((h.index.spare ≡ 0) ⊎ NeedsIds h own) → IfErr r (λ fault. LacksForInsert h own row fault)
+insert-refused h own row (Ok x) free room no_memory needs = no_memory
+insert-refused h own row (Err fault) free room no_memory needs =
+    subst (λ f. LacksForInsert h own row f) (sym no_memory) (free, room, ⊎_elim RootNeedsMemory.for_entry RootNeedsMemory.for_ids needs)
 
 -- A page without room is not the one that was chosen.
 

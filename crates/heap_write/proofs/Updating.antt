@@ -1,9 +1,9 @@
 -- An update that prunes first, put together.
-use Rattle.std.proofs.Common.{◌≡◌, ℕ, ◌<◌, ◌≤◌, inr, List, [], get_or, set, Option, Some, None, Result, Ok, Err, sym, ap, subst, ◌∙◌, arith}
-use Rattle.std.specs.Prelude.{IfErr, IfSome, OnErr}
+use Rattle.std.proofs.Common.{◌≡◌, ℕ, ◌<◌, ◌≤◌, inr, List, [], get_or, set, Option, Some, None, Result, Ok, Err, sym, ap, subst, refl, ◌∙◌, arith, ◌⊎◌, ⊎_elim}
+use Rattle.std.specs.Prelude.{IfErr, IfOk, IfSome, OnErr}
+use Rattle.xid_circle.specs.declared.Xid.{Xid}
 use Rattle.std.proofs.Math.ListN.{get_or-map}
 use Rattle.std.proofs.lemmas.Option.{slice_get_within}
-use Rattle.xid_circle.specs.declared.Xid.{Xid}
 use Rattle.xid_circle.specs.declared.Tid.{Tid}
 use Rattle.tuple_header.specs.declared.version.Row.{Row}
 use Rattle.tuple_header.specs.Version.{rounded_size_of}
@@ -12,14 +12,16 @@ use Rattle.page_slots.specs.declared.slot.Slot.{Slot}
 use Rattle.page_slots.specs.Slots.{room_of}
 use Rattle.heap_pages.specs.Choice.{HasRoom}
 use Rattle.commit_status.specs.Window.{Window}
+use Rattle.snapshot.specs.Own.{Own, lacks}
 use Rattle.heap_write.specs.declared.target.Target.{Target}
 use Rattle.heap_write.specs.declared.heap.WriteFault.{WriteFault}
 use Rattle.heap_write.specs.declared.heap.WriteFault.TheVariants.{Gone, NeedsFreeze as needs_freeze, NoRoom, NoMemory}
 use Rattle.heap_write.specs.Heap.{HeapView, unused_page, page_on, Keeps}
-use Rattle.heap_write.specs.Writes.{NeedsFreeze, TakesId, Prunes, Replaces, Updates}
-use Rattle.heap_write.specs.Writes.Readies.{is_pruned}
-use Rattle.heap_write.specs.Refusals.{IsThere, WhenReady, FailsUpdate}
-use Rattle.heap_write.specs.Growth.{page_in, GrowsIds, IsReady}
+use Rattle.heap_write.specs.Writes.{NeedsFreeze, TakesIds, SameOwn, Prunes, ReplacesHere, Replaces, Updates}
+use Rattle.heap_write.specs.Writes.Readies.{has_room, is_pruned}
+use Rattle.heap_write.specs.Writes.Replaces.{here}
+use Rattle.heap_write.specs.Refusals.{IsThere, NeedsIds, NeedsSlot, UpdateNeedsMemory, WhenReady, FailsUpdate}
+use Rattle.heap_write.specs.Growth.{page_in, IsReady}
 use Rattle.heap_write.specs.Steps.{IsChosen, FailsReady}
 use Rattle.heap_write.proofs.PageLemmas.{page-set, keeps-all}
 use Rattle.heap_write.proofs.IdLemmas.{takes-grown}
@@ -62,14 +64,37 @@ pub pruned-ready : (h ready : HeapView) (n horizon size : ℕ) (target : Target)
 pruned-ready h ready n horizon size target p full is_ready =
     ready-set h.pages ready.pages size n p.after target (ap (λ (v : HeapView). v.pages.pages) p.is) (ap (λ (v : HeapView). v.pages.spare) p.is) full is_ready
 
--- The update.
+-- The update of a version whose page has room.
 
-pub updates : (h grown ready h' : HeapView) (id : Option Xid) (place : Tid) (row : Row) (horizon x : ℕ) → ¬ NeedsFreeze h.table id
-    → room_of (page_on h place.page).slots < rounded_size_of row → Keeps h grown → GrowsIds h.table grown.table id → Prunes grown ready place.page horizon
-    → TakesId ready.table h'.table id x → IsThere ready place → Replaces ready h' place x row → h'.max_pages ≡ ready.max_pages → Updates h h' id place row horizon x
-updates h grown ready h' id place row horizon x free full keeps grows prunes takes there replaces max_pages = record {
+pub updates-here : (h h' : HeapView) (own own' : Own) (place : Tid) (row : Row) (horizon : ℕ) (r : Result Xid WriteFault) → ¬ NeedsFreeze h.table own → IsThere h place
+    → rounded_size_of row ≤ room_of (page_on h place.page).slots → h'.max_pages ≡ h.max_pages
+    → IfOk r (λ x. TakesIds h.table h'.table own own' x.0) → IfOk r (λ x. ReplacesHere h h' place x.0 row) → IfOk r (λ x. Updates h h' own own' place row horizon x.0)
+updates-here h h' own own' place row horizon (Ok x) free there room max_pages takes replaces = record {
   free = free;
-  takes_id = takes-grown h.table grown.table h'.table id x grows (subst (λ (w : Window). TakesId w h'.table id x) (ap (λ (v : HeapView). v.table) prunes.is) takes);
+  takes_ids = takes;
+  ready = h;
+  readies = has_room room refl;
+  there = there;
+  replaces = here room replaces;
+  max_pages = max_pages;
+}
+updates-here h h' own own' place row horizon (Err fault) free there room max_pages takes replaces = takes
+
+pub here-fails : (h h' : HeapView) (own : Own) (place : Tid) (row : Row) (horizon : ℕ) (r : Result Xid WriteFault) → IsThere h place → ¬ NeedsFreeze h.table own
+    → IfErr r (λ fault. fault ≡ NoMemory) → OnErr r (NeedsIds h own ⊎ NeedsSlot (page_on h place.page)) → OnErr r (Keeps h h')
+    → IfErr r (λ fault. FailsUpdate h h' own place row horizon fault)
+here-fails h h' own place row horizon (Ok x) there free no_memory needs keeps = no_memory
+here-fails h h' own place row horizon (Err fault) there free no_memory needs keeps =
+    subst (λ f. FailsUpdate h h' own place row horizon f) (sym no_memory) (there, free, ⊎_elim UpdateNeedsMemory.for_ids UpdateNeedsMemory.for_slot needs, keeps)
+
+-- The update after the page was pruned.
+
+pub updates : (h grown ready h' : HeapView) (own grown_own own' : Own) (place : Tid) (row : Row) (horizon x : ℕ) → ¬ NeedsFreeze h.table own
+    → room_of (page_on h place.page).slots < rounded_size_of row → Keeps h grown → SameOwn own grown_own → (lacks own.ids own.saved ≡ 0 → grown.table ≡ h.table) → Prunes grown ready place.page horizon
+    → TakesIds ready.table h'.table grown_own own' x → IsThere ready place → Replaces ready h' place x row → h'.max_pages ≡ ready.max_pages → Updates h h' own own' place row horizon x
+updates h grown ready h' own grown_own own' place row horizon x free full keeps same none prunes takes there replaces max_pages = record {
+  free = free;
+  takes_ids = takes-grown h.table grown.table h'.table own grown_own own' x keeps.table same none (subst (λ (w : Window). TakesIds w h'.table grown_own own' x) (ap (λ (v : HeapView). v.table) prunes.is) takes);
   ready = ready;
   readies = is_pruned full grown keeps prunes;
   there = there;
@@ -77,12 +102,12 @@ updates h grown ready h' id place row horizon x free full keeps grows prunes tak
   max_pages = max_pages ∙ ap (λ (v : HeapView). v.max_pages) prunes.is ∙ keeps.max_pages;
 }
 
-pub fails : (h grown ready h' : HeapView) (id : Option Xid) (place : Tid) (row : Row) (horizon : ℕ) (fault : WriteFault) → IsThere h place → ¬ NeedsFreeze h.table id
+pub fails : (h grown ready h' : HeapView) (own : Own) (place : Tid) (row : Row) (horizon : ℕ) (fault : WriteFault) → IsThere h place → ¬ NeedsFreeze h.table own
     → room_of (page_on h place.page).slots < rounded_size_of row → Keeps h grown → Prunes grown ready place.page horizon → h' ≡ ready
-    → FailsReady ready place (rounded_size_of row) fault → FailsUpdate h h' id place row horizon fault
-fails h grown ready h' id place row horizon fault there free full keeps prunes same failed = by fault failed
+    → FailsReady ready place (rounded_size_of row) fault → FailsUpdate h h' own place row horizon fault
+fails h grown ready h' own place row horizon fault there free full keeps prunes same failed = by fault failed
   where
-    when : (P : HeapView → Type 0) → P ready → WhenReady h h' id place horizon (rounded_size_of row) P
+    when : (P : HeapView → Type 0) → P ready → WhenReady h h' own place horizon (rounded_size_of row) P
     when P has = record {
       there = there;
       free = free;
@@ -92,7 +117,7 @@ fails h grown ready h' id place row horizon fault there free full keeps prunes s
       keeps = subst (λ v. Keeps ready v) (sym same) (keeps-all ready);
     }
 
-    by : (fault : WriteFault) → FailsReady ready place (rounded_size_of row) fault → FailsUpdate h h' id place row horizon fault
+    by : (fault : WriteFault) → FailsReady ready place (rounded_size_of row) fault → FailsUpdate h h' own place row horizon fault
     by Gone gone = inr (when _ gone)
     by needs_freeze never = absurd never
     by NoRoom has = when _ has

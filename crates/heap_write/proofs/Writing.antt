@@ -1,13 +1,13 @@
 -- Writes on a table that has grown before, said of the table as it was.
-use Rattle.std.proofs.Common.{◌≡◌, ◌≢◌, ℕ, ◌<◌, ◌≤◌, Bool, true, false, List, [], ◌∷◌, length, set, Option, Some, slice_get, sym, ap, subst, refl, ◌∙◌, arith}
-use Rattle.std.proofs.lemmas.List.{get_or_append_left}
+use Rattle.std.proofs.Common.{◌≡◌, ◌≢◌, ℕ, ◌<◌, ◌≤◌, Bool, true, false, List, [], ◌∷◌, length, set, Some, slice_get, sym, ap, subst, refl, ◌∙◌, arith, length-append}
+use Rattle.std.proofs.lemmas.List.{get_or_append_left, length-set}
 use Rattle.std.specs.Prelude.{IfOk, Result, Ok, Err}
-use Rattle.xid_circle.specs.declared.Xid.{Xid}
 use Rattle.xid_circle.specs.declared.Tid.{Tid}
 use Rattle.tuple_header.specs.declared.version.Row.{Row}
 use Rattle.tuple_header.specs.Version.{rounded_size_of}
 use Rattle.page_slots.specs.View.{PageView}
 use Rattle.page_slots.specs.Slots.{room_of, free_number, next_change, IsNormalAt}
+use Rattle.snapshot.specs.Own.{Own}
 use Rattle.root_index.specs.declared.entry.Entry.{Entry}
 use Rattle.root_index.specs.Sets.{Adds}
 use Rattle.root_index.specs.View.{IndexView}
@@ -20,7 +20,7 @@ use Rattle.heap_write.specs.declared.target.Target.{Target}
 use Rattle.heap_write.specs.declared.target.Target.TheVariants.{Page, New}
 use Rattle.heap_write.specs.Heap.{HeapView, key_value, unused_page, page_on, PutsPage}
 use Rattle.heap_write.specs.Heap.PutsPage.{in_use, after_all}
-use Rattle.heap_write.specs.Writes.{NeedsFreeze, TakesId, GoesTo, PutsRoot, ReplacesHere, Inserts, Replaces}
+use Rattle.heap_write.specs.Writes.{NeedsFreeze, TakesIds, GoesTo, PutsRoot, ReplacesHere, Inserts, Deletes, Replaces}
 use Rattle.heap_write.specs.Writes.Replaces.{elsewhere}
 use Rattle.heap_write.specs.Refusals.{IsThere}
 use Rattle.heap_write.specs.Growth.{page_in, SamePage, Reserves, target_number}
@@ -96,15 +96,15 @@ reserved-grown h h1 size (New page) (chosen, same) entries = (
   record { place = to.NewPage; chosen = chosen; number = ap (λ pages. Some (length pages)) (sym same) },
 )
 
-pub inserts : (h h1 h' : HeapView) (id : Option Xid) (row : Row) (x : ℕ) (target : Target) → ¬ NeedsFreeze h.table id
+pub inserts : (h h1 h' : HeapView) (own own' : Own) (row : Row) (x : ℕ) (target : Target) → ¬ NeedsFreeze h.table own
     → Reserves h.pages h1.pages h.max_pages (rounded_size_of row) (Some target) → h1.index.entries ≡ h.index.entries
-    → TakesId h.table h'.table id x → PutsRoot h1 h' false x row (target_number h1.pages.pages target) → h'.max_pages ≡ h.max_pages → Inserts h h' id row x
-inserts h h1 h' id row x target free reserves entries takes root max_pages =
+    → TakesIds h.table h'.table own own' x → PutsRoot h1 h' false x row (target_number h1.pages.pages target) → h'.max_pages ≡ h.max_pages → Inserts h h' own own' row x
+inserts h h1 h' own own' row x target free reserves entries takes root max_pages =
     let number = target_number h1.pages.pages target in
     let at = reserved-grown h h1 (rounded_size_of row) target reserves entries in
     record {
       free = free;
-      takes_id = takes;
+      takes_ids = takes;
       number = number;
       goes_to = at.1;
       root = root-grown h h1 h' false x row number at.0 root;
@@ -164,6 +164,10 @@ moves h h1 middle h' place successor x row target before after same_pages same_i
       entries = entries;
     })
 
+pub puts-within : (pages pages' : List PageView) (n m : ℕ) (page : PageView) → m < length pages → PutsPage pages pages' n page → m < length pages'
+puts-within pages pages' n m page within (in_use lt is) = let long = ap length is ∙ length-set pages n page in omega (arith, long, within)
+puts-within pages pages' n m page within (after_all over is) = let long = ap length is ∙ length-append pages (page ∷ []) in omega (arith, long, within)
+
 -- the old version is still there when the new one has come
 pub stays-there : (h h1 middle : HeapView) (place successor : Tid) (x : ℕ) (row : Row) (target : Target) (before : PageView)
     → h1.pages ≡ h.pages → IsThere h place → room_of (page_on h place.page).slots < rounded_size_of row
@@ -177,3 +181,25 @@ stays-there h h1 middle place successor x row target before same_pages there ful
     let kept = puts-other h1.pages.pages middle.pages.pages successor.page place.page root.page within (λ e. goes.0 (sym number ∙ sym e)) root.puts in
     let is : before ≡ page_on h place.page = sym (page-at middle.pages.pages place.page before at) ∙ kept ∙ ap (λ ps. page_in ps place.page) same in
     subst (λ (p : PageView). IsNormalAt p.slots place.slot) (sym is) there
+
+-- A delete.
+
+pub deletes : (h h' : HeapView) (own own' : Own) (place : Tid) (x : ℕ) (before after : PageView) → ¬ NeedsFreeze h.table own → TakesIds h.table h'.table own own' x
+    → IsThere h place → slice_get h.pages.pages place.page ≡ Some before → MovesAway before after place place x
+    → h'.pages.pages ≡ set h.pages.pages place.page after → h'.index.entries ≡ h.index.entries → h'.max_pages ≡ h.max_pages → Deletes h h' own own' place x
+deletes h h' own own' place x before after free takes there at away pages entries max_pages =
+    let moved : MovesAway (page_on h place.page) after place place x = subst (λ page. MovesAway page after place place x) (sym (page-at h.pages.pages place.page before at)) away in
+    record {
+      free = free;
+      takes_ids = takes;
+      there = there;
+      away = record {
+        page = after;
+        puts = in_use (slice_get_within h.pages.pages place.page before at) pages;
+        slots = moved.slots;
+        change = moved.change;
+        flag = moved.flag;
+        entries = entries;
+      };
+      max_pages = max_pages;
+    }

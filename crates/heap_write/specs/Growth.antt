@@ -1,10 +1,10 @@
 -- What stands ready before a write changes anything: memory for an id, a slot, a page and an entry.
 use Rattle.std.specs.Prelude.{◌≡◌, ◌⊎◌, ℕ, ◌<◌, ◌≤◌, Bool, true, false, List, [], length, map, Option, Some, None, slice_index_or}
-use Rattle.xid_circle.specs.declared.Xid.{Xid}
 use Rattle.tuple_header.specs.declared.version.Row.{Row}
 use Rattle.page_slots.specs.View.{PageView}
 use Rattle.page_slots.specs.Slots.{room_of, has_unused, free_number, next_change}
 use Rattle.commit_status.specs.Window.{Window}
+use Rattle.snapshot.specs.Own.{Own, lacks}
 use Rattle.page_writes.specs.Writes.{with_root}
 use Rattle.heap_pages.specs.Choice.{IsPlaceFor}
 use Rattle.heap_pages.specs.View.{PagesView, with_page}
@@ -12,20 +12,15 @@ use Rattle.heap_pages.specs.declared.pages.Place.{Place}
 use Rattle.heap_pages.specs.declared.pages.Place.TheVariants as place
 use Rattle.heap_write.specs.declared.target.Target.{Target}
 use Rattle.heap_write.specs.declared.target.Target.TheVariants.{Page, New}
-use Rattle.heap_write.specs.Heap.{unused_page, SameIds, PutsPage}
+use Rattle.heap_write.specs.Heap.{unused_page, PutsPage}
 use Rattle.heap_write.specs.Refusals.{NeedsSlot}
 
 -- Ids.
 
--- an id is there, or the table can note one more
-abbrev pub HasId : Window → Option Xid → Type 0
-HasId w None = 0 < w.spare
-HasId w (Some x) = Unit {0}
-
--- the ids are as they were; where one is to be given, there may be more memory
-abbrev pub GrowsIds : Window → Window → Option Xid → Type 0
-GrowsIds w w' None = SameIds w w'
-GrowsIds w w' (Some x) = w' ≡ w
+-- the table and the session's own list can note the ids that its levels lack
+pub record HasIds (w : Window) (own : Own) : Type 0 where
+  pub in_table : lacks own.ids own.saved ≤ w.spare
+  pub in_own : lacks own.ids own.saved ≤ own.spare
 
 -- Slots and pages.
 

@@ -1,11 +1,11 @@
 -- Why a write is not done, of the first reason in this order, and what it leaves: all as it was, though there may be more
 -- memory; only an update that finds no room leaves the page of the old version pruned.
-use Rattle.std.specs.Prelude.{◌≡◌, ◌⊎◌, ℕ, ◌<◌, ◌≤◌, false, length, Option, None}
-use Rattle.xid_circle.specs.declared.Xid.{Xid}
+use Rattle.std.specs.Prelude.{◌≡◌, ◌⊎◌, ℕ, ◌<◌, ◌≤◌, false, length}
 use Rattle.xid_circle.specs.declared.Tid.{Tid}
 use Rattle.tuple_header.specs.declared.version.Row.{Row}
 use Rattle.tuple_header.specs.Version.{rounded_size_of}
 use Rattle.page_slots.specs.View.{PageView}
+use Rattle.snapshot.specs.Own.{Own, lacks}
 use Rattle.page_slots.specs.Slots.{room_of, has_unused, IsNormalAt}
 use Rattle.heap_pages.specs.Choice.{IsPlaceFor}
 use Rattle.heap_pages.specs.declared.pages.Place.TheVariants.{Page, NewPage}
@@ -21,58 +21,57 @@ pub record NeedsSlot (page : PageView) : Type 0 where
   pub all_used : has_unused page.slots ≡ false
   pub full : page.spare ≡ 0
 
--- a new id takes memory
-pub record NeedsId (h : HeapView) (id : Option Xid) : Type 0 where
-  pub new : id ≡ None
-  pub full : h.table.spare ≡ 0
+-- the new ids take memory: the table of ids has to grow for them, or the session's own list
+abbrev pub NeedsIds : HeapView → Own → Type 0
+NeedsIds h own = (h.table.spare < lacks own.ids own.saved) ⊎ (own.spare < lacks own.ids own.saved)
 
--- something has to grow for a new root: the table of ids, the list of pages, a page's list of slots, or the index
-pub data RootNeedsMemory (h : HeapView) (id : Option Xid) (size : ℕ) : Type 0 where
-  for_id : NeedsId h id → RootNeedsMemory h id size
-  for_page : IsPlaceFor h.pages.pages h.max_pages size NewPage → RootNeedsMemory h id size
-  for_slot : (n : ℕ) → IsPlaceFor h.pages.pages h.max_pages size (Page n) → NeedsSlot (page_on h n) → RootNeedsMemory h id size
-  for_entry : h.index.spare ≡ 0 → RootNeedsMemory h id size
+-- something has to grow for a new root: the ids, the list of pages, a page's list of slots, or the index
+pub data RootNeedsMemory (h : HeapView) (own : Own) (size : ℕ) : Type 0 where
+  for_ids : NeedsIds h own → RootNeedsMemory h own size
+  for_page : IsPlaceFor h.pages.pages h.max_pages size NewPage → RootNeedsMemory h own size
+  for_slot : (n : ℕ) → IsPlaceFor h.pages.pages h.max_pages size (Page n) → NeedsSlot (page_on h n) → RootNeedsMemory h own size
+  for_entry : h.index.spare ≡ 0 → RootNeedsMemory h own size
 
-abbrev pub LacksForInsert : HeapView → Option Xid → Row → WriteFault → Type 0
-LacksForInsert h id row fault.NeedsFreeze = NeedsFreeze h.table id
-LacksForInsert h id row fault.NoRoom = (¬ NeedsFreeze h.table id) × IsFull h (rounded_size_of row)
-LacksForInsert h id row fault.NoMemory = (¬ NeedsFreeze h.table id) × (¬ IsFull h (rounded_size_of row)) × RootNeedsMemory h id (rounded_size_of row)
-LacksForInsert h id row fault.Gone = ⊥
+abbrev pub LacksForInsert : HeapView → Own → Row → WriteFault → Type 0
+LacksForInsert h own row fault.NeedsFreeze = NeedsFreeze h.table own
+LacksForInsert h own row fault.NoRoom = (¬ NeedsFreeze h.table own) × IsFull h (rounded_size_of row)
+LacksForInsert h own row fault.NoMemory = (¬ NeedsFreeze h.table own) × (¬ IsFull h (rounded_size_of row)) × RootNeedsMemory h own (rounded_size_of row)
+LacksForInsert h own row fault.Gone = ⊥
 
 -- a version is at the place
 abbrev pub IsThere : HeapView → Tid → Type 0
 IsThere h place = IsNormalAt (page_on h place.page).slots place.slot
 
--- something has to grow for an update: the table of ids or the page's list of slots; or the page is to be pruned, whose plan
+-- something has to grow for an update: the ids or the page's list of slots; or the page is to be pruned, whose plan
 -- takes memory
-pub data UpdateNeedsMemory (h : HeapView) (id : Option Xid) (place : Tid) (size : ℕ) : Type 0 where
-  for_id : NeedsId h id → UpdateNeedsMemory h id place size
-  for_slot : NeedsSlot (page_on h place.page) → UpdateNeedsMemory h id place size
-  to_prune : room_of (page_on h place.page).slots < size → UpdateNeedsMemory h id place size
+pub data UpdateNeedsMemory (h : HeapView) (own : Own) (place : Tid) (size : ℕ) : Type 0 where
+  for_ids : NeedsIds h own → UpdateNeedsMemory h own place size
+  for_slot : NeedsSlot (page_on h place.page) → UpdateNeedsMemory h own place size
+  to_prune : room_of (page_on h place.page).slots < size → UpdateNeedsMemory h own place size
 
 -- the page of the old version was made ready, and this is so then
-pub record WhenReady (h h' : HeapView) (id : Option Xid) (place : Tid) (horizon size : ℕ) (P : HeapView → Type 0) : Type 0 where
+pub record WhenReady (h h' : HeapView) (own : Own) (place : Tid) (horizon size : ℕ) (P : HeapView → Type 0) : Type 0 where
   pub there : IsThere h place
-  pub free : ¬ NeedsFreeze h.table id
+  pub free : ¬ NeedsFreeze h.table own
   pub ready : HeapView
   pub readies : Readies h ready place.page horizon size
   pub has : P ready
   pub keeps : Keeps ready h'
 
-abbrev pub FailsUpdate : HeapView → HeapView → Option Xid → Tid → Row → ℕ → WriteFault → Type 0
-FailsUpdate h h' id place row horizon fault.NeedsFreeze = IsThere h place × NeedsFreeze h.table id × Keeps h h'
-FailsUpdate h h' id place row horizon fault.NoRoom =
-    WhenReady h h' id place horizon (rounded_size_of row) (λ ready. IsThere ready place × IsFull ready (rounded_size_of row))
-FailsUpdate h h' id place row horizon fault.NoMemory =
-    IsThere h place × (¬ NeedsFreeze h.table id) × UpdateNeedsMemory h id place (rounded_size_of row) × Keeps h h'
-FailsUpdate h h' id place row horizon fault.Gone =
-    ((¬ IsThere h place) × Keeps h h') ⊎ WhenReady h h' id place horizon (rounded_size_of row) (λ ready. ¬ IsThere ready place)
+abbrev pub FailsUpdate : HeapView → HeapView → Own → Tid → Row → ℕ → WriteFault → Type 0
+FailsUpdate h h' own place row horizon fault.NeedsFreeze = IsThere h place × NeedsFreeze h.table own × Keeps h h'
+FailsUpdate h h' own place row horizon fault.NoRoom =
+    WhenReady h h' own place horizon (rounded_size_of row) (λ ready. IsThere ready place × IsFull ready (rounded_size_of row))
+FailsUpdate h h' own place row horizon fault.NoMemory =
+    IsThere h place × (¬ NeedsFreeze h.table own) × UpdateNeedsMemory h own place (rounded_size_of row) × Keeps h h'
+FailsUpdate h h' own place row horizon fault.Gone =
+    ((¬ IsThere h place) × Keeps h h') ⊎ WhenReady h h' own place horizon (rounded_size_of row) (λ ready. ¬ IsThere ready place)
 
-abbrev pub FailsDelete : HeapView → HeapView → Option Xid → Tid → WriteFault → Type 0
-FailsDelete h h' id place fault.NeedsFreeze = IsThere h place × NeedsFreeze h.table id × Keeps h h'
-FailsDelete h h' id place fault.NoRoom = ⊥
-FailsDelete h h' id place fault.NoMemory = IsThere h place × (¬ NeedsFreeze h.table id) × NeedsId h id × Keeps h h'
-FailsDelete h h' id place fault.Gone = (¬ IsThere h place) × Keeps h h'
+abbrev pub FailsDelete : HeapView → HeapView → Own → Tid → WriteFault → Type 0
+FailsDelete h h' own place fault.NeedsFreeze = IsThere h place × NeedsFreeze h.table own × Keeps h h'
+FailsDelete h h' own place fault.NoRoom = ⊥
+FailsDelete h h' own place fault.NoMemory = IsThere h place × (¬ NeedsFreeze h.table own) × NeedsIds h own × Keeps h h'
+FailsDelete h h' own place fault.Gone = (¬ IsThere h place) × Keeps h h'
 
 -- why a page is not pruned: it is not in use, or its plan found no memory
 abbrev pub Unpruned : HeapView → ℕ → PruneFault → Type 0

@@ -1,16 +1,15 @@
 -- What a write does to a table. (README.HOT: an update that stays on the page, and changes no indexed column, makes a heap-only
 -- version and no index entry; any other makes a root of its own, with an entry. PostgreSQL, heap_insert, heap_update and
 -- heap_delete in src/backend/access/heap/heapam.c.)
-use Rattle.std.specs.Prelude.{◌≡◌, ◌≢◌, ℕ, ◌<◌, ◌≤◌, Bool, true, false, length, slice_set, slice_get, Option, Some, None}
-use Rattle.xid_circle.specs.Circle.{distance_of}
-use Rattle.xid_circle.specs.declared.Xid.{Xid}
+use Rattle.std.specs.Prelude.{◌≡◌, ◌≢◌, ℕ, ◌<◌, ◌≤◌, Bool, true, false, List, [], ◌∷◌, ◌++◌, length, slice_set, slice_get, Option, Some, None}
 use Rattle.xid_circle.specs.declared.Tid.{Tid}
 use Rattle.tuple_header.specs.declared.version.Row.{Row}
 use Rattle.tuple_header.specs.Version.{rounded_size_of}
 use Rattle.page_slots.specs.View.{PageView}
 use Rattle.page_slots.specs.Slots.{room_of, free_number, next_change, IsNormalAt}
 use Rattle.commit_status.specs.Window.{Window, next_id}
-use Rattle.commit_status.specs.Changes.{Gives}
+use Rattle.commit_status.specs.Changes.{Gives, CanGive}
+use Rattle.snapshot.specs.Own.{Own, lacks, newest_id, saved_with_each}
 use Rattle.prune.specs.Actions.{applied}
 use Rattle.prune.specs.Cutting.{Removes}
 use Rattle.prune.specs.Pruning.{IsPruned, IsPlan}
@@ -24,14 +23,32 @@ use Rattle.heap_write.specs.Heap.{HeapView, key_value, page_on, Keeps, PutsPage}
 
 -- Ids.
 
--- the write needs an id that cannot be given
-abbrev pub NeedsFreeze : Window → Option Xid → Type 0
-NeedsFreeze w id = (id ≡ None) × (w.stop_age ≤ distance_of w.first (next_id w))
+-- A session writes under the id of its newest level. Each of its levels that has none is given one before, the lowest
+-- first and each under the one below it, all or none. (The manual's "Subtransactions"; AssignTransactionId in
+-- src/backend/access/transam/xact.c.)
 
--- the id is given, or is the one that was there
-abbrev pub TakesId : Window → Window → Option Xid → ℕ → Type 0
-TakesId w w' None x = (x ≡ next_id w) × Gives w w' None
-TakesId w w' (Some y) x = (x ≡ y.0) × (w' ≡ w)
+-- the levels need more ids than can be given
+abbrev pub NeedsFreeze : Window → Own → Type 0
+NeedsFreeze w own = ¬ CanGive w (lacks own.ids own.saved)
+
+-- the ids are given one after another, the first under this parent, and each other under the one before it
+abbrev pub GivesUnder : Window → Option ℕ → List ℕ → Window → Type 0
+GivesUnder w parent [] w' = w' ≡ w
+GivesUnder w parent (x ∷ xs) w' = (between : Window) × (x ≡ next_id w) × Gives w between parent × GivesUnder between (Some x) xs w'
+
+-- each level that lacked an id has one now, and x is the newest level's
+pub record TakesIds (w w' : Window) (own own' : Own) (x : ℕ) : Type 0 where
+  pub given : List ℕ
+  pub count : length given ≡ lacks own.ids own.saved
+  pub gives : GivesUnder w (newest_id own.ids) given w'
+  pub ids : own'.ids ≡ own.ids ++ given
+  pub saved : own'.saved ≡ saved_with_each given own.saved
+  pub newest : newest_id own'.ids ≡ Some x
+
+-- the session's ids are as they were, though there may be more memory
+pub record SameOwn (own own' : Own) : Type 0 where
+  pub ids : own'.ids ≡ own.ids
+  pub saved : own'.saved ≡ own.saved
 
 -- Places.
 
@@ -95,10 +112,10 @@ pub record Prunes (h h' : HeapView) (number horizon : ℕ) : Type 0 where
 
 -- Writes.
 
--- a version of the row is inserted under the id
-pub record Inserts (h h' : HeapView) (id : Option Xid) (row : Row) (x : ℕ) : Type 0 where
-  pub free : ¬ NeedsFreeze h.table id
-  pub takes_id : TakesId h.table h'.table id x
+-- a version of the row is inserted by who has these ids, under x
+pub record Inserts (h h' : HeapView) (own own' : Own) (row : Row) (x : ℕ) : Type 0 where
+  pub free : ¬ NeedsFreeze h.table own
+  pub takes_ids : TakesIds h.table h'.table own own' x
   pub number : ℕ
   pub goes_to : GoesTo h (rounded_size_of row) number
   pub root : PutsRoot h h' false x row number
@@ -116,20 +133,20 @@ pub data Replaces (h h' : HeapView) (place : Tid) (x : ℕ) (row : Row) : Type 0
       → (middle : HeapView) → PutsRoot h middle true x row number
       → TakesAway middle h' place x (record { page = number; slot = free_number (page_on h number).slots }) → Replaces h h' place x row
 
--- the version at a place is updated to this row under the id
-pub record Updates (h h' : HeapView) (id : Option Xid) (place : Tid) (row : Row) (horizon x : ℕ) : Type 0 where
-  pub free : ¬ NeedsFreeze h.table id
-  pub takes_id : TakesId h.table h'.table id x
+-- the version at a place is updated to this row
+pub record Updates (h h' : HeapView) (own own' : Own) (place : Tid) (row : Row) (horizon x : ℕ) : Type 0 where
+  pub free : ¬ NeedsFreeze h.table own
+  pub takes_ids : TakesIds h.table h'.table own own' x
   pub ready : HeapView
   pub readies : Readies h ready place.page horizon (rounded_size_of row)
   pub there : IsNormalAt (page_on ready place.page).slots place.slot
   pub replaces : Replaces ready h' place x row
   pub max_pages : h'.max_pages ≡ h.max_pages
 
--- the version at a place is deleted under the id
-pub record Deletes (h h' : HeapView) (id : Option Xid) (place : Tid) (x : ℕ) : Type 0 where
-  pub free : ¬ NeedsFreeze h.table id
-  pub takes_id : TakesId h.table h'.table id x
+-- the version at a place is deleted
+pub record Deletes (h h' : HeapView) (own own' : Own) (place : Tid) (x : ℕ) : Type 0 where
+  pub free : ¬ NeedsFreeze h.table own
+  pub takes_ids : TakesIds h.table h'.table own own' x
   pub there : IsNormalAt (page_on h place.page).slots place.slot
   pub away : TakesAway h h' place x place
   pub max_pages : h'.max_pages ≡ h.max_pages

@@ -1,25 +1,29 @@
 //! A row is deleted.
 
-ghost use Rattle.std.specs.Prelude.{IfErr, IfOk, IfSome, IsTrue, ◌↔◌};
+ghost use Rattle.std.specs.Prelude.{◌≡◌, ℕ, Some, IfErr, IfOk, IsTrue, OnErr, ◌↔◌};
 ghost use Rattle.xid_circle.specs.Circle.{IsNormal};
-ghost use Rattle.commit_status.specs.Window.{IsWindow};
-ghost use Rattle.heap_write.specs.Writes.{Deletes};
+ghost use Rattle.commit_status.specs.Window.{IsWindow, IsGiven};
+ghost use Rattle.snapshot.specs.Own.{newest_id};
+ghost use Rattle.heap_write.specs.Writes.{SameOwn, Deletes};
 ghost use Rattle.heap_write.specs.Refusals.{FailsDelete, IsThere};
 
 use crate::heap::{HeapState, WriteFault};
-use crate::ids::{needs_freeze, reserve_id, take_id};
+use crate::ids::{needs_freeze, reserve_ids, take_ids};
 use page_writes::delete_version;
+use snapshot::OwnIds;
 use xid_circle::{Tid, Xid};
 
 impl HeapState {
-    /// Deletes the version at a place under the id, or under a new one where there is none, and answers that id: the version
-    /// points at itself, and no entry changes. It answers Gone exactly where no version is there, else NeedsFreeze exactly
-    /// where an id is needed and none can be given, else NoMemory only where the table of ids has to grow. A refused delete
-    /// changes nothing and gives no id. (PostgreSQL, `heap_delete` in src/backend/access/heap/heapam.c.)
-    pub fn delete(&mut self, id: Option<Xid>, place: Tid) -> Result<Xid, WriteFault>
-        requires { IfSome id (λ x. IsNormal x.0) }
-        ensures ok { IfOk result (λ x. Deletes self.old self.new id place x.0) }
-        ensures fault { IfErr result (λ fault. FailsDelete self.old self.new id place fault) }
+    /// Deletes the version at a place under the id of the session's newest level, and answers that id: each level that has
+    /// none is given one before. The version points at itself, and no entry changes. It answers Gone exactly where no
+    /// version is there, else NeedsFreeze exactly where the levels lack more ids than can be given, else NoMemory only
+    /// where the table of ids or the session's own list has to grow. A refused delete changes nothing and gives no id.
+    /// (PostgreSQL, `heap_delete` in src/backend/access/heap/heapam.c.)
+    pub fn delete(&mut self, own: &mut OwnIds, place: Tid) -> Result<Xid, WriteFault>
+        requires newest { (x : ℕ) → newest_id own.old.ids ≡ Some x → IsGiven self.old.table x }
+        ensures ok { IfOk result (λ x. Deletes self.old self.new own.old own.new place x.0) }
+        ensures fault { IfErr result (λ fault. FailsDelete self.old self.new own.old place fault) }
+        ensures own { OnErr result (SameOwn own.old own.new) }
         ensures window { IsWindow self.new.table }
         ensures normal { IfOk result (λ x. IsNormal x.0) }
     {
@@ -27,14 +31,14 @@ impl HeapState {
         if !self.is_there(place) {
             return Err(WriteFault::Gone);
         }
-        if needs_freeze(&self.table, id) {
+        if needs_freeze(&self.table, own) {
             return Err(WriteFault::NeedsFreeze);
         }
-        if reserve_id(&mut self.table, id).is_err() {
+        if reserve_ids(&mut self.table, own).is_err() {
             self.table.is_window();
             return Err(WriteFault::NoMemory);
         }
-        let x = take_id(&mut self.table, id);
+        let x = take_ids(&mut self.table, own);
         delete_version(self.pages.page_mut(place.page), place.page, place.slot, x);
         Ok(x)
     }

@@ -1,56 +1,79 @@
-//! The id of a write: the one that is there, or a new one.
+//! The ids of a write: those that the levels of its session lack.
 
-ghost use Rattle.std.specs.Prelude.{◌≡◌, None, IfSome, IsTrue, OnOk, OnErr, ◌↔◌};
-ghost use Rattle.xid_circle.specs.Circle.{IsNormal};
-ghost use Rattle.commit_status.specs.Window.{IsWindow};
-ghost use Rattle.heap_write.specs.Writes.{NeedsFreeze, TakesId};
-ghost use Rattle.heap_write.specs.Growth.{HasId, GrowsIds};
+ghost use Rattle.std.specs.Prelude.{◌≡◌, ℕ, ◌+◌, ◌-◌, ◌<◌, ◌≤◌, ◌⊎◌, ◌↔◌, ◌∷◌, ◌++◌, [], Some, IsTrue, OnOk, OnErr};
+ghost use Rattle.xid_circle.specs.Circle.{IsNormal, distance_of};
+ghost use Rattle.commit_status.specs.Window.{IsWindow, IsGiven, next_id};
+ghost use Rattle.commit_status.specs.Changes.{Gives};
+ghost use Rattle.snapshot.specs.Own.{lacks, newest_id, saved_with};
+ghost use Rattle.heap_write.specs.Heap.{SameIds};
+ghost use Rattle.heap_write.specs.Writes.{NeedsFreeze, TakesIds, SameOwn};
+ghost use Rattle.heap_write.specs.Growth.{HasIds};
 
 use commit_status::StatusTable;
+use snapshot::OwnIds;
 use std::alloc::AllocError;
 use xid_circle::Xid;
 
-/// Whether the write needs an id that cannot be given.
-pub(crate) fn needs_freeze(table: &StatusTable, id: Option<Xid>) -> bool
-    ensures { IsTrue result ↔ NeedsFreeze table.now id }
+/// Whether the levels lack more ids than can be given.
+pub(crate) fn needs_freeze(table: &StatusTable, own: &OwnIds) -> bool
+    ensures { IsTrue result ↔ NeedsFreeze table.now own.now }
 {
-    match id {
-        Some(_) => false,
-        None => !table.can_give(1),
-    }
+    !table.can_give(own.lacks())
 }
 
-/// Makes room in memory for a new id where there is none.
-pub(crate) fn reserve_id(table: &mut StatusTable, id: Option<Xid>) -> Result<(), AllocError>
-    ensures room { OnOk result (HasId table.new id) }
-    ensures grows { GrowsIds table.old table.new id }
-    ensures none { OnErr result (id ≡ None) }
-    ensures refused { OnErr result (table.old.spare ≡ 0) }
+/// Makes room in memory for the ids that the levels lack.
+pub(crate) fn reserve_ids(table: &mut StatusTable, own: &mut OwnIds) -> Result<(), AllocError>
+    ensures room { OnOk result (HasIds table.new own.new) }
+    ensures refused { OnErr result ((table.old.spare < lacks own.old.ids own.old.saved) ⊎ (own.old.spare < lacks own.old.ids own.old.saved)) }
+    ensures ids { SameIds table.old table.new }
+    ensures own { SameOwn own.old own.new }
+    ensures none { lacks own.old.ids own.old.saved ≡ 0 → table.new ≡ table.old }
 {
-    match id {
-        Some(_) => Ok(()),
-        None => table.make_room(1),
+    let count = own.lacks() as usize;
+    if count == 0 {
+        return Ok(());
     }
+    table.make_room(count)?;
+    own.make_room(count)
 }
 
-/// The id, or a new one where there is none.
-pub(crate) fn take_id(table: &mut StatusTable, id: Option<Xid>) -> Xid
-    requires free { ¬ NeedsFreeze table.old id }
-    requires normal { IfSome id (λ x. IsNormal x.0) }
-    requires room { HasId table.old id }
-    ensures takes { TakesId table.old table.new id result.0 }
+/// Gives the next id to the lowest of the newest levels that have none, under the id of the level below it.
+fn give_id(table: &mut StatusTable, own: &mut OwnIds)
+    requires lacking { 0 < lacks own.old.ids own.old.saved }
+    requires near { distance_of table.old.first (next_id table.old) < table.old.stop_age }
+    requires in_table { 0 < table.old.spare }
+    requires in_own { 0 < own.old.spare }
+    requires newest { (x : ℕ) → newest_id own.old.ids ≡ Some x → IsGiven table.old x }
+    ensures gives { Gives table.old table.new (newest_id own.old.ids) }
+    ensures ids { own.new.ids ≡ own.old.ids ++ next_id table.old ∷ [] }
+    ensures saved { own.new.saved ≡ saved_with (lacks own.old.ids own.old.saved - 1) (next_id table.old) own.old.saved }
+    ensures spare { table.old.spare ≤ table.new.spare + 1 }
+    ensures own_spare { own.old.spare ≡ own.new.spare + 1 }
+    ensures window { IsWindow table.new }
+{
+    match table.give(own.newest_id()) {
+        Ok(x) => own.add(x),
+        Err(_) => unreachable!(),
+    }
+    table.is_window();
+}
+
+/// Gives an id to each level that has none, and answers the newest level's. It takes no memory.
+pub(crate) fn take_ids(table: &mut StatusTable, own: &mut OwnIds) -> Xid
+    requires free { ¬ NeedsFreeze table.old own.old }
+    requires room { HasIds table.old own.old }
+    requires newest { (x : ℕ) → newest_id own.old.ids ≡ Some x → IsGiven table.old x }
+    ensures takes { TakesIds table.old table.new own.old own.new result.0 }
     ensures normal { IsNormal result.0 }
     ensures window { IsWindow table.new }
 {
     table.is_window();
-    match id {
+    own.are_fronts();
+    for _ in 0..own.lacks() {
+        give_id(table, own);
+    }
+    match own.newest_id() {
         Some(x) => x,
-        None => match table.give(None) {
-            Ok(x) => {
-                table.is_window();
-                x
-            }
-            Err(_) => unreachable!(),
-        },
+        None => unreachable!(),
     }
 }

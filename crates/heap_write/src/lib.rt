@@ -1,9 +1,10 @@
 //! A table: its pages, the status of its ids and its index by key, and writes on them.
 //!
-//! A write either is done and gives its id, or is refused for the first of its reasons, and then changes nothing; only an
-//! update that ends in NoRoom or Gone may have pruned the page of the old version. `specs/Writes.antt` says what each write
-//! does, and `specs/Refusals.antt` why one is refused. Whatever has to grow is grown before the first change, so that nothing is left
-//! half done (`specs/Growth.antt`). What is looked for is found through the index.
+//! A write either is done, with an id for each level of its session, or is refused for the first of its reasons, and then
+//! changes nothing; only an update that ends in NoRoom or Gone may have pruned the page of the old version.
+//! `specs/Writes.antt` says what each write does, and `specs/Refusals.antt` why one is refused. Whatever has to grow is grown
+//! before the first change, so that nothing is left half done (`specs/Growth.antt`). What is looked for is found through the
+//! index.
 #![tactic(auto)]
 
 mod cleaning;

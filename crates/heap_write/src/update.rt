@@ -1,44 +1,47 @@
 //! A row is updated.
 
-ghost use Rattle.std.specs.Prelude.{◌≡◌, ◌≤◌, ◌<◌, length, IfErr, IfOk, IfSome, IsTrue, OnErr, OnOk, Some, ◌↔◌, ◌⊎◌};
+ghost use Rattle.std.specs.Prelude.{◌≡◌, ℕ, ◌≤◌, ◌<◌, length, IfErr, IfOk, IfSome, IsTrue, OnErr, OnOk, Some, ◌↔◌, ◌⊎◌};
 ghost use Rattle.xid_circle.specs.Circle.{IsNormal};
-ghost use Rattle.commit_status.specs.Window.{IsWindow};
+ghost use Rattle.commit_status.specs.Window.{IsWindow, IsGiven};
+ghost use Rattle.snapshot.specs.Own.{lacks, newest_id};
 ghost use Rattle.page_slots.specs.Slots.{room_of};
 ghost use Rattle.tuple_header.specs.Version.{rounded_size_of};
 ghost use Rattle.heap_write.specs.Heap.{page_on, Keeps};
-ghost use Rattle.heap_write.specs.Writes.{NeedsFreeze, TakesId, ReplacesHere, Replaces, Updates};
-ghost use Rattle.heap_write.specs.Refusals.{FailsUpdate, IsThere, NeedsId, NeedsSlot};
-ghost use Rattle.heap_write.specs.Growth.{HasId, GrowsIds, HasSlot, IsReady};
+ghost use Rattle.heap_write.specs.Writes.{NeedsFreeze, TakesIds, SameOwn, ReplacesHere, Replaces, Updates};
+ghost use Rattle.heap_write.specs.Refusals.{FailsUpdate, IsThere, NeedsIds, NeedsSlot};
+ghost use Rattle.heap_write.specs.Growth.{HasIds, HasSlot, IsReady};
 ghost use Rattle.heap_write.specs.Steps.{IsChosen, FailsReady};
 
 use crate::heap::{HeapState, WriteFault};
-use crate::ids::{needs_freeze, reserve_id, take_id};
+use crate::ids::{needs_freeze, reserve_ids, take_ids};
 use crate::target::{Target, reserve_place, reserve_slot, size_of};
 use page_writes::{move_away, update_here};
+use snapshot::OwnIds;
 use std::alloc::AllocError;
 use tuple_header::Row;
 use xid_circle::{Tid, Xid};
 
 impl HeapState {
-    /// Replaces the version at a place by one of this row, under the id, or under a new one where there is none, and answers
-    /// that id. Where the row has no room on its page, that page is pruned at the horizon, a normal id. The new version is
-    /// heap-only on the same page where it has room there; else it is a root, with an entry, where a new one goes. It
-    /// answers Gone exactly where no version is there, before or after that pruning, else NeedsFreeze exactly where an id is
-    /// needed and none can be given, else NoRoom exactly where all pages that there may be are in use and none has room, and
-    /// NoMemory only where something has to grow or the page is to be pruned. A refused update gives no id, and changes
-    /// nothing but that the page may be pruned. (README.HOT; PostgreSQL, `heap_update` in
+    /// Replaces the version at a place by one of this row, under the id of the session's newest level, and answers that id:
+    /// each level that has none is given one before. Where the row has no room on its page, that page is pruned at the
+    /// horizon, a normal id. The new version is heap-only on the same page where it has room there; else it is a root, with
+    /// an entry, where a new one goes. It answers Gone exactly where no version is there, before or after that pruning, else
+    /// NeedsFreeze exactly where the levels lack more ids than can be given, else NoRoom exactly where all pages that there
+    /// may be are in use and none has room, and NoMemory only where something has to grow or the page is to be pruned. A
+    /// refused update gives no id, and changes nothing but that the page may be pruned. (README.HOT; PostgreSQL, `heap_update` in
     /// src/backend/access/heap/heapam.c.)
     pub fn update(
         &mut self,
-        id: Option<Xid>,
+        own: &mut OwnIds,
         place: Tid,
         row: Row,
         horizon: Xid,
     ) -> Result<Xid, WriteFault>
-        requires id { IfSome id (λ x. IsNormal x.0) }
+        requires newest { (x : ℕ) → newest_id own.old.ids ≡ Some x → IsGiven self.old.table x }
         requires horizon { IsNormal horizon.0 }
-        ensures ok { IfOk result (λ x. Updates self.old self.new id place row horizon.0 x.0) }
-        ensures fault { IfErr result (λ fault. FailsUpdate self.old self.new id place row horizon.0 fault) }
+        ensures ok { IfOk result (λ x. Updates self.old self.new own.old own.new place row horizon.0 x.0) }
+        ensures fault { IfErr result (λ fault. FailsUpdate self.old self.new own.old place row horizon.0 fault) }
+        ensures own { OnErr result (SameOwn own.old own.new) }
         ensures window { IsWindow self.new.table }
         ensures normal { IfOk result (λ x. IsNormal x.0) }
     {
@@ -46,13 +49,13 @@ impl HeapState {
         if !self.is_there(place) {
             return Err(WriteFault::Gone);
         }
-        if needs_freeze(&self.table, id) {
+        if needs_freeze(&self.table, own) {
             return Err(WriteFault::NeedsFreeze);
         }
         if self.has_room(place.page, &row) {
-            self.update_at_once(id, place, row)
+            self.update_at_once(own, place, row)
         } else {
-            self.update_with_pruning(id, place, row, horizon)
+            self.update_with_pruning(own, place, row, horizon)
         }
     }
 
@@ -68,56 +71,58 @@ impl HeapState {
     }
 
     /// Updates a version whose page has room for the row.
-    fn update_at_once(&mut self, id: Option<Xid>, place: Tid, row: Row) -> Result<Xid, WriteFault>
-        requires id { IfSome id (λ x. IsNormal x.0) }
-        requires free { ¬ NeedsFreeze self.old.table id }
+    fn update_at_once(&mut self, own: &mut OwnIds, place: Tid, row: Row) -> Result<Xid, WriteFault>
+        requires newest { (x : ℕ) → newest_id own.old.ids ≡ Some x → IsGiven self.old.table x }
+        requires free { ¬ NeedsFreeze self.old.table own.old }
         requires there { IsThere self.old place }
         requires room { rounded_size_of row ≤ room_of (page_on self.old place.page).slots }
-        ensures takes { IfOk result (λ x. TakesId self.old.table self.new.table id x.0) }
+        ensures takes { IfOk result (λ x. TakesIds self.old.table self.new.table own.old own.new x.0) }
         ensures replaces { IfOk result (λ x. ReplacesHere self.old self.new place x.0 row) }
         ensures max_pages { self.new.max_pages ≡ self.old.max_pages }
         ensures fault { IfErr result (λ fault. fault ≡ WriteFault.NoMemory) }
-        ensures needs { OnErr result (NeedsId self.old id ⊎ NeedsSlot (page_on self.old place.page)) }
+        ensures needs { OnErr result (NeedsIds self.old own.old ⊎ NeedsSlot (page_on self.old place.page)) }
         ensures err { OnErr result (Keeps self.old self.new) }
+        ensures own { OnErr result (SameOwn own.old own.new) }
         ensures window { IsWindow self.new.table }
         ensures normal { IfOk result (λ x. IsNormal x.0) }
     {
         self.table.is_window();
         if reserve_slot(self.pages.page_mut(place.page)).is_err()
-            || reserve_id(&mut self.table, id).is_err()
+            || reserve_ids(&mut self.table, own).is_err()
         {
             self.table.is_window();
             return Err(WriteFault::NoMemory);
         }
-        Ok(self.replace_here(id, place, row))
+        Ok(self.replace_here(own, place, row))
     }
 
     /// Updates a version whose page has no room for the row, and is pruned first, as the last that takes memory.
     fn update_with_pruning(
         &mut self,
-        id: Option<Xid>,
+        own: &mut OwnIds,
         place: Tid,
         row: Row,
         horizon: Xid,
     ) -> Result<Xid, WriteFault>
-        requires id { IfSome id (λ x. IsNormal x.0) }
+        requires newest { (x : ℕ) → newest_id own.old.ids ≡ Some x → IsGiven self.old.table x }
         requires horizon { IsNormal horizon.0 }
-        requires free { ¬ NeedsFreeze self.old.table id }
+        requires free { ¬ NeedsFreeze self.old.table own.old }
         requires there { IsThere self.old place }
         requires room { room_of (page_on self.old place.page).slots < rounded_size_of row }
-        ensures ok { IfOk result (λ x. Updates self.old self.new id place row horizon.0 x.0) }
-        ensures fault { IfErr result (λ fault. FailsUpdate self.old self.new id place row horizon.0 fault) }
+        ensures ok { IfOk result (λ x. Updates self.old self.new own.old own.new place row horizon.0 x.0) }
+        ensures fault { IfErr result (λ fault. FailsUpdate self.old self.new own.old place row horizon.0 fault) }
+        ensures own { OnErr result (SameOwn own.old own.new) }
         ensures window { IsWindow self.new.table }
         ensures normal { IfOk result (λ x. IsNormal x.0) }
     {
-        let reserved = self.reserve_update(id, place.page, size_of(&row));
+        let reserved = self.reserve_update(own, place.page, size_of(&row));
         self.table.is_window();
         let target = match reserved {
             Ok(target) => target,
             Err(_) => return Err(WriteFault::NoMemory),
         };
         match self.prune_page(place.page, horizon) {
-            Ok(()) => self.update_ready(id, place, row, target),
+            Ok(()) => self.update_ready(own, place, row, target),
             Err(_) => Err(WriteFault::NoMemory),
         }
     }
@@ -125,7 +130,7 @@ impl HeapState {
     /// Makes room in memory for whatever an update of a version on the page of this number may need.
     fn reserve_update(
         &mut self,
-        id: Option<Xid>,
+        own: &mut OwnIds,
         number: u32,
         size: usize,
     ) -> Result<Option<Target>, AllocError>
@@ -133,14 +138,15 @@ impl HeapState {
         requires fits { size ≤ 8164 }
         requires room { room_of (page_on self.old number).slots < size }
         ensures keeps { Keeps self.old self.new }
-        ensures grows_ids { GrowsIds self.old.table self.new.table id }
-        ensures has_id { OnOk result (HasId self.new.table id) }
+        ensures none { lacks own.old.ids own.old.saved ≡ 0 → self.new.table ≡ self.old.table }
+        ensures own { SameOwn own.old own.new }
+        ensures has_ids { OnOk result (HasIds self.new.table own.new) }
         ensures has_slot { OnOk result (0 < (page_on self.new number).spare) }
         ensures has_entry { OnOk result (0 < self.new.index.spare) }
         ensures chosen { IfOk result (λ found. IsChosen self.new size found) }
         ensures ready { IfOk result (λ found. IfSome found (λ target. IsReady self.new.pages size target)) }
     {
-        if reserve_id(&mut self.table, id).is_err() || self.index.make_room(1).is_err() {
+        if reserve_ids(&mut self.table, own).is_err() || self.index.make_room(1).is_err() {
             return Err(AllocError);
         }
         if self.pages.page_mut(number).make_room(1).is_err() {
@@ -153,24 +159,25 @@ impl HeapState {
     /// if that is anywhere.
     fn update_ready(
         &mut self,
-        id: Option<Xid>,
+        own: &mut OwnIds,
         place: Tid,
         row: Row,
         target: Option<Target>,
     ) -> Result<Xid, WriteFault>
-        requires id { IfSome id (λ x. IsNormal x.0) }
-        requires free { ¬ NeedsFreeze self.old.table id }
-        requires has_id { HasId self.old.table id }
+        requires newest { (x : ℕ) → newest_id own.old.ids ≡ Some x → IsGiven self.old.table x }
+        requires free { ¬ NeedsFreeze self.old.table own.old }
+        requires has_ids { HasIds self.old.table own.old }
         requires has_slot { 0 < (page_on self.old place.page).spare }
         requires has_entry { 0 < self.old.index.spare }
         requires chosen { room_of (page_on self.old place.page).slots < rounded_size_of row → IsChosen self.old (rounded_size_of row) target }
         requires ready { IfSome target (λ t. IsReady self.old.pages (rounded_size_of row) t) }
-        ensures takes { IfOk result (λ x. TakesId self.old.table self.new.table id x.0) }
+        ensures takes { IfOk result (λ x. TakesIds self.old.table self.new.table own.old own.new x.0) }
         ensures there { IfOk result (λ x. IsThere self.old place) }
         ensures replaces { IfOk result (λ x. Replaces self.old self.new place x.0 row) }
         ensures max_pages { self.new.max_pages ≡ self.old.max_pages }
         ensures fault { IfErr result (λ fault. FailsReady self.old place (rounded_size_of row) fault) }
         ensures err { OnErr result (self.new ≡ self.old) }
+        ensures own { OnErr result (SameOwn own.old own.new) }
         ensures window { IsWindow self.new.table }
         ensures normal { IfOk result (λ x. IsNormal x.0) }
     {
@@ -179,51 +186,51 @@ impl HeapState {
             return Err(WriteFault::Gone);
         }
         if self.has_room(place.page, &row) {
-            return Ok(self.replace_here(id, place, row));
+            return Ok(self.replace_here(own, place, row));
         }
         match target {
-            Some(target) => Ok(self.replace_elsewhere(id, place, row, target)),
+            Some(target) => Ok(self.replace_elsewhere(own, place, row, target)),
             None => Err(WriteFault::NoRoom),
         }
     }
 
     /// Replaces a version by a heap-only one on its page, which has room and memory for it.
-    fn replace_here(&mut self, id: Option<Xid>, place: Tid, row: Row) -> Xid
-        requires id { IfSome id (λ x. IsNormal x.0) }
-        requires free { ¬ NeedsFreeze self.old.table id }
-        requires has_id { HasId self.old.table id }
+    fn replace_here(&mut self, own: &mut OwnIds, place: Tid, row: Row) -> Xid
+        requires newest { (x : ℕ) → newest_id own.old.ids ≡ Some x → IsGiven self.old.table x }
+        requires free { ¬ NeedsFreeze self.old.table own.old }
+        requires has_ids { HasIds self.old.table own.old }
         requires there { IsThere self.old place }
         requires room { rounded_size_of row ≤ room_of (page_on self.old place.page).slots }
         requires has_slot { HasSlot (page_on self.old place.page) }
-        ensures takes { TakesId self.old.table self.new.table id result.0 }
+        ensures takes { TakesIds self.old.table self.new.table own.old own.new result.0 }
         ensures replaces { ReplacesHere self.old self.new place result.0 row }
         ensures max_pages { self.new.max_pages ≡ self.old.max_pages }
         ensures window { IsWindow self.new.table }
         ensures normal { IsNormal result.0 }
     {
-        let x = take_id(&mut self.table, id);
+        let x = take_ids(&mut self.table, own);
         let page = self.pages.page_mut(place.page);
         let _slot = update_here(page, place.page, place.slot, x, row);
         x
     }
 
     /// Replaces a version by a root on another page, which has room and memory for it.
-    fn replace_elsewhere(&mut self, id: Option<Xid>, place: Tid, row: Row, target: Target) -> Xid
-        requires id { IfSome id (λ x. IsNormal x.0) }
-        requires free { ¬ NeedsFreeze self.old.table id }
-        requires has_id { HasId self.old.table id }
+    fn replace_elsewhere(&mut self, own: &mut OwnIds, place: Tid, row: Row, target: Target) -> Xid
+        requires newest { (x : ℕ) → newest_id own.old.ids ≡ Some x → IsGiven self.old.table x }
+        requires free { ¬ NeedsFreeze self.old.table own.old }
+        requires has_ids { HasIds self.old.table own.old }
         requires there { IsThere self.old place }
         requires room { room_of (page_on self.old place.page).slots < rounded_size_of row }
         requires has_entry { 0 < self.old.index.spare }
         requires chosen { IsChosen self.old (rounded_size_of row) (Some target) }
         requires ready { IsReady self.old.pages (rounded_size_of row) target }
-        ensures takes { TakesId self.old.table self.new.table id result.0 }
+        ensures takes { TakesIds self.old.table self.new.table own.old own.new result.0 }
         ensures replaces { Replaces self.old self.new place result.0 row }
         ensures max_pages { self.new.max_pages ≡ self.old.max_pages }
         ensures window { IsWindow self.new.table }
         ensures normal { IsNormal result.0 }
     {
-        let x = take_id(&mut self.table, id);
+        let x = take_ids(&mut self.table, own);
         let successor = self.put_root(target, true, x, row);
         move_away(self.pages.page_mut(place.page), place.slot, x, successor);
         x

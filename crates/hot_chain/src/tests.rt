@@ -85,7 +85,7 @@ fn redirect_to_a_chain(rt: HostRuntime) {
     assert_eq!(rt; root_of(&page, 4, &table), Some(4));
     let mut own = OwnIds::new(rt.alloc());
     if own.make_room(1).is_ok() {
-        own.push(Xid(3));
+        own.add(Xid(3));
     }
     let snapshot = Snapshot::at(rt.alloc(), table.next());
     let found = fetch(&page, 1, &snapshot, &own, &table);

@@ -5,5 +5,4 @@ pub mod Changing
 pub mod Placing
 pub mod Slotted
 pub mod Altered
-pub mod LifeLemmas
 pub mod Counted

@@ -2,4 +2,3 @@ pub mod Headers
 pub mod Writes
 pub mod Keeps
 pub mod Laws
-pub mod Lives

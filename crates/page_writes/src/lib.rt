@@ -6,13 +6,11 @@
 //! tested the room and asked for memory before.
 //!
 //! The laws say that a sound page, as pruning asks for, stays sound, and index entries stay right, under each write by an
-//! id in progress, when ids are given or finish, and under a later horizon (`specs/Laws.antt`). What the finishing of ids
-//! rests on is kept too: what is still being made is taken away by its own transaction alone (`specs/Lives.antt`).
+//! id in progress, when ids are given or finish, and under a later horizon (`specs/Laws.antt`).
 #![tactic(auto)]
 
 mod headers;
 mod laws;
-mod lives;
 mod writes;
 
 pub use headers::{deleted, heap_only, replaced, root};
@@ -20,10 +18,6 @@ pub use laws::{
     aborting_keeps_sound, adding_keeps_sound, committing_keeps_sound, giving_keeps_sound,
     later_horizon_keeps_sound, taking_away_is_counted, taking_away_keeps_sound,
     updating_here_keeps_sound,
-};
-pub use lives::{
-    aborting_keeps_lives, adding_keeps_lives, committing_keeps_lives, giving_keeps_lives,
-    taking_away_keeps_lives, updating_here_keeps_lives,
 };
 pub use writes::{delete_version, insert_version, move_away, move_in, update_here};
 

@@ -5,11 +5,10 @@ ghost use Rattle.page_slots.specs.Slots.{room_of};
 ghost use Rattle.tuple_header.specs.Version.{rounded_size_of};
 
 use crate::{
-    aborting_keeps_lives, aborting_keeps_sound, adding_keeps_lives, adding_keeps_sound,
-    committing_keeps_lives, committing_keeps_sound, delete_version, deleted, giving_keeps_lives,
+    aborting_keeps_sound, adding_keeps_sound, committing_keeps_sound, delete_version, deleted,
     giving_keeps_sound, heap_only, insert_version, later_horizon_keeps_sound, move_away, move_in,
-    replaced, root, taking_away_is_counted, taking_away_keeps_lives, taking_away_keeps_sound,
-    update_here, updating_here_keeps_lives, updating_here_keeps_sound,
+    replaced, root, taking_away_is_counted, taking_away_keeps_sound, update_here,
+    updating_here_keeps_sound,
 };
 use arrayvec::ArrayVec;
 use commit_status::{Status, StatusTable};
@@ -261,11 +260,5 @@ fn laws(rt: HostRuntime) {
     committing_keeps_sound();
     aborting_keeps_sound();
     later_horizon_keeps_sound();
-    adding_keeps_lives();
-    taking_away_keeps_lives();
-    updating_here_keeps_lives();
-    giving_keeps_lives();
-    committing_keeps_lives();
-    aborting_keeps_lives();
     assert_eq!(rt; Page::new(rt.alloc()).slots(), 0);
 }

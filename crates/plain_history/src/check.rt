@@ -78,7 +78,7 @@ impl PlainHistory {
     }
 
     /// May the session insert the key?
-    pub(crate) fn check_insert(&self, s: u8, key: u64) -> Result<(), Refused>
+    pub fn check_insert(&self, s: u8, key: u64) -> Result<(), Refused>
         ensures ok { OnOk result (MayInsert (world_of self.now) s key) }
         ensures err { IfErr result (λ why. RefusesInsert (world_of self.now) s key why) }
     {
@@ -92,7 +92,7 @@ impl PlainHistory {
     }
 
     /// May the session update or delete the key?
-    pub(crate) fn check_replace(&self, s: u8, key: u64) -> Result<(), Refused>
+    pub fn check_replace(&self, s: u8, key: u64) -> Result<(), Refused>
         ensures ok { OnOk result (MayReplace (world_of self.now) s key) }
         ensures err { IfErr result (λ why. RefusesReplace (world_of self.now) s key why) }
     {

@@ -78,6 +78,9 @@ pub(crate) enum Ask {
     Insert(u8, Written),
     Update(u8, Written),
     Delete(u8, u64),
+    Savepoint(u8),
+    RollbackTo(u8),
+    Release(u8),
     Commit(u8),
     Abort(u8),
     Prune(u32),
@@ -92,10 +95,28 @@ impl Ask {
             Ask::Insert(s, written) => Step::Insert(s, written.row_in(alloc, bodies)?),
             Ask::Update(s, written) => Step::Update(s, written.row_in(alloc, bodies)?),
             Ask::Delete(s, key) => Step::Delete(s, key),
+            Ask::Savepoint(s) => Step::Savepoint(s),
+            Ask::RollbackTo(s) => Step::RollbackTo(s),
+            Ask::Release(s) => Step::Release(s),
             Ask::Commit(s) => Step::Commit(s),
             Ask::Abort(s) => Step::Abort(s),
             Ask::Prune(page) => Step::Prune(page),
         })
+    }
+
+    /// The session whose step it is, if it is one's.
+    pub(crate) fn session(self) -> Option<u8> {
+        match self {
+            Ask::Begin(s)
+            | Ask::Get(s, _)
+            | Ask::Savepoint(s)
+            | Ask::RollbackTo(s)
+            | Ask::Release(s)
+            | Ask::Commit(s)
+            | Ask::Abort(s) => Some(s),
+            Ask::Prune(_) => None,
+            _ => self.writer(),
+        }
     }
 
     /// The session that would write, if it is a write.

@@ -8,7 +8,7 @@ use std::io;
 use tuple_header::Tuple;
 
 /// How many kinds there are.
-pub(crate) const KINDS: usize = 22;
+pub(crate) const KINDS: usize = 25;
 
 const NAMES: [&str; KINDS] = [
     "Done",
@@ -23,6 +23,8 @@ const NAMES: [&str; KINDS] = [
     "NotThere",
     "Conflict",
     "Busy",
+    "TooDeep",
+    "NoSavepoint",
     "TooLarge",
     "NoRoom",
     "NeedsFreeze",
@@ -33,6 +35,7 @@ const NAMES: [&str; KINDS] = [
     "dead slots",
     "heap-only versions",
     "versions whose successor is on another page",
+    "begun beside more than 64 children of one session",
 ];
 
 /// Counts of all kinds.
@@ -42,7 +45,7 @@ pub(crate) struct Counts {
 }
 
 fn place_of_refusal(refusal: Refusal) -> Option<usize>
-    ensures { IfSome result (λ place. place < 22) }
+    ensures { IfSome result (λ place. place < 25) }
 {
     match refusal {
         Refusal::NotOpen => Some(5),
@@ -52,17 +55,19 @@ fn place_of_refusal(refusal: Refusal) -> Option<usize>
         Refusal::NotThere => Some(9),
         Refusal::Conflict => Some(10),
         Refusal::Busy(_) => Some(11),
-        Refusal::TooLarge => Some(12),
-        Refusal::NoRoom => Some(13),
-        Refusal::NeedsFreeze => Some(14),
-        Refusal::NoSuchPage => Some(15),
-        Refusal::NoSuchSession => Some(16),
+        Refusal::TooDeep => Some(12),
+        Refusal::NoSavepoint => Some(13),
+        Refusal::TooLarge => Some(14),
+        Refusal::NoRoom => Some(15),
+        Refusal::NeedsFreeze => Some(16),
+        Refusal::NoSuchPage => Some(17),
+        Refusal::NoSuchSession => Some(18),
         Refusal::NoMemory => None,
     }
 }
 
 fn place_of_reply(reply: &Reply) -> Option<usize>
-    ensures { IfSome result (λ place. place < 22) }
+    ensures { IfSome result (λ place. place < 25) }
 {
     match reply {
         Reply::Done => Some(0),
@@ -75,24 +80,24 @@ fn place_of_reply(reply: &Reply) -> Option<usize>
 }
 
 fn place_of_version(version: &Tuple, page: u32) -> Option<usize>
-    ensures { IfSome result (λ place. place < 22) }
+    ensures { IfSome result (λ place. place < 25) }
 {
     if version.header.ctid.page != page {
-        Some(21)
+        Some(23)
     } else if version.header.is_heap_only() {
-        Some(20)
+        Some(22)
     } else {
         None
     }
 }
 
 fn place_of_slot(slot: &Slot, page: u32) -> Option<usize>
-    ensures { IfSome result (λ place. place < 22) }
+    ensures { IfSome result (λ place. place < 25) }
 {
     match slot {
-        Slot::Unused => Some(17),
-        Slot::Redirect(_) => Some(18),
-        Slot::Dead => Some(19),
+        Slot::Unused => Some(19),
+        Slot::Redirect(_) => Some(20),
+        Slot::Dead => Some(21),
         Slot::Normal(version) => place_of_version(version, page),
     }
 }
@@ -104,7 +109,7 @@ impl Counts {
     }
 
     fn add(&mut self, place: Option<usize>)
-        requires { IfSome place (λ place. place < 22) }
+        requires { IfSome place (λ place. place < 25) }
     {
         if let Some(place) = place {
             self.counts[place] = self.counts[place].saturating_add(1);
@@ -114,6 +119,13 @@ impl Counts {
     /// Counts a reply.
     pub(crate) fn add_reply(&mut self, reply: &Reply) {
         self.add(place_of_reply(reply));
+    }
+
+    /// Counts a session that began beside one with so many children: the snapshot names them where they are at most 64.
+    pub(crate) fn add_begun(&mut self, children: u32) {
+        if children > 64 {
+            self.add(Some(24));
+        }
     }
 
     /// Counts the slots of the page of this number.

@@ -45,6 +45,11 @@ pub(crate) fn draw_key(generator: &mut Generator) -> u64 {
     KEYS[generator.below(12) as usize]
 }
 
+/// One of the first three keys: a session that has written them all meets nobody's write.
+pub(crate) fn draw_key_of_few(generator: &mut Generator) -> u64 {
+    KEYS[generator.below(3) as usize]
+}
+
 /// A session of those given, and now and then a number that is none.
 pub(crate) fn draw_session(generator: &mut Generator, sessions: &[u8]) -> u8
     ensures { Contains sessions.now result ⊎ (64 ≤ result) }
@@ -65,7 +70,7 @@ fn draw_length(generator: &mut Generator) -> u16 {
     }
 }
 
-fn draw_row(generator: &mut Generator, key: u64) -> Written {
+fn draw_row(generator: &mut Generator, key: u64, length: u16) -> Written {
     Written {
         key,
         cols: [
@@ -75,19 +80,19 @@ fn draw_row(generator: &mut Generator, key: u64) -> Written {
             generator.number().cast_signed(),
         ],
         from: generator.below(3000) as u16,
-        length: draw_length(generator),
+        length,
     }
 }
 
-// A write of the key. One in eight asks for what the session doesn't read: a row, or none.
-fn draw_write(generator: &mut Generator, s: u8, key: u64, reads: bool) -> Ask {
+// A write of the key, with a body of this length. One in eight asks for what the session doesn't read: a row, or none.
+fn draw_write(generator: &mut Generator, s: u8, key: u64, reads: bool, length: u16) -> Ask {
     let has_row = reads != (generator.below(8) == 0);
     if !has_row {
-        Ask::Insert(s, draw_row(generator, key))
+        Ask::Insert(s, draw_row(generator, key, length))
     } else if generator.below(4) == 0 {
         Ask::Delete(s, key)
     } else {
-        Ask::Update(s, draw_row(generator, key))
+        Ask::Update(s, draw_row(generator, key, length))
     }
 }
 
@@ -95,7 +100,13 @@ fn draw_write(generator: &mut Generator, s: u8, key: u64, reads: bool) -> Ask {
 fn draw_any(generator: &mut Generator, s: u8, key: u64, reads: bool, pages: u32) -> Ask {
     match generator.below(100) {
         0..=14 => Ask::Get(s, key),
-        15..=80 => draw_write(generator, s, key, reads),
+        15..=69 => {
+            let length = draw_length(generator);
+            draw_write(generator, s, key, reads, length)
+        }
+        70..=74 => Ask::Savepoint(s),
+        75..=77 => Ask::RollbackTo(s),
+        78..=80 => Ask::Release(s),
         81..=87 => Ask::Commit(s),
         88..=90 => Ask::Abort(s),
         91 => Ask::Begin(s),
@@ -115,8 +126,42 @@ pub(crate) fn draw_step(
     match standing {
         Standing::Closed if choice < 7 => Ask::Begin(s),
         Standing::Failed if choice < 2 => Ask::Commit(s),
-        Standing::Failed if choice < 5 => Ask::Abort(s),
+        Standing::Failed if choice < 4 => Ask::Abort(s),
+        Standing::Failed if choice < 6 => Ask::RollbackTo(s),
         Standing::Reads => draw_any(generator, s, key, true, pages),
         _ => draw_any(generator, s, key, false, pages),
+    }
+}
+
+// A step of a session that stays open for long. Once its newest level has an id, it soon sets a savepoint or releases one.
+fn draw_in_level(generator: &mut Generator, s: u8, key: u64, reads: bool, lacks_id: bool) -> Ask {
+    match (generator.below(1000), lacks_id) {
+        (0, _) => Ask::Commit(s),
+        (1..=2, _) => Ask::Abort(s),
+        (3..=19, _) => Ask::RollbackTo(s),
+        (20..=89, _) => Ask::Get(s, key),
+        (90..=579, false) | (90..=189, true) => Ask::Savepoint(s),
+        (580..=929, false) | (190..=229, true) => Ask::Release(s),
+        _ => {
+            let length = generator.below(7) as u16;
+            draw_write(generator, s, key, reads, length)
+        }
+    }
+}
+
+/// A step of a session that makes many levels. After a conflict it goes back to a savepoint, or else ends.
+pub(crate) fn draw_step_in_levels(
+    generator: &mut Generator,
+    s: u8,
+    key: u64,
+    standing: Standing,
+    lacks_id: bool,
+) -> Ask {
+    match standing {
+        Standing::Closed => Ask::Begin(s),
+        Standing::Failed if generator.below(8) == 0 => Ask::Abort(s),
+        Standing::Failed => Ask::RollbackTo(s),
+        Standing::Reads => draw_in_level(generator, s, key, true, lacks_id),
+        Standing::ReadsNone => draw_in_level(generator, s, key, false, lacks_id),
     }
 }

@@ -11,6 +11,7 @@ mod compare;
 mod counts;
 mod draw;
 mod generator;
+mod levels;
 mod pair;
 mod plain_side;
 mod run;

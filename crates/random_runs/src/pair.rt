@@ -8,11 +8,12 @@ ghost use Rattle.xid_circle.specs.Circle.{IsNormal, distance_of};
 use crate::ask::{Ask, Bodies};
 use crate::compare::{same_found, same_reply};
 use crate::draw::{KEYS, Standing};
-use crate::plain_side::{answer, answer_and_undo, answer_to_too_large, refusal_of};
+use crate::levels::Levels;
+use crate::plain_side::{answer, answer_to_too_large, answer_without_writing, refusal_of};
 use page_slots::Page;
 use plain_history::{PlainHistory, Refused};
 use session_core::{Engine, Refusal, Reply, Settings};
-use std::alloc::Global;
+use std::alloc::{AllocError, Global};
 use xid_circle::{Xid, distance, next};
 
 /// What differed.
@@ -34,8 +35,8 @@ pub(crate) struct Pair {
     engine: Engine,
     plain: PlainHistory,
     settings: Settings,
-    // Whether the session, if it is open, has been given an id.
-    has_id: [bool; 256],
+    // Those of each session that is open.
+    levels: Vec<Levels>,
 }
 
 // What was so before a step.
@@ -53,9 +54,28 @@ fn is_at_stop(first: Xid, next: Xid, stop_age: u32) -> bool
     first.is_normal() && next.is_normal() && distance(first, next) >= stop_age
 }
 
-// The id after it, where it is one.
-fn after(x: Xid) -> Xid {
-    if x.is_normal() { next(x) } else { x }
+// The id that is given after so many from this one on.
+fn after(x: Xid, count: usize) -> Xid {
+    let mut x = x;
+    for _ in 0..count {
+        if x.is_normal() {
+            x = next(x);
+        }
+    }
+    x
+}
+
+// Whether of so many ids that would be given, the last is too far from the first.
+fn is_short(first: Xid, next: Xid, stop_age: u32, count: usize) -> bool {
+    count > 0 && is_at_stop(first, after(next, count - 1), stop_age)
+}
+
+fn no_levels(alloc: Global) -> Result<Vec<Levels>, AllocError> {
+    let mut levels = Vec::new(alloc);
+    for _ in 0..64usize {
+        levels.push(Levels::new())?;
+    }
+    Ok(levels)
 }
 
 // Whether the page is in use, and a version of this size does not fit.
@@ -68,8 +88,9 @@ fn is_full_page(page: Option<&Page>, size: usize) -> bool
     }
 }
 
+// Whether the step was done. What is read changes nothing, and isn't asked for here.
 fn is_done(reply: &Reply) -> bool {
-    matches!(reply, Reply::Done)
+    matches!(reply, Reply::Done | Reply::Committed | Reply::RolledBack)
 }
 
 impl Pair {
@@ -81,11 +102,14 @@ impl Pair {
         let Ok(plain) = PlainHistory::new(alloc) else {
             return Err(Difference::NoMemory);
         };
+        let Ok(levels) = no_levels(alloc) else {
+            return Err(Difference::NoMemory);
+        };
         Ok(Pair {
             engine,
             plain,
             settings,
-            has_id: [false; 256],
+            levels,
         })
     }
 
@@ -104,15 +128,27 @@ impl Pair {
         }
     }
 
-    // Whether the step would need an id, and none may be given.
+    fn levels(&self, s: u8) -> Option<&Levels> {
+        self.levels.get(s as usize)
+    }
+
+    /// How many ids the session has below its first.
+    pub(crate) fn children(&self, s: u8) -> u32 {
+        self.levels(s).map_or(0, |levels| levels.children())
+    }
+
+    /// How many levels of the session have no id.
+    pub(crate) fn lacking(&self, s: u8) -> usize {
+        self.levels(s).map_or(0, |levels| levels.lacking())
+    }
+
+    // Whether the step would need ids, and not as many may be given.
     fn needs_freeze(&self, ask: Ask) -> bool {
+        let Some(s) = ask.writer() else {
+            return false;
+        };
         let (next, first) = self.engine.ids();
-        match ask.writer() {
-            Some(s) => {
-                !self.has_id[s as usize] && is_at_stop(first, next, self.settings.stop_age)
-            }
-            None => false,
-        }
+        is_short(first, next, self.settings.stop_age, self.lacking(s))
     }
 
     fn before(&self, ask: Ask) -> Before {
@@ -167,7 +203,7 @@ impl Pair {
         } else {
             return answer(&mut self.plain, bodies, ask);
         };
-        match answer_and_undo(&mut self.plain, bodies, s, ask) {
+        match answer_without_writing(&mut self.plain, bodies, ask) {
             Some(Reply::Done) => Some(Reply::Refused(lack)),
             other => other,
         }
@@ -196,22 +232,16 @@ impl Pair {
         }
     }
 
-    // The ids that there have to be. A write that is done gives its session an id where it has none, and no other step
-    // changes them.
+    // The ids that there have to be. A write that is done gives an id to each level of its session that has none, and no
+    // other step changes them.
     fn expected_ids(&mut self, ask: Ask, before: Before, reply: &Reply) -> (Xid, Xid) {
-        if !is_done(reply) {
-            return before.ids;
-        }
-        if let Ask::Begin(s) = ask {
-            self.has_id[s as usize] = false;
-        }
-        if let Some(s) = ask.writer() {
-            if !self.has_id[s as usize] {
-                self.has_id[s as usize] = true;
-                return (after(before.ids.0), before.ids.1);
+        let mut given = 0;
+        if let (true, Some(s)) = (is_done(reply), ask.session()) {
+            if let Some(levels) = self.levels.get_mut(s as usize) {
+                given = levels.follow(ask);
             }
         }
-        before.ids
+        (after(before.ids.0, given), before.ids.1)
     }
 
     /// Does the step on both sides, and gives the reply, where it is as it has to be.

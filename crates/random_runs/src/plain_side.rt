@@ -10,6 +10,8 @@ use session_core::{Refusal, Reply, Row};
 pub(crate) fn refusal_of(why: Refused) -> Option<Refusal>
     ensures busy { (o : ℕ) → why ≡ Refused.Busy o → result ≡ Some (Refusal.Busy o) }
     ensures conflict { (why ≡ Refused.Conflict) ↔ (result ≡ Some Refusal.Conflict) }
+    ensures too_deep { (why ≡ Refused.TooDeep) ↔ (result ≡ Some Refusal.TooDeep) }
+    ensures no_savepoint { (why ≡ Refused.NoSavepoint) ↔ (result ≡ Some Refusal.NoSavepoint) }
     ensures deadlock { why ≡ Refused.Deadlock → result ≡ None }
 {
     match why {
@@ -21,6 +23,8 @@ pub(crate) fn refusal_of(why: Refused) -> Option<Refusal>
         Refused::NotThere => Some(Refusal::NotThere),
         Refused::Conflict => Some(Refusal::Conflict),
         Refused::Busy(o) => Some(Refusal::Busy(o)),
+        Refused::TooDeep => Some(Refusal::TooDeep),
+        Refused::NoSavepoint => Some(Refusal::NoSavepoint),
         _ => None,
     }
 }
@@ -88,28 +92,31 @@ pub(crate) fn answer(plain: &mut PlainHistory, bodies: &Bodies, ask: Ask) -> Opt
             let answered = plain.delete(s, key);
             done(without_wait(plain, s, answered))
         }
+        Ask::Savepoint(s) => done(plain.savepoint(s)),
+        Ask::RollbackTo(s) => done(plain.roll_back_to(s)),
+        Ask::Release(s) => done(plain.release(s)),
         Ask::Commit(s) => ended(plain.commit(s)),
         Ask::Abort(s) => rolled_back(plain.abort(s)),
         Ask::Prune(_) => None,
     }
 }
 
-/// What the plain program answers to the session's write, which is taken back then. A conflict makes it fail all the same.
-pub(crate) fn answer_and_undo(
+/// What the plain program answers to a write, which it does only where it refuses it: a conflict makes the session fail.
+pub(crate) fn answer_without_writing(
     plain: &mut PlainHistory,
     bodies: &Bodies,
-    s: u8,
     ask: Ask,
 ) -> Option<Reply> {
-    if let Err(why) = plain.savepoint(s) {
-        return refused(why);
+    let checked = match ask {
+        Ask::Insert(s, written) => plain.check_insert(s, written.key),
+        Ask::Update(s, written) => plain.check_replace(s, written.key),
+        Ask::Delete(s, key) => plain.check_replace(s, key),
+        _ => return None,
+    };
+    match checked {
+        Ok(()) => Some(Reply::Done),
+        Err(_) => answer(plain, bodies, ask),
     }
-    let reply = answer(plain, bodies, ask)?;
-    if let Reply::Refused(Refusal::Conflict) = reply {
-        return Some(reply);
-    }
-    let undone = plain.roll_back_to(s).is_ok() && plain.release(s).is_ok();
-    if undone { Some(reply) } else { None }
 }
 
 /// What the plain program answers to the session's write of a row that is too large.

@@ -2,10 +2,10 @@
 
 use crate::ask::{Ask, Bodies};
 use crate::counts::Counts;
-use crate::draw::{draw_key, draw_session, draw_step};
+use crate::draw::{draw_key, draw_key_of_few, draw_session, draw_step, draw_step_in_levels};
 use crate::generator::Generator;
 use crate::pair::{Difference, Pair};
-use session_core::Settings;
+use session_core::{Reply, Settings};
 use std::alloc::Global;
 
 /// How many runs there are.
@@ -13,6 +13,9 @@ pub(crate) const RUNS: u64 = 2600;
 
 // A few sessions, also the last ones. Of more than eight writers a snapshot asks for memory.
 const SESSIONS: [u8; 12] = [0, 63, 1, 2, 3, 62, 4, 5, 6, 31, 32, 33];
+
+// The session that makes many levels, in the runs where one does.
+const NESTING: u8 = 7;
 
 // The ids end in the runs of the second: the next one after them is 3.
 const FIRST_IDS: [u32; 4] = [3, 4_294_967_290, 2_147_483_640, 1000];
@@ -25,9 +28,19 @@ pub(crate) struct Failure {
     pub(crate) difference: Difference,
 }
 
+// Whether one session makes many levels in the run. Such a run has 600 steps.
+fn is_nested(run: u64) -> bool {
+    run % 10 == 9
+}
+
 fn settings_of(run: u64) -> Settings {
     Settings {
-        max_pages: 1 + (run % 4) as u32,
+        // The session that makes many levels keeps old rows from being pruned.
+        max_pages: if is_nested(run) {
+            8
+        } else {
+            1 + (run % 4) as u32
+        },
         stop_age: match run % 7 {
             5 => 10,
             6 => 25,
@@ -66,6 +79,27 @@ fn compare_views(pair: &mut Pair, sessions: &[u8], step: u64) -> Result<(), Fail
     }
 }
 
+// The next step: whose it is, and what the session asks for as it stands.
+fn draw_ask(generator: &mut Generator, pair: &mut Pair, run: u64) -> Ask {
+    if is_nested(run) && generator.below(4) > 0 {
+        let key = draw_key_of_few(generator);
+        let standing = pair.standing(NESTING, key);
+        let lacks_id = pair.lacking(NESTING) > 0;
+        return draw_step_in_levels(generator, NESTING, key, standing, lacks_id);
+    }
+    let s = draw_session(generator, sessions_of(run));
+    let key = draw_key(generator);
+    let standing = pair.standing(s, key);
+    draw_step(generator, s, key, standing, settings_of(run).max_pages)
+}
+
+fn count(counts: &mut Counts, pair: &Pair, ask: Ask, reply: &Reply) {
+    counts.add_reply(reply);
+    if let (Ask::Begin(_), Reply::Done) = (ask, reply) {
+        counts.add_begun(pair.children(NESTING));
+    }
+}
+
 fn count_pages(pair: &Pair, pages: u32, counts: &mut Counts) {
     for number in 0..pages {
         if let Some(page) = pair.page(number) {
@@ -93,16 +127,12 @@ pub(crate) fn do_run(
     counts: &mut Counts,
 ) -> Result<(), Failure> {
     let settings = settings_of(run);
-    let sessions = sessions_of(run);
     let mut generator = Generator::new(run);
     let mut pair = new_pair(alloc, settings)?;
     for step in 0..steps_of(run) {
-        let s = draw_session(&mut generator, sessions);
-        let key = draw_key(&mut generator);
-        let standing = pair.standing(s, key);
-        let ask = draw_step(&mut generator, s, key, standing, settings.max_pages);
+        let ask = draw_ask(&mut generator, &mut pair, run);
         match pair.step(alloc, bodies, ask) {
-            Ok(reply) => counts.add_reply(&reply),
+            Ok(reply) => count(counts, &pair, ask, &reply),
             Err(difference) => {
                 return Err(Failure {
                     step,
@@ -112,7 +142,8 @@ pub(crate) fn do_run(
             }
         }
         if step % 50 == 49 {
-            compare_views(&mut pair, sessions, step)?;
+            compare_views(&mut pair, sessions_of(run), step)?;
+            compare_views(&mut pair, &[NESTING], step)?;
         }
     }
     count_pages(&pair, settings.max_pages, counts);

@@ -12,11 +12,11 @@ use Rattle.std.proofs.lemmas.Slice.Eq.{bytes_eq-Decides}
 use Rattle.std.proofs.lemmas.Bool.{lt-leb, cases_lt}
 use Rattle.std.proofs.lemmas.List.{nil_from_length, append-nil}
 use Rattle.std.proofs.lemmas.Int.{ints}
-use Rattle.script.specs.Engine.{Begin, Get, Insert, Update, Delete, Commit, Abort, Prune, RowText}
+use Rattle.script.specs.Engine.{Begin, Get, Insert, Update, Delete, Savepoint, RollbackTo, Release, Commit, Abort, Prune, RowText}
 use Rattle.script.specs.declared.line.Line.{Line}
 use Rattle.script.specs.declared.line.Line.TheVariants.{Do, Ids, Page, Entries}
 use Rattle.script.specs.declared.line.Verb.{Verb}
-use Rattle.script.specs.declared.line.Verb.TheVariants.{Get as get_verb, Begin as begin_verb, Commit as commit_verb, Insert as insert_verb, Update as update_verb, Delete as delete_verb, Abort as abort_verb, Prune as prune_verb, Page as page_verb, Entries as entries_verb}
+use Rattle.script.specs.declared.line.Verb.TheVariants.{Get as get_verb, Begin as begin_verb, Commit as commit_verb, Insert as insert_verb, Update as update_verb, Delete as delete_verb, Savepoint as savepoint_verb, RollbackTo as rollback_verb, Release as release_verb, Abort as abort_verb, Prune as prune_verb, Page as page_verb, Entries as entries_verb}
 use Rattle.script.specs.Verbs.{verb_of, verb_text}
 use Rattle.script.specs.Grammar.{Fits, KeyFits, RowFits, spelling, spaced, hex_text, body_text, row_text, key_words, row_words}
 use Rattle.script.specs.Reading.{line_at, line_of, cut, number_of, number_then, column_of, column_then, nibble_of, pair_and, pairs_of, body_of, row_words_of, key_words_of}
@@ -282,6 +282,9 @@ line_of_says commit_verb rest l h = let m = one_number (codes "commit") 255 (λ 
 line_of_says insert_verb rest l h = let m = one_row (codes "insert") (λ p. Do (Insert p.0 p.1)) rest l h in rw (← m.2) (m.1, m.3)
 line_of_says update_verb rest l h = let m = one_row (codes "update") (λ p. Do (Update p.0 p.1)) rest l h in rw (← m.2) (m.1, m.3)
 line_of_says delete_verb rest l h = let m = one_key (codes "delete") (λ p. Do (Delete p.0 p.1)) rest l h in rw (← m.2) (m.1, m.3)
+line_of_says savepoint_verb rest l h = let m = one_number (codes "savepoint") 255 (λ s. Do (Savepoint s)) rest l (omega arith) h in rw (← m.2) (omega (arith, m.1), m.3)
+line_of_says rollback_verb rest l h = let m = one_number (codes "rollbackto") 255 (λ s. Do (RollbackTo s)) rest l (omega arith) h in rw (← m.2) (omega (arith, m.1), m.3)
+line_of_says release_verb rest l h = let m = one_number (codes "release") 255 (λ s. Do (Release s)) rest l (omega arith) h in rw (← m.2) (omega (arith, m.1), m.3)
 line_of_says abort_verb rest l h = let m = one_number (codes "abort") 255 (λ s. Do (Abort s)) rest l (omega arith) h in rw (← m.2) (omega (arith, m.1), m.3)
 line_of_says prune_verb rest l h = let m = one_number (codes "prune") 4294967295 (λ p. Do (Prune p)) rest l (omega arith) h in rw (← m.2) (omega (arith, m.1), m.3)
 line_of_says page_verb rest l h = let m = one_number (codes "page") 4294967295 (λ p. Page p) rest l (omega arith) h in rw (← m.2) (omega (arith, m.1), m.3)
@@ -296,7 +299,7 @@ find_says p (x ∷ xs) y h = elim (chosen (p x) (Some x) (find p xs) (Some y) h)
 
 -- the verb that a word is found to be spells that word
 verb_of_says : (w : List ℕ) (verb : Verb) → verb_of w ≡ Some verb → w ≡ verb_text verb
-verb_of_says w verb h = verb_is w (verb_text verb) (find_says (λ verb. bytes_eq w (verb_text verb)) (get_verb ∷ begin_verb ∷ commit_verb ∷ insert_verb ∷ update_verb ∷ delete_verb ∷ abort_verb ∷ prune_verb ∷ page_verb ∷ entries_verb ∷ []) verb h)
+verb_of_says w verb h = verb_is w (verb_text verb) (find_says (λ verb. bytes_eq w (verb_text verb)) (get_verb ∷ begin_verb ∷ commit_verb ∷ insert_verb ∷ update_verb ∷ delete_verb ∷ savepoint_verb ∷ rollback_verb ∷ release_verb ∷ abort_verb ∷ prune_verb ∷ page_verb ∷ entries_verb ∷ []) verb h)
 
 pub line_at_says : (w : List ℕ) (l : Line) → line_at w ≡ Some l → Fits l × (w ≡ spelling l)
 unfolding line_at
@@ -371,6 +374,12 @@ line_at-spelling (Do (Update s row)) h =
     with_verb update_verb (row_words s row) (refl, (refl, (refl, (refl, (refl, (refl, tt)))))) refl refl ∙ ap (λ (o : Option (ℕ × RowText)). option_map (λ p. Do (Update p.0 p.1)) o) (row_words_of-words s row h)
 line_at-spelling (Do (Delete s k)) h =
     with_verb delete_verb (key_words s k) (refl, (refl, (refl, (refl, (refl, (refl, tt)))))) refl refl ∙ ap (λ (o : Option (ℕ × ℕ)). option_map (λ p. Do (Delete p.0 p.1)) o) (key_words_of-words s k h.0 h.1)
+line_at-spelling (Do (Savepoint s)) h =
+    with_verb savepoint_verb (decimal s) (refl, (refl, (refl, (refl, (refl, (refl, (refl, (refl, (refl, tt))))))))) refl refl ∙ ap (λ (o : Option ℕ). option_map (λ s. Do (Savepoint s)) o) (number_of-decimal 255 s (omega arith) (omega arith))
+line_at-spelling (Do (RollbackTo s)) h =
+    with_verb rollback_verb (decimal s) (refl, (refl, (refl, (refl, (refl, (refl, (refl, (refl, (refl, (refl, tt)))))))))) refl refl ∙ ap (λ (o : Option ℕ). option_map (λ s. Do (RollbackTo s)) o) (number_of-decimal 255 s (omega arith) (omega arith))
+line_at-spelling (Do (Release s)) h =
+    with_verb release_verb (decimal s) (refl, (refl, (refl, (refl, (refl, (refl, (refl, tt))))))) refl refl ∙ ap (λ (o : Option ℕ). option_map (λ s. Do (Release s)) o) (number_of-decimal 255 s (omega arith) (omega arith))
 line_at-spelling (Do (Commit s)) h =
     with_verb commit_verb (decimal s) (refl, (refl, (refl, (refl, (refl, (refl, tt)))))) refl refl ∙ ap (λ (o : Option ℕ). option_map (λ s. Do (Commit s)) o) (number_of-decimal 255 s (omega arith) (omega arith))
 line_at-spelling (Do (Abort s)) h =
@@ -417,6 +426,9 @@ verb_free commit_verb = (refl, (refl, (refl, (refl, (refl, (refl, tt))))))
 verb_free insert_verb = (refl, (refl, (refl, (refl, (refl, (refl, tt))))))
 verb_free update_verb = (refl, (refl, (refl, (refl, (refl, (refl, tt))))))
 verb_free delete_verb = (refl, (refl, (refl, (refl, (refl, (refl, tt))))))
+verb_free savepoint_verb = (refl, (refl, (refl, (refl, (refl, (refl, (refl, (refl, (refl, tt)))))))))
+verb_free rollback_verb = (refl, (refl, (refl, (refl, (refl, (refl, (refl, (refl, (refl, (refl, tt))))))))))
+verb_free release_verb = (refl, (refl, (refl, (refl, (refl, (refl, (refl, tt)))))))
 verb_free abort_verb = (refl, (refl, (refl, (refl, (refl, tt)))))
 verb_free prune_verb = (refl, (refl, (refl, (refl, (refl, tt)))))
 verb_free page_verb = (refl, (refl, (refl, (refl, tt))))
@@ -436,6 +448,9 @@ Free-spelling (Do (Get s k)) h = Free-append 10 (codes "get") (spaced (key_words
 Free-spelling (Do (Insert s row)) h = Free-append 10 (codes "insert") (spaced (row_words s row)) (verb_free insert_verb) (row_words_free s row h)
 Free-spelling (Do (Update s row)) h = Free-append 10 (codes "update") (spaced (row_words s row)) (verb_free update_verb) (row_words_free s row h)
 Free-spelling (Do (Delete s k)) h = Free-append 10 (codes "delete") (spaced (key_words s k)) (verb_free delete_verb) (key_words_free s k h)
+Free-spelling (Do (Savepoint s)) h = Free-append 10 (codes "savepoint") (spaced (decimal s)) (verb_free savepoint_verb) (one_free s (omega arith))
+Free-spelling (Do (RollbackTo s)) h = Free-append 10 (codes "rollbackto") (spaced (decimal s)) (verb_free rollback_verb) (one_free s (omega arith))
+Free-spelling (Do (Release s)) h = Free-append 10 (codes "release") (spaced (decimal s)) (verb_free release_verb) (one_free s (omega arith))
 Free-spelling (Do (Commit s)) h = Free-append 10 (codes "commit") (spaced (decimal s)) (verb_free commit_verb) (one_free s (omega arith))
 Free-spelling (Do (Abort s)) h = Free-append 10 (codes "abort") (spaced (decimal s)) (verb_free abort_verb) (one_free s (omega arith))
 Free-spelling (Do (Prune p)) h = Free-append 10 (codes "prune") (spaced (decimal p)) (verb_free prune_verb) (one_free p (omega arith))

@@ -5,7 +5,7 @@ use Rattle.std.specs.Fmt.{decimal, signed_decimal}
 use Rattle.page_slots.specs.declared.slot.Slot.{Slot}
 use Rattle.page_slots.specs.declared.slot.Slot.TheVariants.{Unused, Normal, Redirect, Dead}
 use Rattle.page_slots.specs.Slots.{slot_at}
-use Rattle.script.specs.Engine.{Reply, Done, Found, Committed, RolledBack, Refused, Refusal, NotOpen, AlreadyOpen, Failed, AlreadyThere, NotThere, Conflict, Busy, TooLarge, NoRoom, NeedsFreeze, NoMemoryForStep, NoSuchPage, NoSuchSession, Entry}
+use Rattle.script.specs.Engine.{Reply, Done, Found, Committed, RolledBack, Refused, Refusal, NotOpen, AlreadyOpen, Failed, AlreadyThere, NotThere, Conflict, Busy, TooDeep, NoSavepoint, TooLarge, NoRoom, NeedsFreeze, NoMemoryForStep, NoSuchPage, NoSuchSession, Entry}
 use Rattle.script.specs.Grammar.{spaced, row_text}
 
 -- the number and the name of a refusal
@@ -17,6 +17,8 @@ refusal_text AlreadyThere = codes "4 AlreadyThere"
 refusal_text NotThere = codes "5 NotThere"
 refusal_text Conflict = codes "6 Conflict"
 refusal_text (Busy s) = codes "7 Busy" ++ spaced (decimal s)
+refusal_text TooDeep = codes "11 TooDeep"
+refusal_text NoSavepoint = codes "12 NoSavepoint"
 refusal_text TooLarge = codes "13 TooLarge"
 refusal_text NoRoom = codes "14 NoRoom"
 refusal_text NeedsFreeze = codes "15 NeedsFreeze"

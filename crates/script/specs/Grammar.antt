@@ -3,7 +3,7 @@ use Rattle.std.specs.Prelude.{◌≡◌, ℕ, ℤ, ◌/◌, ◌%◌, ◌^◌, �
 use Rattle.std.specs.Int.{w64}
 use Rattle.std.specs.List.{flat_map, AllByRecursion}
 use Rattle.std.specs.Fmt.{decimal, signed_decimal, digit_glyph}
-use Rattle.script.specs.Engine.{Settings, RowText, Step, Begin, Get, Insert, Update, Delete, Commit, Abort, Prune}
+use Rattle.script.specs.Engine.{Settings, RowText, Step, Begin, Get, Insert, Update, Delete, Savepoint, RollbackTo, Release, Commit, Abort, Prune}
 use Rattle.script.specs.declared.line.Line.{Line}
 use Rattle.script.specs.declared.line.Line.TheVariants.{Do, Ids, Page, Entries}
 
@@ -52,6 +52,9 @@ step_text (Get s k) = codes "get" ++ spaced (key_words s k)
 step_text (Insert s row) = codes "insert" ++ spaced (row_words s row)
 step_text (Update s row) = codes "update" ++ spaced (row_words s row)
 step_text (Delete s k) = codes "delete" ++ spaced (key_words s k)
+step_text (Savepoint s) = codes "savepoint" ++ spaced (decimal s)
+step_text (RollbackTo s) = codes "rollbackto" ++ spaced (decimal s)
+step_text (Release s) = codes "release" ++ spaced (decimal s)
 step_text (Commit s) = codes "commit" ++ spaced (decimal s)
 step_text (Abort s) = codes "abort" ++ spaced (decimal s)
 step_text (Prune p) = codes "prune" ++ spaced (decimal p)
@@ -79,6 +82,9 @@ StepFits (Get s k) = KeyFits s k
 StepFits (Insert s row) = RowFits s row
 StepFits (Update s row) = RowFits s row
 StepFits (Delete s k) = KeyFits s k
+StepFits (Savepoint s) = s < 2 ^ 8
+StepFits (RollbackTo s) = s < 2 ^ 8
+StepFits (Release s) = s < 2 ^ 8
 StepFits (Commit s) = s < 2 ^ 8
 StepFits (Abort s) = s < 2 ^ 8
 StepFits (Prune p) = p < 2 ^ 32

@@ -3,12 +3,12 @@ use Rattle.std.specs.Prelude.{ℕ, ℤ, pos, negsuc, ◌+◌, ◌-◌, ◌*◌, 
 use Rattle.std.specs.Option.{option_map}
 use Rattle.std.specs.Char.{is_ascii_digit}
 use Rattle.std.specs.Str.{bytes_eq}
-use Rattle.script.specs.Engine.{Settings, RowText, Begin, Get, Insert, Update, Delete, Commit, Abort, Prune}
+use Rattle.script.specs.Engine.{Settings, RowText, Begin, Get, Insert, Update, Delete, Savepoint, RollbackTo, Release, Commit, Abort, Prune}
 use Rattle.script.specs.Verbs.{verb_of}
 use Rattle.script.specs.declared.line.Line.{Line}
 use Rattle.script.specs.declared.line.Line.TheVariants.{Do, Ids, Page, Entries}
 use Rattle.script.specs.declared.line.Verb.{Verb}
-use Rattle.script.specs.declared.line.Verb.TheVariants.{Get as get_verb, Begin as begin_verb, Commit as commit_verb, Insert as insert_verb, Update as update_verb, Delete as delete_verb, Abort as abort_verb, Prune as prune_verb, Page as page_verb, Entries as entries_verb}
+use Rattle.script.specs.declared.line.Verb.TheVariants.{Get as get_verb, Begin as begin_verb, Commit as commit_verb, Insert as insert_verb, Update as update_verb, Delete as delete_verb, Savepoint as savepoint_verb, RollbackTo as rollback_verb, Release as release_verb, Abort as abort_verb, Prune as prune_verb, Page as page_verb, Entries as entries_verb}
 
 infixl 10 ◌>>=◌
 abbrev pub ◌>>=◌ : {A B : Type 0} → Option A → (A → Option B) → Option B
@@ -118,6 +118,9 @@ line_of commit_verb rest = option_map (λ s. Do (Commit s)) (number_of 255 rest)
 line_of insert_verb rest = option_map (λ p. Do (Insert p.0 p.1)) (row_words_of rest)
 line_of update_verb rest = option_map (λ p. Do (Update p.0 p.1)) (row_words_of rest)
 line_of delete_verb rest = option_map (λ p. Do (Delete p.0 p.1)) (key_words_of rest)
+line_of savepoint_verb rest = option_map (λ s. Do (Savepoint s)) (number_of 255 rest)
+line_of rollback_verb rest = option_map (λ s. Do (RollbackTo s)) (number_of 255 rest)
+line_of release_verb rest = option_map (λ s. Do (Release s)) (number_of 255 rest)
 line_of abort_verb rest = option_map (λ s. Do (Abort s)) (number_of 255 rest)
 line_of prune_verb rest = option_map (λ p. Do (Prune p)) (number_of 4294967295 rest)
 line_of page_verb rest = option_map (λ p. Page p) (number_of 4294967295 rest)

@@ -2,7 +2,7 @@
 use Rattle.std.specs.Prelude.{List, ℕ, [], ◌∷◌, codes, find, Option}
 use Rattle.std.specs.Str.{bytes_eq}
 use Rattle.script.specs.declared.line.Verb.{Verb}
-use Rattle.script.specs.declared.line.Verb.TheVariants.{Get, Begin, Commit, Insert, Update, Delete, Abort, Prune, Page, Entries}
+use Rattle.script.specs.declared.line.Verb.TheVariants.{Get, Begin, Commit, Insert, Update, Delete, Savepoint, RollbackTo, Release, Abort, Prune, Page, Entries}
 
 abbrev pub verb_text : Verb → List ℕ
 verb_text Get = codes "get"
@@ -11,6 +11,9 @@ verb_text Commit = codes "commit"
 verb_text Insert = codes "insert"
 verb_text Update = codes "update"
 verb_text Delete = codes "delete"
+verb_text Savepoint = codes "savepoint"
+verb_text RollbackTo = codes "rollbackto"
+verb_text Release = codes "release"
 verb_text Abort = codes "abort"
 verb_text Prune = codes "prune"
 verb_text Page = codes "page"
@@ -18,4 +21,4 @@ verb_text Entries = codes "entries"
 
 -- the verb of a word
 abbrev pub verb_of : List ℕ → Option Verb
-verb_of word = find (λ verb. bytes_eq word (verb_text verb)) (Get ∷ Begin ∷ Commit ∷ Insert ∷ Update ∷ Delete ∷ Abort ∷ Prune ∷ Page ∷ Entries ∷ [])
+verb_of word = find (λ verb. bytes_eq word (verb_text verb)) (Get ∷ Begin ∷ Commit ∷ Insert ∷ Update ∷ Delete ∷ Savepoint ∷ RollbackTo ∷ Release ∷ Abort ∷ Prune ∷ Page ∷ Entries ∷ [])

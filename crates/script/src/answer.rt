@@ -87,6 +87,8 @@ fn refusal(out: &mut Vec<u8>, refusal: Refusal) -> Result<(), AllocError>
             out.extend_from_slice(b"7 Busy ")?;
             unsigned(out, u64::from(s))
         }
+        Refusal::TooDeep => out.extend_from_slice(b"11 TooDeep"),
+        Refusal::NoSavepoint => out.extend_from_slice(b"12 NoSavepoint"),
         Refusal::TooLarge => out.extend_from_slice(b"13 TooLarge"),
         Refusal::NoRoom => out.extend_from_slice(b"14 NoRoom"),
         Refusal::NeedsFreeze => out.extend_from_slice(b"15 NeedsFreeze"),

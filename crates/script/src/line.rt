@@ -31,6 +31,9 @@ pub enum Verb {
     Insert,
     Update,
     Delete,
+    Savepoint,
+    RollbackTo,
+    Release,
     Abort,
     Prune,
     Page,
@@ -53,6 +56,12 @@ fn verb_at(word: &[u8]) -> Option<Verb>
         Some(Verb::Update)
     } else if word == b"delete".as_slice() {
         Some(Verb::Delete)
+    } else if word == b"savepoint".as_slice() {
+        Some(Verb::Savepoint)
+    } else if word == b"rollbackto".as_slice() {
+        Some(Verb::RollbackTo)
+    } else if word == b"release".as_slice() {
+        Some(Verb::Release)
     } else if word == b"abort".as_slice() {
         Some(Verb::Abort)
     } else if word == b"prune".as_slice() {
@@ -136,6 +145,9 @@ fn line_with(alloc: Global, verb: Verb, rest: &[u8]) -> Result<Option<Line>, All
         Verb::Insert => Ok(row(alloc, rest)?.map(|(s, row)| Line::Do(Step::Insert(s, row)))),
         Verb::Update => Ok(row(alloc, rest)?.map(|(s, row)| Line::Do(Step::Update(s, row)))),
         Verb::Delete => Ok(key(rest).map(|(s, key)| Line::Do(Step::Delete(s, key)))),
+        Verb::Savepoint => Ok(number8(rest).map(|s| Line::Do(Step::Savepoint(s)))),
+        Verb::RollbackTo => Ok(number8(rest).map(|s| Line::Do(Step::RollbackTo(s)))),
+        Verb::Release => Ok(number8(rest).map(|s| Line::Do(Step::Release(s)))),
         Verb::Abort => Ok(number8(rest).map(|s| Line::Do(Step::Abort(s)))),
         Verb::Prune => Ok(page(rest).map(|p| Line::Do(Step::Prune(p)))),
         Verb::Page => Ok(page(rest).map(|p| Line::Page(p))),

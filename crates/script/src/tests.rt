@@ -198,7 +198,7 @@ fn script_of(alloc: Global, line: &[u8]) -> Result<Vec<u8>, AllocError> {
 
 #[test]
 fn allowed_lines(rt: HostRuntime) -> Result<(), Fail> {
-    let cases: [(&[u8], &[u8]); 24] = [
+    let cases: [(&[u8], &[u8]); 34] = [
         (b"begin 63", b"ok\nok\n"),
         (b"begin 0", b"ok\nerror 2 AlreadyOpen\n"),
         (b"begin 255", b"ok\nerror 23 NoSuchSession\n"),
@@ -222,6 +222,22 @@ fn allowed_lines(rt: HostRuntime) -> Result<(), Fail> {
         (b"update 0 1 5 0 0 0 -", b"ok\nerror 5 NotThere\n"),
         (b"delete 0 18446744073709551615", b"ok\nerror 5 NotThere\n"),
         (b"delete 255 0", b"ok\nerror 23 NoSuchSession\n"),
+        (b"savepoint 0", b"ok\nok\n"),
+        (b"savepoint 1", b"ok\nerror 1 NotOpen\n"),
+        (b"savepoint 255", b"ok\nerror 23 NoSuchSession\n"),
+        (b"rollbackto 0", b"ok\nerror 12 NoSavepoint\n"),
+        (b"rollbackto 63", b"ok\nerror 1 NotOpen\n"),
+        (b"rollbackto 64", b"ok\nerror 23 NoSuchSession\n"),
+        (b"release 0", b"ok\nerror 12 NoSavepoint\n"),
+        (b"release 255", b"ok\nerror 23 NoSuchSession\n"),
+        (
+            b"savepoint 0\ninsert 0 1 5 0 0 0 -\nrollbackto 0\nget 0 1\nids",
+            b"ok\nok\nok\nok\nnone\nnext 5 frozen_below 3\n",
+        ),
+        (
+            b"savepoint 0\ninsert 0 1 5 0 0 0 -\nrelease 0\nget 0 1\nrelease 0",
+            b"ok\nok\nok\nok\nrow 1 5 0 0 0 -\nerror 12 NoSavepoint\n",
+        ),
         (b"entries 0", b"ok\nentries 0 0\n"),
         (b"entries 255", b"ok\nerror 20 NoSuchIndex\n"),
         (
@@ -259,7 +275,7 @@ fn allowed_lines(rt: HostRuntime) -> Result<(), Fail> {
 
 #[test]
 fn bad_lines(rt: HostRuntime) -> Result<(), Fail> {
-    let cases: [&[u8]; 61] = [
+    let cases: [&[u8]; 74] = [
         b"",
         b" ",
         b"begin",
@@ -316,6 +332,19 @@ fn bad_lines(rt: HostRuntime) -> Result<(), Fail> {
         b"delete 0 18446744073709551616",
         b"delete 0 1 -",
         b"delete 0  1",
+        b"savepoint",
+        b"savepoint 256",
+        b"savepoint 0 0",
+        b"savepoints 0",
+        b"rollback 0",
+        b"rollback_to 0",
+        b"rollback to 0",
+        b"rollbackto",
+        b"rollbackto 00",
+        b"rollbackto 256",
+        b"release",
+        b"release  0",
+        b"release 0 1",
         b"entries",
         b"entries ",
         b"entries 256",

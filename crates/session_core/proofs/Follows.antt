@@ -7,6 +7,7 @@ use Rattle.std.proofs.lemmas.Option.{same_Some, none-some}
 use Rattle.page_slots.specs.declared.slot.Slot.{Slot}
 use Rattle.page_slots.specs.declared.slot.Slot.TheVariants.{Unused, Normal, Redirect, Dead}
 use Rattle.commit_status.specs.Window.{IsUpToNext, next_id, turns}
+use Rattle.snapshot.specs.Own.{AreDistinct}
 use Rattle.heap_pages.specs.View.{PagesView}
 use Rattle.sound_entries.specs.Pages.{version_in, slot_in}
 use Rattle.sound_entries.specs.Entries.{MayBeLed, same_version, led_on, died}
@@ -25,7 +26,7 @@ use Rattle.session_relation.specs.declared.reply.Reply.{Reply}
 use Rattle.session_relation.specs.declared.reply.Reply.TheVariants.{Done, Found, RolledBack, Refused}
 use Rattle.session_relation.specs.declared.reply.Reply.TheVariants as reply
 use Rattle.session_relation.specs.declared.reply.Refusal.{Refusal}
-use Rattle.session_relation.specs.declared.reply.Refusal.TheVariants.{NotOpen, AlreadyOpen, Failed, AlreadyThere, NotThere, Conflict, Busy, TooLarge, NoRoom, NeedsFreeze, NoMemory, NoSuchPage, NoSuchSession}
+use Rattle.session_relation.specs.declared.reply.Refusal.TheVariants.{NotOpen, AlreadyOpen, Failed, AlreadyThere, NotThere, Conflict, Busy, TooLarge, NoRoom, NeedsFreeze, NoMemory, NoSuchPage, NoSuchSession, TooDeep, NoSavepoint}
 use Rattle.session_relation.specs.Writes.{WriteStep, step_of}
 use Rattle.session_relation.specs.Heap.{Heap}
 use Rattle.session_relation.specs.Agrees as relation
@@ -70,6 +71,8 @@ pub closed_by : (st : State) (s : ℕ) (r : Refusal) → Refuses st s r → theo
 closed_by st s NoSuchSession is = is
 closed_by st s NotOpen is = (is.0, ap (option_map reader_of) is.1)
 closed_by st s AlreadyOpen is = absurd is
+closed_by st s TooDeep is = absurd is
+closed_by st s NoSavepoint is = absurd is
 closed_by st s Failed is = absurd is
 closed_by st s AlreadyThere is = absurd is
 closed_by st s NotThere is = absurd is
@@ -86,6 +89,8 @@ unready_by st s Failed is = (reader_of is.1, reader-is st s is.1 is.2, is.3)
 unready_by st s NoSuchSession is = is
 unready_by st s NotOpen is = (is.0, ap (option_map reader_of) is.1)
 unready_by st s AlreadyOpen is = absurd is
+unready_by st s TooDeep is = absurd is
+unready_by st s NoSavepoint is = absurd is
 unready_by st s AlreadyThere is = absurd is
 unready_by st s NotThere is = absurd is
 unready_by st s Conflict is = absurd is
@@ -119,6 +124,8 @@ pub Follows-closed_begin : (st : State) (s : ℕ) (r : Refusal) → (r ≡ NotOp
 Follows-closed_begin st s NoSuchSession ne is = Follows-no_such_session st s is
 Follows-closed_begin st s NotOpen ne is = absurd (ne refl)
 Follows-closed_begin st s AlreadyOpen ne is = absurd is
+Follows-closed_begin st s TooDeep ne is = absurd is
+Follows-closed_begin st s NoSavepoint ne is = absurd is
 Follows-closed_begin st s Failed ne is = absurd is
 Follows-closed_begin st s AlreadyThere ne is = absurd is
 Follows-closed_begin st s NotThere ne is = absurd is
@@ -152,8 +159,8 @@ Sound-opens st w s e within snapshot ids saved agrees = record {
     mine = record {
       snapshot = rw snapshot (taken-within st w agrees);
       topmost = λ x among. absurd (none_own x (subst (λ xs. Contains xs x) ids among));
-      unsaved = saved;
-      single = (let none = ap length ids in omega arith);
+      fronts = rw saved tt;
+      distinct = subst AreDistinct (sym ids) tt;
     }
 
     within' : s < length st.sessions
@@ -248,24 +255,29 @@ Follows-unready_write st s write r is = Follows-same st (step_of s write) (Refus
 pub Follows-too_large : (st : State) (s : ℕ) (e : Session) (write : WriteStep) → session_at st s ≡ Some e → e.failed ≡ false → hindrances.IsTooLarge write → Follows st (step_of s write) (Refused TooLarge) st
 Follows-too_large st s e write at sound large = Follows-same st (step_of s write) (Refused TooLarge) (hindrances.Follows-too_large (seen st) s (reader_of e) write (reader-is st s e at) sound large)
 
--- a session that fails keeps its ids
-failed-back : (xs : List (Option Session)) (s : ℕ) (e : Session) → open_at xs s ≡ Some e → held_back (set xs s (Some (as_failed e))) ≡ held_back xs
-failed-back [] s e at = absurd (none-some e at)
-failed-back (None ∷ xs) zero e at = absurd (none-some e at)
-failed-back (Some f ∷ xs) zero e at = ap (λ (g : Session). holds_back g ++ held_back xs) (sym (same_Some f e at))
-failed-back (None ∷ xs) (suc s) e at = failed-back xs s e at
-failed-back (Some f ∷ xs) (suc s) e at = ap (λ ys. holds_back f ++ ys) (failed-back xs s e at)
+-- a session that holds back what it held back
+same-back : (xs : List (Option Session)) (s : ℕ) (e now : Session) → open_at xs s ≡ Some e → holds_back now ≡ holds_back e → held_back (set xs s (Some now)) ≡ held_back xs
+same-back [] s e now at same = absurd (none-some e at)
+same-back (None ∷ xs) zero e now at same = absurd (none-some e at)
+same-back (Some f ∷ xs) zero e now at same = ap (λ back. back ++ held_back xs) (same ∙ ap holds_back (sym (same_Some f e at)))
+same-back (None ∷ xs) (suc s) e now at same = same-back xs s e now at same
+same-back (Some f ∷ xs) (suc s) e now at same = ap (λ ys. holds_back f ++ ys) (same-back xs s e now at same)
 
-pub Sound-fails : (st : State) (s : ℕ) (e : Session) → s < length st.sessions → session_at st s ≡ Some e → Sound st → Sound (put_session st s (option_map as_failed (session_at st s)))
-Sound-fails st s e within at sound = record {
-  count = length-set st.sessions s (option_map as_failed (session_at st s)) ∙ sound.count;
+-- a session becomes another, with the same snapshot and first id
+pub Sound-put : (st : State) (s : ℕ) (e now : Session) → session_at st s ≡ Some e → holds_back now ≡ holds_back e → SessionKeeps st.heap.table now → Sound st → Sound (put_session st s (Some now))
+Sound-put st s e now at same keeps sound = record {
+  count = length-set st.sessions s (Some now) ∙ sound.count;
   window = sound.window;
-  sessions = λ o f bt. elim (open-set_cases st.sessions s o (option_map as_failed (session_at st s)) f within bt) [
-    | inl now ↦ subst (λ f. SessionKeeps st.heap.table f) (same_Some (as_failed e) f (sym (ap (option_map as_failed) at) ∙ now.1))
-        (record { snapshot = (sound.sessions s e at).snapshot; topmost = (sound.sessions s e at).topmost; unsaved = (sound.sessions s e at).unsaved; single = (sound.sessions s e at).single })
+  sessions = λ o f bt. elim (open-set_cases st.sessions s o (Some now) f (open-within st.sessions s e at) bt) [
+    | inl is ↦ subst (λ f. SessionKeeps st.heap.table f) (same_Some now f is.1) keeps
     | inr other ↦ sound.sessions o f other.1
   ];
   tops = sound.tops;
-  table = subst (λ back. SoundTable st.heap (earliest (next_id st.heap.table) back))
-      (sym (ap (λ o. held_back (set st.sessions s (option_map as_failed o))) at ∙ failed-back st.sessions s e at)) sound.table;
+  table = subst (λ back. SoundTable st.heap (earliest (next_id st.heap.table) back)) (sym (same-back st.sessions s e now at same)) sound.table;
 }
+
+pub Sound-fails : (st : State) (s : ℕ) (e : Session) → session_at st s ≡ Some e → Sound st → Sound (put_session st s (option_map as_failed (session_at st s)))
+Sound-fails st s e at sound =
+    let h = sound.sessions s e at in
+    subst (λ o. Sound (put_session st s (option_map as_failed o))) (sym at)
+    (Sound-put st s e (as_failed e) at refl (record { snapshot = h.snapshot; topmost = h.topmost; fronts = h.fronts; distinct = h.distinct }) sound)

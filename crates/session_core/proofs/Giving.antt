@@ -1,47 +1,46 @@
--- A session writes under its id, or under a new one: what that keeps, whatever it writes.
-use Rattle.std.proofs.Common.{◌≡◌, ◌≢◌, ℕ, ◌≤◌, List, [], ◌∷◌, ◌++◌, length, set, take, Option, Some, None, slice_get, refl, sym, ap, ◌∙◌, subst, inl, inr, arith}
+-- A session writes under the id of its newest level, or under a new one: what that keeps, whatever it writes.
+use Rattle.std.proofs.Common.{◌≡◌, ℕ, suc, ◌≤◌, ◌-◌, List, [], ◌∷◌, ◌++◌, length, set, take, Option, Some, slice_get, refl, sym, ap, ◌∙◌, subst, ◌⊎◌, inl, inr, append_assoc, arith}
 use Rattle.std.proofs.Math.ListN.{length-set}
-use Rattle.std.specs.Prelude.{Contains, IsSome}
+use Rattle.std.specs.Prelude.{Contains}
 use Rattle.std.specs.Option.{option_map}
 use Rattle.std.proofs.lemmas.Bool.{cases_eq}
 use Rattle.std.proofs.lemmas.Option.{same_Some, none-some}
-use Rattle.std.proofs.lemmas.List.Elements.{Contains-push_cases}
-use Rattle.xid_circle.specs.declared.Xid.{Xid}
+use Rattle.std.proofs.lemmas.List.{append-nil}
+use Rattle.std.proofs.lemmas.List.Elements.{Contains-append_cases}
 use Rattle.page_slots.specs.declared.slot.Slot.{Slot}
-use Rattle.commit_status.specs.declared.status.Status.TheVariants.{InProgress}
 use Rattle.commit_status.specs.Window.{Window, IsWindow, IsCommitted, IsInProgress, IsGiven, IsUpToNext, next_id, status_of, top_of, turns, place}
-use Rattle.commit_status.specs.Changes as change
-use Rattle.commit_status.proofs.Places.{next-none, upto-given}
+use Rattle.commit_status.proofs.Places.{upto-given, is-from_some}
 use Rattle.commit_status.proofs.Ancestors.{top-same}
-use Rattle.commit_status.proofs.Turns.{turns-given}
-use Rattle.commit_status.proofs.Giving.{gives-length, gives-status, gives-top_old, gives-top_alone, gives-upto, gives-active_next}
+use Rattle.commit_status.proofs.Giving.{finished-place}
+use Rattle.snapshot.specs.Own.{Own, AreFronts, AreDistinct, lacks, newest_id, saved_with_each}
 use Rattle.snapshot.specs.Snap.{Snap, Sees}
-use Rattle.snapshot.specs.Laws.{IsInWindow}
 use Rattle.snapshot.proofs.Sights.{sees-top}
-use Rattle.snapshot.proofs.Earliest.{contains-head}
-use Rattle.snapshot.proofs.Takes.{first-in}
+use Rattle.snapshot.proofs.Earliest.{contains-head, contains-tail, contains-cases}
+use Rattle.snapshot.proofs.Levels.{level-among, level-newest, lacks-given, fronts-given}
 use Rattle.heap_write.specs.Heap.{HeapView, SameIds}
-use Rattle.heap_write.specs.Writes.{TakesId}
+use Rattle.heap_write.specs.Writes.{GivesUnder, TakesIds}
+use Rattle.heap_write.proofs.GivenIds.{given-first, given-next, given-upto, given-status, given-top_old, given-active, given-new, given-distinct, given-top, given-top_first, given-late}
 use Rattle.sound_writes.specs.Table.{SoundTable}
 use Rattle.sound_writes.proofs.Keeping.{later-stays-sound}
 use Rattle.history.specs.World.{World}
 use Rattle.session_relation.specs.Heap as relation
 use Rattle.session_relation.specs.Agrees as theory
-use Rattle.session_relation.specs.Changes as relation_change
+use Rattle.session_relation.specs.Changes.{GivesEach, with_id, with_ids}
 use Rattle.session_relation.proofs.Itself.{IsCurrent, none_own}
-use Rattle.session_relation.proofs.Steps.{OnlyIs, Agrees-give}
+use Rattle.session_relation.proofs.Steps.{OnlyIs, SameSights}
+use Rattle.session_relation.proofs.GivenBelow.{AreUnseen, Agrees-give_each}
 use Rattle.session_relation.proofs.Follows.{Agrees-sessions}
 use Rattle.session_relation.proofs.Sights.{Agrees-sights}
 use Rattle.session_core.specs.declared.session.Session.{Session}
 use Rattle.session_core.specs.State.{State, session_at, seen, seen_in, state_of, reader_of, holds_back, horizon_of}
 use Rattle.session_core.specs.Keeps.{open_at, OwnIdsKeep, EngineKeeps}
 use Rattle.session_core.specs.Agrees.{Agrees, Sound, SessionKeeps}
-use Rattle.session_core.specs.Writes.{SameSession, WritesUnder, its_own, a_new}
-use Rattle.session_core.proofs.OwnIdsLemmas.{open-within, open-set_same, open-set_other, open-set_cases, keep-same, keep-give}
+use Rattle.session_core.specs.Writes.{SameSession}
+use Rattle.session_core.proofs.OwnIdsLemmas.{open-within, open-set_same, open-set_other, open-set_cases, distinct-both, keep-same, keep-given}
 use Rattle.session_core.proofs.StateLemmas.{only-set}
-use Rattle.session_core.proofs.Windows.{Gives-from, SameSight-give, unseen-next, active-to}
+use Rattle.session_core.proofs.Windows.{GivesEach-from, SameSight-given, in-window-given, unseen-given, active-to}
 use Rattle.session_core.proofs.Owns.{reader-is, reader-at}
-use Rattle.session_core.proofs.Horizons.{IsHeldIn, back-cases, held-in, horizon-above, horizon-next, horizon-low, horizon-upto, upto-horizon}
+use Rattle.session_core.proofs.Horizons.{IsHeldIn, contains-first, held-in, horizon-above, horizon-next, horizon-low, horizon-upto, upto-horizon}
 
 -- the state after a write: another heap, and another session in its place
 abbrev pub with_write : State → HeapView → ℕ → Session → State
@@ -50,7 +49,7 @@ with_write st h s e = record { settings = st.settings; heap = h; sessions = set 
 -- A session that has as much memory or more, and is otherwise the same.
 
 reader-same : (e e' : Session) → SameSession e e' → reader_of e' ≡ reader_of e
-reader-same e e' same = rw (same.snapshot, same.ids, same.saved, same.failed) refl
+reader-same e e' same = rw (same.snapshot, same.own.ids, same.own.saved, same.failed) refl
 
 pub sessions-same : (xs : List (Option Session)) (s : ℕ) (e e' : Session) → open_at xs s ≡ Some e → SameSession e e' → (o : ℕ) → option_map reader_of (open_at (set xs s (Some e')) o) ≡ option_map reader_of (open_at xs o)
 sessions-same xs s e e' at same o = elim (cases_eq o s) [
@@ -79,13 +78,13 @@ upto-spared w k x h = record { normal = h.normal; fits = h.fits; reached = h.rea
 keeps-spared : (w : Window) (k : ℕ) (e e' : Session) → SameSession e e' → SessionKeeps w e → SessionKeeps (spared w k) e'
 keeps-spared w k e e' same h = record {
   snapshot = rw same.snapshot (record { xmin = upto-spared w k e.snapshot.xmin h.snapshot.xmin; xmax = upto-spared w k e.snapshot.xmax h.snapshot.xmax; ordered = h.snapshot.ordered });
-  topmost = λ x mine. ap (λ ids. slice_get ids 0) same.ids ∙ h.topmost x (subst (λ ids. Contains ids x) same.ids mine) ∙ ap Some (sym (top-spared w k x));
-  unsaved = same.saved ∙ h.unsaved;
-  single = subst (λ ids. length ids ≤ 1) (sym same.ids) h.single;
+  topmost = λ x mine. ap (λ ids. slice_get ids 0) same.own.ids ∙ h.topmost x (subst (λ ids. Contains ids x) same.own.ids mine) ∙ ap Some (sym (top-spared w k x));
+  fronts = rw (same.own.ids, same.own.saved) h.fronts;
+  distinct = subst AreDistinct (sym same.own.ids) h.distinct;
 }
 
 itself : (e : Session) → SameSession e e
-itself e = record { snapshot = refl; ids = refl; saved = refl; failed = refl }
+itself e = record { snapshot = refl; own = record { ids = refl; saved = refl }; failed = refl }
 
 -- what readers see of the ids
 found-spared : (slots : List (List Slot)) (w v : Window) (xs : List (Option Session)) (m : World) → SameIds w v → theory.Agrees (seen_in slots w xs) m → theory.Agrees (seen_in slots v xs) m
@@ -99,65 +98,84 @@ pub found-kept : (slots : List (List Slot)) (w v : Window) (xs : List (Option Se
 found-kept slots w v xs s e e' m at same ids found =
     Agrees-sessions (seen_in slots v xs) m (λ o. option_map reader_of (open_at (set xs s (Some e')) o)) (sessions-same xs s e e' at same) (found-spared slots w v xs m ids found)
 
--- An id is given.
+-- Ids are given.
 
-in-window-give : (w v : Window) (s : Snap) → change.Gives w v None → IsInWindow w s → IsInWindow v s
-in-window-give w v s gives h = record {
-  xmin = gives-upto w v None s.xmin gives h.xmin;
-  xmax = gives-upto w v None s.xmax gives h.xmax;
-  ordered = subst (λ first. turns first s.xmin ≤ turns first s.xmax) (sym gives.first) h.ordered;
+-- the session is another, with the ids that it took
+abbrev pub with_own : Session → Own → Session
+with_own e own = record e { own = own }
+
+-- the others keep theirs
+keeps-give : (xs : List ℕ) (w v : Window) (parent : Option ℕ) (e : Session) → IsWindow v → GivesUnder w parent xs v → ((x : ℕ) → Contains e.own.ids x → IsGiven w x) → SessionKeeps w e → SessionKeeps v e
+keeps-give xs w v parent e is gives there h = record {
+  snapshot = in-window-given xs w v parent e.snapshot gives h.snapshot;
+  topmost = λ x mine. h.topmost x mine ∙ ap Some (sym (given-top_old xs w v parent x gives is (there x mine)));
+  fronts = h.fronts;
+  distinct = h.distinct;
 }
 
-not-next : (w : Window) (x : ℕ) → IsWindow w → IsGiven w x → x ≢ next_id w
-not-next w x is given e = absurd (none-given (place w (next_id w)) (next-none w is) (subst (λ y. IsGiven w y) e given))
+first-append : (ids xs : List ℕ) (top : ℕ) → slice_get ids 0 ≡ Some top → slice_get (ids ++ xs) 0 ≡ Some top
+first-append [] xs top at = absurd (none-some top at)
+first-append (y ∷ ids) xs top at = at
+
+last-of : (x : ℕ) (ids : List ℕ) → (p : ℕ) × (slice_get (x ∷ ids) (length ids) ≡ Some p)
+last-of x [] = (x, refl)
+last-of x (y ∷ ids) = last-of y ids
+
+newest-some : (x : ℕ) (ids : List ℕ) → (p : ℕ) × (newest_id (x ∷ ids) ≡ Some p)
+newest-some x ids = let last = last-of x ids in (last.0, ap (slice_get (x ∷ ids)) (last-place (length ids)) ∙ last.1)
   where
-    none-given : (o : Option ℕ) → o ≡ None → IsSome o → ⊥
-    none-given None e some = cc
-    none-given (Some i) e some = cc
+    last-place : (n : ℕ) → suc n - 1 ≡ n
+    last-place n = omega arith
 
-keeps-give : (w v : Window) (e : Session) → IsWindow w → IsWindow v → change.Gives w v None → ((x : ℕ) → Contains e.own.ids x → IsGiven w x) → SessionKeeps w e → SessionKeeps v e
-keeps-give w v e is is' gives given h = record {
-  snapshot = in-window-give w v e.snapshot gives h.snapshot;
-  topmost = λ x mine. h.topmost x mine ∙ ap Some (sym (gives-top_old w v None x is is' gives (not-next w x is (given x mine))));
-  unsaved = h.unsaved;
-  single = h.single;
-}
+-- each new id has the topmost parent of those that were there, or the first of the new ones
+new-topmost : (ids xs : List ℕ) (w v : Window) (y : ℕ) → IsWindow v → GivesUnder w (newest_id ids) xs v → ((x : ℕ) → Contains ids x → IsGiven w x) → ((x : ℕ) → Contains ids x → slice_get ids 0 ≡ Some (top_of w x))
+    → Contains xs y → slice_get (ids ++ xs) 0 ≡ Some (top_of v y)
+new-topmost [] [] w v y is gives there tops among = absurd (none_own y among)
+new-topmost [] (x ∷ xs) w v y is gives there tops among = ap Some (sym (given-top_first x xs w v y gives is among))
+new-topmost (z ∷ ids) xs w v y is gives there tops among =
+    let newest = newest-some z ids in
+    let mine = level-among (z ∷ ids) newest.0 newest.1 in
+    tops newest.0 mine ∙ ap Some (sym (given-top xs w v newest.0 y (subst (λ o. GivesUnder w o xs v) newest.1 gives) is (there newest.0 mine) among))
 
-keeps-given : (w v : Window) (e e' : Session) → IsWindow w → IsWindow v → change.Gives w v None → e'.own.ids ≡ next_id w ∷ [] → e'.snapshot ≡ e.snapshot → e'.own.saved ≡ e.own.saved → SessionKeeps w e → SessionKeeps v e'
-keeps-given w v e e' is is' gives ids snapshot saved h = record {
-  snapshot = rw snapshot (in-window-give w v e.snapshot gives h.snapshot);
-  topmost = λ x mine. ap (λ xs. slice_get xs 0) ids ∙ ap Some (sym (only x (subst (λ xs. Contains xs x) ids mine)));
-  unsaved = saved ∙ h.unsaved;
-  single = subst (λ xs. length xs ≤ 1) (sym ids) (omega arith);
-}
-  where
-    only : (x : ℕ) → Contains (next_id w ∷ []) x → top_of v x ≡ next_id w
-    only x among = elim (Contains-push_cases [] (next_id w) x among) [
-      | inl none ↦ absurd (none_own x none)
-      | inr same ↦ ap (top_of v) (sym same) ∙ gives-top_alone w v is' gives
-    ]
+module _ (w v : Window) (e : Session) (own : Own) (x : ℕ) (is : IsWindow v) (takes : TakesIds w v e.own own x) (there : (x : ℕ) → Contains e.own.ids x → IsGiven w x) (h : SessionKeeps w e) where
+  fronts-taken : AreFronts own.ids own.saved
+  fronts-taken = rw (takes.ids, takes.saved) (fronts-given takes.given e.own.ids e.own.saved h.fronts takes.count)
 
-tops-give : (w v : Window) → IsWindow w → IsWindow v → change.Gives w v None → ((x : ℕ) → IsCommitted w x → ¬ IsInProgress w (top_of w x)) → (x : ℕ) → IsCommitted v x → ¬ IsInProgress v (top_of v x)
-tops-give w v is is' gives tops x done active =
-    let old : status_of v x ≡ status_of w x = gives-status w v None x is is' gives in
-    let top : top_of v x ≡ top_of w x = gives-top_old w v None x is is' gives ne in
-    tops x (sym old ∙ done) (sym (gives-status w v None (top_of w x) is is' gives) ∙ (ap (status_of v) (sym top) ∙ active))
-  where
-    ne : x ≢ next_id w
-    ne same = let now = (gives-active_next w v None is' gives).unfinished in (let here : status_of v x ≡ InProgress = ap (status_of v) same ∙ now in cc)
+  lacks-taken : lacks own.ids own.saved ≡ 0
+  lacks-taken = rw (takes.ids, takes.saved) (lacks-given takes.given e.own.ids e.own.saved h.fronts takes.count)
 
--- the next id comes after the one that was given
-turns-next : (w v : Window) → IsWindow w → IsWindow v → change.Gives w v None → turns w.first (next_id w) ≤ turns w.first (next_id v)
-turns-next w v is is' gives =
-    let short = is.short in
-    let limit = is.limit in
-    let short' = is'.short in
-    let limit' = is'.limit in
-    let now : turns w.first (next_id w) ≡ length w.entries = turns-given w.first (length w.entries) is.normal is.fits (omega arith) in
-    let then' : turns w.first (next_id v) ≡ length v.entries =
-    subst (λ f. turns f (next_id v) ≡ length v.entries) gives.first (turns-given v.first (length v.entries) is'.normal is'.fits (omega arith)) in
-    let more = gives-length w v None gives in
-    omega arith
+  distinct-taken : AreDistinct own.ids
+  distinct-taken = subst AreDistinct (sym takes.ids) (distinct-both e.own.ids takes.given h.distinct (given-distinct takes.given w v (newest_id e.own.ids) takes.gives is)
+      (λ y now old. given-new takes.given w v (newest_id e.own.ids) y takes.gives is now (there y old)))
+
+  topmost-taken : (y : ℕ) → Contains own.ids y → slice_get own.ids 0 ≡ Some (top_of v y)
+  topmost-taken y mine = ap (λ ids. slice_get ids 0) takes.ids ∙ elim (Contains-append_cases e.own.ids takes.given y (subst (λ ids. Contains ids y) takes.ids mine)) [
+    | inl old ↦ first-append e.own.ids takes.given (top_of v y) (h.topmost y old ∙ ap Some (sym (given-top_old takes.given w v (newest_id e.own.ids) y takes.gives is (there y old))))
+    | inr new ↦ new-topmost e.own.ids takes.given w v y is takes.gives there h.topmost new
+  ]
+
+  -- the session that took them
+  keeps-taken : SessionKeeps v (with_own e own)
+  keeps-taken = record {
+    snapshot = in-window-given takes.given w v (newest_id e.own.ids) e.snapshot takes.gives h.snapshot;
+    topmost = topmost-taken;
+    fronts = fronts-taken;
+    distinct = distinct-taken;
+  }
+
+  -- writes under the id of its newest level
+  current-taken : IsCurrent (reader_of (with_own e own)) x
+  current-taken = record {
+    mine = level-among own.ids x takes.newest;
+    newest = λ before at. level-newest own.ids own.saved x fronts-taken distinct-taken lacks-taken takes.newest before at;
+  }
+
+tops-given : (xs : List ℕ) (w v : Window) (parent : Option ℕ) → IsWindow v → GivesUnder w parent xs v → ((x : ℕ) → IsCommitted w x → ¬ IsInProgress w (top_of w x)) → (x : ℕ) → IsCommitted v x → ¬ IsInProgress v (top_of v x)
+tops-given xs w v parent is gives tops x done active =
+    let was : IsCommitted w x = sym (given-status xs w v parent x gives is) ∙ done in
+    let at = finished-place w x (λ going. cc) in
+    let top : top_of v x ≡ top_of w x = given-top_old xs w v parent x gives is (is-from_some (place w x) at.0 at.1) in
+    tops x was (sym (given-status xs w v parent (top_of w x) gives is) ∙ (ap (status_of v) (sym top) ∙ active))
 
 -- The engine after a write, or after one that failed.
 
@@ -202,113 +220,109 @@ module _ (st : State) (w : World) (h : HeapView) (s : ℕ) (e e' : Session) (at 
         tops = rw is (λ x done active. agrees.sound.tops x done (subst (λ y. IsInProgress table y) (top-spared table k x) active));
         table = later-sound (rw is (window-spared table k agrees.sound.window)) ids.first (subst (λ n. turns table.first (next_id table) ≤ turns table.first n) (sym (ap next_id is)) (omega arith))
             (λ y upto. rw is (upto-spared table k y upto))
-            (λ y among. let mine = subst (λ (ids : List ℕ). Contains (e'.snapshot.xmin ∷ take 1 ids) y) same.ids among in
+            (λ y among. let mine = subst (λ (ids : List ℕ). Contains (e'.snapshot.xmin ∷ take 1 ids) y) same.own.ids among in
             let back : Contains (holds_back e) y = subst (λ (sn : Snap). Contains (sn.xmin ∷ take 1 e.own.ids) y) same.snapshot mine in
             (rw is (upto-spared table k y (held-in st w agrees s e y at back)), horizon-low table st.sessions s e y agrees.sound.window (held-in st w agrees) at back)) sound;
       }
 
-  -- the session has a new id
-  Sound-given : change.Gives st.heap.table h.table None → IsWindow h.table → e'.own.ids ≡ next_id st.heap.table ∷ [] → e'.snapshot ≡ e.snapshot → e'.own.saved ≡ e.own.saved
-      → SoundTable h (horizon_of st) → Sound (with_write st h s e')
-  Sound-given gives window ids snapshot saved sound =
+  -- the session has taken ids
+  pub Sound-given : (own : Own) (x : ℕ) → TakesIds st.heap.table h.table e.own own x → e' ≡ with_own e own → IsWindow h.table → SoundTable h (horizon_of st) → Sound (with_write st h s e')
+  Sound-given own x takes is window sound =
       let table = st.heap.table in
+      let parent = newest_id e.own.ids in
+      let there : (o : ℕ) (f : Session) → session_at st o ≡ Some f → (y : ℕ) → Contains f.own.ids y → IsGiven table y =
+      λ o f bt y mine. (active-to table y ((agrees.found.opened o (reader_of f) (reader-is st o f bt)).2.own_active y mine)).is_given in
       record {
         count = length-set st.sessions s (Some e') ∙ agrees.sound.count;
         window = window;
         sessions = λ o f bt. elim (open-set_cases st.sessions s o (Some e') f (open-within st.sessions s e at) bt) [
-          | inl now ↦ subst (λ f. SessionKeeps h.table f) (same_Some e' f now.1) (keeps-given table h.table e e' agrees.sound.window window gives ids snapshot saved (agrees.sound.sessions s e at))
-          | inr other ↦ keeps-give table h.table f agrees.sound.window window gives
-              (λ x mine. (active-to table x ((agrees.found.opened o (reader_of f) (reader-is st o f other.1)).2.own_active x mine)).is_given) (agrees.sound.sessions o f other.1)
+          | inl now ↦ subst (λ f. SessionKeeps h.table f) (sym is ∙ same_Some e' f now.1) (keeps-taken table h.table e own x window takes (there s e at) (agrees.sound.sessions s e at))
+          | inr other ↦ keeps-give takes.given table h.table parent f window takes.gives (there o f other.1) (agrees.sound.sessions o f other.1)
         ];
-        tops = tops-give table h.table agrees.sound.window window gives agrees.sound.tops;
-        table = later-sound window gives.first (turns-next table h.table agrees.sound.window window gives) (λ y upto. gives-upto table h.table None y gives upto)
-            (λ y among. elim (back-cases e' y among) [
-              | inl here ↦ (let is : e.snapshot.xmin ≡ y = ap (λ (sn : Snap). sn.xmin) (sym snapshot) ∙ here in
-                  let back = subst (λ z. Contains (holds_back e) z) is (contains-head e.snapshot.xmin (take 1 e.own.ids)) in
-                  (gives-upto table h.table None y gives (held-in st w agrees s e y at back), horizon-low table st.sessions s e y agrees.sound.window (held-in st w agrees) at back))
-              | inr own ↦ (let is : next_id table ≡ y = one-of (next_id table) y (subst (λ xs. Contains xs y) ids own) in (
-                subst (λ z. IsUpToNext h.table z) is (upto-given h.table (next_id table) (gives-active_next table h.table None window gives).is_given),
-                subst (λ z. turns table.first (horizon_of st) ≤ turns table.first z) is (horizon-next table st.sessions agrees.sound.window (held-in st w agrees)),
-              ))
-            ]) sound;
+        tops = tops-given takes.given table h.table parent window takes.gives agrees.sound.tops;
+        table = later-sound window (given-first takes.given table h.table parent takes.gives) (given-next takes.given table h.table parent takes.gives window)
+            (λ y upto. given-upto takes.given table h.table parent y takes.gives upto) (mine-then own x takes is window) sound;
       }
     where
-      one-of : (x y : ℕ) → Contains (x ∷ []) y → x ≡ y
-      one-of x y among = elim (Contains-push_cases [] x y among) [ inl none ↦ absurd (none_own y none) | inr same ↦ same ]
+      -- the first of the ids is held back: it was there, or is new
+      first-cases : (ids xs : List ℕ) (y : ℕ) → Contains (take 1 (ids ++ xs)) y → Contains (take 1 ids) y ⊎ Contains xs y
+      first-cases [] xs y among = inr (contains-first xs y among)
+      first-cases (z ∷ ids) xs y among = inl among
 
--- What readers see of a session that writes under its id, or is given one.
+      old-then : (own : Own) (x y : ℕ) → TakesIds st.heap.table h.table e.own own x → Contains (holds_back e) y → IsUpToNext h.table y × (turns st.heap.table.first (horizon_of st) ≤ turns st.heap.table.first y)
+      old-then own x y takes back = (
+        given-upto takes.given st.heap.table h.table (newest_id e.own.ids) y takes.gives (held-in st w agrees s e y at back),
+        horizon-low st.heap.table st.sessions s e y agrees.sound.window (held-in st w agrees) at back,
+      )
 
-module _ (st : State) (w : World) (slots : List (List Slot)) (v : Window) (s : ℕ) (e e' : Session) (at : session_at st s ≡ Some e) (agrees : Agrees st w) where
+      mine-then : (own : Own) (x : ℕ) → TakesIds st.heap.table h.table e.own own x → e' ≡ with_own e own → IsWindow h.table
+          → (y : ℕ) → Contains (holds_back e') y → IsUpToNext h.table y × (turns st.heap.table.first (horizon_of st) ≤ turns st.heap.table.first y)
+      mine-then own x takes is window y among =
+          let table = st.heap.table in
+          let parent = newest_id e.own.ids in
+          let back : Contains (e.snapshot.xmin ∷ take 1 own.ids) y = subst (λ (f : Session). Contains (holds_back f) y) is among in
+          elim (contains-cases e.snapshot.xmin y (take 1 own.ids) back) [
+            | inl here ↦ old-then own x y takes (subst (λ z. Contains (holds_back e) z) here (contains-head e.snapshot.xmin (take 1 e.own.ids)))
+            | inr first ↦ elim (first-cases e.own.ids takes.given y (subst (λ ids. Contains (take 1 ids) y) takes.ids first)) [
+              | inl old ↦ old-then own x y takes (contains-tail e.snapshot.xmin y (take 1 e.own.ids) old)
+              | inr new ↦ (
+                upto-given h.table y (given-active takes.given table h.table parent y takes.gives window new).is_given,
+                (let late = given-late takes.given table h.table parent y takes.gives window new in let next = horizon-next table st.sessions agrees.sound.window (held-in st w agrees) in omega arith),
+              )
+            ]
+          ]
+
+-- What readers see of a session that takes ids.
+
+with_ids-is : (xs : List ℕ) (r : relation.Session) → with_ids xs r ≡ record r { own = r.own ++ xs; saved = saved_with_each xs r.saved }
+with_ids-is [] r = rw (append-nil r.own) refl
+with_ids-is (x ∷ xs) r = with_ids-is xs (with_id (length xs) x r) ∙ ap (λ ids. record r { own = ids; saved = saved_with_each (x ∷ xs) r.saved }) (append_assoc r.own (x ∷ []) xs)
+
+module _ (st : State) (w : World) (v : Window) (s : ℕ) (e : Session) (own : Own) (x : ℕ) (at : session_at st s ≡ Some e) (takes : TakesIds st.heap.table v e.own own x) (window : IsWindow v) (agrees : Agrees st w) where
+  pub reader-taken : reader_of (with_own e own) ≡ with_ids takes.given (reader_of e)
+  reader-taken = rw (takes.ids, takes.saved) (sym (with_ids-is takes.given (reader_of e)))
+
+  only-taken : OnlyIs (seen st).session (λ o. option_map reader_of (open_at (set st.sessions s (Some (with_own e own))) o)) s (Some (with_ids takes.given (reader_of e)))
+  only-taken = let only = only-set st s (Some (with_own e own)) (open-within st.sessions s e at) in
+      record { others = only.others; itself = only.itself ∙ ap Some reader-taken }
+
+  pub gives-each : GivesEach (state_of st.heap.table) takes.given (state_of v)
+  gives-each = GivesEach-from takes.given st.heap.table v (newest_id e.own.ids) takes.gives window
+
+  pub same-sights : SameSights (seen st) (λ sn y. Sees sn v y)
+  same-sights o r bt = SameSight-given r.snapshot takes.given st.heap.table v (newest_id e.own.ids) takes.gives window
+
+  pub are-unseen : AreUnseen (seen st) (λ sn y. Sees sn v y) takes.given
+  are-unseen y among o r bt = let f = reader-at st o r bt in
+      subst (λ (r : relation.Session). ¬ Sees r.snapshot v y) f.2
+      (unseen-given takes.given st.heap.table v v (newest_id e.own.ids) f.0.snapshot y takes.gives window (agrees.sound.sessions o f.0 f.1).snapshot among)
+
   -- the pages may have been pruned before
-  pub found-given : (id : Option Xid) (x : ℕ) → WritesUnder e e' id x → TakesId st.heap.table v id x → IsWindow v → theory.Agrees (seen_in slots st.heap.table st.sessions) w
-      → theory.Agrees (seen_in slots v (set st.sessions s (Some e'))) w
-  found-given id x (its_own y is same first stays) takes window found =
-      let own = subst (λ i. TakesId st.heap.table v i x) is takes in
-      found-kept slots st.heap.table v st.sessions s e e' w at stays (same-ids own.1) found
-    where
-      same-ids : v ≡ st.heap.table → SameIds st.heap.table v
-      same-ids eq = rw eq (record { first = refl; stop_age = refl; entries = refl })
-  found-given id x (a_new is none ids snapshot saved failed) takes window found =
-      let new = subst (λ i. TakesId st.heap.table v i x) is takes in
-      let gives = new.1 in
-      Agrees-give (seen_in slots st.heap.table st.sessions) w s (reader_of e) x (state_of v) (λ sn y. Sees sn v y) (λ o. option_map reader_of (open_at (set st.sessions s (Some e')) o))
-      (only-given x none ids snapshot saved failed) (reader-is st s e at)
-      (subst (λ y. relation_change.Gives (state_of st.heap.table) (state_of v) y) (sym new.0) (Gives-from st.heap.table v agrees.sound.window window gives))
-      (λ o r bt. SameSight-give r.snapshot st.heap.table v agrees.sound.window window gives)
-      (λ o r bt. let f = reader-at st o r bt in
-      subst (λ (r : relation.Session). ¬ Sees r.snapshot v x) f.2 (subst (λ y. ¬ Sees f.0.snapshot v y) (sym new.0) (unseen-next f.0.snapshot st.heap.table v agrees.sound.window (agrees.sound.sessions o f.0 f.1).snapshot)))
-      found
-    where
-      only-given : (x : ℕ) → e.own.ids ≡ [] → e'.own.ids ≡ x ∷ [] → e'.snapshot ≡ e.snapshot → e'.own.saved ≡ e.own.saved → e'.failed ≡ e.failed
-          → OnlyIs (seen st).session (λ o. option_map reader_of (open_at (set st.sessions s (Some e')) o)) s (Some (record (reader_of e) { own = e.own.ids ++ x ∷ [] }))
-      only-given x none ids snapshot saved failed =
-          let only = only-set st s (Some e') (open-within st.sessions s e at) in
-          record { others = only.others; itself = only.itself ∙ ap Some (rw (snapshot, ids, saved, failed, none) refl) }
+  pub found-given : (slots : List (List Slot)) → theory.Agrees (seen_in slots st.heap.table st.sessions) w → theory.Agrees (seen_in slots v (set st.sessions s (Some (with_own e own)))) w
+  found-given slots found = Agrees-give_each takes.given (seen_in slots st.heap.table st.sessions) w s (reader_of e) (state_of v) (λ sn y. Sees sn v y)
+      (λ o. option_map reader_of (open_at (set st.sessions s (Some (with_own e own))) o)) only-taken (reader-is st s e at) gives-each same-sights are-unseen found
 
   -- its reader then, and the id is its newest
-  pub reader-now : option_map reader_of (open_at (set st.sessions s (Some e')) s) ≡ Some (reader_of e')
-  reader-now = ap (option_map reader_of) (open-set_same st.sessions s (Some e') (open-within st.sessions s e at))
+  pub reader-now : option_map reader_of (open_at (set st.sessions s (Some (with_own e own))) s) ≡ Some (reader_of (with_own e own))
+  reader-now = ap (option_map reader_of) (open-set_same st.sessions s (Some (with_own e own)) (open-within st.sessions s e at))
 
-  pub current-now : (id : Option Xid) (x : ℕ) → WritesUnder e e' id x → IsCurrent (reader_of e') x
-  current-now id x (its_own y is same first stays) = record {
-    mine = first-in e'.own.ids x (ap (λ (ids : List ℕ). slice_get ids 0) stays.ids ∙ first);
-    newest = λ before is'. absurd (none-some before (ap (λ (saved : List (List ℕ)). slice_get saved 0) (sym (stays.saved ∙ (agrees.sound.sessions s e at).unsaved)) ∙ is'));
-  }
-  current-now id x (a_new is none ids snapshot saved failed) = record {
-    mine = subst (λ xs. Contains xs x) (sym ids) (contains-head x []);
-    newest = λ before is'. absurd (none-some before (ap (λ (saved : List (List ℕ)). slice_get saved 0) (sym (saved ∙ (agrees.sound.sessions s e at).unsaved)) ∙ is'));
-  }
-
-  -- and what the engine keeps of ids and pages
-  pub Sound-wrote : (h : HeapView) (id : Option Xid) (x : ℕ) → h.table ≡ v → WritesUnder e e' id x → TakesId st.heap.table v id x → IsWindow v → SoundTable h (horizon_of st) → Sound (with_write st h s e')
-  Sound-wrote h id x table (its_own y is same first stays) takes window sound =
-      let own = subst (λ i. TakesId st.heap.table v i x) is takes in
-      let eq : h.table ≡ st.heap.table = table ∙ own.1 in
-      Sound-kept st w h s e e' at agrees stays (rw eq (record { first = refl; stop_age = refl; entries = refl })) sound
-  Sound-wrote h id x table (a_new is none ids snapshot saved failed) takes window sound =
-      let new = subst (λ i. TakesId st.heap.table v i x) is takes in
-      Sound-given st w h s e e' at agrees (subst (λ t. change.Gives st.heap.table t None) (sym table) new.1) (subst (λ t. IsWindow t) (sym table) window)
-      (ids ∙ ap (λ y. y ∷ []) new.0) snapshot saved sound
+  pub current-now : IsCurrent (reader_of (with_own e own)) x
+  current-now = current-taken st.heap.table v e own x window takes
+      (λ y mine. (active-to st.heap.table y ((agrees.found.opened s (reader_of e) (reader-is st s e at)).2.own_active y mine)).is_given) (agrees.sound.sessions s e at)
 
 -- The engine keeps what its type keeps of own ids.
 
-pub keeps-wrote : (xs : List (Option Session)) (w v : Window) (s : ℕ) (e e' : Session) (id : Option Xid) (x : ℕ) → open_at xs s ≡ Some e → WritesUnder e e' id x → TakesId w v id x
-    → IsWindow w → IsWindow v → EngineKeeps xs w → EngineKeeps (set xs s (Some e')) v
-keeps-wrote xs w v s e e' id x at (its_own y is same first stays) takes window window' k =
-    let own = subst (λ i. TakesId w v i x) is takes in
-    record { count = length-set xs s (Some e') ∙ k.count; own = subst (λ t. OwnIdsKeep (set xs s (Some e')) t) (sym own.1) (keep-same xs w s e e' at stays.ids k.own) }
-keeps-wrote xs w v s e e' id x at (a_new is none ids snapshot saved failed) takes window window' k =
-    let new = subst (λ i. TakesId w v i x) is takes in
-    record {
-      count = length-set xs s (Some e') ∙ k.count;
-      own = keep-give xs w v s e e' at (ids ∙ ap (λ y. y ∷ []) new.0 ∙ ap (λ (xs : List ℕ). xs ++ next_id w ∷ []) (sym none)) window window' new.1 k.own;
-    }
+pub keeps-wrote : (xs : List (Option Session)) (w v : Window) (s : ℕ) (e e' : Session) (x : ℕ) → open_at xs s ≡ Some e → TakesIds w v e.own e'.own x → IsWindow v → EngineKeeps xs w → EngineKeeps (set xs s (Some e')) v
+keeps-wrote xs w v s e e' x at takes window k = record {
+  count = length-set xs s (Some e') ∙ k.count;
+  own = keep-given xs w v s e e' takes.given (newest_id e.own.ids) at takes.ids window takes.gives k.own;
+}
 
 pub keeps-kept : (xs : List (Option Session)) (w v : Window) (s : ℕ) (e e' : Session) → open_at xs s ≡ Some e → SameSession e e' → SameIds w v → EngineKeeps xs w → EngineKeeps (set xs s (Some e')) v
 keeps-kept xs w v s e e' at same ids k = record {
   count = length-set xs s (Some e') ∙ k.count;
-  own = rw (spared-is w v ids) (spared-own (set xs s (Some e')) w v.spare (keep-same xs w s e e' at same.ids k.own));
+  own = rw (spared-is w v ids) (spared-own (set xs s (Some e')) w v.spare (keep-same xs w s e e' at same.own.ids k.own));
 }
   where
     spared-own : (xs : List (Option Session)) (w : Window) (k : ℕ) → OwnIdsKeep xs w → OwnIdsKeep xs (spared w k)
-    spared-own xs w k h = record { active = λ s e x at own. let a = h.active s e x at own in record { is_given = a.is_given; unfinished = a.unfinished }; apart = h.apart }
+    spared-own xs w k h = record { active = λ s e x at own. let a = h.active s e x at own in record { is_given = a.is_given; unfinished = a.unfinished }; distinct = h.distinct; apart = h.apart }

@@ -7,7 +7,7 @@ use Rattle.history.specs.World.{World}
 use Rattle.session_relation.specs.declared.step.Step.TheVariants.{Begin, Insert, Delete}
 use Rattle.session_relation.specs.declared.reply.Reply.TheVariants.{Refused}
 use Rattle.session_relation.specs.declared.reply.Refusal.{Refusal}
-use Rattle.session_relation.specs.declared.reply.Refusal.TheVariants.{NotOpen, AlreadyOpen, Failed, AlreadyThere, NotThere, Conflict, Busy, TooLarge, NoRoom, NeedsFreeze, NoMemory, NoSuchPage, NoSuchSession}
+use Rattle.session_relation.specs.declared.reply.Refusal.TheVariants.{NotOpen, AlreadyOpen, Failed, AlreadyThere, NotThere, Conflict, Busy, TooLarge, NoRoom, NeedsFreeze, NoMemory, NoSuchPage, NoSuchSession, TooDeep, NoSavepoint}
 use Rattle.session_relation.specs.Words.{RowText, FitsRow}
 use Rattle.session_relation.specs.Writes.{WriteStep, inserts, updates, deletes, step_of, key_of, Asks}
 use Rattle.session_relation.specs.Finds.{Begins}
@@ -37,7 +37,7 @@ conflicts st s e write at late begins w agrees =
     let f = hindrances.Follows-conflict (seen st) s (reader_of e) write b.0 (seen (put_session st s (option_map as_failed (session_at st s)))).session b.1 b.2
     (late-to st w e (key_of write) late.id agrees late.late)
     (record { others = only.others; itself = only.itself ∙ ap (λ o. option_map reader_of (option_map as_failed o)) at }) w agrees.found in
-    (f.0, record { found = f.1; sound = Sound-fails st s e within at agrees.sound }, led-same st w agrees)
+    (f.0, record { found = f.1; sound = Sound-fails st s e at agrees.sound }, led-same st w agrees)
 
 busies : (st : State) (s o : ℕ) (e : Session) (write : WriteStep) → session_at st s ≡ Some e → IsHeld st e (key_of write) o
     → ((w : World) → Agrees st w → (found : Option Row) × Begins (seen st) s (reader_of e) (key_of write) found × Asks write found)
@@ -75,6 +75,8 @@ insert-hindered st s text NotOpen fits is = Follows-unready_write st s (inserts 
 insert-hindered st s text NoSuchSession fits is = Follows-unready_write st s (inserts text) NoSuchSession is
 insert-hindered st s text NotThere fits is = absurd is
 insert-hindered st s text AlreadyOpen fits is = absurd is
+insert-hindered st s text TooDeep fits is = absurd is
+insert-hindered st s text NoSavepoint fits is = absurd is
 insert-hindered st s text TooLarge fits is = absurd is
 insert-hindered st s text NoRoom fits is = absurd is
 insert-hindered st s text NeedsFreeze fits is = absurd is
@@ -97,6 +99,8 @@ change-hindered st s write NotOpen asks needs is = Follows-unready_write st s wr
 change-hindered st s write NoSuchSession asks needs is = Follows-unready_write st s write NoSuchSession is
 change-hindered st s write AlreadyThere asks needs is = absurd is
 change-hindered st s write AlreadyOpen asks needs is = absurd is
+change-hindered st s write TooDeep asks needs is = absurd is
+change-hindered st s write NoSavepoint asks needs is = absurd is
 change-hindered st s write TooLarge asks needs is = absurd is
 change-hindered st s write NoRoom asks needs is = absurd is
 change-hindered st s write NeedsFreeze asks needs is = absurd is
@@ -115,6 +119,8 @@ Follows-hindered_delete st s key r h = change-hindered st s (deletes key) r (λ 
 pub exact-hindered_insert : (st : State) (s : ℕ) (row : Row) (r : Refusal) → HindersInsert st s row.key r → ExactInsert st s row (Refused r) (refused_state st s r)
 exact-hindered_insert st s row NotOpen h = refl
 exact-hindered_insert st s row AlreadyOpen h = refl
+exact-hindered_insert st s row TooDeep h = refl
+exact-hindered_insert st s row NoSavepoint h = refl
 exact-hindered_insert st s row Failed h = refl
 exact-hindered_insert st s row AlreadyThere h = refl
 exact-hindered_insert st s row NotThere h = refl
@@ -130,6 +136,8 @@ exact-hindered_insert st s row NoSuchSession h = refl
 pub exact-hindered_update : (st : State) (s : ℕ) (row : Row) (r : Refusal) → HindersChange st s row.key r → ExactUpdate st s row (Refused r) (refused_state st s r)
 exact-hindered_update st s row NotOpen h = refl
 exact-hindered_update st s row AlreadyOpen h = refl
+exact-hindered_update st s row TooDeep h = refl
+exact-hindered_update st s row NoSavepoint h = refl
 exact-hindered_update st s row Failed h = refl
 exact-hindered_update st s row AlreadyThere h = refl
 exact-hindered_update st s row NotThere h = inl refl
@@ -145,6 +153,8 @@ exact-hindered_update st s row NoSuchSession h = refl
 pub exact-hindered_delete : (st : State) (s key : ℕ) (r : Refusal) → HindersChange st s key r → ExactDelete st s key (Refused r) (refused_state st s r)
 exact-hindered_delete st s key NotOpen h = refl
 exact-hindered_delete st s key AlreadyOpen h = refl
+exact-hindered_delete st s key TooDeep h = refl
+exact-hindered_delete st s key NoSavepoint h = refl
 exact-hindered_delete st s key Failed h = refl
 exact-hindered_delete st s key AlreadyThere h = refl
 exact-hindered_delete st s key NotThere h = inl refl
@@ -162,6 +172,8 @@ exact-hindered_delete st s key NoSuchSession h = refl
 pub exact-unready_insert : (st : State) (s : ℕ) (row : Row) (r : Refusal) → RefusesReady st s r → ExactInsert st s row (Refused r) st
 exact-unready_insert st s row NotOpen is = refl
 exact-unready_insert st s row AlreadyOpen is = refl
+exact-unready_insert st s row TooDeep is = refl
+exact-unready_insert st s row NoSavepoint is = refl
 exact-unready_insert st s row Failed is = refl
 exact-unready_insert st s row AlreadyThere is = refl
 exact-unready_insert st s row NotThere is = refl
@@ -177,6 +189,8 @@ exact-unready_insert st s row NoSuchSession is = refl
 pub exact-unready_update : (st : State) (s : ℕ) (row : Row) (r : Refusal) → RefusesReady st s r → ExactUpdate st s row (Refused r) st
 exact-unready_update st s row NotOpen is = refl
 exact-unready_update st s row AlreadyOpen is = refl
+exact-unready_update st s row TooDeep is = refl
+exact-unready_update st s row NoSavepoint is = refl
 exact-unready_update st s row Failed is = refl
 exact-unready_update st s row AlreadyThere is = refl
 exact-unready_update st s row NotThere is = inl refl
@@ -192,6 +206,8 @@ exact-unready_update st s row NoSuchSession is = refl
 pub exact-closed : (st : State) (s : ℕ) (r : Refusal) → Refuses st s r → Exact st (Begin s) (Refused r) st
 exact-closed st s NotOpen is = refl
 exact-closed st s AlreadyOpen is = refl
+exact-closed st s TooDeep is = refl
+exact-closed st s NoSavepoint is = refl
 exact-closed st s Failed is = refl
 exact-closed st s AlreadyThere is = refl
 exact-closed st s NotThere is = refl

@@ -33,7 +33,7 @@ held-cases (Some f ∷ xs) y among = elim (Contains-append_cases (holds_back f) 
   | inr there ↦ (let some = held-cases xs y there in (suc some.0, some.1, some.2, some.3))
 ]
 
-contains-first : (ids : List ℕ) (y : ℕ) → Contains (take 1 ids) y → Contains ids y
+pub contains-first : (ids : List ℕ) (y : ℕ) → Contains (take 1 ids) y → Contains ids y
 contains-first [] y among = among
 contains-first (x ∷ xs) y among = elim (contains-cases x y (take 0 xs) among) [
   | inl here ↦ subst (λ z. Contains (x ∷ xs) z) here (contains-head x xs)

@@ -1,17 +1,20 @@
 -- The own ids of the open sessions after one session changed.
 use Rattle.std.proofs.Common.{◌≡◌, ◌≢◌, ℕ, ◌<◌, List, [], ◌∷◌, ◌++◌, length, set, Option, Some, None, sym, ap, ◌∙◌, subst, ◌⊎◌, inl, inr}
-use Rattle.std.specs.Prelude.{Contains, IsSome}
+use Rattle.std.specs.Prelude.{Contains}
 use Rattle.std.specs.Option.{option_flatten}
 use Rattle.std.proofs.lemmas.Bool.{cases_eq}
 use Rattle.std.proofs.lemmas.Option.{same_Some, none-some, slice_get_past}
 use Rattle.std.proofs.lemmas.Bool.{cases_lt}
-use Rattle.std.proofs.lemmas.List.Elements.{Contains-push_cases}
+use Rattle.std.proofs.lemmas.List.Elements.{Contains-append_left, Contains-append_right, Contains-append_cases}
 use Rattle.commit_status.specs.declared.status.Status.{Status}
-use Rattle.commit_status.specs.Window.{Window, IsWindow, IsActive, next_id, place}
-use Rattle.commit_status.specs.Changes.{Gives, Finishes}
-use Rattle.commit_status.proofs.Places.{next-none}
-use Rattle.commit_status.proofs.Giving.{gives-active_old, gives-active_next}
+use Rattle.commit_status.specs.Window.{Window, IsWindow, IsActive}
+use Rattle.commit_status.specs.Changes.{Finishes}
 use Rattle.commit_status.proofs.Finishing.{finishes-active_other}
+use Rattle.snapshot.specs.Own.{AreDistinct}
+use Rattle.snapshot.proofs.Earliest.{contains-head, contains-tail}
+use Rattle.snapshot.proofs.Levels.{distinct-front, distinct-after}
+use Rattle.heap_write.specs.Writes.{GivesUnder}
+use Rattle.heap_write.proofs.GivenIds.{given-active_old, given-active, given-new, given-distinct}
 use Rattle.history.proofs.Places.{slice_get-set_same, slice_get-set_other}
 use Rattle.session_relation.proofs.Itself.{none_own}
 use Rattle.session_core.specs.declared.session.Session.{Session}
@@ -33,16 +36,29 @@ open-set_cases xs s o v e within at = elim (cases_eq o s) [
   | inr ne ↦ inr (ne, sym (open-set_other xs s o v ne) ∙ at)
 ]
 
+-- what is in one list alone, each once, is once in both together
+pub distinct-both : (ids xs : List ℕ) → AreDistinct ids → AreDistinct xs → ((x : ℕ) → Contains xs x → ¬ Contains ids x) → AreDistinct (ids ++ xs)
+distinct-both [] xs one two apart = two
+distinct-both (y ∷ ids) xs one two apart = (
+  λ among. elim (Contains-append_cases ids xs y among) [ inl here ↦ one.0 here | inr there ↦ apart y there (contains-head y ids) ],
+  distinct-both ids xs one.1 two (λ x there here. apart x there (contains-tail y x ids here)),
+)
+
 -- the session at one place changes: its ids are in progress, and nobody else's
 keep-set : (xs : List (Option Session)) (w v : Window) (s : ℕ) (now : Option Session) → s < length xs → OwnIdsKeep xs w
     → ((o : ℕ) (e : Session) (x : ℕ) → o ≢ s → open_at xs o ≡ Some e → Contains e.own.ids x → IsActive v x)
     → ((e : Session) (x : ℕ) → now ≡ Some e → Contains e.own.ids x → IsActive v x)
+    → ((e : Session) → now ≡ Some e → AreDistinct e.own.ids)
     → ((o : ℕ) (e f : Session) (x : ℕ) → o ≢ s → now ≡ Some e → open_at xs o ≡ Some f → Contains e.own.ids x → Contains f.own.ids x → ⊥)
     → OwnIdsKeep (set xs s now) v
-keep-set xs w v s now within h others mine alone = record {
+keep-set xs w v s now within h others mine once alone = record {
   active = λ o e x at own. elim (open-set_cases xs s o now e within at) [
     | inl same ↦ mine e x same.1 own
     | inr other ↦ others o e x other.0 other.1 own
+  ];
+  distinct = λ o e at. elim (open-set_cases xs s o now e within at) [
+    | inl same ↦ once e same.1
+    | inr other ↦ h.distinct o e other.1
   ];
   apart = λ o p e f x at bt own own'. elim (open-set_cases xs s o now e within at) [
     | inl same ↦ elim (open-set_cases xs s p now f within bt) [
@@ -61,6 +77,7 @@ pub keep-open : (xs : List (Option Session)) (w : Window) (s : ℕ) (e : Session
 keep-open xs w s e within none h = keep-set xs w w s (Some e) within h
     (λ o f x ne at own. h.active o f x at own)
     (λ f x is own. absurd (empty f x is own))
+    (λ f is. subst AreDistinct (sym (ap (λ (f : Session). f.own.ids) (sym (same_Some e f is)) ∙ none)) tt)
     (λ o f g x ne is at own own'. empty f x is own)
   where
     empty : (f : Session) (x : ℕ) → Some e ≡ Some f → ¬ Contains f.own.ids x
@@ -71,6 +88,7 @@ pub keep-close : (xs : List (Option Session)) (w v : Window) (s : ℕ) (e : Sess
 keep-close xs w v s e status at finishes h = keep-set xs w v s None (open-within xs s e at) h
     (λ o f x ne bt own. finishes-active_other w v e.own.ids status x finishes (λ mine. ne (h.apart o s f e x bt at own mine)) (h.active o f x bt own))
     (λ f x is own. absurd (none-some f is))
+    (λ f is. absurd (none-some f is))
     (λ o f g x ne is bt own own'. none-some f is)
 
 -- no session is there
@@ -78,6 +96,7 @@ pub keep-idle : (xs : List (Option Session)) (w : Window) (s : ℕ) → s < leng
 keep-idle xs w s within h = keep-set xs w w s None within h
     (λ o f x ne bt own. h.active o f x bt own)
     (λ f x is own. absurd (none-some f is))
+    (λ f is. absurd (none-some f is))
     (λ o f g x ne is bt own own'. none-some f is)
 
 -- the session's ids stay as they are
@@ -85,31 +104,48 @@ pub keep-same : (xs : List (Option Session)) (w : Window) (s : ℕ) (e e' : Sess
 keep-same xs w s e e' at same h = keep-set xs w w s (Some e') (open-within xs s e at) h
     (λ o f x ne bt own. h.active o f x bt own)
     (λ f x is own. h.active s e x at (mine f x is own))
+    (λ f is. subst AreDistinct (sym (ap (λ (f : Session). f.own.ids) (sym (same_Some e' f is)) ∙ same)) (h.distinct s e at))
     (λ o f g x ne is bt own own'. ne (h.apart o s g e x bt at own' (mine f x is own)))
   where
     mine : (f : Session) (x : ℕ) → Some e' ≡ Some f → Contains f.own.ids x → Contains e.own.ids x
     mine f x is own = subst (λ ids. Contains ids x) (ap (λ (f : Session). f.own.ids) (sym (same_Some e' f is)) ∙ same) own
 
-none-given : (o : Option ℕ) → o ≡ None → IsSome o → ⊥
-none-given None e some = cc
-none-given (Some i) e some = cc
-
--- the session is given the next id
-pub keep-give : (xs : List (Option Session)) (w v : Window) (s : ℕ) (e e' : Session) → open_at xs s ≡ Some e → e'.own.ids ≡ e.own.ids ++ next_id w ∷ []
-    → IsWindow w → IsWindow v → Gives w v None → OwnIdsKeep xs w → OwnIdsKeep (set xs s (Some e')) v
-keep-give xs w v s e e' at same is is' gives h = keep-set xs w v s (Some e') (open-within xs s e at) h
-    (λ o f x ne bt own. gives-active_old w v None x is is' gives (h.active o f x bt own))
+-- the session is given ids
+pub keep-given : (xs : List (Option Session)) (w v : Window) (s : ℕ) (e e' : Session) (given : List ℕ) (parent : Option ℕ) → open_at xs s ≡ Some e → e'.own.ids ≡ e.own.ids ++ given
+    → IsWindow v → GivesUnder w parent given v → OwnIdsKeep xs w → OwnIdsKeep (set xs s (Some e')) v
+keep-given xs w v s e e' given parent at same is gives h = keep-set xs w v s (Some e') (open-within xs s e at) h
+    (λ o f x ne bt own. given-active_old given w v parent x gives is (h.active o f x bt own))
     (λ f x same own. elim (mine f x same own) [
-      | inl old ↦ gives-active_old w v None x is is' gives (h.active s e x at old)
-      | inr now ↦ subst (λ y. IsActive v y) now (gives-active_next w v None is' gives)
+      | inl old ↦ given-active_old given w v parent x gives is (h.active s e x at old)
+      | inr now ↦ given-active given w v parent x gives is now
     ])
+    (λ f is'. subst AreDistinct (sym (own-ids f is')) (distinct-both e.own.ids given (h.distinct s e at) (given-distinct given w v parent gives is)
+    (λ x now old. given-new given w v parent x gives is now (h.active s e x at old).is_given)))
     (λ o f g x ne same bt own own'. elim (mine f x same own) [
       | inl old ↦ ne (h.apart o s g e x bt at own' old)
-      | inr now ↦ fresh (subst (λ y. IsActive w y) (sym now) (h.active o g x bt own'))
+      | inr now ↦ given-new given w v parent x gives is now (h.active o g x bt own').is_given
     ])
   where
-    mine : (f : Session) (x : ℕ) → Some e' ≡ Some f → Contains f.own.ids x → Contains e.own.ids x ⊎ (next_id w ≡ x)
-    mine f x is own = Contains-push_cases e.own.ids (next_id w) x (subst (λ ids. Contains ids x) (ap (λ (f : Session). f.own.ids) (sym (same_Some e' f is)) ∙ same) own)
+    own-ids : (f : Session) → Some e' ≡ Some f → f.own.ids ≡ e.own.ids ++ given
+    own-ids f is = ap (λ (f : Session). f.own.ids) (sym (same_Some e' f is)) ∙ same
 
-    fresh : ¬ IsActive w (next_id w)
-    fresh active = let none = next-none w is in let some = active.is_given in none-given (place w (next_id w)) none some
+    mine : (f : Session) (x : ℕ) → Some e' ≡ Some f → Contains f.own.ids x → Contains e.own.ids x ⊎ Contains given x
+    mine f x is own = Contains-append_cases e.own.ids given x (subst (λ ids. Contains ids x) (own-ids f is) own)
+
+-- the session's last ids are finished, and it drops them
+pub keep-dropped : (xs : List (Option Session)) (w v : Window) (s : ℕ) (e e' : Session) (since : List ℕ) (status : Status) → open_at xs s ≡ Some e → e.own.ids ≡ e'.own.ids ++ since
+    → Finishes w v since status → OwnIdsKeep xs w → OwnIdsKeep (set xs s (Some e')) v
+keep-dropped xs w v s e e' since status at same finishes h = keep-set xs w v s (Some e') (open-within xs s e at) h
+    (λ o f x ne bt own. finishes-active_other w v since status x finishes (λ dropped. ne (h.apart o s f e x bt at own (was x (inr dropped)))) (h.active o f x bt own))
+    (λ f x is own. finishes-active_other w v since status x finishes (λ dropped. distinct-after e.own.ids e'.own.ids since (h.distinct s e at) same x dropped (now f x is own)) (h.active s e x at (was x (inl (now f x is own)))))
+    (λ f is. subst AreDistinct (ap (λ (f : Session). f.own.ids) (same_Some e' f is)) (distinct-front e.own.ids e'.own.ids since (h.distinct s e at) same))
+    (λ o f g x ne is bt own own'. ne (h.apart o s g e x bt at own' (was x (inl (now f x is own)))))
+  where
+    now : (f : Session) (x : ℕ) → Some e' ≡ Some f → Contains f.own.ids x → Contains e'.own.ids x
+    now f x is own = subst (λ ids. Contains ids x) (ap (λ (f : Session). f.own.ids) (sym (same_Some e' f is))) own
+
+    was : (x : ℕ) → Contains e'.own.ids x ⊎ Contains since x → Contains e.own.ids x
+    was x cases = subst (λ ids. Contains ids x) (sym same) (elim cases [
+      | inl front ↦ Contains-append_left e'.own.ids since x front
+      | inr last ↦ Contains-append_right e'.own.ids since x last
+    ])

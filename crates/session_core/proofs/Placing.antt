@@ -1,9 +1,7 @@
 -- What writes put and alter, as readers see it; and what a session may take away.
-use Rattle.std.proofs.Common.{◌≡◌, ◌≢◌, ℕ, ◌≤◌, List, [], ◌∷◌, length, Bool, true, false, Option, Some, None, slice_get, refl, sym, ap, ◌∙◌, subst, inl, inr, arith, cond}
-use Rattle.std.specs.Prelude.{Contains, IfSome, ◌==◌}
+use Rattle.std.proofs.Common.{◌≡◌, ◌≢◌, ℕ, Bool, true, false, Option, Some, None, refl, ap, inl, inr, arith, cond}
+use Rattle.std.specs.Prelude.{◌==◌}
 use Rattle.std.proofs.lemmas.Bool.{cases_Bool, cases_eq}
-use Rattle.std.proofs.lemmas.Option.{same_Some, none-some}
-use Rattle.xid_circle.specs.declared.Xid.{Xid}
 use Rattle.xid_circle.specs.declared.Tid.{Tid}
 use Rattle.tuple_header.specs.declared.version.Row.{Row}
 use Rattle.tuple_header.specs.Version.{Version}
@@ -11,24 +9,21 @@ use Rattle.tuple_header.specs.Marks.{is_frozen}
 use Rattle.commit_status.specs.declared.status.Status.TheVariants.{Aborted}
 use Rattle.commit_status.specs.Window as window
 use Rattle.commit_status.proofs.Places.{upto-given}
-use Rattle.page_writes.specs.Keeps.{IsUntaken}
-use Rattle.page_writes.specs.Lives.{IsLater}
+use Rattle.page_writes.specs.Keeps.{IsMade, IsUntaken}
 use Rattle.page_writes.proofs.Bits.{replaced-frozen}
-use Rattle.sound_writes.specs.Table.{IsMadeFor, MayTake}
-use Rattle.sound_writes.specs.Table as made
+use Rattle.heap_write.specs.Heap.{HeapView}
+use Rattle.sound_writes.specs.Table.{MayTake}
+use Rattle.sound_writes.specs.Laws.{IsWriter}
 use Rattle.sound_writes.proofs.Standing.{AddsAt, AltersAt, IsNewBy, taken_version}
 use Rattle.history.specs.World.{World}
 use Rattle.session_relation.specs.Visible.{deleter}
 use Rattle.session_relation.specs.Changes as change
 use Rattle.session_relation.specs.Finds.{Free}
-use Rattle.snapshot.proofs.Earliest.{contains-head, contains-cases}
-use Rattle.session_relation.proofs.Itself.{none_own}
 use Rattle.session_relation.proofs.Readers.{IsNew, IsDeleted}
 use Rattle.session_relation.proofs.Targets as targets
 use Rattle.session_core.specs.declared.session.Session.{Session}
 use Rattle.session_core.specs.State.{State, session_at, seen, reader_of}
 use Rattle.session_core.specs.Agrees.{Agrees}
-use Rattle.session_core.specs.Writes.{WritesUnder, its_own, a_new}
 use Rattle.session_core.proofs.Windows.{committed-to, active-to, state-some}
 use Rattle.session_core.proofs.Owns.{reader-is}
 use Rattle.session_core.proofs.Searches.{IsTarget, is-maker, is-deleter}
@@ -53,7 +48,7 @@ is-new x row v n = record {
 }
 
 -- an id in progress is a normal one
-normal-active : (w : window.Window) (x : ℕ) → window.IsActive w x → x ≢ 0
+pub normal-active : (w : window.Window) (x : ℕ) → window.IsActive w x → x ≢ 0
 normal-active w x active is = absurd (let normal = (upto-given w x active.is_given).normal in omega (arith, is))
 
 pub is-deleted : (w : window.Window) (x : ℕ) (t : Version) (successor : Tid) (hot : Bool) → window.IsActive w x → IsDeleted x t (taken_version t x successor hot)
@@ -63,43 +58,25 @@ is-deleted w x t successor hot active = record {
   by = is-deleter (taken_version t x successor hot) x (normal-active w x active) refl;
 }
 
--- The writer's id.
+-- The writer.
 
-pub writer-active : (st : State) (w : World) (s : ℕ) (e e' : Session) (id : Option Xid) (x : ℕ) → Agrees st w → session_at st s ≡ Some e → WritesUnder e e' id x
-    → IfSome id (λ y. window.IsActive st.heap.table y.0)
-writer-active st w s e e' id x agrees at (its_own y is same first stays) =
-    subst (λ i. IfSome i (λ y. window.IsActive st.heap.table y.0)) (sym is)
-    (subst (λ z. window.IsActive st.heap.table z) same (active-to st.heap.table x ((agrees.found.opened s (reader_of e) (reader-is st s e at)).2.own_active x (first-among e.own.ids x first))))
-  where
-    first-among : (ids : List ℕ) (x : ℕ) → slice_get ids 0 ≡ Some x → Contains ids x
-    first-among [] x at = absurd (none-some x at)
-    first-among (y ∷ ys) x at = subst (λ z. Contains (y ∷ ys) z) (same_Some y x at) (contains-head y ys)
-writer-active st w s e e' id x agrees at (a_new is none ids snapshot saved failed) = subst (λ i. IfSome i (λ y. window.IsActive st.heap.table y.0)) (sym is) tt
-
--- of one id at most, any two are one
-single : (ids : List ℕ) (x y : ℕ) → length ids ≤ 1 → slice_get ids 0 ≡ Some x → Contains ids y → y ≡ x
-single [] x y few first among = absurd (none-some x first)
-single (z ∷ []) x y few first among = elim (contains-cases z y [] among) [ inl here ↦ sym here ∙ same_Some z x first | inr none ↦ absurd (none_own y none) ]
-single (z ∷ u ∷ ids) x y few first among = absurd (omega arith)
+pub is-writer : (st : State) (w : World) (s : ℕ) (e : Session) (h : HeapView) → Agrees st w → session_at st s ≡ Some e → window.IsWindow h.table → IsWriter st.heap h e.own
+is-writer st w s e h agrees at after = record {
+  before = agrees.sound.window;
+  after = after;
+  active = λ x mine. active-to st.heap.table x ((agrees.found.opened s (reader_of e) (reader-is st s e at)).2.own_active x mine);
+}
 
 -- What a session may write, it may take away.
 
-made-for : (st : State) (w : World) (s : ℕ) (e e' : Session) (id : Option Xid) (x : ℕ) (key : ℕ) (p : Tid) (t : Version) → Agrees st w → session_at st s ≡ Some e → WritesUnder e e' id x
-    → IsTarget st e key p t → IsMadeFor st.heap.table id t.header
-made-for st w s e e' id x key p t agrees at under target = elim (cases_Bool (is_frozen t.header)) [
-  | inl frozen ↦ made.frozen frozen
+is-made : (st : State) (w : World) (s : ℕ) (e : Session) (key : ℕ) (p : Tid) (t : Version) → Agrees st w → session_at st s ≡ Some e → IsTarget st e key p t → IsMade st.heap.table t.header
+is-made st w s e key p t agrees at target = elim (cases_Bool (is_frozen t.header)) [
+  | inl frozen ↦ inl frozen
   | inr thawed ↦ elim (targets.maker_of (seen st) (reader_of e) t target.seen t.header.xmin.0 (is-maker t t.header.xmin.0 (λ frozen. cc) refl)) [
-    | inl done ↦ made.committed (committed-to st.heap.table t.header.xmin.0 done)
-    | inr own ↦ mine under own
+    | inl done ↦ inr (inl (committed-to st.heap.table t.header.xmin.0 done))
+    | inr own ↦ inr (inr (active-to st.heap.table t.header.xmin.0 ((agrees.found.opened s (reader_of e) (reader-is st s e at)).2.own_active t.header.xmin.0 own)).unfinished)
   ]
 ]
-  where
-    mine : WritesUnder e e' id x → Contains e.own.ids t.header.xmin.0 → IsMadeFor st.heap.table id t.header
-    mine (its_own y is same first stays) own =
-        let one : t.header.xmin.0 ≡ y.0 = single e.own.ids x t.header.xmin.0 (agrees.sound.sessions s e at).single first own ∙ same in
-        let active = active-to st.heap.table t.header.xmin.0 ((agrees.found.opened s (reader_of e) (reader-is st s e at)).2.own_active t.header.xmin.0 own) in
-        made.own y is active (subst (λ z. IsLater st.heap.table t.header.xmin.0 z) one (record { active = active; same = refl; order = omega arith }))
-    mine (a_new is none ids snapshot saved failed) own = absurd (none_own t.header.xmin.0 (subst (λ xs. Contains xs t.header.xmin.0) none own))
 
 untaken : (st : State) (w : World) (s : ℕ) (e : Session) (key : ℕ) (found : Option Row) (p : Tid) (t : Version) → Agrees st w → Free (seen st) s (reader_of e) key found → IsTarget st e key p t → IsUntaken st.heap.table t.header
 untaken st w s e key found p t agrees free target = elim (cases_eq t.header.xmax.0 0) [
@@ -108,10 +85,10 @@ untaken st w s e key found p t agrees free target = elim (cases_eq t.header.xmax
       (targets.untaken_of (seen st) w s (reader_of e) key found p t free agrees.found target.there target.of_key target.seen t.header.xmax.0 (is-deleter t t.header.xmax.0 some refl))).1
 ]
 
-pub may-take : (st : State) (w : World) (s : ℕ) (e e' : Session) (id : Option Xid) (x : ℕ) (key : ℕ) (found : Option Row) (p : Tid) (t : Version) → Agrees st w → session_at st s ≡ Some e
-    → Free (seen st) s (reader_of e) key found → WritesUnder e e' id x → IsTarget st e key p t → MayTake st.heap id p t
-may-take st w s e e' id x key found p t agrees at free under target = record {
+pub may-take : (st : State) (w : World) (s : ℕ) (e : Session) (key : ℕ) (found : Option Row) (p : Tid) (t : Version) → Agrees st w → session_at st s ≡ Some e
+    → Free (seen st) s (reader_of e) key found → IsTarget st e key p t → MayTake st.heap p t
+may-take st w s e key found p t agrees at free target = record {
   there = target.there;
-  made = made-for st w s e e' id x key p t agrees at under target;
+  made = is-made st w s e key p t agrees at target;
   untaken = untaken st w s e key found p t agrees free target;
 }

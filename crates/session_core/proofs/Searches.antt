@@ -25,7 +25,7 @@ use Rattle.session_relation.specs.Heap as relation
 use Rattle.session_relation.specs.Visible.{maker, deleter, Reads, by_itself, by_others, IsVisible, Touches, made_by, deleted_by, IsActive}
 use Rattle.session_relation.specs.Finds.{Finds, IsLateFor, IsHeldBy, Begins, Free}
 use Rattle.session_relation.specs.declared.reply.Refusal.{Refusal}
-use Rattle.session_relation.specs.declared.reply.Refusal.TheVariants.{NotOpen, AlreadyOpen, Failed, AlreadyThere, NotThere, Conflict, Busy, TooLarge, NoRoom, NeedsFreeze, NoMemory, NoSuchPage, NoSuchSession}
+use Rattle.session_relation.specs.declared.reply.Refusal.TheVariants.{NotOpen, AlreadyOpen, Failed, AlreadyThere, NotThere, Conflict, Busy, TooLarge, NoRoom, NeedsFreeze, NoMemory, NoSuchPage, NoSuchSession, TooDeep, NoSavepoint}
 use Rattle.session_core.specs.declared.session.Session.{Session}
 use Rattle.session_core.specs.State.{State, session_at, seen, state_of, reader_of, horizon_of}
 use Rattle.session_core.specs.Agrees.{Agrees}
@@ -206,6 +206,8 @@ delayed-insert st s key e Conflict reads delays = record { session = e; reads = 
 delayed-insert st s key e (Busy o) reads delays = record { session = e; reads = reads; delays = delays }
 delayed-insert st s key e NotOpen reads delays = absurd delays
 delayed-insert st s key e AlreadyOpen reads delays = absurd delays
+delayed-insert st s key e TooDeep reads delays = absurd delays
+delayed-insert st s key e NoSavepoint reads delays = absurd delays
 delayed-insert st s key e Failed reads delays = absurd delays
 delayed-insert st s key e AlreadyThere reads delays = absurd delays
 delayed-insert st s key e NotThere reads delays = absurd delays
@@ -221,6 +223,8 @@ delayed-change st s key e p Conflict reads delays = (p, record { session = e; re
 delayed-change st s key e p (Busy o) reads delays = (p, record { session = e; reads = reads; delays = delays })
 delayed-change st s key e p NotOpen reads delays = absurd delays
 delayed-change st s key e p AlreadyOpen reads delays = absurd delays
+delayed-change st s key e p TooDeep reads delays = absurd delays
+delayed-change st s key e p NoSavepoint reads delays = absurd delays
 delayed-change st s key e p Failed reads delays = absurd delays
 delayed-change st s key e p AlreadyThere reads delays = absurd delays
 delayed-change st s key e p NotThere reads delays = absurd delays

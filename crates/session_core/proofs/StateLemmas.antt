@@ -27,6 +27,7 @@ keeps-idle xs w is count = record {
   count = count;
   own = record {
     active = λ s e x at own. absurd (none-some e (sym (closed s) ∙ at));
+    distinct = λ s e at. absurd (none-some e (sym (closed s) ∙ at));
     apart = λ s o e f x at bt own own'. absurd (none-some e (sym (closed s) ∙ at));
   };
 }

@@ -1,84 +1,28 @@
 -- A write that a session tries: what it changes, or why it is not done.
-use Rattle.std.proofs.Common.{◌≡◌, ℕ, ◌<◌, List, [], ◌∷◌, ◌++◌, set, Option, Some, None, slice_get, refl, sym, ap, ◌∙◌, subst, inl, inr, true, arith}
-use Rattle.std.specs.Prelude.{Result, Ok, Err, OnErr}
-use Rattle.std.specs.Result.{is_err}
-use Rattle.std.proofs.lemmas.Option.{none-some}
-use Rattle.xid_circle.specs.declared.Xid.{Xid}
+use Rattle.std.proofs.Common.{◌≡◌, ℕ, List, set, Option, Some, None, ap, ◌∙◌, subst, inl, inr}
+use Rattle.std.specs.Prelude.{Result, Ok, Err, Contains}
 use Rattle.xid_circle.specs.declared.Tid.{Tid}
 use Rattle.tuple_header.specs.declared.version.Row.{Row}
 use Rattle.tuple_header.specs.Version.{rounded_size_of}
-use Rattle.commit_status.specs.Window.{Window, IsWindow}
+use Rattle.commit_status.specs.Window.{Window, IsWindow, IsGiven, IsActive}
+use Rattle.snapshot.specs.Own.{newest_id}
+use Rattle.snapshot.proofs.Levels.{level-among}
 use Rattle.heap_write.specs.declared.heap.WriteFault.{WriteFault}
 use Rattle.heap_write.specs.declared.heap.WriteFault.TheVariants as fault
 use Rattle.heap_write.specs.Heap.{HeapView, SameIds, Keeps}
 use Rattle.heap_write.specs.Writes.{Readies}
-use Rattle.heap_write.specs.Refusals.{LacksForInsert, FailsUpdate, FailsDelete}
+use Rattle.heap_write.specs.Refusals.{FailsUpdate, FailsDelete}
 use Rattle.session_core.specs.declared.session.Session.{Session}
 use Rattle.session_core.specs.State.{State, session_at, horizon_of}
 use Rattle.session_core.specs.Keeps.{open_at, EngineKeeps}
 use Rattle.session_core.specs.Tests.{MayWrite}
-use Rattle.session_core.specs.Writes.{SameSession, its_own, a_new, OwnNeedsMemory, InsertFails, UpdateFails, DeleteFails, Done, Refused, TriesInsert, TriesUpdate, TriesDelete, OnOpen, reply_for}
+use Rattle.session_core.specs.Writes.{TriesInsert, TriesUpdate, TriesDelete, OnOpen, reply_for}
 use Rattle.session_core.specs.Exact.{Tried, InsertTried, UpdateTried, DeleteTried, ExactInsert, ExactUpdate, ExactDelete}
 use Rattle.session_core.proofs.Giving.{keeps-wrote, keeps-kept}
 
-pub itself : (e : Session) → SameSession e e
-itself e = record { snapshot = refl; ids = refl; saved = refl; failed = refl }
-
-pub none-first : (ids : List ℕ) → None ≡ slice_get ids 0 → ids ≡ []
-none-first [] e = refl
-none-first (x ∷ xs) e = absurd (none-some x e)
-
--- Under its first id, or a new one.
-
-pub done-own : (e : Session) (x y : Xid) (changes : Option Xid → ℕ → Type 0) → Some x.0 ≡ slice_get e.own.ids 0 → y.0 ≡ x.0 → changes (Some x) y.0 → Done e e changes
-done-own e x y changes first same change =
-    record { id = Some x; x = y.0; under = its_own x refl same (subst (λ z. slice_get e.own.ids 0 ≡ Some z) (sym same) (sym first)) (itself e); change = change }
-
-pub done-new : (e e' : Session) (y : ℕ) (changes : Option Xid → ℕ → Type 0) → None ≡ slice_get e.own.ids 0 → e'.own.ids ≡ e.own.ids ++ y ∷ [] → e'.snapshot ≡ e.snapshot → e'.own.saved ≡ e.own.saved → e'.failed ≡ e.failed
-    → changes None y → Done e e' changes
-done-new e e' y changes first ids snapshot saved failed change =
-    let none = none-first e.own.ids first in
-    record { id = None; x = y; under = a_new refl none (ids ∙ ap (λ xs. xs ++ y ∷ []) none) snapshot saved failed; change = change }
-
-pub refused-own : (e : Session) (x : Xid) (fails : Option Xid → Type 0) → Some x.0 ≡ slice_get e.own.ids 0 → fails (Some x) → Refused e e fails
-refused-own e x fails first fault = record { id = Some x; has_id = first; same = itself e; fault = fault }
-
-pub refused-new : (e e' : Session) (fails : Option Xid → Type 0) → None ≡ slice_get e.own.ids 0 → SameSession e e' → fails None → Refused e e' fails
-refused-new e e' fails first same fault = record { id = None; has_id = first; same = same; fault = fault }
-
--- its list of ids could not grow
-on-err : {A B : Type 0} (r : Result A B) (P : Type 0) → is_err r ≡ true → OnErr r P → P
-on-err (Ok a) P is h = absurd (cc)
-on-err (Err b) P is h = h
-
-pub own-full : {A B : Type 0} (e : Session) (r : Result A B) → None ≡ slice_get e.own.ids 0 → is_err r ≡ true → OnErr r (e.own.spare < 1) → OwnNeedsMemory e
-own-full e r first is refused = record { none = none-first e.own.ids first; full = (let none = on-err r (e.own.spare < 1) is refused in omega arith) }
-
--- What the heap says of a fault, said of the session.
-
-pub insert-fault : (h h' : HeapView) (e : Session) (id : Option Xid) (row : Row) (f : WriteFault) → LacksForInsert h id row f → Keeps h h' → InsertFails h h' e id row f
-insert-fault h h' e id row fault.NeedsFreeze lacks keeps = (lacks, keeps)
-insert-fault h h' e id row fault.NoRoom lacks keeps = (lacks.0, lacks.1, keeps)
-insert-fault h h' e id row fault.NoMemory lacks keeps = (lacks.0, lacks.1, inr lacks.2, keeps)
-insert-fault h h' e id row fault.Gone lacks keeps = absurd lacks
-
-pub keeps-itself : (h : HeapView) → Keeps h h
-keeps-itself h = record { slots = refl; changes = refl; flags = refl; table = record { first = refl; stop_age = refl; entries = refl }; entries = refl; max_pages = refl }
-
-pub update-fault : (h h' : HeapView) (e : Session) (id : Option Xid) (place : Tid) (row : Row) (horizon : ℕ) (f : WriteFault) → FailsUpdate h h' id place row horizon f → UpdateFails h h' e id place row horizon f
-update-fault h h' e id place row horizon fault.NeedsFreeze fails = (fails.1, fails.2)
-update-fault h h' e id place row horizon fault.NoRoom fails = (fails.free, record { ready = fails.ready; readies = fails.readies; has = fails.has.1; keeps = fails.keeps })
-update-fault h h' e id place row horizon fault.NoMemory fails = (fails.1, inr fails.2, fails.3)
-update-fault h h' e id place row horizon fault.Gone fails = elim fails [
-  | inl gone ↦ inl gone
-  | inr went ↦ inr (record { ready = went.ready; readies = went.readies; has = went.has; keeps = went.keeps })
-]
-
-pub delete-fault : (h h' : HeapView) (e : Session) (id : Option Xid) (place : Tid) (f : WriteFault) → FailsDelete h h' id place f → DeleteFails h h' e id place f
-delete-fault h h' e id place fault.NeedsFreeze fails = (fails.1, fails.2)
-delete-fault h h' e id place fault.NoRoom fails = absurd fails
-delete-fault h h' e id place fault.NoMemory fails = (fails.1, inr fails.2, fails.3)
-delete-fault h h' e id place fault.Gone fails = fails
+-- the newest id of those that are in progress is in the window
+pub newest-given : (w : Window) (ids : List ℕ) → ((x : ℕ) → Contains ids x → IsActive w x) → (x : ℕ) → newest_id ids ≡ Some x → IsGiven w x
+newest-given w ids active x is = (active x (level-among ids x is)).is_given
 
 -- The engine keeps what its type keeps, whatever became of a write.
 
@@ -89,41 +33,35 @@ ready-ids h ready h' n horizon size (Readies.is_pruned full grown grows prunes) 
     let last : SameIds grown.table h'.table = subst (λ t. SameIds t h'.table) table keeps.table in
     record { first = last.first ∙ grows.table.first; stop_age = last.stop_age ∙ grows.table.stop_age; entries = last.entries ∙ grows.table.entries }
 
-insert-ids : (h h' : HeapView) (e : Session) (id : Option Xid) (row : Row) (f : WriteFault) → InsertFails h h' e id row f → SameIds h.table h'.table
-insert-ids h h' e id row fault.NeedsFreeze fails = fails.1.table
-insert-ids h h' e id row fault.NoRoom fails = fails.2.table
-insert-ids h h' e id row fault.NoMemory fails = fails.3.table
-insert-ids h h' e id row fault.Gone fails = absurd fails
-
-update-ids : (h h' : HeapView) (e : Session) (id : Option Xid) (place : Tid) (row : Row) (horizon : ℕ) (f : WriteFault) → UpdateFails h h' e id place row horizon f → SameIds h.table h'.table
-update-ids h h' e id place row horizon fault.NeedsFreeze fails = fails.1.table
-update-ids h h' e id place row horizon fault.NoRoom fails = ready-ids h fails.1.ready h' place.page horizon (rounded_size_of row) fails.1.readies fails.1.keeps
-update-ids h h' e id place row horizon fault.NoMemory fails = fails.2.table
-update-ids h h' e id place row horizon fault.Gone fails = elim fails [
+update-ids : (h h' : HeapView) (e : Session) (place : Tid) (row : Row) (horizon : ℕ) (f : WriteFault) → FailsUpdate h h' e.own place row horizon f → SameIds h.table h'.table
+update-ids h h' e place row horizon fault.NeedsFreeze fails = fails.2.table
+update-ids h h' e place row horizon fault.NoRoom fails = ready-ids h fails.ready h' place.page horizon (rounded_size_of row) fails.readies fails.keeps
+update-ids h h' e place row horizon fault.NoMemory fails = fails.3.table
+update-ids h h' e place row horizon fault.Gone fails = elim fails [
   | inl gone ↦ gone.1.table
   | inr went ↦ ready-ids h went.ready h' place.page horizon (rounded_size_of row) went.readies went.keeps
 ]
 
-delete-ids : (h h' : HeapView) (e : Session) (id : Option Xid) (place : Tid) (f : WriteFault) → DeleteFails h h' e id place f → SameIds h.table h'.table
-delete-ids h h' e id place fault.NeedsFreeze fails = fails.1.table
-delete-ids h h' e id place fault.NoRoom fails = absurd fails
-delete-ids h h' e id place fault.NoMemory fails = fails.2.table
-delete-ids h h' e id place fault.Gone fails = fails.1.table
+delete-ids : (h h' : HeapView) (e : Session) (place : Tid) (f : WriteFault) → FailsDelete h h' e.own place f → SameIds h.table h'.table
+delete-ids h h' e place fault.NeedsFreeze fails = fails.2.table
+delete-ids h h' e place fault.NoRoom fails = absurd fails
+delete-ids h h' e place fault.NoMemory fails = fails.3.table
+delete-ids h h' e place fault.Gone fails = fails.1.table
 
-keeps-inserted : (xs : List (Option Session)) (h h' : HeapView) (s : ℕ) (e e' : Session) (row : Row) (r : Result (Unit {0}) WriteFault) → open_at xs s ≡ Some e → TriesInsert h h' e e' row r → IsWindow h.table → IsWindow h'.table
+keeps-inserted : (xs : List (Option Session)) (h h' : HeapView) (s : ℕ) (e e' : Session) (row : Row) (r : Result (Unit {0}) WriteFault) → open_at xs s ≡ Some e → TriesInsert h h' e e' row r → IsWindow h'.table
     → EngineKeeps xs h.table → EngineKeeps (set xs s (Some e')) h'.table
-keeps-inserted xs h h' s e e' row (Ok u) at tries is is' k = keeps-wrote xs h.table h'.table s e e' tries.id tries.x at tries.under tries.change.takes_id is is' k
-keeps-inserted xs h h' s e e' row (Err f) at tries is is' k = keeps-kept xs h.table h'.table s e e' at tries.same (insert-ids h h' e tries.id row f tries.fault) k
+keeps-inserted xs h h' s e e' row (Ok u) at tries is k = keeps-wrote xs h.table h'.table s e e' tries.x at tries.change.takes_ids is k
+keeps-inserted xs h h' s e e' row (Err f) at tries is k = keeps-kept xs h.table h'.table s e e' at tries.same tries.fault.1.table k
 
 keeps-updated : (xs : List (Option Session)) (h h' : HeapView) (s : ℕ) (e e' : Session) (place : Tid) (row : Row) (horizon : ℕ) (r : Result (Unit {0}) WriteFault) → open_at xs s ≡ Some e → TriesUpdate h h' e e' place row horizon r
-    → IsWindow h.table → IsWindow h'.table → EngineKeeps xs h.table → EngineKeeps (set xs s (Some e')) h'.table
-keeps-updated xs h h' s e e' place row horizon (Ok u) at tries is is' k = keeps-wrote xs h.table h'.table s e e' tries.id tries.x at tries.under tries.change.takes_id is is' k
-keeps-updated xs h h' s e e' place row horizon (Err f) at tries is is' k = keeps-kept xs h.table h'.table s e e' at tries.same (update-ids h h' e tries.id place row horizon f tries.fault) k
+    → IsWindow h'.table → EngineKeeps xs h.table → EngineKeeps (set xs s (Some e')) h'.table
+keeps-updated xs h h' s e e' place row horizon (Ok u) at tries is k = keeps-wrote xs h.table h'.table s e e' tries.x at tries.change.takes_ids is k
+keeps-updated xs h h' s e e' place row horizon (Err f) at tries is k = keeps-kept xs h.table h'.table s e e' at tries.same (update-ids h h' e place row horizon f tries.fault) k
 
 keeps-deleted : (xs : List (Option Session)) (h h' : HeapView) (s : ℕ) (e e' : Session) (place : Tid) (r : Result (Unit {0}) WriteFault) → open_at xs s ≡ Some e → TriesDelete h h' e e' place r
-    → IsWindow h.table → IsWindow h'.table → EngineKeeps xs h.table → EngineKeeps (set xs s (Some e')) h'.table
-keeps-deleted xs h h' s e e' place (Ok u) at tries is is' k = keeps-wrote xs h.table h'.table s e e' tries.id tries.x at tries.under tries.change.takes_id is is' k
-keeps-deleted xs h h' s e e' place (Err f) at tries is is' k = keeps-kept xs h.table h'.table s e e' at tries.same (delete-ids h h' e tries.id place f tries.fault) k
+    → IsWindow h'.table → EngineKeeps xs h.table → EngineKeeps (set xs s (Some e')) h'.table
+keeps-deleted xs h h' s e e' place (Ok u) at tries is k = keeps-wrote xs h.table h'.table s e e' tries.x at tries.change.takes_ids is k
+keeps-deleted xs h h' s e e' place (Err f) at tries is k = keeps-kept xs h.table h'.table s e e' at tries.same (delete-ids h h' e place f tries.fault) k
 
 -- of the session in a place
 keeps-on : (xs : List (Option Session)) (v : Window) (s : ℕ) (o now : Option Session) (tries : Session → Session → Type 0) → open_at xs s ≡ o → OnOpen o now tries
@@ -132,18 +70,18 @@ keeps-on xs v s None now tries at tried each = absurd tried
 keeps-on xs v s (Some e) now tries at tried each = rw tried.1 (each e tried.0 at tried.2)
 
 pub keeps-insert : (xs : List (Option Session)) (h h' : HeapView) (s : ℕ) (o now : Option Session) (row : Row) (r : Result (Unit {0}) WriteFault) → open_at xs s ≡ o → OnOpen o now (λ e e'. TriesInsert h h' e e' row r)
-    → IsWindow h.table → IsWindow h'.table → EngineKeeps xs h.table → EngineKeeps (set xs s now) h'.table
-keeps-insert xs h h' s o now row r at tried is is' k = keeps-on xs h'.table s o now (λ e e'. TriesInsert h h' e e' row r) at tried (λ e e' at' tries. keeps-inserted xs h h' s e e' row r at' tries is is' k)
+    → IsWindow h'.table → EngineKeeps xs h.table → EngineKeeps (set xs s now) h'.table
+keeps-insert xs h h' s o now row r at tried is k = keeps-on xs h'.table s o now (λ e e'. TriesInsert h h' e e' row r) at tried (λ e e' at' tries. keeps-inserted xs h h' s e e' row r at' tries is k)
 
 pub keeps-update : (xs : List (Option Session)) (h h' : HeapView) (s : ℕ) (o now : Option Session) (place : Tid) (row : Row) (horizon : ℕ) (r : Result (Unit {0}) WriteFault) → open_at xs s ≡ o
-    → OnOpen o now (λ e e'. TriesUpdate h h' e e' place row horizon r) → IsWindow h.table → IsWindow h'.table → EngineKeeps xs h.table → EngineKeeps (set xs s now) h'.table
-keeps-update xs h h' s o now place row horizon r at tried is is' k =
-    keeps-on xs h'.table s o now (λ e e'. TriesUpdate h h' e e' place row horizon r) at tried (λ e e' at' tries. keeps-updated xs h h' s e e' place row horizon r at' tries is is' k)
+    → OnOpen o now (λ e e'. TriesUpdate h h' e e' place row horizon r) → IsWindow h'.table → EngineKeeps xs h.table → EngineKeeps (set xs s now) h'.table
+keeps-update xs h h' s o now place row horizon r at tried is k =
+    keeps-on xs h'.table s o now (λ e e'. TriesUpdate h h' e e' place row horizon r) at tried (λ e e' at' tries. keeps-updated xs h h' s e e' place row horizon r at' tries is k)
 
 pub keeps-delete : (xs : List (Option Session)) (h h' : HeapView) (s : ℕ) (o now : Option Session) (place : Tid) (r : Result (Unit {0}) WriteFault) → open_at xs s ≡ o → OnOpen o now (λ e e'. TriesDelete h h' e e' place r)
-    → IsWindow h.table → IsWindow h'.table → EngineKeeps xs h.table → EngineKeeps (set xs s now) h'.table
-keeps-delete xs h h' s o now place r at tried is is' k =
-    keeps-on xs h'.table s o now (λ e e'. TriesDelete h h' e e' place r) at tried (λ e e' at' tries. keeps-deleted xs h h' s e e' place r at' tries is is' k)
+    → IsWindow h'.table → EngineKeeps xs h.table → EngineKeeps (set xs s now) h'.table
+keeps-delete xs h h' s o now place r at tried is k =
+    keeps-on xs h'.table s o now (λ e e'. TriesDelete h h' e e' place r) at tried (λ e e' at' tries. keeps-deleted xs h h' s e e' place r at' tries is k)
 
 -- The engine afterwards.
 
@@ -181,7 +119,7 @@ exact-inserted st st' s row (Ok u) tried = tried
 exact-inserted st st' s row (Err fault.NeedsFreeze) tried = tried
 exact-inserted st st' s row (Err fault.NoRoom) tried = tried
 exact-inserted st st' s row (Err fault.NoMemory) tried = tried
-exact-inserted st st' s row (Err fault.Gone) tried = absurd (tried.tried.tried.fault)
+exact-inserted st st' s row (Err fault.Gone) tried = absurd (tried.tried.tried.fault.0)
 
 pub exact-updated : (st st' : State) (s : ℕ) (row : Row) (r : Result (Unit {0}) WriteFault) → UpdateTried st st' s row r → ExactUpdate st s row (reply_for r) st'
 exact-updated st st' s row (Ok u) tried = tried

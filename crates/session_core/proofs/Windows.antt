@@ -1,5 +1,5 @@
 -- What the steps of the table of ids change of what readers see.
-use Rattle.std.proofs.Common.{◌≡◌, ◌≢◌, ℕ, List, length, Option, Some, None, refl, sym, ap, ◌∙◌, ◌⊎◌, inl, inr, arith}
+use Rattle.std.proofs.Common.{◌≡◌, ◌≢◌, ℕ, ◌≤◌, List, [], ◌∷◌, length, Option, Some, None, refl, sym, ap, ◌∙◌, subst, ◌⊎◌, inl, inr, arith}
 use Rattle.std.specs.Prelude.{IsSome, Contains}
 use Rattle.std.specs.Option.{option_map}
 use Rattle.std.proofs.lemmas.Bool.{cases_Bool}
@@ -12,15 +12,18 @@ use Rattle.commit_status.specs.Window as window
 use Rattle.commit_status.specs.Changes as change
 use Rattle.commit_status.proofs.Turns.{turns-given}
 use Rattle.commit_status.proofs.Places.{next-none, upto-next, precedes-turns, is-from_some}
-use Rattle.commit_status.proofs.Giving.{gives-place_old, gives-place_cases, gives-status, gives-top_old, gives-active_next, finished-place}
+use Rattle.commit_status.proofs.Giving.{gives-place_old, gives-place_cases, gives-status, gives-active_next, finished-place}
 use Rattle.commit_status.proofs.Finishing.{finishes-top, finishes-given}
 use Rattle.commit_status.proofs.ChangesLemmas.{finishes-place}
 use Rattle.snapshot.specs.Snap.{Snap, Sees, SeesAlone, tested, is_before}
 use Rattle.snapshot.specs.Laws.{IsInWindow}
 use Rattle.snapshot.proofs.Sights.{sees-top}
-use Rattle.snapshot.proofs.Earliest.{before-precedes, precedes-before}
+use Rattle.snapshot.proofs.Earliest.{before-precedes, precedes-before, contains-cases}
+use Rattle.heap_write.specs.Writes.{GivesUnder}
+use Rattle.heap_write.proofs.GivenIds.{given-window, given-first, given-upto, given-top_old}
 use Rattle.session_relation.specs.Visible.{IsCommitted, IsActive}
-use Rattle.session_relation.specs.Changes.{Gives, Finishes, SameSight}
+use Rattle.session_relation.specs.Changes.{Gives, GivesEach, Finishes, SameSight}
+use Rattle.session_relation.proofs.Itself.{none_own}
 use Rattle.session_relation.proofs.Steps.{cases_Contains}
 use Rattle.session_core.specs.State.{state_of}
 
@@ -59,17 +62,27 @@ same-option None None to back = refl
 same-option None (Some i) to back = sym (back i refl)
 same-option (Some i) p to back = to i refl
 
-pub place-others : (w v : Window) (x : ℕ) → IsWindow v → change.Gives w v None → x ≢ next_id w → place v x ≡ place w x
-place-others w v x is gives ne = same-option (place w x) (place v x)
-    (λ i at. gives-place_old w v None x i gives at)
-    (λ i at. elim (gives-place_cases w v None x i is gives at) [ inl old ↦ old | inr now ↦ absurd (ne now.0) ])
+place-others : (w v : Window) (parent : Option ℕ) (x : ℕ) → IsWindow v → change.Gives w v parent → x ≢ next_id w → place v x ≡ place w x
+place-others w v parent x is gives ne = same-option (place w x) (place v x)
+    (λ i at. gives-place_old w v parent x i gives at)
+    (λ i at. elim (gives-place_cases w v parent x i is gives at) [ inl old ↦ old | inr now ↦ absurd (ne now.0) ])
 
-pub Gives-from : (w v : Window) → IsWindow w → IsWindow v → change.Gives w v None → Gives (state_of w) (state_of v) (next_id w)
-Gives-from w v is is' gives = record {
+Gives-from : (w v : Window) (parent : Option ℕ) → IsWindow w → IsWindow v → change.Gives w v parent → Gives (state_of w) (state_of v) (next_id w)
+Gives-from w v parent is is' gives = record {
   fresh = ap (λ o. option_map (λ _. status_of w (next_id w)) o) (next-none w is);
-  active = active-from v (next_id w) (gives-active_next w v None is' gives);
-  others = λ y ne. ap (λ s. option_map (λ _. s) (place v y)) (gives-status w v None y is is' gives) ∙ ap (λ o. option_map (λ _. status_of w y) o) (place-others w v y is' gives ne);
+  active = active-from v (next_id w) (gives-active_next w v parent is' gives);
+  others = λ y ne. ap (λ s. option_map (λ _. s) (place v y)) (gives-status w v parent y is is' gives) ∙ ap (λ o. option_map (λ _. status_of w y) o) (place-others w v parent y is' gives ne);
 }
+
+-- ids are given, one after another
+pub GivesEach-from : (xs : List ℕ) (w v : Window) (parent : Option ℕ) → GivesUnder w parent xs v → IsWindow v → GivesEach (state_of w) xs (state_of v)
+GivesEach-from [] w v parent gives is = ap state_of gives
+GivesEach-from (x ∷ xs) w v parent gives is =
+    let between = given-window xs gives.0 v (Some x) gives.3 is in (
+      state_of gives.0,
+      subst (λ y. Gives (state_of w) (state_of gives.0) y) (sym gives.1) (Gives-from w gives.0 parent (given-window (x ∷ xs) w v parent gives is) between gives.2),
+      GivesEach-from xs gives.0 v (Some x) gives.3 is,
+    )
 
 -- nothing that is up to the next id is after it
 next-turns : (w : Window) → IsWindow w → turns w.first (next_id w) ≡ length w.entries
@@ -80,21 +93,29 @@ not-before w y is upto before =
     let lt = (precedes-turns w (next_id w) y is (upto-next w is) upto).0 before in
     let le = upto.reached in absurd (omega (arith, next-turns w is))
 
-pub unseen-next : (s : Snap) (w v : Window) → IsWindow w → IsInWindow w s → ¬ Sees s v (next_id w)
+unseen-next : (s : Snap) (w v : Window) → IsWindow w → IsInWindow w s → ¬ Sees s v (next_id w)
 unseen-next s w v is within (Sees.early before) = not-before w s.xmin is within.xmin before
 unseen-next s w v is within (Sees.between before alone) = not-before w s.xmax is within.xmax before
 
-pub SameSight-give : (s : Snap) (w v : Window) → IsWindow w → IsWindow v → change.Gives w v None → SameSight (state_of w) (λ x. Sees s w x) (λ x. Sees s v x)
-SameSight-give s w v is is' gives x status at = (
-  λ sees. sees-top s v w x (same x other) sees,
-  λ sees. sees-top s w v x (sym (same x other)) sees,
-)
-  where
-    other : x ≢ next_id w
-    other e = none-some status (sym (ap (λ o. option_map (λ _. status_of w x) o) (ap (λ y. place w y) e ∙ next-none w is)) ∙ at)
+pub in-window-given : (xs : List ℕ) (w v : Window) (parent : Option ℕ) (s : Snap) → GivesUnder w parent xs v → IsInWindow w s → IsInWindow v s
+in-window-given xs w v parent s gives h = record {
+  xmin = given-upto xs w v parent s.xmin gives h.xmin;
+  xmax = given-upto xs w v parent s.xmax gives h.xmax;
+  ordered = subst (λ first. turns first s.xmin ≤ turns first s.xmax) (sym (given-first xs w v parent gives)) h.ordered;
+}
 
-    same : (x : ℕ) → x ≢ next_id w → top_of v x ≡ top_of w x
-    same x ne = gives-top_old w v None x is is' gives ne
+-- no id that is given is seen by a snapshot that was taken before
+pub unseen-given : (xs : List ℕ) (w v u : Window) (parent : Option ℕ) (s : Snap) (x : ℕ) → GivesUnder w parent xs v → IsWindow v → IsInWindow w s → Contains xs x → ¬ Sees s u x
+unseen-given [] w v u parent s x gives is within among = absurd (none_own x among)
+unseen-given (y ∷ xs) w v u parent s x gives is within among = elim (contains-cases y x xs among) [
+  | inl here ↦ subst (λ z. ¬ Sees s u z) (sym gives.1 ∙ here) (unseen-next s w u (given-window (y ∷ xs) w v parent gives is) within)
+  | inr later ↦ unseen-given xs gives.0 v u (Some y) s x gives.3 is (in-window-given (y ∷ []) w gives.0 parent s (gives.0, gives.1, gives.2, refl) within) later
+]
+
+pub SameSight-given : (s : Snap) (xs : List ℕ) (w v : Window) (parent : Option ℕ) → GivesUnder w parent xs v → IsWindow v → SameSight (state_of w) (λ x. Sees s w x) (λ x. Sees s v x)
+SameSight-given s xs w v parent gives is x status at =
+    let same = given-top_old xs w v parent x gives is (state-some w x status at).0 in
+    (λ sees. sees-top s v w x same sees, λ sees. sees-top s w v x (sym same) sees)
 
 -- ids are finished
 

@@ -1,19 +1,18 @@
 -- A write follows the history: it is done, or it is refused for want of an id, of room or of memory.
-use Rattle.std.proofs.Common.{◌≡◌, ℕ, [], ◌∷◌, ◌++◌, set, Option, Some, None, false, refl, sym, ap, ◌∙◌, subst, inl, inr}
+use Rattle.std.proofs.Common.{◌≡◌, ℕ, set, Some, None, false, refl, sym, ap, ◌∙◌, subst, inl, inr}
 use Rattle.std.specs.Prelude.{Contains, IsSome, Result, Ok, Err}
-use Rattle.xid_circle.specs.declared.Xid.{Xid}
 use Rattle.xid_circle.specs.declared.Tid.{Tid}
 use Rattle.tuple_header.specs.declared.version.Row.{Row}
 use Rattle.tuple_header.specs.Version.{Version, rounded_size_of}
 use Rattle.commit_status.specs.Window.{Window, IsWindow, IsActive}
+use Rattle.snapshot.specs.Own.{Own}
 use Rattle.snapshot.specs.Snap.{Sees}
 use Rattle.sound_entries.specs.Pages.{version_in}
 use Rattle.heap_write.specs.declared.heap.WriteFault.{WriteFault}
 use Rattle.heap_write.specs.declared.heap.WriteFault.TheVariants as fault
 use Rattle.heap_write.specs.Heap.{HeapView, SameIds, Keeps, slots_of}
-use Rattle.heap_write.specs.Writes.{TakesId, Readies, Inserts, Updates, Deletes}
-use Rattle.heap_write.specs.Refusals.{IsThere}
-use Rattle.sound_writes.specs.Laws.{IsWriter}
+use Rattle.heap_write.specs.Writes.{TakesIds, Readies, Inserts, Updates, Deletes}
+use Rattle.heap_write.specs.Refusals.{LacksForInsert, FailsUpdate, FailsDelete, IsThere}
 use Rattle.sound_writes.proofs.Standing.{readies-stand, version-on, root-new, root_version, free_place, taken_version, inserts-stand, deletes-stand, updates-ready, updates-stand}
 use Rattle.sound_writes.proofs.Keeping.{kept-stays, readied-stays, stays-then, ready-entries, given-stays}
 use Rattle.sound_writes.proofs.Writing.{inserted-stays, updated-stays, deleted-stays}
@@ -26,25 +25,26 @@ use Rattle.session_relation.specs.Writes.{inserts, updates, deletes}
 use Rattle.session_relation.specs.Allowed.{Allows, next}
 use Rattle.session_relation.specs.Visible.{IsVisible}
 use Rattle.session_relation.specs.Agrees as theory
-use Rattle.session_relation.specs.Changes as change
+use Rattle.session_relation.specs.Heap as relation
 use Rattle.session_relation.specs.Finds.{Free}
 use Rattle.session_relation.proofs.Follows as follows
 use Rattle.session_relation.proofs.Hindrances as hindrances
 use Rattle.session_relation.proofs.Targets as targets
+use Rattle.session_relation.proofs.GivenBelow.{visible_given_each}
 use Rattle.session_relation.proofs.FollowsWrites.{insert_done, update_done, delete_done}
 use Rattle.session_core.specs.declared.session.Session.{Session}
 use Rattle.session_core.specs.State.{State, session_at, seen, seen_in, state_of, reader_of, horizon_of}
 use Rattle.session_core.specs.Agrees.{Agrees, Follows, StaysLed}
 use Rattle.session_core.specs.Tests.{MayWrite}
-use Rattle.session_core.specs.Writes.{SameSession, WritesUnder, its_own, a_new, InsertFails, UpdateFails, DeleteFails, TriesInsert, TriesUpdate, TriesDelete, reply_for}
+use Rattle.session_core.specs.Writes.{SameSession, TriesInsert, TriesUpdate, TriesDelete, reply_for}
 use Rattle.session_core.specs.Exact.{InsertTried, UpdateTried, DeleteTried}
 use Rattle.session_core.specs.Follows.{FollowsInsert, FollowsUpdate}
-use Rattle.session_core.proofs.Windows.{Gives-from, SameSight-give}
+use Rattle.session_core.proofs.Windows.{active-to}
 use Rattle.session_core.proofs.Owns.{reader-is}
 use Rattle.session_core.proofs.Searches.{IsTarget, begins-none, begins-some, target-of, free-with}
 use Rattle.session_core.proofs.Cleaned.{removes-past}
-use Rattle.session_core.proofs.Giving.{with_write, found-kept, found-given, reader-now, current-now, Sound-kept, Sound-wrote}
-use Rattle.session_core.proofs.Placing.{adds-from, alters-from, is-new, is-deleted, writer-active, may-take}
+use Rattle.session_core.proofs.Giving.{with_write, with_own, found-kept, reader-taken, gives-each, same-sights, are-unseen, found-given, reader-now, current-now, Sound-kept, Sound-given}
+use Rattle.session_core.proofs.Placing.{adds-from, alters-from, is-new, is-deleted, is-writer, may-take}
 
 -- What the tests have found.
 
@@ -56,8 +56,10 @@ pub free-some : (st : State) (w : World) (s key : ℕ) (p : Tid) (t : Version) (
 free-some st w s key p t may agrees target = free-with st w s may.session key (Some t.row) agrees (begins-some st s may.session key p t may.reads target) may.free
 
 -- the id under which it wrote is in progress
-takes-active : (st : State) (w : World) (s : ℕ) (e e' : Session) (id : Option Xid) (x : ℕ) → session_at st s ≡ Some e → Agrees st w → WritesUnder e e' id x → {v : Window} → TakesId st.heap.table v id x → IsWindow v → IsActive v x
-takes-active st w s e e' id x at agrees under {v} takes window = (given-stays st.heap v (horizon_of st) id x agrees.sound.table agrees.sound.window window (writer-active st w s e e' id x agrees at under) takes).1
+now-active : (st : State) (w : World) (s : ℕ) (e : Session) (own : Own) (x : ℕ) → session_at st s ≡ Some e → Agrees st w → {v : Window} → TakesIds st.heap.table v e.own own x → IsWindow v → IsActive v x
+now-active st w s e own x at agrees {v} takes window =
+    (given-stays st.heap v (horizon_of st) e.own own x agrees.sound.table agrees.sound.window window
+    (λ y mine. active-to st.heap.table y ((agrees.found.opened s (reader_of e) (reader-is st s e at)).2.own_active y mine)) takes).1
 
 -- All is as it was.
 
@@ -104,35 +106,38 @@ by-key : (row : Row) (text : RowText) → row ≡ row_of text → row.key ≡ te
 by-key row text same = ap (λ (r : Row). r.key) same
 
 module _ (st : State) (w : World) (s : ℕ) (text : RowText) (e : Session) (free : Free (seen st) s (reader_of e) text.key None) (fits : FitsRow text) (at : session_at st s ≡ Some e) (agrees : Agrees st w) where
-  inserted : (h : HeapView) (e' : Session) (id : Option Xid) (x : ℕ) → WritesUnder e e' id x → Inserts st.heap h id (row_of text) x → IsWindow h.table
-      → Allows w (Insert s text) Done × Agrees (with_write st h s e') (next w (Insert s text) Done) × StaysLed st (with_write st h s e')
-  inserted h e' id x under i window =
+  inserted : (h : HeapView) (own : Own) (x : ℕ) → Inserts st.heap h e.own own (row_of text) x → IsWindow h.table
+      → Allows w (Insert s text) Done × Agrees (with_write st h s (with_own e own)) (next w (Insert s text) Done) × StaysLed st (with_write st h s (with_own e own))
+  inserted h own x i window =
       let row = row_of text in
-      let stays = inserted-stays st.heap h (horizon_of st) id row x agrees.sound.table (agrees.sound.window, window, writer-active st w s e e' id x agrees at under) i in
+      let e' = with_own e own in
+      let stays = inserted-stays st.heap h (horizon_of st) e.own own row x agrees.sound.table (is-writer st w s e h agrees at window) i in
       let new = root_version st.heap false x row i.number in
-      let still = found-given st w (slots_of st.heap) h.table s e e' at agrees id x under i.takes_id window agrees.found in
+      let still = found-given st w h.table s e own x at i.takes_ids window agrees (slots_of st.heap) agrees.found in
       let done = insert_done (seen st) (seen_in (slots_of st.heap) h.table (set st.sessions s (Some e'))) w s (reader_of e) (reader_of e') text x (free_place st.heap i.number) new (version_in (slots_of h))
-      free fits agrees.found still (reader-now st w (slots_of st.heap) h.table s e e' at agrees) (current-now st w (slots_of st.heap) h.table s e e' at agrees id x under)
-      (adds-from (version_in (slots_of st.heap)) (version_in (slots_of h)) (free_place st.heap i.number) new (inserts-stand st.heap h id row x i)) (is-new x row new (root-new st.heap false x row i.number)) refl in
-      (done.0, record { found = done.1; sound = Sound-wrote st w (slots_of st.heap) h.table s e e' at agrees h id x refl under i.takes_id window stays.sound }, stays.led)
+      free fits agrees.found still (reader-now st w h.table s e own x at i.takes_ids window agrees) (current-now st w h.table s e own x at i.takes_ids window agrees)
+      (adds-from (version_in (slots_of st.heap)) (version_in (slots_of h)) (free_place st.heap i.number) new (inserts-stand st.heap h e.own own row x i)) (is-new x row new (root-new st.heap false x row i.number)) refl in
+      (done.0, record { found = done.1; sound = Sound-given st w h s e e' at agrees own x i.takes_ids refl window stays.sound }, stays.led)
 
-  insert-fails : (h : HeapView) (e' : Session) (id : Option Xid) (f : WriteFault) → SameSession e e' → InsertFails st.heap h e id (row_of text) f
+  insert-fails : (h : HeapView) (e' : Session) (f : WriteFault) → SameSession e e' → LacksForInsert st.heap e.own (row_of text) f → Keeps st.heap h
       → Allows w (Insert s text) (reply_for (Err f)) × Agrees (with_write st h s e') (next w (Insert s text) (reply_for (Err f))) × StaysLed st (with_write st h s e')
-  insert-fails h e' id fault.NeedsFreeze same fails =
+  insert-fails h e' fault.NeedsFreeze same lacks keeps =
       let f = hindrances.Follows-needs_freeze (seen st) s (reader_of e) (inserts text) None free (fits, refl) w agrees.found in
-      let k = kept st w s e e' at agrees same h (next w (Insert s text) (Refused NeedsFreeze)) fails.1 f.1 in (f.0, k.0, k.1)
-  insert-fails h e' id fault.NoRoom same fails =
+      let k = kept st w s e e' at agrees same h (next w (Insert s text) (Refused NeedsFreeze)) keeps f.1 in (f.0, k.0, k.1)
+  insert-fails h e' fault.NoRoom same lacks keeps =
       let f = hindrances.Follows-no_room (seen st) s (reader_of e) (inserts text) None free (fits, refl) tt w agrees.found in
-      let k = kept st w s e e' at agrees same h (next w (Insert s text) (Refused NoRoom)) fails.2 f.1 in (f.0, k.0, k.1)
-  insert-fails h e' id fault.NoMemory same fails =
+      let k = kept st w s e e' at agrees same h (next w (Insert s text) (Refused NoRoom)) keeps f.1 in (f.0, k.0, k.1)
+  insert-fails h e' fault.NoMemory same lacks keeps =
       let f = hindrances.Follows-no_memory (seen st) s (reader_of e) (inserts text) None free (fits, refl) w agrees.found in
-      let k = kept st w s e e' at agrees same h (next w (Insert s text) (Refused NoMemory)) fails.3 f.1 in (f.0, k.0, k.1)
-  insert-fails h e' id fault.Gone same fails = absurd fails
+      let k = kept st w s e e' at agrees same h (next w (Insert s text) (Refused NoMemory)) keeps f.1 in (f.0, k.0, k.1)
+  insert-fails h e' fault.Gone same lacks keeps = absurd lacks
 
   insert-tried : (h : HeapView) (e' : Session) (r : Result (Unit {0}) WriteFault) → TriesInsert st.heap h e e' (row_of text) r → IsWindow h.table
       → Allows w (Insert s text) (reply_for r) × Agrees (with_write st h s e') (next w (Insert s text) (reply_for r)) × StaysLed st (with_write st h s e')
-  insert-tried h e' (Ok u) tried window = inserted h e' tried.id tried.x tried.under tried.change window
-  insert-tried h e' (Err f) tried window = insert-fails h e' tried.id f tried.same tried.fault
+  insert-tried h e' (Ok u) tried window =
+      subst (λ (f : Session). Allows w (Insert s text) Done × Agrees (with_write st h s f) (next w (Insert s text) Done) × StaysLed st (with_write st h s f)) (sym tried.is)
+      (inserted h e'.own tried.x tried.change window)
+  insert-tried h e' (Err f) tried window = insert-fails h e' f tried.same tried.fault.0 tried.fault.1
 
 pub Follows-inserted : (st st' : State) (s : ℕ) (row : Row) (r : Result (Unit {0}) WriteFault) → InsertTried st st' s row r → IsWindow st'.heap.table → FollowsInsert st s row (reply_for r) st'
 Follows-inserted st st' s row r tried window text fits same w agrees =
@@ -147,18 +152,11 @@ Follows-inserted st st' s row r tried window text fits same w agrees =
 
 module _ (st : State) (w : World) (s : ℕ) (key : ℕ) (e : Session) (place : Tid) (t : Version) (target : IsTarget st e key place t) (at : session_at st s ≡ Some e) (agrees : Agrees st w) where
   -- it still sees it when it writes
-  seen-now : (v : Window) (e' : Session) (id : Option Xid) (x : ℕ) → WritesUnder e e' id x → TakesId st.heap.table v id x → IsWindow v
-      → IsVisible (state_of v) (λ y. Sees e'.snapshot v y) e'.own.ids t
-  seen-now v e' id x (its_own y is same first stays) takes window =
-      let own = subst (λ i. TakesId st.heap.table v i x) is takes in
-      rw (own.1, stays.snapshot, stays.ids) target.seen
-  seen-now v e' id x (a_new is none ids snapshot saved failed) takes window =
-      let new = subst (λ i. TakesId st.heap.table v i x) is takes in
-      let gives = new.1 in
-      let seen' = targets.visible_given (seen st) w s (reader_of e) x place t (state_of v) (λ sn y. Sees sn v y) (reader-is st s e at)
-      (subst (λ y. change.Gives (state_of st.heap.table) (state_of v) y) (sym new.0) (Gives-from st.heap.table v agrees.sound.window window gives))
-      (λ o r bt. SameSight-give r.snapshot st.heap.table v agrees.sound.window window gives) agrees.found target.there target.seen in
-      rw (snapshot, ids) (subst (λ xs. IsVisible (state_of v) (λ y. Sees e.snapshot v y) (xs ++ x ∷ []) t) none seen')
+  seen-now : (v : Window) (own : Own) (x : ℕ) → TakesIds st.heap.table v e.own own x → IsWindow v → IsVisible (state_of v) (λ y. Sees e.snapshot v y) own.ids t
+  seen-now v own x takes window =
+      subst (λ (r : relation.Session). IsVisible (state_of v) (λ y. Sees r.snapshot v y) r.own t) (sym (reader-taken st w v s e own x at takes window agrees))
+      (visible_given_each takes.given (seen st) w s (reader_of e) place t (state_of v) (λ sn y. Sees sn v y) (reader-is st s e at) (gives-each st w v s e own x at takes window agrees)
+      (same-sights st w v s e own x at takes window agrees) (are-unseen st w v s e own x at takes window agrees) agrees.found target.there target.seen)
 
   -- it is there, so no write finds it gone
   is-there : IsThere st.heap place
@@ -174,45 +172,47 @@ module _ (st : State) (w : World) (s : ℕ) (key : ℕ) (e : Session) (place : T
 
 module _ (st : State) (w : World) (s : ℕ) (text : RowText) (e : Session) (place : Tid) (t : Version) (target : IsTarget st e text.key place t) (free : Free (seen st) s (reader_of e) text.key (Some t.row))
     (fits : FitsRow text) (at : session_at st s ≡ Some e) (agrees : Agrees st w) where
-  updated : (h : HeapView) (e' : Session) (id : Option Xid) (x : ℕ) → WritesUnder e e' id x → Updates st.heap h id place (row_of text) (horizon_of st) x → IsWindow h.table
-      → Allows w (Update s text) Done × Agrees (with_write st h s e') (next w (Update s text) Done) × StaysLed st (with_write st h s e')
-  updated h e' id x under u window =
+  updated : (h : HeapView) (own : Own) (x : ℕ) → Updates st.heap h e.own own place (row_of text) (horizon_of st) x → IsWindow h.table
+      → Allows w (Update s text) Done × Agrees (with_write st h s (with_own e own)) (next w (Update s text) Done) × StaysLed st (with_write st h s (with_own e own))
+  updated h own x u window =
       let row = row_of text in
-      let may = may-take st w s e e' id x text.key (Some t.row) place t agrees at free under target in
-      let writer : IsWriter st.heap h id = (agrees.sound.window, window, writer-active st w s e e' id x agrees at under) in
-      let stays = updated-stays st.heap h (horizon_of st) id place t row x agrees.sound.table writer may (sym target.of_key) u in
+      let e' = with_own e own in
+      let may = may-take st w s e text.key (Some t.row) place t agrees at free target in
+      let stays = updated-stays st.heap h (horizon_of st) e.own own place t row x agrees.sound.table (is-writer st w s e h agrees at window) may (sym target.of_key) u in
       let removes = removes-past st w (version_in (slots_of u.ready)) place.page agrees (readies-stand st.heap u.ready place.page (horizon_of st) (rounded_size_of row) u.readies) in
       let pruned = (follows.Follows-prune (seen st) 0 (version_in (slots_of u.ready)) removes w agrees.found).1 in
-      let still = found-given st w (slots_of u.ready) h.table s e e' at agrees id x under u.takes_id window pruned in
-      let put = updates-stand st.heap h id place row (horizon_of st) x t u target.there in
-      let active = takes-active st w s e e' id x at agrees under u.takes_id window in
+      let still = found-given st w h.table s e own x at u.takes_ids window agrees (slots_of u.ready) pruned in
+      let put = updates-stand st.heap h e.own own place row (horizon_of st) x t u target.there in
+      let active = now-active st w s e own x at agrees u.takes_ids window in
       let done = update_done (seen st) (seen_in (slots_of u.ready) h.table (set st.sessions s (Some e'))) w s (reader_of e) (reader_of e') text (Some t.row) x place put.to t (taken_version t x put.to put.hot) put.new
-      put.added (version_in (slots_of h)) free fits refl agrees.found still (reader-now st w (slots_of u.ready) h.table s e e' at agrees) (current-now st w (slots_of u.ready) h.table s e e' at agrees id x under)
-      (updates-ready st.heap h id place row (horizon_of st) x t u target.there) (seen-now st w s text.key e place t target at agrees h.table e' id x under u.takes_id window) target.of_key
+      put.added (version_in (slots_of h)) free fits refl agrees.found still (reader-now st w h.table s e own x at u.takes_ids window agrees) (current-now st w h.table s e own x at u.takes_ids window agrees)
+      (updates-ready st.heap h e.own own place row (horizon_of st) x t u target.there) (seen-now st w s text.key e place t target at agrees h.table own x u.takes_ids window) target.of_key
       (adds-from (version_in (slots_of u.ready)) put.added put.to put.new put.adds) (is-new x row put.new put.is_new) put.is_new.of_row
       (alters-from put.added (version_in (slots_of h)) place t (taken_version t x put.to put.hot) put.alters) (is-deleted h.table x t put.to put.hot active) in
-      (done.0, record { found = done.1; sound = Sound-wrote st w (slots_of st.heap) h.table s e e' at agrees h id x refl under u.takes_id window stays.sound }, stays.led)
+      (done.0, record { found = done.1; sound = Sound-given st w h s e e' at agrees own x u.takes_ids refl window stays.sound }, stays.led)
 
-  update-fails : (h : HeapView) (e' : Session) (id : Option Xid) (f : WriteFault) → SameSession e e' → UpdateFails st.heap h e id place (row_of text) (horizon_of st) f
+  update-fails : (h : HeapView) (e' : Session) (f : WriteFault) → SameSession e e' → FailsUpdate st.heap h e.own place (row_of text) (horizon_of st) f
       → Allows w (Update s text) (reply_for (Err f)) × Agrees (with_write st h s e') (next w (Update s text) (reply_for (Err f))) × StaysLed st (with_write st h s e')
-  update-fails h e' id fault.NeedsFreeze same fails =
+  update-fails h e' fault.NeedsFreeze same fails =
       let f = hindrances.Follows-needs_freeze (seen st) s (reader_of e) (updates text) (Some t.row) free (fits, refl) w agrees.found in
-      let k = kept st w s e e' at agrees same h (next w (Update s text) (Refused NeedsFreeze)) fails.1 f.1 in (f.0, k.0, k.1)
-  update-fails h e' id fault.NoRoom same fails =
+      let k = kept st w s e e' at agrees same h (next w (Update s text) (Refused NeedsFreeze)) fails.2 f.1 in (f.0, k.0, k.1)
+  update-fails h e' fault.NoRoom same fails =
       let f = hindrances.Follows-no_room (seen st) s (reader_of e) (updates text) (Some t.row) free (fits, refl) tt w agrees.found in
-      let k = readied st w s e e' at agrees same fails.1.ready h place.page (rounded_size_of (row_of text)) (next w (Update s text) (Refused NoRoom)) fails.1.readies fails.1.keeps f.1 in (f.0, k.0, k.1)
-  update-fails h e' id fault.NoMemory same fails =
+      let k = readied st w s e e' at agrees same fails.ready h place.page (rounded_size_of (row_of text)) (next w (Update s text) (Refused NoRoom)) fails.readies fails.keeps f.1 in (f.0, k.0, k.1)
+  update-fails h e' fault.NoMemory same fails =
       let f = hindrances.Follows-no_memory (seen st) s (reader_of e) (updates text) (Some t.row) free (fits, refl) w agrees.found in
-      let k = kept st w s e e' at agrees same h (next w (Update s text) (Refused NoMemory)) fails.2 f.1 in (f.0, k.0, k.1)
-  update-fails h e' id fault.Gone same fails = elim fails [
+      let k = kept st w s e e' at agrees same h (next w (Update s text) (Refused NoMemory)) fails.3 f.1 in (f.0, k.0, k.1)
+  update-fails h e' fault.Gone same fails = elim fails [
     | inl gone ↦ absurd (gone.0 (is-there st w s text.key e place t target at agrees))
     | inr went ↦ absurd (went.has (ready-there st w s text.key e place t target at agrees went.ready (rounded_size_of (row_of text)) went.readies))
   ]
 
   update-tried : (h : HeapView) (e' : Session) (r : Result (Unit {0}) WriteFault) → TriesUpdate st.heap h e e' place (row_of text) (horizon_of st) r → IsWindow h.table
       → Allows w (Update s text) (reply_for r) × Agrees (with_write st h s e') (next w (Update s text) (reply_for r)) × StaysLed st (with_write st h s e')
-  update-tried h e' (Ok u) tried window = updated h e' tried.id tried.x tried.under tried.change window
-  update-tried h e' (Err f) tried window = update-fails h e' tried.id f tried.same tried.fault
+  update-tried h e' (Ok u) tried window =
+      subst (λ (f : Session). Allows w (Update s text) Done × Agrees (with_write st h s f) (next w (Update s text) Done) × StaysLed st (with_write st h s f)) (sym tried.is)
+      (updated h e'.own tried.x tried.change window)
+  update-tried h e' (Err f) tried window = update-fails h e' f tried.same tried.fault
 
 pub Follows-updated : (st st' : State) (s : ℕ) (row : Row) (r : Result (Unit {0}) WriteFault) → UpdateTried st st' s row r → IsWindow st'.heap.table → FollowsUpdate st s row (reply_for r) st'
 Follows-updated st st' s row r tried window text fits same w agrees =
@@ -228,36 +228,38 @@ Follows-updated st st' s row r tried window text fits same w agrees =
 
 module _ (st : State) (w : World) (s key : ℕ) (e : Session) (place : Tid) (t : Version) (target : IsTarget st e key place t) (free : Free (seen st) s (reader_of e) key (Some t.row))
     (at : session_at st s ≡ Some e) (agrees : Agrees st w) where
-  deleted : (h : HeapView) (e' : Session) (id : Option Xid) (x : ℕ) → WritesUnder e e' id x → Deletes st.heap h id place x → IsWindow h.table
-      → Allows w (Delete s key) Done × Agrees (with_write st h s e') (next w (Delete s key) Done) × StaysLed st (with_write st h s e')
-  deleted h e' id x under d window =
-      let may = may-take st w s e e' id x key (Some t.row) place t agrees at free under target in
-      let writer : IsWriter st.heap h id = (agrees.sound.window, window, writer-active st w s e e' id x agrees at under) in
-      let stays = deleted-stays st.heap h (horizon_of st) id place t x agrees.sound.table writer may d in
-      let still = found-given st w (slots_of st.heap) h.table s e e' at agrees id x under d.takes_id window agrees.found in
-      let alters = deletes-stand st.heap h id place x t d target.there in
-      let active = takes-active st w s e e' id x at agrees under d.takes_id window in
+  deleted : (h : HeapView) (own : Own) (x : ℕ) → Deletes st.heap h e.own own place x → IsWindow h.table
+      → Allows w (Delete s key) Done × Agrees (with_write st h s (with_own e own)) (next w (Delete s key) Done) × StaysLed st (with_write st h s (with_own e own))
+  deleted h own x d window =
+      let e' = with_own e own in
+      let may = may-take st w s e key (Some t.row) place t agrees at free target in
+      let stays = deleted-stays st.heap h (horizon_of st) e.own own place t x agrees.sound.table (is-writer st w s e h agrees at window) may d in
+      let still = found-given st w h.table s e own x at d.takes_ids window agrees (slots_of st.heap) agrees.found in
+      let alters = deletes-stand st.heap h e.own own place x t d target.there in
+      let active = now-active st w s e own x at agrees d.takes_ids window in
       let done = delete_done (seen st) (seen_in (slots_of st.heap) h.table (set st.sessions s (Some e'))) w s (reader_of e) (reader_of e') key (Some t.row) x place t (taken_version t x place false) (version_in (slots_of h))
-      free refl agrees.found still (reader-now st w (slots_of st.heap) h.table s e e' at agrees) (current-now st w (slots_of st.heap) h.table s e e' at agrees id x under)
-      (seen-now st w s key e place t target at agrees h.table e' id x under d.takes_id window) target.of_key
+      free refl agrees.found still (reader-now st w h.table s e own x at d.takes_ids window agrees) (current-now st w h.table s e own x at d.takes_ids window agrees)
+      (seen-now st w s key e place t target at agrees h.table own x d.takes_ids window) target.of_key
       (alters-from (version_in (slots_of st.heap)) (version_in (slots_of h)) place t (taken_version t x place false) alters) (is-deleted h.table x t place false active) in
-      (done.0, record { found = done.1; sound = Sound-wrote st w (slots_of st.heap) h.table s e e' at agrees h id x refl under d.takes_id window stays.sound }, stays.led)
+      (done.0, record { found = done.1; sound = Sound-given st w h s e e' at agrees own x d.takes_ids refl window stays.sound }, stays.led)
 
-  delete-fails : (h : HeapView) (e' : Session) (id : Option Xid) (f : WriteFault) → SameSession e e' → DeleteFails st.heap h e id place f
+  delete-fails : (h : HeapView) (e' : Session) (f : WriteFault) → SameSession e e' → FailsDelete st.heap h e.own place f
       → Allows w (Delete s key) (reply_for (Err f)) × Agrees (with_write st h s e') (next w (Delete s key) (reply_for (Err f))) × StaysLed st (with_write st h s e')
-  delete-fails h e' id fault.NeedsFreeze same fails =
+  delete-fails h e' fault.NeedsFreeze same fails =
       let f = hindrances.Follows-needs_freeze (seen st) s (reader_of e) (deletes key) (Some t.row) free refl w agrees.found in
-      let k = kept st w s e e' at agrees same h (next w (Delete s key) (Refused NeedsFreeze)) fails.1 f.1 in (f.0, k.0, k.1)
-  delete-fails h e' id fault.NoRoom same fails = absurd fails
-  delete-fails h e' id fault.NoMemory same fails =
+      let k = kept st w s e e' at agrees same h (next w (Delete s key) (Refused NeedsFreeze)) fails.2 f.1 in (f.0, k.0, k.1)
+  delete-fails h e' fault.NoRoom same fails = absurd fails
+  delete-fails h e' fault.NoMemory same fails =
       let f = hindrances.Follows-no_memory (seen st) s (reader_of e) (deletes key) (Some t.row) free refl w agrees.found in
-      let k = kept st w s e e' at agrees same h (next w (Delete s key) (Refused NoMemory)) fails.2 f.1 in (f.0, k.0, k.1)
-  delete-fails h e' id fault.Gone same fails = absurd (fails.0 (is-there st w s key e place t target at agrees))
+      let k = kept st w s e e' at agrees same h (next w (Delete s key) (Refused NoMemory)) fails.3 f.1 in (f.0, k.0, k.1)
+  delete-fails h e' fault.Gone same fails = absurd (fails.0 (is-there st w s key e place t target at agrees))
 
   delete-tried : (h : HeapView) (e' : Session) (r : Result (Unit {0}) WriteFault) → TriesDelete st.heap h e e' place r → IsWindow h.table
       → Allows w (Delete s key) (reply_for r) × Agrees (with_write st h s e') (next w (Delete s key) (reply_for r)) × StaysLed st (with_write st h s e')
-  delete-tried h e' (Ok u) tried window = deleted h e' tried.id tried.x tried.under tried.change window
-  delete-tried h e' (Err f) tried window = delete-fails h e' tried.id f tried.same tried.fault
+  delete-tried h e' (Ok u) tried window =
+      subst (λ (f : Session). Allows w (Delete s key) Done × Agrees (with_write st h s f) (next w (Delete s key) Done) × StaysLed st (with_write st h s f)) (sym tried.is)
+      (deleted h e'.own tried.x tried.change window)
+  delete-tried h e' (Err f) tried window = delete-fails h e' f tried.same tried.fault
 
 pub Follows-deleted : (st st' : State) (s key : ℕ) (r : Result (Unit {0}) WriteFault) → DeleteTried st st' s key r → IsWindow st'.heap.table → Follows st (Delete s key) (reply_for r) st'
 Follows-deleted st st' s key r tried window w agrees =

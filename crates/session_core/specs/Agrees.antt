@@ -1,7 +1,8 @@
 -- When an engine agrees with a world of the history.
-use Rattle.std.specs.Prelude.{◌≡◌, ◌≤◌, ℕ, [], length, Some, slice_get, Contains}
+use Rattle.std.specs.Prelude.{◌≡◌, ℕ, length, Some, slice_get, Contains}
 use Rattle.history.specs.World.{World}
 use Rattle.snapshot.specs.Laws.{IsInWindow}
+use Rattle.snapshot.specs.Own.{AreFronts, AreDistinct}
 use Rattle.commit_status.specs.Window.{Window, IsWindow, IsCommitted, IsInProgress, top_of}
 use Rattle.session_relation.specs.declared.step.Step.{Step}
 use Rattle.session_relation.specs.declared.reply.Reply.{Reply}
@@ -19,9 +20,9 @@ pub record SessionKeeps (w : Window) (e : Session) : Type 0 where
   pub snapshot : IsInWindow w e.snapshot
   -- its first id is the topmost parent of each
   pub topmost : (x : ℕ) → Contains e.own.ids x → slice_get e.own.ids 0 ≡ Some (top_of w x)
-  -- there are no savepoints yet, and so no child ids
-  pub unsaved : e.own.saved ≡ []
-  pub single : length e.own.ids ≤ 1
+  -- what it had at each savepoint is a front of what it had at the next
+  pub fronts : AreFronts e.own.ids e.own.saved
+  pub distinct : AreDistinct e.own.ids
 
 -- what the ids and the pages of an engine keep
 pub record Sound (st : State) : Type 0 where

@@ -11,13 +11,14 @@ use Rattle.heap_write.specs.Writes.{Prunes}
 use Rattle.heap_write.specs.declared.heap.WriteFault.{WriteFault}
 use Rattle.heap_write.specs.declared.heap.WriteFault.TheVariants as fault
 use Rattle.session_relation.specs.declared.step.Step.{Step}
-use Rattle.session_relation.specs.declared.step.Step.TheVariants.{Begin, Get, Insert, Update, Delete, Prune}
+use Rattle.session_relation.specs.declared.step.Step.TheVariants.{Begin, Get, Insert, Update, Delete, Savepoint, RollbackTo, Release, Prune}
 use Rattle.session_relation.specs.declared.reply.Reply.{Reply}
 use Rattle.session_relation.specs.declared.reply.Reply.TheVariants.{Done, Refused}
 use Rattle.session_relation.specs.declared.reply.Refusal.TheVariants.{NotThere, Conflict, NoRoom, NeedsFreeze, NoMemory, NoSuchPage}
 use Rattle.session_relation.specs.Words.{row_of}
 use Rattle.session_core.specs.declared.session.Session.{Session}
 use Rattle.session_core.specs.State.{State, session_at, put_session, as_failed, owns_of, horizon_of}
+use Rattle.session_core.specs.Changes.{SetsSavepoint, Releases, Becomes, RollsBack}
 use Rattle.session_core.specs.Tests.{MayWrite}
 use Rattle.session_core.specs.Writes.{TriesInsert, TriesUpdate, TriesDelete}
 
@@ -86,15 +87,24 @@ pub record KeepsPages (old new : State) : Type 0 where
 abbrev pub MustList : State → Type 0
 MustList st = 8 < length (taken (next_id st.heap.table) (owns_of st.sessions)).listed
 
+-- a savepoint more than the session can note without memory
+abbrev pub MustNote : State → ℕ → Type 0
+MustNote st s = (e : Session) × (session_at st s ≡ Some e) × (4 ≤ length e.own.saved)
+
 -- Beside what the history says of a reply: a read and a refusal leave all as it was, but for a page that an update has pruned;
--- a beginning and an end leave all pages as they were; and memory is refused only where something has to grow, never at a
--- read, a commit or an abort.
+-- a beginning and an end leave all pages as they were, as do savepoints; a return to a savepoint aborts the ids that were given
+-- since, and no others; and memory is refused only where something has to grow, never at a read, a return to a savepoint or its
+-- release, a commit or an abort.
 abbrev pub Exact : State → Step → Reply → State → Type 0
 Exact old (Begin s) (Refused NoMemory) new = MustList old × (new ≡ old)
 Exact old (Insert s row) reply new = ExactInsert old s (row_of row) reply new
 Exact old (Update s row) reply new = ExactUpdate old s (row_of row) reply new
 Exact old (Delete s key) reply new = ExactDelete old s key reply new
 Exact old (Get s key) reply new = new ≡ old
+Exact old (Savepoint s) Done new = Becomes old new s SetsSavepoint
+Exact old (Savepoint s) (Refused NoMemory) new = MustNote old s × (new ≡ old)
+Exact old (RollbackTo s) Done new = RollsBack old new s
+Exact old (Release s) Done new = Becomes old new s Releases
 Exact old (Prune p) Done new = Cleans old new p
 Exact old (Prune p) (Refused NoSuchPage) new = (length old.heap.pages.pages ≤ p) × (new ≡ old)
 Exact old (Prune p) (Refused NoMemory) new = (p < length old.heap.pages.pages) × (new ≡ old)

@@ -1,6 +1,7 @@
 //! A session takes the row of a key away.
 
-ghost use Rattle.std.specs.Prelude.{◌≡◌, ◌≢◌, None, Some};
+ghost use Rattle.std.specs.Prelude.{◌≡◌, ◌≢◌, ℕ, None, Some, Contains};
+ghost use Rattle.commit_status.specs.Window.{IsActive};
 ghost use Rattle.session_relation.specs.declared.step.Step.{Step};
 ghost use Rattle.session_core.specs.Agrees.{Follows};
 ghost use Rattle.session_core.specs.Exact.{Exact};
@@ -14,31 +15,14 @@ use heap_write::{HeapState, WriteFault};
 use session_relation::Reply;
 use xid_circle::Tid;
 
-/// Deletes the version at a place, under the session's id, or a new one.
+/// Deletes the version at a place, under the id of the session's newest level.
 fn delete_for(heap: &mut HeapState, session: &mut Session, place: Tid) -> Result<(), WriteFault>
+    requires { (x : ℕ) → Contains session.old.own.ids x → IsActive heap.old.table x }
     ensures { TriesDelete heap.old heap.new session.old session.new place result }
 {
-    match session.own.first() {
-        Some(x) => match heap.delete(Some(x), place) {
-            Ok(_) => Ok(()),
-            Err(fault) => Err(fault),
-        },
-        None => {
-            if session.own.make_room(1).is_err() {
-                return if heap.needs_freeze(None) {
-                    Err(WriteFault::NeedsFreeze)
-                } else {
-                    Err(WriteFault::NoMemory)
-                };
-            }
-            match heap.delete(None, place) {
-                Ok(x) => {
-                    session.own.push(x);
-                    Ok(())
-                }
-                Err(fault) => Err(fault),
-            }
-        }
+    match heap.delete(&mut session.own, place) {
+        Ok(_) => Ok(()),
+        Err(fault) => Err(fault),
     }
 }
 
@@ -48,7 +32,8 @@ fn delete_open(
     session: &mut Option<Session>,
     place: Tid,
 ) -> Result<(), WriteFault>
-    requires { session.old ≢ None }
+    requires open { session.old ≢ None }
+    requires active { (e : _) (x : ℕ) → session.old ≡ Some e → Contains e.own.ids x → IsActive heap.old.table x }
     ensures { OnOpen session.old session.new (λ e e'. TriesDelete heap.old heap.new e e' place result) }
 {
     match session {
@@ -64,7 +49,6 @@ impl Engine {
         ensures follows { Follows self.old (Step.Delete s key) result self.new }
         ensures exact { Exact self.old (Step.Delete s key) result self.new }
     {
-        self.heap.table().is_window();
         let outcome = delete_open(&mut self.heap, &mut self.sessions[s as usize], place);
         self.heap.table().is_window();
         reply_of(outcome)

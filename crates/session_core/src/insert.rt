@@ -1,6 +1,7 @@
 //! A session writes a row of a key that has none.
 
-ghost use Rattle.std.specs.Prelude.{◌≡◌, ◌≢◌, ◌<◌, None};
+ghost use Rattle.std.specs.Prelude.{◌≡◌, ◌≢◌, ℕ, None, Some, Contains};
+ghost use Rattle.commit_status.specs.Window.{IsActive};
 ghost use Rattle.session_relation.specs.declared.step.Step.{Step};
 ghost use Rattle.session_core.specs.Agrees.{Follows};
 ghost use Rattle.session_core.specs.Exact.{ExactInsert, Exact};
@@ -14,30 +15,14 @@ use crate::write::{reply_of, table_row};
 use heap_write::{HeapState, WriteFault};
 use session_relation::{Refusal, Reply, Row, RowIn};
 
-/// Inserts the row under the session's id, or a new one.
+/// Inserts the row under the id of the session's newest level; each level that has none is given one before.
 fn insert_for(heap: &mut HeapState, session: &mut Session, row: Row) -> Result<(), WriteFault>
+    requires { (x : ℕ) → Contains session.old.own.ids x → IsActive heap.old.table x }
     ensures { TriesInsert heap.old heap.new session.old session.new row result }
 {
-    match session.own.first() {
-        Some(x) => match heap.insert(Some(x), row) {
-            Ok(_) => Ok(()),
-            Err(fault) => Err(fault),
-        },
-        None => {
-            if session.own.make_room(1).is_err() {
-                return match heap.lacks_for_insert(None, &row) {
-                    Some(fault) => Err(fault),
-                    None => Err(WriteFault::NoMemory),
-                };
-            }
-            match heap.insert(None, row) {
-                Ok(x) => {
-                    session.own.push(x);
-                    Ok(())
-                }
-                Err(fault) => Err(fault),
-            }
-        }
+    match heap.insert(&mut session.own, row) {
+        Ok(_) => Ok(()),
+        Err(fault) => Err(fault),
     }
 }
 
@@ -47,7 +32,8 @@ fn insert_open(
     session: &mut Option<Session>,
     row: Row,
 ) -> Result<(), WriteFault>
-    requires { session.old ≢ None }
+    requires open { session.old ≢ None }
+    requires active { (e : _) (x : ℕ) → session.old ≡ Some e → Contains e.own.ids x → IsActive heap.old.table x }
     ensures { OnOpen session.old session.new (λ e e'. TriesInsert heap.old heap.new e e' row result) }
 {
     match session {
@@ -63,7 +49,6 @@ impl Engine {
         ensures follows { FollowsInsert self.old s row result self.new }
         ensures exact { ExactInsert self.old s row result self.new }
     {
-        self.heap.table().is_window();
         let outcome = insert_open(&mut self.heap, &mut self.sessions[s as usize], row);
         self.heap.table().is_window();
         reply_of(outcome)

@@ -15,6 +15,7 @@ mod get;
 mod insert;
 mod laws;
 mod runs;
+mod savepoint;
 mod session;
 mod step;
 mod update;

@@ -199,6 +199,134 @@ fn a_row_is_changed_and_taken_away(rt: HostRuntime) -> Result<(), Fail> {
 }
 
 #[test]
+fn savepoints(rt: HostRuntime) -> Result<(), Fail> {
+    let alloc = rt.alloc();
+    let steps = [
+        Step::Begin(0),
+        Step::RollbackTo(0),
+        Step::Release(0),
+        insert(alloc, 0, 7),
+        Step::Savepoint(0),
+        update(alloc, 0, 7, 5),
+        Step::Savepoint(0),
+        update(alloc, 0, 7, 6),
+        Step::RollbackTo(0),
+        Step::Get(0, 7),
+        Step::Release(0),
+        Step::Get(0, 7),
+        Step::RollbackTo(0),
+        Step::Get(0, 7),
+        update(alloc, 0, 7, 8),
+        Step::Release(0),
+        Step::Release(0),
+        Step::Commit(0),
+        Step::Begin(0),
+        Step::Get(0, 7),
+    ];
+    let expected = [
+        Answer::Done,
+        Answer::Refused(Refusal::NoSavepoint),
+        Answer::Refused(Refusal::NoSavepoint),
+        Answer::Done,
+        Answer::Done,
+        Answer::Done,
+        Answer::Done,
+        Answer::Done,
+        Answer::Done,
+        Answer::Column(5),
+        Answer::Done,
+        Answer::Column(5),
+        Answer::Done,
+        Answer::Column(1),
+        Answer::Done,
+        Answer::Done,
+        Answer::Refused(Refusal::NoSavepoint),
+        Answer::Committed,
+        Answer::Done,
+        Answer::Column(8),
+    ];
+    let replies = run(alloc, SETTINGS, &steps).ok().ok_or("no run")?;
+    assert_eq!(rt; replies.len(), expected.len());
+    for (at, reply) in replies.iter().enumerate() {
+        assert_eq!(rt; Some(&answer_of(reply)), expected.get(at), "at {at}");
+    }
+    Ok(())
+}
+
+#[test]
+fn a_return_to_a_savepoint_mends_a_session(rt: HostRuntime) -> Result<(), Fail> {
+    let alloc = rt.alloc();
+    let steps = [
+        Step::Begin(0),
+        Step::Begin(1),
+        Step::Savepoint(1),
+        insert(alloc, 0, 7),
+        Step::Commit(0),
+        insert(alloc, 1, 7),
+        Step::Savepoint(1),
+        Step::Release(1),
+        Step::RollbackTo(1),
+        Step::Get(1, 7),
+        insert(alloc, 1, 8),
+        Step::Commit(1),
+        Step::Savepoint(1),
+        Step::RollbackTo(64),
+    ];
+    let expected = [
+        Answer::Done,
+        Answer::Done,
+        Answer::Done,
+        Answer::Done,
+        Answer::Committed,
+        Answer::Refused(Refusal::Conflict),
+        Answer::Refused(Refusal::Failed),
+        Answer::Refused(Refusal::Failed),
+        Answer::Done,
+        Answer::Nothing,
+        Answer::Done,
+        Answer::Committed,
+        Answer::Refused(Refusal::NotOpen),
+        Answer::Refused(Refusal::NoSuchSession),
+    ];
+    let replies = run(alloc, SETTINGS, &steps).ok().ok_or("no run")?;
+    assert_eq!(rt; replies.len(), expected.len());
+    for (at, reply) in replies.iter().enumerate() {
+        assert_eq!(rt; Some(&answer_of(reply)), expected.get(at), "at {at}");
+    }
+    Ok(())
+}
+
+// The ids that a level's first write gives: one for each level below that has none, or none at all.
+#[test]
+fn each_level_is_given_an_id(rt: HostRuntime) -> Result<(), Fail> {
+    let settings = Settings {
+        stop_age: 2,
+        first_xid: 100,
+        ..SETTINGS
+    };
+    let mut engine = Engine::new(rt.alloc(), settings).ok().ok_or("no engine")?;
+    for step in [Step::Begin(0), Step::Savepoint(0), Step::Savepoint(0)] {
+        assert!(rt; matches!(engine.step(step), Reply::Done));
+    }
+    let refused = engine.step(insert(rt.alloc(), 0, 7));
+    assert_eq!(rt; answer_of(&refused), Answer::Refused(Refusal::NeedsFreeze));
+    assert_eq!(rt; engine.ids().0, Xid(100));
+    for step in [Step::Release(0), insert(rt.alloc(), 0, 7)] {
+        assert!(rt; matches!(engine.step(step), Reply::Done));
+    }
+    assert_eq!(rt; engine.ids().0, Xid(102));
+    for at in 1..32u32 {
+        assert!(rt;
+            matches!(engine.step(Step::Savepoint(0)), Reply::Done),
+            "at {at}"
+        );
+    }
+    let refused = engine.step(Step::Savepoint(0));
+    assert_eq!(rt; answer_of(&refused), Answer::Refused(Refusal::TooDeep));
+    Ok(())
+}
+
+#[test]
 fn the_index_leads_to_roots(rt: HostRuntime) -> Result<(), Fail> {
     let mut engine = Engine::new(rt.alloc(), SETTINGS).ok().ok_or("no engine")?;
     assert!(rt; engine.index(1).is_none());

@@ -1,6 +1,7 @@
 //! A session writes another row of a key that has one.
 
-ghost use Rattle.std.specs.Prelude.{◌≡◌, ◌≢◌, None, Some};
+ghost use Rattle.std.specs.Prelude.{◌≡◌, ◌≢◌, ℕ, None, Some, Contains};
+ghost use Rattle.commit_status.specs.Window.{IsActive};
 ghost use Rattle.xid_circle.specs.Circle.{IsNormal};
 ghost use Rattle.session_relation.specs.declared.step.Step.{Step};
 ghost use Rattle.session_core.specs.Agrees.{Follows};
@@ -16,7 +17,7 @@ use heap_write::{HeapState, WriteFault};
 use session_relation::{Refusal, Reply, Row, RowIn};
 use xid_circle::{Tid, Xid};
 
-/// Updates the version at a place to the row, under the session's id, or a new one.
+/// Updates the version at a place to the row, under the id of the session's newest level.
 fn update_for(
     heap: &mut HeapState,
     session: &mut Session,
@@ -24,30 +25,13 @@ fn update_for(
     row: Row,
     horizon: Xid,
 ) -> Result<(), WriteFault>
-    requires { IsNormal horizon.0 }
+    requires normal { IsNormal horizon.0 }
+    requires active { (x : ℕ) → Contains session.old.own.ids x → IsActive heap.old.table x }
     ensures { TriesUpdate heap.old heap.new session.old session.new place row horizon.0 result }
 {
-    match session.own.first() {
-        Some(x) => match heap.update(Some(x), place, row, horizon) {
-            Ok(_) => Ok(()),
-            Err(fault) => Err(fault),
-        },
-        None => {
-            if session.own.make_room(1).is_err() {
-                return if heap.needs_freeze(None) {
-                    Err(WriteFault::NeedsFreeze)
-                } else {
-                    Err(WriteFault::NoMemory)
-                };
-            }
-            match heap.update(None, place, row, horizon) {
-                Ok(x) => {
-                    session.own.push(x);
-                    Ok(())
-                }
-                Err(fault) => Err(fault),
-            }
-        }
+    match heap.update(&mut session.own, place, row, horizon) {
+        Ok(_) => Ok(()),
+        Err(fault) => Err(fault),
     }
 }
 
@@ -61,6 +45,7 @@ fn update_open(
 ) -> Result<(), WriteFault>
     requires open { session.old ≢ None }
     requires normal { IsNormal horizon.0 }
+    requires active { (e : _) (x : ℕ) → session.old ≡ Some e → Contains e.own.ids x → IsActive heap.old.table x }
     ensures { OnOpen session.old session.new (λ e e'. TriesUpdate heap.old heap.new e e' place row horizon.0 result) }
 {
     match session {
@@ -76,7 +61,6 @@ impl Engine {
         ensures follows { FollowsUpdate self.old s row result self.new }
         ensures exact { ExactUpdate self.old s row result self.new }
     {
-        self.heap.table().is_window();
         let horizon = self.horizon();
         let session = &mut self.sessions[s as usize];
         let outcome = update_open(&mut self.heap, session, place, row, horizon);

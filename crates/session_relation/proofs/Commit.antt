@@ -17,15 +17,14 @@ use Rattle.history.proofs.HistoryLemmas.{at_same, at_other, committed-push_all}
 use Rattle.session_relation.specs.Heap.{Session, Heap}
 use Rattle.session_relation.specs.Visible.{IsCommitted, Sees, Reads, by_itself, by_others, VisibleBy, IsVisible, Touches, At}
 use Rattle.session_relation.specs.Changes.{Finishes}
-use Rattle.session_relation.specs.Agrees.{ReaderAgrees, SessionAgrees, Agrees}
+use Rattle.session_relation.specs.Agrees.{ReaderAgrees, Traced, SessionAgrees, Agrees}
 use Rattle.session_relation.proofs.ShowsLemmas.{Shows-by_key}
 use Rattle.session_relation.proofs.Statuses.{IsCommitted-finish_old, IsCommitted-commit_cases, IsCommitted-commit, IsActive-finish, given-finish}
 use Rattle.session_relation.proofs.Versions.{VisibleBy-same}
 use Rattle.session_relation.proofs.Readers.{Levels-top}
-use Rattle.session_relation.proofs.Traces.{Carries}
 use Rattle.session_relation.proofs.Others.{SessionAgrees-commit_other}
 use Rattle.session_relation.proofs.SessionsLemmas.{opened-change, idle-change, owned-change, apart-change, alone-change}
-use Rattle.session_relation.proofs.Steps.{OnlyIs, SameSights, waits-aborted}
+use Rattle.session_relation.proofs.Steps.{OnlyIs, SameSights, waits-aborted, own_traced}
 
 -- to be seen is decided: what cannot be unseen is seen
 seen_or_not : (P : Type 0) → P ⊎ (¬ P) → ¬ (¬ P) → P
@@ -85,8 +84,8 @@ Agrees-commit h w s e m status' sees' session' only at there finishes same decid
     top : ReaderAgrees h.status h.version w.history (h.sees e.snapshot) m.start e.own (joined m.levels)
     top = Levels-top e.own e.saved m.levels mine.levels
 
-    carries : Carries h.version e.own (transaction_of m)
-    carries = record { written_there = top.written_own; there_written = top.own_written }
+    carries : Traced h.version (λ x. Contains e.own x) (joined m.levels)
+    carries = own_traced mine
 
     rows-after : (k : ℕ) → committed w'.history (length w'.history) k ≡ own_or (own_write m k) (committed w.history (length w.history) k)
     rows-after k = committed-push_all w.history (transaction_of m) k
@@ -114,7 +113,7 @@ Agrees-commit h w s e m status' sees' session' only at there finishes same decid
     -- of any other key: those that it saw before
     untouched : (p : Tid) (y : ℕ) (v : Version) → At h.version p v → is_some (own_write m v.row.key) ≡ false → Touches y v → IsCommitted status' y → IsCommitted h.status y
     untouched p y v at' theirs touch done = elim (IsCommitted-commit_cases finishes y done) [
-      | inl own ↦ absurd (both_ways (is_some (own_write m v.row.key)) theirs (top.own_written p v at' (y, touch, own)))
+      | inl own ↦ absurd (both_ways (is_some (own_write m v.row.key)) theirs (carries.there_written p v at' (y, touch, own)))
       | inr old ↦ old
     ]
 

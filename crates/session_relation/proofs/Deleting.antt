@@ -17,11 +17,11 @@ use Rattle.session_relation.specs.Agrees.{SessionAgrees, Agrees}
 use Rattle.session_relation.proofs.ShowsLemmas.{Shows-alter_same}
 use Rattle.session_relation.proofs.Statuses.{some_of}
 use Rattle.session_relation.proofs.Versions.{Alters-cases, active_not_committed}
-use Rattle.session_relation.proofs.Readers.{IsDeleted, Levels-top, wrote_before}
+use Rattle.session_relation.proofs.Readers.{IsDeleted, wrote_before}
 use Rattle.session_relation.proofs.Others.{SessionAgrees-delete_other}
 use Rattle.session_relation.proofs.Itself.{IsCurrent, SessionAgrees-delete}
 use Rattle.session_relation.proofs.SessionsLemmas.{Matches, opened-change, idle-change, alone-change}
-use Rattle.session_relation.proofs.Steps.{waits-put}
+use Rattle.session_relation.proofs.Steps.{waits-put, own_traced}
 
 -- the version is deleted under an id that the session has
 pub Agrees-delete : (h : Heap) (w : World) (s : ℕ) (e : Session) (m : OpenSession) (x : ℕ) (place : Tid) (old new : Version) (store' : Tid → Option Version)
@@ -34,7 +34,7 @@ Agrees-delete h w s e m x place old new store' alters deleted at current there s
       (λ o f n ne bt there' theirs. SessionAgrees-delete_other x place old new alters deleted active (λ foreign. ne (agrees.apart o s f e x bt at foreign current.mine))
       (record {
         uncommitted = dead;
-        foreign = λ y is held. unheld o ne (n, there', (Levels-top f.own f.saved n.levels theirs.levels).own_written place old alters.before (y, deleted_by is, held));
+        foreign = λ y is held. unheld o ne (n, there', (own_traced theirs).there_written place old alters.before (y, deleted_by is, held));
       }) theirs)
       (λ e' at'. let is : e ≡ e' = same_Some e e' (sym at ∙ at') in
       subst (λ e. Matches h' w' s e) is

@@ -13,7 +13,7 @@ use Rattle.session_relation.specs.declared.step.Step.TheVariants.{Begin, Get, Co
 use Rattle.session_relation.specs.declared.reply.Reply.TheVariants.{Done, Found, RolledBack, Refused}
 use Rattle.session_relation.specs.declared.reply.Reply.TheVariants as reply
 use Rattle.session_relation.specs.declared.reply.Refusal.{Refusal}
-use Rattle.session_relation.specs.declared.reply.Refusal.TheVariants.{NotOpen, AlreadyOpen, Failed, AlreadyThere, NotThere, Conflict, Busy, TooLarge, NoRoom, NeedsFreeze, NoMemory, NoSuchPage, NoSuchSession}
+use Rattle.session_relation.specs.declared.reply.Refusal.TheVariants.{NotOpen, AlreadyOpen, Failed, AlreadyThere, NotThere, Conflict, Busy, TooDeep, NoSavepoint, TooLarge, NoRoom, NeedsFreeze, NoMemory, NoSuchPage, NoSuchSession}
 use Rattle.session_relation.specs.Allowed.{AllowsClosed, AllowsUnready, Allows}
 use Rattle.session_relation.specs.Heap.{Session, Heap}
 use Rattle.session_relation.specs.Visible.{IsFresh, IsVisible, Sees}
@@ -51,35 +51,48 @@ abbrev pub IsUnready : Heap → ℕ → Refusal → Type 0
 IsUnready h s Failed = (e : Session) × (h.session s ≡ Some e) × (e.failed ≡ true)
 IsUnready h s refusal = IsClosed h s refusal
 
-allows_closed : (h : Heap) (w : World) (s : ℕ) (r : Refusal) → Agrees h w → IsClosed h s r → AllowsClosed w s r
-allows_closed h w s NoSuchSession agrees is = is
-allows_closed h w s NotOpen agrees is = (is.0, agrees.idle s is.1)
-allows_closed h w s AlreadyOpen agrees is = absurd is
-allows_closed h w s Failed agrees is = absurd is
-allows_closed h w s AlreadyThere agrees is = absurd is
-allows_closed h w s NotThere agrees is = absurd is
-allows_closed h w s Conflict agrees is = absurd is
-allows_closed h w s (Busy o) agrees is = absurd is
-allows_closed h w s TooLarge agrees is = absurd is
-allows_closed h w s NoRoom agrees is = absurd is
-allows_closed h w s NeedsFreeze agrees is = absurd is
-allows_closed h w s NoMemory agrees is = absurd is
-allows_closed h w s NoSuchPage agrees is = absurd is
+-- what holds of each of the two, holds of why it is closed
+pub closed_cases : (h : Heap) (s : ℕ) (P : Refusal → Type 0) (r : Refusal) → IsClosed h s r → (IsClosed h s NoSuchSession → P NoSuchSession) → (IsClosed h s NotOpen → P NotOpen) → P r
+closed_cases h s P NoSuchSession is none idle = none is
+closed_cases h s P NotOpen is none idle = idle is
+closed_cases h s P AlreadyOpen is none idle = absurd is
+closed_cases h s P Failed is none idle = absurd is
+closed_cases h s P AlreadyThere is none idle = absurd is
+closed_cases h s P NotThere is none idle = absurd is
+closed_cases h s P Conflict is none idle = absurd is
+closed_cases h s P (Busy o) is none idle = absurd is
+closed_cases h s P TooDeep is none idle = absurd is
+closed_cases h s P NoSavepoint is none idle = absurd is
+closed_cases h s P TooLarge is none idle = absurd is
+closed_cases h s P NoRoom is none idle = absurd is
+closed_cases h s P NeedsFreeze is none idle = absurd is
+closed_cases h s P NoMemory is none idle = absurd is
+closed_cases h s P NoSuchPage is none idle = absurd is
+
+-- and of each of the three, of why it is not ready
+pub unready_cases : (h : Heap) (s : ℕ) (P : Refusal → Type 0) (r : Refusal) → IsUnready h s r → (IsClosed h s NoSuchSession → P NoSuchSession) → (IsClosed h s NotOpen → P NotOpen) → (IsUnready h s Failed → P Failed) → P r
+unready_cases h s P NoSuchSession is none idle failed = none is
+unready_cases h s P NotOpen is none idle failed = idle is
+unready_cases h s P AlreadyOpen is none idle failed = absurd is
+unready_cases h s P Failed is none idle failed = failed is
+unready_cases h s P AlreadyThere is none idle failed = absurd is
+unready_cases h s P NotThere is none idle failed = absurd is
+unready_cases h s P Conflict is none idle failed = absurd is
+unready_cases h s P (Busy o) is none idle failed = absurd is
+unready_cases h s P TooDeep is none idle failed = absurd is
+unready_cases h s P NoSavepoint is none idle failed = absurd is
+unready_cases h s P TooLarge is none idle failed = absurd is
+unready_cases h s P NoRoom is none idle failed = absurd is
+unready_cases h s P NeedsFreeze is none idle failed = absurd is
+unready_cases h s P NoMemory is none idle failed = absurd is
+unready_cases h s P NoSuchPage is none idle failed = absurd is
+
+pub allows_closed : (h : Heap) (w : World) (s : ℕ) (r : Refusal) → Agrees h w → IsClosed h s r → AllowsClosed w s r
+allows_closed h w s r agrees is = closed_cases h s (λ r. AllowsClosed w s r) r is (λ none. none) (λ idle. (idle.0, agrees.idle s idle.1))
 
 pub allows_unready : (h : Heap) (w : World) (s : ℕ) (r : Refusal) → Agrees h w → IsUnready h s r → AllowsUnready w s r
-allows_unready h w s Failed agrees is = let open_ = agrees.opened s is.0 is.1 in (open_.0, open_.1, sym open_.2.same_failed ∙ is.2)
-allows_unready h w s NoSuchSession agrees is = is
-allows_unready h w s NotOpen agrees is = (is.0, agrees.idle s is.1)
-allows_unready h w s AlreadyOpen agrees is = absurd is
-allows_unready h w s AlreadyThere agrees is = absurd is
-allows_unready h w s NotThere agrees is = absurd is
-allows_unready h w s Conflict agrees is = absurd is
-allows_unready h w s (Busy o) agrees is = absurd is
-allows_unready h w s TooLarge agrees is = absurd is
-allows_unready h w s NoRoom agrees is = absurd is
-allows_unready h w s NeedsFreeze agrees is = absurd is
-allows_unready h w s NoMemory agrees is = absurd is
-allows_unready h w s NoSuchPage agrees is = absurd is
+allows_unready h w s r agrees is = unready_cases h s (λ r. AllowsUnready w s r) r is (λ none. none) (λ idle. (idle.0, agrees.idle s idle.1))
+    (λ failed. let open_ = agrees.opened s failed.0 failed.1 in (open_.0, open_.1, sym open_.2.same_failed ∙ failed.2))
 
 -- Refusals before a step is tried.
 

@@ -10,16 +10,15 @@ use Rattle.history.specs.Moves.{put, as_failed}
 use Rattle.session_relation.specs.declared.step.Step.TheVariants.{Insert}
 use Rattle.session_relation.specs.declared.reply.Reply.TheVariants.{Done, Refused}
 use Rattle.session_relation.specs.declared.reply.Refusal.{Refusal}
-use Rattle.session_relation.specs.declared.reply.Refusal.TheVariants.{NotOpen, AlreadyOpen, Failed, AlreadyThere, NotThere, Conflict, Busy, TooLarge, NoRoom, NeedsFreeze, NoMemory, NoSuchPage, NoSuchSession}
+use Rattle.session_relation.specs.declared.reply.Refusal.TheVariants.{NotOpen, Failed, AlreadyThere, NotThere, Conflict, Busy, TooLarge, NoRoom, NeedsFreeze, NoMemory}
 use Rattle.session_relation.specs.Words.{RowText, FitsRow}
 use Rattle.session_relation.specs.Writes.{WriteStep, inserts, updates, deletes, step_of, key_of, PutsRow, Asks}
 use Rattle.session_relation.specs.Allowed.{AllowsHindered, AllowsWrite, Suits, Allows, refused_write}
 use Rattle.session_relation.specs.Heap.{Session, Heap}
 use Rattle.session_relation.specs.Agrees.{Agrees}
 use Rattle.session_relation.specs.Finds.{IsLateFor, IsHeldBy, Begins, Free, Follows}
-use Rattle.session_relation.proofs.Readers.{Levels-top}
-use Rattle.session_relation.proofs.Steps.{OnlyIs, Agrees-fail}
-use Rattle.session_relation.proofs.Follows.{IsUnready, allows_unready, Agrees-stepped, found_is_view}
+use Rattle.session_relation.proofs.Steps.{OnlyIs, own_traced, Agrees-fail}
+use Rattle.session_relation.proofs.Follows.{IsUnready, unready_cases, allows_unready, Agrees-stepped, found_is_view}
 
 -- one reply for the three kinds of write
 
@@ -31,23 +30,10 @@ Follows-refused h h' s r (deletes k) follows = follows
 
 -- Before the key counts.
 
-unready_write : (h : Heap) (w : World) (s : ℕ) (write : WriteStep) (r : Refusal) → Agrees h w → IsUnready h s r → AllowsHindered w s r write × Agrees h (refused_write w s r)
-unready_write h w s write Failed agrees is = (allows_unready h w s Failed agrees is, Agrees-stepped h w s agrees)
-unready_write h w s write NoSuchSession agrees is = (is, Agrees-stepped h w s agrees)
-unready_write h w s write NotOpen agrees is = ((is.0, agrees.idle s is.1), Agrees-stepped h w s agrees)
-unready_write h w s write AlreadyOpen agrees is = absurd is
-unready_write h w s write AlreadyThere agrees is = absurd is
-unready_write h w s write NotThere agrees is = absurd is
-unready_write h w s write Conflict agrees is = absurd is
-unready_write h w s write (Busy o) agrees is = absurd is
-unready_write h w s write TooLarge agrees is = absurd is
-unready_write h w s write NoRoom agrees is = absurd is
-unready_write h w s write NeedsFreeze agrees is = absurd is
-unready_write h w s write NoMemory agrees is = absurd is
-unready_write h w s write NoSuchPage agrees is = absurd is
-
 pub Follows-unready_write : (h : Heap) (s : ℕ) (write : WriteStep) (r : Refusal) → IsUnready h s r → Follows h (step_of s write) (Refused r) h
-Follows-unready_write h s write r is = Follows-refused h h s r write (λ w agrees. unready_write h w s write r agrees is)
+Follows-unready_write h s write r is = Follows-refused h h s r write (λ w agrees.
+    unready_cases h s (λ r. AllowsHindered w s r write × Agrees h (refused_write w s r)) r is (λ none. (none, Agrees-stepped h w s agrees))
+    (λ idle. (allows_unready h w s NotOpen agrees idle, Agrees-stepped h w s agrees)) (λ failed. (allows_unready h w s Failed agrees failed, Agrees-stepped h w s agrees)))
 
 -- the session may write
 pub writer : (h : Heap) (w : World) (s : ℕ) (e : Session) (at : h.session s ≡ Some e) (agrees : Agrees h w) → e.failed ≡ false → IsWriter w s (agrees.opened s e at).0
@@ -115,7 +101,7 @@ Follows-conflict h s e write found session' b asks late only = Follows-refused h
 pub holder_holds : (h : Heap) (w : World) (s o : ℕ) (e f : Session) (k x : ℕ) → h.session s ≡ Some e → h.session o ≡ Some f → Contains f.own x → IsHeldBy h e k x → Agrees h w → (o ≢ s) × Holds w o k
 holder_holds h w s o e f k x at bt owns some agrees = let open_ = agrees.opened o f bt in (
   λ same. some.4.foreign (subst (λ (g : Session). Contains g.own x) (same_Some f e (sym bt ∙ (ap h.session same ∙ at))) owns),
-  (open_.0, open_.1, subst (λ k. IsSome (own_write open_.0 k)) some.3 ((Levels-top f.own f.saved open_.0.levels open_.2.levels).own_written some.0 some.1 some.2 (x, some.4.touch, owns))),
+  (open_.0, open_.1, subst (λ k. IsSome (own_write open_.0 k)) some.3 ((own_traced open_.2).there_written some.0 some.1 some.2 (x, some.4.touch, owns))),
 )
 
 pub Follows-busy : (h : Heap) (s o : ℕ) (e f : Session) (x : ℕ) (write : WriteStep) (found : Option Row) → Begins h s e (key_of write) found → Asks write found → ¬ IsLateFor h e (key_of write)
@@ -145,7 +131,7 @@ unheld_by h w s e k found free agrees o ne holds = of (h.session o) refl
     of (Some f) bt =
         let open_ = agrees.opened o f bt in
         let same : holds.0 ≡ open_.0 = same_Some holds.0 open_.0 (sym holds.1 ∙ open_.1) in
-        let some = (Levels-top f.own f.saved open_.0.levels open_.2.levels).written_own k (subst (λ (m : OpenSession). IsSome (own_write m k)) same holds.2) in
+        let some = (own_traced open_.2).written_there k (subst (λ (m : OpenSession). IsSome (own_write m k)) same holds.2) in
         free.unheld some.4.0 (
           some.0,
           some.1,

@@ -1,8 +1,8 @@
 -- What each step of a session does to its own agreement.
-use Rattle.std.proofs.Common.{◌≡◌, ℕ, ◌<◌, List, [], ◌∷◌, ◌++◌, length, Option, Some, None, true, false, refl, sym, subst, inl, inr, arith, slice_get}
+use Rattle.std.proofs.Common.{◌≡◌, ℕ, zero, suc, ◌<◌, List, [], ◌∷◌, ◌++◌, length, Option, Some, None, true, false, refl, sym, subst, inl, inr, arith, slice_get}
 use Rattle.std.specs.Prelude.{IsSome, Contains}
 use Rattle.std.proofs.lemmas.Bool.{cases_eq}
-use Rattle.std.proofs.lemmas.List.Elements.{Contains-push_cases, Contains-append_left}
+use Rattle.std.proofs.lemmas.List.Elements.{Contains-push, Contains-push_cases, Contains-append_left}
 use Rattle.xid_circle.specs.declared.Tid.{Tid}
 use Rattle.tuple_header.specs.Version.{Version}
 use Rattle.commit_status.specs.declared.status.Status.{Status}
@@ -14,19 +14,35 @@ use Rattle.history.specs.Moves.{add_write, with_row, without_row, as_failed}
 use Rattle.history.proofs.HistoryLemmas.{IsLate-now, joined-add_write}
 use Rattle.session_relation.specs.Heap.{Session}
 use Rattle.session_relation.specs.Visible.{IsFresh, IsCommitted, IsActive, Sees, Reads, by_itself, by_others, VisibleBy, IsVisible, Touches, At, maker, deleter}
-use Rattle.session_relation.specs.Changes.{Adds, Alters, Gives, SameSight}
-use Rattle.session_relation.specs.Agrees.{Shows, ReaderAgrees, LevelsAgree, SessionAgrees}
+use Rattle.snapshot.specs.Own.{saved_with}
+use Rattle.session_relation.specs.Changes.{Adds, Alters, Gives, SameSight, with_id}
+use Rattle.session_relation.specs.Agrees.{Shows, ReaderAgrees, LevelsAgree, IsOfNewest, SessionAgrees}
 use Rattle.session_relation.proofs.ShowsLemmas.{Shows-same}
 use Rattle.session_relation.proofs.Statuses.{keeps-give, none_given, IsCommitted-give, IsActive-give_cases}
 use Rattle.session_relation.proofs.Versions.{VisibleBy-same}
-use Rattle.session_relation.proofs.Readers.{IsNew, IsDeleted, ReaderAgrees-same, ReaderAgrees-add_other, ReaderAgrees-delete_other, ReaderAgrees-insert, ReaderAgrees-delete, Levels-map, wrote_before}
+use Rattle.session_relation.proofs.Readers.{IsNew, IsDeleted, ReaderAgrees-same, ReaderAgrees-add_other, ReaderAgrees-delete_other, ReaderAgrees-insert, ReaderAgrees-delete, Levels-map, Levels-within, Levels-count, wrote_before}
+use Rattle.session_relation.proofs.LevelTraces.{Traced-none, Traced-add_other, Traced-delete_other, Traced-insert, Traced-delete, nested_of, LevelTraces-write, LevelTraces-give}
 use Rattle.session_relation.proofs.Traces.{TracesAgree-same, TracesAgree-add, TracesAgree-delete, unseen_still}
 use Rattle.session_relation.proofs.Others.{same_reader, reads_before}
+
+-- what its newest savepoint had, the session has
+pub saved_within : {status : ℕ → Option Status} {store : Tid → Option Version} {history : List Transaction} {sees : ℕ → Type 0} {e : Session} {m : OpenSession} (before : List ℕ)
+    → SessionAgrees status store history sees e m → slice_get e.saved 0 ≡ Some before → (x : ℕ) → Contains before x → Contains e.own x
+saved_within {status} {store} {history} {sees} {e} {m} before h is = Levels-within status store history sees m.start e.own e.saved m.levels before h.levels is
+
+-- it has one level more than it has savepoints
+pub levels_count : {status : ℕ → Option Status} {store : Tid → Option Version} {history : List Transaction} {sees : ℕ → Type 0} {e : Session} {m : OpenSession}
+    → SessionAgrees status store history sees e m → length m.levels ≡ suc (length e.saved)
+levels_count {status} {store} {history} {sees} {e} {m} h = Levels-count status store history sees m.start e.own e.saved m.levels h.levels
 
 -- the id is the session's, of its newest level
 pub record IsCurrent (e : Session) (x : ℕ) : Type 0 where
   pub mine : Contains e.own x
   pub newest : (before : List ℕ) → slice_get e.saved 0 ≡ Some before → ¬ Contains before x
+
+of_newest : (own : List ℕ) (saved : List (List ℕ)) (x : ℕ) → Contains own x → ((before : List ℕ) → slice_get saved 0 ≡ Some before → ¬ Contains before x) → IsOfNewest own saved x
+of_newest own [] x mine newest = mine
+of_newest own (before ∷ saved) x mine newest = (mine, newest before refl)
 
 -- a write: the session as it is has it, and as it was at each savepoint does not
 levels_write : {status : ℕ → Option Status} {store store' : Tid → Option Version} {history : List Transaction} {sees : ℕ → Type 0} {start : ℕ} (new : Write) (own : List ℕ) (saved : List (List ℕ)) (levels : List (List Write))
@@ -60,6 +76,8 @@ SessionAgrees-insert {status} {store} {store'} {history} {sees} {e} {m} x place 
   levels = levels_write (record { key = new.row.key; row = Some new.row }) e.own e.saved m.levels
       (λ r. ReaderAgrees-insert x place new adds is_new current.mine none r)
       (λ before own' writes is subset among r. ReaderAgrees-add_other x place new adds is_new (h.own_active x current.mine) (λ mine. current.newest before is (among x mine)) r) h.levels;
+  level_traces = LevelTraces-write x (record { key = new.row.key; row = Some new.row }) e.own e.saved m.levels (nested_of status store history sees m.start e.own e.saved m.levels h.levels) (of_newest e.own e.saved x current.mine current.newest)
+      (λ P writes mine t. Traced-insert x place new adds is_new mine t) (λ P writes other within t. Traced-add_other x place new adds is_new other t) h.level_traces;
   traces = TracesAgree-add x place new adds is_new (h.own_active x current.mine) h.traces;
   began = h.began;
   in_time = in_time-write history m.start (record { key = new.row.key; row = Some new.row }) m.levels in_time h.in_time;
@@ -77,6 +95,9 @@ SessionAgrees-delete {status} {store} {store'} {history} {sees} {e} {m} x place 
       (λ r. ReaderAgrees-delete x place old new alters deleted current.mine seen r)
       (λ before own' writes is subset among r. ReaderAgrees-delete_other x place old new alters deleted (h.own_active x current.mine) (λ mine. current.newest before is (among x mine))
       (record { uncommitted = dead; foreign = λ y is mine. seen.kept y is (by_itself (subset y (among y mine))) }) r) h.levels;
+  level_traces = LevelTraces-write x (record { key = old.row.key; row = None }) e.own e.saved m.levels (nested_of status store history sees m.start e.own e.saved m.levels h.levels) (of_newest e.own e.saved x current.mine current.newest)
+      (λ P writes mine t. Traced-delete x place old new alters deleted mine t)
+      (λ P writes other within t. Traced-delete_other x place old new alters deleted other (λ y is p. seen.kept y is (by_itself (within y p))) t) h.level_traces;
   traces = TracesAgree-delete x place old new alters deleted (h.own_active x current.mine) dead h.traces;
   began = h.began;
   in_time = in_time-write history m.start (record { key = old.row.key; row = None }) m.levels in_time h.in_time;
@@ -84,15 +105,16 @@ SessionAgrees-delete {status} {store} {store'} {history} {sees} {e} {m} x place 
   own_active = h.own_active;
 }
 
--- the session is given an id
-pub SessionAgrees-give : {status status' : ℕ → Option Status} {store : Tid → Option Version} {history : List Transaction} {sees sees' : ℕ → Type 0} {e : Session} {m : OpenSession} (x : ℕ)
+-- the session is given an id, of any of its levels
+pub SessionAgrees-give : {status status' : ℕ → Option Status} {store : Tid → Option Version} {history : List Transaction} {sees sees' : ℕ → Type 0} {e : Session} {m : OpenSession} (n x : ℕ)
     → Gives status status' x → SameSight status sees sees' → ¬ Sees sees' x → ((p : Tid) (y : ℕ) (v : Version) → At store p v → Touches y v → IsSome (status y))
     → SessionAgrees status store history sees e m
-    → SessionAgrees status' store history sees' (record e { own = e.own ++ x ∷ [] }) m
-SessionAgrees-give {status} {status'} {store} {history} {sees} {sees'} {e} {m} x gives same unseen given h = record {
+    → SessionAgrees status' store history sees' (with_id n x e) m
+SessionAgrees-give {status} {status'} {store} {history} {sees} {sees'} {e} {m} n x gives same unseen given h = record {
   same_failed = h.same_failed;
   same_cursor = h.same_cursor;
-  levels = levels e.own e.saved m.levels h.levels;
+  levels = levels n e.own e.saved m.levels h.levels;
+  level_traces = LevelTraces-give n x e.own e.saved m.levels (λ p v at touch. none_given (status x) gives.fresh (given p x v at touch)) h.level_traces;
   traces = TracesAgree-same (λ y done. keeps-give gives y Committed done) (λ y done. IsCommitted-give gives y done) same h.traces;
   began = h.began;
   in_time = h.in_time;
@@ -121,15 +143,24 @@ SessionAgrees-give {status} {status'} {store} {history} {sees} {sees'} {e} {m} x
     back own p y v at touch (by_others seen done) = (let was = IsCommitted-give gives y done in by_others ((same y Committed was).1 seen) was)
 
     top : (own : List ℕ) (writes : List Write) → ReaderAgrees status store history sees m.start own writes → ReaderAgrees status' store history sees' m.start (own ++ x ∷ []) writes
-    top own writes r = ReaderAgrees-same (λ p y v at touch. to own y) (back own) (λ p y v at touch mine. Contains-append_left own (x ∷ []) y mine) (old_own own) (λ k. refl) (λ k. refl) r
+    top own writes r = ReaderAgrees-same (λ p y v at touch. to own y) (back own) (λ k. refl) (λ k. refl) r
 
-    levels : (own : List ℕ) (saved : List (List ℕ)) (levels : List (List Write)) → LevelsAgree status store history sees m.start own saved levels
-        → LevelsAgree status' store history sees' m.start (own ++ x ∷ []) saved levels
-    levels own [] [] h = absurd h
-    levels own [] (ws ∷ []) h = top own (joined (ws ∷ [])) h
-    levels own [] (ws ∷ (vs ∷ rest)) h = absurd h
-    levels own (before ∷ saved) [] h = absurd h
-    levels own (before ∷ saved) (ws ∷ rest) h = (
+    levels : (n : ℕ) (own : List ℕ) (saved : List (List ℕ)) (levels : List (List Write)) → LevelsAgree status store history sees m.start own saved levels
+        → LevelsAgree status' store history sees' m.start (own ++ x ∷ []) (saved_with n x saved) levels
+    levels n own [] [] h = absurd h
+    levels zero own [] (ws ∷ []) h = top own (joined (ws ∷ [])) h
+    levels (suc n) own [] (ws ∷ []) h = top own (joined (ws ∷ [])) h
+    levels n own [] (ws ∷ (vs ∷ rest)) h = absurd h
+    levels n own (before ∷ saved) [] h = absurd h
+    levels (suc n) own (before ∷ saved) (ws ∷ rest) h = (
+      top own (joined (ws ∷ rest)) h.0,
+      λ y mine. elim (Contains-push_cases before x y mine) [
+        | inl old ↦ Contains-append_left own (x ∷ []) y (h.1 y old)
+        | inr now ↦ subst (λ z. Contains (own ++ x ∷ []) z) now (Contains-push own x)
+      ],
+      levels n before saved rest h.2,
+    )
+    levels zero own (before ∷ saved) (ws ∷ rest) h = (
       top own (joined (ws ∷ rest)) h.0,
       λ y mine. Contains-append_left own (x ∷ []) y (h.1 y mine),
       Levels-map before saved rest (λ own' writes among r. same_reader own' writes (λ y done. keeps-give gives y Committed done) same (reads_before own' (λ y done. IsCommitted-give gives y done) same) (λ k. refl) r) h.2,
@@ -142,6 +173,7 @@ SessionAgrees-fail h = record {
   same_failed = refl;
   same_cursor = h.same_cursor;
   levels = h.levels;
+  level_traces = h.level_traces;
   traces = h.traces;
   began = h.began;
   in_time = h.in_time;
@@ -170,9 +202,8 @@ SessionAgrees-begin {status} {store} {sees} snapshot w fresh current made = reco
   levels = record {
     rows = Shows-same (λ p v at seen. VisibleBy-same (λ x touch. to x) (λ x touch. back x) seen) (λ p v at seen. VisibleBy-same (λ x touch. back x) (λ x touch. to x) seen) (λ k. refl) current;
     whole = λ p y v at is reads x maker. to x (made p y v at is (back y reads) x maker);
-    written_own = λ k wrote. cc;
-    own_written = λ p v at own. absurd (none_own own.0 own.2);
   };
+  level_traces = Traced-none none_own;
   traces = record {
     late_missed = λ k late. absurd (IsLate-now w.history k late);
     missed_late = λ p v at missed. absurd (missed.3 (fresh.finished missed.0 missed.2));

@@ -4,9 +4,11 @@ pub mod Statuses
 pub mod Readers
 pub mod SessionsLemmas
 pub mod Traces
+pub mod LevelTraces
 pub mod Others
 pub mod Itself
 pub mod Steps
+pub mod Savepoints
 pub mod Deleting
 pub mod Updating
 pub mod Pruning
@@ -15,5 +17,7 @@ pub mod Runs
 pub mod Follows
 pub mod Hindrances
 pub mod Targets
-pub mod FollowsWrites
 pub mod Sights
+pub mod GivenBelow
+pub mod FollowsWrites
+pub mod FollowsSavepoints

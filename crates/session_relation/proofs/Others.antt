@@ -11,10 +11,11 @@ use Rattle.history.proofs.HistoryLemmas.{committed-push_before, IsLate-push_case
 use Rattle.session_relation.specs.Heap.{Session}
 use Rattle.session_relation.specs.Visible.{IsCommitted, IsActive, Sees, Reads, by_itself, by_others}
 use Rattle.session_relation.specs.Changes.{Adds, Alters, Gives, Finishes, SameSight}
-use Rattle.session_relation.specs.Agrees.{ReaderAgrees, SessionAgrees}
+use Rattle.session_relation.specs.Agrees.{ReaderAgrees, Traced, SessionAgrees}
 use Rattle.session_relation.proofs.Statuses.{keeps-give, IsCommitted-give, IsActive-give_cases, IsCommitted-finish_old, IsCommitted-commit_cases, IsCommitted-abort, IsActive-finish, IsActive-finish_other, Reads-status}
 use Rattle.session_relation.proofs.Readers.{IsNew, IsDeleted, IsIdle, ReaderAgrees-same, ReaderAgrees-add_other, ReaderAgrees-delete_other, Levels-map}
-use Rattle.session_relation.proofs.Traces.{Carries, TracesAgree-same, TracesAgree-add, TracesAgree-delete, TracesAgree-commit, unseen_still}
+use Rattle.session_relation.proofs.LevelTraces.{Traced-add_other, Traced-delete_other, nested_of, LevelTraces-map}
+use Rattle.session_relation.proofs.Traces.{TracesAgree-same, TracesAgree-add, TracesAgree-delete, TracesAgree-commit, unseen_still}
 
 pub SessionAgrees-add_other : {status : ℕ → Option Status} {store store' : Tid → Option Version} {history : List Transaction} {sees : ℕ → Type 0} {e : Session} {m : OpenSession} (x : ℕ) (place : Tid) (new : Version)
     → Adds store store' place new → IsNew x new → IsActive status x → ¬ Contains e.own x
@@ -23,6 +24,7 @@ SessionAgrees-add_other {status} {store} {store'} {history} {sees} {e} {m} x pla
   same_failed = h.same_failed;
   same_cursor = h.same_cursor;
   levels = Levels-map e.own e.saved m.levels (λ own writes among r. ReaderAgrees-add_other x place new adds is_new active (λ mine. foreign (among x mine)) r) h.levels;
+  level_traces = LevelTraces-map e.own e.saved m.levels (nested_of status store history sees m.start e.own e.saved m.levels h.levels) (λ P writes within t. Traced-add_other x place new adds is_new (λ p. foreign (within x p)) t) h.level_traces;
   traces = TracesAgree-add x place new adds is_new active h.traces;
   began = h.began;
   in_time = h.in_time;
@@ -37,6 +39,7 @@ SessionAgrees-delete_other {status} {store} {store'} {history} {sees} {e} {m} x 
   same_failed = h.same_failed;
   same_cursor = h.same_cursor;
   levels = Levels-map e.own e.saved m.levels (λ own writes among r. ReaderAgrees-delete_other x place old new alters deleted active (λ mine. foreign (among x mine)) (record { uncommitted = idle.uncommitted; foreign = λ y is mine. idle.foreign y is (among y mine) }) r) h.levels;
+  level_traces = LevelTraces-map e.own e.saved m.levels (nested_of status store history sees m.start e.own e.saved m.levels h.levels) (λ P writes within t. Traced-delete_other x place old new alters deleted (λ p. foreign (within x p)) (λ y is p. idle.foreign y is (within y p)) t) h.level_traces;
   traces = TracesAgree-delete x place old new alters deleted active idle.uncommitted h.traces;
   began = h.began;
   in_time = h.in_time;
@@ -50,7 +53,7 @@ pub same_reader : {status status' : ℕ → Option Status} {store : Tid → Opti
     → ((k : ℕ) → committed history' start k ≡ committed history start k)
     → ReaderAgrees status store history sees start own writes → ReaderAgrees status' store history' sees' start own writes
 same_reader own writes to same back before r =
-    ReaderAgrees-same (λ p x v at touch reads. Reads-status (to x) (λ done. (same x Committed done).0) reads) (λ p x v at touch reads. back x reads) (λ p x v at touch mine. mine) (λ p x v at touch mine. mine) (λ k. refl) before r
+    ReaderAgrees-same (λ p x v at touch reads. Reads-status (to x) (λ done. (same x Committed done).0) reads) (λ p x v at touch reads. back x reads) (λ k. refl) before r
 
 -- what is read after a change that commits nothing was read before it
 pub reads_before : {status status' : ℕ → Option Status} {sees sees' : ℕ → Type 0} (own : List ℕ) → ((x : ℕ) → IsCommitted status' x → IsCommitted status x) → SameSight status sees sees'
@@ -68,6 +71,7 @@ SessionAgrees-give_other {status} {status'} {store} {history} {sees} {sees'} {e}
   same_failed = h.same_failed;
   same_cursor = h.same_cursor;
   levels = Levels-map e.own e.saved m.levels (λ own writes among r. same_reader own writes (λ y done. keeps-give gives y Committed done) same (reads_before own (λ y done. IsCommitted-give gives y done) same) (λ k. refl) r) h.levels;
+  level_traces = h.level_traces;
   traces = TracesAgree-same (λ y done. keeps-give gives y Committed done) (λ y done. IsCommitted-give gives y done) same h.traces;
   began = h.began;
   in_time = h.in_time;
@@ -86,6 +90,7 @@ SessionAgrees-abort_other {status} {status'} {store} {history} {sees} {sees'} {e
   same_failed = h.same_failed;
   same_cursor = h.same_cursor;
   levels = Levels-map e.own e.saved m.levels (λ own writes among r. same_reader own writes (λ y done. IsCommitted-finish_old finishes y done) same (reads_before own (λ y done. IsCommitted-abort finishes y done) same) (λ k. refl) r) h.levels;
+  level_traces = h.level_traces;
   traces = TracesAgree-same (λ y done. IsCommitted-finish_old finishes y done) (λ y done. IsCommitted-abort finishes y done) same h.traces;
   began = h.began;
   in_time = h.in_time;
@@ -95,13 +100,14 @@ SessionAgrees-abort_other {status} {status'} {store} {history} {sees} {sees'} {e
 
 -- another session commits
 pub SessionAgrees-commit_other : {status status' : ℕ → Option Status} {store : Tid → Option Version} {history : List Transaction} {sees sees' : ℕ → Type 0} {e : Session} {m : OpenSession} (own : List ℕ) (t : Transaction)
-    → Finishes status status' (λ x. Contains own x) Committed → SameSight status sees sees' → ((x : ℕ) → Contains own x → ¬ Contains e.own x) → Carries store own t
+    → Finishes status status' (λ x. Contains own x) Committed → SameSight status sees sees' → ((x : ℕ) → Contains own x → ¬ Contains e.own x) → Traced store (λ x. Contains own x) t.writes
     → ((k : ℕ) → IsSome (own_write m k) → IsSome (written t.writes k) → ⊥)
     → SessionAgrees status store history sees e m → SessionAgrees status' store (history ++ t ∷ []) sees' e m
 SessionAgrees-commit_other {status} {status'} {store} {history} {sees} {sees'} {e} {m} own t finishes same foreign carries alone h = record {
   same_failed = h.same_failed;
   same_cursor = h.same_cursor;
   levels = Levels-map e.own e.saved m.levels (λ own' writes among r. same_reader own' writes (λ y done. IsCommitted-finish_old finishes y done) same (back own') (λ k. committed-push_before history t m.start k h.began) r) h.levels;
+  level_traces = h.level_traces;
   traces = TracesAgree-commit own t finishes same carries h.began (λ x mine. h.active_unseen x (finishes.active x mine)) h.traces;
   began = (let old = h.began in omega (arith, length-append history (t ∷ [])));
   in_time = λ k wrote late. elim (IsLate-push_cases history t m.start k late) [ inl old ↦ h.in_time k wrote old | inr theirs ↦ alone k wrote theirs ];

@@ -10,11 +10,12 @@ use Rattle.snapshot.specs.Snap.{Snap}
 use Rattle.history.specs.History.{Write, Transaction}
 use Rattle.history.specs.World.{World, OpenSession}
 use Rattle.session_relation.specs.Heap.{Session, Heap}
-use Rattle.session_relation.specs.Visible.{IsCommitted, IsAborted, IsActive, Sees, Reads, by_itself, by_others, VisibleBy, IsVisible, made_by, deleted_by, IsMissed, IsOwn, At, SomeVersion, maker, deleter}
+use Rattle.session_relation.specs.Visible.{IsCommitted, IsAborted, IsActive, Sees, Reads, by_itself, by_others, VisibleBy, IsVisible, made_by, deleted_by, IsMissed, IsOwn, IsBy, At, SomeVersion, maker, deleter}
 use Rattle.session_relation.specs.Changes.{Removes, IsPast, never_was, is_over}
-use Rattle.session_relation.specs.Agrees.{Shows, ReaderAgrees, SessionAgrees, Agrees}
+use Rattle.session_relation.specs.Agrees.{Shows, ReaderAgrees, Traced, SessionAgrees, Agrees}
 use Rattle.session_relation.proofs.Versions.{active_not_committed}
 use Rattle.session_relation.proofs.Readers.{Levels-map, Levels-top}
+use Rattle.session_relation.proofs.LevelTraces.{nested_of, LevelTraces-map}
 
 -- versions that are not seen go
 pub Shows-removes : {store store' : Tid → Option Version} {P V : Version → Type 0} {f : ℕ → Option Row}
@@ -29,6 +30,14 @@ SomeVersion-removes : {store store' : Tid → Option Version} {P Q : Version →
     → (k : ℕ) → SomeVersion store k Q → SomeVersion store' k Q
 SomeVersion-removes removes apart k some =
     (some.0, some.1, elim (removes.gone some.0 some.1 some.2) [ inl stays ↦ stays | inr goes ↦ absurd (apart some.0 some.1 some.2 goes some.4) ], some.3, some.4)
+
+-- versions go that no id of P touches
+Traced-removes : {store store' : Tid → Option Version} {P : ℕ → Type 0} {writes : List Write} {Past : Version → Type 0}
+    → Removes store store' Past → ((p : Tid) (v : Version) → At store p v → Past v → ¬ IsBy P v) → Traced store P writes → Traced store' P writes
+Traced-removes removes apart h = record {
+  written_there = λ k wrote. SomeVersion-removes removes apart k (h.written_there k wrote);
+  there_written = λ p v at by. h.there_written p v (removes.kept p v at) by;
+}
 
 -- no id is aborted and committed, or aborted and in progress
 aborted_not_committed : (status : ℕ → Option Status) (x : ℕ) → IsAborted status x → IsCommitted status x → ⊥
@@ -96,8 +105,6 @@ pub ReaderAgrees-prune : {status : ℕ → Option Status} {store store' : Tid �
 ReaderAgrees-prune removes reader made h = record {
   rows = Shows-removes removes (λ p v at past. past_unseen reader v past) h.rows;
   whole = λ p y v at is reads. h.whole p y v (removes.kept p v at) is reads;
-  written_own = λ k wrote. SomeVersion-removes removes (λ p v at past. past_foreign reader made h p v at past) k (h.written_own k wrote);
-  own_written = λ p v at mine. h.own_written p v (removes.kept p v at) mine;
 }
 
 SessionAgrees-prune : {status : ℕ → Option Status} {store store' : Tid → Option Version} {history : List Transaction} {sees : Snap → ℕ → Type 0} {session : ℕ → Option Session} (s : ℕ) (e : Session) (m : OpenSession)
@@ -108,6 +115,8 @@ SessionAgrees-prune {status} {store} {store'} {history} {sees} {session} s e m r
   same_failed = h.same_failed;
   same_cursor = h.same_cursor;
   levels = Levels-map e.own e.saved m.levels (λ own writes among r. ReaderAgrees-prune removes (reader own among) made r) h.levels;
+  level_traces = LevelTraces-map e.own e.saved m.levels (nested_of status store history (sees e.snapshot) m.start e.own e.saved m.levels h.levels)
+      (λ P writes within t. Traced-removes removes (λ p v bt past by. past_foreign (reader e.own (λ x mine. mine)) made (Levels-top e.own e.saved m.levels h.levels) p v bt past (by.0, by.1, within by.0 by.2)) t) h.level_traces;
   traces = record {
     late_missed = λ k late. SomeVersion-removes removes (λ p v bt past. past_seen (reader e.own (λ x mine. mine)) made (Levels-top e.own e.saved m.levels h.levels) p v bt past) k (h.traces.late_missed k late);
     missed_late = λ p v bt missed. h.traces.missed_late p v (removes.kept p v bt) missed;

@@ -1,36 +1,31 @@
 -- What each step does to a reader's agreement.
-use Rattle.std.proofs.Common.{◌≡◌, ◌≢◌, ℕ, List, [], ◌∷◌, ◌++◌, Option, Some, None, refl, sym, ap, ◌∙◌, subst, inl, inr}
+use Rattle.std.proofs.Common.{◌≡◌, ◌≢◌, ℕ, suc, List, [], ◌∷◌, ◌++◌, length, slice_get, Option, Some, None, refl, sym, ap, ◌∙◌, subst, inl, inr}
 use Rattle.std.specs.Prelude.{IsSome, Contains}
 use Rattle.std.proofs.lemmas.Bool.{cases_eq}
 use Rattle.std.proofs.lemmas.Option.{same_Some, none-some}
 use Rattle.xid_circle.specs.declared.Tid.{Tid}
-use Rattle.tuple_header.specs.declared.version.Row.{Row}
 use Rattle.tuple_header.specs.Version.{Version}
 use Rattle.commit_status.specs.declared.status.Status.{Status}
 use Rattle.history.specs.History.{Write, Transaction, committed, written, own_or, reading}
 use Rattle.history.specs.World.{joined}
 use Rattle.history.proofs.HistoryLemmas.{written-push, said-same, said-other}
 use Rattle.std.specs.Option.{option_or}
-use Rattle.session_relation.specs.Visible.{IsCommitted, IsActive, Reads, by_itself, by_others, IsVisible, Touches, made_by, deleted_by, IsOwn, At, maker, deleter}
+use Rattle.session_relation.specs.Visible.{IsCommitted, IsActive, Reads, by_itself, by_others, IsVisible, Touches, made_by, deleted_by, At, maker, deleter}
 use Rattle.session_relation.specs.Changes.{Adds, Alters}
 use Rattle.session_relation.specs.Agrees.{ReaderAgrees, LevelsAgree}
 use Rattle.session_relation.proofs.ShowsLemmas.{Shows-same, Shows-add_unseen, Shows-add_seen, Shows-alter_same, Shows-alter_hidden}
-use Rattle.session_relation.proofs.Versions.{SomeVersion-adds, SomeVersion-alters, Adds-cases, Alters-cases, VisibleBy-same, active_unread}
+use Rattle.session_relation.proofs.Versions.{Adds-cases, Alters-cases, VisibleBy-same, active_unread}
 
--- the same is read, owned and written
+-- the same is read and written
 pub ReaderAgrees-same : {status status' : ℕ → Option Status} {store : Tid → Option Version} {history history' : List Transaction} {sees sees' : ℕ → Type 0} {start : ℕ} {own own' : List ℕ} {writes writes' : List Write}
     → ((p : Tid) (x : ℕ) (v : Version) → At store p v → Touches x v → Reads status sees own x → Reads status' sees' own' x)
     → ((p : Tid) (x : ℕ) (v : Version) → At store p v → Touches x v → Reads status' sees' own' x → Reads status sees own x)
-    → ((p : Tid) (x : ℕ) (v : Version) → At store p v → Touches x v → Contains own x → Contains own' x)
-    → ((p : Tid) (x : ℕ) (v : Version) → At store p v → Touches x v → Contains own' x → Contains own x)
     → ((k : ℕ) → written writes' k ≡ written writes k) → ((k : ℕ) → committed history' start k ≡ committed history start k)
     → ReaderAgrees status store history sees start own writes → ReaderAgrees status' store history' sees' start own' writes'
-ReaderAgrees-same {status} {status'} {store} {history} {history'} {sees} {sees'} {start} {own} {own'} {writes} {writes'} to back own_to own_back alike before h = record {
+ReaderAgrees-same {status} {status'} {store} {history} {history'} {sees} {sees'} {start} {own} {own'} {writes} {writes'} to back alike before h = record {
   rows = Shows-same (λ p v at seen. VisibleBy-same (λ x touch. to p x v at touch) (λ x touch. back p x v at touch) seen) (λ p v at seen. VisibleBy-same (λ x touch. back p x v at touch) (λ x touch. to p x v at touch) seen)
       (λ k. ap (λ o. own_or o (committed history' start k)) (alike k) ∙ ap (λ r. own_or (written writes k) r) (before k)) h.rows;
   whole = λ p y v at is reads x made. to p x v at (made_by made) (h.whole p y v at is (back p y v at (deleted_by is) reads) x made);
-  written_own = λ k wrote. let some = h.written_own k (subst (λ o. IsSome o) (alike k) wrote) in (some.0, some.1, some.2, some.3, (some.4.0, some.4.1, own_to some.0 some.4.0 some.1 some.2 some.4.1 some.4.2));
-  own_written = λ p v at mine. subst (λ o. IsSome o) (sym (alike v.row.key)) (h.own_written p v at (mine.0, mine.1, own_back p mine.0 v at mine.1 mine.2));
 }
 
 -- a version that the id x made and nothing deletes
@@ -51,12 +46,6 @@ ReaderAgrees-add_other {status} {store} {store'} {history} {sees} {start} {own} 
   whole = λ p y u at is reads. elim (Adds-cases adds p u at) [
     | inl old ↦ h.whole p y u old is reads
     | inr now ↦ absurd (none-some y (sym is_new.kept ∙ (ap (λ (u : Version). deleter u) (sym now.1) ∙ is)))
-  ];
-  written_own = λ k wrote. SomeVersion-adds adds k (IsOwn own) (h.written_own k wrote);
-  own_written = λ p v at mine. elim (Adds-cases adds p v at) [
-    | inl old ↦ h.own_written p v old mine
-    | inr now ↦ (let same : mine.0 ≡ x = touches_new mine.0 is_new (subst (λ (u : Version). Touches mine.0 u) now.1 mine.1) in
-        absurd (foreign (subst (λ y. Contains own y) same mine.2)))
   ];
 }
 
@@ -82,16 +71,8 @@ ReaderAgrees-delete_other {status} {store} {store'} {history} {sees} {start} {ow
         absurd (active_unread active foreign (subst (λ z. Reads status sees own z) (same_Some y x (sym is ∙ by)) reads)))
     | inr other ↦ h.whole p y u other.1 is reads
   ];
-  written_own = λ k wrote. SomeVersion-alters alters k (IsOwn own) (IsOwn own) same_key kept_own (λ p u bt mine. mine) (h.written_own k wrote);
-  own_written = λ p u bt mine. elim (Alters-cases alters p u bt) [
-    | inl same ↦ subst (λ k. IsSome (written writes k)) (sym (ap (λ (u : Version). u.row.key) same.1 ∙ same_key)) (h.own_written place old alters.before (own_kept (subst (λ (u : Version). IsOwn own u) same.1 mine)))
-    | inr other ↦ h.own_written p u other.1 mine
-  ];
 }
   where
-    same_key : new.row.key ≡ old.row.key
-    same_key = ap (λ (r : Row). r.key) deleted.same_row
-
     to : IsVisible status sees own old → IsVisible status sees own new
     to seen = record {
       made = λ y is. seen.made y (sym deleted.same_maker ∙ is);
@@ -104,14 +85,6 @@ ReaderAgrees-delete_other {status} {store} {store'} {history} {sees} {start} {ow
 
     back : IsVisible status sees own new → IsVisible status sees own old
     back seen = record { made = λ y is. seen.made y (deleted.same_maker ∙ is); kept = unread }
-
-    kept_own : IsOwn own old → IsOwn own new
-    kept_own (y, made_by is, mine) = (y, made_by (deleted.same_maker ∙ is), mine)
-    kept_own (y, deleted_by is, mine) = absurd (idle.foreign y is mine)
-
-    own_kept : IsOwn own new → IsOwn own old
-    own_kept (y, made_by is, mine) = (y, made_by (sym deleted.same_maker ∙ is), mine)
-    own_kept (y, deleted_by is, mine) = absurd (foreign (subst (λ z. Contains own z) (same_Some y x (sym is ∙ deleted.by)) mine))
 
 -- a write marks its key, and no other
 pub written-push_same : (writes : List Write) (new : Write) → written (writes ++ new ∷ []) new.key ≡ Some new.row
@@ -143,14 +116,6 @@ ReaderAgrees-insert {status} {store} {store'} {history} {sees} {start} {own} {wr
     | inl old ↦ h.whole p y u old is reads
     | inr now ↦ absurd (none-some y (sym is_new.kept ∙ (ap (λ (u : Version). deleter u) (sym now.1) ∙ is)))
   ];
-  written_own = λ k wrote. elim (cases_eq k new.row.key) [
-    | inl same ↦ (place, new, adds.here, sym same, (x, made_by is_new.made, mine))
-    | inr ne ↦ SomeVersion-adds adds k (IsOwn own) (h.written_own k (wrote_before writes write k ne wrote))
-  ];
-  own_written = λ p v at ours. elim (Adds-cases adds p v at) [
-    | inl old ↦ wrote_still writes write v.row.key (h.own_written p v old ours)
-    | inr now ↦ wrote_same writes write v.row.key (ap (λ (u : Version). u.row.key) now.1)
-  ];
 }
   where
     write : Write
@@ -169,21 +134,10 @@ ReaderAgrees-delete {status} {store} {store'} {history} {sees} {start} {own} {wr
     | inl same ↦ seen_old.made z (sym deleted.same_maker ∙ (ap (λ (u : Version). maker u) (sym same.1) ∙ made))
     | inr other ↦ h.whole p y u other.1 is reads z made
   ];
-  written_own = λ k wrote. elim (cases_eq k old.row.key) [
-    | inl same ↦ (place, new, alters.here, same_key ∙ sym same, (x, deleted_by deleted.by, mine))
-    | inr ne ↦ SomeVersion-alters alters k (IsOwn own) (IsOwn own) same_key (λ ours. (x, deleted_by deleted.by, mine)) (λ p u bt ours. ours) (h.written_own k (wrote_before writes write k ne wrote))
-  ];
-  own_written = λ p u bt ours. elim (Alters-cases alters p u bt) [
-    | inl same ↦ wrote_same writes write u.row.key (ap (λ (u : Version). u.row.key) same.1 ∙ same_key)
-    | inr other ↦ wrote_still writes write u.row.key (h.own_written p u other.1 ours)
-  ];
 }
   where
     write : Write
     write = record { key = old.row.key; row = None }
-
-    same_key : new.row.key ≡ old.row.key
-    same_key = ap (λ (r : Row). r.key) deleted.same_row
 
 -- each reader of a session, one by one
 pub Levels-map : {status status' : ℕ → Option Status} {store store' : Tid → Option Version} {history history' : List Transaction} {sees sees' : ℕ → Type 0} {start : ℕ} (own : List ℕ) (saved : List (List ℕ)) (levels : List (List Write))
@@ -204,3 +158,19 @@ Levels-top own [] (ws ∷ []) h = h
 Levels-top own [] (ws ∷ (vs ∷ levels)) h = absurd h
 Levels-top own (before ∷ saved) [] h = absurd h
 Levels-top own (before ∷ saved) (ws ∷ levels) h = h.0
+
+-- what the newest savepoint had, the session has
+pub Levels-within : (status : ℕ → Option Status) (store : Tid → Option Version) (history : List Transaction) (sees : ℕ → Type 0) (start : ℕ) (own : List ℕ) (saved : List (List ℕ)) (levels : List (List Write)) (before : List ℕ)
+    → LevelsAgree status store history sees start own saved levels → slice_get saved 0 ≡ Some before → (x : ℕ) → Contains before x → Contains own x
+Levels-within _ _ _ _ _ own [] levels before h is x among = absurd (none-some before is)
+Levels-within _ _ _ _ _ own (first ∷ saved) [] before h is x among = absurd h
+Levels-within _ _ _ _ _ own (first ∷ saved) (ws ∷ levels) before h is x among = h.1 x (subst (λ xs. Contains xs x) (sym (same_Some first before is)) among)
+
+-- there is one level more than there are savepoints
+pub Levels-count : (status : ℕ → Option Status) (store : Tid → Option Version) (history : List Transaction) (sees : ℕ → Type 0) (start : ℕ) (own : List ℕ) (saved : List (List ℕ)) (levels : List (List Write))
+    → LevelsAgree status store history sees start own saved levels → length levels ≡ suc (length saved)
+Levels-count _ _ _ _ _ own [] [] h = absurd h
+Levels-count _ _ _ _ _ own [] (ws ∷ []) h = refl
+Levels-count _ _ _ _ _ own [] (ws ∷ (vs ∷ levels)) h = absurd h
+Levels-count _ _ _ _ _ own (before ∷ saved) [] h = absurd h
+Levels-count status store history sees start own (before ∷ saved) (ws ∷ levels) h = ap suc (Levels-count status store history sees start before saved levels h.2)

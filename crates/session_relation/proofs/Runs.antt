@@ -1,19 +1,19 @@
 -- A run of steps and replies is a run of the history.
-use Rattle.std.proofs.Common.{◌≡◌, ℕ, List, [], ◌∷◌, ◌++◌, refl}
-use Rattle.history.specs.World.{World, empty}
+use Rattle.std.proofs.Common.{◌≡◌, ℕ, ◌<◌, ◌≤◌, length, arith, List, [], ◌∷◌, ◌++◌, refl}
+use Rattle.history.specs.World.{World, OpenSession, empty}
 use Rattle.history.specs.Moves.{stepped}
-use Rattle.history.specs.Events.{Happens, passes, begins, conflicts, commits, aborts, Leads, stays, goes_on}
+use Rattle.history.specs.Events.{Happens, passes, begins, conflicts, saves, rolls_back_to, releases, commits, aborts, Leads, stays, goes_on}
 use Rattle.history.specs.Events as events
 use Rattle.history.proofs.RunLemmas.{Lawful-empty, Lawful-run}
 use Rattle.session_relation.specs.declared.step.Step.{Step}
-use Rattle.session_relation.specs.declared.step.Step.TheVariants.{Begin, Get, Insert, Update, Delete, Commit, Abort, Prune}
+use Rattle.session_relation.specs.declared.step.Step.TheVariants.{Begin, Get, Insert, Update, Delete, Savepoint, RollbackTo, Release, Commit, Abort, Prune}
 use Rattle.session_relation.specs.declared.reply.Reply.{Reply}
 use Rattle.session_relation.specs.declared.reply.Reply.TheVariants.{Done, Found, Committed, RolledBack, Refused}
 use Rattle.session_relation.specs.declared.reply.Refusal.{Refusal}
-use Rattle.session_relation.specs.declared.reply.Refusal.TheVariants.{NotOpen, AlreadyOpen, Failed, AlreadyThere, NotThere, Conflict, Busy, TooLarge, NoRoom, NeedsFreeze, NoMemory, NoSuchPage, NoSuchSession}
+use Rattle.session_relation.specs.declared.reply.Refusal.TheVariants.{NotOpen, AlreadyOpen, Failed, AlreadyThere, NotThere, Conflict, Busy, TooDeep, NoSavepoint, TooLarge, NoRoom, NeedsFreeze, NoMemory, NoSuchPage, NoSuchSession}
 use Rattle.session_relation.specs.Words.{row_of}
 use Rattle.session_relation.specs.Writes.{WriteStep, inserts, updates, deletes, key_of}
-use Rattle.session_relation.specs.Allowed.{Allows, AllowsHindered, refused_write, next, IsRun, after, IsLawful}
+use Rattle.session_relation.specs.Allowed.{savepoints, Allows, AllowsHindered, refused_write, next, IsRun, after, IsLawful}
 
 refused_happens : (w : World) (s : ℕ) (write : WriteStep) (r : Refusal) → AllowsHindered w s r write → Happens w s (refused_write w s r)
 refused_happens w s write Conflict allows = conflicts (key_of write) allows.0 allows.1.writer allows.2
@@ -23,12 +23,22 @@ refused_happens w s write Failed allows = passes
 refused_happens w s write AlreadyThere allows = passes
 refused_happens w s write NotThere allows = passes
 refused_happens w s write (Busy o) allows = passes
+refused_happens w s write TooDeep allows = passes
+refused_happens w s write NoSavepoint allows = passes
 refused_happens w s write TooLarge allows = passes
 refused_happens w s write NoRoom allows = passes
 refused_happens w s write NeedsFreeze allows = passes
 refused_happens w s write NoMemory allows = passes
 refused_happens w s write NoSuchPage allows = passes
 refused_happens w s write NoSuchSession allows = passes
+
+-- how many levels a session with savepoints has
+
+few_levels : (m : OpenSession) → savepoints m < 32 → length m.levels ≤ 32
+few_levels m few = omega arith
+
+several_levels : (m : OpenSession) → 0 < savepoints m → 1 < length m.levels
+several_levels m some = omega arith
 
 -- each step that is allowed leads on as a step of the history does
 leads_on : (from w : World) (step : Step) (reply : Reply) → Leads from w → Allows w step reply → Leads from (next w step reply)
@@ -57,6 +67,21 @@ leads_on from w (Delete s k) (Found r) led allows = absurd allows
 leads_on from w (Delete s k) Committed led allows = absurd allows
 leads_on from w (Delete s k) RolledBack led allows = absurd allows
 leads_on from w (Delete s k) (Refused r) led allows = goes_on w (refused_write w s r) s led (refused_happens w s (deletes k) r allows)
+leads_on from w (Savepoint s) Done led allows = goes_on w (next w (Savepoint s) Done) s led (saves allows.0 allows.1 (few_levels allows.0 allows.2))
+leads_on from w (Savepoint s) (Found row) led allows = absurd allows
+leads_on from w (Savepoint s) Committed led allows = absurd allows
+leads_on from w (Savepoint s) RolledBack led allows = absurd allows
+leads_on from w (Savepoint s) (Refused r) led allows = goes_on w (stepped w s) s led passes
+leads_on from w (RollbackTo s) Done led allows = goes_on w (next w (RollbackTo s) Done) s led (rolls_back_to allows.0 allows.1 allows.2 (several_levels allows.0 allows.3))
+leads_on from w (RollbackTo s) (Found row) led allows = absurd allows
+leads_on from w (RollbackTo s) Committed led allows = absurd allows
+leads_on from w (RollbackTo s) RolledBack led allows = absurd allows
+leads_on from w (RollbackTo s) (Refused r) led allows = goes_on w (stepped w s) s led passes
+leads_on from w (Release s) Done led allows = goes_on w (next w (Release s) Done) s led (releases allows.0 allows.1 (several_levels allows.0 allows.2))
+leads_on from w (Release s) (Found row) led allows = absurd allows
+leads_on from w (Release s) Committed led allows = absurd allows
+leads_on from w (Release s) RolledBack led allows = absurd allows
+leads_on from w (Release s) (Refused r) led allows = goes_on w (stepped w s) s led passes
 leads_on from w (Commit s) Done led allows = absurd allows
 leads_on from w (Commit s) (Found row) led allows = absurd allows
 leads_on from w (Commit s) Committed led allows = goes_on w (next w (Commit s) Committed) s led (commits allows.0 allows.1)

@@ -21,6 +21,7 @@ SessionAgrees-sights {status} {store} {history} {sees} {sees'} {e} {m} same h = 
   same_failed = h.same_failed;
   same_cursor = h.same_cursor;
   levels = Levels-map e.own e.saved m.levels (λ own writes among r. same_reader own writes (λ y done. done) same (reads_before own (λ y done. done) same) (λ k. refl) r) h.levels;
+  level_traces = h.level_traces;
   traces = TracesAgree-same (λ y done. done) (λ y done. done) same h.traces;
   began = h.began;
   in_time = h.in_time;

@@ -9,7 +9,7 @@ use Rattle.tuple_header.specs.Version.{Version}
 use Rattle.commit_status.specs.declared.status.Status.{Status}
 use Rattle.commit_status.specs.declared.status.Status.TheVariants.{InProgress, Committed, Aborted}
 use Rattle.snapshot.specs.Snap.{Snap}
-use Rattle.history.specs.History.{Write, written, reading, IsLate}
+use Rattle.history.specs.History.{Write, Transaction, written, reading, IsLate}
 use Rattle.history.specs.World.{World, OpenSession, joined, own_write, Holds, empty}
 use Rattle.history.specs.Moves.{put, stepped, begun, with_row, as_failed, aborted}
 use Rattle.history.specs.Cursors.{kept_where}
@@ -17,12 +17,13 @@ use Rattle.std.specs.Prelude.{not, ◌==◌}
 use Rattle.history.proofs.HistoryLemmas.{at_same, at_other, joined-add_write}
 use Rattle.session_relation.specs.Heap.{Session, Heap}
 use Rattle.session_relation.specs.Visible.{IsFresh, IsCommitted, IsActive, Sees, Touches, deleter}
-use Rattle.session_relation.specs.Changes.{Adds, Gives, Finishes, SameSight}
-use Rattle.session_relation.specs.Agrees.{SessionAgrees, Agrees}
+use Rattle.session_relation.specs.Changes.{Adds, Gives, Finishes, SameSight, with_id}
+use Rattle.session_relation.specs.Agrees.{Traced, LevelTraces, SessionAgrees, Agrees}
 use Rattle.session_relation.proofs.ShowsLemmas.{Shows-same, Shows-add_unseen}
-use Rattle.session_relation.proofs.Statuses.{keeps-give, none_given, some_of, IsCommitted-give, IsActive-give_cases, IsCommitted-finish_old, IsCommitted-abort, IsActive-finish, given-finish, given-give}
+use Rattle.session_relation.proofs.Statuses.{keeps-give, none_given, some_of, IsCommitted-give, IsActive-give_cases, IsCommitted-finish_old, IsCommitted-abort, IsActive-finish, given-finish, given-give, Finishes-none}
 use Rattle.session_relation.proofs.Versions.{VisibleBy-same, Adds-cases, active_not_committed}
 use Rattle.session_relation.proofs.Readers.{IsNew, touches_new, wrote_before}
+use Rattle.session_relation.proofs.LevelTraces.{Traced-join, Nested, nested_of}
 use Rattle.session_relation.proofs.Others.{SessionAgrees-add_other, SessionAgrees-give_other, SessionAgrees-abort_other}
 use Rattle.session_relation.proofs.Itself.{IsCurrent, new_session, fresh_model, none_own, SessionAgrees-begin, SessionAgrees-fail, SessionAgrees-insert, SessionAgrees-give}
 use Rattle.session_relation.proofs.SessionsLemmas.{at_value, Matches, opened-change, idle-change, owned-change, apart-change, alone-change}
@@ -58,6 +59,21 @@ cases_Contains (y ∷ ys) x = elim (cases_eq y x) [
   ]
 ]
 
+-- what a session has written is what its ids made and deleted
+levels_traced : (store : Tid → Option Version) (own : List ℕ) (saved : List (List ℕ)) (levels : List (List Write)) → Nested own saved → LevelTraces store own saved levels → Traced store (λ x. Contains own x) (joined levels)
+levels_traced store own [] [] nested h = absurd h
+levels_traced store own [] (ws ∷ []) nested h = h
+levels_traced store own [] (ws ∷ (vs ∷ levels)) nested h = absurd h
+levels_traced store own (before ∷ saved) [] nested h = absurd h
+levels_traced store own (before ∷ saved) (ws ∷ levels) nested h =
+    Traced-join ws (joined levels) (λ x mine. elim (cases_Contains before x) [ inl old ↦ inr old | inr new ↦ inl (mine, new) ]) (λ x new. new.0) (λ x old. nested.0 x old)
+    h.0 (levels_traced store before saved levels nested.1 h.1)
+
+pub own_traced : {status : ℕ → Option Status} {store : Tid → Option Version} {history : List Transaction} {sees : ℕ → Type 0} {e : Session} {m : OpenSession}
+    → SessionAgrees status store history sees e m → Traced store (λ x. Contains e.own x) (joined m.levels)
+own_traced {status} {store} {history} {sees} {e} {m} h =
+    levels_traced store e.own e.saved m.levels (nested_of status store history sees m.start e.own e.saved m.levels h.levels) h.level_traces
+
 -- a session begins
 pub Agrees-begin : (h : Heap) (w : World) (s : ℕ) (snapshot : Snap) (session' : ℕ → Option Session)
     → OnlyIs h.session session' s (Some (new_session snapshot)) → h.session s ≡ None → IsFresh h.status (h.sees snapshot)
@@ -86,51 +102,68 @@ Agrees-begin h w s snapshot session' only idle fresh agrees = record {
     models : (o : ℕ) → o ≢ s → w'.session o ≡ w.session o
     models o ne = at_other o s (Some (fresh_model w)) (w.session o) ne
 
+-- one session alone changes: some of its ids may be rolled back, and it keeps only keys that it had
+pub Agrees-put : (h : Heap) (w : World) (s : ℕ) (e e' : Session) (m m' : OpenSession) (status' : ℕ → Option Status) (sees' : Snap → ℕ → Type 0) (session' : ℕ → Option Session)
+    → OnlyIs h.session session' s (Some e') → h.session s ≡ Some e → w.session s ≡ Some m
+    → Finishes h.status status' (λ x. Contains e.own x × (¬ Contains e'.own x)) Aborted → SameSights h sees'
+    → ((x : ℕ) → Contains e'.own x → Contains e.own x) → ((k : ℕ) → IsSome (own_write m' k) → IsSome (own_write m k))
+    → SessionAgrees status' h.version w.history (sees' e'.snapshot) e' m'
+    → Agrees h w → Agrees (record h { status = status'; sees = sees'; session = session' }) (put w s (Some m'))
+Agrees-put h w s e e' m m' status' sees' session' only at there finishes same fewer kept mine agrees = record {
+  opened = opened-change h h' w w' s agrees only.others models
+      (λ o f n ne bt there' old. SessionAgrees-abort_other (λ x. Contains e.own x × (¬ Contains e'.own x)) finishes (same o f bt) (λ x p theirs. ne (agrees.apart o s f e x bt at theirs p.0)) old)
+      (λ f. at_value (λ f. Matches h' w' s f) (session' s) e' f only.itself (m', at_same s (Some m') (w.session s), mine));
+  idle = idle-change h h' w w' s agrees only.others models (λ at'. absurd (none-some e' (sym at' ∙ only.itself)));
+  waits = waits-put w s agrees.waits;
+  current = Shows-same (λ p v at' seen. VisibleBy-same (λ y touch. to y) (λ y touch. back y) seen) (λ p v at' seen. VisibleBy-same (λ y touch. back y) (λ y touch. to y) seen) (λ k. refl) agrees.current;
+  made = λ p y v at' is done z maker. to z (agrees.made p y v at' is (back y done) z maker);
+  given = λ p y v at' touch. given-finish finishes y (agrees.given p y v at' touch);
+  owned = owned-change h h' w w' s agrees only.others models (λ y after. let left = IsActive-finish (λ e. cc) finishes y after in elim (cases_Contains e.own y) [
+    | inl ours ↦ elim (cases_Contains e'.own y) [ inl still ↦ inr (e', only.itself, still) | inr gone ↦ absurd (left.1 (ours, gone)) ]
+    | inr other ↦ inl (left.0, λ f bt own. other (let is : f ≡ e = same_Some f e (sym bt ∙ at) in subst (λ (e : Session). Contains e.own y) is own))
+  ]);
+  apart = apart-change h h' w w' s agrees only.others models (λ o x f g ne bt ct own own'. let is : f ≡ e' = same_Some f e' (sym bt ∙ only.itself) in
+      ne (agrees.apart o s g e x ct at own' (fewer x (subst (λ (e : Session). Contains e.own x) is own))));
+  alone = alone-change h h' w w' s agrees only.others models (λ o k ne p q. let is : p.0 ≡ m' = same_Some p.0 m' (sym p.1 ∙ at_same s (Some m') (w.session s)) in
+      ne (agrees.alone o s k q (m, there, kept k (subst (λ m. IsSome (own_write m k)) is p.2))));
+}
+  where
+    h' : Heap
+    h' = record h { status = status'; sees = sees'; session = session' }
+
+    w' : World
+    w' = put w s (Some m')
+
+    to : (y : ℕ) → IsCommitted h.status y → IsCommitted status' y
+    to y done = IsCommitted-finish_old finishes y done
+
+    back : (y : ℕ) → IsCommitted status' y → IsCommitted h.status y
+    back y done = IsCommitted-abort finishes y done
+
+    models : (o : ℕ) → o ≢ s → w'.session o ≡ w.session o
+    models o ne = at_other o s (Some m') (w.session o) ne
+
+-- the sight of each snapshot stays
+pub same_sights : (h : Heap) → SameSights h h.sees
+same_sights h o e at x status is = (λ sees. sees, λ sees. sees)
+
 -- the session fails
 pub Agrees-fail : (h : Heap) (w : World) (s : ℕ) (e : Session) (m : OpenSession) (session' : ℕ → Option Session)
     → OnlyIs h.session session' s (Some (record e { failed = true })) → h.session s ≡ Some e → w.session s ≡ Some m
     → SessionAgrees h.status h.version w.history (h.sees e.snapshot) e m
     → Agrees h w → Agrees (record h { session = session' }) (put w s (Some (as_failed m)))
-Agrees-fail h w s e m session' only at there mine agrees = record {
-  opened = opened-change h h' w w' s agrees only.others models (λ o f n ne bt there' old. old)
-      (λ f. at_value (λ f. Matches h' w' s f) (session' s) e' f only.itself
-      (as_failed m, at_same s (Some (as_failed m)) (w.session s), SessionAgrees-fail mine));
-  idle = idle-change h h' w w' s agrees only.others models (λ at'. absurd (none-some e' (sym at' ∙ only.itself)));
-  waits = waits-put w s agrees.waits;
-  current = agrees.current;
-  made = agrees.made;
-  given = agrees.given;
-  owned = owned-change h h' w w' s agrees only.others models (λ x active. elim (cases_Contains e.own x) [
-    | inl ours ↦ inr (e', only.itself, ours)
-    | inr other ↦ inl (active, λ f bt own. other (let is : f ≡ e = same_Some f e (sym bt ∙ at) in subst (λ (e : Session). Contains e.own x) is own))
-  ]);
-  apart = apart-change h h' w w' s agrees only.others models (λ o x f g ne bt ct own own'. let is : f ≡ e' = same_Some f e' (sym bt ∙ only.itself) in
-      ne (agrees.apart o s g e x ct at own' (subst (λ (e : Session). Contains e.own x) is own)));
-  alone = alone-change h h' w w' s agrees only.others models (λ o k ne p q. let is : p.0 ≡ as_failed m = same_Some p.0 (as_failed m) (sym p.1 ∙ at_same s (Some (as_failed m)) (w.session s)) in
-      ne (agrees.alone o s k q (m, there, subst (λ m. IsSome (own_write m k)) is p.2)));
-}
-  where
-    e' : Session
-    e' = record e { failed = true }
+Agrees-fail h w s e m session' only at there mine agrees =
+    Agrees-put h w s e (record e { failed = true }) m (as_failed m) h.status h.sees session' only at there (Finishes-none h.status e.own) (same_sights h) (λ x ours. ours) (λ k wrote. wrote) (SessionAgrees-fail mine) agrees
 
-    h' : Heap
-    h' = record h { session = session' }
-
-    w' : World
-    w' = put w s (Some (as_failed m))
-
-    models : (o : ℕ) → o ≢ s → w'.session o ≡ w.session o
-    models o ne = at_other o s (Some (as_failed m)) (w.session o) ne
-
--- to be given an id is no step of the model
-pub Agrees-give : (h : Heap) (w : World) (s : ℕ) (e : Session) (x : ℕ) (status' : ℕ → Option Status) (sees' : Snap → ℕ → Type 0) (session' : ℕ → Option Session)
-    → OnlyIs h.session session' s (Some (record e { own = e.own ++ x ∷ [] })) → h.session s ≡ Some e
+-- to be given an id, of any level, is no step of the model
+pub Agrees-give_below : (h : Heap) (w : World) (s : ℕ) (e : Session) (n x : ℕ) (status' : ℕ → Option Status) (sees' : Snap → ℕ → Type 0) (session' : ℕ → Option Session)
+    → OnlyIs h.session session' s (Some (with_id n x e)) → h.session s ≡ Some e
     → Gives h.status status' x → SameSights h sees' → ((o : ℕ) (f : Session) → h.session o ≡ Some f → ¬ Sees (sees' f.snapshot) x)
     → Agrees h w → Agrees (record h { status = status'; sees = sees'; session = session' }) w
-Agrees-give h w s e x status' sees' session' only at gives same unseen agrees = record {
+Agrees-give_below h w s e n x status' sees' session' only at gives same unseen agrees = record {
   opened = opened-change h h' w w s agrees only.others (λ o ne. refl) (λ o f m ne bt there old. SessionAgrees-give_other x gives (same o f bt) (unseen o f bt) old)
       (λ f. let old = agrees.opened s e at in at_value (λ f. Matches h' w s f) (session' s) new f only.itself
-      (old.0, old.1, SessionAgrees-give x gives (same s e at) (unseen s e at) agrees.given old.2));
+      (old.0, old.1, SessionAgrees-give n x gives (same s e at) (unseen s e at) agrees.given old.2));
   idle = idle-change h h' w w s agrees only.others (λ o ne. refl) (λ at'. absurd (none-some new (sym at' ∙ only.itself)));
   waits = agrees.waits;
   current = Shows-same (λ p v bt seen. VisibleBy-same (λ y touch. to y) (λ y touch. back y) seen) (λ p v bt seen. VisibleBy-same (λ y touch. back y) (λ y touch. to y) seen) (λ k. refl) agrees.current;
@@ -153,7 +186,7 @@ Agrees-give h w s e x status' sees' session' only at gives same unseen agrees = 
 }
   where
     new : Session
-    new = record e { own = e.own ++ x ∷ [] }
+    new = with_id n x e
 
     h' : Heap
     h' = record h { status = status'; sees = sees'; session = session' }
@@ -163,6 +196,13 @@ Agrees-give h w s e x status' sees' session' only at gives same unseen agrees = 
 
     back : (y : ℕ) → IsCommitted status' y → IsCommitted h.status y
     back y done = IsCommitted-give gives y done
+
+-- an id of the newest level
+pub Agrees-give : (h : Heap) (w : World) (s : ℕ) (e : Session) (x : ℕ) (status' : ℕ → Option Status) (sees' : Snap → ℕ → Type 0) (session' : ℕ → Option Session)
+    → OnlyIs h.session session' s (Some (record e { own = e.own ++ x ∷ [] })) → h.session s ≡ Some e
+    → Gives h.status status' x → SameSights h sees' → ((o : ℕ) (f : Session) → h.session o ≡ Some f → ¬ Sees (sees' f.snapshot) x)
+    → Agrees h w → Agrees (record h { status = status'; sees = sees'; session = session' }) w
+Agrees-give h w s e x status' sees' session' only at gives same unseen agrees = Agrees-give_below h w s e 0 x status' sees' session' only at gives same unseen agrees
 
 -- a session that has an id writes a row
 pub Agrees-insert : (h : Heap) (w : World) (s : ℕ) (e : Session) (m : OpenSession) (x : ℕ) (place : Tid) (new : Version) (store' : Tid → Option Version)

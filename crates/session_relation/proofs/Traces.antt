@@ -1,17 +1,17 @@
 -- What each step does to the traces of what committed late.
 use Rattle.std.proofs.Common.{◌≡◌, ℕ, ◌≤◌, List, [], ◌∷◌, ◌++◌, length, Option, Some, sym, ap, ◌∙◌, subst, inl, inr}
-use Rattle.std.specs.Prelude.{IsSome, Contains}
+use Rattle.std.specs.Prelude.{Contains}
 use Rattle.std.proofs.lemmas.Option.{same_Some}
 use Rattle.xid_circle.specs.declared.Tid.{Tid}
 use Rattle.tuple_header.specs.Version.{Version}
 use Rattle.tuple_header.specs.declared.version.Row.{Row}
 use Rattle.commit_status.specs.declared.status.Status.{Status}
 use Rattle.commit_status.specs.declared.status.Status.TheVariants.{InProgress, Committed}
-use Rattle.history.specs.History.{Transaction, written, IsLate}
+use Rattle.history.specs.History.{Transaction, IsLate}
 use Rattle.history.proofs.HistoryLemmas.{IsLate-push_old, IsLate-push_new, IsLate-push_cases}
-use Rattle.session_relation.specs.Visible.{IsCommitted, IsActive, Sees, Touches, made_by, deleted_by, IsMissed, IsOwn, At, SomeVersion, deleter}
+use Rattle.session_relation.specs.Visible.{IsCommitted, IsActive, Sees, Touches, made_by, deleted_by, IsMissed, IsOwn, deleter}
 use Rattle.session_relation.specs.Changes.{Adds, Alters, Finishes, SameSight}
-use Rattle.session_relation.specs.Agrees.{TracesAgree}
+use Rattle.session_relation.specs.Agrees.{Traced, TracesAgree}
 use Rattle.session_relation.proofs.Statuses.{IsCommitted-finish_old, IsCommitted-commit_cases, IsCommitted-commit}
 use Rattle.session_relation.proofs.Versions.{SomeVersion-weaker, SomeVersion-adds, SomeVersion-alters, Adds-cases, Alters-cases, active_not_committed}
 use Rattle.session_relation.proofs.Readers.{IsNew, IsDeleted, touches_new}
@@ -68,13 +68,9 @@ TracesAgree-delete {status} {store} {store'} {history} {sees} {start} x place ol
     back (y, made_by is, done, unseen) = (y, made_by (sym deleted.same_maker ∙ is), done, unseen)
     back (y, deleted_by is, done, unseen) = absurd (active_not_committed status x active (subst (λ z. IsCommitted status z) (same_Some y x (sym is ∙ deleted.by)) done))
 
--- the versions that carry the ids are what the transaction wrote
-pub record Carries (store : Tid → Option Version) (own : List ℕ) (t : Transaction) : Type 0 where
-  pub written_there : (k : ℕ) → IsSome (written t.writes k) → SomeVersion store k (IsOwn own)
-  pub there_written : (p : Tid) (u : Version) → At store p u → IsOwn own u → IsSome (written t.writes u.row.key)
-
+-- what the ids made and deleted is what the transaction wrote
 pub TracesAgree-commit : {status status' : ℕ → Option Status} {store : Tid → Option Version} {history : List Transaction} {sees sees' : ℕ → Type 0} {start : ℕ} (own : List ℕ) (t : Transaction)
-    → Finishes status status' (λ x. Contains own x) Committed → SameSight status sees sees' → Carries store own t → start ≤ length history → ((x : ℕ) → Contains own x → ¬ Sees sees x)
+    → Finishes status status' (λ x. Contains own x) Committed → SameSight status sees sees' → Traced store (λ x. Contains own x) t.writes → start ≤ length history → ((x : ℕ) → Contains own x → ¬ Sees sees x)
     → TracesAgree status store history sees start → TracesAgree status' store (history ++ t ∷ []) sees' start
 TracesAgree-commit {status} {status'} {store} {history} {sees} {sees'} {start} own t finishes same carries began unseen h = record {
   late_missed = λ k late. elim (IsLate-push_cases history t start k late) [

@@ -13,9 +13,10 @@ use Rattle.history.proofs.HistoryLemmas.{at_same, at_other, joined-add_write}
 use Rattle.session_relation.specs.Heap.{Session, Heap}
 use Rattle.session_relation.specs.Visible.{IsVisible, At}
 use Rattle.session_relation.specs.Changes.{Adds, Alters}
-use Rattle.session_relation.specs.Agrees.{ReaderAgrees, LevelsAgree, SessionAgrees, Agrees}
+use Rattle.session_relation.specs.Agrees.{ReaderAgrees, LevelsAgree, Traced, LevelTraces, SessionAgrees, Agrees}
 use Rattle.session_relation.proofs.Versions.{cases_Tid}
 use Rattle.session_relation.proofs.Readers.{IsNew, IsDeleted, ReaderAgrees-same, written-push_same, written-push_other}
+use Rattle.session_relation.proofs.LevelTraces.{Traced-same}
 use Rattle.session_relation.proofs.Itself.{IsCurrent}
 use Rattle.session_relation.proofs.Steps.{waits-put, Agrees-insert}
 use Rattle.session_relation.proofs.Deleting.{Agrees-delete}
@@ -34,7 +35,7 @@ alike old new levels same k = ap (λ ws. written ws k) (joined-add_write new lev
 
 reader_forget : {status : ℕ → Option Status} {store : Tid → Option Version} {history : List Transaction} {sees : ℕ → Type 0} {start : ℕ} (own : List ℕ) (writes writes' : List Write)
     → ((k : ℕ) → written writes' k ≡ written writes k) → ReaderAgrees status store history sees start own writes → ReaderAgrees status store history sees start own writes'
-reader_forget own writes writes' same h = ReaderAgrees-same (λ p x v at touch r. r) (λ p x v at touch r. r) (λ p x v at touch mine. mine) (λ p x v at touch mine. mine) same (λ k. refl) h
+reader_forget own writes writes' same h = ReaderAgrees-same (λ p x v at touch r. r) (λ p x v at touch r. r) same (λ k. refl) h
 
 levels_forget : (status : ℕ → Option Status) (store : Tid → Option Version) (history : List Transaction) (sees : ℕ → Type 0) (start : ℕ) (old new : Write) (own : List ℕ) (saved : List (List ℕ)) (levels : List (List Write)) → new.key ≡ old.key
     → LevelsAgree status store history sees start own saved (add_write new (add_write old levels)) → LevelsAgree status store history sees start own saved (add_write new levels)
@@ -45,12 +46,24 @@ levels_forget _ _ _ _ _ old new own (before ∷ saved) [] same h = (reader_forge
 levels_forget _ _ _ _ _ old new own (before ∷ saved) (ws ∷ levels) same h =
     (reader_forget own (joined (add_write new (add_write old (ws ∷ levels)))) (joined (add_write new (ws ∷ levels))) (alike old new (ws ∷ levels) same) h.0, h.1, h.2)
 
+level_forget : {store : Tid → Option Version} {P : ℕ → Type 0} (old new : Write) (writes : List Write) → new.key ≡ old.key → Traced store P ((writes ++ old ∷ []) ++ new ∷ []) → Traced store P (writes ++ new ∷ [])
+level_forget old new writes same h = Traced-same (λ p x v at touch mine. mine) (λ p x v at touch mine. mine) (hides writes old new same) h
+
+traces_forget : (store : Tid → Option Version) (old new : Write) (own : List ℕ) (saved : List (List ℕ)) (levels : List (List Write)) → new.key ≡ old.key
+    → LevelTraces store own saved (add_write new (add_write old levels)) → LevelTraces store own saved (add_write new levels)
+traces_forget _ old new own [] [] same h = level_forget old new [] same h
+traces_forget _ old new own [] (ws ∷ []) same h = level_forget old new ws same h
+traces_forget _ old new own [] (ws ∷ (vs ∷ levels)) same h = absurd h
+traces_forget _ old new own (before ∷ saved) [] same h = (level_forget old new [] same h.0, h.1)
+traces_forget _ old new own (before ∷ saved) (ws ∷ levels) same h = (level_forget old new ws same h.0, h.1)
+
 SessionAgrees-forget : {status : ℕ → Option Status} {store : Tid → Option Version} {history : List Transaction} {sees : ℕ → Type 0} {e : Session} (old new : Write) (m : OpenSession) → new.key ≡ old.key
     → SessionAgrees status store history sees e (with_write new (with_write old m)) → SessionAgrees status store history sees e (with_write new m)
 SessionAgrees-forget {status} {store} {history} {sees} {e} old new m same h = record {
   same_failed = h.same_failed;
   same_cursor = h.same_cursor;
   levels = levels_forget status store history sees m.start old new e.own e.saved m.levels same h.levels;
+  level_traces = traces_forget store old new e.own e.saved m.levels same h.level_traces;
   traces = h.traces;
   began = h.began;
   in_time = λ k wrote. h.in_time k (subst (λ o. IsSome o) (alike old new m.levels same k) wrote);

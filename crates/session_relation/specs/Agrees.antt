@@ -7,7 +7,7 @@ use Rattle.commit_status.specs.declared.status.Status.{Status}
 use Rattle.history.specs.History.{Write, Transaction, written, committed, reading, IsLate}
 use Rattle.history.specs.World.{World, OpenSession, joined, own_write, Holds}
 use Rattle.session_relation.specs.Heap.{Session, Heap}
-use Rattle.session_relation.specs.Visible.{IsCommitted, IsActive, Sees, Reads, IsVisible, VisibleBy, Touches, IsMissed, IsOwn, At, SomeVersion, maker, deleter}
+use Rattle.session_relation.specs.Visible.{IsCommitted, IsActive, Sees, Reads, IsVisible, VisibleBy, Touches, IsMissed, IsBy, At, SomeVersion, maker, deleter}
 
 -- the versions that are seen show exactly these rows, each by one version
 pub record Shows (store : Tid → Option Version) (seen : Version → Type 0) (row : ℕ → Option Row) : Type 0 where
@@ -20,8 +20,6 @@ pub record ReaderAgrees (status : ℕ → Option Status) (store : Tid → Option
   pub rows : Shows store (IsVisible status sees own) (reading history start writes)
   -- whoever reads the deletion reads the making
   pub whole : (p : Tid) (y : ℕ) (v : Version) → At store p v → deleter v ≡ Some y → Reads status sees own y → (x : ℕ) → maker v ≡ Some x → Reads status sees own x
-  pub written_own : (k : ℕ) → IsSome (written writes k) → SomeVersion store k (IsOwn own)
-  pub own_written : (p : Tid) (v : Version) → At store p v → IsOwn own v → IsSome (written writes v.row.key)
 
 -- the session as it is, and as it was at each savepoint, the newest first
 abbrev pub LevelsAgree : (ℕ → Option Status) → (Tid → Option Version) → List Transaction → (ℕ → Type 0) → ℕ → List ℕ → List (List ℕ) → List (List Write) → Type 0
@@ -29,6 +27,22 @@ LevelsAgree status store history sees start own [] (writes ∷ []) = ReaderAgree
 LevelsAgree status store history sees start own (before ∷ saved) (writes ∷ levels) =
     ReaderAgrees status store history sees start own (joined (writes ∷ levels)) × ((x : ℕ) → Contains before x → Contains own x) × LevelsAgree status store history sees start before saved levels
 LevelsAgree _ _ _ _ _ _ _ _ = ⊥
+
+-- a key is written exactly where an id of P made or deleted a version of it
+pub record Traced (store : Tid → Option Version) (P : ℕ → Type 0) (writes : List Write) : Type 0 where
+  pub written_there : (k : ℕ) → IsSome (written writes k) → SomeVersion store k (IsBy P)
+  pub there_written : (p : Tid) (v : Version) → At store p v → IsBy P v → IsSome (written writes v.row.key)
+
+-- the id is of the newest level: the session has it, and had it not at its newest savepoint
+abbrev pub IsOfNewest : List ℕ → List (List ℕ) → ℕ → Type 0
+IsOfNewest own [] x = Contains own x
+IsOfNewest own (before ∷ saved) x = Contains own x × (¬ Contains before x)
+
+-- a key stands in a level exactly where an id of that level made or deleted a version of it
+abbrev pub LevelTraces : (Tid → Option Version) → List ℕ → List (List ℕ) → List (List Write) → Type 0
+LevelTraces store own [] (writes ∷ []) = Traced store (IsOfNewest own []) writes
+LevelTraces store own (before ∷ saved) (writes ∷ levels) = Traced store (IsOfNewest own (before ∷ saved)) writes × LevelTraces store before saved levels
+LevelTraces _ _ _ _ = ⊥
 
 -- a key is late exactly where a version of it has a committed id that the snapshot does not see
 pub record TracesAgree (status : ℕ → Option Status) (store : Tid → Option Version) (history : List Transaction) (sees : ℕ → Type 0) (start : ℕ) : Type 0 where
@@ -42,6 +56,8 @@ pub record SessionAgrees (status : ℕ → Option Status) (store : Tid → Optio
   pub same_cursor : m.cursor ≡ None
   -- it reads its view, and could return to each savepoint
   pub levels : LevelsAgree status store history sees m.start e.own e.saved m.levels
+  -- what it has written at each level is what the ids of that level made and deleted
+  pub level_traces : LevelTraces store e.own e.saved m.levels
   pub traces : TracesAgree status store history sees m.start
   pub began : m.start ≤ length history
   -- no key that it has written is late

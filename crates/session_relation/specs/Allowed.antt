@@ -1,15 +1,15 @@
 -- Which replies the history allows to a step, and what the world is after each.
-use Rattle.std.specs.Prelude.{◌≡◌, ℕ, ◌<◌, ◌≤◌, List, [], ◌∷◌, length, Option, Some, None, true, IsSome}
+use Rattle.std.specs.Prelude.{◌≡◌, ℕ, ◌-◌, ◌<◌, ◌≤◌, List, [], ◌∷◌, length, Option, Some, None, true, IsSome}
 use Rattle.history.specs.History.{IsLate}
 use Rattle.history.specs.World.{World, OpenSession, empty, view, IsReady, IsWriter, MayWrite, IsBlocked}
-use Rattle.history.specs.Moves.{stepped, begun, change, with_row, without_row, as_failed, aborted, committed_by}
+use Rattle.history.specs.Moves.{stepped, begun, change, with_row, without_row, as_failed, with_savepoint, rolled_back_to, without_savepoint, aborted, committed_by}
 use Rattle.history.specs.Laws.{FirstCommitterWins, HeldInTime, HeldOnce}
 use Rattle.session_relation.specs.declared.step.Step.{Step}
-use Rattle.session_relation.specs.declared.step.Step.TheVariants.{Begin, Get, Insert, Update, Delete, Commit, Abort, Prune}
+use Rattle.session_relation.specs.declared.step.Step.TheVariants.{Begin, Get, Insert, Update, Delete, Savepoint, RollbackTo, Release, Commit, Abort, Prune}
 use Rattle.session_relation.specs.declared.reply.Reply.{Reply}
 use Rattle.session_relation.specs.declared.reply.Reply.TheVariants.{Done, Found, Committed, RolledBack, Refused}
 use Rattle.session_relation.specs.declared.reply.Refusal.{Refusal}
-use Rattle.session_relation.specs.declared.reply.Refusal.TheVariants.{NotOpen, AlreadyOpen, Failed, AlreadyThere, NotThere, Conflict, Busy, TooLarge, NoRoom, NeedsFreeze, NoMemory, NoSuchPage, NoSuchSession}
+use Rattle.session_relation.specs.declared.reply.Refusal.TheVariants.{NotOpen, AlreadyOpen, Failed, AlreadyThere, NotThere, Conflict, Busy, TooDeep, NoSavepoint, TooLarge, NoRoom, NeedsFreeze, NoMemory, NoSuchPage, NoSuchSession}
 use Rattle.session_relation.specs.Words.{FitsRow, row_of}
 use Rattle.session_relation.specs.Writes.{WriteStep, inserts, updates, deletes, key_of, PutsRow, Asks}
 
@@ -23,6 +23,9 @@ session_of (Get s k) = Some s
 session_of (Insert s row) = Some s
 session_of (Update s row) = Some s
 session_of (Delete s k) = Some s
+session_of (Savepoint s) = Some s
+session_of (RollbackTo s) = Some s
+session_of (Release s) = Some s
 session_of (Commit s) = Some s
 session_of (Abort s) = Some s
 session_of (Prune p) = None
@@ -66,6 +69,10 @@ AllowsHindered w s refusal write = AllowsUnsuited w s refusal write
 abbrev pub AllowsWrite : World → ℕ → WriteStep → Type 0
 AllowsWrite w s write = (m : OpenSession) × Suits w s write m × MayWrite w s (key_of write) m
 
+-- how many savepoints the session has: each begins a level above its first
+abbrev pub savepoints : OpenSession → ℕ
+savepoints m = length m.levels - 1
+
 -- the history allows the reply to the step
 abbrev pub Allows : World → Step → Reply → Type 0
 Allows w (Begin s) Done = (s < 64) × (w.session s ≡ None)
@@ -80,6 +87,16 @@ Allows w (Update s row) Done = AllowsWrite w s (updates row)
 Allows w (Update s row) (Refused refusal) = AllowsHindered w s refusal (updates row)
 Allows w (Delete s k) Done = AllowsWrite w s (deletes k)
 Allows w (Delete s k) (Refused refusal) = AllowsHindered w s refusal (deletes k)
+Allows w (Savepoint s) Done = (m : OpenSession) × IsWriter w s m × (savepoints m < 32)
+Allows w (Savepoint s) (Refused TooDeep) = (m : OpenSession) × IsWriter w s m × (savepoints m ≡ 32)
+Allows w (Savepoint s) (Refused NoMemory) = (m : OpenSession) × IsWriter w s m × (savepoints m < 32)
+Allows w (Savepoint s) (Refused refusal) = AllowsUnready w s refusal
+Allows w (RollbackTo s) Done = (m : OpenSession) × IsOpen w s m × (m.cursor ≡ None) × (0 < savepoints m)
+Allows w (RollbackTo s) (Refused NoSavepoint) = (m : OpenSession) × IsOpen w s m × (m.cursor ≡ None) × (savepoints m ≡ 0)
+Allows w (RollbackTo s) (Refused refusal) = AllowsClosed w s refusal
+Allows w (Release s) Done = (m : OpenSession) × IsWriter w s m × (0 < savepoints m)
+Allows w (Release s) (Refused NoSavepoint) = (m : OpenSession) × IsWriter w s m × (savepoints m ≡ 0)
+Allows w (Release s) (Refused refusal) = AllowsUnready w s refusal
 Allows w (Commit s) Committed = (m : OpenSession) × IsReady w s m
 Allows w (Commit s) RolledBack = (m : OpenSession) × IsOpen w s m × (m.failed ≡ true)
 Allows w (Commit s) (Refused refusal) = AllowsClosed w s refusal
@@ -109,6 +126,9 @@ next w (Update s row) Done = change w s (with_row (row_of row))
 next w (Update s row) (Refused refusal) = refused_write w s refusal
 next w (Delete s k) Done = change w s (without_row k)
 next w (Delete s k) (Refused refusal) = refused_write w s refusal
+next w (Savepoint s) Done = change w s with_savepoint
+next w (RollbackTo s) Done = rolled_back_to w s
+next w (Release s) Done = change w s without_savepoint
 next w (Commit s) Committed = committed_by w s
 next w (Commit s) RolledBack = aborted w s
 next w (Abort s) RolledBack = aborted w s

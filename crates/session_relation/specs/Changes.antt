@@ -1,9 +1,10 @@
 -- What the steps of an engine change of what its readers see.
-use Rattle.std.specs.Prelude.{◌⊎◌, ◌≡◌, ◌≢◌, ℕ, Option, Some, None}
+use Rattle.std.specs.Prelude.{◌⊎◌, ◌≡◌, ◌≢◌, ℕ, List, [], ◌∷◌, ◌++◌, length, Option, Some, None}
 use Rattle.xid_circle.specs.declared.Tid.{Tid}
 use Rattle.tuple_header.specs.Version.{Version}
 use Rattle.commit_status.specs.declared.status.Status.{Status}
 use Rattle.snapshot.specs.Snap.{Snap}
+use Rattle.snapshot.specs.Own.{saved_with}
 use Rattle.session_relation.specs.Heap.{Session}
 use Rattle.session_relation.specs.Visible.{At, IsActive, IsCommitted, IsAborted, Sees, maker, deleter}
 
@@ -36,6 +37,21 @@ pub record Gives (status status' : ℕ → Option Status) (x : ℕ) : Type 0 whe
   pub fresh : status x ≡ None
   pub active : IsActive status' x
   pub others : (y : ℕ) → y ≢ x → status' y ≡ status y
+
+-- the ids are given, one after another, and are in progress
+abbrev pub GivesEach : (ℕ → Option Status) → List ℕ → (ℕ → Option Status) → Type 0
+GivesEach status [] status' = status' ≡ status
+GivesEach status (x ∷ xs) status' = (between : ℕ → Option Status) × Gives status between x × GivesEach between xs status'
+
+-- the id becomes one of the level that n savepoints stand above: a return to any of these keeps it
+abbrev pub with_id : ℕ → ℕ → Session → Session
+with_id n x e = record e { own = e.own ++ x ∷ []; saved = saved_with n x e.saved }
+
+-- the ids become those of as many levels, the newest, and the first of them is the lowest level's: a level's first write
+-- gives an id to every level below that has none, parents before children (AssignTransactionId of the source)
+abbrev pub with_ids : List ℕ → Session → Session
+with_ids [] e = e
+with_ids (x ∷ xs) e = with_ids xs (with_id (length xs) x e)
 
 -- the ids of P are finished, and no other changes
 pub record Finishes (status status' : ℕ → Option Status) (P : ℕ → Type 0) (end : Status) : Type 0 where

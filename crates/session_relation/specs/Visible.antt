@@ -50,9 +50,13 @@ pub data Touches (x : ℕ) (v : Version) : Type 0 where
 abbrev pub IsMissed : (ℕ → Option Status) → (ℕ → Type 0) → Version → Type 0
 IsMissed status sees v = (x : ℕ) × Touches x v × IsCommitted status x × (¬ Sees sees x)
 
+-- an id of P made or deleted the version
+abbrev pub IsBy : (ℕ → Type 0) → Version → Type 0
+IsBy P v = (x : ℕ) × Touches x v × P x
+
 -- one of the ids made or deleted the version
 abbrev pub IsOwn : List ℕ → Version → Type 0
-IsOwn own v = (x : ℕ) × Touches x v × Contains own x
+IsOwn own v = IsBy (λ x. Contains own x) v
 
 -- the version at the place
 abbrev pub At : (Tid → Option Version) → Tid → Version → Type 0

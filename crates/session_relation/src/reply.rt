@@ -20,6 +20,10 @@ pub enum Refusal {
     Conflict,
     /// This other open session has written the key.
     Busy(u8),
+    /// The session has 32 savepoints, which is as many as it may have.
+    TooDeep,
+    /// The session has no savepoint.
+    NoSavepoint,
     /// The body has more than 1024 bytes.
     TooLarge,
     /// No page has room for the row, and there may be no further page.

@@ -34,6 +34,12 @@ pub enum Step {
     Update(u8, RowIn),
     /// Takes the row of a key away.
     Delete(u8, u64),
+    /// Sets a savepoint, above those that the session has: at most 32.
+    Savepoint(u8),
+    /// Takes back what the session wrote since its newest savepoint, which stays. A session that has failed is usable again.
+    RollbackTo(u8),
+    /// Forgets the newest savepoint, and keeps what the session wrote since.
+    Release(u8),
     /// Makes what the session wrote part of the history, unless it has failed, and closes it.
     Commit(u8),
     /// Drops what the session wrote, and closes it.
@@ -66,6 +72,9 @@ impl Step {
             Step::Insert(s, row) => Ok(Step::Insert(*s, row.copy(alloc)?)),
             Step::Update(s, row) => Ok(Step::Update(*s, row.copy(alloc)?)),
             Step::Delete(s, key) => Ok(Step::Delete(*s, *key)),
+            Step::Savepoint(s) => Ok(Step::Savepoint(*s)),
+            Step::RollbackTo(s) => Ok(Step::RollbackTo(*s)),
+            Step::Release(s) => Ok(Step::Release(*s)),
             Step::Commit(s) => Ok(Step::Commit(*s)),
             Step::Abort(s) => Ok(Step::Abort(*s)),
             Step::Prune(page) => Ok(Step::Prune(*page)),

@@ -146,3 +146,20 @@ fn copies_of_changes_are_equal(rt: HostRuntime) -> Result<(), Fail> {
     }
     Ok(())
 }
+
+#[test]
+fn copies_of_savepoint_steps_are_equal(rt: HostRuntime) -> Result<(), Fail> {
+    match Step::Savepoint(61).copy(rt.alloc())? {
+        Step::Savepoint(s) => assert_eq!(rt; s, 61),
+        _ => assert!(rt; false),
+    }
+    match Step::RollbackTo(60).copy(rt.alloc())? {
+        Step::RollbackTo(s) => assert_eq!(rt; s, 60),
+        _ => assert!(rt; false),
+    }
+    match Step::Release(0).copy(rt.alloc())? {
+        Step::Release(s) => assert_eq!(rt; s, 0),
+        _ => assert!(rt; false),
+    }
+    Ok(())
+}

@@ -1,5 +1,5 @@
 -- A session's own ids: those of its open transaction that are not rolled back.
-use Rattle.std.specs.Prelude.{◌≡◌, ℕ, ◌≤◌, List, [], ◌∷◌, map, take, Some, slice_get}
+use Rattle.std.specs.Prelude.{◌≡◌, ℕ, zero, suc, ◌-◌, ◌≤◌, ◌==◌, if◌then◌else◌, List, [], ◌∷◌, ◌++◌, length, map, take, Option, Some, Contains, slice_get}
 use Rattle.xid_circle.specs.Circle.{IsNormal}
 use Rattle.xid_circle.specs.declared.Xid.{Xid}
 
@@ -28,6 +28,41 @@ fronts ids marks = map (λ mark. take mark ids) marks
 abbrev pub AreMarks : ℕ → List ℕ → Type 0
 AreMarks count [] = Unit {0}
 AreMarks count (mark ∷ marks) = (mark ≤ count) × AreMarks mark marks
+
+-- Levels. A session has one level, and one more for each savepoint. The ids of a level are those that it had not at the
+-- savepoint which begins it. (The manual's "Subtransactions".)
+
+-- What was there at a savepoint is a front of what was there at the next, and of what is there now.
+abbrev pub AreFronts : List ℕ → List (List ℕ) → Type 0
+AreFronts ids [] = Unit {0}
+AreFronts ids (before ∷ saved) = (since : List ℕ) × (ids ≡ before ++ since) × AreFronts before saved
+
+-- no id is there twice
+abbrev pub AreDistinct : List ℕ → Type 0
+AreDistinct [] = Unit {0}
+AreDistinct (x ∷ ids) = (¬ Contains ids x) × AreDistinct ids
+
+-- how many levels, from the newest down, have no id of their own
+abbrev pub lacks : List ℕ → List (List ℕ) → ℕ
+lacks ids [] = if length ids == 0 then 1 else 0
+lacks ids (before ∷ saved) = if length ids == length before then suc (lacks before saved) else 0
+
+-- the id that was given last, if there is one
+abbrev pub newest_id : List ℕ → Option ℕ
+newest_id ids = slice_get ids (length ids - 1)
+
+-- what was there at each savepoint: at the n newest the id is there too
+abbrev pub saved_with : ℕ → ℕ → List (List ℕ) → List (List ℕ)
+saved_with zero x saved = saved
+saved_with (suc n) x [] = []
+saved_with (suc n) x (before ∷ saved) = (before ++ x ∷ []) ∷ saved_with n x saved
+
+-- The ids become those of as many levels, the newest, and the first of them is the lowest level's. (A level's first write
+-- gives an id to every level below that has none, parents before children: AssignTransactionId in
+-- src/backend/access/transam/xact.c.)
+abbrev pub saved_with_each : List ℕ → List (List ℕ) → List (List ℕ)
+saved_with_each [] saved = saved
+saved_with_each (x ∷ xs) saved = saved_with_each xs (saved_with (length xs) x saved)
 
 abbrev pub AreNormal : List Xid → Type 0
 AreNormal ids = (i : ℕ) (x : Xid) → slice_get ids i ≡ Some x → IsNormal x.0

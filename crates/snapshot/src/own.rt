@@ -1,15 +1,18 @@
 //! A session's own ids.
 
-ghost use Rattle.std.specs.Prelude.{◌≡◌, ◌≢◌, ◌+◌, ◌<◌, ◌≤◌, ◌↔◌, [], ◌∷◌, ◌++◌, IsTrue, IfSome, OnOk, OnErr, slice_get, Contains, length, take};
+ghost use Rattle.std.specs.Prelude.{◌≡◌, ◌≢◌, ◌+◌, ◌-◌, ◌<◌, ◌≤◌, ◌↔◌, [], ◌∷◌, ◌++◌, IsTrue, IfSome, OnOk, OnErr, slice_get, Contains, length, take, replicate};
 ghost use Rattle.std.specs.Option.{option_map};
 ghost use Rattle.xid_circle.specs.Circle.{IsNormal};
 ghost use Rattle.commit_status.specs.Changes.{numbers};
-ghost use Rattle.snapshot.specs.Own.{newest, older};
+ghost use Rattle.snapshot.specs.Own.{newest, older, lacks, newest_id, saved_with, AreFronts};
 
 use smallvec::SmallVec;
 use std::alloc::{AllocError, Global};
 use std::marker::Model;
 use xid_circle::Xid;
+
+/// How many savepoints a session may have.
+pub const MOST_SAVEPOINTS: usize = 32;
 
 /// The ids of an open transaction that are not rolled back, in order of giving: the first is the topmost. Marks
 /// remember how many there were at each savepoint.
@@ -21,7 +24,7 @@ pub struct OwnIds {
 }
 
 impl Model for OwnIds {
-    ghost use Rattle.std.specs.Prelude.{◌-◌, length, reverse, vec_len, vec_capacity};
+    ghost use Rattle.std.specs.Prelude.{◌-◌, ◌≤◌, length, reverse, vec_len, vec_capacity};
     ghost use Rattle.commit_status.specs.Changes.{numbers};
     ghost use Rattle.snapshot.specs.Own.{Own, fronts, AreMarks, AreNormal};
 
@@ -33,7 +36,7 @@ impl Model for OwnIds {
       spare = vec_capacity o.ids - vec_len o.ids;
     } };
 
-    ghost invariant = { λ o. AreNormal o.ids.items × AreMarks (length o.ids.items) (reverse o.marks.items) };
+    ghost invariant = { λ o. AreNormal o.ids.items × AreMarks (length o.ids.items) (reverse o.marks.items) × (length o.marks.items ≤ 32) };
 }
 
 impl OwnIds {
@@ -88,17 +91,6 @@ impl OwnIds {
         self.ids.reserve(count)
     }
 
-    /// Adds the id that was given last. It takes no memory.
-    pub fn push(&mut self, x: Xid)
-        requires room { 0 < self.old.spare }
-        requires normal { IsNormal x.0 }
-        ensures ids { self.new.ids ≡ self.old.ids ++ x.0 ∷ [] }
-        ensures saved { self.new.saved ≡ self.old.saved }
-        ensures spare { self.old.spare ≡ self.new.spare + 1 }
-    {
-        self.ids.push_reserved(x);
-    }
-
     /// The number of savepoints.
     pub fn savepoints(&self) -> usize
         ensures { result ≡ length self.now.saved }
@@ -106,14 +98,63 @@ impl OwnIds {
         self.marks.len()
     }
 
+    /// How many levels, from the newest down, have no id of their own.
+    pub fn lacks(&self) -> u32
+        ensures { result ≡ lacks self.now.ids self.now.saved }
+    {
+        let count = self.ids.len();
+        let mut levels = if count == 0 { 1 } else { 0 };
+        // the lowest level first: where one has an id, those below it do not count
+        for mark in self.marks.as_slice() {
+            levels = if *mark == count { levels + 1 } else { 0 };
+        }
+        levels
+    }
+
+    /// The id that was given last, if there is one.
+    pub fn newest_id(&self) -> Option<Xid>
+        ensures value { option_map (λ x. x.0) result ≡ newest_id self.now.ids }
+        ensures normal { IfSome result (λ x. IsNormal x.0) }
+    {
+        self.ids.last().copied()
+    }
+
+    /// Adds the id that was given last, to the lowest level that has none: the savepoints above that level keep it. It
+    /// takes no memory.
+    pub fn add(&mut self, x: Xid)
+        requires room { 0 < self.old.spare }
+        requires normal { IsNormal x.0 }
+        requires lacking { 0 < lacks self.old.ids self.old.saved }
+        ensures ids { self.new.ids ≡ self.old.ids ++ x.0 ∷ [] }
+        ensures saved { self.new.saved ≡ saved_with (lacks self.old.ids self.old.saved - 1) x.0 self.old.saved }
+        ensures spare { self.old.spare ≡ self.new.spare + 1 }
+    {
+        let above = self.lacks() as usize - 1;
+        self.ids.push_reserved(x);
+        raise(self.marks.as_mut_slice(), above, self.ids.len());
+    }
+
+    /// What was there at each savepoint is a front of what was there at the next, and of what is there now. It does
+    /// nothing: its contract is the law.
+    pub fn are_fronts(&self)
+        ensures fronts { AreFronts self.now.ids self.now.saved }
+        ensures few { length self.now.saved ≤ 32 }
+    {
+        let _ = &self.ids;
+    }
+
     /// Begins a savepoint: remembers how many ids there are.
     pub fn save(&mut self) -> Result<(), AllocError>
+        requires few { length self.old.saved < 32 }
         ensures ids { self.new.ids ≡ self.old.ids }
         ensures spare { self.new.spare ≡ self.old.spare }
         ensures saved { OnOk result (self.new.saved ≡ self.old.ids ∷ self.old.saved) }
         ensures refused { OnErr result (self.new ≡ self.old) }
+        ensures needs { OnErr result (4 ≤ length self.old.saved) }
     {
         let count = self.ids.len();
+        // it says that four marks fit
+        let _ = self.marks.spilled();
         self.marks.reserve(1)?;
         self.marks.push_reserved(count);
         Ok(())
@@ -156,6 +197,15 @@ impl OwnIds {
     {
         let _ = self.marks.pop();
     }
+}
+
+/// Makes the last marks, as many as `above`, what is given.
+fn raise(marks: &mut [usize], above: usize, mark: usize)
+    requires { above ≤ length marks.old }
+    ensures { marks.new ≡ take (length marks.old - above) marks.old ++ replicate above mark }
+{
+    let kept = marks.len() - above;
+    marks[kept..].fill(mark);
 }
 
 /// Whether an id is in a list.

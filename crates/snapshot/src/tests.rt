@@ -1,28 +1,37 @@
 //! What snapshots see, each id reckoned by hand.
 
 use crate::{
-    OwnIds, Snapshot, earlier, earliest_is_first, finished_is_seen, later_is_unseen,
-    open_is_unseen, past_is_seen, sees_by_top, taken_is_in_window,
+    MOST_SAVEPOINTS, OwnIds, Snapshot, earlier, earliest_is_first, finished_is_seen,
+    later_is_unseen, open_is_unseen, past_is_seen, sees_by_top, taken_is_in_window,
 };
 use commit_status::{Status, StatusTable};
 use xid_circle::Xid;
 
-fn give(table: &mut StatusTable, own: &mut OwnIds) {
-    if own.make_room(1).is_err() {
-        return;
-    }
-    if let Ok(x) = table.give(None) {
-        own.push(x);
+fn add(own: &mut OwnIds, x: Xid) {
+    if x.is_normal() && own.lacks() > 0 && own.make_room(1).is_ok() {
+        own.add(x);
     }
 }
 
+fn save(own: &mut OwnIds) -> bool {
+    own.savepoints() < MOST_SAVEPOINTS && own.save().is_ok()
+}
+
+fn give(table: &mut StatusTable, own: &mut OwnIds) {
+    if let Ok(x) = table.give(None) {
+        add(own, x);
+    }
+}
+
+/// A savepoint, an id for it, and its release: the id is the transaction's.
 fn give_under(table: &mut StatusTable, own: &mut OwnIds, parent: Xid) {
-    if own.make_room(1).is_err() || !table.remembers(parent) {
+    if !table.remembers(parent) || !save(own) {
         return;
     }
     if let Ok(x) = table.give(Some(parent)) {
-        own.push(x);
+        add(own, x);
     }
+    release(own);
 }
 
 fn commit(table: &mut StatusTable, x: Xid) {
@@ -101,14 +110,13 @@ fn release(own: &mut OwnIds) {
 
 #[test]
 fn savepoints(rt: HostRuntime) {
-    let mut table = StatusTable::new(rt.alloc(), Xid(3), 1000);
     let mut own = OwnIds::new(rt.alloc());
     assert!(rt; own.is_empty());
-    give(&mut table, &mut own);
-    assert!(rt; own.save().is_ok());
-    give_under(&mut table, &mut own, Xid(3));
-    assert!(rt; own.save().is_ok());
-    give_under(&mut table, &mut own, Xid(4));
+    add(&mut own, Xid(3));
+    assert!(rt; save(&mut own));
+    add(&mut own, Xid(4));
+    assert!(rt; save(&mut own));
+    add(&mut own, Xid(5));
     assert_eq!(rt; newest_ids(&own), 1);
     roll_back(&mut own);
     assert_eq!(rt; own.as_slice(), [Xid(3), Xid(4)].as_slice());
@@ -119,6 +127,50 @@ fn savepoints(rt: HostRuntime) {
     assert_eq!(rt; own.first(), Some(Xid(3)));
     assert!(rt; own.contains(Xid(3)));
     assert!(rt; !own.contains(Xid(4)));
+    own.are_fronts();
+}
+
+/// Three savepoints before the first id: the levels have their ids from the lowest up.
+#[test]
+fn levels_that_lack_ids(rt: HostRuntime) {
+    let mut own = OwnIds::new(rt.alloc());
+    assert_eq!(rt; (own.lacks(), own.newest_id()), (1u32, None));
+    for _ in 0..3u8 {
+        assert!(rt; save(&mut own));
+    }
+    assert_eq!(rt; own.lacks(), 4u32);
+    // what is since the newest savepoint, and how many levels lack an id, once an id is added
+    for (x, since, lacking) in [(3u32, 0usize, 3u32), (4, 0, 2), (5, 0, 1), (6, 1, 0)] {
+        add(&mut own, Xid(x));
+        assert_eq!(rt; (newest_ids(&own), own.lacks()), (since, lacking));
+        assert_eq!(rt; own.newest_id(), Some(Xid(x)));
+    }
+    roll_back(&mut own);
+    assert_eq!(rt; own.as_slice(), [Xid(3), Xid(4), Xid(5)].as_slice());
+    assert_eq!(rt; own.lacks(), 1u32);
+    release(&mut own);
+    assert_eq!(rt; (newest_ids(&own), own.lacks()), (1usize, 0u32));
+    release(&mut own);
+    assert_eq!(rt; (newest_ids(&own), own.savepoints()), (2usize, 1usize));
+}
+
+/// A level below the newest has an id: those below it do not count.
+#[test]
+fn levels_above_one_with_an_id(rt: HostRuntime) {
+    let mut own = OwnIds::new(rt.alloc());
+    assert!(rt; save(&mut own));
+    add(&mut own, Xid(3));
+    add(&mut own, Xid(4));
+    assert_eq!(rt; own.lacks(), 0u32);
+    for lacking in 1..32u32 {
+        assert!(rt; save(&mut own));
+        assert_eq!(rt; own.lacks(), lacking);
+    }
+    assert!(rt; !save(&mut own));
+    add(&mut own, Xid(5));
+    assert_eq!(rt; (newest_ids(&own), own.lacks()), (0usize, 30u32));
+    roll_back(&mut own);
+    assert_eq!(rt; own.newest_id(), Some(Xid(5)));
 }
 
 #[test]

@@ -77,7 +77,7 @@ fn own(alloc: Global, x: Xid) -> Result<OwnIds, AllocError> {
     let mut ids = OwnIds::new(alloc);
     ids.make_room(1)?;
     if x.is_normal() {
-        ids.push(x);
+        ids.add(x);
     }
     Ok(ids)
 }

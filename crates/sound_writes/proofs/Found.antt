@@ -1,15 +1,14 @@
 -- What each reader finds after a step.
-use Rattle.std.proofs.Common.{◌≡◌, ◌≢◌, ◌⊎◌, ◌↔◌, ℕ, false, List, Option, Some, None, refl, sym, ap, ◌∙◌, subst, ⊎_elim, inl, inr}
-use Rattle.std.specs.Prelude.{Contains, IfSome}
+use Rattle.std.proofs.Common.{◌≡◌, ◌≢◌, ◌⊎◌, ◌↔◌, ℕ, false, List, Option, refl, sym, ap, ◌∙◌, subst, ⊎_elim, inl, inr}
+use Rattle.std.specs.Prelude.{Contains}
 use Rattle.std.proofs.lemmas.Option.{none-some}
 use Rattle.xid_circle.specs.declared.Tid.{Tid}
-use Rattle.xid_circle.specs.declared.Xid.{Xid}
 use Rattle.tuple_header.specs.Version.{Version, rounded_size_of}
 use Rattle.tuple_header.specs.declared.version.Row.{Row}
 use Rattle.page_slots.specs.declared.slot.Slot.{Slot}
 use Rattle.page_slots.specs.Slots.{version_at}
-use Rattle.commit_status.specs.Window.{Window, IsWindow, IsActive, IsAborted}
-use Rattle.commit_status.proofs.Giving.{gives-active_next}
+use Rattle.commit_status.specs.Window.{Window, IsAborted}
+use Rattle.snapshot.specs.Own.{Own}
 use Rattle.snapshot.specs.Snap.{Snap}
 use Rattle.visibility.specs.Visible.{Reads, IsVisible}
 use Rattle.prune.specs.Cutting.{IsCut}
@@ -17,17 +16,14 @@ use Rattle.prune.proofs.Unseen.{cut-unseen, open-reader}
 use Rattle.page_writes.proofs.Slotted.{active-some}
 use Rattle.sound_entries.specs.Pages.{slots_on, version_in}
 use Rattle.heap_write.specs.Heap.{HeapView, slots_of}
-use Rattle.heap_write.specs.Writes.{TakesId, Inserts, Updates, Deletes, Prunes}
+use Rattle.heap_write.specs.Writes.{TakesIds, Inserts, Updates, Deletes, Prunes}
 use Rattle.sound_writes.specs.Table.{SoundTable, MayTake}
 use Rattle.sound_writes.specs.Laws.{IsWriter}
 use Rattle.sound_writes.specs.Readers.{FindsAt, Finds, IsReader, FindsTheSame, IsAuthor, FindsOneMore, Elsewhere}
 use Rattle.sound_writes.proofs.Standing.{RemovesOn, Replaced, taken_version, free_place, root_version, root-new, prunes-stand, readies-stand, inserts-stand, deletes-stand, updates-ready, updates-stand}
 use Rattle.sound_writes.proofs.Finding.{both, SameSight, adds-unseen, adds-seen, alters-same, alters-hidden}
-use Rattle.sound_writes.proofs.Sights.{same-verdicts, active-unread, aborted-unread, new-unseen, new-seen, taken-same, taken-unseen, author-sight}
-
-takes-active : (w v : Window) (id : Option Xid) (x : ℕ) → IsWindow v → IfSome id (λ y. IsActive w y.0) → TakesId w v id x → IsActive v x
-takes-active w v None x after active takes = subst (IsActive v) (sym takes.0) (gives-active_next w v None after takes.1)
-takes-active w v (Some y) x after active takes = subst (λ (u : Window). IsActive u x) (sym takes.1) (subst (IsActive w) (sym takes.0) active)
+use Rattle.sound_writes.proofs.TakenIds.{takes-verdicts, takes-active, takes-mine}
+use Rattle.sound_writes.proofs.Sights.{active-unread, aborted-unread, new-unseen, new-seen, taken-same, taken-unseen, author-sight}
 
 -- Nobody can tell.
 
@@ -53,88 +49,89 @@ pruning-unseen h h' number horizon s own sound prunes reader p r =
     (removed-found h (version_in (slots_of h')) number horizon s own sound reader (prunes-stand h h' number horizon prunes) p r)
 
 -- a reader that doesn't own the writer's id
-module _ (h h' : HeapView) (horizon : ℕ) (id : Option Xid) (x : ℕ) (s : Snap) (own : List ℕ) (writer : IsWriter h h' id) (takes : TakesId h.table h'.table id x)
-    (reader : IsReader h horizon s own) (foreign : ¬ Contains own x) where
-  other-sight : (t : Version) → IsVisible h.table s own t.header ↔ IsVisible h'.table s own t.header
-  other-sight t = let same = (same-verdicts h.table h'.table id x s own writer.0 writer.1 takes).versions t.header in (same.1, same.0)
+module _ (h h' : HeapView) (horizon : ℕ) (own own' : Own) (x : ℕ) (s : Snap) (ids : List ℕ) (writer : IsWriter h h' own) (takes : TakesIds h.table h'.table own own' x)
+    (reader : IsReader h horizon s ids) (foreign : ¬ Contains ids x) where
+  other-sight : (t : Version) → IsVisible h.table s ids t.header ↔ IsVisible h'.table s ids t.header
+  other-sight t = let same = (takes-verdicts h.table h'.table own own' x writer.before writer.after takes s ids).versions t.header in (same.1, same.0)
 
-  unread : ¬ Reads h'.table s own x
-  unread = active-unread h'.table s own x (takes-active h.table h'.table id x writer.1 writer.2 takes) foreign
+  unread : ¬ Reads h'.table s ids x
+  unread = active-unread h'.table s ids x (takes-active h.table h'.table own own' x writer.before writer.after takes writer.active x (takes-mine h.table h'.table own own' x writer.before writer.after takes)) foreign
 
-  gone-unread : (y : ℕ) → IsAborted h.table y → ¬ Reads h'.table s own y
+  gone-unread : (y : ℕ) → IsAborted h.table y → ¬ Reads h'.table s ids y
   gone-unread y gone reads =
-      aborted-unread h.table s own y (reader 0).active gone (((same-verdicts h.table h'.table id x s own writer.0 writer.1 takes).ids y).0 reads)
+      aborted-unread h.table s ids y (reader 0).active gone (((takes-verdicts h.table h'.table own own' x writer.before writer.after takes s ids).ids y).0 reads)
 
-pub inserting-unseen : (h h' : HeapView) (horizon : ℕ) (id : Option Xid) (row : Row) (x : ℕ) (s : Snap) (own : List ℕ) → IsWriter h h' id → Inserts h h' id row x
-    → IsReader h horizon s own → ¬ Contains own x → FindsTheSame h h' s own
-inserting-unseen h h' horizon id row x s own writer i reader foreign =
+pub inserting-unseen : (h h' : HeapView) (horizon : ℕ) (own own' : Own) (row : Row) (x : ℕ) (s : Snap) (ids : List ℕ) → IsWriter h h' own → Inserts h h' own own' row x
+    → IsReader h horizon s ids → ¬ Contains ids x → FindsTheSame h h' s ids
+inserting-unseen h h' horizon own own' row x s ids writer i reader foreign =
     let new = root_version h false x row i.number in
-    adds-unseen (version_in (slots_of h)) (version_in (slots_of h')) (IsVisible h.table s own) (IsVisible h'.table s own)
-    (λ p t at. other-sight h h' horizon id x s own writer i.takes_id reader foreign t)
-    (free_place h i.number) new (inserts-stand h h' id row x i)
-    (new-unseen (Reads h'.table s own) x row new (root-new h false x row i.number) (unread h h' horizon id x s own writer i.takes_id reader foreign))
+    adds-unseen (version_in (slots_of h)) (version_in (slots_of h')) (IsVisible h.table s ids) (IsVisible h'.table s ids)
+    (λ p t at. other-sight h h' horizon own own' x s ids writer i.takes_ids reader foreign t)
+    (free_place h i.number) new (inserts-stand h h' own own' row x i)
+    (new-unseen (Reads h'.table s ids) x row new (root-new h false x row i.number) (unread h h' horizon own own' x s ids writer i.takes_ids reader foreign))
 
-pub deleting-unseen : (h h' : HeapView) (horizon : ℕ) (id : Option Xid) (place : Tid) (t : Version) (x : ℕ) (s : Snap) (own : List ℕ) → IsWriter h h' id → MayTake h id place t
-    → Deletes h h' id place x → IsReader h horizon s own → ¬ Contains own x → FindsTheSame h h' s own
-deleting-unseen h h' horizon id place t x s own writer may d reader foreign =
-    alters-same (version_in (slots_of h)) (version_in (slots_of h')) (IsVisible h.table s own) (IsVisible h'.table s own)
-    (λ p u at. other-sight h h' horizon id x s own writer d.takes_id reader foreign u)
-    place t (taken_version t x place false) (deletes-stand h h' id place x t d may.there) refl
-    (both (other-sight h h' horizon id x s own writer d.takes_id reader foreign t)
-    (taken-same (Reads h'.table s own) h.table t x place false (gone-unread h h' horizon id x s own writer d.takes_id reader foreign) may.untaken
-    (unread h h' horizon id x s own writer d.takes_id reader foreign)))
+pub deleting-unseen : (h h' : HeapView) (horizon : ℕ) (own own' : Own) (place : Tid) (t : Version) (x : ℕ) (s : Snap) (ids : List ℕ) → IsWriter h h' own → MayTake h place t
+    → Deletes h h' own own' place x → IsReader h horizon s ids → ¬ Contains ids x → FindsTheSame h h' s ids
+deleting-unseen h h' horizon own own' place t x s ids writer may d reader foreign =
+    alters-same (version_in (slots_of h)) (version_in (slots_of h')) (IsVisible h.table s ids) (IsVisible h'.table s ids)
+    (λ p u at. other-sight h h' horizon own own' x s ids writer d.takes_ids reader foreign u)
+    place t (taken_version t x place false) (deletes-stand h h' own own' place x t d may.there) refl
+    (both (other-sight h h' horizon own own' x s ids writer d.takes_ids reader foreign t)
+    (taken-same (Reads h'.table s ids) h.table t x place false (gone-unread h h' horizon own own' x s ids writer d.takes_ids reader foreign) may.untaken
+    (unread h h' horizon own own' x s ids writer d.takes_ids reader foreign)))
 
-pub updating-unseen : (h h' : HeapView) (horizon : ℕ) (id : Option Xid) (place : Tid) (t : Version) (row : Row) (x : ℕ) (s : Snap) (own : List ℕ) → SoundTable h horizon → IsWriter h h' id
-    → MayTake h id place t → Updates h h' id place row horizon x → IsReader h horizon s own → ¬ Contains own x → FindsTheSame h h' s own
-updating-unseen h h' horizon id place t row x s own sound writer may u reader foreign p r =
+pub updating-unseen : (h h' : HeapView) (horizon : ℕ) (own own' : Own) (place : Tid) (t : Version) (row : Row) (x : ℕ) (s : Snap) (ids : List ℕ) → SoundTable h horizon → IsWriter h h' own
+    → MayTake h place t → Updates h h' own own' place row horizon x → IsReader h horizon s ids → ¬ Contains ids x → FindsTheSame h h' s ids
+updating-unseen h h' horizon own own' place t row x s ids sound writer may u reader foreign p r =
     let ready = version_in (slots_of u.ready) in
-    let m = updates-stand h h' id place row horizon x t u may.there in
-    let none = unread h h' horizon id x s own writer u.takes_id reader foreign in
-    let seen = IsVisible h'.table s own in
-    both (removed-found h ready place.page horizon s own sound reader (readies-stand h u.ready place.page horizon (rounded_size_of row) u.readies) p r)
+    let m = updates-stand h h' own own' place row horizon x t u may.there in
+    let none = unread h h' horizon own own' x s ids writer u.takes_ids reader foreign in
+    let seen = IsVisible h'.table s ids in
+    both (removed-found h ready place.page horizon s ids sound reader (readies-stand h u.ready place.page horizon (rounded_size_of row) u.readies) p r)
     (both
-    (adds-unseen ready m.added (IsVisible h.table s own) seen (λ q v at. other-sight h h' horizon id x s own writer u.takes_id reader foreign v) m.to m.new m.adds
-    (new-unseen (Reads h'.table s own) x row m.new m.is_new none) p r)
+    (adds-unseen ready m.added (IsVisible h.table s ids) seen (λ q v at. other-sight h h' horizon own own' x s ids writer u.takes_ids reader foreign v) m.to m.new m.adds
+    (new-unseen (Reads h'.table s ids) x row m.new m.is_new none) p r)
     (alters-same m.added (version_in (slots_of h')) seen seen (λ q v at. (λ a. a, λ a. a)) place t (taken_version t x m.to m.hot) m.alters refl
-    (taken-same (Reads h'.table s own) h.table t x m.to m.hot (gone-unread h h' horizon id x s own writer u.takes_id reader foreign) may.untaken none) p r))
+    (taken-same (Reads h'.table s ids) h.table t x m.to m.hot (gone-unread h h' horizon own own' x s ids writer u.takes_ids reader foreign) may.untaken none) p r))
 
 -- Who writes finds what it has written.
 
-module _ (h h' : HeapView) (horizon : ℕ) (id : Option Xid) (x : ℕ) (s : Snap) (own own' : List ℕ) (sound : SoundTable h horizon) (writer : IsWriter h h' id)
-    (takes : TakesId h.table h'.table id x) (author : IsAuthor h horizon id x s own own') where
-  own-sight : SameSight (version_in (slots_of h)) (IsVisible h.table s own) (IsVisible h'.table s own')
-  own-sight = author-sight h h'.table horizon id x s own own' sound writer.0 writer.1 takes author.mine author.ids author.given
+module _ (h h' : HeapView) (horizon : ℕ) (own own' : Own) (x : ℕ) (s : Snap) (writer : IsWriter h h' own)
+    (takes : TakesIds h.table h'.table own own' x) (author : IsAuthor h horizon s own.ids) where
+  own-sight : SameSight (version_in (slots_of h)) (IsVisible h.table s own.ids) (IsVisible h'.table s own'.ids)
+  own-sight = author-sight h h'.table horizon own own' x s writer.before writer.after takes author
 
-  own-read : Reads h'.table s own' x
-  own-read = Reads.by_itself ((author.ids x).1 (inr refl))
+  own-read : Reads h'.table s own'.ids x
+  own-read = Reads.by_itself (takes-mine h.table h'.table own own' x writer.before writer.after takes)
 
   own-some : x ≢ 0
-  own-some = active-some h'.table x (takes-active h.table h'.table id x writer.1 writer.2 takes)
+  own-some = active-some h'.table x (takes-active h.table h'.table own own' x writer.before writer.after takes writer.active x
+      (takes-mine h.table h'.table own own' x writer.before writer.after takes))
 
-pub insert-found : (h h' : HeapView) (horizon : ℕ) (id : Option Xid) (row : Row) (x : ℕ) (s : Snap) (own own' : List ℕ) → SoundTable h horizon → IsWriter h h' id
-    → Inserts h h' id row x → IsAuthor h horizon id x s own own' → FindsOneMore (Finds h s own) (Finds h' s own') row
-insert-found h h' horizon id row x s own own' sound writer i author =
+pub insert-found : (h h' : HeapView) (horizon : ℕ) (own own' : Own) (row : Row) (x : ℕ) (s : Snap) → SoundTable h horizon → IsWriter h h' own
+    → Inserts h h' own own' row x → IsAuthor h horizon s own.ids → FindsOneMore (Finds h s own.ids) (Finds h' s own'.ids) row
+insert-found h h' horizon own own' row x s sound writer i author =
     let new = root_version h false x row i.number in
-    let adds = inserts-stand h h' id row x i in
+    let adds = inserts-stand h h' own own' row x i in
     record {
       place = free_place h i.number;
       fresh = λ r f. none-some f.version (sym adds.unused ∙ f.there);
-      each = adds-seen (version_in (slots_of h)) (version_in (slots_of h')) (IsVisible h.table s own) (IsVisible h'.table s own')
-          (own-sight h h' horizon id x s own own' sound writer i.takes_id author) (free_place h i.number) new adds
-          (new-seen (Reads h'.table s own') x row new (root-new h false x row i.number) (own-read h h' horizon id x s own own' sound writer i.takes_id author));
+      each = adds-seen (version_in (slots_of h)) (version_in (slots_of h')) (IsVisible h.table s own.ids) (IsVisible h'.table s own'.ids)
+          (own-sight h h' horizon own own' x s writer i.takes_ids author) (free_place h i.number) new adds
+          (new-seen (Reads h'.table s own'.ids) x row new (root-new h false x row i.number) (own-read h h' horizon own own' x s writer i.takes_ids author));
     }
 
-pub delete-found : (h h' : HeapView) (horizon : ℕ) (id : Option Xid) (place : Tid) (t : Version) (x : ℕ) (s : Snap) (own own' : List ℕ) → SoundTable h horizon → IsWriter h h' id
-    → MayTake h id place t → Deletes h h' id place x → IsAuthor h horizon id x s own own' → (p : Tid) (r : Row) → Finds h' s own' p r ↔ Elsewhere place (Finds h s own) p r
-delete-found h h' horizon id place t x s own own' sound writer may d author =
-    alters-hidden (version_in (slots_of h)) (version_in (slots_of h')) (IsVisible h.table s own) (IsVisible h'.table s own')
-    (own-sight h h' horizon id x s own own' sound writer d.takes_id author) place t (taken_version t x place false) (deletes-stand h h' id place x t d may.there)
-    (taken-unseen (Reads h'.table s own') t x place false (own-some h h' horizon id x s own own' sound writer d.takes_id author)
-    (own-read h h' horizon id x s own own' sound writer d.takes_id author))
+pub delete-found : (h h' : HeapView) (horizon : ℕ) (own own' : Own) (place : Tid) (t : Version) (x : ℕ) (s : Snap) → SoundTable h horizon → IsWriter h h' own
+    → MayTake h place t → Deletes h h' own own' place x → IsAuthor h horizon s own.ids → (p : Tid) (r : Row) → Finds h' s own'.ids p r ↔ Elsewhere place (Finds h s own.ids) p r
+delete-found h h' horizon own own' place t x s sound writer may d author =
+    alters-hidden (version_in (slots_of h)) (version_in (slots_of h')) (IsVisible h.table s own.ids) (IsVisible h'.table s own'.ids)
+    (own-sight h h' horizon own own' x s writer d.takes_ids author) place t (taken_version t x place false) (deletes-stand h h' own own' place x t d may.there)
+    (taken-unseen (Reads h'.table s own'.ids) t x place false (own-some h h' horizon own own' x s writer d.takes_ids author)
+    (own-read h h' horizon own own' x s writer d.takes_ids author))
 
-pub update-found : (h h' : HeapView) (horizon : ℕ) (id : Option Xid) (place : Tid) (t : Version) (row : Row) (x : ℕ) (s : Snap) (own own' : List ℕ) → SoundTable h horizon → IsWriter h h' id
-    → MayTake h id place t → Updates h h' id place row horizon x → IsAuthor h horizon id x s own own' → FindsOneMore (Elsewhere place (Finds h s own)) (Finds h' s own') row
-update-found h h' horizon id place t row x s own own' sound writer may u author = record {
+pub update-found : (h h' : HeapView) (horizon : ℕ) (own own' : Own) (place : Tid) (t : Version) (row : Row) (x : ℕ) (s : Snap) → SoundTable h horizon → IsWriter h h' own
+    → MayTake h place t → Updates h h' own own' place row horizon x → IsAuthor h horizon s own.ids → FindsOneMore (Elsewhere place (Finds h s own.ids)) (Finds h' s own'.ids) row
+update-found h h' horizon own own' place t row x s sound writer may u author = record {
   place = m.to;
   fresh = λ r f. let g = (before m.to r).0 f.0 in none-some g.version (sym m.adds.unused ∙ g.there);
   each = λ p r. (
@@ -156,21 +153,21 @@ update-found h h' horizon id place t row x s own own' sound writer may u author 
     removes = readies-stand h u.ready place.page horizon (rounded_size_of row) u.readies
 
     m : Replaced ready (version_in (slots_of h')) place t x row
-    m = updates-stand h h' id place row horizon x t u may.there
+    m = updates-stand h h' own own' place row horizon x t u may.there
 
     apart : m.to ≢ place
-    apart e = none-some t (sym m.adds.unused ∙ (ap ready e ∙ updates-ready h h' id place row horizon x t u may.there))
+    apart e = none-some t (sym m.adds.unused ∙ (ap ready e ∙ updates-ready h h' own own' place row horizon x t u may.there))
 
-    before : (p : Tid) (r : Row) → Finds h s own p r ↔ FindsAt (IsVisible h.table s own) ready p r
-    before = removed-found h ready place.page horizon s own sound author.reader removes
+    before : (p : Tid) (r : Row) → Finds h s own.ids p r ↔ FindsAt (IsVisible h.table s own.ids) ready p r
+    before = removed-found h ready place.page horizon s own.ids sound author.reader removes
 
-    between : (p : Tid) (r : Row) → FindsAt (IsVisible h'.table s own') m.added p r ↔ (FindsAt (IsVisible h.table s own) ready p r ⊎ ((p ≡ m.to) × (r ≡ m.new.row)))
-    between = adds-seen ready m.added (IsVisible h.table s own) (IsVisible h'.table s own')
-        (λ p v at. own-sight h h' horizon id x s own own' sound writer u.takes_id author p v (removes.kept p v at)) m.to m.new m.adds
-        (new-seen (Reads h'.table s own') x row m.new m.is_new (own-read h h' horizon id x s own own' sound writer u.takes_id author))
+    between : (p : Tid) (r : Row) → FindsAt (IsVisible h'.table s own'.ids) m.added p r ↔ (FindsAt (IsVisible h.table s own.ids) ready p r ⊎ ((p ≡ m.to) × (r ≡ m.new.row)))
+    between = adds-seen ready m.added (IsVisible h.table s own.ids) (IsVisible h'.table s own'.ids)
+        (λ p v at. own-sight h h' horizon own own' x s writer u.takes_ids author p v (removes.kept p v at)) m.to m.new m.adds
+        (new-seen (Reads h'.table s own'.ids) x row m.new m.is_new (own-read h h' horizon own own' x s writer u.takes_ids author))
 
-    after : (p : Tid) (r : Row) → Finds h' s own' p r ↔ (FindsAt (IsVisible h'.table s own') m.added p r × (p ≢ place))
-    after = alters-hidden m.added (version_in (slots_of h')) (IsVisible h'.table s own') (IsVisible h'.table s own') (λ p v at. (λ a. a, λ a. a)) place t
+    after : (p : Tid) (r : Row) → Finds h' s own'.ids p r ↔ (FindsAt (IsVisible h'.table s own'.ids) m.added p r × (p ≢ place))
+    after = alters-hidden m.added (version_in (slots_of h')) (IsVisible h'.table s own'.ids) (IsVisible h'.table s own'.ids) (λ p v at. (λ a. a, λ a. a)) place t
         (taken_version t x m.to m.hot) m.alters
-        (taken-unseen (Reads h'.table s own') t x m.to m.hot (own-some h h' horizon id x s own own' sound writer u.takes_id author)
-        (own-read h h' horizon id x s own own' sound writer u.takes_id author))
+        (taken-unseen (Reads h'.table s own'.ids) t x m.to m.hot (own-some h h' horizon own own' x s writer u.takes_ids author)
+        (own-read h h' horizon own own' x s writer u.takes_ids author))

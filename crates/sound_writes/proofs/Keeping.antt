@@ -1,21 +1,14 @@
 -- Steps that write no row leave a table sound.
-use Rattle.std.proofs.Common.{◌≡◌, ◌≤◌, ℕ, zero, suc, List, [], map, Option, Some, None, refl, sym, ap, ◌∙◌, subst, ⊎_elim}
-use Rattle.std.specs.Prelude.{Contains, IfSome, slice_set}
-use Rattle.std.proofs.lemmas.Bool.{cases_eq}
-use Rattle.std.proofs.lemmas.Option.{none-some}
+use Rattle.std.proofs.Common.{◌≡◌, ◌≤◌, ℕ, List, [], map, refl, sym, ap, ◌∙◌, subst, ⊎_elim}
+use Rattle.std.specs.Prelude.{Contains, slice_set}
 use Rattle.xid_circle.specs.declared.Tid.{Tid}
-use Rattle.xid_circle.specs.declared.Xid.{Xid}
-use Rattle.tuple_header.specs.Version.{Version, rounded_size_of}
+use Rattle.tuple_header.specs.Version.{rounded_size_of}
 use Rattle.tuple_header.specs.declared.version.Row.{Row}
-use Rattle.page_slots.specs.declared.slot.Slot.{Slot}
-use Rattle.page_slots.specs.Slots.{version_at}
 use Rattle.commit_status.specs.declared.status.Status.TheVariants.{Committed, Aborted}
-use Rattle.commit_status.specs.Window.{Window, IsWindow, IsActive, IsUpToNext, place, turns}
-use Rattle.commit_status.proofs.Giving.{gives-active_next}
+use Rattle.commit_status.specs.Window.{Window, IsWindow, IsActive, IsUpToNext, turns}
 use Rattle.prune.specs.Pruning.{IsPruned}
-use Rattle.prune.specs.Cutting.{Removes}
-use Rattle.page_writes.specs.Lives.{Lives, AreWhole, AreLast}
-use Rattle.page_writes.proofs.LifeLemmas.{giving-lives, committing-lives, aborting-lives}
+use Rattle.page_writes.specs.Laws.{DeletedWhatWasMade, AloneDeletedTheirs}
+use Rattle.snapshot.specs.Own.{Own}
 use Rattle.root_index.specs.View.{IndexView}
 use Rattle.root_index.specs.declared.entry.Entry.{Entry}
 use Rattle.sound_entries.specs.Pages.{slots_on, Puts}
@@ -28,13 +21,14 @@ use Rattle.heap_pages.specs.View.{PagesView}
 use Rattle.page_slots.specs.View.{PageView}
 use Rattle.sound_entries.specs.Looking as looking
 use Rattle.heap_write.specs.Heap.{HeapView, SameIds, Keeps, slots_of, key_value}
-use Rattle.heap_write.specs.Writes.{IsFull, TakesId, Readies, Prunes}
+use Rattle.heap_write.specs.Writes.{IsFull, TakesIds, Readies, Prunes}
 use Rattle.heap_write.specs.Refusals.{IsThere, WhenReady, FailsUpdate}
 use Rattle.heap_write.specs.declared.heap.WriteFault.{WriteFault}
 use Rattle.heap_write.specs.declared.heap.WriteFault.TheVariants as fault
 use Rattle.sound_writes.specs.Table.{SoundTable, StaysSoundTable}
 use Rattle.sound_writes.specs.Laws.{Finishes}
-use Rattle.sound_writes.proofs.Memory.{same-status, same-lives, same-sound}
+use Rattle.sound_writes.proofs.Memory.{same-status, same-sound}
+use Rattle.sound_writes.proofs.TakenIds.{under-keeps, takes-mine, takes-active}
 use Rattle.sound_writes.proofs.Standing.{prunes-on, prunes-puts}
 
 -- One step after another, where entries only come.
@@ -45,33 +39,14 @@ stays-then a b c horizon sound more first second = record {
   led = led-then key_value a.table (slots_of a) (slots_of b) (slots_of c) a.index.entries b.index.entries c.index.entries sound.sound.index more first.led second.led;
 }
 
--- where one page changes
-pub lives-put : (w : Window) (pages pages' : List (List Slot)) (n : ℕ) (after : List Slot) → Puts pages pages' n after → Lives w after
-    → ((m : ℕ) → Lives w (slots_on pages m)) → (m : ℕ) → Lives w (slots_on pages' m)
-lives-put w pages pages' n after puts put lives m = ⊎_elim
-    (λ same. subst (λ k. Lives w (slots_on pages' k)) (sym same) (subst (Lives w) (sym puts.put) put))
-    (λ other. subst (Lives w) (sym (puts.others m other)) (lives m))
-    (cases_eq m n)
-
 -- A page is pruned.
-
-lives-removed : (w : Window) (horizon : ℕ) (slots after : List Slot) → Removes w horizon slots after → Lives w slots → Lives w after
-lives-removed w horizon slots after removes lives = record {
-  makers = λ n t at. lives.makers n t (removes.kept n t at);
-  deleters = λ n t at. lives.deleters n t (removes.kept n t at);
-}
 
 abbrev pub with_pruned : HeapView → ℕ → PageView → HeapView
 with_pruned h number after = record h { pages = record h.pages { pages = slice_set h.pages.pages number after } }
 
 pub pruned-stays : (h h' : HeapView) (number horizon : ℕ) → SoundTable h horizon → Prunes h h' number horizon → StaysSoundTable h h' horizon
 pruned-stays h h' number horizon sound p = subst (λ (g : HeapView). StaysSoundTable h g horizon) (sym p.is) (record {
-  sound = record {
-    sound = stays.sound;
-    lives = lives-put h.table (slots_of h) (slots_of (with_pruned h number p.after)) number p.after.slots puts
-        (lives-removed h.table horizon (slots_on (slots_of h) number) p.after.slots (subst (λ slots. Removes h.table horizon slots p.after.slots) same p.removes) (sound.lives number))
-        sound.lives;
-  };
+  sound = record { sound = stays.sound };
   led = stays.led;
 })
   where
@@ -88,12 +63,11 @@ pruned-stays h h' number horizon sound p = subst (λ (g : HeapView). StaysSoundT
 -- The slots and the entries are as they were.
 
 slots-stay : (h h' : HeapView) (later : ℕ) → slots_of h' ≡ slots_of h → h'.index.entries ≡ h.index.entries
-    → StaysSound key_value h'.table later (slots_of h) (slots_of h) h.index.entries h.index.entries → ((n : ℕ) → Lives h'.table (slots_on (slots_of h) n)) → StaysSoundTable h h' later
-slots-stay h h' later slots entries stays lives = record {
+    → StaysSound key_value h'.table later (slots_of h) (slots_of h) h.index.entries h.index.entries → StaysSoundTable h h' later
+slots-stay h h' later slots entries stays = record {
   sound = record {
     sound = subst (λ (es : List Entry). IsSound key_value h'.table later (slots_of h') es) (sym entries)
         (subst (λ pages. IsSound key_value h'.table later pages h.index.entries) (sym slots) stays.sound);
-    lives = subst (λ pages. (n : ℕ) → Lives h'.table (slots_on pages n)) (sym slots) lives;
   };
   led = subst (λ (es : List Entry). KeepsLed (slots_of h) (slots_of h') h.index.entries es) (sym entries)
       (subst (λ pages. KeepsLed (slots_of h) pages h.index.entries h.index.entries) (sym slots) stays.led);
@@ -103,22 +77,19 @@ pub later-stays-sound : (h : HeapView) (horizon later : ℕ) → SoundTable h ho
     → turns h.table.first horizon ≤ turns h.table.first later → SoundTable h later
 later-stays-sound h horizon later s is upto upto_later low = record {
   sound = (later-stays key_value h.table horizon later (slots_of h) h.index.entries s.sound is upto upto_later low).sound;
-  lives = s.lives;
 }
 
-pub committed-stays : (h h' : HeapView) (horizon : ℕ) (ids : List ℕ) → SoundTable h horizon → Finishes h h' ids Committed → AreWhole h.table ids → StaysSoundTable h h' horizon
-committed-stays h h' horizon ids s f whole =
+pub committed-stays : (h h' : HeapView) (horizon : ℕ) (ids : List ℕ) → SoundTable h horizon → Finishes h h' ids Committed
+    → ((n : ℕ) → DeletedWhatWasMade h.table (slots_on (slots_of h) n) ids) → StaysSoundTable h h' horizon
+committed-stays h h' horizon ids s f theirs =
     slots-stay h h' horizon (ap (λ (p : PagesView). looking.slots_of p) f.pages) (ap (λ (i : IndexView). i.entries) f.index)
-    (committing-stays key_value h.table h'.table horizon ids (slots_of h) h.index.entries s.sound f.active f.finishes
-    (λ n. (committing-lives h.table h'.table horizon ids (slots_on (slots_of h) n) f.active f.finishes whole (s.sound.heap n) (s.lives n)).0))
-    (λ n. (committing-lives h.table h'.table horizon ids (slots_on (slots_of h) n) f.active f.finishes whole (s.sound.heap n) (s.lives n)).1)
+    (committing-stays key_value h.table h'.table horizon ids (slots_of h) h.index.entries s.sound f.active f.finishes theirs)
 
-pub aborted-stays : (h h' : HeapView) (horizon : ℕ) (ids : List ℕ) → SoundTable h horizon → Finishes h h' ids Aborted → AreLast h.table ids → StaysSoundTable h h' horizon
-aborted-stays h h' horizon ids s f last =
+pub aborted-stays : (h h' : HeapView) (horizon : ℕ) (ids : List ℕ) → SoundTable h horizon → Finishes h h' ids Aborted
+    → ((n : ℕ) → AloneDeletedTheirs h.table (slots_on (slots_of h) n) ids) → StaysSoundTable h h' horizon
+aborted-stays h h' horizon ids s f theirs =
     slots-stay h h' horizon (ap (λ (p : PagesView). looking.slots_of p) f.pages) (ap (λ (i : IndexView). i.entries) f.index)
-    (aborting-stays key_value h.table h'.table horizon ids (slots_of h) h.index.entries s.sound f.active f.finishes
-    (λ n. (aborting-lives h.table h'.table ids (slots_on (slots_of h) n) f.active f.finishes last (s.lives n)).0))
-    (λ n. (aborting-lives h.table h'.table ids (slots_on (slots_of h) n) f.active f.finishes last (s.lives n)).1)
+    (aborting-stays key_value h.table h'.table horizon ids (slots_of h) h.index.entries s.sound f.active f.finishes theirs)
 
 -- There is more memory.
 
@@ -126,7 +97,6 @@ pub kept-stays : (h h' : HeapView) (horizon : ℕ) → SoundTable h horizon → 
 kept-stays h h' horizon s k = slots-stay h h' horizon k.slots k.entries
     (statuses-stay h.table h'.table (λ x gone. same-status h.table h'.table k.table x ∙ gone) key_value horizon horizon (slots_of h) h.index.entries s.sound
     (λ n. same-sound h.table h'.table k.table horizon (slots_on (slots_of h) n) (s.sound.heap n)))
-    (λ n. same-lives h.table h'.table k.table (slots_on (slots_of h) n) (s.lives n))
 
 -- A page is made ready, with the ids as they were.
 
@@ -164,18 +134,18 @@ ready-stays h h' number horizon size s ready =
 
 -- An update fails.
 
-when-ready : (h h' : HeapView) (id : Option Xid) (place : Tid) (horizon size : ℕ) (P : HeapView → Type 0) → SoundTable h horizon → WhenReady h h' id place horizon size P → StaysSoundTable h h' horizon
-when-ready h h' id place horizon size P s r =
+when-ready : (h h' : HeapView) (own : Own) (place : Tid) (horizon size : ℕ) (P : HeapView → Type 0) → SoundTable h horizon → WhenReady h h' own place horizon size P → StaysSoundTable h h' horizon
+when-ready h h' own place horizon size P s r =
     let first = readied-stays h r.ready place.page horizon size s r.readies in
     stays-then h r.ready h' horizon s (λ e there. subst (λ (es : List Entry). Contains es e) (sym (ready-entries h r.ready place.page horizon size r.readies)) there)
     first (kept-stays r.ready h' horizon first.sound r.keeps)
 
-pub failed-stays : (h h' : HeapView) (horizon : ℕ) (id : Option Xid) (place : Tid) (row : Row) (fault : WriteFault) → SoundTable h horizon → FailsUpdate h h' id place row horizon fault → StaysSoundTable h h' horizon
-failed-stays h h' horizon id place row fault.NeedsFreeze s f = kept-stays h h' horizon s f.2
-failed-stays h h' horizon id place row fault.NoRoom s f = when-ready h h' id place horizon (rounded_size_of row) (λ ready. IsThere ready place × IsFull ready (rounded_size_of row)) s f
-failed-stays h h' horizon id place row fault.NoMemory s f = kept-stays h h' horizon s f.3
-failed-stays h h' horizon id place row fault.Gone s f = ⊎_elim (λ gone. kept-stays h h' horizon s gone.1)
-    (λ went. when-ready h h' id place horizon (rounded_size_of row) (λ ready. ¬ IsThere ready place) s went) f
+pub failed-stays : (h h' : HeapView) (horizon : ℕ) (own : Own) (place : Tid) (row : Row) (fault : WriteFault) → SoundTable h horizon → FailsUpdate h h' own place row horizon fault → StaysSoundTable h h' horizon
+failed-stays h h' horizon own place row fault.NeedsFreeze s f = kept-stays h h' horizon s f.2
+failed-stays h h' horizon own place row fault.NoRoom s f = when-ready h h' own place horizon (rounded_size_of row) (λ ready. IsThere ready place × IsFull ready (rounded_size_of row)) s f
+failed-stays h h' horizon own place row fault.NoMemory s f = kept-stays h h' horizon s f.3
+failed-stays h h' horizon own place row fault.Gone s f = ⊎_elim (λ gone. kept-stays h h' horizon s gone.1)
+    (λ went. when-ready h h' own place horizon (rounded_size_of row) (λ ready. ¬ IsThere ready place) s went) f
 
 -- There is nothing.
 
@@ -183,28 +153,17 @@ pub nothing-stays : (h : HeapView) (horizon : ℕ) → h.pages.pages ≡ [] → 
 nothing-stays h horizon pages entries = record {
   sound = subst (λ (es : List Entry). IsSound key_value h.table horizon (slots_of h) es) (sym entries)
       (subst (λ (ps : List PageView). IsSound key_value h.table horizon (map (λ (p : PageView). p.slots) ps) []) (sym pages) (nothing-sound key_value h.table horizon));
-  lives = λ n. subst (λ (ps : List PageView). Lives h.table (slots_on (map (λ (p : PageView). p.slots) ps) n)) (sym pages) (none n);
 }
-  where
-    no-version : (k : ℕ) (t : Version) → version_at [] k ≡ Some t → ⊥
-    no-version zero t at = none-some t at
-    no-version (suc k) t at = none-some t at
 
-    none : (n : ℕ) → Lives h.table (slots_on [] n)
-    none n = record { makers = λ k t at. absurd (no-version k t at); deleters = λ k t at thawed active. absurd (no-version k t at) }
+-- The ids that a session lacks are given.
 
--- An id is given, or was there.
-
-pub given-stays : (h : HeapView) (v : Window) (horizon : ℕ) (id : Option Xid) (x : ℕ) → SoundTable h horizon → IsWindow h.table → IsWindow v → IfSome id (λ y. IsActive h.table y.0)
-    → TakesId h.table v id x → SoundTable (record h { table = v }) horizon × IsActive v x
-given-stays h v horizon None x s before after active (is, gives) = (
+pub given-stays : (h : HeapView) (v : Window) (horizon : ℕ) (own own' : Own) (x : ℕ) → SoundTable h horizon → IsWindow h.table → IsWindow v
+    → ((y : ℕ) → Contains own.ids y → IsActive h.table y) → TakesIds h.table v own own' x → SoundTable (record h { table = v }) horizon × IsActive v x
+given-stays h v horizon own own' x s before after active takes = (
   record {
-    sound = (giving-stays key_value h.table v horizon None (slots_of h) h.index.entries s.sound before after gives).sound;
-    lives = λ n. giving-lives h.table v None (slots_on (slots_of h) n) before after gives (s.lives n);
+    sound = under-keeps (λ u. IsSound key_value u horizon (slots_of h) h.index.entries)
+        (λ a b parent wa wb gives sound. (giving-stays key_value a b horizon parent (slots_of h) h.index.entries sound wa wb gives).sound)
+        h.table v _ takes.given before after takes.gives s.sound;
   },
-  subst (IsActive v) (sym is) (gives-active_next h.table v None after gives),
-)
-given-stays h v horizon (Some y) x s before after active (is, same) = (
-  subst (λ (u : Window). SoundTable (record h { table = u }) horizon) (sym same) s,
-  subst (λ (u : Window). IsActive u x) (sym same) (subst (IsActive h.table) (sym is) active),
+  takes-active h.table v own own' x before after takes active x (takes-mine h.table v own own' x before after takes),
 )

@@ -1,4 +1,5 @@
 pub mod Memory
+pub mod TakenIds
 pub mod Standing
 pub mod Keeping
 pub mod Writing

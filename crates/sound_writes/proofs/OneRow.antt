@@ -1,10 +1,10 @@
 -- One row of a key comes in the place of another, or none.
-use Rattle.std.proofs.Common.{◌≡◌, ℕ, List, Option, Some, refl, sym, ap, ◌∙◌, ⊎_elim, inl, inr}
+use Rattle.std.proofs.Common.{◌≡◌, ℕ, List, Some, refl, sym, ap, ◌∙◌, ⊎_elim, inl, inr}
 use Rattle.std.proofs.lemmas.Option.{same_Some}
 use Rattle.xid_circle.specs.declared.Tid.{Tid}
-use Rattle.xid_circle.specs.declared.Xid.{Xid}
 use Rattle.tuple_header.specs.Version.{Version}
 use Rattle.tuple_header.specs.declared.version.Row.{Row}
+use Rattle.snapshot.specs.Own.{Own}
 use Rattle.snapshot.specs.Snap.{Snap}
 use Rattle.sound_entries.specs.Pages.{version_in}
 use Rattle.heap_write.specs.Heap.{HeapView, slots_of}
@@ -43,24 +43,24 @@ elsewhere-same h s own place t key at of p r other = (
   (λ pair. pair.0),
 )
 
-pub insert-puts : (h h' : HeapView) (horizon : ℕ) (id : Option Xid) (row : Row) (x : ℕ) (s : Snap) (own own' : List ℕ) → SoundTable h horizon → IsWriter h h' id
-    → Inserts h h' id row x → IsAuthor h horizon id x s own own' → FindsNone (Finds h s own) row.key → PutsRow (Finds h s own) (Finds h' s own') row
-insert-puts h h' horizon id row x s own own' sound writer i author none =
-    one-row (Finds h s own) (Finds h s own) (Finds h' s own') row (λ p r other. (λ f. f, λ f. f)) none (insert-found h h' horizon id row x s own own' sound writer i author)
+pub insert-puts : (h h' : HeapView) (horizon : ℕ) (own own' : Own) (row : Row) (x : ℕ) (s : Snap) → SoundTable h horizon → IsWriter h h' own
+    → Inserts h h' own own' row x → IsAuthor h horizon s own.ids → FindsNone (Finds h s own.ids) row.key → PutsRow (Finds h s own.ids) (Finds h' s own'.ids) row
+insert-puts h h' horizon own own' row x s sound writer i author none =
+    one-row (Finds h s own.ids) (Finds h s own.ids) (Finds h' s own'.ids) row (λ p r other. (λ f. f, λ f. f)) none (insert-found h h' horizon own own' row x s sound writer i author)
 
-pub update-puts : (h h' : HeapView) (horizon : ℕ) (id : Option Xid) (place : Tid) (t : Version) (row : Row) (x : ℕ) (s : Snap) (own own' : List ℕ) → SoundTable h horizon → IsWriter h h' id
-    → MayTake h id place t → row.key ≡ t.row.key → Updates h h' id place row horizon x → IsAuthor h horizon id x s own own'
-    → FindsNoneElsewhere (Finds h s own) row.key place → PutsRow (Finds h s own) (Finds h' s own') row
-update-puts h h' horizon id place t row x s own own' sound writer may key u author only =
-    one-row (Finds h s own) (Elsewhere place (Finds h s own)) (Finds h' s own') row (elsewhere-same h s own place t row.key may.there (sym key))
-    (λ p r of old. old.1 (only p r of old.0)) (update-found h h' horizon id place t row x s own own' sound writer may u author)
+pub update-puts : (h h' : HeapView) (horizon : ℕ) (own own' : Own) (place : Tid) (t : Version) (row : Row) (x : ℕ) (s : Snap) → SoundTable h horizon → IsWriter h h' own
+    → MayTake h place t → row.key ≡ t.row.key → Updates h h' own own' place row horizon x → IsAuthor h horizon s own.ids
+    → FindsNoneElsewhere (Finds h s own.ids) row.key place → PutsRow (Finds h s own.ids) (Finds h' s own'.ids) row
+update-puts h h' horizon own own' place t row x s sound writer may key u author only =
+    one-row (Finds h s own.ids) (Elsewhere place (Finds h s own.ids)) (Finds h' s own'.ids) row (elsewhere-same h s own.ids place t row.key may.there (sym key))
+    (λ p r of old. old.1 (only p r of old.0)) (update-found h h' horizon own own' place t row x s sound writer may u author)
 
-pub delete-takes : (h h' : HeapView) (horizon : ℕ) (id : Option Xid) (place : Tid) (t : Version) (x : ℕ) (s : Snap) (own own' : List ℕ) → SoundTable h horizon → IsWriter h h' id
-    → MayTake h id place t → Deletes h h' id place x → IsAuthor h horizon id x s own own' → FindsNoneElsewhere (Finds h s own) t.row.key place
-    → FindsNone (Finds h' s own') t.row.key × SameOfOthers (Finds h s own) (Finds h' s own') t.row.key
-delete-takes h h' horizon id place t x s own own' sound writer may d author only =
-    let found = delete-found h h' horizon id place t x s own own' sound writer may d author in
-    let same = elsewhere-same h s own place t t.row.key may.there refl in (
+pub delete-takes : (h h' : HeapView) (horizon : ℕ) (own own' : Own) (place : Tid) (t : Version) (x : ℕ) (s : Snap) → SoundTable h horizon → IsWriter h h' own
+    → MayTake h place t → Deletes h h' own own' place x → IsAuthor h horizon s own.ids → FindsNoneElsewhere (Finds h s own.ids) t.row.key place
+    → FindsNone (Finds h' s own'.ids) t.row.key × SameOfOthers (Finds h s own.ids) (Finds h' s own'.ids) t.row.key
+delete-takes h h' horizon own own' place t x s sound writer may d author only =
+    let found = delete-found h h' horizon own own' place t x s sound writer may d author in
+    let same = elsewhere-same h s own.ids place t t.row.key may.there refl in (
       (λ p r of f. let old = (found p r).0 f in old.1 (only p r of old.0)),
       (λ p r other. ((λ f. (found p r).1 ((same p r other).0 f)), (λ f. (same p r other).1 ((found p r).0 f)))),
     )

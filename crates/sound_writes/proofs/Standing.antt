@@ -5,7 +5,6 @@ use Rattle.std.specs.Option.{option_and_then}
 use Rattle.std.proofs.lemmas.Bool.{cases_eq}
 use Rattle.std.proofs.lemmas.Option.{slice_get_within, none-some}
 use Rattle.xid_circle.specs.declared.Tid.{Tid}
-use Rattle.xid_circle.specs.declared.Xid.{Xid}
 use Rattle.tuple_header.specs.Version.{Version, rounded_size_of}
 use Rattle.tuple_header.specs.Marks.{is_frozen}
 use Rattle.tuple_header.specs.declared.version.Row.{Row}
@@ -23,6 +22,7 @@ use Rattle.sound_entries.specs.Pages.{slots_on, version_in, Puts}
 use Rattle.sound_entries.proofs.Leads.{tid-same}
 use Rattle.sound_entries.proofs.Fetching.{slots-there}
 use Rattle.sound_entries.proofs.Tables.{puts-with_page, puts-pushed}
+use Rattle.snapshot.specs.Own.{Own}
 use Rattle.heap_write.specs.Heap.{HeapView, slots_of, unused_page, page_on, PutsPage}
 use Rattle.heap_write.specs.Writes.{PutsRoot, TakesAway, ReplacesHere, Replaces, Readies, Prunes, Inserts, Updates, Deletes}
 use Rattle.sound_writes.proofs.Memory.{cut-back}
@@ -314,23 +314,23 @@ readies-stand h h' n horizon size (Readies.is_pruned full grown keeps prunes) =
 
 -- Writes.
 
-pub inserts-stand : (h h' : HeapView) (id : Option Xid) (row : Row) (x : ℕ) (i : Inserts h h' id row x)
+pub inserts-stand : (h h' : HeapView) (own own' : Own) (row : Row) (x : ℕ) (i : Inserts h h' own own' row x)
     → AddsAt (version_in (slots_of h)) (version_in (slots_of h')) (free_place h i.number) (root_version h false x row i.number)
-inserts-stand h h' id row x i = root-stands h h' false x row i.number i.root
+inserts-stand h h' own own' row x i = root-stands h h' false x row i.number i.root
 
-pub deletes-stand : (h h' : HeapView) (id : Option Xid) (place : Tid) (x : ℕ) (t : Version) → Deletes h h' id place x → version_in (slots_of h) place ≡ Some t
+pub deletes-stand : (h h' : HeapView) (own own' : Own) (place : Tid) (x : ℕ) (t : Version) → Deletes h h' own own' place x → version_in (slots_of h) place ≡ Some t
     → AltersAt (version_in (slots_of h)) (version_in (slots_of h')) place t (taken_version t x place false)
-deletes-stand h h' id place x t d at = away-stands h h' place x place t d.away at
+deletes-stand h h' own own' place x t d at = away-stands h h' place x place t d.away at
 
 -- whatever the page of the old version was made ready, the old version is still there
-pub updates-ready : (h h' : HeapView) (id : Option Xid) (place : Tid) (row : Row) (horizon x : ℕ) (t : Version) (u : Updates h h' id place row horizon x)
+pub updates-ready : (h h' : HeapView) (own own' : Own) (place : Tid) (row : Row) (horizon x : ℕ) (t : Version) (u : Updates h h' own own' place row horizon x)
     → version_in (slots_of h) place ≡ Some t → version_in (slots_of u.ready) place ≡ Some t
-updates-ready h h' id place row horizon x t u at =
+updates-ready h h' own own' place row horizon x t u at =
     let some = normal_at (page_on u.ready place.page).slots place.slot u.there in
     let there : version_in (slots_of u.ready) place ≡ Some some.0 = version-on u.ready place ∙ version_at-from_slot_at (page_on u.ready place.page).slots place.slot some.0 some.1 in
     let was = (readies-stand h u.ready place.page horizon (rounded_size_of row) u.readies).kept place some.0 there in
     there ∙ sym was ∙ at
 
-pub updates-stand : (h h' : HeapView) (id : Option Xid) (place : Tid) (row : Row) (horizon x : ℕ) (t : Version) (u : Updates h h' id place row horizon x)
+pub updates-stand : (h h' : HeapView) (own own' : Own) (place : Tid) (row : Row) (horizon x : ℕ) (t : Version) (u : Updates h h' own own' place row horizon x)
     → version_in (slots_of h) place ≡ Some t → Replaced (version_in (slots_of u.ready)) (version_in (slots_of h')) place t x row
-updates-stand h h' id place row horizon x t u at = replaces-stand u.ready h' place x row t u.replaces (updates-ready h h' id place row horizon x t u at)
+updates-stand h h' own own' place row horizon x t u at = replaces-stand u.ready h' place x row t u.replaces (updates-ready h h' own own' place row horizon x t u at)

@@ -1,10 +1,10 @@
 -- What who writes finds of each key, where it found one row of the key at most.
-use Rattle.std.specs.Prelude.{◌≡◌, ◌≢◌, ◌↔◌, ℕ, List, Option}
+use Rattle.std.specs.Prelude.{◌≡◌, ◌≢◌, ◌↔◌, ℕ}
 use Rattle.xid_circle.specs.declared.Tid.{Tid}
-use Rattle.xid_circle.specs.declared.Xid.{Xid}
 use Rattle.tuple_header.specs.Version.{Version}
 use Rattle.tuple_header.specs.declared.version.Row.{Row}
 use Rattle.snapshot.specs.Snap.{Snap}
+use Rattle.snapshot.specs.Own.{Own}
 use Rattle.heap_write.specs.Heap.{HeapView}
 use Rattle.heap_write.specs.Writes.{Inserts, Updates, Deletes}
 use Rattle.sound_writes.specs.Table.{SoundTable, MayTake}
@@ -34,15 +34,15 @@ pub record PutsRow (before after : Tid → Row → Type 0) (row : Row) : Type 0 
   pub others : SameOfOthers before after row.key
 
 abbrev pub InsertPutsRow : Type 0
-InsertPutsRow = (h h' : HeapView) (horizon : ℕ) (id : Option Xid) (row : Row) (x : ℕ) (s : Snap) (own own' : List ℕ) → SoundTable h horizon → IsWriter h h' id
-    → Inserts h h' id row x → IsAuthor h horizon id x s own own' → FindsNone (Finds h s own) row.key → PutsRow (Finds h s own) (Finds h' s own') row
+InsertPutsRow = (h h' : HeapView) (horizon : ℕ) (own own' : Own) (row : Row) (x : ℕ) (s : Snap) → SoundTable h horizon → IsWriter h h' own
+    → Inserts h h' own own' row x → IsAuthor h horizon s own.ids → FindsNone (Finds h s own.ids) row.key → PutsRow (Finds h s own.ids) (Finds h' s own'.ids) row
 
 abbrev pub UpdatePutsRow : Type 0
-UpdatePutsRow = (h h' : HeapView) (horizon : ℕ) (id : Option Xid) (place : Tid) (t : Version) (row : Row) (x : ℕ) (s : Snap) (own own' : List ℕ) → SoundTable h horizon → IsWriter h h' id
-    → MayTake h id place t → row.key ≡ t.row.key → Updates h h' id place row horizon x → IsAuthor h horizon id x s own own'
-    → FindsNoneElsewhere (Finds h s own) row.key place → PutsRow (Finds h s own) (Finds h' s own') row
+UpdatePutsRow = (h h' : HeapView) (horizon : ℕ) (own own' : Own) (place : Tid) (t : Version) (row : Row) (x : ℕ) (s : Snap) → SoundTable h horizon → IsWriter h h' own
+    → MayTake h place t → row.key ≡ t.row.key → Updates h h' own own' place row horizon x → IsAuthor h horizon s own.ids
+    → FindsNoneElsewhere (Finds h s own.ids) row.key place → PutsRow (Finds h s own.ids) (Finds h' s own'.ids) row
 
 abbrev pub DeleteTakesRow : Type 0
-DeleteTakesRow = (h h' : HeapView) (horizon : ℕ) (id : Option Xid) (place : Tid) (t : Version) (x : ℕ) (s : Snap) (own own' : List ℕ) → SoundTable h horizon → IsWriter h h' id
-    → MayTake h id place t → Deletes h h' id place x → IsAuthor h horizon id x s own own' → FindsNoneElsewhere (Finds h s own) t.row.key place
-    → FindsNone (Finds h' s own') t.row.key × SameOfOthers (Finds h s own) (Finds h' s own') t.row.key
+DeleteTakesRow = (h h' : HeapView) (horizon : ℕ) (own own' : Own) (place : Tid) (t : Version) (x : ℕ) (s : Snap) → SoundTable h horizon → IsWriter h h' own
+    → MayTake h place t → Deletes h h' own own' place x → IsAuthor h horizon s own.ids → FindsNoneElsewhere (Finds h s own.ids) t.row.key place
+    → FindsNone (Finds h' s own'.ids) t.row.key × SameOfOthers (Finds h s own.ids) (Finds h' s own'.ids) t.row.key

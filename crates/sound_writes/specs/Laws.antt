@@ -1,42 +1,45 @@
 -- What each step keeps of a table.
-use Rattle.std.specs.Prelude.{◌≡◌, ◌≤◌, ℕ, List, [], Option, IfSome, Contains}
+use Rattle.std.specs.Prelude.{◌≡◌, ◌≤◌, ℕ, List, [], Contains}
 use Rattle.xid_circle.specs.declared.Tid.{Tid}
-use Rattle.xid_circle.specs.declared.Xid.{Xid}
 use Rattle.tuple_header.specs.Version.{Version}
 use Rattle.tuple_header.specs.declared.version.Row.{Row}
 use Rattle.commit_status.specs.declared.status.Status.{Status}
 use Rattle.commit_status.specs.declared.status.Status.TheVariants.{Committed, Aborted}
 use Rattle.commit_status.specs.Window.{IsWindow, IsActive, IsUpToNext, turns}
 use Rattle.commit_status.specs.Changes as changes
-use Rattle.page_writes.specs.Lives.{AreWhole, AreLast}
-use Rattle.heap_write.specs.Heap.{HeapView, Keeps}
+use Rattle.snapshot.specs.Own.{Own}
+use Rattle.page_writes.specs.Laws.{DeletedWhatWasMade, AloneDeletedTheirs}
+use Rattle.sound_entries.specs.Pages.{slots_on}
+use Rattle.heap_write.specs.Heap.{HeapView, slots_of, Keeps}
 use Rattle.heap_write.specs.Writes.{Inserts, Updates, Deletes, Prunes}
 use Rattle.heap_write.specs.Refusals.{FailsUpdate}
 use Rattle.heap_write.specs.declared.heap.WriteFault.{WriteFault}
 use Rattle.sound_writes.specs.Table.{SoundTable, StaysSoundTable, MayTake}
 
--- Writes. The id that was there is in progress; so is one that is given.
+-- Writes. The ids that the writer has are in progress; so are those that it is given.
 
-abbrev pub IsWriter : HeapView → HeapView → Option Xid → Type 0
-IsWriter h h' id = IsWindow h.table × IsWindow h'.table × IfSome id (λ x. IsActive h.table x.0)
+pub record IsWriter (h h' : HeapView) (own : Own) : Type 0 where
+  pub before : IsWindow h.table
+  pub after : IsWindow h'.table
+  pub active : (x : ℕ) → Contains own.ids x → IsActive h.table x
 
 abbrev pub InsertingStaysSound : Type 0
-InsertingStaysSound = (h h' : HeapView) (horizon : ℕ) (id : Option Xid) (row : Row) (x : ℕ) → SoundTable h horizon → IsWriter h h' id
-    → Inserts h h' id row x → StaysSoundTable h h' horizon
+InsertingStaysSound = (h h' : HeapView) (horizon : ℕ) (own own' : Own) (row : Row) (x : ℕ) → SoundTable h horizon → IsWriter h h' own
+    → Inserts h h' own own' row x → StaysSoundTable h h' horizon
 
 -- the new row has the key of the old one; if the page of the old version is pruned, then at this horizon
 abbrev pub UpdatingStaysSound : Type 0
-UpdatingStaysSound = (h h' : HeapView) (horizon : ℕ) (id : Option Xid) (place : Tid) (t : Version) (row : Row) (x : ℕ) → SoundTable h horizon → IsWriter h h' id
-    → MayTake h id place t → row.key ≡ t.row.key → Updates h h' id place row horizon x → StaysSoundTable h h' horizon
+UpdatingStaysSound = (h h' : HeapView) (horizon : ℕ) (own own' : Own) (place : Tid) (t : Version) (row : Row) (x : ℕ) → SoundTable h horizon → IsWriter h h' own
+    → MayTake h place t → row.key ≡ t.row.key → Updates h h' own own' place row horizon x → StaysSoundTable h h' horizon
 
 abbrev pub DeletingStaysSound : Type 0
-DeletingStaysSound = (h h' : HeapView) (horizon : ℕ) (id : Option Xid) (place : Tid) (t : Version) (x : ℕ) → SoundTable h horizon → IsWriter h h' id
-    → MayTake h id place t → Deletes h h' id place x → StaysSoundTable h h' horizon
+DeletingStaysSound = (h h' : HeapView) (horizon : ℕ) (own own' : Own) (place : Tid) (t : Version) (x : ℕ) → SoundTable h horizon → IsWriter h h' own
+    → MayTake h place t → Deletes h h' own own' place x → StaysSoundTable h h' horizon
 
 -- an update that fails has pruned a page at most
 abbrev pub FailingUpdateStaysSound : Type 0
-FailingUpdateStaysSound = (h h' : HeapView) (horizon : ℕ) (id : Option Xid) (place : Tid) (row : Row) (fault : WriteFault) → SoundTable h horizon
-    → FailsUpdate h h' id place row horizon fault → StaysSoundTable h h' horizon
+FailingUpdateStaysSound = (h h' : HeapView) (horizon : ℕ) (own : Own) (place : Tid) (row : Row) (fault : WriteFault) → SoundTable h horizon
+    → FailsUpdate h h' own place row horizon fault → StaysSoundTable h h' horizon
 
 -- Steps that write no row.
 
@@ -55,12 +58,12 @@ pub record Finishes (h h' : HeapView) (ids : List ℕ) (status : Status) : Type 
   pub index : h'.index ≡ h.index
 
 abbrev pub CommittingStaysSound : Type 0
-CommittingStaysSound = (h h' : HeapView) (horizon : ℕ) (ids : List ℕ) → SoundTable h horizon → Finishes h h' ids Committed → AreWhole h.table ids
-    → StaysSoundTable h h' horizon
+CommittingStaysSound = (h h' : HeapView) (horizon : ℕ) (ids : List ℕ) → SoundTable h horizon → Finishes h h' ids Committed
+    → ((n : ℕ) → DeletedWhatWasMade h.table (slots_on (slots_of h) n) ids) → StaysSoundTable h h' horizon
 
 abbrev pub AbortingStaysSound : Type 0
-AbortingStaysSound = (h h' : HeapView) (horizon : ℕ) (ids : List ℕ) → SoundTable h horizon → Finishes h h' ids Aborted → AreLast h.table ids
-    → StaysSoundTable h h' horizon
+AbortingStaysSound = (h h' : HeapView) (horizon : ℕ) (ids : List ℕ) → SoundTable h horizon → Finishes h h' ids Aborted
+    → ((n : ℕ) → AloneDeletedTheirs h.table (slots_on (slots_of h) n) ids) → StaysSoundTable h h' horizon
 
 abbrev pub LaterHorizonStaysSound : Type 0
 LaterHorizonStaysSound = (h : HeapView) (horizon later : ℕ) → SoundTable h horizon → IsWindow h.table → IsUpToNext h.table horizon → IsUpToNext h.table later

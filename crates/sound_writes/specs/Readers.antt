@@ -2,13 +2,13 @@
 -- transaction sees its own changes, and nobody else sees them while it is open.)
 use Rattle.std.specs.Prelude.{◌≡◌, ◌≢◌, ◌⊎◌, ◌↔◌, ℕ, List, Option, Some, Contains}
 use Rattle.xid_circle.specs.declared.Tid.{Tid}
-use Rattle.xid_circle.specs.declared.Xid.{Xid}
 use Rattle.tuple_header.specs.Version.{Version}
 use Rattle.tuple_header.specs.declared.version.Header.{Header}
 use Rattle.tuple_header.specs.declared.version.Row.{Row}
 use Rattle.commit_status.specs.Window.{IsGiven}
 use Rattle.snapshot.specs.Snap.{Snap}
-use Rattle.visibility.specs.Visible.{IsVisible}
+use Rattle.snapshot.specs.Own.{Own}
+use Rattle.visibility.specs.Visible.{IsFrozen, IsVisible}
 use Rattle.prune.specs.Readers.{IsOpenReader}
 use Rattle.sound_entries.specs.Pages.{slots_on, version_in}
 use Rattle.heap_write.specs.Heap.{HeapView, slots_of}
@@ -43,26 +43,25 @@ PruningIsUnseen = (h h' : HeapView) (number horizon : ℕ) (s : Snap) (own : Lis
 
 -- a write is seen by nobody who doesn't own its id
 abbrev pub InsertingIsUnseen : Type 0
-InsertingIsUnseen = (h h' : HeapView) (horizon : ℕ) (id : Option Xid) (row : Row) (x : ℕ) (s : Snap) (own : List ℕ) → IsWriter h h' id → Inserts h h' id row x
-    → IsReader h horizon s own → ¬ Contains own x → FindsTheSame h h' s own
+InsertingIsUnseen = (h h' : HeapView) (horizon : ℕ) (own own' : Own) (row : Row) (x : ℕ) (s : Snap) (ids : List ℕ) → IsWriter h h' own → Inserts h h' own own' row x
+    → IsReader h horizon s ids → ¬ Contains ids x → FindsTheSame h h' s ids
 
 abbrev pub UpdatingIsUnseen : Type 0
-UpdatingIsUnseen = (h h' : HeapView) (horizon : ℕ) (id : Option Xid) (place : Tid) (t : Version) (row : Row) (x : ℕ) (s : Snap) (own : List ℕ) → SoundTable h horizon → IsWriter h h' id
-    → MayTake h id place t → Updates h h' id place row horizon x → IsReader h horizon s own → ¬ Contains own x → FindsTheSame h h' s own
+UpdatingIsUnseen = (h h' : HeapView) (horizon : ℕ) (own own' : Own) (place : Tid) (t : Version) (row : Row) (x : ℕ) (s : Snap) (ids : List ℕ) → SoundTable h horizon → IsWriter h h' own
+    → MayTake h place t → Updates h h' own own' place row horizon x → IsReader h horizon s ids → ¬ Contains ids x → FindsTheSame h h' s ids
 
 abbrev pub DeletingIsUnseen : Type 0
-DeletingIsUnseen = (h h' : HeapView) (horizon : ℕ) (id : Option Xid) (place : Tid) (t : Version) (x : ℕ) (s : Snap) (own : List ℕ) → IsWriter h h' id
-    → MayTake h id place t → Deletes h h' id place x → IsReader h horizon s own → ¬ Contains own x → FindsTheSame h h' s own
+DeletingIsUnseen = (h h' : HeapView) (horizon : ℕ) (own own' : Own) (place : Tid) (t : Version) (x : ℕ) (s : Snap) (ids : List ℕ) → IsWriter h h' own
+    → MayTake h place t → Deletes h h' own own' place x → IsReader h horizon s ids → ¬ Contains ids x → FindsTheSame h h' s ids
 
 -- Who writes finds what it has written.
 
--- the reader writes under the id, if one was given, and x is one of its ids then
-pub record IsAuthor (h : HeapView) (horizon : ℕ) (id : Option Xid) (x : ℕ) (s : Snap) (own own' : List ℕ) : Type 0 where
+-- the reader has these ids of its own before it writes
+pub record IsAuthor (h : HeapView) (horizon : ℕ) (s : Snap) (own : List ℕ) : Type 0 where
   pub reader : IsReader h horizon s own
-  pub mine : (y : Xid) → id ≡ Some y → Contains own y.0
-  pub ids : (y : ℕ) → Contains own' y ↔ (Contains own y ⊎ (y ≡ x))
-  -- each deleter on a page is an id that was given
-  pub given : (p : Tid) (t : Version) → version_in (slots_of h) p ≡ Some t → t.header.xmax.0 ≢ 0 → IsGiven h.table t.header.xmax.0
+  -- each maker and each deleter on a page is an id that was given
+  pub makers : (p : Tid) (t : Version) → version_in (slots_of h) p ≡ Some t → ¬ IsFrozen t.header → IsGiven h.table t.header.xmin.0
+  pub deleters : (p : Tid) (t : Version) → version_in (slots_of h) p ≡ Some t → t.header.xmax.0 ≢ 0 → IsGiven h.table t.header.xmax.0
 
 -- the same is found at each place, and this row at one more
 pub record FindsOneMore (before after : Tid → Row → Type 0) (row : Row) : Type 0 where
@@ -75,16 +74,16 @@ abbrev pub Elsewhere : Tid → (Tid → Row → Type 0) → Tid → Row → Type
 Elsewhere place finds p row = finds p row × (p ≢ place)
 
 abbrev pub InsertIsFound : Type 0
-InsertIsFound = (h h' : HeapView) (horizon : ℕ) (id : Option Xid) (row : Row) (x : ℕ) (s : Snap) (own own' : List ℕ) → SoundTable h horizon → IsWriter h h' id
-    → Inserts h h' id row x → IsAuthor h horizon id x s own own' → FindsOneMore (Finds h s own) (Finds h' s own') row
+InsertIsFound = (h h' : HeapView) (horizon : ℕ) (own own' : Own) (row : Row) (x : ℕ) (s : Snap) → SoundTable h horizon → IsWriter h h' own
+    → Inserts h h' own own' row x → IsAuthor h horizon s own.ids → FindsOneMore (Finds h s own.ids) (Finds h' s own'.ids) row
 
 -- the old row goes, and the new one comes
 abbrev pub UpdateIsFound : Type 0
-UpdateIsFound = (h h' : HeapView) (horizon : ℕ) (id : Option Xid) (place : Tid) (t : Version) (row : Row) (x : ℕ) (s : Snap) (own own' : List ℕ) → SoundTable h horizon → IsWriter h h' id
-    → MayTake h id place t → Updates h h' id place row horizon x → IsAuthor h horizon id x s own own'
-    → FindsOneMore (Elsewhere place (Finds h s own)) (Finds h' s own') row
+UpdateIsFound = (h h' : HeapView) (horizon : ℕ) (own own' : Own) (place : Tid) (t : Version) (row : Row) (x : ℕ) (s : Snap) → SoundTable h horizon → IsWriter h h' own
+    → MayTake h place t → Updates h h' own own' place row horizon x → IsAuthor h horizon s own.ids
+    → FindsOneMore (Elsewhere place (Finds h s own.ids)) (Finds h' s own'.ids) row
 
 abbrev pub DeleteIsFound : Type 0
-DeleteIsFound = (h h' : HeapView) (horizon : ℕ) (id : Option Xid) (place : Tid) (t : Version) (x : ℕ) (s : Snap) (own own' : List ℕ) → SoundTable h horizon → IsWriter h h' id
-    → MayTake h id place t → Deletes h h' id place x → IsAuthor h horizon id x s own own'
-    → (p : Tid) (r : Row) → Finds h' s own' p r ↔ Elsewhere place (Finds h s own) p r
+DeleteIsFound = (h h' : HeapView) (horizon : ℕ) (own own' : Own) (place : Tid) (t : Version) (x : ℕ) (s : Snap) → SoundTable h horizon → IsWriter h h' own
+    → MayTake h place t → Deletes h h' own own' place x → IsAuthor h horizon s own.ids
+    → (p : Tid) (r : Row) → Finds h' s own'.ids p r ↔ Elsewhere place (Finds h s own.ids) p r

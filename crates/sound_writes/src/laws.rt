@@ -7,13 +7,13 @@ pub fn inserting_stays_sound()
     ensures { InsertingStaysSound }
 {}
 
-/// A table stays sound when a version is updated to a row of the same key by whom it is free for: on its page, or to
+/// A table stays sound when a version that may be taken away is updated to a row of the same key: on its page, or to
 /// another, whether or not its page is pruned for that.
 pub fn updating_stays_sound()
     ensures { UpdatingStaysSound }
 {}
 
-/// A table stays sound when a version is deleted by whom it is free for.
+/// A table stays sound when a version that may be taken away is deleted.
 pub fn deleting_stays_sound()
     ensures { DeletingStaysSound }
 {}
@@ -33,12 +33,12 @@ pub fn keeping_stays_sound()
     ensures { KeepingStaysSound }
 {}
 
-/// A table stays sound when whole transactions commit.
+/// A table stays sound when ids commit that have deleted only what was made by themselves, or is frozen or committed.
 pub fn committing_stays_sound()
     ensures { CommittingStaysSound }
 {}
 
-/// A table stays sound when the last ids of transactions are aborted.
+/// A table stays sound when ids are aborted whose versions nobody else has deleted.
 pub fn aborting_stays_sound()
     ensures { AbortingStaysSound }
 {}

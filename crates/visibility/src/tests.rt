@@ -83,7 +83,7 @@ fn taken(rt: &HostRuntime, table: &StatusTable, own: &OwnIds) -> Option<Snapshot
 fn owner_of(rt: &HostRuntime, x: u32) -> OwnIds {
     let mut own = OwnIds::new(rt.alloc());
     if x >= 3 && own.make_room(1).is_ok() {
-        own.push(Xid(x));
+        own.add(Xid(x));
     }
     own
 }

@@ -1,6 +1,6 @@
 use Rattle.std.proofs.Common.{subst}
 use Rattle.xid_circle.specs.declared.Xid.{Xid}
-use Rattle.heap_write.specs.Writes.{TakesId}
+use Rattle.heap_write.specs.Writes.{TakesIds}
 use Rattle.heap_write.specs.Refusals.{IsThere}
 use Rattle.tuple_header.specs.Version.{rounded_size_of}
 use Rattle.heap_write.specs.Growth.{IsReady}
@@ -31,13 +31,13 @@ returns-in-Ok-prune_page-clause-ok c =
     let done = c.update_ready.ensures in
     let reserved = c.reserve_update-reserved.ensures in
     let ready = c.prune_page.new.self in
-    let Begun : Xid → Type 0 = λ x. TakesId ready.table c.update_ready.new.self.table c.args.id x.0 × IsThere ready c.args.place in
+    let Begun : Xid → Type 0 = λ x. TakesIds ready.table c.update_ready.new.self.table c.reserve_update-reserved.new.own c.update_ready.new.own x.0 × IsThere ready c.args.place in
     let begun = both-ok {C = Begun} c.update_ready.result (λ x takes there. (takes, there)) done.takes done.there in
-    both-ok {A = Begun} c.update_ready.result (λ x first replaces. updates c.args.self.now c.reserve_update-reserved.new.self c.prune_page.new.self c.update_ready.new.self c.args.id c.args.place c.args.row
-    c.args.horizon.0 x.0 c.requires.free c.requires.room reserved.keeps reserved.grows_ids c.in-Ok-prune_page.ensures.ok first.0 first.1 replaces done.max_pages) begun done.replaces
+    both-ok {A = Begun} c.update_ready.result (λ x first replaces. updates c.args.self.now c.reserve_update-reserved.new.self c.prune_page.new.self c.update_ready.new.self c.args.own.now c.reserve_update-reserved.new.own c.update_ready.new.own c.args.place c.args.row
+    c.args.horizon.0 x.0 c.requires.free c.requires.room reserved.keeps reserved.own reserved.none c.in-Ok-prune_page.ensures.ok first.0 first.1 replaces done.max_pages) begun done.replaces
 
 pub returns-in-Ok-prune_page-clause-fault : goal.returns-in-Ok-prune_page-clause-fault
 returns-in-Ok-prune_page-clause-fault c =
     let done = c.update_ready.ensures in
-    both-err c.update_ready.result (λ fault failed same. fails c.args.self.now c.reserve_update-reserved.new.self c.prune_page.new.self c.update_ready.new.self c.args.id c.args.place c.args.row
+    both-err c.update_ready.result (λ fault failed same. fails c.args.self.now c.reserve_update-reserved.new.self c.prune_page.new.self c.update_ready.new.self c.args.own.now c.args.place c.args.row
     c.args.horizon.0 fault c.requires.there c.requires.free c.requires.room c.reserve_update-reserved.ensures.keeps c.in-Ok-prune_page.ensures.ok same failed) done.fault done.err

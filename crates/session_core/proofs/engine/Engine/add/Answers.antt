@@ -1,4 +1,4 @@
-use Rattle.std.proofs.Common.{Option, None, sym, subst}
+use Rattle.std.proofs.Common.{◌∙◌, Option, None, sym, subst}
 use Rattle.commit_status.specs.Window.{Window, IsWindow}
 use Rattle.session_relation.specs.declared.reply.Reply.{Reply}
 use Rattle.session_core.specs.declared.session.Session.{Session}
@@ -13,6 +13,14 @@ use Rattle.session_core.proofs.Trying.{with_session, keeps-insert, insert-tried,
 use Rattle.session_core.proofs.Writing.{Follows-inserted}
 use Rattle.session_core.proofs.engine.Engine.add.Goals as goal
 
+pub insert_open-outcome-requires-clause-active : goal.insert_open-outcome-requires-clause-active
+insert_open-outcome-requires-clause-active c =
+    let M : State → Type 0 = λ st. MayWrite st c.args.s c.args.row.key None in
+    let may = subst M (sym c.self.view_is) c.requires in
+    let within = open-within c.self.inside.sessions.items c.args.s may.session may.reads.at in
+    let read = open-read c.self.inside.sessions.items c.args.s c.index_mut.result.now within c.index_mut.ensures.value in
+    λ e x is mine. c.self.invariant.own.active c.args.s e x (read ∙ is) mine
+
 pub invariant_of-self : goal.invariant_of-self
 invariant_of-self c =
     let before : State = record { settings = c.self.inside.settings; heap = c.self.inside.heap; sessions = c.self.inside.sessions.items } in
@@ -24,8 +32,7 @@ invariant_of-self c =
     let T : Option Session → Type 0 = λ o. OnOpen o r.new.session (λ e e'. TriesInsert c.self.inside.heap r.new.heap e e' c.args.row r.result) in
     let tries = subst T (sym read) r.ensures in
     let window = subst (λ (w : Window). IsWindow w) c.table.ensures c.is_window.ensures in
-    let window' = subst (λ (w : Window). IsWindow w) c.table-2.ensures c.is_window-2.ensures in
-    keeps-insert c.self.inside.sessions.items c.self.inside.heap r.new.heap c.args.s c.index_mut.result.now r.new.session c.args.row r.result read r.ensures window window' c.self.invariant
+    keeps-insert c.self.inside.sessions.items c.self.inside.heap r.new.heap c.args.s c.index_mut.result.now r.new.session c.args.row r.result read r.ensures window c.self.invariant
 
 pub returns-clause-follows : goal.returns-clause-follows
 returns-clause-follows c =
@@ -37,12 +44,12 @@ returns-clause-follows c =
     let r = c.insert_open-outcome in
     let T : Option Session → Type 0 = λ o. OnOpen o r.new.session (λ e e'. TriesInsert c.self.inside.heap r.new.heap e e' c.args.row r.result) in
     let tries = subst T (sym read) r.ensures in
-    let window' = subst (λ (w : Window). IsWindow w) c.table-2.ensures c.is_window-2.ensures in
+    let window = subst (λ (w : Window). IsWindow w) c.table.ensures c.is_window.ensures in
     let tried = insert-tried before r.new.heap c.args.s r.new.session c.args.row r.result may tries in
     let after = with_session before r.new.heap c.args.s r.new.session in
     let P : State → Type 0 = λ st. FollowsInsert st c.args.s c.args.row c.reply_of.result after in
     let R : Reply → Type 0 = λ reply. FollowsInsert before c.args.s c.args.row reply after in
-    subst P c.self.view_is (subst R (sym c.reply_of.ensures) (Follows-inserted before after c.args.s c.args.row r.result tried window'))
+    subst P c.self.view_is (subst R (sym c.reply_of.ensures) (Follows-inserted before after c.args.s c.args.row r.result tried window))
 
 pub returns-clause-exact : goal.returns-clause-exact
 returns-clause-exact c =

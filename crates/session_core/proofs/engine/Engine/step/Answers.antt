@@ -51,3 +51,12 @@ returns-in-Delete-clause-follows c = subst (λ (step : Step). Follows c.args.sel
 
 pub returns-in-Delete-clause-exact : goal.returns-in-Delete-clause-exact
 returns-in-Delete-clause-exact c = subst (λ (step : Step). Exact c.args.self.now step c.delete.result c.delete.new.self) (sym c.in-Delete.is) c.delete.ensures.exact
+
+pub returns-in-Savepoint-clause-follows : goal.returns-in-Savepoint-clause-follows
+returns-in-Savepoint-clause-follows c = subst (λ (step : Step). Follows c.args.self.now step c.savepoint.result c.savepoint.new.self) (sym c.in-Savepoint.is) c.savepoint.ensures.follows
+
+pub returns-in-RollbackTo-clause-follows : goal.returns-in-RollbackTo-clause-follows
+returns-in-RollbackTo-clause-follows c = subst (λ (step : Step). Follows c.args.self.now step c.rollback_to.result c.rollback_to.new.self) (sym c.in-RollbackTo.is) c.rollback_to.ensures.follows
+
+pub returns-in-Release-clause-follows : goal.returns-in-Release-clause-follows
+returns-in-Release-clause-follows c = subst (λ (step : Step). Follows c.args.self.now step c.release.result c.release.new.self) (sym c.in-Release.is) c.release.ensures.follows

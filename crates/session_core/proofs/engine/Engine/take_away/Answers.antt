@@ -1,4 +1,4 @@
-use Rattle.std.proofs.Common.{Option, Some, sym, subst}
+use Rattle.std.proofs.Common.{◌∙◌, Option, Some, sym, subst}
 use Rattle.commit_status.specs.Window.{Window, IsWindow}
 use Rattle.session_relation.specs.declared.step.Step.TheVariants.{Delete}
 use Rattle.session_relation.specs.declared.reply.Reply.{Reply}
@@ -14,6 +14,14 @@ use Rattle.session_core.proofs.Trying.{with_session, keeps-delete, delete-tried,
 use Rattle.session_core.proofs.Writing.{Follows-deleted}
 use Rattle.session_core.proofs.engine.Engine.take_away.Goals as goal
 
+pub delete_open-outcome-requires-clause-active : goal.delete_open-outcome-requires-clause-active
+delete_open-outcome-requires-clause-active c =
+    let M : State → Type 0 = λ st. MayWrite st c.args.s c.args.key (Some c.args.place) in
+    let may = subst M (sym c.self.view_is) c.requires in
+    let within = open-within c.self.inside.sessions.items c.args.s may.session may.reads.at in
+    let read = open-read c.self.inside.sessions.items c.args.s c.index_mut.result.now within c.index_mut.ensures.value in
+    λ e x is mine. c.self.invariant.own.active c.args.s e x (read ∙ is) mine
+
 pub invariant_of-self : goal.invariant_of-self
 invariant_of-self c =
     let before : State = record { settings = c.self.inside.settings; heap = c.self.inside.heap; sessions = c.self.inside.sessions.items } in
@@ -25,8 +33,7 @@ invariant_of-self c =
     let T : Option Session → Type 0 = λ o. OnOpen o r.new.session (λ e e'. TriesDelete c.self.inside.heap r.new.heap e e' c.args.place r.result) in
     let tries = subst T (sym read) r.ensures in
     let window = subst (λ (w : Window). IsWindow w) c.table.ensures c.is_window.ensures in
-    let window' = subst (λ (w : Window). IsWindow w) c.table-2.ensures c.is_window-2.ensures in
-    keeps-delete c.self.inside.sessions.items c.self.inside.heap r.new.heap c.args.s c.index_mut.result.now r.new.session c.args.place r.result read r.ensures window window' c.self.invariant
+    keeps-delete c.self.inside.sessions.items c.self.inside.heap r.new.heap c.args.s c.index_mut.result.now r.new.session c.args.place r.result read r.ensures window c.self.invariant
 
 pub returns-clause-follows : goal.returns-clause-follows
 returns-clause-follows c =
@@ -38,12 +45,12 @@ returns-clause-follows c =
     let r = c.delete_open-outcome in
     let T : Option Session → Type 0 = λ o. OnOpen o r.new.session (λ e e'. TriesDelete c.self.inside.heap r.new.heap e e' c.args.place r.result) in
     let tries = subst T (sym read) r.ensures in
-    let window' = subst (λ (w : Window). IsWindow w) c.table-2.ensures c.is_window-2.ensures in
+    let window = subst (λ (w : Window). IsWindow w) c.table.ensures c.is_window.ensures in
     let tried = delete-tried before r.new.heap c.args.s c.args.key r.new.session c.args.place r.result may tries in
     let after = with_session before r.new.heap c.args.s r.new.session in
     let P : State → Type 0 = λ st. Follows st (Delete c.args.s c.args.key) c.reply_of.result after in
     let R : Reply → Type 0 = λ reply. Follows before (Delete c.args.s c.args.key) reply after in
-    subst P c.self.view_is (subst R (sym c.reply_of.ensures) (Follows-deleted before after c.args.s c.args.key r.result tried window'))
+    subst P c.self.view_is (subst R (sym c.reply_of.ensures) (Follows-deleted before after c.args.s c.args.key r.result tried window))
 
 pub returns-clause-exact : goal.returns-clause-exact
 returns-clause-exact c =

@@ -13,8 +13,8 @@ invariant_of-self c =
     let Q : Own → Type 0 = λ o. c.newest_mark-count.result ≤ length o.ids in
     let at : newest (fronts (numbers ids) (reverse c.self.inside.marks.items)) ≡ take c.newest_mark-count.result (numbers ids) = subst P (sym c.self.view_is) c.newest_mark-count.ensures.value in
     let within : c.newest_mark-count.result ≤ length (numbers ids) = subst Q (sym c.self.view_is) c.newest_mark-count.ensures.within in
-    let R : List Xid → Type 0 = λ xs. AreNormal xs × AreMarks (length xs) (reverse c.self.inside.marks.items) in
-    subst R (sym c.truncate.ensures.items) (normal-take _ ids c.self.invariant.0, marks-cut ids _ _ c.self.invariant.1 at within)
+    let R : List Xid → Type 0 = λ xs. AreNormal xs × AreMarks (length xs) (reverse c.self.inside.marks.items) × (length c.self.inside.marks.items ≤ 32) in
+    subst R (sym c.truncate.ensures.items) (normal-take _ ids c.self.invariant.0, marks-cut ids _ _ c.self.invariant.1 at within, c.self.invariant.2)
 
 pub returns-clause-ids : goal.returns-clause-ids
 returns-clause-ids c =

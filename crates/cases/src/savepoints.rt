@@ -1,0 +1,137 @@
+//! The worked scripts of savepoints, each beside what it has to answer.
+
+use crate::table::Case;
+
+/// The scripts of savepoints, of ids for their levels, and of a snapshot that names too many.
+pub const SAVEPOINTS: [Case; 7] = [
+    // Ids 4 and 5 are those of the two levels of session 0; that of the newest is aborted, and its key is free.
+    Case {
+        name: "rollback_to_a_savepoint",
+        script: b"heap 4 1000 0 3 64 0000\n\
+            begin 0\ninsert 0 1 5 0 0 0 -\ncommit 0\nbegin 0\nbegin 1\nsavepoint 0\nupdate 0 1 6 0 0 0 -\nrollbackto 0\nget 0 1\n\
+            update 1 1 7 0 0 0 -\nids\n",
+        body: 0,
+        other: 0,
+        answers: b"ok\nok\ncommitted\nok\nok\nok\nok\nok\nrow 1 5 0 0 0 -\nok\nnext 7 frozen_below 3\n",
+        status: 0,
+        words: "",
+    },
+    // The savepoint stays, and its level is given another id: 5.
+    Case {
+        name: "insert_again_after_rollback",
+        script: b"heap 4 1000 0 3 64 0000\n\
+            begin 0\nsavepoint 0\ninsert 0 1 5 0 0 0 -\nrollbackto 0\ninsert 0 1 5 0 0 0 -\ncommit 0\nprune 0\npage 0\n",
+        body: 0,
+        other: 0,
+        answers: b"ok\nok\nok\nok\nok\ncommitted\nok\npage 0 change 3 visible 0 slots 2\n1 dead\n2 normal 5 0 1\n",
+        status: 0,
+        words: "",
+    },
+    // Two levels lack an id, and one can be given; after the release one level is left.
+    Case {
+        name: "needs_freeze_for_two_ids",
+        script: b"heap 4 1 0 3 64 0000\n\
+            begin 0\nsavepoint 0\ninsert 0 1 0 0 0 0 -\nids\nrelease 0\ninsert 0 1 0 0 0 0 -\n",
+        body: 0,
+        other: 0,
+        answers: b"ok\nok\nerror 15 NeedsFreeze\nnext 3 frozen_below 3\nok\nok\n",
+        status: 0,
+        words: "",
+    },
+    // The level of the second savepoint was given no id.
+    Case {
+        name: "usable_again_after_a_conflict",
+        script: b"heap 4 1000 0 3 64 0000\n\
+            begin 1\nbegin 0\ninsert 0 1 5 0 0 0 -\ncommit 0\nsavepoint 1\ninsert 1 2 7 0 0 0 -\nsavepoint 1\n\
+            insert 1 1 6 0 0 0 -\nget 1 2\nrollbackto 1\nget 1 2\nget 1 1\ncommit 1\nbegin 0\nget 0 1\nget 0 2\nids\n",
+        body: 0,
+        other: 0,
+        answers: b"ok\nok\nok\ncommitted\nok\nok\nok\nerror 6 Conflict\nerror 3 Failed\nok\nrow 2 7 0 0 0 -\nnone\ncommitted\nok\n\
+            row 1 5 0 0 0 -\nrow 2 7 0 0 0 -\nnext 6 frozen_below 3\n",
+        status: 0,
+        words: "",
+    },
+    // Going back takes with it what was released into the level. Ids 3 to 5, and then 6.
+    Case {
+        name: "release_joins_the_level_below",
+        script: b"heap 4 1000 0 3 64 0000\n\
+            begin 0\nsavepoint 0\ninsert 0 1 5 0 0 0 -\nsavepoint 0\nupdate 0 1 6 0 0 0 -\nrelease 0\nget 0 1\nrollbackto 0\n\
+            get 0 1\ninsert 0 1 7 0 0 0 -\nrelease 0\nrelease 0\ncommit 0\nbegin 1\nget 1 1\nids\n",
+        body: 0,
+        other: 0,
+        answers: b"ok\nok\nok\nok\nok\nok\nrow 1 6 0 0 0 -\nok\nnone\nok\nok\nerror 12 NoSavepoint\ncommitted\nok\nrow 1 7 0 0 0 -\n\
+            next 7 frozen_below 3\n",
+        status: 0,
+        words: "",
+    },
+    // The insert gives an id to each of 33 levels.
+    Case {
+        name: "thirty_two_savepoints",
+        script: b"heap 4 1000 0 3 64 0000\n\
+            begin 0\nsavepoint 0\nsavepoint 0\nsavepoint 0\nsavepoint 0\nsavepoint 0\nsavepoint 0\nsavepoint 0\nsavepoint 0\n\
+            savepoint 0\nsavepoint 0\nsavepoint 0\nsavepoint 0\nsavepoint 0\nsavepoint 0\nsavepoint 0\nsavepoint 0\nsavepoint 0\n\
+            savepoint 0\nsavepoint 0\nsavepoint 0\nsavepoint 0\nsavepoint 0\nsavepoint 0\nsavepoint 0\nsavepoint 0\nsavepoint 0\n\
+            savepoint 0\nsavepoint 0\nsavepoint 0\nsavepoint 0\nsavepoint 0\nsavepoint 0\nsavepoint 0\ninsert 0 1 0 0 0 0 -\nids\n\
+            release 0\nrelease 0\nrelease 0\nrelease 0\nrelease 0\nrelease 0\nrelease 0\nrelease 0\nrelease 0\nrelease 0\n\
+            release 0\nrelease 0\nrelease 0\nrelease 0\nrelease 0\nrelease 0\nrelease 0\nrelease 0\nrelease 0\nrelease 0\n\
+            release 0\nrelease 0\nrelease 0\nrelease 0\nrelease 0\nrelease 0\nrelease 0\nrelease 0\nrelease 0\nrelease 0\n\
+            release 0\nrelease 0\nrelease 0\n",
+        body: 0,
+        other: 0,
+        answers: b"ok\nok\nok\nok\nok\nok\nok\nok\nok\nok\nok\nok\nok\nok\nok\nok\nok\nok\nok\nok\nok\nok\nok\nok\nok\nok\nok\nok\nok\n\
+            ok\nok\nok\nok\nerror 11 TooDeep\nok\nnext 36 frozen_below 3\nok\nok\nok\nok\nok\nok\nok\nok\nok\nok\nok\nok\nok\nok\n\
+            ok\nok\nok\nok\nok\nok\nok\nok\nok\nok\nok\nok\nok\nok\nok\nok\nok\nok\nerror 12 NoSavepoint\n",
+        status: 0,
+        words: "",
+    },
+    // Session 0 has 65 children in progress, which the snapshot of session 1 does not name.
+    Case {
+        name: "overflowed_snapshot",
+        script: b"heap 4 1000 0 3 64 0000\n\
+            begin 0\nsavepoint 0\ninsert 0 1 0 0 0 0 -\nrelease 0\nsavepoint 0\ninsert 0 2 0 0 0 0 -\nrelease 0\n\
+            savepoint 0\ninsert 0 3 0 0 0 0 -\nrelease 0\nsavepoint 0\ninsert 0 4 0 0 0 0 -\nrelease 0\n\
+            savepoint 0\ninsert 0 5 0 0 0 0 -\nrelease 0\nsavepoint 0\ninsert 0 6 0 0 0 0 -\nrelease 0\n\
+            savepoint 0\ninsert 0 7 0 0 0 0 -\nrelease 0\nsavepoint 0\ninsert 0 8 0 0 0 0 -\nrelease 0\n\
+            savepoint 0\ninsert 0 9 0 0 0 0 -\nrelease 0\nsavepoint 0\ninsert 0 10 0 0 0 0 -\nrelease 0\n\
+            savepoint 0\ninsert 0 11 0 0 0 0 -\nrelease 0\nsavepoint 0\ninsert 0 12 0 0 0 0 -\nrelease 0\n\
+            savepoint 0\ninsert 0 13 0 0 0 0 -\nrelease 0\nsavepoint 0\ninsert 0 14 0 0 0 0 -\nrelease 0\n\
+            savepoint 0\ninsert 0 15 0 0 0 0 -\nrelease 0\nsavepoint 0\ninsert 0 16 0 0 0 0 -\nrelease 0\n\
+            savepoint 0\ninsert 0 17 0 0 0 0 -\nrelease 0\nsavepoint 0\ninsert 0 18 0 0 0 0 -\nrelease 0\n\
+            savepoint 0\ninsert 0 19 0 0 0 0 -\nrelease 0\nsavepoint 0\ninsert 0 20 0 0 0 0 -\nrelease 0\n\
+            savepoint 0\ninsert 0 21 0 0 0 0 -\nrelease 0\nsavepoint 0\ninsert 0 22 0 0 0 0 -\nrelease 0\n\
+            savepoint 0\ninsert 0 23 0 0 0 0 -\nrelease 0\nsavepoint 0\ninsert 0 24 0 0 0 0 -\nrelease 0\n\
+            savepoint 0\ninsert 0 25 0 0 0 0 -\nrelease 0\nsavepoint 0\ninsert 0 26 0 0 0 0 -\nrelease 0\n\
+            savepoint 0\ninsert 0 27 0 0 0 0 -\nrelease 0\nsavepoint 0\ninsert 0 28 0 0 0 0 -\nrelease 0\n\
+            savepoint 0\ninsert 0 29 0 0 0 0 -\nrelease 0\nsavepoint 0\ninsert 0 30 0 0 0 0 -\nrelease 0\n\
+            savepoint 0\ninsert 0 31 0 0 0 0 -\nrelease 0\nsavepoint 0\ninsert 0 32 0 0 0 0 -\nrelease 0\n\
+            savepoint 0\ninsert 0 33 0 0 0 0 -\nrelease 0\nsavepoint 0\ninsert 0 34 0 0 0 0 -\nrelease 0\n\
+            savepoint 0\ninsert 0 35 0 0 0 0 -\nrelease 0\nsavepoint 0\ninsert 0 36 0 0 0 0 -\nrelease 0\n\
+            savepoint 0\ninsert 0 37 0 0 0 0 -\nrelease 0\nsavepoint 0\ninsert 0 38 0 0 0 0 -\nrelease 0\n\
+            savepoint 0\ninsert 0 39 0 0 0 0 -\nrelease 0\nsavepoint 0\ninsert 0 40 0 0 0 0 -\nrelease 0\n\
+            savepoint 0\ninsert 0 41 0 0 0 0 -\nrelease 0\nsavepoint 0\ninsert 0 42 0 0 0 0 -\nrelease 0\n\
+            savepoint 0\ninsert 0 43 0 0 0 0 -\nrelease 0\nsavepoint 0\ninsert 0 44 0 0 0 0 -\nrelease 0\n\
+            savepoint 0\ninsert 0 45 0 0 0 0 -\nrelease 0\nsavepoint 0\ninsert 0 46 0 0 0 0 -\nrelease 0\n\
+            savepoint 0\ninsert 0 47 0 0 0 0 -\nrelease 0\nsavepoint 0\ninsert 0 48 0 0 0 0 -\nrelease 0\n\
+            savepoint 0\ninsert 0 49 0 0 0 0 -\nrelease 0\nsavepoint 0\ninsert 0 50 0 0 0 0 -\nrelease 0\n\
+            savepoint 0\ninsert 0 51 0 0 0 0 -\nrelease 0\nsavepoint 0\ninsert 0 52 0 0 0 0 -\nrelease 0\n\
+            savepoint 0\ninsert 0 53 0 0 0 0 -\nrelease 0\nsavepoint 0\ninsert 0 54 0 0 0 0 -\nrelease 0\n\
+            savepoint 0\ninsert 0 55 0 0 0 0 -\nrelease 0\nsavepoint 0\ninsert 0 56 0 0 0 0 -\nrelease 0\n\
+            savepoint 0\ninsert 0 57 0 0 0 0 -\nrelease 0\nsavepoint 0\ninsert 0 58 0 0 0 0 -\nrelease 0\n\
+            savepoint 0\ninsert 0 59 0 0 0 0 -\nrelease 0\nsavepoint 0\ninsert 0 60 0 0 0 0 -\nrelease 0\n\
+            savepoint 0\ninsert 0 61 0 0 0 0 -\nrelease 0\nsavepoint 0\ninsert 0 62 0 0 0 0 -\nrelease 0\n\
+            savepoint 0\ninsert 0 63 0 0 0 0 -\nrelease 0\nsavepoint 0\ninsert 0 64 0 0 0 0 -\nrelease 0\n\
+            savepoint 0\ninsert 0 65 0 0 0 0 -\nrelease 0\nids\nbegin 1\ncommit 0\nget 1 40\nbegin 2\nget 2 40\n",
+        body: 0,
+        other: 0,
+        answers: b"ok\nok\nok\nok\nok\nok\nok\nok\nok\nok\nok\nok\nok\nok\nok\nok\nok\nok\nok\nok\nok\nok\nok\nok\nok\nok\nok\nok\nok\n\
+            ok\nok\nok\nok\nok\nok\nok\nok\nok\nok\nok\nok\nok\nok\nok\nok\nok\nok\nok\nok\nok\nok\nok\nok\nok\nok\nok\nok\nok\n\
+            ok\nok\nok\nok\nok\nok\nok\nok\nok\nok\nok\nok\nok\nok\nok\nok\nok\nok\nok\nok\nok\nok\nok\nok\nok\nok\nok\nok\nok\n\
+            ok\nok\nok\nok\nok\nok\nok\nok\nok\nok\nok\nok\nok\nok\nok\nok\nok\nok\nok\nok\nok\nok\nok\nok\nok\nok\nok\nok\nok\n\
+            ok\nok\nok\nok\nok\nok\nok\nok\nok\nok\nok\nok\nok\nok\nok\nok\nok\nok\nok\nok\nok\nok\nok\nok\nok\nok\nok\nok\nok\n\
+            ok\nok\nok\nok\nok\nok\nok\nok\nok\nok\nok\nok\nok\nok\nok\nok\nok\nok\nok\nok\nok\nok\nok\nok\nok\nok\nok\nok\nok\n\
+            ok\nok\nok\nok\nok\nok\nok\nok\nok\nok\nok\nok\nok\nok\nok\nok\nok\nok\nok\nok\nok\nok\nnext 69 frozen_below 3\nok\n\
+            committed\nnone\nok\nrow 40 0 0 0 0 -\n",
+        status: 0,
+        words: "",
+    },
+];

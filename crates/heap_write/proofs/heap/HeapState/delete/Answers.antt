@@ -1,0 +1,24 @@
+use Rattle.std.proofs.Common.{refl, subst}
+use Rattle.heap_pages.proofs.FirstLemmas.{refuted}
+use Rattle.heap_pages.specs.View.{with_page}
+use Rattle.heap_write.specs.Heap.{HeapView}
+use Rattle.heap_write.specs.Writes.{NeedsFreeze, Deletes}
+use Rattle.heap_write.specs.Refusals.{IsThere}
+use Rattle.heap_write.specs.contracts.heap.HeapState.{the_view}
+use Rattle.heap_write.proofs.IdLemmas.{takes-grown}
+use Rattle.heap_write.proofs.Writing.{deletes}
+use Rattle.heap_write.proofs.heap.HeapState.delete.Goals as goal
+
+pub returns-clause-ok : goal.returns-clause-ok
+returns-clause-ok c =
+    let h = the_view c.self.inside in
+    let own = c.args.own.now in
+    let x = c.take_ids-x.result.0 in
+    let reserved = c.reserve_ids.ensures in
+    let done = c.delete_version.ensures in
+    let free = refuted c.needs_freeze.result (NeedsFreeze h.table own) c.needs_freeze.ensures c.if-needs_freeze.false in
+    let takes = takes-grown h.table c.reserve_ids.new.table c.take_ids-x.new.table own c.reserve_ids.new.own c.take_ids-x.new.own x reserved.ids reserved.own reserved.none c.take_ids-x.ensures.takes in
+    let h' : HeapView = record { pages = with_page c.self.inside.pages c.args.place.page c.delete_version.new.page; table = c.take_ids-x.new.table; index = c.self.inside.index; max_pages = c.self.inside.max_pages } in
+    subst (λ (v : HeapView). IsThere v c.args.place → Deletes v h' own c.take_ids-x.new.own c.args.place x) c.self.view_is
+    (λ there. deletes h h' own c.take_ids-x.new.own c.args.place x c.page_mut.result.now c.delete_version.new.page free takes there c.page_mut.ensures.value
+    (record { slots = done.slots; change = done.change; flag = done.flag }) refl refl refl) (c.is_there.ensures.0 c.if-not-is_there.false)

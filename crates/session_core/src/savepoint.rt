@@ -1,0 +1,153 @@
+//! A session sets savepoints, returns to its newest, and releases it.
+
+ghost use Rattle.std.specs.Prelude.{◌≡◌, ◌≢◌, ◌<◌, ◌≤◌, ℕ, [], length, OnOk, OnErr, None, Some, Contains};
+ghost use Rattle.commit_status.specs.Window.{IsActive};
+ghost use Rattle.session_relation.specs.declared.step.Step.{Step};
+ghost use Rattle.session_core.specs.State.{session_at};
+ghost use Rattle.session_core.specs.Agrees.{Follows};
+ghost use Rattle.session_core.specs.Changes.{SetsSavepoint, Releases, Becomes, RollsBackOn, RollsBack};
+ghost use Rattle.session_core.specs.Exact.{MustNote, Exact};
+ghost use Rattle.session_core.specs.Writes.{OnOpen};
+
+use crate::engine::Engine;
+use crate::session::Session;
+use commit_status::Status;
+use heap_write::HeapState;
+use session_relation::{Refusal, Reply};
+use snapshot::MOST_SAVEPOINTS;
+use std::alloc::AllocError;
+
+/// Sets a savepoint of the session in this place, which is open.
+fn save(session: &mut Option<Session>) -> Result<(), AllocError>
+    requires open { session.old ≢ None }
+    requires few { (e : _) → session.old ≡ Some e → length e.own.saved < 32 }
+    ensures ok { OnOk result (OnOpen session.old session.new (λ e e'. SetsSavepoint e e')) }
+    ensures err { OnErr result (session.new ≡ session.old) }
+    ensures needs { OnErr result ((e : _) → session.old ≡ Some e → 4 ≤ length e.own.saved) }
+{
+    match session {
+        Some(session) => session.own.save(),
+        None => unreachable!(),
+    }
+}
+
+/// Aborts what the session in this place has done since its newest savepoint, and returns it there.
+fn roll_back(heap: &mut HeapState, session: &mut Option<Session>)
+    requires open { session.old ≢ None }
+    requires some { (e : _) → session.old ≡ Some e → e.own.saved ≢ [] }
+    requires active { (e : _) (x : ℕ) → session.old ≡ Some e → Contains e.own.ids x → IsActive heap.old.table x }
+    ensures { OnOpen session.old session.new (λ e e'. RollsBackOn heap.old heap.new e e') }
+{
+    match session {
+        Some(session) => {
+            heap.finish(session.own.since_save(), Status::Aborted);
+            session.own.roll_back();
+            session.failed = false;
+        }
+        None => unreachable!(),
+    }
+}
+
+/// Forgets the newest savepoint of the session in this place.
+fn release(session: &mut Option<Session>)
+    requires open { session.old ≢ None }
+    requires some { (e : _) → session.old ≡ Some e → e.own.saved ≢ [] }
+    ensures { OnOpen session.old session.new (λ e e'. Releases e e') }
+{
+    match session {
+        Some(session) => session.own.release(),
+        None => unreachable!(),
+    }
+}
+
+impl Engine {
+    /// Sets a savepoint of an open session, which has at most 31.
+    fn note(&mut self, s: u8) -> Result<(), AllocError>
+        requires within { s < 64 }
+        requires open { session_at self.old s ≢ None }
+        requires few { (e : _) → session_at self.old s ≡ Some e → length e.own.saved < 32 }
+        ensures ok { OnOk result (Becomes self.old self.new s SetsSavepoint) }
+        ensures err { OnErr result (self.new ≡ self.old) }
+        ensures needs { OnErr result (MustNote self.old s) }
+    {
+        save(&mut self.sessions[s as usize])
+    }
+
+    /// Sets a savepoint, to which the session can return. Refusals in order: NoSuchSession, NotOpen, Failed; TooDeep
+    /// where it has 32 already; NoMemory.
+    pub(crate) fn savepoint(&mut self, s: u8) -> Reply
+        ensures follows { Follows self.old (Step.Savepoint s) result self.new }
+        ensures exact { Exact self.old (Step.Savepoint s) result self.new }
+    {
+        match self.ready(s) {
+            Ok(session) => {
+                session.own.are_fronts();
+                if session.own.savepoints() >= MOST_SAVEPOINTS {
+                    return Reply::Refused(Refusal::TooDeep);
+                }
+            }
+            Err(refusal) => return Reply::Refused(refusal),
+        }
+        match self.note(s) {
+            Ok(()) => Reply::Done,
+            Err(_) => Reply::Refused(Refusal::NoMemory),
+        }
+    }
+
+    /// Returns an open session to its newest savepoint.
+    fn return_back(&mut self, s: u8)
+        requires within { s < 64 }
+        requires open { session_at self.old s ≢ None }
+        requires some { (e : _) → session_at self.old s ≡ Some e → e.own.saved ≢ [] }
+        ensures { RollsBack self.old self.new s }
+    {
+        roll_back(&mut self.heap, &mut self.sessions[s as usize]);
+    }
+
+    /// Drops what the session has written since its newest savepoint, which it keeps; the session has not failed any
+    /// more. Refusals in order: NoSuchSession, NotOpen, NoSavepoint. It takes no memory. (The manual's "ROLLBACK TO
+    /// SAVEPOINT".)
+    pub(crate) fn rollback_to(&mut self, s: u8) -> Reply
+        ensures follows { Follows self.old (Step.RollbackTo s) result self.new }
+        ensures exact { Exact self.old (Step.RollbackTo s) result self.new }
+    {
+        match self.opened(s) {
+            Ok(session) => {
+                if session.own.savepoints() == 0 {
+                    return Reply::Refused(Refusal::NoSavepoint);
+                }
+            }
+            Err(refusal) => return Reply::Refused(refusal),
+        }
+        self.return_back(s);
+        Reply::Done
+    }
+
+    /// Forgets the newest savepoint of an open session.
+    fn forget(&mut self, s: u8)
+        requires within { s < 64 }
+        requires open { session_at self.old s ≢ None }
+        requires some { (e : _) → session_at self.old s ≡ Some e → e.own.saved ≢ [] }
+        ensures { Becomes self.old self.new s Releases }
+    {
+        release(&mut self.sessions[s as usize]);
+    }
+
+    /// Forgets the newest savepoint; what was written since it belongs to the level below. Refusals in order:
+    /// NoSuchSession, NotOpen, Failed, NoSavepoint. It takes no memory. (The manual's "RELEASE SAVEPOINT".)
+    pub(crate) fn release(&mut self, s: u8) -> Reply
+        ensures follows { Follows self.old (Step.Release s) result self.new }
+        ensures exact { Exact self.old (Step.Release s) result self.new }
+    {
+        match self.ready(s) {
+            Ok(session) => {
+                if session.own.savepoints() == 0 {
+                    return Reply::Refused(Refusal::NoSavepoint);
+                }
+            }
+            Err(refusal) => return Reply::Refused(refusal),
+        }
+        self.forget(s);
+        Reply::Done
+    }
+}

@@ -1,0 +1,184 @@
+-- Levels of own ids: which of them lack an id, and what giving an id to the lowest of these changes.
+use Rattle.std.proofs.Common.{◌≡◌, ◌≢◌, ℕ, zero, suc, ◌≤◌, ◌-◌, ◌==◌, Bool, true, false, List, [], ◌∷◌, ◌++◌, length, Some, IsSome, slice_get, arith, refl, sym, ap, ◌∙◌, subst, ⊎_elim, append_assoc, length-append}
+use Rattle.std.proofs.lemmas.Bool.{cond-true, cond-false, eq-eqb, ne_eqb}
+use Rattle.std.proofs.lemmas.Bool.Decides.{nat_tests}
+use Rattle.std.proofs.lemmas.List.{append-nil}
+use Rattle.std.proofs.lemmas.List.Elements.{Contains-append_left, Contains-append_right, Contains-push, Contains-push_cases}
+use Rattle.std.specs.List.{Contains}
+use Rattle.snapshot.specs.Own.{lacks, newest_id, saved_with, saved_with_each, AreFronts, AreDistinct}
+use Rattle.snapshot.proofs.Earliest.{contains-cases, contains-head, contains-tail}
+
+-- lists of numbers
+
+none-in : (x : ℕ) → ¬ Contains [] x
+none-in x (k, h, e) = absurd (omega arith)
+
+same-number : (a b : ℕ) → (a == b) ≡ true → a ≡ b
+same-number a b e = grind (arith, nat_tests)
+
+other-number : (a b : ℕ) → (a == b) ≡ false → a ≢ b
+other-number a b e = grind (arith, nat_tests)
+
+last-apart : (x : ℕ) (xs : List ℕ) → (front : List ℕ) × (last : ℕ) × (x ∷ xs ≡ front ++ last ∷ [])
+last-apart x [] = ([], x, refl)
+last-apart x (y ∷ xs) = let rest = last-apart y xs in (x ∷ rest.0, rest.1, ap (λ l. x ∷ l) rest.2)
+
+get-last : (ids : List ℕ) (x : ℕ) → slice_get (ids ++ x ∷ []) (length ids) ≡ Some x
+get-last [] x = refl
+get-last (y ∷ ids) x = get-last ids x
+
+get-among : (ids : List ℕ) (i x : ℕ) → slice_get ids i ≡ Some x → Contains ids x
+get-among [] i x e = absurd (cc)
+get-among (y ∷ ids) zero x e = let same : y ≡ x = (let s : Some y ≡ Some x = e in cc) in subst (Contains (y ∷ ids)) same (contains-head y ids)
+get-among (y ∷ ids) (suc i) x e = contains-tail y x ids (get-among ids i x e)
+
+-- the newest id
+
+pub newest-push : (ids : List ℕ) (x : ℕ) → newest_id (ids ++ x ∷ []) ≡ Some x
+newest-push ids x =
+    let long = length-append ids (x ∷ []) in
+    let at : length (ids ++ x ∷ []) - 1 ≡ length ids = omega arith in
+    ap (slice_get (ids ++ x ∷ [])) at ∙ get-last ids x
+
+pub level-among : (ids : List ℕ) (x : ℕ) → newest_id ids ≡ Some x → Contains ids x
+level-among ids x e = get-among ids (length ids - 1) x e
+
+-- lists in which no number is twice
+
+apart : (before since : List ℕ) (x : ℕ) → AreDistinct (before ++ since) → Contains since x → ¬ Contains before x
+apart [] since x d c among = none-in x among
+apart (b ∷ before) since x d c among =
+    ⊎_elim (λ e. d.0 (subst (Contains (before ++ since)) (sym e) (Contains-append_right before since x c))) (λ t. apart before since x d.1 c t) (contains-cases b x before among)
+
+front : (before since : List ℕ) → AreDistinct (before ++ since) → AreDistinct before
+front [] since d = tt
+front (b ∷ before) since d = ((λ c. d.0 (Contains-append_left before since b c)), front before since d.1)
+
+pub distinct-front : (ids before since : List ℕ) → AreDistinct ids → ids ≡ before ++ since → AreDistinct before
+distinct-front ids before since d e = front before since (subst AreDistinct e d)
+
+pub distinct-after : (ids before since : List ℕ) → AreDistinct ids → ids ≡ before ++ since → (x : ℕ) → Contains since x → ¬ Contains before x
+distinct-after ids before since d e x c = apart before since x (subst AreDistinct e d) c
+
+pub distinct-push : (ids : List ℕ) (x : ℕ) → AreDistinct ids → ¬ Contains ids x → AreDistinct (ids ++ x ∷ [])
+distinct-push [] x d new = ((λ c. none-in x c), tt)
+distinct-push (y ∷ ids) x d new = (
+  (λ c. ⊎_elim (λ among. d.0 among) (λ e. new (subst (Contains (y ∷ ids)) (sym e) (contains-head y ids))) (Contains-push_cases ids x y c)),
+  distinct-push ids x d.1 (λ c. new (contains-tail y x ids c)),
+)
+
+-- levels that lack an id
+
+-- a level whose ids are those of the savepoint lacks one
+pub lacks-more : (ids before : List ℕ) (saved : List (List ℕ)) → length ids ≡ length before → lacks ids (before ∷ saved) ≡ suc (lacks before saved)
+lacks-more ids before saved e = cond-true (length ids == length before) (suc (lacks before saved)) 0 (eq-eqb (length ids) (length before) e)
+
+pub lacks-nothing : (ids before : List ℕ) (saved : List (List ℕ)) → length ids ≢ length before → lacks ids (before ∷ saved) ≡ 0
+lacks-nothing ids before saved e = cond-false (length ids == length before) (suc (lacks before saved)) 0 (ne_eqb (length ids) (length before) e)
+
+lacks-less : (ids before : List ℕ) (saved : List (List ℕ)) (n : ℕ) → lacks ids (before ∷ saved) ≡ suc n → (length ids ≡ length before) × (lacks before saved ≡ n)
+lacks-less ids before saved n e = cases (length ids == length before) refl
+  where
+    cases : (b : Bool) → (length ids == length before) ≡ b → (length ids ≡ length before) × (lacks before saved ≡ n)
+    cases true t = let same = same-number (length ids) (length before) t in let more = lacks-more ids before saved same in (same, (omega arith))
+    cases false t = let none = lacks-nothing ids before saved (other-number (length ids) (length before) t) in absurd (omega arith)
+
+lacks-of_some : (x : ℕ) (ids : List ℕ) → lacks (x ∷ ids) [] ≡ 0
+lacks-of_some x ids = cond-false (length (x ∷ ids) == 0) 1 0 (ne_eqb (length (x ∷ ids)) 0 (λ h. absurd (omega arith)))
+
+lacks-first : (ids : List ℕ) (n : ℕ) → lacks ids [] ≡ suc n → ids ≡ []
+lacks-first [] n e = refl
+lacks-first (x ∷ ids) n e = absurd (let none = lacks-of_some x ids in omega arith)
+
+lacks-of_one : (ids : List ℕ) (x : ℕ) → lacks (ids ++ x ∷ []) [] ≡ 0
+lacks-of_one ids x = cond-false (length (ids ++ x ∷ []) == 0) 1 0 (ne_eqb (length (ids ++ x ∷ [])) 0 (λ h. absurd (let long = length-append ids (x ∷ []) in omega arith)))
+
+pub lacks-within : (saved : List (List ℕ)) (ids : List ℕ) → lacks ids saved ≤ suc (length saved)
+lacks-within [] [] = omega arith
+lacks-within [] (x ∷ ids) = let none = lacks-of_some x ids in omega arith
+lacks-within (before ∷ saved) ids = let rest = lacks-within saved before in cases (length ids == length before) refl rest
+  where
+    cases : (b : Bool) → (length ids == length before) ≡ b → lacks before saved ≤ suc (length saved) → lacks ids (before ∷ saved) ≤ suc (length (before ∷ saved))
+    cases true t rest = let more = lacks-more ids before saved (same-number (length ids) (length before) t) in omega arith
+    cases false t rest = let none = lacks-nothing ids before saved (other-number (length ids) (length before) t) in omega arith
+
+-- the newest level has an id
+
+longer : (ids before since : List ℕ) (saved : List (List ℕ)) → ids ≡ before ++ since → lacks ids (before ∷ saved) ≡ 0 → (front : List ℕ) × (x : ℕ) × (ids ≡ before ++ (front ++ x ∷ []))
+longer ids before [] saved e none =
+    absurd (let same : length ids ≡ length before = ap length (e ∙ append-nil before) in let more = lacks-more ids before saved same in omega arith)
+longer ids before (y ∷ since) saved e none = let last = last-apart y since in (last.0, last.1, e ∙ ap (λ l. before ++ l) last.2)
+
+pub lacks-none : (ids before : List ℕ) (saved : List (List ℕ)) → AreFronts ids (before ∷ saved) → lacks ids (before ∷ saved) ≡ 0
+    → (since : List ℕ) × (x : ℕ) × (ids ≡ before ++ (since ++ x ∷ []))
+lacks-none ids before saved fronts none = longer ids before fronts.0 saved fronts.1 none
+
+-- there is a newest id where the newest level has one
+pub lacks-newest : (ids : List ℕ) (saved : List (List ℕ)) → AreFronts ids saved → lacks ids saved ≡ 0 → (x : ℕ) × (newest_id ids ≡ Some x)
+lacks-newest [] [] fronts none = absurd (let more : lacks [] [] ≡ 1 = refl in omega arith)
+lacks-newest (y ∷ ids) [] fronts none = let last = last-apart y ids in (last.1, ap newest_id last.2 ∙ newest-push last.0 last.1)
+lacks-newest ids (before ∷ saved) fronts none =
+    let last = lacks-none ids before saved fronts none in
+    (last.1, ap newest_id (last.2 ∙ sym (append_assoc before last.0 (last.1 ∷ []))) ∙ newest-push (before ++ last.0) last.1)
+
+pub lacks-some : (ids : List ℕ) (saved : List (List ℕ)) → AreFronts ids saved → lacks ids saved ≡ 0 → IsSome (newest_id ids)
+lacks-some ids saved fronts none = let newest = lacks-newest ids saved fronts none in subst IsSome (sym newest.1) refl
+
+-- the newest id is the newest level's own
+pub level-newest : (ids : List ℕ) (saved : List (List ℕ)) (x : ℕ) → AreFronts ids saved → AreDistinct ids → lacks ids saved ≡ 0 → newest_id ids ≡ Some x
+    → (before : List ℕ) → slice_get saved 0 ≡ Some before → ¬ Contains before x
+level-newest ids [] x fronts d none newest before at = absurd (cc)
+level-newest ids (b ∷ saved) x fronts d none newest before at =
+    let same : b ≡ before = (let s : Some b ≡ Some before = at in cc) in
+    let last = lacks-none ids b saved fronts none in
+    let said : newest_id ids ≡ Some last.1 = ap newest_id (last.2 ∙ sym (append_assoc b last.0 (last.1 ∷ []))) ∙ newest-push (b ++ last.0) last.1 in
+    let it : last.1 ≡ x = (let s : Some last.1 ≡ Some x = sym said ∙ newest in cc) in
+    let there : Contains (last.0 ++ last.1 ∷ []) x = subst (Contains (last.0 ++ last.1 ∷ [])) it (Contains-push last.0 last.1) in
+    subst (λ l. ¬ Contains l x) same (distinct-after ids b (last.0 ++ last.1 ∷ []) d last.2 x there)
+
+-- an id is added to the lowest level that lacks one
+
+same-front : (ids before since : List ℕ) → ids ≡ before ++ since → length ids ≡ length before → ids ≡ before
+same-front ids before [] e same = e ∙ append-nil before
+same-front ids before (y ∷ since) e same = absurd (let long = ap length e ∙ length-append before (y ∷ since) in omega arith)
+
+pub lacks-added : (ids : List ℕ) (saved : List (List ℕ)) (x n : ℕ) → AreFronts ids saved → lacks ids saved ≡ suc n → lacks (ids ++ x ∷ []) (saved_with n x saved) ≡ n
+lacks-added ids [] x zero fronts e = lacks-of_one ids x
+lacks-added ids [] x (suc n) fronts e = absurd (let most = lacks-within [] ids in omega arith)
+lacks-added ids (before ∷ saved) x zero fronts e =
+    let less = lacks-less ids before saved zero e in
+    let same = less.0 in
+    let long = length-append ids (x ∷ []) in
+    lacks-nothing (ids ++ x ∷ []) before saved (λ h. absurd (omega arith))
+lacks-added ids (before ∷ saved) x (suc n) fronts e =
+    let less = lacks-less ids before saved (suc n) e in
+    let same = less.0 in
+    let long = length-append ids (x ∷ []) in
+    let long_before = length-append before (x ∷ []) in
+    lacks-more (ids ++ x ∷ []) (before ++ x ∷ []) (saved_with n x saved) (omega arith) ∙ ap suc (lacks-added before saved x n fronts.2 less.1)
+
+pub fronts-added : (ids : List ℕ) (saved : List (List ℕ)) (x n : ℕ) → AreFronts ids saved → lacks ids saved ≡ suc n → AreFronts (ids ++ x ∷ []) (saved_with n x saved)
+fronts-added ids [] x zero fronts e = tt
+fronts-added ids [] x (suc n) fronts e = tt
+fronts-added ids (before ∷ saved) x zero fronts e =
+    (fronts.0 ++ x ∷ [], ap (λ l. l ++ x ∷ []) fronts.1 ∙ append_assoc before fronts.0 (x ∷ []), fronts.2)
+fronts-added ids (before ∷ saved) x (suc n) fronts e =
+    let less = lacks-less ids before saved (suc n) e in
+    let same = same-front ids before fronts.0 fronts.1 less.0 in
+    ([], ap (λ l. l ++ x ∷ []) same ∙ sym (append-nil (before ++ x ∷ [])), fronts-added before saved x n fronts.2 less.1)
+
+-- each level that lacks an id is given one
+
+pub lacks-given : (given ids : List ℕ) (saved : List (List ℕ)) → AreFronts ids saved → length given ≡ lacks ids saved → lacks (ids ++ given) (saved_with_each given saved) ≡ 0
+lacks-given [] ids saved fronts e = subst (λ l. lacks l saved ≡ 0) (sym (append-nil ids)) (sym e)
+lacks-given (x ∷ given) ids saved fronts e =
+    let added = lacks-added ids saved x (length given) fronts (sym e) in
+    let rest = lacks-given given (ids ++ x ∷ []) (saved_with (length given) x saved) (fronts-added ids saved x (length given) fronts (sym e)) (sym added) in
+    subst (λ l. lacks l (saved_with_each (x ∷ given) saved) ≡ 0) (append_assoc ids (x ∷ []) given) rest
+
+pub fronts-given : (given ids : List ℕ) (saved : List (List ℕ)) → AreFronts ids saved → length given ≡ lacks ids saved → AreFronts (ids ++ given) (saved_with_each given saved)
+fronts-given [] ids saved fronts e = subst (λ l. AreFronts l saved) (sym (append-nil ids)) fronts
+fronts-given (x ∷ given) ids saved fronts e =
+    let added = lacks-added ids saved x (length given) fronts (sym e) in
+    let rest = fronts-given given (ids ++ x ∷ []) (saved_with (length given) x saved) (fronts-added ids saved x (length given) fronts (sym e)) (sym added) in
+    subst (λ l. AreFronts l (saved_with_each (x ∷ given) saved)) (append_assoc ids (x ∷ []) given) rest

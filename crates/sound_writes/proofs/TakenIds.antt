@@ -1,0 +1,56 @@
+-- What it means that a session takes ids: what was known stays, and all of its ids are in progress.
+use Rattle.std.proofs.Common.{◌≡◌, ◌⊎◌, ℕ, List, [], ◌∷◌, Option, Some, refl, sym, ◌∙◌, subst, ⊎_elim}
+use Rattle.std.specs.Prelude.{Contains}
+use Rattle.std.proofs.lemmas.List.Elements.{Contains-append_left, Contains-append_cases}
+use Rattle.commit_status.specs.Window.{Window, IsWindow, IsGiven, IsActive, status_of}
+use Rattle.commit_status.specs.Changes.{Gives}
+use Rattle.snapshot.specs.Own.{Own, newest_id}
+use Rattle.snapshot.specs.Snap.{Snap}
+use Rattle.snapshot.proofs.Levels.{level-among}
+use Rattle.visibility.specs.Laws.{SameVerdicts}
+use Rattle.visibility.proofs.Verdicts.{giving-unseen}
+use Rattle.heap_write.specs.Writes.{GivesUnder, TakesIds}
+use Rattle.heap_write.proofs.GivenIds.{given-window, given-status, given-active_old, given-active, given-new}
+
+-- what giving one id keeps is kept
+pub under-keeps : (P : Window → Type 0) → ((u v : Window) (parent : Option ℕ) → IsWindow u → IsWindow v → Gives u v parent → P u → P v)
+    → (w v : Window) (parent : Option ℕ) (given : List ℕ) → IsWindow w → IsWindow v → GivesUnder w parent given v → P w → P v
+under-keeps P keeps w v parent [] before after same p = subst P (sym same) p
+under-keeps P keeps w v parent (x ∷ given) before after (between, is, gives, rest) p =
+    let on = given-window given between v (Some x) rest after in under-keeps P keeps between v (Some x) given on after rest (keeps w between parent before on gives p)
+
+verdicts-then : (u v w : Window) (s : Snap) (own : List ℕ) → SameVerdicts u v s own → SameVerdicts v w s own → SameVerdicts u w s own
+verdicts-then u v w s own a b = record {
+  ids = λ y. ((λ r. (a.ids y).0 ((b.ids y).0 r)), (λ r. (b.ids y).1 ((a.ids y).1 r)));
+  versions = λ h. ((λ r. (a.versions h).0 ((b.versions h).0 r)), (λ r. (b.versions h).1 ((a.versions h).1 r)));
+}
+
+module _ (w v : Window) (own own' : Own) (x : ℕ) (before : IsWindow w) (after : IsWindow v) (takes : TakesIds w v own own' x) where
+  pub takes-status : (y : ℕ) → status_of v y ≡ status_of w y
+  takes-status y = given-status takes.given w v (newest_id own.ids) y takes.gives after
+
+  -- who reads what doesn't change
+  pub takes-verdicts : (s : Snap) (ids : List ℕ) → SameVerdicts w v s ids
+  takes-verdicts s ids = under-keeps (λ u. SameVerdicts w u s ids) (λ a b p wa wb g same. verdicts-then w a b s ids same (giving-unseen a b p s ids wa wb g)) w v _ takes.given before after takes.gives
+      (record { ids = λ z. (λ r. r, λ r. r); versions = λ h. (λ r. r, λ r. r) })
+
+  -- its ids are those that it had and the new ones
+  takes-cases : (y : ℕ) → Contains own'.ids y → Contains own.ids y ⊎ Contains takes.given y
+  takes-cases y mine = Contains-append_cases own.ids takes.given y (subst (λ (ids : List ℕ). Contains ids y) takes.ids mine)
+
+  pub takes-more : (y : ℕ) → Contains own.ids y → Contains own'.ids y
+  takes-more y mine = subst (λ (ids : List ℕ). Contains ids y) (sym takes.ids) (Contains-append_left own.ids takes.given y mine)
+
+  -- an id that was given is not a new one
+  pub takes-old : (y : ℕ) → IsGiven w y → Contains own'.ids y → Contains own.ids y
+  takes-old y there mine = ⊎_elim (λ old. old) (λ new. absurd (given-new takes.given w v (newest_id own.ids) y takes.gives after new there)) (takes-cases y mine)
+
+  pub takes-mine : Contains own'.ids x
+  takes-mine = level-among own'.ids x takes.newest
+
+  -- all of them are in progress
+  pub takes-active : ((y : ℕ) → Contains own.ids y → IsActive w y) → (y : ℕ) → Contains own'.ids y → IsActive v y
+  takes-active active y mine = ⊎_elim
+      (λ old. given-active_old takes.given w v (newest_id own.ids) y takes.gives after (active y old))
+      (λ new. given-active takes.given w v (newest_id own.ids) y takes.gives after new)
+      (takes-cases y mine)
