@@ -10,7 +10,7 @@ use arrayvec::ArrayVec;
 use commit_status::Status;
 use page_slots::Slot;
 use root_index::Entry;
-use snapshot::{MOST_SAVEPOINTS, OwnIds, Snapshot};
+use snapshot::{OwnIds, Snapshot};
 use std::alloc::Global;
 use tuple_header::Row;
 use xid_circle::{Tid, Xid};
@@ -57,7 +57,7 @@ fn session(alloc: Global) -> OwnIds {
 }
 
 fn save(own: &mut OwnIds) -> bool {
-    own.savepoints() < MOST_SAVEPOINTS && own.save().is_ok()
+    own.save().is_ok()
 }
 
 fn is_known(heap: &HeapState, own: &OwnIds) -> bool

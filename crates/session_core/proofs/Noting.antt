@@ -1,7 +1,7 @@
 -- A session in its place becomes another, when it sets a savepoint, returns to one, or releases it.
 use Rattle.std.proofs.Common.{◌≡◌, ◌≢◌, ℕ, ◌<◌, List, [], ◌∷◌, length, set, Option, Some, None, false, refl, sym, ap, ◌∙◌, subst}
 use Rattle.std.proofs.Math.ListN.{length-set}
-use Rattle.std.specs.Prelude.{Result, Ok, Err, OnOk, OnErr}
+use Rattle.std.specs.Prelude.{Result, Ok, Err, IfErr, OnOk, OnErr}
 use Rattle.std.proofs.lemmas.Option.{same_Some}
 use Rattle.commit_status.specs.Window.{Window}
 use Rattle.session_relation.specs.declared.step.Step.TheVariants.{Savepoint, RollbackTo, Release}
@@ -31,9 +31,13 @@ keeps-open : (xs : List (Option Session)) (w : Window) (s : ℕ) (o now : Option
 keeps-open xs w s None now changes same at becomes k = absurd becomes
 keeps-open xs w s (Some e) now changes same at becomes k = rw becomes.1 (keeps-ids xs w s e becomes.0 at (same e becomes.0 becomes.2) k)
 
-pub keeps-noted : {A B : Type 0} (r : Result A B) (xs : List (Option Session)) (w : Window) (s : ℕ) (o now : Option Session) → o ≢ None → open_at xs s ≡ o → OnOk r (OnOpen o now (λ e e'. SetsSavepoint e e')) → OnErr r (now ≡ o)
+-- one savepoint more, where there is room for it
+abbrev pub SavesOne : Session → Session → Type 0
+SavesOne e e' = SetsSavepoint e e' × (length e.own.saved < 32)
+
+pub keeps-noted : {A B : Type 0} (r : Result A B) (xs : List (Option Session)) (w : Window) (s : ℕ) (o now : Option Session) → o ≢ None → open_at xs s ≡ o → OnOk r (OnOpen o now (λ e e'. SavesOne e e')) → OnErr r (now ≡ o)
     → EngineKeeps xs w → EngineKeeps (set xs s now) w
-keeps-noted (Ok a) xs w s o now some at ok err k = keeps-open xs w s o now (λ e e'. SetsSavepoint e e') (λ e e' sets. sets.ids) at ok k
+keeps-noted (Ok a) xs w s o now some at ok err k = keeps-open xs w s o now (λ e e'. SavesOne e e') (λ e e' sets. sets.0.ids) at ok k
 keeps-noted (Err b) xs w s o now some at ok err k = let e = there o some in rw (err ∙ e.1) (keeps-ids xs w s e.0 e.0 (at ∙ e.1) refl k)
 
 pub keeps-forgotten : (xs : List (Option Session)) (w : Window) (s : ℕ) (o now : Option Session) → open_at xs s ≡ o → OnOpen o now (λ e e'. Releases e e') → EngineKeeps xs w → EngineKeeps (set xs s now) w
@@ -60,9 +64,9 @@ pub on-ok : {A B : Type 0} (r : Result A B) (P Q : Type 0) → (P → Q) → OnO
 on-ok (Ok a) P Q to p = to p
 on-ok (Err b) P Q to p = p
 
-pub on-err : {A B : Type 0} (r : Result A B) (P Q : Type 0) → (P → Q) → OnErr r P → OnErr r Q
-on-err (Ok a) P Q to p = p
-on-err (Err b) P Q to p = to p
+pub if-err : {A B : Type 0} (r : Result A B) (P Q : B → Type 0) → ((b : B) → P b → Q b) → IfErr r P → IfErr r Q
+if-err (Ok a) P Q to p = p
+if-err (Err b) P Q to p = to b p
 
 -- The reply follows the history.
 
@@ -78,8 +82,10 @@ some-saved (before ∷ saved) some = (before, saved, refl)
 same-one : (st : State) (s : ℕ) (e f : Session) → session_at st s ≡ Some e → session_at st s ≡ Some f → e ≡ f
 same-one st s e f at bt = same_Some e f (sym at ∙ bt)
 
-pub Follows-noted : (st st' : State) (s : ℕ) (e : Session) → session_at st s ≡ Some e → e.failed ≡ false → length e.own.saved < 32 → Becomes st st' s SetsSavepoint → Follows st (Savepoint s) Done st'
-Follows-noted st st' s e at sound room b = Follows-savepoint st st' s e at sound room b.now b.is (subst (λ f. SetsSavepoint f b.now) (same-one st s b.session e b.at at) b.change)
+pub Follows-noted : (st st' : State) (s : ℕ) (e : Session) → session_at st s ≡ Some e → e.failed ≡ false → Becomes st st' s (λ e e'. SavesOne e e') → Follows st (Savepoint s) Done st'
+Follows-noted st st' s e at sound b =
+    let change = subst (λ f. SavesOne f b.now) (same-one st s b.session e b.at at) b.change in
+    Follows-savepoint st st' s e at sound change.1 b.now b.is change.0
 
 pub Follows-forgotten : (st st' : State) (s : ℕ) (e : Session) → session_at st s ≡ Some e → e.failed ≡ false → length e.own.saved ≢ 0 → Becomes st st' s Releases → Follows st (Release s) Done st'
 Follows-forgotten st st' s e at sound some b =

@@ -1,12 +1,13 @@
 //! A session sets savepoints, returns to its newest, and releases it.
 
-ghost use Rattle.std.specs.Prelude.{◌≡◌, ◌≢◌, ◌<◌, ◌≤◌, ℕ, [], length, OnOk, OnErr, None, Some, Contains};
+ghost use Rattle.std.specs.Prelude.{◌≡◌, ◌≢◌, ◌<◌, ℕ, [], length, IfErr, OnOk, OnErr, None, Some, Contains};
+ghost use Rattle.snapshot.specs.Saving.{CannotSave};
 ghost use Rattle.commit_status.specs.Window.{IsActive};
 ghost use Rattle.session_relation.specs.declared.step.Step.{Step};
 ghost use Rattle.session_core.specs.State.{session_at};
 ghost use Rattle.session_core.specs.Agrees.{Follows};
 ghost use Rattle.session_core.specs.Changes.{SetsSavepoint, Releases, Becomes, RollsBackOn, RollsBack};
-ghost use Rattle.session_core.specs.Exact.{MustNote, Exact};
+ghost use Rattle.session_core.specs.Exact.{Exact};
 ghost use Rattle.session_core.specs.Writes.{OnOpen};
 
 use crate::engine::Engine;
@@ -14,16 +15,14 @@ use crate::session::Session;
 use commit_status::Status;
 use heap_write::HeapState;
 use session_relation::{Refusal, Reply};
-use snapshot::MOST_SAVEPOINTS;
-use std::alloc::AllocError;
+use snapshot::SaveFault;
 
 /// Sets a savepoint of the session in this place, which is open.
-fn save(session: &mut Option<Session>) -> Result<(), AllocError>
+fn save(session: &mut Option<Session>) -> Result<(), SaveFault>
     requires open { session.old ≢ None }
-    requires few { (e : _) → session.old ≡ Some e → length e.own.saved < 32 }
-    ensures ok { OnOk result (OnOpen session.old session.new (λ e e'. SetsSavepoint e e')) }
+    ensures ok { OnOk result (OnOpen session.old session.new (λ e e'. SetsSavepoint e e' × (length e.own.saved < 32))) }
     ensures err { OnErr result (session.new ≡ session.old) }
-    ensures needs { OnErr result ((e : _) → session.old ≡ Some e → 4 ≤ length e.own.saved) }
+    ensures fault { IfErr result (λ fault. (e : _) → session.old ≡ Some e → CannotSave e.own fault) }
 {
     match session {
         Some(session) => session.own.save(),
@@ -61,14 +60,13 @@ fn release(session: &mut Option<Session>)
 }
 
 impl Engine {
-    /// Sets a savepoint of an open session, which has at most 31.
-    fn note(&mut self, s: u8) -> Result<(), AllocError>
+    /// Sets a savepoint of an open session.
+    fn note(&mut self, s: u8) -> Result<(), SaveFault>
         requires within { s < 64 }
         requires open { session_at self.old s ≢ None }
-        requires few { (e : _) → session_at self.old s ≡ Some e → length e.own.saved < 32 }
-        ensures ok { OnOk result (Becomes self.old self.new s SetsSavepoint) }
+        ensures ok { OnOk result (Becomes self.old self.new s (λ e e'. SetsSavepoint e e' × (length e.own.saved < 32))) }
         ensures err { OnErr result (self.new ≡ self.old) }
-        ensures needs { OnErr result (MustNote self.old s) }
+        ensures fault { IfErr result (λ fault. (e : _) → session_at self.old s ≡ Some e → CannotSave e.own fault) }
     {
         save(&mut self.sessions[s as usize])
     }
@@ -80,17 +78,13 @@ impl Engine {
         ensures exact { Exact self.old (Step.Savepoint s) result self.new }
     {
         match self.ready(s) {
-            Ok(session) => {
-                session.own.are_fronts();
-                if session.own.savepoints() >= MOST_SAVEPOINTS {
-                    return Reply::Refused(Refusal::TooDeep);
-                }
-            }
+            Ok(_) => {}
             Err(refusal) => return Reply::Refused(refusal),
         }
         match self.note(s) {
             Ok(()) => Reply::Done,
-            Err(_) => Reply::Refused(Refusal::NoMemory),
+            Err(SaveFault::TooDeep) => Reply::Refused(Refusal::TooDeep),
+            Err(SaveFault::NoMemory) => Reply::Refused(Refusal::NoMemory),
         }
     }
 

@@ -1,3 +1,4 @@
 pub mod Own
 pub mod Snap
 pub mod Laws
+pub mod Saving

@@ -1,10 +1,11 @@
 //! A session's own ids.
 
-ghost use Rattle.std.specs.Prelude.{◌≡◌, ◌≢◌, ◌+◌, ◌-◌, ◌<◌, ◌≤◌, ◌↔◌, [], ◌∷◌, ◌++◌, IsTrue, IfSome, OnOk, OnErr, slice_get, Contains, length, take, replicate};
+ghost use Rattle.std.specs.Prelude.{◌≡◌, ◌≢◌, ◌+◌, ◌-◌, ◌<◌, ◌≤◌, ◌↔◌, [], ◌∷◌, ◌++◌, IsTrue, IfSome, IfErr, OnOk, OnErr, slice_get, Contains, length, take, replicate};
 ghost use Rattle.std.specs.Option.{option_map};
 ghost use Rattle.xid_circle.specs.Circle.{IsNormal};
 ghost use Rattle.commit_status.specs.Changes.{numbers};
 ghost use Rattle.snapshot.specs.Own.{newest, older, lacks, newest_id, saved_with, AreFronts};
+ghost use Rattle.snapshot.specs.Saving.{CannotSave};
 
 use smallvec::SmallVec;
 use std::alloc::{AllocError, Global};
@@ -13,6 +14,14 @@ use xid_circle::Xid;
 
 /// How many savepoints a session may have.
 pub const MOST_SAVEPOINTS: usize = 32;
+
+/// Why a savepoint was not set.
+#[derive(Clone, Copy, Debug, PartialEq, Eq)]
+pub enum SaveFault {
+    /// There are [`MOST_SAVEPOINTS`] already.
+    TooDeep,
+    NoMemory,
+}
 
 /// The ids of an open transaction that are not rolled back, in order of giving: the first is the topmost. Marks
 /// remember how many there were at each savepoint.
@@ -143,19 +152,25 @@ impl OwnIds {
         let _ = &self.ids;
     }
 
-    /// Begins a savepoint: remembers how many ids there are.
-    pub fn save(&mut self) -> Result<(), AllocError>
-        requires few { length self.old.saved < 32 }
+    /// Begins a savepoint: remembers how many ids there are. It answers TooDeep exactly where there are
+    /// [`MOST_SAVEPOINTS`] already, and NoMemory only where there are four or more; both leave all as it was.
+    pub fn save(&mut self) -> Result<(), SaveFault>
         ensures ids { self.new.ids ≡ self.old.ids }
         ensures spare { self.new.spare ≡ self.old.spare }
         ensures saved { OnOk result (self.new.saved ≡ self.old.ids ∷ self.old.saved) }
         ensures refused { OnErr result (self.new ≡ self.old) }
-        ensures needs { OnErr result (4 ≤ length self.old.saved) }
+        ensures room { OnOk result (length self.old.saved < 32) }
+        ensures fault { IfErr result (λ fault. CannotSave self.old fault) }
     {
         let count = self.ids.len();
+        if self.marks.len() >= MOST_SAVEPOINTS {
+            return Err(SaveFault::TooDeep);
+        }
         // it says that four marks fit
         let _ = self.marks.spilled();
-        self.marks.reserve(1)?;
+        if self.marks.reserve(1).is_err() {
+            return Err(SaveFault::NoMemory);
+        }
         self.marks.push_reserved(count);
         Ok(())
     }

@@ -1,7 +1,7 @@
 //! What snapshots see, each id reckoned by hand.
 
 use crate::{
-    MOST_SAVEPOINTS, OwnIds, Snapshot, earlier, earliest_is_first, finished_is_seen,
+    MOST_SAVEPOINTS, OwnIds, SaveFault, Snapshot, earlier, earliest_is_first, finished_is_seen,
     later_is_unseen, open_is_unseen, past_is_seen, sees_by_top, taken_is_in_window,
 };
 use commit_status::{Status, StatusTable};
@@ -14,7 +14,7 @@ fn add(own: &mut OwnIds, x: Xid) {
 }
 
 fn save(own: &mut OwnIds) -> bool {
-    own.savepoints() < MOST_SAVEPOINTS && own.save().is_ok()
+    own.save().is_ok()
 }
 
 fn give(table: &mut StatusTable, own: &mut OwnIds) {
@@ -166,7 +166,8 @@ fn levels_above_one_with_an_id(rt: HostRuntime) {
         assert!(rt; save(&mut own));
         assert_eq!(rt; own.lacks(), lacking);
     }
-    assert!(rt; !save(&mut own));
+    assert_eq!(rt; own.savepoints(), MOST_SAVEPOINTS);
+    assert_eq!(rt; own.save(), Err(SaveFault::TooDeep));
     add(&mut own, Xid(5));
     assert_eq!(rt; (newest_ids(&own), own.lacks()), (0usize, 30u32));
     roll_back(&mut own);

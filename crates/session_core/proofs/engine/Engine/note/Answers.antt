@@ -1,12 +1,12 @@
-use Rattle.std.proofs.Common.{◌≡◌, ◌≢◌, ◌<◌, ◌≤◌, length, Some, None, sym, ◌∙◌, subst, arith}
-use Rattle.std.specs.Prelude.{OnOk, OnErr}
+use Rattle.std.proofs.Common.{◌≡◌, ◌≢◌, ◌<◌, length, Some, None, sym, ◌∙◌, subst, arith}
+use Rattle.std.specs.Prelude.{IfErr, OnOk}
 use Rattle.session_core.specs.declared.session.Session.{Session}
 use Rattle.session_core.specs.State.{State, session_at, put_session}
-use Rattle.session_core.specs.Changes.{SetsSavepoint, Becomes}
-use Rattle.session_core.specs.Exact.{MustNote}
+use Rattle.session_core.specs.Changes.{Becomes}
+use Rattle.snapshot.specs.Saving.{CannotSave}
 use Rattle.session_core.specs.Writes.{OnOpen}
 use Rattle.session_core.proofs.StateLemmas.{open-read}
-use Rattle.session_core.proofs.Noting.{there, keeps-noted, becomes-of, on-ok, on-err}
+use Rattle.session_core.proofs.Noting.{SavesOne, keeps-noted, becomes-of, on-ok, if-err}
 use Rattle.session_core.proofs.engine.Engine.note.Goals as goal
 
 pub invariant_of-self : goal.invariant_of-self
@@ -25,18 +25,16 @@ returns-clause-ok c =
     let read = open-read c.self.inside.sessions.items c.args.s c.index_mut.result.now within c.index_mut.ensures.value in
     let before : State = record { settings = c.self.inside.settings; heap = c.self.inside.heap; sessions = c.self.inside.sessions.items } in
     let after = put_session before c.args.s c.save.new.session in
-    let P : State → Type 0 = λ st. OnOk c.save.result (Becomes st after c.args.s SetsSavepoint) in
-    subst P c.self.view_is (on-ok c.save.result (OnOpen c.index_mut.result.now c.save.new.session (λ e e'. SetsSavepoint e e')) (Becomes before after c.args.s SetsSavepoint)
-    (λ sets. becomes-of before c.args.s c.index_mut.result.now c.save.new.session SetsSavepoint read sets) c.save.ensures.ok)
+    let P : State → Type 0 = λ st. OnOk c.save.result (Becomes st after c.args.s (λ e e'. SavesOne e e')) in
+    subst P c.self.view_is (on-ok c.save.result (OnOpen c.index_mut.result.now c.save.new.session (λ e e'. SavesOne e e')) (Becomes before after c.args.s (λ e e'. SavesOne e e'))
+    (λ sets. becomes-of before c.args.s c.index_mut.result.now c.save.new.session (λ e e'. SavesOne e e') read sets) c.save.ensures.ok)
 
-pub returns-clause-needs : goal.returns-clause-needs
-returns-clause-needs c =
+pub returns-clause-fault : goal.returns-clause-fault
+returns-clause-fault c =
     let count = c.self.invariant.count in
     let within : c.args.s < length c.self.inside.sessions.items = omega (arith, c.requires.within) in
     let read = open-read c.self.inside.sessions.items c.args.s c.index_mut.result.now within c.index_mut.ensures.value in
     let before : State = record { settings = c.self.inside.settings; heap = c.self.inside.heap; sessions = c.self.inside.sessions.items } in
-    let N : State → Type 0 = λ st. session_at st c.args.s ≢ None in
-    let some = subst N (sym c.self.view_is) c.requires.open in
-    let e = there (session_at before c.args.s) some in
-    let P : State → Type 0 = λ st. OnErr c.save.result (MustNote st c.args.s) in
-    subst P c.self.view_is (on-err c.save.result ((e : Session) → c.index_mut.result.now ≡ Some e → 4 ≤ length e.own.saved) (MustNote before c.args.s) (λ needs. (e.0, e.1, needs e.0 (sym read ∙ e.1))) c.save.ensures.needs)
+    let P : State → Type 0 = λ st. IfErr c.save.result (λ fault. (e : Session) → session_at st c.args.s ≡ Some e → CannotSave e.own fault) in
+    subst P c.self.view_is (if-err c.save.result (λ fault. (e : Session) → c.index_mut.result.now ≡ Some e → CannotSave e.own fault) (λ fault. (e : Session) → session_at before c.args.s ≡ Some e → CannotSave e.own fault)
+    (λ fault cannot e at. cannot e (sym read ∙ at)) c.save.ensures.fault)

@@ -1,23 +1,26 @@
-use Rattle.std.proofs.Common.{◌≡◌, ◌<◌, length, arith}
+use Rattle.std.proofs.Common.{subst}
+use Rattle.snapshot.specs.declared.own.SaveFault.{SaveFault}
+use Rattle.snapshot.specs.Saving.{CannotSave}
 use Rattle.session_core.proofs.Savepoints.{Follows-too_deep, Follows-savepoint_no_memory, Follows-unready_savepoint}
 use Rattle.session_core.proofs.Noting.{Follows-noted}
 use Rattle.session_core.proofs.engine.Engine.savepoint.Goals as goal
-
-pub returns-then-savepoints-ge-MOST_SAVEPOINTS-clause-follows :
-    goal.returns-then-savepoints-ge-MOST_SAVEPOINTS-clause-follows
-returns-then-savepoints-ge-MOST_SAVEPOINTS-clause-follows c =
-    let full : length c.in-Ok.session.now.own.saved ≡ 32 = omega (arith, c.are_fronts.ensures.few, c.savepoints.ensures, c.if-savepoints-ge-MOST_SAVEPOINTS.true) in
-    Follows-too_deep c.args.self.now c.args.s c.in-Ok.session.now c.in-Ok.ensures.1 c.in-Ok.ensures.2 full
 
 pub returns-in-Err-clause-follows : goal.returns-in-Err-clause-follows
 returns-in-Err-clause-follows c = Follows-unready_savepoint c.args.self.now c.args.s c.in-Err.refusal c.in-Err.ensures
 
 pub returns-in-Ok-note-clause-follows : goal.returns-in-Ok-note-clause-follows
-returns-in-Ok-note-clause-follows c =
-    let room : length c.in-Ok.session.now.own.saved < 32 = omega (arith, c.savepoints.ensures, c.if-savepoints-ge-MOST_SAVEPOINTS.false) in
-    Follows-noted c.args.self.now _ c.args.s c.in-Ok.session.now c.in-Ok.ensures.1 c.in-Ok.ensures.2 room c.in-Ok-note.ensures.ok
+returns-in-Ok-note-clause-follows c = Follows-noted c.args.self.now c.note.new.self c.args.s c.in-Ok.field-0.now c.in-Ok.ensures.1 c.in-Ok.ensures.2 c.in-Ok-note.ensures.ok
 
-pub returns-in-Err-note-clause-follows : goal.returns-in-Err-note-clause-follows
-returns-in-Err-note-clause-follows c =
-    let room : length c.in-Ok.session.now.own.saved < 32 = omega (arith, c.savepoints.ensures, c.if-savepoints-ge-MOST_SAVEPOINTS.false) in
-    rw c.in-Err-note.ensures.err (Follows-savepoint_no_memory c.args.self.now c.args.s c.in-Ok.session.now c.in-Ok.ensures.1 c.in-Ok.ensures.2 room)
+pub returns-in-Err-TooDeep-clause-follows : goal.returns-in-Err-TooDeep-clause-follows
+returns-in-Err-TooDeep-clause-follows c =
+    let e = c.in-Ok.field-0.now in
+    let P : SaveFault → Type 0 = λ fault. CannotSave e.own fault in
+    let full = subst P c.in-Err-TooDeep.field-0-is (c.in-Err-TooDeep.ensures.fault e c.in-Ok.ensures.1) in
+    rw c.in-Err-TooDeep.ensures.err (Follows-too_deep c.args.self.now c.args.s e c.in-Ok.ensures.1 c.in-Ok.ensures.2 full)
+
+pub returns-in-Err-NoMemory-clause-follows : goal.returns-in-Err-NoMemory-clause-follows
+returns-in-Err-NoMemory-clause-follows c =
+    let e = c.in-Ok.field-0.now in
+    let P : SaveFault → Type 0 = λ fault. CannotSave e.own fault in
+    let room = subst P c.in-Err-NoMemory.field-0-is (c.in-Err-NoMemory.ensures.fault e c.in-Ok.ensures.1) in
+    rw c.in-Err-NoMemory.ensures.err (Follows-savepoint_no_memory c.args.self.now c.args.s e c.in-Ok.ensures.1 c.in-Ok.ensures.2 room.1)
