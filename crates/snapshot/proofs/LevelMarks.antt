@@ -1,14 +1,14 @@
 -- What marks say of levels.
-use Rattle.std.proofs.Common.{◌≡◌, ◌≢◌, ℕ, zero, suc, ◌<◌, ◌≤◌, ◌+◌, ◌-◌, ◌==◌, Bool, true, false, if◌then◌else◌, List, [], ◌∷◌, ◌++◌, length, take, drop, reverse, replicate, arith, refl, sym, ap, ◌∙◌, subst}
+use Rattle.std.proofs.Common.{◌≡◌, ◌≢◌, ℕ, zero, suc, nat_lt, ◌<◌, ◌≤◌, ◌+◌, ◌-◌, ◌==◌, Bool, true, false, if◌then◌else◌, List, [], ◌∷◌, ◌++◌, length, take, drop, reverse, replicate, slice_get, arith, refl, sym, ap, ◌∙◌, subst}
 use Rattle.std.proofs.lemmas.Bool.{cond-true, cond-false}
 use Rattle.std.proofs.lemmas.Bool.Decides.{nat_tests}
 use Rattle.std.proofs.lemmas.List.{map_push, take_all, take_at, drop_at, take-append-drop, length-take-le, length-drop, length-append, length-map, length-reverse, length-replicate, reverse-append, replicate_more}
 use Rattle.std.specs.List.{refill}
 use Rattle.xid_circle.specs.declared.Xid.{Xid}
 use Rattle.commit_status.specs.Changes.{numbers}
-use Rattle.snapshot.specs.Own.{lacks, fronts, saved_with, AreFronts, AreMarks}
+use Rattle.snapshot.specs.Own.{lacks, level_id, fronts, saved_with, AreFronts, AreMarks}
 use Rattle.snapshot.proofs.Marks.{fronts-append, fronts-take, marks-more}
-use Rattle.snapshot.proofs.Levels.{lacks-more, lacks-nothing}
+use Rattle.snapshot.proofs.Levels.{lacks-more, lacks-nothing, level-below, level-own}
 
 -- how many levels lack an id, by the marks, the newest first
 abbrev pub lacks_by : ℕ → List ℕ → ℕ
@@ -49,6 +49,32 @@ lacks-marks ids (mark ∷ marks) are =
         let other : mark ≢ length ids = grind (arith, nat_tests) in
         lacks-nothing ids (take mark ids) (fronts ids marks) (λ h. absurd (omega arith))
         ∙ sym (cond-false (mark == length ids) (suc (lacks_by (length ids) marks)) 0 t)
+
+-- where the newest level that has an id begins, by the marks, the newest first
+abbrev pub start_by : ℕ → List ℕ → ℕ
+start_by count [] = 0
+start_by count (mark ∷ marks) = if nat_lt mark count then mark else start_by count marks
+
+level-marks : (ids marks : List ℕ) → AreMarks (length ids) marks → level_id ids (fronts ids marks) ≡ slice_get ids (start_by (length ids) marks)
+level-marks ids [] are = refl
+level-marks ids (mark ∷ marks) are =
+    let long = length-take-le mark ids are.0 in
+    let rest = (λ (e : mark ≡ length ids). level-marks ids marks (subst (λ n. AreMarks n marks) e are.1)) in
+    cases (nat_lt mark (length ids)) refl are.0 long rest
+  where
+    cases : (b : Bool) → nat_lt mark (length ids) ≡ b → mark ≤ length ids → length (take mark ids) ≡ mark
+        → (mark ≡ length ids → level_id ids (fronts ids marks) ≡ slice_get ids (start_by (length ids) marks))
+        → level_id ids (fronts ids (mark ∷ marks)) ≡ slice_get ids (start_by (length ids) (mark ∷ marks))
+    cases true t le long rest =
+        let less : mark < length ids = grind (arith, nat_tests) in
+        level-own ids (take mark ids) (fronts ids marks) (λ h. absurd (omega arith))
+        ∙ ap (slice_get ids) (long ∙ sym (cond-true (nat_lt mark (length ids)) mark (start_by (length ids) marks) t))
+    cases false t le long rest =
+        let same : mark ≡ length ids = grind (arith, nat_tests) in
+        level-below ids (take mark ids) (fronts ids marks) (omega arith)
+        ∙ ap (λ l. level_id l (fronts ids marks)) (take-count ids mark same)
+        ∙ rest same
+        ∙ ap (slice_get ids) (sym (cond-false (nat_lt mark (length ids)) mark (start_by (length ids) marks) t))
 
 -- each mark's front is a front of the next
 pub fronts-marks : (ids marks : List ℕ) → AreMarks (length ids) marks → AreFronts ids (fronts ids marks)
@@ -99,6 +125,12 @@ pub lacks-kept : (ids : List Xid) (marks : List ℕ) → AreMarks (length ids) (
 lacks-kept ids marks are =
     lacks-marks (numbers ids) (reverse marks) (marks-numbers ids (reverse marks) are)
     ∙ ap (λ n. lacks_by n (reverse marks)) (length-map ids (λ (x : Xid). x.0))
+
+pub level-kept : (ids : List Xid) (marks : List ℕ) → AreMarks (length ids) (reverse marks)
+    → level_id (numbers ids) (fronts (numbers ids) (reverse marks)) ≡ slice_get (numbers ids) (start_by (length ids) (reverse marks))
+level-kept ids marks are =
+    level-marks (numbers ids) (reverse marks) (marks-numbers ids (reverse marks) are)
+    ∙ ap (λ n. slice_get (numbers ids) (start_by n (reverse marks))) (length-map ids (λ (x : Xid). x.0))
 
 pub above-within : (ids : List Xid) (marks : List ℕ) (n : ℕ) → AreMarks (length ids) (reverse marks)
     → n ≡ lacks (numbers ids) (fronts (numbers ids) (reverse marks)) → n - 1 ≤ length marks

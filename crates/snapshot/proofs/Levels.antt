@@ -1,11 +1,11 @@
 -- Levels of own ids: which of them lack an id, and what giving an id to the lowest of these changes.
-use Rattle.std.proofs.Common.{◌≡◌, ◌≢◌, ℕ, zero, suc, ◌≤◌, ◌-◌, ◌==◌, Bool, true, false, List, [], ◌∷◌, ◌++◌, length, Some, IsSome, slice_get, arith, refl, sym, ap, ◌∙◌, subst, ⊎_elim, append_assoc, length-append}
+use Rattle.std.proofs.Common.{◌≡◌, ◌≢◌, ℕ, zero, suc, ◌≤◌, ◌==◌, Bool, true, false, List, [], ◌∷◌, ◌++◌, length, Some, None, slice_get, arith, refl, sym, ap, ◌∙◌, subst, ⊎_elim, append_assoc, length-append}
 use Rattle.std.proofs.lemmas.Bool.{cond-true, cond-false, eq-eqb, ne_eqb}
 use Rattle.std.proofs.lemmas.Bool.Decides.{nat_tests}
 use Rattle.std.proofs.lemmas.List.{append-nil}
-use Rattle.std.proofs.lemmas.List.Elements.{Contains-append_left, Contains-append_right, Contains-push, Contains-push_cases}
+use Rattle.std.proofs.lemmas.List.Elements.{Contains-append_left, Contains-append_right, Contains-push_cases}
 use Rattle.std.specs.List.{Contains}
-use Rattle.snapshot.specs.Own.{lacks, newest_id, saved_with, saved_with_each, AreFronts, AreDistinct}
+use Rattle.snapshot.specs.Own.{lacks, level_id, saved_with, saved_with_each, AreFronts, AreDistinct}
 use Rattle.snapshot.proofs.Earliest.{contains-cases, contains-head, contains-tail}
 
 -- lists of numbers
@@ -19,29 +19,14 @@ same-number a b e = grind (arith, nat_tests)
 other-number : (a b : ℕ) → (a == b) ≡ false → a ≢ b
 other-number a b e = grind (arith, nat_tests)
 
-last-apart : (x : ℕ) (xs : List ℕ) → (front : List ℕ) × (last : ℕ) × (x ∷ xs ≡ front ++ last ∷ [])
-last-apart x [] = ([], x, refl)
-last-apart x (y ∷ xs) = let rest = last-apart y xs in (x ∷ rest.0, rest.1, ap (λ l. x ∷ l) rest.2)
-
-get-last : (ids : List ℕ) (x : ℕ) → slice_get (ids ++ x ∷ []) (length ids) ≡ Some x
-get-last [] x = refl
-get-last (y ∷ ids) x = get-last ids x
+get-after : (before since : List ℕ) (x : ℕ) → slice_get (before ++ x ∷ since) (length before) ≡ Some x
+get-after [] since x = refl
+get-after (y ∷ before) since x = get-after before since x
 
 get-among : (ids : List ℕ) (i x : ℕ) → slice_get ids i ≡ Some x → Contains ids x
 get-among [] i x e = absurd (cc)
 get-among (y ∷ ids) zero x e = let same : y ≡ x = (let s : Some y ≡ Some x = e in cc) in subst (Contains (y ∷ ids)) same (contains-head y ids)
 get-among (y ∷ ids) (suc i) x e = contains-tail y x ids (get-among ids i x e)
-
--- the newest id
-
-pub newest-push : (ids : List ℕ) (x : ℕ) → newest_id (ids ++ x ∷ []) ≡ Some x
-newest-push ids x =
-    let long = length-append ids (x ∷ []) in
-    let at : length (ids ++ x ∷ []) - 1 ≡ length ids = omega arith in
-    ap (slice_get (ids ++ x ∷ [])) at ∙ get-last ids x
-
-pub level-among : (ids : List ℕ) (x : ℕ) → newest_id ids ≡ Some x → Contains ids x
-level-among ids x e = get-among ids (length ids - 1) x e
 
 -- lists in which no number is twice
 
@@ -102,39 +87,73 @@ lacks-within (before ∷ saved) ids = let rest = lacks-within saved before in ca
     cases true t rest = let more = lacks-more ids before saved (same-number (length ids) (length before) t) in omega arith
     cases false t rest = let none = lacks-nothing ids before saved (other-number (length ids) (length before) t) in omega arith
 
--- the newest level has an id
+-- the id of the newest level that has one
 
-longer : (ids before since : List ℕ) (saved : List (List ℕ)) → ids ≡ before ++ since → lacks ids (before ∷ saved) ≡ 0 → (front : List ℕ) × (x : ℕ) × (ids ≡ before ++ (front ++ x ∷ []))
-longer ids before [] saved e none =
+pub level-below : (ids before : List ℕ) (saved : List (List ℕ)) → length ids ≡ length before → level_id ids (before ∷ saved) ≡ level_id before saved
+level-below ids before saved e = cond-true (length ids == length before) (level_id before saved) (slice_get ids (length before)) (eq-eqb (length ids) (length before) e)
+
+pub level-own : (ids before : List ℕ) (saved : List (List ℕ)) → length ids ≢ length before → level_id ids (before ∷ saved) ≡ slice_get ids (length before)
+level-own ids before saved e = cond-false (length ids == length before) (level_id before saved) (slice_get ids (length before)) (ne_eqb (length ids) (length before) e)
+
+-- it is that of the level below where the newest has none
+level-same : (ids before : List ℕ) (saved : List (List ℕ)) → ids ≡ before ++ [] → level_id ids (before ∷ saved) ≡ level_id before saved
+level-same ids before saved e = level-below ids before saved (ap length (e ∙ append-nil before))
+
+-- else it is the first since the savepoint
+level-first : (ids before since : List ℕ) (saved : List (List ℕ)) (y : ℕ) → ids ≡ before ++ y ∷ since → level_id ids (before ∷ saved) ≡ Some y
+level-first ids before since saved y e =
+    let long = ap length e ∙ length-append before (y ∷ since) in
+    level-own ids before saved (λ h. absurd (omega arith)) ∙ ap (λ l. slice_get l (length before)) e ∙ get-after before since y
+
+pub level-among : (ids : List ℕ) (saved : List (List ℕ)) (x : ℕ) → AreFronts ids saved → level_id ids saved ≡ Some x → Contains ids x
+level-among ids [] x fronts is = get-among ids 0 x is
+level-among ids (before ∷ saved) x ([], e, fronts) is =
+    subst (λ l. Contains l x) (sym (e ∙ append-nil before)) (level-among before saved x fronts (sym (level-same ids before saved e) ∙ is))
+level-among ids (before ∷ saved) x (y ∷ since, e, fronts) is =
+    let same : y ≡ x = (let s : Some y ≡ Some x = sym (level-first ids before since saved y e) ∙ is in cc) in
+    subst (λ l. Contains l x) (sym e) (Contains-append_right before (y ∷ since) x (subst (Contains (y ∷ since)) same (contains-head y since)))
+
+-- where the newest level has an id it is one of the ids, whatever there was at the savepoints
+pub level-mine : (ids : List ℕ) (saved : List (List ℕ)) (x : ℕ) → lacks ids saved ≡ 0 → level_id ids saved ≡ Some x → Contains ids x
+level-mine ids [] x none is = get-among ids 0 x is
+level-mine ids (before ∷ saved) x none is = cases (length ids == length before) refl
+  where
+    cases : (b : Bool) → (length ids == length before) ≡ b → Contains ids x
+    cases true t = absurd (let more = lacks-more ids before saved (same-number (length ids) (length before) t) in omega arith)
+    cases false t = get-among ids (length before) x (sym (level-own ids before saved (other-number (length ids) (length before) t)) ∙ is)
+
+-- no level has an id where there is none, and else one has
+pub level-none : (saved : List (List ℕ)) → AreFronts [] saved → level_id [] saved ≡ None
+level-none [] fronts = refl
+level-none ([] ∷ saved) (since, e, fronts) = level-below [] [] saved refl ∙ level-none saved fronts
+level-none ((y ∷ before) ∷ saved) (since, e, fronts) = absurd (let long = ap length e in omega arith)
+
+pub level-some : (x : ℕ) (ids : List ℕ) (saved : List (List ℕ)) → AreFronts (x ∷ ids) saved → (y : ℕ) × (level_id (x ∷ ids) saved ≡ Some y)
+level-some x ids [] fronts = (x, refl)
+level-some x ids (before ∷ saved) (y ∷ since, e, fronts) = (y, level-first (x ∷ ids) before since saved y e)
+level-some x ids ([] ∷ saved) ([], e, fronts) = absurd (let long = ap length e in omega arith)
+level-some x ids ((z ∷ before) ∷ saved) ([], e, fronts) =
+    let below = level-some z before saved fronts in (below.0, level-same (x ∷ ids) (z ∷ before) saved e ∙ below.1)
+
+-- there is one where the newest level has one
+pub lacks-level : (ids : List ℕ) (saved : List (List ℕ)) → AreFronts ids saved → lacks ids saved ≡ 0 → (x : ℕ) × (level_id ids saved ≡ Some x)
+lacks-level [] [] fronts none = absurd (let more : lacks [] [] ≡ 1 = refl in omega arith)
+lacks-level (y ∷ ids) [] fronts none = (y, refl)
+lacks-level ids (before ∷ saved) ([], e, fronts) none =
     absurd (let same : length ids ≡ length before = ap length (e ∙ append-nil before) in let more = lacks-more ids before saved same in omega arith)
-longer ids before (y ∷ since) saved e none = let last = last-apart y since in (last.0, last.1, e ∙ ap (λ l. before ++ l) last.2)
+lacks-level ids (before ∷ saved) (y ∷ since, e, fronts) none = (y, level-first ids before since saved y e)
 
-pub lacks-none : (ids before : List ℕ) (saved : List (List ℕ)) → AreFronts ids (before ∷ saved) → lacks ids (before ∷ saved) ≡ 0
-    → (since : List ℕ) × (x : ℕ) × (ids ≡ before ++ (since ++ x ∷ []))
-lacks-none ids before saved fronts none = longer ids before fronts.0 saved fronts.1 none
-
--- there is a newest id where the newest level has one
-pub lacks-newest : (ids : List ℕ) (saved : List (List ℕ)) → AreFronts ids saved → lacks ids saved ≡ 0 → (x : ℕ) × (newest_id ids ≡ Some x)
-lacks-newest [] [] fronts none = absurd (let more : lacks [] [] ≡ 1 = refl in omega arith)
-lacks-newest (y ∷ ids) [] fronts none = let last = last-apart y ids in (last.1, ap newest_id last.2 ∙ newest-push last.0 last.1)
-lacks-newest ids (before ∷ saved) fronts none =
-    let last = lacks-none ids before saved fronts none in
-    (last.1, ap newest_id (last.2 ∙ sym (append_assoc before last.0 (last.1 ∷ []))) ∙ newest-push (before ++ last.0) last.1)
-
-pub lacks-some : (ids : List ℕ) (saved : List (List ℕ)) → AreFronts ids saved → lacks ids saved ≡ 0 → IsSome (newest_id ids)
-lacks-some ids saved fronts none = let newest = lacks-newest ids saved fronts none in subst IsSome (sym newest.1) refl
-
--- the newest id is the newest level's own
-pub level-newest : (ids : List ℕ) (saved : List (List ℕ)) (x : ℕ) → AreFronts ids saved → AreDistinct ids → lacks ids saved ≡ 0 → newest_id ids ≡ Some x
+-- it is the newest level's own then
+pub level-newest : (ids : List ℕ) (saved : List (List ℕ)) (x : ℕ) → AreFronts ids saved → AreDistinct ids → lacks ids saved ≡ 0 → level_id ids saved ≡ Some x
     → (before : List ℕ) → slice_get saved 0 ≡ Some before → ¬ Contains before x
-level-newest ids [] x fronts d none newest before at = absurd (cc)
-level-newest ids (b ∷ saved) x fronts d none newest before at =
+level-newest ids [] x fronts d none is before at = absurd (cc)
+level-newest ids (b ∷ saved) x ([], e, fronts) d none is before at =
+    absurd (let same : length ids ≡ length b = ap length (e ∙ append-nil b) in let more = lacks-more ids b saved same in omega arith)
+level-newest ids (b ∷ saved) x (y ∷ since, e, fronts) d none is before at =
     let same : b ≡ before = (let s : Some b ≡ Some before = at in cc) in
-    let last = lacks-none ids b saved fronts none in
-    let said : newest_id ids ≡ Some last.1 = ap newest_id (last.2 ∙ sym (append_assoc b last.0 (last.1 ∷ []))) ∙ newest-push (b ++ last.0) last.1 in
-    let it : last.1 ≡ x = (let s : Some last.1 ≡ Some x = sym said ∙ newest in cc) in
-    let there : Contains (last.0 ++ last.1 ∷ []) x = subst (Contains (last.0 ++ last.1 ∷ [])) it (Contains-push last.0 last.1) in
-    subst (λ l. ¬ Contains l x) same (distinct-after ids b (last.0 ++ last.1 ∷ []) d last.2 x there)
+    let it : y ≡ x = (let s : Some y ≡ Some x = sym (level-first ids b since saved y e) ∙ is in cc) in
+    let there : Contains (y ∷ since) x = subst (Contains (y ∷ since)) it (contains-head y since) in
+    subst (λ l. ¬ Contains l x) same (distinct-after ids b (y ∷ since) d e x there)
 
 -- an id is added to the lowest level that lacks one
 
@@ -142,20 +161,36 @@ same-front : (ids before since : List ℕ) → ids ≡ before ++ since → lengt
 same-front ids before [] e same = e ∙ append-nil before
 same-front ids before (y ∷ since) e same = absurd (let long = ap length e ∙ length-append before (y ∷ since) in omega arith)
 
-pub lacks-added : (ids : List ℕ) (saved : List (List ℕ)) (x n : ℕ) → AreFronts ids saved → lacks ids saved ≡ suc n → lacks (ids ++ x ∷ []) (saved_with n x saved) ≡ n
-lacks-added ids [] x zero fronts e = lacks-of_one ids x
-lacks-added ids [] x (suc n) fronts e = absurd (let most = lacks-within [] ids in omega arith)
-lacks-added ids (before ∷ saved) x zero fronts e =
+pub lacks-added : (ids : List ℕ) (saved : List (List ℕ)) (x n : ℕ) → lacks ids saved ≡ suc n → lacks (ids ++ x ∷ []) (saved_with n x saved) ≡ n
+lacks-added ids [] x zero e = lacks-of_one ids x
+lacks-added ids [] x (suc n) e = absurd (let most = lacks-within [] ids in omega arith)
+lacks-added ids (before ∷ saved) x zero e =
     let less = lacks-less ids before saved zero e in
     let same = less.0 in
     let long = length-append ids (x ∷ []) in
     lacks-nothing (ids ++ x ∷ []) before saved (λ h. absurd (omega arith))
-lacks-added ids (before ∷ saved) x (suc n) fronts e =
+lacks-added ids (before ∷ saved) x (suc n) e =
     let less = lacks-less ids before saved (suc n) e in
     let same = less.0 in
     let long = length-append ids (x ∷ []) in
     let long_before = length-append before (x ∷ []) in
-    lacks-more (ids ++ x ∷ []) (before ++ x ∷ []) (saved_with n x saved) (omega arith) ∙ ap suc (lacks-added before saved x n fronts.2 less.1)
+    lacks-more (ids ++ x ∷ []) (before ++ x ∷ []) (saved_with n x saved) (omega arith) ∙ ap suc (lacks-added before saved x n less.1)
+
+-- that id is then the one of the newest level that has one
+pub level-added : (ids : List ℕ) (saved : List (List ℕ)) (x n : ℕ) → lacks ids saved ≡ suc n → level_id (ids ++ x ∷ []) (saved_with n x saved) ≡ Some x
+level-added ids [] x zero e = rw (lacks-first ids zero e) refl
+level-added ids [] x (suc n) e = rw (lacks-first ids (suc n) e) refl
+level-added ids (before ∷ saved) x zero e =
+    let less = lacks-less ids before saved zero e in
+    let same = less.0 in
+    let long = length-append ids (x ∷ []) in
+    level-own (ids ++ x ∷ []) before saved (λ h. absurd (omega arith)) ∙ ap (slice_get (ids ++ x ∷ [])) (sym same) ∙ get-after ids [] x
+level-added ids (before ∷ saved) x (suc n) e =
+    let less = lacks-less ids before saved (suc n) e in
+    let same = less.0 in
+    let long = length-append ids (x ∷ []) in
+    let long_before = length-append before (x ∷ []) in
+    level-below (ids ++ x ∷ []) (before ++ x ∷ []) (saved_with n x saved) (omega arith) ∙ level-added before saved x n less.1
 
 pub fronts-added : (ids : List ℕ) (saved : List (List ℕ)) (x n : ℕ) → AreFronts ids saved → lacks ids saved ≡ suc n → AreFronts (ids ++ x ∷ []) (saved_with n x saved)
 fronts-added ids [] x zero fronts e = tt
@@ -169,16 +204,16 @@ fronts-added ids (before ∷ saved) x (suc n) fronts e =
 
 -- each level that lacks an id is given one
 
-pub lacks-given : (given ids : List ℕ) (saved : List (List ℕ)) → AreFronts ids saved → length given ≡ lacks ids saved → lacks (ids ++ given) (saved_with_each given saved) ≡ 0
-lacks-given [] ids saved fronts e = subst (λ l. lacks l saved ≡ 0) (sym (append-nil ids)) (sym e)
-lacks-given (x ∷ given) ids saved fronts e =
-    let added = lacks-added ids saved x (length given) fronts (sym e) in
-    let rest = lacks-given given (ids ++ x ∷ []) (saved_with (length given) x saved) (fronts-added ids saved x (length given) fronts (sym e)) (sym added) in
+pub lacks-given : (given ids : List ℕ) (saved : List (List ℕ)) → length given ≡ lacks ids saved → lacks (ids ++ given) (saved_with_each given saved) ≡ 0
+lacks-given [] ids saved e = subst (λ l. lacks l saved ≡ 0) (sym (append-nil ids)) (sym e)
+lacks-given (x ∷ given) ids saved e =
+    let added = lacks-added ids saved x (length given) (sym e) in
+    let rest = lacks-given given (ids ++ x ∷ []) (saved_with (length given) x saved) (sym added) in
     subst (λ l. lacks l (saved_with_each (x ∷ given) saved) ≡ 0) (append_assoc ids (x ∷ []) given) rest
 
 pub fronts-given : (given ids : List ℕ) (saved : List (List ℕ)) → AreFronts ids saved → length given ≡ lacks ids saved → AreFronts (ids ++ given) (saved_with_each given saved)
 fronts-given [] ids saved fronts e = subst (λ l. AreFronts l saved) (sym (append-nil ids)) fronts
 fronts-given (x ∷ given) ids saved fronts e =
-    let added = lacks-added ids saved x (length given) fronts (sym e) in
+    let added = lacks-added ids saved x (length given) (sym e) in
     let rest = fronts-given given (ids ++ x ∷ []) (saved_with (length given) x saved) (fronts-added ids saved x (length given) fronts (sym e)) (sym added) in
     subst (λ l. AreFronts l (saved_with_each (x ∷ given) saved)) (append_assoc ids (x ∷ []) given) rest

@@ -1,5 +1,5 @@
 -- A session's own ids: those of its open transaction that are not rolled back.
-use Rattle.std.specs.Prelude.{◌≡◌, ℕ, zero, suc, ◌-◌, ◌≤◌, ◌==◌, if◌then◌else◌, List, [], ◌∷◌, ◌++◌, length, map, take, Option, Some, Contains, slice_get}
+use Rattle.std.specs.Prelude.{◌≡◌, ℕ, zero, suc, ◌≤◌, ◌==◌, if◌then◌else◌, List, [], ◌∷◌, ◌++◌, length, map, take, Option, Some, Contains, slice_get}
 use Rattle.xid_circle.specs.Circle.{IsNormal}
 use Rattle.xid_circle.specs.declared.Xid.{Xid}
 
@@ -47,9 +47,12 @@ abbrev pub lacks : List ℕ → List (List ℕ) → ℕ
 lacks ids [] = if length ids == 0 then 1 else 0
 lacks ids (before ∷ saved) = if length ids == length before then suc (lacks before saved) else 0
 
--- the id that was given last, if there is one
-abbrev pub newest_id : List ℕ → Option ℕ
-newest_id ids = slice_get ids (length ids - 1)
+-- The id of the newest level that has one: the first that was given since the savepoint which begins it. A level that was
+-- released has given its ids to the one below, which goes on under its own. (GetCurrentTransactionId in
+-- src/backend/access/transam/xact.c.)
+abbrev pub level_id : List ℕ → List (List ℕ) → Option ℕ
+level_id ids [] = slice_get ids 0
+level_id ids (before ∷ saved) = if length ids == length before then level_id before saved else slice_get ids (length before)
 
 -- what was there at each savepoint: at the n newest the id is there too
 abbrev pub saved_with : ℕ → ℕ → List (List ℕ) → List (List ℕ)

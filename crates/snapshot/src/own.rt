@@ -4,7 +4,7 @@ ghost use Rattle.std.specs.Prelude.{◌≡◌, ◌≢◌, ◌+◌, ◌-◌, ◌<
 ghost use Rattle.std.specs.Option.{option_map};
 ghost use Rattle.xid_circle.specs.Circle.{IsNormal};
 ghost use Rattle.commit_status.specs.Changes.{numbers};
-ghost use Rattle.snapshot.specs.Own.{newest, older, lacks, newest_id, saved_with, AreFronts};
+ghost use Rattle.snapshot.specs.Own.{newest, older, lacks, level_id, saved_with, AreFronts};
 ghost use Rattle.snapshot.specs.Saving.{CannotSave};
 
 use smallvec::SmallVec;
@@ -120,12 +120,25 @@ impl OwnIds {
         levels
     }
 
-    /// The id that was given last, if there is one.
-    pub fn newest_id(&self) -> Option<Xid>
-        ensures value { option_map (λ x. x.0) result ≡ newest_id self.now.ids }
+    /// The id of the newest level that has one, if any has: the first that was given since the savepoint which begins it.
+    pub fn level_id(&self) -> Option<Xid>
+        ensures value { option_map (λ x. x.0) result ≡ level_id self.now.ids self.now.saved }
         ensures normal { IfSome result (λ x. IsNormal x.0) }
     {
-        self.ids.last().copied()
+        self.ids.get(self.level_start()).copied()
+    }
+
+    /// How many ids there were when the newest level began that has one.
+    fn level_start(&self) -> usize
+        ensures { level_id self.now.ids self.now.saved ≡ slice_get self.now.ids result }
+    {
+        let count = self.ids.len();
+        let mut start = 0;
+        // the lowest level first: of those with ids since their savepoint, the last counts
+        for mark in self.marks.as_slice() {
+            start = if *mark < count { *mark } else { start };
+        }
+        start
     }
 
     /// Adds the id that was given last, to the lowest level that has none: the savepoints above that level keep it. It

@@ -134,7 +134,7 @@ fn savepoints(rt: HostRuntime) {
 #[test]
 fn levels_that_lack_ids(rt: HostRuntime) {
     let mut own = OwnIds::new(rt.alloc());
-    assert_eq!(rt; (own.lacks(), own.newest_id()), (1u32, None));
+    assert_eq!(rt; (own.lacks(), own.level_id()), (1u32, None));
     for _ in 0..3u8 {
         assert!(rt; save(&mut own));
     }
@@ -143,7 +143,7 @@ fn levels_that_lack_ids(rt: HostRuntime) {
     for (x, since, lacking) in [(3u32, 0usize, 3u32), (4, 0, 2), (5, 0, 1), (6, 1, 0)] {
         add(&mut own, Xid(x));
         assert_eq!(rt; (newest_ids(&own), own.lacks()), (since, lacking));
-        assert_eq!(rt; own.newest_id(), Some(Xid(x)));
+        assert_eq!(rt; own.level_id(), Some(Xid(x)));
     }
     roll_back(&mut own);
     assert_eq!(rt; own.as_slice(), [Xid(3), Xid(4), Xid(5)].as_slice());
@@ -171,7 +171,31 @@ fn levels_above_one_with_an_id(rt: HostRuntime) {
     add(&mut own, Xid(5));
     assert_eq!(rt; (newest_ids(&own), own.lacks()), (0usize, 30u32));
     roll_back(&mut own);
-    assert_eq!(rt; own.newest_id(), Some(Xid(5)));
+    assert_eq!(rt; own.level_id(), Some(Xid(5)));
+}
+
+/// A released level's ids are those of the level below, which goes on under its own.
+#[test]
+fn released_levels(rt: HostRuntime) {
+    let mut own = OwnIds::new(rt.alloc());
+    add(&mut own, Xid(3));
+    assert!(rt; save(&mut own));
+    assert_eq!(rt; (own.level_id(), own.lacks()), (Some(Xid(3)), 1u32));
+    add(&mut own, Xid(4));
+    assert_eq!(rt; own.level_id(), Some(Xid(4)));
+    release(&mut own);
+    assert_eq!(rt; own.as_slice(), [Xid(3), Xid(4)].as_slice());
+    assert_eq!(rt; (own.level_id(), own.lacks()), (Some(Xid(3)), 0u32));
+    assert!(rt; save(&mut own));
+    add(&mut own, Xid(5));
+    assert!(rt; save(&mut own));
+    assert_eq!(rt; (own.level_id(), own.lacks()), (Some(Xid(5)), 1u32));
+    add(&mut own, Xid(6));
+    assert_eq!(rt; own.level_id(), Some(Xid(6)));
+    release(&mut own);
+    assert_eq!(rt; own.level_id(), Some(Xid(5)));
+    roll_back(&mut own);
+    assert_eq!(rt; (own.level_id(), own.lacks()), (Some(Xid(3)), 1u32));
 }
 
 #[test]
