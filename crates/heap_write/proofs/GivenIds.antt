@@ -1,15 +1,14 @@
 -- What giving ids one after another does: those that were there are as they were, and each new one is in progress, and has the
 -- topmost parent of the first.
-use Rattle.std.proofs.Common.{◌≡◌, ◌≢◌, ℕ, zero, suc, ◌+◌, ◌^◌, ◌<◌, ◌≤◌, List, [], ◌∷◌, ◌++◌, length, Option, Some, None, slice_get, refl, sym, ap, ◌∙◌, subst, inl, inr, ◌⊎◌, arith}
-use Rattle.std.specs.Prelude.{Contains, IsSome}
+use Rattle.std.proofs.Common.{◌≡◌, ◌≢◌, ℕ, zero, suc, ◌^◌, ◌<◌, ◌≤◌, List, [], ◌∷◌, ◌++◌, length, Option, Some, None, refl, sym, ap, ◌∙◌, subst, inl, inr, arith}
+use Rattle.std.specs.Prelude.{Contains}
 use Rattle.std.proofs.lemmas.Option.{none-some}
-use Rattle.std.proofs.lemmas.List.Elements.{Contains-append_cases}
 use Rattle.xid_circle.specs.Circle.{IsNormal, given}
-use Rattle.commit_status.specs.Window.{Entry, Window, IsWindow, IsGiven, IsGivenBefore, IsActive, IsUpToNext, turns, place, parent_in, parent_at, status_of, top_of, next_id}
+use Rattle.commit_status.specs.Window.{Entry, Window, IsWindow, IsGiven, IsGivenBefore, IsActive, IsUpToNext, turns, place, parent_at, status_of, top_of, next_id}
 use Rattle.commit_status.specs.Changes.{Gives}
 use Rattle.commit_status.proofs.Turns.{turns-given}
 use Rattle.commit_status.proofs.Places.{next-none, none-unless, is-from_some, some-from_is}
-use Rattle.commit_status.proofs.Giving.{gives-length, gives-place_old, gives-status, gives-top_old, gives-top_next, gives-top_alone, gives-active_old, gives-active_next, gives-upto}
+use Rattle.commit_status.proofs.Giving.{gives-length, gives-place_old, gives-status, gives-top_old, gives-top_next, gives-top_alone, gives-active_next, gives-upto}
 use Rattle.snapshot.specs.Own.{AreDistinct}
 use Rattle.snapshot.proofs.Earliest.{contains-cases}
 use Rattle.heap_write.specs.Writes.{GivesUnder}

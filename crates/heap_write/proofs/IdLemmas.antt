@@ -7,8 +7,8 @@ use Rattle.commit_status.specs.Window.{Window, IsWindow, IsGiven, next_id, place
 use Rattle.commit_status.specs.Changes.{begun, Gives, CanGive}
 use Rattle.commit_status.proofs.Giving.{gives-length, gives-place_next}
 use Rattle.commit_status.proofs.Places.{is-from_some}
-use Rattle.snapshot.specs.Own.{Own, lacks, newest_id, saved_with, saved_with_each, AreFronts}
-use Rattle.snapshot.proofs.Levels.{newest-push, lacks-newest, lacks-added, fronts-added}
+use Rattle.snapshot.specs.Own.{Own, lacks, level_id, saved_with, saved_with_each, AreFronts}
+use Rattle.snapshot.proofs.Levels.{level-added, lacks-level, lacks-added, fronts-added}
 use Rattle.heap_write.specs.Heap.{SameIds}
 use Rattle.heap_write.specs.Writes.{NeedsFreeze, GivesUnder, TakesIds, SameOwn}
 use Rattle.heap_write.specs.Growth.{HasIds}
@@ -25,9 +25,12 @@ same-next w v same = rw (same.first, same.entries) refl
 given-same : (w v : Window) (x : ℕ) → SameIds w v → IsGiven w x → IsGiven v x
 given-same w v x same is = rw (same.first, same.entries) is
 
-pub newest-same : (w v : Window) (own grown : Own) → SameIds w v → SameOwn own grown → ((x : ℕ) → newest_id own.ids ≡ Some x → IsGiven w x)
-    → (x : ℕ) → newest_id grown.ids ≡ Some x → IsGiven v x
-newest-same w v own grown same same_own newest x is = given-same w v x same (newest x (ap newest_id (sym same_own.ids) ∙ is))
+level-same : (own grown : Own) → SameOwn own grown → level_id grown.ids grown.saved ≡ level_id own.ids own.saved
+level-same own grown same = rw (same.ids, same.saved) refl
+
+pub known-same : (w v : Window) (own grown : Own) → SameIds w v → SameOwn own grown → ((x : ℕ) → level_id own.ids own.saved ≡ Some x → IsGiven w x)
+    → (x : ℕ) → level_id grown.ids grown.saved ≡ Some x → IsGiven v x
+known-same w v own grown same same_own newest x is = given-same w v x same (newest x (sym (level-same own grown same_own) ∙ is))
 
 pub lacks-same : (own grown : Own) → SameOwn own grown → lacks grown.ids grown.saved ≡ lacks own.ids own.saved
 lacks-same own grown same = rw (same.ids, same.saved) refl
@@ -56,8 +59,8 @@ takes-grown w v u own grown own' x same same_own none takes =
     record {
       given = takes.given;
       count = count;
-      gives = gives-grown w v u (newest_id own.ids) takes.given same (λ empty. none (sym count ∙ empty))
-          (subst (λ ids. GivesUnder v (newest_id ids) takes.given u) same_own.ids takes.gives);
+      gives = gives-grown w v u (level_id own.ids own.saved) takes.given same (λ empty. none (sym count ∙ empty))
+          (subst (λ parent. GivesUnder v parent takes.given u) (level-same own grown same_own) takes.gives);
       ids = takes.ids ∙ ap (λ ids. ids ++ takes.given) same_own.ids;
       saved = takes.saved ∙ ap (λ saved. saved_with_each takes.given saved) same_own.saved;
       newest = takes.newest;
@@ -71,7 +74,7 @@ pub record Giving (w0 : Window) (own0 : Own) (w : Window) (own : Own) (count : �
   pub fronts : AreFronts own.ids own.saved
   pub can : CanGive w (lacks own.ids own.saved)
   pub room : HasIds w own
-  pub newest : (x : ℕ) → newest_id own.ids ≡ Some x → IsGiven w x
+  pub newest : (x : ℕ) → level_id own.ids own.saved ≡ Some x → IsGiven w x
   pub window : IsWindow w
   pub whole : (w' : Window) (own' : Own) (x : ℕ) → TakesIds w w' own own' x → TakesIds w0 w' own0 own' x
 
@@ -82,7 +85,7 @@ can-from w own free i lt =
       | inr far ↦ absurd (free (λ can. let near = can i lt in let no : 1 ≤ 0 = omega (arith, near, far) in omega (arith, no)))
     ]
 
-pub giving-start : (w : Window) (own : Own) → ¬ NeedsFreeze w own → HasIds w own → ((x : ℕ) → newest_id own.ids ≡ Some x → IsGiven w x)
+pub giving-start : (w : Window) (own : Own) → ¬ NeedsFreeze w own → HasIds w own → ((x : ℕ) → level_id own.ids own.saved ≡ Some x → IsGiven w x)
     → IsWindow w → AreFronts own.ids own.saved → Giving w own w own 0
 giving-start w own free room newest window fronts = record {
   more = omega arith;
@@ -97,23 +100,23 @@ giving-start w own free room newest window fronts = record {
 -- one id was given, to the lowest level that had none
 pub record GivesOne (w v : Window) (own next : Own) (n : ℕ) : Type 0 where
   pub lacked : lacks own.ids own.saved ≡ suc n
-  pub gives : Gives w v (newest_id own.ids)
+  pub gives : Gives w v (level_id own.ids own.saved)
   pub ids : next.ids ≡ own.ids ++ next_id w ∷ []
   pub saved : next.saved ≡ saved_with n (next_id w) own.saved
 
-newest-one : (w v : Window) (own next : Own) (n : ℕ) → GivesOne w v own next n → newest_id next.ids ≡ Some (next_id w)
-newest-one w v own next n one = ap newest_id one.ids ∙ newest-push own.ids (next_id w)
+level-one : (w v : Window) (own next : Own) (n : ℕ) → GivesOne w v own next n → level_id next.ids next.saved ≡ Some (next_id w)
+level-one w v own next n one = rw (one.ids, one.saved) (level-added own.ids own.saved (next_id w) n one.lacked)
 
-lacks-one : (w v : Window) (own next : Own) (n : ℕ) → AreFronts own.ids own.saved → GivesOne w v own next n → lacks next.ids next.saved ≡ n
-lacks-one w v own next n fronts one = rw (one.ids, one.saved) (lacks-added own.ids own.saved (next_id w) n fronts one.lacked)
+lacks-one : (w v : Window) (own next : Own) (n : ℕ) → GivesOne w v own next n → lacks next.ids next.saved ≡ n
+lacks-one w v own next n one = rw (one.ids, one.saved) (lacks-added own.ids own.saved (next_id w) n one.lacked)
 
-takes-one : (w v u : Window) (own next own' : Own) (n x : ℕ) → AreFronts own.ids own.saved → GivesOne w v own next n → TakesIds v u next own' x → TakesIds w u own own' x
-takes-one w v u own next own' n x fronts one takes =
-    let count : length takes.given ≡ n = takes.count ∙ lacks-one w v own next n fronts one in
+takes-one : (w v u : Window) (own next own' : Own) (n x : ℕ) → GivesOne w v own next n → TakesIds v u next own' x → TakesIds w u own own' x
+takes-one w v u own next own' n x one takes =
+    let count : length takes.given ≡ n = takes.count ∙ lacks-one w v own next n one in
     record {
       given = next_id w ∷ takes.given;
       count = ap suc count ∙ sym one.lacked;
-      gives = (v, refl, one.gives, subst (λ parent. GivesUnder v parent takes.given u) (newest-one w v own next n one) takes.gives);
+      gives = (v, refl, one.gives, subst (λ parent. GivesUnder v parent takes.given u) (level-one w v own next n one) takes.gives);
       ids = takes.ids ∙ ap (λ ids. ids ++ takes.given) one.ids ∙ append_assoc own.ids (next_id w ∷ []) takes.given;
       saved = takes.saved ∙ ap (λ saved. saved_with_each takes.given saved) (one.saved ∙ ap (λ m. saved_with m (next_id w) own.saved) (sym count));
       newest = takes.newest;
@@ -121,17 +124,17 @@ takes-one w v u own next own' n x fronts one takes =
 
 can-one : (w v : Window) (own next : Own) (n : ℕ) → GivesOne w v own next n → CanGive w (suc n) → CanGive v n
 can-one w v own next n one can i lt =
-    let at : length v.entries + i ≡ length w.entries + suc i = let long = gives-length w v (newest_id own.ids) one.gives in omega (arith, long) in
+    let at : length v.entries + i ≡ length w.entries + suc i = let long = gives-length w v (level_id own.ids own.saved) one.gives in omega (arith, long) in
     rw (one.gives.first, one.gives.stop_age, at) (can (suc i) (omega (arith, lt)))
 
 pub giving-one : (w0 : Window) (own0 : Own) (w : Window) (own : Own) (count : ℕ) (v : Window) (next : Own) → Giving w0 own0 w own count → 0 < lacks own.ids own.saved
-    → Gives w v (newest_id own.ids) → next.ids ≡ own.ids ++ next_id w ∷ [] → next.saved ≡ saved_with (lacks own.ids own.saved - 1) (next_id w) own.saved
+    → Gives w v (level_id own.ids own.saved) → next.ids ≡ own.ids ++ next_id w ∷ [] → next.saved ≡ saved_with (lacks own.ids own.saved - 1) (next_id w) own.saved
     → w.spare ≤ v.spare + 1 → own.spare ≡ next.spare + 1 → IsWindow v → Giving w0 own0 v next (count + 1)
 giving-one w0 own0 w own count v next now lacking gives ids saved spare own_spare window =
     let n = lacks own.ids own.saved - 1 in
     let lacked : lacks own.ids own.saved ≡ suc n = omega (arith, lacking) in
     let one : GivesOne w v own next n = record { lacked = lacked; gives = gives; ids = ids; saved = saved } in
-    let left = lacks-one w v own next n now.fronts one in
+    let left = lacks-one w v own next n one in
     let more = now.more in
     let in_table = now.room.in_table in
     let in_own = now.room.in_own in
@@ -141,10 +144,10 @@ giving-one w0 own0 w own count v next now lacking gives ids saved spare own_spar
       can = subst (λ m. CanGive v m) (sym left) (can-one w v own next n one (subst (λ m. CanGive w m) lacked now.can));
       room = record { in_table = omega (arith, left, lacked, spare, in_table); in_own = omega (arith, left, lacked, own_spare, in_own) };
       newest = λ x is.
-          let same : next_id w ≡ x = same_some (next_id w) x (sym (newest-one w v own next n one) ∙ is) in
-          subst (λ y. IsGiven v y) same (is-from_some (place_in v.first (length v.entries) (next_id w)) (length w.entries) (gives-place_next w v (newest_id own.ids) window gives));
+          let same : next_id w ≡ x = same_some (next_id w) x (sym (level-one w v own next n one) ∙ is) in
+          subst (λ y. IsGiven v y) same (is-from_some (place_in v.first (length v.entries) (next_id w)) (length w.entries) (gives-place_next w v (level_id own.ids own.saved) window gives));
       window = window;
-      whole = λ w' own' x takes. now.whole w' own' x (takes-one w v w' own next own' n x now.fronts one takes);
+      whole = λ w' own' x takes. now.whole w' own' x (takes-one w v w' own next own' n x one takes);
     }
 
 -- the next id can be given, and there is memory for it
@@ -156,7 +159,7 @@ giving-near w0 own0 w own count now lacking =
 
 -- all are given
 pub giving-end : (w0 : Window) (own0 : Own) (w : Window) (own : Own) (count x : ℕ) → Giving w0 own0 w own count → lacks own.ids own.saved ≡ 0
-    → newest_id own.ids ≡ Some x → TakesIds w0 w own0 own x
+    → level_id own.ids own.saved ≡ Some x → TakesIds w0 w own0 own x
 giving-end w0 own0 w own count x now none newest =
     now.whole w own x (record { given = []; count = sym none; gives = refl; ids = sym (append-nil own.ids); saved = refl; newest = newest })
 
@@ -167,8 +170,8 @@ giving-lacking w0 own0 w own count now lt = let more = now.more in omega (arith,
 pub giving-over : (w0 : Window) (own0 : Own) (w : Window) (own : Own) (count : ℕ) → Giving w0 own0 w own count → lacks own0.ids own0.saved ≤ count → lacks own.ids own.saved ≡ 0
 giving-over w0 own0 w own count now le = let more = now.more in omega (arith, more, le)
 
--- there is a newest id then
-pub giving-newest : (w0 : Window) (own0 : Own) (w : Window) (own : Own) (count : ℕ) → Giving w0 own0 w own count → lacks own0.ids own0.saved ≤ count → None ≢ newest_id own.ids
+-- the newest level has one then
+pub giving-newest : (w0 : Window) (own0 : Own) (w : Window) (own : Own) (count : ℕ) → Giving w0 own0 w own count → lacks own0.ids own0.saved ≤ count → None ≢ level_id own.ids own.saved
 giving-newest w0 own0 w own count now le none =
-    let newest = lacks-newest own.ids own.saved now.fronts (giving-over w0 own0 w own count now le) in
+    let newest = lacks-level own.ids own.saved now.fronts (giving-over w0 own0 w own count now le) in
     let e : None ≡ Some newest.0 = none ∙ newest.1 in absurd (cc)

@@ -43,6 +43,9 @@ there-within h place there =
       | inr past ↦ absurd (nothing-at place.slot (subst (λ (p : PageView). IsNormalAt p.slots place.slot) (get_or_past h.pages.pages place.page unused_page past) there))
     ]
 
+pub there-at : (h : HeapView) (place : Tid) (page : PageView) → IsThere h place → slice_get h.pages.pages place.page ≡ Some page → IsNormalAt page.slots place.slot
+there-at h place page there at = subst (λ (p : PageView). IsNormalAt p.slots place.slot) (page-at h.pages.pages place.page page at) there
+
 pub room-none : (pages : List PageView) (n : ℕ) → slice_get pages n ≡ None → room_of (page_in pages n).slots ≡ 8164
 room-none pages n none = ap (λ (p : PageView). room_of p.slots) (page-none pages n none)
 

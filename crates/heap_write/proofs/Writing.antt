@@ -184,6 +184,23 @@ stays-there h h1 middle place successor x row target before same_pages there ful
 
 -- A delete.
 
+pub replaces-here : (h h' : HeapView) (place : Tid) (x : ℕ) (row : Row) (before after : PageView) → slice_get h.pages.pages place.page ≡ Some before
+    → after.slots ≡ with_updated before.slots place.slot x place.page row
+    → after.change ≡ replaced_change before.slots place.slot x place.page (free_number before.slots) true (next_change before.change)
+    → after.flag ≡ before.flag → free_number before.slots ≤ 291
+    → h'.pages.pages ≡ set h.pages.pages place.page after → h'.index.entries ≡ h.index.entries → ReplacesHere h h' place x row
+replaces-here h h' place x row before after at slots change flag within pages entries =
+    let same : before ≡ page_on h place.page = sym (page-at h.pages.pages place.page before at) in
+    record {
+      page = after;
+      puts = in_use (slice_get_within h.pages.pages place.page before at) pages;
+      slots = subst (λ (p : PageView). after.slots ≡ with_updated p.slots place.slot x place.page row) same slots;
+      change = subst (λ (p : PageView). after.change ≡ replaced_change p.slots place.slot x place.page (free_number p.slots) true (next_change p.change)) same change;
+      flag = subst (λ (p : PageView). after.flag ≡ p.flag) same flag;
+      within = subst (λ (p : PageView). free_number p.slots ≤ 291) same within;
+      entries = entries;
+    }
+
 pub deletes : (h h' : HeapView) (own own' : Own) (place : Tid) (x : ℕ) (before after : PageView) → ¬ NeedsFreeze h.table own → TakesIds h.table h'.table own own' x
     → IsThere h place → slice_get h.pages.pages place.page ≡ Some before → MovesAway before after place place x
     → h'.pages.pages ≡ set h.pages.pages place.page after → h'.index.entries ≡ h.index.entries → h'.max_pages ≡ h.max_pages → Deletes h h' own own' place x

@@ -9,7 +9,7 @@ use Rattle.page_slots.specs.View.{PageView}
 use Rattle.page_slots.specs.Slots.{room_of, free_number, next_change, IsNormalAt}
 use Rattle.commit_status.specs.Window.{Window, next_id}
 use Rattle.commit_status.specs.Changes.{Gives, CanGive}
-use Rattle.snapshot.specs.Own.{Own, lacks, newest_id, saved_with_each}
+use Rattle.snapshot.specs.Own.{Own, lacks, level_id, saved_with_each}
 use Rattle.prune.specs.Actions.{applied}
 use Rattle.prune.specs.Cutting.{Removes}
 use Rattle.prune.specs.Pruning.{IsPruned, IsPlan}
@@ -40,10 +40,10 @@ GivesUnder w parent (x ∷ xs) w' = (between : Window) × (x ≡ next_id w) × G
 pub record TakesIds (w w' : Window) (own own' : Own) (x : ℕ) : Type 0 where
   pub given : List ℕ
   pub count : length given ≡ lacks own.ids own.saved
-  pub gives : GivesUnder w (newest_id own.ids) given w'
+  pub gives : GivesUnder w (level_id own.ids own.saved) given w'
   pub ids : own'.ids ≡ own.ids ++ given
   pub saved : own'.saved ≡ saved_with_each given own.saved
-  pub newest : newest_id own'.ids ≡ Some x
+  pub newest : level_id own'.ids own'.saved ≡ Some x
 
 -- the session's ids are as they were, though there may be more memory
 pub record SameOwn (own own' : Own) : Type 0 where

@@ -4,7 +4,7 @@ ghost use Rattle.std.specs.Prelude.{◌≡◌, ℕ, ◌+◌, ◌-◌, ◌<◌, �
 ghost use Rattle.xid_circle.specs.Circle.{IsNormal, distance_of};
 ghost use Rattle.commit_status.specs.Window.{IsWindow, IsGiven, next_id};
 ghost use Rattle.commit_status.specs.Changes.{Gives};
-ghost use Rattle.snapshot.specs.Own.{lacks, newest_id, saved_with};
+ghost use Rattle.snapshot.specs.Own.{lacks, level_id, saved_with};
 ghost use Rattle.heap_write.specs.Heap.{SameIds};
 ghost use Rattle.heap_write.specs.Writes.{NeedsFreeze, TakesIds, SameOwn};
 ghost use Rattle.heap_write.specs.Growth.{HasIds};
@@ -43,15 +43,15 @@ fn give_id(table: &mut StatusTable, own: &mut OwnIds)
     requires near { distance_of table.old.first (next_id table.old) < table.old.stop_age }
     requires in_table { 0 < table.old.spare }
     requires in_own { 0 < own.old.spare }
-    requires newest { (x : ℕ) → newest_id own.old.ids ≡ Some x → IsGiven table.old x }
-    ensures gives { Gives table.old table.new (newest_id own.old.ids) }
+    requires newest { (x : ℕ) → level_id own.old.ids own.old.saved ≡ Some x → IsGiven table.old x }
+    ensures gives { Gives table.old table.new (level_id own.old.ids own.old.saved) }
     ensures ids { own.new.ids ≡ own.old.ids ++ next_id table.old ∷ [] }
     ensures saved { own.new.saved ≡ saved_with (lacks own.old.ids own.old.saved - 1) (next_id table.old) own.old.saved }
     ensures spare { table.old.spare ≤ table.new.spare + 1 }
     ensures own_spare { own.old.spare ≡ own.new.spare + 1 }
     ensures window { IsWindow table.new }
 {
-    match table.give(own.newest_id()) {
+    match table.give(own.level_id()) {
         Ok(x) => own.add(x),
         Err(_) => unreachable!(),
     }
@@ -62,7 +62,7 @@ fn give_id(table: &mut StatusTable, own: &mut OwnIds)
 pub(crate) fn take_ids(table: &mut StatusTable, own: &mut OwnIds) -> Xid
     requires free { ¬ NeedsFreeze table.old own.old }
     requires room { HasIds table.old own.old }
-    requires newest { (x : ℕ) → newest_id own.old.ids ≡ Some x → IsGiven table.old x }
+    requires newest { (x : ℕ) → level_id own.old.ids own.old.saved ≡ Some x → IsGiven table.old x }
     ensures takes { TakesIds table.old table.new own.old own.new result.0 }
     ensures normal { IsNormal result.0 }
     ensures window { IsWindow table.new }
@@ -72,7 +72,7 @@ pub(crate) fn take_ids(table: &mut StatusTable, own: &mut OwnIds) -> Xid
     for _ in 0..own.lacks() {
         give_id(table, own);
     }
-    match own.newest_id() {
+    match own.level_id() {
         Some(x) => x,
         None => unreachable!(),
     }

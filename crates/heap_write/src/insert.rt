@@ -5,7 +5,7 @@ ghost use Rattle.xid_circle.specs.Circle.{IsNormal};
 ghost use Rattle.page_slots.specs.Slots.{free_number};
 ghost use Rattle.tuple_header.specs.Version.{rounded_size_of};
 ghost use Rattle.commit_status.specs.Window.{IsWindow, IsGiven};
-ghost use Rattle.snapshot.specs.Own.{newest_id};
+ghost use Rattle.snapshot.specs.Own.{level_id};
 ghost use Rattle.root_index.specs.Sets.{Adds};
 ghost use Rattle.heap_write.specs.Heap.{key_value, page_on, Keeps};
 ghost use Rattle.heap_write.specs.Writes.{NeedsFreeze, TakesIds, SameOwn, PutsRoot, Inserts};
@@ -27,7 +27,7 @@ impl HeapState {
     /// NoMemory only where something has to grow. A refused insert changes nothing and gives no id. (PostgreSQL,
     /// `heap_insert` in src/backend/access/heap/heapam.c.)
     pub fn insert(&mut self, own: &mut OwnIds, row: Row) -> Result<Xid, WriteFault>
-        requires newest { (x : ℕ) → newest_id own.old.ids ≡ Some x → IsGiven self.old.table x }
+        requires newest { (x : ℕ) → level_id own.old.ids own.old.saved ≡ Some x → IsGiven self.old.table x }
         ensures ok { IfOk result (λ x. Inserts self.old self.new own.old own.new row x.0) }
         ensures fault { IfErr result (λ fault. LacksForInsert self.old own.old row fault) }
         ensures err { OnErr result (Keeps self.old self.new) }
@@ -49,7 +49,7 @@ impl HeapState {
     /// Inserts a version of the row where it goes, unless the index or a list of ids has to grow and cannot.
     fn insert_at(&mut self, target: Target, own: &mut OwnIds, row: Row) -> Result<Xid, WriteFault>
         requires free { ¬ NeedsFreeze self.old.table own.old }
-        requires newest { (x : ℕ) → newest_id own.old.ids ≡ Some x → IsGiven self.old.table x }
+        requires newest { (x : ℕ) → level_id own.old.ids own.old.saved ≡ Some x → IsGiven self.old.table x }
         requires ready { IsReady self.old.pages (rounded_size_of row) target }
         ensures takes { IfOk result (λ x. TakesIds self.old.table self.new.table own.old own.new x.0) }
         ensures root { IfOk result (λ x. PutsRoot self.old self.new false x.0 row (target_number self.old.pages.pages target)) }

@@ -3,7 +3,7 @@
 ghost use Rattle.std.specs.Prelude.{◌≡◌, ℕ, ◌≤◌, Some, IsTrue};
 ghost use Rattle.xid_circle.specs.Circle.{IsNormal};
 ghost use Rattle.commit_status.specs.Window.{IsGiven};
-ghost use Rattle.snapshot.specs.Own.{newest_id};
+ghost use Rattle.snapshot.specs.Own.{level_id};
 
 use crate::{HeapState, PruneFault, WriteFault};
 use arrayvec::ArrayVec;
@@ -60,10 +60,16 @@ fn save(own: &mut OwnIds) -> bool {
     own.save().is_ok()
 }
 
+fn release(own: &mut OwnIds) {
+    if own.savepoints() > 0 {
+        own.release();
+    }
+}
+
 fn is_known(heap: &HeapState, own: &OwnIds) -> bool
-    ensures { IsTrue result → (x : ℕ) → newest_id own.now.ids ≡ Some x → IsGiven heap.now.table x }
+    ensures { IsTrue result → (x : ℕ) → level_id own.now.ids own.now.saved ≡ Some x → IsGiven heap.now.table x }
 {
-    match own.newest_id() {
+    match own.level_id() {
         Some(x) => heap.table().remembers(x),
         None => true,
     }
@@ -186,6 +192,24 @@ fn each_level_has_an_id_of_its_own(rt: HostRuntime) {
     assert_eq!(rt; delete(&mut heap, &mut own, place(0, 2)), Ok(Xid(6)));
     assert_eq!(rt; heap.table().top_of(Xid(6)), Xid(3));
     assert_eq!(rt; heap.table().next(), Xid(7));
+}
+
+/// A released level's ids are those of the level below, which goes on under its own.
+#[test]
+fn after_a_release_the_level_writes_under_its_own_id(rt: HostRuntime) {
+    let mut heap = HeapState::new(rt.alloc(), Xid(3), 1000, 1);
+    let mut own = session(rt.alloc());
+    assert_eq!(rt; insert(&mut heap, &mut own, row(1, 10, 0)), Ok(Xid(3)));
+    assert!(rt; save(&mut own));
+    assert_eq!(rt; insert(&mut heap, &mut own, row(2, 20, 0)), Ok(Xid(4)));
+    release(&mut own);
+    assert_eq!(rt; insert(&mut heap, &mut own, row(3, 30, 0)), Ok(Xid(3)));
+    assert_eq!(rt; delete(&mut heap, &mut own, place(0, 2)), Ok(Xid(3)));
+    assert_eq!(rt; own.as_slice(), [Xid(3), Xid(4)].as_slice());
+    // the next level has an id of its own
+    assert!(rt; save(&mut own));
+    assert_eq!(rt; delete(&mut heap, &mut own, place(0, 1)), Ok(Xid(5)));
+    assert_eq!(rt; heap.table().top_of(Xid(5)), Xid(3));
 }
 
 #[test]

@@ -3,7 +3,7 @@
 ghost use Rattle.std.specs.Prelude.{◌≡◌, ℕ, ◌≤◌, ◌<◌, length, IfErr, IfOk, IfSome, IsTrue, OnErr, OnOk, Some, ◌↔◌, ◌⊎◌};
 ghost use Rattle.xid_circle.specs.Circle.{IsNormal};
 ghost use Rattle.commit_status.specs.Window.{IsWindow, IsGiven};
-ghost use Rattle.snapshot.specs.Own.{lacks, newest_id};
+ghost use Rattle.snapshot.specs.Own.{lacks, level_id};
 ghost use Rattle.page_slots.specs.Slots.{room_of};
 ghost use Rattle.tuple_header.specs.Version.{rounded_size_of};
 ghost use Rattle.heap_write.specs.Heap.{page_on, Keeps};
@@ -37,7 +37,7 @@ impl HeapState {
         row: Row,
         horizon: Xid,
     ) -> Result<Xid, WriteFault>
-        requires newest { (x : ℕ) → newest_id own.old.ids ≡ Some x → IsGiven self.old.table x }
+        requires newest { (x : ℕ) → level_id own.old.ids own.old.saved ≡ Some x → IsGiven self.old.table x }
         requires horizon { IsNormal horizon.0 }
         ensures ok { IfOk result (λ x. Updates self.old self.new own.old own.new place row horizon.0 x.0) }
         ensures fault { IfErr result (λ fault. FailsUpdate self.old self.new own.old place row horizon.0 fault) }
@@ -72,7 +72,7 @@ impl HeapState {
 
     /// Updates a version whose page has room for the row.
     fn update_at_once(&mut self, own: &mut OwnIds, place: Tid, row: Row) -> Result<Xid, WriteFault>
-        requires newest { (x : ℕ) → newest_id own.old.ids ≡ Some x → IsGiven self.old.table x }
+        requires newest { (x : ℕ) → level_id own.old.ids own.old.saved ≡ Some x → IsGiven self.old.table x }
         requires free { ¬ NeedsFreeze self.old.table own.old }
         requires there { IsThere self.old place }
         requires room { rounded_size_of row ≤ room_of (page_on self.old place.page).slots }
@@ -104,7 +104,7 @@ impl HeapState {
         row: Row,
         horizon: Xid,
     ) -> Result<Xid, WriteFault>
-        requires newest { (x : ℕ) → newest_id own.old.ids ≡ Some x → IsGiven self.old.table x }
+        requires newest { (x : ℕ) → level_id own.old.ids own.old.saved ≡ Some x → IsGiven self.old.table x }
         requires horizon { IsNormal horizon.0 }
         requires free { ¬ NeedsFreeze self.old.table own.old }
         requires there { IsThere self.old place }
@@ -164,7 +164,7 @@ impl HeapState {
         row: Row,
         target: Option<Target>,
     ) -> Result<Xid, WriteFault>
-        requires newest { (x : ℕ) → newest_id own.old.ids ≡ Some x → IsGiven self.old.table x }
+        requires newest { (x : ℕ) → level_id own.old.ids own.old.saved ≡ Some x → IsGiven self.old.table x }
         requires free { ¬ NeedsFreeze self.old.table own.old }
         requires has_ids { HasIds self.old.table own.old }
         requires has_slot { 0 < (page_on self.old place.page).spare }
@@ -196,7 +196,7 @@ impl HeapState {
 
     /// Replaces a version by a heap-only one on its page, which has room and memory for it.
     fn replace_here(&mut self, own: &mut OwnIds, place: Tid, row: Row) -> Xid
-        requires newest { (x : ℕ) → newest_id own.old.ids ≡ Some x → IsGiven self.old.table x }
+        requires newest { (x : ℕ) → level_id own.old.ids own.old.saved ≡ Some x → IsGiven self.old.table x }
         requires free { ¬ NeedsFreeze self.old.table own.old }
         requires has_ids { HasIds self.old.table own.old }
         requires there { IsThere self.old place }
@@ -216,7 +216,7 @@ impl HeapState {
 
     /// Replaces a version by a root on another page, which has room and memory for it.
     fn replace_elsewhere(&mut self, own: &mut OwnIds, place: Tid, row: Row, target: Target) -> Xid
-        requires newest { (x : ℕ) → newest_id own.old.ids ≡ Some x → IsGiven self.old.table x }
+        requires newest { (x : ℕ) → level_id own.old.ids own.old.saved ≡ Some x → IsGiven self.old.table x }
         requires free { ¬ NeedsFreeze self.old.table own.old }
         requires has_ids { HasIds self.old.table own.old }
         requires there { IsThere self.old place }

@@ -1,4 +1,4 @@
-use Rattle.std.proofs.Common.{refl, subst}
+use Rattle.std.proofs.Common.{◌≡◌, Some, slice_get, refl, subst}
 use Rattle.heap_pages.proofs.FirstLemmas.{refuted}
 use Rattle.heap_pages.specs.View.{with_page}
 use Rattle.heap_write.specs.Heap.{HeapView}
@@ -6,8 +6,14 @@ use Rattle.heap_write.specs.Writes.{NeedsFreeze, Deletes}
 use Rattle.heap_write.specs.Refusals.{IsThere}
 use Rattle.heap_write.specs.contracts.heap.HeapState.{the_view}
 use Rattle.heap_write.proofs.IdLemmas.{takes-grown}
+use Rattle.heap_write.proofs.PageLemmas.{there-at}
 use Rattle.heap_write.proofs.Writing.{deletes}
 use Rattle.heap_write.proofs.heap.HeapState.delete.Goals as goal
+
+pub delete_version-requires-clause-version : goal.delete_version-requires-clause-version
+delete_version-requires-clause-version c =
+    there-at c.args.self.now c.args.place c.page_mut.result.now (c.is_there.ensures.0 c.if-not-is_there.false)
+    (subst (λ (h : HeapView). slice_get h.pages.pages c.args.place.page ≡ Some c.page_mut.result.now) c.self.view_is c.page_mut.ensures.value)
 
 pub returns-clause-ok : goal.returns-clause-ok
 returns-clause-ok c =
