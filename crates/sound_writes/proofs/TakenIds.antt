@@ -4,9 +4,9 @@ use Rattle.std.specs.Prelude.{Contains}
 use Rattle.std.proofs.lemmas.List.Elements.{Contains-append_left, Contains-append_cases}
 use Rattle.commit_status.specs.Window.{Window, IsWindow, IsGiven, IsActive, status_of}
 use Rattle.commit_status.specs.Changes.{Gives}
-use Rattle.snapshot.specs.Own.{Own, newest_id}
+use Rattle.snapshot.specs.Own.{Own, level_id}
 use Rattle.snapshot.specs.Snap.{Snap}
-use Rattle.snapshot.proofs.Levels.{level-among}
+use Rattle.snapshot.proofs.Levels.{level-mine, lacks-given}
 use Rattle.visibility.specs.Laws.{SameVerdicts}
 use Rattle.visibility.proofs.Verdicts.{giving-unseen}
 use Rattle.heap_write.specs.Writes.{GivesUnder, TakesIds}
@@ -27,7 +27,7 @@ verdicts-then u v w s own a b = record {
 
 module _ (w v : Window) (own own' : Own) (x : ℕ) (before : IsWindow w) (after : IsWindow v) (takes : TakesIds w v own own' x) where
   pub takes-status : (y : ℕ) → status_of v y ≡ status_of w y
-  takes-status y = given-status takes.given w v (newest_id own.ids) y takes.gives after
+  takes-status y = given-status takes.given w v (level_id own.ids own.saved) y takes.gives after
 
   -- who reads what doesn't change
   pub takes-verdicts : (s : Snap) (ids : List ℕ) → SameVerdicts w v s ids
@@ -43,14 +43,14 @@ module _ (w v : Window) (own own' : Own) (x : ℕ) (before : IsWindow w) (after 
 
   -- an id that was given is not a new one
   pub takes-old : (y : ℕ) → IsGiven w y → Contains own'.ids y → Contains own.ids y
-  takes-old y there mine = ⊎_elim (λ old. old) (λ new. absurd (given-new takes.given w v (newest_id own.ids) y takes.gives after new there)) (takes-cases y mine)
+  takes-old y there mine = ⊎_elim (λ old. old) (λ new. absurd (given-new takes.given w v (level_id own.ids own.saved) y takes.gives after new there)) (takes-cases y mine)
 
   pub takes-mine : Contains own'.ids x
-  takes-mine = level-among own'.ids x takes.newest
+  takes-mine = level-mine own'.ids own'.saved x (rw (takes.ids, takes.saved) (lacks-given takes.given own.ids own.saved takes.count)) takes.newest
 
   -- all of them are in progress
   pub takes-active : ((y : ℕ) → Contains own.ids y → IsActive w y) → (y : ℕ) → Contains own'.ids y → IsActive v y
   takes-active active y mine = ⊎_elim
-      (λ old. given-active_old takes.given w v (newest_id own.ids) y takes.gives after (active y old))
-      (λ new. given-active takes.given w v (newest_id own.ids) y takes.gives after new)
+      (λ old. given-active_old takes.given w v (level_id own.ids own.saved) y takes.gives after (active y old))
+      (λ new. given-active takes.given w v (level_id own.ids own.saved) y takes.gives after new)
       (takes-cases y mine)
