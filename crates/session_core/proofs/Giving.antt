@@ -12,11 +12,11 @@ use Rattle.commit_status.specs.Window.{Window, IsWindow, IsCommitted, IsInProgre
 use Rattle.commit_status.proofs.Places.{upto-given, is-from_some}
 use Rattle.commit_status.proofs.Ancestors.{top-same}
 use Rattle.commit_status.proofs.Giving.{finished-place}
-use Rattle.snapshot.specs.Own.{Own, AreFronts, AreDistinct, lacks, newest_id, saved_with_each}
+use Rattle.snapshot.specs.Own.{Own, AreFronts, AreDistinct, lacks, level_id, saved_with_each}
 use Rattle.snapshot.specs.Snap.{Snap, Sees}
 use Rattle.snapshot.proofs.Sights.{sees-top}
 use Rattle.snapshot.proofs.Earliest.{contains-head, contains-tail, contains-cases}
-use Rattle.snapshot.proofs.Levels.{level-among, level-newest, lacks-given, fronts-given}
+use Rattle.snapshot.proofs.Levels.{level-among, level-mine, level-none, level-some, level-newest, lacks-given, fronts-given}
 use Rattle.heap_write.specs.Heap.{HeapView, SameIds}
 use Rattle.heap_write.specs.Writes.{GivesUnder, TakesIds}
 use Rattle.heap_write.proofs.GivenIds.{given-first, given-next, given-upto, given-status, given-top_old, given-active, given-new, given-distinct, given-top, given-top_first, given-late}
@@ -117,47 +117,38 @@ first-append : (ids xs : List ℕ) (top : ℕ) → slice_get ids 0 ≡ Some top 
 first-append [] xs top at = absurd (none-some top at)
 first-append (y ∷ ids) xs top at = at
 
-last-of : (x : ℕ) (ids : List ℕ) → (p : ℕ) × (slice_get (x ∷ ids) (length ids) ≡ Some p)
-last-of x [] = (x, refl)
-last-of x (y ∷ ids) = last-of y ids
-
-newest-some : (x : ℕ) (ids : List ℕ) → (p : ℕ) × (newest_id (x ∷ ids) ≡ Some p)
-newest-some x ids = let last = last-of x ids in (last.0, ap (slice_get (x ∷ ids)) (last-place (length ids)) ∙ last.1)
-  where
-    last-place : (n : ℕ) → suc n - 1 ≡ n
-    last-place n = omega arith
-
 -- each new id has the topmost parent of those that were there, or the first of the new ones
-new-topmost : (ids xs : List ℕ) (w v : Window) (y : ℕ) → IsWindow v → GivesUnder w (newest_id ids) xs v → ((x : ℕ) → Contains ids x → IsGiven w x) → ((x : ℕ) → Contains ids x → slice_get ids 0 ≡ Some (top_of w x))
-    → Contains xs y → slice_get (ids ++ xs) 0 ≡ Some (top_of v y)
-new-topmost [] [] w v y is gives there tops among = absurd (none_own y among)
-new-topmost [] (x ∷ xs) w v y is gives there tops among = ap Some (sym (given-top_first x xs w v y gives is among))
-new-topmost (z ∷ ids) xs w v y is gives there tops among =
-    let newest = newest-some z ids in
-    let mine = level-among (z ∷ ids) newest.0 newest.1 in
-    tops newest.0 mine ∙ ap Some (sym (given-top xs w v newest.0 y (subst (λ o. GivesUnder w o xs v) newest.1 gives) is (there newest.0 mine) among))
+new-topmost : (ids xs : List ℕ) (saved : List (List ℕ)) (w v : Window) (y : ℕ) → AreFronts ids saved → IsWindow v → GivesUnder w (level_id ids saved) xs v → ((x : ℕ) → Contains ids x → IsGiven w x)
+    → ((x : ℕ) → Contains ids x → slice_get ids 0 ≡ Some (top_of w x)) → Contains xs y → slice_get (ids ++ xs) 0 ≡ Some (top_of v y)
+new-topmost [] [] saved w v y fronts is gives there tops among = absurd (none_own y among)
+new-topmost [] (x ∷ xs) saved w v y fronts is gives there tops among =
+    ap Some (sym (given-top_first x xs w v y (subst (λ o. GivesUnder w o (x ∷ xs) v) (level-none saved fronts) gives) is among))
+new-topmost (z ∷ ids) xs saved w v y fronts is gives there tops among =
+    let level = level-some z ids saved fronts in
+    let mine = level-among (z ∷ ids) saved level.0 fronts level.1 in
+    tops level.0 mine ∙ ap Some (sym (given-top xs w v level.0 y (subst (λ o. GivesUnder w o xs v) level.1 gives) is (there level.0 mine) among))
 
 module _ (w v : Window) (e : Session) (own : Own) (x : ℕ) (is : IsWindow v) (takes : TakesIds w v e.own own x) (there : (x : ℕ) → Contains e.own.ids x → IsGiven w x) (h : SessionKeeps w e) where
   fronts-taken : AreFronts own.ids own.saved
   fronts-taken = rw (takes.ids, takes.saved) (fronts-given takes.given e.own.ids e.own.saved h.fronts takes.count)
 
   lacks-taken : lacks own.ids own.saved ≡ 0
-  lacks-taken = rw (takes.ids, takes.saved) (lacks-given takes.given e.own.ids e.own.saved h.fronts takes.count)
+  lacks-taken = rw (takes.ids, takes.saved) (lacks-given takes.given e.own.ids e.own.saved takes.count)
 
   distinct-taken : AreDistinct own.ids
-  distinct-taken = subst AreDistinct (sym takes.ids) (distinct-both e.own.ids takes.given h.distinct (given-distinct takes.given w v (newest_id e.own.ids) takes.gives is)
-      (λ y now old. given-new takes.given w v (newest_id e.own.ids) y takes.gives is now (there y old)))
+  distinct-taken = subst AreDistinct (sym takes.ids) (distinct-both e.own.ids takes.given h.distinct (given-distinct takes.given w v (level_id e.own.ids e.own.saved) takes.gives is)
+      (λ y now old. given-new takes.given w v (level_id e.own.ids e.own.saved) y takes.gives is now (there y old)))
 
   topmost-taken : (y : ℕ) → Contains own.ids y → slice_get own.ids 0 ≡ Some (top_of v y)
   topmost-taken y mine = ap (λ ids. slice_get ids 0) takes.ids ∙ elim (Contains-append_cases e.own.ids takes.given y (subst (λ ids. Contains ids y) takes.ids mine)) [
-    | inl old ↦ first-append e.own.ids takes.given (top_of v y) (h.topmost y old ∙ ap Some (sym (given-top_old takes.given w v (newest_id e.own.ids) y takes.gives is (there y old))))
-    | inr new ↦ new-topmost e.own.ids takes.given w v y is takes.gives there h.topmost new
+    | inl old ↦ first-append e.own.ids takes.given (top_of v y) (h.topmost y old ∙ ap Some (sym (given-top_old takes.given w v (level_id e.own.ids e.own.saved) y takes.gives is (there y old))))
+    | inr new ↦ new-topmost e.own.ids takes.given e.own.saved w v y h.fronts is takes.gives there h.topmost new
   ]
 
   -- the session that took them
   keeps-taken : SessionKeeps v (with_own e own)
   keeps-taken = record {
-    snapshot = in-window-given takes.given w v (newest_id e.own.ids) e.snapshot takes.gives h.snapshot;
+    snapshot = in-window-given takes.given w v (level_id e.own.ids e.own.saved) e.snapshot takes.gives h.snapshot;
     topmost = topmost-taken;
     fronts = fronts-taken;
     distinct = distinct-taken;
@@ -166,7 +157,7 @@ module _ (w v : Window) (e : Session) (own : Own) (x : ℕ) (is : IsWindow v) (t
   -- writes under the id of its newest level
   current-taken : IsCurrent (reader_of (with_own e own)) x
   current-taken = record {
-    mine = level-among own.ids x takes.newest;
+    mine = level-mine own.ids own.saved x lacks-taken takes.newest;
     newest = λ before at. level-newest own.ids own.saved x fronts-taken distinct-taken lacks-taken takes.newest before at;
   }
 
@@ -229,7 +220,7 @@ module _ (st : State) (w : World) (h : HeapView) (s : ℕ) (e e' : Session) (at 
   pub Sound-given : (own : Own) (x : ℕ) → TakesIds st.heap.table h.table e.own own x → e' ≡ with_own e own → IsWindow h.table → SoundTable h (horizon_of st) → Sound (with_write st h s e')
   Sound-given own x takes is window sound =
       let table = st.heap.table in
-      let parent = newest_id e.own.ids in
+      let parent = level_id e.own.ids e.own.saved in
       let there : (o : ℕ) (f : Session) → session_at st o ≡ Some f → (y : ℕ) → Contains f.own.ids y → IsGiven table y =
       λ o f bt y mine. (active-to table y ((agrees.found.opened o (reader_of f) (reader-is st o f bt)).2.own_active y mine)).is_given in
       record {
@@ -251,7 +242,7 @@ module _ (st : State) (w : World) (h : HeapView) (s : ℕ) (e e' : Session) (at 
 
       old-then : (own : Own) (x y : ℕ) → TakesIds st.heap.table h.table e.own own x → Contains (holds_back e) y → IsUpToNext h.table y × (turns st.heap.table.first (horizon_of st) ≤ turns st.heap.table.first y)
       old-then own x y takes back = (
-        given-upto takes.given st.heap.table h.table (newest_id e.own.ids) y takes.gives (held-in st w agrees s e y at back),
+        given-upto takes.given st.heap.table h.table (level_id e.own.ids e.own.saved) y takes.gives (held-in st w agrees s e y at back),
         horizon-low st.heap.table st.sessions s e y agrees.sound.window (held-in st w agrees) at back,
       )
 
@@ -259,7 +250,7 @@ module _ (st : State) (w : World) (h : HeapView) (s : ℕ) (e e' : Session) (at 
           → (y : ℕ) → Contains (holds_back e') y → IsUpToNext h.table y × (turns st.heap.table.first (horizon_of st) ≤ turns st.heap.table.first y)
       mine-then own x takes is window y among =
           let table = st.heap.table in
-          let parent = newest_id e.own.ids in
+          let parent = level_id e.own.ids e.own.saved in
           let back : Contains (e.snapshot.xmin ∷ take 1 own.ids) y = subst (λ (f : Session). Contains (holds_back f) y) is among in
           elim (contains-cases e.snapshot.xmin y (take 1 own.ids) back) [
             | inl here ↦ old-then own x y takes (subst (λ z. Contains (holds_back e) z) here (contains-head e.snapshot.xmin (take 1 e.own.ids)))
@@ -287,15 +278,15 @@ module _ (st : State) (w : World) (v : Window) (s : ℕ) (e : Session) (own : Ow
       record { others = only.others; itself = only.itself ∙ ap Some reader-taken }
 
   pub gives-each : GivesEach (state_of st.heap.table) takes.given (state_of v)
-  gives-each = GivesEach-from takes.given st.heap.table v (newest_id e.own.ids) takes.gives window
+  gives-each = GivesEach-from takes.given st.heap.table v (level_id e.own.ids e.own.saved) takes.gives window
 
   pub same-sights : SameSights (seen st) (λ sn y. Sees sn v y)
-  same-sights o r bt = SameSight-given r.snapshot takes.given st.heap.table v (newest_id e.own.ids) takes.gives window
+  same-sights o r bt = SameSight-given r.snapshot takes.given st.heap.table v (level_id e.own.ids e.own.saved) takes.gives window
 
   pub are-unseen : AreUnseen (seen st) (λ sn y. Sees sn v y) takes.given
   are-unseen y among o r bt = let f = reader-at st o r bt in
       subst (λ (r : relation.Session). ¬ Sees r.snapshot v y) f.2
-      (unseen-given takes.given st.heap.table v v (newest_id e.own.ids) f.0.snapshot y takes.gives window (agrees.sound.sessions o f.0 f.1).snapshot among)
+      (unseen-given takes.given st.heap.table v v (level_id e.own.ids e.own.saved) f.0.snapshot y takes.gives window (agrees.sound.sessions o f.0 f.1).snapshot among)
 
   -- the pages may have been pruned before
   pub found-given : (slots : List (List Slot)) → theory.Agrees (seen_in slots st.heap.table st.sessions) w → theory.Agrees (seen_in slots v (set st.sessions s (Some (with_own e own)))) w
@@ -315,7 +306,7 @@ module _ (st : State) (w : World) (v : Window) (s : ℕ) (e : Session) (own : Ow
 pub keeps-wrote : (xs : List (Option Session)) (w v : Window) (s : ℕ) (e e' : Session) (x : ℕ) → open_at xs s ≡ Some e → TakesIds w v e.own e'.own x → IsWindow v → EngineKeeps xs w → EngineKeeps (set xs s (Some e')) v
 keeps-wrote xs w v s e e' x at takes window k = record {
   count = length-set xs s (Some e') ∙ k.count;
-  own = keep-given xs w v s e e' takes.given (newest_id e.own.ids) at takes.ids window takes.gives k.own;
+  own = keep-given xs w v s e e' takes.given (level_id e.own.ids e.own.saved) at takes.ids window takes.gives k.own;
 }
 
 pub keeps-kept : (xs : List (Option Session)) (w v : Window) (s : ℕ) (e e' : Session) → open_at xs s ≡ Some e → SameSession e e' → SameIds w v → EngineKeeps xs w → EngineKeeps (set xs s (Some e')) v

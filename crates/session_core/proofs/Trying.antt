@@ -5,7 +5,7 @@ use Rattle.xid_circle.specs.declared.Tid.{Tid}
 use Rattle.tuple_header.specs.declared.version.Row.{Row}
 use Rattle.tuple_header.specs.Version.{rounded_size_of}
 use Rattle.commit_status.specs.Window.{Window, IsWindow, IsGiven, IsActive}
-use Rattle.snapshot.specs.Own.{newest_id}
+use Rattle.snapshot.specs.Own.{level_id, AreFronts}
 use Rattle.snapshot.proofs.Levels.{level-among}
 use Rattle.heap_write.specs.declared.heap.WriteFault.{WriteFault}
 use Rattle.heap_write.specs.declared.heap.WriteFault.TheVariants as fault
@@ -20,9 +20,10 @@ use Rattle.session_core.specs.Writes.{TriesInsert, TriesUpdate, TriesDelete, OnO
 use Rattle.session_core.specs.Exact.{Tried, InsertTried, UpdateTried, DeleteTried, ExactInsert, ExactUpdate, ExactDelete}
 use Rattle.session_core.proofs.Giving.{keeps-wrote, keeps-kept}
 
--- the newest id of those that are in progress is in the window
-pub newest-given : (w : Window) (ids : List ℕ) → ((x : ℕ) → Contains ids x → IsActive w x) → (x : ℕ) → newest_id ids ≡ Some x → IsGiven w x
-newest-given w ids active x is = (active x (level-among ids x is)).is_given
+-- the id of a level, whose ids are in progress, is in the window
+pub newest-given : (w : Window) (ids : List ℕ) (saved : List (List ℕ)) → AreFronts ids saved → ((x : ℕ) → Contains ids x → IsActive w x)
+    → (x : ℕ) → level_id ids saved ≡ Some x → IsGiven w x
+newest-given w ids saved fronts active x is = (active x (level-among ids saved x fronts is)).is_given
 
 -- The engine keeps what its type keeps, whatever became of a write.
 

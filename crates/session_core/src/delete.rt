@@ -20,6 +20,8 @@ fn delete_for(heap: &mut HeapState, session: &mut Session, place: Tid) -> Result
     requires { (x : ℕ) → Contains session.old.own.ids x → IsActive heap.old.table x }
     ensures { TriesDelete heap.old heap.new session.old session.new place result }
 {
+    // an id of its levels is one of its own ids
+    session.own.are_fronts();
     match heap.delete(&mut session.own, place) {
         Ok(_) => Ok(()),
         Err(fault) => Err(fault),

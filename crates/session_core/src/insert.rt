@@ -20,6 +20,8 @@ fn insert_for(heap: &mut HeapState, session: &mut Session, row: Row) -> Result<(
     requires { (x : ℕ) → Contains session.old.own.ids x → IsActive heap.old.table x }
     ensures { TriesInsert heap.old heap.new session.old session.new row result }
 {
+    // an id of its levels is one of its own ids
+    session.own.are_fronts();
     match heap.insert(&mut session.own, row) {
         Ok(_) => Ok(()),
         Err(fault) => Err(fault),

@@ -326,6 +326,56 @@ fn each_level_is_given_an_id(rt: HostRuntime) -> Result<(), Fail> {
     Ok(())
 }
 
+/// After a release a level writes under its own id again: what it deletes then is dead from a horizon on that precedes
+/// the released level's id.
+#[test]
+fn a_delete_after_a_release(rt: HostRuntime) -> Result<(), Fail> {
+    let alloc = rt.alloc();
+    let settings = Settings {
+        max_pages: 4,
+        first_xid: 3,
+        ..SETTINGS
+    };
+    // the ids are 3, then 4, then 5 of the other session, then 6 of the released level
+    let steps = [
+        Step::Begin(0),
+        insert(alloc, 0, 1),
+        Step::Commit(0),
+        Step::Begin(0),
+        insert(alloc, 0, 2),
+        Step::Begin(1),
+        insert(alloc, 1, 3),
+        Step::Savepoint(0),
+        insert(alloc, 0, 4),
+        Step::Release(0),
+        Step::Delete(0, 1),
+        Step::Commit(0),
+        Step::Begin(2),
+        Step::Commit(1),
+    ];
+    let mut engine = Engine::new(alloc, settings).ok().ok_or("no engine")?;
+    for step in steps {
+        let committing = matches!(step, Step::Commit(_));
+        let expected = if committing {
+            Answer::Committed
+        } else {
+            Answer::Done
+        };
+        assert_eq!(rt; answer_of(&engine.step(step)), expected);
+    }
+    assert_eq!(rt; engine.ids().0, Xid(7));
+    let header = engine.page(0).and_then(|page| page.header(1));
+    assert_eq!(rt; header.map(|header| header.xmax), Some(Xid(4)));
+    // the horizon is 5, the xmin of the third session
+    assert!(rt; matches!(engine.step(Step::Prune(0)), Reply::Done));
+    let page = engine.page(0).ok_or("no page")?;
+    assert!(rt; matches!(page.slot(1), Some(Slot::Dead)));
+    for slot in 2..5u16 {
+        assert!(rt; matches!(page.slot(slot), Some(Slot::Normal(_))));
+    }
+    Ok(())
+}
+
 #[test]
 fn the_index_leads_to_roots(rt: HostRuntime) -> Result<(), Fail> {
     let mut engine = Engine::new(rt.alloc(), SETTINGS).ok().ok_or("no engine")?;

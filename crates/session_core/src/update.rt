@@ -29,6 +29,8 @@ fn update_for(
     requires active { (x : ℕ) → Contains session.old.own.ids x → IsActive heap.old.table x }
     ensures { TriesUpdate heap.old heap.new session.old session.new place row horizon.0 result }
 {
+    // an id of its levels is one of its own ids
+    session.own.are_fronts();
     match heap.update(&mut session.own, place, row, horizon) {
         Ok(_) => Ok(()),
         Err(fault) => Err(fault),
