@@ -3,7 +3,7 @@
 use crate::table::Case;
 
 /// The scripts of savepoints, of ids for their levels, and of a snapshot that names too many.
-pub const SAVEPOINTS: [Case; 7] = [
+pub const SAVEPOINTS: [Case; 8] = [
     // Ids 4 and 5 are those of the two levels of session 0; that of the newest is aborted, and its key is free.
     Case {
         name: "rollback_to_a_savepoint",
@@ -61,6 +61,20 @@ pub const SAVEPOINTS: [Case; 7] = [
         other: 0,
         answers: b"ok\nok\nok\nok\nok\nok\nrow 1 6 0 0 0 -\nok\nnone\nok\nok\nerror 12 NoSavepoint\ncommitted\nok\nrow 1 7 0 0 0 -\n\
             next 7 frozen_below 3\n",
+        status: 0,
+        words: "",
+    },
+    // Key 1 is deleted under 4 again, and not under 6, the released level's: 4 precedes the horizon, which is 5.
+    Case {
+        name: "writes_under_its_own_id_after_a_release",
+        script: b"heap 4 1000 0 3 64 0000\n\
+            begin 0\ninsert 0 1 5 0 0 0 -\ncommit 0\nbegin 0\ninsert 0 2 0 0 0 0 -\nbegin 1\ninsert 1 3 0 0 0 0 -\nsavepoint 0\n\
+            insert 0 4 0 0 0 0 -\nrelease 0\ndelete 0 1\ncommit 0\nbegin 2\ncommit 1\npage 0\nprune 0\npage 0\n",
+        body: 0,
+        other: 0,
+        answers: b"ok\nok\ncommitted\nok\nok\nok\nok\nok\nok\nok\nok\ncommitted\nok\ncommitted\n\
+            page 0 change 5 visible 0 slots 4\n1 normal 3 4 1\n2 normal 4 0 2\n3 normal 5 0 3\n4 normal 6 0 4\nok\n\
+            page 0 change 6 visible 0 slots 4\n1 dead\n2 normal 4 0 2\n3 normal 5 0 3\n4 normal 6 0 4\n",
         status: 0,
         words: "",
     },
