@@ -9,6 +9,11 @@ use Rattle.heap_pages.specs.Choice.{NoPage, IsFirstPage}
 abbrev pub NoneBefore : List PageView → (PageView → Type 0) → ℕ → Type 0
 NoneBefore pages P n = (k : ℕ) (page : PageView) → k < n → slice_get pages k ≡ Some page → ¬ P page
 
+-- a search has come so far
+pub record IsSearched (pages : List PageView) (P : PageView → Type 0) (from : ℕ) : Type 0 where
+  pub within : from ≤ 65536
+  pub none : NoneBefore pages P from
+
 -- the page that was read at an index
 pub read_at : (pages : List PageView) (n : ℕ) (page : PageView) → n < length pages → page ≡ get_or pages n page → slice_get pages n ≡ Some page
 read_at pages n page within read = slice_get-get_or pages n page within ∙ ap Some (sym read)

@@ -1,2 +1,3 @@
 pub mod FirstLemmas
+pub mod FreeSpaceLemmas
 pub mod PageLemmas

@@ -1,3 +1,4 @@
 pub mod Choice
+pub mod FreeSpace
 pub mod Lending
 pub mod View

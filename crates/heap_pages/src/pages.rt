@@ -4,8 +4,10 @@ ghost use Rattle.std.specs.Prelude.{◌≡◌, ◌≤◌, ◌<◌, ◌+◌, ℕ,
 ghost use Rattle.std.specs.Borrow.{sem};
 ghost use Rattle.heap_pages.specs.Lending.{LendsPage};
 ghost use Rattle.heap_pages.specs.Choice.{Promises, HasRoom, IsFirst, IsPlaceFor};
+ghost use Rattle.heap_pages.specs.FreeSpace.{Covers, IsSettled};
 
-use crate::choice::{has_room, promises};
+use crate::choice::{first_promising, first_with_room, free_byte};
+use crate::free_space_map::FreeSpaceMap;
 use page_slots::Page;
 use std::alloc::{AllocError, Global};
 use std::marker::Model;
@@ -25,20 +27,31 @@ pub enum Place {
 }
 
 /// The pages of a table, numbered from 0.
+///
+/// A page with room is found by a map of the pages' free-space bytes, as PostgreSQL finds one
+/// (src/backend/storage/freespace/README), and not by a look at each. Where [`Pages::page_mut`] lends a page, its byte becomes
+/// 255, and its free-space byte again when another page is lent. So all bytes but one are the pages' own, and only the page
+/// that was lent last may be looked at without having what its byte says.
 #[derive(Debug, Drop)]
 pub struct Pages {
     pages: Vec<Page>,
+    map: FreeSpaceMap,
+    // the page that was lent last, whose byte may be too high
+    lent: Option<u32>,
+    // how many pages can be added without memory, here and in the map
+    spare: usize,
 }
 
 impl Model for Pages {
-    ghost use Rattle.std.specs.Prelude.{◌-◌, ◌≤◌, length, vec_len, vec_capacity};
+    ghost use Rattle.std.specs.Prelude.{◌-◌, vec_len, vec_capacity};
     ghost use Rattle.heap_pages.specs.View.{PagesView};
+    ghost use Rattle.heap_pages.specs.FreeSpace.{IsTable};
 
     ghost Value = { PagesView };
 
-    ghost view = { λ p. record { pages = p.pages.items; spare = vec_capacity p.pages - vec_len p.pages } };
+    ghost view = { λ p. record { pages = p.pages.items; spare = p.spare } };
 
-    ghost invariant = { λ p. length p.pages.items ≤ 65536 };
+    ghost invariant = { λ p. IsTable p.pages.items p.map p.lent p.spare (vec_capacity p.pages - vec_len p.pages) };
 }
 
 impl Pages {
@@ -48,6 +61,9 @@ impl Pages {
     {
         Pages {
             pages: Vec::new(alloc),
+            map: FreeSpaceMap::new(alloc),
+            lent: None,
+            spare: 0,
         }
     }
 
@@ -66,12 +82,16 @@ impl Pages {
         self.pages.get(number as usize)
     }
 
-    /// The page of this number, which is in use, to be changed.
+    /// The page of this number, which is in use, to be changed. Where another page was lent before, that one's slots are gone
+    /// through once, for its byte.
     pub fn page_mut(&mut self, number: u32) -> &mut Page
         requires { number < length self.old.pages }
         ensures* writes_back { sem 𝓛 (LendsPage self.entry number result) }
         ensures value { slice_get self.old.pages number ≡ Some result.now }
     {
+        settle(&mut self.map, &self.pages, self.lent, number);
+        self.map.set_any(number);
+        self.lent = Some(number);
         &mut self.pages[number as usize]
     }
 
@@ -83,7 +103,10 @@ impl Pages {
         ensures pages { self.new.pages ≡ self.old.pages }
         ensures err { OnErr result (self.new ≡ self.old) }
     {
-        self.pages.try_reserve(count)
+        self.pages.try_reserve(count)?;
+        self.map.make_room(count)?;
+        self.spare = self.spare.max(count);
+        Ok(())
     }
 
     /// Adds a page after all others. There is room for it in memory, and fewer than 65536 pages are in use.
@@ -93,22 +116,26 @@ impl Pages {
         ensures pages { self.new.pages ≡ self.old.pages ++ page ∷ [] }
         ensures spare { self.old.spare ≡ self.new.spare + 1 }
     {
+        self.map.push(free_byte(&page));
         self.pages.push_reserved(page);
+        self.spare -= 1;
     }
 
     /// The first page whose free-space byte promises room for a version of this size, if there is one; else a new page is
-    /// needed, or a page whose exact room is enough.
+    /// needed, or a page whose exact room is enough. It takes at most 256 looks at the map's groups and 256 in each group that
+    /// has such a byte, and goes through the slots of the page found and of the page lent last.
     pub fn page_for(&self, size: usize) -> Option<u32>
         ensures { IsFirst self.now.pages (Promises size) result }
     {
-        first_promising(&self.pages, size)
+        first_promising(&self.pages, &self.map, size)
     }
 
-    /// The first page in which a version of this size fits, if there is one.
+    /// The first page in which a version of this size fits, if there is one. It goes through the slots of each page before it
+    /// whose byte leaves open whether it fits.
     pub fn page_with_room(&self, size: usize) -> Option<u32>
         ensures { IsFirst self.now.pages (HasRoom size) result }
     {
-        first_with_room(&self.pages, size)
+        first_with_room(&self.pages, &self.map, size)
     }
 
     /// Where a new version of this size goes, where at most `limit` pages may be in use: to the first page whose free-space
@@ -129,26 +156,20 @@ impl Pages {
     }
 }
 
-fn first_promising(pages: &[Page], size: usize) -> Option<u32>
-    requires { length pages.now ≤ 65536 }
-    ensures { IsFirst pages.now (Promises size) result }
+/// Gives the page that was lent its own byte again, unless it is lent once more.
+fn settle(map: &mut FreeSpaceMap, pages: &[Page], lent: Option<u32>, next: u32)
+    requires covers { Covers map.old.bytes pages.now }
+    requires settled { IsSettled map.old.bytes pages.now lent }
+    ensures covers { Covers map.new.bytes pages.now }
+    ensures settled { IsSettled map.new.bytes pages.now (Some next) }
+    ensures spare { map.new.spare ≡ map.old.spare }
 {
-    for (number, page) in pages.iter().enumerate() {
-        if promises(page, size) {
-            return Some(number as u32);
-        }
+    if lent == Some(next) {
+        return;
     }
-    None
-}
-
-fn first_with_room(pages: &[Page], size: usize) -> Option<u32>
-    requires { length pages.now ≤ 65536 }
-    ensures { IsFirst pages.now (HasRoom size) result }
-{
-    for (number, page) in pages.iter().enumerate() {
-        if has_room(page, size) {
-            return Some(number as u32);
-        }
-    }
-    None
+    let Some(number) = lent else { return };
+    let Some(page) = pages.get(number as usize) else {
+        return
+    };
+    map.set(number, free_byte(page));
 }

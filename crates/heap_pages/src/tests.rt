@@ -3,7 +3,7 @@
 use crate::{MAX_PAGES, Pages, Place, free_byte};
 use arrayvec::ArrayVec;
 use page_slots::Page;
-use std::alloc::AllocError;
+use std::alloc::{AllocError, Global};
 use tuple_header::{Header, Row, Tuple};
 use xid_circle::{Tid, Xid};
 
@@ -98,5 +98,116 @@ fn the_byte_promises_less_than_the_room(rt: HostRuntime) -> Result<(), AllocErro
         assert_eq!(rt; pages.page_for(size), page);
     }
     assert_eq!(rt; pages.page_with_room(8164), Some(1));
+    Ok(())
+}
+
+/// A page with one version, which leaves room 8168 - (1096 + 4) - 4 or 7064: 220 times 32, and 24 more.
+fn page_in_use(alloc: Global) -> Page {
+    let mut page = Page::new(alloc);
+    let _ = page.add(version(1));
+    page
+}
+
+/// So many pages with one version each.
+fn pages_in_use(alloc: Global, count: usize) -> Result<Pages, AllocError> {
+    let mut pages = Pages::new(alloc);
+    for _ in 0..count {
+        add_page(&mut pages, page_in_use(alloc))?;
+    }
+    Ok(pages)
+}
+
+/// Takes the first version from a page, if both are there, so that it has room 8168 - 4 or 8164.
+fn make_empty(pages: &mut Pages, number: u32) {
+    if number < pages.len() {
+        let page = pages.page_mut(number);
+        if page.slots() > 0 {
+            page.set_unused(1);
+        }
+    }
+}
+
+/// Adds a version to a page, if it is there and has room.
+fn fill(pages: &mut Pages, number: u32) {
+    if number < pages.len() {
+        let _ = pages.page_mut(number).add(version(2));
+    }
+}
+
+#[test]
+fn a_page_of_the_second_256_is_found(rt: HostRuntime) -> Result<(), AllocError> {
+    let mut pages = pages_in_use(rt.alloc(), 300)?;
+    for (size, page) in [(7040, Some(0)), (7041, None)] {
+        assert_eq!(rt; pages.page_for(size), page);
+    }
+    for (size, page) in [(7064, Some(0)), (7065, None)] {
+        assert_eq!(rt; pages.page_with_room(size), page);
+    }
+    assert_eq!(rt; pages.place_for(7041, 301), Place::NewPage);
+    assert_eq!(rt; pages.place_for(7041, 300), Place::Page(0));
+    assert_eq!(rt; pages.place_for(7065, 300), Place::Nowhere);
+    add_page(&mut pages, Page::new(rt.alloc()))?;
+    for (size, page) in [
+        (7040, Some(0)),
+        (7041, Some(300)),
+        (8160, Some(300)),
+        (8161, None),
+    ] {
+        assert_eq!(rt; pages.page_for(size), page);
+    }
+    for (size, page) in [
+        (7064, Some(0)),
+        (7065, Some(300)),
+        (8164, Some(300)),
+        (8165, None),
+    ] {
+        assert_eq!(rt; pages.page_with_room(size), page);
+    }
+    Ok(())
+}
+
+#[test]
+fn the_first_page_of_a_256_is_found(rt: HostRuntime) -> Result<(), AllocError> {
+    let mut pages = pages_in_use(rt.alloc(), 514)?;
+    for number in [513, 512, 511, 256, 255, 0] {
+        make_empty(&mut pages, number);
+        assert_eq!(rt; pages.page_for(8000), Some(number));
+    }
+    for (number, next) in [
+        (0, Some(255)),
+        (255, Some(256)),
+        (256, Some(511)),
+        (511, Some(512)),
+        (512, Some(513)),
+        (513, None),
+    ] {
+        fill(&mut pages, number);
+        assert_eq!(rt; pages.page_for(8000), next);
+    }
+    Ok(())
+}
+
+#[test]
+fn a_page_gets_room_again(rt: HostRuntime) -> Result<(), AllocError> {
+    let mut pages = pages_in_use(rt.alloc(), 300)?;
+    make_empty(&mut pages, 299);
+    assert_eq!(rt; pages.page_for(8000), Some(299));
+    // others are lent, and page 299 still has the room
+    for number in [5, 270, 299, 6] {
+        set_flag(&mut pages, number);
+        assert_eq!(rt; pages.page_for(8000), Some(299));
+        assert_eq!(rt; pages.page_with_room(8164), Some(299));
+    }
+    fill(&mut pages, 299);
+    assert_eq!(rt; pages.page_for(8000), None);
+    set_flag(&mut pages, 5);
+    assert_eq!(rt; pages.page_for(8000), None);
+    assert_eq!(rt; pages.page_with_room(8000), None);
+    // the version that was added stands in the slot that was unused
+    make_empty(&mut pages, 299);
+    make_empty(&mut pages, 270);
+    assert_eq!(rt; pages.page_for(8000), Some(270));
+    fill(&mut pages, 270);
+    assert_eq!(rt; pages.place_for(8000, 300), Place::Page(299));
     Ok(())
 }

@@ -1,0 +1,41 @@
+use Rattle.std.proofs.Common.{arith, ◌<◌, length}
+use Rattle.heap_pages.specs.Choice.{Promises}
+use Rattle.heap_pages.proofs.FirstLemmas.{none-more, none-all, first-here, read_at, refuted}
+use Rattle.heap_pages.proofs.FreeSpaceLemmas.{IsNeeded-promises, none-passed}
+use Rattle.heap_pages.proofs.choice.first_promising.Goals as goal
+
+pub returns-then-promises : goal.returns-then-promises
+returns-then-promises c =
+    let pages = c.args.pages.now in
+    let bytes = c.args.map.now.bytes in
+    let n = c.in-Some.number in
+    let page = c.index-pages-number.result in
+    let within : n < length pages = omega (arith, c.in-Some.ensures.below, c.requires.covers.count) in
+    let at = read_at pages n page within c.index-pages-number.is in
+    let none =
+    none-passed pages bytes (Promises c.args.size) c.loop-number.from n c.div_ceil-least.result c.requires.covers
+    (IsNeeded-promises c.args.size c.div_ceil-least.result c.div_ceil-least.ensures) c.loop-number.invariant.none c.in-Some.ensures.none in
+    first-here pages (Promises c.args.size) n page none at (c.promises.ensures.0 c.if-promises.true)
+
+pub loop-number-preserved : goal.loop-number-preserved
+loop-number-preserved c =
+    let pages = c.args.pages.now in
+    let bytes = c.args.map.now.bytes in
+    let n = c.in-Some.number in
+    let page = c.index-pages-number.result in
+    let within : n < length pages = omega (arith, c.in-Some.ensures.below, c.requires.covers.count) in
+    let at = read_at pages n page within c.index-pages-number.is in
+    let none =
+    none-passed pages bytes (Promises c.args.size) c.loop-number.from n c.div_ceil-least.result c.requires.covers
+    (IsNeeded-promises c.args.size c.div_ceil-least.result c.div_ceil-least.ensures) c.loop-number.invariant.none c.in-Some.ensures.none in
+    let not_this = refuted c.promises.result (Promises c.args.size page) c.promises.ensures c.if-promises.false in
+    record { within = omega (arith, c.requires.few); none = none-more pages (Promises c.args.size) n page none at not_this }
+
+pub returns : goal.returns
+returns c =
+    let pages = c.args.pages.now in
+    let bytes = c.args.map.now.bytes in
+    let n = length bytes in
+    none-all pages (Promises c.args.size) n (omega (arith, c.requires.covers.count))
+    (none-passed pages bytes (Promises c.args.size) c.loop-number.from n c.div_ceil-least.result c.requires.covers
+    (IsNeeded-promises c.args.size c.div_ceil-least.result c.div_ceil-least.ensures) c.loop-number.invariant.none c.in_default.ensures)

@@ -1,0 +1,137 @@
+//! The free space map: a byte for each page, and the greatest of each group of 256.
+
+ghost use Rattle.std.specs.Prelude.{◌≡◌, ℕ, ◌+◌, ◌*◌, ◌<◌, ◌≤◌, [], ◌∷◌, ◌++◌, length, max, min, slice_set, slice_index, OnOk, OnErr};
+ghost use Rattle.heap_pages.specs.FreeSpace.{IsNext};
+
+use std::alloc::{AllocError, Global};
+use std::marker::Model;
+
+// So many bytes make a group.
+const GROUP: usize = 256;
+
+/// A byte for each of at most 65536 pages. The next one that is large enough is found in at most 256 steps over the groups,
+/// and 256 in the group that has it. PostgreSQL keeps a tree of such bytes (src/backend/storage/freespace/README); this one has
+/// two levels, as many as 65536 pages need.
+#[derive(Debug, Drop)]
+pub(crate) struct FreeSpaceMap {
+    bytes: Vec<u8>,
+    // the greatest byte of each group, 0 where it has none
+    tops: [u8; 256],
+}
+
+impl Model for FreeSpaceMap {
+    ghost use Rattle.std.specs.Prelude.{◌-◌, vec_len, vec_capacity};
+    ghost use Rattle.heap_pages.specs.FreeSpace.{MapView, IsMap};
+
+    ghost Value = { MapView };
+
+    ghost view = { λ m. record { bytes = m.bytes.items; spare = vec_capacity m.bytes - vec_len m.bytes } };
+
+    ghost invariant = { λ m. IsMap m.tops m.bytes.items };
+}
+
+impl FreeSpaceMap {
+    /// A map of no page.
+    pub(crate) fn new(alloc: Global) -> Self
+        ensures { result.bytes ≡ [] }
+    {
+        FreeSpaceMap {
+            bytes: Vec::new(alloc),
+            tops: [0; 256],
+        }
+    }
+
+    /// Makes room in memory for the bytes of `count` more pages.
+    pub(crate) fn make_room(&mut self, count: usize) -> Result<(), AllocError>
+        ensures room { OnOk result (count ≤ self.new.spare) }
+        ensures refused { OnErr result (self.old.spare < count) }
+        ensures spare { self.old.spare ≤ self.new.spare }
+        ensures bytes { self.new.bytes ≡ self.old.bytes }
+    {
+        self.bytes.try_reserve(count)
+    }
+
+    /// Adds the byte of a new last page.
+    pub(crate) fn push(&mut self, byte: u8)
+        requires room { 0 < self.old.spare }
+        requires few { length self.old.bytes < 65536 }
+        ensures bytes { self.new.bytes ≡ self.old.bytes ++ byte ∷ [] }
+        ensures spare { self.old.spare ≡ self.new.spare + 1 }
+    {
+        let group = self.bytes.len() / GROUP;
+        self.bytes.push_reserved(byte);
+        self.tops[group] = self.tops[group].max(byte);
+    }
+
+    /// Gives the page of this number its byte.
+    pub(crate) fn set(&mut self, number: u32, byte: u8)
+        requires { number < length self.old.bytes }
+        ensures bytes { self.new.bytes ≡ slice_set self.old.bytes number byte }
+        ensures spare { self.new.spare ≡ self.old.spare }
+    {
+        let index = number as usize;
+        self.bytes[index] = byte;
+        let group = index / GROUP;
+        let end = (GROUP * group + GROUP).min(self.bytes.len());
+        self.tops[group] = greatest(&self.bytes, GROUP * group, end);
+    }
+
+    /// Gives the page of this number the greatest byte there is: it may come to have any room.
+    pub(crate) fn set_any(&mut self, number: u32)
+        requires { number < length self.old.bytes }
+        ensures bytes { self.new.bytes ≡ slice_set self.old.bytes number 255 }
+        ensures spare { self.new.spare ≡ self.old.spare }
+    {
+        let index = number as usize;
+        self.bytes[index] = 255;
+        self.tops[index / GROUP] = 255;
+    }
+
+    /// The first page from this number on whose byte is `least` or more, if there is one.
+    pub(crate) fn next(&self, from: u32, least: u8) -> Option<u32>
+        ensures { IsNext self.now.bytes from (length self.now.bytes) least result }
+    {
+        for group in from as usize / GROUP..self.bytes.len().div_ceil(GROUP) {
+            if let Some(number) = self.next_of_group(group, from as usize, least) {
+                return Some(number);
+            }
+        }
+        None
+    }
+
+    // The same in one group, whose bytes are looked at only where the greatest of them is large enough.
+    fn next_of_group(&self, group: usize, from: usize, least: u8) -> Option<u32>
+        requires { group < 256 }
+        ensures { IsNext self.now.bytes (max from (256 * group)) (min (256 * group + 256) (length self.now.bytes)) least result }
+    {
+        if self.tops[group] < least {
+            return None;
+        }
+        let end = (GROUP * group + GROUP).min(self.bytes.len());
+        next_between(&self.bytes, from.max(GROUP * group), end, least)
+    }
+}
+
+fn greatest(bytes: &[u8], from: usize, to: usize) -> u8
+    requires { to ≤ length bytes.now }
+    ensures { (k : ℕ) → from ≤ k → k < to → slice_index bytes.now k ≤ result }
+{
+    let mut greatest = 0;
+    for number in from..to {
+        greatest = bytes[number].max(greatest);
+    }
+    greatest
+}
+
+fn next_between(bytes: &[u8], from: usize, to: usize, least: u8) -> Option<u32>
+    requires few { length bytes.now ≤ 65536 }
+    requires within { to ≤ length bytes.now }
+    ensures { IsNext bytes.now from to least result }
+{
+    for number in from..to {
+        if bytes[number] >= least {
+            return Some(number as u32);
+        }
+    }
+    None
+}
