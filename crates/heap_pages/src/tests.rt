@@ -102,17 +102,18 @@ fn the_byte_promises_less_than_the_room(rt: HostRuntime) -> Result<(), AllocErro
 }
 
 /// A page with one version, which leaves room 8168 - (1096 + 4) - 4 or 7064: 220 times 32, and 24 more.
-fn page_in_use(alloc: Global) -> Page {
+fn page_in_use(alloc: Global) -> Result<Page, AllocError> {
     let mut page = Page::new(alloc);
+    page.make_room(1)?;
     let _ = page.add(version(1));
-    page
+    Ok(page)
 }
 
 /// So many pages with one version each.
 fn pages_in_use(alloc: Global, count: usize) -> Result<Pages, AllocError> {
     let mut pages = Pages::new(alloc);
     for _ in 0..count {
-        add_page(&mut pages, page_in_use(alloc))?;
+        add_page(&mut pages, page_in_use(alloc)?)?;
     }
     Ok(pages)
 }

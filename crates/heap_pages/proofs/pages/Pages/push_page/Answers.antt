@@ -5,7 +5,6 @@ use Rattle.heap_pages.proofs.pages.Pages.push_page.Goals as goal
 pub invariant_of-self : goal.invariant_of-self
 invariant_of-self c =
     let pages = c.self.inside.pages.items in
-    let spare = ap (λ p. p.spare) c.self.view_is in
     record {
       few = omega (arith, ap length c.push_reserved.ensures.items, length-append pages (c.args.page ∷ []), ap (λ p. length p.pages) c.self.view_is, c.requires.few);
       covers = rw (c.push.ensures.bytes, c.push_reserved.ensures.items)
