@@ -17,6 +17,7 @@ use Rattle.std.proofs.lemmas.List.Sorted.{searchable_from_sorted, Contains-permu
 use Rattle.root_index.specs.declared.entry.Entry.{Entry}
 use Rattle.root_index.specs.Order.{comparison, Precedes, IsAscending}
 use Rattle.root_index.specs.Sets.{Adds, Removes, IsLeast, IsAfter, IsBelow, IsAt, IsGapFor, IsStart}
+use Rattle.root_index.specs.Leaves.{is_among, stays}
 use Rattle.root_index.proofs.OrderLemmas.{comparison_total, not_before_itself, Precedes-not_back, same-from_tied, Contains-first, Contains-rest, Contains-cases, Contains-none, ascending-tail}
 
 -- Places.
@@ -239,11 +240,7 @@ removes-filter xs dead test up says = record {
   );
 }
 
--- A test that tells which entries stay, made of what is known of its answers.
-
-abbrev pub is_among : List Tid → Tid → Bool
-is_among [] tid = false
-is_among (t ∷ dead) tid = (t.page == tid.page && t.slot == tid.slot) || is_among dead tid
+-- The test that tells which entries stay, from what is known of its answers.
 
 tid_test : (a b : Tid) → ((a.page == b.page && a.slot == b.slot) ≡ true) ↔ (a ≡ b)
 tid_test a b = (λ h. tid_same a b h, λ e. rw e (grind (arith, nat_tests)))
@@ -271,15 +268,11 @@ among-contains (t ∷ dead) tid = (
       (λ rest. or_second (t.page == tid.page && t.slot == tid.slot) (is_among dead tid) ((among-contains dead tid).1 rest)) (Contains-cases t tid dead there),
 )
 
-pub stays : List Tid → Entry → Bool
-stays dead e = not (is_among dead e.tid)
-
 not_true : (b : Bool) → (not b ≡ true) ↔ (¬ (b ≡ true))
 not_true true = (λ h. absurd (cc h), λ h. absurd (h refl))
 not_true false = (λ h. λ e. absurd (cc e), λ h. refl)
 
 pub stays-is : (dead : List Tid) (e : Entry) → (stays dead e ≡ true) ↔ (¬ Contains dead e.tid)
-unfolding stays
 stays-is dead e =
     let test = among-contains dead e.tid in
     let negated = not_true (is_among dead e.tid) in

@@ -10,6 +10,8 @@
 
 mod entry;
 mod index;
+mod leaf;
+mod leaves;
 
 pub use entry::{Entry, members_determine};
 pub use index::RootIndex;

@@ -169,3 +169,128 @@ fn a_thousand_entries_in_no_order_come_out_in_order(rt: HostRuntime) -> Result<(
     assert_eq!(rt; index.next_after(last), None);
     Ok(())
 }
+
+/// The entry of this key, of the same value and in the page of this number.
+fn numbered(key: u32) -> Entry {
+    entry(i128::from(key), u64::from(key), key, 1)
+}
+
+/// Whether the index holds the entries of the keys below this one, and no others.
+fn holds_below(index: &RootIndex, limit: u32) -> bool {
+    let mut last = None;
+    for key in 0..limit {
+        last = index.next_after(last);
+        if last != Some(numbered(key)) {
+            return false;
+        }
+    }
+    index.next_after(last).is_none() && index.len() == u64::from(limit)
+}
+
+#[test]
+fn a_full_leaf_is_split(rt: HostRuntime) -> Result<(), AllocError> {
+    let mut upward = RootIndex::new(rt.alloc());
+    let mut downward = RootIndex::new(rt.alloc());
+    for key in 0..300u32 {
+        upward.insert(numbered(key))?;
+        downward.insert(numbered(299 - key))?;
+        if key == 127 || key == 128 {
+            assert!(rt; holds_below(&upward, key + 1));
+            assert_eq!(rt; downward.len(), u64::from(key) + 1);
+            assert_eq!(rt; downward.next_after(None), Some(numbered(299 - key)));
+        }
+    }
+    assert!(rt; holds_below(&upward, 300));
+    assert!(rt; holds_below(&downward, 300));
+    Ok(())
+}
+
+#[test]
+fn an_entry_goes_to_any_place_of_a_full_leaf(rt: HostRuntime) -> Result<(), AllocError> {
+    for place in [0, 1, 63, 64, 65, 127, 128] {
+        let mut index = RootIndex::new(rt.alloc());
+        for key in 0..129u32 {
+            if key != place {
+                index.insert(numbered(key))?;
+            }
+        }
+        assert_eq!(rt; index.len(), 128);
+        index.insert(numbered(place))?;
+        index.insert(numbered(place))?;
+        assert!(rt; holds_below(&index, 129));
+    }
+    Ok(())
+}
+
+#[test]
+fn ten_thousand_entries_in_mixed_order(rt: HostRuntime) -> Result<(), AllocError> {
+    let mut index = RootIndex::new(rt.alloc());
+    // 3877 and 10000 have no common divisor, so each key below 10000 comes once
+    for i in 0..10000u32 {
+        index.insert(numbered(i * 3877 % 10000))?;
+    }
+    assert!(rt; holds_below(&index, 10000));
+    for key in 0..9999u32 {
+        let next = index.first_from(i128::from(key), u64::from(key) + 1);
+        assert_eq!(rt; next, Some(numbered(key + 1)));
+    }
+    assert_eq!(rt; index.first_from(9999, 10000), None);
+    Ok(())
+}
+
+#[test]
+fn leaves_without_entries_go(rt: HostRuntime) -> Result<(), AllocError> {
+    let mut index = RootIndex::new(rt.alloc());
+    let mut dead = Vec::with_capacity(rt.alloc(), 300)?;
+    for slot in 0..500u16 {
+        index.insert(entry(i128::from(slot), 0, 0, slot))?;
+        if 100 <= slot && slot < 400 {
+            dead.push(Tid { page: 0, slot })?;
+        }
+    }
+    index.remove(&dead);
+    assert_eq!(rt; index.len(), 200);
+    let (below, above) = (entry(99, 0, 0, 99), entry(400, 0, 0, 400));
+    assert_eq!(rt; index.next_after(Some(below)), Some(above));
+    assert_eq!(rt; index.first_from(100, 0), Some(above));
+    for tid in &dead {
+        index.insert(entry(i128::from(tid.slot), 0, 0, tid.slot))?;
+    }
+    assert_eq!(rt; index.len(), 500);
+    assert_eq!(rt; index.next_after(Some(below)), Some(entry(100, 0, 0, 100)));
+    // the last leaves, and then the others
+    for slot in 400..500u16 {
+        index.remove(&[Tid { page: 0, slot }]);
+    }
+    assert_eq!(rt; index.next_after(Some(entry(399, 0, 0, 399))), None);
+    for slot in 0..100u16 {
+        index.remove(&[Tid { page: 0, slot }]);
+    }
+    assert_eq!(rt; index.next_after(None), Some(entry(100, 0, 0, 100)));
+    index.remove(&dead);
+    assert!(rt; holds(&index, &[]));
+    index.insert(above)?;
+    assert!(rt; holds(&index, &[above]));
+    Ok(())
+}
+
+/// Also where any one allocation fails, the first entry and each split have their leaf.
+#[test]
+fn promised_entries_take_no_memory(rt: HostRuntime) -> Result<(), AllocError> {
+    let mut index = RootIndex::new(rt.alloc());
+    index.make_room(1)?;
+    assert!(rt; index.insert(numbered(0)).is_ok());
+    for round in 0..3u32 {
+        for key in 0..128u32 {
+            index.insert(numbered(round * 1000 + key))?;
+        }
+        index.make_room(2)?;
+        index.make_room(1)?;
+        assert!(rt; index.insert(numbered(round * 1000 + 200)).is_ok());
+        assert!(rt; index.insert(numbered(round * 1000 + 300)).is_ok());
+    }
+    assert_eq!(rt; index.len(), 390);
+    assert!(rt; index.make_room(usize::MAX).is_err());
+    assert_eq!(rt; index.len(), 390);
+    Ok(())
+}

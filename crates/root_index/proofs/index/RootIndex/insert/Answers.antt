@@ -1,9 +1,9 @@
-use Rattle.std.proofs.Common.{◌≡◌, List, Contains, Result, Ok, Err, OnErr, sym, subst, arith}
+use Rattle.std.proofs.Common.{◌≡◌, ◌+◌, List, Contains, Result, Ok, Err, OnErr, sym, refl, subst, arith}
 use Rattle.root_index.specs.declared.entry.Entry.{Entry}
 use Rattle.root_index.specs.View.{IndexView}
-use Rattle.root_index.specs.Order.{IsAscending}
-use Rattle.root_index.specs.Sets.{Adds, IsAt, IsGapFor}
-use Rattle.root_index.proofs.SetLemmas.{ascending-insert, adds-inserted, adds-there, absent_in_gap}
+use Rattle.root_index.specs.Sets.{Adds}
+use Rattle.root_index.specs.Leaves.{joined, IsFoundAt, IsAbsentAt}
+use Rattle.root_index.proofs.SoundLemmas.{sound_inserted, none_promised, none_countable, adds_found, adds_absent, not_there}
 use Rattle.root_index.proofs.index.RootIndex.insert.Goals as goal
 
 on_err : {T E : Type 0} (r : Result T E) (P : Type 0) → P → OnErr r P
@@ -13,32 +13,40 @@ on_err (Err e) P h = h
 -- the entry is there
 pub returns-in-Ok-clause-adds : goal.returns-in-Ok-clause-adds
 returns-in-Ok-clause-adds c =
-    let at = subst (λ (xs : List Entry). IsAt xs c.args.entry c.in-Ok.field-0) c.deref.ensures.value c.in-Ok.ensures.found in
-    subst (λ (v : IndexView). Adds v.entries v.entries c.args.entry) c.self.view_is (adds-there c.self.inside.entries.items c.args.entry c.in-Ok.field-0 c.self.invariant at)
+    let found = subst (λ (ls : List (List Entry)). IsFoundAt ls c.args.entry c.in-Ok.field-0) c.deref.ensures.value c.in-Ok.ensures.found in
+    subst (λ (v : IndexView). Adds v.entries v.entries c.args.entry) c.self.view_is
+    (adds_found c.self.inside.leaves.items c.args.entry c.in-Ok.field-0 c.self.invariant.tidy found)
 
--- it goes into the gap
-pub invariant_of-self-in-Err : goal.invariant_of-self-in-Err
-invariant_of-self-in-Err c =
-    let gap = subst (λ (xs : List Entry). IsGapFor xs c.args.entry c.in-Err.place) c.deref.ensures.value c.in-Err.ensures.absent in
-    subst IsAscending (sym c.in_ok-insert-in-Err.ensures.items) (ascending-insert c.self.inside.entries.items c.args.entry c.in-Err.place c.self.invariant gap)
+-- memory is refused only where nothing is promised, and the entry is not there
+pub returns-then-self-clause-memory : goal.returns-then-self-clause-memory
+returns-then-self-clause-memory c =
+    let absent = subst (λ (ls : List (List Entry)). IsAbsentAt ls c.args.entry c.in-Err.place) c.deref.ensures.value c.in-Err.ensures.absent in
+    subst (λ (v : IndexView). (v.spare ≡ 0) × (¬ Contains v.entries c.args.entry)) c.self.view_is
+    (none_countable _ _ _ _ _ c.self.invariant (omega (arith, c.if-self.true)), not_there c.self.inside.leaves.items c.args.entry c.in-Err.place absent)
 
-pub returns-in_ok-insert-in-Err-clause-adds : goal.returns-in_ok-insert-in-Err-clause-adds
-returns-in_ok-insert-in-Err-clause-adds c =
-    let items = c.self.inside.entries.items in
-    let gap = subst (λ (xs : List Entry). IsGapFor xs c.args.entry c.in-Err.place) c.deref.ensures.value c.in-Err.ensures.absent in
-    subst (λ (v : IndexView). Adds v.entries c.insert.new.self.items c.args.entry) c.self.view_is
-    (subst (λ (ys : List Entry). Adds items ys c.args.entry) (sym c.in_ok-insert-in-Err.ensures.items) (adds-inserted items c.args.entry c.in-Err.place c.self.invariant gap))
-
-pub returns-in_ok-insert-in-Err-clause-spare_kept : goal.returns-in_ok-insert-in-Err-clause-spare_kept
-returns-in_ok-insert-in-Err-clause-spare_kept c there =
-    let gap = subst (λ (xs : List Entry). IsGapFor xs c.args.entry c.in-Err.place) c.deref.ensures.value c.in-Err.ensures.absent in
-    absurd (absent_in_gap c.self.inside.entries.items c.args.entry c.in-Err.place gap (subst (λ (v : IndexView). Contains v.entries c.args.entry) (sym c.self.view_is) there))
-
--- memory is refused only where it is not there
-pub returns-in_err-insert-in-Err-clause-memory : goal.returns-in_err-insert-in-Err-clause-memory
-returns-in_err-insert-in-Err-clause-memory c =
-    let gap = subst (λ (xs : List Entry). IsGapFor xs c.args.entry c.in-Err.place) c.deref.ensures.value c.in-Err.ensures.absent in
-    let full = c.in_err-insert-in-Err.ensures.full in
+pub returns-in_err-insert-clause-memory : goal.returns-in_err-insert-clause-memory
+returns-in_err-insert-clause-memory c =
+    let absent = subst (λ (ls : List (List Entry)). IsAbsentAt ls c.args.entry c.in-Err.place) c.deref.ensures.value c.in-Err.ensures.absent in
     on_err c.from_residual.result ((c.args.self.now.spare ≡ 0) × (¬ Contains c.args.self.now.entries c.args.entry))
     (subst (λ (v : IndexView). (v.spare ≡ 0) × (¬ Contains v.entries c.args.entry)) c.self.view_is
-    (omega arith, absent_in_gap c.self.inside.entries.items c.args.entry c.in-Err.place gap))
+    (none_promised _ _ _ _ _ c.self.invariant c.in_err-insert.ensures.refused, not_there c.self.inside.leaves.items c.args.entry c.in-Err.place absent))
+
+-- it goes to its place
+pub invariant_of-self-2 : goal.invariant_of-self-2
+invariant_of-self-2 c =
+    let absent = subst (λ (ls : List (List Entry)). IsAbsentAt ls c.args.entry c.in-Err.place) c.deref.ensures.value c.in-Err.ensures.absent in
+    let now = c.in_ok-insert.ensures in
+    sound_inserted c.self.inside.leaves.items c.insert.new.leaves.items _ _ _ _ c.self.inside.count c.self.inside.promised c.self.invariant
+    c.in-Err.place c.args.entry (c.self.inside.count + 1) _ absent now.entries now.filled now.room now.spare refl c.saturating_sub-self-inside.ensures
+    (omega (arith, c.self.invariant.countable, c.if-self.false))
+
+pub returns-clause-adds : goal.returns-clause-adds
+returns-clause-adds c =
+    let absent = subst (λ (ls : List (List Entry)). IsAbsentAt ls c.args.entry c.in-Err.place) c.deref.ensures.value c.in-Err.ensures.absent in
+    subst (λ (v : IndexView). Adds v.entries (joined c.insert.new.leaves.items) c.args.entry) c.self.view_is
+    (adds_absent c.self.inside.leaves.items c.insert.new.leaves.items c.args.entry c.in-Err.place c.self.invariant.tidy absent c.in_ok-insert.ensures.entries)
+
+pub returns-clause-spare_kept : goal.returns-clause-spare_kept
+returns-clause-spare_kept c there =
+    let absent = subst (λ (ls : List (List Entry)). IsAbsentAt ls c.args.entry c.in-Err.place) c.deref.ensures.value c.in-Err.ensures.absent in
+    absurd (not_there c.self.inside.leaves.items c.args.entry c.in-Err.place absent (subst (λ (v : IndexView). Contains v.entries c.args.entry) (sym c.self.view_is) there))

@@ -2,7 +2,7 @@ use Rattle.std.proofs.Common.{rules}
 use Rattle.std.proofs.lemmas.Fn.{always_returns_same}
 use Rattle.root_index.specs.Order.{comparison}
 use Rattle.root_index.proofs.SetLemmas.{searched}
-use Rattle.root_index.proofs.index.search.Goals as goal
+use Rattle.root_index.proofs.leaf.search.Goals as goal
 
 -- the closure compares with the entry
 pub returns-clause-found : goal.returns-clause-found
