@@ -6,9 +6,13 @@
 #[cfg(test)]
 mod changes;
 #[cfg(test)]
+mod cursors;
+#[cfg(test)]
 mod cuts;
 #[cfg(test)]
 mod levels;
+#[cfg(test)]
+mod openings;
 #[cfg(test)]
 mod savepoints;
 #[cfg(test)]

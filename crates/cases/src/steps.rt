@@ -2,9 +2,9 @@
 
 ghost use Rattle.std.specs.Prelude.{◌≡◌};
 
-use crate::{changes, levels};
+use crate::{changes, levels, openings};
 use page_slots::{Page, Slot};
-use session_core::{Engine, Refusal, Reply, RowIn, Settings, Step};
+use session_core::{Engine, Refusal, Reply, Row, RowIn, Settings, Step};
 use std::alloc::{AllocError, Global};
 use std::test::Fail;
 
@@ -21,6 +21,10 @@ pub enum Ask {
     Release(u8),
     Commit(u8),
     Abort(u8),
+    OpenIndex(u8, u8, i128, i128),
+    OpenHeap(u8),
+    Next(u8, u16),
+    Close(u8),
     Prune(u32),
 }
 
@@ -32,6 +36,9 @@ pub enum Answer {
     NoRow,
     Committed,
     RolledBack,
+    /// Rows of these keys, in this order.
+    Rows(&'static [u64]),
+    End,
     Refused(Refusal),
 }
 
@@ -143,6 +150,10 @@ fn step_of(alloc: Global, ask: Ask) -> Result<Step, AllocError> {
         Ask::Release(s) => Step::Release(s),
         Ask::Commit(s) => Step::Commit(s),
         Ask::Abort(s) => Step::Abort(s),
+        Ask::OpenIndex(s, index, low, high) => Step::OpenIndex(s, index, low, high),
+        Ask::OpenHeap(s) => Step::OpenHeap(s),
+        Ask::Next(s, count) => Step::Next(s, count),
+        Ask::Close(s) => Step::Close(s),
         Ask::Prune(page) => Step::Prune(page),
     })
 }
@@ -165,7 +176,7 @@ fn is_no_memory(reply: &Reply) -> bool {
 fn may_grow(ask: Ask) -> bool {
     match ask {
         Ask::Get(_, _) | Ask::RollbackTo(_) | Ask::Release(_) => false,
-        Ask::Commit(_) | Ask::Abort(_) => false,
+        Ask::Commit(_) | Ask::Abort(_) | Ask::Close(_) => false,
         _ => true,
     }
 }
@@ -175,6 +186,18 @@ fn key_of(ask: Ask) -> u64 {
         Ask::Get(_, key) => key,
         _ => 0,
     }
+}
+
+fn have_keys(rows: &[Row], keys: &[u64]) -> bool {
+    if rows.len() != keys.len() {
+        return false;
+    }
+    for i in 0..rows.len() {
+        if rows[i].key != keys[i] || rows[i].cols != COLUMNS {
+            return false;
+        }
+    }
+    true
 }
 
 fn is(reply: &Reply, ask: Ask, answer: Answer) -> bool {
@@ -189,6 +212,8 @@ fn is(reply: &Reply, ask: Ask, answer: Answer) -> bool {
                 && row.body.len() == length
                 && row.body.iter().all(|byte| *byte == 0x61)
         }
+        (Reply::Rows(rows), Answer::Rows(keys)) => have_keys(rows, keys),
+        (Reply::End, Answer::End) => true,
         (Reply::Refused(given), Answer::Refused(refusal)) => *given == refusal,
         _ => false,
     }
@@ -290,6 +315,21 @@ fn savepoints(rt: HostRuntime) -> Result<(), Fail> {
     );
     // Of 8168 bytes 24 go to slots, and 80, 96 and 72 to versions.
     assert_eq!(rt; page.room(), 7896);
+    Ok(())
+}
+
+#[test]
+fn cursors_opened_and_closed(rt: HostRuntime) -> Result<(), Fail> {
+    let mut engine = new_engine(rt.alloc(), openings::SETTINGS).ok_or("no engine")?;
+    for (ask, answer) in openings::STEPS {
+        let reply = reply_to(rt.alloc(), &mut engine, ask)?;
+        assert!(rt;
+            is(&reply, ask, answer),
+            "{ask:?} answered {reply:?} and not {answer:?}"
+        );
+    }
+    assert_eq!(rt; shown(&engine).0, 6);
+    assert!(rt; engine.page(1).is_some() && engine.page(2).is_none());
     Ok(())
 }
 

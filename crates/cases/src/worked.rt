@@ -2,6 +2,7 @@
 
 ghost use Rattle.std.specs.Prelude.{◌≡◌};
 
+use crate::cursors::CURSORS;
 use crate::savepoints::SAVEPOINTS;
 use crate::table::{CASES, Case};
 use crate::updates::{CHAINS, PAGES};
@@ -89,6 +90,18 @@ fn worked_savepoints(rt: HostRuntime) -> Result<(), Fail> {
         let ended = run_case(rt.alloc(), case)?;
         assert_eq!(rt; ended.answers.as_slice(), case.answers, "{name}");
         assert_eq!(rt; ended.status, case.status, "{name}");
+    }
+    Ok(())
+}
+
+#[test]
+fn worked_cursors(rt: HostRuntime) -> Result<(), Fail> {
+    for case in &CURSORS {
+        let name = case.name;
+        let ended = run_case(rt.alloc(), case)?;
+        assert_eq!(rt; ended.answers.as_slice(), case.answers, "{name}");
+        assert_eq!(rt; ended.status, case.status, "{name}");
+        assert_eq!(rt; ended.words.as_str(), case.words, "{name}");
     }
     Ok(())
 }

@@ -1,3 +1,5 @@
+pub mod Columns
+pub mod IndexLemmas
 pub mod PageLemmas
 pub mod IdLemmas
 pub mod PlaceLemmas
@@ -6,3 +8,6 @@ pub mod KeyLemmas
 pub mod Writing
 pub mod Updating
 pub mod GivenIds
+pub mod SpanLemmas
+pub mod WalkLemmas
+pub mod SeenLemmas

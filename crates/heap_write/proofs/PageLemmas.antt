@@ -6,10 +6,13 @@ use Rattle.std.proofs.lemmas.List.{get_or_past, get_or-set_same, get_or-set_othe
 use Rattle.std.proofs.Math.Seq.{map-set_same}
 use Rattle.xid_circle.specs.declared.Tid.{Tid}
 use Rattle.page_slots.specs.View.{PageView}
-use Rattle.page_slots.specs.Slots.{IsNormalAt, room_of}
+use Rattle.page_slots.specs.Slots.{IsNormalAt, row_at, room_of}
 use Rattle.prune.proofs.Links.{same_some}
 use Rattle.heap_write.specs.Heap.{HeapView, unused_page, SameIds, Keeps, PutsPage}
 use Rattle.heap_write.specs.Heap.PutsPage.{in_use, after_all}
+use Rattle.heap_write.specs.Indexes.{SameEntries}
+use Rattle.tuple_header.specs.declared.version.Row.{Row}
+use Rattle.heap_write.specs.Writes.{KeepsValues}
 use Rattle.heap_write.specs.Refusals.{IsThere}
 use Rattle.heap_write.specs.Growth.{page_in, SamePage, SamePages}
 
@@ -35,6 +38,14 @@ nothing-at (suc i) h = true≢false (sym h)
 pub nothing-there : (h : HeapView) (place : Tid) → slice_get h.pages.pages place.page ≡ None → ¬ IsThere h place
 nothing-there h place none there =
     nothing-at place.slot (subst (λ (p : PageView). IsNormalAt p.slots place.slot) (page-none h.pages.pages place.page none) there)
+
+no-row : (slot : ℕ) (old : Row) → row_at [] slot ≢ Some old
+no-row zero old = λ e. cc
+no-row (suc i) old = λ e. cc
+
+pub keeps-nothing : (h : HeapView) (place : Tid) (row : Row) → slice_get h.pages.pages place.page ≡ None → KeepsValues h place row
+keeps-nothing h place row none old at =
+    absurd (no-row place.slot old (ap (λ (p : PageView). row_at p.slots place.slot) (sym (page-none h.pages.pages place.page none)) ∙ at))
 
 pub there-within : (h : HeapView) (place : Tid) → IsThere h place → place.page < length h.pages.pages
 there-within h place there =
@@ -68,7 +79,7 @@ same-then a b c first second = record {
   flags = second.flags ∙ first.flags;
 }
 
-pub keeps : (h h' : HeapView) → SamePages h.pages.pages h'.pages.pages → SameIds h.table h'.table → h'.index.entries ≡ h.index.entries → h'.max_pages ≡ h.max_pages → Keeps h h'
+pub keeps : (h h' : HeapView) → SamePages h.pages.pages h'.pages.pages → SameIds h.table h'.table → SameEntries h.indexes h'.indexes → h'.max_pages ≡ h.max_pages → Keeps h h'
 keeps h h' same ids entries max_pages = record {
   slots = same.slots;
   changes = same.changes;
@@ -79,7 +90,17 @@ keeps h h' same ids entries max_pages = record {
 }
 
 pub keeps-all : (h : HeapView) → Keeps h h
-keeps-all h = keeps h h (same-pages h.pages.pages) (record { first = refl; stop_age = refl; entries = refl }) refl refl
+keeps-all h = keeps h h (same-pages h.pages.pages) (record { first = refl; stop_age = refl; entries = refl }) (λ n. refl) refl
+
+pub keeps-then : (h h1 h2 : HeapView) → Keeps h h1 → Keeps h1 h2 → Keeps h h2
+keeps-then h h1 h2 first second = record {
+  slots = second.slots ∙ first.slots;
+  changes = second.changes ∙ first.changes;
+  flags = second.flags ∙ first.flags;
+  table = record { first = second.table.first ∙ first.table.first; stop_age = second.table.stop_age ∙ first.table.stop_age; entries = second.table.entries ∙ first.table.entries };
+  entries = λ n. second.entries n ∙ first.entries n;
+  max_pages = second.max_pages ∙ first.max_pages;
+}
 
 -- A page in the place of another, twice.
 
@@ -99,5 +120,5 @@ pub set-read : (pages : List PageView) (n : ℕ) (before after : PageView) → s
 set-read pages n before after at same = ap (λ p. set pages n p) (same ∙ sym (page-at pages n before at)) ∙ set-get_or pages n unused_page
 
 -- the same, of a table whose view is known
-pub keeps-viewed : (v h h' : HeapView) → v ≡ h → SamePages v.pages.pages h'.pages.pages → SameIds v.table h'.table → h'.index.entries ≡ v.index.entries → h'.max_pages ≡ v.max_pages → Keeps h h'
+pub keeps-viewed : (v h h' : HeapView) → v ≡ h → SamePages v.pages.pages h'.pages.pages → SameIds v.table h'.table → SameEntries v.indexes h'.indexes → h'.max_pages ≡ v.max_pages → Keeps h h'
 keeps-viewed v h h' view_is same ids entries max_pages = subst (λ u. Keeps u h') view_is (keeps v h' same ids entries max_pages)

@@ -21,6 +21,7 @@ use Rattle.heap_write.specs.declared.heap.WriteFault.TheVariants.{NoMemory}
 use Rattle.heap_write.specs.Writes.{NeedsFreeze, IsFull}
 use Rattle.heap_write.specs.Refusals.{NeedsSlot, NeedsIds, RootNeedsMemory, LacksForInsert}
 use Rattle.heap_write.specs.Growth.{page_in, HasSlot, SamePage, GrowsPage, place_of_target, IsReady, Reserves, PlaceNeedsMemory}
+use Rattle.heap_write.specs.Indexes.{NeedsEntry}
 use Rattle.heap_write.specs.Steps.{IsChosen}
 use Rattle.heap_write.proofs.PageLemmas.{page-at, page-set, page-set_other}
 use Rattle.heap_write.proofs.PlaceLemmas.{alike-same, alike-full, place-set, page-place, new-place}
@@ -72,7 +73,7 @@ room-left h size (New page) chosen full =
 
 -- an insert for which there is room
 pub insert-refused : (h : HeapView) (own : Own) (row : Row) (r : Result Xid WriteFault) → ¬ NeedsFreeze h.table own → ¬ IsFull h (rounded_size_of row)
-    → IfErr r (λ fault. fault ≡ NoMemory) → OnErr r ((h.index.spare ≡ 0) ⊎ NeedsIds h own) → IfErr r (λ fault. LacksForInsert h own row fault)
+    → IfErr r (λ fault. fault ≡ NoMemory) → OnErr r (NeedsEntry h.indexes ⊎ NeedsIds h own) → IfErr r (λ fault. LacksForInsert h own row fault)
 insert-refused h own row (Ok x) free room no_memory needs = no_memory
 insert-refused h own row (Err fault) free room no_memory needs =
     subst (λ f. LacksForInsert h own row f) (sym no_memory) (free, room, ⊎_elim RootNeedsMemory.for_entry RootNeedsMemory.for_ids needs)

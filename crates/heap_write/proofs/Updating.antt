@@ -1,5 +1,5 @@
 -- An update that prunes first, put together.
-use Rattle.std.proofs.Common.{◌≡◌, ℕ, ◌<◌, ◌≤◌, inr, List, [], get_or, set, Option, Some, None, Result, Ok, Err, sym, ap, subst, refl, ◌∙◌, arith, ◌⊎◌, ⊎_elim}
+use Rattle.std.proofs.Common.{◌≡◌, ℕ, ◌<◌, ◌≤◌, inr, List, [], get_or, set, Option, Some, None, Result, Ok, Err, sym, ap, subst, refl, ◌∙◌, arith}
 use Rattle.std.specs.Prelude.{IfErr, IfOk, IfSome, OnErr}
 use Rattle.xid_circle.specs.declared.Xid.{Xid}
 use Rattle.std.proofs.Math.ListN.{get_or-map}
@@ -17,10 +17,10 @@ use Rattle.heap_write.specs.declared.target.Target.{Target}
 use Rattle.heap_write.specs.declared.heap.WriteFault.{WriteFault}
 use Rattle.heap_write.specs.declared.heap.WriteFault.TheVariants.{Gone, NeedsFreeze as needs_freeze, NoRoom, NoMemory}
 use Rattle.heap_write.specs.Heap.{HeapView, unused_page, page_on, Keeps}
-use Rattle.heap_write.specs.Writes.{NeedsFreeze, TakesIds, SameOwn, Prunes, ReplacesHere, Replaces, Updates}
+use Rattle.heap_write.specs.Writes.{NeedsFreeze, TakesIds, SameOwn, Prunes, ReplacesOnPage, Replaces, Updates}
 use Rattle.heap_write.specs.Writes.Readies.{has_room, is_pruned}
-use Rattle.heap_write.specs.Writes.Replaces.{here}
-use Rattle.heap_write.specs.Refusals.{IsThere, NeedsIds, NeedsSlot, UpdateNeedsMemory, WhenReady, FailsUpdate}
+use Rattle.heap_write.specs.Writes.Replaces.{on_page}
+use Rattle.heap_write.specs.Refusals.{IsThere, UpdateNeedsMemory, WhenReady, FailsUpdate}
 use Rattle.heap_write.specs.Growth.{page_in, IsReady}
 use Rattle.heap_write.specs.Steps.{IsChosen, FailsReady}
 use Rattle.heap_write.proofs.PageLemmas.{page-set, keeps-all}
@@ -40,7 +40,7 @@ no-room size room small large = let no : 1 ≤ 0 = omega (arith, small, large) i
 
 -- A page that is kept has the slots that it had.
 
-kept-slots : (h h1 : HeapView) (n : ℕ) → Keeps h h1 → (page_on h1 n).slots ≡ (page_on h n).slots
+pub kept-slots : (h h1 : HeapView) (n : ℕ) → Keeps h h1 → (page_on h1 n).slots ≡ (page_on h n).slots
 kept-slots h h1 n keeps =
     let f : PageView → List Slot = λ p. p.slots in
     sym (get_or-map f h1.pages.pages n unused_page) ∙ ap (λ slots. get_or slots n []) keeps.slots ∙ get_or-map f h.pages.pages n unused_page
@@ -68,24 +68,24 @@ pruned-ready h ready n horizon size target p full is_ready =
 
 pub updates-here : (h h' : HeapView) (own own' : Own) (place : Tid) (row : Row) (horizon : ℕ) (r : Result Xid WriteFault) → ¬ NeedsFreeze h.table own → IsThere h place
     → rounded_size_of row ≤ room_of (page_on h place.page).slots → h'.max_pages ≡ h.max_pages
-    → IfOk r (λ x. TakesIds h.table h'.table own own' x.0) → IfOk r (λ x. ReplacesHere h h' place x.0 row) → IfOk r (λ x. Updates h h' own own' place row horizon x.0)
+    → IfOk r (λ x. TakesIds h.table h'.table own own' x.0) → IfOk r (λ x. ReplacesOnPage h h' place x.0 row) → IfOk r (λ x. Updates h h' own own' place row horizon x.0)
 updates-here h h' own own' place row horizon (Ok x) free there room max_pages takes replaces = record {
   free = free;
   takes_ids = takes;
   ready = h;
   readies = has_room room refl;
   there = there;
-  replaces = here room replaces;
+  replaces = on_page room replaces;
   max_pages = max_pages;
 }
 updates-here h h' own own' place row horizon (Err fault) free there room max_pages takes replaces = takes
 
 pub here-fails : (h h' : HeapView) (own : Own) (place : Tid) (row : Row) (horizon : ℕ) (r : Result Xid WriteFault) → IsThere h place → ¬ NeedsFreeze h.table own
-    → IfErr r (λ fault. fault ≡ NoMemory) → OnErr r (NeedsIds h own ⊎ NeedsSlot (page_on h place.page)) → OnErr r (Keeps h h')
+    → IfErr r (λ fault. fault ≡ NoMemory) → OnErr r (UpdateNeedsMemory h own place row) → OnErr r (Keeps h h')
     → IfErr r (λ fault. FailsUpdate h h' own place row horizon fault)
 here-fails h h' own place row horizon (Ok x) there free no_memory needs keeps = no_memory
 here-fails h h' own place row horizon (Err fault) there free no_memory needs keeps =
-    subst (λ f. FailsUpdate h h' own place row horizon f) (sym no_memory) (there, free, ⊎_elim UpdateNeedsMemory.for_ids UpdateNeedsMemory.for_slot needs, keeps)
+    subst (λ f. FailsUpdate h h' own place row horizon f) (sym no_memory) (there, free, needs, keeps)
 
 -- The update after the page was pruned.
 

@@ -1,32 +1,33 @@
 -- Writes on a table that has grown before, said of the table as it was.
-use Rattle.std.proofs.Common.{◌≡◌, ◌≢◌, ℕ, ◌<◌, ◌≤◌, Bool, true, false, List, [], ◌∷◌, length, set, Some, slice_get, sym, ap, subst, refl, ◌∙◌, arith, length-append}
+use Rattle.std.proofs.Common.{◌≡◌, ◌≢◌, ℕ, ◌<◌, ◌≤◌, Bool, true, false, inl, inr, List, [], ◌∷◌, length, set, Some, slice_get, sym, ap, subst, refl, ◌∙◌, arith, length-append}
 use Rattle.std.proofs.lemmas.List.{get_or_append_left, length-set}
 use Rattle.std.specs.Prelude.{IfOk, Result, Ok, Err}
 use Rattle.xid_circle.specs.declared.Tid.{Tid}
 use Rattle.tuple_header.specs.declared.version.Row.{Row}
 use Rattle.tuple_header.specs.Version.{rounded_size_of}
 use Rattle.page_slots.specs.View.{PageView}
-use Rattle.page_slots.specs.Slots.{room_of, free_number, next_change, IsNormalAt}
+use Rattle.page_slots.specs.Slots.{room_of, free_number, next_change, row_at, IsNormalAt}
 use Rattle.snapshot.specs.Own.{Own}
-use Rattle.root_index.specs.declared.entry.Entry.{Entry}
-use Rattle.root_index.specs.Sets.{Adds}
-use Rattle.root_index.specs.View.{IndexView}
 use Rattle.std.proofs.lemmas.Option.{slice_get_within}
 use Rattle.page_writes.specs.Writes.{with_root, with_replaced, with_updated, replaced_change}
-use Rattle.sound_entries.specs.Entries.{entry_for}
 use Rattle.heap_pages.specs.View.{PagesView}
 use Rattle.heap_pages.specs.declared.pages.Place.TheVariants as to
 use Rattle.heap_write.specs.declared.target.Target.{Target}
 use Rattle.heap_write.specs.declared.target.Target.TheVariants.{Page, New}
-use Rattle.heap_write.specs.Heap.{HeapView, key_value, unused_page, page_on, PutsPage}
+use Rattle.heap_write.specs.Heap.{HeapView, unused_page, page_on, PutsPage}
 use Rattle.heap_write.specs.Heap.PutsPage.{in_use, after_all}
-use Rattle.heap_write.specs.Writes.{NeedsFreeze, TakesIds, GoesTo, PutsRoot, ReplacesHere, Inserts, Deletes, Replaces}
+use Rattle.heap_write.specs.Indexes.{entries_at, SameEntries, Enters}
+use Rattle.heap_write.specs.Writes.{NeedsFreeze, TakesIds, GoesTo, PutsRoot, TakesAway, ReplacesHere, ReplacesByRoot, KeepsValues, ReplacesOnPage, Inserts, Deletes, Replaces}
+use Rattle.heap_write.specs.Writes.ReplacesOnPage.{heap_only, as_root}
 use Rattle.heap_write.specs.Writes.Replaces.{elsewhere}
 use Rattle.heap_write.specs.Refusals.{IsThere}
-use Rattle.heap_write.specs.Growth.{page_in, SamePage, Reserves, target_number}
+use Rattle.heap_write.specs.Growth.{page_in, SamePage, GrowsPage, Reserves, target_number}
 use Rattle.heap_write.specs.Steps.{IsChosen}
 use Rattle.heap_write.proofs.PageLemmas.{page-at, puts-grown, page-set, page-set_other, there-within}
 use Rattle.heap_write.proofs.PlaceLemmas.{page-place}
+use Rattle.heap_write.proofs.Columns.{entries-then, enters-grown, values-grown}
+use Rattle.page_writes.proofs.Altered.{normal-added}
+use Rattle.std.proofs.lemmas.Bool.{cases_eq}
 
 -- what is so of both, where two things are said of what is done
 pub both-ok : {T E : Type 0} {A B C : T → Type 0} (r : Result T E) → ((x : T) → A x → B x → C x) → IfOk r A → IfOk r B → IfOk r C
@@ -39,9 +40,9 @@ both-ok (Err e) f a b = a
 pub record Grown (h h1 : HeapView) (n : ℕ) : Type 0 where
   pub same : SamePage (page_on h n) (page_on h1 n)
   pub puts : (pages' : List PageView) (page : PageView) → PutsPage h1.pages.pages pages' n page → PutsPage h.pages.pages pages' n page
-  pub entries : h1.index.entries ≡ h.index.entries
+  pub entries : SameEntries h.indexes h1.indexes
 
-pub grown-none : (h h1 : HeapView) (n : ℕ) → h1.pages.pages ≡ h.pages.pages → h1.index.entries ≡ h.index.entries → Grown h h1 n
+pub grown-none : (h h1 : HeapView) (n : ℕ) → h1.pages.pages ≡ h.pages.pages → SameEntries h.indexes h1.indexes → Grown h h1 n
 grown-none h h1 n same entries = record {
   same = subst (λ pages. SamePage (page_on h n) (page_in pages n)) (sym same) (record { slots = refl; change = refl; flag = refl });
   puts = λ pages' page puts. subst (λ pages. PutsPage pages pages' n page) same puts;
@@ -49,7 +50,7 @@ grown-none h h1 n same entries = record {
 }
 
 pub grown-set : (h h1 : HeapView) (n : ℕ) (page : PageView) → n < length h.pages.pages → h1.pages.pages ≡ set h.pages.pages n page → SamePage (page_on h n) page
-    → h1.index.entries ≡ h.index.entries → Grown h h1 n
+    → SameEntries h.indexes h1.indexes → Grown h h1 n
 grown-set h h1 n page within is same entries = record {
   same = subst (λ p. SamePage (page_on h n) p) (sym (ap (λ pages. page_in pages n) is ∙ page-set h.pages.pages n page within)) same;
   puts = λ pages' new puts. puts-grown h.pages.pages h1.pages.pages pages' n page new within is puts;
@@ -58,7 +59,7 @@ grown-set h h1 n page within is same entries = record {
 
 pub root-grown : (h h1 h' : HeapView) (updated : Bool) (x : ℕ) (row : Row) (n : ℕ) → Grown h h1 n → PutsRoot h1 h' updated x row n → PutsRoot h h' updated x row n
 root-grown h h1 h' updated x row n grown root =
-    let E : List Entry → ℕ → Type 0 = λ entries slot. Adds entries h'.index.entries (entry_for key_value row n slot) in
+    let E : ℕ → Type 0 = λ slot. Enters h.indexes h'.indexes row (record { page = n; slot = slot }) in
     record {
       page = root.page;
       puts = grown.puts h'.pages.pages root.page root.puts;
@@ -66,7 +67,7 @@ root-grown h h1 h' updated x row n grown root =
       change = root.change ∙ ap next_change grown.same.change;
       flag = root.flag ∙ grown.same.flag;
       within = subst (λ slots. free_number slots ≤ 291) grown.same.slots root.within;
-      entry = subst (λ slots. E h.index.entries (free_number slots)) grown.same.slots (subst (λ entries. E entries (free_number (page_on h1 n).slots)) grown.entries root.entry);
+      entries = subst (λ slots. E (free_number slots)) grown.same.slots (enters-grown h.indexes h1.indexes h'.indexes row _ grown.entries root.entries);
     }
 
 pub here-grown : (h h1 h' : HeapView) (place : Tid) (x : ℕ) (row : Row) → Grown h h1 place.page → ReplacesHere h1 h' place x row → ReplacesHere h h' place x row
@@ -79,13 +80,25 @@ here-grown h h1 h' place x row grown here = record {
       ∙ ap (λ change. replaced_change (page_on h place.page).slots place.slot x place.page (free_number (page_on h place.page).slots) true (next_change change)) grown.same.change;
   flag = here.flag ∙ grown.same.flag;
   within = subst (λ slots. free_number slots ≤ 291) grown.same.slots here.within;
-  entries = here.entries ∙ grown.entries;
+  entries = entries-then h.indexes h1.indexes h'.indexes grown.entries here.entries;
 }
+
+-- whether the values in the indexes change
+
+pub values-kept : (h h1 : HeapView) (place : Tid) (row : Row) → (page_on h1 place.page).slots ≡ (page_on h place.page).slots → SameEntries h.indexes h1.indexes
+    → KeepsValues h place row → KeepsValues h1 place row
+values-kept h h1 place row slots entries keeps old at =
+    values-grown h.indexes h1.indexes old row entries (keeps old (sym (ap (λ s. row_at s place.slot) slots) ∙ at))
+
+pub values-back : (h h1 : HeapView) (place : Tid) (row : Row) → (page_on h1 place.page).slots ≡ (page_on h place.page).slots → SameEntries h.indexes h1.indexes
+    → KeepsValues h1 place row → KeepsValues h place row
+values-back h h1 place row slots entries keeps old at =
+    values-grown h1.indexes h.indexes old row (λ n. sym (entries n)) (keeps old (ap (λ s. row_at s place.slot) slots ∙ at))
 
 -- An insert.
 
 -- where the place for a new version stands ready, it goes to the number of the target
-reserved-grown : (h h1 : HeapView) (size : ℕ) (target : Target) → Reserves h.pages h1.pages h.max_pages size (Some target) → h1.index.entries ≡ h.index.entries
+reserved-grown : (h h1 : HeapView) (size : ℕ) (target : Target) → Reserves h.pages h1.pages h.max_pages size (Some target) → SameEntries h.indexes h1.indexes
     → Grown h h1 (target_number h1.pages.pages target) × GoesTo h size (target_number h1.pages.pages target)
 reserved-grown h h1 size (Page n) (chosen, grows) entries = (
   grown-set h h1 n grows.page (page-place h.pages.pages h.max_pages size n chosen).0 (ap (λ (p : PagesView). p.pages) grows.pages_are) grows.same entries,
@@ -97,7 +110,7 @@ reserved-grown h h1 size (New page) (chosen, same) entries = (
 )
 
 pub inserts : (h h1 h' : HeapView) (own own' : Own) (row : Row) (x : ℕ) (target : Target) → ¬ NeedsFreeze h.table own
-    → Reserves h.pages h1.pages h.max_pages (rounded_size_of row) (Some target) → h1.index.entries ≡ h.index.entries
+    → Reserves h.pages h1.pages h.max_pages (rounded_size_of row) (Some target) → SameEntries h.indexes h1.indexes
     → TakesIds h.table h'.table own own' x → PutsRoot h1 h' false x row (target_number h1.pages.pages target) → h'.max_pages ≡ h.max_pages → Inserts h h' own own' row x
 inserts h h1 h' own own' row x target free reserves entries takes root max_pages =
     let number = target_number h1.pages.pages target in
@@ -111,11 +124,15 @@ inserts h h1 h' own own' row x target free reserves entries takes root max_pages
       max_pages = max_pages;
     }
 
--- An update to another page.
+-- An update by a root.
 
 pub puts-other : (pages pages' : List PageView) (n m : ℕ) (page : PageView) → m < length pages → m ≢ n → PutsPage pages pages' n page → page_in pages' m ≡ page_in pages m
 puts-other pages pages' n m page within other (in_use lt is) = ap (λ ps. page_in ps m) is ∙ page-set_other pages n m page other
 puts-other pages pages' n m page within other (after_all over is) = ap (λ ps. page_in ps m) is ∙ get_or_append_left pages (page ∷ []) unused_page m within
+
+puts-same : (pages pages' : List PageView) (n : ℕ) (page : PageView) → n < length pages → PutsPage pages pages' n page → page_in pages' n ≡ page
+puts-same pages pages' n page within (in_use lt is) = ap (λ ps. page_in ps n) is ∙ page-set pages n page within
+puts-same pages pages' n page within (after_all over is) = absurd (let no : 1 ≤ 0 = omega (arith, within, over) in omega (arith, no))
 
 -- a version goes to another page than one that has no room for it
 pub goes-elsewhere : (h : HeapView) (place : Tid) (size : ℕ) (target : Target) → IsThere h place → room_of (page_on h place.page).slots < size
@@ -130,6 +147,13 @@ goes-elsewhere h place size (New page) there full chosen = (
   record { place = to.NewPage; chosen = chosen; number = refl },
 )
 
+-- the update of a version whose page has no room for the row
+pub replaces-elsewhere : (h h' : HeapView) (place : Tid) (x : ℕ) (row : Row) (target : Target) → IsThere h place → room_of (page_on h place.page).slots < rounded_size_of row
+    → IsChosen h (rounded_size_of row) (Some target) → ReplacesByRoot h h' place x row (target_number h.pages.pages target) → Replaces h h' place x row
+replaces-elsewhere h h' place x row target there full chosen replaces =
+    let goes = goes-elsewhere h place (rounded_size_of row) target there full chosen in
+    elsewhere full (target_number h.pages.pages target) goes.0 goes.1 replaces
+
 -- what was done to the page of the old version
 pub record MovesAway (before after : PageView) (place successor : Tid) (x : ℕ) : Type 0 where
   pub slots : after.slots ≡ with_replaced before.slots place.slot x successor.page successor.slot false
@@ -137,31 +161,30 @@ pub record MovesAway (before after : PageView) (place successor : Tid) (x : ℕ)
   pub flag : after.flag ≡ before.flag
 
 pub moves : (h h1 middle h' : HeapView) (place successor : Tid) (x : ℕ) (row : Row) (target : Target) (before after : PageView)
-    → h1.pages ≡ h.pages → h1.index ≡ h.index → IsThere h place → room_of (page_on h place.page).slots < rounded_size_of row
-    → IsChosen h (rounded_size_of row) (Some target) → PutsRoot h1 middle true x row successor.page
+    → h1.pages ≡ h.pages → h1.indexes ≡ h.indexes → PutsRoot h1 middle true x row successor.page
     → successor.page ≡ target_number h1.pages.pages target → successor.slot ≡ free_number (page_on h1 successor.page).slots
     → slice_get middle.pages.pages place.page ≡ Some before → MovesAway before after place successor x
-    → h'.pages.pages ≡ set middle.pages.pages place.page after → h'.index.entries ≡ middle.index.entries → Replaces h h' place x row
-moves h h1 middle h' place successor x row target before after same_pages same_index there full chosen root page slot at away pages entries =
-    let size = rounded_size_of row in
+    → h'.pages.pages ≡ set middle.pages.pages place.page after → h'.indexes ≡ middle.indexes → ReplacesByRoot h h' place x row (target_number h.pages.pages target)
+moves h h1 middle h' place successor x row target before after same_pages same_indexes root page slot at away pages indexes =
     let same = ap (λ (p : PagesView). p.pages) same_pages in
     let number : successor.page ≡ target_number h.pages.pages target = page ∙ ap (λ ps. target_number ps target) same in
-    let goes = goes-elsewhere h place size target there full chosen in
-    let other : successor.page ≢ place.page = λ e. goes.0 (sym number ∙ e) in
     let free : successor.slot ≡ free_number (page_on h successor.page).slots = slot ∙ ap (λ (p : PagesView). free_number (page_in p.pages successor.page).slots) same_pages in
-    let grown = grown-none h h1 successor.page same (ap (λ (i : IndexView). i.entries) same_index) in
+    let grown = grown-none h h1 successor.page same (λ n. ap (λ is. entries_at is n) same_indexes) in
     let is = page-at middle.pages.pages place.page before at in
     let T : PageView → Tid → Type 0 = λ page to. MovesAway page after place to x in
     let moved : T (page_on middle place.page) (record { page = successor.page; slot = free_number (page_on h successor.page).slots }) =
     subst (λ page. T page (record { page = successor.page; slot = free_number (page_on h successor.page).slots })) (sym is) (subst (λ n. T before (record { page = successor.page; slot = n })) free away) in
-    elsewhere full successor.page other (subst (λ n. GoesTo h size n) (sym number) goes.1) middle (root-grown h h1 middle true x row successor.page grown root)
-    (record {
-      page = after;
-      puts = in_use (slice_get_within middle.pages.pages place.page before at) pages;
-      slots = moved.slots;
-      change = moved.change;
-      flag = moved.flag;
-      entries = entries;
+    subst (λ n. ReplacesByRoot h h' place x row n) number (record {
+      middle = middle;
+      root = root-grown h h1 middle true x row successor.page grown root;
+      away = record {
+        page = after;
+        puts = in_use (slice_get_within middle.pages.pages place.page before at) pages;
+        slots = moved.slots;
+        change = moved.change;
+        flag = moved.flag;
+        entries = λ n. ap (λ is. entries_at is n) indexes;
+      };
     })
 
 pub puts-within : (pages pages' : List PageView) (n m : ℕ) (page : PageView) → m < length pages → PutsPage pages pages' n page → m < length pages'
@@ -169,26 +192,46 @@ puts-within pages pages' n m page within (in_use lt is) = let long = ap length i
 puts-within pages pages' n m page within (after_all over is) = let long = ap length is ∙ length-append pages (page ∷ []) in omega (arith, long, within)
 
 -- the old version is still there when the new one has come
-pub stays-there : (h h1 middle : HeapView) (place successor : Tid) (x : ℕ) (row : Row) (target : Target) (before : PageView)
-    → h1.pages ≡ h.pages → IsThere h place → room_of (page_on h place.page).slots < rounded_size_of row
-    → IsChosen h (rounded_size_of row) (Some target) → PutsRoot h1 middle true x row successor.page
-    → successor.page ≡ target_number h1.pages.pages target → slice_get middle.pages.pages place.page ≡ Some before → IsNormalAt before.slots place.slot
-stays-there h h1 middle place successor x row target before same_pages there full chosen root page at =
-    let same = ap (λ (p : PagesView). p.pages) same_pages in
-    let number : successor.page ≡ target_number h.pages.pages target = page ∙ ap (λ ps. target_number ps target) same in
-    let goes = goes-elsewhere h place (rounded_size_of row) target there full chosen in
-    let within : place.page < length h1.pages.pages = subst (λ ps. place.page < length ps) (sym same) (there-within h place there) in
-    let kept = puts-other h1.pages.pages middle.pages.pages successor.page place.page root.page within (λ e. goes.0 (sym number ∙ sym e)) root.puts in
-    let is : before ≡ page_on h place.page = sym (page-at middle.pages.pages place.page before at) ∙ kept ∙ ap (λ ps. page_in ps place.page) same in
-    subst (λ (p : PageView). IsNormalAt p.slots place.slot) (sym is) there
+pub stays-there : (h h1 middle : HeapView) (place : Tid) (x : ℕ) (row : Row) (n : ℕ) (before : PageView)
+    → h1.pages ≡ h.pages → IsThere h place → PutsRoot h1 middle true x row n → slice_get middle.pages.pages place.page ≡ Some before → IsNormalAt before.slots place.slot
+stays-there h h1 middle place x row n before same_pages there root at =
+    let there_1 : IsThere h1 place = subst (λ (p : PagesView). IsNormalAt (page_in p.pages place.page).slots place.slot) (sym same_pages) there in
+    let within = there-within h1 place there_1 in
+    let is : page_on middle place.page ≡ before = page-at middle.pages.pages place.page before at in
+    elim (cases_eq place.page n) [
+      | inl here ↦
+          let now : page_on middle place.page ≡ root.page = ap (λ m. page_in middle.pages.pages m) here
+          ∙ puts-same h1.pages.pages middle.pages.pages n root.page (subst (λ m. m < length h1.pages.pages) here within) root.puts in
+          let added = subst (λ slots. IsNormalAt slots place.slot) (sym root.slots)
+          (normal-added (page_on h1 n).slots place.slot _ (subst (λ m. IsNormalAt (page_on h1 m).slots place.slot) here there_1)) in
+          subst (λ (p : PageView). IsNormalAt p.slots place.slot) (sym now ∙ is) added
+      | inr other ↦
+          let kept = puts-other h1.pages.pages middle.pages.pages n place.page root.page within other root.puts in
+          subst (λ (p : PageView). IsNormalAt p.slots place.slot) (sym kept ∙ is) there_1
+    ]
 
--- A delete.
+-- the page has grown in memory alone
+pub grown-page : (h h1 : HeapView) (n : ℕ) → n < length h.pages.pages → GrowsPage h.pages h1.pages n → SameEntries h.indexes h1.indexes → Grown h h1 n
+grown-page h h1 n within grows same = grown-set h h1 n grows.page within (ap (λ (p : PagesView). p.pages) grows.pages_are) grows.same same
+
+-- An update on the page, said of the table before the page grew.
+
+pub on_page-grown : (h h1 h' : HeapView) (place : Tid) (x : ℕ) (row : Row) → Grown h h1 place.page → ReplacesOnPage h1 h' place x row → ReplacesOnPage h h' place x row
+on_page-grown h h1 h' place x row grown (heap_only keeps here) = heap_only (values-back h h1 place row grown.same.slots grown.entries keeps) (here-grown h h1 h' place x row grown here)
+on_page-grown h h1 h' place x row grown (as_root changes replaces) =
+    as_root (λ keeps. changes (values-kept h h1 place row grown.same.slots grown.entries keeps)) (record {
+      middle = replaces.middle;
+      root = root-grown h h1 replaces.middle true x row place.page grown replaces.root;
+      away = subst (λ slots. TakesAway replaces.middle h' place x (record { page = place.page; slot = free_number slots })) grown.same.slots replaces.away;
+    })
+
+-- An update on the page.
 
 pub replaces-here : (h h' : HeapView) (place : Tid) (x : ℕ) (row : Row) (before after : PageView) → slice_get h.pages.pages place.page ≡ Some before
     → after.slots ≡ with_updated before.slots place.slot x place.page row
     → after.change ≡ replaced_change before.slots place.slot x place.page (free_number before.slots) true (next_change before.change)
     → after.flag ≡ before.flag → free_number before.slots ≤ 291
-    → h'.pages.pages ≡ set h.pages.pages place.page after → h'.index.entries ≡ h.index.entries → ReplacesHere h h' place x row
+    → h'.pages.pages ≡ set h.pages.pages place.page after → SameEntries h.indexes h'.indexes → ReplacesHere h h' place x row
 replaces-here h h' place x row before after at slots change flag within pages entries =
     let same : before ≡ page_on h place.page = sym (page-at h.pages.pages place.page before at) in
     record {
@@ -201,9 +244,11 @@ replaces-here h h' place x row before after at slots change flag within pages en
       entries = entries;
     }
 
+-- A delete.
+
 pub deletes : (h h' : HeapView) (own own' : Own) (place : Tid) (x : ℕ) (before after : PageView) → ¬ NeedsFreeze h.table own → TakesIds h.table h'.table own own' x
     → IsThere h place → slice_get h.pages.pages place.page ≡ Some before → MovesAway before after place place x
-    → h'.pages.pages ≡ set h.pages.pages place.page after → h'.index.entries ≡ h.index.entries → h'.max_pages ≡ h.max_pages → Deletes h h' own own' place x
+    → h'.pages.pages ≡ set h.pages.pages place.page after → SameEntries h.indexes h'.indexes → h'.max_pages ≡ h.max_pages → Deletes h h' own own' place x
 deletes h h' own own' place x before after free takes there at away pages entries max_pages =
     let moved : MovesAway (page_on h place.page) after place place x = subst (λ page. MovesAway page after place place x) (sym (page-at h.pages.pages place.page before at)) away in
     record {

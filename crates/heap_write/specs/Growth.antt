@@ -1,4 +1,4 @@
--- What stands ready before a write changes anything: memory for an id, a slot, a page and an entry.
+-- What stands ready before a write changes anything: memory for ids, a slot and a page. (For entries: `HasEntries` of Indexes.)
 use Rattle.std.specs.Prelude.{◌≡◌, ◌⊎◌, ℕ, ◌<◌, ◌≤◌, Bool, true, false, List, [], length, map, Option, Some, None, slice_index_or}
 use Rattle.tuple_header.specs.declared.version.Row.{Row}
 use Rattle.page_slots.specs.View.{PageView}

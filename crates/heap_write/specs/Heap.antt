@@ -1,5 +1,5 @@
--- A table: its pages, what became of each id, and its index by key.
-use Rattle.std.specs.Prelude.{◌≡◌, ℕ, ◌<◌, ℤ, pos, false, List, [], ◌∷◌, ◌++◌, map, length, slice_set, slice_index_or}
+-- A table: its pages, what became of each id, and its indexes.
+use Rattle.std.specs.Prelude.{◌≡◌, ℕ, ◌<◌, ℤ, pos, false, List, [], ◌∷◌, ◌++◌, map, length, Option, slice_set, slice_index_or}
 use Rattle.tuple_header.specs.declared.version.Row.{Row}
 use Rattle.page_slots.specs.View.{PageView}
 use Rattle.page_slots.specs.declared.slot.Slot.{Slot}
@@ -7,12 +7,13 @@ use Rattle.commit_status.specs.Window.{Window}
 use Rattle.root_index.specs.View.{IndexView}
 use Rattle.heap_pages.specs.View.{PagesView}
 use Rattle.sound_entries.specs.Looking as looking
+use Rattle.heap_write.specs.Indexes.{SameEntries}
 
 pub record HeapView : Type 0 where
   pub pages : PagesView
   pub table : Window
-  -- an entry for the root of each chain, by the key of its rows
-  pub index : IndexView
+  -- by their numbers: each one in use has an entry for the root of each chain
+  pub indexes : List (Option IndexView)
   -- how many pages may be in use
   pub max_pages : ℕ
 
@@ -44,7 +45,7 @@ pub record Keeps (h h' : HeapView) : Type 0 where
   pub changes : map (λ p. p.change) h'.pages.pages ≡ map (λ p. p.change) h.pages.pages
   pub flags : map (λ p. p.flag) h'.pages.pages ≡ map (λ p. p.flag) h.pages.pages
   pub table : SameIds h.table h'.table
-  pub entries : h'.index.entries ≡ h.index.entries
+  pub entries : SameEntries h.indexes h'.indexes
   pub max_pages : h'.max_pages ≡ h.max_pages
 
 -- this becomes the page of the number, in the place of one that is in use or after all others; no other page changes

@@ -14,7 +14,8 @@ use Rattle.heap_write.specs.declared.cleaning.PruneFault.TheVariants as prune_fa
 use Rattle.heap_write.specs.declared.heap.WriteFault.{WriteFault}
 use Rattle.heap_write.specs.declared.heap.WriteFault.TheVariants as fault
 use Rattle.heap_write.specs.Heap.{HeapView, page_on, Keeps}
-use Rattle.heap_write.specs.Writes.{NeedsFreeze, IsFull, Readies}
+use Rattle.heap_write.specs.Writes.{NeedsFreeze, IsFull, Readies, KeepsValues}
+use Rattle.heap_write.specs.Indexes.{NeedsEntry}
 
 -- a new slot of a page takes memory
 pub record NeedsSlot (page : PageView) : Type 0 where
@@ -25,12 +26,12 @@ pub record NeedsSlot (page : PageView) : Type 0 where
 abbrev pub NeedsIds : HeapView → Own → Type 0
 NeedsIds h own = (h.table.spare < lacks own.ids own.saved) ⊎ (own.spare < lacks own.ids own.saved)
 
--- something has to grow for a new root: the ids, the list of pages, a page's list of slots, or the index
+-- something has to grow for a new root: the ids, the list of pages, a page's list of slots, or an index
 pub data RootNeedsMemory (h : HeapView) (own : Own) (size : ℕ) : Type 0 where
   for_ids : NeedsIds h own → RootNeedsMemory h own size
   for_page : IsPlaceFor h.pages.pages h.max_pages size NewPage → RootNeedsMemory h own size
   for_slot : (n : ℕ) → IsPlaceFor h.pages.pages h.max_pages size (Page n) → NeedsSlot (page_on h n) → RootNeedsMemory h own size
-  for_entry : h.index.spare ≡ 0 → RootNeedsMemory h own size
+  for_entry : NeedsEntry h.indexes → RootNeedsMemory h own size
 
 abbrev pub LacksForInsert : HeapView → Own → Row → WriteFault → Type 0
 LacksForInsert h own row fault.NeedsFreeze = NeedsFreeze h.table own
@@ -42,12 +43,13 @@ LacksForInsert h own row fault.Gone = ⊥
 abbrev pub IsThere : HeapView → Tid → Type 0
 IsThere h place = IsNormalAt (page_on h place.page).slots place.slot
 
--- something has to grow for an update: the ids or the page's list of slots; or the page is to be pruned, whose plan
--- takes memory
-pub data UpdateNeedsMemory (h : HeapView) (own : Own) (place : Tid) (size : ℕ) : Type 0 where
-  for_ids : NeedsIds h own → UpdateNeedsMemory h own place size
-  for_slot : NeedsSlot (page_on h place.page) → UpdateNeedsMemory h own place size
-  to_prune : room_of (page_on h place.page).slots < size → UpdateNeedsMemory h own place size
+-- something has to grow for an update: the ids, the page's list of slots, or an index where a value in one changes; or the
+-- page is to be pruned, whose plan takes memory
+pub data UpdateNeedsMemory (h : HeapView) (own : Own) (place : Tid) (row : Row) : Type 0 where
+  for_ids : NeedsIds h own → UpdateNeedsMemory h own place row
+  for_slot : NeedsSlot (page_on h place.page) → UpdateNeedsMemory h own place row
+  for_entry : ¬ KeepsValues h place row → NeedsEntry h.indexes → UpdateNeedsMemory h own place row
+  to_prune : room_of (page_on h place.page).slots < rounded_size_of row → UpdateNeedsMemory h own place row
 
 -- the page of the old version was made ready, and this is so then
 pub record WhenReady (h h' : HeapView) (own : Own) (place : Tid) (horizon size : ℕ) (P : HeapView → Type 0) : Type 0 where
@@ -63,7 +65,7 @@ FailsUpdate h h' own place row horizon fault.NeedsFreeze = IsThere h place × Ne
 FailsUpdate h h' own place row horizon fault.NoRoom =
     WhenReady h h' own place horizon (rounded_size_of row) (λ ready. IsThere ready place × IsFull ready (rounded_size_of row))
 FailsUpdate h h' own place row horizon fault.NoMemory =
-    IsThere h place × (¬ NeedsFreeze h.table own) × UpdateNeedsMemory h own place (rounded_size_of row) × Keeps h h'
+    IsThere h place × (¬ NeedsFreeze h.table own) × UpdateNeedsMemory h own place row × Keeps h h'
 FailsUpdate h h' own place row horizon fault.Gone =
     ((¬ IsThere h place) × Keeps h h') ⊎ WhenReady h h' own place horizon (rounded_size_of row) (λ ready. ¬ IsThere ready place)
 

@@ -1,12 +1,12 @@
 -- What a write does to a table. (README.HOT: an update that stays on the page, and changes no indexed column, makes a heap-only
--- version and no index entry; any other makes a root of its own, with an entry. PostgreSQL, heap_insert, heap_update and
+-- version and no index entry; any other makes a root of its own, with an entry in each index. PostgreSQL, heap_insert, heap_update and
 -- heap_delete in src/backend/access/heap/heapam.c.)
 use Rattle.std.specs.Prelude.{◌≡◌, ◌≢◌, ℕ, ◌<◌, ◌≤◌, Bool, true, false, List, [], ◌∷◌, ◌++◌, length, slice_set, slice_get, Option, Some, None}
 use Rattle.xid_circle.specs.declared.Tid.{Tid}
 use Rattle.tuple_header.specs.declared.version.Row.{Row}
 use Rattle.tuple_header.specs.Version.{rounded_size_of}
 use Rattle.page_slots.specs.View.{PageView}
-use Rattle.page_slots.specs.Slots.{room_of, free_number, next_change, IsNormalAt}
+use Rattle.page_slots.specs.Slots.{room_of, free_number, next_change, row_at, IsNormalAt}
 use Rattle.commit_status.specs.Window.{Window, next_id}
 use Rattle.commit_status.specs.Changes.{Gives, CanGive}
 use Rattle.snapshot.specs.Own.{Own, lacks, level_id, saved_with_each}
@@ -14,12 +14,11 @@ use Rattle.prune.specs.Actions.{applied}
 use Rattle.prune.specs.Cutting.{Removes}
 use Rattle.prune.specs.Pruning.{IsPruned, IsPlan}
 use Rattle.page_writes.specs.Writes.{with_root, with_replaced, with_updated, replaced_change}
-use Rattle.root_index.specs.Sets.{Adds}
 use Rattle.heap_pages.specs.Choice.{IsPlaceFor, HasRoom, NoPage}
 use Rattle.heap_pages.specs.declared.pages.Place.{Place}
 use Rattle.heap_pages.specs.declared.pages.Place.TheVariants.{Page, NewPage, Nowhere}
-use Rattle.sound_entries.specs.Entries.{entry_for}
-use Rattle.heap_write.specs.Heap.{HeapView, key_value, page_on, Keeps, PutsPage}
+use Rattle.heap_write.specs.Heap.{HeapView, page_on, Keeps, PutsPage}
+use Rattle.heap_write.specs.Indexes.{SameValues, SameEntries, Enters}
 
 -- Ids.
 
@@ -68,9 +67,9 @@ pub record GoesTo (h : HeapView) (size n : ℕ) : Type 0 where
   pub chosen : IsPlaceFor h.pages.pages h.max_pages size place
   pub number : number_of (length h.pages.pages) place ≡ Some n
 
--- Changes of a page and the index.
+-- Changes of a page and the indexes.
 
--- x makes a version of the row as a root on page n, with an entry for it
+-- x makes a version of the row as a root on page n, with an entry for it in each index
 pub record PutsRoot (h h' : HeapView) (updated : Bool) (x : ℕ) (row : Row) (n : ℕ) : Type 0 where
   pub page : PageView
   pub puts : PutsPage h.pages.pages h'.pages.pages n page
@@ -78,7 +77,7 @@ pub record PutsRoot (h h' : HeapView) (updated : Bool) (x : ℕ) (row : Row) (n 
   pub change : page.change ≡ next_change (page_on h n).change
   pub flag : page.flag ≡ (page_on h n).flag
   pub within : free_number (page_on h n).slots ≤ 291
-  pub entry : Adds h.index.entries h'.index.entries (entry_for key_value row n (free_number (page_on h n).slots))
+  pub entries : Enters h.indexes h'.indexes row (record { page = n; slot = free_number (page_on h n).slots })
 
 -- x takes the version at a place away, and its successor is at another, or at its own where it has none; no entry changes
 pub record TakesAway (h h' : HeapView) (place : Tid) (x : ℕ) (successor : Tid) : Type 0 where
@@ -87,7 +86,7 @@ pub record TakesAway (h h' : HeapView) (place : Tid) (x : ℕ) (successor : Tid)
   pub slots : page.slots ≡ with_replaced (page_on h place.page).slots place.slot x successor.page successor.slot false
   pub change : page.change ≡ replaced_change (page_on h place.page).slots place.slot x successor.page successor.slot false (page_on h place.page).change
   pub flag : page.flag ≡ (page_on h place.page).flag
-  pub entries : h'.index.entries ≡ h.index.entries
+  pub entries : SameEntries h.indexes h'.indexes
 
 -- x replaces the version at a place by a heap-only one of this row on the same page; no entry changes
 pub record ReplacesHere (h h' : HeapView) (place : Tid) (x : ℕ) (row : Row) : Type 0 where
@@ -97,7 +96,13 @@ pub record ReplacesHere (h h' : HeapView) (place : Tid) (x : ℕ) (row : Row) : 
   pub change : page.change ≡ replaced_change (page_on h place.page).slots place.slot x place.page (free_number (page_on h place.page).slots) true (next_change (page_on h place.page).change)
   pub flag : page.flag ≡ (page_on h place.page).flag
   pub within : free_number (page_on h place.page).slots ≤ 291
-  pub entries : h'.index.entries ≡ h.index.entries
+  pub entries : SameEntries h.indexes h'.indexes
+
+-- x replaces the version at a place by a root of this row on page n, which is its successor
+pub record ReplacesByRoot (h h' : HeapView) (place : Tid) (x : ℕ) (row : Row) (n : ℕ) : Type 0 where
+  pub middle : HeapView
+  pub root : PutsRoot h middle true x row n
+  pub away : TakesAway middle h' place x (record { page = n; slot = free_number (page_on h n).slots })
 
 -- one page is pruned at a horizon: what goes from it is cut, and its slots are what pruning makes of them
 pub record Prunes (h h' : HeapView) (number horizon : ℕ) : Type 0 where
@@ -126,12 +131,20 @@ pub data Readies (h h' : HeapView) (number horizon size : ℕ) : Type 0 where
   has_room : size ≤ room_of (page_on h number).slots → h' ≡ h → Readies h h' number horizon size
   is_pruned : room_of (page_on h number).slots < size → (grown : HeapView) → Keeps h grown → Prunes grown h' number horizon → Readies h h' number horizon size
 
+-- in each index in use the row has the value that the version at a place has
+abbrev pub KeepsValues : HeapView → Tid → Row → Type 0
+KeepsValues h place row = (old : Row) → row_at (page_on h place.page).slots place.slot ≡ Some old → SameValues h.indexes old row
+
+-- x replaces the version at a place by one of this row on the same page: heap-only where no value in an index changes, else a root
+pub data ReplacesOnPage (h h' : HeapView) (place : Tid) (x : ℕ) (row : Row) : Type 0 where
+  heap_only : KeepsValues h place row → ReplacesHere h h' place x row → ReplacesOnPage h h' place x row
+  as_root : ¬ KeepsValues h place row → ReplacesByRoot h h' place x row place.page → ReplacesOnPage h h' place x row
+
 -- x replaces the version at a place by one of this row: on the same page where it has room there, else as a root elsewhere
 pub data Replaces (h h' : HeapView) (place : Tid) (x : ℕ) (row : Row) : Type 0 where
-  here : rounded_size_of row ≤ room_of (page_on h place.page).slots → ReplacesHere h h' place x row → Replaces h h' place x row
+  on_page : rounded_size_of row ≤ room_of (page_on h place.page).slots → ReplacesOnPage h h' place x row → Replaces h h' place x row
   elsewhere : room_of (page_on h place.page).slots < rounded_size_of row → (number : ℕ) → number ≢ place.page → GoesTo h (rounded_size_of row) number
-      → (middle : HeapView) → PutsRoot h middle true x row number
-      → TakesAway middle h' place x (record { page = number; slot = free_number (page_on h number).slots }) → Replaces h h' place x row
+      → ReplacesByRoot h h' place x row number → Replaces h h' place x row
 
 -- the version at a place is updated to this row
 pub record Updates (h h' : HeapView) (own own' : Own) (place : Tid) (row : Row) (horizon x : ℕ) : Type 0 where

@@ -1,10 +1,12 @@
-//! The pages, the ids and the index of a table.
+//! The pages, the ids and the indexes of a table.
 
 ghost use Rattle.std.specs.Prelude.{◌≡◌, ◌≤◌, ◌<◌, ℕ, [], length, slice_get, option_copied, Contains};
 ghost use Rattle.xid_circle.specs.Circle.{IsNormal};
 ghost use Rattle.commit_status.specs.Window.{IsActive, IsWindow};
 ghost use Rattle.commit_status.specs.Changes.{numbers, Finishes};
+ghost use Rattle.heap_write.specs.Indexes.{index_at, entries_at, new_entries};
 
+use crate::indexes::Indexes;
 use commit_status::{Status, StatusTable};
 use heap_pages::Pages;
 use page_slots::Page;
@@ -30,13 +32,13 @@ pub enum WriteFault {
     NoMemory,
 }
 
-/// The pages of a table, what became of each id, and the index by key.
+/// The pages of a table, what became of each id, and the indexes.
 #[derive(Debug, Drop)]
 pub struct HeapState {
     pub(crate) alloc: Global,
     pub(crate) pages: Pages,
     pub(crate) table: StatusTable,
-    pub(crate) index: RootIndex,
+    pub(crate) indexes: Indexes,
     pub(crate) max_pages: u32,
 }
 
@@ -46,20 +48,21 @@ impl Model for HeapState {
 
     ghost Value = { HeapView };
 
-    ghost view = { λ h. record { pages = h.pages; table = h.table; index = h.index; max_pages = h.max_pages } };
+    ghost view = { λ h. record { pages = h.pages; table = h.table; indexes = h.indexes; max_pages = h.max_pages } };
 
     ghost invariant = { λ h. h.max_pages ≤ 65536 };
 }
 
 impl HeapState {
     /// A table without pages, of which there may be `max_pages`, up to 65536, and whose first id is `first`. No id is given
-    /// `stop_age` numbers from the oldest that is remembered, or further.
-    pub fn new(alloc: Global, first: Xid, stop_age: u32, max_pages: u32) -> Self
+    /// `stop_age` numbers from the oldest that is remembered, or further. It has an index by key, and one by each column of
+    /// which `indexed` says so.
+    pub fn new(alloc: Global, first: Xid, stop_age: u32, max_pages: u32, indexed: [bool; 4]) -> Self
         requires normal { IsNormal first.0 }
         requires limit { stop_age ≤ 2144483648 }
         requires few { max_pages ≤ 65536 }
         ensures pages { result.pages.pages ≡ [] }
-        ensures index { result.index.entries ≡ [] }
+        ensures indexes { (n : ℕ) → entries_at result.indexes n ≡ new_entries indexed n }
         ensures max_pages { result.max_pages ≡ max_pages }
         ensures first { result.table.first ≡ first.0 }
         ensures stop_age { result.table.stop_age ≡ stop_age }
@@ -72,7 +75,7 @@ impl HeapState {
             alloc,
             pages: Pages::new(alloc),
             table,
-            index: RootIndex::new(alloc),
+            indexes: Indexes::new(alloc, indexed),
             max_pages,
         }
     }
@@ -84,11 +87,12 @@ impl HeapState {
         &self.table
     }
 
-    /// The index by key: an entry for the root of each chain.
-    pub fn index(&self) -> &RootIndex
-        ensures { result.now ≡ self.now.index }
+    /// The index of this number, if it is in use: 0 is that by key, and c + 1 that by column c. It has an entry for the root
+    /// of each chain.
+    pub fn index(&self, number: u8) -> Option<&RootIndex>
+        ensures { option_copied result ≡ index_at self.now.indexes number }
     {
-        &self.index
+        self.indexes.get(number)
     }
 
     /// The page of this number, counted from 0, if it is in use.
@@ -102,7 +106,7 @@ impl HeapState {
     pub fn finish(&mut self, ids: &[Xid], status: Status)
         requires { (x : ℕ) → Contains (numbers ids.now) x → IsActive self.old.table x }
         ensures pages { self.new.pages ≡ self.old.pages }
-        ensures index { self.new.index ≡ self.old.index }
+        ensures indexes { self.new.indexes ≡ self.old.indexes }
         ensures max_pages { self.new.max_pages ≡ self.old.max_pages }
         ensures finishes { Finishes self.old.table self.new.table (numbers ids.now) status }
         ensures window { IsWindow self.new.table }

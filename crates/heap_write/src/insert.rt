@@ -1,13 +1,13 @@
 //! A new row.
 
-ghost use Rattle.std.specs.Prelude.{◌≡◌, ℕ, ◌<◌, ◌≤◌, ◌⊎◌, false, pos, Some, IfErr, IfOk, OnErr};
+ghost use Rattle.std.specs.Prelude.{◌≡◌, ℕ, ◌≤◌, ◌⊎◌, false, Some, IfErr, IfOk, OnErr};
 ghost use Rattle.xid_circle.specs.Circle.{IsNormal};
 ghost use Rattle.page_slots.specs.Slots.{free_number};
 ghost use Rattle.tuple_header.specs.Version.{rounded_size_of};
 ghost use Rattle.commit_status.specs.Window.{IsWindow, IsGiven};
 ghost use Rattle.snapshot.specs.Own.{level_id};
-ghost use Rattle.root_index.specs.Sets.{Adds};
-ghost use Rattle.heap_write.specs.Heap.{key_value, page_on, Keeps};
+ghost use Rattle.heap_write.specs.Heap.{page_on, Keeps};
+ghost use Rattle.heap_write.specs.Indexes.{HasEntries, NeedsEntry};
 ghost use Rattle.heap_write.specs.Writes.{NeedsFreeze, TakesIds, SameOwn, PutsRoot, Inserts};
 ghost use Rattle.heap_write.specs.Refusals.{LacksForInsert, NeedsIds};
 ghost use Rattle.heap_write.specs.Growth.{IsReady, target_number};
@@ -15,13 +15,12 @@ ghost use Rattle.heap_write.specs.Growth.{IsReady, target_number};
 use crate::heap::{HeapState, WriteFault};
 use crate::ids::{needs_freeze, reserve_ids, take_ids};
 use crate::target::{Target, put_version, reserve_place, size_of};
-use root_index::{Entry, RootIndex};
 use snapshot::OwnIds;
 use tuple_header::Row;
 use xid_circle::{Tid, Xid};
 
 impl HeapState {
-    /// Inserts a version of the row as a root, with an entry, under the id of the session's newest level, and answers that
+    /// Inserts a version of the row as a root, with an entry in each index, under the id of the session's newest level, and answers that
     /// id: each level that has none is given one before. It answers NeedsFreeze exactly where the levels lack more ids
     /// than can be given, else NoRoom exactly where all pages that there may be are in use and none has room, else
     /// NoMemory only where something has to grow. A refused insert changes nothing and gives no id. (PostgreSQL,
@@ -46,7 +45,7 @@ impl HeapState {
         }
     }
 
-    /// Inserts a version of the row where it goes, unless the index or a list of ids has to grow and cannot.
+    /// Inserts a version of the row where it goes, unless an index or a list of ids has to grow and cannot.
     fn insert_at(&mut self, target: Target, own: &mut OwnIds, row: Row) -> Result<Xid, WriteFault>
         requires free { ¬ NeedsFreeze self.old.table own.old }
         requires newest { (x : ℕ) → level_id own.old.ids own.old.saved ≡ Some x → IsGiven self.old.table x }
@@ -54,14 +53,14 @@ impl HeapState {
         ensures takes { IfOk result (λ x. TakesIds self.old.table self.new.table own.old own.new x.0) }
         ensures root { IfOk result (λ x. PutsRoot self.old self.new false x.0 row (target_number self.old.pages.pages target)) }
         ensures max_pages { self.new.max_pages ≡ self.old.max_pages }
-        ensures needs { OnErr result ((self.old.index.spare ≡ 0) ⊎ NeedsIds self.old own.old) }
+        ensures needs { OnErr result (NeedsEntry self.old.indexes ⊎ NeedsIds self.old own.old) }
         ensures fault { IfErr result (λ fault. fault ≡ WriteFault.NoMemory) }
         ensures err { OnErr result (Keeps self.old self.new) }
         ensures own { OnErr result (SameOwn own.old own.new) }
         ensures window { IsWindow self.new.table }
         ensures normal { IfOk result (λ x. IsNormal x.0) }
     {
-        if self.index.make_room(1).is_err() || reserve_ids(&mut self.table, own).is_err() {
+        if self.indexes.make_room().is_err() || reserve_ids(&mut self.table, own).is_err() {
             self.table.is_window();
             return Err(WriteFault::NoMemory);
         }
@@ -70,11 +69,11 @@ impl HeapState {
         Ok(x)
     }
 
-    /// Makes a version of the row as a root where one goes, with an entry for it, and answers its place.
+    /// Makes a version of the row as a root where one goes, with an entry for it in each index, and answers its place.
     pub(crate) fn put_root(&mut self, target: Target, updated: bool, x: Xid, row: Row) -> Tid
         requires normal { IsNormal x.0 }
         requires ready { IsReady self.old.pages (rounded_size_of row) target }
-        requires entry { 0 < self.old.index.spare }
+        requires entries { HasEntries self.old.indexes }
         ensures root { PutsRoot self.old self.new updated x.0 row result.page }
         ensures page { result.page ≡ target_number self.old.pages.pages target }
         ensures slot { result.slot ≡ free_number (page_on self.old result.page).slots }
@@ -82,25 +81,9 @@ impl HeapState {
         ensures table { self.new.table ≡ self.old.table }
         ensures max_pages { self.new.max_pages ≡ self.old.max_pages }
     {
-        let key = row.key;
+        let (key, cols) = (row.key, row.cols);
         let tid = put_version(&mut self.pages, target, updated, x, row);
-        enter(&mut self.index, key, tid);
+        self.indexes.enter(key, &cols, tid);
         tid
-    }
-}
-
-/// Adds the entry for a root of the key, for which there is memory.
-fn enter(index: &mut RootIndex, key: u64, tid: Tid)
-    requires { 0 < index.old.spare }
-    ensures { Adds index.old.entries index.new.entries (record { value = pos key; key = key; tid = tid }) }
-{
-    let entry = Entry {
-        value: i128::from(key),
-        key,
-        tid,
-    };
-    match index.insert(entry) {
-        Ok(()) => {}
-        Err(_) => unreachable!(),
     }
 }

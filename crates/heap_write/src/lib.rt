@@ -1,23 +1,26 @@
-//! A table: its pages, the status of its ids and its index by key, and writes on them.
+//! A table: its pages, the status of its ids and its indexes, and writes on them.
 //!
 //! A write either is done, with an id for each level of its session, or is refused for the first of its reasons, and then
 //! changes nothing; only an update that ends in NoRoom or Gone may have pruned the page of the old version.
-//! `specs/Writes.antt` says what each write does, and `specs/Refusals.antt` why one is refused. Whatever has to grow is grown
-//! before the first change, so that nothing is left half done (`specs/Growth.antt`). What is looked for is found through the
-//! index.
+//! `specs/Writes.antt` says what each write does, `specs/Indexes.antt` what that is in an index, and `specs/Refusals.antt` why
+//! one is refused. Whatever has to grow is grown before the first change, so that nothing is left half done
+//! (`specs/Growth.antt`). What is looked for is found through the index by key.
 #![tactic(auto)]
 
 mod cleaning;
 mod delete;
 mod heap;
 mod ids;
+mod indexes;
 mod insert;
 mod looking;
 mod target;
 mod update;
+mod walking;
 
 pub use cleaning::PruneFault;
 pub use heap::{HeapState, WriteFault};
+pub use walking::{Mark, Span};
 
 #[cfg(test)]
 mod tests;

@@ -1,15 +1,16 @@
 //! A row is updated.
 
-ghost use Rattle.std.specs.Prelude.{◌≡◌, ℕ, ◌≤◌, ◌<◌, length, IfErr, IfOk, IfSome, IsTrue, OnErr, OnOk, Some, ◌↔◌, ◌⊎◌};
+ghost use Rattle.std.specs.Prelude.{◌≡◌, ℕ, ◌≤◌, ◌<◌, length, IfErr, IfOk, IfSome, IsFalse, IsTrue, OnErr, OnOk, Some, ◌↔◌, ◌⊎◌};
 ghost use Rattle.xid_circle.specs.Circle.{IsNormal};
 ghost use Rattle.commit_status.specs.Window.{IsWindow, IsGiven};
 ghost use Rattle.snapshot.specs.Own.{lacks, level_id};
 ghost use Rattle.page_slots.specs.Slots.{room_of};
 ghost use Rattle.tuple_header.specs.Version.{rounded_size_of};
 ghost use Rattle.heap_write.specs.Heap.{page_on, Keeps};
-ghost use Rattle.heap_write.specs.Writes.{NeedsFreeze, TakesIds, SameOwn, ReplacesHere, Replaces, Updates};
-ghost use Rattle.heap_write.specs.Refusals.{FailsUpdate, IsThere, NeedsIds, NeedsSlot};
-ghost use Rattle.heap_write.specs.Growth.{HasIds, HasSlot, IsReady};
+ghost use Rattle.heap_write.specs.Indexes.{HasEntries, NeedsEntry};
+ghost use Rattle.heap_write.specs.Writes.{NeedsFreeze, TakesIds, SameOwn, KeepsValues, ReplacesHere, ReplacesByRoot, ReplacesOnPage, Replaces, Updates};
+ghost use Rattle.heap_write.specs.Refusals.{FailsUpdate, UpdateNeedsMemory, IsThere, NeedsIds, NeedsSlot};
+ghost use Rattle.heap_write.specs.Growth.{HasIds, HasSlot, GrowsPage, IsReady, target_number};
 ghost use Rattle.heap_write.specs.Steps.{IsChosen, FailsReady};
 
 use crate::heap::{HeapState, WriteFault};
@@ -24,11 +25,12 @@ use xid_circle::{Tid, Xid};
 impl HeapState {
     /// Replaces the version at a place by one of this row, under the id of the session's newest level, and answers that id:
     /// each level that has none is given one before. Where the row has no room on its page, that page is pruned at the
-    /// horizon, a normal id. The new version is heap-only on the same page where it has room there; else it is a root, with
-    /// an entry, where a new one goes. It answers Gone exactly where no version is there, before or after that pruning, else
-    /// NeedsFreeze exactly where the levels lack more ids than can be given, else NoRoom exactly where all pages that there
-    /// may be are in use and none has room, and NoMemory only where something has to grow or the page is to be pruned. A
-    /// refused update gives no id, and changes nothing but that the page may be pruned. (README.HOT; PostgreSQL, `heap_update` in
+    /// horizon, a normal id. The new version goes to the same page where it has room there, else where a new root goes. It
+    /// is heap-only where it stays on the page and no value in an index changes, else a root, with an entry in each index.
+    /// It answers Gone exactly where no version is there, before or after that pruning, else NeedsFreeze exactly where the
+    /// levels lack more ids than can be given, else NoRoom exactly where all pages that there may be are in use and none has
+    /// room, and NoMemory only where something has to grow or the page is to be pruned. A refused update gives no id, and
+    /// changes nothing but that the page may be pruned. (README.HOT; PostgreSQL, `heap_update` in
     /// src/backend/access/heap/heapam.c.)
     pub fn update(
         &mut self,
@@ -70,6 +72,19 @@ impl HeapState {
         }
     }
 
+    /// Whether in each index in use the row has the value that the version at a place has.
+    fn keeps_values(&self, place: Tid, row: &Row) -> bool
+        ensures { IsTrue result ↔ KeepsValues self.now place row.now }
+    {
+        match self.pages.page(place.page) {
+            Some(page) => match page.row(place.slot) {
+                Some(old) => self.indexes.same_values(&old, row),
+                None => true,
+            },
+            None => true,
+        }
+    }
+
     /// Updates a version whose page has room for the row.
     fn update_at_once(&mut self, own: &mut OwnIds, place: Tid, row: Row) -> Result<Xid, WriteFault>
         requires newest { (x : ℕ) → level_id own.old.ids own.old.saved ≡ Some x → IsGiven self.old.table x }
@@ -77,23 +92,46 @@ impl HeapState {
         requires there { IsThere self.old place }
         requires room { rounded_size_of row ≤ room_of (page_on self.old place.page).slots }
         ensures takes { IfOk result (λ x. TakesIds self.old.table self.new.table own.old own.new x.0) }
-        ensures replaces { IfOk result (λ x. ReplacesHere self.old self.new place x.0 row) }
+        ensures replaces { IfOk result (λ x. ReplacesOnPage self.old self.new place x.0 row) }
         ensures max_pages { self.new.max_pages ≡ self.old.max_pages }
         ensures fault { IfErr result (λ fault. fault ≡ WriteFault.NoMemory) }
-        ensures needs { OnErr result (NeedsIds self.old own.old ⊎ NeedsSlot (page_on self.old place.page)) }
+        ensures needs { OnErr result (UpdateNeedsMemory self.old own.old place row) }
         ensures err { OnErr result (Keeps self.old self.new) }
         ensures own { OnErr result (SameOwn own.old own.new) }
         ensures window { IsWindow self.new.table }
         ensures normal { IfOk result (λ x. IsNormal x.0) }
     {
+        let heap_only = self.keeps_values(place, &row);
+        let reserved = self.reserve_on_page(own, place.page, heap_only);
         self.table.is_window();
-        if reserve_slot(self.pages.page_mut(place.page)).is_err()
-            || reserve_ids(&mut self.table, own).is_err()
-        {
-            self.table.is_window();
-            return Err(WriteFault::NoMemory);
+        match reserved {
+            Ok(()) => Ok(self.replace_on_page(own, place, row, heap_only)),
+            Err(_) => Err(WriteFault::NoMemory),
         }
-        Ok(self.replace_here(own, place, row))
+    }
+
+    /// Makes room in memory for an update on the page of this number, with entries if it is not heap-only.
+    fn reserve_on_page(
+        &mut self,
+        own: &mut OwnIds,
+        number: u32,
+        heap_only: bool,
+    ) -> Result<(), AllocError>
+        requires { number < length self.old.pages.pages }
+        ensures keeps { Keeps self.old self.new }
+        ensures none { lacks own.old.ids own.old.saved ≡ 0 → self.new.table ≡ self.old.table }
+        ensures own { SameOwn own.old own.new }
+        ensures has_ids { OnOk result (HasIds self.new.table own.new) }
+        ensures grows { OnOk result (GrowsPage self.old.pages self.new.pages number) }
+        ensures has_entries { OnOk result (IsFalse heap_only → HasEntries self.new.indexes) }
+        ensures needs { OnErr result (NeedsIds self.old own.old ⊎ NeedsSlot (page_on self.old number) ⊎ IsFalse heap_only × NeedsEntry self.old.indexes) }
+    {
+        if reserve_ids(&mut self.table, own).is_err()
+            || self.indexes.make_room_for(heap_only).is_err()
+        {
+            return Err(AllocError);
+        }
+        reserve_slot(self.pages.page_mut(number))
     }
 
     /// Updates a version whose page has no room for the row, and is pruned first, as the last that takes memory.
@@ -142,11 +180,11 @@ impl HeapState {
         ensures own { SameOwn own.old own.new }
         ensures has_ids { OnOk result (HasIds self.new.table own.new) }
         ensures has_slot { OnOk result (0 < (page_on self.new number).spare) }
-        ensures has_entry { OnOk result (0 < self.new.index.spare) }
+        ensures has_entries { OnOk result (HasEntries self.new.indexes) }
         ensures chosen { IfOk result (λ found. IsChosen self.new size found) }
         ensures ready { IfOk result (λ found. IfSome found (λ target. IsReady self.new.pages size target)) }
     {
-        if reserve_ids(&mut self.table, own).is_err() || self.index.make_room(1).is_err() {
+        if reserve_ids(&mut self.table, own).is_err() || self.indexes.make_room().is_err() {
             return Err(AllocError);
         }
         if self.pages.page_mut(number).make_room(1).is_err() {
@@ -168,7 +206,7 @@ impl HeapState {
         requires free { ¬ NeedsFreeze self.old.table own.old }
         requires has_ids { HasIds self.old.table own.old }
         requires has_slot { 0 < (page_on self.old place.page).spare }
-        requires has_entry { 0 < self.old.index.spare }
+        requires has_entries { HasEntries self.old.indexes }
         requires chosen { room_of (page_on self.old place.page).slots < rounded_size_of row → IsChosen self.old (rounded_size_of row) target }
         requires ready { IfSome target (λ t. IsReady self.old.pages (rounded_size_of row) t) }
         ensures takes { IfOk result (λ x. TakesIds self.old.table self.new.table own.old own.new x.0) }
@@ -186,11 +224,35 @@ impl HeapState {
             return Err(WriteFault::Gone);
         }
         if self.has_room(place.page, &row) {
-            return Ok(self.replace_here(own, place, row));
+            let heap_only = self.keeps_values(place, &row);
+            return Ok(self.replace_on_page(own, place, row, heap_only));
         }
         match target {
-            Some(target) => Ok(self.replace_elsewhere(own, place, row, target)),
+            Some(target) => Ok(self.replace_by_root(own, place, row, target)),
             None => Err(WriteFault::NoRoom),
+        }
+    }
+
+    /// Replaces a version by one on its page, which has room and memory for it: a heap-only one, or a root.
+    fn replace_on_page(&mut self, own: &mut OwnIds, place: Tid, row: Row, heap_only: bool) -> Xid
+        requires newest { (x : ℕ) → level_id own.old.ids own.old.saved ≡ Some x → IsGiven self.old.table x }
+        requires free { ¬ NeedsFreeze self.old.table own.old }
+        requires has_ids { HasIds self.old.table own.old }
+        requires there { IsThere self.old place }
+        requires room { rounded_size_of row ≤ room_of (page_on self.old place.page).slots }
+        requires has_slot { HasSlot (page_on self.old place.page) }
+        requires heap_only { IsTrue heap_only ↔ KeepsValues self.old place row }
+        requires has_entries { IsFalse heap_only → HasEntries self.old.indexes }
+        ensures takes { TakesIds self.old.table self.new.table own.old own.new result.0 }
+        ensures replaces { ReplacesOnPage self.old self.new place result.0 row }
+        ensures max_pages { self.new.max_pages ≡ self.old.max_pages }
+        ensures window { IsWindow self.new.table }
+        ensures normal { IsNormal result.0 }
+    {
+        if heap_only {
+            self.replace_here(own, place, row)
+        } else {
+            self.replace_by_root(own, place, row, Target::Page(place.page))
         }
     }
 
@@ -214,18 +276,16 @@ impl HeapState {
         x
     }
 
-    /// Replaces a version by a root on another page, which has room and memory for it.
-    fn replace_elsewhere(&mut self, own: &mut OwnIds, place: Tid, row: Row, target: Target) -> Xid
+    /// Replaces a version by a root where one goes, with room and memory for it and its entries.
+    fn replace_by_root(&mut self, own: &mut OwnIds, place: Tid, row: Row, target: Target) -> Xid
         requires newest { (x : ℕ) → level_id own.old.ids own.old.saved ≡ Some x → IsGiven self.old.table x }
         requires free { ¬ NeedsFreeze self.old.table own.old }
         requires has_ids { HasIds self.old.table own.old }
         requires there { IsThere self.old place }
-        requires room { room_of (page_on self.old place.page).slots < rounded_size_of row }
-        requires has_entry { 0 < self.old.index.spare }
-        requires chosen { IsChosen self.old (rounded_size_of row) (Some target) }
+        requires has_entries { HasEntries self.old.indexes }
         requires ready { IsReady self.old.pages (rounded_size_of row) target }
         ensures takes { TakesIds self.old.table self.new.table own.old own.new result.0 }
-        ensures replaces { Replaces self.old self.new place result.0 row }
+        ensures replaces { ReplacesByRoot self.old self.new place result.0 row (target_number self.old.pages.pages target) }
         ensures max_pages { self.new.max_pages ≡ self.old.max_pages }
         ensures window { IsWindow self.new.table }
         ensures normal { IsNormal result.0 }

@@ -83,6 +83,10 @@ pub(crate) enum Ask {
     Release(u8),
     Commit(u8),
     Abort(u8),
+    OpenIndex(u8, u8, i128, i128),
+    OpenHeap(u8),
+    Next(u8, u16),
+    Close(u8),
     Prune(u32),
 }
 
@@ -100,6 +104,10 @@ impl Ask {
             Ask::Release(s) => Step::Release(s),
             Ask::Commit(s) => Step::Commit(s),
             Ask::Abort(s) => Step::Abort(s),
+            Ask::OpenIndex(s, index, low, high) => Step::OpenIndex(s, index, low, high),
+            Ask::OpenHeap(s) => Step::OpenHeap(s),
+            Ask::Next(s, count) => Step::Next(s, count),
+            Ask::Close(s) => Step::Close(s),
             Ask::Prune(page) => Step::Prune(page),
         })
     }
@@ -113,7 +121,11 @@ impl Ask {
             | Ask::RollbackTo(s)
             | Ask::Release(s)
             | Ask::Commit(s)
-            | Ask::Abort(s) => Some(s),
+            | Ask::Abort(s)
+            | Ask::OpenIndex(s, _, _, _)
+            | Ask::OpenHeap(s)
+            | Ask::Next(s, _)
+            | Ask::Close(s) => Some(s),
             Ask::Prune(_) => None,
             _ => self.writer(),
         }

@@ -1,6 +1,7 @@
 //! When two replies are the same.
 
 ghost use Rattle.std.specs.Prelude.{◌≡◌, ◌↔◌, IsTrue};
+ghost use Rattle.random_runs.specs.Replies.{AreSame};
 
 use session_core::{Refusal, Reply, Row};
 
@@ -31,6 +32,20 @@ fn same_row(a: &Row, b: &Row) -> bool
         && same_body(a.body.as_slice(), b.body.as_slice())
 }
 
+fn same_rows(a: &[Row], b: &[Row]) -> bool
+    ensures { IsTrue result ↔ (a.now ≡ b.now) }
+{
+    if a.len() != b.len() {
+        return false;
+    }
+    for i in 0..a.len() {
+        if !same_row(&a[i], &b[i]) {
+            return false;
+        }
+    }
+    true
+}
+
 /// Whether both are the same row, or both none.
 pub(crate) fn same_found(a: &Option<Row>, b: &Option<Row>) -> bool
     ensures { IsTrue result ↔ (a.now ≡ b.now) }
@@ -44,13 +59,15 @@ pub(crate) fn same_found(a: &Option<Row>, b: &Option<Row>) -> bool
 
 /// Whether both replies are the same, rows and all.
 pub(crate) fn same_reply(a: &Reply, b: &Reply) -> bool
-    ensures { IsTrue result ↔ (a.now ≡ b.now) }
+    ensures { IsTrue result ↔ AreSame a.now b.now }
 {
     match (a, b) {
         (Reply::Done, Reply::Done) => true,
         (Reply::Found(a), Reply::Found(b)) => same_found(a, b),
         (Reply::Committed, Reply::Committed) => true,
         (Reply::RolledBack, Reply::RolledBack) => true,
+        (Reply::Rows(a), Reply::Rows(b)) => same_rows(a.as_slice(), b.as_slice()),
+        (Reply::End, Reply::End) => true,
         (Reply::Refused(a), Reply::Refused(b)) => same_refusal(*a, *b),
         _ => false,
     }

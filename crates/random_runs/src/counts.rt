@@ -8,7 +8,7 @@ use std::io;
 use tuple_header::Tuple;
 
 /// How many kinds there are.
-pub(crate) const KINDS: usize = 25;
+pub(crate) const KINDS: usize = 31;
 
 const NAMES: [&str; KINDS] = [
     "Done",
@@ -16,6 +16,8 @@ const NAMES: [&str; KINDS] = [
     "Found, none",
     "Committed",
     "RolledBack",
+    "Rows",
+    "End",
     "NotOpen",
     "AlreadyOpen",
     "Failed",
@@ -23,13 +25,17 @@ const NAMES: [&str; KINDS] = [
     "NotThere",
     "Conflict",
     "Busy",
+    "CursorOpen",
+    "NoCursor",
     "TooDeep",
     "NoSavepoint",
     "TooLarge",
     "NoRoom",
     "NeedsFreeze",
     "NoSuchPage",
+    "NoSuchIndex",
     "NoSuchSession",
+    "BadBounds",
     "unused slots at the end",
     "redirects",
     "dead slots",
@@ -45,29 +51,33 @@ pub(crate) struct Counts {
 }
 
 fn place_of_refusal(refusal: Refusal) -> Option<usize>
-    ensures { IfSome result (λ place. place < 25) }
+    ensures { IfSome result (λ place. place < 31) }
 {
     match refusal {
-        Refusal::NotOpen => Some(5),
-        Refusal::AlreadyOpen => Some(6),
-        Refusal::Failed => Some(7),
-        Refusal::AlreadyThere => Some(8),
-        Refusal::NotThere => Some(9),
-        Refusal::Conflict => Some(10),
-        Refusal::Busy(_) => Some(11),
-        Refusal::TooDeep => Some(12),
-        Refusal::NoSavepoint => Some(13),
-        Refusal::TooLarge => Some(14),
-        Refusal::NoRoom => Some(15),
-        Refusal::NeedsFreeze => Some(16),
-        Refusal::NoSuchPage => Some(17),
-        Refusal::NoSuchSession => Some(18),
+        Refusal::NotOpen => Some(7),
+        Refusal::AlreadyOpen => Some(8),
+        Refusal::Failed => Some(9),
+        Refusal::AlreadyThere => Some(10),
+        Refusal::NotThere => Some(11),
+        Refusal::Conflict => Some(12),
+        Refusal::Busy(_) => Some(13),
+        Refusal::CursorOpen => Some(14),
+        Refusal::NoCursor => Some(15),
+        Refusal::TooDeep => Some(16),
+        Refusal::NoSavepoint => Some(17),
+        Refusal::TooLarge => Some(18),
+        Refusal::NoRoom => Some(19),
+        Refusal::NeedsFreeze => Some(20),
+        Refusal::NoSuchPage => Some(21),
+        Refusal::NoSuchIndex => Some(22),
+        Refusal::NoSuchSession => Some(23),
+        Refusal::BadBounds => Some(24),
         Refusal::NoMemory => None,
     }
 }
 
 fn place_of_reply(reply: &Reply) -> Option<usize>
-    ensures { IfSome result (λ place. place < 25) }
+    ensures { IfSome result (λ place. place < 31) }
 {
     match reply {
         Reply::Done => Some(0),
@@ -75,29 +85,31 @@ fn place_of_reply(reply: &Reply) -> Option<usize>
         Reply::Found(None) => Some(2),
         Reply::Committed => Some(3),
         Reply::RolledBack => Some(4),
+        Reply::Rows(_) => Some(5),
+        Reply::End => Some(6),
         Reply::Refused(refusal) => place_of_refusal(*refusal),
     }
 }
 
 fn place_of_version(version: &Tuple, page: u32) -> Option<usize>
-    ensures { IfSome result (λ place. place < 25) }
+    ensures { IfSome result (λ place. place < 31) }
 {
     if version.header.ctid.page != page {
-        Some(23)
+        Some(29)
     } else if version.header.is_heap_only() {
-        Some(22)
+        Some(28)
     } else {
         None
     }
 }
 
 fn place_of_slot(slot: &Slot, page: u32) -> Option<usize>
-    ensures { IfSome result (λ place. place < 25) }
+    ensures { IfSome result (λ place. place < 31) }
 {
     match slot {
-        Slot::Unused => Some(19),
-        Slot::Redirect(_) => Some(20),
-        Slot::Dead => Some(21),
+        Slot::Unused => Some(25),
+        Slot::Redirect(_) => Some(26),
+        Slot::Dead => Some(27),
         Slot::Normal(version) => place_of_version(version, page),
     }
 }
@@ -109,7 +121,7 @@ impl Counts {
     }
 
     fn add(&mut self, place: Option<usize>)
-        requires { IfSome place (λ place. place < 25) }
+        requires { IfSome place (λ place. place < 31) }
     {
         if let Some(place) = place {
             self.counts[place] = self.counts[place].saturating_add(1);
@@ -124,7 +136,7 @@ impl Counts {
     /// Counts a session that began beside one with so many children: the snapshot names them where they are at most 64.
     pub(crate) fn add_begun(&mut self, children: u32) {
         if children > 64 {
-            self.add(Some(24));
+            self.add(Some(30));
         }
     }
 

@@ -70,14 +70,26 @@ fn draw_length(generator: &mut Generator) -> u16 {
     }
 }
 
+// A value of a column: mostly one of a few, so that updates often leave it as it is.
+fn draw_column(generator: &mut Generator) -> i64 {
+    match generator.below(16) {
+        0 => generator.number().cast_signed(),
+        1 => i64::MIN,
+        2 => i64::MAX,
+        3 | 4 => -1,
+        5..=8 => 1,
+        _ => 0,
+    }
+}
+
 fn draw_row(generator: &mut Generator, key: u64, length: u16) -> Written {
     Written {
         key,
         cols: [
-            generator.number().cast_signed(),
-            generator.number().cast_signed(),
-            generator.number().cast_signed(),
-            generator.number().cast_signed(),
+            draw_column(generator),
+            draw_column(generator),
+            draw_column(generator),
+            draw_column(generator),
         ],
         from: generator.below(3000) as u16,
         length,
@@ -96,10 +108,47 @@ fn draw_write(generator: &mut Generator, s: u8, key: u64, reads: bool, length: u
     }
 }
 
+// A bound of a cursor: a key, or a number that is none.
+fn draw_bound(generator: &mut Generator) -> i128 {
+    match generator.below(8) {
+        0 => i128::MIN,
+        1 => i128::MAX,
+        2 => -1,
+        _ => i128::from(draw_key(generator)),
+    }
+}
+
+// A cursor, often in the primary index. One in eight has its bounds as they come.
+fn draw_open_index(generator: &mut Generator, s: u8) -> Ask {
+    let index = match generator.below(16) {
+        0 => generator.below(256) as u8,
+        1..=6 => 1 + generator.below(4) as u8,
+        _ => 0,
+    };
+    let low = draw_bound(generator);
+    let high = draw_bound(generator);
+    if high < low && generator.below(8) > 0 {
+        Ask::OpenIndex(s, index, high, low)
+    } else {
+        Ask::OpenIndex(s, index, low, high)
+    }
+}
+
+fn draw_next(generator: &mut Generator, s: u8) -> Ask {
+    let count = match generator.below(16) {
+        0 => 0,
+        1 => 65535,
+        _ => 1 + generator.below(4) as u16,
+    };
+    Ask::Next(s, count)
+}
+
 // Any step, but a beginning seldom.
 fn draw_any(generator: &mut Generator, s: u8, key: u64, reads: bool, pages: u32) -> Ask {
     match generator.below(100) {
-        0..=14 => Ask::Get(s, key),
+        0..=8 => Ask::Get(s, key),
+        9..=12 => draw_open_index(generator, s),
+        13..=14 => Ask::OpenHeap(s),
         15..=69 => {
             let length = draw_length(generator);
             draw_write(generator, s, key, reads, length)
@@ -110,7 +159,19 @@ fn draw_any(generator: &mut Generator, s: u8, key: u64, reads: bool, pages: u32)
         81..=87 => Ask::Commit(s),
         88..=90 => Ask::Abort(s),
         91 => Ask::Begin(s),
+        92 => draw_next(generator, s),
+        93 => Ask::Close(s),
         _ => Ask::Prune(generator.below(pages.saturating_add(1))),
+    }
+}
+
+// A step of a session that has a cursor open: it can read, and seldom asks for anything else.
+fn draw_with_cursor(generator: &mut Generator, s: u8, key: u64, reads: bool, pages: u32) -> Ask {
+    match generator.below(16) {
+        0..=10 => draw_next(generator, s),
+        11 => Ask::Get(s, key),
+        12 | 13 => Ask::Close(s),
+        _ => draw_any(generator, s, key, reads, pages),
     }
 }
 
@@ -120,6 +181,7 @@ pub(crate) fn draw_step(
     s: u8,
     key: u64,
     standing: Standing,
+    has_cursor: bool,
     pages: u32,
 ) -> Ask {
     let choice = generator.below(8);
@@ -128,6 +190,8 @@ pub(crate) fn draw_step(
         Standing::Failed if choice < 2 => Ask::Commit(s),
         Standing::Failed if choice < 4 => Ask::Abort(s),
         Standing::Failed if choice < 6 => Ask::RollbackTo(s),
+        Standing::Reads if has_cursor => draw_with_cursor(generator, s, key, true, pages),
+        Standing::ReadsNone if has_cursor => draw_with_cursor(generator, s, key, false, pages),
         Standing::Reads => draw_any(generator, s, key, true, pages),
         _ => draw_any(generator, s, key, false, pages),
     }

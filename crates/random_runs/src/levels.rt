@@ -72,7 +72,7 @@ impl Levels {
                 self.fill();
                 return lacking;
             }
-            Ask::Get(_, _) | Ask::Prune(_) => {}
+            _ => {}
         }
         0
     }

@@ -9,6 +9,7 @@
 mod ask;
 mod compare;
 mod counts;
+mod cursors;
 mod draw;
 mod generator;
 mod levels;

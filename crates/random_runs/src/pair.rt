@@ -7,9 +7,10 @@ ghost use Rattle.xid_circle.specs.Circle.{IsNormal, distance_of};
 
 use crate::ask::{Ask, Bodies};
 use crate::compare::{same_found, same_reply};
+use crate::cursors::{Cursor, hand_out};
 use crate::draw::{KEYS, Standing};
 use crate::levels::Levels;
-use crate::plain_side::{answer, answer_to_too_large, answer_without_writing, refusal_of};
+use crate::plain_side::{all_rows, answer, answer_without_writing, refusal_of, refused_or};
 use page_slots::Page;
 use plain_history::{PlainHistory, Refused};
 use session_core::{Engine, Refusal, Reply, Settings};
@@ -37,6 +38,8 @@ pub(crate) struct Pair {
     settings: Settings,
     // Those of each session that is open.
     levels: Vec<Levels>,
+    // That of each session.
+    cursors: Vec<Cursor>,
 }
 
 // What was so before a step.
@@ -78,6 +81,23 @@ fn no_levels(alloc: Global) -> Result<Vec<Levels>, AllocError> {
     Ok(levels)
 }
 
+fn no_cursors(alloc: Global) -> Result<Vec<Cursor>, AllocError> {
+    let mut cursors = Vec::new(alloc);
+    for _ in 0..64usize {
+        cursors.push(Cursor::None)?;
+    }
+    Ok(cursors)
+}
+
+// Whether there is an index of this number: 0 is the primary index, and c + 1 that of column c.
+fn has_index(settings: &Settings, index: u8) -> bool {
+    match index {
+        0 => true,
+        1..=4 => settings.indexed[index as usize - 1],
+        _ => false,
+    }
+}
+
 // Whether the page is in use, and a version of this size does not fit.
 fn is_full_page(page: Option<&Page>, size: usize) -> bool
     ensures { IsTrue result ↔ IsFull (option_copied page.entry) size }
@@ -102,7 +122,7 @@ impl Pair {
         let Ok(plain) = PlainHistory::new(alloc) else {
             return Err(Difference::NoMemory);
         };
-        let Ok(levels) = no_levels(alloc) else {
+        let (Ok(levels), Ok(cursors)) = (no_levels(alloc), no_cursors(alloc)) else {
             return Err(Difference::NoMemory);
         };
         Ok(Pair {
@@ -110,6 +130,7 @@ impl Pair {
             plain,
             settings,
             levels,
+            cursors,
         })
     }
 
@@ -140,6 +161,14 @@ impl Pair {
     /// How many levels of the session have no id.
     pub(crate) fn lacking(&self, s: u8) -> usize {
         self.levels(s).map_or(0, |levels| levels.lacking())
+    }
+
+    /// Whether the session has a cursor open.
+    pub(crate) fn has_cursor(&self, s: u8) -> bool {
+        matches!(
+            self.cursors.get(s as usize),
+            Some(Cursor::Index | Cursor::Heap(_))
+        )
     }
 
     // Whether the step would need ids, and not as many may be given.
@@ -193,7 +222,7 @@ impl Pair {
     ) -> Option<Reply> {
         if let Some(written) = ask.written() {
             if written.is_too_large() {
-                return answer_to_too_large(&mut self.plain, s);
+                return refused_or(&mut self.plain, s, Refusal::TooLarge);
             }
         }
         let lack = if before.needs_freeze {
@@ -209,9 +238,27 @@ impl Pair {
         }
     }
 
+    // What the engine has to reply to a request for more rows, where it has replied this. The plain program has handed out
+    // all rows of a heap cursor already.
+    fn expected_of_next(
+        &mut self,
+        alloc: Global,
+        bodies: &Bodies,
+        s: u8,
+        ask: Ask,
+        reply: &Reply,
+    ) -> Option<Reply> {
+        let answered = answer(&mut self.plain, bodies, ask);
+        match (&answered, self.cursors.get_mut(s as usize)) {
+            (Some(Reply::End), Some(Cursor::Heap(rest))) => hand_out(alloc, rest, reply).ok(),
+            _ => answered,
+        }
+    }
+
     // What the engine has to reply, where it has replied this.
     fn expected(
         &mut self,
+        alloc: Global,
         bodies: &Bodies,
         ask: Ask,
         before: Before,
@@ -228,7 +275,31 @@ impl Pair {
                     Some(Reply::Refused(Refusal::NoSuchPage))
                 }
             }
+            Ask::OpenIndex(s, index, _, _) if !has_index(&self.settings, index) => {
+                refused_or(&mut self.plain, s, Refusal::NoSuchIndex)
+            }
+            Ask::Next(s, _) => self.expected_of_next(alloc, bodies, s, ask, reply),
             _ => answer(&mut self.plain, bodies, ask),
+        }
+    }
+
+    // The cursor that the session has after a step that was done, if the step says so.
+    fn cursor_after(&mut self, alloc: Global, ask: Ask) -> Option<Cursor> {
+        match ask {
+            Ask::OpenIndex(_, _, _, _) => Some(Cursor::Index),
+            Ask::OpenHeap(s) => Some(Cursor::Heap(all_rows(alloc, &mut self.plain, s))),
+            Ask::Begin(_) | Ask::Close(_) | Ask::Commit(_) | Ask::Abort(_) => Some(Cursor::None),
+            _ => None,
+        }
+    }
+
+    fn note_cursor(&mut self, alloc: Global, ask: Ask, reply: &Reply) {
+        if let (true, Some(s)) = (is_done(reply), ask.session()) {
+            if let Some(now) = self.cursor_after(alloc, ask) {
+                if let Some(cursor) = self.cursors.get_mut(s as usize) {
+                    *cursor = now;
+                }
+            }
         }
     }
 
@@ -260,7 +331,7 @@ impl Pair {
             // The engine's session has failed, and reads on. That of the plain program has not yet.
             self.compare_views(&[s])?;
         }
-        let Some(expected) = self.expected(bodies, ask, before, &reply) else {
+        let Some(expected) = self.expected(alloc, bodies, ask, before, &reply) else {
             return Err(Difference::Reply(reply, None));
         };
         if !same_reply(&reply, &expected) {
@@ -271,6 +342,7 @@ impl Pair {
         if ids != expected_ids {
             return Err(Difference::Ids(ids, expected_ids));
         }
+        self.note_cursor(alloc, ask, &reply);
         Ok(reply)
     }
 

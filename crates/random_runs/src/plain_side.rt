@@ -3,13 +3,16 @@
 ghost use Rattle.std.specs.Prelude.{◌≡◌, ◌↔◌, ℕ, Some, None};
 
 use crate::ask::{Ask, Bodies};
-use plain_history::{Outcome, PlainHistory, Refused};
+use plain_history::{Handed, Outcome, PlainHistory, Refused};
 use session_core::{Refusal, Reply, Row};
+use std::alloc::Global;
 
 /// The engine's word for a refusal, where it has one: the same.
 pub(crate) fn refusal_of(why: Refused) -> Option<Refusal>
     ensures busy { (o : ℕ) → why ≡ Refused.Busy o → result ≡ Some (Refusal.Busy o) }
     ensures conflict { (why ≡ Refused.Conflict) ↔ (result ≡ Some Refusal.Conflict) }
+    ensures cursor_open { (why ≡ Refused.CursorOpen) ↔ (result ≡ Some Refusal.CursorOpen) }
+    ensures no_cursor { (why ≡ Refused.NoCursor) ↔ (result ≡ Some Refusal.NoCursor) }
     ensures too_deep { (why ≡ Refused.TooDeep) ↔ (result ≡ Some Refusal.TooDeep) }
     ensures no_savepoint { (why ≡ Refused.NoSavepoint) ↔ (result ≡ Some Refusal.NoSavepoint) }
     ensures deadlock { why ≡ Refused.Deadlock → result ≡ None }
@@ -23,8 +26,11 @@ pub(crate) fn refusal_of(why: Refused) -> Option<Refusal>
         Refused::NotThere => Some(Refusal::NotThere),
         Refused::Conflict => Some(Refusal::Conflict),
         Refused::Busy(o) => Some(Refusal::Busy(o)),
+        Refused::CursorOpen => Some(Refusal::CursorOpen),
+        Refused::NoCursor => Some(Refusal::NoCursor),
         Refused::TooDeep => Some(Refusal::TooDeep),
         Refused::NoSavepoint => Some(Refusal::NoSavepoint),
+        Refused::BadBounds => Some(Refusal::BadBounds),
         _ => None,
     }
 }
@@ -58,6 +64,15 @@ fn ended(answered: Result<Outcome, Refused>) -> Option<Reply> {
 fn rolled_back(answered: Result<(), Refused>) -> Option<Reply> {
     match answered {
         Ok(()) => Some(Reply::RolledBack),
+        Err(why) => refused(why),
+    }
+}
+
+fn handed(answered: Result<Handed, Refused>) -> Option<Reply> {
+    match answered {
+        Ok(Handed::Rows(rows)) => Some(Reply::Rows(rows)),
+        Ok(Handed::Keys(_)) => None,
+        Ok(Handed::End) => Some(Reply::End),
         Err(why) => refused(why),
     }
 }
@@ -97,6 +112,10 @@ pub(crate) fn answer(plain: &mut PlainHistory, bodies: &Bodies, ask: Ask) -> Opt
         Ask::Release(s) => done(plain.release(s)),
         Ask::Commit(s) => ended(plain.commit(s)),
         Ask::Abort(s) => rolled_back(plain.abort(s)),
+        Ask::OpenIndex(s, index, low, high) => done(plain.open_index(s, index, low, high)),
+        Ask::OpenHeap(s) => done(plain.open_heap(s)),
+        Ask::Next(s, count) => handed(plain.next(s, count)),
+        Ask::Close(s) => done(plain.close(s)),
         Ask::Prune(_) => None,
     }
 }
@@ -119,10 +138,20 @@ pub(crate) fn answer_without_writing(
     }
 }
 
-/// What the plain program answers to the session's write of a row that is too large.
-pub(crate) fn answer_to_too_large(plain: &mut PlainHistory, s: u8) -> Option<Reply> {
-    match plain.get(s, 0) {
-        Ok(_) => Some(Reply::Refused(Refusal::TooLarge)),
+/// What the plain program answers where the session may not write as it stands, and else this refusal.
+pub(crate) fn refused_or(plain: &mut PlainHistory, s: u8, refusal: Refusal) -> Option<Reply> {
+    // That the bounds are bad is seen last.
+    match plain.open_index(s, 0, 1, 0) {
+        Err(Refused::BadBounds) => Some(Reply::Refused(refusal)),
         Err(why) => refused(why),
+        Ok(()) => None,
+    }
+}
+
+/// All rows of the session's cursor.
+pub(crate) fn all_rows(alloc: Global, plain: &mut PlainHistory, s: u8) -> Vec<Row> {
+    match plain.next(s, u16::MAX) {
+        Ok(Handed::Rows(rows)) => rows,
+        _ => Vec::new(alloc),
     }
 }

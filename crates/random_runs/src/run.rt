@@ -49,7 +49,7 @@ fn settings_of(run: u64) -> Settings {
         freeze_min_age: 0,
         first_xid: FIRST_IDS[(run / 4 % 4) as usize],
         dead_limit: 64,
-        indexed: [false; 4],
+        indexed: [run % 3 == 1, run % 3 == 2, false, run % 6 == 1],
     }
 }
 
@@ -90,7 +90,9 @@ fn draw_ask(generator: &mut Generator, pair: &mut Pair, run: u64) -> Ask {
     let s = draw_session(generator, sessions_of(run));
     let key = draw_key(generator);
     let standing = pair.standing(s, key);
-    draw_step(generator, s, key, standing, settings_of(run).max_pages)
+    let has_cursor = pair.has_cursor(s);
+    let pages = settings_of(run).max_pages;
+    draw_step(generator, s, key, standing, has_cursor, pages)
 }
 
 fn count(counts: &mut Counts, pair: &Pair, ask: Ask, reply: &Reply) {

@@ -1,6 +1,6 @@
 -- What is read is spelled so, and what is spelled so is read.
 use Rattle.std.proofs.Common.{◌≡◌, ℕ, ℤ, pos, negsuc, ◌+◌, ◌-◌, ◌*◌, ◌/◌, ◌%◌, ◌^◌, ◌<◌, ◌≤◌, suc, List, [], ◌∷◌, ◌++◌, length, drop, get_or, refl, ap, append_assoc, ◌∙◌, sym, subst, arith, Option, None, Some, Bool, true, false, cond, eqb, nat_lt, nat_le, ◌&&◌, leb-true, le-leb, ◌⊎◌, inl, inr, codes}
-use Rattle.std.specs.Int.{w64}
+use Rattle.std.specs.Int.{w64, w128}
 use Rattle.std.specs.Prelude.{FitsSigned}
 use Rattle.std.specs.Option.{option_map}
 use Rattle.std.specs.List.{flat_map, find, AllByRecursion}
@@ -12,97 +12,23 @@ use Rattle.std.proofs.lemmas.Slice.Eq.{bytes_eq-Decides}
 use Rattle.std.proofs.lemmas.Bool.{lt-leb, cases_lt}
 use Rattle.std.proofs.lemmas.List.{nil_from_length, append-nil}
 use Rattle.std.proofs.lemmas.Int.{ints}
-use Rattle.script.specs.Engine.{Begin, Get, Insert, Update, Delete, Savepoint, RollbackTo, Release, Commit, Abort, Prune, RowText}
+use Rattle.script.specs.Engine.{Begin, Get, Insert, Update, Delete, Savepoint, RollbackTo, Release, Commit, Abort, OpenIndex, OpenHeap, Next, Close, Prune, RowText}
 use Rattle.script.specs.declared.line.Line.{Line}
 use Rattle.script.specs.declared.line.Line.TheVariants.{Do, Ids, Page, Entries}
 use Rattle.script.specs.declared.line.Verb.{Verb}
-use Rattle.script.specs.declared.line.Verb.TheVariants.{Get as get_verb, Begin as begin_verb, Commit as commit_verb, Insert as insert_verb, Update as update_verb, Delete as delete_verb, Savepoint as savepoint_verb, RollbackTo as rollback_verb, Release as release_verb, Abort as abort_verb, Prune as prune_verb, Page as page_verb, Entries as entries_verb}
-use Rattle.script.specs.Verbs.{verb_of, verb_text}
-use Rattle.script.specs.Grammar.{Fits, KeyFits, RowFits, spelling, spaced, hex_text, body_text, row_text, key_words, row_words}
-use Rattle.script.specs.Reading.{line_at, line_of, cut, number_of, number_then, column_of, column_then, nibble_of, pair_and, pairs_of, body_of, row_words_of, key_words_of}
+use Rattle.script.specs.declared.line.Verb.TheVariants.{Get as get_verb, Begin as begin_verb, Commit as commit_verb, Insert as insert_verb, Update as update_verb, Delete as delete_verb, Savepoint as savepoint_verb, RollbackTo as rollback_verb, Release as release_verb, Abort as abort_verb, OpenIndex as openindex_verb, OpenHeap as openheap_verb, Next as next_verb, Close as close_verb, Prune as prune_verb, Page as page_verb, Entries as entries_verb}
+use Rattle.script.specs.Verbs.{verb_of, verb_text, usual_verbs, other_verbs}
+use Rattle.script.specs.Grammar.{Fits, KeyFits, RowFits, RangeFits, spelling, spaced, hex_text, body_text, row_text, key_words, row_words, range_words}
+use Rattle.script.specs.Reading.{line_at, line_of, cut, number_of, number_then, column_then, bound_of, bound_then, nibble_of, pair_and, pairs_of, body_of, row_words_of, key_words_of, count_words_of, range_words_of}
 use Rattle.script.proofs.ByteLemmas.{Free, Free-append}
 use Rattle.script.proofs.NumberLaws.{guarded, unguarded, bound, mapped, both_true, cut_says, cut-free, number_of_says, number_of-decimal, number_then_says, number_then-decimal, decimal_free}
-
-minus_first : (w : List ℕ) → eqb (get_or w 0 0) 45 ≡ true → get_or w 0 0 ≡ 45
-minus_first w e = grind (arith, nat_tests)
-
-front_is : (w : List ℕ) (x : ℕ) → get_or w 0 0 ≡ suc x → w ≡ suc x ∷ drop 1 w
-front_is [] x e = cc
-front_is (y ∷ ys) x e = ap (λ v. v ∷ ys) e
-
-column_cases : (w : List ℕ) (z : ℤ) (t : Bool) → eqb (get_or w 0 0) 45 ≡ t → column_of w ≡ Some z → (w ≡ signed_decimal z) × FitsSigned w64 z
-unfolding column_of
-column_cases w z true e h =
-    let h' = rw e at h in
-    let n = bound (number_of (2 ^ 63) (drop 1 w)) _ z h' in
-    let says = number_of_says (2 ^ 63) (drop 1 w) n.0 (omega arith) n.1 in
-    let g = unguarded (eqb n.0 0) (Some (negsuc (n.0 - 1))) z n.2 in
-    let some : 0 < n.0 = let e = g.0 in grind (arith, nat_tests) in
-    let back : suc (n.0 - 1) ≡ n.0 = omega arith in
-    let z_is = same_Some (negsuc (n.0 - 1)) z g.1 in
-    let text : w ≡ 45 ∷ drop 1 w = front_is w 44 (minus_first w e) in
-    rw (← z_is) (text ∙ ap (λ r. 45 ∷ r) (says.0 ∙ ap decimal (sym back)), omega (arith, says.1))
-column_cases w z false e h =
-    let h' = rw e at h in
-    let n = mapped (number_of (2 ^ 63 - 1) w) (λ n. pos n) z h' in
-    let says = number_of_says (2 ^ 63 - 1) w n.0 (omega arith) n.1 in
-    rw (← n.2) (says.0, omega (arith, says.1))
-
-pub column_of_says : (w : List ℕ) (z : ℤ) → column_of w ≡ Some z → (w ≡ signed_decimal z) × FitsSigned w64 z
-column_of_says w z h = column_cases w z (eqb (get_or w 0 0) 45) refl h
-
-free_head : (xs : List ℕ) → Free 45 xs → eqb (get_or xs 0 0) 45 ≡ false
-free_head [] h = refl
-free_head (b ∷ bs) h = h.0
-
-not_minus : (n : ℕ) → n < 2 ^ 64 → eqb (get_or (decimal n) 0 0) 45 ≡ false
-not_minus n fits = free_head (decimal n) (decimal_free 45 n (omega arith) fits)
-
-fits_pos : (n : ℕ) → FitsSigned w64 (pos n) → n < 2 ^ 63
-fits_pos n h = omega (arith, ints, h)
-
-fits_neg : (n : ℕ) → FitsSigned w64 (negsuc n) → n < 2 ^ 63
-fits_neg n h = h.sfits
+use Rattle.script.proofs.SignedLaws.{signed_free, column_then_says, column_then-signed, bound_free, bound_of_says, bound_of-signed, bound_then_says, bound_then-signed}
 
 pair_is : (x y a b : ℕ) (xs ys : List ℕ) → x ≡ a → y ≡ b → xs ≡ ys → x ∷ y ∷ xs ≡ a ∷ b ∷ ys
 pair_is x y a b xs ys e f g = cc
 
 one_is : (x a : ℕ) (xs : List ℕ) → x ≡ a → xs ≡ [] → x ∷ xs ≡ a ∷ []
 one_is x a xs e f = cc
-
-pub column_of-signed : (z : ℤ) → FitsSigned w64 z → column_of (signed_decimal z) ≡ Some z
-unfolding column_of
-column_of-signed (pos n) h =
-    let fits : n < 2 ^ 63 = fits_pos n h in
-    let plus = not_minus n (omega arith) in
-    rw (plus, number_of-decimal (2 ^ 63 - 1) n (omega arith) (omega arith)) refl
-column_of-signed (negsuc n) h =
-    let fits : n < 2 ^ 63 = fits_neg n h in
-    let some : eqb (suc n) 0 ≡ false = grind (arith, nat_tests) in
-    let back : suc n - 1 ≡ n = omega arith in
-    rw (number_of-decimal (2 ^ 63) (suc n) (omega arith) (omega arith)) (rw (some, back) refl)
-
-pub signed_free : (x : ℕ) (z : ℤ) → x < 45 → FitsSigned w64 z → Free x (signed_decimal z)
-signed_free x (pos n) low h = let fits : n < 2 ^ 63 = fits_pos n h in decimal_free x n (omega arith) (omega arith)
-signed_free x (negsuc n) low h =
-    let fits : n < 2 ^ 63 = fits_neg n h in
-    let far : eqb 45 x ≡ false = grind (arith, nat_tests) in
-    (far, decimal_free x (suc n) (omega arith) (omega arith))
-
-pub column_then_says : (xs : List ℕ) (z : ℤ) (rest : List ℕ) → column_then xs ≡ Some (z, rest) → (xs ≡ signed_decimal z ++ 32 ∷ rest) × FitsSigned w64 z
-unfolding column_then
-column_then_says xs z rest h =
-    let p = bound (cut xs) _ _ h in
-    let k = bound (column_of p.0.0) _ _ p.2 in
-    let says = column_of_says p.0.0 k.0 k.1 in
-    let same = same_Some _ _ k.2 in
-    let z_is : k.0 ≡ z = ap (λ (q : ℤ × List ℕ). q.0) same in
-    let rest_is : p.0.1 ≡ rest = ap (λ (q : ℤ × List ℕ). q.1) same in
-    (cut_says xs p.0.0 p.0.1 p.1 ∙ rw (says.0, z_is, rest_is) refl, rw (← z_is) says.1)
-
-pub column_then-signed : (z : ℤ) (rest : List ℕ) → FitsSigned w64 z → column_then (signed_decimal z ++ 32 ∷ rest) ≡ Some (z, rest)
-unfolding column_then
-column_then-signed z rest h = rw (cut-free (signed_decimal z) rest (signed_free 32 z (omega arith) h), column_of-signed z h) refl
 
 chosen : {A : Type 0} (b : Bool) (x y z : A) → cond b x y ≡ z → ((b ≡ true) × (x ≡ z)) ⊎ ((b ≡ false) × (y ≡ z))
 chosen true x y z h = inl (refl, h)
@@ -214,6 +140,34 @@ key_words_of_says xs p h =
     let k_is = number_of_says (2 ^ 64 - 1) s.0.1 k.0 (omega arith) k.1 in
     rw (← same_Some _ p k.2) ((omega (arith, s_is.1), omega (arith, k_is.1)), s_is.0 ∙ ap (λ r. decimal s.0.0 ++ spaced r) k_is.0)
 
+count_words_of_says : (xs : List ℕ) (p : ℕ × ℕ) → count_words_of xs ≡ Some p → (p.0 < 2 ^ 8) × (p.1 < 2 ^ 16) × (xs ≡ key_words p.0 p.1)
+unfolding count_words_of
+count_words_of_says xs p h =
+    let s = bound (number_then 255 xs) _ p h in
+    let n = bound (number_of 65535 s.0.1) _ p s.2 in
+    let s_is = number_then_says 255 xs s.0.0 s.0.1 (omega arith) s.1 in
+    let n_is = number_of_says 65535 s.0.1 n.0 (omega arith) n.1 in
+    rw (← same_Some _ p n.2) (omega (arith, s_is.1), omega (arith, n_is.1), s_is.0 ∙ ap (λ r. decimal s.0.0 ++ spaced r) n_is.0)
+
+range_chain : (xs r0 r1 r2 ds di sl sh : List ℕ) → xs ≡ ds ++ 32 ∷ r0 → r0 ≡ di ++ 32 ∷ r1 → r1 ≡ sl ++ 32 ∷ r2 → r2 ≡ sh → xs ≡ ds ++ 32 ∷ (di ++ 32 ∷ (sl ++ 32 ∷ sh))
+range_chain xs r0 r1 r2 ds di sl sh a b c d = cc
+
+range_words_of_says : (xs : List ℕ) (p : ℕ × ℕ × ℤ × ℤ) → range_words_of xs ≡ Some p → RangeFits p.0 p.1 p.2 p.3 × (xs ≡ range_words p.0 p.1 p.2 p.3)
+unfolding range_words_of
+range_words_of_says xs p h =
+    let s = bound (number_then 255 xs) _ p h in
+    let i = bound (number_then 255 s.0.1) _ p s.2 in
+    let low = bound (bound_then i.0.1) _ p i.2 in
+    let high = bound (bound_of low.0.1) _ p low.2 in
+    let s_is = number_then_says 255 xs s.0.0 s.0.1 (omega arith) s.1 in
+    let i_is = number_then_says 255 s.0.1 i.0.0 i.0.1 (omega arith) i.1 in
+    let low_is = bound_then_says i.0.1 low.0.0 low.0.1 low.1 in
+    let high_is = bound_of_says low.0.1 high.0 high.1 in
+    rw (← same_Some _ p high.2) (
+      (omega (arith, s_is.1), omega (arith, i_is.1), low_is.1, high_is.1),
+      range_chain xs s.0.1 i.0.1 low.0.1 (decimal s.0.0) (decimal i.0.0) (signed_decimal low.0.0) (signed_decimal high.0) s_is.0 i_is.0 low_is.0 high_is.0,
+    )
+
 pub row_chain : (xs r0 r1 r2 r3 r4 r5 ds dk s0 s1 s2 s3 sb : List ℕ) → xs ≡ ds ++ 32 ∷ r0 → r0 ≡ dk ++ 32 ∷ r1 → r1 ≡ s0 ++ 32 ∷ r2 → r2 ≡ s1 ++ 32 ∷ r3 → r3 ≡ s2 ++ 32 ∷ r4 → r4 ≡ s3 ++ 32 ∷ r5 → r5 ≡ sb
     → xs ≡ ds ++ 32 ∷ (dk ++ 32 ∷ (s0 ++ 32 ∷ (s1 ++ 32 ∷ (s2 ++ 32 ∷ (s3 ++ 32 ∷ sb)))))
 row_chain xs r0 r1 r2 r3 r4 r5 ds dk s0 s1 s2 s3 sb a b c d e f g = cc
@@ -253,7 +207,7 @@ pub verb_is : (v w : List ℕ) → bytes_eq v w ≡ true → v ≡ w
 verb_is v w h = (bytes_eq-Decides v w).0 h
 
 -- what a verb and one number ask for
-one_number : (verb : List ℕ) (max : ℕ) (make : ℕ → Line) (rest : List ℕ) (l : Line) → max < 2 ^ 64 → option_map make (number_of max rest) ≡ Some l
+one_number : (verb : List ℕ) (max : ℕ) (make : ℕ → Line) (rest : List ℕ) (l : Line) → max < 10 ^ 64 → option_map make (number_of max rest) ≡ Some l
     → (s : ℕ) × (s ≤ max) × (make s ≡ l) × (verb ++ spaced rest ≡ verb ++ spaced (decimal s))
 one_number verb max make rest l fits h =
     let m = mapped (number_of max rest) make l h in
@@ -266,6 +220,20 @@ one_key : (verb : List ℕ) (make : ℕ × ℕ → Line) (rest : List ℕ) (l : 
 one_key verb make rest l h =
     let m = mapped (key_words_of rest) make l h in
     let says = key_words_of_says rest m.0 m.1 in
+    (m.0, says.0, m.2, ap (λ r. verb ++ spaced r) says.1)
+
+one_count : (verb : List ℕ) (make : ℕ × ℕ → Line) (rest : List ℕ) (l : Line) → option_map make (count_words_of rest) ≡ Some l
+    → (p : ℕ × ℕ) × (p.0 < 2 ^ 8) × (p.1 < 2 ^ 16) × (make p ≡ l) × (verb ++ spaced rest ≡ verb ++ spaced (key_words p.0 p.1))
+one_count verb make rest l h =
+    let m = mapped (count_words_of rest) make l h in
+    let says = count_words_of_says rest m.0 m.1 in
+    (m.0, says.0, says.1, m.2, ap (λ r. verb ++ spaced r) says.2)
+
+one_range : (verb : List ℕ) (make : ℕ × ℕ × ℤ × ℤ → Line) (rest : List ℕ) (l : Line) → option_map make (range_words_of rest) ≡ Some l
+    → (p : ℕ × ℕ × ℤ × ℤ) × RangeFits p.0 p.1 p.2 p.3 × (make p ≡ l) × (verb ++ spaced rest ≡ verb ++ spaced (range_words p.0 p.1 p.2 p.3))
+one_range verb make rest l h =
+    let m = mapped (range_words_of rest) make l h in
+    let says = range_words_of_says rest m.0 m.1 in
     (m.0, says.0, m.2, ap (λ r. verb ++ spaced r) says.1)
 
 one_row : (verb : List ℕ) (make : ℕ × RowText → Line) (rest : List ℕ) (l : Line) → option_map make (row_words_of rest) ≡ Some l
@@ -286,6 +254,10 @@ line_of_says savepoint_verb rest l h = let m = one_number (codes "savepoint") 25
 line_of_says rollback_verb rest l h = let m = one_number (codes "rollbackto") 255 (λ s. Do (RollbackTo s)) rest l (omega arith) h in rw (← m.2) (omega (arith, m.1), m.3)
 line_of_says release_verb rest l h = let m = one_number (codes "release") 255 (λ s. Do (Release s)) rest l (omega arith) h in rw (← m.2) (omega (arith, m.1), m.3)
 line_of_says abort_verb rest l h = let m = one_number (codes "abort") 255 (λ s. Do (Abort s)) rest l (omega arith) h in rw (← m.2) (omega (arith, m.1), m.3)
+line_of_says openindex_verb rest l h = let m = one_range (codes "openindex") (λ p. Do (OpenIndex p.0 p.1 p.2 p.3)) rest l h in rw (← m.2) (m.1, m.3)
+line_of_says openheap_verb rest l h = let m = one_number (codes "openheap") 255 (λ s. Do (OpenHeap s)) rest l (omega arith) h in rw (← m.2) (omega (arith, m.1), m.3)
+line_of_says next_verb rest l h = let m = one_count (codes "next") (λ p. Do (Next p.0 p.1)) rest l h in rw (← m.3) ((m.1, m.2), m.4)
+line_of_says close_verb rest l h = let m = one_number (codes "close") 255 (λ s. Do (Close s)) rest l (omega arith) h in rw (← m.2) (omega (arith, m.1), m.3)
 line_of_says prune_verb rest l h = let m = one_number (codes "prune") 4294967295 (λ p. Do (Prune p)) rest l (omega arith) h in rw (← m.2) (omega (arith, m.1), m.3)
 line_of_says page_verb rest l h = let m = one_number (codes "page") 4294967295 (λ p. Page p) rest l (omega arith) h in rw (← m.2) (omega (arith, m.1), m.3)
 line_of_says entries_verb rest l h = let m = one_number (codes "entries") 255 (λ i. Entries i) rest l (omega arith) h in rw (← m.2) (omega (arith, m.1), m.3)
@@ -299,7 +271,7 @@ find_says p (x ∷ xs) y h = elim (chosen (p x) (Some x) (find p xs) (Some y) h)
 
 -- the verb that a word is found to be spells that word
 verb_of_says : (w : List ℕ) (verb : Verb) → verb_of w ≡ Some verb → w ≡ verb_text verb
-verb_of_says w verb h = verb_is w (verb_text verb) (find_says (λ verb. bytes_eq w (verb_text verb)) (get_verb ∷ begin_verb ∷ commit_verb ∷ insert_verb ∷ update_verb ∷ delete_verb ∷ savepoint_verb ∷ rollback_verb ∷ release_verb ∷ abort_verb ∷ prune_verb ∷ page_verb ∷ entries_verb ∷ []) verb h)
+verb_of_says w verb h = verb_is w (verb_text verb) (find_says (λ verb. bytes_eq w (verb_text verb)) (usual_verbs ++ other_verbs) verb h)
 
 pub line_at_says : (w : List ℕ) (l : Line) → line_at w ≡ Some l → Fits l × (w ≡ spelling l)
 unfolding line_at
@@ -359,6 +331,20 @@ key_words_of-words : (s k : ℕ) → s < 2 ^ 8 → k < 2 ^ 64 → key_words_of (
 unfolding key_words_of
 key_words_of-words s k hs hk = rw (number_then-decimal 255 s (decimal k) (omega arith) (omega arith), number_of-decimal (2 ^ 64 - 1) k (omega arith) (omega arith)) refl
 
+count_words_of-words : (s n : ℕ) → s < 2 ^ 8 → n < 2 ^ 16 → count_words_of (key_words s n) ≡ Some (s, n)
+unfolding count_words_of
+count_words_of-words s n hs hn = rw (number_then-decimal 255 s (decimal n) (omega arith) (omega arith), number_of-decimal 65535 n (omega arith) (omega arith)) refl
+
+range_words_of-words : (s index : ℕ) (low high : ℤ) → RangeFits s index low high → range_words_of (range_words s index low high) ≡ Some (s, index, low, high)
+unfolding range_words_of
+range_words_of-words s index low high h =
+    rw (
+      number_then-decimal 255 s (decimal index ++ 32 ∷ (signed_decimal low ++ 32 ∷ signed_decimal high)) (omega (arith, h.0)) (omega arith),
+      number_then-decimal 255 index (signed_decimal low ++ 32 ∷ signed_decimal high) (omega (arith, h.1)) (omega arith),
+      bound_then-signed low (signed_decimal high) h.2,
+      bound_of-signed high h.3,
+    ) refl
+
 ids_line : line_at (codes "ids") ≡ Some Ids
 unfolding line_at
 ids_line = refl
@@ -384,6 +370,14 @@ line_at-spelling (Do (Commit s)) h =
     with_verb commit_verb (decimal s) (refl, (refl, (refl, (refl, (refl, (refl, tt)))))) refl refl ∙ ap (λ (o : Option ℕ). option_map (λ s. Do (Commit s)) o) (number_of-decimal 255 s (omega arith) (omega arith))
 line_at-spelling (Do (Abort s)) h =
     with_verb abort_verb (decimal s) (refl, (refl, (refl, (refl, (refl, tt))))) refl refl ∙ ap (λ (o : Option ℕ). option_map (λ s. Do (Abort s)) o) (number_of-decimal 255 s (omega arith) (omega arith))
+line_at-spelling (Do (OpenIndex s index low high)) h =
+    with_verb openindex_verb (range_words s index low high) (refl, (refl, (refl, (refl, (refl, (refl, (refl, (refl, (refl, tt))))))))) refl refl ∙ ap (λ (o : Option (ℕ × ℕ × ℤ × ℤ)). option_map (λ p. Do (OpenIndex p.0 p.1 p.2 p.3)) o) (range_words_of-words s index low high h)
+line_at-spelling (Do (OpenHeap s)) h =
+    with_verb openheap_verb (decimal s) (refl, (refl, (refl, (refl, (refl, (refl, (refl, (refl, tt)))))))) refl refl ∙ ap (λ (o : Option ℕ). option_map (λ s. Do (OpenHeap s)) o) (number_of-decimal 255 s (omega arith) (omega arith))
+line_at-spelling (Do (Next s n)) h =
+    with_verb next_verb (key_words s n) (refl, (refl, (refl, (refl, tt)))) refl refl ∙ ap (λ (o : Option (ℕ × ℕ)). option_map (λ p. Do (Next p.0 p.1)) o) (count_words_of-words s n h.0 h.1)
+line_at-spelling (Do (Close s)) h =
+    with_verb close_verb (decimal s) (refl, (refl, (refl, (refl, (refl, tt))))) refl refl ∙ ap (λ (o : Option ℕ). option_map (λ s. Do (Close s)) o) (number_of-decimal 255 s (omega arith) (omega arith))
 line_at-spelling (Do (Prune p)) h =
     with_verb prune_verb (decimal p) (refl, (refl, (refl, (refl, (refl, tt))))) refl refl ∙ ap (λ (o : Option ℕ). option_map (λ p. Do (Prune p)) o) (number_of-decimal 4294967295 p (omega arith) (omega arith))
 line_at-spelling Ids h = ids_line
@@ -414,10 +408,10 @@ body_free [] h = (refl, tt)
 body_free (b ∷ bs) h = hex_free (b ∷ bs) h
 
 one_free : (n : ℕ) → n < 2 ^ 64 → Free 10 (spaced (decimal n))
-one_free n h = (refl, decimal_free 10 n (omega arith) h)
+one_free n h = (refl, decimal_free 10 n (omega arith) (omega arith))
 
 row_free : (row : RowText) → row.key < 2 ^ 64 → AllByRecursion (λ c. FitsSigned w64 c) row.cols → AllByRecursion (λ b. b < 2 ^ 8) row.body → Free 10 (row_text row.key row.cols row.body)
-row_free row k cols body = Free-append 10 (decimal row.key) _ (decimal_free 10 row.key (omega arith) k) (Free-append 10 _ (spaced (body_text row.body)) (columns_free row.cols cols) (refl, body_free row.body body))
+row_free row k cols body = Free-append 10 (decimal row.key) _ (decimal_free 10 row.key (omega arith) (omega (arith, k))) (Free-append 10 _ (spaced (body_text row.body)) (columns_free row.cols cols) (refl, body_free row.body body))
 
 verb_free : (verb : Verb) → Free 10 (verb_text verb)
 verb_free get_verb = (refl, (refl, (refl, tt)))
@@ -430,12 +424,26 @@ verb_free savepoint_verb = (refl, (refl, (refl, (refl, (refl, (refl, (refl, (ref
 verb_free rollback_verb = (refl, (refl, (refl, (refl, (refl, (refl, (refl, (refl, (refl, (refl, tt))))))))))
 verb_free release_verb = (refl, (refl, (refl, (refl, (refl, (refl, (refl, tt)))))))
 verb_free abort_verb = (refl, (refl, (refl, (refl, (refl, tt)))))
+verb_free openindex_verb = (refl, (refl, (refl, (refl, (refl, (refl, (refl, (refl, (refl, tt)))))))))
+verb_free openheap_verb = (refl, (refl, (refl, (refl, (refl, (refl, (refl, (refl, tt))))))))
+verb_free next_verb = (refl, (refl, (refl, (refl, tt))))
+verb_free close_verb = (refl, (refl, (refl, (refl, (refl, tt)))))
 verb_free prune_verb = (refl, (refl, (refl, (refl, (refl, tt)))))
 verb_free page_verb = (refl, (refl, (refl, (refl, tt))))
 verb_free entries_verb = (refl, (refl, (refl, (refl, (refl, (refl, (refl, tt)))))))
 
 key_words_free : (s k : ℕ) → KeyFits s k → Free 10 (spaced (key_words s k))
 key_words_free s k h = (refl, Free-append 10 (decimal s) (spaced (decimal k)) (decimal_free 10 s (omega arith) (omega (arith, h.0))) (one_free k h.1))
+
+range_words_free : (s index : ℕ) (low high : ℤ) → RangeFits s index low high → Free 10 (spaced (range_words s index low high))
+range_words_free s index low high h = (
+  refl,
+  Free-append 10 (decimal s) (spaced (decimal index ++ spaced (signed_decimal low ++ spaced (signed_decimal high)))) (decimal_free 10 s (omega arith) (omega (arith, h.0))) (
+    refl,
+    Free-append 10 (decimal index) (spaced (signed_decimal low ++ spaced (signed_decimal high))) (decimal_free 10 index (omega arith) (omega (arith, h.1)))
+        (refl, Free-append 10 (signed_decimal low) (spaced (signed_decimal high)) (bound_free 10 low (omega arith) h.2) (refl, bound_free 10 high (omega arith) h.3)),
+  ),
+)
 
 row_words_free : (s : ℕ) (row : RowText) → RowFits s row → Free 10 (spaced (row_words s row))
 row_words_free s row h =
@@ -453,6 +461,10 @@ Free-spelling (Do (RollbackTo s)) h = Free-append 10 (codes "rollbackto") (space
 Free-spelling (Do (Release s)) h = Free-append 10 (codes "release") (spaced (decimal s)) (verb_free release_verb) (one_free s (omega arith))
 Free-spelling (Do (Commit s)) h = Free-append 10 (codes "commit") (spaced (decimal s)) (verb_free commit_verb) (one_free s (omega arith))
 Free-spelling (Do (Abort s)) h = Free-append 10 (codes "abort") (spaced (decimal s)) (verb_free abort_verb) (one_free s (omega arith))
+Free-spelling (Do (OpenIndex s index low high)) h = Free-append 10 (codes "openindex") (spaced (range_words s index low high)) (verb_free openindex_verb) (range_words_free s index low high h)
+Free-spelling (Do (OpenHeap s)) h = Free-append 10 (codes "openheap") (spaced (decimal s)) (verb_free openheap_verb) (one_free s (omega arith))
+Free-spelling (Do (Next s n)) h = Free-append 10 (codes "next") (spaced (key_words s n)) (verb_free next_verb) (key_words_free s n (h.0, omega (arith, h.1)))
+Free-spelling (Do (Close s)) h = Free-append 10 (codes "close") (spaced (decimal s)) (verb_free close_verb) (one_free s (omega arith))
 Free-spelling (Do (Prune p)) h = Free-append 10 (codes "prune") (spaced (decimal p)) (verb_free prune_verb) (one_free p (omega arith))
 Free-spelling Ids h = (refl, (refl, (refl, tt)))
 Free-spelling (Page p) h = Free-append 10 (codes "page") (spaced (decimal p)) (verb_free page_verb) (one_free p (omega arith))

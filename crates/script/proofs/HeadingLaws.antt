@@ -116,7 +116,7 @@ flags_free (true ∷ bs) = (refl, flags_free bs)
 flags_free (false ∷ bs) = (refl, flags_free bs)
 
 then_free : (n : ℕ) (r : List ℕ) → n < 2 ^ 64 → Free 10 r → Free 10 (decimal n ++ spaced r)
-then_free n r h k = Free-append 10 (decimal n) (spaced r) (decimal_free 10 n (omega arith) h) (refl, k)
+then_free n r h k = Free-append 10 (decimal n) (spaced r) (decimal_free 10 n (omega arith) (omega arith)) (refl, k)
 
 pub Free-heading : (s : Settings) → AreSettings s → Free 10 (heading s)
 Free-heading s h =

@@ -1,5 +1,7 @@
 pub mod ByteLemmas
+pub mod WideLaws
 pub mod NumberLaws
+pub mod SignedLaws
 pub mod ReadingLemmas
 pub mod PiecesLemmas
 pub mod GrammarLaws

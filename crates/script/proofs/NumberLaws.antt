@@ -7,7 +7,8 @@ use Rattle.std.specs.Fmt.{decimal}
 use Rattle.std.proofs.lemmas.Option.{none-some, same_Some}
 use Rattle.std.proofs.lemmas.Bool.Decides.{nat_tests}
 use Rattle.std.proofs.lemmas.Str.Parse.{IsNumeralModel, numerals_by_fold}
-use Rattle.std.proofs.lemmas.Fmt.{decimal-digits_value, digits_decimal, digits_value-decimal, decimal_nonempty, first_decimal, decimal_digit}
+use Rattle.script.proofs.WideLaws.{decimal-digits_value, digits_decimal, digits_value-decimal, decimal_nonempty, first_decimal}
+use Rattle.std.proofs.lemmas.Fmt.{decimal_digit}
 use Rattle.std.proofs.Math.Seq.{take-append_seam, drop-append-add}
 use Rattle.script.specs.Reading.{◌>>=◌, cut, digits_on, number_of, number_then}
 use Rattle.script.proofs.ByteLemmas.{Free, place-free, place-split, position_found}
@@ -90,7 +91,7 @@ plain_is k z h e =
     let zero : eqb k 0 ≡ false = grind (arith, nat_tests) in
     rw zero (plain_rest k z e)
 
-pub number_of_says : (max : ℕ) (w : List ℕ) (n : ℕ) → max < 2 ^ 64 → number_of max w ≡ Some n → (w ≡ decimal n) × (n ≤ max)
+pub number_of_says : (max : ℕ) (w : List ℕ) (n : ℕ) → max < 10 ^ 64 → number_of max w ≡ Some n → (w ≡ decimal n) × (n ≤ max)
 unfolding number_of
 number_of_says max w n fits h =
     let g = unguarded _ _ n h in
@@ -103,7 +104,7 @@ zero_or : (n : ℕ) → (n ≡ 0) ⊎ (0 < n)
 zero_or zero = inl refl
 zero_or (suc n) = inr (omega arith)
 
-first_cases : (n : ℕ) → n < 2 ^ 64 → eqb (get_or (decimal n) 0 0) 48 ≡ true → length (decimal n) ≡ 1
+first_cases : (n : ℕ) → n < 10 ^ 64 → eqb (get_or (decimal n) 0 0) 48 ≡ true → length (decimal n) ≡ 1
 first_cases n fits e =
     let f : get_or (decimal n) 0 0 ≡ 48 = grind (arith, nat_tests) in
     elim (zero_or n) [
@@ -111,7 +112,7 @@ first_cases n fits e =
       | inr p ↦ let k = first_decimal n p fits in absurd (omega arith)
     ]
 
-pub number_of-decimal : (max n : ℕ) → n ≤ max → max < 2 ^ 64 → number_of max (decimal n) ≡ Some n
+pub number_of-decimal : (max n : ℕ) → n ≤ max → max < 10 ^ 64 → number_of max (decimal n) ≡ Some n
 unfolding number_of
 number_of-decimal max n small fits =
     let plain = plain_is (length (decimal n)) (eqb (get_or (decimal n) 0 0) 48) (decimal_nonempty n (omega arith)) (first_cases n (omega arith)) in
@@ -143,10 +144,10 @@ digits_free x (c ∷ cs) low h =
     let far : eqb c x ≡ false = grind (arith, nat_tests, d) in
     (far, digits_free x cs low t.1)
 
-pub decimal_free : (x n : ℕ) → x < 48 → n < 2 ^ 64 → Free x (decimal n)
+pub decimal_free : (x n : ℕ) → x < 48 → n < 10 ^ 64 → Free x (decimal n)
 decimal_free x n low fits = digits_free x (decimal n) low (digits_decimal own n fits)
 
-pub number_then_says : (max : ℕ) (xs : List ℕ) (n : ℕ) (rest : List ℕ) → max < 2 ^ 64 → number_then max xs ≡ Some (n, rest) → (xs ≡ decimal n ++ 32 ∷ rest) × (n ≤ max)
+pub number_then_says : (max : ℕ) (xs : List ℕ) (n : ℕ) (rest : List ℕ) → max < 10 ^ 64 → number_then max xs ≡ Some (n, rest) → (xs ≡ decimal n ++ 32 ∷ rest) × (n ≤ max)
 unfolding number_then
 number_then_says max xs n rest fits h =
     let p = bound _ _ _ h in
@@ -157,6 +158,6 @@ number_then_says max xs n rest fits h =
     let rest_is : p.0.1 ≡ rest = ap (λ (q : ℕ × List ℕ). q.1) same in
     (cut_says xs p.0.0 p.0.1 p.1 ∙ rw (says.0, n_is, rest_is) refl, rw (← n_is) says.1)
 
-pub number_then-decimal : (max n : ℕ) (rest : List ℕ) → n ≤ max → max < 2 ^ 64 → number_then max (decimal n ++ 32 ∷ rest) ≡ Some (n, rest)
+pub number_then-decimal : (max n : ℕ) (rest : List ℕ) → n ≤ max → max < 10 ^ 64 → number_then max (decimal n ++ 32 ∷ rest) ≡ Some (n, rest)
 unfolding number_then
 number_then-decimal max n rest small fits = rw (cut-free (decimal n) rest (decimal_free 32 n (omega arith) (omega arith)), number_of-decimal max n small fits) refl

@@ -2,10 +2,11 @@
 use Rattle.std.specs.Prelude.{ℕ, zero, suc, List, [], ◌∷◌, ◌++◌, codes, length, Option, Some, None}
 use Rattle.std.specs.List.{flat_map}
 use Rattle.std.specs.Fmt.{decimal, signed_decimal}
+use Rattle.tuple_header.specs.declared.version.Row.{Row}
 use Rattle.page_slots.specs.declared.slot.Slot.{Slot}
 use Rattle.page_slots.specs.declared.slot.Slot.TheVariants.{Unused, Normal, Redirect, Dead}
 use Rattle.page_slots.specs.Slots.{slot_at}
-use Rattle.script.specs.Engine.{Reply, Done, Found, Committed, RolledBack, Refused, Refusal, NotOpen, AlreadyOpen, Failed, AlreadyThere, NotThere, Conflict, Busy, TooDeep, NoSavepoint, TooLarge, NoRoom, NeedsFreeze, NoMemoryForStep, NoSuchPage, NoSuchSession, Entry}
+use Rattle.script.specs.Engine.{Reply, Done, Found, Committed, RolledBack, Rows, End, Refused, Refusal, NotOpen, AlreadyOpen, Failed, AlreadyThere, NotThere, Conflict, Busy, CursorOpen, NoCursor, TooDeep, NoSavepoint, TooLarge, NoRoom, NeedsFreeze, NoMemoryForStep, NoSuchPage, NoSuchIndex, NoSuchSession, BadBounds, Entry}
 use Rattle.script.specs.Grammar.{spaced, row_text}
 
 -- the number and the name of a refusal
@@ -17,6 +18,8 @@ refusal_text AlreadyThere = codes "4 AlreadyThere"
 refusal_text NotThere = codes "5 NotThere"
 refusal_text Conflict = codes "6 Conflict"
 refusal_text (Busy s) = codes "7 Busy" ++ spaced (decimal s)
+refusal_text CursorOpen = codes "9 CursorOpen"
+refusal_text NoCursor = codes "10 NoCursor"
 refusal_text TooDeep = codes "11 TooDeep"
 refusal_text NoSavepoint = codes "12 NoSavepoint"
 refusal_text TooLarge = codes "13 TooLarge"
@@ -24,20 +27,32 @@ refusal_text NoRoom = codes "14 NoRoom"
 refusal_text NeedsFreeze = codes "15 NeedsFreeze"
 refusal_text NoMemoryForStep = codes "16 NoMemory"
 refusal_text NoSuchPage = codes "19 NoSuchPage"
+refusal_text NoSuchIndex = codes "20 NoSuchIndex"
 refusal_text NoSuchSession = codes "23 NoSuchSession"
+refusal_text BadBounds = codes "24 BadBounds"
+
+-- words, and a number behind them
+unfoldable pub labelled : List ℕ → ℕ → List ℕ
+labelled words n = words ++ spaced (decimal n)
+
+-- a row's line
+abbrev pub found_text : Row → List ℕ
+found_text row = codes "row" ++ spaced (row_text row.key row.cols row.body.items)
+
+-- the lines of rows, in their order, each behind a line feed
+abbrev pub row_lines : List Row → List ℕ
+row_lines rows = flat_map (λ row. 10 ∷ found_text row) rows
 
 -- what is written for a reply
 abbrev pub reply_text : Reply → List ℕ
 reply_text Done = codes "ok"
 reply_text (Found None) = codes "none"
-reply_text (Found (Some row)) = codes "row" ++ spaced (row_text row.key row.cols row.body.items)
+reply_text (Found (Some row)) = found_text row
 reply_text Committed = codes "committed"
 reply_text RolledBack = codes "rolled back"
+reply_text (Rows rows) = labelled (codes "rows") (length rows.items) ++ row_lines rows.items
+reply_text End = codes "end"
 reply_text (Refused r) = codes "error" ++ spaced (refusal_text r)
-
--- words, and a number behind them
-unfoldable pub labelled : List ℕ → ℕ → List ℕ
-labelled words n = words ++ spaced (decimal n)
 
 -- the next id, and that below which all are frozen
 abbrev pub ids_text : ℕ → ℕ → List ℕ

@@ -8,10 +8,10 @@ pub use Rattle.session_relation.specs.declared.settings.Settings.{Settings}
 pub use Rattle.session_relation.specs.declared.settings.SettingsFault.{SettingsFault}
 pub use Rattle.session_relation.specs.declared.settings.SettingsFault.TheVariants.{MaxPages, StopAge, FreezeMinAge, FirstXid, DeadLimit, NoMemory as NoMemoryForSettings}
 pub use Rattle.session_relation.specs.declared.step.Step.{Step}
-pub use Rattle.session_relation.specs.declared.step.Step.TheVariants.{Begin, Get, Insert, Update, Delete, Savepoint, RollbackTo, Release, Commit, Abort, Prune}
+pub use Rattle.session_relation.specs.declared.step.Step.TheVariants.{Begin, Get, Insert, Update, Delete, Savepoint, RollbackTo, Release, Commit, Abort, OpenIndex, OpenHeap, Next, Close, Prune}
 pub use Rattle.session_relation.specs.declared.reply.Reply.{Reply}
-pub use Rattle.session_relation.specs.declared.reply.Reply.TheVariants.{Done, Found, Committed, RolledBack, Refused}
+pub use Rattle.session_relation.specs.declared.reply.Reply.TheVariants.{Done, Found, Committed, RolledBack, Rows, End, Refused}
 pub use Rattle.session_relation.specs.declared.reply.Refusal.{Refusal}
-pub use Rattle.session_relation.specs.declared.reply.Refusal.TheVariants.{NotOpen, AlreadyOpen, Failed, AlreadyThere, NotThere, Conflict, Busy, TooDeep, NoSavepoint, TooLarge, NoRoom, NeedsFreeze, NoMemory as NoMemoryForStep, NoSuchPage, NoSuchSession}
+pub use Rattle.session_relation.specs.declared.reply.Refusal.TheVariants.{NotOpen, AlreadyOpen, Failed, AlreadyThere, NotThere, Conflict, Busy, CursorOpen, NoCursor, TooDeep, NoSavepoint, TooLarge, NoRoom, NeedsFreeze, NoMemory as NoMemoryForStep, NoSuchPage, NoSuchIndex, NoSuchSession, BadBounds}
 pub use Rattle.root_index.specs.View.{IndexView}
 pub use Rattle.root_index.specs.declared.entry.Entry.{Entry}

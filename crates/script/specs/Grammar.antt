@@ -1,9 +1,9 @@
 -- The lines of a script. Each value has one spelling, so a line is allowed just where it is the spelling of a value in range.
 use Rattle.std.specs.Prelude.{◌≡◌, ℕ, ℤ, ◌/◌, ◌%◌, ◌^◌, ◌<◌, ◌≤◌, List, [], ◌∷◌, ◌++◌, length, codes, Bool, false, if◌then◌else◌, FitsSigned}
-use Rattle.std.specs.Int.{w64}
+use Rattle.std.specs.Int.{w64, w128}
 use Rattle.std.specs.List.{flat_map, AllByRecursion}
 use Rattle.std.specs.Fmt.{decimal, signed_decimal, digit_glyph}
-use Rattle.script.specs.Engine.{Settings, RowText, Step, Begin, Get, Insert, Update, Delete, Savepoint, RollbackTo, Release, Commit, Abort, Prune}
+use Rattle.script.specs.Engine.{Settings, RowText, Step, Begin, Get, Insert, Update, Delete, Savepoint, RollbackTo, Release, Commit, Abort, OpenIndex, OpenHeap, Next, Close, Prune}
 use Rattle.script.specs.declared.line.Line.{Line}
 use Rattle.script.specs.declared.line.Line.TheVariants.{Do, Ids, Page, Entries}
 
@@ -28,9 +28,13 @@ body_text (b ∷ bs) = hex_text (b ∷ bs)
 abbrev pub row_text : ℕ → List ℤ → List ℕ → List ℕ
 row_text k cols body = decimal k ++ (flat_map (λ c. spaced (signed_decimal c)) cols ++ spaced (body_text body))
 
--- a session and a key
+-- a session and a key, or a session and how many rows
 abbrev pub key_words : ℕ → ℕ → List ℕ
 key_words s k = decimal s ++ spaced (decimal k)
+
+-- a session, an index and two bounds
+abbrev pub range_words : ℕ → ℕ → ℤ → ℤ → List ℕ
+range_words s index low high = decimal s ++ spaced (decimal index ++ spaced (signed_decimal low ++ spaced (signed_decimal high)))
 
 -- a session and a row
 abbrev pub row_words : ℕ → RowText → List ℕ
@@ -57,6 +61,10 @@ step_text (RollbackTo s) = codes "rollbackto" ++ spaced (decimal s)
 step_text (Release s) = codes "release" ++ spaced (decimal s)
 step_text (Commit s) = codes "commit" ++ spaced (decimal s)
 step_text (Abort s) = codes "abort" ++ spaced (decimal s)
+step_text (OpenIndex s index low high) = codes "openindex" ++ spaced (range_words s index low high)
+step_text (OpenHeap s) = codes "openheap" ++ spaced (decimal s)
+step_text (Next s n) = codes "next" ++ spaced (key_words s n)
+step_text (Close s) = codes "close" ++ spaced (decimal s)
 step_text (Prune p) = codes "prune" ++ spaced (decimal p)
 
 -- any line but the first
@@ -75,7 +83,11 @@ abbrev pub RowFits : ℕ → RowText → Type 0
 RowFits s row = (s < 2 ^ 8) × (row.key < 2 ^ 64) × (length row.cols ≡ 4) × AllByRecursion (λ c. FitsSigned w64 c) row.cols
     × AllByRecursion (λ b. b < 2 ^ 8) row.body
 
--- each number of a step is in the range of its type; a page's number has 32 bits
+-- an index's number has 8 bits, and bounds have 128 with their signs
+abbrev pub RangeFits : ℕ → ℕ → ℤ → ℤ → Type 0
+RangeFits s index low high = (s < 2 ^ 8) × (index < 2 ^ 8) × FitsSigned w128 low × FitsSigned w128 high
+
+-- each number of a step is in the range of its type; a count of rows has 16 bits, and a page's number 32
 abbrev pub StepFits : Step → Type 0
 StepFits (Begin s) = s < 2 ^ 8
 StepFits (Get s k) = KeyFits s k
@@ -87,9 +99,13 @@ StepFits (RollbackTo s) = s < 2 ^ 8
 StepFits (Release s) = s < 2 ^ 8
 StepFits (Commit s) = s < 2 ^ 8
 StepFits (Abort s) = s < 2 ^ 8
+StepFits (OpenIndex s index low high) = RangeFits s index low high
+StepFits (OpenHeap s) = s < 2 ^ 8
+StepFits (Next s n) = (s < 2 ^ 8) × (n < 2 ^ 16)
+StepFits (Close s) = s < 2 ^ 8
 StepFits (Prune p) = p < 2 ^ 32
 
--- and each number of a line; an index's number has 8 bits
+-- and each number of a line
 abbrev pub Fits : Line → Type 0
 Fits (Do step) = StepFits step
 Fits Ids = Unit {0}

@@ -3,12 +3,12 @@ use Rattle.std.specs.Prelude.{ℕ, ℤ, pos, negsuc, ◌+◌, ◌-◌, ◌*◌, 
 use Rattle.std.specs.Option.{option_map}
 use Rattle.std.specs.Char.{is_ascii_digit}
 use Rattle.std.specs.Str.{bytes_eq}
-use Rattle.script.specs.Engine.{Settings, RowText, Begin, Get, Insert, Update, Delete, Savepoint, RollbackTo, Release, Commit, Abort, Prune}
+use Rattle.script.specs.Engine.{Settings, RowText, Begin, Get, Insert, Update, Delete, Savepoint, RollbackTo, Release, Commit, Abort, OpenIndex, OpenHeap, Next, Close, Prune}
 use Rattle.script.specs.Verbs.{verb_of}
 use Rattle.script.specs.declared.line.Line.{Line}
 use Rattle.script.specs.declared.line.Line.TheVariants.{Do, Ids, Page, Entries}
 use Rattle.script.specs.declared.line.Verb.{Verb}
-use Rattle.script.specs.declared.line.Verb.TheVariants.{Get as get_verb, Begin as begin_verb, Commit as commit_verb, Insert as insert_verb, Update as update_verb, Delete as delete_verb, Savepoint as savepoint_verb, RollbackTo as rollback_verb, Release as release_verb, Abort as abort_verb, Prune as prune_verb, Page as page_verb, Entries as entries_verb}
+use Rattle.script.specs.declared.line.Verb.TheVariants.{Get as get_verb, Begin as begin_verb, Commit as commit_verb, Insert as insert_verb, Update as update_verb, Delete as delete_verb, Savepoint as savepoint_verb, RollbackTo as rollback_verb, Release as release_verb, Abort as abort_verb, OpenIndex as openindex_verb, OpenHeap as openheap_verb, Next as next_verb, Close as close_verb, Prune as prune_verb, Page as page_verb, Entries as entries_verb}
 
 infixl 10 ◌>>=◌
 abbrev pub ◌>>=◌ : {A B : Type 0} → Option A → (A → Option B) → Option B
@@ -35,17 +35,30 @@ number_then max xs = do
   n ← number_of max parts.0
   Some (n, parts.1)
 
--- a column: a minus stands before a number other than 0
-unfoldable pub column_of : List ℕ → Option ℤ
-column_of w = if slice_index w 0 == 45
-    then (number_of (2 ^ 63) (drop 1 w) >>= λ n. if n == 0 then None else Some (negsuc (n - 1)))
-    else option_map (λ n. pos n) (number_of (2 ^ 63 - 1) w)
+-- a number with its sign, below top and not below - top: a minus stands before a number other than 0
+unfoldable pub signed_of : ℕ → List ℕ → Option ℤ
+signed_of top w = if slice_index w 0 == 45
+    then (number_of top (drop 1 w) >>= λ n. if n == 0 then None else Some (negsuc (n - 1)))
+    else option_map (λ n. pos n) (number_of (top - 1) w)
 
-unfoldable pub column_then : List ℕ → Option (ℤ × List ℕ)
-column_then xs = do
+unfoldable pub signed_then : ℕ → List ℕ → Option (ℤ × List ℕ)
+signed_then top xs = do
   parts ← cut xs
-  c ← column_of parts.0
-  Some (c, parts.1)
+  z ← signed_of top parts.0
+  Some (z, parts.1)
+
+-- a column has 64 bits, and a bound 128
+abbrev pub column_of : List ℕ → Option ℤ
+column_of w = signed_of (2 ^ 63) w
+
+abbrev pub column_then : List ℕ → Option (ℤ × List ℕ)
+column_then xs = signed_then (2 ^ 63) xs
+
+abbrev pub bound_of : List ℕ → Option ℤ
+bound_of w = signed_of (2 ^ 127) w
+
+abbrev pub bound_then : List ℕ → Option (ℤ × List ℕ)
+bound_then xs = signed_then (2 ^ 127) xs
 
 -- the value of a lower case hexadecimal digit
 unfoldable pub nibble_of : ℕ → Option ℕ
@@ -85,6 +98,22 @@ key_words_of xs = do
   k ← number_of (2 ^ 64 - 1) s.1
   Some (s.0, k)
 
+-- a session and how many rows
+unfoldable pub count_words_of : List ℕ → Option (ℕ × ℕ)
+count_words_of xs = do
+  s ← number_then 255 xs
+  n ← number_of 65535 s.1
+  Some (s.0, n)
+
+-- a session, an index and two bounds
+unfoldable pub range_words_of : List ℕ → Option (ℕ × ℕ × ℤ × ℤ)
+range_words_of xs = do
+  s ← number_then 255 xs
+  index ← number_then 255 s.1
+  low ← bound_then index.1
+  high ← bound_of low.1
+  Some (s.0, index.0, low.0, high)
+
 -- a digit for each of the four columns
 unfoldable pub flag_of : ℕ → Option Bool
 flag_of c = if c == 48 then Some false else if c == 49 then Some true else None
@@ -122,6 +151,10 @@ line_of savepoint_verb rest = option_map (λ s. Do (Savepoint s)) (number_of 255
 line_of rollback_verb rest = option_map (λ s. Do (RollbackTo s)) (number_of 255 rest)
 line_of release_verb rest = option_map (λ s. Do (Release s)) (number_of 255 rest)
 line_of abort_verb rest = option_map (λ s. Do (Abort s)) (number_of 255 rest)
+line_of openindex_verb rest = option_map (λ p. Do (OpenIndex p.0 p.1 p.2 p.3)) (range_words_of rest)
+line_of openheap_verb rest = option_map (λ s. Do (OpenHeap s)) (number_of 255 rest)
+line_of next_verb rest = option_map (λ p. Do (Next p.0 p.1)) (count_words_of rest)
+line_of close_verb rest = option_map (λ s. Do (Close s)) (number_of 255 rest)
 line_of prune_verb rest = option_map (λ p. Do (Prune p)) (number_of 4294967295 rest)
 line_of page_verb rest = option_map (λ p. Page p) (number_of 4294967295 rest)
 line_of entries_verb rest = option_map (λ i. Entries i) (number_of 255 rest)

@@ -1,11 +1,12 @@
 //! The text of a reply.
 
-ghost use Rattle.std.specs.Prelude.{◌≡◌, ◌+◌, ◌<◌, ◌/◌, ◌%◌, [], ◌∷◌, ◌++◌, OnOk, false};
+ghost use Rattle.std.specs.Prelude.{◌≡◌, ◌+◌, ◌<◌, ◌/◌, ◌%◌, [], ◌∷◌, ◌++◌, length, OnOk, false};
 ghost use Rattle.std.specs.List.{flat_map};
 ghost use Rattle.std.specs.Fmt.{decimal, signed_decimal, digit_glyph};
 ghost use Rattle.script.specs.Grammar.{spaced, hex_text, body_text, row_text, with_feed};
-ghost use Rattle.script.specs.Answers.{refusal_text, reply_text};
+ghost use Rattle.script.specs.Answers.{refusal_text, found_text, row_lines, reply_text};
 
+use crate::telling::label;
 use itoa::Buffer;
 use session_core::{Refusal, Reply, Row};
 use std::alloc::AllocError;
@@ -73,6 +74,31 @@ fn row(out: &mut Vec<u8>, row: &Row) -> Result<(), AllocError>
     body(out, row.body.as_slice())
 }
 
+// The line of a row.
+fn found(out: &mut Vec<u8>, one: &Row) -> Result<(), AllocError>
+    ensures { OnOk result (out.new.items ≡ out.old.items ++ found_text one.now) }
+{
+    out.extend_from_slice(b"row ")?;
+    row(out, one)
+}
+
+// A line feed, and then the line of a row.
+fn row_line(out: &mut Vec<u8>, one: &Row) -> Result<(), AllocError>
+    ensures { OnOk result (out.new.items ≡ out.old.items ++ 10 ∷ found_text one.now) }
+{
+    out.push(b'\n')?;
+    found(out, one)
+}
+
+fn rows(out: &mut Vec<u8>, rows: &[Row]) -> Result<(), AllocError>
+    ensures { OnOk result (out.new.items ≡ out.old.items ++ row_lines rows.now) }
+{
+    for one in rows {
+        row_line(out, one)?;
+    }
+    Ok(())
+}
+
 fn refusal(out: &mut Vec<u8>, refusal: Refusal) -> Result<(), AllocError>
     ensures { OnOk result (out.new.items ≡ out.old.items ++ refusal_text refusal) }
 {
@@ -87,6 +113,8 @@ fn refusal(out: &mut Vec<u8>, refusal: Refusal) -> Result<(), AllocError>
             out.extend_from_slice(b"7 Busy ")?;
             unsigned(out, u64::from(s))
         }
+        Refusal::CursorOpen => out.extend_from_slice(b"9 CursorOpen"),
+        Refusal::NoCursor => out.extend_from_slice(b"10 NoCursor"),
         Refusal::TooDeep => out.extend_from_slice(b"11 TooDeep"),
         Refusal::NoSavepoint => out.extend_from_slice(b"12 NoSavepoint"),
         Refusal::TooLarge => out.extend_from_slice(b"13 TooLarge"),
@@ -94,7 +122,9 @@ fn refusal(out: &mut Vec<u8>, refusal: Refusal) -> Result<(), AllocError>
         Refusal::NeedsFreeze => out.extend_from_slice(b"15 NeedsFreeze"),
         Refusal::NoMemory => out.extend_from_slice(b"16 NoMemory"),
         Refusal::NoSuchPage => out.extend_from_slice(b"19 NoSuchPage"),
+        Refusal::NoSuchIndex => out.extend_from_slice(b"20 NoSuchIndex"),
         Refusal::NoSuchSession => out.extend_from_slice(b"23 NoSuchSession"),
+        Refusal::BadBounds => out.extend_from_slice(b"24 BadBounds"),
     }
 }
 
@@ -104,12 +134,14 @@ fn text(out: &mut Vec<u8>, reply: &Reply) -> Result<(), AllocError>
     match reply {
         Reply::Done => out.extend_from_slice(b"ok"),
         Reply::Found(None) => out.extend_from_slice(b"none"),
-        Reply::Found(Some(found)) => {
-            out.extend_from_slice(b"row ")?;
-            row(out, found)
-        }
+        Reply::Found(Some(row)) => found(out, row),
         Reply::Committed => out.extend_from_slice(b"committed"),
         Reply::RolledBack => out.extend_from_slice(b"rolled back"),
+        Reply::Rows(found) => {
+            label(out, b"rows", found.len() as u64)?;
+            rows(out, found.as_slice())
+        }
+        Reply::End => out.extend_from_slice(b"end"),
         Reply::Refused(r) => {
             out.extend_from_slice(b"error ")?;
             refusal(out, *r)

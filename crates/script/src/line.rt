@@ -2,10 +2,10 @@
 
 ghost use Rattle.std.specs.Prelude.{◌≡◌, IfOk};
 ghost use Rattle.std.specs.Option.{option_map};
-ghost use Rattle.script.specs.Verbs.{verb_of};
-ghost use Rattle.script.specs.Reading.{number_of, row_words_of, key_words_of, line_of, line_at as line_at_of};
+ghost use Rattle.script.specs.Verbs.{verb_of, verb_in, other_verbs};
+ghost use Rattle.script.specs.Reading.{number_of, row_words_of, key_words_of, count_words_of, range_words_of, line_of, line_at as line_at_of};
 
-use crate::words::{body, column_then, cut, number, number_then};
+use crate::words::{body, bound, bound_then, column_then, cut, number, number_then};
 use session_core::{RowIn, Step};
 use std::alloc::{AllocError, Global};
 
@@ -35,9 +35,40 @@ pub enum Verb {
     RollbackTo,
     Release,
     Abort,
+    OpenIndex,
+    OpenHeap,
+    Next,
+    Close,
     Prune,
     Page,
     Entries,
+}
+
+// The verb that a word spells, of those that are asked for less often.
+fn other_verb_at(word: &[u8]) -> Option<Verb>
+    ensures { result ≡ verb_in other_verbs word.now }
+{
+    if word == b"savepoint".as_slice() {
+        Some(Verb::Savepoint)
+    } else if word == b"rollbackto".as_slice() {
+        Some(Verb::RollbackTo)
+    } else if word == b"release".as_slice() {
+        Some(Verb::Release)
+    } else if word == b"openindex".as_slice() {
+        Some(Verb::OpenIndex)
+    } else if word == b"openheap".as_slice() {
+        Some(Verb::OpenHeap)
+    } else if word == b"close".as_slice() {
+        Some(Verb::Close)
+    } else if word == b"prune".as_slice() {
+        Some(Verb::Prune)
+    } else if word == b"page".as_slice() {
+        Some(Verb::Page)
+    } else if word == b"entries".as_slice() {
+        Some(Verb::Entries)
+    } else {
+        None
+    }
 }
 
 // The verb that a word spells; the most usual come first.
@@ -56,22 +87,12 @@ fn verb_at(word: &[u8]) -> Option<Verb>
         Some(Verb::Update)
     } else if word == b"delete".as_slice() {
         Some(Verb::Delete)
-    } else if word == b"savepoint".as_slice() {
-        Some(Verb::Savepoint)
-    } else if word == b"rollbackto".as_slice() {
-        Some(Verb::RollbackTo)
-    } else if word == b"release".as_slice() {
-        Some(Verb::Release)
+    } else if word == b"next".as_slice() {
+        Some(Verb::Next)
     } else if word == b"abort".as_slice() {
         Some(Verb::Abort)
-    } else if word == b"prune".as_slice() {
-        Some(Verb::Prune)
-    } else if word == b"page".as_slice() {
-        Some(Verb::Page)
-    } else if word == b"entries".as_slice() {
-        Some(Verb::Entries)
     } else {
-        None
+        other_verb_at(word)
     }
 }
 
@@ -119,6 +140,28 @@ fn key(text: &[u8]) -> Option<(u8, u64)>
     Some((s as u8, key))
 }
 
+// A session and how many rows.
+#[tactic(auto, unfolding(crate::specs::Reading::count_words_of))]
+fn count(text: &[u8]) -> Option<(u8, u16)>
+    ensures { option_map (λ p. (p.0, p.1)) result ≡ count_words_of text.now }
+{
+    let (s, rest) = number_then(text, 255)?;
+    let n = number(rest, u64::from(u16::MAX))?;
+    Some((s as u8, n as u16))
+}
+
+// A session, an index and two bounds.
+#[tactic(auto, unfolding(crate::specs::Reading::range_words_of))]
+fn range(text: &[u8]) -> Option<(u8, u8, i128, i128)>
+    ensures { option_map (λ p. (p.0, p.1, p.2, p.3)) result ≡ range_words_of text.now }
+{
+    let (s, rest) = number_then(text, 255)?;
+    let (index, rest) = number_then(rest, 255)?;
+    let (low, rest) = bound_then(rest)?;
+    let high = bound(rest)?;
+    Some((s as u8, index as u8, low, high))
+}
+
 // A session or an index.
 fn number8(word: &[u8]) -> Option<u8>
     ensures { result ≡ number_of 255 word.now }
@@ -149,6 +192,12 @@ fn line_with(alloc: Global, verb: Verb, rest: &[u8]) -> Result<Option<Line>, All
         Verb::RollbackTo => Ok(number8(rest).map(|s| Line::Do(Step::RollbackTo(s)))),
         Verb::Release => Ok(number8(rest).map(|s| Line::Do(Step::Release(s)))),
         Verb::Abort => Ok(number8(rest).map(|s| Line::Do(Step::Abort(s)))),
+        Verb::OpenIndex => Ok(range(rest).map(|(s, index, low, high)| Line::Do(Step::OpenIndex(
+            s, index, low, high,
+        )))),
+        Verb::OpenHeap => Ok(number8(rest).map(|s| Line::Do(Step::OpenHeap(s)))),
+        Verb::Next => Ok(count(rest).map(|(s, n)| Line::Do(Step::Next(s, n)))),
+        Verb::Close => Ok(number8(rest).map(|s| Line::Do(Step::Close(s)))),
         Verb::Prune => Ok(page(rest).map(|p| Line::Do(Step::Prune(p)))),
         Verb::Page => Ok(page(rest).map(|p| Line::Page(p))),
         Verb::Entries => Ok(number8(rest).map(|i| Line::Entries(i))),

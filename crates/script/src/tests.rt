@@ -198,7 +198,7 @@ fn script_of(alloc: Global, line: &[u8]) -> Result<Vec<u8>, AllocError> {
 
 #[test]
 fn allowed_lines(rt: HostRuntime) -> Result<(), Fail> {
-    let cases: [(&[u8], &[u8]); 34] = [
+    let cases: [(&[u8], &[u8]); 46] = [
         (b"begin 63", b"ok\nok\n"),
         (b"begin 0", b"ok\nerror 2 AlreadyOpen\n"),
         (b"begin 255", b"ok\nerror 23 NoSuchSession\n"),
@@ -238,6 +238,27 @@ fn allowed_lines(rt: HostRuntime) -> Result<(), Fail> {
             b"savepoint 0\ninsert 0 1 5 0 0 0 -\nrelease 0\nget 0 1\nrelease 0",
             b"ok\nok\nok\nok\nrow 1 5 0 0 0 -\nerror 12 NoSavepoint\n",
         ),
+        (b"openindex 0 0 1 0", b"ok\nerror 24 BadBounds\n"),
+        (b"openindex 0 255 1 0", b"ok\nerror 20 NoSuchIndex\n"),
+        (b"openindex 1 0 0 1", b"ok\nerror 1 NotOpen\n"),
+        (
+            b"openindex 0 0 -170141183460469231731687303715884105728 170141183460469231731687303715884105727",
+            b"ok\nok\n",
+        ),
+        (b"openheap 0", b"ok\nok\n"),
+        (b"openheap 255", b"ok\nerror 23 NoSuchSession\n"),
+        (b"next 0 0", b"ok\nerror 10 NoCursor\n"),
+        (b"next 64 65535", b"ok\nerror 23 NoSuchSession\n"),
+        (b"close 0", b"ok\nerror 10 NoCursor\n"),
+        (b"close 63", b"ok\nerror 1 NotOpen\n"),
+        (
+            b"insert 0 2 5 0 0 0 -\ninsert 0 1 6 -7 0 0 00ff\nopenindex 0 0 0 18446744073709551615\nnext 0 0\nnext 0 65535\nnext 0 1\nnext 0 1",
+            b"ok\nok\nok\nok\nrows 1\nrow 1 6 -7 0 0 00ff\nrows 1\nrow 2 5 0 0 0 -\nend\nend\n",
+        ),
+        (
+            b"insert 0 2 5 0 0 0 -\ninsert 0 1 6 -7 0 0 00ff\nopenheap 0\nopenheap 0\nsavepoint 0\nnext 0 1\nnext 0 1\nclose 0\nnext 0 1",
+            b"ok\nok\nok\nok\nerror 9 CursorOpen\nerror 9 CursorOpen\nrows 2\nrow 2 5 0 0 0 -\nrow 1 6 -7 0 0 00ff\nend\nok\nerror 10 NoCursor\n",
+        ),
         (b"entries 0", b"ok\nentries 0 0\n"),
         (b"entries 255", b"ok\nerror 20 NoSuchIndex\n"),
         (
@@ -275,7 +296,7 @@ fn allowed_lines(rt: HostRuntime) -> Result<(), Fail> {
 
 #[test]
 fn bad_lines(rt: HostRuntime) -> Result<(), Fail> {
-    let cases: [&[u8]; 74] = [
+    let cases: [&[u8]; 108] = [
         b"",
         b" ",
         b"begin",
@@ -345,6 +366,40 @@ fn bad_lines(rt: HostRuntime) -> Result<(), Fail> {
         b"release",
         b"release  0",
         b"release 0 1",
+        b"openindex",
+        b"openindex 0",
+        b"openindex 0 0",
+        b"openindex 0 0 0",
+        b"openindex 0 0 0 ",
+        b"openindex 0 0 0 0 0",
+        b"openindex 256 0 0 0",
+        b"openindex 0 256 0 0",
+        b"openindex 0 0 -0 0",
+        b"openindex 0 0 0 -0",
+        b"openindex 0 0 00 1",
+        b"openindex 0 0 0 01",
+        b"openindex 0 0 +1 2",
+        b"openindex 0 0 - 2",
+        b"openindex 0 0 170141183460469231731687303715884105728 0",
+        b"openindex 0 0 0 170141183460469231731687303715884105728",
+        b"openindex 0 0 -170141183460469231731687303715884105729 0",
+        b"openindex 0 0 0 -170141183460469231731687303715884105729",
+        b"openindex  0 0 0 0",
+        b"openindexes 0 0 0 0",
+        b"openheap",
+        b"openheap 256",
+        b"openheap 0 0",
+        b"open 0",
+        b"next",
+        b"next 0",
+        b"next 0 65536",
+        b"next 0 -1",
+        b"next 0 00",
+        b"next 256 0",
+        b"next 0 1 1",
+        b"close",
+        b"close 256",
+        b"close 0 0",
         b"entries",
         b"entries ",
         b"entries 256",

@@ -2,7 +2,7 @@
 
 ghost use Rattle.std.specs.Prelude.{◌≡◌, ◌<◌, ◌≤◌, ◌==◌, length, position, IfOk, IfSome};
 ghost use Rattle.std.specs.Option.{option_map};
-ghost use Rattle.script.specs.Reading.{cut as cut_of, digits_on, number_of, number_then as number_then_of, column_of, column_then as column_then_of, nibble_of, pairs_of, body_of};
+ghost use Rattle.script.specs.Reading.{cut as cut_of, digits_on, number_of, number_then as number_then_of, column_of, column_then as column_then_of, bound_of, bound_then as bound_then_of, nibble_of, pairs_of, body_of};
 
 use std::alloc::{AllocError, Global};
 
@@ -64,7 +64,41 @@ pub(crate) fn number_then(text: &[u8], max: u64) -> Option<(u64, &[u8])>
     Some((n, rest))
 }
 
-#[tactic(auto, unfolding(crate::specs::Reading::column_of))]
+// The same of a number that has up to 128 bits.
+#[tactic(auto, unfolding(crate::specs::Reading::number_of))]
+fn wide_number(word: &[u8], max: u128) -> Option<u128>
+    ensures value { result ≡ number_of max word.now }
+    ensures bound { IfSome result (λ n. n ≤ max) }
+{
+    if word.is_empty() {
+        return None;
+    }
+    if word[0] == b'0' && word.len() > 1 {
+        return None;
+    }
+    wide_digits(word, max)
+}
+
+#[tactic(auto, unfolding(crate::specs::Reading::digits_on), using(crate::proofs::ReadingLemmas::read_lemmas))]
+fn wide_digits(word: &[u8], max: u128) -> Option<u128>
+    ensures value { result ≡ digits_on max 0 word.now }
+    ensures bound { IfSome result (λ n. n ≤ max) }
+{
+    let mut n: u128 = 0;
+    for b in word {
+        if !b.is_ascii_digit() {
+            return None;
+        }
+        let digit = u128::from(*b - b'0');
+        match n.checked_mul(10).and_then(|m| m.checked_add(digit)) {
+            Some(m) if m <= max => n = m,
+            _ => return None,
+        }
+    }
+    Some(n)
+}
+
+#[tactic(auto, unfolding(crate::specs::Reading::signed_of))]
 fn column(word: &[u8]) -> Option<i64>
     ensures { result ≡ column_of word.now }
 {
@@ -82,13 +116,41 @@ fn column(word: &[u8]) -> Option<i64>
 }
 
 // A column, and what stands behind the space after it.
-#[tactic(auto, unfolding(crate::specs::Reading::column_then))]
+#[tactic(auto, unfolding(crate::specs::Reading::signed_then))]
 pub(crate) fn column_then(text: &[u8]) -> Option<(i64, &[u8])>
     ensures { option_map (λ x. (x.0, x.1.now)) result ≡ column_then_of text.now }
 {
     let (word, rest) = cut(text)?;
     let c = column(word)?;
     Some((c, rest))
+}
+
+// A bound of a cursor in an index.
+#[tactic(auto, unfolding(crate::specs::Reading::signed_of))]
+pub(crate) fn bound(word: &[u8]) -> Option<i128>
+    ensures { result ≡ bound_of word.now }
+{
+    if !word.is_empty() && word[0] == b'-' {
+        let n = wide_number(&word[1..], 1 << 127)?;
+        if n == 0 {
+            None
+        } else {
+            Some(-((n - 1) as i128) - 1)
+        }
+    } else {
+        let n = wide_number(word, i128::MAX as u128)?;
+        Some(n as i128)
+    }
+}
+
+// A bound, and what stands behind the space after it.
+#[tactic(auto, unfolding(crate::specs::Reading::signed_then))]
+pub(crate) fn bound_then(text: &[u8]) -> Option<(i128, &[u8])>
+    ensures { option_map (λ x. (x.0, x.1.now)) result ≡ bound_then_of text.now }
+{
+    let (word, rest) = cut(text)?;
+    let b = bound(word)?;
+    Some((b, rest))
 }
 
 #[tactic(auto, unfolding(crate::specs::Reading::nibble_of))]

@@ -1,6 +1,6 @@
--- What is found through the index is what is found on the heap.
+-- What is found through an index is what is found on the heap.
 use Rattle.std.proofs.Common.{◌≡◌, ℕ, List, [], length, Option, sym, ap, ◌∙◌, subst}
-use Rattle.std.specs.Prelude.{◌↔◌, pos, Contains}
+use Rattle.std.specs.Prelude.{◌↔◌, ℤ, Contains}
 use Rattle.std.proofs.lemmas.Option.{same_Some}
 use Rattle.xid_circle.specs.declared.Tid.{Tid}
 use Rattle.tuple_header.specs.declared.version.Row.{Row}
@@ -10,7 +10,10 @@ use Rattle.snapshot.specs.Snap.{Snap, Sees}
 use Rattle.visibility.specs.Visible as visibility
 use Rattle.sound_entries.specs.Leading.{IsOnHeap}
 use Rattle.sound_entries.proofs.Leads.{visible-found}
-use Rattle.heap_write.specs.Heap.{slots_of, key_value}
+use Rattle.heap_write.specs.Heap.{slots_of}
+use Rattle.heap_write.specs.Indexes.{entries_in, IsInUse}
+use Rattle.sound_writes.proofs.InUse.{index-sound}
+use Rattle.history.specs.Cursors.{value_in}
 use Rattle.history.specs.History.{committed}
 use Rattle.history.specs.World.{World, OpenSession, view}
 use Rattle.session_relation.specs.Visible.{IsCommitted, IsVisible, VisibleBy, by_itself, by_others}
@@ -25,19 +28,27 @@ use Rattle.session_core.proofs.Owns.{reader-is, now_taken, taken-fresh}
 use Rattle.session_core.proofs.Searches.{visible-to, visible-from}
 
 -- a reader whose own ids are in progress, and what it finds on the heap
-by-index : (st : State) (w : World) (s : Snap) (own : List ℕ) (row : ℕ → Option Row) → Agrees st w → ((x : ℕ) → Contains own x → window.IsActive st.heap.table x)
-    → relation.Shows (seen st).version (IsVisible (state_of st.heap.table) (λ x. Sees s st.heap.table x) own) row → FindsRows st.heap s own row
-by-index st w s own row agrees active shows = record {
-  sound = λ k p t found. let h = (on-heap k p t).1 found in ap row (sym h.of_key) ∙ shows.sound p t h.there (visible-to st.heap.table s own t h.has);
-  there = λ k r is. let some = shows.there k r is in
-      (some.0, some.1, (on-heap k some.0 some.1).0 (record { there = some.2; of_value = ap (λ n. pos n) some.3; of_key = some.3; has = visible-from st.heap.table s own some.1 some.4 }));
-  one = λ k p q t u found found'. let h = (on-heap k p t).1 found in let h' = (on-heap k q u).1 found' in
+by-index : (st : State) (w : World) (n : ℕ) (s : Snap) (own : List ℕ) (row : ℕ → Option Row) → Agrees st w → IsInUse st.heap.indexes n → ((x : ℕ) → Contains own x → window.IsActive st.heap.table x)
+    → relation.Shows (seen st).version (IsVisible (state_of st.heap.table) (λ x. Sees s st.heap.table x) own) row → FindsRows st.heap s own n row
+by-index st w n s own row agrees used active shows = record {
+  sound = λ value k p t found. let h = (on-heap value k p t).1 found in
+      (ap row (sym h.of_key) ∙ shows.sound p t h.there (visible-to st.heap.table s own t h.has), h.of_value);
+  there = λ k r is.
+      let some = shows.there k r is in
+      let same : some.1.row ≡ r = same_Some some.1.row r (sym (shows.sound some.0 some.1 some.2 some.4) ∙ (ap row some.3 ∙ is)) in (
+        some.0,
+        some.1,
+        (on-heap (value_in n r) k some.0 some.1).0
+            (record { there = some.2; of_value = ap (λ (r : Row). value_in n r) same; of_key = some.3; has = visible-from st.heap.table s own some.1 some.4 }),
+      );
+  one = λ value other k p q t u found found'. let h = (on-heap value k p t).1 found in let h' = (on-heap other k q u).1 found' in
       shows.one p q t u h.there h'.there (visible-to st.heap.table s own t h.has) (visible-to st.heap.table s own u h'.has) (h.of_key ∙ sym h'.of_key);
 }
   where
-    on-heap : (k : ℕ) (p : Tid) (t : Version)
-        → IsOnHeap key_value (slots_of st.heap) (pos k) k (λ t. visibility.IsVisible st.heap.table s own t.header) p t ↔ IsFound st.heap s own k p t
-    on-heap k p t = visible-found key_value st.heap.table (horizon_of st) (slots_of st.heap) st.heap.index.entries agrees.sound.table.sound s own active (pos k) k p t
+    on-heap : (value : ℤ) (k : ℕ) (p : Tid) (t : Version)
+        → IsOnHeap (value_in n) (slots_of st.heap) value k (λ t. visibility.IsVisible st.heap.table s own t.header) p t ↔ IsFound st.heap s own n value k p t
+    on-heap value k p t = visible-found (value_in n) st.heap.table (horizon_of st) (slots_of st.heap) (entries_in st.heap.indexes n)
+        (index-sound st.heap (horizon_of st) agrees.sound.table n used) s own active value k p t
 
 -- one that would begin now sees what is committed
 fresh : (st : State) (w : World) → Agrees st w → relation.Shows (seen st).version (IsVisible (state_of st.heap.table) (λ x. Sees (now_taken st) st.heap.table x) []) (committed w.history (length w.history))
@@ -60,12 +71,12 @@ fresh st w agrees = record {
     }
 
 pub views-by-index : ViewsByIndex
-views-by-index st w agrees = (
+views-by-index st w agrees n used = (
   λ s e m at there.
       let open_ = agrees.found.opened s (reader_of e) (reader-is st s e at) in
       let is : open_.0 ≡ m = same_Some open_.0 m (sym open_.1 ∙ there) in
-      by-index st w e.snapshot e.own.ids (view w.history m) agrees (λ x mine. active-to st.heap.table x (open_.2.own_active x mine))
+      by-index st w n e.snapshot e.own.ids (view w.history m) agrees used (λ x mine. active-to st.heap.table x (open_.2.own_active x mine))
       (subst (λ (n : OpenSession). relation.Shows (seen st).version (IsVisible (state_of st.heap.table) (λ x. Sees e.snapshot st.heap.table x) e.own.ids) (view w.history n)) is
       (theory.reads_rows (seen st) w s (reader_of e) (reader-is st s e at) agrees.found)),
-  by-index st w (now_taken st) [] (committed w.history (length w.history)) agrees (λ x mine. absurd (none_own x mine)) (fresh st w agrees),
+  by-index st w n (now_taken st) [] (committed w.history (length w.history)) agrees used (λ x mine. absurd (none_own x mine)) (fresh st w agrees),
 )

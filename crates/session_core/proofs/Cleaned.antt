@@ -1,4 +1,5 @@
 -- A page is pruned, and no session can tell.
+use Rattle.session_core.proofs.InUse.{still-in_use}
 use Rattle.std.proofs.Common.{◌≡◌, ◌≢◌, ℕ, zero, suc, ◌≤◌, List, Option, Some, false, refl, sym, ap, ◌∙◌, subst, ◌⊎◌, inl, inr, arith}
 use Rattle.std.proofs.lemmas.Option.{same_Some}
 use Rattle.xid_circle.specs.declared.Tid.{Tid}
@@ -77,7 +78,7 @@ module _ (st : State) (w : World) (agrees : Agrees st w) (n : ℕ) where
   before-past : (i k : ℕ) (v u : Version) → version_at slots i ≡ Some v → link st.heap.table slots i ≡ Some k → version_at slots k ≡ Some u → IsPast st u → IsPast st v
   before-past i k v u at next bt past =
       let l = link-of (has_aborted st.heap.table) slots i k next in
-      let page = agrees.sound.table.sound.heap n in
+      let page = agrees.sound.table.heap n in
       let old : l.old ≡ v = same_Some l.old v (sym l.from ∙ at) in
       let new : l.new ≡ u = same_Some l.new u (sym l.to ∙ bt) in
       let made : u.header.xmin.0 ≡ v.header.xmax.0 = ap (λ (t : Version). t.header.xmin.0) (sym new) ∙ l.made ∙ ap (λ (t : Version). t.header.xmax.0) old in
@@ -142,6 +143,8 @@ pruned st h p w prunes agrees =
         window = rw table agrees.sound.window;
         sessions = rw table agrees.sound.sessions;
         tops = rw table agrees.sound.tops;
+        indexes = still-in_use st.heap.indexes h.indexes st.settings.indexed stays.in_use agrees.sound.indexes;
+        cursors = λ s e span at is. (stays.in_use span.index).0 (agrees.sound.cursors s e span at is);
         table = subst (λ t. SoundTable h (earliest (next_id t) (held_back st.sessions))) (sym table) stays.sound;
       };
     }

@@ -36,6 +36,8 @@ use Rattle.session_core.specs.declared.session.Session.{Session}
 use Rattle.session_core.specs.State.{State, session_at, seen, state_of, reader_of, holds_back, horizon_of}
 use Rattle.session_core.specs.Agrees.{Agrees, Sound, SessionKeeps, StaysLed}
 use Rattle.session_core.specs.Changes.{Closes, RollsBack}
+use Rattle.session_relation.specs.declared.settings.Settings.{Settings}
+use Rattle.session_core.proofs.InUse.{AreInUse, GoesAlong, still-in_use, same-cursor}
 use Rattle.session_core.proofs.OwnIdsLemmas.{open-within, open-set_cases}
 use Rattle.session_core.proofs.Windows.{active-to, committed-to, state-some}
 use Rattle.session_core.proofs.Owns.{reader-is, reader-at}
@@ -203,8 +205,9 @@ module _ (st : State) (w : World) (agrees : Agrees st w) where
 -- Some ids of a session are finished, and it closes, or becomes another.
 
 pub record Ended (st st' : State) (s : ℕ) (now : Option Session) (ids : List ℕ) (end : Status) : Type 0 where
+  pub settings : st'.settings ≡ st.settings
   pub pages : st'.heap.pages ≡ st.heap.pages
-  pub index : st'.heap.index ≡ st.heap.index
+  pub indexes : st'.heap.indexes ≡ st.heap.indexes
   pub sessions : st'.sessions ≡ set st.sessions s now
   pub finishes : Finishes st.heap.table st'.heap.table ids end
   pub window : IsWindow st'.heap.table
@@ -238,18 +241,23 @@ module _ (st st' : State) (s : ℕ) (e : Session) (now : Option Session) (ids : 
     active = λ x among. active-to st.heap.table x ((agrees.found.opened s (reader_of e) (reader-is st s e at)).2.own_active x (mine x among));
     finishes = change.finishes;
     pages = change.pages;
-    index = change.index;
+    indexes = change.indexes;
   }
 
-  Sound-ended : ((f : Session) → now ≡ Some f → SessionKeeps st'.heap.table f) → (end ≡ Committed → (x : ℕ) → Contains ids x → Contains ids (top_of st.heap.table x))
+  Sound-ended : ((f : Session) → now ≡ Some f → SessionKeeps st'.heap.table f) → ((f : Session) → now ≡ Some f → GoesAlong st.heap.indexes f.cursor) → (end ≡ Committed → (x : ℕ) → Contains ids x → Contains ids (top_of st.heap.table x))
       → StaysSoundTable st.heap st'.heap (horizon_of st) → Sound st'
-  Sound-ended keeps with_tops stays = record {
+  Sound-ended keeps along with_tops stays = record {
     count = ap length change.sessions ∙ (length-set st.sessions s now ∙ agrees.sound.count);
     window = change.window;
     sessions = λ o f bt. elim (still o f bt) [
       | inl same ↦ keeps f same.1
       | inr other ↦ keeps-finish st.heap.table st'.heap.table ids end f change.finishes (agrees.sound.sessions o f other.1)
     ];
+    indexes = still-in_use st.heap.indexes st'.heap.indexes st'.settings.indexed stays.in_use (subst (λ (g : Settings). AreInUse st.heap.indexes g.indexed) (sym change.settings) agrees.sound.indexes);
+    cursors = λ o f span bt is. (stays.in_use span.index).0 (elim (still o f bt) [
+      | inl same ↦ along f same.1 span is
+      | inr other ↦ agrees.sound.cursors o f span other.1 is
+    ]);
     tops = tops-finish st.heap.table st'.heap.table ids end ended change.finishes with_tops agrees.sound.tops;
     table = later-stays-sound st'.heap (horizon_of st) (horizon_of st') stays.sound change.window
         (finishes-upto st.heap.table st'.heap.table ids end (horizon_of st) change.finishes (upto-horizon st w agrees))
@@ -259,7 +267,7 @@ module _ (st st' : State) (s : ℕ) (e : Session) (now : Option Session) (ids : 
 -- A session closes.
 
 ended-closed : (st st' : State) (s : ℕ) (e : Session) (end : Status) → session_at st s ≡ Some e → Closes st st' s end → Ended st st' s None e.own.ids end
-ended-closed st st' s e end at closes = record { pages = closes.pages; index = closes.index; sessions = closes.sessions; finishes = closes.finishes e at; window = closes.window e at }
+ended-closed st st' s e end at closes = record { settings = closes.settings; pages = closes.pages; indexes = closes.indexes; sessions = closes.sessions; finishes = closes.finishes e at; window = closes.window e at }
 
 nobody : {A : Type 0} (f : Session) → None ≡ Some f → A
 nobody f is = absurd (none-some f is)
@@ -269,7 +277,7 @@ commits-sound st st' s e w at closes agrees =
     let change = ended-closed st st' s e Committed at closes in
     let stays = committed-stays st.heap st'.heap (horizon_of st) e.own.ids agrees.sound.table
     (table-finishes st st' s e None e.own.ids Committed (λ e. cc) at change (λ f y is among. nobody f is) w agrees (λ x mine. mine)) (deleted-made st w agrees s e at) in (
-      Sound-ended st st' s e None e.own.ids Committed (λ e. cc) at change (λ f y is among. nobody f is) w agrees (λ f is. nobody f is)
+      Sound-ended st st' s e None e.own.ids Committed (λ e. cc) at change (λ f y is among. nobody f is) w agrees (λ f is. nobody f is) (λ f is. nobody f is)
           (λ done x mine. first-in e.own.ids (top_of st.heap.table x) ((agrees.sound.sessions s e at).topmost x mine)) stays,
       stays.led,
     )
@@ -279,7 +287,7 @@ aborts-sound st st' s e w at closes agrees =
     let change = ended-closed st st' s e Aborted at closes in
     let stays = aborted-stays st.heap st'.heap (horizon_of st) e.own.ids agrees.sound.table
     (table-finishes st st' s e None e.own.ids Aborted (λ e. cc) at change (λ f y is among. nobody f is) w agrees (λ x mine. mine)) (alone-deleted st w agrees s e at) in
-    (Sound-ended st st' s e None e.own.ids Aborted (λ e. cc) at change (λ f y is among. nobody f is) w agrees (λ f is. nobody f is) (λ done x mine. absurd (cc)) stays, stays.led)
+    (Sound-ended st st' s e None e.own.ids Aborted (λ e. cc) at change (λ f y is among. nobody f is) w agrees (λ f is. nobody f is) (λ f is. nobody f is) (λ done x mine. absurd (cc)) stays, stays.led)
 
 -- A session returns to its newest savepoint.
 
@@ -288,17 +296,20 @@ rolls-back-sound st st' s before saved w back is agrees =
     let e = back.session in
     let ids : back.now.own.ids ≡ before = back.back.returns.ids ∙ ap newest is in
     let were : e.own.ids ≡ before ++ back.back.since = back.back.ids ∙ ap (λ xs. xs ++ back.back.since) ids in
-    let change : Ended st st' s (Some back.now) back.back.since Aborted = record { pages = back.back.pages; index = back.back.index; sessions = back.sessions; finishes = back.back.finishes; window = back.back.window } in
+    let change : Ended st st' s (Some back.now) back.back.since Aborted = record { settings = back.settings; pages = back.back.pages; indexes = back.back.indexes; sessions = back.sessions; finishes = back.back.finishes; window = back.back.window } in
     let mine : (x : ℕ) → Contains back.back.since x → Contains e.own.ids x = λ x late. subst (λ xs. Contains xs x) (sym were) (Contains-append_right before back.back.since x late) in
     let stays = aborted-stays st.heap st'.heap (horizon_of st) back.back.since agrees.sound.table
     (table-finishes st st' s e (Some back.now) back.back.since Aborted (λ e. cc) back.at change less w agrees mine) (since-alone st w agrees s e before back.back.since saved back.at is were) in
-    (Sound-ended st st' s e (Some back.now) back.back.since Aborted (λ e. cc) back.at change less w agrees keeps (λ done x among. absurd (cc)) stays, stays.led)
+    (Sound-ended st st' s e (Some back.now) back.back.since Aborted (λ e. cc) back.at change less w agrees keeps along (λ done x among. absurd (cc)) stays, stays.led)
   where
     e : Session
     e = back.session
 
     less : (f : Session) (y : ℕ) → Some back.now ≡ Some f → Contains (holds_back f) y → Contains (holds_back e) y
     less f y same among = fewer-back e back.now back.back.since y back.back.returns.snapshot back.back.ids (subst (λ (g : Session). Contains (holds_back g) y) (sym (same_Some back.now f same)) among)
+
+    along : (f : Session) → Some back.now ≡ Some f → GoesAlong st.heap.indexes f.cursor
+    along f same = same-cursor st.sessions st.heap.indexes s e f back.at (ap (λ (g : Session). g.cursor) (sym (same_Some back.now f same)) ∙ back.back.returns.cursor) agrees.sound.cursors
 
     keeps : (f : Session) → Some back.now ≡ Some f → SessionKeeps st'.heap.table f
     keeps f same = subst (λ f. SessionKeeps st'.heap.table f) (same_Some back.now f same) (keeps-finish st.heap.table st'.heap.table back.back.since Aborted back.now back.back.finishes

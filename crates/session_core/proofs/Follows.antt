@@ -1,7 +1,7 @@
 -- The reply to each step of the engine follows the history.
 use Rattle.std.proofs.Common.{◌≡◌, ℕ, zero, suc, ◌<◌, ◌≤◌, List, [], ◌∷◌, ◌++◌, length, set, Option, Some, None, true, false, refl, sym, ap, ◌∙◌, subst, inl, inr, arith}
 use Rattle.std.proofs.Math.ListN.{length-set}
-use Rattle.std.specs.Prelude.{Contains}
+use Rattle.std.specs.Prelude.{Contains, IsSome}
 use Rattle.std.specs.Option.{option_map}
 use Rattle.std.proofs.lemmas.Option.{same_Some, none-some}
 use Rattle.page_slots.specs.declared.slot.Slot.{Slot}
@@ -14,6 +14,7 @@ use Rattle.sound_entries.specs.Entries.{MayBeLed, same_version, led_on, died}
 use Rattle.sound_entries.specs.Entries as entries
 use Rattle.sound_entries.specs.Looking as looking
 use Rattle.sound_writes.specs.Table.{SoundTable}
+use Rattle.sound_writes.proofs.InUse.{used-by}
 use Rattle.sound_writes.proofs.Keeping.{later-stays-sound}
 use Rattle.commit_status.specs.declared.status.Status.{Status}
 use Rattle.commit_status.specs.declared.status.Status.TheVariants.{Committed, Aborted}
@@ -26,9 +27,9 @@ use Rattle.session_relation.specs.declared.reply.Reply.{Reply}
 use Rattle.session_relation.specs.declared.reply.Reply.TheVariants.{Done, Found, RolledBack, Refused}
 use Rattle.session_relation.specs.declared.reply.Reply.TheVariants as reply
 use Rattle.session_relation.specs.declared.reply.Refusal.{Refusal}
-use Rattle.session_relation.specs.declared.reply.Refusal.TheVariants.{NotOpen, AlreadyOpen, Failed, AlreadyThere, NotThere, Conflict, Busy, TooLarge, NoRoom, NeedsFreeze, NoMemory, NoSuchPage, NoSuchSession, TooDeep, NoSavepoint}
+use Rattle.session_relation.specs.declared.reply.Refusal.TheVariants.{NotOpen, AlreadyOpen, Failed, AlreadyThere, NotThere, Conflict, Busy, TooLarge, NoRoom, NeedsFreeze, NoMemory, NoSuchPage, NoSuchSession, TooDeep, NoSavepoint, CursorOpen, NoCursor, NoSuchIndex, BadBounds}
 use Rattle.session_relation.specs.Writes.{WriteStep, step_of}
-use Rattle.session_relation.specs.Heap.{Heap}
+use Rattle.session_relation.specs.Heap as seen_heap
 use Rattle.session_relation.specs.Agrees as relation
 use Rattle.session_relation.specs.Allowed.{Allows, next}
 use Rattle.session_relation.specs.Finds as finds
@@ -38,11 +39,14 @@ use Rattle.session_relation.proofs.Steps.{OnlyIs, SameSights}
 use Rattle.session_relation.proofs.Follows as theory
 use Rattle.session_relation.proofs.Hindrances as hindrances
 use Rattle.session_core.specs.declared.session.Session.{Session}
-use Rattle.session_core.specs.State.{State, session_at, put_session, seen, state_of, reader_of, as_failed, holds_back, held_back, horizon_of}
+use Rattle.session_core.specs.State.{State, session_at, put_session, seen, state_of, position_of, reader_of, as_failed, holds_back, held_back, horizon_of}
 use Rattle.session_core.specs.Keeps.{open_at}
 use Rattle.session_core.specs.Agrees.{Agrees, Sound, Follows, SessionKeeps, StaysLed}
-use Rattle.session_core.specs.Refuses.{Refuses, RefusesReady}
+use Rattle.session_core.specs.Refuses.{Refuses, RefusesReady, RefusesFree, RefusesBare}
+use Rattle.session_core.specs.declared.cursor.Cursor.{Cursor}
+use Rattle.session_core.specs.declared.cursor.Cursor.TheVariants.{Index, Heap}
 use Rattle.session_core.specs.Changes.{Opens, Closes}
+use Rattle.session_core.proofs.InUse.{GoesAlong, used-still, no-cursor, cursors-put}
 use Rattle.session_core.proofs.OwnIdsLemmas.{open-within, open-set_cases}
 use Rattle.session_core.proofs.StateLemmas.{only-set}
 use Rattle.session_core.proofs.Windows.{active-to, Finishes-from, SameSight-finish, decided}
@@ -59,7 +63,7 @@ stays-led (Some (Redirect k)) may = led_on k refl refl
 stays-led (Some Dead) may = died refl
 
 pub led-same : (st : State) (w : World) → Agrees st w → StaysLed st st
-led-same st w agrees e there still = stays-led (slot_in (slots_of st.heap) e.tid) (agrees.sound.table.sound.index.leads e there)
+led-same st w agrees n e there still = stays-led (slot_in (slots_of st.heap) e.tid) ((agrees.sound.table.indexes n (used-by st.heap.indexes n e there)).leads e there)
 
 -- a step that leaves the engine as it is
 pub Follows-same : (st : State) (step : Step) (r : Reply) → finds.Follows (seen st) step r (seen st) → Follows st step r st
@@ -72,6 +76,10 @@ closed_by st s NoSuchSession is = is
 closed_by st s NotOpen is = (is.0, ap (option_map reader_of) is.1)
 closed_by st s AlreadyOpen is = absurd is
 closed_by st s TooDeep is = absurd is
+closed_by st s CursorOpen is = absurd is
+closed_by st s NoCursor is = absurd is
+closed_by st s NoSuchIndex is = absurd is
+closed_by st s BadBounds is = absurd is
 closed_by st s NoSavepoint is = absurd is
 closed_by st s Failed is = absurd is
 closed_by st s AlreadyThere is = absurd is
@@ -90,6 +98,10 @@ unready_by st s NoSuchSession is = is
 unready_by st s NotOpen is = (is.0, ap (option_map reader_of) is.1)
 unready_by st s AlreadyOpen is = absurd is
 unready_by st s TooDeep is = absurd is
+unready_by st s CursorOpen is = absurd is
+unready_by st s NoCursor is = absurd is
+unready_by st s NoSuchIndex is = absurd is
+unready_by st s BadBounds is = absurd is
 unready_by st s NoSavepoint is = absurd is
 unready_by st s AlreadyThere is = absurd is
 unready_by st s NotThere is = absurd is
@@ -125,6 +137,10 @@ Follows-closed_begin st s NoSuchSession ne is = Follows-no_such_session st s is
 Follows-closed_begin st s NotOpen ne is = absurd (ne refl)
 Follows-closed_begin st s AlreadyOpen ne is = absurd is
 Follows-closed_begin st s TooDeep ne is = absurd is
+Follows-closed_begin st s CursorOpen ne is = absurd is
+Follows-closed_begin st s NoCursor ne is = absurd is
+Follows-closed_begin st s NoSuchIndex ne is = absurd is
+Follows-closed_begin st s BadBounds ne is = absurd is
 Follows-closed_begin st s NoSavepoint ne is = absurd is
 Follows-closed_begin st s Failed ne is = absurd is
 Follows-closed_begin st s AlreadyThere ne is = absurd is
@@ -137,13 +153,62 @@ Follows-closed_begin st s NeedsFreeze ne is = absurd is
 Follows-closed_begin st s NoMemory ne is = absurd is
 Follows-closed_begin st s NoSuchPage ne is = absurd is
 
+-- a cursor as readers see it
+
+pub some-position : (o : Option Cursor) → IsSome o → IsSome (position_of o)
+some-position None some = absurd (let e : IsSome {T = Cursor} None = some in cc)
+some-position (Some (Index span)) some = refl
+some-position (Some (Heap page)) some = refl
+
+pub free_by : (st : State) (s : ℕ) (r : Refusal) → RefusesFree st s r → theory.IsBarred (seen st) s r
+free_by st s CursorOpen is = (reader_of is.1, ap (option_map reader_of) is.2, is.3, some-position is.1.cursor is.4)
+free_by st s NoSuchSession is = unready_by st s NoSuchSession is
+free_by st s NotOpen is = unready_by st s NotOpen is
+free_by st s Failed is = unready_by st s Failed is
+free_by st s AlreadyOpen is = absurd is
+free_by st s AlreadyThere is = absurd is
+free_by st s NotThere is = absurd is
+free_by st s Conflict is = absurd is
+free_by st s (Busy o) is = absurd is
+free_by st s TooDeep is = absurd is
+free_by st s NoSavepoint is = absurd is
+free_by st s NoCursor is = absurd is
+free_by st s NoSuchIndex is = absurd is
+free_by st s BadBounds is = absurd is
+free_by st s TooLarge is = absurd is
+free_by st s NoRoom is = absurd is
+free_by st s NeedsFreeze is = absurd is
+free_by st s NoMemory is = absurd is
+free_by st s NoSuchPage is = absurd is
+
+pub bare_by : (st : State) (s : ℕ) (r : Refusal) → RefusesBare st s r → theory.IsBare (seen st) s r
+bare_by st s NoCursor is = (reader_of is.1, ap (option_map reader_of) is.2, is.3, ap position_of is.4)
+bare_by st s NoSuchSession is = unready_by st s NoSuchSession is
+bare_by st s NotOpen is = unready_by st s NotOpen is
+bare_by st s Failed is = unready_by st s Failed is
+bare_by st s AlreadyOpen is = absurd is
+bare_by st s AlreadyThere is = absurd is
+bare_by st s NotThere is = absurd is
+bare_by st s Conflict is = absurd is
+bare_by st s (Busy o) is = absurd is
+bare_by st s TooDeep is = absurd is
+bare_by st s NoSavepoint is = absurd is
+bare_by st s CursorOpen is = absurd is
+bare_by st s NoSuchIndex is = absurd is
+bare_by st s BadBounds is = absurd is
+bare_by st s TooLarge is = absurd is
+bare_by st s NoRoom is = absurd is
+bare_by st s NeedsFreeze is = absurd is
+bare_by st s NoMemory is = absurd is
+bare_by st s NoSuchPage is = absurd is
+
 -- Begin.
 
-opened_reader : (e : Session) (snapshot : Snap) → e.snapshot ≡ snapshot → e.own.ids ≡ [] → e.own.saved ≡ [] → e.failed ≡ false → reader_of e ≡ new_session snapshot
-opened_reader e snapshot a b c d = rw (a, b, c, d) refl
+opened_reader : (e : Session) (snapshot : Snap) → e.snapshot ≡ snapshot → e.own.ids ≡ [] → e.own.saved ≡ [] → e.failed ≡ false → e.cursor ≡ None → reader_of e ≡ new_session snapshot
+opened_reader e snapshot a b c d f = rw (a, b, c, d, f) refl
 
-pub Sound-opens : (st : State) (w : World) (s : ℕ) (e : Session) → s < 64 → e.snapshot ≡ now_taken st → e.own.ids ≡ [] → e.own.saved ≡ [] → Agrees st w → Sound (put_session st s (Some e))
-Sound-opens st w s e within snapshot ids saved agrees = record {
+pub Sound-opens : (st : State) (w : World) (s : ℕ) (e : Session) → s < 64 → e.snapshot ≡ now_taken st → e.own.ids ≡ [] → e.own.saved ≡ [] → e.cursor ≡ None → Agrees st w → Sound (put_session st s (Some e))
+Sound-opens st w s e within snapshot ids saved bare agrees = record {
   count = length-set st.sessions s (Some e) ∙ agrees.sound.count;
   window = agrees.sound.window;
   sessions = λ o f at. elim (open-set_cases st.sessions s o (Some e) f (let count = agrees.sound.count in omega arith) at) [
@@ -151,6 +216,8 @@ Sound-opens st w s e within snapshot ids saved agrees = record {
     | inr other ↦ agrees.sound.sessions o f other.1
   ];
   tops = agrees.sound.tops;
+  indexes = agrees.sound.indexes;
+  cursors = cursors-put st.sessions st.heap.indexes st.heap.indexes s e within' (used-still st.heap.indexes) (no-cursor st.heap.indexes e.cursor bare) agrees.sound.cursors;
   table = later-stays-sound st.heap (horizon_of st) (horizon_of (put_session st s (Some e))) agrees.sound.table agrees.sound.window (upto-horizon st w agrees)
       (horizon-upto st.heap.table (set st.sessions s (Some e)) agrees.sound.window (held-then held-upto)) later-then;
 }
@@ -196,16 +263,16 @@ Follows-begin st st' s snapshot within idle is opens w agrees =
     let now : OnlyIs (seen st).session (seen (put_session st s (Some e))).session s (Some (new_session (now_taken st))) =
     record {
       others = (only-set st s (Some e) (omega arith)).others;
-      itself = (only-set st s (Some e) (omega arith)).itself ∙ ap Some (opened_reader e (now_taken st) (opens.with_snapshot ∙ is) opens.no_ids opens.unsaved opens.sound);
+      itself = (only-set st s (Some e) (omega arith)).itself ∙ ap Some (opened_reader e (now_taken st) (opens.with_snapshot ∙ is) opens.no_ids opens.unsaved opens.sound opens.bare);
     } in
     let f = theory.Follows-begin (seen st) s (now_taken st) (seen (put_session st s (Some e))).session now within (ap (option_map reader_of) idle) (λ w' found. taken-fresh st w agrees) w agrees.found in
     subst (λ st'. Allows w (Begin s) Done × Agrees st' (next w (Begin s) Done) × StaysLed st st') (sym opens.is)
-    (f.0, record { found = f.1; sound = Sound-opens st w s e within (opens.with_snapshot ∙ is) opens.no_ids opens.unsaved agrees }, led-same st w agrees)
+    (f.0, record { found = f.1; sound = Sound-opens st w s e within (opens.with_snapshot ∙ is) opens.no_ids opens.unsaved opens.bare agrees }, led-same st w agrees)
 
 -- Commit and Abort.
 
 -- what readers see of other pages with the rest of the engine
-abbrev with_pages : State → PagesView → Heap
+abbrev with_pages : State → PagesView → seen_heap.Heap
 with_pages st pages = record (seen st) { version = version_in (looking.slots_of pages) }
 
 module _ (st st' : State) (s : ℕ) (e : Session) (end : Status) (at : session_at st s ≡ Some e) (closes : Closes st st' s end) where
@@ -249,11 +316,13 @@ Follows-commit st st' s e at sound closes w agrees =
 
 -- Writes that are refused before they are tried.
 
-pub Follows-unready_write : (st : State) (s : ℕ) (write : WriteStep) (r : Refusal) → RefusesReady st s r → Follows st (step_of s write) (Refused r) st
-Follows-unready_write st s write r is = Follows-same st (step_of s write) (Refused r) (hindrances.Follows-unready_write (seen st) s write r (unready_by st s r is))
+pub Follows-barred_write : (st : State) (s : ℕ) (write : WriteStep) (r : Refusal) → RefusesFree st s r → Follows st (step_of s write) (Refused r) st
+Follows-barred_write st s write r is = Follows-same st (step_of s write) (Refused r) (hindrances.Follows-barred_write (seen st) s write r (free_by st s r is))
 
-pub Follows-too_large : (st : State) (s : ℕ) (e : Session) (write : WriteStep) → session_at st s ≡ Some e → e.failed ≡ false → hindrances.IsTooLarge write → Follows st (step_of s write) (Refused TooLarge) st
-Follows-too_large st s e write at sound large = Follows-same st (step_of s write) (Refused TooLarge) (hindrances.Follows-too_large (seen st) s (reader_of e) write (reader-is st s e at) sound large)
+pub Follows-too_large : (st : State) (s : ℕ) (e : Session) (write : WriteStep) → session_at st s ≡ Some e → e.failed ≡ false → e.cursor ≡ None → hindrances.IsTooLarge write
+    → Follows st (step_of s write) (Refused TooLarge) st
+Follows-too_large st s e write at sound bare large =
+    Follows-same st (step_of s write) (Refused TooLarge) (hindrances.Follows-too_large (seen st) s (reader_of e) write (reader-is st s e at) sound (ap position_of bare) large)
 
 -- a session that holds back what it held back
 same-back : (xs : List (Option Session)) (s : ℕ) (e now : Session) → open_at xs s ≡ Some e → holds_back now ≡ holds_back e → held_back (set xs s (Some now)) ≡ held_back xs
@@ -263,9 +332,9 @@ same-back (Some f ∷ xs) zero e now at same = ap (λ back. back ++ held_back xs
 same-back (None ∷ xs) (suc s) e now at same = same-back xs s e now at same
 same-back (Some f ∷ xs) (suc s) e now at same = ap (λ ys. holds_back f ++ ys) (same-back xs s e now at same)
 
--- a session becomes another, with the same snapshot and first id
-pub Sound-put : (st : State) (s : ℕ) (e now : Session) → session_at st s ≡ Some e → holds_back now ≡ holds_back e → SessionKeeps st.heap.table now → Sound st → Sound (put_session st s (Some now))
-Sound-put st s e now at same keeps sound = record {
+-- a session becomes another, with the same snapshot and first id, whose cursor goes along an index in use
+pub Sound-put : (st : State) (s : ℕ) (e now : Session) → session_at st s ≡ Some e → holds_back now ≡ holds_back e → SessionKeeps st.heap.table now → GoesAlong st.heap.indexes now.cursor → Sound st → Sound (put_session st s (Some now))
+Sound-put st s e now at same keeps along sound = record {
   count = length-set st.sessions s (Some now) ∙ sound.count;
   window = sound.window;
   sessions = λ o f bt. elim (open-set_cases st.sessions s o (Some now) f (open-within st.sessions s e at) bt) [
@@ -273,6 +342,8 @@ Sound-put st s e now at same keeps sound = record {
     | inr other ↦ sound.sessions o f other.1
   ];
   tops = sound.tops;
+  indexes = sound.indexes;
+  cursors = cursors-put st.sessions st.heap.indexes st.heap.indexes s now (open-within st.sessions s e at) (used-still st.heap.indexes) along sound.cursors;
   table = subst (λ back. SoundTable st.heap (earliest (next_id st.heap.table) back)) (sym (same-back st.sessions s e now at same)) sound.table;
 }
 
@@ -280,4 +351,4 @@ pub Sound-fails : (st : State) (s : ℕ) (e : Session) → session_at st s ≡ S
 Sound-fails st s e at sound =
     let h = sound.sessions s e at in
     subst (λ o. Sound (put_session st s (option_map as_failed o))) (sym at)
-    (Sound-put st s e (as_failed e) at refl (record { snapshot = h.snapshot; topmost = h.topmost; fronts = h.fronts; distinct = h.distinct }) sound)
+    (Sound-put st s e (as_failed e) at refl (record { snapshot = h.snapshot; topmost = h.topmost; fronts = h.fronts; distinct = h.distinct }) (λ span is. sound.cursors s e span at is) sound)

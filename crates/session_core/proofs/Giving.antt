@@ -20,7 +20,8 @@ use Rattle.snapshot.proofs.Levels.{level-among, level-mine, level-none, level-so
 use Rattle.heap_write.specs.Heap.{HeapView, SameIds}
 use Rattle.heap_write.specs.Writes.{GivesUnder, TakesIds}
 use Rattle.heap_write.proofs.GivenIds.{given-first, given-next, given-upto, given-status, given-top_old, given-active, given-new, given-distinct, given-top, given-top_first, given-late}
-use Rattle.sound_writes.specs.Table.{SoundTable}
+use Rattle.sound_writes.specs.Table.{SoundTable, StaysSoundTable}
+use Rattle.session_core.proofs.InUse.{still-in_use, cursors-put, same-cursor}
 use Rattle.sound_writes.proofs.Keeping.{later-stays-sound}
 use Rattle.history.specs.World.{World}
 use Rattle.session_relation.specs.Heap as relation
@@ -49,7 +50,7 @@ with_write st h s e = record { settings = st.settings; heap = h; sessions = set 
 -- A session that has as much memory or more, and is otherwise the same.
 
 reader-same : (e e' : Session) → SameSession e e' → reader_of e' ≡ reader_of e
-reader-same e e' same = rw (same.snapshot, same.own.ids, same.own.saved, same.failed) refl
+reader-same e e' same = rw (same.snapshot, same.own.ids, same.own.saved, same.failed, same.cursor) refl
 
 pub sessions-same : (xs : List (Option Session)) (s : ℕ) (e e' : Session) → open_at xs s ≡ Some e → SameSession e e' → (o : ℕ) → option_map reader_of (open_at (set xs s (Some e')) o) ≡ option_map reader_of (open_at xs o)
 sessions-same xs s e e' at same o = elim (cases_eq o s) [
@@ -84,7 +85,7 @@ keeps-spared w k e e' same h = record {
 }
 
 itself : (e : Session) → SameSession e e
-itself e = record { snapshot = refl; own = record { ids = refl; saved = refl }; failed = refl }
+itself e = record { snapshot = refl; own = record { ids = refl; saved = refl }; failed = refl; cursor = refl }
 
 -- what readers see of the ids
 found-spared : (slots : List (List Slot)) (w v : Window) (xs : List (Option Session)) (m : World) → SameIds w v → theory.Agrees (seen_in slots w xs) m → theory.Agrees (seen_in slots v xs) m
@@ -196,8 +197,9 @@ module _ (st : State) (w : World) (h : HeapView) (s : ℕ) (e e' : Session) (at 
       held = held-then {P = λ y. IsUpToNext h.table y} st.sessions s e e' at (λ o f y bt among. upto y (held-in st w agrees o f y bt among)) (λ y among. (mine y among).0)
 
   -- the session's ids stay
-  pub Sound-kept : SameSession e e' → SameIds st.heap.table h.table → SoundTable h (horizon_of st) → Sound (with_write st h s e')
-  Sound-kept same ids sound =
+  pub Sound-kept : SameSession e e' → SameIds st.heap.table h.table → StaysSoundTable st.heap h (horizon_of st) → Sound (with_write st h s e')
+  Sound-kept same ids stays =
+      let sound = stays.sound in
       let is = spared-is st.heap.table h.table ids in
       let k = h.table.spare in
       let table = st.heap.table in
@@ -208,6 +210,8 @@ module _ (st : State) (w : World) (h : HeapView) (s : ℕ) (e e' : Session) (at 
           | inl now ↦ subst (λ f. SessionKeeps (spared table k) f) (same_Some e' f now.1) (keeps-spared table k e e' same (agrees.sound.sessions s e at))
           | inr other ↦ keeps-spared table k f f (itself f) (agrees.sound.sessions o f other.1)
         ]);
+        indexes = still-in_use st.heap.indexes h.indexes st.settings.indexed stays.in_use agrees.sound.indexes;
+        cursors = cursors-put st.sessions st.heap.indexes h.indexes s e' (open-within st.sessions s e at) stays.in_use (same-cursor st.sessions st.heap.indexes s e e' at same.cursor agrees.sound.cursors) agrees.sound.cursors;
         tops = rw is (λ x done active. agrees.sound.tops x done (subst (λ y. IsInProgress table y) (top-spared table k x) active));
         table = later-sound (rw is (window-spared table k agrees.sound.window)) ids.first (subst (λ n. turns table.first (next_id table) ≤ turns table.first n) (sym (ap next_id is)) (omega arith))
             (λ y upto. rw is (upto-spared table k y upto))
@@ -217,8 +221,9 @@ module _ (st : State) (w : World) (h : HeapView) (s : ℕ) (e e' : Session) (at 
       }
 
   -- the session has taken ids
-  pub Sound-given : (own : Own) (x : ℕ) → TakesIds st.heap.table h.table e.own own x → e' ≡ with_own e own → IsWindow h.table → SoundTable h (horizon_of st) → Sound (with_write st h s e')
-  Sound-given own x takes is window sound =
+  pub Sound-given : (own : Own) (x : ℕ) → TakesIds st.heap.table h.table e.own own x → e' ≡ with_own e own → IsWindow h.table → StaysSoundTable st.heap h (horizon_of st) → Sound (with_write st h s e')
+  Sound-given own x takes is window stays =
+      let sound = stays.sound in
       let table = st.heap.table in
       let parent = level_id e.own.ids e.own.saved in
       let there : (o : ℕ) (f : Session) → session_at st o ≡ Some f → (y : ℕ) → Contains f.own.ids y → IsGiven table y =
@@ -230,6 +235,8 @@ module _ (st : State) (w : World) (h : HeapView) (s : ℕ) (e e' : Session) (at 
           | inl now ↦ subst (λ f. SessionKeeps h.table f) (sym is ∙ same_Some e' f now.1) (keeps-taken table h.table e own x window takes (there s e at) (agrees.sound.sessions s e at))
           | inr other ↦ keeps-give takes.given table h.table parent f window takes.gives (there o f other.1) (agrees.sound.sessions o f other.1)
         ];
+        indexes = still-in_use st.heap.indexes h.indexes st.settings.indexed stays.in_use agrees.sound.indexes;
+        cursors = cursors-put st.sessions st.heap.indexes h.indexes s e' (open-within st.sessions s e at) stays.in_use (same-cursor st.sessions st.heap.indexes s e e' at (ap (λ (f : Session). f.cursor) is) agrees.sound.cursors) agrees.sound.cursors;
         tops = tops-given takes.given table h.table parent window takes.gives agrees.sound.tops;
         table = later-sound window (given-first takes.given table h.table parent takes.gives) (given-next takes.given table h.table parent takes.gives window)
             (λ y upto. given-upto takes.given table h.table parent y takes.gives upto) (mine-then own x takes is window) sound;

@@ -7,7 +7,7 @@ use Rattle.history.specs.World.{World}
 use Rattle.session_relation.specs.declared.step.Step.TheVariants.{Begin, Insert, Delete}
 use Rattle.session_relation.specs.declared.reply.Reply.TheVariants.{Refused}
 use Rattle.session_relation.specs.declared.reply.Refusal.{Refusal}
-use Rattle.session_relation.specs.declared.reply.Refusal.TheVariants.{NotOpen, AlreadyOpen, Failed, AlreadyThere, NotThere, Conflict, Busy, TooLarge, NoRoom, NeedsFreeze, NoMemory, NoSuchPage, NoSuchSession, TooDeep, NoSavepoint}
+use Rattle.session_relation.specs.declared.reply.Refusal.TheVariants.{NotOpen, AlreadyOpen, Failed, AlreadyThere, NotThere, Conflict, Busy, TooLarge, NoRoom, NeedsFreeze, NoMemory, NoSuchPage, NoSuchSession, TooDeep, NoSavepoint, CursorOpen, NoCursor, NoSuchIndex, BadBounds}
 use Rattle.session_relation.specs.Words.{RowText, FitsRow}
 use Rattle.session_relation.specs.Writes.{WriteStep, inserts, updates, deletes, step_of, key_of, Asks}
 use Rattle.session_relation.specs.Finds.{Begins}
@@ -16,14 +16,14 @@ use Rattle.session_core.specs.declared.session.Session.{Session}
 use Rattle.session_core.specs.State.{State, session_at, put_session, refused_state, seen, reader_of, as_failed}
 use Rattle.session_core.specs.Agrees.{Agrees, Follows}
 use Rattle.session_core.specs.Tests.{Reads, IsLate, IsHeld, HindersInsert, HindersChange}
-use Rattle.session_core.specs.Refuses.{Refuses, RefusesReady}
+use Rattle.session_core.specs.Refuses.{Refuses, RefusesFree}
 use Rattle.session_core.specs.Exact.{ExactInsert, ExactUpdate, ExactDelete, Exact}
 use Rattle.session_core.specs.Follows.{FollowsInsert, FollowsUpdate}
 use Rattle.session_core.proofs.OwnIdsLemmas.{open-within}
 use Rattle.session_core.proofs.StateLemmas.{only-set}
 use Rattle.session_core.proofs.Owns.{reader-is}
 use Rattle.session_core.proofs.Searches.{late-to, not-late, held-to, begins-none, begins-some, target-of}
-use Rattle.session_core.proofs.Follows.{Follows-same, Follows-unready_write, led-same, Sound-fails}
+use Rattle.session_core.proofs.Follows.{Follows-same, Follows-barred_write, led-same, Sound-fails}
 
 -- A later commit, or another session, has written the key.
 
@@ -70,12 +70,16 @@ insert-hindered st s text AlreadyThere fits (e, p, reads) = λ w agrees.
     (hindrances.Follows-already_there (seen st) s (reader_of e) text t.0.row (begins-some st s e text.key p t.0 reads t.1) fits) w agrees
 insert-hindered st s text Conflict fits d = conflicts st s d.session (inserts text) d.reads.at d.delays (vacant st s d.session text fits d.reads)
 insert-hindered st s text (Busy o) fits d = busies st s o d.session (inserts text) d.reads.at d.delays (vacant st s d.session text fits d.reads)
-insert-hindered st s text Failed fits is = Follows-unready_write st s (inserts text) Failed is
-insert-hindered st s text NotOpen fits is = Follows-unready_write st s (inserts text) NotOpen is
-insert-hindered st s text NoSuchSession fits is = Follows-unready_write st s (inserts text) NoSuchSession is
+insert-hindered st s text Failed fits is = Follows-barred_write st s (inserts text) Failed is
+insert-hindered st s text NotOpen fits is = Follows-barred_write st s (inserts text) NotOpen is
+insert-hindered st s text NoSuchSession fits is = Follows-barred_write st s (inserts text) NoSuchSession is
 insert-hindered st s text NotThere fits is = absurd is
 insert-hindered st s text AlreadyOpen fits is = absurd is
 insert-hindered st s text TooDeep fits is = absurd is
+insert-hindered st s text CursorOpen fits is = Follows-barred_write st s (inserts text) CursorOpen is
+insert-hindered st s text NoCursor fits is = absurd is
+insert-hindered st s text NoSuchIndex fits is = absurd is
+insert-hindered st s text BadBounds fits is = absurd is
 insert-hindered st s text NoSavepoint fits is = absurd is
 insert-hindered st s text TooLarge fits is = absurd is
 insert-hindered st s text NoRoom fits is = absurd is
@@ -94,12 +98,16 @@ change-hindered st s write NotThere asks needs (e, reads) = λ w agrees.
     Follows-same st (step_of s write) (Refused NotThere) (hindrances.Follows-not_there (seen st) s (reader_of e) write (begins-none st w s e (key_of write) agrees reads) needs) w agrees
 change-hindered st s write Conflict asks needs d = conflicts st s d.1.session write d.1.reads.at d.1.delays (occupied st s d.1.session d.0 write asks d.1.reads)
 change-hindered st s write (Busy o) asks needs d = busies st s o d.1.session write d.1.reads.at d.1.delays (occupied st s d.1.session d.0 write asks d.1.reads)
-change-hindered st s write Failed asks needs is = Follows-unready_write st s write Failed is
-change-hindered st s write NotOpen asks needs is = Follows-unready_write st s write NotOpen is
-change-hindered st s write NoSuchSession asks needs is = Follows-unready_write st s write NoSuchSession is
+change-hindered st s write Failed asks needs is = Follows-barred_write st s write Failed is
+change-hindered st s write NotOpen asks needs is = Follows-barred_write st s write NotOpen is
+change-hindered st s write NoSuchSession asks needs is = Follows-barred_write st s write NoSuchSession is
 change-hindered st s write AlreadyThere asks needs is = absurd is
 change-hindered st s write AlreadyOpen asks needs is = absurd is
 change-hindered st s write TooDeep asks needs is = absurd is
+change-hindered st s write CursorOpen asks needs is = Follows-barred_write st s write CursorOpen is
+change-hindered st s write NoCursor asks needs is = absurd is
+change-hindered st s write NoSuchIndex asks needs is = absurd is
+change-hindered st s write BadBounds asks needs is = absurd is
 change-hindered st s write NoSavepoint asks needs is = absurd is
 change-hindered st s write TooLarge asks needs is = absurd is
 change-hindered st s write NoRoom asks needs is = absurd is
@@ -120,6 +128,10 @@ pub exact-hindered_insert : (st : State) (s : ℕ) (row : Row) (r : Refusal) →
 exact-hindered_insert st s row NotOpen h = refl
 exact-hindered_insert st s row AlreadyOpen h = refl
 exact-hindered_insert st s row TooDeep h = refl
+exact-hindered_insert st s row CursorOpen h = refl
+exact-hindered_insert st s row NoCursor h = refl
+exact-hindered_insert st s row NoSuchIndex h = refl
+exact-hindered_insert st s row BadBounds h = refl
 exact-hindered_insert st s row NoSavepoint h = refl
 exact-hindered_insert st s row Failed h = refl
 exact-hindered_insert st s row AlreadyThere h = refl
@@ -137,6 +149,10 @@ pub exact-hindered_update : (st : State) (s : ℕ) (row : Row) (r : Refusal) →
 exact-hindered_update st s row NotOpen h = refl
 exact-hindered_update st s row AlreadyOpen h = refl
 exact-hindered_update st s row TooDeep h = refl
+exact-hindered_update st s row CursorOpen h = refl
+exact-hindered_update st s row NoCursor h = refl
+exact-hindered_update st s row NoSuchIndex h = refl
+exact-hindered_update st s row BadBounds h = refl
 exact-hindered_update st s row NoSavepoint h = refl
 exact-hindered_update st s row Failed h = refl
 exact-hindered_update st s row AlreadyThere h = refl
@@ -154,6 +170,10 @@ pub exact-hindered_delete : (st : State) (s key : ℕ) (r : Refusal) → Hinders
 exact-hindered_delete st s key NotOpen h = refl
 exact-hindered_delete st s key AlreadyOpen h = refl
 exact-hindered_delete st s key TooDeep h = refl
+exact-hindered_delete st s key CursorOpen h = refl
+exact-hindered_delete st s key NoCursor h = refl
+exact-hindered_delete st s key NoSuchIndex h = refl
+exact-hindered_delete st s key BadBounds h = refl
 exact-hindered_delete st s key NoSavepoint h = refl
 exact-hindered_delete st s key Failed h = refl
 exact-hindered_delete st s key AlreadyThere h = refl
@@ -169,10 +189,14 @@ exact-hindered_delete st s key NoSuchSession h = refl
 
 -- A session that is not open, or has failed, leaves all as it was.
 
-pub exact-unready_insert : (st : State) (s : ℕ) (row : Row) (r : Refusal) → RefusesReady st s r → ExactInsert st s row (Refused r) st
+pub exact-unready_insert : (st : State) (s : ℕ) (row : Row) (r : Refusal) → RefusesFree st s r → ExactInsert st s row (Refused r) st
 exact-unready_insert st s row NotOpen is = refl
 exact-unready_insert st s row AlreadyOpen is = refl
 exact-unready_insert st s row TooDeep is = refl
+exact-unready_insert st s row CursorOpen is = refl
+exact-unready_insert st s row NoCursor is = refl
+exact-unready_insert st s row NoSuchIndex is = refl
+exact-unready_insert st s row BadBounds is = refl
 exact-unready_insert st s row NoSavepoint is = refl
 exact-unready_insert st s row Failed is = refl
 exact-unready_insert st s row AlreadyThere is = refl
@@ -186,10 +210,14 @@ exact-unready_insert st s row NoMemory is = absurd is
 exact-unready_insert st s row NoSuchPage is = refl
 exact-unready_insert st s row NoSuchSession is = refl
 
-pub exact-unready_update : (st : State) (s : ℕ) (row : Row) (r : Refusal) → RefusesReady st s r → ExactUpdate st s row (Refused r) st
+pub exact-unready_update : (st : State) (s : ℕ) (row : Row) (r : Refusal) → RefusesFree st s r → ExactUpdate st s row (Refused r) st
 exact-unready_update st s row NotOpen is = refl
 exact-unready_update st s row AlreadyOpen is = refl
 exact-unready_update st s row TooDeep is = refl
+exact-unready_update st s row CursorOpen is = refl
+exact-unready_update st s row NoCursor is = refl
+exact-unready_update st s row NoSuchIndex is = refl
+exact-unready_update st s row BadBounds is = refl
 exact-unready_update st s row NoSavepoint is = refl
 exact-unready_update st s row Failed is = refl
 exact-unready_update st s row AlreadyThere is = refl
@@ -207,6 +235,10 @@ pub exact-closed : (st : State) (s : ℕ) (r : Refusal) → Refuses st s r → E
 exact-closed st s NotOpen is = refl
 exact-closed st s AlreadyOpen is = refl
 exact-closed st s TooDeep is = refl
+exact-closed st s CursorOpen is = refl
+exact-closed st s NoCursor is = refl
+exact-closed st s NoSuchIndex is = refl
+exact-closed st s BadBounds is = refl
 exact-closed st s NoSavepoint is = refl
 exact-closed st s Failed is = refl
 exact-closed st s AlreadyThere is = refl

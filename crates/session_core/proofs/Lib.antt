@@ -1,3 +1,4 @@
+pub mod InUse
 pub mod OwnIdsLemmas
 pub mod StateLemmas
 pub mod Windows
@@ -12,6 +13,12 @@ pub mod Returning
 pub mod Ends
 pub mod Follows
 pub mod Savepoints
+pub mod CursorSteps
+pub mod Outcomes
+pub mod Walks
+pub mod WalkSteps
+pub mod Standing
+pub mod NextSteps
 pub mod Reading
 pub mod Cleaned
 pub mod Giving

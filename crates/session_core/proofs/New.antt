@@ -12,6 +12,8 @@ use Rattle.page_slots.specs.View.{PageView}
 use Rattle.page_slots.specs.declared.slot.Slot.{Slot}
 use Rattle.sound_entries.specs.Pages.{version_in, slots_on}
 use Rattle.heap_write.specs.Heap.{slots_of}
+use Rattle.heap_write.specs.Indexes.{entries_at, new_entries}
+use Rattle.session_core.proofs.InUse.{new-empty, new-in_use}
 use Rattle.sound_writes.proofs.Keeping.{nothing-stays}
 use Rattle.history.specs.World.{empty}
 use Rattle.session_relation.proofs.Steps.{Agrees-empty}
@@ -37,7 +39,7 @@ no-slots n = refl
 no-version : (pages : List (List Slot)) (p : Tid) → pages ≡ [] → version_in pages p ≡ None
 no-version pages p bare = ap (λ (pages : List (List Slot)). version_in pages p) bare ∙ (ap (λ (slots : List Slot). version_at slots p.slot) (no-slots p.page) ∙ none-at p.slot)
 
-pub Agrees-new : (st : State) → st.heap.pages.pages ≡ [] → st.heap.index.entries ≡ [] → st.heap.table.entries ≡ [] → IsWindow st.heap.table → st.sessions ≡ replicate 64 None → Agrees st empty
+pub Agrees-new : (st : State) → st.heap.pages.pages ≡ [] → ((n : ℕ) → entries_at st.heap.indexes n ≡ new_entries st.settings.indexed n) → st.heap.table.entries ≡ [] → IsWindow st.heap.table → st.sessions ≡ replicate 64 None → Agrees st empty
 Agrees-new st pages index entries window idle = record {
   found = Agrees-empty (seen st)
       (λ p. no-version (slots_of st.heap) p (ap (λ (pages : List PageView). map (λ (p : PageView). p.slots) pages) pages))
@@ -48,7 +50,9 @@ Agrees-new st pages index entries window idle = record {
     window = window;
     sessions = λ s e at. absurd (none-some e (sym (closed s) ∙ at));
     tops = λ x done. absurd (let at = finished-place st.heap.table x (λ active. cc) in none-some at.0 (sym (no-place st.heap.table x entries) ∙ at.1));
-    table = nothing-stays st.heap (horizon_of st) pages index;
+    indexes = new-in_use st.heap.indexes st.settings.indexed index;
+    cursors = λ s e span at is. absurd (none-some e (sym (closed s) ∙ at));
+    table = nothing-stays st.heap (horizon_of st) pages (new-empty st.heap.indexes st.settings.indexed index);
   };
 }
   where

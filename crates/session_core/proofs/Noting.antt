@@ -82,17 +82,17 @@ some-saved (before ∷ saved) some = (before, saved, refl)
 same-one : (st : State) (s : ℕ) (e f : Session) → session_at st s ≡ Some e → session_at st s ≡ Some f → e ≡ f
 same-one st s e f at bt = same_Some e f (sym at ∙ bt)
 
-pub Follows-noted : (st st' : State) (s : ℕ) (e : Session) → session_at st s ≡ Some e → e.failed ≡ false → Becomes st st' s (λ e e'. SavesOne e e') → Follows st (Savepoint s) Done st'
-Follows-noted st st' s e at sound b =
+pub Follows-noted : (st st' : State) (s : ℕ) (e : Session) → session_at st s ≡ Some e → e.failed ≡ false → e.cursor ≡ None → Becomes st st' s (λ e e'. SavesOne e e') → Follows st (Savepoint s) Done st'
+Follows-noted st st' s e at sound bare b =
     let change = subst (λ f. SavesOne f b.now) (same-one st s b.session e b.at at) b.change in
-    Follows-savepoint st st' s e at sound change.1 b.now b.is change.0
+    Follows-savepoint st st' s e at sound bare change.1 b.now b.is change.0
 
-pub Follows-forgotten : (st st' : State) (s : ℕ) (e : Session) → session_at st s ≡ Some e → e.failed ≡ false → length e.own.saved ≢ 0 → Becomes st st' s Releases → Follows st (Release s) Done st'
-Follows-forgotten st st' s e at sound some b =
+pub Follows-forgotten : (st st' : State) (s : ℕ) (e : Session) → session_at st s ≡ Some e → e.failed ≡ false → e.cursor ≡ None → length e.own.saved ≢ 0 → Becomes st st' s Releases → Follows st (Release s) Done st'
+Follows-forgotten st st' s e at sound bare some b =
     let saved = some-saved e.own.saved some in
-    Follows-release st st' s e saved.0 saved.1 at sound saved.2 b.now b.is (subst (λ f. Releases f b.now) (same-one st s b.session e b.at at) b.change)
+    Follows-release st st' s e saved.0 saved.1 at sound bare saved.2 b.now b.is (subst (λ f. Releases f b.now) (same-one st s b.session e b.at at) b.change)
 
-pub Follows-returned : (st st' : State) (s : ℕ) (e : Session) → session_at st s ≡ Some e → length e.own.saved ≢ 0 → RollsBack st st' s → Follows st (RollbackTo s) Done st'
-Follows-returned st st' s e at some back =
+pub Follows-returned : (st st' : State) (s : ℕ) (e : Session) → session_at st s ≡ Some e → e.cursor ≡ None → length e.own.saved ≢ 0 → RollsBack st st' s → Follows st (RollbackTo s) Done st'
+Follows-returned st st' s e at bare some back =
     let saved = some-saved e.own.saved some in
-    Follows-roll_back_to st st' s saved.0 saved.1 back (ap (λ (f : Session). f.own.saved) (same-one st s back.session e back.at at) ∙ saved.2)
+    Follows-roll_back_to st st' s saved.0 saved.1 back (ap (λ (f : Session). f.cursor) (same-one st s back.session e back.at at) ∙ bare) (ap (λ (f : Session). f.own.saved) (same-one st s back.session e back.at at) ∙ saved.2)

@@ -1,4 +1,5 @@
 -- What a session reads.
+use Rattle.heap_write.specs.Indexes.{entries_in}
 use Rattle.std.proofs.Common.{◌≡◌, ℕ, Option, Some, false}
 use Rattle.std.specs.Prelude.{pos}
 use Rattle.tuple_header.specs.declared.version.Row.{Row}
@@ -18,7 +19,7 @@ use Rattle.session_core.proofs.Follows.{Follows-same}
 
 -- the row of the key that the index leads the session to
 abbrev RowOf : State → Session → ℕ → Option Row → Type 0
-RowOf st e k found = FirstFound st.heap.table (IsVisible st.heap.table e.snapshot e.own.ids) (slots_of st.heap) st.heap.index.entries (pos k) k found
+RowOf st e k found = FirstFound st.heap.table (IsVisible st.heap.table e.snapshot e.own.ids) (slots_of st.heap) (entries_in st.heap.indexes 0) (pos k) k found
 
 pub Follows-get : (st : State) (s : ℕ) (e : Session) (k : ℕ) (found : Option Row) → session_at st s ≡ Some e → e.failed ≡ false → RowOf st e k found → Follows st (Get s k) (Found found) st
 Follows-get st s e k found at sound finds = λ w agrees.

@@ -1,6 +1,6 @@
 -- Savepoints of the engine follow the history: the session sets one, returns to its newest, or releases it.
-use Rattle.std.proofs.Common.{◌≡◌, ℕ, ◌<◌, List, [], ◌∷◌, ◌++◌, length, Some, false, refl, sym, ap, ◌∙◌, subst, inl, inr}
-use Rattle.std.specs.Prelude.{Contains}
+use Rattle.std.proofs.Common.{None, ◌≡◌, ℕ, ◌<◌, List, [], ◌∷◌, ◌++◌, length, Some, false, refl, sym, ap, ◌∙◌, subst, inl, inr}
+use Rattle.std.specs.Prelude.{Contains, IsSome}
 use Rattle.std.specs.Option.{option_map}
 use Rattle.std.proofs.lemmas.List.Elements.{Contains-append_right, Contains-append_cases}
 use Rattle.commit_status.specs.declared.status.Status.TheVariants.{Aborted}
@@ -13,8 +13,7 @@ use Rattle.history.specs.World.{World}
 use Rattle.session_relation.specs.declared.step.Step.TheVariants.{Savepoint, RollbackTo, Release}
 use Rattle.session_relation.specs.declared.reply.Reply.TheVariants.{Done, Refused}
 use Rattle.session_relation.specs.declared.reply.Refusal.{Refusal}
-use Rattle.session_relation.specs.declared.reply.Refusal.TheVariants.{NoSavepoint, TooDeep, NoMemory}
-use Rattle.session_relation.specs.Heap.{Heap}
+use Rattle.session_relation.specs.declared.reply.Refusal.TheVariants.{NoSavepoint, TooDeep, NoMemory, CursorOpen}
 use Rattle.session_relation.specs.Heap as relation
 use Rattle.session_relation.specs.Allowed.{Allows, next}
 use Rattle.session_relation.specs.Agrees as theory
@@ -22,9 +21,9 @@ use Rattle.session_relation.specs.Changes as change
 use Rattle.session_relation.proofs.Steps.{OnlyIs, SameSights}
 use Rattle.session_relation.proofs.FollowsSavepoints as savepoints
 use Rattle.session_core.specs.declared.session.Session.{Session}
-use Rattle.session_core.specs.State.{State, session_at, put_session, seen, state_of, reader_of}
+use Rattle.session_core.specs.State.{State, session_at, put_session, seen, state_of, position_of, reader_of}
 use Rattle.session_core.specs.Agrees.{Agrees, Follows, StaysLed}
-use Rattle.session_core.specs.Refuses.{Refuses, RefusesReady}
+use Rattle.session_core.specs.Refuses.{Refuses, RefusesFree}
 use Rattle.session_core.specs.Changes.{SetsSavepoint, Releases, RollsBack}
 use Rattle.session_core.proofs.OwnIdsLemmas.{open-within}
 use Rattle.session_core.proofs.StateLemmas.{only-set}
@@ -32,32 +31,36 @@ use Rattle.session_core.proofs.Windows.{active-to, Finishes-from, SameSight-fini
 use Rattle.session_core.proofs.Owns.{reader-is}
 use Rattle.session_core.proofs.Returning.{same-holds, keeps-saved, keeps-released}
 use Rattle.session_core.proofs.Ends.{rolls-back-sound}
-use Rattle.session_core.proofs.Follows.{Follows-same, closed_by, unready_by, led-same, Sound-put}
+use Rattle.session_core.proofs.InUse.{same-cursor}
+use Rattle.session_core.proofs.Follows.{Follows-same, closed_by, free_by, some-position, led-same, Sound-put}
 
 -- Refusals.
 
-pub Follows-too_deep : (st : State) (s : ℕ) (e : Session) → session_at st s ≡ Some e → e.failed ≡ false → length e.own.saved ≡ 32 → Follows st (Savepoint s) (Refused TooDeep) st
-Follows-too_deep st s e at sound full = Follows-same st (Savepoint s) (Refused TooDeep) (savepoints.Follows-too_deep (seen st) s (reader_of e) (reader-is st s e at) sound full)
+pub Follows-too_deep : (st : State) (s : ℕ) (e : Session) → session_at st s ≡ Some e → e.failed ≡ false → e.cursor ≡ None → length e.own.saved ≡ 32 → Follows st (Savepoint s) (Refused TooDeep) st
+Follows-too_deep st s e at sound bare full = Follows-same st (Savepoint s) (Refused TooDeep) (savepoints.Follows-too_deep (seen st) s (reader_of e) (reader-is st s e at) sound (ap position_of bare) full)
 
-pub Follows-savepoint_no_memory : (st : State) (s : ℕ) (e : Session) → session_at st s ≡ Some e → e.failed ≡ false → length e.own.saved < 32 → Follows st (Savepoint s) (Refused NoMemory) st
-Follows-savepoint_no_memory st s e at sound room =
-    Follows-same st (Savepoint s) (Refused NoMemory) (savepoints.Follows-savepoint_no_memory (seen st) s (reader_of e) (reader-is st s e at) sound room)
+pub Follows-savepoint_no_memory : (st : State) (s : ℕ) (e : Session) → session_at st s ≡ Some e → e.failed ≡ false → e.cursor ≡ None → length e.own.saved < 32 → Follows st (Savepoint s) (Refused NoMemory) st
+Follows-savepoint_no_memory st s e at sound bare room =
+    Follows-same st (Savepoint s) (Refused NoMemory) (savepoints.Follows-savepoint_no_memory (seen st) s (reader_of e) (reader-is st s e at) sound (ap position_of bare) room)
 
-pub Follows-unready_savepoint : (st : State) (s : ℕ) (r : Refusal) → RefusesReady st s r → Follows st (Savepoint s) (Refused r) st
-Follows-unready_savepoint st s r is = Follows-same st (Savepoint s) (Refused r) (savepoints.Follows-unready_savepoint (seen st) s r (unready_by st s r is))
+pub Follows-barred_savepoint : (st : State) (s : ℕ) (r : Refusal) → RefusesFree st s r → Follows st (Savepoint s) (Refused r) st
+Follows-barred_savepoint st s r is = Follows-same st (Savepoint s) (Refused r) (savepoints.Follows-barred_savepoint (seen st) s r (free_by st s r is))
 
-pub Follows-nowhere_to_return : (st : State) (s : ℕ) (e : Session) → session_at st s ≡ Some e → e.own.saved ≡ [] → Follows st (RollbackTo s) (Refused NoSavepoint) st
-Follows-nowhere_to_return st s e at none = Follows-same st (RollbackTo s) (Refused NoSavepoint) (savepoints.Follows-nowhere_to_return (seen st) s (reader_of e) (reader-is st s e at) none)
+pub Follows-nowhere_to_return : (st : State) (s : ℕ) (e : Session) → session_at st s ≡ Some e → e.cursor ≡ None → e.own.saved ≡ [] → Follows st (RollbackTo s) (Refused NoSavepoint) st
+Follows-nowhere_to_return st s e at bare none = Follows-same st (RollbackTo s) (Refused NoSavepoint) (savepoints.Follows-nowhere_to_return (seen st) s (reader_of e) (reader-is st s e at) (ap position_of bare) none)
 
 pub Follows-closed_roll_back_to : (st : State) (s : ℕ) (r : Refusal) → Refuses st s r → Follows st (RollbackTo s) (Refused r) st
 Follows-closed_roll_back_to st s r is = Follows-same st (RollbackTo s) (Refused r) (savepoints.Follows-closed_roll_back_to (seen st) s r (closed_by st s r is))
 
-pub Follows-nothing_to_release : (st : State) (s : ℕ) (e : Session) → session_at st s ≡ Some e → e.failed ≡ false → e.own.saved ≡ [] → Follows st (Release s) (Refused NoSavepoint) st
-Follows-nothing_to_release st s e at sound none =
-    Follows-same st (Release s) (Refused NoSavepoint) (savepoints.Follows-nothing_to_release (seen st) s (reader_of e) (reader-is st s e at) sound none)
+pub Follows-nothing_to_release : (st : State) (s : ℕ) (e : Session) → session_at st s ≡ Some e → e.failed ≡ false → e.cursor ≡ None → e.own.saved ≡ [] → Follows st (Release s) (Refused NoSavepoint) st
+Follows-nothing_to_release st s e at sound bare none =
+    Follows-same st (Release s) (Refused NoSavepoint) (savepoints.Follows-nothing_to_release (seen st) s (reader_of e) (reader-is st s e at) sound (ap position_of bare) none)
 
-pub Follows-unready_release : (st : State) (s : ℕ) (r : Refusal) → RefusesReady st s r → Follows st (Release s) (Refused r) st
-Follows-unready_release st s r is = Follows-same st (Release s) (Refused r) (savepoints.Follows-unready_release (seen st) s r (unready_by st s r is))
+pub Follows-barred_release : (st : State) (s : ℕ) (r : Refusal) → RefusesFree st s r → Follows st (Release s) (Refused r) st
+Follows-barred_release st s r is = Follows-same st (Release s) (Refused r) (savepoints.Follows-barred_release (seen st) s r (free_by st s r is))
+
+pub Follows-barred_roll_back_to : (st : State) (s : ℕ) (e : Session) → session_at st s ≡ Some e → IsSome e.cursor → Follows st (RollbackTo s) (Refused CursorOpen) st
+Follows-barred_roll_back_to st s e at some = Follows-same st (RollbackTo s) (Refused CursorOpen) (savepoints.Follows-barred_roll_back_to (seen st) s (reader_of e) (reader-is st s e at) (some-position e.cursor some))
 
 -- Nothing changes but the session.
 
@@ -65,28 +68,28 @@ Follows-unready_release st s r is = Follows-same st (Release s) (Refused r) (sav
 only-becomes : (st : State) (s : ℕ) (e now : Session) (r : relation.Session) → session_at st s ≡ Some e → reader_of now ≡ r → OnlyIs (seen st).session (seen (put_session st s (Some now))).session s (Some r)
 only-becomes st s e now r at is = let only = only-set st s (Some now) (open-within st.sessions s e at) in record { others = only.others; itself = only.itself ∙ ap Some is }
 
-pub Follows-savepoint : (st st' : State) (s : ℕ) (e : Session) → session_at st s ≡ Some e → e.failed ≡ false → length e.own.saved < 32 → (now : Session) → st' ≡ put_session st s (Some now) → SetsSavepoint e now
+pub Follows-savepoint : (st st' : State) (s : ℕ) (e : Session) → session_at st s ≡ Some e → e.failed ≡ false → e.cursor ≡ None → length e.own.saved < 32 → (now : Session) → st' ≡ put_session st s (Some now) → SetsSavepoint e now
     → Follows st (Savepoint s) Done st'
-Follows-savepoint st st' s e at sound room now is sets w agrees =
-    let reader : reader_of now ≡ record (reader_of e) { saved = e.own.ids ∷ e.own.saved } = rw (sets.snapshot, sets.ids, sets.saved, sets.failed) refl in
+Follows-savepoint st st' s e at sound bare room now is sets w agrees =
+    let reader : reader_of now ≡ record (reader_of e) { saved = e.own.ids ∷ e.own.saved } = rw (sets.snapshot, sets.ids, sets.saved, sets.failed, sets.cursor) refl in
     let f = savepoints.Follows-savepoint (seen st) s (reader_of e) (seen (put_session st s (Some now))).session (only-becomes st s e now (record (reader_of e) { saved = e.own.ids ∷ e.own.saved }) at reader)
-    (reader-is st s e at) sound room w agrees.found in
+    (reader-is st s e at) sound (ap position_of bare) room w agrees.found in
     subst (λ st'. Allows w (Savepoint s) Done × Agrees st' (next w (Savepoint s) Done) × StaysLed st st') (sym is)
-    (f.0, record { found = f.1; sound = Sound-put st s e now at (same-holds e now sets.snapshot sets.ids) (keeps-saved st.heap.table e now sets (agrees.sound.sessions s e at)) agrees.sound }, led-same st w agrees)
+    (f.0, record { found = f.1; sound = Sound-put st s e now at (same-holds e now sets.snapshot sets.ids) (keeps-saved st.heap.table e now sets (agrees.sound.sessions s e at)) (same-cursor st.sessions st.heap.indexes s e now at sets.cursor agrees.sound.cursors) agrees.sound }, led-same st w agrees)
 
-pub Follows-release : (st st' : State) (s : ℕ) (e : Session) (before : List ℕ) (saved : List (List ℕ)) → session_at st s ≡ Some e → e.failed ≡ false → e.own.saved ≡ before ∷ saved → (now : Session)
+pub Follows-release : (st st' : State) (s : ℕ) (e : Session) (before : List ℕ) (saved : List (List ℕ)) → session_at st s ≡ Some e → e.failed ≡ false → e.cursor ≡ None → e.own.saved ≡ before ∷ saved → (now : Session)
     → st' ≡ put_session st s (Some now) → Releases e now → Follows st (Release s) Done st'
-Follows-release st st' s e before saved at sound some now is releases w agrees =
+Follows-release st st' s e before saved at sound bare some now is releases w agrees =
     let rest : now.own.saved ≡ saved = releases.saved ∙ ap older some in
-    let reader : reader_of now ≡ record (reader_of e) { saved = saved } = rw (releases.snapshot, releases.ids, rest, releases.failed) refl in
+    let reader : reader_of now ≡ record (reader_of e) { saved = saved } = rw (releases.snapshot, releases.ids, rest, releases.failed, releases.cursor) refl in
     let f = savepoints.Follows-release (seen st) s (reader_of e) before saved (seen (put_session st s (Some now))).session (only-becomes st s e now (record (reader_of e) { saved = saved }) at reader)
-    (reader-is st s e at) sound some w agrees.found in
+    (reader-is st s e at) sound (ap position_of bare) some w agrees.found in
     subst (λ st'. Allows w (Release s) Done × Agrees st' (next w (Release s) Done) × StaysLed st st') (sym is)
-    (f.0, record { found = f.1; sound = Sound-put st s e now at (same-holds e now releases.snapshot releases.ids) (keeps-released st.heap.table e now releases (agrees.sound.sessions s e at)) agrees.sound }, led-same st w agrees)
+    (f.0, record { found = f.1; sound = Sound-put st s e now at (same-holds e now releases.snapshot releases.ids) (keeps-released st.heap.table e now releases (agrees.sound.sessions s e at)) (same-cursor st.sessions st.heap.indexes s e now at releases.cursor agrees.sound.cursors) agrees.sound }, led-same st w agrees)
 
 -- The ids since the newest savepoint are aborted.
 
-abbrev with_pages : State → PagesView → Heap
+abbrev with_pages : State → PagesView → relation.Heap
 with_pages st pages = record (seen st) { version = version_in (looking.slots_of pages) }
 
 module _ (st st' : State) (s : ℕ) (before : List ℕ) (saved : List (List ℕ)) (back : RollsBack st st' s) (is : back.session.own.saved ≡ before ∷ saved) where
@@ -95,7 +98,7 @@ module _ (st st' : State) (s : ℕ) (before : List ℕ) (saved : List (List ℕ)
 
   only-returns : OnlyIs (seen st).session (seen st').session s (Some (record (reader_of back.session) { own = before; failed = false }))
   only-returns =
-      let reader : reader_of back.now ≡ record (reader_of back.session) { own = before; failed = false } = rw (back.back.returns.snapshot, back.back.returns.ids, back.back.returns.saved, back.back.returns.sound, ap newest is) refl in
+      let reader : reader_of back.now ≡ record (reader_of back.session) { own = before; failed = false } = rw (back.back.returns.snapshot, back.back.returns.ids, back.back.returns.saved, back.back.returns.sound, back.back.returns.cursor, ap newest is) refl in
       let only = only-becomes st s back.session back.now (record (reader_of back.session) { own = before; failed = false }) back.at reader in
       subst (λ xs. OnlyIs (seen st).session (λ o. option_map reader_of (session_at (record st { sessions = xs }) o)) s (Some (record (reader_of back.session) { own = before; failed = false }))) (sym back.sessions) only
 
@@ -121,9 +124,9 @@ module _ (st st' : State) (s : ℕ) (before : List ℕ) (saved : List (List ℕ)
   same-sights : SameSights (seen st) (seen st').sees
   same-sights o r bt = SameSight-finish r.snapshot st.heap.table st'.heap.table back.back.since Aborted back.back.finishes
 
-pub Follows-roll_back_to : (st st' : State) (s : ℕ) (before : List ℕ) (saved : List (List ℕ)) (back : RollsBack st st' s) → back.session.own.saved ≡ before ∷ saved → Follows st (RollbackTo s) Done st'
-Follows-roll_back_to st st' s before saved back is w agrees =
+pub Follows-roll_back_to : (st st' : State) (s : ℕ) (before : List ℕ) (saved : List (List ℕ)) (back : RollsBack st st' s) → back.session.cursor ≡ None → back.session.own.saved ≡ before ∷ saved → Follows st (RollbackTo s) Done st'
+Follows-roll_back_to st st' s before saved back bare is w agrees =
     let f = savepoints.Follows-roll_back_to (seen st) s (reader_of back.session) before saved (seen st').status (seen st').sees (seen st').session (only-returns st st' s before saved back is)
-    (reader-is st s back.session back.at) is (λ w' found. finishes-since st st' s before saved back is w agrees) (same-sights st st' s before saved back is) w agrees.found in
+    (reader-is st s back.session back.at) (ap position_of bare) is (λ w' found. finishes-since st st' s before saved back is w agrees) (same-sights st st' s before saved back is) w agrees.found in
     let sound' = rolls-back-sound st st' s before saved w back is agrees in
     (f.0, record { found = subst (λ pages. theory.Agrees (with_pages st' pages) (next w (RollbackTo s) Done)) (sym back.back.pages) f.1; sound = sound'.0 }, sound'.1)

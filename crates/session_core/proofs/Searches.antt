@@ -1,4 +1,6 @@
 -- What a search of the pages finds, as readers see it.
+use Rattle.session_core.proofs.InUse.{by-key}
+use Rattle.heap_write.specs.Indexes.{entries_in}
 use Rattle.std.proofs.Common.{◌≡◌, ◌≢◌, ℕ, List, Option, Some, None, Bool, true, false, refl, sym, ap, ◌∙◌, subst, inl, inr, cond}
 use Rattle.std.specs.Prelude.{pos, Contains, IsSome, ◌==◌}
 use Rattle.std.specs.Option.{option_map}
@@ -25,9 +27,9 @@ use Rattle.session_relation.specs.Heap as relation
 use Rattle.session_relation.specs.Visible.{maker, deleter, Reads, by_itself, by_others, IsVisible, Touches, made_by, deleted_by, IsActive}
 use Rattle.session_relation.specs.Finds.{Finds, IsLateFor, IsHeldBy, Begins, Free}
 use Rattle.session_relation.specs.declared.reply.Refusal.{Refusal}
-use Rattle.session_relation.specs.declared.reply.Refusal.TheVariants.{NotOpen, AlreadyOpen, Failed, AlreadyThere, NotThere, Conflict, Busy, TooLarge, NoRoom, NeedsFreeze, NoMemory, NoSuchPage, NoSuchSession, TooDeep, NoSavepoint}
+use Rattle.session_relation.specs.declared.reply.Refusal.TheVariants.{NotOpen, AlreadyOpen, Failed, AlreadyThere, NotThere, Conflict, Busy, TooLarge, NoRoom, NeedsFreeze, NoMemory, NoSuchPage, NoSuchSession, TooDeep, NoSavepoint, CursorOpen, NoCursor, NoSuchIndex, BadBounds}
 use Rattle.session_core.specs.declared.session.Session.{Session}
-use Rattle.session_core.specs.State.{State, session_at, seen, state_of, reader_of, horizon_of}
+use Rattle.session_core.specs.State.{State, session_at, seen, state_of, position_of, reader_of, horizon_of}
 use Rattle.session_core.specs.Agrees.{Agrees}
 use Rattle.session_core.specs.Tests.{FindsPlace, IsLateBy, IsHeldUnder, IsNobodys, IsUnheld, by_none, by_nobody, IsFree, Delays, HindersInsert, HindersChange}
 use Rattle.session_core.specs.Tests as tests
@@ -97,7 +99,7 @@ visible-from w s own v h = record {
 
 -- What the searches find. Where the entries are sound, it is what stands on the heap.
 
-own-active : (st : State) (w : World) (s : ℕ) (e : Session) → Agrees st w → session_at st s ≡ Some e → (x : ℕ) → Contains e.own.ids x → window.IsActive st.heap.table x
+pub own-active : (st : State) (w : World) (s : ℕ) (e : Session) → Agrees st w → session_at st s ≡ Some e → (x : ℕ) → Contains e.own.ids x → window.IsActive st.heap.table x
 own-active st w s e agrees at x mine = active-to st.heap.table x ((agrees.found.opened s (reader_of e) (reader-is st s e at)).2.own_active x mine)
 
 -- the session reads the row of the key by this version
@@ -112,31 +114,31 @@ FoundIn st e key (Some p) = (t : Version) × IsTarget st e key p t
 
 pub place-to : (st : State) (w : World) (s : ℕ) (e : Session) (key : ℕ) (found : Option Tid) → Agrees st w → session_at st s ≡ Some e → FindsPlace st.heap e key found → FoundIn st e key found
 place-to st w s e key None agrees at finds = λ p v there seen is.
-    place-on_heap key_value st.heap.table (horizon_of st) (slots_of st.heap) st.heap.index.entries e.snapshot e.own.ids agrees.sound.table.sound (own-active st w s e agrees at) (pos key) key None finds p v
+    place-on_heap key_value st.heap.table (horizon_of st) (slots_of st.heap) (entries_in st.heap.indexes 0) e.snapshot e.own.ids (by-key st agrees.sound) (own-active st w s e agrees at) (pos key) key None finds p v
     (record { there = there; of_value = ap (λ n. pos n) is; of_key = is; has = visible-from st.heap.table e.snapshot e.own.ids v seen })
 place-to st w s e key (Some p) agrees at finds =
-    let h = place-on_heap key_value st.heap.table (horizon_of st) (slots_of st.heap) st.heap.index.entries e.snapshot e.own.ids agrees.sound.table.sound (own-active st w s e agrees at) (pos key) key (Some p) finds in
+    let h = place-on_heap key_value st.heap.table (horizon_of st) (slots_of st.heap) (entries_in st.heap.indexes 0) e.snapshot e.own.ids (by-key st agrees.sound) (own-active st w s e agrees at) (pos key) key (Some p) finds in
     (h.0, record { there = h.1.there; of_key = h.1.of_key; seen = visible-to st.heap.table e.snapshot e.own.ids h.0 h.1.has })
 
 pub row-to : (st : State) (w : World) (s : ℕ) (e : Session) (key : ℕ) (found : Option Row) → Agrees st w → session_at st s ≡ Some e
-    → FirstFound st.heap.table (visibility.IsVisible st.heap.table e.snapshot e.own.ids) (slots_of st.heap) st.heap.index.entries (pos key) key found
+    → FirstFound st.heap.table (visibility.IsVisible st.heap.table e.snapshot e.own.ids) (slots_of st.heap) (entries_in st.heap.indexes 0) (pos key) key found
     → Finds (seen st).version (IsVisible (state_of st.heap.table) (λ x. Sees e.snapshot st.heap.table x) e.own.ids) key found
 row-to st w s e key None agrees at finds = λ p v there seen is.
-    found-on_heap key_value st.heap.table (horizon_of st) (slots_of st.heap) st.heap.index.entries e.snapshot e.own.ids agrees.sound.table.sound (own-active st w s e agrees at) (pos key) key None finds p v
+    found-on_heap key_value st.heap.table (horizon_of st) (slots_of st.heap) (entries_in st.heap.indexes 0) e.snapshot e.own.ids (by-key st agrees.sound) (own-active st w s e agrees at) (pos key) key None finds p v
     (record { there = there; of_value = ap (λ n. pos n) is; of_key = is; has = visible-from st.heap.table e.snapshot e.own.ids v seen })
 row-to st w s e key (Some row) agrees at finds =
-    let h = found-on_heap key_value st.heap.table (horizon_of st) (slots_of st.heap) st.heap.index.entries e.snapshot e.own.ids agrees.sound.table.sound (own-active st w s e agrees at) (pos key) key (Some row) finds in
+    let h = found-on_heap key_value st.heap.table (horizon_of st) (slots_of st.heap) (entries_in st.heap.indexes 0) e.snapshot e.own.ids (by-key st agrees.sound) (own-active st w s e agrees at) (pos key) key (Some row) finds in
     (h.0, h.1, h.2.there, h.2.of_key, (visible-to st.heap.table e.snapshot e.own.ids h.1 h.2.has, h.3))
 
 pub late-to : (st : State) (w : World) (e : Session) (key x : ℕ) → Agrees st w → IsLateBy st.heap e key x → IsLateFor (seen st) (reader_of e) key
 late-to st w e key x agrees late =
-    let h = (missed-on_heap key_value st.heap.table (horizon_of st) (slots_of st.heap) st.heap.index.entries e.snapshot x agrees.sound.table.sound (pos key) key).0 late in
+    let h = (missed-on_heap key_value st.heap.table (horizon_of st) (slots_of st.heap) (entries_in st.heap.indexes 0) e.snapshot x (by-key st agrees.sound) (pos key) key).0 late in
     (h.0, h.1, h.2.there, h.2.of_key, (x, touches-to h.1 x h.2.has.touch, committed-from st.heap.table x h.2.has.done, h.2.has.unseen))
 
 pub not-late : (st : State) (w : World) (e : Session) (key : ℕ) → Agrees st w → ((x : ℕ) → ¬ IsLateBy st.heap e key x) → ¬ IsLateFor (seen st) (reader_of e) key
 not-late st w e key agrees timely some =
     let x = some.4.0 in
-    timely x ((missed-on_heap key_value st.heap.table (horizon_of st) (slots_of st.heap) st.heap.index.entries e.snapshot x agrees.sound.table.sound (pos key) key).1 (
+    timely x ((missed-on_heap key_value st.heap.table (horizon_of st) (slots_of st.heap) (entries_in st.heap.indexes 0) e.snapshot x (by-key st agrees.sound) (pos key) key).1 (
       some.0,
       some.1,
       record {
@@ -149,12 +151,12 @@ not-late st w e key agrees timely some =
 
 pub held-to : (st : State) (w : World) (e : Session) (key x : ℕ) → Agrees st w → IsActive (state_of st.heap.table) x → IsHeldUnder st.heap e key x → IsHeldBy (seen st) (reader_of e) key x
 held-to st w e key x agrees active held =
-    let h = (foreign-on_heap key_value st.heap.table (horizon_of st) (slots_of st.heap) st.heap.index.entries e.own.ids x agrees.sound.table.sound (pos key) key).0 held in
+    let h = (foreign-on_heap key_value st.heap.table (horizon_of st) (slots_of st.heap) (entries_in st.heap.indexes 0) e.own.ids x (by-key st agrees.sound) (pos key) key).0 held in
     (h.0, h.1, h.2.there, h.2.of_key, record { touch = touches-to h.1 x h.2.has.touch; active = active; foreign = h.2.has.foreign })
 
 held-from : (st : State) (w : World) (e : Session) (key x : ℕ) → Agrees st w → IsHeldBy (seen st) (reader_of e) key x → IsHeldUnder st.heap e key x
 held-from st w e key x agrees some =
-    (foreign-on_heap key_value st.heap.table (horizon_of st) (slots_of st.heap) st.heap.index.entries e.own.ids x agrees.sound.table.sound (pos key) key).1 (
+    (foreign-on_heap key_value st.heap.table (horizon_of st) (slots_of st.heap) (entries_in st.heap.indexes 0) e.own.ids x (by-key st agrees.sound) (pos key) key).1 (
       some.0,
       some.1,
       record {
@@ -172,7 +174,7 @@ placed (Some i) s known = refl
 -- an id in progress on a page is some session's
 not-nobodys : (st : State) (w : World) (e : Session) (key x : ℕ) → Agrees st w → IsHeldUnder st.heap e key x → IsNobodys st x → ⊥
 not-nobodys st w e key x agrees held nobody =
-    let h = (foreign-on_heap key_value st.heap.table (horizon_of st) (slots_of st.heap) st.heap.index.entries e.own.ids x agrees.sound.table.sound (pos key) key).0 held in
+    let h = (foreign-on_heap key_value st.heap.table (horizon_of st) (slots_of st.heap) (entries_in st.heap.indexes 0) e.own.ids x (by-key st agrees.sound) (pos key) key).0 held in
     let given = placed (place st.heap.table x) (status_of st.heap.table x) (agrees.found.given h.0 x h.1 h.2.there (touches-to h.1 x h.2.has.touch)) in
     let by = agrees.found.owned x (state-is st.heap.table x InProgress given h.2.has.active) in
     let f = reader-at st by.0 by.1 by.2 in
@@ -186,14 +188,14 @@ not-held st w e key agrees (by_nobody y under nobody) x held = not-nobodys st w 
 
 pub begins-none : (st : State) (w : World) (s : ℕ) (e : Session) (key : ℕ) → Agrees st w → tests.Reads st s e key None → Begins (seen st) s (reader_of e) key None
 begins-none st w s e key agrees reads =
-    record { at = reader-is st s e reads.at; sound = reads.sound; finds = place-to st w s e key None agrees reads.at reads.finds }
+    record { at = reader-is st s e reads.at; sound = reads.sound; bare = ap position_of reads.bare; finds = place-to st w s e key None agrees reads.at reads.finds }
 
 pub target-of : (st : State) (w : World) (s : ℕ) (e : Session) (key : ℕ) (p : Tid) → Agrees st w → tests.Reads st s e key (Some p) → (t : Version) × IsTarget st e key p t
 target-of st w s e key p agrees reads = place-to st w s e key (Some p) agrees reads.at reads.finds
 
 pub begins-some : (st : State) (s : ℕ) (e : Session) (key : ℕ) (p : Tid) (t : Version) → tests.Reads st s e key (Some p) → IsTarget st e key p t → Begins (seen st) s (reader_of e) key (Some t.row)
 begins-some st s e key p t reads target =
-    record { at = reader-is st s e reads.at; sound = reads.sound; finds = (p, t, target.there, target.of_key, (target.seen, refl)) }
+    record { at = reader-is st s e reads.at; sound = reads.sound; bare = ap position_of reads.bare; finds = (p, t, target.there, target.of_key, (target.seen, refl)) }
 
 pub free-with : (st : State) (w : World) (s : ℕ) (e : Session) (key : ℕ) (found : Option Row) → Agrees st w → Begins (seen st) s (reader_of e) key found → IsFree st e key → Free (seen st) s (reader_of e) key found
 free-with st w s e key found agrees begins free =
@@ -207,6 +209,10 @@ delayed-insert st s key e (Busy o) reads delays = record { session = e; reads = 
 delayed-insert st s key e NotOpen reads delays = absurd delays
 delayed-insert st s key e AlreadyOpen reads delays = absurd delays
 delayed-insert st s key e TooDeep reads delays = absurd delays
+delayed-insert st s key e CursorOpen reads delays = absurd delays
+delayed-insert st s key e NoCursor reads delays = absurd delays
+delayed-insert st s key e NoSuchIndex reads delays = absurd delays
+delayed-insert st s key e BadBounds reads delays = absurd delays
 delayed-insert st s key e NoSavepoint reads delays = absurd delays
 delayed-insert st s key e Failed reads delays = absurd delays
 delayed-insert st s key e AlreadyThere reads delays = absurd delays
@@ -224,6 +230,10 @@ delayed-change st s key e p (Busy o) reads delays = (p, record { session = e; re
 delayed-change st s key e p NotOpen reads delays = absurd delays
 delayed-change st s key e p AlreadyOpen reads delays = absurd delays
 delayed-change st s key e p TooDeep reads delays = absurd delays
+delayed-change st s key e p CursorOpen reads delays = absurd delays
+delayed-change st s key e p NoCursor reads delays = absurd delays
+delayed-change st s key e p NoSuchIndex reads delays = absurd delays
+delayed-change st s key e p BadBounds reads delays = absurd delays
 delayed-change st s key e p NoSavepoint reads delays = absurd delays
 delayed-change st s key e p Failed reads delays = absurd delays
 delayed-change st s key e p AlreadyThere reads delays = absurd delays

@@ -52,6 +52,15 @@ keeps-fail xs w s (Some e) within read h = record {
   own = keep-same xs w s e (as_failed e) (open-read xs s (Some e) within read) refl h.own;
 }
 
+-- so does one of which nothing else changes
+pub keeps-mapped : (xs : List (Option Session)) (w : Window) (s : ℕ) (o : Option Session) (f : Session → Session) → ((e : Session) → (f e).own ≡ e.own) → s < length xs → o ≡ get_or xs s o → EngineKeeps xs w
+    → EngineKeeps (set xs s (option_map f o)) w
+keeps-mapped xs w s None f same within read h = keeps-shut xs w s within h
+keeps-mapped xs w s (Some e) f same within read h = record {
+  count = length-set xs s (Some (f e)) ∙ h.count;
+  own = keep-same xs w s e (f e) (open-read xs s (Some e) within read) (ap (λ own. own.ids) (same e)) h.own;
+}
+
 -- of the sessions that readers see, one changes
 pub only-set : (st : State) (s : ℕ) (now : Option Session) → s < length st.sessions → OnlyIs (seen st).session (seen (put_session st s now)).session s (option_map reader_of now)
 only-set st s now within = record {

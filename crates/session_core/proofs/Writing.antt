@@ -14,7 +14,8 @@ use Rattle.heap_write.specs.Heap.{HeapView, SameIds, Keeps, slots_of}
 use Rattle.heap_write.specs.Writes.{TakesIds, Readies, Inserts, Updates, Deletes}
 use Rattle.heap_write.specs.Refusals.{LacksForInsert, FailsUpdate, FailsDelete, IsThere}
 use Rattle.sound_writes.proofs.Standing.{readies-stand, version-on, root-new, root_version, free_place, taken_version, inserts-stand, deletes-stand, updates-ready, updates-stand}
-use Rattle.sound_writes.proofs.Keeping.{kept-stays, readied-stays, stays-then, ready-entries, given-stays}
+use Rattle.sound_writes.proofs.Keeping.{kept-stays, readied-stays, ready-come, given-stays}
+use Rattle.sound_writes.proofs.InUse.{stays-then}
 use Rattle.sound_writes.proofs.Writing.{inserted-stays, updated-stays, deleted-stays}
 use Rattle.history.specs.World.{World}
 use Rattle.session_relation.specs.declared.step.Step.TheVariants.{Insert, Update, Delete}
@@ -70,7 +71,7 @@ module _ (st : State) (w : World) (s : ℕ) (e e' : Session) (at : session_at st
         record {
           found = subst (λ slots. theory.Agrees (seen_in slots h.table (set st.sessions s (Some e'))) w') (sym keeps.slots)
               (found-kept (slots_of st.heap) st.heap.table h.table st.sessions s e e' w' at same keeps.table found);
-          sound = Sound-kept st w h s e e' at agrees same keeps.table stays.sound;
+          sound = Sound-kept st w h s e e' at agrees same keeps.table stays;
         },
         stays.led,
       )
@@ -81,13 +82,13 @@ module _ (st : State) (w : World) (s : ℕ) (e e' : Session) (at : session_at st
   readied ready h n size w' readies keeps found =
       let first = readied-stays st.heap ready n (horizon_of st) size agrees.sound.table readies in
       let second = kept-stays ready h (horizon_of st) first.sound keeps in
-      let stays = stays-then st.heap ready h (horizon_of st) agrees.sound.table (λ x there. subst (λ es. Contains es x) (sym (ready-entries st.heap ready n (horizon_of st) size readies)) there) first second in
+      let stays = stays-then st.heap ready h (horizon_of st) agrees.sound.table (ready-come st.heap ready n (horizon_of st) size readies) first second in
       let ids = same-then st.heap.table ready.table h.table (ready-ids readies) keeps.table in
       let pruned = (follows.Follows-prune (seen st) 0 (version_in (slots_of ready)) (removes-past st w (version_in (slots_of ready)) n agrees (readies-stand st.heap ready n (horizon_of st) size readies)) w' found).1 in (
         record {
           found = subst (λ slots. theory.Agrees (seen_in slots h.table (set st.sessions s (Some e'))) w') (sym keeps.slots)
               (found-kept (slots_of ready) st.heap.table h.table st.sessions s e e' w' at same ids pruned);
-          sound = Sound-kept st w h s e e' at agrees same ids stays.sound;
+          sound = Sound-kept st w h s e e' at agrees same ids stays;
         },
         stays.led,
       )
@@ -117,7 +118,7 @@ module _ (st : State) (w : World) (s : ℕ) (text : RowText) (e : Session) (free
       let done = insert_done (seen st) (seen_in (slots_of st.heap) h.table (set st.sessions s (Some e'))) w s (reader_of e) (reader_of e') text x (free_place st.heap i.number) new (version_in (slots_of h))
       free fits agrees.found still (reader-now st w h.table s e own x at i.takes_ids window agrees) (current-now st w h.table s e own x at i.takes_ids window agrees)
       (adds-from (version_in (slots_of st.heap)) (version_in (slots_of h)) (free_place st.heap i.number) new (inserts-stand st.heap h e.own own row x i)) (is-new x row new (root-new st.heap false x row i.number)) refl in
-      (done.0, record { found = done.1; sound = Sound-given st w h s e e' at agrees own x i.takes_ids refl window stays.sound }, stays.led)
+      (done.0, record { found = done.1; sound = Sound-given st w h s e e' at agrees own x i.takes_ids refl window stays }, stays.led)
 
   insert-fails : (h : HeapView) (e' : Session) (f : WriteFault) → SameSession e e' → LacksForInsert st.heap e.own (row_of text) f → Keeps st.heap h
       → Allows w (Insert s text) (reply_for (Err f)) × Agrees (with_write st h s e') (next w (Insert s text) (reply_for (Err f))) × StaysLed st (with_write st h s e')
@@ -189,7 +190,7 @@ module _ (st : State) (w : World) (s : ℕ) (text : RowText) (e : Session) (plac
       (updates-ready st.heap h e.own own place row (horizon_of st) x t u target.there) (seen-now st w s text.key e place t target at agrees h.table own x u.takes_ids window) target.of_key
       (adds-from (version_in (slots_of u.ready)) put.added put.to put.new put.adds) (is-new x row put.new put.is_new) put.is_new.of_row
       (alters-from put.added (version_in (slots_of h)) place t (taken_version t x put.to put.hot) put.alters) (is-deleted h.table x t put.to put.hot active) in
-      (done.0, record { found = done.1; sound = Sound-given st w h s e e' at agrees own x u.takes_ids refl window stays.sound }, stays.led)
+      (done.0, record { found = done.1; sound = Sound-given st w h s e e' at agrees own x u.takes_ids refl window stays }, stays.led)
 
   update-fails : (h : HeapView) (e' : Session) (f : WriteFault) → SameSession e e' → FailsUpdate st.heap h e.own place (row_of text) (horizon_of st) f
       → Allows w (Update s text) (reply_for (Err f)) × Agrees (with_write st h s e') (next w (Update s text) (reply_for (Err f))) × StaysLed st (with_write st h s e')
@@ -241,7 +242,7 @@ module _ (st : State) (w : World) (s key : ℕ) (e : Session) (place : Tid) (t :
       free refl agrees.found still (reader-now st w h.table s e own x at d.takes_ids window agrees) (current-now st w h.table s e own x at d.takes_ids window agrees)
       (seen-now st w s key e place t target at agrees h.table own x d.takes_ids window) target.of_key
       (alters-from (version_in (slots_of st.heap)) (version_in (slots_of h)) place t (taken_version t x place false) alters) (is-deleted h.table x t place false active) in
-      (done.0, record { found = done.1; sound = Sound-given st w h s e e' at agrees own x d.takes_ids refl window stays.sound }, stays.led)
+      (done.0, record { found = done.1; sound = Sound-given st w h s e e' at agrees own x d.takes_ids refl window stays }, stays.led)
 
   delete-fails : (h : HeapView) (e' : Session) (f : WriteFault) → SameSession e e' → FailsDelete st.heap h e.own place f
       → Allows w (Delete s key) (reply_for (Err f)) × Agrees (with_write st h s e') (next w (Delete s key) (reply_for (Err f))) × StaysLed st (with_write st h s e')

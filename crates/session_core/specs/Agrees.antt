@@ -1,5 +1,5 @@
 -- When an engine agrees with a world of the history.
-use Rattle.std.specs.Prelude.{◌≡◌, ℕ, length, Some, slice_get, Contains}
+use Rattle.std.specs.Prelude.{◌≡◌, ◌↔◌, ℕ, length, Some, IsSome, slice_get, Contains}
 use Rattle.history.specs.World.{World}
 use Rattle.snapshot.specs.Laws.{IsInWindow}
 use Rattle.snapshot.specs.Own.{AreFronts, AreDistinct}
@@ -10,8 +10,11 @@ use Rattle.session_relation.specs.Allowed.{Allows, next}
 use Rattle.session_relation.specs.Agrees as relation
 use Rattle.sound_entries.specs.Entries.{KeepsLed}
 use Rattle.heap_write.specs.Heap.{slots_of}
+use Rattle.heap_write.specs.Indexes.{entries_in, IsInUse, new_entries}
+use Rattle.heap_write.specs.declared.walking.Span.{Span}
 use Rattle.sound_writes.specs.Table.{SoundTable}
 use Rattle.session_core.specs.declared.session.Session.{Session}
+use Rattle.session_core.specs.declared.cursor.Cursor.TheVariants.{Index}
 use Rattle.session_core.specs.State.{State, session_at, seen, horizon_of}
 
 -- what the ids of an open session keep
@@ -32,6 +35,10 @@ pub record Sound (st : State) : Type 0 where
   pub sessions : (s : ℕ) (e : Session) → session_at st s ≡ Some e → SessionKeeps st.heap.table e
   -- what is committed, its topmost parent is not in progress
   pub tops : (x : ℕ) → IsCommitted st.heap.table x → ¬ IsInProgress st.heap.table (top_of st.heap.table x)
+  -- the indexes in use are the primary index and those of the columns that the settings name
+  pub indexes : (n : ℕ) → IsInUse st.heap.indexes n ↔ IsSome (new_entries st.settings.indexed n)
+  -- an open session's cursor goes along one of these
+  pub cursors : (s : ℕ) (e : Session) (span : Span) → session_at st s ≡ Some e → e.cursor ≡ Some (Index span) → IsInUse st.heap.indexes span.index
   -- sound entries, on sound pages, at the present horizon
   pub table : SoundTable st.heap (horizon_of st)
 
@@ -40,9 +47,9 @@ pub record Agrees (st : State) (w : World) : Type 0 where
   pub found : relation.Agrees (seen st) w
   pub sound : Sound st
 
--- what an index entry leads to before and after is the same version, a redirect to a later one of its row, or dead
+-- what an entry of any index leads to before and after is the same version, a redirect to a later one of its row, or dead
 abbrev pub StaysLed : State → State → Type 0
-StaysLed old new = KeepsLed (slots_of old.heap) (slots_of new.heap) old.heap.index.entries new.heap.index.entries
+StaysLed old new = (n : ℕ) → KeepsLed (slots_of old.heap) (slots_of new.heap) (entries_in old.heap.indexes n) (entries_in new.heap.indexes n)
 
 -- whatever world the engine agreed with, the history allows the reply, and the engine agrees with the next world; and no index
 -- entry leads to a slot that was given to another row

@@ -18,12 +18,13 @@ pub record Opens (old new : State) (s : ℕ) (snapshot : Snap) : Type 0 where
   pub no_ids : session.own.ids ≡ []
   pub unsaved : session.own.saved ≡ []
   pub sound : session.failed ≡ false
+  pub bare : session.cursor ≡ None
 
 -- the session is closed, and its ids have the status
 pub record Closes (old new : State) (s : ℕ) (status : Status) : Type 0 where
   pub settings : new.settings ≡ old.settings
   pub pages : new.heap.pages ≡ old.heap.pages
-  pub index : new.heap.index ≡ old.heap.index
+  pub indexes : new.heap.indexes ≡ old.heap.indexes
   pub max_pages : new.heap.max_pages ≡ old.heap.max_pages
   pub sessions : new.sessions ≡ slice_set old.sessions s None
   pub finishes : (e : Session) → session_at old s ≡ Some e → Finishes old.heap.table new.heap.table e.own.ids status
@@ -38,6 +39,7 @@ pub record SetsSavepoint (e e' : Session) : Type 0 where
   pub ids : e'.own.ids ≡ e.own.ids
   pub saved : e'.own.saved ≡ e.own.ids ∷ e.own.saved
   pub failed : e'.failed ≡ e.failed
+  pub cursor : e'.cursor ≡ e.cursor
 
 -- it has the ids that it had at its newest savepoint, which it keeps, and has not failed
 pub record Returns (e e' : Session) : Type 0 where
@@ -45,6 +47,7 @@ pub record Returns (e e' : Session) : Type 0 where
   pub ids : e'.own.ids ≡ newest e.own.saved
   pub saved : e'.own.saved ≡ e.own.saved
   pub sound : e'.failed ≡ false
+  pub cursor : e'.cursor ≡ e.cursor
 
 -- it has forgotten its newest savepoint, and keeps its ids
 pub record Releases (e e' : Session) : Type 0 where
@@ -52,6 +55,7 @@ pub record Releases (e e' : Session) : Type 0 where
   pub ids : e'.own.ids ≡ e.own.ids
   pub saved : e'.own.saved ≡ older e.own.saved
   pub failed : e'.failed ≡ e.failed
+  pub cursor : e'.cursor ≡ e.cursor
 
 -- nothing changes but an open session
 pub record Becomes (old new : State) (s : ℕ) (changes : Session → Session → Type 0) : Type 0 where
@@ -64,7 +68,7 @@ pub record Becomes (old new : State) (s : ℕ) (changes : Session → Session �
 -- of a table and a session: the session returns to its newest savepoint, and the ids that it was given since then are aborted
 pub record RollsBackOn (h h' : HeapView) (e e' : Session) : Type 0 where
   pub pages : h'.pages ≡ h.pages
-  pub index : h'.index ≡ h.index
+  pub indexes : h'.indexes ≡ h.indexes
   pub max_pages : h'.max_pages ≡ h.max_pages
   pub returns : Returns e e'
   pub since : List ℕ

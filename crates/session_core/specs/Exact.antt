@@ -1,6 +1,6 @@
 -- What the history leaves to an engine: what a write does to its own ids and pages, when it finds no id, no room or no memory,
 -- and what a refusal leaves as it was.
-use Rattle.std.specs.Prelude.{◌≡◌, ◌⊎◌, ℕ, ◌<◌, ◌≤◌, length, Some, None, Result, Ok, Err, slice_set}
+use Rattle.std.specs.Prelude.{◌≡◌, ◌⊎◌, ℕ, ◌<◌, ◌≤◌, length, Option, Some, None, IsSome, Result, Ok, Err, slice_set}
 use Rattle.std.specs.Option.{option_map}
 use Rattle.xid_circle.specs.declared.Tid.{Tid}
 use Rattle.tuple_header.specs.declared.version.Row.{Row}
@@ -11,14 +11,17 @@ use Rattle.heap_write.specs.Writes.{Prunes}
 use Rattle.heap_write.specs.declared.heap.WriteFault.{WriteFault}
 use Rattle.heap_write.specs.declared.heap.WriteFault.TheVariants as fault
 use Rattle.session_relation.specs.declared.step.Step.{Step}
-use Rattle.session_relation.specs.declared.step.Step.TheVariants.{Begin, Get, Insert, Update, Delete, Savepoint, RollbackTo, Release, Prune}
+use Rattle.session_relation.specs.declared.step.Step.TheVariants.{Begin, Get, Insert, Update, Delete, Savepoint, RollbackTo, Release, OpenIndex, OpenHeap, Next, Close, Prune}
 use Rattle.session_relation.specs.declared.reply.Reply.{Reply}
-use Rattle.session_relation.specs.declared.reply.Reply.TheVariants.{Done, Refused}
-use Rattle.session_relation.specs.declared.reply.Refusal.TheVariants.{NotThere, Conflict, NoRoom, NeedsFreeze, NoMemory, NoSuchPage}
+use Rattle.session_relation.specs.declared.reply.Reply.TheVariants.{Done, Rows, End, Refused}
+use Rattle.session_relation.specs.declared.reply.Refusal.TheVariants.{NotThere, Conflict, NoRoom, NeedsFreeze, NoMemory, NoSuchPage, NoSuchIndex, BadBounds}
 use Rattle.session_relation.specs.Words.{row_of}
 use Rattle.session_core.specs.declared.session.Session.{Session}
-use Rattle.session_core.specs.State.{State, session_at, put_session, as_failed, owns_of, horizon_of}
+use Rattle.session_core.specs.declared.cursor.Cursor.{Cursor}
+use Rattle.session_core.specs.declared.cursor.Cursor.TheVariants.{Index, Heap}
+use Rattle.session_core.specs.State.{State, session_at, index_at, put_session, map_session, with_cursor, as_failed, owns_of, horizon_of}
 use Rattle.session_core.specs.Changes.{SetsSavepoint, Releases, Becomes, RollsBack}
+use Rattle.session_core.specs.Takes.{HandsOut}
 use Rattle.session_core.specs.Tests.{MayWrite}
 use Rattle.session_core.specs.Writes.{TriesInsert, TriesUpdate, TriesDelete}
 
@@ -81,7 +84,7 @@ pub record Cleans (old new : State) (p : ℕ) : Type 0 where
 pub record KeepsPages (old new : State) : Type 0 where
   pub settings : new.settings ≡ old.settings
   pub pages : new.heap.pages ≡ old.heap.pages
-  pub index : new.heap.index ≡ old.heap.index
+  pub indexes : new.heap.indexes ≡ old.heap.indexes
 
 -- a snapshot that is taken now lists more ids than it holds without memory
 abbrev pub MustList : State → Type 0
@@ -91,10 +94,14 @@ MustList st = 8 < length (taken (next_id st.heap.table) (owns_of st.sessions)).l
 abbrev pub MustNote : State → ℕ → Type 0
 MustNote st s = (e : Session) × (session_at st s ≡ Some e) × (4 ≤ length e.own.saved)
 
+-- the session has this cursor now, or none, and nothing else changes
+abbrev pub HasCursor : State → State → ℕ → Option Cursor → Type 0
+HasCursor old new s cursor = new ≡ put_session old s (map_session (with_cursor cursor) (session_at old s))
+
 -- Beside what the history says of a reply: a read and a refusal leave all as it was, but for a page that an update has pruned;
 -- a beginning and an end leave all pages as they were, as do savepoints; a return to a savepoint aborts the ids that were given
--- since, and no others; and memory is refused only where something has to grow, never at a read, a return to a savepoint or its
--- release, a commit or an abort.
+-- since, and no others; a step of a cursor changes that cursor alone; and memory is refused only where something has to grow,
+-- never at a read, a return to a savepoint or its release, at the opening or closing of a cursor, a commit or an abort.
 abbrev pub Exact : State → Step → Reply → State → Type 0
 Exact old (Begin s) (Refused NoMemory) new = MustList old × (new ≡ old)
 Exact old (Insert s row) reply new = ExactInsert old s (row_of row) reply new
@@ -105,6 +112,13 @@ Exact old (Savepoint s) Done new = Becomes old new s SetsSavepoint
 Exact old (Savepoint s) (Refused NoMemory) new = MustNote old s × (new ≡ old)
 Exact old (RollbackTo s) Done new = RollsBack old new s
 Exact old (Release s) Done new = Becomes old new s Releases
+Exact old (OpenIndex s index low high) Done new = HasCursor old new s (Some (Index (record { index = index; low = low; high = high; last = None })))
+Exact old (OpenIndex s index low high) (Refused NoSuchIndex) new = (index_at old index ≡ None) × (new ≡ old)
+Exact old (OpenIndex s index low high) (Refused BadBounds) new = IsSome (index_at old index) × (new ≡ old)
+Exact old (OpenHeap s) Done new = HasCursor old new s (Some (Heap 0))
+Exact old (Next s n) (Rows rows) new = HandsOut old new s rows.items
+Exact old (Next s n) End new = new ≡ old
+Exact old (Close s) Done new = HasCursor old new s None
 Exact old (Prune p) Done new = Cleans old new p
 Exact old (Prune p) (Refused NoSuchPage) new = (length old.heap.pages.pages ≤ p) × (new ≡ old)
 Exact old (Prune p) (Refused NoMemory) new = (p < length old.heap.pages.pages) × (new ≡ old)

@@ -1,5 +1,5 @@
--- What is found through the index.
-use Rattle.std.specs.Prelude.{◌≡◌, ℕ, pos, List, [], length, Option, Some}
+-- What is found through an index.
+use Rattle.std.specs.Prelude.{◌≡◌, ℕ, ℤ, List, [], length, Option, Some}
 use Rattle.xid_circle.specs.declared.Tid.{Tid}
 use Rattle.tuple_header.specs.declared.version.Row.{Row}
 use Rattle.tuple_header.specs.Version.{Version}
@@ -8,24 +8,27 @@ use Rattle.snapshot.specs.Snap.{Snap, taken}
 use Rattle.visibility.specs.Visible.{IsVisible}
 use Rattle.sound_entries.specs.Leading.{IsByIndex}
 use Rattle.heap_write.specs.Heap.{HeapView, slots_of}
+use Rattle.heap_write.specs.Indexes.{entries_in, IsInUse}
+use Rattle.history.specs.Cursors.{value_in}
 use Rattle.history.specs.History.{committed}
 use Rattle.history.specs.World.{World, OpenSession, view}
 use Rattle.session_core.specs.declared.session.Session.{Session}
 use Rattle.session_core.specs.State.{State, session_at, owns_of}
 use Rattle.session_core.specs.Agrees.{Agrees}
 
--- a version that the reader sees stands in a chain to which an entry of the key leads
-abbrev pub IsFound : HeapView → Snap → List ℕ → ℕ → Tid → Version → Type 0
-IsFound h s own key p t = IsByIndex h.table (slots_of h) h.index.entries (pos key) key (λ t. IsVisible h.table s own t.header) p t
+-- a version that the reader sees stands in a chain to which an entry of this value and this key leads, in the index of this
+-- number
+abbrev pub IsFound : HeapView → Snap → List ℕ → ℕ → ℤ → ℕ → Tid → Version → Type 0
+IsFound h s own n value key p t = IsByIndex h.table (slots_of h) (entries_in h.indexes n) value key (λ t. IsVisible h.table s own t.header) p t
 
--- what the reader finds are exactly these rows, each by one version
-pub record FindsRows (h : HeapView) (s : Snap) (own : List ℕ) (row : ℕ → Option Row) : Type 0 where
-  pub sound : (k : ℕ) (p : Tid) (t : Version) → IsFound h s own k p t → row k ≡ Some t.row
-  pub there : (k : ℕ) (r : Row) → row k ≡ Some r → (p : Tid) × (t : Version) × IsFound h s own k p t
-  pub one : (k : ℕ) (p q : Tid) (t u : Version) → IsFound h s own k p t → IsFound h s own k q u → p ≡ q
+-- what the reader finds there are exactly these rows, each under its own value and by one version
+pub record FindsRows (h : HeapView) (s : Snap) (own : List ℕ) (n : ℕ) (row : ℕ → Option Row) : Type 0 where
+  pub sound : (value : ℤ) (k : ℕ) (p : Tid) (t : Version) → IsFound h s own n value k p t → (row k ≡ Some t.row) × (value_in n t.row ≡ value)
+  pub there : (k : ℕ) (r : Row) → row k ≡ Some r → (p : Tid) × (t : Version) × IsFound h s own n (value_in n r) k p t
+  pub one : (value other : ℤ) (k : ℕ) (p q : Tid) (t u : Version) → IsFound h s own n value k p t → IsFound h s own n other k q u → p ≡ q
 
--- Each open session finds its view through the index, and one that would begin now finds what is committed.
+-- Each open session finds its view through each index in use, and one that would begin now finds what is committed.
 abbrev pub ViewsByIndex : Type 0
-ViewsByIndex = (st : State) (w : World) → Agrees st w
-    → ((s : ℕ) (e : Session) (m : OpenSession) → session_at st s ≡ Some e → w.session s ≡ Some m → FindsRows st.heap e.snapshot e.own.ids (view w.history m))
-    × FindsRows st.heap (taken (next_id st.heap.table) (owns_of st.sessions)) [] (committed w.history (length w.history))
+ViewsByIndex = (st : State) (w : World) → Agrees st w → (n : ℕ) → IsInUse st.heap.indexes n
+    → ((s : ℕ) (e : Session) (m : OpenSession) → session_at st s ≡ Some e → w.session s ≡ Some m → FindsRows st.heap e.snapshot e.own.ids n (view w.history m))
+    × FindsRows st.heap (taken (next_id st.heap.table) (owns_of st.sessions)) [] n (committed w.history (length w.history))

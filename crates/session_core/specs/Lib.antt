@@ -5,6 +5,7 @@ pub mod Refuses
 pub mod Tests
 pub mod Changes
 pub mod Writes
+pub mod Takes
 pub mod Exact
 pub mod Follows
 pub mod Runs

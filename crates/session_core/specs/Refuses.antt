@@ -1,7 +1,7 @@
 -- Why a session cannot be used.
-use Rattle.std.specs.Prelude.{◌≡◌, ℕ, ◌<◌, ◌≤◌, Some, None, true}
+use Rattle.std.specs.Prelude.{◌≡◌, ℕ, ◌<◌, ◌≤◌, Some, None, true, false, IsSome}
 use Rattle.session_relation.specs.declared.reply.Refusal.{Refusal}
-use Rattle.session_relation.specs.declared.reply.Refusal.TheVariants.{NoSuchSession, NotOpen, Failed}
+use Rattle.session_relation.specs.declared.reply.Refusal.TheVariants.{NoSuchSession, NotOpen, Failed, CursorOpen, NoCursor}
 use Rattle.session_core.specs.declared.session.Session.{Session}
 use Rattle.session_core.specs.State.{State, session_at}
 
@@ -15,3 +15,13 @@ Refuses st s refusal = ⊥
 abbrev pub RefusesReady : State → ℕ → Refusal → Type 0
 RefusesReady st s Failed = (s < 64) × (e : Session) × (session_at st s ≡ Some e) × (e.failed ≡ true)
 RefusesReady st s refusal = Refuses st s refusal
+
+-- or it has a cursor open
+abbrev pub RefusesFree : State → ℕ → Refusal → Type 0
+RefusesFree st s CursorOpen = (s < 64) × (e : Session) × (session_at st s ≡ Some e) × (e.failed ≡ false) × IsSome e.cursor
+RefusesFree st s refusal = RefusesReady st s refusal
+
+-- of a step of a cursor: or it has none
+abbrev pub RefusesBare : State → ℕ → Refusal → Type 0
+RefusesBare st s NoCursor = (s < 64) × (e : Session) × (session_at st s ≡ Some e) × (e.failed ≡ false) × (e.cursor ≡ None)
+RefusesBare st s refusal = RefusesReady st s refusal

@@ -6,14 +6,17 @@ use Rattle.commit_status.specs.declared.status.Status.{Status}
 use Rattle.commit_status.specs.Window.{Window, place, status_of, next_id}
 use Rattle.page_slots.specs.declared.slot.Slot.{Slot}
 use Rattle.root_index.specs.View.{IndexView}
+use Rattle.heap_write.specs.Indexes as indexes
 use Rattle.sound_entries.specs.Pages.{version_in}
 use Rattle.heap_write.specs.Heap.{HeapView, slots_of}
 use Rattle.session_relation.specs.declared.settings.Settings.{Settings}
 use Rattle.session_relation.specs.declared.reply.Refusal.{Refusal}
 use Rattle.session_relation.specs.declared.reply.Refusal.TheVariants.{Conflict}
-use Rattle.session_relation.specs.Heap.{Heap}
 use Rattle.session_relation.specs.Heap as relation
 use Rattle.session_core.specs.declared.session.Session.{Session}
+use Rattle.heap_write.specs.declared.walking.Mark.{Mark}
+use Rattle.session_core.specs.declared.cursor.Cursor.{Cursor}
+use Rattle.session_core.specs.declared.cursor.Cursor.TheVariants.{Index, Heap}
 
 pub record State : Type 0 where
   pub settings : Settings
@@ -23,19 +26,29 @@ pub record State : Type 0 where
 abbrev pub session_at : State → ℕ → Option Session
 session_at st s = option_flatten (slice_get st.sessions s)
 
--- the index of this number, if there is one: the primary index alone
+-- the index of this number, if there is one
 abbrev pub index_at : State → ℕ → Option IndexView
-index_at st number = if number == 0 then Some st.heap.index else None
+index_at st number = indexes.index_at st.heap.indexes number
 
 -- what became of an id of the window
 abbrev pub state_of : Window → ℕ → Option Status
 state_of w x = option_map (λ _. status_of w x) (place w x)
 
+-- how far the cursor has got, as the relation has it
+abbrev pub mark_of : Option Mark → Option relation.Mark
+mark_of None = None
+mark_of (Some m) = Some (record { value = m.value; key = m.key })
+
+abbrev pub position_of : Option Cursor → Option relation.Position
+position_of None = None
+position_of (Some (Index span)) = Some (relation.in_index span.index span.low span.high (mark_of span.last))
+position_of (Some (Heap page)) = Some (relation.in_heap page)
+
 abbrev pub reader_of : Session → relation.Session
-reader_of e = record { snapshot = e.snapshot; own = e.own.ids; saved = e.own.saved; failed = e.failed }
+reader_of e = record { snapshot = e.snapshot; own = e.own.ids; saved = e.own.saved; failed = e.failed; cursor = position_of e.cursor }
 
 -- what readers see of these slots, ids and sessions
-abbrev pub seen_in : List (List Slot) → Window → List (Option Session) → Heap
+abbrev pub seen_in : List (List Slot) → Window → List (Option Session) → relation.Heap
 seen_in slots table sessions = record {
   version = version_in slots;
   status = state_of table;
@@ -44,7 +57,7 @@ seen_in slots table sessions = record {
 }
 
 -- the engine as its readers see it
-abbrev pub seen : State → Heap
+abbrev pub seen : State → relation.Heap
 seen st = seen_in (slots_of st.heap) st.heap.table st.sessions
 
 -- the own ids of the open sessions
@@ -70,6 +83,12 @@ horizon_of st = earliest (next_id st.heap.table) (held_back st.sessions)
 -- another session, or none, in this place
 abbrev pub put_session : State → ℕ → Option Session → State
 put_session st s e = record st { sessions = slice_set st.sessions s e }
+
+abbrev pub map_session : (Session → Session) → Option Session → Option Session
+map_session f o = option_map f o
+
+abbrev pub with_cursor : Option Cursor → Session → Session
+with_cursor cursor e = record e { cursor = cursor }
 
 abbrev pub as_failed : Session → Session
 as_failed e = record e { failed = true }

@@ -18,6 +18,7 @@ pub record SameSession (e e' : Session) : Type 0 where
   pub snapshot : e'.snapshot ≡ e.snapshot
   pub own : SameOwn e.own e'.own
   pub failed : e'.failed ≡ e.failed
+  pub cursor : e'.cursor ≡ e.cursor
 
 -- the session wrote, under x: nothing of it changes but its own ids
 pub record Done (e e' : Session) (changes : ℕ → Type 0) : Type 0 where

@@ -56,7 +56,7 @@ impl Engine {
         reply_of(outcome)
     }
 
-    /// Takes the row of a key away. Refusals in order: NoSuchSession, NotOpen, Failed, NotThere, Conflict, Busy,
+    /// Takes the row of a key away. Refusals in order: NoSuchSession, NotOpen, Failed, CursorOpen, NotThere, Conflict, Busy,
     /// NeedsFreeze, NoMemory.
     pub(crate) fn delete(&mut self, s: u8, key: u64) -> Reply
         ensures follows { Follows self.old (Step.Delete s key) result self.new }

@@ -1,6 +1,6 @@
 //! The engine and its sessions.
 
-ghost use Rattle.std.specs.Prelude.{◌≡◌, ◌≤◌, ◌<◌, ℕ, [], length, slice_get, slice_set, replicate, option_copied, IfOk, IfErr, OnOk, MatchResult, Some, None, false, Contains};
+ghost use Rattle.std.specs.Prelude.{◌≡◌, ◌≤◌, ◌<◌, ℕ, [], length, slice_get, slice_set, replicate, option_copied, IfOk, IfErr, OnOk, MatchResult, IsSome, Some, None, false, Contains};
 ghost use Rattle.std.specs.Option.{option_map};
 ghost use Rattle.history.specs.World.{empty};
 ghost use Rattle.session_relation.specs.Words.{AreSettings, FirstFault};
@@ -9,7 +9,7 @@ ghost use Rattle.commit_status.specs.Changes.{Finishes};
 ghost use Rattle.session_core.specs.State.{session_at, index_at, put_session, as_failed};
 ghost use Rattle.session_core.specs.Changes.{Opens, Closes};
 ghost use Rattle.session_core.specs.Agrees.{Agrees};
-ghost use Rattle.session_core.specs.Refuses.{Refuses, RefusesReady};
+ghost use Rattle.session_core.specs.Refuses.{Refuses, RefusesReady, RefusesFree, RefusesBare};
 
 use crate::session::Session;
 use commit_status::Status;
@@ -65,7 +65,7 @@ fn fail(session: &mut Option<Session>)
 fn end(heap: &mut HeapState, session: Option<Session>, status: Status)
     requires { (e : _) (x : ℕ) → session ≡ Some e → Contains e.own.ids x → IsActive heap.old.table x }
     ensures pages { heap.new.pages ≡ heap.old.pages }
-    ensures index { heap.new.index ≡ heap.old.index }
+    ensures indexes { heap.new.indexes ≡ heap.old.indexes }
     ensures max_pages { heap.new.max_pages ≡ heap.old.max_pages }
     ensures finishes { (e : _) → session ≡ Some e → Finishes heap.old.table heap.new.table e.own.ids status }
     ensures window { (e : _) → session ≡ Some e → IsWindow heap.new.table }
@@ -95,7 +95,13 @@ impl Engine {
         Ok(Engine {
             alloc,
             settings,
-            heap: HeapState::new(alloc, first, settings.stop_age, settings.max_pages),
+            heap: HeapState::new(
+                alloc,
+                first,
+                settings.stop_age,
+                settings.max_pages,
+                settings.indexed,
+            ),
             sessions,
         })
     }
@@ -116,15 +122,12 @@ impl Engine {
         self.heap.page(number)
     }
 
-    /// The index of this number, if there is one: index 0 is the primary index, by key.
+    /// The index of this number, if there is one: index 0 is the primary index, by key, and index `c + 1` is that of
+    /// column `c`, where the settings ask for it.
     pub fn index(&self, number: u8) -> Option<&RootIndex>
         ensures { option_copied result ≡ index_at self.now number }
     {
-        if number == 0 {
-            Some(self.heap.index())
-        } else {
-            None
-        }
+        self.heap.index(number)
     }
 
     /// The visibility map's bits of the page, if it is in use: 0, since no page has been cleaned yet.
@@ -161,6 +164,34 @@ impl Engine {
         Ok(session)
     }
 
+    /// The session, if it is open, has not failed and has no cursor.
+    pub(crate) fn free(&self, s: u8) -> Result<&Session, Refusal>
+        ensures { MatchResult result (λ e. (s < 64) × (session_at self.now s ≡ Some e.now) × (e.now.failed ≡ false) × (e.now.cursor ≡ None)) (λ refusal. RefusesFree self.now s refusal) }
+    {
+        let session = match self.ready(s) {
+            Ok(session) => session,
+            Err(refusal) => return Err(refusal),
+        };
+        match session.cursor {
+            None => Ok(session),
+            Some(_) => Err(Refusal::CursorOpen),
+        }
+    }
+
+    /// The session, if it is open, has not failed and has a cursor.
+    pub(crate) fn with_cursor(&self, s: u8) -> Result<&Session, Refusal>
+        ensures { MatchResult result (λ e. (s < 64) × (session_at self.now s ≡ Some e.now) × (e.now.failed ≡ false) × IsSome e.now.cursor) (λ refusal. RefusesBare self.now s refusal) }
+    {
+        let session = match self.ready(s) {
+            Ok(session) => session,
+            Err(refusal) => return Err(refusal),
+        };
+        match session.cursor {
+            Some(_) => Ok(session),
+            None => Err(Refusal::NoCursor),
+        }
+    }
+
     /// Opens the session, which sees what its snapshot does.
     pub(crate) fn open(&mut self, s: u8, snapshot: Snapshot)
         requires within { s < 64 }
@@ -171,6 +202,7 @@ impl Engine {
             snapshot,
             own: OwnIds::new(self.alloc),
             failed: false,
+            cursor: None,
         });
     }
 

@@ -67,13 +67,13 @@ impl Engine {
         }
     }
 
-    /// Writes a row of a key that has none. Refusals in order: NoSuchSession, NotOpen, Failed, TooLarge,
+    /// Writes a row of a key that has none. Refusals in order: NoSuchSession, NotOpen, Failed, CursorOpen, TooLarge,
     /// AlreadyThere, Conflict, Busy, NeedsFreeze, NoRoom, NoMemory.
     pub(crate) fn insert(&mut self, s: u8, row: RowIn) -> Reply
         ensures follows { Follows self.old (Step.Insert s row) result self.new }
         ensures exact { Exact self.old (Step.Insert s row) result self.new }
     {
-        match self.ready(s) {
+        match self.free(s) {
             Ok(_) => {}
             Err(refusal) => return Reply::Refused(refusal),
         }

@@ -3,17 +3,20 @@
 //! Callers see an [`Engine`] as a `State` (`specs/State.antt`). `specs/Agrees.antt` says when it agrees with a world of
 //! the history, and [`Engine::step`] promises that for every world that it agrees with, the history allows the reply,
 //! the engine agrees with the next world, and no index entry leads to a slot that was given to another row. Beside that it
-//! says exactly what the step does to ids and pages (`specs/Exact.antt`). [`views_by_index`] says what the index leads to.
+//! says exactly what the step does to ids and pages (`specs/Exact.antt`). [`views_by_index`] says what an index leads to.
 #![tactic(auto)]
 
 mod begin;
 mod cleaning;
 mod commit;
+mod cursor;
+mod cursors;
 mod delete;
 mod engine;
 mod get;
 mod insert;
 mod laws;
+mod next;
 mod runs;
 mod savepoint;
 mod session;
@@ -27,5 +30,7 @@ pub use page_slots::Page;
 pub use runs::{RunFault, run};
 pub use session_relation::{Refusal, Reply, Row, RowIn, Settings, SettingsFault, Step};
 
+#[cfg(test)]
+mod cursor_tests;
 #[cfg(test)]
 mod tests;

@@ -77,7 +77,7 @@ impl Engine {
         ensures follows { Follows self.old (Step.Savepoint s) result self.new }
         ensures exact { Exact self.old (Step.Savepoint s) result self.new }
     {
-        match self.ready(s) {
+        match self.free(s) {
             Ok(_) => {}
             Err(refusal) => return Reply::Refused(refusal),
         }
@@ -106,11 +106,14 @@ impl Engine {
         ensures exact { Exact self.old (Step.RollbackTo s) result self.new }
     {
         match self.opened(s) {
-            Ok(session) => {
-                if session.own.savepoints() == 0 {
-                    return Reply::Refused(Refusal::NoSavepoint);
+            Ok(session) => match session.cursor {
+                Some(_) => return Reply::Refused(Refusal::CursorOpen),
+                None => {
+                    if session.own.savepoints() == 0 {
+                        return Reply::Refused(Refusal::NoSavepoint);
+                    }
                 }
-            }
+            },
             Err(refusal) => return Reply::Refused(refusal),
         }
         self.return_back(s);
@@ -133,7 +136,7 @@ impl Engine {
         ensures follows { Follows self.old (Step.Release s) result self.new }
         ensures exact { Exact self.old (Step.Release s) result self.new }
     {
-        match self.ready(s) {
+        match self.free(s) {
             Ok(session) => {
                 if session.own.savepoints() == 0 {
                     return Reply::Refused(Refusal::NoSavepoint);

@@ -16,6 +16,7 @@ impl Engine {
         ensures follows { Follows self.old step result self.new }
         ensures exact { Exact self.old step result self.new }
     {
+        step.has_bounds();
         match step {
             Step::Begin(s) => self.begin(s),
             Step::Get(s, key) => self.get(s, key),
@@ -25,6 +26,10 @@ impl Engine {
             Step::Savepoint(s) => self.savepoint(s),
             Step::RollbackTo(s) => self.rollback_to(s),
             Step::Release(s) => self.release(s),
+            Step::OpenIndex(s, index, low, high) => self.open_index(s, index, low, high),
+            Step::OpenHeap(s) => self.open_heap(s),
+            Step::Next(s, n) => self.next(s, n),
+            Step::Close(s) => self.close_cursor(s),
             Step::Commit(s) => self.commit(s),
             Step::Abort(s) => self.abort(s),
             Step::Prune(page) => self.prune(page),

@@ -113,12 +113,14 @@ fn a_run_of_steps(rt: HostRuntime) -> Result<(), Fail> {
     Ok(())
 }
 
-// A reply as it is told: of a row its first column alone.
+// A reply as it is told: of a row its first column alone, and of several how many.
 #[derive(Clone, Copy, Debug, PartialEq, Eq)]
 enum Answer {
     Done,
     Nothing,
     Column(i64),
+    Rows(usize),
+    End,
     Committed,
     RolledBack,
     Refused(Refusal),
@@ -129,6 +131,8 @@ fn answer_of(reply: &Reply) -> Answer {
         Reply::Done => Answer::Done,
         Reply::Found(None) => Answer::Nothing,
         Reply::Found(Some(row)) => Answer::Column(row.cols[0]),
+        Reply::Rows(rows) => Answer::Rows(rows.len()),
+        Reply::End => Answer::End,
         Reply::Committed => Answer::Committed,
         Reply::RolledBack => Answer::RolledBack,
         Reply::Refused(refusal) => Answer::Refused(*refusal),

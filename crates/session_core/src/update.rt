@@ -82,13 +82,13 @@ impl Engine {
     }
 
     /// Writes another row of a key that has one. Where the row has no room on the page of the version that it replaces,
-    /// that page is pruned first. Refusals in order: NoSuchSession, NotOpen, Failed, TooLarge, NotThere, Conflict, Busy,
+    /// that page is pruned first. Refusals in order: NoSuchSession, NotOpen, Failed, CursorOpen, TooLarge, NotThere, Conflict, Busy,
     /// NeedsFreeze, NoRoom, NoMemory.
     pub(crate) fn update(&mut self, s: u8, row: RowIn) -> Reply
         ensures follows { Follows self.old (Step.Update s row) result self.new }
         ensures exact { Exact self.old (Step.Update s row) result self.new }
     {
-        match self.ready(s) {
+        match self.free(s) {
             Ok(_) => {}
             Err(refusal) => return Reply::Refused(refusal),
         }

@@ -84,12 +84,12 @@ impl Engine {
         }
     }
 
-    /// What keeps the session from inserting a row of the key. Tests in order: NoSuchSession, NotOpen, Failed, AlreadyThere,
+    /// What keeps the session from inserting a row of the key. Tests in order: NoSuchSession, NotOpen, Failed, CursorOpen, AlreadyThere,
     /// Conflict, Busy.
     pub(crate) fn vacant(&self, s: u8, key: u64) -> Result<(), Refusal>
         ensures { MatchResult result (λ _. MayWrite self.now s key None) (λ refusal. HindersInsert self.now s key refusal) }
     {
-        match self.ready(s) {
+        match self.free(s) {
             Ok(session) => match self.heap.place_of(key, &session.snapshot, &session.own) {
                 Some(_) => Err(Refusal::AlreadyThere),
                 None => match self.delay(session, key) {
@@ -102,11 +102,11 @@ impl Engine {
     }
 
     /// The place of the version of the key that the session reads, which it may update or delete. Tests in order:
-    /// NoSuchSession, NotOpen, Failed, NotThere, Conflict, Busy.
+    /// NoSuchSession, NotOpen, Failed, CursorOpen, NotThere, Conflict, Busy.
     pub(crate) fn occupied(&self, s: u8, key: u64) -> Result<Tid, Refusal>
         ensures { MatchResult result (λ place. MayWrite self.now s key (Some place)) (λ refusal. HindersChange self.now s key refusal) }
     {
-        match self.ready(s) {
+        match self.free(s) {
             Ok(session) => match self.heap.place_of(key, &session.snapshot, &session.own) {
                 None => Err(Refusal::NotThere),
                 Some(place) => match self.delay(session, key) {

@@ -25,11 +25,11 @@ use Rattle.session_relation.proofs.Steps.{waits-put, own_traced}
 
 -- the version is deleted under an id that the session has
 pub Agrees-delete : (h : Heap) (w : World) (s : ℕ) (e : Session) (m : OpenSession) (x : ℕ) (place : Tid) (old new : Version) (store' : Tid → Option Version)
-    → Alters h.version store' place old new → IsDeleted x old new → h.session s ≡ Some e → IsCurrent e x → w.session s ≡ Some m
+    → Alters h.version store' place old new → IsDeleted x old new → h.session s ≡ Some e → IsCurrent e x → w.session s ≡ Some m → m.cursor ≡ None
     → IsVisible h.status (h.sees e.snapshot) e.own old → ¬ IsLate w.history m.start old.row.key → ((o : ℕ) → o ≢ s → ¬ Holds w o old.row.key)
     → SessionAgrees h.status h.version w.history (h.sees e.snapshot) e m
     → Agrees h w → Agrees (record h { version = store' }) (put w s (Some (without_row old.row.key m)))
-Agrees-delete h w s e m x place old new store' alters deleted at current there seen in_time unheld mine agrees = record {
+Agrees-delete h w s e m x place old new store' alters deleted at current there bare seen in_time unheld mine agrees = record {
   opened = opened-change h h' w w' s agrees (λ o ne. refl) models
       (λ o f n ne bt there' theirs. SessionAgrees-delete_other x place old new alters deleted active (λ foreign. ne (agrees.apart o s f e x bt at foreign current.mine))
       (record {
@@ -38,7 +38,7 @@ Agrees-delete h w s e m x place old new store' alters deleted at current there s
       }) theirs)
       (λ e' at'. let is : e ≡ e' = same_Some e e' (sym at ∙ at') in
       subst (λ e. Matches h' w' s e) is
-      (without_row old.row.key m, at_same s (Some (without_row old.row.key m)) (w.session s), SessionAgrees-delete x place old new alters deleted current seen in_time dead mine));
+      (without_row old.row.key m, at_same s (Some (without_row old.row.key m)) (w.session s), SessionAgrees-delete x place old new alters deleted current bare seen in_time dead mine));
   idle = idle-change h h' w w' s agrees (λ o ne. refl) models (λ at'. absurd (none-some e (sym at' ∙ at)));
   waits = waits-put w s agrees.waits;
   current = Shows-alter_same alters deleted.same_row still before (λ p v bt seen. seen) (λ p v bt seen. seen) agrees.current;

@@ -1,6 +1,6 @@
 -- The reply to each step is one that the history allows, and the engine agrees with the next world.
 use Rattle.std.proofs.Common.{◌≡◌, ℕ, ◌<◌, ◌≤◌, Option, Some, None, true, false, refl, sym, ap, ◌∙◌, subst, ◌⊎◌}
-use Rattle.std.specs.Prelude.{Contains}
+use Rattle.std.specs.Prelude.{IsSome, Contains}
 use Rattle.xid_circle.specs.declared.Tid.{Tid}
 use Rattle.tuple_header.specs.declared.version.Row.{Row}
 use Rattle.tuple_header.specs.Version.{Version}
@@ -13,14 +13,15 @@ use Rattle.session_relation.specs.declared.step.Step.TheVariants.{Begin, Get, Co
 use Rattle.session_relation.specs.declared.reply.Reply.TheVariants.{Done, Found, RolledBack, Refused}
 use Rattle.session_relation.specs.declared.reply.Reply.TheVariants as reply
 use Rattle.session_relation.specs.declared.reply.Refusal.{Refusal}
-use Rattle.session_relation.specs.declared.reply.Refusal.TheVariants.{NotOpen, AlreadyOpen, Failed, AlreadyThere, NotThere, Conflict, Busy, TooDeep, NoSavepoint, TooLarge, NoRoom, NeedsFreeze, NoMemory, NoSuchPage, NoSuchSession}
-use Rattle.session_relation.specs.Allowed.{AllowsClosed, AllowsUnready, Allows}
+use Rattle.session_relation.specs.declared.reply.Refusal.TheVariants.{NotOpen, AlreadyOpen, Failed, AlreadyThere, NotThere, Conflict, Busy, CursorOpen, NoCursor, TooDeep, NoSavepoint, TooLarge, NoRoom, NeedsFreeze, NoMemory, NoSuchPage, NoSuchIndex, NoSuchSession, BadBounds}
+use Rattle.session_relation.specs.Allowed.{AllowsClosed, AllowsUnready, AllowsBarred, AllowsBare, Allows}
 use Rattle.session_relation.specs.Heap.{Session, Heap}
 use Rattle.session_relation.specs.Visible.{IsFresh, IsVisible, Sees}
 use Rattle.session_relation.specs.Changes.{Finishes, Removes, IsPast}
 use Rattle.session_relation.specs.Agrees.{Agrees, Shows}
 use Rattle.session_relation.specs.Finds.{Finds, Follows}
 use Rattle.session_relation.proofs.Readers.{Levels-top}
+use Rattle.session_relation.proofs.CursorsLemmas.{some_model}
 use Rattle.session_relation.proofs.Itself.{new_session}
 use Rattle.session_relation.proofs.Pruning.{Agrees-prune}
 use Rattle.session_relation.proofs.Steps.{OnlyIs, SameSights, waits-put, Agrees-begin, Agrees-abort}
@@ -51,6 +52,16 @@ abbrev pub IsUnready : Heap → ℕ → Refusal → Type 0
 IsUnready h s Failed = (e : Session) × (h.session s ≡ Some e) × (e.failed ≡ true)
 IsUnready h s refusal = IsClosed h s refusal
 
+-- or it has a cursor open
+abbrev pub IsBarred : Heap → ℕ → Refusal → Type 0
+IsBarred h s CursorOpen = (e : Session) × (h.session s ≡ Some e) × (e.failed ≡ false) × IsSome e.cursor
+IsBarred h s refusal = IsUnready h s refusal
+
+-- why a step of a cursor cannot be tried: the session cannot be used, or has failed, or has no cursor open
+abbrev pub IsBare : Heap → ℕ → Refusal → Type 0
+IsBare h s NoCursor = (e : Session) × (h.session s ≡ Some e) × (e.failed ≡ false) × (e.cursor ≡ None)
+IsBare h s refusal = IsUnready h s refusal
+
 -- what holds of each of the two, holds of why it is closed
 pub closed_cases : (h : Heap) (s : ℕ) (P : Refusal → Type 0) (r : Refusal) → IsClosed h s r → (IsClosed h s NoSuchSession → P NoSuchSession) → (IsClosed h s NotOpen → P NotOpen) → P r
 closed_cases h s P NoSuchSession is none idle = none is
@@ -61,6 +72,8 @@ closed_cases h s P AlreadyThere is none idle = absurd is
 closed_cases h s P NotThere is none idle = absurd is
 closed_cases h s P Conflict is none idle = absurd is
 closed_cases h s P (Busy o) is none idle = absurd is
+closed_cases h s P CursorOpen is none idle = absurd is
+closed_cases h s P NoCursor is none idle = absurd is
 closed_cases h s P TooDeep is none idle = absurd is
 closed_cases h s P NoSavepoint is none idle = absurd is
 closed_cases h s P TooLarge is none idle = absurd is
@@ -68,6 +81,8 @@ closed_cases h s P NoRoom is none idle = absurd is
 closed_cases h s P NeedsFreeze is none idle = absurd is
 closed_cases h s P NoMemory is none idle = absurd is
 closed_cases h s P NoSuchPage is none idle = absurd is
+closed_cases h s P NoSuchIndex is none idle = absurd is
+closed_cases h s P BadBounds is none idle = absurd is
 
 -- and of each of the three, of why it is not ready
 pub unready_cases : (h : Heap) (s : ℕ) (P : Refusal → Type 0) (r : Refusal) → IsUnready h s r → (IsClosed h s NoSuchSession → P NoSuchSession) → (IsClosed h s NotOpen → P NotOpen) → (IsUnready h s Failed → P Failed) → P r
@@ -79,6 +94,8 @@ unready_cases h s P AlreadyThere is none idle failed = absurd is
 unready_cases h s P NotThere is none idle failed = absurd is
 unready_cases h s P Conflict is none idle failed = absurd is
 unready_cases h s P (Busy o) is none idle failed = absurd is
+unready_cases h s P CursorOpen is none idle failed = absurd is
+unready_cases h s P NoCursor is none idle failed = absurd is
 unready_cases h s P TooDeep is none idle failed = absurd is
 unready_cases h s P NoSavepoint is none idle failed = absurd is
 unready_cases h s P TooLarge is none idle failed = absurd is
@@ -86,6 +103,51 @@ unready_cases h s P NoRoom is none idle failed = absurd is
 unready_cases h s P NeedsFreeze is none idle failed = absurd is
 unready_cases h s P NoMemory is none idle failed = absurd is
 unready_cases h s P NoSuchPage is none idle failed = absurd is
+unready_cases h s P NoSuchIndex is none idle failed = absurd is
+unready_cases h s P BadBounds is none idle failed = absurd is
+
+-- what holds of each of these, and of an open cursor, holds of why the session may not write
+pub barred_cases : (h : Heap) (s : ℕ) (P : Refusal → Type 0) (r : Refusal) → IsBarred h s r → ((r : Refusal) → IsUnready h s r → P r) → (IsBarred h s CursorOpen → P CursorOpen) → P r
+barred_cases h s P NoSuchSession is unready cursor = unready NoSuchSession is
+barred_cases h s P NotOpen is unready cursor = unready NotOpen is
+barred_cases h s P AlreadyOpen is unready cursor = unready AlreadyOpen is
+barred_cases h s P Failed is unready cursor = unready Failed is
+barred_cases h s P AlreadyThere is unready cursor = unready AlreadyThere is
+barred_cases h s P NotThere is unready cursor = unready NotThere is
+barred_cases h s P Conflict is unready cursor = unready Conflict is
+barred_cases h s P (Busy o) is unready cursor = unready (Busy o) is
+barred_cases h s P CursorOpen is unready cursor = cursor is
+barred_cases h s P NoCursor is unready cursor = unready NoCursor is
+barred_cases h s P TooDeep is unready cursor = unready TooDeep is
+barred_cases h s P NoSavepoint is unready cursor = unready NoSavepoint is
+barred_cases h s P TooLarge is unready cursor = unready TooLarge is
+barred_cases h s P NoRoom is unready cursor = unready NoRoom is
+barred_cases h s P NeedsFreeze is unready cursor = unready NeedsFreeze is
+barred_cases h s P NoMemory is unready cursor = unready NoMemory is
+barred_cases h s P NoSuchPage is unready cursor = unready NoSuchPage is
+barred_cases h s P NoSuchIndex is unready cursor = unready NoSuchIndex is
+barred_cases h s P BadBounds is unready cursor = unready BadBounds is
+
+pub bare_cases : (h : Heap) (s : ℕ) (P : Refusal → Type 0) (r : Refusal) → IsBare h s r → ((r : Refusal) → IsUnready h s r → P r) → (IsBare h s NoCursor → P NoCursor) → P r
+bare_cases h s P NoSuchSession is unready cursor = unready NoSuchSession is
+bare_cases h s P NotOpen is unready cursor = unready NotOpen is
+bare_cases h s P AlreadyOpen is unready cursor = unready AlreadyOpen is
+bare_cases h s P Failed is unready cursor = unready Failed is
+bare_cases h s P AlreadyThere is unready cursor = unready AlreadyThere is
+bare_cases h s P NotThere is unready cursor = unready NotThere is
+bare_cases h s P Conflict is unready cursor = unready Conflict is
+bare_cases h s P (Busy o) is unready cursor = unready (Busy o) is
+bare_cases h s P CursorOpen is unready cursor = unready CursorOpen is
+bare_cases h s P NoCursor is unready cursor = cursor is
+bare_cases h s P TooDeep is unready cursor = unready TooDeep is
+bare_cases h s P NoSavepoint is unready cursor = unready NoSavepoint is
+bare_cases h s P TooLarge is unready cursor = unready TooLarge is
+bare_cases h s P NoRoom is unready cursor = unready NoRoom is
+bare_cases h s P NeedsFreeze is unready cursor = unready NeedsFreeze is
+bare_cases h s P NoMemory is unready cursor = unready NoMemory is
+bare_cases h s P NoSuchPage is unready cursor = unready NoSuchPage is
+bare_cases h s P NoSuchIndex is unready cursor = unready NoSuchIndex is
+bare_cases h s P BadBounds is unready cursor = unready BadBounds is
 
 pub allows_closed : (h : Heap) (w : World) (s : ℕ) (r : Refusal) → Agrees h w → IsClosed h s r → AllowsClosed w s r
 allows_closed h w s r agrees is = closed_cases h s (λ r. AllowsClosed w s r) r is (λ none. none) (λ idle. (idle.0, agrees.idle s idle.1))
@@ -93,6 +155,18 @@ allows_closed h w s r agrees is = closed_cases h s (λ r. AllowsClosed w s r) r 
 pub allows_unready : (h : Heap) (w : World) (s : ℕ) (r : Refusal) → Agrees h w → IsUnready h s r → AllowsUnready w s r
 allows_unready h w s r agrees is = unready_cases h s (λ r. AllowsUnready w s r) r is (λ none. none) (λ idle. (idle.0, agrees.idle s idle.1))
     (λ failed. let open_ = agrees.opened s failed.0 failed.1 in (open_.0, open_.1, sym open_.2.same_failed ∙ failed.2))
+
+pub allows_barred : (h : Heap) (w : World) (s : ℕ) (r : Refusal) → Agrees h w → IsBarred h s r → AllowsBarred w s r
+allows_barred h w s r agrees is = barred_cases h s (λ r. AllowsBarred w s r) r is (λ r unready.
+    unready_cases h s (λ r. AllowsBarred w s r) r unready (λ none. none) (λ idle. allows_unready h w s NotOpen agrees idle) (λ failed. allows_unready h w s Failed agrees failed))
+    (λ barred. let open_ = agrees.opened s barred.0 barred.1 in
+    (open_.0, record { there = open_.1; sound = sym open_.2.same_failed ∙ barred.2 }, some_model barred.3 open_.2.cursor))
+
+pub allows_bare : (h : Heap) (w : World) (s : ℕ) (r : Refusal) → Agrees h w → IsBare h s r → AllowsBare w s r
+allows_bare h w s r agrees is = bare_cases h s (λ r. AllowsBare w s r) r is (λ r unready.
+    unready_cases h s (λ r. AllowsBare w s r) r unready (λ none. none) (λ idle. allows_unready h w s NotOpen agrees idle) (λ failed. allows_unready h w s Failed agrees failed))
+    (λ bare. let open_ = agrees.opened s bare.0 bare.1 in
+    (open_.0, record { there = open_.1; sound = sym open_.2.same_failed ∙ bare.2 }, open_.2.cursor.closed bare.3))
 
 -- Refusals before a step is tried.
 

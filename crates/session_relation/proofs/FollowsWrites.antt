@@ -47,7 +47,7 @@ insert_done h now w s e e' row x place new store' free fits agrees still at curr
       allows,
       subst (λ o. Agrees (record now { version = store' }) (put w s (option_map (with_row (row_of row)) o))) (sym there)
           (subst (λ r. Agrees (record now { version = store' }) (put w s (Some (with_row r allows.0)))) same
-          (Agrees-insert now w s e' allows.0 x place new store' adds is_new at current there
+          (Agrees-insert now w s e' allows.0 x place new store' adds is_new at current there allows.1.writer.bare
           (ap (view w.history allows.0) key ∙ allows.1.asks.1) (subst (λ k. ¬ IsLate w.history allows.0.start k) (sym key) allows.2.in_time)
           (λ o ne holds. allows.2.unheld o ne (subst (λ k. Holds w o k) key holds)) (agrees_now now w s e' allows.0 still at there) still)),
     )
@@ -65,7 +65,7 @@ update_done h now w s e e' row found x place q old old' new added altered free f
       allows,
       subst (λ o. Agrees (record now { version = altered }) (put w s (option_map (with_row (row_of row)) o))) (sym there)
           (subst (λ r. Agrees (record now { version = altered }) (put w s (Some (with_row r allows.0)))) same
-          (Agrees-update now w s e' allows.0 x place q old old' new added altered stood adds is_new same_key alters deleted at current there seen
+          (Agrees-update now w s e' allows.0 x place q old old' new added altered stood adds is_new same_key alters deleted at current there allows.1.writer.bare seen
           (subst (λ k. ¬ IsLate w.history allows.0.start k) (sym key) allows.2.in_time)
           (λ o ne holds. allows.2.unheld o ne (subst (λ k. Holds w o k) key holds)) (agrees_now now w s e' allows.0 still at there) still)),
     )
@@ -80,7 +80,7 @@ delete_done h now w s e e' key found x place old old' store' free some agrees st
       allows,
       subst (λ o. Agrees (record now { version = store' }) (put w s (option_map (without_row key) o))) (sym there)
           (subst (λ k. Agrees (record now { version = store' }) (put w s (Some (without_row k allows.0)))) same
-          (Agrees-delete now w s e' allows.0 x place old old' store' alters deleted at current there seen
+          (Agrees-delete now w s e' allows.0 x place old old' store' alters deleted at current there allows.1.writer.bare seen
           (subst (λ k. ¬ IsLate w.history allows.0.start k) (sym same) allows.2.in_time)
           (λ o ne holds. allows.2.unheld o ne (subst (λ k. Holds w o k) same holds)) (agrees_now now w s e' allows.0 still at there) still)),
     )

@@ -38,6 +38,10 @@ pub with_ids-failed : (xs : List ℕ) (e : Session) → (with_ids xs e).failed �
 with_ids-failed [] e = refl
 with_ids-failed (x ∷ xs) e = with_ids-failed xs (with_id (length xs) x e)
 
+pub with_ids-cursor : (xs : List ℕ) (e : Session) → (with_ids xs e).cursor ≡ e.cursor
+with_ids-cursor [] e = refl
+with_ids-cursor (x ∷ xs) e = with_ids-cursor xs (with_id (length xs) x e)
+
 -- no open session sees the ids
 abbrev pub AreUnseen : Heap → (Snap → ℕ → Type 0) → List ℕ → Type 0
 AreUnseen h sees' xs = (x : ℕ) → Contains xs x → (o : ℕ) (f : Session) → h.session o ≡ Some f → ¬ Sees (sees' f.snapshot) x

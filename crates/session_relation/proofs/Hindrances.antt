@@ -10,7 +10,7 @@ use Rattle.history.specs.Moves.{put, as_failed}
 use Rattle.session_relation.specs.declared.step.Step.TheVariants.{Insert}
 use Rattle.session_relation.specs.declared.reply.Reply.TheVariants.{Done, Refused}
 use Rattle.session_relation.specs.declared.reply.Refusal.{Refusal}
-use Rattle.session_relation.specs.declared.reply.Refusal.TheVariants.{NotOpen, Failed, AlreadyThere, NotThere, Conflict, Busy, TooLarge, NoRoom, NeedsFreeze, NoMemory}
+use Rattle.session_relation.specs.declared.reply.Refusal.TheVariants.{NotOpen, Failed, CursorOpen, AlreadyThere, NotThere, Conflict, Busy, TooLarge, NoRoom, NeedsFreeze, NoMemory}
 use Rattle.session_relation.specs.Words.{RowText, FitsRow}
 use Rattle.session_relation.specs.Writes.{WriteStep, inserts, updates, deletes, step_of, key_of, PutsRow, Asks}
 use Rattle.session_relation.specs.Allowed.{AllowsHindered, AllowsWrite, Suits, Allows, refused_write}
@@ -18,7 +18,7 @@ use Rattle.session_relation.specs.Heap.{Session, Heap}
 use Rattle.session_relation.specs.Agrees.{Agrees}
 use Rattle.session_relation.specs.Finds.{IsLateFor, IsHeldBy, Begins, Free, Follows}
 use Rattle.session_relation.proofs.Steps.{OnlyIs, own_traced, Agrees-fail}
-use Rattle.session_relation.proofs.Follows.{IsUnready, unready_cases, allows_unready, Agrees-stepped, found_is_view}
+use Rattle.session_relation.proofs.Follows.{IsUnready, IsBarred, unready_cases, barred_cases, allows_barred, allows_unready, Agrees-stepped, found_is_view}
 
 -- one reply for the three kinds of write
 
@@ -35,9 +35,14 @@ Follows-unready_write h s write r is = Follows-refused h h s r write (λ w agree
     unready_cases h s (λ r. AllowsHindered w s r write × Agrees h (refused_write w s r)) r is (λ none. (none, Agrees-stepped h w s agrees))
     (λ idle. (allows_unready h w s NotOpen agrees idle, Agrees-stepped h w s agrees)) (λ failed. (allows_unready h w s Failed agrees failed, Agrees-stepped h w s agrees)))
 
+pub Follows-barred_write : (h : Heap) (s : ℕ) (write : WriteStep) (r : Refusal) → IsBarred h s r → Follows h (step_of s write) (Refused r) h
+Follows-barred_write h s write r is = barred_cases h s (λ r. Follows h (step_of s write) (Refused r) h) r is (λ r unready. Follows-unready_write h s write r unready)
+    (λ barred. Follows-refused h h s CursorOpen write (λ w agrees. (allows_barred h w s CursorOpen agrees barred, Agrees-stepped h w s agrees)))
+
 -- the session may write
-pub writer : (h : Heap) (w : World) (s : ℕ) (e : Session) (at : h.session s ≡ Some e) (agrees : Agrees h w) → e.failed ≡ false → IsWriter w s (agrees.opened s e at).0
-writer h w s e at agrees sound = let open_ = agrees.opened s e at in record { ready = record { there = open_.1; sound = sym open_.2.same_failed ∙ sound }; bare = open_.2.same_cursor }
+pub writer : (h : Heap) (w : World) (s : ℕ) (e : Session) (at : h.session s ≡ Some e) (agrees : Agrees h w) → e.failed ≡ false → e.cursor ≡ None → IsWriter w s (agrees.opened s e at).0
+writer h w s e at agrees sound bare = let open_ = agrees.opened s e at in
+    record { ready = record { there = open_.1; sound = sym open_.2.same_failed ∙ sound }; bare = open_.2.cursor.closed bare }
 
 -- the row that a write puts has too large a body
 abbrev pub IsTooLarge : WriteStep → Type 0
@@ -45,17 +50,17 @@ IsTooLarge (inserts row) = 1024 < length row.body
 IsTooLarge (updates row) = 1024 < length row.body
 IsTooLarge (deletes k) = ⊥
 
-pub Follows-too_large : (h : Heap) (s : ℕ) (e : Session) (write : WriteStep) → h.session s ≡ Some e → e.failed ≡ false → IsTooLarge write → Follows h (step_of s write) (Refused TooLarge) h
-Follows-too_large h s e write at sound large = Follows-refused h h s TooLarge write (λ w agrees. (allows w agrees write large, Agrees-stepped h w s agrees))
+pub Follows-too_large : (h : Heap) (s : ℕ) (e : Session) (write : WriteStep) → h.session s ≡ Some e → e.failed ≡ false → e.cursor ≡ None → IsTooLarge write → Follows h (step_of s write) (Refused TooLarge) h
+Follows-too_large h s e write at sound bare large = Follows-refused h h s TooLarge write (λ w agrees. (allows w agrees write large, Agrees-stepped h w s agrees))
   where
     allows : (w : World) → Agrees h w → (write : WriteStep) → IsTooLarge write → AllowsHindered w s TooLarge write
-    allows w agrees (inserts row) large = ((agrees.opened s e at).0, writer h w s e at agrees sound, large)
-    allows w agrees (updates row) large = ((agrees.opened s e at).0, writer h w s e at agrees sound, large)
+    allows w agrees (inserts row) large = ((agrees.opened s e at).0, writer h w s e at agrees sound bare, large)
+    allows w agrees (updates row) large = ((agrees.opened s e at).0, writer h w s e at agrees sound bare, large)
     allows w agrees (deletes k) large = absurd large
 
 pub Follows-already_there : (h : Heap) (s : ℕ) (e : Session) (row : RowText) (found : Row) → Begins h s e row.key (Some found) → FitsRow row → Follows h (Insert s row) (Refused AlreadyThere) h
 Follows-already_there h s e row found b fits w agrees =
-    (((agrees.opened s e b.at).0, writer h w s e b.at agrees b.sound, fits, subst (λ o. IsSome o) (found_is_view h w s e row.key (Some found) b.at agrees b.finds) refl), Agrees-stepped h w s agrees)
+    (((agrees.opened s e b.at).0, writer h w s e b.at agrees b.sound b.bare, fits, subst (λ o. IsSome o) (found_is_view h w s e row.key (Some found) b.at agrees b.finds) refl), Agrees-stepped h w s agrees)
 
 -- the write asks for a row of its key, and the row that it puts fits
 abbrev pub NeedsRow : WriteStep → Type 0
@@ -65,7 +70,7 @@ NeedsRow (deletes k) = Unit {0}
 
 pub Follows-not_there : (h : Heap) (s : ℕ) (e : Session) (write : WriteStep) → Begins h s e (key_of write) None → NeedsRow write → Follows h (step_of s write) (Refused NotThere) h
 Follows-not_there h s e write b needs = Follows-refused h h s NotThere write (λ w agrees.
-    (allows w agrees write (writer h w s e b.at agrees b.sound) (sym (found_is_view h w s e (key_of write) None b.at agrees b.finds)) needs, Agrees-stepped h w s agrees))
+    (allows w agrees write (writer h w s e b.at agrees b.sound b.bare) (sym (found_is_view h w s e (key_of write) None b.at agrees b.finds)) needs, Agrees-stepped h w s agrees))
   where
     allows : (w : World) (agrees : Agrees h w) (write : WriteStep) → IsWriter w s (agrees.opened s e b.at).0 → view w.history (agrees.opened s e b.at).0 (key_of write) ≡ None
         → NeedsRow write → AllowsHindered w s NotThere write
@@ -78,7 +83,7 @@ Follows-not_there h s e write b needs = Follows-refused h h s NotThere write (λ
 pub suits : (h : Heap) (w : World) (s : ℕ) (e : Session) (write : WriteStep) (found : Option Row) (b : Begins h s e (key_of write) found) (agrees : Agrees h w) → Asks write found
     → Suits w s write (agrees.opened s e b.at).0
 suits h w s e write found b agrees asks = record {
-  writer = writer h w s e b.at agrees b.sound;
+  writer = writer h w s e b.at agrees b.sound b.bare;
   asks = subst (λ o. Asks write o) (found_is_view h w s e (key_of write) found b.at agrees b.finds) asks;
 }
 
@@ -112,7 +117,7 @@ Follows-busy h s o e f x write found b asks timely held bt owns = Follows-refuse
         (agrees.opened s e b.at).0,
         suits h w s e write found b agrees asks,
         record {
-          writer = writer h w s e b.at agrees b.sound;
+          writer = writer h w s e b.at agrees b.sound b.bare;
           in_time = in_time h w s e (key_of write) b.at agrees timely;
           other = holds.0;
           held = holds.1;
@@ -146,7 +151,7 @@ unheld_by h w s e k found free agrees o ne holds = of (h.session o) refl
 
 pub may_write : (h : Heap) (w : World) (s : ℕ) (e : Session) (k : ℕ) (found : Option Row) (free : Free h s e k found) (agrees : Agrees h w) → MayWrite w s k (agrees.opened s e free.begins.at).0
 may_write h w s e k found free agrees = record {
-  writer = writer h w s e free.begins.at agrees free.begins.sound;
+  writer = writer h w s e free.begins.at agrees free.begins.sound free.begins.bare;
   in_time = in_time h w s e k free.begins.at agrees free.timely;
   unheld = unheld_by h w s e k found free agrees;
 }

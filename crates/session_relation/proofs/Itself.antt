@@ -20,6 +20,7 @@ use Rattle.session_relation.specs.Agrees.{Shows, ReaderAgrees, LevelsAgree, IsOf
 use Rattle.session_relation.proofs.ShowsLemmas.{Shows-same}
 use Rattle.session_relation.proofs.Statuses.{keeps-give, none_given, IsCommitted-give, IsActive-give_cases}
 use Rattle.session_relation.proofs.Versions.{VisibleBy-same}
+use Rattle.session_relation.proofs.CursorsLemmas.{CursorAgrees-keeps, CursorAgrees-bare, CursorAgrees-none, KeepsSeen-same}
 use Rattle.session_relation.proofs.Readers.{IsNew, IsDeleted, ReaderAgrees-same, ReaderAgrees-add_other, ReaderAgrees-delete_other, ReaderAgrees-insert, ReaderAgrees-delete, Levels-map, Levels-within, Levels-count, wrote_before}
 use Rattle.session_relation.proofs.LevelTraces.{Traced-none, Traced-add_other, Traced-delete_other, Traced-insert, Traced-delete, nested_of, LevelTraces-write, LevelTraces-give}
 use Rattle.session_relation.proofs.Traces.{TracesAgree-same, TracesAgree-add, TracesAgree-delete, unseen_still}
@@ -68,11 +69,11 @@ in_time-write history start new levels in_time before k wrote late = elim (cases
 ]
 
 pub SessionAgrees-insert : {status : ℕ → Option Status} {store store' : Tid → Option Version} {history : List Transaction} {sees : ℕ → Type 0} {e : Session} {m : OpenSession} (x : ℕ) (place : Tid) (new : Version)
-    → Adds store store' place new → IsNew x new → IsCurrent e x → reading history m.start (joined m.levels) new.row.key ≡ None → ¬ IsLate history m.start new.row.key
+    → Adds store store' place new → IsNew x new → IsCurrent e x → m.cursor ≡ None → reading history m.start (joined m.levels) new.row.key ≡ None → ¬ IsLate history m.start new.row.key
     → SessionAgrees status store history sees e m → SessionAgrees status store' history sees e (with_row new.row m)
-SessionAgrees-insert {status} {store} {store'} {history} {sees} {e} {m} x place new adds is_new current none in_time h = record {
+SessionAgrees-insert {status} {store} {store'} {history} {sees} {e} {m} x place new adds is_new current bare none in_time h = record {
   same_failed = h.same_failed;
-  same_cursor = h.same_cursor;
+  cursor = CursorAgrees-bare bare h.cursor;
   levels = levels_write (record { key = new.row.key; row = Some new.row }) e.own e.saved m.levels
       (λ r. ReaderAgrees-insert x place new adds is_new current.mine none r)
       (λ before own' writes is subset among r. ReaderAgrees-add_other x place new adds is_new (h.own_active x current.mine) (λ mine. current.newest before is (among x mine)) r) h.levels;
@@ -86,11 +87,11 @@ SessionAgrees-insert {status} {store} {store'} {history} {sees} {e} {m} x place 
 }
 
 pub SessionAgrees-delete : {status : ℕ → Option Status} {store store' : Tid → Option Version} {history : List Transaction} {sees : ℕ → Type 0} {e : Session} {m : OpenSession} (x : ℕ) (place : Tid) (old new : Version)
-    → Alters store store' place old new → IsDeleted x old new → IsCurrent e x → IsVisible status sees e.own old → ¬ IsLate history m.start old.row.key → ((y : ℕ) → deleter old ≡ Some y → ¬ IsCommitted status y)
+    → Alters store store' place old new → IsDeleted x old new → IsCurrent e x → m.cursor ≡ None → IsVisible status sees e.own old → ¬ IsLate history m.start old.row.key → ((y : ℕ) → deleter old ≡ Some y → ¬ IsCommitted status y)
     → SessionAgrees status store history sees e m → SessionAgrees status store' history sees e (without_row old.row.key m)
-SessionAgrees-delete {status} {store} {store'} {history} {sees} {e} {m} x place old new alters deleted current seen in_time dead h = record {
+SessionAgrees-delete {status} {store} {store'} {history} {sees} {e} {m} x place old new alters deleted current bare seen in_time dead h = record {
   same_failed = h.same_failed;
-  same_cursor = h.same_cursor;
+  cursor = CursorAgrees-bare bare h.cursor;
   levels = levels_write (record { key = old.row.key; row = None }) e.own e.saved m.levels
       (λ r. ReaderAgrees-delete x place old new alters deleted current.mine seen r)
       (λ before own' writes is subset among r. ReaderAgrees-delete_other x place old new alters deleted (h.own_active x current.mine) (λ mine. current.newest before is (among x mine))
@@ -112,7 +113,8 @@ pub SessionAgrees-give : {status status' : ℕ → Option Status} {store : Tid �
     → SessionAgrees status' store history sees' (with_id n x e) m
 SessionAgrees-give {status} {status'} {store} {history} {sees} {sees'} {e} {m} n x gives same unseen given h = record {
   same_failed = h.same_failed;
-  same_cursor = h.same_cursor;
+  cursor = CursorAgrees-keeps (KeepsSeen-same (λ p v at seen. VisibleBy-same (λ y touch. to e.own y) (λ y touch. back e.own p y v at touch) seen)
+      (λ p v at seen. VisibleBy-same (λ y touch. back e.own p y v at touch) (λ y touch. to e.own y) seen)) h.cursor;
   levels = levels n e.own e.saved m.levels h.levels;
   level_traces = LevelTraces-give n x e.own e.saved m.levels (λ p v at touch. none_given (status x) gives.fresh (given p x v at touch)) h.level_traces;
   traces = TracesAgree-same (λ y done. keeps-give gives y Committed done) (λ y done. IsCommitted-give gives y done) same h.traces;
@@ -171,7 +173,7 @@ pub SessionAgrees-fail : {status : ℕ → Option Status} {store : Tid → Optio
     → SessionAgrees status store history sees e m → SessionAgrees status store history sees (record e { failed = true }) (as_failed m)
 SessionAgrees-fail h = record {
   same_failed = refl;
-  same_cursor = h.same_cursor;
+  cursor = h.cursor;
   levels = h.levels;
   level_traces = h.level_traces;
   traces = h.traces;
@@ -186,7 +188,7 @@ none_own x among = let below : among.0 < 0 = among.1 in absurd (omega arith)
 
 -- a session as it begins
 abbrev pub new_session : Snap → Session
-new_session snapshot = record { snapshot = snapshot; own = []; saved = []; failed = false }
+new_session snapshot = record { snapshot = snapshot; own = []; saved = []; failed = false; cursor = None }
 
 abbrev pub fresh_model : World → OpenSession
 fresh_model w = record { start = length w.history; levels = [] ∷ []; failed = false; cursor = None }
@@ -198,7 +200,7 @@ pub SessionAgrees-begin : {status : ℕ → Option Status} {store : Tid → Opti
     → SessionAgrees status store w.history sees (new_session snapshot) (fresh_model w)
 SessionAgrees-begin {status} {store} {sees} snapshot w fresh current made = record {
   same_failed = refl;
-  same_cursor = refl;
+  cursor = CursorAgrees-none refl refl;
   levels = record {
     rows = Shows-same (λ p v at seen. VisibleBy-same (λ x touch. to x) (λ x touch. back x) seen) (λ p v at seen. VisibleBy-same (λ x touch. back x) (λ x touch. to x) seen) (λ k. refl) current;
     whole = λ p y v at is reads x maker. to x (made p y v at is (back y reads) x maker);

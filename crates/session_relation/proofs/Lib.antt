@@ -1,5 +1,9 @@
 pub mod Versions
 pub mod ShowsLemmas
+pub mod CursorsLemmas
+pub mod Rests
+pub mod CursorWalks
+pub mod Handing
 pub mod Statuses
 pub mod Readers
 pub mod SessionsLemmas
@@ -21,3 +25,4 @@ pub mod Sights
 pub mod GivenBelow
 pub mod FollowsWrites
 pub mod FollowsSavepoints
+pub mod FollowsCursors

@@ -9,11 +9,13 @@ use Rattle.history.specs.History.{Write, Transaction, committed, written}
 use Rattle.history.specs.World.{OpenSession, own_write}
 use Rattle.history.proofs.HistoryLemmas.{committed-push_before, IsLate-push_cases}
 use Rattle.session_relation.specs.Heap.{Session}
-use Rattle.session_relation.specs.Visible.{IsCommitted, IsActive, Sees, Reads, by_itself, by_others}
+use Rattle.session_relation.specs.Visible.{IsCommitted, IsActive, Sees, Reads, by_itself, by_others, IsVisible}
 use Rattle.session_relation.specs.Changes.{Adds, Alters, Gives, Finishes, SameSight}
 use Rattle.session_relation.specs.Agrees.{ReaderAgrees, Traced, SessionAgrees}
 use Rattle.session_relation.proofs.Statuses.{keeps-give, IsCommitted-give, IsActive-give_cases, IsCommitted-finish_old, IsCommitted-commit_cases, IsCommitted-abort, IsActive-finish, IsActive-finish_other, Reads-status}
-use Rattle.session_relation.proofs.Readers.{IsNew, IsDeleted, IsIdle, ReaderAgrees-same, ReaderAgrees-add_other, ReaderAgrees-delete_other, Levels-map}
+use Rattle.session_relation.proofs.Versions.{VisibleBy-same, active_unread}
+use Rattle.session_relation.proofs.CursorsLemmas.{KeepsSeen, CursorAgrees-keeps, KeepsSeen-same, KeepsSeen-add, KeepsSeen-alter}
+use Rattle.session_relation.proofs.Readers.{IsNew, IsDeleted, IsIdle, seen_deleted, seen_undeleted, ReaderAgrees-same, ReaderAgrees-add_other, ReaderAgrees-delete_other, Levels-map}
 use Rattle.session_relation.proofs.LevelTraces.{Traced-add_other, Traced-delete_other, nested_of, LevelTraces-map}
 use Rattle.session_relation.proofs.Traces.{TracesAgree-same, TracesAgree-add, TracesAgree-delete, TracesAgree-commit, unseen_still}
 
@@ -22,7 +24,7 @@ pub SessionAgrees-add_other : {status : ℕ → Option Status} {store store' : T
     → SessionAgrees status store history sees e m → SessionAgrees status store' history sees e m
 SessionAgrees-add_other {status} {store} {store'} {history} {sees} {e} {m} x place new adds is_new active foreign h = record {
   same_failed = h.same_failed;
-  same_cursor = h.same_cursor;
+  cursor = CursorAgrees-keeps (KeepsSeen-add adds (λ seen. active_unread active foreign (seen.made x is_new.made))) h.cursor;
   levels = Levels-map e.own e.saved m.levels (λ own writes among r. ReaderAgrees-add_other x place new adds is_new active (λ mine. foreign (among x mine)) r) h.levels;
   level_traces = LevelTraces-map e.own e.saved m.levels (nested_of status store history sees m.start e.own e.saved m.levels h.levels) (λ P writes within t. Traced-add_other x place new adds is_new (λ p. foreign (within x p)) t) h.level_traces;
   traces = TracesAgree-add x place new adds is_new active h.traces;
@@ -37,7 +39,7 @@ pub SessionAgrees-delete_other : {status : ℕ → Option Status} {store store' 
     → SessionAgrees status store history sees e m → SessionAgrees status store' history sees e m
 SessionAgrees-delete_other {status} {store} {store'} {history} {sees} {e} {m} x place old new alters deleted active foreign idle h = record {
   same_failed = h.same_failed;
-  same_cursor = h.same_cursor;
+  cursor = CursorAgrees-keeps (KeepsSeen-alter alters deleted.same_row (seen_deleted deleted active foreign) (seen_undeleted deleted idle)) h.cursor;
   levels = Levels-map e.own e.saved m.levels (λ own writes among r. ReaderAgrees-delete_other x place old new alters deleted active (λ mine. foreign (among x mine)) (record { uncommitted = idle.uncommitted; foreign = λ y is mine. idle.foreign y is (among y mine) }) r) h.levels;
   level_traces = LevelTraces-map e.own e.saved m.levels (nested_of status store history sees m.start e.own e.saved m.levels h.levels) (λ P writes within t. Traced-delete_other x place old new alters deleted (λ p. foreign (within x p)) (λ y is p. idle.foreign y is (within y p)) t) h.level_traces;
   traces = TracesAgree-delete x place old new alters deleted active idle.uncommitted h.traces;
@@ -63,13 +65,23 @@ reads_before own back same x reads = elim reads [
   | by_others seen done ↦ by_others ((same x Committed (back x done)).1 seen) (back x done)
 ]
 
+-- and the same versions are seen
+pub same_seen : {status status' : ℕ → Option Status} {store : Tid → Option Version} {sees sees' : ℕ → Type 0} (own : List ℕ)
+    → ((x : ℕ) → IsCommitted status x → IsCommitted status' x) → SameSight status sees sees' → ((x : ℕ) → Reads status' sees' own x → Reads status sees own x)
+    → KeepsSeen store store (IsVisible status sees own) (IsVisible status' sees' own)
+same_seen {status} {status'} {store} {sees} {sees'} own to same back =
+    KeepsSeen-same (λ p v at seen. VisibleBy-same (λ x touch. read x) (λ x touch. back x) seen) (λ p v at seen. VisibleBy-same (λ x touch. back x) (λ x touch. read x) seen)
+  where
+    read : (x : ℕ) → Reads status sees own x → Reads status' sees' own x
+    read x reads = Reads-status (to x) (λ done. (same x Committed done).0) reads
+
 -- another session is given an id
 pub SessionAgrees-give_other : {status status' : ℕ → Option Status} {store : Tid → Option Version} {history : List Transaction} {sees sees' : ℕ → Type 0} {e : Session} {m : OpenSession} (x : ℕ)
     → Gives status status' x → SameSight status sees sees' → ¬ Sees sees' x
     → SessionAgrees status store history sees e m → SessionAgrees status' store history sees' e m
 SessionAgrees-give_other {status} {status'} {store} {history} {sees} {sees'} {e} {m} x gives same unseen h = record {
   same_failed = h.same_failed;
-  same_cursor = h.same_cursor;
+  cursor = CursorAgrees-keeps (same_seen e.own (λ y done. keeps-give gives y Committed done) same (reads_before e.own (λ y done. IsCommitted-give gives y done) same)) h.cursor;
   levels = Levels-map e.own e.saved m.levels (λ own writes among r. same_reader own writes (λ y done. keeps-give gives y Committed done) same (reads_before own (λ y done. IsCommitted-give gives y done) same) (λ k. refl) r) h.levels;
   level_traces = h.level_traces;
   traces = TracesAgree-same (λ y done. keeps-give gives y Committed done) (λ y done. IsCommitted-give gives y done) same h.traces;
@@ -88,7 +100,7 @@ pub SessionAgrees-abort_other : {status status' : ℕ → Option Status} {store 
     → SessionAgrees status store history sees e m → SessionAgrees status' store history sees' e m
 SessionAgrees-abort_other {status} {status'} {store} {history} {sees} {sees'} {e} {m} P finishes same foreign h = record {
   same_failed = h.same_failed;
-  same_cursor = h.same_cursor;
+  cursor = CursorAgrees-keeps (same_seen e.own (λ y done. IsCommitted-finish_old finishes y done) same (reads_before e.own (λ y done. IsCommitted-abort finishes y done) same)) h.cursor;
   levels = Levels-map e.own e.saved m.levels (λ own writes among r. same_reader own writes (λ y done. IsCommitted-finish_old finishes y done) same (reads_before own (λ y done. IsCommitted-abort finishes y done) same) (λ k. refl) r) h.levels;
   level_traces = h.level_traces;
   traces = TracesAgree-same (λ y done. IsCommitted-finish_old finishes y done) (λ y done. IsCommitted-abort finishes y done) same h.traces;
@@ -105,7 +117,7 @@ pub SessionAgrees-commit_other : {status status' : ℕ → Option Status} {store
     → SessionAgrees status store history sees e m → SessionAgrees status' store (history ++ t ∷ []) sees' e m
 SessionAgrees-commit_other {status} {status'} {store} {history} {sees} {sees'} {e} {m} own t finishes same foreign carries alone h = record {
   same_failed = h.same_failed;
-  same_cursor = h.same_cursor;
+  cursor = CursorAgrees-keeps (same_seen e.own (λ y done. IsCommitted-finish_old finishes y done) same (back e.own)) h.cursor;
   levels = Levels-map e.own e.saved m.levels (λ own' writes among r. same_reader own' writes (λ y done. IsCommitted-finish_old finishes y done) same (back own') (λ k. committed-push_before history t m.start k h.began) r) h.levels;
   level_traces = h.level_traces;
   traces = TracesAgree-commit own t finishes same carries h.began (λ x mine. h.active_unseen x (finishes.active x mine)) h.traces;

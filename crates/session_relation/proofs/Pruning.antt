@@ -14,6 +14,7 @@ use Rattle.session_relation.specs.Visible.{IsCommitted, IsAborted, IsActive, See
 use Rattle.session_relation.specs.Changes.{Removes, IsPast, never_was, is_over}
 use Rattle.session_relation.specs.Agrees.{Shows, ReaderAgrees, Traced, SessionAgrees, Agrees}
 use Rattle.session_relation.proofs.Versions.{active_not_committed}
+use Rattle.session_relation.proofs.CursorsLemmas.{CursorAgrees-keeps, KeepsSeen-removes}
 use Rattle.session_relation.proofs.Readers.{Levels-map, Levels-top}
 use Rattle.session_relation.proofs.LevelTraces.{nested_of, LevelTraces-map}
 
@@ -113,7 +114,7 @@ SessionAgrees-prune : {status : ℕ → Option Status} {store store' : Tid → O
     → SessionAgrees status store history (sees e.snapshot) e m → SessionAgrees status store' history (sees e.snapshot) e m
 SessionAgrees-prune {status} {store} {store'} {history} {sees} {session} s e m removes at made h = record {
   same_failed = h.same_failed;
-  same_cursor = h.same_cursor;
+  cursor = CursorAgrees-keeps (KeepsSeen-removes removes (λ p v bt past. past_unseen (reader e.own (λ x mine. mine)) v past)) h.cursor;
   levels = Levels-map e.own e.saved m.levels (λ own writes among r. ReaderAgrees-prune removes (reader own among) made r) h.levels;
   level_traces = LevelTraces-map e.own e.saved m.levels (nested_of status store history (sees e.snapshot) m.start e.own e.saved m.levels h.levels)
       (λ P writes within t. Traced-removes removes (λ p v bt past by. past_foreign (reader e.own (λ x mine. mine)) made (Levels-top e.own e.saved m.levels h.levels) p v bt past (by.0, by.1, within by.0 by.2)) t) h.level_traces;

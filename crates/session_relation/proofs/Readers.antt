@@ -60,31 +60,33 @@ pub record IsIdle (status : ℕ → Option Status) (own : List ℕ) (v : Version
   pub uncommitted : (y : ℕ) → deleter v ≡ Some y → ¬ IsCommitted status y
   pub foreign : (y : ℕ) → deleter v ≡ Some y → ¬ Contains own y
 
+-- and the reader sees the version as before
+
+pub seen_deleted : {status : ℕ → Option Status} {sees : ℕ → Type 0} {own : List ℕ} {x : ℕ} {old new : Version} → IsDeleted x old new → IsActive status x → ¬ Contains own x → IsVisible status sees own old → IsVisible status sees own new
+seen_deleted {status} {sees} {own} {x} {old} {new} deleted active foreign seen = record {
+  made = λ y is. seen.made y (sym deleted.same_maker ∙ is);
+  kept = λ y is read. active_unread active foreign (subst (λ z. Reads status sees own z) (same_Some y x (sym is ∙ deleted.by)) read);
+}
+
+pub seen_undeleted : {status : ℕ → Option Status} {sees : ℕ → Type 0} {own : List ℕ} {x : ℕ} {old new : Version} → IsDeleted x old new → IsIdle status own old → IsVisible status sees own new → IsVisible status sees own old
+seen_undeleted {status} {sees} {own} {x} {old} {new} deleted idle seen = record { made = λ y is. seen.made y (deleted.same_maker ∙ is); kept = unread }
+  where
+    unread : (y : ℕ) → deleter old ≡ Some y → ¬ Reads status sees own y
+    unread y is (by_itself mine) = idle.foreign y is mine
+    unread y is (by_others seen done) = idle.uncommitted y is done
+
 -- another deletes a version
 pub ReaderAgrees-delete_other : {status : ℕ → Option Status} {store store' : Tid → Option Version} {history : List Transaction} {sees : ℕ → Type 0} {start : ℕ} {own : List ℕ} {writes : List Write} (x : ℕ) (place : Tid) (old new : Version)
     → Alters store store' place old new → IsDeleted x old new → IsActive status x → ¬ Contains own x → IsIdle status own old
     → ReaderAgrees status store history sees start own writes → ReaderAgrees status store' history sees start own writes
 ReaderAgrees-delete_other {status} {store} {store'} {history} {sees} {start} {own} {writes} x place old new alters deleted active foreign idle h = record {
-  rows = Shows-alter_same alters deleted.same_row to back (λ p u bt seen. seen) (λ p u bt seen. seen) h.rows;
+  rows = Shows-alter_same alters deleted.same_row (seen_deleted deleted active foreign) (seen_undeleted deleted idle) (λ p u bt seen. seen) (λ p u bt seen. seen) h.rows;
   whole = λ p y u bt is reads. elim (Alters-cases alters p u bt) [
     | inl same ↦ (let by : deleter u ≡ Some x = ap (λ (u : Version). deleter u) same.1 ∙ deleted.by in
         absurd (active_unread active foreign (subst (λ z. Reads status sees own z) (same_Some y x (sym is ∙ by)) reads)))
     | inr other ↦ h.whole p y u other.1 is reads
   ];
 }
-  where
-    to : IsVisible status sees own old → IsVisible status sees own new
-    to seen = record {
-      made = λ y is. seen.made y (sym deleted.same_maker ∙ is);
-      kept = λ y is read. active_unread active foreign (subst (λ z. Reads status sees own z) (same_Some y x (sym is ∙ deleted.by)) read);
-    }
-
-    unread : (y : ℕ) → deleter old ≡ Some y → ¬ Reads status sees own y
-    unread y is (by_itself mine) = idle.foreign y is mine
-    unread y is (by_others seen done) = idle.uncommitted y is done
-
-    back : IsVisible status sees own new → IsVisible status sees own old
-    back seen = record { made = λ y is. seen.made y (deleted.same_maker ∙ is); kept = unread }
 
 -- a write marks its key, and no other
 pub written-push_same : (writes : List Write) (new : Write) → written (writes ++ new ∷ []) new.key ≡ Some new.row

@@ -1,5 +1,5 @@
 -- What setting a savepoint, returning to it and releasing it do to the agreement.
-use Rattle.std.proofs.Common.{◌≡◌, ℕ, List, [], ◌∷◌, slice_get, Option, Some, false, refl, sym, ap, subst, inl, inr}
+use Rattle.std.proofs.Common.{◌≡◌, ℕ, List, [], ◌∷◌, slice_get, Option, Some, None, false, refl, sym, ap, subst, inl, inr}
 use Rattle.std.specs.Prelude.{IsSome, Contains, not, ◌==◌}
 use Rattle.std.specs.Option.{option_map}
 use Rattle.std.proofs.lemmas.List.{append-nil}
@@ -18,6 +18,7 @@ use Rattle.session_relation.specs.Heap.{Session, Heap}
 use Rattle.session_relation.specs.Changes.{Finishes, SameSight}
 use Rattle.session_relation.specs.Agrees.{ReaderAgrees, LevelsAgree, LevelTraces, SessionAgrees, Agrees}
 use Rattle.session_relation.proofs.Statuses.{IsCommitted-finish_old, IsCommitted-abort, IsActive-finish, IsActive-finish_other, Finishes-none}
+use Rattle.session_relation.proofs.CursorsLemmas.{CursorAgrees-bare}
 use Rattle.session_relation.proofs.Readers.{Levels-map, Levels-top}
 use Rattle.session_relation.proofs.LevelTraces.{Traced-none, Traced-join, Nested, nested_of}
 use Rattle.session_relation.proofs.Traces.{TracesAgree-same, unseen_still}
@@ -34,7 +35,7 @@ pub SessionAgrees-save : {status : ℕ → Option Status} {store : Tid → Optio
     → SessionAgrees status store history sees e m → SessionAgrees status store history sees (record e { saved = e.own ∷ e.saved }) (with_savepoint m)
 SessionAgrees-save {status} {store} {history} {sees} {e} {m} h = record {
   same_failed = h.same_failed;
-  same_cursor = h.same_cursor;
+  cursor = h.cursor;
   levels = (subst (λ writes. ReaderAgrees status store history sees m.start e.own writes) (sym (joined-empty m.levels)) (Levels-top e.own e.saved m.levels h.levels), λ x mine. mine, h.levels);
   level_traces = (Traced-none (λ x is. is.1 is.0), h.level_traces);
   traces = h.traces;
@@ -51,11 +52,11 @@ emptied _ own before older (ws ∷ levels) h = (Traced-none (λ x is. is.1 is.0)
 
 -- the ids since the newest savepoint are rolled back, and the writes since forgotten
 pub SessionAgrees-roll_back : {status status' : ℕ → Option Status} {store : Tid → Option Version} {history : List Transaction} {sees sees' : ℕ → Type 0} {e : Session} {m : OpenSession} (before : List ℕ) (older : List (List ℕ))
-    → e.saved ≡ before ∷ older → Finishes status status' (λ x. Contains e.own x × (¬ Contains before x)) Aborted → SameSight status sees sees'
+    → e.saved ≡ before ∷ older → e.cursor ≡ None → Finishes status status' (λ x. Contains e.own x × (¬ Contains before x)) Aborted → SameSight status sees sees'
     → SessionAgrees status store history sees e m → SessionAgrees status' store history sees' (record e { own = before; failed = false }) (to_savepoint m)
-SessionAgrees-roll_back {status} {status'} {store} {history} {sees} {sees'} {e} {m} before older is finishes same h = record {
+SessionAgrees-roll_back {status} {status'} {store} {history} {sees} {sees'} {e} {m} before older is bare finishes same h = record {
   same_failed = refl;
-  same_cursor = h.same_cursor;
+  cursor = CursorAgrees-bare (h.cursor.closed bare) h.cursor;
   levels = subst (λ saved. LevelsAgree status' store history sees' m.start before saved (empty_newest m.levels)) (sym is)
       (back e.own m.levels (subst (λ saved. LevelsAgree status store history sees m.start e.own saved m.levels) is h.levels));
   level_traces = subst (λ saved. LevelTraces store before saved (empty_newest m.levels)) (sym is) (emptied store e.own before older m.levels (subst (λ saved. LevelTraces store e.own saved m.levels) is h.level_traces));
@@ -92,7 +93,7 @@ pub SessionAgrees-release : {status : ℕ → Option Status} {store : Tid → Op
     → e.saved ≡ before ∷ older → SessionAgrees status store history sees e m → SessionAgrees status store history sees (record e { saved = older }) (without_savepoint m)
 SessionAgrees-release {status} {store} {history} {sees} {e} {m} before older is h = record {
   same_failed = h.same_failed;
-  same_cursor = h.same_cursor;
+  cursor = h.cursor;
   levels = joins older m.levels (subst (λ saved. LevelsAgree status store history sees m.start e.own saved m.levels) is h.levels);
   level_traces = joined_traces store e.own before older m.levels (subst (λ saved. Nested e.own saved) is (nested_of status store history sees m.start e.own e.saved m.levels h.levels)) (subst (λ saved. LevelTraces store e.own saved m.levels) is h.level_traces);
   traces = h.traces;
@@ -114,7 +115,7 @@ SessionAgrees-release {status} {store} {history} {sees} {e} {m} before older is 
     joins (first ∷ older) (ws ∷ (vs ∷ levels)) h = (top (ws ∷ (vs ∷ levels)) h.0, λ x mine. h.1 x (h.2.1 x mine), h.2.2)
 
 -- one session alone changes, as the model's does
-Agrees-change : (h : Heap) (w : World) (s : ℕ) (e e' : Session) (f : OpenSession → OpenSession) (status' : ℕ → Option Status) (sees' : Snap → ℕ → Type 0) (session' : ℕ → Option Session)
+pub Agrees-change : (h : Heap) (w : World) (s : ℕ) (e e' : Session) (f : OpenSession → OpenSession) (status' : ℕ → Option Status) (sees' : Snap → ℕ → Type 0) (session' : ℕ → Option Session)
     → OnlyIs h.session session' s (Some e') → h.session s ≡ Some e → Finishes h.status status' (λ x. Contains e.own x × (¬ Contains e'.own x)) Aborted → SameSights h sees'
     → ((m : OpenSession) → SessionAgrees h.status h.version w.history (h.sees e.snapshot) e m → (x : ℕ) → Contains e'.own x → Contains e.own x)
     → ((m : OpenSession) (k : ℕ) → IsSome (own_write (f m) k) → IsSome (own_write m k))
@@ -149,14 +150,14 @@ Agrees-save h w s e session' only at agrees =
 
 -- a session returns to its newest savepoint: the ids that it was given since are rolled back
 pub Agrees-roll_back : (h : Heap) (w : World) (s : ℕ) (e : Session) (before : List ℕ) (older : List (List ℕ)) (status' : ℕ → Option Status) (sees' : Snap → ℕ → Type 0) (session' : ℕ → Option Session)
-    → OnlyIs h.session session' s (Some (record e { own = before; failed = false })) → h.session s ≡ Some e → e.saved ≡ before ∷ older
+    → OnlyIs h.session session' s (Some (record e { own = before; failed = false })) → h.session s ≡ Some e → e.saved ≡ before ∷ older → e.cursor ≡ None
     → Finishes h.status status' (λ x. Contains e.own x × (¬ Contains before x)) Aborted → SameSights h sees'
     → Agrees h w → Agrees (record h { status = status'; sees = sees'; session = session' }) (rolled_back_to w s)
-Agrees-roll_back h w s e before older status' sees' session' only at is finishes same agrees =
+Agrees-roll_back h w s e before older status' sees' session' only at is bare finishes same agrees =
     Agrees-awaited_no_more (record h { status = status'; sees = sees'; session = session' }) (change w s to_savepoint) s
     (Agrees-change h w s e (record e { own = before; failed = false }) to_savepoint status' sees' session' only at finishes same
     (λ m mine. saved_within before mine (ap (λ saved. slice_get saved 0) is))
-    (λ m k wrote. fewer-empty_newest m.levels k wrote) (λ m mine. SessionAgrees-roll_back before older is finishes (same s e at) mine) agrees)
+    (λ m k wrote. fewer-empty_newest m.levels k wrote) (λ m mine. SessionAgrees-roll_back before older is bare finishes (same s e at) mine) agrees)
 
 -- a session forgets its newest savepoint
 pub Agrees-release : (h : Heap) (w : World) (s : ℕ) (e : Session) (before : List ℕ) (older : List (List ℕ)) (session' : ℕ → Option Session)

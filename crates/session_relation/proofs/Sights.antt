@@ -12,14 +12,15 @@ use Rattle.session_relation.specs.Changes.{SameSight}
 use Rattle.session_relation.specs.Agrees.{SessionAgrees, Agrees}
 use Rattle.session_relation.proofs.Readers.{Levels-map}
 use Rattle.session_relation.proofs.Traces.{TracesAgree-same, unseen_still}
-use Rattle.session_relation.proofs.Others.{same_reader, reads_before}
+use Rattle.session_relation.proofs.CursorsLemmas.{CursorAgrees-keeps}
+use Rattle.session_relation.proofs.Others.{same_reader, same_seen, reads_before}
 use Rattle.session_relation.proofs.Steps.{SameSights}
 
 SessionAgrees-sights : {status : ℕ → Option Status} {store : Tid → Option Version} {history : List Transaction} {sees sees' : ℕ → Type 0} {e : Session} {m : OpenSession}
     → SameSight status sees sees' → SessionAgrees status store history sees e m → SessionAgrees status store history sees' e m
 SessionAgrees-sights {status} {store} {history} {sees} {sees'} {e} {m} same h = record {
   same_failed = h.same_failed;
-  same_cursor = h.same_cursor;
+  cursor = CursorAgrees-keeps (same_seen e.own (λ y done. done) same (reads_before e.own (λ y done. done) same)) h.cursor;
   levels = Levels-map e.own e.saved m.levels (λ own writes among r. same_reader own writes (λ y done. done) same (reads_before own (λ y done. done) same) (λ k. refl) r) h.levels;
   level_traces = h.level_traces;
   traces = TracesAgree-same (λ y done. done) (λ y done. done) same h.traces;

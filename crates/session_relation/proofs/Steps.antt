@@ -206,16 +206,16 @@ Agrees-give h w s e x status' sees' session' only at gives same unseen agrees = 
 
 -- a session that has an id writes a row
 pub Agrees-insert : (h : Heap) (w : World) (s : ℕ) (e : Session) (m : OpenSession) (x : ℕ) (place : Tid) (new : Version) (store' : Tid → Option Version)
-    → Adds h.version store' place new → IsNew x new → h.session s ≡ Some e → IsCurrent e x → w.session s ≡ Some m
+    → Adds h.version store' place new → IsNew x new → h.session s ≡ Some e → IsCurrent e x → w.session s ≡ Some m → m.cursor ≡ None
     → reading w.history m.start (joined m.levels) new.row.key ≡ None → ¬ IsLate w.history m.start new.row.key → ((o : ℕ) → o ≢ s → ¬ Holds w o new.row.key)
     → SessionAgrees h.status h.version w.history (h.sees e.snapshot) e m
     → Agrees h w → Agrees (record h { version = store' }) (put w s (Some (with_row new.row m)))
-Agrees-insert h w s e m x place new store' adds is_new at current there none in_time unheld mine agrees = record {
+Agrees-insert h w s e m x place new store' adds is_new at current there bare none in_time unheld mine agrees = record {
   opened = opened-change h h' w w' s agrees (λ o ne. refl) models
       (λ o f n ne bt there' old. SessionAgrees-add_other x place new adds is_new active (λ foreign. ne (agrees.apart o s f e x bt at foreign current.mine)) old)
       (λ e' at'. let is : e ≡ e' = same_Some e e' (sym at ∙ at') in
       subst (λ e. Matches h' w' s e) is
-      (with_row new.row m, at_same s (Some (with_row new.row m)) (w.session s), SessionAgrees-insert x place new adds is_new current none in_time mine));
+      (with_row new.row m, at_same s (Some (with_row new.row m)) (w.session s), SessionAgrees-insert x place new adds is_new current bare none in_time mine));
   idle = idle-change h h' w w' s agrees (λ o ne. refl) models (λ at'. absurd (none-some e (sym at' ∙ at)));
   waits = waits-put w s agrees.waits;
   current = Shows-add_unseen adds (λ p v bt seen. seen) (λ p v bt seen. seen) (λ seen. active_not_committed h.status x active (seen.made x is_new.made)) agrees.current;

@@ -61,7 +61,7 @@ SessionAgrees-forget : {status : ℕ → Option Status} {store : Tid → Option 
     → SessionAgrees status store history sees e (with_write new (with_write old m)) → SessionAgrees status store history sees e (with_write new m)
 SessionAgrees-forget {status} {store} {history} {sees} {e} old new m same h = record {
   same_failed = h.same_failed;
-  same_cursor = h.same_cursor;
+  cursor = h.cursor;
   levels = levels_forget status store history sees m.start old new e.own e.saved m.levels same h.levels;
   level_traces = traces_forget store old new e.own e.saved m.levels same h.level_traces;
   traces = h.traces;
@@ -108,11 +108,11 @@ Agrees-forget h w w' s old new m same history waits there now others agrees = re
 -- the old version is deleted, and the new one added
 pub Agrees-replace : (h : Heap) (w : World) (s : ℕ) (e : Session) (m : OpenSession) (x : ℕ) (place q : Tid) (old old' new : Version) (between store' : Tid → Option Version)
     → Alters h.version between place old old' → IsDeleted x old old' → Adds between store' q new → IsNew x new → new.row.key ≡ old.row.key
-    → h.session s ≡ Some e → IsCurrent e x → w.session s ≡ Some m
+    → h.session s ≡ Some e → IsCurrent e x → w.session s ≡ Some m → m.cursor ≡ None
     → IsVisible h.status (h.sees e.snapshot) e.own old → ¬ IsLate w.history m.start old.row.key → ((o : ℕ) → o ≢ s → ¬ Holds w o old.row.key)
     → SessionAgrees h.status h.version w.history (h.sees e.snapshot) e m
     → Agrees h w → Agrees (record h { version = store' }) (put w s (Some (with_row new.row m)))
-Agrees-replace h w s e m x place q old old' new between store' alters deleted adds is_new key at current there seen in_time unheld mine agrees =
+Agrees-replace h w s e m x place q old old' new between store' alters deleted adds is_new key at current there bare seen in_time unheld mine agrees =
     Agrees-forget (record h { version = store' }) w₂ (put w s (Some (with_row new.row m))) s (record { key = old.row.key; row = None }) (record { key = new.row.key; row = Some new.row }) m key
     refl (waits-put w s agrees.waits) (at_same s (Some (with_row new.row m₁)) (w₁.session s)) (at_same s (Some (with_row new.row m)) (w.session s))
     (λ o ne. at_other o s (Some (with_row new.row m)) (w.session o) ne ∙ (sym (at_other o s (Some m₁) (w.session o) ne) ∙ sym (at_other o s (Some (with_row new.row m₁)) (w₁.session o) ne)))
@@ -128,7 +128,7 @@ Agrees-replace h w s e m x place q old old' new between store' alters deleted ad
     w₂ = put w₁ s (Some (with_row new.row m₁))
 
     gone : Agrees (record h { version = between }) w₁
-    gone = Agrees-delete h w s e m x place old old' between alters deleted at current there seen in_time unheld mine agrees
+    gone = Agrees-delete h w s e m x place old old' between alters deleted at current there bare seen in_time unheld mine agrees
 
     there₁ : w₁.session s ≡ Some m₁
     there₁ = at_same s (Some m₁) (w.session s)
@@ -146,7 +146,7 @@ Agrees-replace h w s e m x place q old old' new between store' alters deleted ad
     unheld₁ o ne held = unheld o ne (subst (λ k. Holds w o k) key (held.0, sym (at_other o s (Some m₁) (w.session o) ne) ∙ held.1, held.2))
 
     inserted : Agrees (record h { version = store' }) w₂
-    inserted = Agrees-insert (record h { version = between }) w₁ s e m₁ x q new store' adds is_new at current there₁ none (subst (λ k. ¬ IsLate w.history m.start k) (sym key) in_time) unheld₁ mine₁ gone
+    inserted = Agrees-insert (record h { version = between }) w₁ s e m₁ x q new store' adds is_new at current there₁ bare none (subst (λ k. ¬ IsLate w.history m.start k) (sym key) in_time) unheld₁ mine₁ gone
 
 -- of two values, the one for the case that is so
 
@@ -165,7 +165,7 @@ chosen-right (inr q) a b right = refl
 -- the new version is added, and then the old one deleted
 pub Agrees-update : (h : Heap) (w : World) (s : ℕ) (e : Session) (m : OpenSession) (x : ℕ) (place q : Tid) (old old' new : Version) (added altered : Tid → Option Version)
     → At h.version place old → Adds h.version added q new → IsNew x new → new.row.key ≡ old.row.key → Alters added altered place old old' → IsDeleted x old old'
-    → h.session s ≡ Some e → IsCurrent e x → w.session s ≡ Some m
+    → h.session s ≡ Some e → IsCurrent e x → w.session s ≡ Some m → m.cursor ≡ None
     → IsVisible h.status (h.sees e.snapshot) e.own old → ¬ IsLate w.history m.start old.row.key → ((o : ℕ) → o ≢ s → ¬ Holds w o old.row.key)
     → SessionAgrees h.status h.version w.history (h.sees e.snapshot) e m
     → Agrees h w → Agrees (record h { version = altered }) (put w s (Some (with_row new.row m)))

@@ -8,6 +8,7 @@ use Rattle.history.specs.History.{Write, Transaction, written, committed, readin
 use Rattle.history.specs.World.{World, OpenSession, joined, own_write, Holds}
 use Rattle.session_relation.specs.Heap.{Session, Heap}
 use Rattle.session_relation.specs.Visible.{IsCommitted, IsActive, Sees, Reads, IsVisible, VisibleBy, Touches, IsMissed, IsBy, At, SomeVersion, maker, deleter}
+use Rattle.session_relation.specs.Cursors.{CursorAgrees}
 
 -- the versions that are seen show exactly these rows, each by one version
 pub record Shows (store : Tid → Option Version) (seen : Version → Type 0) (row : ℕ → Option Row) : Type 0 where
@@ -52,8 +53,8 @@ pub record TracesAgree (status : ℕ → Option Status) (store : Tid → Option 
 -- an open session agrees with the model's
 pub record SessionAgrees (status : ℕ → Option Status) (store : Tid → Option Version) (history : List Transaction) (sees : ℕ → Type 0) (e : Session) (m : OpenSession) : Type 0 where
   pub same_failed : e.failed ≡ m.failed
-  -- no cursor is open yet
-  pub same_cursor : m.cursor ≡ None
+  -- what its cursor has still to hand out is what the model's has
+  pub cursor : CursorAgrees store (IsVisible status sees e.own) e.cursor m.cursor
   -- it reads its view, and could return to each savepoint
   pub levels : LevelsAgree status store history sees m.start e.own e.saved m.levels
   -- what it has written at each level is what the ids of that level made and deleted

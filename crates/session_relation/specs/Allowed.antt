@@ -1,15 +1,16 @@
 -- Which replies the history allows to a step, and what the world is after each.
-use Rattle.std.specs.Prelude.{◌≡◌, ℕ, ◌-◌, ◌<◌, ◌≤◌, List, [], ◌∷◌, length, Option, Some, None, true, IsSome}
+use Rattle.std.specs.Prelude.{◌≡◌, ℕ, ◌-◌, ◌<◌, ◌≤◌, List, [], ◌∷◌, length, Option, Some, None, true, IsSome, ◌<ℤ◌, ◌≤ℤ◌}
 use Rattle.history.specs.History.{IsLate}
-use Rattle.history.specs.World.{World, OpenSession, empty, view, IsReady, IsWriter, MayWrite, IsBlocked}
-use Rattle.history.specs.Moves.{stepped, begun, change, with_row, without_row, as_failed, with_savepoint, rolled_back_to, without_savepoint, aborted, committed_by}
+use Rattle.history.specs.World.{World, OpenSession, Cursor, empty, view, IsReady, IsWriter, MayWrite, IsBlocked}
+use Rattle.history.specs.Cursors.{keys_of, IsOver, HandsOut}
+use Rattle.history.specs.Moves.{stepped, begun, change, with_row, without_row, as_failed, with_savepoint, rolled_back_to, without_savepoint, aborted, committed_by, with_index_cursor, with_heap_cursor, with_taken, without_cursor}
 use Rattle.history.specs.Laws.{FirstCommitterWins, HeldInTime, HeldOnce}
 use Rattle.session_relation.specs.declared.step.Step.{Step}
-use Rattle.session_relation.specs.declared.step.Step.TheVariants.{Begin, Get, Insert, Update, Delete, Savepoint, RollbackTo, Release, Commit, Abort, Prune}
+use Rattle.session_relation.specs.declared.step.Step.TheVariants.{Begin, Get, Insert, Update, Delete, Savepoint, RollbackTo, Release, Commit, Abort, OpenIndex, OpenHeap, Next, Close, Prune}
 use Rattle.session_relation.specs.declared.reply.Reply.{Reply}
-use Rattle.session_relation.specs.declared.reply.Reply.TheVariants.{Done, Found, Committed, RolledBack, Refused}
+use Rattle.session_relation.specs.declared.reply.Reply.TheVariants.{Done, Found, Committed, RolledBack, Rows, End, Refused}
 use Rattle.session_relation.specs.declared.reply.Refusal.{Refusal}
-use Rattle.session_relation.specs.declared.reply.Refusal.TheVariants.{NotOpen, AlreadyOpen, Failed, AlreadyThere, NotThere, Conflict, Busy, TooDeep, NoSavepoint, TooLarge, NoRoom, NeedsFreeze, NoMemory, NoSuchPage, NoSuchSession}
+use Rattle.session_relation.specs.declared.reply.Refusal.TheVariants.{NotOpen, AlreadyOpen, Failed, AlreadyThere, NotThere, Conflict, Busy, CursorOpen, NoCursor, TooDeep, NoSavepoint, TooLarge, NoRoom, NeedsFreeze, NoMemory, NoSuchPage, NoSuchIndex, NoSuchSession, BadBounds}
 use Rattle.session_relation.specs.Words.{FitsRow, row_of}
 use Rattle.session_relation.specs.Writes.{WriteStep, inserts, updates, deletes, key_of, PutsRow, Asks}
 
@@ -28,6 +29,10 @@ session_of (RollbackTo s) = Some s
 session_of (Release s) = Some s
 session_of (Commit s) = Some s
 session_of (Abort s) = Some s
+session_of (OpenIndex s index low high) = Some s
+session_of (OpenHeap s) = Some s
+session_of (Next s n) = Some s
+session_of (Close s) = Some s
 session_of (Prune p) = None
 
 -- the write suits the session: it may write, and what it reads of the key is what the write asks for
@@ -46,6 +51,11 @@ abbrev pub AllowsUnready : World → ℕ → Refusal → Type 0
 AllowsUnready w s Failed = (m : OpenSession) × IsOpen w s m × (m.failed ≡ true)
 AllowsUnready w s refusal = AllowsClosed w s refusal
 
+-- or it has a cursor open
+abbrev pub AllowsBarred : World → ℕ → Refusal → Type 0
+AllowsBarred w s CursorOpen = (m : OpenSession) × IsReady w s m × IsSome m.cursor
+AllowsBarred w s refusal = AllowsUnready w s refusal
+
 -- or the write does not suit it: its row is too large, or the key has a row already, or has none
 abbrev pub AllowsUnsuited : World → ℕ → Refusal → WriteStep → Type 0
 AllowsUnsuited w s TooLarge (inserts row) = (m : OpenSession) × IsWriter w s m × (1024 < length row.body)
@@ -53,7 +63,7 @@ AllowsUnsuited w s TooLarge (updates row) = (m : OpenSession) × IsWriter w s m 
 AllowsUnsuited w s AlreadyThere (inserts row) = (m : OpenSession) × IsWriter w s m × FitsRow row × IsSome (view w.history m row.key)
 AllowsUnsuited w s NotThere (updates row) = (m : OpenSession) × IsWriter w s m × FitsRow row × (view w.history m row.key ≡ None)
 AllowsUnsuited w s NotThere (deletes k) = (m : OpenSession) × IsWriter w s m × (view w.history m k ≡ None)
-AllowsUnsuited w s refusal write = AllowsUnready w s refusal
+AllowsUnsuited w s refusal write = AllowsBarred w s refusal
 
 -- or it does, but a commit since the session began or another open session has written the key, or there is no id, no
 -- room or no memory for it
@@ -68,6 +78,11 @@ AllowsHindered w s refusal write = AllowsUnsuited w s refusal write
 -- or nothing keeps the session from it
 abbrev pub AllowsWrite : World → ℕ → WriteStep → Type 0
 AllowsWrite w s write = (m : OpenSession) × Suits w s write m × MayWrite w s (key_of write) m
+
+-- a step of a cursor: the session cannot be used, or has failed, or has no cursor open
+abbrev pub AllowsBare : World → ℕ → Refusal → Type 0
+AllowsBare w s NoCursor = (m : OpenSession) × IsReady w s m × (m.cursor ≡ None)
+AllowsBare w s refusal = AllowsUnready w s refusal
 
 -- how many savepoints the session has: each begins a level above its first
 abbrev pub savepoints : OpenSession → ℕ
@@ -90,18 +105,31 @@ Allows w (Delete s k) (Refused refusal) = AllowsHindered w s refusal (deletes k)
 Allows w (Savepoint s) Done = (m : OpenSession) × IsWriter w s m × (savepoints m < 32)
 Allows w (Savepoint s) (Refused TooDeep) = (m : OpenSession) × IsWriter w s m × (savepoints m ≡ 32)
 Allows w (Savepoint s) (Refused NoMemory) = (m : OpenSession) × IsWriter w s m × (savepoints m < 32)
-Allows w (Savepoint s) (Refused refusal) = AllowsUnready w s refusal
+Allows w (Savepoint s) (Refused refusal) = AllowsBarred w s refusal
 Allows w (RollbackTo s) Done = (m : OpenSession) × IsOpen w s m × (m.cursor ≡ None) × (0 < savepoints m)
+Allows w (RollbackTo s) (Refused CursorOpen) = (m : OpenSession) × IsOpen w s m × IsSome m.cursor
 Allows w (RollbackTo s) (Refused NoSavepoint) = (m : OpenSession) × IsOpen w s m × (m.cursor ≡ None) × (savepoints m ≡ 0)
 Allows w (RollbackTo s) (Refused refusal) = AllowsClosed w s refusal
 Allows w (Release s) Done = (m : OpenSession) × IsWriter w s m × (0 < savepoints m)
 Allows w (Release s) (Refused NoSavepoint) = (m : OpenSession) × IsWriter w s m × (savepoints m ≡ 0)
-Allows w (Release s) (Refused refusal) = AllowsUnready w s refusal
+Allows w (Release s) (Refused refusal) = AllowsBarred w s refusal
 Allows w (Commit s) Committed = (m : OpenSession) × IsReady w s m
 Allows w (Commit s) RolledBack = (m : OpenSession) × IsOpen w s m × (m.failed ≡ true)
 Allows w (Commit s) (Refused refusal) = AllowsClosed w s refusal
 Allows w (Abort s) RolledBack = (m : OpenSession) × IsOpen w s m
 Allows w (Abort s) (Refused refusal) = AllowsClosed w s refusal
+Allows w (OpenIndex s index low high) Done = (m : OpenSession) × IsWriter w s m × (index ≤ 4) × (low ≤ℤ high)
+Allows w (OpenIndex s index low high) (Refused NoSuchIndex) = (m : OpenSession) × IsWriter w s m × (0 < index)
+Allows w (OpenIndex s index low high) (Refused BadBounds) = (m : OpenSession) × IsWriter w s m × (index ≤ 4) × (high <ℤ low)
+Allows w (OpenIndex s index low high) (Refused refusal) = AllowsBarred w s refusal
+Allows w (OpenHeap s) Done = (m : OpenSession) × IsWriter w s m
+Allows w (OpenHeap s) (Refused refusal) = AllowsBarred w s refusal
+Allows w (Next s n) (Rows rows) = (m : OpenSession) × (c : Cursor) × IsReady w s m × (m.cursor ≡ Some c) × HandsOut c.order n c.rest rows.items
+Allows w (Next s n) End = (m : OpenSession) × (c : Cursor) × IsReady w s m × (m.cursor ≡ Some c) × IsOver c.rest
+Allows w (Next s n) (Refused NoMemory) = (m : OpenSession) × (c : Cursor) × IsReady w s m × (m.cursor ≡ Some c) × (¬ IsOver c.rest)
+Allows w (Next s n) (Refused refusal) = AllowsBare w s refusal
+Allows w (Close s) Done = (m : OpenSession) × IsReady w s m × IsSome m.cursor
+Allows w (Close s) (Refused refusal) = AllowsBare w s refusal
 Allows w (Prune p) Done = Unit {0}
 Allows w (Prune p) (Refused NoSuchPage) = Unit {0}
 Allows w (Prune p) (Refused NoMemory) = Unit {0}
@@ -132,6 +160,10 @@ next w (Release s) Done = change w s without_savepoint
 next w (Commit s) Committed = committed_by w s
 next w (Commit s) RolledBack = aborted w s
 next w (Abort s) RolledBack = aborted w s
+next w (OpenIndex s index low high) Done = change w s (with_index_cursor w.history index low high)
+next w (OpenHeap s) Done = change w s (with_heap_cursor w.history)
+next w (Next s n) (Rows rows) = change w s (with_taken (keys_of rows.items))
+next w (Close s) Done = change w s without_cursor
 next w step reply = passed w (session_of step)
 
 -- the history allows the replies to the steps, one after another

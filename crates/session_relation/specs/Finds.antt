@@ -30,10 +30,11 @@ IsLateFor h e k = SomeVersion h.version k (IsMissed h.status (h.sees e.snapshot)
 abbrev pub IsHeldBy : Heap → Session → ℕ → ℕ → Type 0
 IsHeldBy h e k x = SomeVersion h.version k (λ v. IsForeign h.status e.own v x)
 
--- the session is open and has not failed, and it finds this row of the key, or none
+-- the session is open, has not failed and has no cursor, and it finds this row of the key, or none
 pub record Begins (h : Heap) (s : ℕ) (e : Session) (k : ℕ) (found : Option Row) : Type 0 where
   pub at : h.session s ≡ Some e
   pub sound : e.failed ≡ false
+  pub bare : e.cursor ≡ None
   pub finds : Finds h.version (IsVisible h.status (h.sees e.snapshot) e.own) k found
 
 -- nor does anything keep it from writing the key

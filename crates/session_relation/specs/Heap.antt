@@ -1,9 +1,21 @@
 -- An engine as its readers see it: what stands where, what became of each id, and who reads.
-use Rattle.std.specs.Prelude.{ℕ, Bool, List, Option}
+use Rattle.std.specs.Prelude.{ℕ, ℤ, Bool, List, Option}
 use Rattle.xid_circle.specs.declared.Tid.{Tid}
 use Rattle.tuple_header.specs.Version.{Version}
 use Rattle.commit_status.specs.declared.status.Status.{Status}
 use Rattle.snapshot.specs.Snap.{Snap}
+
+-- a place in the order of an index: that of a row with this value and key
+pub record Mark : Type 0 where
+  pub value : ℤ
+  pub key : ℕ
+
+-- How far a cursor has got. It keeps no rows: it looks for them as it goes on
+pub data Position : Type 0 where
+  -- in the index of this number, between the bounds, after this place of its order, or at the beginning
+  in_index : (index : ℕ) (low high : ℤ) (last : Option Mark) → Position
+  -- in the heap, before this page
+  in_heap : (page : ℕ) → Position
 
 -- an open session
 pub record Session : Type 0 where
@@ -13,6 +25,7 @@ pub record Session : Type 0 where
   -- for each savepoint, the newest first, the ids that it had then
   pub saved : List (List ℕ)
   pub failed : Bool
+  pub cursor : Option Position
 
 pub record Heap : Type 1 where
   -- the version at each place

@@ -20,6 +20,10 @@ pub enum Refusal {
     Conflict,
     /// This other open session has written the key.
     Busy(u8),
+    /// The session has a cursor open.
+    CursorOpen,
+    /// The session has no cursor open.
+    NoCursor,
     /// The session has 32 savepoints, which is as many as it may have.
     TooDeep,
     /// The session has no savepoint.
@@ -34,8 +38,12 @@ pub enum Refusal {
     NoMemory,
     /// There are no more pages in use than the number that was named.
     NoSuchPage,
+    /// There is no index of that number.
+    NoSuchIndex,
     /// The session's number is over 63.
     NoSuchSession,
+    /// The lower bound is over the upper.
+    BadBounds,
 }
 
 /// The reply to a step.
@@ -47,5 +55,9 @@ pub enum Reply {
     Committed,
     /// The transaction was rolled back: by `Abort`, or by `Commit` of one that had failed.
     RolledBack,
+    /// The rows that the cursor hands out: one at least.
+    Rows(Vec<Row>),
+    /// The cursor has handed out all its rows. It stays open.
+    End,
     Refused(Refusal),
 }

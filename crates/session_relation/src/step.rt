@@ -1,6 +1,7 @@
 //! The steps that sessions may take.
 
 ghost use Rattle.std.specs.Prelude.{◌≡◌, IfOk};
+ghost use Rattle.session_relation.specs.Bounds.{HasBounds};
 
 use std::alloc::{AllocError, Global};
 use std::marker::Model;
@@ -44,6 +45,15 @@ pub enum Step {
     Commit(u8),
     /// Drops what the session wrote, and closes it.
     Abort(u8),
+    /// Opens a cursor over the rows that the session reads whose value in an index lies within two bounds, both included.
+    OpenIndex(u8, u8, i128, i128),
+    /// Opens a cursor over all rows that the session reads.
+    OpenHeap(u8),
+    /// Asks the cursor for rows: in an index for the next so many, none counting as one, or all that are left; in the heap
+    /// for those of a page.
+    Next(u8, u16),
+    /// Closes the cursor.
+    Close(u8),
     /// Takes from a page, counted from 0, what nobody can see any more.
     Prune(u32),
 }
@@ -62,6 +72,16 @@ impl RowIn {
 }
 
 impl Step {
+    /// The bounds of a cursor are numbers of their type. It does nothing: its contract is the law.
+    pub fn has_bounds(&self)
+        ensures { HasBounds self.now }
+    {
+        if let Step::OpenIndex(_, _, low, high) = self {
+            let _low = *low;
+            let _high = *high;
+        }
+    }
+
     /// An equal step.
     pub fn copy(&self, alloc: Global) -> Result<Step, AllocError>
         ensures { IfOk result (λ step. step ≡ self.now) }
@@ -77,6 +97,10 @@ impl Step {
             Step::Release(s) => Ok(Step::Release(*s)),
             Step::Commit(s) => Ok(Step::Commit(*s)),
             Step::Abort(s) => Ok(Step::Abort(*s)),
+            Step::OpenIndex(s, index, low, high) => Ok(Step::OpenIndex(*s, *index, *low, *high)),
+            Step::OpenHeap(s) => Ok(Step::OpenHeap(*s)),
+            Step::Next(s, count) => Ok(Step::Next(*s, *count)),
+            Step::Close(s) => Ok(Step::Close(*s)),
             Step::Prune(page) => Ok(Step::Prune(*page)),
         }
     }

@@ -163,3 +163,27 @@ fn copies_of_savepoint_steps_are_equal(rt: HostRuntime) -> Result<(), Fail> {
     }
     Ok(())
 }
+
+#[test]
+fn copies_of_cursor_steps_are_equal(rt: HostRuntime) -> Result<(), Fail> {
+    match Step::OpenIndex(59, 4, i128::MIN, -1).copy(rt.alloc())? {
+        Step::OpenIndex(s, index, low, high) => {
+            assert!(rt; s == 59 && index == 4);
+            assert!(rt; low == i128::MIN && high == -1);
+        }
+        _ => assert!(rt; false),
+    }
+    match Step::OpenHeap(58).copy(rt.alloc())? {
+        Step::OpenHeap(s) => assert_eq!(rt; s, 58),
+        _ => assert!(rt; false),
+    }
+    match Step::Next(57, u16::MAX).copy(rt.alloc())? {
+        Step::Next(s, count) => assert!(rt; s == 57 && count == u16::MAX),
+        _ => assert!(rt; false),
+    }
+    match Step::Close(56).copy(rt.alloc())? {
+        Step::Close(s) => assert_eq!(rt; s, 56),
+        _ => assert!(rt; false),
+    }
+    Ok(())
+}

@@ -34,7 +34,7 @@ removed-found : (h : HeapView) (store' : Tid → Option Version) (n horizon : �
 removed-found h store' n horizon s own sound reader removes p r = (
   (λ f. ⊎_elim
       (λ stays. record { version = f.version; there = stays; is_seen = f.is_seen; of_row = f.of_row })
-      (λ gone. absurd (cut-unseen h.table horizon slots (Reads h.table s own) p.slot f.version (sound.sound.heap n) (open-reader h.table horizon slots s own (reader n))
+      (λ gone. absurd (cut-unseen h.table horizon slots (Reads h.table s own) p.slot f.version (sound.heap n) (open-reader h.table horizon slots s own (reader n))
       (ap (λ m. version_at (slots_on (slots_of h) m) p.slot) (sym gone.0) ∙ f.there) f.is_seen gone.1))
       (removes.gone p f.version f.there)),
   (λ f. record { version = f.version; there = removes.kept p f.version f.there; is_seen = f.is_seen; of_row = f.of_row }),

@@ -1,26 +1,30 @@
 -- Steps that write no row leave a table sound.
-use Rattle.std.proofs.Common.{◌≡◌, ◌≤◌, ℕ, List, [], map, refl, sym, ap, ◌∙◌, subst, ⊎_elim}
+use Rattle.std.proofs.Common.{◌≡◌, ◌≤◌, ℕ, List, [], map, Option, refl, sym, ap, ◌∙◌, subst, ⊎_elim}
 use Rattle.std.specs.Prelude.{Contains, slice_set}
 use Rattle.xid_circle.specs.declared.Tid.{Tid}
 use Rattle.tuple_header.specs.Version.{rounded_size_of}
 use Rattle.tuple_header.specs.declared.version.Row.{Row}
 use Rattle.commit_status.specs.declared.status.Status.TheVariants.{Committed, Aborted}
 use Rattle.commit_status.specs.Window.{Window, IsWindow, IsActive, IsUpToNext, turns}
+use Rattle.commit_status.specs.Changes.{Gives}
 use Rattle.prune.specs.Pruning.{IsPruned}
+use Rattle.prune.proofs.SoundAfter.{pruned-sound}
 use Rattle.page_writes.specs.Laws.{DeletedWhatWasMade, AloneDeletedTheirs}
+use Rattle.page_writes.proofs.Statuses.{giving-sound, committing-sound, aborting-sound, later-sound}
 use Rattle.snapshot.specs.Own.{Own}
 use Rattle.root_index.specs.View.{IndexView}
 use Rattle.root_index.specs.declared.entry.Entry.{Entry}
-use Rattle.sound_entries.specs.Pages.{slots_on, Puts}
-use Rattle.sound_entries.specs.Entries.{IsSound, KeepsLed, StaysSound}
-use Rattle.sound_entries.proofs.Going.{led-then}
+use Rattle.history.specs.Cursors.{value_in}
+use Rattle.sound_entries.specs.Pages.{slots_on, SoundHeap, Puts}
+use Rattle.sound_entries.specs.Entries.{SoundEntries, IsSound, StaysSound}
 use Rattle.sound_entries.proofs.Changes.{pruning-stays}
-use Rattle.sound_entries.proofs.Finishing.{statuses-stay, giving-stays, committing-stays, aborting-stays, later-stays}
+use Rattle.sound_entries.proofs.Finishing.{statuses-stay, giving-stays, committing-stays, aborting-stays}
 use Rattle.sound_entries.proofs.Tables.{nothing-sound}
 use Rattle.heap_pages.specs.View.{PagesView}
 use Rattle.page_slots.specs.View.{PageView}
 use Rattle.sound_entries.specs.Looking as looking
-use Rattle.heap_write.specs.Heap.{HeapView, SameIds, Keeps, slots_of, key_value}
+use Rattle.heap_write.specs.Heap.{HeapView, SameIds, Keeps, slots_of}
+use Rattle.heap_write.specs.Indexes.{entries_at, entries_in, IsInUse, SameEntries}
 use Rattle.heap_write.specs.Writes.{IsFull, TakesIds, Readies, Prunes}
 use Rattle.heap_write.specs.Refusals.{IsThere, WhenReady, FailsUpdate}
 use Rattle.heap_write.specs.declared.heap.WriteFault.{WriteFault}
@@ -30,14 +34,7 @@ use Rattle.sound_writes.specs.Laws.{Finishes}
 use Rattle.sound_writes.proofs.Memory.{same-status, same-sound}
 use Rattle.sound_writes.proofs.TakenIds.{under-keeps, takes-mine, takes-active}
 use Rattle.sound_writes.proofs.Standing.{prunes-on, prunes-puts}
-
--- One step after another, where entries only come.
-pub stays-then : (a b c : HeapView) (horizon : ℕ) → SoundTable a horizon → ((e : Entry) → Contains a.index.entries e → Contains b.index.entries e)
-    → StaysSoundTable a b horizon → StaysSoundTable b c horizon → StaysSoundTable a c horizon
-stays-then a b c horizon sound more first second = record {
-  sound = second.sound;
-  led = led-then key_value a.table (slots_of a) (slots_of b) (slots_of c) a.index.entries b.index.entries c.index.entries sound.sound.index more first.led second.led;
-}
+use Rattle.sound_writes.proofs.InUse.{OnlyCome, same-come, index-sound, same-stays, heap-puts, stays-then}
 
 -- A page is pruned.
 
@@ -45,58 +42,61 @@ abbrev pub with_pruned : HeapView → ℕ → PageView → HeapView
 with_pruned h number after = record h { pages = record h.pages { pages = slice_set h.pages.pages number after } }
 
 pub pruned-stays : (h h' : HeapView) (number horizon : ℕ) → SoundTable h horizon → Prunes h h' number horizon → StaysSoundTable h h' horizon
-pruned-stays h h' number horizon sound p = subst (λ (g : HeapView). StaysSoundTable h g horizon) (sym p.is) (record {
-  sound = record { sound = stays.sound };
-  led = stays.led;
-})
+pruned-stays h h' number horizon s p = subst (λ (g : HeapView). StaysSoundTable h g horizon) (sym p.is)
+    (same-stays h after horizon (λ n. refl) (heap-puts h.table horizon number (slots_of h) (slots_of after) p.after.slots s.heap puts
+    (pruned-sound h.table horizon (slots_on (slots_of h) number) p.after.slots (s.heap number) pruned))
+    (λ n used. pruning-stays (value_in n) h.table horizon number (slots_of h) (slots_of after) (entries_in h.indexes n) p.after.slots (index-sound h horizon s n used) pruned puts))
   where
-    same : p.before.slots ≡ slots_on (slots_of h) number
-    same = sym (prunes-on h h' number horizon p)
+    after : HeapView
+    after = with_pruned h number p.after
 
-    puts : Puts (slots_of h) (slots_of (with_pruned h number p.after)) number p.after.slots
+    pruned : IsPruned h.table horizon (slots_on (slots_of h) number) p.after.slots
+    pruned = subst (λ slots. IsPruned h.table horizon slots p.after.slots) (sym (prunes-on h h' number horizon p)) p.pruned
+
+    puts : Puts (slots_of h) (slots_of after) number p.after.slots
     puts = subst (λ (g : HeapView). Puts (slots_of h) (slots_of g) number p.after.slots) p.is (prunes-puts h h' number horizon p)
-
-    stays : StaysSound key_value h.table horizon (slots_of h) (slots_of (with_pruned h number p.after)) h.index.entries h.index.entries
-    stays = pruning-stays key_value h.table horizon number (slots_of h) (slots_of (with_pruned h number p.after)) h.index.entries p.after.slots sound.sound
-        (subst (λ slots. IsPruned h.table horizon slots p.after.slots) same p.pruned) puts
 
 -- The slots and the entries are as they were.
 
-slots-stay : (h h' : HeapView) (later : ℕ) → slots_of h' ≡ slots_of h → h'.index.entries ≡ h.index.entries
-    → StaysSound key_value h'.table later (slots_of h) (slots_of h) h.index.entries h.index.entries → StaysSoundTable h h' later
-slots-stay h h' later slots entries stays = record {
-  sound = record {
-    sound = subst (λ (es : List Entry). IsSound key_value h'.table later (slots_of h') es) (sym entries)
-        (subst (λ pages. IsSound key_value h'.table later pages h.index.entries) (sym slots) stays.sound);
-  };
-  led = subst (λ (es : List Entry). KeepsLed (slots_of h) (slots_of h') h.index.entries es) (sym entries)
-      (subst (λ pages. KeepsLed (slots_of h) pages h.index.entries h.index.entries) (sym slots) stays.led);
-}
+slots-stay : (h h' : HeapView) (horizon : ℕ) → slots_of h' ≡ slots_of h → SameEntries h.indexes h'.indexes → SoundHeap h'.table horizon (slots_of h)
+    → ((n : ℕ) → IsInUse h.indexes n → StaysSound (value_in n) h'.table horizon (slots_of h) (slots_of h) (entries_in h.indexes n) (entries_in h.indexes n))
+    → StaysSoundTable h h' horizon
+slots-stay h h' horizon slots entries heap each = same-stays h h' horizon entries (subst (λ pages. SoundHeap h'.table horizon pages) (sym slots) heap)
+    (λ n used. subst (λ pages. StaysSound (value_in n) h'.table horizon (slots_of h) pages (entries_in h.indexes n) (entries_in h.indexes n)) (sym slots) (each n used))
 
 pub later-stays-sound : (h : HeapView) (horizon later : ℕ) → SoundTable h horizon → IsWindow h.table → IsUpToNext h.table horizon → IsUpToNext h.table later
     → turns h.table.first horizon ≤ turns h.table.first later → SoundTable h later
 later-stays-sound h horizon later s is upto upto_later low = record {
-  sound = (later-stays key_value h.table horizon later (slots_of h) h.index.entries s.sound is upto upto_later low).sound;
+  heap = λ n. later-sound h.table horizon later (slots_on (slots_of h) n) is upto upto_later low (s.heap n);
+  indexes = s.indexes;
 }
+
+same-indexes : (a b : List (Option IndexView)) → b ≡ a → SameEntries a b
+same-indexes a b same n = ap (λ (indexes : List (Option IndexView)). entries_at indexes n) same
 
 pub committed-stays : (h h' : HeapView) (horizon : ℕ) (ids : List ℕ) → SoundTable h horizon → Finishes h h' ids Committed
     → ((n : ℕ) → DeletedWhatWasMade h.table (slots_on (slots_of h) n) ids) → StaysSoundTable h h' horizon
 committed-stays h h' horizon ids s f theirs =
-    slots-stay h h' horizon (ap (λ (p : PagesView). looking.slots_of p) f.pages) (ap (λ (i : IndexView). i.entries) f.index)
-    (committing-stays key_value h.table h'.table horizon ids (slots_of h) h.index.entries s.sound f.active f.finishes theirs)
+    slots-stay h h' horizon (ap (λ (p : PagesView). looking.slots_of p) f.pages) (same-indexes h.indexes h'.indexes f.indexes)
+    (λ n. committing-sound h.table h'.table horizon ids (slots_on (slots_of h) n) f.active f.finishes (theirs n) (s.heap n))
+    (λ n used. committing-stays (value_in n) h.table h'.table horizon ids (slots_of h) (entries_in h.indexes n) (index-sound h horizon s n used) f.active f.finishes theirs)
 
 pub aborted-stays : (h h' : HeapView) (horizon : ℕ) (ids : List ℕ) → SoundTable h horizon → Finishes h h' ids Aborted
     → ((n : ℕ) → AloneDeletedTheirs h.table (slots_on (slots_of h) n) ids) → StaysSoundTable h h' horizon
 aborted-stays h h' horizon ids s f theirs =
-    slots-stay h h' horizon (ap (λ (p : PagesView). looking.slots_of p) f.pages) (ap (λ (i : IndexView). i.entries) f.index)
-    (aborting-stays key_value h.table h'.table horizon ids (slots_of h) h.index.entries s.sound f.active f.finishes theirs)
+    slots-stay h h' horizon (ap (λ (p : PagesView). looking.slots_of p) f.pages) (same-indexes h.indexes h'.indexes f.indexes)
+    (λ n. aborting-sound h.table h'.table horizon ids (slots_on (slots_of h) n) f.active f.finishes (theirs n) (s.heap n))
+    (λ n used. aborting-stays (value_in n) h.table h'.table horizon ids (slots_of h) (entries_in h.indexes n) (index-sound h horizon s n used) f.active f.finishes theirs)
 
 -- There is more memory.
 
 pub kept-stays : (h h' : HeapView) (horizon : ℕ) → SoundTable h horizon → Keeps h h' → StaysSoundTable h h' horizon
-kept-stays h h' horizon s k = slots-stay h h' horizon k.slots k.entries
-    (statuses-stay h.table h'.table (λ x gone. same-status h.table h'.table k.table x ∙ gone) key_value horizon horizon (slots_of h) h.index.entries s.sound
-    (λ n. same-sound h.table h'.table k.table horizon (slots_on (slots_of h) n) (s.sound.heap n)))
+kept-stays h h' horizon s k = slots-stay h h' horizon k.slots k.entries still
+    (λ n used. statuses-stay h.table h'.table (λ x gone. same-status h.table h'.table k.table x ∙ gone) (value_in n) horizon horizon (slots_of h) (entries_in h.indexes n)
+    (index-sound h horizon s n used) still)
+  where
+    still : SoundHeap h'.table horizon (slots_of h)
+    still n = same-sound h.table h'.table k.table horizon (slots_on (slots_of h) n) (s.heap n)
 
 -- A page is made ready, with the ids as they were.
 
@@ -107,18 +107,19 @@ abbrev pub with_table : HeapView → Window → HeapView
 with_table h w = record h { table = w }
 
 as-was : (h : HeapView) (w : Window) (horizon : ℕ) → SameIds h.table w → SoundTable h horizon → StaysSoundTable h (with_table h w) horizon
-as-was h w horizon ids s = kept-stays h (with_table h w) horizon s (record { slots = refl; changes = refl; flags = refl; table = ids; entries = refl; max_pages = refl })
+as-was h w horizon ids s = kept-stays h (with_table h w) horizon s (record { slots = refl; changes = refl; flags = refl; table = ids; entries = λ n. refl; max_pages = refl })
 
-pub ready-entries : (h h' : HeapView) (number horizon size : ℕ) → Readies h h' number horizon size → h'.index.entries ≡ h.index.entries
-ready-entries h h' number horizon size (Readies.has_room room is) = ap (λ (g : HeapView). g.index.entries) is
-ready-entries h h' number horizon size (Readies.is_pruned full grown keeps prunes) = ap (λ (g : HeapView). g.index.entries) prunes.is ∙ keeps.entries
+pub ready-come : (h h' : HeapView) (number horizon size : ℕ) → Readies h h' number horizon size → OnlyCome h.indexes h'.indexes
+ready-come h h' number horizon size (Readies.has_room room is) = same-come h.indexes h'.indexes (same-indexes h.indexes h'.indexes (ap (λ (g : HeapView). g.indexes) is))
+ready-come h h' number horizon size (Readies.is_pruned full grown keeps prunes) =
+    subst (λ (g : HeapView). OnlyCome h.indexes g.indexes) (sym prunes.is) (same-come h.indexes grown.indexes keeps.entries)
 
 pub readied-stays : (h h' : HeapView) (number horizon size : ℕ) → SoundTable h horizon → Readies h h' number horizon size → StaysSoundTable h h' horizon
 readied-stays h h' number horizon size s (Readies.has_room room is) =
     subst (λ (g : HeapView). StaysSoundTable h g horizon) (sym is) (as-was h h.table horizon (record { first = refl; stop_age = refl; entries = refl }) s)
 readied-stays h h' number horizon size s (Readies.is_pruned full grown keeps prunes) =
     let first = kept-stays h grown horizon s keeps in
-    stays-then h grown h' horizon s (λ e there. subst (λ (es : List Entry). Contains es e) (sym keeps.entries) there) first (pruned-stays grown h' number horizon first.sound prunes)
+    stays-then h grown h' horizon s (same-come h.indexes grown.indexes keeps.entries) first (pruned-stays grown h' number horizon first.sound prunes)
 
 ready-ids : (h h' : HeapView) (number horizon size : ℕ) → Readies h h' number horizon size → SameIds h'.table h.table
 ready-ids h h' number horizon size (Readies.has_room room is) =
@@ -129,7 +130,7 @@ ready-ids h h' number horizon size (Readies.is_pruned full grown keeps prunes) =
 pub ready-stays : (h h' : HeapView) (number horizon size : ℕ) → SoundTable h horizon → Readies h h' number horizon size → StaysSoundTable h (with_table h' h.table) horizon
 ready-stays h h' number horizon size s ready =
     let first = readied-stays h h' number horizon size s ready in
-    stays-then h h' (with_table h' h.table) horizon s (λ e there. subst (λ (es : List Entry). Contains es e) (sym (ready-entries h h' number horizon size ready)) there)
+    stays-then h h' (with_table h' h.table) horizon s (ready-come h h' number horizon size ready)
     first (as-was h' h.table horizon (ready-ids h h' number horizon size ready) first.sound)
 
 -- An update fails.
@@ -137,7 +138,7 @@ ready-stays h h' number horizon size s ready =
 when-ready : (h h' : HeapView) (own : Own) (place : Tid) (horizon size : ℕ) (P : HeapView → Type 0) → SoundTable h horizon → WhenReady h h' own place horizon size P → StaysSoundTable h h' horizon
 when-ready h h' own place horizon size P s r =
     let first = readied-stays h r.ready place.page horizon size s r.readies in
-    stays-then h r.ready h' horizon s (λ e there. subst (λ (es : List Entry). Contains es e) (sym (ready-entries h r.ready place.page horizon size r.readies)) there)
+    stays-then h r.ready h' horizon s (ready-come h r.ready place.page horizon size r.readies)
     first (kept-stays r.ready h' horizon first.sound r.keeps)
 
 pub failed-stays : (h h' : HeapView) (horizon : ℕ) (own : Own) (place : Tid) (row : Row) (fault : WriteFault) → SoundTable h horizon → FailsUpdate h h' own place row horizon fault → StaysSoundTable h h' horizon
@@ -149,21 +150,27 @@ failed-stays h h' horizon own place row fault.Gone s f = ⊎_elim (λ gone. kept
 
 -- There is nothing.
 
-pub nothing-stays : (h : HeapView) (horizon : ℕ) → h.pages.pages ≡ [] → h.index.entries ≡ [] → SoundTable h horizon
+pub nothing-stays : (h : HeapView) (horizon : ℕ) → h.pages.pages ≡ [] → ((n : ℕ) → entries_in h.indexes n ≡ []) → SoundTable h horizon
 nothing-stays h horizon pages entries = record {
-  sound = subst (λ (es : List Entry). IsSound key_value h.table horizon (slots_of h) es) (sym entries)
-      (subst (λ (ps : List PageView). IsSound key_value h.table horizon (map (λ (p : PageView). p.slots) ps) []) (sym pages) (nothing-sound key_value h.table horizon));
+  heap = (nothing 0).heap;
+  indexes = λ n used. subst (λ (es : List Entry). SoundEntries (value_in n) h.table (slots_of h) es) (sym (entries n)) (nothing n).index;
 }
+  where
+    nothing : (n : ℕ) → IsSound (value_in n) h.table horizon (slots_of h) []
+    nothing n = subst (λ (ps : List PageView). IsSound (value_in n) h.table horizon (map (λ (p : PageView). p.slots) ps) []) (sym pages) (nothing-sound (value_in n) h.table horizon)
 
 -- The ids that a session lacks are given.
 
+given-one : (h : HeapView) (a b : Window) (horizon : ℕ) (parent : Option ℕ) → IsWindow a → IsWindow b → Gives a b parent → SoundTable (with_table h a) horizon → SoundTable (with_table h b) horizon
+given-one h a b horizon parent before after gives s = record {
+  heap = λ n. giving-sound a b horizon parent (slots_on (slots_of h) n) before after gives (s.heap n);
+  indexes = λ n used. (giving-stays (value_in n) a b horizon parent (slots_of h) (entries_in h.indexes n) (index-sound (with_table h a) horizon s n used) before after gives).sound.index;
+}
+
 pub given-stays : (h : HeapView) (v : Window) (horizon : ℕ) (own own' : Own) (x : ℕ) → SoundTable h horizon → IsWindow h.table → IsWindow v
-    → ((y : ℕ) → Contains own.ids y → IsActive h.table y) → TakesIds h.table v own own' x → SoundTable (record h { table = v }) horizon × IsActive v x
+    → ((y : ℕ) → Contains own.ids y → IsActive h.table y) → TakesIds h.table v own own' x → SoundTable (with_table h v) horizon × IsActive v x
 given-stays h v horizon own own' x s before after active takes = (
-  record {
-    sound = under-keeps (λ u. IsSound key_value u horizon (slots_of h) h.index.entries)
-        (λ a b parent wa wb gives sound. (giving-stays key_value a b horizon parent (slots_of h) h.index.entries sound wa wb gives).sound)
-        h.table v _ takes.given before after takes.gives s.sound;
-  },
+  under-keeps (λ u. SoundTable (with_table h u) horizon) (λ a b parent wa wb gives sound. given-one h a b horizon parent wa wb gives sound)
+      h.table v _ takes.given before after takes.gives s,
   takes-active h.table v own own' x before after takes active x (takes-mine h.table v own own' x before after takes),
 )

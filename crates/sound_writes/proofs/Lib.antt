@@ -1,6 +1,7 @@
 pub mod Memory
 pub mod TakenIds
 pub mod Standing
+pub mod InUse
 pub mod Keeping
 pub mod Writing
 pub mod Finding

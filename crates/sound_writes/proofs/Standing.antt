@@ -1,7 +1,7 @@
 -- What stands at each place after each change of a table.
 use Rattle.std.proofs.Common.{◌≡◌, ◌≢◌, ◌⊎◌, ℕ, zero, suc, Bool, true, false, List, [], ◌∷◌, map, Option, Some, None, refl, sym, ap, ◌∙◌, subst, ⊎_elim, inl, inr, eq-eqb, eqb-true}
 use Rattle.std.specs.Prelude.{◌++◌, slice_index_or, ◌==◌, ◌&&◌, if◌then◌else◌}
-use Rattle.std.specs.Option.{option_and_then}
+use Rattle.std.specs.Option.{option_map, option_and_then}
 use Rattle.std.proofs.lemmas.Bool.{cases_eq}
 use Rattle.std.proofs.lemmas.Option.{slice_get_within, none-some}
 use Rattle.xid_circle.specs.declared.Tid.{Tid}
@@ -10,7 +10,7 @@ use Rattle.tuple_header.specs.Marks.{is_frozen}
 use Rattle.tuple_header.specs.declared.version.Row.{Row}
 use Rattle.page_slots.specs.declared.slot.Slot.{Slot}
 use Rattle.page_slots.specs.declared.slot.Slot.TheVariants.{Normal}
-use Rattle.page_slots.specs.Slots.{version_at, version_of, with_added, free_number}
+use Rattle.page_slots.specs.Slots.{version_at, version_of, row_at, with_added, free_number}
 use Rattle.page_slots.specs.View.{PageView}
 use Rattle.page_slots.proofs.SlotLemmas.{normal_at, slot_at-from_version_at, version_at-from_slot_at, free_number-not_normal, slot_at-with_added, slot_at-with_added_other}
 use Rattle.page_writes.specs.Headers.{root_header, heap_only_header, replaced_header}
@@ -24,7 +24,7 @@ use Rattle.sound_entries.proofs.Fetching.{slots-there}
 use Rattle.sound_entries.proofs.Tables.{puts-with_page, puts-pushed}
 use Rattle.snapshot.specs.Own.{Own}
 use Rattle.heap_write.specs.Heap.{HeapView, slots_of, unused_page, page_on, PutsPage}
-use Rattle.heap_write.specs.Writes.{PutsRoot, TakesAway, ReplacesHere, Replaces, Readies, Prunes, Inserts, Updates, Deletes}
+use Rattle.heap_write.specs.Writes.{PutsRoot, TakesAway, ReplacesHere, ReplacesByRoot, ReplacesOnPage, Replaces, Readies, Prunes, Inserts, Updates, Deletes}
 use Rattle.sound_writes.proofs.Memory.{cut-back}
 
 -- Changes of what stands at each place.
@@ -53,6 +53,9 @@ slots_on-page_on h n = by h.pages.pages n
 
 pub version-on : (h : HeapView) (p : Tid) → version_in (slots_of h) p ≡ version_at (page_on h p.page).slots p.slot
 version-on h p = ap (λ slots. version_at slots p.slot) (slots_on-page_on h p.page)
+
+pub row-there : (h : HeapView) (p : Tid) (t : Version) → version_in (slots_of h) p ≡ Some t → row_at (page_on h p.page).slots p.slot ≡ Some t.row
+row-there h p t at = ap (option_map (λ (v : Version). v.row)) (sym (version-on h p) ∙ at)
 
 pub puts-from : (h h' : HeapView) (n : ℕ) (page : PageView) → PutsPage h.pages.pages h'.pages.pages n page → Puts (slots_of h) (slots_of h') n page.slots
 puts-from h h' n page (PutsPage.in_use within is) =
@@ -237,20 +240,31 @@ here-stands h h' place x row t a at = record {
     apart : place.slot ≢ free_number slots
     apart same = none-some t (sym (ap (version_at slots) same ∙ free_number-not_normal slots) ∙ there)
 
-pub replaces-stand : (h h' : HeapView) (place : Tid) (x : ℕ) (row : Row) (t : Version) → Replaces h h' place x row → version_in (slots_of h) place ≡ Some t
+-- a root is put on any page, and the old version is then taken away
+pub by-root-still : (h : HeapView) (store' : Tid → Option Version) (place : Tid) (q : Tid) (new t : Version) → AddsAt (version_in (slots_of h)) store' q new
+    → version_in (slots_of h) place ≡ Some t → store' place ≡ Some t
+by-root-still h store' place q new t adds at = adds.others place (λ e. none-some t (sym adds.unused ∙ (ap (version_in (slots_of h)) (sym e) ∙ at))) ∙ at
+
+pub by-root-stands : (h h' : HeapView) (place : Tid) (x : ℕ) (row : Row) (n : ℕ) (t : Version) → ReplacesByRoot h h' place x row n → version_in (slots_of h) place ≡ Some t
     → Replaced (version_in (slots_of h)) (version_in (slots_of h')) place t x row
-replaces-stand h h' place x row t (Replaces.here room a) at = here-stands h h' place x row t a at
-replaces-stand h h' place x row t (Replaces.elsewhere room n off goes middle root away) at =
-    let adds = root-stands h middle true x row n root in
+by-root-stands h h' place x row n t r at =
+    let adds = root-stands h r.middle true x row n r.root in
     record {
       to = free_place h n;
       new = root_version h true x row n;
       is_new = root-new h true x row n;
       hot = false;
-      added = version_in (slots_of middle);
+      added = version_in (slots_of r.middle);
       adds = adds;
-      alters = away-stands middle h' place x (free_place h n) t away (adds.others place (λ e. off (sym (ap (λ (r : Tid). r.page) e))) ∙ at);
+      alters = away-stands r.middle h' place x (free_place h n) t r.away
+          (by-root-still h (version_in (slots_of r.middle)) place (free_place h n) (root_version h true x row n) t adds at);
     }
+
+pub replaces-stand : (h h' : HeapView) (place : Tid) (x : ℕ) (row : Row) (t : Version) → Replaces h h' place x row → version_in (slots_of h) place ≡ Some t
+    → Replaced (version_in (slots_of h)) (version_in (slots_of h')) place t x row
+replaces-stand h h' place x row t (Replaces.on_page room (ReplacesOnPage.heap_only values a)) at = here-stands h h' place x row t a at
+replaces-stand h h' place x row t (Replaces.on_page room (ReplacesOnPage.as_root changed r)) at = by-root-stands h h' place x row place.page t r at
+replaces-stand h h' place x row t (Replaces.elsewhere room n off goes r) at = by-root-stands h h' place x row n t r at
 
 -- A page is pruned.
 

@@ -11,6 +11,7 @@ use Rattle.snapshot.specs.Own.{Own}
 use Rattle.page_writes.specs.Laws.{DeletedWhatWasMade, AloneDeletedTheirs}
 use Rattle.sound_entries.specs.Pages.{slots_on}
 use Rattle.heap_write.specs.Heap.{HeapView, slots_of, Keeps}
+use Rattle.heap_write.specs.Indexes.{entries_in}
 use Rattle.heap_write.specs.Writes.{Inserts, Updates, Deletes, Prunes}
 use Rattle.heap_write.specs.Refusals.{FailsUpdate}
 use Rattle.heap_write.specs.declared.heap.WriteFault.{WriteFault}
@@ -55,7 +56,7 @@ pub record Finishes (h h' : HeapView) (ids : List ℕ) (status : Status) : Type 
   pub active : (x : ℕ) → Contains ids x → IsActive h.table x
   pub finishes : changes.Finishes h.table h'.table ids status
   pub pages : h'.pages ≡ h.pages
-  pub index : h'.index ≡ h.index
+  pub indexes : h'.indexes ≡ h.indexes
 
 abbrev pub CommittingStaysSound : Type 0
 CommittingStaysSound = (h h' : HeapView) (horizon : ℕ) (ids : List ℕ) → SoundTable h horizon → Finishes h h' ids Committed
@@ -71,4 +72,4 @@ LaterHorizonStaysSound = (h : HeapView) (horizon later : ℕ) → SoundTable h h
 
 -- a table without pages and entries
 abbrev pub NothingIsSound : Type 0
-NothingIsSound = (h : HeapView) (horizon : ℕ) → h.pages.pages ≡ [] → h.index.entries ≡ [] → SoundTable h horizon
+NothingIsSound = (h : HeapView) (horizon : ℕ) → h.pages.pages ≡ [] → ((n : ℕ) → entries_in h.indexes n ≡ []) → SoundTable h horizon

@@ -1,21 +1,26 @@
--- A sound table: what every step keeps of a table's pages, its ids and its index.
-use Rattle.std.specs.Prelude.{◌≡◌, ℕ, Some}
+-- A sound table: what every step keeps of a table's pages, its ids and its indexes.
+use Rattle.std.specs.Prelude.{◌≡◌, ◌↔◌, ℕ, Some}
 use Rattle.xid_circle.specs.declared.Tid.{Tid}
 use Rattle.tuple_header.specs.Version.{Version}
 use Rattle.page_writes.specs.Keeps.{IsMade, IsUntaken}
-use Rattle.sound_entries.specs.Pages.{version_in}
-use Rattle.sound_entries.specs.Entries.{IsSound, KeepsLed}
-use Rattle.heap_write.specs.Heap.{HeapView, slots_of, key_value}
+use Rattle.history.specs.Cursors.{value_in}
+use Rattle.sound_entries.specs.Pages.{version_in, SoundHeap}
+use Rattle.sound_entries.specs.Entries.{SoundEntries, KeepsLed}
+use Rattle.heap_write.specs.Heap.{HeapView, slots_of}
+use Rattle.heap_write.specs.Indexes.{entries_in, IsInUse}
 
 -- what a table keeps, at a horizon
 pub record SoundTable (h : HeapView) (horizon : ℕ) : Type 0 where
-  -- each page is sound, and the entries lead to the roots of chains of their keys
-  pub sound : IsSound key_value h.table horizon (slots_of h) h.index.entries
+  -- each page is sound
+  pub heap : SoundHeap h.table horizon (slots_of h)
+  -- the entries of each index in use lead to the roots of chains of their values and keys
+  pub indexes : (n : ℕ) → IsInUse h.indexes n → SoundEntries (value_in n) h.table (slots_of h) (entries_in h.indexes n)
 
--- a step leaves it so, and what an entry leads to stays, or becomes a redirect or dead
+-- a step leaves it so, with the same indexes in use, and what an entry leads to stays, or becomes a redirect or dead
 pub record StaysSoundTable (h h' : HeapView) (horizon : ℕ) : Type 0 where
   pub sound : SoundTable h' horizon
-  pub led : KeepsLed (slots_of h) (slots_of h') h.index.entries h'.index.entries
+  pub in_use : (n : ℕ) → IsInUse h.indexes n ↔ IsInUse h'.indexes n
+  pub led : (n : ℕ) → KeepsLed (slots_of h) (slots_of h') (entries_in h.indexes n) (entries_in h'.indexes n)
 
 -- a version at the place may be taken away: its making counts, or may yet, and no deleter does
 pub record MayTake (h : HeapView) (place : Tid) (t : Version) : Type 0 where

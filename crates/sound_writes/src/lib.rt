@@ -1,9 +1,9 @@
-//! What each step keeps of a table: its pages, its ids and its index by key.
+//! What each step keeps of a table: its pages, its ids and its indexes.
 //!
 //! `heap_write` says exactly what a write, a pruning or a refusal leaves of a table. The laws here say what that means: a
-//! table whose pages are sound, and whose entries lead to the roots of chains of their keys, stays such a table
-//! (`specs/Table.antt`, `specs/Laws.antt`); nobody else can tell that a transaction wrote, and it finds what it wrote itself
-//! (`specs/Readers.antt`, `specs/ByKey.antt`). Each law is the contract of a function that does nothing.
+//! table whose pages are sound, and in each of whose indexes the entries lead to the roots of chains of their values, stays
+//! such a table (`specs/Table.antt`, `specs/Laws.antt`); nobody else can tell that a transaction wrote, and it finds what it
+//! wrote itself (`specs/Readers.antt`, `specs/ByKey.antt`). Each law is the contract of a function that does nothing.
 #![tactic(auto)]
 
 mod laws;

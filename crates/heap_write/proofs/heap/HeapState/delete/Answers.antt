@@ -24,7 +24,7 @@ returns-clause-ok c =
     let done = c.delete_version.ensures in
     let free = refuted c.needs_freeze.result (NeedsFreeze h.table own) c.needs_freeze.ensures c.if-needs_freeze.false in
     let takes = takes-grown h.table c.reserve_ids.new.table c.take_ids-x.new.table own c.reserve_ids.new.own c.take_ids-x.new.own x reserved.ids reserved.own reserved.none c.take_ids-x.ensures.takes in
-    let h' : HeapView = record { pages = with_page c.self.inside.pages c.args.place.page c.delete_version.new.page; table = c.take_ids-x.new.table; index = c.self.inside.index; max_pages = c.self.inside.max_pages } in
+    let h' : HeapView = record { pages = with_page c.self.inside.pages c.args.place.page c.delete_version.new.page; table = c.take_ids-x.new.table; indexes = c.self.inside.indexes; max_pages = c.self.inside.max_pages } in
     subst (λ (v : HeapView). IsThere v c.args.place → Deletes v h' own c.take_ids-x.new.own c.args.place x) c.self.view_is
     (λ there. deletes h h' own c.take_ids-x.new.own c.args.place x c.page_mut.result.now c.delete_version.new.page free takes there c.page_mut.ensures.value
-    (record { slots = done.slots; change = done.change; flag = done.flag }) refl refl refl) (c.is_there.ensures.0 c.if-not-is_there.false)
+    (record { slots = done.slots; change = done.change; flag = done.flag }) refl (λ n. refl) refl) (c.is_there.ensures.0 c.if-not-is_there.false)

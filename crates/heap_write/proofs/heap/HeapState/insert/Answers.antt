@@ -10,6 +10,9 @@ use Rattle.heap_write.specs.Growth.{Reserves}
 use Rattle.heap_write.specs.contracts.heap.HeapState.{the_view}
 use Rattle.heap_write.proofs.Reserving.{needs-memory, room-left, insert-refused}
 use Rattle.heap_write.proofs.Writing.{both-ok, inserts}
+use Rattle.std.proofs.lemmas.Result.{on_err_weaker}
+use Rattle.heap_write.proofs.IdLemmas.{same-ids}
+use Rattle.heap_write.proofs.PageLemmas.{keeps-viewed, keeps-then}
 use Rattle.heap_write.proofs.heap.HeapState.insert.Goals as goal
 
 pub returns-in-Ok-Some-clause-ok : goal.returns-in-Ok-Some-clause-ok
@@ -19,7 +22,7 @@ returns-in-Ok-Some-clause-ok c =
     let R : ℕ → Option Target → Type 0 = λ size found. Reserves c.self.inside.pages c.reserve_place.new.pages c.self.inside.max_pages size found in
     let reserves = subst (λ found. R (rounded_size_of c.args.row) found) c.in-Ok-Some.field-0-is (subst (λ size. R size c.in-Ok-Some.field-0) c.size_of.ensures.value c.in-Ok-Some.ensures.reserves) in
     both-ok c.insert_at.result (λ x takes root. subst (λ v. Inserts v c.insert_at.new.self c.args.own.now c.insert_at.new.own c.args.row x.0) c.self.view_is
-    (inserts h _ c.insert_at.new.self c.args.own.now c.insert_at.new.own c.args.row x.0 c.in-Ok-Some.target free reserves refl takes root c.insert_at.ensures.max_pages)) c.insert_at.ensures.takes c.insert_at.ensures.root
+    (inserts h _ c.insert_at.new.self c.args.own.now c.insert_at.new.own c.args.row x.0 c.in-Ok-Some.target free reserves (λ n. refl) takes root c.insert_at.ensures.max_pages)) c.insert_at.ensures.takes c.insert_at.ensures.root
 
 pub returns-in-Err-clause-fault : goal.returns-in-Err-clause-fault
 returns-in-Err-clause-fault c =
@@ -40,3 +43,9 @@ returns-in-Ok-Some-clause-fault c =
     let failed = c.insert_at.ensures in
     subst (λ v. IfErr c.insert_at.result (λ fault. LacksForInsert v own c.args.row fault)) c.self.view_is
     (insert-refused h own c.args.row c.insert_at.result free (room-left h size c.in-Ok-Some.target reserves.0) failed.fault failed.needs)
+
+pub returns-in-Ok-Some-clause-err : goal.returns-in-Ok-Some-clause-err
+returns-in-Ok-Some-clause-err c =
+    let h = the_view c.self.inside in
+    let reserved = keeps-viewed h c.args.self.now _ c.self.view_is c.reserve_place.ensures.same (same-ids c.self.inside.table) (λ n. refl) refl in
+    on_err_weaker c.insert_at.result (λ kept. keeps-then c.args.self.now _ c.insert_at.new.self reserved kept) c.insert_at.ensures.err

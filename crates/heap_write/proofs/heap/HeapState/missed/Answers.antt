@@ -1,10 +1,16 @@
-use Rattle.std.proofs.Common.{ℤ, pos, subst}
+use Rattle.std.proofs.Common.{List, ℤ, pos, subst}
+use Rattle.root_index.specs.declared.entry.Entry.{Entry}
 use Rattle.sound_entries.specs.Looking.{IsIdOf, IsMissed}
 use Rattle.heap_write.specs.Heap.{HeapView, slots_of}
+use Rattle.heap_write.specs.Indexes.{entries_in}
+use Rattle.heap_write.specs.contracts.heap.HeapState.{the_view}
 use Rattle.heap_write.proofs.KeyLemmas.{read-back}
 use Rattle.heap_write.proofs.heap.HeapState.missed.Goals as goal
 
 pub returns : goal.returns
 returns c =
-    let P : HeapView → ℤ → Type 0 = λ h value. IsIdOf h.table (IsMissed h.table c.args.snapshot.now) (slots_of h) h.index.entries value c.args.key c.missed_of.result in
-    subst (λ h. P h (pos c.args.key)) c.self.view_is (subst (λ value. P (record { pages = c.self.inside.pages; table = c.self.inside.table; index = c.self.inside.index; max_pages = c.self.inside.max_pages }) value) (read-back c.args.key c.from-value.result c.ranges.key.fits c.from-value.ensures) c.missed_of.ensures)
+    let P : HeapView → List Entry → ℤ → Type 0 = λ h entries value. IsIdOf h.table (IsMissed h.table c.args.snapshot.now) (slots_of h) entries value c.args.key c.missed_of.result in
+    let v = the_view c.self.inside in
+    let at = read-back c.args.key c.from-value.result c.ranges.key.fits c.from-value.ensures in
+    subst (λ h. P h (entries_in h.indexes 0) (pos c.args.key)) c.self.view_is
+    (subst (λ entries. P v entries (pos c.args.key)) c.by_key.ensures.entries (subst (λ value. P v c.by_key.result.now.entries value) at c.missed_of.ensures))

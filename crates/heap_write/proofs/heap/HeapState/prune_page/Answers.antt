@@ -8,5 +8,5 @@ use Rattle.heap_write.proofs.heap.HeapState.prune_page.Goals as goal
 pub returns-clause-err : goal.returns-clause-err
 returns-clause-err c =
     let inside = c.self.inside in
-    let put : List PageView → HeapView = λ pages. record { pages = record inside.pages { pages = pages }; table = inside.table; index = inside.index; max_pages = inside.max_pages } in
+    let put : List PageView → HeapView = λ pages. record { pages = record inside.pages { pages = pages }; table = inside.table; indexes = inside.indexes; max_pages = inside.max_pages } in
     on_err_weaker c.prune.result (λ same. ap put (set-read inside.pages.pages c.args.number c.page_mut.result.now c.prune.new.page c.page_mut.ensures.value same) ∙ c.self.view_is) c.prune.ensures.err

@@ -18,7 +18,7 @@ returns-then-is_err-3-clause-keeps c =
     let made = c.make_room-2.ensures in
     let same = same-set pages c.args.number c.make_room-2.new.self (same-at pages c.args.number c.page_mut.result.now c.make_room-2.new.self c.page_mut.ensures.value
     (record { slots = made.slots; change = made.change; flag = made.flag })) in
-    keeps-viewed (the_view c.self.inside) _ _ c.self.view_is same c.reserve_ids.ensures.ids c.make_room.ensures.entries refl
+    keeps-viewed (the_view c.self.inside) _ _ c.self.view_is same c.reserve_ids.ensures.ids c.make_room.ensures.same refl
 
 pub returns-clause-keeps : goal.returns-clause-keeps
 returns-clause-keeps c =
@@ -27,7 +27,7 @@ returns-clause-keeps c =
     let same = same-set pages c.args.number c.make_room-2.new.self (same-at pages c.args.number c.page_mut.result.now c.make_room-2.new.self c.page_mut.ensures.value
     (record { slots = made.slots; change = made.change; flag = made.flag })) in
     keeps-viewed (the_view c.self.inside) _ _ c.self.view_is (same-then pages _ c.reserve_place.new.pages.pages same c.reserve_place.ensures.same)
-    c.reserve_ids.ensures.ids c.make_room.ensures.entries refl
+    c.reserve_ids.ensures.ids c.make_room.ensures.same refl
 
 pub returns-clause-has_slot : goal.returns-clause-has_slot
 returns-clause-has_slot c =
@@ -48,6 +48,6 @@ returns-clause-has_slot c =
 pub returns-clause-chosen : goal.returns-clause-chosen
 returns-clause-chosen c =
     let middle = with_page c.self.inside.pages c.args.number c.make_room-2.new.self in
-    let h : HeapView = record { pages = c.reserve_place.new.pages; table = c.reserve_ids.new.table; index = c.make_room.new.self; max_pages = c.self.inside.max_pages } in
+    let h : HeapView = record { pages = c.reserve_place.new.pages; table = c.reserve_ids.new.table; indexes = c.make_room.new.self; max_pages = c.self.inside.max_pages } in
     IfOk-weaker c.reserve_place.result (λ found. Reserves middle c.reserve_place.new.pages c.self.inside.max_pages c.args.size found) (λ found. IsChosen h c.args.size found)
     (λ found reserves. reserves-chosen middle h c.args.size found reserves) c.reserve_place.ensures.reserves

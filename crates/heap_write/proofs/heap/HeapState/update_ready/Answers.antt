@@ -5,11 +5,18 @@ use Rattle.page_slots.specs.Slots.{room_of}
 use Rattle.heap_pages.proofs.FirstLemmas.{refuted}
 use Rattle.heap_write.specs.Heap.{page_on}
 use Rattle.heap_write.specs.Steps.{IsChosen}
+use Rattle.heap_write.proofs.Writing.{replaces-elsewhere}
 use Rattle.heap_write.proofs.heap.HeapState.update_ready.Goals as goal
 
-pub replace_elsewhere-requires-clause-chosen : goal.replace_elsewhere-requires-clause-chosen
-replace_elsewhere-requires-clause-chosen c =
+pub returns-in-Some-clause-replaces : goal.returns-in-Some-clause-replaces
+returns-in-Some-clause-replaces c =
+    let h = c.args.self.now in
     let size = rounded_size_of c.args.row in
-    let room = room_of (page_on c.args.self.now c.args.place.page).slots in
-    let full = refuted c.has_room.result (size ≤ room) c.has_room.ensures c.if-has_room.false in
-    subst (λ found. IsChosen c.args.self.now size found) c.in-Some.is (elim (cases_lt room size) [ inl small ↦ c.requires.chosen small | inr fits ↦ absurd (full fits) ])
+    let room = room_of (page_on h c.args.place.page).slots in
+    let no_room = refuted c.has_room.result (size ≤ room) c.has_room.ensures c.if-has_room.false in
+    let there = c.is_there.ensures.0 c.if-not-is_there.false in
+    elim (cases_lt room size) [
+      | inl small ↦ replaces-elsewhere h c.replace_by_root.new.self c.args.place c.replace_by_root.result.0 c.args.row c.in-Some.target there small
+          (subst (λ found. IsChosen h size found) c.in-Some.is (c.requires.chosen small)) c.replace_by_root.ensures.replaces
+      | inr fits ↦ absurd (no_room fits)
+    ]

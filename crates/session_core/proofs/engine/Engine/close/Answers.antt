@@ -40,7 +40,7 @@ returns c =
     subst P c.self.view_is (record {
       settings = refl;
       pages = c.end.ensures.pages;
-      index = c.end.ensures.index;
+      indexes = c.end.ensures.indexes;
       max_pages = c.end.ensures.max_pages;
       sessions = ap (λ o. set c.self.inside.sessions.items c.args.s o) c.take-session.ensures.after;
       finishes = λ e at. c.end.ensures.finishes e (is ∙ at);

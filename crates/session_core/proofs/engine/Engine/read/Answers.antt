@@ -1,3 +1,4 @@
+use Rattle.heap_write.specs.Indexes.{entries_in}
 use Rattle.std.proofs.Common.{ap, subst, pos}
 use Rattle.visibility.specs.Visible.{IsVisible}
 use Rattle.sound_entries.specs.Looking.{FirstFound}
@@ -9,5 +10,5 @@ use Rattle.session_core.proofs.engine.Engine.read.Goals as goal
 pub returns-in-Ok : goal.returns-in-Ok
 returns-in-Ok c w agrees =
     let e = c.in-Ok.session.now in
-    let G : HeapView → Type 0 = λ h. FirstFound h.table (IsVisible h.table e.snapshot e.own.ids) (slots_of h) h.index.entries (pos c.args.key) c.args.key c.row.result in
+    let G : HeapView → Type 0 = λ h. FirstFound h.table (IsVisible h.table e.snapshot e.own.ids) (slots_of h) (entries_in h.indexes 0) (pos c.args.key) c.args.key c.row.result in
     reads-view c.args.self.now w c.args.s e c.args.key c.row.result agrees c.in-Ok.ensures.1 (subst G (ap (λ (st : State). st.heap) c.self.view_is) c.row.ensures)

@@ -1,4 +1,6 @@
-use Rattle.std.proofs.Common.{sym, subst}
+use Rattle.session_core.proofs.CursorSteps.{stored-step}
+use Rattle.session_relation.specs.Bounds.{HasBounds}
+use Rattle.std.proofs.Common.{sym, subst, ◌∙◌}
 use Rattle.session_relation.specs.declared.step.Step.{Step}
 use Rattle.session_core.specs.Agrees.{Follows}
 use Rattle.session_core.specs.Exact.{Exact}
@@ -60,3 +62,19 @@ returns-in-RollbackTo-clause-follows c = subst (λ (step : Step). Follows c.args
 
 pub returns-in-Release-clause-follows : goal.returns-in-Release-clause-follows
 returns-in-Release-clause-follows c = subst (λ (step : Step). Follows c.args.self.now step c.release.result c.release.new.self) (sym c.in-Release.is) c.release.ensures.follows
+
+pub returns-in-OpenHeap-clause-follows : goal.returns-in-OpenHeap-clause-follows
+returns-in-OpenHeap-clause-follows c = subst (λ (step : Step). Follows c.args.self.now step c.open_heap.result c.open_heap.new.self) (sym c.in-OpenHeap.is) c.open_heap.ensures.follows
+
+pub returns-in-Next-clause-follows : goal.returns-in-Next-clause-follows
+returns-in-Next-clause-follows c = subst (λ (step : Step). Follows c.args.self.now step c.next.result c.next.new.self) (sym c.in-Next.is) c.next.ensures.follows
+
+pub returns-in-Close-clause-follows : goal.returns-in-Close-clause-follows
+returns-in-Close-clause-follows c = subst (λ (step : Step). Follows c.args.self.now step c.close_cursor.result c.close_cursor.new.self) (sym c.in-Close.is) c.close_cursor.ensures.follows
+
+pub returns-in-OpenIndex-clause-follows : goal.returns-in-OpenIndex-clause-follows
+returns-in-OpenIndex-clause-follows c =
+    let P : Step → Type 0 = λ step. HasBounds step in
+    let fits = subst P c.in-OpenIndex.is c.has_bounds.ensures in
+    subst (λ (step : Step). Follows c.args.self.now step c.open_index.result c.open_index.new.self)
+    (stored-step c.in-OpenIndex.s c.in-OpenIndex.index c.in-OpenIndex.low c.in-OpenIndex.high fits.0 fits.1 ∙ sym c.in-OpenIndex.is) c.open_index.ensures.follows

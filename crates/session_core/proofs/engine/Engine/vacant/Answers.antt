@@ -12,7 +12,7 @@ returns-in-Some c =
     let heap_is = ap (λ (st : State). st.heap) c.self.view_is in
     let F : HeapView → Option Tid → Type 0 = λ h o. FindsPlace h e c.args.key o in
     let finds : F c.args.self.now.heap c.place_of.result = subst (λ (h : HeapView). F h c.place_of.result) heap_is c.place_of.ensures in
-    (e, c.in-Some.field-0, record { within = c.in-Ok.ensures.0; at = c.in-Ok.ensures.1; sound = c.in-Ok.ensures.2; finds = subst (λ (o : Option Tid). F c.args.self.now.heap o) c.in-Some.is finds })
+    (e, c.in-Some.field-0, record { within = c.in-Ok.ensures.0; at = c.in-Ok.ensures.1; sound = c.in-Ok.ensures.2; bare = c.in-Ok.ensures.3; finds = subst (λ (o : Option Tid). F c.args.self.now.heap o) c.in-Some.is finds })
 
 pub returns-in-None-delay : goal.returns-in-None-delay
 returns-in-None-delay c =
@@ -22,7 +22,7 @@ returns-in-None-delay c =
     let finds : F c.args.self.now.heap c.place_of.result = subst (λ (h : HeapView). F h c.place_of.result) heap_is c.place_of.ensures in
     record {
       session = e;
-      reads = record { within = c.in-Ok.ensures.0; at = c.in-Ok.ensures.1; sound = c.in-Ok.ensures.2; finds = subst (λ (o : Option Tid). F c.args.self.now.heap o) c.in-None.is finds };
+      reads = record { within = c.in-Ok.ensures.0; at = c.in-Ok.ensures.1; sound = c.in-Ok.ensures.2; bare = c.in-Ok.ensures.3; finds = subst (λ (o : Option Tid). F c.args.self.now.heap o) c.in-None.is finds };
       free = c.in-None-delay.ensures;
     }
 
@@ -33,4 +33,4 @@ returns-in-Some-delay c =
     let F : HeapView → Option Tid → Type 0 = λ h o. FindsPlace h e c.args.key o in
     let finds : F c.args.self.now.heap c.place_of.result = subst (λ (h : HeapView). F h c.place_of.result) heap_is c.place_of.ensures in
     delayed-insert c.args.self.now c.args.s c.args.key e c.in-Some-delay.refusal
-    (record { within = c.in-Ok.ensures.0; at = c.in-Ok.ensures.1; sound = c.in-Ok.ensures.2; finds = subst (λ (o : Option Tid). F c.args.self.now.heap o) c.in-None.is finds }) c.in-Some-delay.ensures
+    (record { within = c.in-Ok.ensures.0; at = c.in-Ok.ensures.1; sound = c.in-Ok.ensures.2; bare = c.in-Ok.ensures.3; finds = subst (λ (o : Option Tid). F c.args.self.now.heap o) c.in-None.is finds }) c.in-Some-delay.ensures

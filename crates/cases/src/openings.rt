@@ -1,0 +1,122 @@
+//! Opening cursors, asking them for rows and closing them, with each answer that they may have.
+
+use crate::steps::{Answer, Ask};
+use session_core::{Refusal, Settings};
+
+/// There is no index but the primary one.
+pub const SETTINGS: Settings = Settings {
+    max_pages: 2,
+    stop_age: 1000,
+    freeze_min_age: 0,
+    first_xid: 3,
+    dead_limit: 64,
+    indexed: [false; 4],
+};
+
+pub const STEPS: [(Ask, Answer); 78] = [
+    (
+        Ask::OpenIndex(0, 0, 0, 1),
+        Answer::Refused(Refusal::NotOpen),
+    ),
+    (Ask::OpenHeap(0), Answer::Refused(Refusal::NotOpen)),
+    (Ask::Next(0, 1), Answer::Refused(Refusal::NotOpen)),
+    (Ask::Close(0), Answer::Refused(Refusal::NotOpen)),
+    (
+        Ask::OpenIndex(64, 9, 1, 0),
+        Answer::Refused(Refusal::NoSuchSession),
+    ),
+    (Ask::OpenHeap(255), Answer::Refused(Refusal::NoSuchSession)),
+    (Ask::Next(64, 0), Answer::Refused(Refusal::NoSuchSession)),
+    (Ask::Close(64), Answer::Refused(Refusal::NoSuchSession)),
+    (Ask::Begin(0), Answer::Done),
+    (Ask::Next(0, 1), Answer::Refused(Refusal::NoCursor)),
+    (Ask::Close(0), Answer::Refused(Refusal::NoCursor)),
+    // That there is such an index is looked at before its bounds.
+    (
+        Ask::OpenIndex(0, 1, 1, 0),
+        Answer::Refused(Refusal::NoSuchIndex),
+    ),
+    (
+        Ask::OpenIndex(0, 255, 0, 1),
+        Answer::Refused(Refusal::NoSuchIndex),
+    ),
+    (
+        Ask::OpenIndex(0, 0, 1, 0),
+        Answer::Refused(Refusal::BadBounds),
+    ),
+    (Ask::OpenIndex(0, 0, i128::MIN, i128::MAX), Answer::Done),
+    (Ask::Next(0, 0), Answer::End),
+    (Ask::Next(0, 9), Answer::End),
+    (
+        Ask::OpenIndex(0, 1, 1, 0),
+        Answer::Refused(Refusal::CursorOpen),
+    ),
+    (Ask::OpenHeap(0), Answer::Refused(Refusal::CursorOpen)),
+    (
+        Ask::Insert(0, 1, 1025),
+        Answer::Refused(Refusal::CursorOpen),
+    ),
+    (Ask::Update(0, 1, 0), Answer::Refused(Refusal::CursorOpen)),
+    (Ask::Delete(0, 1), Answer::Refused(Refusal::CursorOpen)),
+    (Ask::Savepoint(0), Answer::Refused(Refusal::CursorOpen)),
+    (Ask::RollbackTo(0), Answer::Refused(Refusal::CursorOpen)),
+    (Ask::Release(0), Answer::Refused(Refusal::CursorOpen)),
+    (Ask::Get(0, 1), Answer::NoRow),
+    (Ask::Close(0), Answer::Done),
+    (Ask::Close(0), Answer::Refused(Refusal::NoCursor)),
+    // Id 3. Seven rows fill a page, and the eighth is on the next.
+    (Ask::Insert(0, 8, 1024), Answer::Done),
+    (Ask::Insert(0, 7, 1024), Answer::Done),
+    (Ask::Insert(0, 6, 1024), Answer::Done),
+    (Ask::Insert(0, 5, 1024), Answer::Done),
+    (Ask::Insert(0, 4, 1024), Answer::Done),
+    (Ask::Insert(0, 3, 1024), Answer::Done),
+    (Ask::Insert(0, 2, 1024), Answer::Done),
+    (Ask::Insert(0, 1, 1024), Answer::Done),
+    (Ask::OpenHeap(0), Answer::Done),
+    (Ask::Next(0, 1), Answer::Rows(&[8, 7, 6, 5, 4, 3, 2])),
+    (Ask::Next(0, 1), Answer::Rows(&[1])),
+    (Ask::Next(0, 1), Answer::End),
+    (Ask::Close(0), Answer::Done),
+    (Ask::OpenIndex(0, 0, 2, 7), Answer::Done),
+    (Ask::Next(0, 0), Answer::Rows(&[2])),
+    (Ask::Next(0, 2), Answer::Rows(&[3, 4])),
+    (Ask::Next(0, 65535), Answer::Rows(&[5, 6, 7])),
+    (Ask::Next(0, 1), Answer::End),
+    // The end of the session is that of its cursor.
+    (Ask::Commit(0), Answer::Committed),
+    (Ask::Begin(0), Answer::Done),
+    (Ask::Next(0, 1), Answer::Refused(Refusal::NoCursor)),
+    // What another commits in between is not seen. Id 4.
+    (Ask::OpenHeap(0), Answer::Done),
+    (Ask::Begin(1), Answer::Done),
+    (Ask::Delete(1, 3), Answer::Done),
+    (Ask::Delete(1, 1), Answer::Done),
+    (Ask::Commit(1), Answer::Committed),
+    (Ask::Prune(0), Answer::Done),
+    (Ask::Prune(1), Answer::Done),
+    (Ask::Next(0, 0), Answer::Rows(&[8, 7, 6, 5, 4, 3, 2])),
+    (Ask::Next(0, 0), Answer::Rows(&[1])),
+    (Ask::Next(0, 0), Answer::End),
+    (Ask::Abort(0), Answer::RolledBack),
+    // Of the second page nothing is seen any more.
+    (Ask::Begin(0), Answer::Done),
+    (Ask::OpenHeap(0), Answer::Done),
+    (Ask::Next(0, 0), Answer::Rows(&[8, 7, 6, 5, 4, 2])),
+    (Ask::Next(0, 0), Answer::End),
+    (Ask::Close(0), Answer::Done),
+    (Ask::OpenIndex(0, 0, 1, 3), Answer::Done),
+    (Ask::Next(0, 3), Answer::Rows(&[2])),
+    (Ask::Next(0, 3), Answer::End),
+    (Ask::Close(0), Answer::Done),
+    // Id 5.
+    (Ask::Begin(1), Answer::Done),
+    (Ask::Insert(1, 3, 0), Answer::Done),
+    (Ask::Commit(1), Answer::Committed),
+    (Ask::Insert(0, 3, 0), Answer::Refused(Refusal::Conflict)),
+    (Ask::OpenIndex(0, 1, 1, 0), Answer::Refused(Refusal::Failed)),
+    (Ask::OpenHeap(0), Answer::Refused(Refusal::Failed)),
+    (Ask::Next(0, 1), Answer::Refused(Refusal::Failed)),
+    (Ask::Close(0), Answer::Refused(Refusal::Failed)),
+    (Ask::Abort(0), Answer::RolledBack),
+];

@@ -1,0 +1,196 @@
+-- A change of all indexes, one after another by their numbers.
+use Rattle.std.proofs.Common.{◌≡◌, ℕ, zero, suc, ◌+◌, ◌<◌, ◌≤◌, true, inl, inr, List, ◌∷◌, length, get_or, set, Option, Some, None, IsSome, ℤ, pos, nat_abs, sym, ap, subst, refl, ◌∙◌, arith}
+use Rattle.std.specs.Prelude.{is_some}
+use Rattle.std.proofs.lemmas.Bool.{cases_lt, cases_eq, true≢false}
+use Rattle.std.proofs.lemmas.List.{get_or_default, get_or_past, get_or-set_same, get_or-set_other, length-set}
+use Rattle.xid_circle.specs.declared.Tid.{Tid}
+use Rattle.tuple_header.specs.declared.version.Row.{Row}
+use Rattle.root_index.specs.Sets.{Adds}
+use Rattle.root_index.specs.View.{IndexView}
+use Rattle.history.specs.Cursors.{value_in}
+use Rattle.heap_write.specs.Indexes.{index_at, entries_of, entries_at, IsInUse, without_body, SameValues, entry_in, SameEntries, AddsAny, Enters, HasEntry, HasEntries, LacksEntry, NeedsEntry}
+
+-- the indexes up to a number were changed so, and the others are as they were
+pub record Changed (P : ℕ → Option IndexView → Option IndexView → Type 0) (before after : List (Option IndexView)) (i : ℕ) : Type 0 where
+  pub size : length after ≡ 5
+  pub done : (n : ℕ) → n < i → P n (index_at before n) (index_at after n)
+  pub rest : (n : ℕ) → i ≤ n → index_at after n ≡ index_at before n
+
+pub changed-one : (P : ℕ → Option IndexView → Option IndexView → Type 0) (before after : List (Option IndexView)) (i : ℕ) (index : Option IndexView) → i < 5
+    → Changed P before after i → P i (index_at after i) index → Changed P before (set after i index) (i + 1)
+changed-one P before after i index within changed new = record {
+  size = length-set after i index ∙ changed.size;
+  done = λ n lt. elim (cases_eq n i) [
+    | inl same ↦ subst (λ k. P k (index_at before k) (index_at (set after i index) k)) (sym same)
+        (subst (λ o. P i (index_at before i) o) (sym (get_or-set_same after i index None (omega (arith, within, changed.size))))
+        (subst (λ o. P i o index) (changed.rest i (omega arith)) new))
+    | inr other ↦ subst (λ o. P n (index_at before n) o) (sym (get_or-set_other after i n index None other)) (changed.done n (omega (arith, lt, other)))
+  ];
+  rest = λ n le. get_or-set_other after i n index None (λ same. omega (arith, le, same)) ∙ changed.rest n (omega (arith, le));
+}
+
+-- the same, of an index by column
+pub changed-column : (P : ℕ → Option IndexView → Option IndexView → Type 0) (before cols : List (Option IndexView)) (key index : Option IndexView) (c : ℕ) → c < 4
+    → Changed P before (key ∷ cols) (c + 1) → P (suc c) (get_or cols c None) index → Changed P before (key ∷ set cols c index) (c + 1 + 1)
+changed-column P before cols key index c within changed new =
+    let one : c + 1 ≡ suc c = omega arith in
+    let next = changed-one P before (key ∷ cols) (c + 1) index (omega (arith, within)) changed
+    (subst (λ n. P n (index_at (key ∷ cols) n) index) (sym one) new) in
+    subst (λ n. Changed P before (set (key ∷ cols) n index) (c + 1 + 1)) one next
+
+-- the index by key was changed, and no other
+pub changed-key : (P : ℕ → Option IndexView → Option IndexView → Type 0) (before cols : List (Option IndexView)) (key index : Option IndexView) → key ∷ cols ≡ before
+    → length cols ≡ 4 → P 0 key index → Changed P before (index ∷ cols) 1
+changed-key P before cols key index view_is size new = subst (λ v. Changed P v (index ∷ cols) 1) view_is (record {
+  size = let long : length (index ∷ cols) ≡ suc (length cols) = refl in omega (arith, long, size);
+  done = first;
+  rest = others;
+})
+  where
+    first : (n : ℕ) → n < 1 → P n (index_at (key ∷ cols) n) (index_at (index ∷ cols) n)
+    first zero lt = new
+    first (suc n) lt = absurd (omega arith)
+
+    others : (n : ℕ) → 1 ≤ n → index_at (index ∷ cols) n ≡ index_at (key ∷ cols) n
+    others zero le = absurd (omega arith)
+    others (suc n) le = refl
+
+-- a column that was read
+pub column-at : (cols : List (Option IndexView)) (c : ℕ) (x : Option IndexView) → c < 4 → length cols ≡ 4 → get_or cols c x ≡ get_or cols c None
+column-at cols c x within size = get_or_default cols c x None (omega (arith, within, size))
+
+pub changed-all : (P : ℕ → Option IndexView → Option IndexView → Type 0) (before after : List (Option IndexView)) → ((n : ℕ) → P n None None)
+    → Changed P before after 5 → (n : ℕ) → P n (index_at before n) (index_at after n)
+changed-all P before after none changed n =
+    elim (cases_lt n 5) [
+      | inl lt ↦ changed.done n lt
+      | inr le ↦ let past = get_or_past after n None (omega (arith, le, changed.size)) in
+          subst (λ o. P n o (index_at after n)) (changed.rest n le) (subst (λ o. P n o o) (sym past) (none n))
+    ]
+
+size-after : (key : Option IndexView) (cols : List (Option IndexView)) → length (key ∷ cols) ≡ 5 → length cols ≡ 4
+size-after key cols size = let long : length (key ∷ cols) ≡ suc (length cols) = refl in omega (arith, long, size)
+
+-- Memory.
+
+-- there is memory for an entry in the index, which has the entries that it had
+pub record HasRoom (n : ℕ) (before after : Option IndexView) : Type 0 where
+  pub room : HasEntry after
+  pub same : entries_of after ≡ entries_of before
+
+abbrev pub Reserved : List (Option IndexView) → List (Option IndexView) → ℕ → Type 0
+Reserved before after i = Changed HasRoom before after i
+
+pub reserved-key : (before cols : List (Option IndexView)) (key key' : IndexView) → Some key ∷ cols ≡ before → length cols ≡ 4 → 1 ≤ key'.spare → key'.entries ≡ key.entries
+    → Reserved before (Some key' ∷ cols) (0 + 1)
+reserved-key before cols key key' view_is size room same =
+    changed-key HasRoom before cols (Some key) (Some key') view_is size (record { room = omega (arith, room); same = ap Some same })
+
+pub reserved-column : (before cols : List (Option IndexView)) (key x index : Option IndexView) (c : ℕ) → c < 4 → Reserved before (key ∷ cols) (c + 1)
+    → HasEntry index → entries_of index ≡ entries_of (get_or cols c x) → Reserved before (key ∷ set cols c index) (c + 1 + 1)
+reserved-column before cols key x index c within reserved room same =
+    changed-column HasRoom before cols key index c within reserved
+    (record { room = room; same = same ∙ ap entries_of (column-at cols c x within (size-after key cols reserved.size)) })
+
+none-reserved : (n : ℕ) → HasRoom n None None
+none-reserved n = record { room = tt; same = refl }
+
+pub reserved-all : (before after : List (Option IndexView)) → Reserved before after 5 → HasEntries after × SameEntries before after
+reserved-all before after reserved = (
+  λ n. (changed-all HasRoom before after none-reserved reserved n).room,
+  λ n. (changed-all HasRoom before after none-reserved reserved n).same,
+)
+
+-- one that was not reached yet has no memory for an entry
+pub reserved-lacks : (before after : List (Option IndexView)) (i : ℕ) → Reserved before after i → LacksEntry (index_at after i) → NeedsEntry before
+reserved-lacks before after i reserved lacks = (i, subst LacksEntry (reserved.rest i (omega arith)) lacks)
+
+pub reserved-same : (before after : List (Option IndexView)) (i : ℕ) (index : Option IndexView) → i < 5 → Reserved before after i
+    → entries_of index ≡ entries_of (index_at after i) → SameEntries before (set after i index)
+reserved-same before after i index within reserved same n =
+    elim (cases_eq n i) [
+      | inl here ↦ ap (λ k. entries_of (index_at (set after i index) k)) here ∙ ap entries_of (get_or-set_same after i index None (omega (arith, within, reserved.size)))
+          ∙ same ∙ ap entries_of (reserved.rest i (omega arith)) ∙ ap (λ k. entries_of (index_at before k)) (sym here)
+      | inr other ↦ ap entries_of (get_or-set_other after i n index None other) ∙ elim (cases_lt n i) [
+        | inl lt ↦ (reserved.done n lt).same
+        | inr le ↦ ap entries_of (reserved.rest n le)
+      ]
+    ]
+
+-- Entries.
+
+abbrev pub Entered : Row → Tid → List (Option IndexView) → List (Option IndexView) → ℕ → Type 0
+Entered row place before after i = Changed (λ n old new. AddsAny (entries_of old) (entries_of new) (entry_in n row place)) before after i
+
+pub entered-key : (row : Row) (place : Tid) (before cols : List (Option IndexView)) (key key' : IndexView) (value read : ℤ) → Some key ∷ cols ≡ before → length cols ≡ 4
+    → value ≡ value_in 0 row → read ≡ value → Adds key.entries key'.entries (record { value = read; key = row.key; tid = place }) → Entered row place before (Some key' ∷ cols) (0 + 1)
+entered-key row place before cols key key' value read view_is size is same adds =
+    changed-key (λ n old new. AddsAny (entries_of old) (entries_of new) (entry_in n row place)) before cols (Some key) (Some key') view_is size
+    (subst (λ v. Adds key.entries key'.entries (record { value = v; key = row.key; tid = place })) (same ∙ is) adds)
+
+pub entered-column : (row : Row) (place : Tid) (before cols : List (Option IndexView)) (key x index : Option IndexView) (value read : ℤ) (c : ℕ) → c < 4
+    → Entered row place before (key ∷ cols) (c + 1) → value ≡ value_in (c + 1) row → read ≡ value
+    → AddsAny (entries_of (get_or cols c x)) (entries_of index) (record { value = read; key = row.key; tid = place })
+    → Entered row place before (key ∷ set cols c index) (c + 1 + 1)
+entered-column row place before cols key x index value read c within entered is same adds =
+    let one : c + 1 ≡ suc c = omega arith in
+    let P : ℕ → Option IndexView → Option IndexView → Type 0 = λ n old new. AddsAny (entries_of old) (entries_of new) (entry_in n row place) in
+    changed-column P before cols key index c within entered
+    (subst (λ o. P (suc c) o index) (column-at cols c x within (size-after key cols entered.size))
+    (subst (λ n. P n (get_or cols c x) index) one
+    (subst (λ v. AddsAny (entries_of (get_or cols c x)) (entries_of index) (record { value = v; key = row.key; tid = place })) (same ∙ is) adds)))
+
+-- there is memory for the entry of the next one
+pub entered-room : (row : Row) (place : Tid) (before cols : List (Option IndexView)) (key x : Option IndexView) (c : ℕ) → c < 4 → HasEntries before
+    → Entered row place before (key ∷ cols) (c + 1) → HasEntry (get_or cols c x)
+entered-room row place before cols key x c within room entered =
+    let one : c + 1 ≡ suc c = omega arith in
+    subst HasEntry (sym (column-at cols c x within (size-after key cols entered.size)))
+    (subst (λ n. HasEntry (index_at (key ∷ cols) n)) one (subst HasEntry (sym (entered.rest (c + 1) (omega arith))) (room (c + 1))))
+
+pub entered-all : (row : Row) (place : Tid) (before after : List (Option IndexView)) → Entered row place before after 5 → Enters before after row place
+entered-all row place before after entered = changed-all (λ n old new. AddsAny (entries_of old) (entries_of new) (entry_in n row place)) before after (λ n. refl) entered
+
+-- an index takes the key and the columns of a row alone
+pub enters-row : (indexes indexes' : List (Option IndexView)) (row : Row) (place : Tid) → Enters indexes indexes' (without_body row.key row.cols) place → Enters indexes indexes' row place
+enters-row indexes indexes' row place enters zero = enters 0
+enters-row indexes indexes' row place enters (suc c) = enters (suc c)
+
+-- Where there is more memory.
+
+pub entries-then : (a b c : List (Option IndexView)) → SameEntries a b → SameEntries b c → SameEntries a c
+entries-then a b c first second n = second n ∙ first n
+
+pub enters-grown : (a b c : List (Option IndexView)) (row : Row) (place : Tid) → SameEntries a b → Enters b c row place → Enters a c row place
+enters-grown a b c row place same enters n = subst (λ o. AddsAny o (entries_at c n) (entry_in n row place)) (same n) (enters n)
+
+pub values-grown : (a b : List (Option IndexView)) (old new : Row) → SameEntries a b → SameValues a old new → SameValues b old new
+values-grown a b old new same values n in_use = values n (subst IsSome (same n) in_use)
+
+-- Values.
+
+-- two rows have the same value in each index in use by one of the first columns
+abbrev pub AgreeUpTo : List (Option IndexView) → Row → Row → ℕ → Type 0
+AgreeUpTo indexes old new i = (c : ℕ) → c < i → IsInUse indexes (suc c) → value_in (suc c) new ≡ value_in (suc c) old
+
+some-entries : (o : Option IndexView) → is_some o ≡ true → IsSome (entries_of o)
+some-entries (Some index) h = refl
+some-entries None h = h
+
+pub column-in_use : (indexes cols : List (Option IndexView)) (key x : Option IndexView) (c : ℕ) → key ∷ cols ≡ indexes → length cols ≡ 4 → c < 4
+    → is_some (get_or cols c x) ≡ true → IsInUse indexes (suc c)
+column-in_use indexes cols key x c view_is size within is =
+    subst (λ v. IsInUse v (suc c)) view_is (subst (λ o. IsSome (entries_of o)) (column-at cols c x within size) (some-entries (get_or cols c x) is))
+
+pub same-all : (indexes cols : List (Option IndexView)) (key : Option IndexView) (old new : Row) (i : ℕ) → key ∷ cols ≡ indexes → length cols ≡ 4 → 4 ≤ i
+    → AgreeUpTo indexes old new i → old.key ≡ new.key → SameValues indexes old new
+same-all indexes cols key old new i view_is size all agree same zero in_use = ap pos (sym same)
+same-all indexes cols key old new i view_is size all agree same (suc c) in_use =
+    elim (cases_lt c 4) [
+      | inl lt ↦ agree c (omega (arith, lt, all)) in_use
+      | inr past ↦ absurd (true≢false (sym in_use ∙ ap (λ o. is_some (entries_of o)) (sym (ap (λ v. index_at v (suc c)) view_is) ∙ get_or_past cols c None (omega (arith, past, size)))))
+    ]
+
+pub same-key : (indexes cols : List (Option IndexView)) (key : IndexView) (old new : Row) → Some key ∷ cols ≡ indexes → SameValues indexes old new → old.key ≡ new.key
+same-key indexes cols key old new view_is same =
+    let e : pos new.key ≡ pos old.key = same 0 (subst (λ v. IsInUse v 0) view_is refl) in ap nat_abs (sym e)

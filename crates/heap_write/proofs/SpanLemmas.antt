@@ -1,0 +1,89 @@
+-- Which entries lie in a span, and which of them comes first.
+use Rattle.std.proofs.Common.{◌≡◌, ◌↔◌, ◌⊎◌, inl, inr, ℕ, ◌<◌, ◌≤◌, ℤ, ◌<ℤ◌, ◌≤ℤ◌, List, Option, Some, None, refl, sym, subst, ◌∙◌, arith, Contains}
+use Rattle.std.specs.Ordering.{nat_cmp, int_cmp, ordering_then}
+use Rattle.std.specs.Cmp.{int_cmp_is, nat_cmp_is}
+use Rattle.std.specs.declared.cmp.Ordering.{Ordering}
+use Rattle.std.specs.declared.cmp.Ordering.TheVariants.{Less, Equal, Greater}
+use Rattle.std.proofs.lemmas.Cmp.{ranked, int_ranked}
+use Rattle.std.proofs.lemmas.Int.{ints}
+use Rattle.root_index.specs.declared.entry.Entry.{Entry}
+use Rattle.root_index.specs.Order.{Precedes}
+use Rattle.root_index.specs.Sets.{IsLeast, IsAfter, IsBelow, IsOf}
+use Rattle.heap_write.specs.declared.walking.Mark.{Mark}
+use Rattle.heap_write.specs.declared.walking.Span.{Span}
+use Rattle.heap_write.specs.Walking.{ComesAfter, last_at, StartsIn, LiesIn}
+
+-- The order by value and key alone.
+
+-- of a lower value, or of the same value and a lower key
+abbrev pub IsLower : Entry → Entry → Type 0
+IsLower a b = (a.value <ℤ b.value) ⊎ ((a.value ≡ b.value) × (a.key < b.key))
+
+int_less : (x y : ℤ) → x <ℤ y → int_cmp x y ≡ Less
+int_less x y lt = sym (int_cmp_is x y Less lt)
+
+int_same : (x : ℤ) → int_cmp x x ≡ Equal
+int_same x = sym (int_cmp_is x x Equal refl)
+
+nat_less : (x y : ℕ) → x < y → nat_cmp x y ≡ Less
+nat_less x y lt = sym (nat_cmp_is x y Less lt)
+
+pub lower-precedes : (a b : Entry) → IsLower a b → Precedes a b
+lower-precedes a b (inl low) = rw (int_less a.value b.value low) refl
+lower-precedes a b (inr (same, low)) = rw (same, int_same b.value, nat_less a.key b.key low) refl
+
+by_key : (a b : Entry) (o : Ordering) → o ≡ nat_cmp a.key b.key → a.value ≡ b.value → IsLower a b ⊎ (IsOf b.value b.key a ⊎ IsLower b a)
+by_key a b Less e same = inl (inr (same, ranked a.key b.key Less e))
+by_key a b Equal e same = inr (inl (same, ranked a.key b.key Equal e))
+by_key a b Greater e same = inr (inr (inr (sym same, ranked a.key b.key Greater e)))
+
+by_value : (a b : Entry) (o : Ordering) → o ≡ int_cmp a.value b.value → IsLower a b ⊎ (IsOf b.value b.key a ⊎ IsLower b a)
+by_value a b Less e = inl (inl (int_ranked a.value b.value Less e))
+by_value a b Equal e = by_key a b (nat_cmp a.key b.key) refl (int_ranked a.value b.value Equal e)
+by_value a b Greater e = inr (inr (inl (int_ranked a.value b.value Greater e)))
+
+pub lower-cases : (a b : Entry) → IsLower a b ⊎ (IsOf b.value b.key a ⊎ IsLower b a)
+lower-cases a b = by_value a b (int_cmp a.value b.value) refl
+
+above : (x y : ℤ) → ¬ (x ≤ℤ y) → y <ℤ x
+above x y h = grind (arith, ints)
+
+-- From the beginning of a span.
+
+least-same : (entries : List Entry) (P Q : Entry → Type 0) (r : Option Entry) → ((e : Entry) → P e ↔ Q e) → IsLeast entries P r → IsLeast entries Q r
+least-same entries P Q None same least = λ e there q. least e there ((same e).1 q)
+least-same entries P Q (Some f) same least = (least.0, (same f).0 least.1, λ e there q. least.2 e there ((same e).1 q))
+
+from-after : (low : ℤ) (mark : Mark) (e : Entry) → low ≤ℤ mark.value → ComesAfter e (Some mark) → low ≤ℤ e.value
+from-after low mark e le (inl lt) = omega (arith, ints, le, lt)
+from-after low mark e le (inr (same, lt)) = omega (arith, ints, le, same)
+
+pub starts-after : (entries : List Entry) (span : Span) (last : Mark) (r : Option Entry) → span.last ≡ Some last → span.low ≤ℤ last.value → IsLeast entries (λ e. ComesAfter e (Some last)) r
+    → IsLeast entries (StartsIn span) r
+starts-after entries span last r is le least = least-same entries (λ e. ComesAfter e (Some last)) (StartsIn span) r (λ e. (
+  λ after. record { from = from-after span.low last e le after; after = subst (ComesAfter e) (sym is) after },
+  λ starts. subst (ComesAfter e) is starts.after,
+)) least
+
+-- what is not below the low value comes after the last place
+abbrev pub AllAfter : Span → Type 0
+AllAfter span = (e : Entry) → span.low ≤ℤ e.value → ComesAfter e span.last
+
+pub all-after_none : (span : Span) → span.last ≡ None → AllAfter span
+all-after_none span is e le = subst (ComesAfter e) (sym is) tt
+
+pub all-after_lower : (span : Span) (last : Mark) → span.last ≡ Some last → ¬ (span.low ≤ℤ last.value) → AllAfter span
+all-after_lower span last is over e le = subst (ComesAfter e) (sym is) (inl (let lt = above span.low last.value over in omega (arith, ints, lt, le)))
+
+not_below : (low : ℤ) (e : Entry) → low ≤ℤ e.value → ¬ IsBelow low 0 e
+not_below low e le (inl lt) = omega (arith, ints, le, lt)
+not_below low e le (inr (same, lt)) = omega (arith, lt)
+
+from-not_below : (low : ℤ) (e : Entry) → ¬ IsBelow low 0 e → low ≤ℤ e.value
+from-not_below low e h = let no : ¬ (e.value <ℤ low) = λ lt. h (inl lt) in grind (arith, ints)
+
+pub starts-from : (entries : List Entry) (span : Span) (r : Option Entry) → AllAfter span → IsLeast entries (λ e. ¬ IsBelow span.low 0 e) r → IsLeast entries (StartsIn span) r
+starts-from entries span r all least = least-same entries (λ e. ¬ IsBelow span.low 0 e) (StartsIn span) r (λ e. (
+  λ h. let le = from-not_below span.low e h in record { from = le; after = all e le },
+  λ starts. not_below span.low e starts.from,
+)) least

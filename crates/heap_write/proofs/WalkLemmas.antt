@@ -1,0 +1,114 @@
+-- A walk along an index goes from place to place, until a row is found.
+use Rattle.std.proofs.Common.{◌≡◌, ◌⊎◌, inl, inr, ⊎_elim, ℕ, ◌+◌, ◌<◌, ◌≤◌, ℤ, ◌<ℤ◌, ◌≤ℤ◌, List, length, Option, Some, None, slice_get, refl, sym, ap, subst, ◌∙◌, arith, Contains}
+use Rattle.std.proofs.lemmas.Bool.{cases_lt}
+use Rattle.std.proofs.lemmas.Int.{ints}
+use Rattle.std.proofs.lemmas.Option.{slice_get_within}
+use Rattle.tuple_header.specs.declared.version.Header.{Header}
+use Rattle.tuple_header.specs.declared.version.Row.{Row}
+use Rattle.page_slots.specs.declared.slot.Slot.{Slot}
+use Rattle.commit_status.specs.Window.{Window}
+use Rattle.root_index.specs.declared.entry.Entry.{Entry}
+use Rattle.root_index.specs.Order.{IsAscending}
+use Rattle.root_index.specs.Sets.{IsLeast, IsAfter}
+use Rattle.root_index.proofs.SetLemmas.{place_of, start_after}
+use Rattle.sound_entries.specs.Looking.{FirstFound}
+use Rattle.heap_write.specs.declared.walking.Mark.{Mark}
+use Rattle.heap_write.specs.declared.walking.Span.{Span}
+use Rattle.heap_write.specs.Walking.{ComesBefore, ComesAfter, LiesIn, IsNextRow, NoneLeft}
+use Rattle.heap_write.proofs.SpanLemmas.{IsLower, lower-precedes, lower-cases}
+
+-- After some turns this part of the span is left.
+pub record Walked (entries : List Entry) (HasNone : ℤ → ℕ → Type 0) (span left : Span) (turn : ℕ) : Type 0 where
+  pub of : (e : Entry) → LiesIn left e → LiesIn span e
+  pub rest : (e : Entry) → Contains entries e → LiesIn span e → LiesIn left e ⊎ HasNone e.value e.key
+  -- each turn leaves an entry behind
+  pub behind : (k : ℕ) (e : Entry) → k < turn → slice_get entries k ≡ Some e → ¬ LiesIn left e
+
+pub walked-first : (entries : List Entry) (HasNone : ℤ → ℕ → Type 0) (span : Span) → Walked entries HasNone span span 0
+walked-first entries HasNone span = record {
+  of = λ e lies. lies;
+  rest = λ e there lies. inl lies;
+  behind = λ k e lt at lies. omega (arith, lt);
+}
+
+abbrev pub mark_of : Entry → Mark
+mark_of e = record { value = e.value; key = e.key }
+
+-- what is left of a span after this entry's place
+abbrev pub past : Span → Entry → Span
+past left f = record left { last = Some (mark_of f) }
+
+after-then : (e f : Entry) (o : Option Mark) → ComesAfter f o → IsLower f e → ComesAfter e o
+after-then e f None after later = tt
+after-then e f (Some m) (inl lt) (inl lt') = inl (omega (arith, ints, lt, lt'))
+after-then e f (Some m) (inl lt) (inr (same, lt')) = inl (omega (arith, ints, lt, same))
+after-then e f (Some m) (inr (same, lt)) (inl lt') = inl (omega (arith, ints, same, lt'))
+after-then e f (Some m) (inr (same, lt)) (inr (same', lt')) = inr (same ∙ same', omega (arith, lt, lt'))
+
+past-of : (left : Span) (f e : Entry) → LiesIn left f → LiesIn (past left f) e → LiesIn left e
+past-of left f e first lies = record { from = lies.from; to = lies.to; after = after-then e f left.last first.after lies.after }
+
+past-rest : (entries : List Entry) (HasNone : ℤ → ℕ → Type 0) (left : Span) (f e : Entry) → IsLeast entries (LiesIn left) (Some f) → HasNone f.value f.key → Contains entries e → LiesIn left e
+    → LiesIn (past left f) e ⊎ HasNone e.value e.key
+past-rest entries HasNone left f e least none there lies = elim (lower-cases e f) [
+  | inl lower ↦ absurd (least.2 e there lies (lower-precedes e f lower))
+  | inr rest ↦ elim rest [
+    | inl same ↦ inr (rw (same.0, same.1) none)
+    | inr higher ↦ inl (record { from = lies.from; to = lies.to; after = higher })
+  ]
+]
+
+reached : (entries : List Entry) (HasNone : ℤ → ℕ → Type 0) (span left : Span) (turn i : ℕ) (f : Entry) → Walked entries HasNone span left turn → slice_get entries i ≡ Some f → LiesIn left f → turn ≤ i
+reached entries HasNone span left turn i f l at lies = elim (cases_lt i turn) [
+  | inl lt ↦ absurd (l.behind i f lt at lies)
+  | inr le ↦ le
+]
+
+pub walked-next : (entries : List Entry) (HasNone : ℤ → ℕ → Type 0) (span left : Span) (turn : ℕ) (f : Entry) → IsAscending entries → Walked entries HasNone span left turn
+    → IsLeast entries (LiesIn left) (Some f) → HasNone f.value f.key → Walked entries HasNone span (past left f) (turn + 1)
+walked-next entries HasNone span left turn f up l least none = record {
+  of = λ e lies. l.of e (past-of left f e least.1 lies);
+  rest = λ e there lies. ⊎_elim (λ in_left. past-rest entries HasNone left f e least none there in_left) (λ has. inr has) (l.rest e there lies);
+  behind = λ k e lt at lies.
+      let p = place_of entries f least.0 in
+      let le = reached entries HasNone span left turn p.0 f l p.1 least.1 in
+      (start_after entries f p.0 up p.1).before k e (omega (arith, lt, le)) at (lower-precedes f e lies.after);
+}
+
+pub walked-on : (entries : List Entry) (HasNone : ℤ → ℕ → Type 0) (span left : Span) (turn : ℕ) (f : Entry) (mark : Mark) → IsAscending entries → Walked entries HasNone span left turn
+    → IsLeast entries (LiesIn left) (Some f) → mark ≡ mark_of f → HasNone mark.value mark.key → Walked entries HasNone span (record left { last = Some mark }) (turn + 1)
+walked-on entries HasNone span left turn f mark up l least is none =
+    subst (λ (m : Mark). Walked entries HasNone span (record left { last = Some m }) (turn + 1)) (sym is)
+    (walked-next entries HasNone span left turn f up l least (subst (λ (m : Mark). HasNone m.value m.key) is none))
+
+-- The end, of one kind or the other.
+
+pub walked-end : (entries : List Entry) (HasNone : ℤ → ℕ → Type 0) (span left : Span) (turn : ℕ) → Walked entries HasNone span left turn → length entries ≤ turn
+    → (e : Entry) → Contains entries e → LiesIn span e → HasNone e.value e.key
+walked-end entries HasNone span left turn l all e there lies = ⊎_elim
+    (λ in_left.
+    let p = place_of entries e there in
+    let within = slice_get_within entries p.0 e p.1 in
+    absurd (l.behind p.0 e (omega (arith, all, within)) p.1 in_left))
+    (λ has. has)
+    (l.rest e there lies)
+
+pub walked-none : (entries : List Entry) (HasNone : ℤ → ℕ → Type 0) (span left : Span) (turn : ℕ) → Walked entries HasNone span left turn → IsLeast entries (LiesIn left) None
+    → (e : Entry) → Contains entries e → LiesIn span e → HasNone e.value e.key
+walked-none entries HasNone span left turn l least e there lies = ⊎_elim (λ in_left. absurd (least e there in_left)) (λ has. has) (l.rest e there lies)
+
+pub walked-row : (w : Window) (seen : Header → Type 0) (pages : List (List Slot)) (entries : List Entry) (span left : Span) (turn : ℕ) (f : Entry) (mark : Mark) (row : Row)
+    → Walked entries (λ value key. FirstFound w seen pages entries value key None) span left turn → IsLeast entries (LiesIn left) (Some f) → mark ≡ mark_of f
+    → FirstFound w seen pages entries mark.value mark.key (Some row) → IsNextRow w seen pages entries span mark row
+walked-row w seen pages entries span left turn f mark row l least is found = record {
+  entry = f;
+  there = least.0;
+  lies = l.of f least.1;
+  value = ap (λ (m : Mark). m.value) is;
+  key = ap (λ (m : Mark). m.key) is;
+  found = found;
+  none_before = λ e there lies before. ⊎_elim
+      (λ in_left. absurd (least.2 e there in_left (lower-precedes e f (subst (ComesBefore e) is before))))
+      (λ has. has)
+      (l.rest e there lies);
+}

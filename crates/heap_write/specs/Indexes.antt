@@ -1,0 +1,82 @@
+-- The indexes of a table by their numbers: index 0 by key, which is always in use, and index c + 1 by column c. (README.HOT:
+-- there is one entry for a chain, in each index; a version that has another value in one of them is a root of its own.)
+use Rattle.std.specs.Prelude.{◌≡◌, ℕ, zero, suc, ◌<◌, Bool, false, if◌then◌else◌, List, [], Option, Some, None, IsSome, ℤ, option_map, unwrap_or, slice_index_or}
+use Rattle.xid_circle.specs.declared.Tid.{Tid}
+use Rattle.tuple_header.specs.declared.version.Row.{Row}
+use Rattle.root_index.specs.declared.entry.Entry.{Entry}
+use Rattle.root_index.specs.Sets.{Adds}
+use Rattle.root_index.specs.View.{IndexView}
+use Rattle.history.specs.Cursors.{value_in}
+use Rattle.sound_entries.specs.Entries.{entry_for}
+
+-- the index of a number, if it is in use
+abbrev pub index_at : List (Option IndexView) → ℕ → Option IndexView
+index_at indexes n = slice_index_or indexes n None
+
+abbrev pub entries_of : Option IndexView → Option (List Entry)
+entries_of o = option_map (λ (index : IndexView). index.entries) o
+
+-- its entries, if it is in use
+abbrev pub entries_at : List (Option IndexView) → ℕ → Option (List Entry)
+entries_at indexes n = entries_of (index_at indexes n)
+
+-- its entries: none where it is not in use
+abbrev pub entries_in : List (Option IndexView) → ℕ → List Entry
+entries_in indexes n = unwrap_or (entries_at indexes n) []
+
+abbrev pub IsInUse : List (Option IndexView) → ℕ → Type 0
+IsInUse indexes n = IsSome (entries_at indexes n)
+
+-- in a new table no index has an entry, and one by a column is in use where this says so of the column
+abbrev pub new_entries : List Bool → ℕ → Option (List Entry)
+new_entries indexed zero = Some []
+new_entries indexed (suc c) = if slice_index_or indexed c false then Some [] else None
+
+-- What is said of rows.
+
+-- two rows have the same value in each index in use
+abbrev pub SameValues : List (Option IndexView) → Row → Row → Type 0
+SameValues indexes old new = (n : ℕ) → IsInUse indexes n → value_in n new ≡ value_in n old
+
+-- a row without a body: what an index takes of a row is its key and its columns
+abbrev pub without_body : ℕ → List ℤ → Row
+without_body key cols = record { key = key; cols = cols; body = record { items = [] } }
+
+-- the entry of a row's version at a place, in the index of this number
+abbrev pub entry_in : ℕ → Row → Tid → Entry
+entry_in n row place = entry_for (value_in n) row place.page place.slot
+
+-- Changes.
+
+-- the same indexes are in use, and have the same entries
+abbrev pub SameEntries : List (Option IndexView) → List (Option IndexView) → Type 0
+SameEntries indexes indexes' = (n : ℕ) → entries_at indexes' n ≡ entries_at indexes n
+
+-- an index that is in use has this entry besides, and one that isn't is not in use afterwards
+abbrev pub AddsAny : Option (List Entry) → Option (List Entry) → Entry → Type 0
+AddsAny None after entry = after ≡ None
+AddsAny (Some entries) None entry = ⊥
+AddsAny (Some entries) (Some entries') entry = Adds entries entries' entry
+
+-- each index in use has an entry besides, for a row's version at a place
+abbrev pub Enters : List (Option IndexView) → List (Option IndexView) → Row → Tid → Type 0
+Enters indexes indexes' row place = (n : ℕ) → AddsAny (entries_at indexes n) (entries_at indexes' n) (entry_in n row place)
+
+-- Memory.
+
+-- an entry takes no memory
+abbrev pub HasEntry : Option IndexView → Type 0
+HasEntry None = Unit {0}
+HasEntry (Some index) = 0 < index.spare
+
+abbrev pub HasEntries : List (Option IndexView) → Type 0
+HasEntries indexes = (n : ℕ) → HasEntry (index_at indexes n)
+
+-- it does
+abbrev pub LacksEntry : Option IndexView → Type 0
+LacksEntry None = ⊥
+LacksEntry (Some index) = index.spare ≡ 0
+
+-- an entry in one of the indexes in use takes memory
+abbrev pub NeedsEntry : List (Option IndexView) → Type 0
+NeedsEntry indexes = (n : ℕ) × LacksEntry (index_at indexes n)

@@ -1,0 +1,70 @@
+-- What a walk finds that goes on from where a cursor is: along an index, or over a page.
+use Rattle.std.specs.Prelude.{◌≡◌, ◌⊎◌, ℕ, ℤ, ◌<◌, ◌<ℤ◌, ◌≤ℤ◌, List, Option, Some, None, Contains, MatchOption}
+use Rattle.xid_circle.specs.declared.Tid.{Tid}
+use Rattle.tuple_header.specs.Version.{Version}
+use Rattle.tuple_header.specs.declared.version.Header.{Header}
+use Rattle.tuple_header.specs.declared.version.Row.{Row}
+use Rattle.page_slots.specs.declared.slot.Slot.{Slot}
+use Rattle.commit_status.specs.Window.{Window}
+use Rattle.root_index.specs.declared.entry.Entry.{Entry}
+use Rattle.sound_entries.specs.Pages.{version_in}
+use Rattle.sound_entries.specs.Looking.{FirstFound}
+use Rattle.heap_write.specs.declared.walking.Mark.{Mark}
+use Rattle.heap_write.specs.declared.walking.Span.{Span}
+
+-- Along an index, in the order of value and key.
+
+-- the entry comes before this place of the order
+abbrev pub ComesBefore : Entry → Mark → Type 0
+ComesBefore e mark = (e.value <ℤ mark.value) ⊎ ((e.value ≡ mark.value) × (e.key < mark.key))
+
+-- it comes after the place, if there is one
+abbrev pub ComesAfter : Entry → Option Mark → Type 0
+ComesAfter e None = Unit {0}
+ComesAfter e (Some mark) = (mark.value <ℤ e.value) ⊎ ((mark.value ≡ e.value) × (mark.key < e.key))
+
+-- it is not below the span's low value, and comes after its last place
+pub record StartsIn (span : Span) (e : Entry) : Type 0 where
+  pub from : span.low ≤ℤ e.value
+  pub after : ComesAfter e span.last
+
+-- no entry of its value and its key comes after this one
+abbrev pub last_at : Mark → Entry
+last_at mark = record { value = mark.value; key = mark.key; tid = record { page = 4294967295; slot = 65535 } }
+
+pub record LiesIn (span : Span) (e : Entry) : Type 0 where
+  pub from : span.low ≤ℤ e.value
+  pub to : e.value ≤ℤ span.high
+  pub after : ComesAfter e span.last
+
+-- an entry of the span stands at this place, by whose value and key the row is found; before it none is found
+pub record IsNextRow (w : Window) (seen : Header → Type 0) (pages : List (List Slot)) (entries : List Entry) (span : Span) (mark : Mark) (row : Row) : Type 0 where
+  pub entry : Entry
+  pub there : Contains entries entry
+  pub lies : LiesIn span entry
+  pub value : mark.value ≡ entry.value
+  pub key : mark.key ≡ entry.key
+  pub found : FirstFound w seen pages entries mark.value mark.key (Some row)
+  pub none_before : (e : Entry) → Contains entries e → LiesIn span e → ComesBefore e mark → FirstFound w seen pages entries e.value e.key None
+
+-- by the value and key of no entry of the span a row is found
+abbrev pub NoneLeft : Window → (Header → Type 0) → List (List Slot) → List Entry → Span → Type 0
+NoneLeft w seen pages entries span = (e : Entry) → Contains entries e → LiesIn span e → FirstFound w seen pages entries e.value e.key None
+
+abbrev pub NextRow : Window → (Header → Type 0) → List (List Slot) → List Entry → Span → Option (Mark × Row) → Type 0
+NextRow w seen pages entries span answer = MatchOption answer (NoneLeft w seen pages entries span) (λ found. IsNextRow w seen pages entries span found.0 found.1)
+
+-- On a page.
+
+-- the version at the place is seen, and has this row
+pub record IsSeenRow (seen : Header → Type 0) (pages : List (List Slot)) (place : Tid) (row : Row) : Type 0 where
+  pub version : Version
+  pub there : version_in pages place ≡ Some version
+  pub shown : seen version.header
+  pub is_row : row ≡ version.row
+
+abbrev pub NoneSeen : (Header → Type 0) → List (List Slot) → Tid → Type 0
+NoneSeen seen pages place = (t : Version) → version_in pages place ≡ Some t → ¬ seen t.header
+
+abbrev pub SeenRow : (Header → Type 0) → List (List Slot) → Tid → Option Row → Type 0
+SeenRow seen pages place answer = MatchOption answer (NoneSeen seen pages place) (IsSeenRow seen pages place)

@@ -1,0 +1,180 @@
+//! The indexes of a table: one by key, and one by each column for which it has one.
+
+ghost use Rattle.std.specs.Prelude.{◌≡◌, ℕ, ◌↔◌, ◌<◌, [], Some, None, IsFalse, IsTrue, OnOk, OnErr, if◌then◌else◌, option_copied, FitsSigned};
+ghost use Rattle.std.specs.Int.{w128};
+ghost use Rattle.root_index.specs.Sets.{Adds};
+ghost use Rattle.history.specs.Cursors.{value_in};
+ghost use Rattle.heap_write.specs.Indexes.{index_at, entries_of, entries_at, entries_in, new_entries, without_body, SameValues, SameEntries, AddsAny, Enters, HasEntry, HasEntries, LacksEntry, NeedsEntry};
+
+use root_index::{Entry, RootIndex};
+use std::alloc::{AllocError, Global};
+use std::marker::Model;
+use tuple_header::Row;
+use xid_circle::Tid;
+
+/// How many columns may have an index.
+const COLUMNS: usize = 4;
+
+/// The index by key, and that by each column for which there is one.
+#[derive(Debug, Drop)]
+pub(crate) struct Indexes {
+    by_key: RootIndex,
+    by_column: [Option<RootIndex>; 4],
+}
+
+impl Model for Indexes {
+    ghost use Rattle.std.specs.Prelude.{◌≡◌, List, Option, Some, ◌∷◌, length};
+    ghost use Rattle.root_index.specs.View.{IndexView};
+
+    ghost Value = { List (Option IndexView) };
+
+    ghost view = { λ x. Some x.by_key ∷ x.by_column };
+
+    ghost invariant = { λ x. length x.by_column ≡ 4 };
+}
+
+impl Indexes {
+    /// Indexes without entries: one by key, and one by each column of which this says so.
+    pub(crate) fn new(alloc: Global, indexed: [bool; 4]) -> Self
+        ensures { (n : ℕ) → entries_at result n ≡ new_entries indexed n }
+    {
+        Indexes {
+            by_key: RootIndex::new(alloc),
+            by_column: [
+                index_if(alloc, indexed[0]),
+                index_if(alloc, indexed[1]),
+                index_if(alloc, indexed[2]),
+                index_if(alloc, indexed[3]),
+            ],
+        }
+    }
+
+    /// The index by key.
+    pub(crate) fn by_key(&self) -> &RootIndex
+        ensures index { index_at self.now 0 ≡ Some result.now }
+        ensures entries { result.now.entries ≡ entries_in self.now 0 }
+    {
+        &self.by_key
+    }
+
+    /// The index of this number, if it is in use: 0 is that by key, and c + 1 that by column c.
+    pub(crate) fn get(&self, number: u8) -> Option<&RootIndex>
+        ensures { option_copied result ≡ index_at self.now number }
+    {
+        if number == 0 {
+            return Some(&self.by_key);
+        }
+        match self.by_column.get(number as usize - 1) {
+            Some(index) => index.as_ref(),
+            None => None,
+        }
+    }
+
+    /// Whether two rows have the same value in each index in use.
+    pub(crate) fn same_values(&self, old: &Row, new: &Row) -> bool
+        ensures { IsTrue result ↔ SameValues self.now old.now new.now }
+    {
+        for c in 0..COLUMNS {
+            if self.by_column[c].is_some() && old.cols[c] != new.cols[c] {
+                return false;
+            }
+        }
+        old.key == new.key
+    }
+
+    /// Makes room in memory for one more entry in each index in use.
+    pub(crate) fn make_room(&mut self) -> Result<(), AllocError>
+        ensures room { OnOk result (HasEntries self.new) }
+        ensures refused { OnErr result (NeedsEntry self.old) }
+        ensures same { SameEntries self.old self.new }
+    {
+        self.by_key.make_room(1)?;
+        for c in 0..COLUMNS {
+            reserve_entry(&mut self.by_column[c])?;
+        }
+        Ok(())
+    }
+
+    /// Makes that room for an update, which makes no entry if it is heap-only.
+    pub(crate) fn make_room_for(&mut self, heap_only: bool) -> Result<(), AllocError>
+        ensures room { OnOk result (IsFalse heap_only → HasEntries self.new) }
+        ensures refused { OnErr result (IsFalse heap_only × NeedsEntry self.old) }
+        ensures same { SameEntries self.old self.new }
+    {
+        if heap_only {
+            return Ok(());
+        }
+        self.make_room()
+    }
+
+    /// Adds an entry to each index in use, for a version at a place of a row with this key and these columns. It takes no
+    /// memory.
+    pub(crate) fn enter(&mut self, key: u64, cols: &[i64; 4], place: Tid)
+        requires { HasEntries self.old }
+        ensures { Enters self.old self.new (without_body key cols.now) place }
+    {
+        add_entry(&mut self.by_key, value_in(0, key, cols), key, place);
+        for c in 0..COLUMNS {
+            let value = value_in(c + 1, key, cols);
+            enter_in(&mut self.by_column[c], value, key, place);
+        }
+    }
+}
+
+/// The value in the index of this number of a row with this key and these columns.
+fn value_in(number: usize, key: u64, cols: &[i64; 4]) -> i128
+    ensures value { result ≡ value_in number (without_body key cols.now) }
+    ensures fits { FitsSigned w128 result }
+{
+    if number == 0 {
+        return key as i128;
+    }
+    match cols.get(number - 1) {
+        Some(value) => *value as i128,
+        None => 0,
+    }
+}
+
+/// An index without entries, if one is asked for.
+fn index_if(alloc: Global, wanted: bool) -> Option<RootIndex>
+    ensures { entries_of result ≡ (if wanted then Some [] else None) }
+{
+    if wanted {
+        Some(RootIndex::new(alloc))
+    } else {
+        None
+    }
+}
+
+/// Makes room in memory for one more entry in an index, if it is in use.
+fn reserve_entry(index: &mut Option<RootIndex>) -> Result<(), AllocError>
+    ensures room { OnOk result (HasEntry index.new) }
+    ensures refused { OnErr result (LacksEntry index.old) }
+    ensures same { entries_of index.new ≡ entries_of index.old }
+{
+    match index {
+        Some(index) => index.make_room(1),
+        None => Ok(()),
+    }
+}
+
+/// Adds an entry to an index, if it is in use. There is memory for it.
+fn enter_in(index: &mut Option<RootIndex>, value: i128, key: u64, tid: Tid)
+    requires { HasEntry index.old }
+    ensures { AddsAny (entries_of index.old) (entries_of index.new) (record { value = value; key = key; tid = tid }) }
+{
+    if let Some(index) = index {
+        add_entry(index, value, key, tid);
+    }
+}
+
+/// Adds an entry to an index, which has memory for it.
+fn add_entry(index: &mut RootIndex, value: i128, key: u64, tid: Tid)
+    requires { 0 < index.old.spare }
+    ensures { Adds index.old.entries index.new.entries (record { value = value; key = key; tid = tid }) }
+{
+    match index.insert(Entry { value, key, tid }) {
+        Ok(()) => {}
+        Err(_) => unreachable!(),
+    }
+}

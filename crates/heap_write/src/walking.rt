@@ -1,0 +1,198 @@
+//! How cursors go on: along an index from place to place, and over a page from slot to slot. Nothing here takes memory.
+
+ghost use Rattle.std.specs.Prelude.{◌≡◌, ◌↔◌, ◌≤◌, ◌≤ℤ◌, length, Some, IsTrue, FitsSigned};
+ghost use Rattle.std.specs.Int.{w128};
+ghost use Rattle.root_index.specs.Sets.{IsLeast, IsBelow};
+ghost use Rattle.visibility.specs.Visible.{IsVisible};
+ghost use Rattle.sound_entries.specs.Looking.{slots_of as slots_in};
+ghost use Rattle.heap_write.specs.Heap.{slots_of};
+ghost use Rattle.heap_write.specs.Indexes.{entries_in};
+ghost use Rattle.heap_write.specs.Walking.{ComesAfter, last_at, StartsIn, LiesIn, NextRow, SeenRow};
+
+use crate::heap::HeapState;
+use commit_status::StatusTable;
+use heap_pages::Pages;
+use root_index::{Entry, RootIndex};
+use snapshot::{OwnIds, Snapshot};
+use sound_entries::row_of;
+use tuple_header::Row;
+use visibility::visible_header;
+use xid_circle::Tid;
+
+/// A place in the order of an index: that of a row with this value and key.
+#[derive(Clone, Copy, Debug, PartialEq, Eq)]
+pub struct Mark {
+    pub value: i128,
+    pub key: u64,
+}
+
+/// Part of an index: what lies between two values, both included, and after a place of its order, if one is given.
+#[derive(Clone, Copy, Debug, PartialEq, Eq)]
+pub struct Span {
+    /// The index's number: 0 is that by key, and c + 1 that by column c.
+    pub index: u8,
+    pub low: i128,
+    pub high: i128,
+    pub last: Option<Mark>,
+}
+
+impl HeapState {
+    /// The first place of the span, in the order of the index, where the reader sees a row, and that row. An index that is
+    /// not in use has none.
+    pub fn next_row(&self, span: &Span, snapshot: &Snapshot, own: &OwnIds) -> Option<(Mark, Row)>
+        ensures { NextRow self.now.table (IsVisible self.now.table snapshot.now own.now.ids) (slots_of self.now) (entries_in self.now.indexes span.now.index) span.now result }
+    {
+        match self.indexes.get(span.index) {
+            Some(index) => next_row_in(&self.pages, index, span, snapshot, own, &self.table),
+            None => None,
+        }
+    }
+
+    /// The row of the version at a place, if the reader sees it.
+    pub fn seen_row(&self, place: Tid, snapshot: &Snapshot, own: &OwnIds) -> Option<Row>
+        ensures { SeenRow (IsVisible self.now.table snapshot.now own.now.ids) (slots_of self.now) place result }
+    {
+        let page = match self.pages.page(place.page) {
+            Some(page) => page,
+            None => return None,
+        };
+        // the row of a version that is not seen is not copied
+        match page.header(place.slot) {
+            Some(header) if visible_header(&header, snapshot, own, &self.table) => page.row(
+                place.slot,
+            ),
+            _ => None,
+        }
+    }
+
+    /// How many pages are in use, at most 65536.
+    pub fn page_count(&self) -> u32
+        ensures count { result ≡ length self.now.pages.pages }
+        ensures limit { result ≤ 65536 }
+    {
+        self.pages.len()
+    }
+}
+
+impl Span {
+    fn low(&self) -> i128
+        ensures value { result ≡ self.now.low }
+        ensures fits { FitsSigned w128 result }
+    {
+        self.low
+    }
+
+    /// Whether this place of the order is not below the low value.
+    fn begins_by(&self, mark: &Mark) -> bool
+        ensures { IsTrue result ↔ (self.now.low ≤ℤ mark.now.value) }
+    {
+        self.low <= mark.value
+    }
+
+    /// Whether the entry's value is not above the high value.
+    fn reaches(&self, entry: &Entry) -> bool
+        ensures { IsTrue result ↔ (entry.now.value ≤ℤ self.now.high) }
+    {
+        entry.value <= self.high
+    }
+}
+
+/// That the numbers of an entry's place are in range. It does nothing; its contract is the fact.
+fn has_place(entry: &Entry)
+    ensures page { entry.now.tid.page ≤ 4294967295 }
+    ensures slot { entry.now.tid.slot ≤ 65535 }
+{
+    let _page = entry.tid.page;
+    let _slot = entry.tid.slot;
+}
+
+/// The last entry that there can be at a place of the order.
+fn last_at(mark: &Mark) -> Entry
+    ensures { result ≡ last_at mark.now }
+{
+    Entry {
+        value: mark.value,
+        key: mark.key,
+        tid: Tid {
+            page: u32::MAX,
+            slot: u16::MAX,
+        },
+    }
+}
+
+/// The first entry that comes after a place of the order.
+fn after_mark(index: &RootIndex, mark: &Mark) -> Option<Entry>
+    ensures { IsLeast index.now.entries (λ e. ComesAfter e (Some mark.now)) result }
+{
+    let entry = index.next_after(Some(last_at(mark)))?;
+    has_place(&entry);
+    Some(entry)
+}
+
+/// The first entry that is not below the span's low value.
+fn from_low(index: &RootIndex, span: &Span) -> Option<Entry>
+    ensures { IsLeast index.now.entries (λ e. ¬ IsBelow span.now.low 0 e) result }
+{
+    index.first_from(span.low(), 0)
+}
+
+/// The first entry that is not below the span's low value, and comes after its last place.
+fn entry_from(index: &RootIndex, span: &Span) -> Option<Entry>
+    ensures { IsLeast index.now.entries (StartsIn span.now) result }
+{
+    match &span.last {
+        Some(last) if span.begins_by(last) => after_mark(index, last),
+        _ => from_low(index, span),
+    }
+}
+
+/// The first entry of the span.
+fn entry_in(index: &RootIndex, span: &Span) -> Option<Entry>
+    ensures { IsLeast index.now.entries (LiesIn span.now) result }
+{
+    match entry_from(index, span) {
+        Some(entry) if span.reaches(&entry) => Some(entry),
+        _ => None,
+    }
+}
+
+/// The place of an entry in the order of its index.
+fn mark_of(entry: &Entry) -> Mark
+    ensures mark { result ≡ record { value = entry.now.value; key = entry.now.key } }
+    ensures fits { FitsSigned w128 result.value }
+{
+    Mark {
+        value: entry.value,
+        key: entry.key,
+    }
+}
+
+/// The first place of the span, in the order of this index, where the reader sees a row, and that row.
+fn next_row_in(
+    pages: &Pages,
+    index: &RootIndex,
+    span: &Span,
+    snapshot: &Snapshot,
+    own: &OwnIds,
+    table: &StatusTable,
+) -> Option<(Mark, Row)>
+    ensures { NextRow table.now (IsVisible table.now snapshot.now own.now.ids) (slots_in pages.now) index.now.entries span.now result }
+{
+    index.is_ascending();
+    let mut left = *span;
+    for _ in 0..index.len() {
+        match entry_in(index, &left) {
+            None => return None,
+            Some(entry) => {
+                let mark = mark_of(&entry);
+                if let Some(row) = row_of(
+                    pages, index, mark.value, mark.key, snapshot, own, table,
+                ) {
+                    return Some((mark, row));
+                }
+                left.last = Some(mark);
+            }
+        }
+    }
+    None
+}
