@@ -20,6 +20,7 @@ leaf_at leaves i = slice_index_or leaves i []
 abbrev pub rank : List (List Entry) → Place → ℕ
 rank leaves place = length (joined (take place.leaf leaves)) + place.entry
 
+-- no leaf is empty
 abbrev pub IsFilled : List (List Entry) → Type 0
 IsFilled leaves = (i : ℕ) → i < length leaves → 0 < length (leaf_at leaves i)
 

@@ -64,6 +64,8 @@ impl RootIndex {
     }
 
     /// Makes room in memory for `count` more entries, so that the next `count` of them are inserted without asking for any.
+    /// Each may split a leaf, so this keeps as many spare leaves, of 4 KiB. It is also refused where the number of entries
+    /// would be above 2^64 - 1.
     pub fn make_room(&mut self, count: usize) -> Result<(), AllocError>
         ensures room { OnOk result (count ≤ self.new.spare) }
         ensures refused { OnErr result (self.old.spare < count) }
@@ -92,6 +94,7 @@ impl RootIndex {
             Ok(_) => return Ok(()),
             Err(place) => place,
         };
+        // one more could not be counted
         if self.count == u64::MAX {
             return Err(AllocError);
         }

@@ -89,6 +89,7 @@ impl Leaf {
         requires room { length self.old < 128 }
         ensures { self.new ≡ insert self.old place entry }
     {
+        // never refused, since there is room
         let _done = self.entries.insert(place, entry);
     }
 
@@ -117,6 +118,7 @@ fn refill(entries: &mut Vec<Entry>, with: &[Entry])
     ensures capacity { vec_capacity entries.old ≤ vec_capacity entries.new }
 {
     entries.clear();
+    // never refused, since there is room
     let _done = entries.extend_from_slice(with);
 }
 

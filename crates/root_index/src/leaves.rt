@@ -134,6 +134,7 @@ fn put_leaf(leaves: &mut Vec<Leaf>, number: usize, leaf: Leaf)
     ensures count { vec_len leaves.new ≡ vec_len leaves.old + 1 }
     ensures capacity { vec_capacity leaves.old ≤ vec_capacity leaves.new }
 {
+    // never refused, since there is room
     let _done = leaves.insert(number, leaf);
 }
 
@@ -158,7 +159,8 @@ fn split(leaves: &mut Vec<Leaf>, mut upper: Leaf, place: Place) -> Place
     }
 }
 
-/// Makes room for an entry at this place, and says where the place is then. Only a full leaf takes memory, or the first one.
+/// Makes room for an entry at this place, and says where the place is then. It takes memory only where there is no leaf yet or
+/// the leaf is full.
 fn open(leaves: &mut Vec<Leaf>, spare: &mut Vec<Leaf>, place: Place) -> Result<Place, AllocError>
     requires filled { IsFilled leaves.old.items }
     requires in_range { IsPlaceIn leaves.old.items place }
