@@ -1,2 +1,3 @@
+pub mod FreeLemmas
 pub mod Kept
 pub mod SlotLemmas

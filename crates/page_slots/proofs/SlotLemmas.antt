@@ -72,7 +72,7 @@ normal_at slots n normal =
 pub there-from_normal : (slots : List Slot) (n : ℕ) → IsNormalAt slots n → IsThere slots n
 there-from_normal slots n normal = let t = normal_at slots n normal in there-from_slot_at slots n (Normal t.0) t.1
 
-same_or_other : (m n : ℕ) → (m ≡ n) ⊎ (m ≢ n)
+pub same_or_other : (m n : ℕ) → (m ≡ n) ⊎ (m ≢ n)
 same_or_other m n = ⊎_elim (λ e. inl (eqb-true m n e)) (λ e. inr (λ same. true≢false (sym (eq-eqb m n same) ∙ e))) (cases_Bool (m == n))
 
 unused_is : (s : Slot) → is_unused s ≡ true → s ≡ Unused
@@ -152,8 +152,9 @@ row_at-with_header_at slots n m h normal =
 reused_place : (slots : List Slot) → (position_or_len is_unused slots + 1) - 1 ≡ position_or_len is_unused slots
 reused_place slots = omega arith
 
-free-le : (slots : List Slot) → position_or_len is_unused slots ≤ length slots
-free-le slots = prefix_len-le-length (λ s. not (is_unused s)) slots
+-- the first unused slot is one of the slots, or there is none
+pub first_within : (slots : List Slot) → position_or_len is_unused slots ≤ length slots
+first_within slots = prefix_len-le-length (λ s. not (is_unused s)) slots
 
 -- where a slot is unused, the lowest one is the free one
 pub free_number-unused : (slots : List Slot) → has_unused slots ≡ true → slot_at slots (free_number slots) ≡ Some Unused
@@ -166,7 +167,7 @@ free_number-unused slots some =
 -- and else it is the next after the last
 pub free_number-new : (slots : List Slot) → has_unused slots ≡ false → free_number slots ≡ length slots + 1
 free_number-new slots none =
-    let least = free-le slots in
+    let least = first_within slots in
     let most = ltb-false (position_or_len is_unused slots) (length slots) none in
     omega arith
 

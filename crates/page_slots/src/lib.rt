@@ -5,9 +5,10 @@
 //! change number, the all-visible flag, and how many slots can be added without memory. It promises that a call changes
 //! nothing but what it names, that [`Page::add`] takes the lowest unused slot and is full exactly where the version is
 //! larger than the room, and that each slot that is afterwards not the same otherwise than in hints raises the change
-//! number by one, modulo 2^64. What stands at a number, the room and the change number are defined in `specs/Slots.antt`,
-//! hints in `specs/Hints.antt`; `proofs/SlotLemmas.antt` says, for the crates above, what each change does to the map from
-//! numbers to slots.
+//! number by one, modulo 2^64. A page knows its first unused slot and how many bytes its versions take, so [`Page::room`]
+//! and [`Page::free_number`] go through no slots. What stands at a number, the room and the change number are defined in
+//! `specs/Slots.antt`, hints in `specs/Hints.antt`; `proofs/SlotLemmas.antt` says, for the crates above, what each change
+//! does to the map from numbers to slots.
 #![tactic(auto)]
 
 mod hints;

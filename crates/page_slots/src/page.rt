@@ -1,12 +1,12 @@
 //! Pages.
 
-ghost use Rattle.std.specs.Prelude.{◌≡◌, ◌≤◌, ◌<◌, ◌+◌, ◌%◌, ◌^◌, ℕ, ◌*◌, IsTrue, [], true, false, length, sum_by, OnOk, OnErr, IfOk, IfSome, IsSome, ◌↔◌, None, if◌then◌else◌, option_copied};
+ghost use Rattle.std.specs.Prelude.{◌≡◌, ◌≤◌, ◌<◌, ◌+◌, ◌%◌, ◌^◌, ℕ, IsTrue, [], true, false, length, OnOk, OnErr, IfOk, IfSome, IsSome, ◌↔◌, None, if◌then◌else◌, option_copied};
 ghost use Rattle.tuple_header.specs.Version.{rounded_size_of};
 ghost use Rattle.tuple_header.specs.Faults.{header_fault};
 ghost use Rattle.page_slots.specs.Slots.{is_unused, is_dead, leads_to, slot_at, header_at, row_at, key_at, IsThere, IsNormalAt, the_slot, with_slot, with_header_at, has_unused, free_number, with_added, taken, room_of, next_change, change_unless, differs_in_hints_alone};
 
 use crate::hints::differ_in_hints_alone;
-use crate::slot::{Slot, first_unused, taken_by_all};
+use crate::slot::{Slot, first_unused_from, taken_by};
 use std::alloc::{AllocError, Global};
 use std::marker::Model;
 use thiserror::Error;
@@ -27,6 +27,10 @@ pub enum AddFault {
 #[derive(Debug, Drop)]
 pub struct Page {
     slots: Vec<Slot>,
+    // The index of the first unused slot, or how many slots there are.
+    free: usize,
+    // How many bytes the versions take.
+    taken_bytes: usize,
     change: u64,
     flag: bool,
 }
@@ -37,11 +41,14 @@ impl Model for Page {
 
     ghost Value = { PageView };
 
-    ghost use Rattle.page_slots.specs.Slots.{taken};
+    ghost use Rattle.std.specs.Prelude.{◌≡◌};
+    ghost use Rattle.std.specs.List.{position_or_len};
+    ghost use Rattle.page_slots.specs.Slots.{is_unused, taken};
 
     ghost view = { λ p. record { slots = p.slots.items; change = p.change; flag = p.flag; spare = vec_capacity p.slots - vec_len p.slots } };
 
-    ghost invariant = { λ p. (length p.slots.items ≤ 291) × (4 * length p.slots.items + sum_by taken p.slots.items ≤ 8168) };
+    ghost invariant = { λ p. (length p.slots.items ≤ 291) × (4 * length p.slots.items + sum_by taken p.slots.items ≤ 8168)
+        × (p.free ≡ position_or_len is_unused p.slots.items) × (p.taken_bytes ≡ sum_by taken p.slots.items) };
 }
 
 impl Page {
@@ -53,6 +60,8 @@ impl Page {
     {
         Page {
             slots: Vec::new(alloc),
+            free: 0,
+            taken_bytes: 0,
             change: 0,
             flag: false,
         }
@@ -135,21 +144,31 @@ impl Page {
 
     /// The number that the next version added gets: of the lowest unused slot, or else of a new last one. It is 292 where
     /// there is no place.
+    #[tactic(auto, using(crate::proofs::SlotLemmas::first_within))]
     pub fn free_number(&self) -> u16
         ensures value { result ≡ free_number self.now.slots }
         ensures limit { result ≤ 292 }
     {
-        first_unused(&self.slots) as u16 + 1
+        self.free as u16 + 1
     }
 
     /// The largest size of a version that fits, in bytes, as if versions were moved together: of 8168 bytes what neither
     /// versions nor pointers of 4 bytes take, less 4 for a new slot where none is unused.
+    #[tactic(auto, using(crate::proofs::SlotLemmas::first_within))]
     pub fn room(&self) -> usize
         ensures value { result ≡ room_of self.now.slots }
         ensures limit { result ≤ 8164 }
         ensures place { 0 < result → free_number self.now.slots ≤ 291 }
     {
-        room_in(&self.slots)
+        let count = self.slots.len();
+        let free_bytes = 8168 - (4 * count + self.taken_bytes);
+        if self.free < count {
+            free_bytes
+        } else if count < 291 {
+            free_bytes.saturating_sub(4)
+        } else {
+            0
+        }
     }
 }
 
@@ -158,23 +177,6 @@ fn raise(change: &mut u64)
     ensures { change.new ≡ next_change change.old }
 {
     *change = change.wrapping_add(1);
-}
-
-fn room_in(slots: &[Slot]) -> usize
-    requires few { length slots.now ≤ 291 }
-    requires fit { 4 * length slots.now + sum_by taken slots.now ≤ 8168 }
-    ensures value { result ≡ room_of slots.now }
-    ensures limit { result ≤ 8164 }
-    ensures place { 0 < result → free_number slots.now ≤ 291 }
-{
-    let free = 8168 - (4 * slots.len() + taken_by_all(slots));
-    if first_unused(slots) < slots.len() {
-        free
-    } else if slots.len() < 291 {
-        free.saturating_sub(4)
-    } else {
-        0
-    }
 }
 
 impl Page {
@@ -195,10 +197,11 @@ impl Page {
         ensures err_change { OnErr result (self.new.change ≡ self.old.change) }
         ensures err_spare { OnErr result (self.old.spare ≤ self.new.spare) }
     {
-        if size(&version) > self.room() {
+        let bytes = size(&version);
+        if bytes > self.room() {
             return Err(AddFault::Full);
         }
-        let index = first_unused(&self.slots);
+        let index = self.free;
         if index < self.slots.len() {
             self.slots[index] = Slot::Normal(version);
         } else {
@@ -206,6 +209,8 @@ impl Page {
                 .push(Slot::Normal(version))
                 .map_err(|_| AddFault::NoMemory)?;
         }
+        self.free = first_unused_from(&self.slots, index + 1);
+        self.taken_bytes += bytes;
         raise(&mut self.change);
         Ok(index as u16 + 1)
     }
@@ -288,7 +293,15 @@ impl Page {
           change = change_unless same self.old.change;
         } }
     {
-        self.slots[usize::from(number) - 1] = slot;
+        let index = usize::from(number) - 1;
+        let from = if slot.is_unused() {
+            self.free.min(index)
+        } else {
+            self.free
+        };
+        self.taken_bytes -= taken_by(&self.slots[index]);
+        self.slots[index] = slot;
+        self.free = first_unused_from(&self.slots, from);
         if !same {
             raise(&mut self.change);
         }

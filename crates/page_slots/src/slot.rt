@@ -1,6 +1,6 @@
 //! The slots of a page.
 
-ghost use Rattle.std.specs.Prelude.{◌≡◌, ◌≤◌, ◌<◌, ◌↔◌, IsTrue, IsSome, IfSome, None, length, sum_by};
+ghost use Rattle.std.specs.Prelude.{◌≡◌, ◌≤◌, ◌↔◌, IsTrue, IsSome, IfSome, None, length};
 ghost use Rattle.std.specs.List.{position_or_len};
 ghost use Rattle.std.specs.Option.{option_map};
 ghost use Rattle.tuple_header.specs.Faults.{header_fault};
@@ -100,29 +100,16 @@ pub(crate) fn taken_by(slot: &Slot) -> usize
     }
 }
 
-/// The index of the first unused slot, or the number of slots.
-#[tactic(auto, using(std::proofs::lemmas::List::Sums::position_or_len_is))]
-pub(crate) fn first_unused(slots: &[Slot]) -> usize
-    requires { length slots.now < 1000 }
+/// The index of the first unused slot, or the number of slots, where none below `from` is unused.
+pub(crate) fn first_unused_from(slots: &[Slot], from: usize) -> usize
+    requires { from ≤ position_or_len is_unused slots.now }
     ensures index { result ≡ position_or_len is_unused slots.now }
     ensures bound { result ≤ length slots.now }
 {
-    for (i, slot) in slots.iter().enumerate() {
-        if slot.is_unused() {
-            return i;
+    for index in from..slots.len() {
+        if slots[index].is_unused() {
+            return index;
         }
     }
     slots.len()
-}
-
-/// How many bytes the versions take.
-pub(crate) fn taken_by_all(slots: &[Slot]) -> usize
-    requires { sum_by taken slots.now ≤ 8168 }
-    ensures { result ≡ sum_by taken slots.now }
-{
-    let mut sum = 0;
-    for slot in slots {
-        sum += taken_by(slot);
-    }
-    sum
 }

@@ -1,10 +1,10 @@
-use Rattle.std.proofs.Common.{◌≡◌, ◌∙◌, ◌-◌, ◌<◌, ap, sym, get_or, length, rules, arith, subst, refl, true, false}
+use Rattle.std.proofs.Common.{◌≡◌, ◌∙◌, ◌-◌, ◌<◌, ap, sym, get_or, length, arith, subst, refl, true, false}
 use Rattle.tuple_header.specs.Version.{Version, rounded_size_of}
 use Rattle.page_slots.specs.View.{PageView}
 use Rattle.page_slots.specs.Hints.{same_but_hints}
 use Rattle.page_slots.specs.Slots.{IsNormalAt}
 use Rattle.page_slots.specs.declared.slot.Slot.TheVariants.{Unused, Normal}
-use Rattle.page_slots.proofs.Kept.{fits_as_before, any_default, the_slot-read, header_written}
+use Rattle.page_slots.proofs.Kept.{kept_as_before, any_default, the_slot-read, header_written}
 use Rattle.page_slots.proofs.SlotLemmas.{there-from_normal}
 use Rattle.page_slots.proofs.page.Page.set_header.Goals as goal
 
@@ -17,8 +17,20 @@ invariant_of-self c =
     let within : c.from-index.result - 1 < length slots = omega (arith, there.0, there.1) in
     let is : get_or slots (c.from-index.result - 1) Unused ≡ Normal c.in-Normal.version =
     any_default slots (c.from-index.result - 1) c.index_mut.result.now Unused within c.index_mut.ensures.value ∙ c.in-Normal.is in
-    fits_as_before slots (c.from-index.result - 1) (Normal c.in-Normal.version) _ (search rules)
-    is (ap (λ (v : Version). rounded_size_of v.row) c.version.view_is) c.self.invariant
+    kept_as_before slots c.self.inside.free c.self.inside.taken_bytes (c.from-index.result - 1) (Normal c.in-Normal.version) _ within
+    is (ap (λ (v : Version). rounded_size_of v.row) c.version.view_is) refl c.self.invariant
+
+pub invariant_of-self-else-not-hints_alone : goal.invariant_of-self-else-not-hints_alone
+invariant_of-self-else-not-hints_alone c =
+    let P : PageView → Type 0 = λ p. IsNormalAt p.slots c.args.number in
+    let slots = c.self.inside.slots.items in
+    let there = there-from_normal slots c.args.number (subst P (sym c.self.view_is) c.requires.normal) in
+    let index : c.from-index.result ≡ c.args.number = c.from-index.ensures in
+    let within : c.from-index.result - 1 < length slots = omega (arith, there.0, there.1) in
+    let is : get_or slots (c.from-index.result - 1) Unused ≡ Normal c.in-Normal.version =
+    any_default slots (c.from-index.result - 1) c.index_mut.result.now Unused within c.index_mut.ensures.value ∙ c.in-Normal.is in
+    kept_as_before slots c.self.inside.free c.self.inside.taken_bytes (c.from-index.result - 1) (Normal c.in-Normal.version) _ within
+    is (ap (λ (v : Version). rounded_size_of v.row) c.version.view_is) refl c.self.invariant
 
 pub returns-then-not-hints_alone-clause-slots : goal.returns-then-not-hints_alone-clause-slots
 returns-then-not-hints_alone-clause-slots c =
