@@ -1,6 +1,7 @@
 //! Entries and their order.
 
 ghost use Rattle.std.specs.Prelude.{◌≡◌};
+ghost use Rattle.std.specs.Ordering.{nat_cmp, ordering_then};
 ghost use Rattle.root_index.specs.Order.{comparison, MembersDetermine};
 
 use std::cmp::Ordering;
@@ -20,11 +21,21 @@ pub struct Entry {
 pub(crate) fn compare(a: &Entry, b: &Entry) -> Ordering
     ensures { result ≡ comparison a.now b.now }
 {
-    a.value
-        .cmp(&b.value)
-        .then(a.key.cmp(&b.key))
-        .then(a.tid.page.cmp(&b.tid.page))
-        .then(a.tid.slot.cmp(&b.tid.slot))
+    // most are told apart by their values, and then nothing else is looked at
+    if a.value != b.value {
+        return a.value.cmp(&b.value);
+    }
+    if a.key != b.key {
+        return a.key.cmp(&b.key);
+    }
+    compare_places(&a.tid, &b.tid)
+}
+
+/// How two places compare: by page, then slot.
+fn compare_places(a: &Tid, b: &Tid) -> Ordering
+    ensures { result ≡ ordering_then (nat_cmp a.now.page b.now.page) (nat_cmp a.now.slot b.now.slot) }
+{
+    a.page.cmp(&b.page).then(a.slot.cmp(&b.slot))
 }
 
 /// The law of ordered sets: two ascending lists with the same entries are the same list. It does nothing; its contract is
