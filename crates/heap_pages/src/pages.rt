@@ -82,8 +82,7 @@ impl Pages {
         self.pages.get(number as usize)
     }
 
-    /// The page of this number, which is in use, to be changed. Where another page was lent before, that one's slots are gone
-    /// through once, for its byte.
+    /// The page of this number, which is in use, to be changed. Where another page was lent before, that one is given its byte.
     pub fn page_mut(&mut self, number: u32) -> &mut Page
         requires { number < length self.old.pages }
         ensures* writes_back { sem 𝓛 (LendsPage self.entry number result) }
@@ -123,15 +122,15 @@ impl Pages {
 
     /// The first page whose free-space byte promises room for a version of this size, if there is one; else a new page is
     /// needed, or a page whose exact room is enough. It takes at most 256 looks at the map's groups and 256 in each group that
-    /// has such a byte, and goes through the slots of the page found and of the page lent last.
+    /// has such a byte, and looks at the page found and the page lent last.
     pub fn page_for(&self, size: usize) -> Option<u32>
         ensures { IsFirst self.now.pages (Promises size) result }
     {
         first_promising(&self.pages, &self.map, size)
     }
 
-    /// The first page in which a version of this size fits, if there is one. It goes through the slots of each page before it
-    /// whose byte leaves open whether it fits.
+    /// The first page in which a version of this size fits, if there is one. It looks at each page before it whose byte
+    /// leaves open whether it fits.
     pub fn page_with_room(&self, size: usize) -> Option<u32>
         ensures { IsFirst self.now.pages (HasRoom size) result }
     {
