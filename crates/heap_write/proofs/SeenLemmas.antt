@@ -1,5 +1,5 @@
 -- The version at a place, and whether it is seen.
-use Rattle.std.proofs.Common.{◌≡◌, ℕ, List, [], map, Option, Some, None, refl, sym, ap, subst, ◌∙◌, slice_get}
+use Rattle.std.proofs.Common.{◌≡◌, List, map, Option, Some, None, refl, sym, ap, subst, ◌∙◌, slice_get}
 use Rattle.std.specs.Option.{option_map}
 use Rattle.std.proofs.lemmas.Option.{same_Some}
 use Rattle.xid_circle.specs.declared.Tid.{Tid}

@@ -1,6 +1,6 @@
 -- Which entries lie in a span, and which of them comes first.
-use Rattle.std.proofs.Common.{◌≡◌, ◌↔◌, ◌⊎◌, inl, inr, ℕ, ◌<◌, ◌≤◌, ℤ, ◌<ℤ◌, ◌≤ℤ◌, List, Option, Some, None, refl, sym, subst, ◌∙◌, arith, Contains}
-use Rattle.std.specs.Ordering.{nat_cmp, int_cmp, ordering_then}
+use Rattle.std.proofs.Common.{◌≡◌, ◌↔◌, ◌⊎◌, inl, inr, ℕ, ◌<◌, ℤ, ◌<ℤ◌, ◌≤ℤ◌, List, Option, Some, None, refl, sym, subst, ◌∙◌, arith}
+use Rattle.std.specs.Ordering.{nat_cmp, int_cmp}
 use Rattle.std.specs.Cmp.{int_cmp_is, nat_cmp_is}
 use Rattle.std.specs.declared.cmp.Ordering.{Ordering}
 use Rattle.std.specs.declared.cmp.Ordering.TheVariants.{Less, Equal, Greater}
@@ -8,10 +8,11 @@ use Rattle.std.proofs.lemmas.Cmp.{ranked, int_ranked}
 use Rattle.std.proofs.lemmas.Int.{ints}
 use Rattle.root_index.specs.declared.entry.Entry.{Entry}
 use Rattle.root_index.specs.Order.{Precedes}
-use Rattle.root_index.specs.Sets.{IsLeast, IsAfter, IsBelow, IsOf}
+use Rattle.root_index.specs.Sets.{IsLeast, IsBelow, IsOf}
+use Rattle.sound_entries.specs.Looking.{IsFirstOf}
 use Rattle.heap_write.specs.declared.walking.Mark.{Mark}
 use Rattle.heap_write.specs.declared.walking.Span.{Span}
-use Rattle.heap_write.specs.Walking.{ComesAfter, last_at, StartsIn, LiesIn}
+use Rattle.heap_write.specs.Walking.{ComesAfter, StartsIn, LiesIn}
 
 -- The order by value and key alone.
 
@@ -87,3 +88,21 @@ starts-from entries span r all least = least-same entries (λ e. ¬ IsBelow span
   λ h. let le = from-not_below span.low e h in record { from = le; after = all e le },
   λ starts. not_below span.low e starts.from,
 )) least
+
+-- Whether an entry lies in a span goes by its value and its key alone.
+
+after-alike : (f e : Entry) (o : Option Mark) → IsOf f.value f.key e → ComesAfter f o → ComesAfter e o
+after-alike f e None of after = tt
+after-alike f e (Some m) of (inl lt) = inl (subst (λ v. m.value <ℤ v) (sym of.0) lt)
+after-alike f e (Some m) of (inr (same, lt)) = inr (same ∙ sym of.0, subst (λ k. m.key < k) (sym of.1) lt)
+
+lies-alike : (span : Span) (f e : Entry) → IsOf f.value f.key e → LiesIn span f → LiesIn span e
+lies-alike span f e of lies = record {
+  from = subst (λ v. span.low ≤ℤ v) (sym of.0) lies.from;
+  to = subst (λ v. v ≤ℤ span.high) (sym of.0) lies.to;
+  after = after-alike f e span.last of lies.after;
+}
+
+-- so the first entry of a span is the first of its value and its key
+pub first-in_span : (entries : List Entry) (span : Span) (f : Entry) → IsLeast entries (LiesIn span) (Some f) → IsFirstOf entries f
+first-in_span entries span f least = (least.0, ((refl, refl), tt), λ e there is. least.2 e there (lies-alike span f e is.0 least.1))

@@ -1,5 +1,5 @@
 -- A walk along an index goes from place to place, until a row is found.
-use Rattle.std.proofs.Common.{◌≡◌, ◌⊎◌, inl, inr, ⊎_elim, ℕ, ◌+◌, ◌<◌, ◌≤◌, ℤ, ◌<ℤ◌, ◌≤ℤ◌, List, length, Option, Some, None, slice_get, refl, sym, ap, subst, ◌∙◌, arith, Contains}
+use Rattle.std.proofs.Common.{◌≡◌, ◌⊎◌, inl, inr, ⊎_elim, ℕ, ◌+◌, ◌<◌, ◌≤◌, ℤ, List, length, Option, Some, None, slice_get, sym, ap, subst, ◌∙◌, arith, Contains}
 use Rattle.std.proofs.lemmas.Bool.{cases_lt}
 use Rattle.std.proofs.lemmas.Int.{ints}
 use Rattle.std.proofs.lemmas.Option.{slice_get_within}
@@ -9,12 +9,12 @@ use Rattle.page_slots.specs.declared.slot.Slot.{Slot}
 use Rattle.commit_status.specs.Window.{Window}
 use Rattle.root_index.specs.declared.entry.Entry.{Entry}
 use Rattle.root_index.specs.Order.{IsAscending}
-use Rattle.root_index.specs.Sets.{IsLeast, IsAfter}
+use Rattle.root_index.specs.Sets.{IsLeast}
 use Rattle.root_index.proofs.SetLemmas.{place_of, start_after}
 use Rattle.sound_entries.specs.Looking.{FirstFound}
 use Rattle.heap_write.specs.declared.walking.Mark.{Mark}
 use Rattle.heap_write.specs.declared.walking.Span.{Span}
-use Rattle.heap_write.specs.Walking.{ComesBefore, ComesAfter, LiesIn, IsNextRow, NoneLeft}
+use Rattle.heap_write.specs.Walking.{ComesBefore, ComesAfter, LiesIn, IsNextRow}
 use Rattle.heap_write.proofs.SpanLemmas.{IsLower, lower-precedes, lower-cases}
 
 -- After some turns this part of the span is left.
@@ -76,10 +76,9 @@ walked-next entries HasNone span left turn f up l least none = record {
 }
 
 pub walked-on : (entries : List Entry) (HasNone : ℤ → ℕ → Type 0) (span left : Span) (turn : ℕ) (f : Entry) (mark : Mark) → IsAscending entries → Walked entries HasNone span left turn
-    → IsLeast entries (LiesIn left) (Some f) → mark ≡ mark_of f → HasNone mark.value mark.key → Walked entries HasNone span (record left { last = Some mark }) (turn + 1)
+    → IsLeast entries (LiesIn left) (Some f) → mark ≡ mark_of f → HasNone f.value f.key → Walked entries HasNone span (record left { last = Some mark }) (turn + 1)
 walked-on entries HasNone span left turn f mark up l least is none =
-    subst (λ (m : Mark). Walked entries HasNone span (record left { last = Some m }) (turn + 1)) (sym is)
-    (walked-next entries HasNone span left turn f up l least (subst (λ (m : Mark). HasNone m.value m.key) is none))
+    subst (λ (m : Mark). Walked entries HasNone span (record left { last = Some m }) (turn + 1)) (sym is) (walked-next entries HasNone span left turn f up l least none)
 
 -- The end, of one kind or the other.
 
@@ -99,14 +98,14 @@ walked-none entries HasNone span left turn l least e there lies = ⊎_elim (λ i
 
 pub walked-row : (w : Window) (seen : Header → Type 0) (pages : List (List Slot)) (entries : List Entry) (span left : Span) (turn : ℕ) (f : Entry) (mark : Mark) (row : Row)
     → Walked entries (λ value key. FirstFound w seen pages entries value key None) span left turn → IsLeast entries (LiesIn left) (Some f) → mark ≡ mark_of f
-    → FirstFound w seen pages entries mark.value mark.key (Some row) → IsNextRow w seen pages entries span mark row
+    → FirstFound w seen pages entries f.value f.key (Some row) → IsNextRow w seen pages entries span mark row
 walked-row w seen pages entries span left turn f mark row l least is found = record {
   entry = f;
   there = least.0;
   lies = l.of f least.1;
   value = ap (λ (m : Mark). m.value) is;
   key = ap (λ (m : Mark). m.key) is;
-  found = found;
+  found = subst (λ (m : Mark). FirstFound w seen pages entries m.value m.key (Some row)) (sym is) found;
   none_before = λ e there lies before. ⊎_elim
       (λ in_left. absurd (least.2 e there in_left (lower-precedes e f (subst (ComesBefore e) is before))))
       (λ has. has)

@@ -1,6 +1,6 @@
 //! What a step looks for, through the index by key. None takes memory.
 
-ghost use Rattle.std.specs.Prelude.{pos};
+ghost use Rattle.std.specs.Prelude.{pos, option_copied};
 ghost use Rattle.visibility.specs.Visible.{IsVisible};
 ghost use Rattle.sound_entries.specs.Looking.{FirstFound, FirstPlace, IsMissed, IsForeign, IsIdOf};
 ghost use Rattle.heap_write.specs.Heap.{slots_of};
@@ -13,9 +13,9 @@ use tuple_header::Row;
 use xid_circle::{Tid, Xid};
 
 impl HeapState {
-    /// The row of the key that the reader sees.
-    pub fn row(&self, key: u64, snapshot: &Snapshot, own: &OwnIds) -> Option<Row>
-        ensures { FirstFound self.now.table (IsVisible self.now.table snapshot.now own.now.ids) (slots_of self.now) (entries_in self.now.indexes 0) (pos key) key result }
+    /// The row of the key that the reader sees, where it stands.
+    pub fn row(&self, key: u64, snapshot: &Snapshot, own: &OwnIds) -> Option<&Row>
+        ensures { FirstFound self.now.table (IsVisible self.now.table snapshot.now own.now.ids) (slots_of self.now) (entries_in self.now.indexes 0) (pos key) key (option_copied result) }
     {
         let value = i128::from(key);
         row_of(

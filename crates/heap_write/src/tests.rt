@@ -40,7 +40,7 @@ fn columns(key: u64, cols: [i64; 4]) -> Row {
 }
 
 /// The first column of a row.
-fn first(row: Option<Row>) -> Option<i64> {
+fn first(row: Option<&Row>) -> Option<i64> {
     Some(row?.cols[0])
 }
 

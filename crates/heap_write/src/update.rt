@@ -78,7 +78,7 @@ impl HeapState {
     {
         match self.pages.page(place.page) {
             Some(page) => match page.row(place.slot) {
-                Some(old) => self.indexes.same_values(&old, row),
+                Some(old) => self.indexes.same_values(old, row),
                 None => true,
             },
             None => true,

@@ -1,6 +1,7 @@
 //! How cursors go on: along an index from place to place, and over a page from slot to slot. Nothing here takes memory.
 
-ghost use Rattle.std.specs.Prelude.{◌≡◌, ◌↔◌, ◌≤◌, ◌≤ℤ◌, length, Some, IsTrue, FitsSigned};
+ghost use Rattle.std.specs.Prelude.{◌≡◌, ◌↔◌, ◌≤◌, ◌≤ℤ◌, length, Some, IsTrue, FitsSigned, option_copied};
+ghost use Rattle.std.specs.Option.{option_map};
 ghost use Rattle.std.specs.Int.{w128};
 ghost use Rattle.root_index.specs.Sets.{IsLeast, IsBelow};
 ghost use Rattle.visibility.specs.Visible.{IsVisible};
@@ -14,7 +15,7 @@ use commit_status::StatusTable;
 use heap_pages::Pages;
 use root_index::{Entry, RootIndex};
 use snapshot::{OwnIds, Snapshot};
-use sound_entries::row_of;
+use sound_entries::row_from;
 use tuple_header::Row;
 use visibility::visible_header;
 use xid_circle::Tid;
@@ -37,10 +38,10 @@ pub struct Span {
 }
 
 impl HeapState {
-    /// The first place of the span, in the order of the index, where the reader sees a row, and that row. An index that is
-    /// not in use has none.
-    pub fn next_row(&self, span: &Span, snapshot: &Snapshot, own: &OwnIds) -> Option<(Mark, Row)>
-        ensures { NextRow self.now.table (IsVisible self.now.table snapshot.now own.now.ids) (slots_of self.now) (entries_in self.now.indexes span.now.index) span.now result }
+    /// The first place of the span, in the order of the index, where the reader sees a row, and that row, where it stands.
+    /// An index that is not in use has none.
+    pub fn next_row(&self, span: &Span, snapshot: &Snapshot, own: &OwnIds) -> Option<(Mark, &Row)>
+        ensures { NextRow self.now.table (IsVisible self.now.table snapshot.now own.now.ids) (slots_of self.now) (entries_in self.now.indexes span.now.index) span.now (option_map (λ found. (found.0, found.1.now)) result) }
     {
         match self.indexes.get(span.index) {
             Some(index) => next_row_in(&self.pages, index, span, snapshot, own, &self.table),
@@ -48,15 +49,14 @@ impl HeapState {
         }
     }
 
-    /// The row of the version at a place, if the reader sees it.
-    pub fn seen_row(&self, place: Tid, snapshot: &Snapshot, own: &OwnIds) -> Option<Row>
-        ensures { SeenRow (IsVisible self.now.table snapshot.now own.now.ids) (slots_of self.now) place result }
+    /// The row of the version at a place, where it stands, if the reader sees it.
+    pub fn seen_row(&self, place: Tid, snapshot: &Snapshot, own: &OwnIds) -> Option<&Row>
+        ensures { SeenRow (IsVisible self.now.table snapshot.now own.now.ids) (slots_of self.now) place (option_copied result) }
     {
         let page = match self.pages.page(place.page) {
             Some(page) => page,
             None => return None,
         };
-        // the row of a version that is not seen is not copied
         match page.header(place.slot) {
             Some(header) if visible_header(&header, snapshot, own, &self.table) => page.row(
                 place.slot,
@@ -158,8 +158,7 @@ fn entry_in(index: &RootIndex, span: &Span) -> Option<Entry>
 
 /// The place of an entry in the order of its index.
 fn mark_of(entry: &Entry) -> Mark
-    ensures mark { result ≡ record { value = entry.now.value; key = entry.now.key } }
-    ensures fits { FitsSigned w128 result.value }
+    ensures { result ≡ record { value = entry.now.value; key = entry.now.key } }
 {
     Mark {
         value: entry.value,
@@ -167,16 +166,16 @@ fn mark_of(entry: &Entry) -> Mark
     }
 }
 
-/// The first place of the span, in the order of this index, where the reader sees a row, and that row.
-fn next_row_in(
-    pages: &Pages,
+/// The first place of the span, in the order of this index, where the reader sees a row, and that row, where it stands.
+fn next_row_in<'a>(
+    pages: &'a Pages,
     index: &RootIndex,
     span: &Span,
     snapshot: &Snapshot,
     own: &OwnIds,
     table: &StatusTable,
-) -> Option<(Mark, Row)>
-    ensures { NextRow table.now (IsVisible table.now snapshot.now own.now.ids) (slots_in pages.now) index.now.entries span.now result }
+) -> Option<(Mark, &'a Row)>
+    ensures { NextRow table.now (IsVisible table.now snapshot.now own.now.ids) (slots_in pages.now) index.now.entries span.now (option_map (λ found. (found.0, found.1.now)) result) }
 {
     index.is_ascending();
     let mut left = *span;
@@ -185,9 +184,7 @@ fn next_row_in(
             None => return None,
             Some(entry) => {
                 let mark = mark_of(&entry);
-                if let Some(row) = row_of(
-                    pages, index, mark.value, mark.key, snapshot, own, table,
-                ) {
+                if let Some(row) = row_from(pages, index, entry, snapshot, own, table) {
                     return Some((mark, row));
                 }
                 left.last = Some(mark);

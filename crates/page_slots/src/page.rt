@@ -133,9 +133,9 @@ impl Page {
         self.get(number)?.key()
     }
 
-    /// The row of the version in the slot of this number, if that is there and normal. It takes no memory.
-    pub fn row(&self, number: u16) -> Option<Row>
-        ensures value { result ≡ row_at self.now.slots number }
+    /// The row of the version in the slot of this number, where it stands, if that is there and normal.
+    pub fn row(&self, number: u16) -> Option<&Row>
+        ensures value { option_copied result ≡ row_at self.now.slots number }
         ensures there { IsSome result → IsThere self.now.slots number }
         ensures normal { IsSome result ↔ IsNormalAt self.now.slots number }
     {

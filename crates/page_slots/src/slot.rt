@@ -1,6 +1,6 @@
 //! The slots of a page.
 
-ghost use Rattle.std.specs.Prelude.{◌≡◌, ◌≤◌, ◌↔◌, IsTrue, IsSome, IfSome, None, length};
+ghost use Rattle.std.specs.Prelude.{◌≡◌, ◌≤◌, ◌↔◌, IsTrue, IsSome, IfSome, None, length, option_copied};
 ghost use Rattle.std.specs.List.{position_or_len};
 ghost use Rattle.std.specs.Option.{option_map};
 ghost use Rattle.tuple_header.specs.Faults.{header_fault};
@@ -67,12 +67,12 @@ impl Slot {
         }
     }
 
-    /// The row of its version, if it is normal. It takes no memory.
-    pub fn row(&self) -> Option<Row>
-        ensures { result ≡ option_map (λ t. t.row) (version_of self.now) }
+    /// The row of its version, where it stands, if it is normal.
+    pub fn row(&self) -> Option<&Row>
+        ensures { option_copied result ≡ option_map (λ t. t.row) (version_of self.now) }
     {
         match self {
-            Slot::Normal(version) => Some(version.row.copy()),
+            Slot::Normal(version) => Some(&version.row),
             _ => None,
         }
     }

@@ -128,7 +128,7 @@ fn looks_into_slots(rt: HostRuntime) {
         (page.key(1), page.key(2), page.key(3)),
         (Some(8), None, None)
     );
-    assert_eq!(rt; page.row(1), Some(version(8, 2).row));
+    assert_eq!(rt; page.row(1), Some(&version(8, 2).row));
     assert!(rt; page.header(0).is_none() && page.header(2).is_none());
     assert!(rt; page.slot(2).is_some() && page.slot(3).is_none());
     if let Some(slot) = page.slot(1) {

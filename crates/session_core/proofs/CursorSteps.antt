@@ -3,13 +3,11 @@ use Rattle.std.proofs.lemmas.Int.{to_z-of_z, ints}
 use Rattle.std.specs.Int.Signed.{lt_z}
 use Rattle.std.specs.Int.{w128}
 use Rattle.std.proofs.lemmas.Bool.Decides.{nat_tests}
-use Rattle.std.proofs.Common.{SFits, to_z, of_z, ◌≡◌, ℕ, zero, suc, ◌<◌, ◌≤◌, arith, ℤ, ◌≤ℤ◌, ◌<ℤ◌, List, length, Bool, true, false, Option, Some, None, refl, sym, ap, ◌∙◌, subst}
-use Rattle.std.specs.Prelude.{IsSome, slice_index_or, if◌then◌else◌, ◌↔◌}
+use Rattle.std.proofs.Common.{SFits, to_z, of_z, ◌≡◌, ℕ, zero, suc, arith, ℤ, ◌≤ℤ◌, ◌<ℤ◌, List, length, true, false, Option, Some, None, refl, sym, ap, ◌∙◌, subst}
+use Rattle.std.specs.Prelude.{IsSome}
 use Rattle.std.specs.Option.{option_map}
-use Rattle.std.proofs.lemmas.Option.{none-some}
-use Rattle.history.specs.World.{World}
 use Rattle.root_index.specs.View.{IndexView}
-use Rattle.heap_write.specs.Indexes.{IsInUse, new_entries, index_at, entries_at}
+use Rattle.heap_write.specs.Indexes.{IsInUse, index_at}
 use Rattle.session_relation.specs.declared.step.Step.TheVariants.{OpenIndex, OpenHeap, Close}
 use Rattle.session_relation.specs.declared.reply.Reply.TheVariants.{Done, Refused}
 use Rattle.session_relation.specs.declared.reply.Refusal.{Refusal}
@@ -25,7 +23,6 @@ use Rattle.heap_write.specs.declared.walking.Span.{Span}
 use Rattle.session_core.specs.State.{State, session_at, put_session, map_session, with_cursor, seen, position_of, reader_of}
 use Rattle.session_core.specs.Agrees.{Agrees, Sound, SessionKeeps, Follows, StaysLed}
 use Rattle.session_core.specs.Refuses.{RefusesFree, RefusesBare}
-use Rattle.session_core.specs.Keeps.{open_at, EngineKeeps}
 use Rattle.session_core.proofs.InUse.{GoesAlong, few-used, no-cursor}
 use Rattle.session_core.proofs.OwnIdsLemmas.{open-within}
 use Rattle.session_core.proofs.StateLemmas.{only-set}

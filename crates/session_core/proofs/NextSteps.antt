@@ -1,5 +1,5 @@
 -- A session asks its cursor for rows: whatever the answer, the engine follows the history.
-use Rattle.std.proofs.Common.{◌≡◌, ℕ, ◌+◌, ◌<◌, ◌≤◌, max, List, length, Option, Some, None, false, refl, sym, ap, ◌∙◌, subst}
+use Rattle.std.proofs.Common.{◌≡◌, ℕ, ◌+◌, ◌<◌, max, List, length, Some, None, false, refl, sym, ap, ◌∙◌, subst}
 use Rattle.std.specs.Prelude.{Vec}
 use Rattle.std.specs.declared.alloc.Global.{Global}
 use Rattle.tuple_header.specs.declared.version.Row.{Row}
@@ -7,7 +7,6 @@ use Rattle.heap_write.specs.declared.walking.Span.{Span}
 use Rattle.heap_write.specs.Indexes.{IsInUse}
 use Rattle.history.specs.World.{World}
 use Rattle.session_relation.specs.declared.step.Step.TheVariants.{Next}
-use Rattle.session_relation.specs.declared.reply.Reply.{Reply}
 use Rattle.session_relation.specs.declared.reply.Reply.TheVariants.{Rows, End, Refused}
 use Rattle.session_relation.specs.declared.reply.Refusal.{Refusal}
 use Rattle.session_relation.specs.declared.reply.Refusal.TheVariants.{NotOpen, AlreadyOpen, Failed, AlreadyThere, NotThere, Conflict, Busy, TooLarge, NoRoom, NeedsFreeze, NoMemory, NoSuchPage, NoSuchSession, TooDeep, NoSavepoint, CursorOpen, NoCursor, NoSuchIndex, BadBounds}

@@ -1,16 +1,14 @@
 -- What a session sees on the pages that a cursor goes over.
-use Rattle.std.proofs.Common.{◌≡◌, ℕ, zero, suc, ◌+◌, ◌<◌, ◌≤◌, List, [], ◌∷◌, length, map, slice_get, Option, Some, None, refl, sym, ap, ◌∙◌, subst, ◌⊎◌, inl, inr, arith}
+use Rattle.std.proofs.Common.{◌≡◌, ℕ, zero, suc, ◌+◌, ◌<◌, ◌≤◌, List, [], ◌∷◌, length, map, slice_get, Option, Some, None, refl, sym, subst, ◌⊎◌, inl, inr, arith}
 use Rattle.std.specs.Option.{option_and_then}
-use Rattle.std.proofs.lemmas.Bool.{cases_lt}
 use Rattle.std.proofs.lemmas.Option.{none-some, slice_get_within}
 use Rattle.tuple_header.specs.declared.version.Row.{Row}
 use Rattle.tuple_header.specs.Version.{Version}
-use Rattle.xid_circle.specs.declared.Tid.{Tid}
 use Rattle.page_slots.specs.declared.slot.Slot.{Slot}
-use Rattle.page_slots.specs.Slots.{slot_at, version_of, version_at}
+use Rattle.page_slots.specs.Slots.{version_of, version_at}
 use Rattle.page_slots.specs.View.{PageView}
 use Rattle.visibility.specs.Visible as visibility
-use Rattle.sound_entries.specs.Pages.{slots_on, version_in}
+use Rattle.sound_entries.specs.Pages.{slots_on}
 use Rattle.heap_write.specs.Heap.{slots_of}
 use Rattle.heap_write.specs.Walking.{IsSeenRow, NoneSeen}
 use Rattle.session_relation.specs.Cursors.{Stands, Gathers}

@@ -1,5 +1,5 @@
 -- A walk of a cursor along an index, row by row.
-use Rattle.std.proofs.Common.{◌≡◌, ℕ, ◌+◌, ◌<◌, ◌≤◌, List, [], ◌∷◌, ◌++◌, length, Option, Some, None, refl, sym, ap, ◌∙◌, subst, inl, inr, arith}
+use Rattle.std.proofs.Common.{◌≡◌, ℕ, ◌+◌, ◌<◌, ◌≤◌, List, [], ◌∷◌, ◌++◌, length, Some, refl, sym, ap, ◌∙◌, subst, inl, inr, arith}
 use Rattle.std.proofs.lemmas.List.{length-append}
 use Rattle.std.proofs.lemmas.Option.{slice_get_within}
 use Rattle.tuple_header.specs.declared.version.Row.{Row}
@@ -12,10 +12,9 @@ use Rattle.session_relation.specs.Cursors.{Comes, Meets}
 use Rattle.session_relation.specs.Cursors as cursors
 use Rattle.session_relation.proofs.CursorWalks.{Comes-back, Comes-from, Meets-none, Meets-one}
 use Rattle.session_core.specs.declared.session.Session.{Session}
-use Rattle.session_core.specs.declared.cursor.Cursor.{Cursor}
 use Rattle.session_core.specs.declared.cursor.Cursor.TheVariants.{Index}
 use Rattle.session_core.specs.State.{State, seen, mark_of}
-use Rattle.session_core.specs.Takes.{seen_by, IsAt, IsToCome, IsAtEnd, IsNotAtEnd, Walks, TakesRows}
+use Rattle.session_core.specs.Takes.{seen_by, IsAt, IsAtEnd, IsNotAtEnd, Walks, TakesRows}
 use Rattle.session_core.proofs.Walks.{IsNextFor, NoneIsLeft, next-comes, next-mark, next-first, none-comes}
 
 -- the cursor goes along an index in use

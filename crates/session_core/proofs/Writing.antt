@@ -1,6 +1,6 @@
 -- A write follows the history: it is done, or it is refused for want of an id, of room or of memory.
 use Rattle.std.proofs.Common.{◌≡◌, ℕ, set, Some, None, false, refl, sym, ap, ◌∙◌, subst, inl, inr}
-use Rattle.std.specs.Prelude.{Contains, IsSome, Result, Ok, Err}
+use Rattle.std.specs.Prelude.{IsSome, Result, Ok, Err}
 use Rattle.xid_circle.specs.declared.Tid.{Tid}
 use Rattle.tuple_header.specs.declared.version.Row.{Row}
 use Rattle.tuple_header.specs.Version.{Version, rounded_size_of}

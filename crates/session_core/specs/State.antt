@@ -1,5 +1,5 @@
 -- An engine as its callers see it, and what its readers see of it.
-use Rattle.std.specs.Prelude.{ℕ, ◌==◌, if◌then◌else◌, true, List, [], ◌∷◌, ◌++◌, take, Option, Some, None, slice_get, slice_set}
+use Rattle.std.specs.Prelude.{ℕ, true, List, [], ◌∷◌, ◌++◌, take, Option, Some, None, slice_get, slice_set}
 use Rattle.std.specs.Option.{option_map, option_flatten}
 use Rattle.snapshot.specs.Snap.{Sees, earliest}
 use Rattle.commit_status.specs.declared.status.Status.{Status}

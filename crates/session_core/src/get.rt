@@ -1,12 +1,12 @@
 //! A session reads.
 
-ghost use Rattle.std.specs.Prelude.{◌≡◌};
+ghost use Rattle.std.specs.Prelude.{◌≡◌, option_copied};
 ghost use Rattle.session_relation.specs.declared.step.Step.{Step};
 ghost use Rattle.session_core.specs.Agrees.{Follows};
 ghost use Rattle.session_core.specs.Exact.{Exact};
 
 use crate::engine::Engine;
-use session_relation::Reply;
+use session_relation::{Reply, Row};
 
 impl Engine {
     /// The row of the key that the session reads. Refusals in order: NoSuchSession, NotOpen, Failed. It takes no
@@ -16,8 +16,20 @@ impl Engine {
         ensures exact { Exact self.now (Step.Get s key) result self.now }
     {
         match self.ready(s) {
-            Ok(session) => Reply::Found(self.heap.row(key, &session.snapshot, &session.own)),
+            Ok(session) => {
+                Reply::Found(copy_of(self.heap.row(key, &session.snapshot, &session.own)))
+            }
             Err(refusal) => Reply::Refused(refusal),
         }
+    }
+}
+
+/// A row that was found, by value. It takes no memory.
+pub(crate) fn copy_of(found: Option<&Row>) -> Option<Row>
+    ensures { result ≡ option_copied found.entry }
+{
+    match found {
+        Some(row) => Some(row.copy()),
+        None => None,
     }
 }

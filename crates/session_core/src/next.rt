@@ -84,7 +84,7 @@ impl Engine {
         for _ in 0..count {
             match self.heap.next_row(&left, &session.snapshot, &session.own) {
                 Some((mark, row)) => {
-                    rows.push(row)?;
+                    rows.push(row.copy())?;
                     left.last = Some(mark);
                 }
                 None => return Ok((rows, left)),
@@ -127,7 +127,7 @@ impl Engine {
         for slot in 1..self.slots_on(page) + 1 {
             let place = Tid { page, slot };
             if let Some(row) = self.heap.seen_row(place, &session.snapshot, &session.own) {
-                rows.push(row)?;
+                rows.push(row.copy())?;
             }
         }
         Ok(rows)

@@ -7,6 +7,7 @@ ghost use Rattle.session_core.specs.Agrees.{Agrees, Follows};
 ghost use Rattle.session_core.specs.Exact.{Exact};
 
 use crate::engine::Engine;
+use crate::get::copy_of;
 use session_relation::{Refusal, Reply, Row, Step};
 
 impl Engine {
@@ -44,7 +45,7 @@ impl Engine {
             (λ refusal. AllowsClosed w s refusal) }
     {
         match self.opened(s) {
-            Ok(session) => Ok(self.heap.row(key, &session.snapshot, &session.own)),
+            Ok(session) => Ok(copy_of(self.heap.row(key, &session.snapshot, &session.own))),
             Err(refusal) => Err(refusal),
         }
     }

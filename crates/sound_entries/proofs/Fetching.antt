@@ -24,7 +24,7 @@ use Rattle.root_index.specs.declared.entry.Entry.{Entry}
 use Rattle.sound_entries.specs.Pages.{slots_on, version_in}
 use Rattle.sound_entries.specs.Entries.{MayBeLed, IsSound}
 use Rattle.sound_entries.specs.Leading.{IsOnHeap, IsByIndex}
-use Rattle.sound_entries.specs.Looking.{FetchedAt, FirstFound, IsSeenIn, IsSeenAt, IsFirstPlace, FirstPlace}
+use Rattle.sound_entries.specs.Looking.{IsNextOf, FetchedAt, FirstFound, IsSeenIn, IsSeenAt, IsFirstPlace, FirstPlace}
 use Rattle.sound_entries.proofs.Leads.{visible-found}
 
 -- what is in the list of a chain to which an entry may lead, is in the chain
@@ -172,6 +172,18 @@ row-found w seen pages entries value key q answer f is =
       is_row = refl;
       none_before = f.none_before;
     })
+
+-- By the first entry of a value and a key.
+
+pub place-from_first : (w : Window) (seen : Header → Type 0) (pages : List (List Slot)) (entries : List Entry) (stored value : ℤ) (key : ℕ) (first : Entry) (answer : Option Tid)
+    → stored ≡ value → IsNextOf entries stored key None (Some first) → FirstPlace w seen pages entries first.value first.key answer → FirstPlace w seen pages entries value key answer
+place-from_first w seen pages entries stored value key first answer same least place =
+    subst (λ (v : ℤ). FirstPlace w seen pages entries v key answer) (least.1.0.0 ∙ same)
+    (subst (λ (k : ℕ). FirstPlace w seen pages entries first.value k answer) least.1.0.1 place)
+
+pub no-place : (w : Window) (seen : Header → Type 0) (pages : List (List Slot)) (entries : List Entry) (stored value : ℤ) (key : ℕ) → stored ≡ value → IsNextOf entries stored key None None
+    → FirstPlace w seen pages entries value key None
+no-place w seen pages entries stored value key same least = λ e there of. absurd (least e there ((of.0 ∙ sym same, of.1), tt))
 
 pub place-on_heap : (value_of : Row → ℤ) (w : Window) (horizon : ℕ) (pages : List (List Slot)) (entries : List Entry) (s : Snap) (own : List ℕ) → IsSound value_of w horizon pages entries
     → ((x : ℕ) → Contains own x → IsActive w x) → (value : ℤ) (key : ℕ) (answer : Option Tid) → FirstPlace w (IsVisible w s own) pages entries value key answer

@@ -26,6 +26,10 @@ slots_of p = map (λ page. page.slots) p.pages
 abbrev pub IsNextOf : List Entry → ℤ → ℕ → Option Entry → Option Entry → Type 0
 IsNextOf entries value key from answer = IsLeast entries (λ e. IsOf value key e × IsAfter from e) answer
 
+-- the entry is there, and is the first of its value and its key
+abbrev pub IsFirstOf : List Entry → Entry → Type 0
+IsFirstOf entries first = IsNextOf entries first.value first.key None (Some first)
+
 -- the first version that is seen in the chain of a place, if there is one
 abbrev pub FetchedAt : Window → (Header → Type 0) → List (List Slot) → Tid → Option Version → Type 0
 FetchedAt w seen pages p answer = Fetched (has_aborted w) seen (slots_on pages p.page) p.slot answer

@@ -6,8 +6,9 @@
 //! leads to. The laws of `specs/Laws.antt`, which are contracts of functions that do nothing, say that by sound entries
 //! one finds what is found on the heap, and that writes, pruning, and what becomes of transactions leave the entries sound.
 //!
-//! [`place_of`], [`row_of`], [`missed_of`] and [`holder_of`] go along the entries of one value and one key. Their contracts speak of
-//! entries and chains alone (`specs/Looking.antt`), on any pages and any index; the laws there tie them to the heap.
+//! [`place_of`], [`row_of`], [`missed_of`] and [`holder_of`] go along the entries of one value and one key, and [`place_from`]
+//! and [`row_from`] do so from the first of them, where that is known. Their contracts speak of entries and chains alone
+//! (`specs/Looking.antt`), on any pages and any index; the laws there tie them to the heap.
 #![tactic(auto)]
 
 mod laws;
@@ -23,6 +24,6 @@ pub use laws::{
     updating_stays_sound,
 };
 pub use looking::{
-    foreign_is_on_heap, found_is_on_heap, holder_of, missed_is_on_heap, missed_of,
-    place_is_on_heap, place_of, row_of, the_row_is_found,
+    foreign_is_on_heap, found_is_on_heap, holder_of, missed_is_on_heap, missed_of, place_from,
+    place_is_on_heap, place_of, row_from, row_of, the_row_is_found,
 };

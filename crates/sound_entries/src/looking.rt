@@ -1,12 +1,13 @@
 //! Looking along the entries of one value and one key. None takes memory.
 
-ghost use Rattle.std.specs.Prelude.{◌≡◌, ℕ, IfSome, MatchOption, None, Some};
+ghost use Rattle.std.specs.Prelude.{◌≡◌, ℕ, IfSome, MatchOption, None, Some, option_copied, FitsSigned};
+ghost use Rattle.std.specs.Int.{w128};
 ghost use Rattle.std.specs.Option.{option_map};
 ghost use Rattle.root_index.specs.Sets.{IsOf};
 ghost use Rattle.visibility.specs.Visible.{IsVisible};
 ghost use Rattle.hot_chain.specs.Chain.{NoneSeen};
 ghost use Rattle.sound_entries.specs.Pages.{version_in};
-ghost use Rattle.sound_entries.specs.Looking.{slots_of, IsNextOf, FirstFound, IsSeenIn, SeenAt, FirstPlace, FoundIsOnHeap, TheRowIsFound, PlaceIsOnHeap, IsMissed, IsForeign, SomeAt, IsIdOf, MissedIsOnHeap, ForeignIsOnHeap};
+ghost use Rattle.sound_entries.specs.Looking.{slots_of, IsNextOf, IsFirstOf, FirstFound, IsSeenIn, SeenAt, FirstPlace, FoundIsOnHeap, TheRowIsFound, PlaceIsOnHeap, IsMissed, IsForeign, SomeAt, IsIdOf, MissedIsOnHeap, ForeignIsOnHeap};
 
 use crate::touched::{foreign_among, missed_among};
 use commit_status::StatusTable;
@@ -27,6 +28,13 @@ fn only_of(found: Option<Entry>, value: i128, key: u64) -> Option<Entry>
         Some(entry) if entry.value == value && entry.key == key => Some(entry),
         _ => None,
     }
+}
+
+/// That the value of an entry is in range. It does nothing; its contract is the fact.
+fn has_value(entry: &Entry)
+    ensures { FitsSigned w128 entry.now.value }
+{
+    let _value = entry.value;
 }
 
 /// The first entry of this value and this key that comes after another one of these, or the first of all.
@@ -85,6 +93,36 @@ fn seen_at(
     }
 }
 
+/// The place of the first version that the reader sees, along the entries of the value and the key of this one in their
+/// order, and along the chain of each. Who knows the first of these entries spares the search for it. It takes no memory.
+pub fn place_from(
+    pages: &Pages,
+    index: &RootIndex,
+    first: Entry,
+    snapshot: &Snapshot,
+    own: &OwnIds,
+    table: &StatusTable,
+) -> Option<Tid>
+    requires { IsFirstOf index.now.entries first }
+    ensures { FirstPlace table.now (IsVisible table.now snapshot.now own.now.ids) (slots_of pages.now) index.now.entries first.value first.key result }
+{
+    index.is_ascending();
+    has_value(&first);
+    let mut next = Some(first);
+    for _ in 0..index.len() {
+        match next {
+            None => return None,
+            Some(entry) => {
+                if let Some(place) = seen_at(pages, entry.tid, snapshot, own, table) {
+                    return Some(place);
+                }
+                next = next_of(index, first.value, first.key, Some(entry));
+            }
+        }
+    }
+    None
+}
+
 /// The place of the first version that the reader sees, along the entries of this value and this key in their order, and
 /// along the chain of each. It takes no memory.
 pub fn place_of(
@@ -98,25 +136,15 @@ pub fn place_of(
 ) -> Option<Tid>
     ensures { FirstPlace table.now (IsVisible table.now snapshot.now own.now.ids) (slots_of pages.now) index.now.entries value key result }
 {
-    index.is_ascending();
-    let mut next = next_of(index, value, key, None);
-    for _ in 0..index.len() {
-        match next {
-            None => return None,
-            Some(entry) => {
-                if let Some(place) = seen_at(pages, entry.tid, snapshot, own, table) {
-                    return Some(place);
-                }
-                next = next_of(index, value, key, Some(entry));
-            }
-        }
+    match next_of(index, value, key, None) {
+        Some(first) => place_from(pages, index, first, snapshot, own, table),
+        None => None,
     }
-    None
 }
 
-/// The row of the version at a place, if there is one.
-fn row_at(pages: &Pages, place: Tid) -> Option<Row>
-    ensures { result ≡ option_map (λ t. t.row) (version_in (slots_of pages.now) place) }
+/// The row of the version at a place, where it stands, if there is one.
+fn row_at(pages: &Pages, place: Tid) -> Option<&Row>
+    ensures { option_copied result ≡ option_map (λ t. t.row) (version_in (slots_of pages.now) place) }
 {
     match pages.page(place.page) {
         Some(page) => page.row(place.slot),
@@ -124,20 +152,39 @@ fn row_at(pages: &Pages, place: Tid) -> Option<Row>
     }
 }
 
-/// The row of the first version that the reader sees, along the entries of this value and this key in their order, and
-/// along the chain of each. It takes no memory.
-pub fn row_of(
-    pages: &Pages,
+/// The row, where it stands, of the first version that the reader sees, along the entries of this value and this key in
+/// their order, and along the chain of each. It takes no memory.
+pub fn row_of<'a>(
+    pages: &'a Pages,
     index: &RootIndex,
     value: i128,
     key: u64,
     snapshot: &Snapshot,
     own: &OwnIds,
     table: &StatusTable,
-) -> Option<Row>
-    ensures { FirstFound table.now (IsVisible table.now snapshot.now own.now.ids) (slots_of pages.now) index.now.entries value key result }
+) -> Option<&'a Row>
+    ensures { FirstFound table.now (IsVisible table.now snapshot.now own.now.ids) (slots_of pages.now) index.now.entries value key (option_copied result) }
 {
     match place_of(pages, index, value, key, snapshot, own, table) {
+        Some(place) => row_at(pages, place),
+        None => None,
+    }
+}
+
+/// The row, where it stands, of the first version that the reader sees, as [`place_from`] finds its place. It takes no
+/// memory.
+pub fn row_from<'a>(
+    pages: &'a Pages,
+    index: &RootIndex,
+    first: Entry,
+    snapshot: &Snapshot,
+    own: &OwnIds,
+    table: &StatusTable,
+) -> Option<&'a Row>
+    requires { IsFirstOf index.now.entries first }
+    ensures { FirstFound table.now (IsVisible table.now snapshot.now own.now.ids) (slots_of pages.now) index.now.entries first.value first.key (option_copied result) }
+{
+    match place_from(pages, index, first, snapshot, own, table) {
         Some(place) => row_at(pages, place),
         None => None,
     }

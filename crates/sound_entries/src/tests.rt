@@ -31,7 +31,7 @@ fn row(key: u64, first: i64) -> Row {
 }
 
 /// The first column of a row.
-fn first(row: Option<Row>) -> Option<i64> {
+fn first(row: Option<&Row>) -> Option<i64> {
     Some(row?.cols[0])
 }
 

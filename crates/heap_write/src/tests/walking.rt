@@ -72,7 +72,7 @@ fn walks(
         let Some((mark, row)) = heap.next_row(&left, snapshot, own) else {
             return false;
         };
-        if mark != place || row.key != *key || first(&row) != *value {
+        if mark != place || row.key != *key || first(row) != *value {
             return false;
         }
         left.last = Some(mark);
@@ -92,7 +92,7 @@ fn table_of(alloc: Global, rows: &[(i64, u64)]) -> HeapState {
 }
 
 /// The key and the second column of a row.
-fn second(row: Option<Row>) -> Option<(u64, i64)> {
+fn second(row: Option<&Row>) -> Option<(u64, i64)> {
     let row = row?;
     Some((row.key, row.cols[1]))
 }

@@ -1,8 +1,8 @@
-use Rattle.std.proofs.Common.{◌≡◌, ◌≤◌, length, sym, subst, arith}
+use Rattle.std.proofs.Common.{◌≡◌, ◌≤◌, length, subst, arith}
 use Rattle.std.proofs.lemmas.Bool.Decides.{nat_tests}
 use Rattle.session_core.specs.State.{State}
 use Rattle.session_core.proofs.Outcomes.{on-err}
-use Rattle.session_core.proofs.Standing.{HasPassed, none-passed, one-passed, taken-here, stands-later, all-passed}
+use Rattle.session_core.proofs.Standing.{one-passed, taken-here, stands-later, all-passed}
 use Rattle.session_core.proofs.engine.Engine.take_page.Goals as goal
 
 pub returns-in_err-rows-clause-refused : goal.returns-in_err-rows-clause-refused
