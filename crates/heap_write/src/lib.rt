@@ -21,6 +21,3 @@ mod walking;
 pub use cleaning::PruneFault;
 pub use heap::{HeapState, WriteFault};
 pub use walking::{Mark, Span};
-
-#[cfg(test)]
-mod tests;
