@@ -14,7 +14,7 @@ pub const SETTINGS: Settings = Settings {
 };
 
 /// A version takes 66 bytes and its body, rounded up to a multiple of 8.
-pub const STEPS: [(Ask, Answer); 65] = [
+pub const STEPS: [(Ask, Answer); 73] = [
     (Ask::Update(0, 1, 0), Answer::Refused(Refusal::NotOpen)),
     (Ask::Delete(0, 1), Answer::Refused(Refusal::NotOpen)),
     (
@@ -98,4 +98,14 @@ pub const STEPS: [(Ask, Answer); 65] = [
     (Ask::Begin(3), Answer::Done),
     (Ask::Get(3, 1), Answer::Row(250)),
     (Ask::Abort(3), Answer::RolledBack),
+    (Ask::Ids, Answer::Ids(8, 3)),
+    (Ask::Slot(1), Answer::Dead),
+    (Ask::Slot(2), Answer::Unused),
+    (Ask::Slot(3), Answer::Redirect(4)),
+    (Ask::Slot(5), Answer::Unused),
+    // Of 8168 bytes 44 go to slots, and 320 and 6 * 1096 to versions.
+    (Ask::Page(0), Answer::Page(11, 1228, 27)),
+    // Two roots of key 1, and one of each other key.
+    (Ask::Entries(0), Answer::Entries(8)),
+    (Ask::Entries(1), Answer::NoIndex),
 ];

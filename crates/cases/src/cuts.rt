@@ -13,12 +13,12 @@ fn count_lines(text: &[u8]) -> usize {
 // The bytes of the first lines of a text.
 fn first_lines(text: &[u8], lines: usize) -> &[u8] {
     let mut left = lines;
-    for at in 0..text.len() {
+    for (at, byte) in text.iter().enumerate() {
         if left == 0 {
-            return &text[..at];
+            return text.get(..at).unwrap_or(text);
         }
-        if text[at] == b'\n' {
-            left -= 1;
+        if *byte == b'\n' {
+            left = left.saturating_sub(1);
         }
     }
     text

@@ -13,7 +13,7 @@ pub const SETTINGS: Settings = Settings {
     indexed: [false; 4],
 };
 
-pub const STEPS: [(Ask, Answer); 68] = [
+pub const STEPS: [(Ask, Answer); 72] = [
     (Ask::Savepoint(0), Answer::Refused(Refusal::NotOpen)),
     (Ask::RollbackTo(0), Answer::Refused(Refusal::NotOpen)),
     (Ask::Release(0), Answer::Refused(Refusal::NotOpen)),
@@ -96,4 +96,54 @@ pub const STEPS: [(Ask, Answer); 68] = [
     (Ask::Prune(0), Answer::Done),
     (Ask::Begin(3), Answer::Done),
     (Ask::Get(3, 1), Answer::Row(10)),
+    (Ask::Ids, Answer::Ids(9, 3)),
+    (Ask::Slot(2), Answer::Unused),
+    (Ask::Slot(4), Answer::Dead),
+    // Of 8168 bytes 24 go to slots, and 80, 96 and 72 to versions.
+    (Ask::Page(0), Answer::Page(6, 7896, 10)),
+];
+
+/// There may be 32 savepoints, and again as many after one was released.
+pub const DEEP: [(Ask, Answer); 41] = [
+    (Ask::Begin(0), Answer::Done),
+    (Ask::Savepoint(0), Answer::Done),
+    (Ask::Savepoint(0), Answer::Done),
+    (Ask::Savepoint(0), Answer::Done),
+    (Ask::Savepoint(0), Answer::Done),
+    (Ask::Savepoint(0), Answer::Done),
+    (Ask::Savepoint(0), Answer::Done),
+    (Ask::Savepoint(0), Answer::Done),
+    (Ask::Savepoint(0), Answer::Done),
+    (Ask::Savepoint(0), Answer::Done),
+    (Ask::Savepoint(0), Answer::Done),
+    (Ask::Savepoint(0), Answer::Done),
+    (Ask::Savepoint(0), Answer::Done),
+    (Ask::Savepoint(0), Answer::Done),
+    (Ask::Savepoint(0), Answer::Done),
+    (Ask::Savepoint(0), Answer::Done),
+    (Ask::Savepoint(0), Answer::Done),
+    (Ask::Savepoint(0), Answer::Done),
+    (Ask::Savepoint(0), Answer::Done),
+    (Ask::Savepoint(0), Answer::Done),
+    (Ask::Savepoint(0), Answer::Done),
+    (Ask::Savepoint(0), Answer::Done),
+    (Ask::Savepoint(0), Answer::Done),
+    (Ask::Savepoint(0), Answer::Done),
+    (Ask::Savepoint(0), Answer::Done),
+    (Ask::Savepoint(0), Answer::Done),
+    (Ask::Savepoint(0), Answer::Done),
+    (Ask::Savepoint(0), Answer::Done),
+    (Ask::Savepoint(0), Answer::Done),
+    (Ask::Savepoint(0), Answer::Done),
+    (Ask::Savepoint(0), Answer::Done),
+    (Ask::Savepoint(0), Answer::Done),
+    (Ask::Savepoint(0), Answer::Done),
+    (Ask::Savepoint(0), Answer::Refused(Refusal::TooDeep)),
+    (Ask::Savepoint(0), Answer::Refused(Refusal::TooDeep)),
+    (Ask::RollbackTo(0), Answer::Done),
+    (Ask::Release(0), Answer::Done),
+    (Ask::Savepoint(0), Answer::Done),
+    (Ask::Savepoint(0), Answer::Refused(Refusal::TooDeep)),
+    (Ask::Ids, Answer::Ids(3, 3)),
+    (Ask::Page(0), Answer::NoPage),
 ];

@@ -13,7 +13,7 @@ pub const SETTINGS: Settings = Settings {
     indexed: [false; 4],
 };
 
-pub const STEPS: [(Ask, Answer); 78] = [
+pub const STEPS: [(Ask, Answer); 82] = [
     (
         Ask::OpenIndex(0, 0, 0, 1),
         Answer::Refused(Refusal::NotOpen),
@@ -119,4 +119,8 @@ pub const STEPS: [(Ask, Answer); 78] = [
     (Ask::Next(0, 1), Answer::Refused(Refusal::Failed)),
     (Ask::Close(0), Answer::Refused(Refusal::Failed)),
     (Ask::Abort(0), Answer::RolledBack),
+    (Ask::Ids, Answer::Ids(6, 3)),
+    (Ask::Entries(1), Answer::NoIndex),
+    (Ask::Page(1), Answer::SomePage),
+    (Ask::Page(2), Answer::NoPage),
 ];

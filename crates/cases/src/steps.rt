@@ -1,15 +1,14 @@
 //! Each kind of step with each answer that it may have.
 
-ghost use Rattle.std.specs.Prelude.{◌≡◌};
-
 use crate::{changes, levels, openings};
 use page_slots::{Page, Slot};
-use session_core::{Engine, Refusal, Reply, Row, RowIn, Settings, Step};
+use root_index::RootIndex;
+use session_core::{Engine, Refusal, Reply, Row, RowIn, Settings, SettingsFault, Step};
 use std::alloc::{AllocError, Global};
 use std::test::Fail;
 
-/// What is asked. An insert and an update have a key, and a body of so many bytes.
-#[derive(Clone, Copy, Debug)]
+/// What is asked: for a step, or for what the engine shows beside it. An insert and an update have a key, and a body of so many bytes.
+#[derive(Clone, Copy)]
 pub enum Ask {
     Begin(u8),
     Get(u8, u64),
@@ -26,10 +25,18 @@ pub enum Ask {
     Next(u8, u16),
     Close(u8),
     Prune(u32),
+    /// The next id, and that below which all are frozen.
+    Ids,
+    /// How many slots a page has, its room, and how often it was changed.
+    Page(u32),
+    /// What a slot of the first page holds.
+    Slot(u16),
+    /// How many entries an index has.
+    Entries(u8),
 }
 
 /// What has to be answered. A row has the key that was asked for, and a body of so many bytes.
-#[derive(Clone, Copy, Debug)]
+#[derive(Clone, Copy)]
 pub enum Answer {
     Done,
     Row(usize),
@@ -40,6 +47,16 @@ pub enum Answer {
     Rows(&'static [u64]),
     End,
     Refused(Refusal),
+    Ids(u32, u32),
+    Page(u16, usize, u64),
+    /// A page, whatever it holds.
+    SomePage,
+    NoPage,
+    Unused,
+    Redirect(u16),
+    Dead,
+    Entries(u64),
+    NoIndex,
 }
 
 // The ids end with 6: the next one would be 4 away from the first.
@@ -54,7 +71,8 @@ const SETTINGS: Settings = Settings {
 
 const COLUMNS: [i64; 4] = [5, -6, 0, 9];
 
-const STEPS: [(Ask, Answer); 57] = [
+const STEPS: [(Ask, Answer); 63] = [
+    (Ask::Page(0), Answer::NoPage),
     (Ask::Get(0, 1), Answer::Refused(Refusal::NotOpen)),
     (Ask::Insert(0, 1, 0), Answer::Refused(Refusal::NotOpen)),
     (Ask::Commit(0), Answer::Refused(Refusal::NotOpen)),
@@ -124,6 +142,12 @@ const STEPS: [(Ask, Answer); 57] = [
     (Ask::Get(3, 3), Answer::NoRow),
     (Ask::Get(3, 10), Answer::Row(246)),
     (Ask::Abort(3), Answer::RolledBack),
+    (Ask::Ids, Answer::Ids(7, 3)),
+    (Ask::Slot(2), Answer::Dead),
+    (Ask::Slot(3), Answer::Dead),
+    // 1096 and 72 bytes less 4 for a new slot.
+    (Ask::Page(0), Answer::Page(10, 1164, 12)),
+    (Ask::Page(1), Answer::NoPage),
 ];
 
 fn row_of(alloc: Global, key: u64, length: usize) -> Result<RowIn, AllocError> {
@@ -138,8 +162,9 @@ fn row_of(alloc: Global, key: u64, length: usize) -> Result<RowIn, AllocError> {
     })
 }
 
-fn step_of(alloc: Global, ask: Ask) -> Result<Step, AllocError> {
-    Ok(match ask {
+// The step that is asked for, if it is one.
+fn step_of(alloc: Global, ask: Ask) -> Result<Option<Step>, AllocError> {
+    Ok(Some(match ask {
         Ask::Begin(s) => Step::Begin(s),
         Ask::Get(s, key) => Step::Get(s, key),
         Ask::Insert(s, key, length) => Step::Insert(s, row_of(alloc, key, length)?),
@@ -155,11 +180,12 @@ fn step_of(alloc: Global, ask: Ask) -> Result<Step, AllocError> {
         Ask::Next(s, count) => Step::Next(s, count),
         Ask::Close(s) => Step::Close(s),
         Ask::Prune(page) => Step::Prune(page),
-    })
+        Ask::Ids | Ask::Page(_) | Ask::Slot(_) | Ask::Entries(_) => return Ok(None),
+    }))
 }
 
 // Where a growth is refused, as a run of this test with a failing allocation has it, the second try meets none.
-fn step_anyhow(alloc: Global, ask: Ask) -> Result<Step, AllocError> {
+fn step_anyhow(alloc: Global, ask: Ask) -> Result<Option<Step>, AllocError> {
     match step_of(alloc, ask) {
         Ok(step) => Ok(step),
         Err(_) => step_of(alloc, ask),
@@ -225,134 +251,156 @@ fn shown(engine: &Engine) -> (u32, u32, Option<u64>) {
     (next.0, frozen_below.0, engine.page(0).map(Page::change))
 }
 
-fn new_engine(alloc: Global, settings: Settings) -> Option<Engine> {
-    match Engine::new(alloc, settings) {
-        Ok(engine) => Some(engine),
-        Err(_) => Engine::new(alloc, settings).ok(),
+fn are_ids(engine: &Engine, answer: Answer) -> bool {
+    let (next, frozen_below, _) = shown(engine);
+    match answer {
+        Answer::Ids(told, below) => next == told && frozen_below == below,
+        _ => false,
     }
 }
 
-// The reply to a step. One that meets the refusal of a growth has to change nothing, and is asked for again.
-fn reply_to(alloc: Global, engine: &mut Engine, ask: Ask) -> Result<Reply, Fail> {
+fn is_page(engine: &Engine, number: u32, answer: Answer) -> bool {
+    match (engine.page(number), answer) {
+        (Some(page), Answer::Page(slots, room, change)) => {
+            page.slots() == slots && page.room() == room && page.change() == change
+        }
+        (Some(_), Answer::SomePage) => true,
+        (None, Answer::NoPage) => true,
+        _ => false,
+    }
+}
+
+fn is_slot(page: &Page, number: u16, answer: Answer) -> bool {
+    match page.slot(number) {
+        Some(Slot::Unused) => matches!(answer, Answer::Unused),
+        Some(Slot::Dead) => matches!(answer, Answer::Dead),
+        Some(Slot::Redirect(next)) => match answer {
+            Answer::Redirect(told) => next == told,
+            _ => false,
+        },
+        _ => false,
+    }
+}
+
+fn are_entries(engine: &Engine, number: u8, answer: Answer) -> bool {
+    match (engine.index(number), answer) {
+        (Some(index), Answer::Entries(count)) => index.len() == count,
+        (None, Answer::NoIndex) => true,
+        _ => false,
+    }
+}
+
+// What is asked for by no step.
+fn shows(engine: &Engine, ask: Ask, answer: Answer) -> bool {
+    match ask {
+        Ask::Ids => are_ids(engine, answer),
+        Ask::Page(number) => is_page(engine, number, answer),
+        Ask::Slot(number) => match engine.page(0) {
+            Some(page) => is_slot(page, number, answer),
+            None => false,
+        },
+        Ask::Entries(number) => are_entries(engine, number, answer),
+        _ => false,
+    }
+}
+
+// A step and a new engine promise nothing here: what `session_core` promises would be carried along by each proof above.
+fn step(engine: &mut Engine, step: Step) -> Reply {
+    engine.step(step)
+}
+
+fn try_new(alloc: Global, settings: Settings) -> Result<Engine, SettingsFault> {
+    Engine::new(alloc, settings)
+}
+
+fn new_engine(alloc: Global, settings: Settings) -> Result<Engine, SettingsFault> {
+    match try_new(alloc, settings) {
+        Ok(engine) => Ok(engine),
+        Err(_) => try_new(alloc, settings),
+    }
+}
+
+// The reply to a step, and nothing where a refused growth changed something.
+fn reply_to(alloc: Global, engine: &mut Engine, ask: Ask) -> Result<Option<Reply>, AllocError> {
     let before = shown(engine);
-    let reply = engine.step(step_anyhow(alloc, ask)?);
+    let first = match step_anyhow(alloc, ask)? {
+        Some(first) => first,
+        None => return Ok(None),
+    };
+    let reply = step(engine, first);
     if !is_no_memory(&reply) {
-        return Ok(reply);
+        return Ok(Some(reply));
     }
     if !may_grow(ask) || shown(engine) != before {
-        return Err(Fail::from("a refused growth changed something"));
+        return Ok(None);
     }
-    Ok(engine.step(step_anyhow(alloc, ask)?))
+    match step_anyhow(alloc, ask)? {
+        Some(second) => Ok(Some(step(engine, second))),
+        None => Ok(None),
+    }
+}
+
+// Whether it is answered so. A step that meets the refusal of a growth has to change nothing, and is asked for again.
+fn answers(
+    alloc: Global,
+    engine: &mut Engine,
+    ask: Ask,
+    answer: Answer,
+) -> Result<bool, AllocError> {
+    match reply_to(alloc, engine, ask)? {
+        Some(reply) => Ok(is(&reply, ask, answer)),
+        None => Ok(shows(engine, ask, answer)),
+    }
+}
+
+// The place of the first line that is not answered so.
+fn first_wrong(
+    alloc: Global,
+    engine: &mut Engine,
+    table: &[(Ask, Answer)],
+) -> Result<Option<usize>, AllocError> {
+    for (at, (ask, answer)) in table.iter().enumerate() {
+        if !answers(alloc, engine, *ask, *answer)? {
+            return Ok(Some(at));
+        }
+    }
+    Ok(None)
+}
+
+// Asks a new engine for all in turn, and fails at the first line that is not answered so.
+fn ask_new(alloc: Global, settings: Settings, table: &[(Ask, Answer)]) -> Result<(), Fail> {
+    let mut engine = new_engine(alloc, settings)?;
+    match first_wrong(alloc, &mut engine, table)? {
+        Some(at) => Err(Fail::new(format_args!(
+            "line {at} of the table, counted from 0, is answered otherwise"
+        ))),
+        None => Ok(()),
+    }
 }
 
 // With `rt try --test --fail-alloc N` the step that meets the refusal answers so, changes nothing, and is done when it is asked
 // for again. (The other tests of this crate fail then, as they should: they ask for ample memory.)
 #[test]
 fn every_kind_of_step(rt: HostRuntime) -> Result<(), Fail> {
-    let mut engine = new_engine(rt.alloc(), SETTINGS).ok_or("no engine")?;
-    assert!(rt; engine.page(0).is_none());
-    for (ask, answer) in STEPS {
-        let reply = reply_to(rt.alloc(), &mut engine, ask)?;
-        assert!(rt;
-            is(&reply, ask, answer),
-            "{ask:?} answered {reply:?} and not {answer:?}"
-        );
-    }
-    assert_eq!(rt; shown(&engine), (7, 3, Some(12)));
-    let page = engine.page(0).ok_or("no page")?;
-    assert_eq!(rt; page.slots(), 10);
-    assert!(rt;
-        matches!(page.slot(2), Some(Slot::Dead)) && matches!(page.slot(3), Some(Slot::Dead))
-    );
-    // 1096 and 72 bytes less 4 for a new slot.
-    assert_eq!(rt; page.room(), 1164);
-    assert!(rt; engine.page(1).is_none());
-    Ok(())
+    ask_new(rt.alloc(), SETTINGS, &STEPS)
 }
 
 #[test]
 fn updates_and_deletes(rt: HostRuntime) -> Result<(), Fail> {
-    let mut engine = new_engine(rt.alloc(), changes::SETTINGS).ok_or("no engine")?;
-    for (ask, answer) in changes::STEPS {
-        let reply = reply_to(rt.alloc(), &mut engine, ask)?;
-        assert!(rt;
-            is(&reply, ask, answer),
-            "{ask:?} answered {reply:?} and not {answer:?}"
-        );
-    }
-    assert_eq!(rt; shown(&engine), (8, 3, Some(27)));
-    let page = engine.page(0).ok_or("no page")?;
-    assert!(rt;
-        matches!(page.slot(1), Some(Slot::Dead)) && matches!(page.slot(3), Some(Slot::Redirect(4)))
-    );
-    assert!(rt;
-        matches!(page.slot(2), Some(Slot::Unused)) && matches!(page.slot(5), Some(Slot::Unused))
-    );
-    // Of 8168 bytes 44 go to slots, and 320 and 6 * 1096 to versions.
-    assert_eq!(rt; page.room(), 1228);
-    // Two roots of key 1, and one of each other key.
-    let index = engine.index(0).ok_or("no index")?;
-    assert_eq!(rt; index.len(), 8);
-    assert!(rt; engine.index(1).is_none());
-    Ok(())
+    ask_new(rt.alloc(), changes::SETTINGS, &changes::STEPS)
 }
 
 #[test]
 fn savepoints(rt: HostRuntime) -> Result<(), Fail> {
-    let mut engine = new_engine(rt.alloc(), levels::SETTINGS).ok_or("no engine")?;
-    for (ask, answer) in levels::STEPS {
-        let reply = reply_to(rt.alloc(), &mut engine, ask)?;
-        assert!(rt;
-            is(&reply, ask, answer),
-            "{ask:?} answered {reply:?} and not {answer:?}"
-        );
-    }
-    assert_eq!(rt; shown(&engine), (9, 3, Some(10)));
-    let page = engine.page(0).ok_or("no page")?;
-    assert_eq!(rt; page.slots(), 6);
-    assert!(rt;
-        matches!(page.slot(2), Some(Slot::Unused)) && matches!(page.slot(4), Some(Slot::Dead))
-    );
-    // Of 8168 bytes 24 go to slots, and 80, 96 and 72 to versions.
-    assert_eq!(rt; page.room(), 7896);
-    Ok(())
+    ask_new(rt.alloc(), levels::SETTINGS, &levels::STEPS)
+}
+
+#[test]
+fn savepoints_one_above_another(rt: HostRuntime) -> Result<(), Fail> {
+    ask_new(rt.alloc(), levels::SETTINGS, &levels::DEEP)
 }
 
 #[test]
 fn cursors_opened_and_closed(rt: HostRuntime) -> Result<(), Fail> {
-    let mut engine = new_engine(rt.alloc(), openings::SETTINGS).ok_or("no engine")?;
-    for (ask, answer) in openings::STEPS {
-        let reply = reply_to(rt.alloc(), &mut engine, ask)?;
-        assert!(rt;
-            is(&reply, ask, answer),
-            "{ask:?} answered {reply:?} and not {answer:?}"
-        );
-    }
-    assert_eq!(rt; shown(&engine).0, 6);
-    assert!(rt; engine.page(1).is_some() && engine.page(2).is_none());
-    Ok(())
-}
-
-// There may be 32 savepoints, and again as many after one was released.
-#[test]
-fn savepoints_one_above_another(rt: HostRuntime) -> Result<(), Fail> {
-    let mut engine = new_engine(rt.alloc(), levels::SETTINGS).ok_or("no engine")?;
-    let _ = reply_to(rt.alloc(), &mut engine, Ask::Begin(0))?;
-    for count in 0..34u64 {
-        let reply = reply_to(rt.alloc(), &mut engine, Ask::Savepoint(0))?;
-        let answer = if count < 32 {
-            Answer::Done
-        } else {
-            Answer::Refused(Refusal::TooDeep)
-        };
-        assert!(rt; is(&reply, Ask::Savepoint(0), answer), "{count}");
-    }
-    for ask in [Ask::RollbackTo(0), Ask::Release(0), Ask::Savepoint(0)] {
-        let reply = reply_to(rt.alloc(), &mut engine, ask)?;
-        assert!(rt; is(&reply, ask, Answer::Done), "{ask:?}");
-    }
-    let reply = reply_to(rt.alloc(), &mut engine, Ask::Savepoint(0))?;
-    assert!(rt; is(&reply, Ask::Savepoint(0), Answer::Refused(Refusal::TooDeep)));
-    assert_eq!(rt; shown(&engine), (3, 3, None));
-    Ok(())
+    ask_new(rt.alloc(), openings::SETTINGS, &openings::STEPS)
 }

@@ -60,59 +60,52 @@ fn run_case(alloc: Global, case: &Case) -> Result<Ended, AllocError> {
     )
 }
 
+// Whether the script has its answers and its end.
+fn ends_so(alloc: Global, case: &Case) -> Result<bool, AllocError> {
+    let ended = run_case(alloc, case)?;
+    Ok(
+        ended.answers.as_slice() == case.answers
+            && ended.status == case.status
+            && ended.words.as_str() == case.words,
+    )
+}
+
+// The name of the first script that does not end as it has to.
+fn first_wrong(alloc: Global, cases: &[Case]) -> Result<Option<&'static str>, AllocError> {
+    for case in cases {
+        if !ends_so(alloc, case)? {
+            return Ok(Some(case.name));
+        }
+    }
+    Ok(None)
+}
+
 #[test]
 fn worked_cases(rt: HostRuntime) -> Result<(), Fail> {
-    for case in &CASES {
-        let name = case.name;
-        let ended = run_case(rt.alloc(), case)?;
-        assert_eq!(rt; ended.answers.as_slice(), case.answers, "{name}");
-        assert_eq!(rt; ended.status, case.status, "{name}");
-        assert_eq!(rt; ended.words.as_str(), case.words, "{name}");
-    }
+    assert_eq!(rt; first_wrong(rt.alloc(), &CASES)?, None);
     Ok(())
 }
 
 #[test]
 fn worked_chains(rt: HostRuntime) -> Result<(), Fail> {
-    for case in &CHAINS {
-        let name = case.name;
-        let ended = run_case(rt.alloc(), case)?;
-        assert_eq!(rt; ended.answers.as_slice(), case.answers, "{name}");
-        assert_eq!(rt; ended.status, case.status, "{name}");
-    }
+    assert_eq!(rt; first_wrong(rt.alloc(), &CHAINS)?, None);
     Ok(())
 }
 
 #[test]
 fn worked_savepoints(rt: HostRuntime) -> Result<(), Fail> {
-    for case in &SAVEPOINTS {
-        let name = case.name;
-        let ended = run_case(rt.alloc(), case)?;
-        assert_eq!(rt; ended.answers.as_slice(), case.answers, "{name}");
-        assert_eq!(rt; ended.status, case.status, "{name}");
-    }
+    assert_eq!(rt; first_wrong(rt.alloc(), &SAVEPOINTS)?, None);
     Ok(())
 }
 
 #[test]
 fn worked_cursors(rt: HostRuntime) -> Result<(), Fail> {
-    for case in &CURSORS {
-        let name = case.name;
-        let ended = run_case(rt.alloc(), case)?;
-        assert_eq!(rt; ended.answers.as_slice(), case.answers, "{name}");
-        assert_eq!(rt; ended.status, case.status, "{name}");
-        assert_eq!(rt; ended.words.as_str(), case.words, "{name}");
-    }
+    assert_eq!(rt; first_wrong(rt.alloc(), &CURSORS)?, None);
     Ok(())
 }
 
 #[test]
 fn worked_pages(rt: HostRuntime) -> Result<(), Fail> {
-    for case in &PAGES {
-        let name = case.name;
-        let ended = run_case(rt.alloc(), case)?;
-        assert_eq!(rt; ended.answers.as_slice(), case.answers, "{name}");
-        assert_eq!(rt; ended.status, case.status, "{name}");
-    }
+    assert_eq!(rt; first_wrong(rt.alloc(), &PAGES)?, None);
     Ok(())
 }

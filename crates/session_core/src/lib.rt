@@ -29,8 +29,3 @@ pub use laws::views_by_index;
 pub use page_slots::Page;
 pub use runs::{RunFault, run};
 pub use session_relation::{Refusal, Reply, Row, RowIn, Settings, SettingsFault, Step};
-
-#[cfg(test)]
-mod cursor_tests;
-#[cfg(test)]
-mod tests;

@@ -1,0 +1,310 @@
+//! Tables of steps, each beside what it has to answer.
+
+use page_slots::{Page, Slot};
+use session_core::{Engine, Refusal, Reply, Row, RowIn, Settings, SettingsFault, Step, run};
+use std::alloc::{AllocError, Global};
+use std::test::Fail;
+
+/// What is asked of an engine. What an insert or an update writes has a body only where that is said.
+#[derive(Clone, Copy)]
+pub enum Ask {
+    Begin(u8),
+    Get(u8, u64),
+    /// Inserts a row of the key, with this first column, and 0 in the others.
+    Insert(u8, u64, i64),
+    /// Inserts a row of the key with the columns of [`SAMPLE`].
+    InsertSample(u8, u64),
+    /// Inserts a row of the key with the largest body, and 0 in all columns.
+    InsertLargest(u8, u64),
+    /// Writes another row of the key, with this first column, and 0 in the others.
+    Update(u8, u64, i64),
+    Delete(u8, u64),
+    Savepoint(u8),
+    RollbackTo(u8),
+    Release(u8),
+    OpenIndex(u8, u8, i128, i128),
+    OpenHeap(u8),
+    Next(u8, u16),
+    Close(u8),
+    Commit(u8),
+    Abort(u8),
+    Prune(u32),
+    /// Reads the row of a key, which is no step, nor is what follows.
+    Read(u8, u64),
+    /// The next id to be given, and the oldest that is remembered.
+    Ids,
+    /// How many slots a page has, and its bits.
+    Page(u32),
+    /// How often a page was changed.
+    Changes(u32),
+    /// Whether a slot of the first page is dead or a version.
+    Slot(u16),
+    /// The id that deleted the version in a slot of the first page.
+    Deleter(u16),
+    /// How many entries an index has.
+    Entries(u8),
+}
+
+/// What has to be answered.
+#[derive(Clone, Copy)]
+pub enum Answer {
+    Done,
+    NoRow,
+    /// A row with this first column.
+    Column(i64),
+    /// The row of this key that an [`Ask::InsertSample`] writes.
+    Sample(u64),
+    /// Rows of these keys, with these first columns, in this order.
+    Rows(&'static [(u64, i64)]),
+    End,
+    Committed,
+    RolledBack,
+    Refused(Refusal),
+    Ids(u32, u32),
+    Page(u16, u8),
+    NoPage,
+    Changes(u64),
+    Dead,
+    Normal,
+    Deleter(u32),
+    Entries(u64),
+    NoIndex,
+}
+
+pub const SAMPLE: [i64; 4] = [1, -2, 3, -4];
+
+fn bare_row(alloc: Global, key: u64, cols: [i64; 4]) -> RowIn {
+    RowIn {
+        key,
+        cols,
+        body: Vec::new(alloc),
+    }
+}
+
+fn largest_row(alloc: Global, key: u64) -> Result<RowIn, AllocError> {
+    Ok(RowIn {
+        key,
+        cols: [0; 4],
+        body: vec![in alloc; 0u8; 1024]?,
+    })
+}
+
+// The step that is asked for, if it is one.
+fn step_of(alloc: Global, ask: Ask) -> Result<Option<Step>, AllocError> {
+    Ok(Some(match ask {
+        Ask::Begin(s) => Step::Begin(s),
+        Ask::Get(s, key) => Step::Get(s, key),
+        Ask::Insert(s, key, column) => Step::Insert(s, bare_row(alloc, key, [column, 0, 0, 0])),
+        Ask::InsertSample(s, key) => Step::Insert(s, bare_row(alloc, key, SAMPLE)),
+        Ask::InsertLargest(s, key) => Step::Insert(s, largest_row(alloc, key)?),
+        Ask::Update(s, key, column) => Step::Update(s, bare_row(alloc, key, [column, 0, 0, 0])),
+        Ask::Delete(s, key) => Step::Delete(s, key),
+        Ask::Savepoint(s) => Step::Savepoint(s),
+        Ask::RollbackTo(s) => Step::RollbackTo(s),
+        Ask::Release(s) => Step::Release(s),
+        Ask::OpenIndex(s, index, low, high) => Step::OpenIndex(s, index, low, high),
+        Ask::OpenHeap(s) => Step::OpenHeap(s),
+        Ask::Next(s, count) => Step::Next(s, count),
+        Ask::Close(s) => Step::Close(s),
+        Ask::Commit(s) => Step::Commit(s),
+        Ask::Abort(s) => Step::Abort(s),
+        Ask::Prune(page) => Step::Prune(page),
+        _ => return Ok(None),
+    }))
+}
+
+fn is_row(row: &Row, answer: Answer) -> bool {
+    match answer {
+        Answer::Column(column) => row.cols[0] == column,
+        Answer::Sample(key) => row.key == key && row.cols == SAMPLE && row.body.is_empty(),
+        _ => false,
+    }
+}
+
+fn are_rows(rows: &[Row], told: &[(u64, i64)]) -> bool {
+    if rows.len() != told.len() {
+        return false;
+    }
+    for (row, (key, column)) in rows.iter().zip(told) {
+        if row.key != *key || row.cols[0] != *column {
+            return false;
+        }
+    }
+    true
+}
+
+fn is_answer(reply: &Reply, answer: Answer) -> bool {
+    match reply {
+        Reply::Done => matches!(answer, Answer::Done),
+        Reply::Found(None) => matches!(answer, Answer::NoRow),
+        Reply::Found(Some(row)) => is_row(row, answer),
+        Reply::Rows(rows) => match answer {
+            Answer::Rows(told) => are_rows(rows.as_slice(), told),
+            _ => false,
+        },
+        Reply::End => matches!(answer, Answer::End),
+        Reply::Committed => matches!(answer, Answer::Committed),
+        Reply::RolledBack => matches!(answer, Answer::RolledBack),
+        Reply::Refused(refusal) => is_refusal(*refusal, answer),
+    }
+}
+
+fn is_refusal(refusal: Refusal, answer: Answer) -> bool {
+    match answer {
+        Answer::Refused(told) => refusal == told,
+        _ => false,
+    }
+}
+
+fn reads(engine: &Engine, s: u8, key: u64, answer: Answer) -> bool {
+    match engine.read(s, key) {
+        Ok(None) => matches!(answer, Answer::NoRow),
+        Ok(Some(row)) => is_row(&row, answer),
+        Err(refusal) => is_refusal(refusal, answer),
+    }
+}
+
+fn are_ids(engine: &Engine, answer: Answer) -> bool {
+    let (next, oldest) = engine.ids();
+    match answer {
+        Answer::Ids(told, below) => next.0 == told && oldest.0 == below,
+        _ => false,
+    }
+}
+
+fn is_page(engine: &Engine, number: u32, answer: Answer) -> bool {
+    let slots = engine.page(number).map(Page::slots);
+    let bits = engine.page_bits(number);
+    match answer {
+        Answer::Page(told, told_bits) => slots == Some(told) && bits == Some(told_bits),
+        Answer::NoPage => slots.is_none() && bits.is_none(),
+        _ => false,
+    }
+}
+
+fn are_changes(engine: &Engine, number: u32, answer: Answer) -> bool {
+    match (engine.page(number), answer) {
+        (Some(page), Answer::Changes(told)) => page.change() == told,
+        _ => false,
+    }
+}
+
+fn is_slot(page: &Page, number: u16, answer: Answer) -> bool {
+    match page.slot(number) {
+        Some(Slot::Dead) => matches!(answer, Answer::Dead),
+        Some(Slot::Normal(_)) => matches!(answer, Answer::Normal),
+        _ => false,
+    }
+}
+
+fn is_deleter(page: &Page, number: u16, answer: Answer) -> bool {
+    match (page.header(number), answer) {
+        (Some(header), Answer::Deleter(told)) => header.xmax.0 == told,
+        _ => false,
+    }
+}
+
+fn are_entries(engine: &Engine, number: u8, answer: Answer) -> bool {
+    match (engine.index(number), answer) {
+        (Some(index), Answer::Entries(told)) => index.len() == told,
+        (None, Answer::NoIndex) => true,
+        _ => false,
+    }
+}
+
+// What is asked for of the first page.
+fn first_page_shows(engine: &Engine, ask: Ask, answer: Answer) -> bool {
+    match (engine.page(0), ask) {
+        (Some(page), Ask::Slot(number)) => is_slot(page, number, answer),
+        (Some(page), Ask::Deleter(number)) => is_deleter(page, number, answer),
+        _ => false,
+    }
+}
+
+// What is asked for by no step.
+fn shows(engine: &Engine, ask: Ask, answer: Answer) -> bool {
+    match ask {
+        Ask::Read(s, key) => reads(engine, s, key, answer),
+        Ask::Ids => are_ids(engine, answer),
+        Ask::Page(number) => is_page(engine, number, answer),
+        Ask::Changes(number) => are_changes(engine, number, answer),
+        Ask::Entries(number) => are_entries(engine, number, answer),
+        _ => first_page_shows(engine, ask, answer),
+    }
+}
+
+// Whether the engine answers so. It promises nothing: what `Engine::step` promises would be carried along by each proof above.
+fn answers(
+    alloc: Global,
+    engine: &mut Engine,
+    ask: Ask,
+    answer: Answer,
+) -> Result<bool, AllocError> {
+    match step_of(alloc, ask)? {
+        Some(step) => Ok(is_answer(&engine.step(step), answer)),
+        None => Ok(shows(engine, ask, answer)),
+    }
+}
+
+// The place of the first that is not answered so.
+fn first_wrong(
+    alloc: Global,
+    engine: &mut Engine,
+    table: &[(Ask, Answer)],
+) -> Result<Option<usize>, AllocError> {
+    for (at, (ask, answer)) in table.iter().enumerate() {
+        if !answers(alloc, engine, *ask, *answer)? {
+            return Ok(Some(at));
+        }
+    }
+    Ok(None)
+}
+
+fn none_wrong(wrong: Option<usize>) -> Result<(), Fail> {
+    match wrong {
+        Some(at) => Err(Fail::new(format_args!(
+            "line {at} of the table, counted from 0, is answered otherwise"
+        ))),
+        None => Ok(()),
+    }
+}
+
+fn new_engine(alloc: Global, settings: Settings) -> Result<Engine, SettingsFault> {
+    Engine::new(alloc, settings)
+}
+
+/// Asks a new engine for all in turn, and fails at the first line that is not answered so.
+pub fn ask_new(alloc: Global, settings: Settings, table: &[(Ask, Answer)]) -> Result<(), Fail> {
+    let mut engine = new_engine(alloc, settings)?;
+    none_wrong(first_wrong(alloc, &mut engine, table)?)
+}
+
+fn steps_of(alloc: Global, table: &[(Ask, Answer)]) -> Result<Vec<Step>, AllocError> {
+    let mut steps = Vec::new(alloc);
+    for (ask, _) in table {
+        if let Some(step) = step_of(alloc, *ask)? {
+            steps.push(step)?;
+        }
+    }
+    Ok(steps)
+}
+
+// The place of the first reply that is not the answer beside it, or that has none or is missing.
+fn first_wrong_reply(replies: &[Reply], table: &[(Ask, Answer)]) -> Option<usize> {
+    if replies.len() != table.len() {
+        return Some(replies.len());
+    }
+    for (at, (reply, (_, answer))) in replies.iter().zip(table).enumerate() {
+        if !is_answer(reply, *answer) {
+            return Some(at);
+        }
+    }
+    None
+}
+
+/// Asks for all the steps in one run, which has to have as many replies as there are lines.
+pub fn ask_run(alloc: Global, settings: Settings, table: &[(Ask, Answer)]) -> Result<(), Fail> {
+    let steps = steps_of(alloc, table)?;
+    let replies = run(alloc, settings, steps.as_slice())?;
+    none_wrong(first_wrong_reply(replies.as_slice(), table))
+}

@@ -1,0 +1,13 @@
+//! Tests of the engine, step by step, each reply reckoned by hand.
+//!
+//! They stand apart from `session_core`, so that neither is checked a second time for the other's sake.
+#![tactic(auto)]
+
+#[cfg(test)]
+mod asks;
+#[cfg(test)]
+mod cursors;
+#[cfg(test)]
+mod pages;
+#[cfg(test)]
+mod runs;
