@@ -24,7 +24,7 @@ use Rattle.heap_write.specs.Growth.{page_in, HasSlot, SamePage, GrowsPage, place
 use Rattle.heap_write.specs.Indexes.{NeedsEntry}
 use Rattle.heap_write.specs.Steps.{IsChosen}
 use Rattle.heap_write.proofs.PageLemmas.{page-at, page-set, page-set_other}
-use Rattle.heap_write.proofs.PlaceLemmas.{alike-same, alike-full, place-set, page-place, new-place}
+use Rattle.heap_write.proofs.PlaceLemmas.{alike-same, alike-full, place-set, place-back, page-place, new-place}
 
 -- The page that was chosen has grown.
 
@@ -82,6 +82,17 @@ insert-refused h own row (Err fault) free room no_memory needs =
 
 not-chosen : (pages : List PageView) (limit size n m : ℕ) → IsPlaceFor pages limit size (to.Page n) → ¬ HasRoom size (page_in pages m) → m ≢ n
 not-chosen pages limit size n m chosen full same = full (subst (λ k. HasRoom size (page_in pages k)) (sym same) (page-place pages limit size n chosen).1)
+
+-- what a new root needs after a page without room has grown in memory, it needed before
+pub needs-before : (h : HeapView) (own : Own) (size m : ℕ) (grown : PageView) → m < length h.pages.pages → grown.slots ≡ (page_on h m).slots → ¬ HasRoom size (page_on h m)
+    → PlaceNeedsMemory (set h.pages.pages m grown) h.max_pages size → RootNeedsMemory h own size
+needs-before h own size m grown within same full (PlaceNeedsMemory.for_page chosen) =
+    RootNeedsMemory.for_page (place-back h.pages.pages h.max_pages size m grown to.NewPage within same chosen)
+needs-before h own size m grown within same full (PlaceNeedsMemory.for_slot n chosen needs) =
+    let pages = h.pages.pages in
+    let before = place-back pages h.max_pages size m grown (to.Page n) within same chosen in
+    let other : n ≢ m = λ e. not-chosen pages h.max_pages size n m before full (sym e) in
+    RootNeedsMemory.for_slot n before (subst (λ p. NeedsSlot p) (page-set_other pages m n grown other) needs)
 
 pub unchosen-kept : (pages pages' : PagesView) (limit size m : ℕ) (found : Option Target) → Reserves pages pages' limit size found → ¬ HasRoom size (page_in pages.pages m)
     → page_in pages'.pages m ≡ page_in pages.pages m

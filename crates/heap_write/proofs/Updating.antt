@@ -35,7 +35,7 @@ pub some-weaker : {A : Type 0} (o : Option A) (P Q : A → Type 0) → ((a : A) 
 some-weaker (Some a) P Q f h = f a h
 some-weaker None P Q f h = h
 
-no-room : (size room : ℕ) → room < size → ¬ (size ≤ room)
+pub no-room : (size room : ℕ) → room < size → ¬ (size ≤ room)
 no-room size room small large = let no : 1 ≤ 0 = omega (arith, small, large) in omega (arith, no)
 
 -- A page that is kept has the slots that it had.

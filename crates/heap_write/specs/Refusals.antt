@@ -43,13 +43,15 @@ LacksForInsert h own row fault.Gone = ⊥
 abbrev pub IsThere : HeapView → Tid → Type 0
 IsThere h place = IsNormalAt (page_on h place.page).slots place.slot
 
--- something has to grow for an update: the ids, the page's list of slots, or an index where a value in one changes; or the
--- page is to be pruned, whose plan takes memory
+-- Something has to grow for an update: the ids, the page's list of slots, or an index where a value in one changes. Where the
+-- row has no room on the page, pruning may make it there or not, so both are made ready before: a slot more on the page, and
+-- whatever a new root takes.
 pub data UpdateNeedsMemory (h : HeapView) (own : Own) (place : Tid) (row : Row) : Type 0 where
   for_ids : NeedsIds h own → UpdateNeedsMemory h own place row
   for_slot : NeedsSlot (page_on h place.page) → UpdateNeedsMemory h own place row
   for_entry : ¬ KeepsValues h place row → NeedsEntry h.indexes → UpdateNeedsMemory h own place row
-  to_prune : room_of (page_on h place.page).slots < rounded_size_of row → UpdateNeedsMemory h own place row
+  to_prune : room_of (page_on h place.page).slots < rounded_size_of row
+      → ((page_on h place.page).spare ≡ 0) ⊎ RootNeedsMemory h own (rounded_size_of row) → UpdateNeedsMemory h own place row
 
 -- the page of the old version was made ready, and this is so then
 pub record WhenReady (h h' : HeapView) (own : Own) (place : Tid) (horizon size : ℕ) (P : HeapView → Type 0) : Type 0 where
@@ -75,7 +77,6 @@ FailsDelete h h' own place fault.NoRoom = ⊥
 FailsDelete h h' own place fault.NoMemory = IsThere h place × (¬ NeedsFreeze h.table own) × NeedsIds h own × Keeps h h'
 FailsDelete h h' own place fault.Gone = (¬ IsThere h place) × Keeps h h'
 
--- why a page is not pruned: it is not in use, or its plan found no memory
+-- why a page is not pruned: it is not in use
 abbrev pub Unpruned : HeapView → ℕ → PruneFault → Type 0
 Unpruned h number prune_fault.NoSuchPage = length h.pages.pages ≤ number
-Unpruned h number prune_fault.NoMemory = number < length h.pages.pages

@@ -8,7 +8,6 @@ ghost use Rattle.heap_write.specs.Refusals.{Unpruned};
 
 use crate::heap::HeapState;
 use prune::prune;
-use std::alloc::AllocError;
 use thiserror::Error;
 use xid_circle::Xid;
 
@@ -18,14 +17,11 @@ pub enum PruneFault {
     /// There are no more pages in use than its number.
     #[error("there is no such page")]
     NoSuchPage,
-    /// Its plan found no memory.
-    #[error("there is no memory")]
-    NoMemory,
 }
 
 impl HeapState {
-    /// Takes from the page of this number, counted from 0, what nobody can see any more at the horizon. The fault
-    /// leaves all as it was. (The manual's "Heap-Only Tuples"; README.HOT, "Pruning".)
+    /// Takes from the page of this number, counted from 0, what nobody can see any more at the horizon. It takes
+    /// no memory, and the fault leaves all as it was. (The manual's "Heap-Only Tuples"; README.HOT, "Pruning".)
     pub fn prune(&mut self, number: u32, horizon: Xid) -> Result<(), PruneFault>
         requires { IsNormal horizon.0 }
         ensures ok { OnOk result (Prunes self.old self.new number horizon.0) }
@@ -35,26 +31,18 @@ impl HeapState {
         if number >= self.pages.len() {
             return Err(PruneFault::NoSuchPage);
         }
-        match self.prune_page(number, horizon) {
-            Ok(()) => Ok(()),
-            Err(_) => Err(PruneFault::NoMemory),
-        }
+        self.prune_page(number, horizon);
+        Ok(())
     }
 
     /// Prunes the page of this number, which is in use.
-    pub(crate) fn prune_page(&mut self, number: u32, horizon: Xid) -> Result<(), AllocError>
+    pub(crate) fn prune_page(&mut self, number: u32, horizon: Xid)
         requires within { number < length self.old.pages.pages }
         requires normal { IsNormal horizon.0 }
-        ensures ok { OnOk result (Prunes self.old self.new number horizon.0) }
-        ensures spare { OnOk result ((page_on self.new number).spare ≡ (page_on self.old number).spare) }
+        ensures prunes { Prunes self.old self.new number horizon.0 }
+        ensures spare { (page_on self.new number).spare ≡ (page_on self.old number).spare }
         ensures table { self.new.table ≡ self.old.table }
-        ensures err { OnErr result (self.new ≡ self.old) }
     {
-        prune(
-            self.alloc,
-            self.pages.page_mut(number),
-            &self.table,
-            horizon,
-        )
+        prune(self.pages.page_mut(number), &self.table, horizon);
     }
 }

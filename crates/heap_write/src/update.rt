@@ -9,7 +9,7 @@ ghost use Rattle.tuple_header.specs.Version.{rounded_size_of};
 ghost use Rattle.heap_write.specs.Heap.{page_on, Keeps};
 ghost use Rattle.heap_write.specs.Indexes.{HasEntries, NeedsEntry};
 ghost use Rattle.heap_write.specs.Writes.{NeedsFreeze, TakesIds, SameOwn, KeepsValues, ReplacesHere, ReplacesByRoot, ReplacesOnPage, Replaces, Updates};
-ghost use Rattle.heap_write.specs.Refusals.{FailsUpdate, UpdateNeedsMemory, IsThere, NeedsIds, NeedsSlot};
+ghost use Rattle.heap_write.specs.Refusals.{FailsUpdate, RootNeedsMemory, UpdateNeedsMemory, IsThere, NeedsIds, NeedsSlot};
 ghost use Rattle.heap_write.specs.Growth.{HasIds, HasSlot, GrowsPage, IsReady, target_number};
 ghost use Rattle.heap_write.specs.Steps.{IsChosen, FailsReady};
 
@@ -29,9 +29,8 @@ impl HeapState {
     /// is heap-only where it stays on the page and no value in an index changes, else a root, with an entry in each index.
     /// It answers Gone exactly where no version is there, before or after that pruning, else NeedsFreeze exactly where the
     /// levels lack more ids than can be given, else NoRoom exactly where all pages that there may be are in use and none has
-    /// room, and NoMemory only where something has to grow or the page is to be pruned. A refused update gives no id, and
-    /// changes nothing but that the page may be pruned. (README.HOT; PostgreSQL, `heap_update` in
-    /// src/backend/access/heap/heapam.c.)
+    /// room, and NoMemory only where something has to grow. A refused update gives no id, and changes nothing but that the
+    /// page may be pruned. (README.HOT; PostgreSQL, `heap_update` in src/backend/access/heap/heapam.c.)
     pub fn update(
         &mut self,
         own: &mut OwnIds,
@@ -134,7 +133,7 @@ impl HeapState {
         reserve_slot(self.pages.page_mut(number))
     }
 
-    /// Updates a version whose page has no room for the row, and is pruned first, as the last that takes memory.
+    /// Updates a version whose page has no room for the row, and is pruned once memory is made ready.
     fn update_with_pruning(
         &mut self,
         own: &mut OwnIds,
@@ -155,12 +154,11 @@ impl HeapState {
     {
         let reserved = self.reserve_update(own, place.page, size_of(&row));
         self.table.is_window();
-        let target = match reserved {
-            Ok(target) => target,
-            Err(_) => return Err(WriteFault::NoMemory),
-        };
-        match self.prune_page(place.page, horizon) {
-            Ok(()) => self.update_ready(own, place, row, target),
+        match reserved {
+            Ok(target) => {
+                self.prune_page(place.page, horizon);
+                self.update_ready(own, place, row, target)
+            }
             Err(_) => Err(WriteFault::NoMemory),
         }
     }
@@ -183,6 +181,7 @@ impl HeapState {
         ensures has_entries { OnOk result (HasEntries self.new.indexes) }
         ensures chosen { IfOk result (λ found. IsChosen self.new size found) }
         ensures ready { IfOk result (λ found. IfSome found (λ target. IsReady self.new.pages size target)) }
+        ensures needs { OnErr result (((page_on self.old number).spare ≡ 0) ⊎ RootNeedsMemory self.old own.old size) }
     {
         if reserve_ids(&mut self.table, own).is_err() || self.indexes.make_room().is_err() {
             return Err(AllocError);

@@ -112,7 +112,7 @@ fn two_updates_on_the_page(rt: HostRuntime) {
     assert_eq!(rt; update(&mut page, 2, Xid(5)), 3);
     finish(&mut table, Xid(5), Status::Committed);
     // a snapshot that lists 4 is open
-    let _ = prune(rt.alloc(), &mut page, &table, Xid(4));
+    prune(&mut page, &table, Xid(4));
     assert_eq!(rt; page.change(), 5);
     assert_eq!(rt; page.slots(), 3);
     assert_eq!(rt; page.header(1), header(3, 4, 2, 0x4000, 0));
@@ -121,7 +121,7 @@ fn two_updates_on_the_page(rt: HostRuntime) {
     assert_eq!(rt; chain(&page, 1, &table).as_slice(), [1u16, 2, 3].as_slice());
     assert_eq!(rt; root_of(&page, 3, &table), Some(1));
     // and is closed
-    let _ = prune(rt.alloc(), &mut page, &table, Xid(6));
+    prune(&mut page, &table, Xid(6));
     assert_eq!(rt; page.change(), 7);
     assert!(rt; matches!(page.slot(1), Some(Slot::Redirect(3))));
     assert!(rt; matches!(page.slot(2), Some(Slot::Unused)));
@@ -164,7 +164,7 @@ fn heap_only_slot_reused(rt: HostRuntime) {
     finish(&mut table, Xid(3), Status::Committed);
     assert_eq!(rt; update(&mut page, 1, Xid(4)), 2);
     finish(&mut table, Xid(4), Status::Aborted);
-    let _ = prune(rt.alloc(), &mut page, &table, Xid(5));
+    prune(&mut page, &table, Xid(5));
     assert!(rt; matches!(page.slot(2), Some(Slot::Unused)));
     assert_eq!(rt; insert(&mut page, Xid(5)), 2);
     assert_eq!(rt; page.change(), 5);

@@ -87,6 +87,17 @@ listed-push count answer acts bound a l from within target e = record {
       (λ ge. let at : n ≡ bound = omega arith in ap (action_of (acts ++ (bound, a) ∷ [])) at ∙ push-same bound acts bound a l.below (omega arith) ∙ e ∙ ap answer (sym at)) (cases_lt n bound);
 }
 
+order-length : (count low : ℕ) (acts : List (ℕ × Action)) → AreInOrder count low acts → low ≤ count → low + length acts ≤ count
+order-length count low [] o h = omega (arith)
+order-length count low (x ∷ rest) o h =
+    let above = o.0 in
+    let more : x.0 + length rest ≤ count = order-length count x.0 rest o.2 o.1 in
+    omega (arith)
+
+-- a page of so many slots has no more actions
+pub listed-length : (count : ℕ) (answer : ℕ → Option Action) (acts : List (ℕ × Action)) (bound : ℕ) → AreListed count answer acts bound → length acts ≤ count
+listed-length count answer acts bound l = let all = order-length count 0 acts l.in_order (omega arith) in omega (arith, all)
+
 -- What a plan does to each slot.
 
 pub order-none : (count low n : ℕ) (acts : List (ℕ × Action)) → AreInOrder count low acts → n ≤ low → action_of acts n ≡ None

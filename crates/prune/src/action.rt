@@ -1,9 +1,12 @@
 //! What a plan does to a slot.
 
+use arrayvec::ArrayVec;
+
 /// What is done to a slot.
-#[derive(Clone, Copy, Debug, PartialEq, Eq)]
+#[derive(Clone, Copy, Debug, Default, PartialEq, Eq)]
 pub enum Action {
     /// It becomes unused.
+    #[default]
     Unuse,
     /// It becomes dead: it holds nothing, but keeps its number while index entries lead to it.
     Kill,
@@ -16,6 +19,6 @@ pub enum Action {
 pub struct PrunePlan {
     /// The change number of the page that it was made for.
     pub change: u64,
-    /// What is done to which slot, in order of slots.
-    pub actions: Vec<(u16, Action)>,
+    /// What is done to which slot, in order of slots. A page has at most 291, so a plan takes no memory.
+    pub actions: ArrayVec<(u16, Action), 292>,
 }

@@ -1,6 +1,6 @@
 //! A plan's changes of a page.
 
-ghost use Rattle.std.specs.Prelude.{◌≡◌, length, OnOk, OnErr, ℕ};
+ghost use Rattle.std.specs.Prelude.{◌≡◌, length, ℕ};
 ghost use Rattle.xid_circle.specs.Circle.{IsNormal};
 ghost use Rattle.hot_chain.specs.Chain.{has_aborted};
 ghost use Rattle.prune.specs.Actions.{CanDo, CanApply, after_action, applied};
@@ -14,7 +14,6 @@ use crate::action::{Action, PrunePlan};
 use crate::planning::plan;
 use commit_status::StatusTable;
 use page_slots::Page;
-use std::alloc::{AllocError, Global};
 use xid_circle::Xid;
 
 /// Does one thing to a slot.
@@ -35,30 +34,23 @@ pub fn apply(page: &mut Page, plan: &PrunePlan)
     requires { CanApply (length page.old.slots) plan.now.actions.items }
     ensures { page.new ≡ applied plan.now.actions.items page.old }
 {
-    for action in &plan.actions {
+    for action in plan.actions.as_slice() {
         act(page, action.0, action.1);
     }
 }
 
-/// Prunes a page at this horizon, a normal id. Where memory is refused, the page is as it was.
-pub fn prune(
-    alloc: Global,
-    page: &mut Page,
-    table: &StatusTable,
-    horizon: Xid,
-) -> Result<(), AllocError>
+/// Prunes a page at this horizon, a normal id. It takes no memory.
+pub fn prune(page: &mut Page, table: &StatusTable, horizon: Xid)
     requires { IsNormal horizon.0 }
-    ensures by_plan { OnOk result (IsPrunedPage table.now horizon.0 page.old page.new) }
-    ensures pruned { OnOk result (IsPruned table.now horizon.0 page.old.slots page.new.slots) }
-    ensures removes { OnOk result (Removes table.now horizon.0 page.old.slots page.new.slots) }
-    ensures roots { OnOk result (NoSharedSlots (has_aborted table.now) page.old.slots → KeepsRoots page.old.slots page.new.slots) }
-    ensures never_seen { OnOk result (SoundPage table.now horizon.0 page.old.slots → KeepsFound table.now horizon.0 page.old.slots page.new.slots) }
-    ensures none_dead { OnOk result (SoundPage table.now horizon.0 page.old.slots → (n : ℕ) → ¬ IsDeadAt table.now horizon.0 page.new.slots n) }
-    ensures err { OnErr result (page.new ≡ page.old) }
+    ensures by_plan { IsPrunedPage table.now horizon.0 page.old page.new }
+    ensures pruned { IsPruned table.now horizon.0 page.old.slots page.new.slots }
+    ensures removes { Removes table.now horizon.0 page.old.slots page.new.slots }
+    ensures roots { NoSharedSlots (has_aborted table.now) page.old.slots → KeepsRoots page.old.slots page.new.slots }
+    ensures never_seen { SoundPage table.now horizon.0 page.old.slots → KeepsFound table.now horizon.0 page.old.slots page.new.slots }
+    ensures none_dead { SoundPage table.now horizon.0 page.old.slots → (n : ℕ) → ¬ IsDeadAt table.now horizon.0 page.new.slots n }
     ensures flag { page.new.flag ≡ page.old.flag }
     ensures spare { page.new.spare ≡ page.old.spare }
 {
-    let actions = plan(alloc, page, table, horizon)?;
-    apply(page, &actions);
-    Ok(())
+    let plan = plan(page, table, horizon);
+    apply(page, &plan);
 }

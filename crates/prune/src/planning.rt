@@ -1,6 +1,6 @@
 //! The plan of a page's pruning.
 
-ghost use Rattle.std.specs.Prelude.{◌≡◌, ◌<◌, length, IfOk};
+ghost use Rattle.std.specs.Prelude.{◌≡◌, ◌<◌, length};
 ghost use Rattle.xid_circle.specs.Circle.{IsNormal};
 ghost use Rattle.prune.specs.Actions.{CanApply};
 ghost use Rattle.prune.specs.Pruning.{loose_action, IsPlan};
@@ -11,9 +11,9 @@ ghost use Rattle.prune.specs.Marks.{mark_at, planned};
 
 use crate::action::{Action, PrunePlan};
 use crate::marks::{Mark, Marks, marks_of};
+use arrayvec::ArrayVec;
 use commit_status::{Status, StatusTable};
 use page_slots::Page;
-use std::alloc::{AllocError, Global};
 use xid_circle::Xid;
 
 /// What becomes of a slot that no chain reaches.
@@ -42,28 +42,23 @@ fn action_at(page: &Page, marks: &Marks, number: u16, table: &StatusTable) -> Op
 
 /// The changes of pruning a page at this horizon, a normal id, in order of slots: of each chain the front up to and with
 /// the last dead version goes. Where no slot is in the chains of two roots or redirects, there is one such plan, and it
-/// checks. It refuses only for want of memory. (README.HOT, "Pruning")
-pub fn plan(
-    alloc: Global,
-    page: &Page,
-    table: &StatusTable,
-    horizon: Xid,
-) -> Result<PrunePlan, AllocError>
+/// checks. It takes no memory. (README.HOT, "Pruning")
+pub fn plan(page: &Page, table: &StatusTable, horizon: Xid) -> PrunePlan
     requires { IsNormal horizon.0 }
-    ensures change { IfOk result (λ plan. plan.change ≡ page.now.change) }
-    ensures can_apply { IfOk result (λ plan. CanApply (length page.now.slots) plan.actions.items) }
-    ensures exact { IfOk result (λ plan. IsPlan table.now horizon.0 page.now.slots plan.actions.items) }
-    ensures checks { IfOk result (λ plan. NoSharedSlots (has_aborted table.now) page.now.slots → Checks table.now horizon.0 page.now plan.change plan.actions.items) }
+    ensures change { result.change ≡ page.now.change }
+    ensures can_apply { CanApply (length page.now.slots) result.actions.items }
+    ensures exact { IsPlan table.now horizon.0 page.now.slots result.actions.items }
+    ensures checks { NoSharedSlots (has_aborted table.now) page.now.slots → Checks table.now horizon.0 page.now result.change result.actions.items }
 {
     let marks = marks_of(page, table, horizon);
-    let mut actions = Vec::new(alloc);
+    let mut actions = ArrayVec::new();
     for number in 1..page.slots() + 1 {
         if let Some(action) = action_at(page, &marks, number, table) {
-            actions.push((number, action))?;
+            actions.push((number, action));
         }
     }
-    Ok(PrunePlan {
+    PrunePlan {
         change: page.change(),
         actions,
-    })
+    }
 }

@@ -102,18 +102,14 @@ fn freeze(page: &mut Page, number: u16) {
 }
 
 /// What a plan at this horizon names.
-fn planned(rt: &HostRuntime, page: &Page, table: &StatusTable, horizon: Xid) -> Vec<(u16, Action)>
+fn planned(page: &Page, table: &StatusTable, horizon: Xid) -> ArrayVec<(u16, Action), 292>
     requires { IsNormal horizon.0 }
 {
-    match plan(rt.alloc(), page, table, horizon) {
-        Ok(plan) => plan.actions,
-        Err(_) => Vec::new(rt.alloc()),
-    }
+    plan(page, table, horizon).actions
 }
 
 /// Whether a plan of these actions, made at this change number, checks.
 fn checks(
-    rt: &HostRuntime,
     page: &Page,
     change: u64,
     named: &[(u16, Action)],
@@ -122,9 +118,9 @@ fn checks(
 ) -> bool
     requires { IsNormal horizon.0 }
 {
-    let mut actions = Vec::new(rt.alloc());
+    let mut actions = ArrayVec::new();
     for action in named {
-        let _ = actions.push(*action);
+        let _ = actions.try_push(*action);
     }
     check_plan(page, &PrunePlan { change, actions }, table, horizon)
 }
@@ -134,13 +130,13 @@ fn a_chain_of_three(rt: HostRuntime) {
     let table = table(&rt, 3, 0);
     let page = page(&rt, &[(3, 4, 2, UPDATED), (4, 5, 3, BOTH), (5, 0, 3, ONLY)]);
     assert_eq!(rt; page.slots(), 3);
-    assert_eq!(rt; planned(&rt, &page, &table, Xid(4)).len(), 0);
+    assert_eq!(rt; planned(&page, &table, Xid(4)).len(), 0);
     assert_eq!(rt;
-        planned(&rt, &page, &table, Xid(5)).as_slice(),
+        planned(&page, &table, Xid(5)).as_slice(),
         [(1, Action::Redirect(2))].as_slice()
     );
     assert_eq!(rt;
-        planned(&rt, &page, &table, Xid(6)).as_slice(),
+        planned(&page, &table, Xid(6)).as_slice(),
         [(1, Action::Redirect(3)), (2, Action::Unuse)].as_slice()
     );
 }
@@ -150,23 +146,23 @@ fn pruning_it_step_by_step(rt: HostRuntime) {
     let table = table(&rt, 3, 0);
     let mut page = page(&rt, &[(3, 4, 2, UPDATED), (4, 5, 3, BOTH), (5, 0, 3, ONLY)]);
     page.set_flag(true);
-    assert_eq!(rt; prune(rt.alloc(), &mut page, &table, Xid(4)), Ok(()));
+    prune(&mut page, &table, Xid(4));
     assert_eq!(rt; page.change(), 3);
-    assert_eq!(rt; prune(rt.alloc(), &mut page, &table, Xid(5)), Ok(()));
+    prune(&mut page, &table, Xid(5));
     assert_eq!(rt; page.change(), 4);
     assert!(rt; matches!(page.slot(1), Some(Slot::Redirect(2))));
     assert_eq!(rt;
-        planned(&rt, &page, &table, Xid(6)).as_slice(),
+        planned(&page, &table, Xid(6)).as_slice(),
         [(1, Action::Redirect(3)), (2, Action::Unuse)].as_slice()
     );
     // the redirect's own target
-    assert!(rt; !checks(&rt, &page, 4, &[(1, Action::Redirect(2))], &table, Xid(6)));
-    assert_eq!(rt; prune(rt.alloc(), &mut page, &table, Xid(6)), Ok(()));
+    assert!(rt; !checks(&page, 4, &[(1, Action::Redirect(2))], &table, Xid(6)));
+    prune(&mut page, &table, Xid(6));
     assert_eq!(rt; (page.change(), page.flag()), (6, true));
     assert!(rt; matches!(page.slot(1), Some(Slot::Redirect(3))));
     assert!(rt; matches!(page.slot(2), Some(Slot::Unused)));
     assert!(rt; page.header(3).is_some());
-    assert_eq!(rt; planned(&rt, &page, &table, Xid(6)).len(), 0);
+    assert_eq!(rt; planned(&page, &table, Xid(6)).len(), 0);
 }
 
 #[test]
@@ -183,18 +179,18 @@ fn chains_of_which_nothing_is_kept(rt: HostRuntime) {
         ],
     );
     assert_eq!(rt;
-        planned(&rt, &page, &table, Xid(3)).as_slice(),
+        planned(&page, &table, Xid(3)).as_slice(),
         [(3, Action::Kill)].as_slice()
     );
     assert_eq!(rt;
-        planned(&rt, &page, &table, Xid(5)).as_slice(),
+        planned(&page, &table, Xid(5)).as_slice(),
         [(1, Action::Redirect(2)), (3, Action::Kill)].as_slice()
     );
     assert_eq!(rt;
-        planned(&rt, &page, &table, Xid(7)).as_slice(),
+        planned(&page, &table, Xid(7)).as_slice(),
         [(1, Action::Kill), (2, Action::Unuse), (3, Action::Kill)].as_slice()
     );
-    assert_eq!(rt; prune(rt.alloc(), &mut page, &table, Xid(8)), Ok(()));
+    prune(&mut page, &table, Xid(8));
     assert_eq!(rt; page.change(), 8);
     assert!(rt; matches!(page.slot(1), Some(Slot::Dead)));
     assert!(rt; matches!(page.slot(2), Some(Slot::Unused)));
@@ -219,13 +215,13 @@ fn heap_only_versions_that_no_chain_reaches(rt: HostRuntime) {
     let change = page.change();
     assert_eq!(rt; change, 5);
     assert_eq!(rt;
-        planned(&rt, &page, &table, Xid(8)).as_slice(),
+        planned(&page, &table, Xid(8)).as_slice(),
         [(2, Action::Unuse)].as_slice()
     );
-    assert!(rt; checks(&rt, &page, change, &[(2, Action::Unuse)], &table, Xid(3)));
-    assert!(rt; !checks(&rt, &page, change, &[(2, Action::Kill)], &table, Xid(3)));
-    assert!(rt; !checks(&rt, &page, change, &[(3, Action::Unuse)], &table, Xid(8)));
-    assert!(rt; !checks(&rt, &page, change, &[(4, Action::Unuse)], &table, Xid(8)));
+    assert!(rt; checks(&page, change, &[(2, Action::Unuse)], &table, Xid(3)));
+    assert!(rt; !checks(&page, change, &[(2, Action::Kill)], &table, Xid(3)));
+    assert!(rt; !checks(&page, change, &[(3, Action::Unuse)], &table, Xid(8)));
+    assert!(rt; !checks(&page, change, &[(4, Action::Unuse)], &table, Xid(8)));
 }
 
 #[test]
@@ -241,10 +237,10 @@ fn a_redirect_and_ids_that_started_over(rt: HostRuntime) {
         ],
     );
     redirect(&mut page, 1, 2);
-    assert_eq!(rt; planned(&rt, &page, &table, Xid(4294967295)).len(), 0);
-    assert_eq!(rt; planned(&rt, &page, &table, Xid(3)).len(), 0);
+    assert_eq!(rt; planned(&page, &table, Xid(4294967295)).len(), 0);
+    assert_eq!(rt; planned(&page, &table, Xid(3)).len(), 0);
     assert_eq!(rt;
-        planned(&rt, &page, &table, Xid(4)).as_slice(),
+        planned(&page, &table, Xid(4)).as_slice(),
         [(1, Action::Redirect(3)), (2, Action::Unuse)].as_slice()
     );
 }
@@ -255,14 +251,14 @@ fn plans_that_check(rt: HostRuntime) {
     let page = page(&rt, &[(3, 4, 2, UPDATED), (4, 5, 3, BOTH), (5, 0, 3, ONLY)]);
     let early = [(1, Action::Redirect(2))];
     let late = [(1, Action::Redirect(3)), (2, Action::Unuse)];
-    assert!(rt; checks(&rt, &page, 3, &[], &table, Xid(4)));
-    assert!(rt; !checks(&rt, &page, 2, &[], &table, Xid(4)));
-    assert!(rt; !checks(&rt, &page, 3, &early, &table, Xid(4)));
-    assert!(rt; checks(&rt, &page, 3, &early, &table, Xid(5)));
-    assert!(rt; !checks(&rt, &page, 3, &late, &table, Xid(5)));
-    assert!(rt; checks(&rt, &page, 3, &early, &table, Xid(6)));
-    assert!(rt; checks(&rt, &page, 3, &late, &table, Xid(6)));
-    assert!(rt; !checks(&rt, &page, 4, &late, &table, Xid(6)));
+    assert!(rt; checks(&page, 3, &[], &table, Xid(4)));
+    assert!(rt; !checks(&page, 2, &[], &table, Xid(4)));
+    assert!(rt; !checks(&page, 3, &early, &table, Xid(4)));
+    assert!(rt; checks(&page, 3, &early, &table, Xid(5)));
+    assert!(rt; !checks(&page, 3, &late, &table, Xid(5)));
+    assert!(rt; checks(&page, 3, &early, &table, Xid(6)));
+    assert!(rt; checks(&page, 3, &late, &table, Xid(6)));
+    assert!(rt; !checks(&page, 4, &late, &table, Xid(6)));
 }
 
 #[test]
@@ -283,7 +279,7 @@ fn plans_that_do_not(rt: HostRuntime) {
         [(0, Action::Unuse), (1, Action::Redirect(2))],
         [(1, Action::Redirect(2)), (4, Action::Unuse)],
     ] {
-        assert!(rt; !checks(&rt, &page, 3, &actions, &table, Xid(6)));
+        assert!(rt; !checks(&page, 3, &actions, &table, Xid(6)));
     }
 }
 
@@ -291,20 +287,17 @@ fn plans_that_do_not(rt: HostRuntime) {
 fn a_plan_is_applied_once(rt: HostRuntime) {
     let table = table(&rt, 3, 0);
     let mut page = page(&rt, &[(3, 4, 1, 0), (5, 0, 2, 0)]);
-    let made = plan(rt.alloc(), &page, &table, Xid(5));
-    assert!(rt; made.is_ok());
-    if let Ok(plan) = made {
-        assert_eq!(rt; plan.change, 2);
-        let is_fresh = check_plan(&page, &plan, &table, Xid(5));
-        assert!(rt; is_fresh);
-        if is_fresh {
-            apply(&mut page, &plan);
-        }
-        assert_eq!(rt; page.change(), 3);
-        assert!(rt; matches!(page.slot(1), Some(Slot::Dead)));
-        assert!(rt; page.header(2).is_some());
-        assert!(rt; !check_plan(&page, &plan, &table, Xid(5)));
+    let plan = plan(&page, &table, Xid(5));
+    assert_eq!(rt; plan.change, 2);
+    let is_fresh = check_plan(&page, &plan, &table, Xid(5));
+    assert!(rt; is_fresh);
+    if is_fresh {
+        apply(&mut page, &plan);
     }
+    assert_eq!(rt; page.change(), 3);
+    assert!(rt; matches!(page.slot(1), Some(Slot::Dead)));
+    assert!(rt; page.header(2).is_some());
+    assert!(rt; !check_plan(&page, &plan, &table, Xid(5)));
 }
 
 #[test]

@@ -26,7 +26,7 @@ use Rattle.sound_writes.proofs.Keeping.{pruned-stays}
 use Rattle.history.specs.World.{World}
 use Rattle.session_relation.specs.declared.step.Step.TheVariants.{Prune}
 use Rattle.session_relation.specs.declared.reply.Reply.TheVariants.{Done, Refused}
-use Rattle.session_relation.specs.declared.reply.Refusal.TheVariants.{NoSuchPage, NoMemory}
+use Rattle.session_relation.specs.declared.reply.Refusal.TheVariants.{NoSuchPage}
 use Rattle.session_relation.specs.declared.settings.Settings.{Settings}
 use Rattle.session_relation.specs.Heap as relation
 use Rattle.session_relation.specs.Agrees as relation_agrees
@@ -160,6 +160,3 @@ Follows-prune st st' p cleans w agrees =
 
 pub Follows-no_such_page : (st : State) (p : ℕ) → Follows st (Prune p) (Refused NoSuchPage) st
 Follows-no_such_page st p = Follows-same st (Prune p) (Refused NoSuchPage) (theory.Follows-unpruned (seen st) p NoSuchPage (λ w. tt))
-
-pub Follows-prune_no_memory : (st : State) (p : ℕ) → Follows st (Prune p) (Refused NoMemory) st
-Follows-prune_no_memory st p = Follows-same st (Prune p) (Refused NoMemory) (theory.Follows-unpruned (seen st) p NoMemory (λ w. tt))

@@ -101,7 +101,7 @@ HasCursor old new s cursor = new ≡ put_session old s (map_session (with_cursor
 -- Beside what the history says of a reply: a read and a refusal leave all as it was, but for a page that an update has pruned;
 -- a beginning and an end leave all pages as they were, as do savepoints; a return to a savepoint aborts the ids that were given
 -- since, and no others; a step of a cursor changes that cursor alone; and memory is refused only where something has to grow,
--- never at a read, a return to a savepoint or its release, at the opening or closing of a cursor, a commit or an abort.
+-- never at a read, a return to a savepoint or its release, at the opening or closing of a cursor, a commit, an abort or a prune.
 abbrev pub Exact : State → Step → Reply → State → Type 0
 Exact old (Begin s) (Refused NoMemory) new = MustList old × (new ≡ old)
 Exact old (Insert s row) reply new = ExactInsert old s (row_of row) reply new
@@ -121,6 +121,6 @@ Exact old (Next s n) End new = new ≡ old
 Exact old (Close s) Done new = HasCursor old new s None
 Exact old (Prune p) Done new = Cleans old new p
 Exact old (Prune p) (Refused NoSuchPage) new = (length old.heap.pages.pages ≤ p) × (new ≡ old)
-Exact old (Prune p) (Refused NoMemory) new = (p < length old.heap.pages.pages) × (new ≡ old)
+Exact old (Prune p) (Refused NoMemory) new = ⊥
 Exact old step (Refused refusal) new = new ≡ old
 Exact old step reply new = KeepsPages old new

@@ -52,7 +52,7 @@ impl Engine {
         horizon(self.heap.table().next(), &self.sessions)
     }
 
-    /// Takes from the page what nobody can see any more. Refusals: NoSuchPage; NoMemory where its plan found none.
+    /// Takes from the page what nobody can see any more. Refusals: NoSuchPage. It takes no memory.
     pub(crate) fn prune(&mut self, page: u32) -> Reply
         ensures follows { Follows self.old (Step.Prune page) result self.new }
         ensures exact { Exact self.old (Step.Prune page) result self.new }
@@ -61,7 +61,6 @@ impl Engine {
         match self.heap.prune(page, horizon) {
             Ok(()) => Reply::Done,
             Err(PruneFault::NoSuchPage) => Reply::Refused(Refusal::NoSuchPage),
-            Err(PruneFault::NoMemory) => Reply::Refused(Refusal::NoMemory),
         }
     }
 }

@@ -9,25 +9,25 @@ use Rattle.prune.proofs.checking.check_plan.Goals as goal
 pub named_by-named-requires : goal.named_by-named-requires
 named_by-named-requires c =
     let o : AreInOrder c.slots.result 0 c.deref.result.now = taken c.are_in_order.result _ c.if-not-are_in_order.false c.are_in_order.ensures in
-    subst (AreInOrder 291 0) (c.deref.ensures.value ∙ sym c.deref-2.ensures.value) (order-more c.slots.result 291 0 c.deref.result.now c.slots.ensures.limit o)
+    subst (AreInOrder 291 0) (c.deref.ensures.0 ∙ sym c.deref-2.ensures.0) (order-more c.slots.result 291 0 c.deref.result.now c.slots.ensures.limit o)
 
 pub returns-then-have_fronts-clause-exact : goal.returns-then-have_fronts-clause-exact
 returns-then-have_fronts-clause-exact c =
     let o : AreInOrder c.slots.result 0 c.deref.result.now = taken c.are_in_order.result _ c.if-not-are_in_order.false c.are_in_order.ensures in
     let p : AreInOrder (length c.args.page.now.slots) 0 c.args.plan.now.actions.items =
-    subst (λ (n : ℕ). AreInOrder n 0 c.args.plan.now.actions.items) c.slots.ensures.count (subst (AreInOrder c.slots.result 0) c.deref.ensures.value o) in
+    subst (λ (n : ℕ). AreInOrder n 0 c.args.plan.now.actions.items) c.slots.ensures.count (subst (AreInOrder c.slots.result 0) c.deref.ensures.0 o) in
     checked c.args.table.now c.args.horizon.0 c.args.page.now c.args.plan.now.change c.args.plan.now.actions.items c.named_by-named.result c.marks_of-marks.result c.are_accounted.result
     (taken c.is_fresh.result _ c.if-not-is_fresh.false c.is_fresh.ensures) p
-    (subst (λ (l : List (ℕ × Action)). (n : ℕ) → named_at c.named_by-named.result n ≡ action_of l n) c.deref-2.ensures.value c.named_by-named.ensures)
+    (subst (λ (l : List (ℕ × Action)). (n : ℕ) → named_at c.named_by-named.result n ≡ action_of l n) c.deref-2.ensures.0 c.named_by-named.ensures)
     c.marks_of-marks.ensures (taken c.have_fronts.result _ c.if-have_fronts.true c.have_fronts.ensures) c.are_accounted.ensures
 
 pub returns-then-have_fronts-clause-can_apply : goal.returns-then-have_fronts-clause-can_apply
 returns-then-have_fronts-clause-can_apply c = λ yes.
     let o : AreInOrder c.slots.result 0 c.deref.result.now = taken c.are_in_order.result _ c.if-not-are_in_order.false c.are_in_order.ensures in
     let p : AreInOrder (length c.args.page.now.slots) 0 c.args.plan.now.actions.items =
-    subst (λ (n : ℕ). AreInOrder n 0 c.args.plan.now.actions.items) c.slots.ensures.count (subst (AreInOrder c.slots.result 0) c.deref.ensures.value o) in
+    subst (λ (n : ℕ). AreInOrder n 0 c.args.plan.now.actions.items) c.slots.ensures.count (subst (AreInOrder c.slots.result 0) c.deref.ensures.0 o) in
     checks-can_apply c.args.table.now c.args.horizon.0 c.args.page.now c.args.plan.now.change c.args.plan.now.actions.items
     ((checked c.args.table.now c.args.horizon.0 c.args.page.now c.args.plan.now.change c.args.plan.now.actions.items c.named_by-named.result c.marks_of-marks.result c.are_accounted.result
     (taken c.is_fresh.result _ c.if-not-is_fresh.false c.is_fresh.ensures) p
-    (subst (λ (l : List (ℕ × Action)). (n : ℕ) → named_at c.named_by-named.result n ≡ action_of l n) c.deref-2.ensures.value c.named_by-named.ensures)
+    (subst (λ (l : List (ℕ × Action)). (n : ℕ) → named_at c.named_by-named.result n ≡ action_of l n) c.deref-2.ensures.0 c.named_by-named.ensures)
     c.marks_of-marks.ensures (taken c.have_fronts.result _ c.if-have_fronts.true c.have_fronts.ensures) c.are_accounted.ensures).0 yes)

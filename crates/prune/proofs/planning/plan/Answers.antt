@@ -1,18 +1,20 @@
-use Rattle.std.proofs.Common.{◌≡◌, ℕ, ◌+◌, ◌<◌, ◌≤◌, List, [], ◌∷◌, ◌++◌, length, Vec, Global, Option, Some, arith, sym, ap, ◌∙◌, subst}
+use Rattle.std.proofs.Common.{◌≡◌, ℕ, ◌+◌, ◌<◌, ◌≤◌, List, [], ◌∷◌, ◌++◌, length, Option, Some, arith, sym, ap, ◌∙◌, subst}
+use Rattle.arrayvec.specs.ArrayVec.{ArrayVec}
 use Rattle.prune.specs.declared.action.Action.{Action}
 use Rattle.prune.specs.Checks.{Checks}
 use Rattle.prune.specs.Marks.{mark_at, planned}
 use Rattle.prune.proofs.PlanChecks.{plan-checks}
-use Rattle.prune.proofs.Listing.{AreListed, listed-none, listed-skip, listed-push}
+use Rattle.prune.proofs.Listing.{AreListed, listed-skip, listed-push, listed-length}
 use Rattle.prune.proofs.Planned.{marked-does, does-has_target, listed-plan}
-use Rattle.prune.proofs.planning.plan.Goals.{in-Some+in_ok-push, in_default}
+use Rattle.prune.proofs.planning.plan.Goals.{in-Some, in_default}
 use Rattle.prune.proofs.planning.plan.Goals as goal
 
-pub loop-number-init : goal.loop-number-init
-loop-number-init c =
-    let answer : ℕ → Option Action = λ n. planned c.args.table.now c.args.page.now.slots n (mark_at c.marks_of-marks.result n) in
+pub push-requires : goal.push-requires
+push-requires c =
     let count : ℕ = length c.args.page.now.slots in
-    (subst (λ (l : List (ℕ × Action)). AreListed count answer l 1) (sym c.new-actions.ensures.items) (listed-none count answer), (omega arith))
+    let few : count ≤ 291 = omega (arith, c.slots-number-end.ensures.count, c.slots-number-end.ensures.limit) in
+    let listed : length c.loop-number.actions.items ≤ count = listed-length count _ c.loop-number.actions.items c.loop-number.number c.loop-number.invariant.0 in
+    (omega arith, omega arith)
 
 pub loop-number-preserved : goal.loop-number-preserved
 loop-number-preserved c =
@@ -25,17 +27,17 @@ loop-number-preserved c =
     let acts = c.loop-number.actions.items in
     let from = c.loop-number.invariant.1 in (
       elim c.match-action_at.branch [
-        | in-Some+in_ok-push b ↦
+        | in-Some b ↦
             let a : Action = b.in-Some.action in
             let items : c.match-action_at.actions.items ≡ acts ++ (number, a) ∷ [] =
-            ap (λ (v : Vec (ℕ × Action) Global). v.items) b.actions-is ∙ (b.in_ok-push.ensures).items in
+            ap (λ (v : ArrayVec (ℕ × Action)). v.items) b.actions-is ∙ b.push.ensures.items in
             let within : number ≤ count = omega (arith, c.slots-number-end.ensures.count, c.loop-number-test.true) in
             let e : Some a ≡ answer number = sym b.in-Some.is ∙ c.action_at.ensures in
             subst (λ (l : List (ℕ × Action)). AreListed count answer l (number + 1)) (sym items)
             (listed-push count answer acts number a c.loop-number.invariant.0 from within
             (does-has_target w c.args.horizon.0 slots number (answer number) a (marked-does w c.args.horizon.0 slots number (mark_at marks number) (c.marks_of-marks.ensures number)) (sym e)) e)
         | in_default b ↦
-            let items : c.match-action_at.actions.items ≡ acts = ap (λ (v : Vec (ℕ × Action) Global). v.items) b.actions-is in
+            let items : c.match-action_at.actions.items ≡ acts = ap (λ (v : ArrayVec (ℕ × Action)). v.items) b.actions-is in
             subst (λ (l : List (ℕ × Action)). AreListed count answer l (number + 1)) (sym items)
             (listed-skip count answer acts number c.loop-number.invariant.0 (sym b.in_default.is ∙ c.action_at.ensures))
       ],

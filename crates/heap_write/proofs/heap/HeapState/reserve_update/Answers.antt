@@ -1,15 +1,18 @@
-use Rattle.std.proofs.Common.{◌≡◌, ◌<◌, refl, sym, subst, ◌∙◌}
-use Rattle.std.proofs.lemmas.Result.{IfOk-weaker}
+use Rattle.std.proofs.Common.{◌≡◌, ◌<◌, ◌⊎◌, inr, refl, sym, ap, subst, ◌∙◌}
+use Rattle.std.specs.Prelude.{OnErr}
+use Rattle.std.proofs.lemmas.Result.{IfOk-weaker, on_err_weaker}
 use Rattle.std.proofs.lemmas.Option.{slice_get_within}
 use Rattle.page_slots.specs.View.{PageView}
 use Rattle.page_slots.specs.Slots.{room_of}
 use Rattle.heap_pages.specs.View.{with_page}
 use Rattle.heap_write.specs.Heap.{HeapView, page_on}
+use Rattle.heap_write.specs.Refusals.{RootNeedsMemory}
 use Rattle.heap_write.specs.Growth.{page_in, Reserves}
 use Rattle.heap_write.specs.Steps.{IsChosen}
 use Rattle.heap_write.specs.contracts.heap.HeapState.{the_view}
-use Rattle.heap_write.proofs.PageLemmas.{keeps-viewed, same-set, same-then, page-set}
-use Rattle.heap_write.proofs.Reserving.{same-at, full-grown, spare-made, unchosen-kept, reserves-chosen}
+use Rattle.heap_write.proofs.PageLemmas.{keeps-viewed, page-at, same-set, same-then, page-set}
+use Rattle.heap_write.proofs.Reserving.{same-at, full-grown, spare-made, unchosen-kept, reserves-chosen, needs-before}
+use Rattle.heap_write.proofs.Updating.{no-room}
 use Rattle.heap_write.proofs.heap.HeapState.reserve_update.Goals as goal
 
 pub returns-then-is_err-3-clause-keeps : goal.returns-then-is_err-3-clause-keeps
@@ -51,3 +54,18 @@ returns-clause-chosen c =
     let h : HeapView = record { pages = c.reserve_place.new.pages; table = c.reserve_ids.new.table; indexes = c.make_room.new.self; max_pages = c.self.inside.max_pages } in
     IfOk-weaker c.reserve_place.result (λ found. Reserves middle c.reserve_place.new.pages c.self.inside.max_pages c.args.size found) (λ found. IsChosen h c.args.size found)
     (λ found reserves. reserves-chosen middle h c.args.size found reserves) c.reserve_place.ensures.reserves
+
+pub returns-clause-needs : goal.returns-clause-needs
+returns-clause-needs c =
+    let inside = the_view c.self.inside in
+    let pages = c.self.inside.pages.pages in
+    let n = c.args.number in
+    let size = c.args.size in
+    let own = c.args.own.now in
+    let grown = c.make_room-2.new.self in
+    let within = slice_get_within pages n c.page_mut.result.now c.page_mut.ensures.value in
+    let same = c.make_room-2.ensures.slots ∙ ap (λ (p : PageView). p.slots) (sym (page-at pages n c.page_mut.result.now c.page_mut.ensures.value)) in
+    let small = subst (λ (h : HeapView). room_of (page_on h n).slots < size) (sym c.self.view_is) c.requires.room in
+    let full = no-room size (room_of (page_on inside n).slots) small in
+    subst (λ (h : HeapView). OnErr c.reserve_place.result (((page_on h n).spare ≡ 0) ⊎ RootNeedsMemory h own size)) c.self.view_is
+    (on_err_weaker c.reserve_place.result (λ needs. inr (needs-before inside own size n grown within same full needs)) c.reserve_place.ensures.needs)

@@ -1,7 +1,9 @@
-use Rattle.std.proofs.Common.{subst}
+use Rattle.std.proofs.Common.{◌≡◌, ◌⊎◌, ℕ, subst}
 use Rattle.xid_circle.specs.declared.Xid.{Xid}
 use Rattle.heap_write.specs.Writes.{TakesIds}
-use Rattle.heap_write.specs.Refusals.{IsThere}
+use Rattle.heap_write.specs.Heap.{page_on}
+use Rattle.heap_write.specs.Refusals.{RootNeedsMemory, IsThere}
+use Rattle.heap_write.specs.Refusals.UpdateNeedsMemory.{to_prune}
 use Rattle.tuple_header.specs.Version.{rounded_size_of}
 use Rattle.heap_write.specs.Growth.{IsReady}
 use Rattle.heap_write.specs.Steps.{IsChosen}
@@ -14,7 +16,7 @@ update_ready-requires-clause-chosen c small =
     let size = rounded_size_of c.args.row in
     let grown = c.reserve_update-reserved.new.self in
     let chosen = subst (λ n. IsChosen grown n c.in-Ok.target) c.size_of.ensures.value c.in-Ok.ensures.chosen in
-    pruned-chosen grown c.prune_page.new.self c.args.place.page c.args.horizon.0 size c.in-Ok.target c.in-Ok-prune_page.ensures.ok
+    pruned-chosen grown c.prune_page.new.self c.args.place.page c.args.horizon.0 size c.in-Ok.target c.prune_page.ensures.prunes
     (kept-full c.args.self.now grown c.args.place.page size c.reserve_update-reserved.ensures.keeps c.requires.room) chosen small
 
 pub update_ready-requires-clause-ready : goal.update_ready-requires-clause-ready
@@ -23,21 +25,32 @@ update_ready-requires-clause-ready c =
     let grown = c.reserve_update-reserved.new.self in
     let full = kept-full c.args.self.now grown c.args.place.page size c.reserve_update-reserved.ensures.keeps c.requires.room in
     some-weaker c.in-Ok.target (λ target. IsReady grown.pages c.size_of.result target) (λ target. IsReady c.prune_page.new.self.pages size target)
-    (λ target is_ready. pruned-ready grown c.prune_page.new.self c.args.place.page c.args.horizon.0 size target c.in-Ok-prune_page.ensures.ok full
+    (λ target is_ready. pruned-ready grown c.prune_page.new.self c.args.place.page c.args.horizon.0 size target c.prune_page.ensures.prunes full
     (subst (λ n. IsReady grown.pages n target) c.size_of.ensures.value is_ready)) c.in-Ok.ensures.ready
 
-pub returns-in-Ok-prune_page-clause-ok : goal.returns-in-Ok-prune_page-clause-ok
-returns-in-Ok-prune_page-clause-ok c =
+pub returns-in-Ok-clause-ok : goal.returns-in-Ok-clause-ok
+returns-in-Ok-clause-ok c =
     let done = c.update_ready.ensures in
     let reserved = c.reserve_update-reserved.ensures in
     let ready = c.prune_page.new.self in
     let Begun : Xid → Type 0 = λ x. TakesIds ready.table c.update_ready.new.self.table c.reserve_update-reserved.new.own c.update_ready.new.own x.0 × IsThere ready c.args.place in
     let begun = both-ok {C = Begun} c.update_ready.result (λ x takes there. (takes, there)) done.takes done.there in
     both-ok {A = Begun} c.update_ready.result (λ x first replaces. updates c.args.self.now c.reserve_update-reserved.new.self c.prune_page.new.self c.update_ready.new.self c.args.own.now c.reserve_update-reserved.new.own c.update_ready.new.own c.args.place c.args.row
-    c.args.horizon.0 x.0 c.requires.free c.requires.room reserved.keeps reserved.own reserved.none c.in-Ok-prune_page.ensures.ok first.0 first.1 replaces done.max_pages) begun done.replaces
+    c.args.horizon.0 x.0 c.requires.free c.requires.room reserved.keeps reserved.own reserved.none c.prune_page.ensures.prunes first.0 first.1 replaces done.max_pages) begun done.replaces
 
-pub returns-in-Ok-prune_page-clause-fault : goal.returns-in-Ok-prune_page-clause-fault
-returns-in-Ok-prune_page-clause-fault c =
+pub returns-in-Ok-clause-fault : goal.returns-in-Ok-clause-fault
+returns-in-Ok-clause-fault c =
     let done = c.update_ready.ensures in
     both-err c.update_ready.result (λ fault failed same. fails c.args.self.now c.reserve_update-reserved.new.self c.prune_page.new.self c.update_ready.new.self c.args.own.now c.args.place c.args.row
-    c.args.horizon.0 fault c.requires.there c.requires.free c.requires.room c.reserve_update-reserved.ensures.keeps c.in-Ok-prune_page.ensures.ok same failed) done.fault done.err
+    c.args.horizon.0 fault c.requires.there c.requires.free c.requires.room c.reserve_update-reserved.ensures.keeps c.prune_page.ensures.prunes same failed) done.fault done.err
+
+pub returns-in-Err-clause-fault : goal.returns-in-Err-clause-fault
+returns-in-Err-clause-fault c =
+    let h = c.args.self.now in
+    let own = c.args.own.now in
+    let Needs : ℕ → Type 0 = λ size. ((page_on h c.args.place.page).spare ≡ 0) ⊎ RootNeedsMemory h own size in (
+      c.requires.there,
+      c.requires.free,
+      to_prune c.requires.room (subst Needs c.size_of.ensures.value c.in-Err.ensures.needs),
+      c.reserve_update-reserved.ensures.keeps,
+    )

@@ -4,12 +4,12 @@ use Rattle.heap_write.specs.Writes.{Prunes}
 use Rattle.session_relation.specs.declared.step.Step.TheVariants.{Prune}
 use Rattle.session_relation.specs.declared.reply.Reply.{Reply}
 use Rattle.session_relation.specs.declared.reply.Reply.TheVariants.{Refused}
-use Rattle.session_relation.specs.declared.reply.Refusal.TheVariants.{NoSuchPage, NoMemory}
+use Rattle.session_relation.specs.declared.reply.Refusal.TheVariants.{NoSuchPage}
 use Rattle.session_core.specs.State.{State, horizon_of}
 use Rattle.session_core.specs.Agrees.{Follows}
-use Rattle.session_core.proofs.Cleaned.{Follows-prune, Follows-no_such_page, Follows-prune_no_memory}
+use Rattle.session_core.proofs.Cleaned.{Follows-prune, Follows-no_such_page}
 use Rattle.session_core.proofs.engine.Engine.prune.Goals as goal
-use Rattle.session_core.proofs.engine.Engine.prune.Goals.{in-Ok, in-Err-NoSuchPage, in-Err-NoMemory}
+use Rattle.session_core.proofs.engine.Engine.prune.Goals.{in-Ok, in-Err-NoSuchPage}
 
 pub returns-clause-follows : goal.returns-clause-follows
 returns-clause-follows c =
@@ -23,6 +23,4 @@ returns-clause-follows c =
       | in-Ok w ↦ subst R (sym w.result-is) (Follows-prune before after c.args.page (record { settings = refl; sessions = refl; heap = subst H horizon w.in-Ok.ensures.ok }))
       | in-Err-NoSuchPage w ↦ subst R (sym w.result-is)
           (let G : HeapView → Type 0 = λ h. Follows before (Prune c.args.page) (Refused NoSuchPage) (record before { heap = h }) in subst G (sym w.in-Err-NoSuchPage.ensures.err) (Follows-no_such_page before c.args.page))
-      | in-Err-NoMemory w ↦ subst R (sym w.result-is)
-          (let G : HeapView → Type 0 = λ h. Follows before (Prune c.args.page) (Refused NoMemory) (record before { heap = h }) in subst G (sym w.in-Err-NoMemory.ensures.err) (Follows-prune_no_memory before c.args.page))
     ])
