@@ -2,13 +2,16 @@
 
     python3 compare.py HEAPSH [ROWS..]
 
-For each workload and each number of rows: operations a second, which is the time of a run with the operations less the time of one
-that only loads the table. SQLite is `sqlite3 :memory:`; PostgreSQL, where its server is installed, is a server of this script's own
-with an unlogged table and fsync off, asked by psql over a local socket, one statement after another.
+For each workload and each number of rows: operations a second, and what an operation of heapsh costs beside one on the fewest rows.
+SQLite is `sqlite3 :memory:`. For both shells the processor time of a run with the operations is taken, less that of one that only
+loads the table, so that other work on the machine counts little. PostgreSQL, where its server is installed, is a server of this
+script's own with an unlogged table and fsync off, asked by psql over a local socket, one statement after another, for up to 100,000
+rows; there it is the time that passes while the operations are done.
 """
 
 import os
 import pwd
+import resource
 import shutil
 import subprocess
 import sys
@@ -17,9 +20,12 @@ import time
 
 from workloads import WORKLOADS, write
 
-OPERATIONS = {"heapsh": 100_000, "sqlite3": 100_000, "PostgreSQL": 10_000}
+ENGINES = ["heapsh", "sqlite3", "PostgreSQL"]
+OPERATIONS = {"shell": 100_000, "server": 10_000}
 SIZES = [1_000, 10_000, 100_000, 1_000_000]
 RUNS = 3
+# loading more into the server, one statement after another, takes minutes
+SERVER_ROWS = 100_000
 SERVER = "/usr/lib/postgresql/15/bin"
 
 
@@ -40,19 +46,23 @@ class Server:
         subprocess.run(command, check=True, stdout=subprocess.DEVNULL, user=self.user, cwd=self.folder)
 
     def run(self, sql):
-        subprocess.run(["psql", "-h", self.folder, "-U", "bench", "-d", "postgres", "-q", "-c", "DROP TABLE IF EXISTS heap"], check=True, stderr=subprocess.DEVNULL)
-        return timed(["psql", "-h", self.folder, "-U", "bench", "-d", "postgres", "-q", "-A", "-t", "-f", sql], os.devnull)
+        """The seconds that pass while the server does this."""
+        start = time.perf_counter()
+        command = ["psql", "-h", self.folder, "-U", "bench", "-d", "postgres", "-q", "-A", "-t", "-f", sql]
+        subprocess.run(command, stdout=subprocess.DEVNULL, check=True)
+        return time.perf_counter() - start
 
     def stop(self):
         self.call(["pg_ctl", "-D", self.data, "-m", "immediate", "stop"])
 
 
 def timed(command, source):
-    """The seconds of a command that reads this file."""
+    """The processor seconds of a command that reads this file."""
+    before = resource.getrusage(resource.RUSAGE_CHILDREN)
     with open(source, "rb") as given:
-        start = time.perf_counter()
         subprocess.run(command, stdin=given, stdout=subprocess.DEVNULL, check=True)
-        return time.perf_counter() - start
+    after = resource.getrusage(resource.RUSAGE_CHILDREN)
+    return after.ru_utime + after.ru_stime - before.ru_utime - before.ru_stime
 
 
 def refusals(heapsh, script):
@@ -61,35 +71,46 @@ def refusals(heapsh, script):
     return sum(1 for line in answers.splitlines() if line.startswith(b"error ") and not line.endswith(b"NoSuchPage"))
 
 
-def files(folder, name, rows, count):
+def files(folder, name, rows, count, **how):
+    """The operations as a script and as SQL, after those that load the table."""
     script, sql = os.path.join(folder, "script"), os.path.join(folder, "sql")
     with open(script, "w") as lines, open(sql, "w") as statements:
-        write(name, rows, count, lines, statements)
-    lite = os.path.join(folder, "lite")
-    with open(sql) as statements, open(lite, "w") as plain:
-        for line in statements:
-            plain.write(line.replace("CREATE UNLOGGED TABLE", "CREATE TABLE"))
-    return script, lite, sql
+        write(name, rows, count, lines, statements, **how)
+    return script, sql
+
+
+def shell_rate(command, folder, name, rows, which):
+    """Operations a second of a shell that reads the script (0) or the SQL (1)."""
+    count = OPERATIONS["shell"]
+    loading = files(folder, name, rows, 0)[which]
+    idle = min(timed(command, loading) for _ in range(RUNS))
+    working = files(folder, name, rows, count)
+    if which == 0 and refusals(command[0], working[0]) > 0:
+        sys.exit(f"{name}: heapsh refused a line")
+    return count / (min(timed(command, working[which]) for _ in range(RUNS)) - idle)
+
+
+def server_rate(server, folder, name, rows):
+    """Operations a second of the server."""
+    count = OPERATIONS["server"]
+    server.run(files(folder, name, rows, 0, kind="UNLOGGED TABLE")[1])
+    return count / server.run(files(folder, name, rows, count, loads=False)[1])
 
 
 def measure(heapsh, server, folder, name, rows):
     """Operations a second of each engine that is there."""
-    runs = {"heapsh": lambda script, lite, sql: timed([heapsh, "run"], script)}
+    rates = {"heapsh": shell_rate([heapsh, "run"], folder, name, rows, 0)}
     if shutil.which("sqlite3"):
-        runs["sqlite3"] = lambda script, lite, sql: timed(["sqlite3", ":memory:"], lite)
-    if server:
-        runs["PostgreSQL"] = lambda script, lite, sql: server.run(sql)
-    rates = {}
-    for engine, run in runs.items():
-        count = OPERATIONS[engine]
-        turns = 1 if engine == "PostgreSQL" else RUNS
-        loading = files(folder, name, rows, 0)
-        idle = min(run(*loading) for _ in range(turns))
-        working = files(folder, name, rows, count)
-        if engine == "heapsh" and refusals(heapsh, working[0]) > 0:
-            sys.exit(f"{name}: heapsh refused a line")
-        rates[engine] = count / max(1e-9, min(run(*working) for _ in range(turns)) - idle)
+        rates["sqlite3"] = shell_rate(["sqlite3", ":memory:"], folder, name, rows, 1)
+    if server and rows <= SERVER_ROWS:
+        rates["PostgreSQL"] = server_rate(server, folder, name, rows)
     return rates
+
+
+def line(name, rows, rates, fewest):
+    shown = [f"{rates[engine]:,.0f}" if engine in rates else "" for engine in ENGINES]
+    ratio = f"{rates['heapsh'] / rates['sqlite3']:.1f}" if "sqlite3" in rates else ""
+    return f"| {name} | {rows:,} | {' | '.join(shown)} | {ratio} | {fewest / rates['heapsh']:.1f} |"
 
 
 def main():
@@ -98,14 +119,14 @@ def main():
     with tempfile.TemporaryDirectory() as folder:
         server = Server(os.path.join(folder, "server")) if make(folder) and os.path.exists(SERVER) else None
         try:
-            print("| workload | rows | heapsh | sqlite3 | PostgreSQL | heapsh to sqlite3 |")
-            print("|---|---:|---:|---:|---:|---:|")
+            print("| workload | rows | heapsh | sqlite3 | PostgreSQL | heapsh to sqlite3 | cost to that on the fewest rows |")
+            print("|---|---:|---:|---:|---:|---:|---:|")
             for name in WORKLOADS:
+                fewest = None
                 for rows in sizes:
                     rates = measure(heapsh, server, folder, name, rows)
-                    shown = [f"{rates[engine]:,.0f}" if engine in rates else "" for engine in OPERATIONS]
-                    ratio = f"{rates['heapsh'] / rates['sqlite3']:.1f}" if "sqlite3" in rates else ""
-                    print(f"| {name} | {rows:,} | {' | '.join(shown)} | {ratio} |", flush=True)
+                    fewest = fewest or rates["heapsh"]
+                    print(line(name, rows, rates, fewest), flush=True)
         finally:
             if server:
                 server.stop()

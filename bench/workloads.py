@@ -125,16 +125,17 @@ WORKLOADS = {
 }
 
 
-def write(name, rows, count, script, sql):
-    """Writes the table and so many operations to both files."""
+def write(name, rows, count, script, sql, loads=True, kind="TABLE"):
+    """Writes so many operations to both files, after those that load the table."""
     indexed, table, operations = WORKLOADS[name]
-    script.write(f"heap 65536 2144483648 0 3 64 {indexed}\n")
-    sql.write(f"CREATE UNLOGGED TABLE heap({COLUMNS});\n")
-    if indexed[0] == "1":
-        sql.write("CREATE INDEX by_c0 ON heap(c0);\n")
-    for lines, statements in table(rows):
-        script.write(lines)
-        sql.write(statements)
+    if loads:
+        script.write(f"heap 65536 2144483648 0 3 64 {indexed}\n")
+        sql.write(f"DROP TABLE IF EXISTS heap;\nCREATE {kind} heap({COLUMNS});\n")
+        if indexed[0] == "1":
+            sql.write("CREATE INDEX by_c0 ON heap(c0);\n")
+        for lines, statements in table(rows):
+            script.write(lines)
+            sql.write(statements)
     if count > 0:
         for lines, statements in operations(rows, count):
             script.write(lines)
