@@ -11,7 +11,7 @@ use page_slots::{Page, Slot};
 fn is_root(page: &Page, number: u16) -> bool
     ensures { result ≡ is_root page.now.slots number }
 {
-    match page.slot(number) {
+    match page.get(number) {
         Some(Slot::Normal(version)) => !version.header.is_heap_only(),
         Some(Slot::Redirect(_)) => true,
         _ => false,

@@ -23,10 +23,10 @@ fn first(page: &Page, number: u16) -> Option<u16>
     ensures value { result ≡ first_of page.now.slots number }
     ensures there { IfSome result (λ n. IsThere page.now.slots n) }
 {
-    match page.slot(number) {
+    match page.get(number) {
         Some(Slot::Normal(_)) => Some(number),
-        Some(Slot::Redirect(target)) => match page.header(target) {
-            Some(_) => Some(target),
+        Some(Slot::Redirect(target)) => match page.header(*target) {
+            Some(_) => Some(*target),
             None => None,
         },
         _ => None,

@@ -96,9 +96,10 @@ impl Page {
         self.flag = flag;
     }
 
-    // The slot of this number, if there is one.
-    fn get(&self, number: u16) -> Option<&Slot>
-        ensures { option_copied result ≡ slot_at self.now.slots number }
+    /// The slot of this number, where it stands, if there is one.
+    pub fn get(&self, number: u16) -> Option<&Slot>
+        ensures value { option_copied result ≡ slot_at self.now.slots number }
+        ensures there { IsSome result ↔ IsThere self.now.slots number }
     {
         if number == 0 || usize::from(number) > self.slots.len() {
             return None;

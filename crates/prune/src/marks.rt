@@ -33,7 +33,7 @@ pub(crate) fn is_root(page: &Page, number: u16) -> bool
 {
     match page.header(number) {
         Some(header) => !header.is_heap_only(),
-        None => matches!(page.slot(number), Some(Slot::Redirect(_))),
+        None => matches!(page.get(number), Some(Slot::Redirect(_))),
     }
 }
 
