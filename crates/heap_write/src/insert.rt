@@ -25,10 +25,10 @@ impl HeapState {
     /// than can be given, else NoRoom exactly where all pages that there may be are in use and none has room, else
     /// NoMemory only where something has to grow. A refused insert changes nothing and gives no id. (PostgreSQL,
     /// `heap_insert` in src/backend/access/heap/heapam.c.)
-    pub fn insert(&mut self, own: &mut OwnIds, row: Row) -> Result<Xid, WriteFault>
+    pub fn insert(&mut self, own: &mut OwnIds, row: &Row) -> Result<Xid, WriteFault>
         requires newest { (x : ℕ) → level_id own.old.ids own.old.saved ≡ Some x → IsGiven self.old.table x }
-        ensures ok { IfOk result (λ x. Inserts self.old self.new own.old own.new row x.0) }
-        ensures fault { IfErr result (λ fault. LacksForInsert self.old own.old row fault) }
+        ensures ok { IfOk result (λ x. Inserts self.old self.new own.old own.new row.now x.0) }
+        ensures fault { IfErr result (λ fault. LacksForInsert self.old own.old row.now fault) }
         ensures err { OnErr result (Keeps self.old self.new) }
         ensures own { OnErr result (SameOwn own.old own.new) }
         ensures window { IsWindow self.new.table }
@@ -38,7 +38,7 @@ impl HeapState {
         if needs_freeze(&self.table, own) {
             return Err(WriteFault::NeedsFreeze);
         }
-        match reserve_place(self.alloc, &mut self.pages, size_of(&row), self.max_pages) {
+        match reserve_place(self.alloc, &mut self.pages, size_of(row), self.max_pages) {
             Ok(Some(target)) => self.insert_at(target, own, row),
             Ok(None) => Err(WriteFault::NoRoom),
             Err(_) => Err(WriteFault::NoMemory),
@@ -46,12 +46,12 @@ impl HeapState {
     }
 
     /// Inserts a version of the row where it goes, unless an index or a list of ids has to grow and cannot.
-    fn insert_at(&mut self, target: Target, own: &mut OwnIds, row: Row) -> Result<Xid, WriteFault>
+    fn insert_at(&mut self, target: Target, own: &mut OwnIds, row: &Row) -> Result<Xid, WriteFault>
         requires free { ¬ NeedsFreeze self.old.table own.old }
         requires newest { (x : ℕ) → level_id own.old.ids own.old.saved ≡ Some x → IsGiven self.old.table x }
-        requires ready { IsReady self.old.pages (rounded_size_of row) target }
+        requires ready { IsReady self.old.pages (rounded_size_of row.now) target }
         ensures takes { IfOk result (λ x. TakesIds self.old.table self.new.table own.old own.new x.0) }
-        ensures root { IfOk result (λ x. PutsRoot self.old self.new false x.0 row (target_number self.old.pages.pages target)) }
+        ensures root { IfOk result (λ x. PutsRoot self.old self.new false x.0 row.now (target_number self.old.pages.pages target)) }
         ensures max_pages { self.new.max_pages ≡ self.old.max_pages }
         ensures needs { OnErr result (NeedsEntry self.old.indexes ⊎ NeedsIds self.old own.old) }
         ensures fault { IfErr result (λ fault. fault ≡ WriteFault.NoMemory) }
@@ -70,11 +70,11 @@ impl HeapState {
     }
 
     /// Makes a version of the row as a root where one goes, with an entry for it in each index, and answers its place.
-    pub(crate) fn put_root(&mut self, target: Target, updated: bool, x: Xid, row: Row) -> Tid
+    pub(crate) fn put_root(&mut self, target: Target, updated: bool, x: Xid, row: &Row) -> Tid
         requires normal { IsNormal x.0 }
-        requires ready { IsReady self.old.pages (rounded_size_of row) target }
+        requires ready { IsReady self.old.pages (rounded_size_of row.now) target }
         requires entries { HasEntries self.old.indexes }
-        ensures root { PutsRoot self.old self.new updated x.0 row result.page }
+        ensures root { PutsRoot self.old self.new updated x.0 row.now result.page }
         ensures page { result.page ≡ target_number self.old.pages.pages target }
         ensures slot { result.slot ≡ free_number (page_on self.old result.page).slots }
         ensures limit { result.slot ≤ 291 }

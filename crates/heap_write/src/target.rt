@@ -87,13 +87,13 @@ pub(crate) fn reserve_place(
 }
 
 /// Makes a version of the row on a page as a root, by an update or an insert, and answers its slot.
-fn add_root(page: &mut Page, number: u32, updated: bool, x: Xid, row: Row) -> u16
+fn add_root(page: &mut Page, number: u32, updated: bool, x: Xid, row: &Row) -> u16
     requires normal { IsNormal x.0 }
-    requires room { rounded_size_of row ≤ room_of page.old.slots }
+    requires room { rounded_size_of row.now ≤ room_of page.old.slots }
     requires memory { HasSlot page.old }
     ensures number { result ≡ free_number page.old.slots }
     ensures limit { result ≤ 291 }
-    ensures slots { page.new.slots ≡ with_root page.old.slots updated x.0 number row }
+    ensures slots { page.new.slots ≡ with_root page.old.slots updated x.0 number row.now }
     ensures change { page.new.change ≡ next_change page.old.change }
     ensures flag { page.new.flag ≡ page.old.flag }
 {
@@ -105,13 +105,19 @@ fn add_root(page: &mut Page, number: u32, updated: bool, x: Xid, row: Row) -> u1
 }
 
 /// Makes a version of the row as a root where one goes, and answers its place.
-pub(crate) fn put_version(pages: &mut Pages, target: Target, updated: bool, x: Xid, row: Row) -> Tid
+pub(crate) fn put_version(
+    pages: &mut Pages,
+    target: Target,
+    updated: bool,
+    x: Xid,
+    row: &Row,
+) -> Tid
     requires normal { IsNormal x.0 }
-    requires ready { IsReady pages.old (rounded_size_of row) target }
+    requires ready { IsReady pages.old (rounded_size_of row.now) target }
     ensures page { result.page ≡ target_number pages.old.pages target }
     ensures slot { result.slot ≡ free_number (page_in pages.old.pages result.page).slots }
     ensures limit { result.slot ≤ 291 }
-    ensures puts { PutsVersion pages.old.pages pages.new.pages updated x.0 row result.page }
+    ensures puts { PutsVersion pages.old.pages pages.new.pages updated x.0 row.now result.page }
 {
     match target {
         Target::Page(number) => {

@@ -35,13 +35,13 @@ impl HeapState {
         &mut self,
         own: &mut OwnIds,
         place: Tid,
-        row: Row,
+        row: &Row,
         horizon: Xid,
     ) -> Result<Xid, WriteFault>
         requires newest { (x : ℕ) → level_id own.old.ids own.old.saved ≡ Some x → IsGiven self.old.table x }
         requires horizon { IsNormal horizon.0 }
-        ensures ok { IfOk result (λ x. Updates self.old self.new own.old own.new place row horizon.0 x.0) }
-        ensures fault { IfErr result (λ fault. FailsUpdate self.old self.new own.old place row horizon.0 fault) }
+        ensures ok { IfOk result (λ x. Updates self.old self.new own.old own.new place row.now horizon.0 x.0) }
+        ensures fault { IfErr result (λ fault. FailsUpdate self.old self.new own.old place row.now horizon.0 fault) }
         ensures own { OnErr result (SameOwn own.old own.new) }
         ensures window { IsWindow self.new.table }
         ensures normal { IfOk result (λ x. IsNormal x.0) }
@@ -53,7 +53,7 @@ impl HeapState {
         if needs_freeze(&self.table, own) {
             return Err(WriteFault::NeedsFreeze);
         }
-        if self.has_room(place.page, &row) {
+        if self.has_room(place.page, row) {
             self.update_at_once(own, place, row)
         } else {
             self.update_with_pruning(own, place, row, horizon)
@@ -85,22 +85,22 @@ impl HeapState {
     }
 
     /// Updates a version whose page has room for the row.
-    fn update_at_once(&mut self, own: &mut OwnIds, place: Tid, row: Row) -> Result<Xid, WriteFault>
+    fn update_at_once(&mut self, own: &mut OwnIds, place: Tid, row: &Row) -> Result<Xid, WriteFault>
         requires newest { (x : ℕ) → level_id own.old.ids own.old.saved ≡ Some x → IsGiven self.old.table x }
         requires free { ¬ NeedsFreeze self.old.table own.old }
         requires there { IsThere self.old place }
-        requires room { rounded_size_of row ≤ room_of (page_on self.old place.page).slots }
+        requires room { rounded_size_of row.now ≤ room_of (page_on self.old place.page).slots }
         ensures takes { IfOk result (λ x. TakesIds self.old.table self.new.table own.old own.new x.0) }
-        ensures replaces { IfOk result (λ x. ReplacesOnPage self.old self.new place x.0 row) }
+        ensures replaces { IfOk result (λ x. ReplacesOnPage self.old self.new place x.0 row.now) }
         ensures max_pages { self.new.max_pages ≡ self.old.max_pages }
         ensures fault { IfErr result (λ fault. fault ≡ WriteFault.NoMemory) }
-        ensures needs { OnErr result (UpdateNeedsMemory self.old own.old place row) }
+        ensures needs { OnErr result (UpdateNeedsMemory self.old own.old place row.now) }
         ensures err { OnErr result (Keeps self.old self.new) }
         ensures own { OnErr result (SameOwn own.old own.new) }
         ensures window { IsWindow self.new.table }
         ensures normal { IfOk result (λ x. IsNormal x.0) }
     {
-        let heap_only = self.keeps_values(place, &row);
+        let heap_only = self.keeps_values(place, row);
         let reserved = self.reserve_on_page(own, place.page, heap_only);
         self.table.is_window();
         match reserved {
@@ -138,21 +138,21 @@ impl HeapState {
         &mut self,
         own: &mut OwnIds,
         place: Tid,
-        row: Row,
+        row: &Row,
         horizon: Xid,
     ) -> Result<Xid, WriteFault>
         requires newest { (x : ℕ) → level_id own.old.ids own.old.saved ≡ Some x → IsGiven self.old.table x }
         requires horizon { IsNormal horizon.0 }
         requires free { ¬ NeedsFreeze self.old.table own.old }
         requires there { IsThere self.old place }
-        requires room { room_of (page_on self.old place.page).slots < rounded_size_of row }
-        ensures ok { IfOk result (λ x. Updates self.old self.new own.old own.new place row horizon.0 x.0) }
-        ensures fault { IfErr result (λ fault. FailsUpdate self.old self.new own.old place row horizon.0 fault) }
+        requires room { room_of (page_on self.old place.page).slots < rounded_size_of row.now }
+        ensures ok { IfOk result (λ x. Updates self.old self.new own.old own.new place row.now horizon.0 x.0) }
+        ensures fault { IfErr result (λ fault. FailsUpdate self.old self.new own.old place row.now horizon.0 fault) }
         ensures own { OnErr result (SameOwn own.old own.new) }
         ensures window { IsWindow self.new.table }
         ensures normal { IfOk result (λ x. IsNormal x.0) }
     {
-        let reserved = self.reserve_update(own, place.page, size_of(&row));
+        let reserved = self.reserve_update(own, place.page, size_of(row));
         self.table.is_window();
         match reserved {
             Ok(target) => {
@@ -198,7 +198,7 @@ impl HeapState {
         &mut self,
         own: &mut OwnIds,
         place: Tid,
-        row: Row,
+        row: &Row,
         target: Option<Target>,
     ) -> Result<Xid, WriteFault>
         requires newest { (x : ℕ) → level_id own.old.ids own.old.saved ≡ Some x → IsGiven self.old.table x }
@@ -206,13 +206,13 @@ impl HeapState {
         requires has_ids { HasIds self.old.table own.old }
         requires has_slot { 0 < (page_on self.old place.page).spare }
         requires has_entries { HasEntries self.old.indexes }
-        requires chosen { room_of (page_on self.old place.page).slots < rounded_size_of row → IsChosen self.old (rounded_size_of row) target }
-        requires ready { IfSome target (λ t. IsReady self.old.pages (rounded_size_of row) t) }
+        requires chosen { room_of (page_on self.old place.page).slots < rounded_size_of row.now → IsChosen self.old (rounded_size_of row.now) target }
+        requires ready { IfSome target (λ t. IsReady self.old.pages (rounded_size_of row.now) t) }
         ensures takes { IfOk result (λ x. TakesIds self.old.table self.new.table own.old own.new x.0) }
         ensures there { IfOk result (λ x. IsThere self.old place) }
-        ensures replaces { IfOk result (λ x. Replaces self.old self.new place x.0 row) }
+        ensures replaces { IfOk result (λ x. Replaces self.old self.new place x.0 row.now) }
         ensures max_pages { self.new.max_pages ≡ self.old.max_pages }
-        ensures fault { IfErr result (λ fault. FailsReady self.old place (rounded_size_of row) fault) }
+        ensures fault { IfErr result (λ fault. FailsReady self.old place (rounded_size_of row.now) fault) }
         ensures err { OnErr result (self.new ≡ self.old) }
         ensures own { OnErr result (SameOwn own.old own.new) }
         ensures window { IsWindow self.new.table }
@@ -222,8 +222,8 @@ impl HeapState {
         if !self.is_there(place) {
             return Err(WriteFault::Gone);
         }
-        if self.has_room(place.page, &row) {
-            let heap_only = self.keeps_values(place, &row);
+        if self.has_room(place.page, row) {
+            let heap_only = self.keeps_values(place, row);
             return Ok(self.replace_on_page(own, place, row, heap_only));
         }
         match target {
@@ -233,17 +233,17 @@ impl HeapState {
     }
 
     /// Replaces a version by one on its page, which has room and memory for it: a heap-only one, or a root.
-    fn replace_on_page(&mut self, own: &mut OwnIds, place: Tid, row: Row, heap_only: bool) -> Xid
+    fn replace_on_page(&mut self, own: &mut OwnIds, place: Tid, row: &Row, heap_only: bool) -> Xid
         requires newest { (x : ℕ) → level_id own.old.ids own.old.saved ≡ Some x → IsGiven self.old.table x }
         requires free { ¬ NeedsFreeze self.old.table own.old }
         requires has_ids { HasIds self.old.table own.old }
         requires there { IsThere self.old place }
-        requires room { rounded_size_of row ≤ room_of (page_on self.old place.page).slots }
+        requires room { rounded_size_of row.now ≤ room_of (page_on self.old place.page).slots }
         requires has_slot { HasSlot (page_on self.old place.page) }
-        requires heap_only { IsTrue heap_only ↔ KeepsValues self.old place row }
+        requires heap_only { IsTrue heap_only ↔ KeepsValues self.old place row.now }
         requires has_entries { IsFalse heap_only → HasEntries self.old.indexes }
         ensures takes { TakesIds self.old.table self.new.table own.old own.new result.0 }
-        ensures replaces { ReplacesOnPage self.old self.new place result.0 row }
+        ensures replaces { ReplacesOnPage self.old self.new place result.0 row.now }
         ensures max_pages { self.new.max_pages ≡ self.old.max_pages }
         ensures window { IsWindow self.new.table }
         ensures normal { IsNormal result.0 }
@@ -256,15 +256,15 @@ impl HeapState {
     }
 
     /// Replaces a version by a heap-only one on its page, which has room and memory for it.
-    fn replace_here(&mut self, own: &mut OwnIds, place: Tid, row: Row) -> Xid
+    fn replace_here(&mut self, own: &mut OwnIds, place: Tid, row: &Row) -> Xid
         requires newest { (x : ℕ) → level_id own.old.ids own.old.saved ≡ Some x → IsGiven self.old.table x }
         requires free { ¬ NeedsFreeze self.old.table own.old }
         requires has_ids { HasIds self.old.table own.old }
         requires there { IsThere self.old place }
-        requires room { rounded_size_of row ≤ room_of (page_on self.old place.page).slots }
+        requires room { rounded_size_of row.now ≤ room_of (page_on self.old place.page).slots }
         requires has_slot { HasSlot (page_on self.old place.page) }
         ensures takes { TakesIds self.old.table self.new.table own.old own.new result.0 }
-        ensures replaces { ReplacesHere self.old self.new place result.0 row }
+        ensures replaces { ReplacesHere self.old self.new place result.0 row.now }
         ensures max_pages { self.new.max_pages ≡ self.old.max_pages }
         ensures window { IsWindow self.new.table }
         ensures normal { IsNormal result.0 }
@@ -276,15 +276,15 @@ impl HeapState {
     }
 
     /// Replaces a version by a root where one goes, with room and memory for it and its entries.
-    fn replace_by_root(&mut self, own: &mut OwnIds, place: Tid, row: Row, target: Target) -> Xid
+    fn replace_by_root(&mut self, own: &mut OwnIds, place: Tid, row: &Row, target: Target) -> Xid
         requires newest { (x : ℕ) → level_id own.old.ids own.old.saved ≡ Some x → IsGiven self.old.table x }
         requires free { ¬ NeedsFreeze self.old.table own.old }
         requires has_ids { HasIds self.old.table own.old }
         requires there { IsThere self.old place }
         requires has_entries { HasEntries self.old.indexes }
-        requires ready { IsReady self.old.pages (rounded_size_of row) target }
+        requires ready { IsReady self.old.pages (rounded_size_of row.now) target }
         ensures takes { TakesIds self.old.table self.new.table own.old own.new result.0 }
-        ensures replaces { ReplacesByRoot self.old self.new place result.0 row (target_number self.old.pages.pages target) }
+        ensures replaces { ReplacesByRoot self.old self.new place result.0 row.now (target_number self.old.pages.pages target) }
         ensures max_pages { self.new.max_pages ≡ self.old.max_pages }
         ensures window { IsWindow self.new.table }
         ensures normal { IsNormal result.0 }

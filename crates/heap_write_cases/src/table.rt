@@ -152,7 +152,7 @@ pub fn insert(heap: &mut HeapState, own: &mut OwnIds, row: Row) -> Result<Xid, W
     if !is_known(heap, own) {
         return Err(WriteFault::Gone);
     }
-    heap.insert(own, row)
+    heap.insert(own, &row)
 }
 
 pub fn update(
@@ -167,7 +167,7 @@ pub fn update(
     if !is_known(heap, own) {
         return Err(WriteFault::Gone);
     }
-    heap.update(own, place, row, horizon)
+    heap.update(own, place, &row, horizon)
 }
 
 pub fn delete(heap: &mut HeapState, own: &mut OwnIds, place: Tid) -> Result<Xid, WriteFault> {

@@ -15,30 +15,33 @@ use tuple_header::{Header, Row, Tuple};
 use xid_circle::{Tid, Xid};
 
 /// Adds a version.
-fn add(page: &mut Page, header: Header, row: Row)
+fn add(page: &mut Page, header: Header, row: &Row)
     requires faultless { header_fault header ≡ None }
-    requires room { rounded_size_of row ≤ room_of page.old.slots }
+    requires room { rounded_size_of row.now ≤ room_of page.old.slots }
     requires memory { (has_unused page.old.slots ≡ true) ⊎ (0 < page.old.spare) }
-    ensures slots { page.new.slots ≡ with_added page.old.slots (Slot.Normal (record { header = header; row = row })) }
+    ensures slots { page.new.slots ≡ with_added page.old.slots (Slot.Normal (record { header = header; row = row.now })) }
     ensures change { page.new.change ≡ next_change page.old.change }
     ensures flag { page.new.flag ≡ page.old.flag }
     ensures spare { page.old.spare ≤ page.new.spare + 1 }
     ensures spare_kept { has_unused page.old.slots ≡ true → page.old.spare ≤ page.new.spare }
 {
-    match page.add(Tuple { header, row }) {
+    match page.add(Tuple {
+        header,
+        row: row.copy(),
+    }) {
         Ok(_) => {}
         Err(_) => unreachable!(),
     }
 }
 
 /// Adds a version as a root.
-fn add_root(page: &mut Page, number_of_page: u32, updated: bool, x: Xid, row: Row) -> u16
+fn add_root(page: &mut Page, number_of_page: u32, updated: bool, x: Xid, row: &Row) -> u16
     requires normal { IsNormal x.0 }
-    requires room { rounded_size_of row ≤ room_of page.old.slots }
+    requires room { rounded_size_of row.now ≤ room_of page.old.slots }
     requires memory { (has_unused page.old.slots ≡ true) ⊎ (0 < page.old.spare) }
     ensures number { result ≡ free_number page.old.slots }
     ensures limit { result ≤ 291 }
-    ensures slots { page.new.slots ≡ with_root page.old.slots updated x.0 number_of_page row }
+    ensures slots { page.new.slots ≡ with_root page.old.slots updated x.0 number_of_page row.now }
     ensures change { page.new.change ≡ next_change page.old.change }
     ensures flag { page.new.flag ≡ page.old.flag }
     ensures spare { page.old.spare ≤ page.new.spare + 1 }
@@ -58,13 +61,13 @@ fn add_root(page: &mut Page, number_of_page: u32, updated: bool, x: Xid, row: Ro
 /// Inserts a version of the row, made by `x`, a normal id, as a root in the lowest unused slot, else in a new last one,
 /// and answers the slot's number. The page has the number given, room for the row, and an unused slot or memory for a new
 /// one. (PostgreSQL, `heap_insert` in src/backend/access/heap/heapam.c.)
-pub fn insert_version(page: &mut Page, number_of_page: u32, x: Xid, row: Row) -> u16
+pub fn insert_version(page: &mut Page, number_of_page: u32, x: Xid, row: &Row) -> u16
     requires normal { IsNormal x.0 }
-    requires room { rounded_size_of row ≤ room_of page.old.slots }
+    requires room { rounded_size_of row.now ≤ room_of page.old.slots }
     requires memory { (has_unused page.old.slots ≡ true) ⊎ (0 < page.old.spare) }
     ensures number { result ≡ free_number page.old.slots }
     ensures limit { result ≤ 291 }
-    ensures slots { page.new.slots ≡ with_root page.old.slots false x.0 number_of_page row }
+    ensures slots { page.new.slots ≡ with_root page.old.slots false x.0 number_of_page row.now }
     ensures change { page.new.change ≡ next_change page.old.change }
     ensures flag { page.new.flag ≡ page.old.flag }
     ensures spare { page.old.spare ≤ page.new.spare + 1 }
@@ -74,13 +77,13 @@ pub fn insert_version(page: &mut Page, number_of_page: u32, x: Xid, row: Row) ->
 }
 
 /// Adds the new version of an update that is not HOT: as [`insert_version`], but marked as made by an update.
-pub fn move_in(page: &mut Page, number_of_page: u32, x: Xid, row: Row) -> u16
+pub fn move_in(page: &mut Page, number_of_page: u32, x: Xid, row: &Row) -> u16
     requires normal { IsNormal x.0 }
-    requires room { rounded_size_of row ≤ room_of page.old.slots }
+    requires room { rounded_size_of row.now ≤ room_of page.old.slots }
     requires memory { (has_unused page.old.slots ≡ true) ⊎ (0 < page.old.spare) }
     ensures number { result ≡ free_number page.old.slots }
     ensures limit { result ≤ 291 }
-    ensures slots { page.new.slots ≡ with_root page.old.slots true x.0 number_of_page row }
+    ensures slots { page.new.slots ≡ with_root page.old.slots true x.0 number_of_page row.now }
     ensures change { page.new.change ≡ next_change page.old.change }
     ensures flag { page.new.flag ≡ page.old.flag }
     ensures spare { page.old.spare ≤ page.new.spare + 1 }
@@ -142,14 +145,14 @@ pub fn move_away(page: &mut Page, slot: u16, x: Xid, place: Tid)
 /// Updates the version in a slot by one of this row on the same page, as `x`, a normal id, and answers the new one's slot:
 /// the old one is HOT-updated, the new one heap-only. The page has the number given, room for the row, and an unused slot
 /// or memory for a new one. (README.HOT: such an update makes no index entry.)
-pub fn update_here(page: &mut Page, number_of_page: u32, slot: u16, x: Xid, row: Row) -> u16
+pub fn update_here(page: &mut Page, number_of_page: u32, slot: u16, x: Xid, row: &Row) -> u16
     requires version { IsNormalAt page.old.slots slot }
     requires normal { IsNormal x.0 }
-    requires room { rounded_size_of row ≤ room_of page.old.slots }
+    requires room { rounded_size_of row.now ≤ room_of page.old.slots }
     requires memory { (has_unused page.old.slots ≡ true) ⊎ (0 < page.old.spare) }
     ensures number { result ≡ free_number page.old.slots }
     ensures limit { result ≤ 291 }
-    ensures slots { page.new.slots ≡ with_updated page.old.slots slot x.0 number_of_page row }
+    ensures slots { page.new.slots ≡ with_updated page.old.slots slot x.0 number_of_page row.now }
     ensures change { page.new.change ≡ replaced_change page.old.slots slot x.0 number_of_page (free_number page.old.slots) true (next_change page.old.change) }
     ensures flag { page.new.flag ≡ page.old.flag }
     ensures spare { page.old.spare ≤ page.new.spare + 1 }

@@ -22,7 +22,7 @@ fn insert_for(heap: &mut HeapState, session: &mut Session, row: Row) -> Result<(
 {
     // an id of its levels is one of its own ids
     session.own.are_fronts();
-    match heap.insert(&mut session.own, row) {
+    match heap.insert(&mut session.own, &row) {
         Ok(_) => Ok(()),
         Err(fault) => Err(fault),
     }

@@ -31,7 +31,7 @@ fn update_for(
 {
     // an id of its levels is one of its own ids
     session.own.are_fronts();
-    match heap.update(&mut session.own, place, row, horizon) {
+    match heap.update(&mut session.own, place, &row, horizon) {
         Ok(_) => Ok(()),
         Err(fault) => Err(fault),
     }

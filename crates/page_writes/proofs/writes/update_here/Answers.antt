@@ -7,6 +7,6 @@ pub returns-clause-change : goal.returns-clause-change
 returns-clause-change c =
     let now = c.args.page.now in
     c.take_away.ensures.change
-    ∙ change-updated now.slots c.add.new.page.slots (Normal (record { header = c.heap_only-header.result; row = c.args.row })) c.args.slot c.args.x.0
+    ∙ change-updated now.slots c.add.new.page.slots (Normal (record { header = c.heap_only-header.result; row = c.args.row.now })) c.args.slot c.args.x.0
     c.args.number_of_page c.free_number-number.result now.change c.add.new.page.change
     c.requires.version c.add.ensures.slots c.free_number-number.ensures.value c.add.ensures.change

@@ -15,14 +15,14 @@ page_mut-requires c =
 pub move_away-requires-clause-version : goal.move_away-requires-clause-version
 move_away-requires-clause-version c =
     stays-there c.args.self.now (record { pages = c.self.inside.pages; table = c.take_ids-x.new.table; indexes = c.self.inside.indexes; max_pages = c.self.inside.max_pages }) c.put_root-successor.new.self
-    c.args.place c.take_ids-x.result.0 c.args.row c.put_root-successor.result.page c.page_mut.result.now
+    c.args.place c.take_ids-x.result.0 c.args.row.now c.put_root-successor.result.page c.page_mut.result.now
     (ap (λ (h : HeapView). h.pages) c.self.view_is) c.requires.there c.put_root-successor.ensures.root
     (sym (ap (λ (h : HeapView). slice_get h.pages.pages c.args.place.page) c.self-2.view_is) ∙ c.page_mut.ensures.value)
 
 pub returns-clause-replaces : goal.returns-clause-replaces
 returns-clause-replaces c =
     moves c.args.self.now (record { pages = c.self.inside.pages; table = c.take_ids-x.new.table; indexes = c.self.inside.indexes; max_pages = c.self.inside.max_pages }) c.put_root-successor.new.self _
-    c.args.place c.put_root-successor.result c.take_ids-x.result.0 c.args.row c.args.target c.page_mut.result.now c.move_away.new.page
+    c.args.place c.put_root-successor.result c.take_ids-x.result.0 c.args.row.now c.args.target c.page_mut.result.now c.move_away.new.page
     (ap (λ (h : HeapView). h.pages) c.self.view_is) (ap (λ (h : HeapView). h.indexes) c.self.view_is)
     c.put_root-successor.ensures.root c.put_root-successor.ensures.page c.put_root-successor.ensures.slot
     (sym (ap (λ (h : HeapView). slice_get h.pages.pages c.args.place.page) c.self-2.view_is) ∙ c.page_mut.ensures.value)

@@ -11,6 +11,6 @@ returns-clause-replaces c =
     let h = the_view c.self.inside in
     let done = c.update_here-slot.ensures in
     let h' : HeapView = record { pages = with_page c.self.inside.pages c.args.place.page c.update_here-slot.new.page; table = c.take_ids-x.new.table; indexes = c.self.inside.indexes; max_pages = c.self.inside.max_pages } in
-    subst (λ (v : HeapView). ReplacesHere v h' c.args.place c.take_ids-x.result.0 c.args.row) c.self.view_is
-    (replaces-here h h' c.args.place c.take_ids-x.result.0 c.args.row c.page_mut-page.result.now c.update_here-slot.new.page c.page_mut-page.ensures.value
+    subst (λ (v : HeapView). ReplacesHere v h' c.args.place c.take_ids-x.result.0 c.args.row.now) c.self.view_is
+    (replaces-here h h' c.args.place c.take_ids-x.result.0 c.args.row.now c.page_mut-page.result.now c.update_here-slot.new.page c.page_mut-page.ensures.value
     done.slots done.change done.flag (subst (λ n. n ≤ 291) done.number done.limit) refl (λ n. refl))

@@ -10,7 +10,7 @@ returns-then-has_room-clause-ok c =
     let own = c.args.own.now in
     let done = c.update_at_once.ensures in
     let free = subst (λ (h : HeapView). ¬ NeedsFreeze h.table own) c.self.view_is (refuted c.needs_freeze.result (NeedsFreeze c.self.inside.table own) c.needs_freeze.ensures c.if-needs_freeze.false) in
-    updates-here c.args.self.now c.update_at_once.new.self own c.update_at_once.new.own c.args.place c.args.row c.args.horizon.0 c.update_at_once.result free
+    updates-here c.args.self.now c.update_at_once.new.self own c.update_at_once.new.own c.args.place c.args.row.now c.args.horizon.0 c.update_at_once.result free
     (c.is_there.ensures.0 c.if-not-is_there.false) (c.has_room.ensures.0 c.if-has_room.true) done.max_pages done.takes done.replaces
 
 pub returns-then-has_room-clause-fault : goal.returns-then-has_room-clause-fault
@@ -18,5 +18,5 @@ returns-then-has_room-clause-fault c =
     let own = c.args.own.now in
     let done = c.update_at_once.ensures in
     let free = subst (λ (h : HeapView). ¬ NeedsFreeze h.table own) c.self.view_is (refuted c.needs_freeze.result (NeedsFreeze c.self.inside.table own) c.needs_freeze.ensures c.if-needs_freeze.false) in
-    here-fails c.args.self.now c.update_at_once.new.self own c.args.place c.args.row c.args.horizon.0 c.update_at_once.result
+    here-fails c.args.self.now c.update_at_once.new.self own c.args.place c.args.row.now c.args.horizon.0 c.update_at_once.result
     (c.is_there.ensures.0 c.if-not-is_there.false) free done.fault done.needs done.err

@@ -11,7 +11,7 @@ replace_on_page-requires-clause-heap_only c =
     let keeps = c.reserve_on_page-reserved.ensures.keeps in
     let slots = kept-slots h h1 c.args.place.page keeps in
     let says = c.keeps_values-heap_only.ensures in
-    (λ yes. values-kept h h1 c.args.place c.args.row slots keeps.entries (says.0 yes), λ kept. says.1 (values-back h h1 c.args.place c.args.row slots keeps.entries kept))
+    (λ yes. values-kept h h1 c.args.place c.args.row.now slots keeps.entries (says.0 yes), λ kept. says.1 (values-back h h1 c.args.place c.args.row.now slots keeps.entries kept))
 
 pub returns-in-Ok-clause-takes : goal.returns-in-Ok-clause-takes
 returns-in-Ok-clause-takes c =
@@ -25,4 +25,4 @@ returns-in-Ok-clause-replaces c =
     let h1 = c.reserve_on_page-reserved.new.self in
     let n = c.args.place.page in
     let grown = grown-page h h1 n (there-within h c.args.place c.requires.there) c.in-Ok.ensures.grows c.reserve_on_page-reserved.ensures.keeps.entries in
-    on_page-grown h h1 c.replace_on_page.new.self c.args.place c.replace_on_page.result.0 c.args.row grown c.replace_on_page.ensures.replaces
+    on_page-grown h h1 c.replace_on_page.new.self c.args.place c.replace_on_page.result.0 c.args.row.now grown c.replace_on_page.ensures.replaces

@@ -13,7 +13,7 @@ use Rattle.heap_write.proofs.heap.HeapState.update_with_pruning.Goals as goal
 
 pub update_ready-requires-clause-chosen : goal.update_ready-requires-clause-chosen
 update_ready-requires-clause-chosen c small =
-    let size = rounded_size_of c.args.row in
+    let size = rounded_size_of c.args.row.now in
     let grown = c.reserve_update-reserved.new.self in
     let chosen = subst (λ n. IsChosen grown n c.in-Ok.target) c.size_of.ensures.value c.in-Ok.ensures.chosen in
     pruned-chosen grown c.prune_page.new.self c.args.place.page c.args.horizon.0 size c.in-Ok.target c.prune_page.ensures.prunes
@@ -21,7 +21,7 @@ update_ready-requires-clause-chosen c small =
 
 pub update_ready-requires-clause-ready : goal.update_ready-requires-clause-ready
 update_ready-requires-clause-ready c =
-    let size = rounded_size_of c.args.row in
+    let size = rounded_size_of c.args.row.now in
     let grown = c.reserve_update-reserved.new.self in
     let full = kept-full c.args.self.now grown c.args.place.page size c.reserve_update-reserved.ensures.keeps c.requires.room in
     some-weaker c.in-Ok.target (λ target. IsReady grown.pages c.size_of.result target) (λ target. IsReady c.prune_page.new.self.pages size target)
@@ -35,13 +35,13 @@ returns-in-Ok-clause-ok c =
     let ready = c.prune_page.new.self in
     let Begun : Xid → Type 0 = λ x. TakesIds ready.table c.update_ready.new.self.table c.reserve_update-reserved.new.own c.update_ready.new.own x.0 × IsThere ready c.args.place in
     let begun = both-ok {C = Begun} c.update_ready.result (λ x takes there. (takes, there)) done.takes done.there in
-    both-ok {A = Begun} c.update_ready.result (λ x first replaces. updates c.args.self.now c.reserve_update-reserved.new.self c.prune_page.new.self c.update_ready.new.self c.args.own.now c.reserve_update-reserved.new.own c.update_ready.new.own c.args.place c.args.row
+    both-ok {A = Begun} c.update_ready.result (λ x first replaces. updates c.args.self.now c.reserve_update-reserved.new.self c.prune_page.new.self c.update_ready.new.self c.args.own.now c.reserve_update-reserved.new.own c.update_ready.new.own c.args.place c.args.row.now
     c.args.horizon.0 x.0 c.requires.free c.requires.room reserved.keeps reserved.own reserved.none c.prune_page.ensures.prunes first.0 first.1 replaces done.max_pages) begun done.replaces
 
 pub returns-in-Ok-clause-fault : goal.returns-in-Ok-clause-fault
 returns-in-Ok-clause-fault c =
     let done = c.update_ready.ensures in
-    both-err c.update_ready.result (λ fault failed same. fails c.args.self.now c.reserve_update-reserved.new.self c.prune_page.new.self c.update_ready.new.self c.args.own.now c.args.place c.args.row
+    both-err c.update_ready.result (λ fault failed same. fails c.args.self.now c.reserve_update-reserved.new.self c.prune_page.new.self c.update_ready.new.self c.args.own.now c.args.place c.args.row.now
     c.args.horizon.0 fault c.requires.there c.requires.free c.requires.room c.reserve_update-reserved.ensures.keeps c.prune_page.ensures.prunes same failed) done.fault done.err
 
 pub returns-in-Err-clause-fault : goal.returns-in-Err-clause-fault
