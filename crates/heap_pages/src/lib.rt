@@ -12,6 +12,3 @@ mod pages;
 
 pub use choice::free_byte;
 pub use pages::{MAX_PAGES, Pages, Place};
-
-#[cfg(test)]
-mod tests;

@@ -17,6 +17,3 @@ mod slot;
 
 pub use page::{AddFault, Page};
 pub use slot::Slot;
-
-#[cfg(test)]
-mod tests;

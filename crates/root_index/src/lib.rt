@@ -17,6 +17,3 @@ mod leaves;
 
 pub use entry::{Entry, members_determine};
 pub use index::RootIndex;
-
-#[cfg(test)]
-mod tests;

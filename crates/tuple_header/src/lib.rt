@@ -16,6 +16,3 @@ pub use decoding::{decode, fault_of};
 pub use encoding::{encode, reads_back};
 pub use fault::TupleFault;
 pub use version::{Header, Row, Tuple, size};
-
-#[cfg(test)]
-mod tests;

@@ -74,24 +74,3 @@ pub fn distance(from: Xid, to: Xid) -> u32
 pub fn order_of_giving()
     ensures { OrderIsThatOfGiving }
 {}
-
-#[cfg(test)]
-mod tests {
-    use super::{Tid, Xid, distance, next, order_of_giving, precedes};
-
-    #[test]
-    fn ids_go_round(rt: HostRuntime) {
-        assert!(rt; precedes(Xid(4294967295), Xid(3)));
-        assert!(rt; !precedes(Xid(3), Xid(4294967295)));
-        assert!(rt; !precedes(Xid(2147483650), Xid(3)));
-        assert!(rt; precedes(Xid(3), Xid(2147483650)));
-        assert_eq!(rt; next(Xid(4294967295)), Xid(3));
-        assert_eq!(rt; next(Xid(3)), Xid(4));
-        assert_eq!(rt; distance(Xid(4294967294), Xid(3)), 5);
-        assert!(rt; Xid(3).is_normal());
-        assert!(rt; !Xid::FROZEN.is_normal());
-        order_of_giving();
-        let place = Tid { page: 0, slot: 1 };
-        assert_eq!(rt; place, place);
-    }
-}

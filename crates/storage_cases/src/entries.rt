@@ -1,0 +1,389 @@
+//! Sets of entries, each reckoned by hand.
+
+use crate::calls::{count, first_from, insert, laws, next_after, promise, remove};
+use root_index::{Entry, RootIndex};
+use std::alloc::{AllocError, Global};
+use std::process::Abort;
+use xid_circle::Tid;
+
+fn entry(value: i128, key: u64, page: u32, slot: u16) -> Entry {
+    Entry {
+        value,
+        key,
+        tid: Tid { page, slot },
+    }
+}
+
+/// No entry is below this one.
+const LEAST: Entry = Entry {
+    value: i128::MIN,
+    key: 0,
+    tid: Tid { page: 0, slot: 0 },
+};
+
+/// No entry is above this one.
+const GREATEST: Entry = Entry {
+    value: i128::MAX,
+    key: u64::MAX,
+    tid: Tid {
+        page: u32::MAX,
+        slot: u16::MAX,
+    },
+};
+
+/// Whether these are the index's entries, in this order.
+fn holds(index: &RootIndex, entries: &[Entry]) -> bool {
+    let mut last = None;
+    for entry in entries {
+        let next = next_after(index, last);
+        if next != Some(*entry) {
+            return false;
+        }
+        last = next;
+    }
+    next_after(index, last).is_none() && count(index) == entries.len() as u64
+}
+
+fn insert_all(index: &mut RootIndex, entries: &[Entry]) -> Result<(), AllocError> {
+    for entry in entries {
+        insert(index, *entry)?;
+    }
+    Ok(())
+}
+
+fn ascending() -> [Entry; 9] {
+    [
+        LEAST,
+        entry(-1, 9, 9, 9),
+        entry(0, 0, 0, 0),
+        entry(0, 0, 0, 1),
+        entry(0, 0, 1, 0),
+        entry(0, 1, 0, 0),
+        entry(1, 0, 0, 0),
+        entry(18446744073709551615, u64::MAX, u32::MAX, 1),
+        GREATEST,
+    ]
+}
+
+#[test]
+fn each_part_orders_where_those_before_it_are_equal(rt: HostRuntime) -> Result<(), AllocError> {
+    let mut index = RootIndex::new(rt.alloc());
+    promise(&mut index, 9)?;
+    insert_all(&mut index, &ascending())?;
+    assert!(rt; holds(&index, &ascending()));
+    laws(&index);
+    Ok(())
+}
+
+#[test]
+fn each_part_orders_what_comes_backward(rt: HostRuntime) -> Result<(), AllocError> {
+    let mut index = RootIndex::new(rt.alloc());
+    let ascending = ascending();
+    for i in 0..9usize {
+        insert(&mut index, ascending[8 - i])?;
+    }
+    assert!(rt; holds(&index, &ascending));
+    Ok(())
+}
+
+#[test]
+fn an_entry_is_there_once(rt: HostRuntime) -> Result<(), AllocError> {
+    let mut index = RootIndex::new(rt.alloc());
+    assert_eq!(rt; count(&index), 0);
+    assert_eq!(rt; next_after(&index, None), None);
+    assert_eq!(rt; first_from(&index, i128::MIN, 0), None);
+    for _ in 0..3usize {
+        insert(&mut index, entry(5, 1, 0, 1))?;
+    }
+    insert(&mut index, entry(5, 1, 0, 2))?;
+    insert(&mut index, entry(5, 1, 0, 1))?;
+    assert!(rt; holds(&index, &[entry(5, 1, 0, 1), entry(5, 1, 0, 2)]));
+    Ok(())
+}
+
+/// Four entries in order.
+fn four() -> (Entry, Entry, Entry, Entry) {
+    (
+        entry(10, 2, 0, 2),
+        entry(10, 2, 1, 1),
+        entry(10, 3, 0, 3),
+        entry(30, 1, 0, 1),
+    )
+}
+
+/// An index that was given them in no order.
+fn index_of_four(alloc: Global) -> Result<RootIndex, AllocError> {
+    let mut index = RootIndex::new(alloc);
+    let (a, b, c, d) = four();
+    insert_all(&mut index, &[c, a, d, b])?;
+    Ok(index)
+}
+
+#[test]
+fn what_comes_after(rt: HostRuntime) -> Result<(), AllocError> {
+    let index = index_of_four(rt.alloc())?;
+    let (a, b, c, d) = four();
+    let after = [
+        // those that are there
+        (None, Some(a)),
+        (Some(a), Some(b)),
+        (Some(b), Some(c)),
+        (Some(c), Some(d)),
+        (Some(d), None),
+        // before all, between, and after all
+        (Some(LEAST), Some(a)),
+        (Some(entry(10, 2, 0, 1)), Some(a)),
+        (Some(entry(10, 2, 0, 3)), Some(b)),
+        (Some(entry(29, 9, 9, 9)), Some(d)),
+        (Some(GREATEST), None),
+    ];
+    for (from, next) in after {
+        assert_eq!(rt; next_after(&index, from), next);
+    }
+    Ok(())
+}
+
+#[test]
+fn what_comes_from(rt: HostRuntime) -> Result<(), AllocError> {
+    let mut index = index_of_four(rt.alloc())?;
+    let (a, _, c, d) = four();
+    let from = [
+        (i128::MIN, 0, Some(a)),
+        (9, u64::MAX, Some(a)),
+        (10, 2, Some(a)),
+        (10, 3, Some(c)),
+        (10, 4, Some(d)),
+        (30, 1, Some(d)),
+        (30, 2, None),
+        (i128::MAX, u64::MAX, None),
+    ];
+    for (value, key, first) in from {
+        assert_eq!(rt; first_from(&index, value, key), first);
+    }
+    insert(&mut index, GREATEST)?;
+    assert_eq!(rt; first_from(&index, i128::MAX, u64::MAX), Some(GREATEST));
+    Ok(())
+}
+
+/// Removes the entries that lead to dead places, and then these are left.
+fn sweep(rt: &impl Abort, index: &mut RootIndex, dead: &[Tid], left: &[Entry]) {
+    remove(index, dead);
+    assert!(rt; holds(index, left));
+}
+
+#[test]
+fn entries_to_dead_places_go(rt: HostRuntime) -> Result<(), AllocError> {
+    let mut index = RootIndex::new(rt.alloc());
+    let (a, b, c) = (entry(1, 1, 0, 1), entry(2, 2, 0, 2), entry(3, 1, 0, 1));
+    insert_all(&mut index, &[a, b, c])?;
+    sweep(&rt, &mut index, &[], &[a, b, c]);
+    // the same slot of another page, and another slot of the same page
+    let elsewhere = [Tid { page: 1, slot: 1 }, Tid { page: 0, slot: 3 }];
+    sweep(&rt, &mut index, &elsewhere, &[a, b, c]);
+    sweep(&rt, &mut index, &[Tid { page: 0, slot: 1 }], &[b]);
+    sweep(&rt, &mut index, &[Tid { page: 0, slot: 2 }], &[]);
+    insert(&mut index, c)?;
+    assert!(rt; holds(&index, &[c]));
+    Ok(())
+}
+
+/// The entry of this key, of the same value and with one place for all.
+fn of_key(key: u64) -> Entry {
+    entry(i128::from(key), key, 7, 7)
+}
+
+/// The entries of the keys below 1000, put in in no order.
+fn a_thousand(alloc: Global) -> Result<RootIndex, AllocError> {
+    let mut index = RootIndex::new(alloc);
+    // 387 and 1000 have no common divisor, so each key below 1000 comes once
+    for i in 0..1000u64 {
+        insert(&mut index, of_key(i * 387 % 1000))?;
+    }
+    Ok(index)
+}
+
+#[test]
+fn a_thousand_entries_in_no_order_come_out_in_order(rt: HostRuntime) -> Result<(), AllocError> {
+    let index = a_thousand(rt.alloc())?;
+    assert_eq!(rt; count(&index), 1000);
+    let mut last = None;
+    for key in 0..1000u64 {
+        last = next_after(&index, last);
+        assert_eq!(rt; last, Some(of_key(key)));
+        assert_eq!(rt; first_from(&index, i128::from(key), key), last);
+    }
+    assert_eq!(rt; next_after(&index, last), None);
+    Ok(())
+}
+
+/// The entry of this key, of the same value and in the page of this number.
+fn numbered(key: u32) -> Entry {
+    entry(i128::from(key), u64::from(key), key, 1)
+}
+
+/// Whether the index holds the entries of the keys below this one, and no others.
+fn holds_below(index: &RootIndex, limit: u32) -> bool {
+    let mut last = None;
+    for key in 0..limit {
+        last = next_after(index, last);
+        if last != Some(numbered(key)) {
+            return false;
+        }
+    }
+    next_after(index, last).is_none() && count(index) == u64::from(limit)
+}
+
+#[test]
+fn a_full_leaf_is_split(rt: HostRuntime) -> Result<(), AllocError> {
+    let mut upward = RootIndex::new(rt.alloc());
+    let mut downward = RootIndex::new(rt.alloc());
+    for key in 0..300u32 {
+        insert(&mut upward, numbered(key))?;
+        insert(&mut downward, numbered(299 - key))?;
+        if key == 127 || key == 128 {
+            assert!(rt; holds_below(&upward, key + 1));
+            assert_eq!(rt; count(&downward), u64::from(key) + 1);
+            assert_eq!(rt; next_after(&downward, None), Some(numbered(299 - key)));
+        }
+    }
+    assert!(rt; holds_below(&upward, 300));
+    assert!(rt; holds_below(&downward, 300));
+    Ok(())
+}
+
+/// The entries of the keys below 129, but that of this key: a full leaf.
+fn full_but(alloc: Global, place: u32) -> Result<RootIndex, AllocError> {
+    let mut index = RootIndex::new(alloc);
+    for key in 0..129u32 {
+        if key != place {
+            insert(&mut index, numbered(key))?;
+        }
+    }
+    Ok(index)
+}
+
+#[test]
+fn an_entry_goes_to_any_place_of_a_full_leaf(rt: HostRuntime) -> Result<(), AllocError> {
+    for place in [0, 1, 63, 64, 65, 127, 128] {
+        let mut index = full_but(rt.alloc(), place)?;
+        assert_eq!(rt; count(&index), 128);
+        insert(&mut index, numbered(place))?;
+        insert(&mut index, numbered(place))?;
+        assert!(rt; holds_below(&index, 129));
+    }
+    Ok(())
+}
+
+/// The entries of the keys below 10000, put in in mixed order.
+fn ten_thousand(alloc: Global) -> Result<RootIndex, AllocError> {
+    let mut index = RootIndex::new(alloc);
+    // 3877 and 10000 have no common divisor, so each key below 10000 comes once
+    for i in 0..10000u32 {
+        insert(&mut index, numbered(i * 3877 % 10000))?;
+    }
+    Ok(index)
+}
+
+#[test]
+fn ten_thousand_entries_in_mixed_order(rt: HostRuntime) -> Result<(), AllocError> {
+    let index = ten_thousand(rt.alloc())?;
+    assert!(rt; holds_below(&index, 10000));
+    for key in 0..9999u32 {
+        let next = first_from(&index, i128::from(key), u64::from(key) + 1);
+        assert_eq!(rt; next, Some(numbered(key + 1)));
+    }
+    assert_eq!(rt; first_from(&index, 9999, 10000), None);
+    Ok(())
+}
+
+/// The entry of a slot of page 0, with the slot for its value.
+fn of_slot(slot: u16) -> Entry {
+    entry(i128::from(slot), 0, 0, slot)
+}
+
+fn insert_slots(index: &mut RootIndex, from: u16, to: u16) -> Result<(), AllocError> {
+    for slot in from..to {
+        insert(index, of_slot(slot))?;
+    }
+    Ok(())
+}
+
+/// Removes the entries of these slots, one after another.
+fn remove_slots(index: &mut RootIndex, from: u16, to: u16) {
+    for slot in from..to {
+        remove(index, &[Tid { page: 0, slot }]);
+    }
+}
+
+/// The slots from 100 to 399.
+fn middle(alloc: Global) -> Result<Vec<Tid>, AllocError> {
+    let mut dead = Vec::with_capacity(alloc, 300)?;
+    for slot in 100..400u16 {
+        dead.push(Tid { page: 0, slot })?;
+    }
+    Ok(dead)
+}
+
+/// The entries of the slots below 500 without those in the middle, which were there.
+fn without_middle(alloc: Global) -> Result<RootIndex, AllocError> {
+    let mut index = RootIndex::new(alloc);
+    insert_slots(&mut index, 0, 500)?;
+    let dead = middle(alloc)?;
+    remove(&mut index, &dead);
+    Ok(index)
+}
+
+#[test]
+fn leaves_without_entries_go(rt: HostRuntime) -> Result<(), AllocError> {
+    let mut index = without_middle(rt.alloc())?;
+    assert_eq!(rt; count(&index), 200);
+    assert_eq!(rt; next_after(&index, Some(of_slot(99))), Some(of_slot(400)));
+    assert_eq!(rt; first_from(&index, 100, 0), Some(of_slot(400)));
+    insert_slots(&mut index, 100, 400)?;
+    assert_eq!(rt; count(&index), 500);
+    assert_eq!(rt; next_after(&index, Some(of_slot(99))), Some(of_slot(100)));
+    Ok(())
+}
+
+#[test]
+fn the_last_leaves_go_and_then_the_others(rt: HostRuntime) -> Result<(), AllocError> {
+    let mut index = without_middle(rt.alloc())?;
+    insert_slots(&mut index, 100, 400)?;
+    remove_slots(&mut index, 400, 500);
+    assert_eq!(rt; next_after(&index, Some(of_slot(399))), None);
+    remove_slots(&mut index, 0, 100);
+    assert_eq!(rt; next_after(&index, None), Some(of_slot(100)));
+    let dead = middle(rt.alloc())?;
+    sweep(&rt, &mut index, &dead, &[]);
+    insert(&mut index, of_slot(400))?;
+    assert!(rt; holds(&index, &[of_slot(400)]));
+    Ok(())
+}
+
+/// Inserts the entries of 128 keys, and then two that were promised.
+fn insert_round(rt: &impl Abort, index: &mut RootIndex, round: u16) -> Result<(), AllocError> {
+    let first = u32::from(round) * 1000;
+    for key in 0..128u32 {
+        insert(index, numbered(first + key))?;
+    }
+    promise(index, 2)?;
+    promise(index, 1)?;
+    assert!(rt; insert(index, numbered(first + 200)).is_ok());
+    assert!(rt; insert(index, numbered(first + 300)).is_ok());
+    Ok(())
+}
+
+/// Also where any one allocation fails, the first entry and each split have their leaf.
+#[test]
+fn promised_entries_take_no_memory(rt: HostRuntime) -> Result<(), AllocError> {
+    let mut index = RootIndex::new(rt.alloc());
+    promise(&mut index, 1)?;
+    assert!(rt; insert(&mut index, numbered(0)).is_ok());
+    for round in 0..3u16 {
+        insert_round(&rt, &mut index, round)?;
+    }
+    assert_eq!(rt; count(&index), 390);
+    assert!(rt; promise(&mut index, usize::MAX).is_err());
+    assert_eq!(rt; count(&index), 390);
+    Ok(())
+}

@@ -1,0 +1,18 @@
+//! Tests of what a table is stored in: ids, versions and their bytes, pages, and indexes.
+//!
+//! Each value was reckoned by hand, and not taken from the program. They stand apart from the crates that they test, so that
+//! those are not checked a second time for their sake.
+#![tactic(auto)]
+
+#[cfg(test)]
+mod calls;
+#[cfg(test)]
+mod entries;
+#[cfg(test)]
+mod headers;
+#[cfg(test)]
+mod ids;
+#[cfg(test)]
+mod pages;
+#[cfg(test)]
+mod slots;
