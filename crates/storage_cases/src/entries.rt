@@ -315,21 +315,20 @@ fn remove_slots(index: &mut RootIndex, from: u16, to: u16) {
     }
 }
 
-/// The slots from 100 to 399.
-fn middle(alloc: Global) -> Result<Vec<Tid>, AllocError> {
-    let mut dead = Vec::with_capacity(alloc, 300)?;
-    for slot in 100..400u16 {
-        dead.push(Tid { page: 0, slot })?;
+/// The places of the slots from 100 to 399.
+fn middle() -> [Tid; 300] {
+    let mut places = [Tid { page: 0, slot: 0 }; 300];
+    for i in 0..300u16 {
+        places[usize::from(i)].slot = 100 + i;
     }
-    Ok(dead)
+    places
 }
 
 /// The entries of the slots below 500 without those in the middle, which were there.
 fn without_middle(alloc: Global) -> Result<RootIndex, AllocError> {
     let mut index = RootIndex::new(alloc);
     insert_slots(&mut index, 0, 500)?;
-    let dead = middle(alloc)?;
-    remove(&mut index, &dead);
+    remove(&mut index, &middle());
     Ok(index)
 }
 
@@ -353,8 +352,7 @@ fn the_last_leaves_go_and_then_the_others(rt: HostRuntime) -> Result<(), AllocEr
     assert_eq!(rt; next_after(&index, Some(of_slot(399))), None);
     remove_slots(&mut index, 0, 100);
     assert_eq!(rt; next_after(&index, None), Some(of_slot(100)));
-    let dead = middle(rt.alloc())?;
-    sweep(&rt, &mut index, &dead, &[]);
+    sweep(&rt, &mut index, &middle(), &[]);
     insert(&mut index, of_slot(400))?;
     assert!(rt; holds(&index, &[of_slot(400)]));
     Ok(())

@@ -112,17 +112,31 @@ fn names_each_form_of_a_fault(rt: HostRuntime) {
     is_refused(&rt, &FIRST[..65], Length);
 }
 
+/// Both words of marks, and what they say.
+const MARKS: [(u16, u16, (bool, bool, bool)); 4] = [
+    (0x0006, 0x0800, (false, false, false)),
+    (0x8006, 0x0900, (false, true, false)),
+    (0x8006, 0x0b00, (false, true, true)),
+    (0x4006, 0x0b00, (true, false, true)),
+];
+
 #[test]
 fn marks_of_a_header(rt: HostRuntime) {
     let mut header = first().header;
-    assert_eq!(rt; marks(&header), (false, false, false));
+    assert_eq!(rt; (header.mask2, header.mask), (0x0006, 0x0800));
+    for (mask2, mask, said) in MARKS {
+        header.mask2 = mask2;
+        header.mask = mask;
+        assert_eq!(rt; marks(&header), said);
+    }
+}
+
+#[test]
+fn faults_of_a_header(rt: HostRuntime) {
+    let mut header = first().header;
     header.mask2 = 0x8006;
-    header.mask = 0x0900;
-    assert_eq!(rt; marks(&header), (false, true, false));
     header.mask = 0x0b00;
-    assert_eq!(rt; marks(&header), (false, true, true));
     assert_eq!(rt; fault(&header), None);
     header.mask2 = 0x4006;
-    assert_eq!(rt; marks(&header), (true, false, true));
     assert_eq!(rt; fault(&header), Some(Xmax));
 }

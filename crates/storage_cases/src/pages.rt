@@ -1,29 +1,48 @@
 //! Pages and the choice of one, reckoned by hand.
 
 use crate::calls::{
-    add, add_page, fill, flag, free_byte_of, make_empty, page_count, page_for, page_with_room,
-    place_for, room, set_flag, version,
+    add, add_page, fill, flag, free_byte_of, make_empty, make_room, page_count, page_for,
+    page_with_room, place_for, room, set_flag, version,
 };
 use heap_pages::{Pages, Place};
 use page_slots::Page;
 use std::alloc::{AllocError, Global};
 use std::process::Abort;
 
+/// So many pages without versions.
+fn empty_pages(alloc: Global, count: usize) -> Result<Pages, AllocError> {
+    let mut pages = Pages::new(alloc);
+    for _ in 0..count {
+        add_page(&mut pages, Page::new(alloc))?;
+    }
+    Ok(pages)
+}
+
+/// The flags of the first four pages.
+fn flags(pages: &Pages) -> [Option<bool>; 4] {
+    [
+        flag(pages, 0),
+        flag(pages, 1),
+        flag(pages, 2),
+        flag(pages, 3),
+    ]
+}
+
 #[test]
 fn one_page_is_changed(rt: HostRuntime) -> Result<(), AllocError> {
-    let mut pages = Pages::new(rt.alloc());
-    assert_eq!(rt; page_count(&pages), 0);
-    for _ in 0..3usize {
-        add_page(&mut pages, Page::new(rt.alloc()))?;
-    }
+    let mut pages = empty_pages(rt.alloc(), 3)?;
     assert_eq!(rt; page_count(&pages), 3);
     set_flag(&mut pages, 1);
     set_flag(&mut pages, 3);
-    assert_eq!(rt; flag(&pages, 0), Some(false));
-    assert_eq!(rt; flag(&pages, 1), Some(true));
-    assert_eq!(rt; flag(&pages, 2), Some(false));
-    assert_eq!(rt; flag(&pages, 3), None);
+    let expected = [Some(false), Some(true), Some(false), None];
+    assert_eq!(rt; flags(&pages), expected);
     Ok(())
+}
+
+#[test]
+fn a_new_table_has_no_page(rt: HostRuntime) {
+    let pages = Pages::new(rt.alloc());
+    assert_eq!(rt; page_count(&pages), 0);
 }
 
 /// Which pages promise room for these sizes, and which have it.
@@ -94,7 +113,7 @@ fn an_empty_page_promises_most_of_its_room(rt: HostRuntime) -> Result<(), AllocE
 /// A page with one version, which leaves room 8168 - (1096 + 4) - 4 or 7064: 220 times 32, and 24 more.
 fn page_in_use(alloc: Global) -> Result<Page, AllocError> {
     let mut page = Page::new(alloc);
-    page.make_room(1)?;
+    make_room(&mut page, 1)?;
     let _ = add(&mut page, version(1, 1024));
     Ok(page)
 }
