@@ -170,6 +170,11 @@ pub fn slot(page: &Page, number: u16) -> Option<Slot> {
     page.slot(number)
 }
 
+/// The slot where it stands.
+pub fn get(page: &Page, number: u16) -> Option<&Slot> {
+    page.get(number)
+}
+
 pub fn free_byte_of(page: &Page) -> u8 {
     free_byte(page)
 }

@@ -1,10 +1,10 @@
 //! Room, numbers of slots and change numbers, each reckoned by hand.
 
 use crate::calls::{
-    add, change, free_number, header, key, make_room, mark, room, row, set_dead, set_header,
+    add, change, free_number, get, header, key, make_room, mark, room, row, set_dead, set_header,
     set_redirect, set_unused, slot, state, version,
 };
-use page_slots::{AddFault, Page};
+use page_slots::{AddFault, Page, Slot};
 use std::process::Abort;
 use xid_circle::Xid;
 
@@ -118,15 +118,20 @@ fn looks_into_a_page(rt: HostRuntime) {
     assert_eq!(rt; row(&page, 1), Some(&version(8, 2).row));
     assert!(rt; header(&page, 0).is_none() && header(&page, 2).is_none());
     assert!(rt; slot(&page, 2).is_some() && slot(&page, 3).is_none());
+    assert!(rt; matches!(get(&page, 2), Some(Slot::Dead)));
+    assert!(rt; get(&page, 0).is_none() && get(&page, 3).is_none());
 }
 
 #[test]
 fn looks_into_a_slot(rt: HostRuntime) {
     let mut page = Page::new(rt.alloc());
     assert_eq!(rt; add(&mut page, version(8, 2)), Ok(1));
-    if let Some(slot) = slot(&page, 1) {
-        assert!(rt; !slot.is_unused() && !slot.is_dead() && !slot.leads_to(1));
-        assert_eq!(rt; (slot.header(), slot.key()), (header(&page, 1), Some(8)));
-        assert_eq!(rt; slot.row(), row(&page, 1));
+    match slot(&page, 1) {
+        Some(slot) => {
+            assert!(rt; !slot.is_unused() && !slot.is_dead() && !slot.leads_to(1));
+            assert_eq!(rt; (slot.header(), slot.key()), (header(&page, 1), Some(8)));
+            assert_eq!(rt; slot.row(), row(&page, 1));
+        }
+        None => assert!(rt; false, "there is a slot 1"),
     }
 }
