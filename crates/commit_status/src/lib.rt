@@ -4,8 +4,6 @@
 mod laws;
 mod status;
 mod table;
-#[cfg(test)]
-mod tests;
 
 pub use laws::{places_are_turns, tops_are_topmost};
 pub use status::{GiveFault, Status};

@@ -3,8 +3,6 @@
 
 mod fetching;
 mod roots;
-#[cfg(test)]
-mod tests;
 mod walk;
 
 pub use fetching::fetch;

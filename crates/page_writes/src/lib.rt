@@ -20,6 +20,3 @@ pub use laws::{
     updating_here_keeps_sound,
 };
 pub use writes::{delete_version, insert_version, move_away, move_in, update_here};
-
-#[cfg(test)]
-mod tests;

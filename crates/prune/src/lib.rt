@@ -19,8 +19,6 @@ mod checking;
 mod laws;
 mod marks;
 mod planning;
-#[cfg(test)]
-mod tests;
 
 pub use action::{Action, PrunePlan};
 pub use applying::{apply, prune};

@@ -15,6 +15,3 @@ pub use reply::{Refusal, Reply};
 pub use settings::{Settings, SettingsFault};
 pub use step::{RowIn, Step};
 pub use tuple_header::Row;
-
-#[cfg(test)]
-mod tests;

@@ -5,8 +5,6 @@ mod horizon;
 mod laws;
 mod own;
 mod snapshot;
-#[cfg(test)]
-mod tests;
 
 pub use horizon::earlier;
 pub use laws::{

@@ -13,8 +13,6 @@
 
 mod laws;
 mod looking;
-#[cfg(test)]
-mod tests;
 mod touched;
 
 pub use laws::{

@@ -5,8 +5,6 @@ mod fates;
 mod hints;
 mod laws;
 mod reader;
-#[cfg(test)]
-mod tests;
 mod verdict;
 
 pub use fates::{fate, fate_of};
