@@ -1,8 +1,8 @@
 //! Chains on pages that no engine makes, each reckoned by hand.
 
 use crate::table::{
-    begun, empty_page, give_ids, has_chain, header, leads_to, next_id, owner, put, redirect, root,
-    same, slots, window,
+    begun, empty_page, give_ids, has_chain, header, holds, leads_to, next_id, owner, put, redirect,
+    root, same, slots, window,
 };
 use commit_status::StatusTable;
 use hot_chain::{chain_is_one, fetch};
@@ -32,8 +32,8 @@ fn redirect_to_itself(rt: HostRuntime) {
     let mut page = empty_page(rt.alloc());
     add(&mut page, 3, 0, 1, 0);
     redirect(&mut page, 1, 1);
-    assert!(rt; leads_to(&page, 1, 1));
-    assert!(rt; has_chain(&page, 1, &table, &[]));
+    holds(&rt, leads_to(&page, 1, 1));
+    holds(&rt, has_chain(&page, 1, &table, &[]));
     same(&rt, root(&page, 1, &table), None);
 }
 
@@ -45,8 +45,8 @@ fn two_that_point_at_each_other(rt: HostRuntime) {
     add(&mut page, 3, 4, 2, 0xc000);
     add(&mut page, 4, 3, 1, 0xc000);
     same(&rt, slots(&page), 2);
-    assert!(rt; has_chain(&page, 1, &table, &[1, 2]));
-    assert!(rt; has_chain(&page, 2, &table, &[2, 1]));
+    holds(&rt, has_chain(&page, 1, &table, &[1, 2]));
+    holds(&rt, has_chain(&page, 2, &table, &[2, 1]));
     same(&rt, root(&page, 1, &table), None);
 }
 
@@ -68,8 +68,8 @@ fn redirect_to_a_chain(rt: HostRuntime) {
     let mut table = window(rt.alloc(), 3, 1000);
     give_ids(&mut table, 3);
     let page = led_to_a_chain(rt.alloc());
-    assert!(rt; has_chain(&page, 1, &table, &[2, 3]));
-    assert!(rt; has_chain(&page, 4, &table, &[4]));
+    holds(&rt, has_chain(&page, 1, &table, &[2, 3]));
+    holds(&rt, has_chain(&page, 4, &table, &[4]));
     same(&rt, root(&page, 3, &table), Some(1));
     same(&rt, root(&page, 4, &table), Some(4));
     same(

@@ -1,8 +1,8 @@
 //! Plans of pages built by hand, each reckoned by hand. Ids are given from 3 on.
 
 use crate::table::{
-    change, empty_page, finish, header, header_at, is_dead, is_unused, leads_to, normal, prune_at,
-    put, redirect, same, slots, window,
+    change, empty_page, finish, header, header_at, holds, is_dead, is_unused, leads_to, normal,
+    prune_at, put, redirect, same, slots, window,
 };
 use arrayvec::ArrayVec;
 use commit_status::{Status, StatusTable};
@@ -96,8 +96,8 @@ fn a_chain_of_three(rt: HostRuntime) {
     let table = five_ids(rt.alloc(), 3, 0);
     let page = page_of(rt.alloc(), &THREE);
     same(&rt, slots(&page), 3);
-    assert!(rt; plans(&page, &table, 4, &NONE));
-    assert!(rt; plans(&page, &table, 5, &[(1, Action::Redirect(2))]));
+    holds(&rt, plans(&page, &table, 4, &NONE));
+    holds(&rt, plans(&page, &table, 5, &[(1, Action::Redirect(2))]));
     assert!(rt;
         plans(
             &page,
@@ -117,7 +117,7 @@ fn pruning_it_step_by_step(rt: HostRuntime) {
     same(&rt, change(&page), 3);
     prune_at(&mut page, &table, 5);
     same(&rt, change(&page), 4);
-    assert!(rt; leads_to(&page, 1, 2));
+    holds(&rt, leads_to(&page, 1, 2));
     assert!(rt;
         plans(
             &page,
@@ -127,13 +127,16 @@ fn pruning_it_step_by_step(rt: HostRuntime) {
         )
     );
     // the redirect's own target
-    assert!(rt; !checks(&page, 4, &[(1, Action::Redirect(2))], &table, 6));
+    holds(
+        &rt,
+        !checks(&page, 4, &[(1, Action::Redirect(2))], &table, 6),
+    );
     prune_at(&mut page, &table, 6);
     same(&rt, (change(&page), flag(&page)), (6, true));
-    assert!(rt; leads_to(&page, 1, 3));
-    assert!(rt; is_unused(&page, 2));
-    assert!(rt; header_at(&page, 3).is_some());
-    assert!(rt; plans(&page, &table, 6, &NONE));
+    holds(&rt, leads_to(&page, 1, 3));
+    holds(&rt, is_unused(&page, 2));
+    holds(&rt, header_at(&page, 3).is_some());
+    holds(&rt, plans(&page, &table, 6, &NONE));
 }
 
 #[test]
@@ -149,7 +152,7 @@ fn chains_of_which_nothing_is_kept(rt: HostRuntime) {
             (7, 7, 4, 0),
         ],
     );
-    assert!(rt; plans(&page, &table, 3, &[(3, Action::Kill)]));
+    holds(&rt, plans(&page, &table, 3, &[(3, Action::Kill)]));
     assert!(rt;
         plans(
             &page,
@@ -168,10 +171,10 @@ fn chains_of_which_nothing_is_kept(rt: HostRuntime) {
     );
     prune_at(&mut page, &table, 8);
     same(&rt, change(&page), 8);
-    assert!(rt; is_dead(&page, 1));
-    assert!(rt; is_unused(&page, 2));
-    assert!(rt; is_dead(&page, 3));
-    assert!(rt; is_dead(&page, 4));
+    holds(&rt, is_dead(&page, 1));
+    holds(&rt, is_unused(&page, 2));
+    holds(&rt, is_dead(&page, 3));
+    holds(&rt, is_dead(&page, 4));
 }
 
 #[test]
@@ -189,7 +192,7 @@ fn heap_only_versions_that_no_chain_reaches(rt: HostRuntime) {
     );
     freeze(&mut page, 4);
     same(&rt, change(&page), 5);
-    assert!(rt; plans(&page, &table, 8, &[(2, Action::Unuse)]));
+    holds(&rt, plans(&page, &table, 8, &[(2, Action::Unuse)]));
     for (action, horizon, want) in [
         ((2u16, Action::Unuse), 3u32, true),
         ((2, Action::Kill), 3, false),
@@ -213,8 +216,8 @@ fn a_redirect_and_ids_that_started_over(rt: HostRuntime) {
         ],
     );
     redirect(&mut page, 1, 2);
-    assert!(rt; plans(&page, &table, 4294967295, &NONE));
-    assert!(rt; plans(&page, &table, 3, &NONE));
+    holds(&rt, plans(&page, &table, 4294967295, &NONE));
+    holds(&rt, plans(&page, &table, 3, &NONE));
     assert!(rt;
         plans(
             &page,
@@ -237,14 +240,14 @@ fn plans_that_check(rt: HostRuntime) {
     let alloc = rt.alloc();
     let early = [(1, Action::Redirect(2))];
     let late = [(1, Action::Redirect(3)), (2, Action::Unuse)];
-    assert!(rt; checks_three(alloc, 3, &NONE, 4));
-    assert!(rt; !checks_three(alloc, 2, &NONE, 4));
-    assert!(rt; !checks_three(alloc, 3, &early, 4));
-    assert!(rt; checks_three(alloc, 3, &early, 5));
-    assert!(rt; !checks_three(alloc, 3, &late, 5));
-    assert!(rt; checks_three(alloc, 3, &early, 6));
-    assert!(rt; checks_three(alloc, 3, &late, 6));
-    assert!(rt; !checks_three(alloc, 4, &late, 6));
+    holds(&rt, checks_three(alloc, 3, &NONE, 4));
+    holds(&rt, !checks_three(alloc, 2, &NONE, 4));
+    holds(&rt, !checks_three(alloc, 3, &early, 4));
+    holds(&rt, checks_three(alloc, 3, &early, 5));
+    holds(&rt, !checks_three(alloc, 3, &late, 5));
+    holds(&rt, checks_three(alloc, 3, &early, 6));
+    holds(&rt, checks_three(alloc, 3, &late, 6));
+    holds(&rt, !checks_three(alloc, 4, &late, 6));
 }
 
 #[test]
@@ -263,7 +266,7 @@ fn plans_that_do_not(rt: HostRuntime) {
         [(0, Action::Unuse), (1, Action::Redirect(2))],
         [(1, Action::Redirect(2)), (4, Action::Unuse)],
     ] {
-        assert!(rt; !checks_three(rt.alloc(), 3, &actions, 6));
+        holds(&rt, !checks_three(rt.alloc(), 3, &actions, 6));
     }
 }
 
@@ -286,11 +289,11 @@ fn a_plan_is_applied_once(rt: HostRuntime) {
     let mut page = page_of(rt.alloc(), &[(3, 4, 1, 0), (5, 0, 2, 0)]);
     let plan = plan_at(&page, &table, 5);
     same(&rt, plan.change, 2);
-    assert!(rt; apply_checked(&mut page, &plan, &table, 5));
+    holds(&rt, apply_checked(&mut page, &plan, &table, 5));
     same(&rt, change(&page), 3);
-    assert!(rt; is_dead(&page, 1));
-    assert!(rt; header_at(&page, 2).is_some());
-    assert!(rt; !apply_checked(&mut page, &plan, &table, 5));
+    holds(&rt, is_dead(&page, 1));
+    holds(&rt, header_at(&page, 2).is_some());
+    holds(&rt, !apply_checked(&mut page, &plan, &table, 5));
 }
 
 #[test]

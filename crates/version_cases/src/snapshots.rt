@@ -1,6 +1,6 @@
 //! What snapshots see, and the ids of a session's levels, each reckoned by hand.
 
-use crate::table::{add_id, begun, finish, next_id, nobody, same, window};
+use crate::table::{add_id, begun, finish, holds, next_id, nobody, same, window};
 use commit_status::{Status, StatusTable};
 use snapshot::{
     MOST_SAVEPOINTS, OwnIds, SaveFault, Snapshot, earlier, earliest_is_first, finished_is_seen,
@@ -132,18 +132,18 @@ fn children_that_are_not_listed(rt: HostRuntime) {
     same(&rt, count(&own), 66);
     same(&rt, next_id(&table), 69);
     let taken = begun_beside(rt.alloc(), next_id(&table), &own);
-    assert!(rt; taken.is_some());
+    holds(&rt, taken.is_some());
     if let Some(before) = taken {
         same(&rt, ends(&before), (3, 69));
         commit_all(&mut table);
         same(&rt, status(&table, 43), Status::Committed);
         for x in [43u32, 3, 69] {
-            assert!(rt; !sees(&before, x, &table));
+            holds(&rt, !sees(&before, x, &table));
         }
     }
     let after = begun(rt.alloc(), next_id(&table));
-    assert!(rt; sees(&after, 43, &table));
-    assert!(rt; sees(&after, 3, &table));
+    holds(&rt, sees(&after, 43, &table));
+    holds(&rt, sees(&after, 3, &table));
 }
 
 #[test]
@@ -156,7 +156,7 @@ fn children_that_are_listed(rt: HostRuntime) {
     give_under(&mut table, &mut own, 3);
     finish(&mut table, 4294967295, Status::Committed);
     let taken = begun_beside(rt.alloc(), next_id(&table), &own);
-    assert!(rt; taken.is_some());
+    holds(&rt, taken.is_some());
     if let Some(snapshot) = taken {
         same(&rt, ends(&snapshot), (3, 5));
         for (x, seen) in [(4294967295u32, true), (3, false), (4, false), (5, false)] {
@@ -173,7 +173,7 @@ fn the_earlier_of_two_ids(rt: HostRuntime) {
 #[test]
 fn savepoints(rt: HostRuntime) {
     let mut own = nobody(rt.alloc());
-    assert!(rt; is_empty(&own));
+    holds(&rt, is_empty(&own));
     add_id(&mut own, 3);
     same(&rt, save(&mut own), Ok(()));
     add_id(&mut own, 4);
@@ -181,14 +181,14 @@ fn savepoints(rt: HostRuntime) {
     add_id(&mut own, 5);
     same(&rt, newest_ids(&own), 1);
     roll_back(&mut own);
-    assert!(rt; has_ids(&own, &[Xid(3), Xid(4)]));
+    holds(&rt, has_ids(&own, &[Xid(3), Xid(4)]));
     same(&rt, savepoints_of(&own), 2);
     release(&mut own);
     roll_back(&mut own);
-    assert!(rt; has_ids(&own, &[Xid(3)]));
+    holds(&rt, has_ids(&own, &[Xid(3)]));
     same(&rt, first(&own), Some(Xid(3)));
-    assert!(rt; contains(&own, 3));
-    assert!(rt; !contains(&own, 4));
+    holds(&rt, contains(&own, 3));
+    holds(&rt, !contains(&own, 4));
 }
 
 /// Three savepoints before the first id: the levels have their ids from the lowest up.
@@ -207,7 +207,7 @@ fn levels_that_lack_ids(rt: HostRuntime) {
         same(&rt, level_id(&own), Some(x));
     }
     roll_back(&mut own);
-    assert!(rt; has_ids(&own, &[Xid(3), Xid(4), Xid(5)]));
+    holds(&rt, has_ids(&own, &[Xid(3), Xid(4), Xid(5)]));
     same(&rt, lacks(&own), 1);
     release(&mut own);
     same(&rt, (newest_ids(&own), lacks(&own)), (1, 0));
@@ -245,7 +245,7 @@ fn released_levels(rt: HostRuntime) {
     add_id(&mut own, 4);
     same(&rt, level_id(&own), Some(4));
     release(&mut own);
-    assert!(rt; has_ids(&own, &[Xid(3), Xid(4)]));
+    holds(&rt, has_ids(&own, &[Xid(3), Xid(4)]));
     same(&rt, (level_id(&own), lacks(&own)), (Some(3), 0));
     same(&rt, save(&mut own), Ok(()));
     add_id(&mut own, 5);

@@ -1,6 +1,6 @@
 //! Ids that are given, finished and forgotten, each number reckoned by hand.
 
-use crate::table::{finish, next_id, same, window};
+use crate::table::{finish, holds, next_id, same, window};
 use commit_status::{GiveFault, Status, StatusTable, places_are_turns, tops_are_topmost};
 use std::test::Fail;
 use xid_circle::Xid;
@@ -49,7 +49,7 @@ fn remembers(table: &StatusTable, x: u32) -> bool {
 #[test]
 fn ids_go_round(rt: HostRuntime) {
     let mut table = window(rt.alloc(), 4294967294, 1000);
-    assert!(rt; make_room(&mut table, 3));
+    holds(&rt, make_room(&mut table, 3));
     for x in [4294967294u32, 4294967295, 3] {
         same(&rt, give(&mut table), Ok(Xid(x)));
     }
@@ -67,7 +67,7 @@ fn ids_go_round(rt: HostRuntime) {
     ] {
         same(&rt, status(&table, x), want);
     }
-    assert!(rt; !remembers(&table, 4294967293));
+    holds(&rt, !remembers(&table, 4294967293));
 }
 
 #[test]
@@ -81,13 +81,13 @@ fn laws(rt: HostRuntime) {
 #[test]
 fn four_ids_at_a_stop_age_of_four(rt: HostRuntime) {
     let mut table = window(rt.alloc(), 3, 4);
-    assert!(rt; can_give(&table, 4));
-    assert!(rt; !can_give(&table, 5));
+    holds(&rt, can_give(&table, 4));
+    holds(&rt, !can_give(&table, 5));
     for x in 3..7u32 {
         same(&rt, give(&mut table), Ok(Xid(x)));
     }
-    assert!(rt; can_give(&table, 0));
-    assert!(rt; !can_give(&table, 1));
+    holds(&rt, can_give(&table, 0));
+    holds(&rt, !can_give(&table, 1));
     same(&rt, give(&mut table), Err(GiveFault::NeedsFreeze));
     same(&rt, next_id(&table), 7);
 }
@@ -96,8 +96,8 @@ fn four_ids_at_a_stop_age_of_four(rt: HostRuntime) {
 fn three_numbers_are_skipped_but_count(rt: HostRuntime) {
     // 4294967295 is 0 from the first, 3 is 4
     let mut table = window(rt.alloc(), 4294967295, 4);
-    assert!(rt; can_give(&table, 1));
-    assert!(rt; !can_give(&table, 2));
+    holds(&rt, can_give(&table, 1));
+    holds(&rt, !can_give(&table, 2));
     same(&rt, give(&mut table), Ok(Xid(4294967295)));
     same(&rt, give(&mut table), Err(GiveFault::NeedsFreeze));
 }
@@ -119,7 +119,7 @@ fn tops(rt: HostRuntime) {
     same(&rt, top_of(&table, 5), 4);
     same(&rt, frozen_below(&table), 5);
     same(&rt, next_id(&table), 7);
-    assert!(rt; !remembers(&table, 4));
+    holds(&rt, !remembers(&table, 4));
 }
 
 #[test]

@@ -27,6 +27,11 @@ pub fn same<T: PartialEq + Debug + Drop>(rt: &impl Abort, left: T, right: T) {
     assert_eq!(rt; left, right);
 }
 
+/// Asserts a fact, as [`same`] does, so that a test goes on in one way only.
+pub fn holds(rt: &impl Abort, fact: bool) {
+    assert!(rt; fact);
+}
+
 /// The id of this number, or the first that is normal, where that number is not.
 pub fn normal(x: u32) -> Xid
     ensures { IsNormal result.0 }

@@ -1,7 +1,7 @@
 //! Verdicts, fates and hints, each reckoned by hand.
 
 use crate::table::{
-    begun, finish, give_ids, header, next_id, nobody, normal, owner, row, same, window,
+    begun, finish, give_ids, header, holds, next_id, nobody, normal, owner, row, same, window,
 };
 use commit_status::{Status, StatusTable};
 use snapshot::{OwnIds, Snapshot};
@@ -107,7 +107,7 @@ fn reads_id(alloc: Global, x: u32) -> bool {
 fn a_whole_version(rt: HostRuntime) {
     same(&rt, sees_whole(rt.alloc()), Some(true));
     same(&rt, whole_fate(rt.alloc()), Some(Fate::Kept));
-    assert!(rt; reads_id(rt.alloc(), 3));
+    holds(&rt, reads_id(rt.alloc(), 3));
 }
 
 fn fate_at(alloc: Global, header: &Header, horizon: u32) -> Option<Fate> {

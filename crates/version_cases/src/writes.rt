@@ -1,8 +1,8 @@
 //! Pages that writes leave, each reckoned by hand.
 
 use crate::table::{
-    change, empty_page, finish, give_ids, has_chain, has_place, header, header_at, insert, is_dead,
-    is_unused, leads_to, prune_at, root, row, same, slots, update, window,
+    change, empty_page, finish, give_ids, has_chain, has_place, header, header_at, holds, insert,
+    is_dead, is_unused, leads_to, prune_at, root, row, same, slots, update, window,
 };
 use commit_status::Status;
 use page_slots::Page;
@@ -89,13 +89,13 @@ fn two_updates_on_the_page(rt: HostRuntime) {
     ] {
         same(&rt, header_at(&page, number), Some(want));
     }
-    assert!(rt; has_chain(&page, 1, &table, &[1, 2, 3]));
+    holds(&rt, has_chain(&page, 1, &table, &[1, 2, 3]));
     same(&rt, root(&page, 3, &table), Some(1));
     // and is closed
     prune_at(&mut page, &table, 6);
     same(&rt, change(&page), 7);
-    assert!(rt; leads_to(&page, 1, 3));
-    assert!(rt; is_unused(&page, 2));
+    holds(&rt, leads_to(&page, 1, 3));
+    holds(&rt, is_unused(&page, 2));
     same(
         &rt,
         header_at(&page, 3),
@@ -144,14 +144,14 @@ fn heap_only_slot_reused(rt: HostRuntime) {
     same(&rt, renew(&mut page, 1, 4), 2);
     finish(&mut table, 4, Status::Aborted);
     prune_at(&mut page, &table, 5);
-    assert!(rt; is_unused(&page, 2));
+    holds(&rt, is_unused(&page, 2));
     same(&rt, add(&mut page, 5), 2);
     same(&rt, change(&page), 5);
     same(&rt, slots(&page), 2);
     same(&rt, header_at(&page, 1), Some(header(3, 4, 2, 0x4000, 0)));
     same(&rt, header_at(&page, 2), Some(header(5, 0, 2, 0, 0x0800)));
-    assert!(rt; has_chain(&page, 1, &table, &[1]));
-    assert!(rt; has_chain(&page, 2, &table, &[2]));
+    holds(&rt, has_chain(&page, 1, &table, &[1]));
+    holds(&rt, has_chain(&page, 2, &table, &[2]));
     same(&rt, root(&page, 2, &table), Some(2));
 }
 
@@ -179,7 +179,7 @@ fn a_dead_slot_keeps_its_number(rt: HostRuntime) {
     same(&rt, slots(&page), 1);
     kill(&mut page, 1);
     same(&rt, add(&mut page, 4), 2);
-    assert!(rt; is_dead(&page, 1));
+    holds(&rt, is_dead(&page, 1));
     same(&rt, renew(&mut page, 2, 4), 3);
 }
 
