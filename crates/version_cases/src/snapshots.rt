@@ -1,6 +1,6 @@
 //! What snapshots see, and the ids of a session's levels, each reckoned by hand.
 
-use crate::table::{add_id, begun, finish, holds, next_id, nobody, same, window};
+use crate::table::{add_id, begun, finish, give_ids, holds, next_id, nobody, same, window};
 use commit_status::{Status, StatusTable};
 use snapshot::{
     MOST_SAVEPOINTS, OwnIds, SaveFault, Snapshot, earlier, earliest_is_first, finished_is_seen,
@@ -9,20 +9,41 @@ use snapshot::{
 use std::alloc::Global;
 use xid_circle::Xid;
 
-fn save(own: &mut OwnIds) -> Result<(), SaveFault> {
-    own.save()
+/// What a session does to its ids: it sets a savepoint, takes an id, goes back to the newest savepoint, or forgets that.
+#[derive(Clone, Copy)]
+enum Act {
+    Save,
+    Add(u32),
+    RollBack,
+    Release,
 }
 
-fn release(own: &mut OwnIds) {
-    if own.savepoints() > 0 {
-        own.release();
+fn do_act(own: &mut OwnIds, act: Act) {
+    match act {
+        Act::Save => {
+            let _ = own.save();
+        }
+        Act::Add(x) => add_id(own, x),
+        Act::RollBack => {
+            if own.savepoints() > 0 {
+                own.roll_back();
+            }
+        }
+        Act::Release => {
+            if own.savepoints() > 0 {
+                own.release();
+            }
+        }
     }
 }
 
-fn roll_back(own: &mut OwnIds) {
-    if own.savepoints() > 0 {
-        own.roll_back();
+/// A session that has done the first so many of these.
+fn after(alloc: Global, acts: &[Act], count: usize) -> OwnIds {
+    let mut own = nobody(alloc);
+    for act in acts.iter().take(count) {
+        do_act(&mut own, *act);
     }
+    own
 }
 
 fn give(table: &mut StatusTable, own: &mut OwnIds) {
@@ -33,13 +54,13 @@ fn give(table: &mut StatusTable, own: &mut OwnIds) {
 
 /// A savepoint, an id for it, and its release: the id is the transaction's.
 fn give_under(table: &mut StatusTable, own: &mut OwnIds, parent: u32) {
-    if !table.remembers(Xid(parent)) || save(own).is_err() {
+    if !table.remembers(Xid(parent)) || own.save().is_err() {
         return;
     }
     if let Ok(x) = table.give(Some(Xid(parent))) {
         add_id(own, x.0);
     }
-    release(own);
+    do_act(own, Act::Release);
 }
 
 /// What one sees that begins when this id is the next, and beside whom these are in progress.
@@ -59,109 +80,80 @@ fn sees(snapshot: &Snapshot, x: u32, table: &StatusTable) -> bool {
     Xid(x).is_normal() && snapshot.sees(Xid(x), table)
 }
 
-/// A session with id 3 and 65 children of it, one more than are listed.
-fn parent_of_65(table: &mut StatusTable, own: &mut OwnIds) {
+/// Gives id 3 to a session, and 65 children of it, one more than are listed.
+fn give_66(table: &mut StatusTable, own: &mut OwnIds) {
     give(table, own);
     for _ in 0..65u8 {
         give_under(table, own, 3);
     }
 }
 
-fn commit_all(table: &mut StatusTable) {
+fn commit_66(table: &mut StatusTable) {
     for x in 3..69u32 {
         finish(table, x, Status::Committed);
     }
 }
 
-fn status(table: &StatusTable, x: u32) -> Status {
-    table.status(Xid(x))
+/// How many ids that session has, the id that is given next, and the ends of a snapshot taken beside it.
+fn beside_66(alloc: Global) -> Option<(usize, u32, (u32, u32))> {
+    let mut table = window(alloc, 3, 1000);
+    let mut own = nobody(alloc);
+    give_66(&mut table, &mut own);
+    let next = next_id(&table);
+    let before = begun_beside(alloc, next, &own)?;
+    Some((own.as_slice().len(), next, ends(&before)))
 }
 
-fn is_empty(own: &OwnIds) -> bool {
-    own.is_empty()
-}
-
-/// Whether these are the ids of a session, in the order of giving.
-fn has_ids(own: &OwnIds, ids: &[Xid]) -> bool {
-    own.as_slice() == ids
-}
-
-fn count(own: &OwnIds) -> usize {
-    own.as_slice().len()
-}
-
-fn first(own: &OwnIds) -> Option<Xid> {
-    own.first()
-}
-
-fn contains(own: &OwnIds, x: u32) -> bool {
-    own.contains(Xid(x))
-}
-
-fn savepoints_of(own: &OwnIds) -> usize {
-    own.savepoints()
-}
-
-/// How many ids were given since the newest savepoint.
-fn newest_ids(own: &OwnIds) -> usize {
-    if own.savepoints() == 0 {
-        0
-    } else {
-        own.since_save().len()
-    }
-}
-
-/// How many levels have no id.
-fn lacks(own: &OwnIds) -> u32 {
-    own.lacks()
-}
-
-/// The id of the newest level that has one.
-fn level_id(own: &OwnIds) -> Option<u32> {
-    match own.level_id() {
-        Some(x) => Some(x.0),
-        None => None,
-    }
+/// What becomes of an id when all 66 are committed, and whether it is seen by who began before that, and after.
+fn seen_of_66(alloc: Global, x: u32) -> Option<(Status, bool, bool)> {
+    let mut table = window(alloc, 3, 1000);
+    let mut own = nobody(alloc);
+    give_66(&mut table, &mut own);
+    let before = begun_beside(alloc, next_id(&table), &own)?;
+    commit_66(&mut table);
+    let after = begun(alloc, next_id(&table));
+    let seen = sees(&before, x, &table);
+    Some((table.status(Xid(x)), seen, sees(&after, x, &table)))
 }
 
 #[test]
 fn children_that_are_not_listed(rt: HostRuntime) {
-    let mut table = window(rt.alloc(), 3, 1000);
-    let mut own = nobody(rt.alloc());
-    parent_of_65(&mut table, &mut own);
-    same(&rt, count(&own), 66);
-    same(&rt, next_id(&table), 69);
-    let taken = begun_beside(rt.alloc(), next_id(&table), &own);
-    holds(&rt, taken.is_some());
-    if let Some(before) = taken {
-        same(&rt, ends(&before), (3, 69));
-        commit_all(&mut table);
-        same(&rt, status(&table, 43), Status::Committed);
-        for x in [43u32, 3, 69] {
-            holds(&rt, !sees(&before, x, &table));
-        }
+    same(&rt, beside_66(rt.alloc()), Some((66, 69, (3, 69))));
+    for (x, status, before, after) in [
+        (43u32, Status::Committed, false, true),
+        (3, Status::Committed, false, true),
+        // it is not given
+        (69, Status::InProgress, false, false),
+    ] {
+        same(
+            &rt,
+            seen_of_66(rt.alloc(), x),
+            Some((status, before, after)),
+        );
     }
-    let after = begun(rt.alloc(), next_id(&table));
-    holds(&rt, sees(&after, 43, &table));
-    holds(&rt, sees(&after, 3, &table));
+}
+
+/// Gives id 4294967295 to another session, and 3 and its child 4 to this one; the first of them commits.
+fn give_three(table: &mut StatusTable, own: &mut OwnIds) {
+    give_ids(table, 1);
+    give(table, own);
+    give_under(table, own, 3);
+    finish(table, 4294967295, Status::Committed);
+}
+
+/// Whether an id is seen beside that session, and the ends of the snapshot.
+fn seen_beside(alloc: Global, x: u32) -> Option<(bool, (u32, u32))> {
+    let mut table = window(alloc, 4294967295, 1000);
+    let mut own = nobody(alloc);
+    give_three(&mut table, &mut own);
+    let snapshot = begun_beside(alloc, next_id(&table), &own)?;
+    Some((sees(&snapshot, x, &table), ends(&snapshot)))
 }
 
 #[test]
 fn children_that_are_listed(rt: HostRuntime) {
-    let mut table = window(rt.alloc(), 4294967295, 1000);
-    let mut other = nobody(rt.alloc());
-    let mut own = nobody(rt.alloc());
-    give(&mut table, &mut other);
-    give(&mut table, &mut own);
-    give_under(&mut table, &mut own, 3);
-    finish(&mut table, 4294967295, Status::Committed);
-    let taken = begun_beside(rt.alloc(), next_id(&table), &own);
-    holds(&rt, taken.is_some());
-    if let Some(snapshot) = taken {
-        same(&rt, ends(&snapshot), (3, 5));
-        for (x, seen) in [(4294967295u32, true), (3, false), (4, false), (5, false)] {
-            same(&rt, sees(&snapshot, x, &table), seen);
-        }
+    for (x, seen) in [(4294967295u32, true), (3, false), (4, false), (5, false)] {
+        same(&rt, seen_beside(rt.alloc(), x), Some((seen, (3, 5))));
     }
 }
 
@@ -170,93 +162,207 @@ fn the_earlier_of_two_ids(rt: HostRuntime) {
     same(&rt, earlier(Xid(3), Xid(4294967295)), Xid(4294967295));
 }
 
+/// Whether these are the ids of a session that has done so many of these acts.
+fn has_ids(alloc: Global, acts: &[Act], count: usize, ids: &[Xid]) -> bool {
+    after(alloc, acts, count).as_slice() == ids
+}
+
+/// The first id of such a session, and whether it has this one, and any.
+fn first_id(alloc: Global, acts: &[Act], count: usize, x: u32) -> (Option<Xid>, bool, bool) {
+    let own = after(alloc, acts, count);
+    (own.first(), own.contains(Xid(x)), !own.is_empty())
+}
+
+/// How many savepoints such a session has, and how many ids since the newest.
+fn since_save(alloc: Global, acts: &[Act], count: usize) -> (usize, usize) {
+    let own = after(alloc, acts, count);
+    if own.savepoints() == 0 {
+        (0, 0)
+    } else {
+        (own.savepoints(), own.since_save().len())
+    }
+}
+
+/// How many levels of such a session have no id, and the id of the newest that has one.
+fn levels(alloc: Global, acts: &[Act], count: usize) -> (u32, Option<Xid>) {
+    let own = after(alloc, acts, count);
+    (own.lacks(), own.level_id())
+}
+
+/// What a savepoint is answered in such a session.
+fn saved(alloc: Global, acts: &[Act], count: usize) -> Result<(), SaveFault> {
+    after(alloc, acts, count).save()
+}
+
+/// Two savepoints with an id each are gone back to.
+const GOING_BACK: [Act; 8] = [
+    Act::Add(3),
+    Act::Save,
+    Act::Add(4),
+    Act::Save,
+    Act::Add(5),
+    Act::RollBack,
+    Act::Release,
+    Act::RollBack,
+];
+
 #[test]
 fn savepoints(rt: HostRuntime) {
-    let mut own = nobody(rt.alloc());
-    holds(&rt, is_empty(&own));
-    add_id(&mut own, 3);
-    same(&rt, save(&mut own), Ok(()));
-    add_id(&mut own, 4);
-    same(&rt, save(&mut own), Ok(()));
-    add_id(&mut own, 5);
-    same(&rt, newest_ids(&own), 1);
-    roll_back(&mut own);
-    holds(&rt, has_ids(&own, &[Xid(3), Xid(4)]));
-    same(&rt, savepoints_of(&own), 2);
-    release(&mut own);
-    roll_back(&mut own);
-    holds(&rt, has_ids(&own, &[Xid(3)]));
-    same(&rt, first(&own), Some(Xid(3)));
-    holds(&rt, contains(&own, 3));
-    holds(&rt, !contains(&own, 4));
+    same(
+        &rt,
+        first_id(rt.alloc(), &GOING_BACK, 0, 3),
+        (None, false, false),
+    );
+    same(&rt, since_save(rt.alloc(), &GOING_BACK, 5), (2, 1));
+    holds(&rt, has_ids(rt.alloc(), &GOING_BACK, 6, &[Xid(3), Xid(4)]));
+    same(&rt, since_save(rt.alloc(), &GOING_BACK, 6), (2, 0));
+    holds(&rt, has_ids(rt.alloc(), &GOING_BACK, 8, &[Xid(3)]));
+    same(
+        &rt,
+        first_id(rt.alloc(), &GOING_BACK, 8, 3),
+        (Some(Xid(3)), true, true),
+    );
+    same(
+        &rt,
+        first_id(rt.alloc(), &GOING_BACK, 8, 4),
+        (Some(Xid(3)), false, true),
+    );
 }
 
 /// Three savepoints before the first id: the levels have their ids from the lowest up.
+const LATE_IDS: [Act; 10] = [
+    Act::Save,
+    Act::Save,
+    Act::Save,
+    Act::Add(3),
+    Act::Add(4),
+    Act::Add(5),
+    Act::Add(6),
+    Act::RollBack,
+    Act::Release,
+    Act::Release,
+];
+
 #[test]
 fn levels_that_lack_ids(rt: HostRuntime) {
-    let mut own = nobody(rt.alloc());
-    same(&rt, (lacks(&own), level_id(&own)), (1, None));
-    for _ in 0..3u8 {
-        same(&rt, save(&mut own), Ok(()));
+    // after so many acts: how many levels lack an id, the newest level's, the savepoints, and the ids since the newest
+    for (count, lacking, level, saves, since) in [
+        (0usize, 1u32, None, 0usize, 0usize),
+        (3, 4, None, 3, 0),
+        (4, 3, Some(Xid(3)), 3, 0),
+        (5, 2, Some(Xid(4)), 3, 0),
+        (6, 1, Some(Xid(5)), 3, 0),
+        (7, 0, Some(Xid(6)), 3, 1),
+        (8, 1, Some(Xid(5)), 3, 0),
+        (9, 0, Some(Xid(5)), 2, 1),
+        (10, 0, Some(Xid(4)), 1, 2),
+    ] {
+        same(&rt, levels(rt.alloc(), &LATE_IDS, count), (lacking, level));
+        same(
+            &rt,
+            since_save(rt.alloc(), &LATE_IDS, count),
+            (saves, since),
+        );
     }
-    same(&rt, lacks(&own), 4);
-    // what is since the newest savepoint, and how many levels lack an id, once an id is added
-    for (x, since, lacking) in [(3u32, 0usize, 3u32), (4, 0, 2), (5, 0, 1), (6, 1, 0)] {
-        add_id(&mut own, x);
-        same(&rt, (newest_ids(&own), lacks(&own)), (since, lacking));
-        same(&rt, level_id(&own), Some(x));
-    }
-    roll_back(&mut own);
-    holds(&rt, has_ids(&own, &[Xid(3), Xid(4), Xid(5)]));
-    same(&rt, lacks(&own), 1);
-    release(&mut own);
-    same(&rt, (newest_ids(&own), lacks(&own)), (1, 0));
-    release(&mut own);
-    same(&rt, (newest_ids(&own), savepoints_of(&own)), (2, 1));
+    holds(
+        &rt,
+        has_ids(rt.alloc(), &LATE_IDS, 8, &[Xid(3), Xid(4), Xid(5)]),
+    );
 }
 
 /// A level below the newest has an id: those below it do not count.
+const DEEP: [Act; 37] = [
+    Act::Save,
+    Act::Add(3),
+    Act::Add(4),
+    Act::Save,
+    Act::Save,
+    Act::Save,
+    Act::Save,
+    Act::Save,
+    Act::Save,
+    Act::Save,
+    Act::Save,
+    Act::Save,
+    Act::Save,
+    Act::Save,
+    Act::Save,
+    Act::Save,
+    Act::Save,
+    Act::Save,
+    Act::Save,
+    Act::Save,
+    Act::Save,
+    Act::Save,
+    Act::Save,
+    Act::Save,
+    Act::Save,
+    Act::Save,
+    Act::Save,
+    Act::Save,
+    Act::Save,
+    Act::Save,
+    Act::Save,
+    Act::Save,
+    Act::Save,
+    Act::Save,
+    // one too many
+    Act::Save,
+    Act::Add(5),
+    Act::RollBack,
+];
+
 #[test]
 fn levels_above_one_with_an_id(rt: HostRuntime) {
-    let mut own = nobody(rt.alloc());
-    same(&rt, save(&mut own), Ok(()));
-    add_id(&mut own, 3);
-    add_id(&mut own, 4);
-    same(&rt, lacks(&own), 0);
-    for lacking in 1..32u32 {
-        same(&rt, save(&mut own), Ok(()));
-        same(&rt, lacks(&own), lacking);
+    for lacking in 0..32u8 {
+        let count = 3 + usize::from(lacking);
+        let level = Some(Xid(4));
+        same(
+            &rt,
+            levels(rt.alloc(), &DEEP, count),
+            (u32::from(lacking), level),
+        );
     }
-    same(&rt, savepoints_of(&own), MOST_SAVEPOINTS);
-    same(&rt, save(&mut own), Err(SaveFault::TooDeep));
-    add_id(&mut own, 5);
-    same(&rt, (newest_ids(&own), lacks(&own)), (0, 30));
-    roll_back(&mut own);
-    same(&rt, level_id(&own), Some(5));
+    same(&rt, since_save(rt.alloc(), &DEEP, 34), (MOST_SAVEPOINTS, 0));
+    same(&rt, saved(rt.alloc(), &DEEP, 33), Ok(()));
+    same(&rt, saved(rt.alloc(), &DEEP, 34), Err(SaveFault::TooDeep));
+    same(&rt, since_save(rt.alloc(), &DEEP, 36), (MOST_SAVEPOINTS, 0));
+    same(&rt, levels(rt.alloc(), &DEEP, 36), (30, Some(Xid(5))));
+    same(&rt, levels(rt.alloc(), &DEEP, 37), (30, Some(Xid(5))));
 }
 
 /// A released level's ids are those of the level below, which goes on under its own.
+const RELEASED: [Act; 10] = [
+    Act::Add(3),
+    Act::Save,
+    Act::Add(4),
+    Act::Release,
+    Act::Save,
+    Act::Add(5),
+    Act::Save,
+    Act::Add(6),
+    Act::Release,
+    Act::RollBack,
+];
+
 #[test]
 fn released_levels(rt: HostRuntime) {
-    let mut own = nobody(rt.alloc());
-    add_id(&mut own, 3);
-    same(&rt, save(&mut own), Ok(()));
-    same(&rt, (level_id(&own), lacks(&own)), (Some(3), 1));
-    add_id(&mut own, 4);
-    same(&rt, level_id(&own), Some(4));
-    release(&mut own);
-    holds(&rt, has_ids(&own, &[Xid(3), Xid(4)]));
-    same(&rt, (level_id(&own), lacks(&own)), (Some(3), 0));
-    same(&rt, save(&mut own), Ok(()));
-    add_id(&mut own, 5);
-    same(&rt, save(&mut own), Ok(()));
-    same(&rt, (level_id(&own), lacks(&own)), (Some(5), 1));
-    add_id(&mut own, 6);
-    same(&rt, level_id(&own), Some(6));
-    release(&mut own);
-    same(&rt, level_id(&own), Some(5));
-    roll_back(&mut own);
-    same(&rt, (level_id(&own), lacks(&own)), (Some(3), 1));
+    for (count, lacking, level) in [
+        (2usize, 1u32, 3u32),
+        (3, 0, 4),
+        (4, 0, 3),
+        (7, 1, 5),
+        (8, 0, 6),
+        (9, 0, 5),
+        (10, 1, 3),
+    ] {
+        same(
+            &rt,
+            levels(rt.alloc(), &RELEASED, count),
+            (lacking, Some(Xid(level))),
+        );
+    }
+    holds(&rt, has_ids(rt.alloc(), &RELEASED, 4, &[Xid(3), Xid(4)]));
 }
 
 #[test]
