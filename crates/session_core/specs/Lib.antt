@@ -3,6 +3,7 @@ pub mod State
 pub mod Agrees
 pub mod Refuses
 pub mod Tests
+pub mod Replies
 pub mod Changes
 pub mod Writes
 pub mod Takes

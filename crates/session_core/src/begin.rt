@@ -8,10 +8,12 @@ ghost use Rattle.session_core.specs.State.{owns_of};
 ghost use Rattle.session_relation.specs.declared.step.Step.{Step};
 ghost use Rattle.session_core.specs.Agrees.{Follows};
 ghost use Rattle.session_core.specs.Exact.{MustList, Exact};
+ghost use Rattle.session_core.specs.Replies.{reply_to};
 
 use crate::engine::Engine;
+use crate::outcome::Outcome;
 use crate::session::Session;
-use session_relation::{Refusal, Reply};
+use session_relation::Refusal;
 use snapshot::Snapshot;
 use std::alloc::{AllocError, Global};
 use xid_circle::Xid;
@@ -47,21 +49,21 @@ impl Engine {
     }
 
     /// Opens the session: it reads what was committed by now. Refusals in order: NoSuchSession, AlreadyOpen.
-    pub(crate) fn begin(&mut self, s: u8) -> Reply
-        ensures follows { Follows self.old (Step.Begin s) result self.new }
-        ensures exact { Exact self.old (Step.Begin s) result self.new }
+    pub(crate) fn begin(&mut self, s: u8) -> Outcome
+        ensures follows { Follows self.old (Step.Begin s) (reply_to result) self.new }
+        ensures exact { Exact self.old (Step.Begin s) (reply_to result) self.new }
     {
         match self.opened(s) {
-            Ok(_) => Reply::Refused(Refusal::AlreadyOpen),
+            Ok(_) => Outcome::Refused(Refusal::AlreadyOpen),
             Err(refusal) => match refusal {
                 Refusal::NotOpen => match self.snapshot() {
                     Ok(snapshot) => {
                         self.open(s, snapshot);
-                        Reply::Done
+                        Outcome::Done
                     }
-                    Err(_) => Reply::Refused(Refusal::NoMemory),
+                    Err(_) => Outcome::Refused(Refusal::NoMemory),
                 },
-                _ => Reply::Refused(refusal),
+                _ => Outcome::Refused(refusal),
             },
         }
     }

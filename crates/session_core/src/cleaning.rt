@@ -7,11 +7,13 @@ ghost use Rattle.session_relation.specs.declared.step.Step.{Step};
 ghost use Rattle.session_core.specs.State.{held_back, holds_back, horizon_of};
 ghost use Rattle.session_core.specs.Agrees.{Follows};
 ghost use Rattle.session_core.specs.Exact.{Exact};
+ghost use Rattle.session_core.specs.Replies.{reply_to};
 
 use crate::engine::Engine;
+use crate::outcome::Outcome;
 use crate::session::Session;
 use heap_write::PruneFault;
-use session_relation::{Refusal, Reply};
+use session_relation::Refusal;
 use snapshot::earlier;
 use xid_circle::Xid;
 
@@ -53,14 +55,14 @@ impl Engine {
     }
 
     /// Takes from the page what nobody can see any more. Refusals: NoSuchPage. It takes no memory.
-    pub(crate) fn prune(&mut self, page: u32) -> Reply
-        ensures follows { Follows self.old (Step.Prune page) result self.new }
-        ensures exact { Exact self.old (Step.Prune page) result self.new }
+    pub(crate) fn prune(&mut self, page: u32) -> Outcome
+        ensures follows { Follows self.old (Step.Prune page) (reply_to result) self.new }
+        ensures exact { Exact self.old (Step.Prune page) (reply_to result) self.new }
     {
         let horizon = self.horizon();
         match self.heap.prune(page, horizon) {
-            Ok(()) => Reply::Done,
-            Err(PruneFault::NoSuchPage) => Reply::Refused(Refusal::NoSuchPage),
+            Ok(()) => Outcome::Done,
+            Err(PruneFault::NoSuchPage) => Outcome::Refused(Refusal::NoSuchPage),
         }
     }
 }

@@ -5,12 +5,14 @@ ghost use Rattle.session_relation.specs.declared.step.Step.{Step};
 ghost use Rattle.session_core.specs.State.{session_at, put_session, with_cursor, map_session};
 ghost use Rattle.session_core.specs.Agrees.{Follows};
 ghost use Rattle.session_core.specs.Exact.{Exact};
+ghost use Rattle.session_core.specs.Replies.{reply_to};
 
 use crate::cursor::Cursor;
 use crate::engine::Engine;
+use crate::outcome::Outcome;
 use crate::session::Session;
 use heap_write::Span;
-use session_relation::{Refusal, Reply, Settings};
+use session_relation::{Refusal, Settings};
 
 /// Settings speak of four columns. It does nothing: its contract is the law.
 fn has_columns(settings: &Settings)
@@ -39,21 +41,21 @@ impl Engine {
 
     /// Opens a cursor over the rows that the session reads whose value in the index lies within two bounds, both included.
     /// Refusals in order: NoSuchSession, NotOpen, Failed, CursorOpen, NoSuchIndex, BadBounds. It takes no memory.
-    pub(crate) fn open_index(&mut self, s: u8, index: u8, low: i128, high: i128) -> Reply
-        ensures follows { Follows self.old (Step.OpenIndex s index low high) result self.new }
-        ensures exact { Exact self.old (Step.OpenIndex s index low high) result self.new }
+    pub(crate) fn open_index(&mut self, s: u8, index: u8, low: i128, high: i128) -> Outcome
+        ensures follows { Follows self.old (Step.OpenIndex s index low high) (reply_to result) self.new }
+        ensures exact { Exact self.old (Step.OpenIndex s index low high) (reply_to result) self.new }
     {
         match self.free(s) {
             Ok(_) => {}
-            Err(refusal) => return Reply::Refused(refusal),
+            Err(refusal) => return Outcome::Refused(refusal),
         }
         has_columns(&self.settings);
         match self.heap.index(index) {
             Some(_) => {}
-            None => return Reply::Refused(Refusal::NoSuchIndex),
+            None => return Outcome::Refused(Refusal::NoSuchIndex),
         }
         if low > high {
-            return Reply::Refused(Refusal::BadBounds);
+            return Outcome::Refused(Refusal::BadBounds);
         }
         let span = Span {
             index,
@@ -62,33 +64,33 @@ impl Engine {
             last: None,
         };
         self.move_cursor(s, Some(Cursor::Index(span)));
-        Reply::Done
+        Outcome::Done
     }
 
     /// Opens a cursor over all rows that the session reads. Refusals in order: NoSuchSession, NotOpen, Failed,
     /// CursorOpen. It takes no memory.
-    pub(crate) fn open_heap(&mut self, s: u8) -> Reply
-        ensures follows { Follows self.old (Step.OpenHeap s) result self.new }
-        ensures exact { Exact self.old (Step.OpenHeap s) result self.new }
+    pub(crate) fn open_heap(&mut self, s: u8) -> Outcome
+        ensures follows { Follows self.old (Step.OpenHeap s) (reply_to result) self.new }
+        ensures exact { Exact self.old (Step.OpenHeap s) (reply_to result) self.new }
     {
         match self.free(s) {
             Ok(_) => {}
-            Err(refusal) => return Reply::Refused(refusal),
+            Err(refusal) => return Outcome::Refused(refusal),
         }
         self.move_cursor(s, Some(Cursor::Heap(0)));
-        Reply::Done
+        Outcome::Done
     }
 
     /// Closes the session's cursor. Refusals in order: NoSuchSession, NotOpen, Failed, NoCursor. It takes no memory.
-    pub(crate) fn close_cursor(&mut self, s: u8) -> Reply
-        ensures follows { Follows self.old (Step.Close s) result self.new }
-        ensures exact { Exact self.old (Step.Close s) result self.new }
+    pub(crate) fn close_cursor(&mut self, s: u8) -> Outcome
+        ensures follows { Follows self.old (Step.Close s) (reply_to result) self.new }
+        ensures exact { Exact self.old (Step.Close s) (reply_to result) self.new }
     {
         match self.with_cursor(s) {
             Ok(_) => {}
-            Err(refusal) => return Reply::Refused(refusal),
+            Err(refusal) => return Outcome::Refused(refusal),
         }
         self.move_cursor(s, None);
-        Reply::Done
+        Outcome::Done
     }
 }

@@ -5,14 +5,15 @@ ghost use Rattle.commit_status.specs.Window.{IsActive};
 ghost use Rattle.session_relation.specs.declared.step.Step.{Step};
 ghost use Rattle.session_core.specs.Agrees.{Follows};
 ghost use Rattle.session_core.specs.Exact.{Exact};
+ghost use Rattle.session_core.specs.Replies.{reply_to};
 ghost use Rattle.session_core.specs.Tests.{MayWrite};
 ghost use Rattle.session_core.specs.Writes.{OnOpen, TriesDelete};
 
 use crate::engine::Engine;
+use crate::outcome::Outcome;
 use crate::session::Session;
-use crate::write::reply_of;
+use crate::write::outcome_of;
 use heap_write::{HeapState, WriteFault};
-use session_relation::Reply;
 use xid_circle::Tid;
 
 /// Deletes the version at a place, under the id of the session's newest level.
@@ -46,21 +47,21 @@ fn delete_open(
 
 impl Engine {
     /// Deletes the version at a place, which nothing keeps the session from.
-    fn take_away(&mut self, s: u8, key: u64, place: Tid) -> Reply
+    fn take_away(&mut self, s: u8, key: u64, place: Tid) -> Outcome
         requires { MayWrite self.old s key (Some place) }
-        ensures follows { Follows self.old (Step.Delete s key) result self.new }
-        ensures exact { Exact self.old (Step.Delete s key) result self.new }
+        ensures follows { Follows self.old (Step.Delete s key) (reply_to result) self.new }
+        ensures exact { Exact self.old (Step.Delete s key) (reply_to result) self.new }
     {
-        let outcome = delete_open(&mut self.heap, &mut self.sessions[s as usize], place);
+        let tried = delete_open(&mut self.heap, &mut self.sessions[s as usize], place);
         self.heap.table().is_window();
-        reply_of(outcome)
+        outcome_of(tried)
     }
 
     /// Takes the row of a key away. Refusals in order: NoSuchSession, NotOpen, Failed, CursorOpen, NotThere, Conflict, Busy,
     /// NeedsFreeze, NoMemory.
-    pub(crate) fn delete(&mut self, s: u8, key: u64) -> Reply
-        ensures follows { Follows self.old (Step.Delete s key) result self.new }
-        ensures exact { Exact self.old (Step.Delete s key) result self.new }
+    pub(crate) fn delete(&mut self, s: u8, key: u64) -> Outcome
+        ensures follows { Follows self.old (Step.Delete s key) (reply_to result) self.new }
+        ensures exact { Exact self.old (Step.Delete s key) (reply_to result) self.new }
     {
         match self.occupied(s, key) {
             Ok(place) => self.take_away(s, key, place),

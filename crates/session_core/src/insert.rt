@@ -5,24 +5,26 @@ ghost use Rattle.commit_status.specs.Window.{IsActive};
 ghost use Rattle.session_relation.specs.declared.step.Step.{Step};
 ghost use Rattle.session_core.specs.Agrees.{Follows};
 ghost use Rattle.session_core.specs.Exact.{ExactInsert, Exact};
+ghost use Rattle.session_core.specs.Replies.{reply_to};
 ghost use Rattle.session_core.specs.Follows.{FollowsInsert};
 ghost use Rattle.session_core.specs.Tests.{MayWrite};
 ghost use Rattle.session_core.specs.Writes.{OnOpen, TriesInsert};
 
 use crate::engine::Engine;
+use crate::outcome::Outcome;
 use crate::session::Session;
-use crate::write::{reply_of, table_row};
+use crate::write::{outcome_of, table_row};
 use heap_write::{HeapState, WriteFault};
-use session_relation::{Refusal, Reply, Row, RowIn};
+use session_relation::{Refusal, Row, RowIn};
 
 /// Inserts the row under the id of the session's newest level; each level that has none is given one before.
-fn insert_for(heap: &mut HeapState, session: &mut Session, row: Row) -> Result<(), WriteFault>
+fn insert_for(heap: &mut HeapState, session: &mut Session, row: &Row) -> Result<(), WriteFault>
     requires { (x : ℕ) → Contains session.old.own.ids x → IsActive heap.old.table x }
-    ensures { TriesInsert heap.old heap.new session.old session.new row result }
+    ensures { TriesInsert heap.old heap.new session.old session.new row.now result }
 {
     // an id of its levels is one of its own ids
     session.own.are_fronts();
-    match heap.insert(&mut session.own, &row) {
+    match heap.insert(&mut session.own, row) {
         Ok(_) => Ok(()),
         Err(fault) => Err(fault),
     }
@@ -32,11 +34,11 @@ fn insert_for(heap: &mut HeapState, session: &mut Session, row: Row) -> Result<(
 fn insert_open(
     heap: &mut HeapState,
     session: &mut Option<Session>,
-    row: Row,
+    row: &Row,
 ) -> Result<(), WriteFault>
     requires open { session.old ≢ None }
     requires active { (e : _) (x : ℕ) → session.old ≡ Some e → Contains e.own.ids x → IsActive heap.old.table x }
-    ensures { OnOpen session.old session.new (λ e e'. TriesInsert heap.old heap.new e e' row result) }
+    ensures { OnOpen session.old session.new (λ e e'. TriesInsert heap.old heap.new e e' row.now result) }
 {
     match session {
         Some(session) => insert_for(heap, session, row),
@@ -46,20 +48,20 @@ fn insert_open(
 
 impl Engine {
     /// Inserts the row, which nothing keeps the session from writing.
-    fn add(&mut self, s: u8, row: Row) -> Reply
-        requires { MayWrite self.old s row.key None }
-        ensures follows { FollowsInsert self.old s row result self.new }
-        ensures exact { ExactInsert self.old s row result self.new }
+    fn add(&mut self, s: u8, row: &Row) -> Outcome
+        requires { MayWrite self.old s row.now.key None }
+        ensures follows { FollowsInsert self.old s row.now (reply_to result) self.new }
+        ensures exact { ExactInsert self.old s row.now (reply_to result) self.new }
     {
-        let outcome = insert_open(&mut self.heap, &mut self.sessions[s as usize], row);
+        let tried = insert_open(&mut self.heap, &mut self.sessions[s as usize], row);
         self.heap.table().is_window();
-        reply_of(outcome)
+        outcome_of(tried)
     }
 
     /// Inserts a row that is not too large.
-    fn insert_row(&mut self, s: u8, row: Row) -> Reply
-        ensures follows { FollowsInsert self.old s row result self.new }
-        ensures exact { ExactInsert self.old s row result self.new }
+    fn insert_row(&mut self, s: u8, row: &Row) -> Outcome
+        ensures follows { FollowsInsert self.old s row.now (reply_to result) self.new }
+        ensures exact { ExactInsert self.old s row.now (reply_to result) self.new }
     {
         match self.vacant(s, row.key) {
             Ok(()) => self.add(s, row),
@@ -69,17 +71,17 @@ impl Engine {
 
     /// Writes a row of a key that has none. Refusals in order: NoSuchSession, NotOpen, Failed, CursorOpen, TooLarge,
     /// AlreadyThere, Conflict, Busy, NeedsFreeze, NoRoom, NoMemory.
-    pub(crate) fn insert(&mut self, s: u8, row: RowIn) -> Reply
-        ensures follows { Follows self.old (Step.Insert s row) result self.new }
-        ensures exact { Exact self.old (Step.Insert s row) result self.new }
+    pub(crate) fn insert(&mut self, s: u8, row: RowIn) -> Outcome
+        ensures follows { Follows self.old (Step.Insert s row) (reply_to result) self.new }
+        ensures exact { Exact self.old (Step.Insert s row) (reply_to result) self.new }
     {
         match self.free(s) {
             Ok(_) => {}
-            Err(refusal) => return Reply::Refused(refusal),
+            Err(refusal) => return Outcome::Refused(refusal),
         }
         match table_row(&row) {
-            Some(row) => self.insert_row(s, row),
-            None => Reply::Refused(Refusal::TooLarge),
+            Some(row) => self.insert_row(s, &row),
+            None => Outcome::Refused(Refusal::TooLarge),
         }
     }
 }

@@ -17,6 +17,7 @@ mod get;
 mod insert;
 mod laws;
 mod next;
+mod outcome;
 mod runs;
 mod savepoint;
 mod session;

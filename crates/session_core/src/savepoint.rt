@@ -8,13 +8,15 @@ ghost use Rattle.session_core.specs.State.{session_at};
 ghost use Rattle.session_core.specs.Agrees.{Follows};
 ghost use Rattle.session_core.specs.Changes.{SetsSavepoint, Releases, Becomes, RollsBackOn, RollsBack};
 ghost use Rattle.session_core.specs.Exact.{Exact};
+ghost use Rattle.session_core.specs.Replies.{reply_to};
 ghost use Rattle.session_core.specs.Writes.{OnOpen};
 
 use crate::engine::Engine;
+use crate::outcome::Outcome;
 use crate::session::Session;
 use commit_status::Status;
 use heap_write::HeapState;
-use session_relation::{Refusal, Reply};
+use session_relation::Refusal;
 use snapshot::SaveFault;
 
 /// Sets a savepoint of the session in this place, which is open.
@@ -73,18 +75,18 @@ impl Engine {
 
     /// Sets a savepoint, to which the session can return. Refusals in order: NoSuchSession, NotOpen, Failed; TooDeep
     /// where it has 32 already; NoMemory.
-    pub(crate) fn savepoint(&mut self, s: u8) -> Reply
-        ensures follows { Follows self.old (Step.Savepoint s) result self.new }
-        ensures exact { Exact self.old (Step.Savepoint s) result self.new }
+    pub(crate) fn savepoint(&mut self, s: u8) -> Outcome
+        ensures follows { Follows self.old (Step.Savepoint s) (reply_to result) self.new }
+        ensures exact { Exact self.old (Step.Savepoint s) (reply_to result) self.new }
     {
         match self.free(s) {
             Ok(_) => {}
-            Err(refusal) => return Reply::Refused(refusal),
+            Err(refusal) => return Outcome::Refused(refusal),
         }
         match self.note(s) {
-            Ok(()) => Reply::Done,
-            Err(SaveFault::TooDeep) => Reply::Refused(Refusal::TooDeep),
-            Err(SaveFault::NoMemory) => Reply::Refused(Refusal::NoMemory),
+            Ok(()) => Outcome::Done,
+            Err(SaveFault::TooDeep) => Outcome::Refused(Refusal::TooDeep),
+            Err(SaveFault::NoMemory) => Outcome::Refused(Refusal::NoMemory),
         }
     }
 
@@ -101,23 +103,23 @@ impl Engine {
     /// Drops what the session has written since its newest savepoint, which it keeps; the session has not failed any
     /// more. Refusals in order: NoSuchSession, NotOpen, NoSavepoint. It takes no memory. (The manual's "ROLLBACK TO
     /// SAVEPOINT".)
-    pub(crate) fn rollback_to(&mut self, s: u8) -> Reply
-        ensures follows { Follows self.old (Step.RollbackTo s) result self.new }
-        ensures exact { Exact self.old (Step.RollbackTo s) result self.new }
+    pub(crate) fn rollback_to(&mut self, s: u8) -> Outcome
+        ensures follows { Follows self.old (Step.RollbackTo s) (reply_to result) self.new }
+        ensures exact { Exact self.old (Step.RollbackTo s) (reply_to result) self.new }
     {
         match self.opened(s) {
             Ok(session) => match session.cursor {
-                Some(_) => return Reply::Refused(Refusal::CursorOpen),
+                Some(_) => return Outcome::Refused(Refusal::CursorOpen),
                 None => {
                     if session.own.savepoints() == 0 {
-                        return Reply::Refused(Refusal::NoSavepoint);
+                        return Outcome::Refused(Refusal::NoSavepoint);
                     }
                 }
             },
-            Err(refusal) => return Reply::Refused(refusal),
+            Err(refusal) => return Outcome::Refused(refusal),
         }
         self.return_back(s);
-        Reply::Done
+        Outcome::Done
     }
 
     /// Forgets the newest savepoint of an open session.
@@ -132,19 +134,19 @@ impl Engine {
 
     /// Forgets the newest savepoint; what was written since it belongs to the level below. Refusals in order:
     /// NoSuchSession, NotOpen, Failed, NoSavepoint. It takes no memory. (The manual's "RELEASE SAVEPOINT".)
-    pub(crate) fn release(&mut self, s: u8) -> Reply
-        ensures follows { Follows self.old (Step.Release s) result self.new }
-        ensures exact { Exact self.old (Step.Release s) result self.new }
+    pub(crate) fn release(&mut self, s: u8) -> Outcome
+        ensures follows { Follows self.old (Step.Release s) (reply_to result) self.new }
+        ensures exact { Exact self.old (Step.Release s) (reply_to result) self.new }
     {
         match self.free(s) {
             Ok(session) => {
                 if session.own.savepoints() == 0 {
-                    return Reply::Refused(Refusal::NoSavepoint);
+                    return Outcome::Refused(Refusal::NoSavepoint);
                 }
             }
-            Err(refusal) => return Reply::Refused(refusal),
+            Err(refusal) => return Outcome::Refused(refusal),
         }
         self.forget(s);
-        Reply::Done
+        Outcome::Done
     }
 }

@@ -6,15 +6,17 @@ ghost use Rattle.xid_circle.specs.Circle.{IsNormal};
 ghost use Rattle.session_relation.specs.declared.step.Step.{Step};
 ghost use Rattle.session_core.specs.Agrees.{Follows};
 ghost use Rattle.session_core.specs.Exact.{ExactUpdate, Exact};
+ghost use Rattle.session_core.specs.Replies.{reply_to};
 ghost use Rattle.session_core.specs.Follows.{FollowsUpdate};
 ghost use Rattle.session_core.specs.Tests.{MayWrite};
 ghost use Rattle.session_core.specs.Writes.{OnOpen, TriesUpdate};
 
 use crate::engine::Engine;
+use crate::outcome::Outcome;
 use crate::session::Session;
-use crate::write::{reply_of, table_row};
+use crate::write::{outcome_of, table_row};
 use heap_write::{HeapState, WriteFault};
-use session_relation::{Refusal, Reply, Row, RowIn};
+use session_relation::{Refusal, Row, RowIn};
 use xid_circle::{Tid, Xid};
 
 /// Updates the version at a place to the row, under the id of the session's newest level.
@@ -22,16 +24,16 @@ fn update_for(
     heap: &mut HeapState,
     session: &mut Session,
     place: Tid,
-    row: Row,
+    row: &Row,
     horizon: Xid,
 ) -> Result<(), WriteFault>
     requires normal { IsNormal horizon.0 }
     requires active { (x : ℕ) → Contains session.old.own.ids x → IsActive heap.old.table x }
-    ensures { TriesUpdate heap.old heap.new session.old session.new place row horizon.0 result }
+    ensures { TriesUpdate heap.old heap.new session.old session.new place row.now horizon.0 result }
 {
     // an id of its levels is one of its own ids
     session.own.are_fronts();
-    match heap.update(&mut session.own, place, &row, horizon) {
+    match heap.update(&mut session.own, place, row, horizon) {
         Ok(_) => Ok(()),
         Err(fault) => Err(fault),
     }
@@ -42,13 +44,13 @@ fn update_open(
     heap: &mut HeapState,
     session: &mut Option<Session>,
     place: Tid,
-    row: Row,
+    row: &Row,
     horizon: Xid,
 ) -> Result<(), WriteFault>
     requires open { session.old ≢ None }
     requires normal { IsNormal horizon.0 }
     requires active { (e : _) (x : ℕ) → session.old ≡ Some e → Contains e.own.ids x → IsActive heap.old.table x }
-    ensures { OnOpen session.old session.new (λ e e'. TriesUpdate heap.old heap.new e e' place row horizon.0 result) }
+    ensures { OnOpen session.old session.new (λ e e'. TriesUpdate heap.old heap.new e e' place row.now horizon.0 result) }
 {
     match session {
         Some(session) => update_for(heap, session, place, row, horizon),
@@ -58,22 +60,22 @@ fn update_open(
 
 impl Engine {
     /// Updates the version at a place to the row, which nothing keeps the session from writing.
-    fn replace(&mut self, s: u8, place: Tid, row: Row) -> Reply
-        requires { MayWrite self.old s row.key (Some place) }
-        ensures follows { FollowsUpdate self.old s row result self.new }
-        ensures exact { ExactUpdate self.old s row result self.new }
+    fn replace(&mut self, s: u8, place: Tid, row: &Row) -> Outcome
+        requires { MayWrite self.old s row.now.key (Some place) }
+        ensures follows { FollowsUpdate self.old s row.now (reply_to result) self.new }
+        ensures exact { ExactUpdate self.old s row.now (reply_to result) self.new }
     {
         let horizon = self.horizon();
         let session = &mut self.sessions[s as usize];
-        let outcome = update_open(&mut self.heap, session, place, row, horizon);
+        let tried = update_open(&mut self.heap, session, place, row, horizon);
         self.heap.table().is_window();
-        reply_of(outcome)
+        outcome_of(tried)
     }
 
     /// Updates to a row that is not too large.
-    fn update_row(&mut self, s: u8, row: Row) -> Reply
-        ensures follows { FollowsUpdate self.old s row result self.new }
-        ensures exact { ExactUpdate self.old s row result self.new }
+    fn update_row(&mut self, s: u8, row: &Row) -> Outcome
+        ensures follows { FollowsUpdate self.old s row.now (reply_to result) self.new }
+        ensures exact { ExactUpdate self.old s row.now (reply_to result) self.new }
     {
         match self.occupied(s, row.key) {
             Ok(place) => self.replace(s, place, row),
@@ -84,17 +86,17 @@ impl Engine {
     /// Writes another row of a key that has one. Where the row has no room on the page of the version that it replaces,
     /// that page is pruned first. Refusals in order: NoSuchSession, NotOpen, Failed, CursorOpen, TooLarge, NotThere, Conflict, Busy,
     /// NeedsFreeze, NoRoom, NoMemory.
-    pub(crate) fn update(&mut self, s: u8, row: RowIn) -> Reply
-        ensures follows { Follows self.old (Step.Update s row) result self.new }
-        ensures exact { Exact self.old (Step.Update s row) result self.new }
+    pub(crate) fn update(&mut self, s: u8, row: RowIn) -> Outcome
+        ensures follows { Follows self.old (Step.Update s row) (reply_to result) self.new }
+        ensures exact { Exact self.old (Step.Update s row) (reply_to result) self.new }
     {
         match self.free(s) {
             Ok(_) => {}
-            Err(refusal) => return Reply::Refused(refusal),
+            Err(refusal) => return Outcome::Refused(refusal),
         }
         match table_row(&row) {
-            Some(row) => self.update_row(s, row),
-            None => Reply::Refused(Refusal::TooLarge),
+            Some(row) => self.update_row(s, &row),
+            None => Outcome::Refused(Refusal::TooLarge),
         }
     }
 }

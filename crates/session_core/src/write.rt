@@ -2,16 +2,19 @@
 
 ghost use Rattle.std.specs.Prelude.{◌≡◌, ◌≢◌, ◌<◌, ℕ, length, MatchOption, MatchResult, Some, None, Contains};
 ghost use Rattle.session_relation.specs.Words.{FitsRow, row_of};
+ghost use Rattle.session_relation.specs.declared.reply.Reply.{Reply};
 ghost use Rattle.session_core.specs.Keeps.{open_at};
 ghost use Rattle.session_core.specs.State.{refused_state};
 ghost use Rattle.session_core.specs.Tests.{IsFree, Delays, MayWrite, HindersInsert, HindersChange};
+ghost use Rattle.session_core.specs.Replies.{reply_to};
 ghost use Rattle.session_core.specs.Writes.{refusal_for, reply_for};
 
 use crate::engine::Engine;
+use crate::outcome::Outcome;
 use crate::session::Session;
 use arrayvec::ArrayVec;
 use heap_write::WriteFault;
-use session_relation::{Refusal, Reply, Row, RowIn};
+use session_relation::{Refusal, Row, RowIn};
 use xid_circle::{Tid, Xid};
 
 /// The row of the table, unless the body has more than 1024 bytes.
@@ -58,12 +61,12 @@ fn refusal_of(fault: WriteFault) -> Refusal
     }
 }
 
-pub(crate) fn reply_of(outcome: Result<(), WriteFault>) -> Reply
-    ensures { result ≡ reply_for outcome }
+pub(crate) fn outcome_of(tried: Result<(), WriteFault>) -> Outcome
+    ensures { reply_to result ≡ reply_for tried }
 {
-    match outcome {
-        Ok(()) => Reply::Done,
-        Err(fault) => Reply::Refused(refusal_of(fault)),
+    match tried {
+        Ok(()) => Outcome::Done,
+        Err(fault) => Outcome::Refused(refusal_of(fault)),
     }
 }
 
@@ -119,17 +122,17 @@ impl Engine {
     }
 
     /// Answers the refusal of a write. A conflict makes the session fail.
-    pub(crate) fn refuse(&mut self, s: u8, refusal: Refusal) -> Reply
+    pub(crate) fn refuse(&mut self, s: u8, refusal: Refusal) -> Outcome
         requires { refusal ≡ Refusal.Conflict → s < 64 }
-        ensures reply { result ≡ Reply.Refused refusal }
+        ensures reply { reply_to result ≡ Reply.Refused refusal }
         ensures state { self.new ≡ refused_state self.old s refusal }
     {
         match refusal {
             Refusal::Conflict => {
                 self.fail(s);
-                Reply::Refused(Refusal::Conflict)
+                Outcome::Refused(Refusal::Conflict)
             }
-            _ => Reply::Refused(refusal),
+            _ => Outcome::Refused(refusal),
         }
     }
 }

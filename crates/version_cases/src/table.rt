@@ -182,7 +182,7 @@ pub fn has_place(page: &mut Page, row: &Row) -> bool
 /// Inserts a row on the page of this number, where it may, and answers its slot.
 pub fn insert(page: &mut Page, number: u32, x: u32, row: Row) -> u16 {
     if has_place(page, &row) && Xid(x).is_normal() {
-        insert_version(page, number, Xid(x), row)
+        insert_version(page, number, Xid(x), &row)
     } else {
         0
     }
@@ -191,7 +191,7 @@ pub fn insert(page: &mut Page, number: u32, x: u32, row: Row) -> u16 {
 /// Updates a version on the page of this number, where it may, and answers the slot of the new one.
 pub fn update(page: &mut Page, number: u32, slot: u16, x: u32, row: Row) -> u16 {
     if has_place(page, &row) && page.header(slot).is_some() && Xid(x).is_normal() {
-        update_here(page, number, slot, Xid(x), row)
+        update_here(page, number, slot, Xid(x), &row)
     } else {
         0
     }

@@ -27,7 +27,7 @@ fn renew(page: &mut Page, slot: u16, x: u32) -> u16 {
 fn arrive(page: &mut Page, number_of_page: u32, x: u32) -> u16 {
     let row = row(1, 0);
     if has_place(page, &row) && Xid(x).is_normal() {
-        move_in(page, number_of_page, Xid(x), row)
+        move_in(page, number_of_page, Xid(x), &row)
     } else {
         0
     }

@@ -5,6 +5,7 @@ use Rattle.session_core.specs.declared.session.Session.{Session}
 use Rattle.session_core.specs.State.{State}
 use Rattle.session_core.specs.Tests.{MayWrite}
 use Rattle.session_core.specs.Writes.{OnOpen, TriesInsert}
+use Rattle.session_core.specs.Replies.{reply_to}
 use Rattle.session_core.specs.Exact.{ExactInsert}
 use Rattle.session_core.specs.Follows.{FollowsInsert}
 use Rattle.session_core.proofs.OwnIdsLemmas.{open-within}
@@ -13,9 +14,9 @@ use Rattle.session_core.proofs.Trying.{with_session, keeps-insert, insert-tried,
 use Rattle.session_core.proofs.Writing.{Follows-inserted}
 use Rattle.session_core.proofs.engine.Engine.add.Goals as goal
 
-pub insert_open-outcome-requires-clause-active : goal.insert_open-outcome-requires-clause-active
-insert_open-outcome-requires-clause-active c =
-    let M : State → Type 0 = λ st. MayWrite st c.args.s c.args.row.key None in
+pub insert_open-tried-requires-clause-active : goal.insert_open-tried-requires-clause-active
+insert_open-tried-requires-clause-active c =
+    let M : State → Type 0 = λ st. MayWrite st c.args.s c.args.row.now.key None in
     let may = subst M (sym c.self.view_is) c.requires in
     let within = open-within c.self.inside.sessions.items c.args.s may.session may.reads.at in
     let read = open-read c.self.inside.sessions.items c.args.s c.index_mut.result.now within c.index_mut.ensures.value in
@@ -24,45 +25,45 @@ insert_open-outcome-requires-clause-active c =
 pub invariant_of-self : goal.invariant_of-self
 invariant_of-self c =
     let before : State = record { settings = c.self.inside.settings; heap = c.self.inside.heap; sessions = c.self.inside.sessions.items } in
-    let M : State → Type 0 = λ st. MayWrite st c.args.s c.args.row.key None in
+    let M : State → Type 0 = λ st. MayWrite st c.args.s c.args.row.now.key None in
     let may = subst M (sym c.self.view_is) c.requires in
     let within = open-within c.self.inside.sessions.items c.args.s may.session may.reads.at in
     let read = open-read c.self.inside.sessions.items c.args.s c.index_mut.result.now within c.index_mut.ensures.value in
-    let r = c.insert_open-outcome in
-    let T : Option Session → Type 0 = λ o. OnOpen o r.new.session (λ e e'. TriesInsert c.self.inside.heap r.new.heap e e' c.args.row r.result) in
+    let r = c.insert_open-tried in
+    let T : Option Session → Type 0 = λ o. OnOpen o r.new.session (λ e e'. TriesInsert c.self.inside.heap r.new.heap e e' c.args.row.now r.result) in
     let tries = subst T (sym read) r.ensures in
     let window = subst (λ (w : Window). IsWindow w) c.table.ensures c.is_window.ensures in
-    keeps-insert c.self.inside.sessions.items c.self.inside.heap r.new.heap c.args.s c.index_mut.result.now r.new.session c.args.row r.result read r.ensures window c.self.invariant
+    keeps-insert c.self.inside.sessions.items c.self.inside.heap r.new.heap c.args.s c.index_mut.result.now r.new.session c.args.row.now r.result read r.ensures window c.self.invariant
 
 pub returns-clause-follows : goal.returns-clause-follows
 returns-clause-follows c =
     let before : State = record { settings = c.self.inside.settings; heap = c.self.inside.heap; sessions = c.self.inside.sessions.items } in
-    let M : State → Type 0 = λ st. MayWrite st c.args.s c.args.row.key None in
+    let M : State → Type 0 = λ st. MayWrite st c.args.s c.args.row.now.key None in
     let may = subst M (sym c.self.view_is) c.requires in
     let within = open-within c.self.inside.sessions.items c.args.s may.session may.reads.at in
     let read = open-read c.self.inside.sessions.items c.args.s c.index_mut.result.now within c.index_mut.ensures.value in
-    let r = c.insert_open-outcome in
-    let T : Option Session → Type 0 = λ o. OnOpen o r.new.session (λ e e'. TriesInsert c.self.inside.heap r.new.heap e e' c.args.row r.result) in
+    let r = c.insert_open-tried in
+    let T : Option Session → Type 0 = λ o. OnOpen o r.new.session (λ e e'. TriesInsert c.self.inside.heap r.new.heap e e' c.args.row.now r.result) in
     let tries = subst T (sym read) r.ensures in
     let window = subst (λ (w : Window). IsWindow w) c.table.ensures c.is_window.ensures in
-    let tried = insert-tried before r.new.heap c.args.s r.new.session c.args.row r.result may tries in
+    let tried = insert-tried before r.new.heap c.args.s r.new.session c.args.row.now r.result may tries in
     let after = with_session before r.new.heap c.args.s r.new.session in
-    let P : State → Type 0 = λ st. FollowsInsert st c.args.s c.args.row c.reply_of.result after in
-    let R : Reply → Type 0 = λ reply. FollowsInsert before c.args.s c.args.row reply after in
-    subst P c.self.view_is (subst R (sym c.reply_of.ensures) (Follows-inserted before after c.args.s c.args.row r.result tried window))
+    let P : State → Type 0 = λ st. FollowsInsert st c.args.s c.args.row.now (reply_to c.outcome_of.result) after in
+    let R : Reply → Type 0 = λ reply. FollowsInsert before c.args.s c.args.row.now reply after in
+    subst P c.self.view_is (subst R (sym c.outcome_of.ensures) (Follows-inserted before after c.args.s c.args.row.now r.result tried window))
 
 pub returns-clause-exact : goal.returns-clause-exact
 returns-clause-exact c =
     let before : State = record { settings = c.self.inside.settings; heap = c.self.inside.heap; sessions = c.self.inside.sessions.items } in
-    let M : State → Type 0 = λ st. MayWrite st c.args.s c.args.row.key None in
+    let M : State → Type 0 = λ st. MayWrite st c.args.s c.args.row.now.key None in
     let may = subst M (sym c.self.view_is) c.requires in
     let within = open-within c.self.inside.sessions.items c.args.s may.session may.reads.at in
     let read = open-read c.self.inside.sessions.items c.args.s c.index_mut.result.now within c.index_mut.ensures.value in
-    let r = c.insert_open-outcome in
-    let T : Option Session → Type 0 = λ o. OnOpen o r.new.session (λ e e'. TriesInsert c.self.inside.heap r.new.heap e e' c.args.row r.result) in
+    let r = c.insert_open-tried in
+    let T : Option Session → Type 0 = λ o. OnOpen o r.new.session (λ e e'. TriesInsert c.self.inside.heap r.new.heap e e' c.args.row.now r.result) in
     let tries = subst T (sym read) r.ensures in
-    let tried = insert-tried before r.new.heap c.args.s r.new.session c.args.row r.result may tries in
+    let tried = insert-tried before r.new.heap c.args.s r.new.session c.args.row.now r.result may tries in
     let after = with_session before r.new.heap c.args.s r.new.session in
-    let P : State → Type 0 = λ st. ExactInsert st c.args.s c.args.row c.reply_of.result after in
-    let R : Reply → Type 0 = λ reply. ExactInsert before c.args.s c.args.row reply after in
-    subst P c.self.view_is (subst R (sym c.reply_of.ensures) (exact-inserted before after c.args.s c.args.row r.result tried))
+    let P : State → Type 0 = λ st. ExactInsert st c.args.s c.args.row.now (reply_to c.outcome_of.result) after in
+    let R : Reply → Type 0 = λ reply. ExactInsert before c.args.s c.args.row.now reply after in
+    subst P c.self.view_is (subst R (sym c.outcome_of.ensures) (exact-inserted before after c.args.s c.args.row.now r.result tried))

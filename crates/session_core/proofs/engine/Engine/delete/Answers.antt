@@ -3,6 +3,7 @@ use Rattle.session_relation.specs.declared.step.Step.TheVariants.{Delete}
 use Rattle.session_relation.specs.declared.reply.Reply.{Reply}
 use Rattle.session_core.specs.State.{State, refused_state}
 use Rattle.session_core.specs.Agrees.{Follows}
+use Rattle.session_core.specs.Replies.{reply_to}
 use Rattle.session_core.specs.Exact.{ExactDelete}
 use Rattle.session_core.proofs.Hindering.{Follows-hindered_delete, exact-hindered_delete, small-change}
 use Rattle.session_core.proofs.engine.Engine.delete.Goals as goal
@@ -13,11 +14,11 @@ refuse-requires c = λ is. small-change c.args.self.now c.args.s c.args.key c.in
 pub returns-in-Err-clause-follows : goal.returns-in-Err-clause-follows
 returns-in-Err-clause-follows c =
     let P : State → Reply → Type 0 = λ new reply. Follows c.args.self.now (Delete c.args.s c.args.key) reply new in
-    subst (λ (new : State). P new c.refuse.result) (sym c.refuse.ensures.state)
+    subst (λ (new : State). P new (reply_to c.refuse.result)) (sym c.refuse.ensures.state)
     (subst (λ (reply : Reply). P (refused_state c.args.self.now c.args.s c.in-Err.refusal) reply) (sym c.refuse.ensures.reply) (Follows-hindered_delete c.args.self.now c.args.s c.args.key c.in-Err.refusal c.in-Err.ensures))
 
 pub returns-in-Err-clause-exact : goal.returns-in-Err-clause-exact
 returns-in-Err-clause-exact c =
     let P : State → Reply → Type 0 = λ new reply. ExactDelete c.args.self.now c.args.s c.args.key reply new in
-    subst (λ (new : State). P new c.refuse.result) (sym c.refuse.ensures.state)
+    subst (λ (new : State). P new (reply_to c.refuse.result)) (sym c.refuse.ensures.state)
     (subst (λ (reply : Reply). P (refused_state c.args.self.now c.args.s c.in-Err.refusal) reply) (sym c.refuse.ensures.reply) (exact-hindered_delete c.args.self.now c.args.s c.args.key c.in-Err.refusal c.in-Err.ensures))

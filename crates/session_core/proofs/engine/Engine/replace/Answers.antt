@@ -5,6 +5,7 @@ use Rattle.session_core.specs.declared.session.Session.{Session}
 use Rattle.session_core.specs.State.{State, horizon_of}
 use Rattle.session_core.specs.Tests.{MayWrite}
 use Rattle.session_core.specs.Writes.{OnOpen, TriesUpdate}
+use Rattle.session_core.specs.Replies.{reply_to}
 use Rattle.session_core.specs.Exact.{ExactUpdate}
 use Rattle.session_core.specs.Follows.{FollowsUpdate}
 use Rattle.session_core.proofs.OwnIdsLemmas.{open-within}
@@ -13,9 +14,9 @@ use Rattle.session_core.proofs.Trying.{with_session, keeps-update, update-tried,
 use Rattle.session_core.proofs.Writing.{Follows-updated}
 use Rattle.session_core.proofs.engine.Engine.replace.Goals as goal
 
-pub update_open-outcome-requires-clause-active : goal.update_open-outcome-requires-clause-active
-update_open-outcome-requires-clause-active c =
-    let M : State → Type 0 = λ st. MayWrite st c.args.s c.args.row.key (Some c.args.place) in
+pub update_open-tried-requires-clause-active : goal.update_open-tried-requires-clause-active
+update_open-tried-requires-clause-active c =
+    let M : State → Type 0 = λ st. MayWrite st c.args.s c.args.row.now.key (Some c.args.place) in
     let may = subst M (sym c.self.view_is) c.requires in
     let within = open-within c.self.inside.sessions.items c.args.s may.session may.reads.at in
     let read = open-read c.self.inside.sessions.items c.args.s c.index_mut-session.result.now within c.index_mut-session.ensures.value in
@@ -24,45 +25,45 @@ update_open-outcome-requires-clause-active c =
 pub invariant_of-self : goal.invariant_of-self
 invariant_of-self c =
     let before : State = record { settings = c.self.inside.settings; heap = c.self.inside.heap; sessions = c.self.inside.sessions.items } in
-    let M : State → Type 0 = λ st. MayWrite st c.args.s c.args.row.key (Some c.args.place) in
+    let M : State → Type 0 = λ st. MayWrite st c.args.s c.args.row.now.key (Some c.args.place) in
     let may = subst M (sym c.self.view_is) c.requires in
     let within = open-within c.self.inside.sessions.items c.args.s may.session may.reads.at in
     let read = open-read c.self.inside.sessions.items c.args.s c.index_mut-session.result.now within c.index_mut-session.ensures.value in
-    let r = c.update_open-outcome in
-    let T : Option Session → Type 0 = λ o. OnOpen o r.new.session (λ e e'. TriesUpdate c.self.inside.heap r.new.heap e e' c.args.place c.args.row c.horizon-horizon.result.0 r.result) in
+    let r = c.update_open-tried in
+    let T : Option Session → Type 0 = λ o. OnOpen o r.new.session (λ e e'. TriesUpdate c.self.inside.heap r.new.heap e e' c.args.place c.args.row.now c.horizon-horizon.result.0 r.result) in
     let tries = subst T (sym read) r.ensures in
     let window = subst (λ (w : Window). IsWindow w) c.table.ensures c.is_window.ensures in
-    keeps-update c.self.inside.sessions.items c.self.inside.heap r.new.heap c.args.s c.index_mut-session.result.now r.new.session c.args.place c.args.row c.horizon-horizon.result.0 r.result read r.ensures window c.self.invariant
+    keeps-update c.self.inside.sessions.items c.self.inside.heap r.new.heap c.args.s c.index_mut-session.result.now r.new.session c.args.place c.args.row.now c.horizon-horizon.result.0 r.result read r.ensures window c.self.invariant
 
 pub returns-clause-follows : goal.returns-clause-follows
 returns-clause-follows c =
     let before : State = record { settings = c.self.inside.settings; heap = c.self.inside.heap; sessions = c.self.inside.sessions.items } in
-    let M : State → Type 0 = λ st. MayWrite st c.args.s c.args.row.key (Some c.args.place) in
+    let M : State → Type 0 = λ st. MayWrite st c.args.s c.args.row.now.key (Some c.args.place) in
     let may = subst M (sym c.self.view_is) c.requires in
     let within = open-within c.self.inside.sessions.items c.args.s may.session may.reads.at in
     let read = open-read c.self.inside.sessions.items c.args.s c.index_mut-session.result.now within c.index_mut-session.ensures.value in
-    let r = c.update_open-outcome in
-    let T : Option Session → Type 0 = λ o. OnOpen o r.new.session (λ e e'. TriesUpdate c.self.inside.heap r.new.heap e e' c.args.place c.args.row c.horizon-horizon.result.0 r.result) in
+    let r = c.update_open-tried in
+    let T : Option Session → Type 0 = λ o. OnOpen o r.new.session (λ e e'. TriesUpdate c.self.inside.heap r.new.heap e e' c.args.place c.args.row.now c.horizon-horizon.result.0 r.result) in
     let tries = subst T (sym read) r.ensures in
     let window = subst (λ (w : Window). IsWindow w) c.table.ensures c.is_window.ensures in
-    let tried = update-tried before r.new.heap c.args.s r.new.session c.args.place c.args.row c.horizon-horizon.result.0 r.result may (c.horizon-horizon.ensures.value ∙ ap horizon_of (sym c.self.view_is)) tries in
+    let tried = update-tried before r.new.heap c.args.s r.new.session c.args.place c.args.row.now c.horizon-horizon.result.0 r.result may (c.horizon-horizon.ensures.value ∙ ap horizon_of (sym c.self.view_is)) tries in
     let after = with_session before r.new.heap c.args.s r.new.session in
-    let P : State → Type 0 = λ st. FollowsUpdate st c.args.s c.args.row c.reply_of.result after in
-    let R : Reply → Type 0 = λ reply. FollowsUpdate before c.args.s c.args.row reply after in
-    subst P c.self.view_is (subst R (sym c.reply_of.ensures) (Follows-updated before after c.args.s c.args.row r.result tried window))
+    let P : State → Type 0 = λ st. FollowsUpdate st c.args.s c.args.row.now (reply_to c.outcome_of.result) after in
+    let R : Reply → Type 0 = λ reply. FollowsUpdate before c.args.s c.args.row.now reply after in
+    subst P c.self.view_is (subst R (sym c.outcome_of.ensures) (Follows-updated before after c.args.s c.args.row.now r.result tried window))
 
 pub returns-clause-exact : goal.returns-clause-exact
 returns-clause-exact c =
     let before : State = record { settings = c.self.inside.settings; heap = c.self.inside.heap; sessions = c.self.inside.sessions.items } in
-    let M : State → Type 0 = λ st. MayWrite st c.args.s c.args.row.key (Some c.args.place) in
+    let M : State → Type 0 = λ st. MayWrite st c.args.s c.args.row.now.key (Some c.args.place) in
     let may = subst M (sym c.self.view_is) c.requires in
     let within = open-within c.self.inside.sessions.items c.args.s may.session may.reads.at in
     let read = open-read c.self.inside.sessions.items c.args.s c.index_mut-session.result.now within c.index_mut-session.ensures.value in
-    let r = c.update_open-outcome in
-    let T : Option Session → Type 0 = λ o. OnOpen o r.new.session (λ e e'. TriesUpdate c.self.inside.heap r.new.heap e e' c.args.place c.args.row c.horizon-horizon.result.0 r.result) in
+    let r = c.update_open-tried in
+    let T : Option Session → Type 0 = λ o. OnOpen o r.new.session (λ e e'. TriesUpdate c.self.inside.heap r.new.heap e e' c.args.place c.args.row.now c.horizon-horizon.result.0 r.result) in
     let tries = subst T (sym read) r.ensures in
-    let tried = update-tried before r.new.heap c.args.s r.new.session c.args.place c.args.row c.horizon-horizon.result.0 r.result may (c.horizon-horizon.ensures.value ∙ ap horizon_of (sym c.self.view_is)) tries in
+    let tried = update-tried before r.new.heap c.args.s r.new.session c.args.place c.args.row.now c.horizon-horizon.result.0 r.result may (c.horizon-horizon.ensures.value ∙ ap horizon_of (sym c.self.view_is)) tries in
     let after = with_session before r.new.heap c.args.s r.new.session in
-    let P : State → Type 0 = λ st. ExactUpdate st c.args.s c.args.row c.reply_of.result after in
-    let R : Reply → Type 0 = λ reply. ExactUpdate before c.args.s c.args.row reply after in
-    subst P c.self.view_is (subst R (sym c.reply_of.ensures) (exact-updated before after c.args.s c.args.row r.result tried))
+    let P : State → Type 0 = λ st. ExactUpdate st c.args.s c.args.row.now (reply_to c.outcome_of.result) after in
+    let R : Reply → Type 0 = λ reply. ExactUpdate before c.args.s c.args.row.now reply after in
+    subst P c.self.view_is (subst R (sym c.outcome_of.ensures) (exact-updated before after c.args.s c.args.row.now r.result tried))

@@ -7,6 +7,7 @@ use Rattle.session_core.specs.State.{State}
 use Rattle.session_core.specs.Tests.{MayWrite}
 use Rattle.session_core.specs.Writes.{OnOpen, TriesDelete}
 use Rattle.session_core.specs.Agrees.{Follows}
+use Rattle.session_core.specs.Replies.{reply_to}
 use Rattle.session_core.specs.Exact.{ExactDelete}
 use Rattle.session_core.proofs.OwnIdsLemmas.{open-within}
 use Rattle.session_core.proofs.StateLemmas.{open-read}
@@ -14,8 +15,8 @@ use Rattle.session_core.proofs.Trying.{with_session, keeps-delete, delete-tried,
 use Rattle.session_core.proofs.Writing.{Follows-deleted}
 use Rattle.session_core.proofs.engine.Engine.take_away.Goals as goal
 
-pub delete_open-outcome-requires-clause-active : goal.delete_open-outcome-requires-clause-active
-delete_open-outcome-requires-clause-active c =
+pub delete_open-tried-requires-clause-active : goal.delete_open-tried-requires-clause-active
+delete_open-tried-requires-clause-active c =
     let M : State → Type 0 = λ st. MayWrite st c.args.s c.args.key (Some c.args.place) in
     let may = subst M (sym c.self.view_is) c.requires in
     let within = open-within c.self.inside.sessions.items c.args.s may.session may.reads.at in
@@ -29,7 +30,7 @@ invariant_of-self c =
     let may = subst M (sym c.self.view_is) c.requires in
     let within = open-within c.self.inside.sessions.items c.args.s may.session may.reads.at in
     let read = open-read c.self.inside.sessions.items c.args.s c.index_mut.result.now within c.index_mut.ensures.value in
-    let r = c.delete_open-outcome in
+    let r = c.delete_open-tried in
     let T : Option Session → Type 0 = λ o. OnOpen o r.new.session (λ e e'. TriesDelete c.self.inside.heap r.new.heap e e' c.args.place r.result) in
     let tries = subst T (sym read) r.ensures in
     let window = subst (λ (w : Window). IsWindow w) c.table.ensures c.is_window.ensures in
@@ -42,15 +43,15 @@ returns-clause-follows c =
     let may = subst M (sym c.self.view_is) c.requires in
     let within = open-within c.self.inside.sessions.items c.args.s may.session may.reads.at in
     let read = open-read c.self.inside.sessions.items c.args.s c.index_mut.result.now within c.index_mut.ensures.value in
-    let r = c.delete_open-outcome in
+    let r = c.delete_open-tried in
     let T : Option Session → Type 0 = λ o. OnOpen o r.new.session (λ e e'. TriesDelete c.self.inside.heap r.new.heap e e' c.args.place r.result) in
     let tries = subst T (sym read) r.ensures in
     let window = subst (λ (w : Window). IsWindow w) c.table.ensures c.is_window.ensures in
     let tried = delete-tried before r.new.heap c.args.s c.args.key r.new.session c.args.place r.result may tries in
     let after = with_session before r.new.heap c.args.s r.new.session in
-    let P : State → Type 0 = λ st. Follows st (Delete c.args.s c.args.key) c.reply_of.result after in
+    let P : State → Type 0 = λ st. Follows st (Delete c.args.s c.args.key) (reply_to c.outcome_of.result) after in
     let R : Reply → Type 0 = λ reply. Follows before (Delete c.args.s c.args.key) reply after in
-    subst P c.self.view_is (subst R (sym c.reply_of.ensures) (Follows-deleted before after c.args.s c.args.key r.result tried window))
+    subst P c.self.view_is (subst R (sym c.outcome_of.ensures) (Follows-deleted before after c.args.s c.args.key r.result tried window))
 
 pub returns-clause-exact : goal.returns-clause-exact
 returns-clause-exact c =
@@ -59,11 +60,11 @@ returns-clause-exact c =
     let may = subst M (sym c.self.view_is) c.requires in
     let within = open-within c.self.inside.sessions.items c.args.s may.session may.reads.at in
     let read = open-read c.self.inside.sessions.items c.args.s c.index_mut.result.now within c.index_mut.ensures.value in
-    let r = c.delete_open-outcome in
+    let r = c.delete_open-tried in
     let T : Option Session → Type 0 = λ o. OnOpen o r.new.session (λ e e'. TriesDelete c.self.inside.heap r.new.heap e e' c.args.place r.result) in
     let tries = subst T (sym read) r.ensures in
     let tried = delete-tried before r.new.heap c.args.s c.args.key r.new.session c.args.place r.result may tries in
     let after = with_session before r.new.heap c.args.s r.new.session in
-    let P : State → Type 0 = λ st. ExactDelete st c.args.s c.args.key c.reply_of.result after in
+    let P : State → Type 0 = λ st. ExactDelete st c.args.s c.args.key (reply_to c.outcome_of.result) after in
     let R : Reply → Type 0 = λ reply. ExactDelete before c.args.s c.args.key reply after in
-    subst P c.self.view_is (subst R (sym c.reply_of.ensures) (exact-deleted before after c.args.s c.args.key r.result tried))
+    subst P c.self.view_is (subst R (sym c.outcome_of.ensures) (exact-deleted before after c.args.s c.args.key r.result tried))
