@@ -18,23 +18,25 @@ impl Engine {
         ensures exact { Exact self.old step result self.new }
     {
         step.has_bounds();
-        match step {
-            Step::Begin(s) => self.begin(s).reply(),
-            Step::Get(s, key) => self.get(s, key),
-            Step::Insert(s, row) => self.insert(s, row).reply(),
-            Step::Update(s, row) => self.update(s, row).reply(),
-            Step::Delete(s, key) => self.delete(s, key).reply(),
-            Step::Savepoint(s) => self.savepoint(s).reply(),
-            Step::RollbackTo(s) => self.rollback_to(s).reply(),
-            Step::Release(s) => self.release(s).reply(),
-            Step::OpenIndex(s, index, low, high) => self.open_index(s, index, low, high).reply(),
-            Step::OpenHeap(s) => self.open_heap(s).reply(),
-            Step::Next(s, n) => self.next(s, n),
-            Step::Close(s) => self.close_cursor(s).reply(),
-            Step::Commit(s) => self.commit(s).reply(),
-            Step::Abort(s) => self.abort(s).reply(),
-            Step::Prune(page) => self.prune(page).reply(),
-        }
+        let outcome = match step {
+            Step::Get(s, key) => return self.get(s, key),
+            Step::Next(s, n) => return self.next(s, n),
+            Step::Begin(s) => self.begin(s),
+            Step::Insert(s, row) => self.insert(s, row),
+            Step::Update(s, row) => self.update(s, row),
+            Step::Delete(s, key) => self.delete(s, key),
+            Step::Savepoint(s) => self.savepoint(s),
+            Step::RollbackTo(s) => self.rollback_to(s),
+            Step::Release(s) => self.release(s),
+            Step::OpenIndex(s, index, low, high) => self.open_index(s, index, low, high),
+            Step::OpenHeap(s) => self.open_heap(s),
+            Step::Close(s) => self.close_cursor(s),
+            Step::Commit(s) => self.commit(s),
+            Step::Abort(s) => self.abort(s),
+            Step::Prune(page) => self.prune(page),
+        };
+        // the one place where these replies are made, so that each is made where the caller wants it
+        outcome.reply()
     }
 
     /// The row of the key that the session reads, also in a transaction that has failed. It is no step, and takes no
