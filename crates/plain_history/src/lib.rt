@@ -14,6 +14,3 @@ mod steps;
 pub use cursor::{Bounds, PlainCursor, PlainOrder};
 pub use plain::{PlainHistory, PlainLevel, PlainSession, PlainTransaction, PlainWrite};
 pub use refusal::{Handed, Outcome, Refused};
-
-#[cfg(test)]
-mod tests;

@@ -1,0 +1,145 @@
+//! Calls with their answers, which one loop goes through: a test is proved as any function is, and a long one takes long.
+
+use arrayvec::ArrayVec;
+use plain_history::{Handed, Outcome, PlainHistory, Refused};
+use std::alloc::Global;
+use tuple_header::Row;
+
+/// A call by a session. A row is said by its key and its first column.
+#[derive(Clone, Copy)]
+pub enum Call {
+    Begin(u8),
+    Get(u8, u64),
+    Insert(u8, u64, i64),
+    Update(u8, u64, i64),
+    Delete(u8, u64),
+    Savepoint(u8),
+    RollBackTo(u8),
+    Release(u8),
+    Commit(u8),
+    Abort(u8),
+    OpenIndex(u8, u8, i128, i128),
+    OpenHeap(u8),
+    OpenKeys(u8, i128, i128),
+    Next(u8, u16),
+    Close(u8),
+}
+
+/// Its answer. Rows that are handed out, at most three, are said by their keys, and noughts after them.
+#[derive(Clone, Copy, Debug, PartialEq, Eq)]
+pub enum Answer {
+    Done,
+    NoRow,
+    Found(u64, i64),
+    Ended(Outcome),
+    Rows([u64; 3]),
+    Keys([u64; 3]),
+    End,
+    Refused(Refused),
+}
+
+fn row(key: u64, value: i64) -> Row {
+    Row {
+        key,
+        cols: [value, 0, 0, 0],
+        body: ArrayVec::new(),
+    }
+}
+
+fn done(answered: Result<(), Refused>) -> Answer {
+    match answered {
+        Ok(()) => Answer::Done,
+        Err(why) => Answer::Refused(why),
+    }
+}
+
+fn found(answered: Result<Option<Row>, Refused>) -> Answer {
+    match answered {
+        Ok(Some(row)) => Answer::Found(row.key, row.cols[0]),
+        Ok(None) => Answer::NoRow,
+        Err(why) => Answer::Refused(why),
+    }
+}
+
+fn ended(answered: Result<Outcome, Refused>) -> Answer {
+    match answered {
+        Ok(outcome) => Answer::Ended(outcome),
+        Err(why) => Answer::Refused(why),
+    }
+}
+
+fn three_of_rows(rows: &[Row]) -> [u64; 3] {
+    let mut three = [0; 3];
+    for (i, row) in rows.iter().enumerate() {
+        if i < 3 {
+            three[i] = row.key;
+        }
+    }
+    three
+}
+
+fn three_of(keys: &[u64]) -> [u64; 3] {
+    let mut three = [0; 3];
+    for (i, key) in keys.iter().enumerate() {
+        if i < 3 {
+            three[i] = *key;
+        }
+    }
+    three
+}
+
+fn handed(answered: Result<Handed, Refused>) -> Answer {
+    match answered {
+        Ok(Handed::Rows(rows)) => Answer::Rows(three_of_rows(&rows)),
+        Ok(Handed::Keys(keys)) => Answer::Keys(three_of(&keys)),
+        Ok(Handed::End) => Answer::End,
+        Err(why) => Answer::Refused(why),
+    }
+}
+
+/// What the call is answered.
+pub fn answer_to(history: &mut PlainHistory, call: Call) -> Answer {
+    match call {
+        Call::Begin(s) => done(history.begin(s)),
+        Call::Get(s, key) => found(history.get(s, key)),
+        Call::Insert(s, key, value) => done(history.insert(s, row(key, value))),
+        Call::Update(s, key, value) => done(history.update(s, row(key, value))),
+        Call::Delete(s, key) => done(history.delete(s, key)),
+        Call::Savepoint(s) => done(history.savepoint(s)),
+        Call::RollBackTo(s) => done(history.roll_back_to(s)),
+        Call::Release(s) => done(history.release(s)),
+        Call::Commit(s) => ended(history.commit(s)),
+        Call::Abort(s) => done(history.abort(s)),
+        Call::OpenIndex(s, index, low, high) => done(history.open_index(s, index, low, high)),
+        Call::OpenHeap(s) => done(history.open_heap(s)),
+        Call::OpenKeys(s, low, high) => done(history.open_keys(s, low, high)),
+        Call::Next(s, n) => handed(history.next(s, n)),
+        Call::Close(s) => done(history.close(s)),
+    }
+}
+
+/// A history in which session 0 has committed these rows in one transaction.
+pub fn holding(alloc: Global, rows: &[(u64, i64)]) -> Result<PlainHistory, Refused> {
+    let Ok(mut history) = PlainHistory::new(alloc) else {
+        return Err(Refused::NoMemory);
+    };
+    history.begin(0)?;
+    for (key, value) in rows {
+        history.insert(0, row(*key, *value))?;
+    }
+    let _outcome = history.commit(0)?;
+    Ok(history)
+}
+
+/// The place of the first call that is answered otherwise, where session 0 has committed these rows before.
+pub fn first_wrong(alloc: Global, rows: &[(u64, i64)], calls: &[(Call, Answer)]) -> Option<usize> {
+    let Ok(mut history) = holding(alloc, rows) else {
+        return Some(0);
+    };
+    for (i, (call, wanted)) in calls.iter().enumerate() {
+        if answer_to(&mut history, *call) != *wanted {
+            return Some(i);
+        }
+    }
+    None
+}

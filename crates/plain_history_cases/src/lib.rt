@@ -1,0 +1,17 @@
+//! Tests of the plain program of the history. Each answer follows from the rules by hand.
+//!
+//! They stand apart from `plain_history`, so that neither is checked a second time for the other's sake.
+#![tactic(auto)]
+
+#[cfg(test)]
+mod calls;
+#[cfg(test)]
+mod cursors;
+#[cfg(test)]
+mod laws;
+#[cfg(test)]
+mod savepoints;
+#[cfg(test)]
+mod waits;
+#[cfg(test)]
+mod writes;
