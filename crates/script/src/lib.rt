@@ -10,8 +10,6 @@ mod line;
 mod output;
 mod run;
 mod telling;
-#[cfg(test)]
-mod tests;
 mod watch;
 mod words;
 

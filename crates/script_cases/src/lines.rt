@@ -1,0 +1,299 @@
+//! Lines at the ends of what is allowed, and beyond.
+
+use crate::runs::run_whole;
+use script::ShellFault;
+use std::alloc::{AllocError, Global};
+use std::test::Fail;
+
+const HEADING: &[u8] = b"heap 4 1000 0 3 64 0000\n";
+
+// The heading, `begin 0`, and one more line.
+fn script_of(alloc: Global, line: &[u8]) -> Result<Vec<u8>, AllocError> {
+    let mut script = Vec::new(alloc);
+    script.extend_from_slice(HEADING)?;
+    script.extend_from_slice(b"begin 0\n")?;
+    script.extend_from_slice(line)?;
+    script.push(b'\n')?;
+    Ok(script)
+}
+
+fn run_line(alloc: Global, line: &[u8], written: &mut Vec<u8>) -> Result<(), ShellFault> {
+    let Ok(script) = script_of(alloc, line) else {
+        return Err(ShellFault::NoMemory);
+    };
+    run_whole(alloc, script.as_slice(), written)
+}
+
+// Whether a script with this line ends like this and has written these bytes.
+fn line_ends_so(
+    alloc: Global,
+    line: &[u8],
+    wanted: Result<(), ShellFault>,
+    answers: &[u8],
+) -> bool {
+    let mut written = Vec::new(alloc);
+    run_line(alloc, line, &mut written) == wanted && written.as_slice() == answers
+}
+
+// Lines with what they and the `begin 0` before them are answered.
+const ALLOWED: [(&[u8], &[u8]); 46] = [
+    (b"begin 63", b"ok\nok\n"),
+    (b"begin 0", b"ok\nerror 2 AlreadyOpen\n"),
+    (b"begin 255", b"ok\nerror 23 NoSuchSession\n"),
+    (b"get 64 1", b"ok\nerror 23 NoSuchSession\n"),
+    (b"commit 1", b"ok\nerror 1 NotOpen\n"),
+    (b"get 0 18446744073709551615", b"ok\nnone\n"),
+    (b"get 0 0", b"ok\nnone\n"),
+    (
+        b"insert 0 0 -9223372036854775808 9223372036854775807 -1 0 00ff1a",
+        b"ok\nok\n",
+    ),
+    (b"ids", b"ok\nnext 3 frozen_below 3\n"),
+    (b"page 0", b"ok\nerror 19 NoSuchPage\n"),
+    (b"page 4294967295", b"ok\nerror 19 NoSuchPage\n"),
+    (b"prune 0", b"ok\nerror 19 NoSuchPage\n"),
+    (b"prune 4294967295", b"ok\nerror 19 NoSuchPage\n"),
+    (
+        b"update 64 0 -9223372036854775808 9223372036854775807 -1 0 00ff1a",
+        b"ok\nerror 23 NoSuchSession\n",
+    ),
+    (b"update 0 1 5 0 0 0 -", b"ok\nerror 5 NotThere\n"),
+    (b"delete 0 18446744073709551615", b"ok\nerror 5 NotThere\n"),
+    (b"delete 255 0", b"ok\nerror 23 NoSuchSession\n"),
+    (b"savepoint 0", b"ok\nok\n"),
+    (b"savepoint 1", b"ok\nerror 1 NotOpen\n"),
+    (b"savepoint 255", b"ok\nerror 23 NoSuchSession\n"),
+    (b"rollbackto 0", b"ok\nerror 12 NoSavepoint\n"),
+    (b"rollbackto 63", b"ok\nerror 1 NotOpen\n"),
+    (b"rollbackto 64", b"ok\nerror 23 NoSuchSession\n"),
+    (b"release 0", b"ok\nerror 12 NoSavepoint\n"),
+    (b"release 255", b"ok\nerror 23 NoSuchSession\n"),
+    (
+        b"savepoint 0\ninsert 0 1 5 0 0 0 -\nrollbackto 0\nget 0 1\nids",
+        b"ok\nok\nok\nok\nnone\nnext 5 frozen_below 3\n",
+    ),
+    (
+        b"savepoint 0\ninsert 0 1 5 0 0 0 -\nrelease 0\nget 0 1\nrelease 0",
+        b"ok\nok\nok\nok\nrow 1 5 0 0 0 -\nerror 12 NoSavepoint\n",
+    ),
+    (b"openindex 0 0 1 0", b"ok\nerror 24 BadBounds\n"),
+    (b"openindex 0 255 1 0", b"ok\nerror 20 NoSuchIndex\n"),
+    (b"openindex 1 0 0 1", b"ok\nerror 1 NotOpen\n"),
+    (
+        b"openindex 0 0 -170141183460469231731687303715884105728 170141183460469231731687303715884105727",
+        b"ok\nok\n",
+    ),
+    (b"openheap 0", b"ok\nok\n"),
+    (b"openheap 255", b"ok\nerror 23 NoSuchSession\n"),
+    (b"next 0 0", b"ok\nerror 10 NoCursor\n"),
+    (b"next 64 65535", b"ok\nerror 23 NoSuchSession\n"),
+    (b"close 0", b"ok\nerror 10 NoCursor\n"),
+    (b"close 63", b"ok\nerror 1 NotOpen\n"),
+    (
+        b"insert 0 2 5 0 0 0 -\ninsert 0 1 6 -7 0 0 00ff\nopenindex 0 0 0 18446744073709551615\nnext 0 0\nnext 0 65535\nnext 0 1\nnext 0 1",
+        b"ok\nok\nok\nok\nrows 1\nrow 1 6 -7 0 0 00ff\nrows 1\nrow 2 5 0 0 0 -\nend\nend\n",
+    ),
+    (
+        b"insert 0 2 5 0 0 0 -\ninsert 0 1 6 -7 0 0 00ff\nopenheap 0\nopenheap 0\nsavepoint 0\nnext 0 1\nnext 0 1\nclose 0\nnext 0 1",
+        b"ok\nok\nok\nok\nerror 9 CursorOpen\nerror 9 CursorOpen\nrows 2\nrow 2 5 0 0 0 -\nrow 1 6 -7 0 0 00ff\nend\nok\nerror 10 NoCursor\n",
+    ),
+    (b"entries 0", b"ok\nentries 0 0\n"),
+    (b"entries 255", b"ok\nerror 20 NoSuchIndex\n"),
+    (
+        b"insert 0 18446744073709551615 0 0 0 0 -\ninsert 0 0 0 0 0 0 -\nentries 0",
+        b"ok\nok\nok\nentries 0 2\nentry 0 0 0 2\nentry 18446744073709551615 18446744073709551615 0 1\n",
+    ),
+    (
+        b"insert 0 1 5 0 0 0 -\nupdate 0 1 6 -7 0 0 00ff\nget 0 1\npage 0\nentries 0",
+        b"ok\nok\nok\nrow 1 6 -7 0 0 00ff\npage 0 change 3 visible 0 slots 2\n1 normal 3 3 1\n2 normal 3 0 1\nentries 0 1\nentry 1 1 0 1\n",
+    ),
+    (
+        b"insert 0 1 5 0 0 0 -\ndelete 0 1\nget 0 1\npage 0\nentries 0",
+        b"ok\nok\nok\nnone\npage 0 change 2 visible 0 slots 1\n1 normal 3 3 1\nentries 0 1\nentry 1 1 0 1\n",
+    ),
+    (
+        b"insert 0 1 5 0 0 0 -\nabort 0\nprune 0\npage 0",
+        b"ok\nok\nrolled back\nok\npage 0 change 2 visible 0 slots 1\n1 dead\n",
+    ),
+    (
+        b"insert 0 1 5 0 0 0 -\nget 0 1\nids\npage 0",
+        b"ok\nok\nrow 1 5 0 0 0 -\nnext 4 frozen_below 3\npage 0 change 1 visible 0 slots 1\n1 normal 3 0 1\n",
+    ),
+];
+
+#[test]
+fn allowed_lines(rt: HostRuntime) {
+    for (line, answers) in ALLOWED {
+        assert!(rt; line_ends_so(rt.alloc(), line, Ok(()), answers), "{line:?}");
+    }
+}
+
+// Lines that are not allowed.
+const BAD: [&[u8]; 108] = [
+    b"",
+    b" ",
+    b"begin",
+    b"begin ",
+    b"begin  0",
+    b"begin 0 ",
+    b" begin 0",
+    b"begin 0 1",
+    b"begin 256",
+    b"begin 00",
+    b"begin 01",
+    b"begin +1",
+    b"begin -0",
+    b"begin 1x",
+    b"begin 0\r",
+    b"begin 0\0",
+    b"Begin 0",
+    b"begins 0",
+    b"get 0",
+    b"get 0 18446744073709551616",
+    b"get 0 -1",
+    b"get 0 1 1",
+    b"get  0 1",
+    b"insert 0 1 5 0 0 0",
+    b"insert 0 1 5 0 0 0 ",
+    b"insert 0 1 5 0 0 -",
+    b"insert 0 1 -0 0 0 0 -",
+    b"insert 0 1 05 0 0 0 -",
+    b"insert 0 1 +5 0 0 0 -",
+    b"insert 0 1 9223372036854775808 0 0 0 -",
+    b"insert 0 1 -9223372036854775809 0 0 0 -",
+    b"insert 0 1 - 0 0 0 -",
+    b"insert 0 1 5 0 0 0 0A",
+    b"insert 0 1 5 0 0 0 0a1",
+    b"insert 0 1 5 0 0 0 -0a",
+    b"insert 0 1 5 0 0 0 - -",
+    b"ids ",
+    b"ids 0",
+    b"page",
+    b"page 4294967296",
+    b"prune",
+    b"prune 4294967296",
+    b"prune 0 0",
+    b"vacuum finish",
+    b"heap 4 1000 0 3 64 0000",
+    b"update",
+    b"update 256 1 5 0 0 0 -",
+    b"update 0 1 5 0 0 0",
+    b"update 0 1 5 0 0 0 0A",
+    b"update 0 1 5 0 0 0 - 1",
+    b"updates 0 1 5 0 0 0 -",
+    b"delete 0",
+    b"delete 256 1",
+    b"delete 0 18446744073709551616",
+    b"delete 0 1 -",
+    b"delete 0  1",
+    b"savepoint",
+    b"savepoint 256",
+    b"savepoint 0 0",
+    b"savepoints 0",
+    b"rollback 0",
+    b"rollback_to 0",
+    b"rollback to 0",
+    b"rollbackto",
+    b"rollbackto 00",
+    b"rollbackto 256",
+    b"release",
+    b"release  0",
+    b"release 0 1",
+    b"openindex",
+    b"openindex 0",
+    b"openindex 0 0",
+    b"openindex 0 0 0",
+    b"openindex 0 0 0 ",
+    b"openindex 0 0 0 0 0",
+    b"openindex 256 0 0 0",
+    b"openindex 0 256 0 0",
+    b"openindex 0 0 -0 0",
+    b"openindex 0 0 0 -0",
+    b"openindex 0 0 00 1",
+    b"openindex 0 0 0 01",
+    b"openindex 0 0 +1 2",
+    b"openindex 0 0 - 2",
+    b"openindex 0 0 170141183460469231731687303715884105728 0",
+    b"openindex 0 0 0 170141183460469231731687303715884105728",
+    b"openindex 0 0 -170141183460469231731687303715884105729 0",
+    b"openindex 0 0 0 -170141183460469231731687303715884105729",
+    b"openindex  0 0 0 0",
+    b"openindexes 0 0 0 0",
+    b"openheap",
+    b"openheap 256",
+    b"openheap 0 0",
+    b"open 0",
+    b"next",
+    b"next 0",
+    b"next 0 65536",
+    b"next 0 -1",
+    b"next 0 00",
+    b"next 256 0",
+    b"next 0 1 1",
+    b"close",
+    b"close 256",
+    b"close 0 0",
+    b"entries",
+    b"entries ",
+    b"entries 256",
+    b"entries -0",
+    b"entries 0 0",
+];
+
+#[test]
+fn bad_lines(rt: HostRuntime) {
+    for line in BAD {
+        let fault = Err(ShellFault::BadLine(3));
+        assert!(rt; line_ends_so(rt.alloc(), line, fault, b"ok\n"), "{line:?}");
+    }
+}
+
+// An insert with a body of this many bytes, each 0xab.
+fn long_insert(alloc: Global, head: &[u8], bytes: usize) -> Result<Vec<u8>, AllocError> {
+    let mut line = Vec::new(alloc);
+    line.extend_from_slice(head)?;
+    for _ in 0..bytes {
+        line.extend_from_slice(b"ab")?;
+    }
+    Ok(line)
+}
+
+// How long the line is, whether it is refused, and whether these bytes are written.
+fn long_line(
+    alloc: Global,
+    head: &[u8],
+    bytes: usize,
+    answers: &[u8],
+) -> Result<(usize, bool, bool), AllocError> {
+    let line = long_insert(alloc, head, bytes)?;
+    let mut written = Vec::new(alloc);
+    let result = run_line(alloc, line.as_slice(), &mut written);
+    Ok((line.len(), result.is_err(), written.as_slice() == answers))
+}
+
+// The body's bytes, the length of the line, and what is answered; nothing is answered to a bad line.
+const LONG: [(&[u8], usize, usize, &[u8]); 4] = [
+    (b"insert 0 1 5 0 0 0 ", 1024, 2067, b"ok\nok\n"),
+    (
+        b"insert 0 1 5 0 0 0 ",
+        1025,
+        2069,
+        b"ok\nerror 13 TooLarge\n",
+    ),
+    (
+        b"insert 0 10 5 0 0 0 ",
+        2038,
+        4096,
+        b"ok\nerror 13 TooLarge\n",
+    ),
+    (b"insert 0 100 5 0 0 0 ", 2038, 4097, b"ok\n"),
+];
+
+#[test]
+fn long_lines(rt: HostRuntime) -> Result<(), Fail> {
+    for (head, bytes, length, answers) in LONG {
+        let came = long_line(rt.alloc(), head, bytes, answers)?;
+        assert_eq!(rt; came, (length, length > 4096, true), "{length}");
+    }
+    Ok(())
+}

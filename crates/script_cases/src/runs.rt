@@ -1,0 +1,48 @@
+//! Scripts that are run to their end, beside what has to come of it.
+//!
+//! These functions promise nothing: a test asks whether all came as it should, and its proof, which is only that it is safe,
+//! needs no promise of the shell.
+
+ghost use Rattle.std.specs.Prelude.{◌≡◌};
+
+use crate::fakes::small;
+use script::{ShellFault, Watch, run_script};
+use std::alloc::Global;
+use std::io::Read;
+
+/// Whether a script from this reader, with room for so many bytes of answers, ends like this and has written these bytes.
+pub fn runs_so<R: Read>(
+    alloc: Global,
+    watch: &mut Watch,
+    reader: &mut R,
+    room: usize,
+    wanted: Result<(), ShellFault>,
+    answers: &[u8],
+) -> bool {
+    let mut writer = small(alloc, room);
+    let ended = run_script(alloc, watch, reader, &mut writer);
+    ended == wanted && writer.bytes.as_slice() == answers
+}
+
+/// What a script has written at its end, and how it ended.
+pub fn run_whole(alloc: Global, script: &[u8], written: &mut Vec<u8>) -> Result<(), ShellFault> {
+    let mut reader = script;
+    let mut watch = Watch::new();
+    run_script(alloc, &mut watch, &mut reader, written)
+}
+
+/// Whether a script ends like this and has written these bytes.
+pub fn ends_so(
+    alloc: Global,
+    script: &[u8],
+    wanted: Result<(), ShellFault>,
+    answers: &[u8],
+) -> bool {
+    let mut written = Vec::new(alloc);
+    run_whole(alloc, script, &mut written) == wanted && written.as_slice() == answers
+}
+
+/// Which of the reads, the writes and the growths were refused.
+pub fn refused(watch: &Watch) -> [bool; 3] {
+    [watch.input, watch.output, watch.memory]
+}
