@@ -31,26 +31,22 @@ fn first_wrong_of_32(history: &mut PlainHistory, call: Call, last: Answer) -> Op
     }
 }
 
+// The answers to the begin, to a write above 32 savepoints, and to a get once they are released; and for the savepoints and the
+// releases the place of the first that is answered otherwise. It promises nothing, so that the test carries nothing along.
+fn answers_in_depth(history: &mut PlainHistory) -> ([Answer; 3], [Option<usize>; 2]) {
+    let begun = answer_to(history, Call::Begin(0));
+    let deep = Answer::Refused(Refused::TooDeep);
+    let saved = first_wrong_of_32(history, Call::Savepoint(0), deep);
+    let written = answer_to(history, Call::Insert(0, 1, 5));
+    let none = Answer::Refused(Refused::NoSavepoint);
+    let released = first_wrong_of_32(history, Call::Release(0), none);
+    let read = answer_to(history, Call::Get(0, 1));
+    ([begun, written, read], [saved, released])
+}
+
 #[test]
 fn a_session_has_at_most_32_savepoints(rt: HostRuntime) {
     let mut history = holding(rt.alloc(), &[]).expect(&rt, "memory");
-    assert_eq!(rt; answer_to(&mut history, Call::Begin(0)), Answer::Done);
-    let deep = Answer::Refused(Refused::TooDeep);
-    assert_eq!(rt;
-        first_wrong_of_32(&mut history, Call::Savepoint(0), deep),
-        None
-    );
-    assert_eq!(rt;
-        answer_to(&mut history, Call::Insert(0, 1, 5)),
-        Answer::Done
-    );
-    let none = Answer::Refused(Refused::NoSavepoint);
-    assert_eq!(rt;
-        first_wrong_of_32(&mut history, Call::Release(0), none),
-        None
-    );
-    assert_eq!(rt;
-        answer_to(&mut history, Call::Get(0, 1)),
-        Answer::Found(1, 5)
-    );
+    let answers = [Answer::Done, Answer::Done, Answer::Found(1, 5)];
+    assert_eq!(rt; answers_in_depth(&mut history), (answers, [None, None]));
 }
