@@ -36,7 +36,7 @@ fn line_ends_so(
 }
 
 // Lines with what they and the `begin 0` before them are answered.
-const ALLOWED: [(&[u8], &[u8]); 46] = [
+static ALLOWED: [(&[u8], &[u8]); 46] = [
     (b"begin 63", b"ok\nok\n"),
     (b"begin 0", b"ok\nerror 2 AlreadyOpen\n"),
     (b"begin 255", b"ok\nerror 23 NoSuchSession\n"),
@@ -123,13 +123,13 @@ const ALLOWED: [(&[u8], &[u8]); 46] = [
 
 #[test]
 fn allowed_lines(rt: HostRuntime) {
-    for (line, answers) in ALLOWED {
+    for (line, answers) in &ALLOWED {
         assert!(rt; line_ends_so(rt.alloc(), line, Ok(()), answers), "{line:?}");
     }
 }
 
 // Lines that are not allowed.
-const BAD: [&[u8]; 108] = [
+static BAD: [&[u8]; 108] = [
     b"",
     b" ",
     b"begin",
@@ -242,7 +242,7 @@ const BAD: [&[u8]; 108] = [
 
 #[test]
 fn bad_lines(rt: HostRuntime) {
-    for line in BAD {
+    for line in &BAD {
         let fault = Err(ShellFault::BadLine(3));
         assert!(rt; line_ends_so(rt.alloc(), line, fault, b"ok\n"), "{line:?}");
     }
