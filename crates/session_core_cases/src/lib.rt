@@ -1,4 +1,4 @@
-//! Tests of the engine, step by step, each reply reckoned by hand.
+//! Tests of the engine, its settings and its steps, each reply reckoned by hand.
 //!
 //! They stand apart from `session_core`, so that neither is checked a second time for the other's sake.
 #![tactic(auto)]
@@ -11,3 +11,5 @@ mod cursors;
 mod pages;
 #[cfg(test)]
 mod runs;
+#[cfg(test)]
+mod settings;

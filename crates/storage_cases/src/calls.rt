@@ -11,8 +11,20 @@ use heap_pages::{MAX_PAGES, Pages, Place, free_byte};
 use page_slots::{AddFault, Page, Slot};
 use root_index::{Entry, RootIndex, members_determine};
 use std::alloc::{AllocError, Global};
+use std::fmt::Debug;
+use std::process::Abort;
 use tuple_header::{Header, Row, Tuple, TupleFault, decode, encode, fault_of, reads_back};
 use xid_circle::{Tid, Xid, order_of_giving};
+
+/// Asserts that the two are equal. It is a function, so that nothing is known of them afterwards.
+pub fn same<T: PartialEq + Debug + Drop>(rt: &impl Abort, left: T, right: T) {
+    assert_eq!(rt; left, right);
+}
+
+/// Asserts a fact, as [`same`] does.
+pub fn holds(rt: &impl Abort, fact: bool) {
+    assert!(rt; fact);
+}
 
 pub fn precedes(a: Xid, b: Xid) -> bool
     requires normal { IsNormal a.0 }

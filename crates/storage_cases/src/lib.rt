@@ -1,4 +1,4 @@
-//! Tests of what a table is stored in: ids, versions and their bytes, pages, and indexes.
+//! Tests of what a table is stored in: ids and their statuses, versions and their bytes, pages, and indexes.
 //!
 //! Each value was reckoned by hand, and not taken from the program. They stand apart from the crates that they test, so that
 //! those are not checked a second time for their sake.
@@ -16,3 +16,5 @@ mod ids;
 mod pages;
 #[cfg(test)]
 mod slots;
+#[cfg(test)]
+mod statuses;

@@ -1,5 +1,4 @@
-//! Tests of what stands below the table: ids and their statuses, snapshots, verdicts, chains, pruning, writes on a page, and
-//! the search along entries; and of the settings and steps of a session.
+//! Tests of what stands below the table: snapshots, verdicts, chains, pruning, writes on a page, and the search along entries.
 //!
 //! They stand apart from the crates that they test, so that none of these is checked a second time for their sake.
 #![tactic(auto)]
@@ -12,10 +11,6 @@ mod looking;
 mod pruning;
 #[cfg(test)]
 mod snapshots;
-#[cfg(test)]
-mod statuses;
-#[cfg(test)]
-mod steps;
 #[cfg(test)]
 mod table;
 #[cfg(test)]

@@ -1,9 +1,31 @@
 //! Ids that are given, finished and forgotten, each number reckoned by hand.
 
-use crate::table::{finish, holds, next_id, same, window};
+ghost use Rattle.xid_circle.specs.Circle.{IsNormal};
+
+use crate::calls::{holds, same};
 use commit_status::{GiveFault, Status, StatusTable, places_are_turns, tops_are_topmost};
+use std::alloc::Global;
 use std::test::Fail;
 use xid_circle::Xid;
+
+/// A table of statuses from this normal id on, of which at most so many may be given.
+fn window(alloc: Global, first: u32, stop_age: u16) -> StatusTable
+    requires { IsNormal first }
+{
+    StatusTable::new(alloc, Xid(first), u32::from(stop_age))
+}
+
+fn finish(table: &mut StatusTable, x: u32, status: Status) {
+    let x = Xid(x);
+    if table.remembers(x) && matches!(table.status(x), Status::InProgress) {
+        table.finish(&[x], status);
+    }
+}
+
+/// The id that is given next.
+fn next_id(table: &StatusTable) -> u32 {
+    table.next().0
+}
 
 fn make_room(table: &mut StatusTable, count: usize) -> bool {
     table.make_room(count).is_ok()

@@ -1,8 +1,14 @@
 //! Settings at the ends of their ranges, and copies of steps.
 
-use crate::table::same;
-use session_relation::{RowIn, Settings, SettingsFault, Step};
+use session_core::{RowIn, Settings, SettingsFault, Step};
 use std::alloc::Global;
+use std::fmt::Debug;
+use std::process::Abort;
+
+/// Asserts that the two are equal. It is a function, so that nothing is known of them afterwards.
+fn same<T: PartialEq + Debug + Drop>(rt: &impl Abort, left: T, right: T) {
+    assert_eq!(rt; left, right);
+}
 
 const LEAST: Settings = Settings {
     max_pages: 1,
