@@ -73,8 +73,8 @@ impl Engine {
         save(&mut self.sessions[s as usize])
     }
 
-    /// Sets a savepoint, to which the session can return. Refusals in order: NoSuchSession, NotOpen, Failed; TooDeep
-    /// where it has 32 already; NoMemory.
+    /// Sets a savepoint, to which the session can return. Refusals in order: NoSuchSession, NotOpen, Failed, CursorOpen;
+    /// TooDeep where it has 32 already; NoMemory.
     pub(crate) fn savepoint(&mut self, s: u8) -> Outcome
         ensures follows { Follows self.old (Step.Savepoint s) (reply_to result) self.new }
         ensures exact { Exact self.old (Step.Savepoint s) (reply_to result) self.new }
@@ -101,8 +101,8 @@ impl Engine {
     }
 
     /// Drops what the session has written since its newest savepoint, which it keeps; the session has not failed any
-    /// more. Refusals in order: NoSuchSession, NotOpen, NoSavepoint. It takes no memory. (The manual's "ROLLBACK TO
-    /// SAVEPOINT".)
+    /// more. Refusals in order: NoSuchSession, NotOpen, CursorOpen, NoSavepoint. It takes no memory. (The manual's
+    /// "ROLLBACK TO SAVEPOINT".)
     pub(crate) fn rollback_to(&mut self, s: u8) -> Outcome
         ensures follows { Follows self.old (Step.RollbackTo s) (reply_to result) self.new }
         ensures exact { Exact self.old (Step.RollbackTo s) (reply_to result) self.new }
@@ -133,7 +133,7 @@ impl Engine {
     }
 
     /// Forgets the newest savepoint; what was written since it belongs to the level below. Refusals in order:
-    /// NoSuchSession, NotOpen, Failed, NoSavepoint. It takes no memory. (The manual's "RELEASE SAVEPOINT".)
+    /// NoSuchSession, NotOpen, Failed, CursorOpen, NoSavepoint. It takes no memory. (The manual's "RELEASE SAVEPOINT".)
     pub(crate) fn release(&mut self, s: u8) -> Outcome
         ensures follows { Follows self.old (Step.Release s) (reply_to result) self.new }
         ensures exact { Exact self.old (Step.Release s) (reply_to result) self.new }
