@@ -9,7 +9,7 @@ ghost use Rattle.heap_write.specs.Indexes.{index_at, entries_of, entries_at, ent
 use root_index::{Entry, RootIndex};
 use std::alloc::{AllocError, Global};
 use std::marker::Model;
-use tuple_header::Row;
+use tuple_header::{Row, RowRef};
 use xid_circle::Tid;
 
 /// How many columns may have an index.
@@ -71,15 +71,16 @@ impl Indexes {
     }
 
     /// Whether two rows have the same value in each index in use.
-    pub(crate) fn same_values(&self, old: &Row, new: &Row) -> bool
+    pub(crate) fn same_values(&self, old: &RowRef<'_>, new: &Row) -> bool
         ensures { IsTrue result ↔ SameValues self.now old.now new.now }
     {
+        let cols = old.cols();
         for c in 0..COLUMNS {
-            if self.by_column[c].is_some() && old.cols[c] != new.cols[c] {
+            if self.by_column[c].is_some() && cols[c] != new.cols[c] {
                 return false;
             }
         }
-        old.key == new.key
+        old.key() == new.key
     }
 
     /// Makes room in memory for one more entry in each index in use.

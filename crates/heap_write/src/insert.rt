@@ -14,9 +14,9 @@ ghost use Rattle.heap_write.specs.Growth.{IsReady, target_number};
 
 use crate::heap::{HeapState, WriteFault};
 use crate::ids::{needs_freeze, reserve_ids, take_ids};
-use crate::target::{Target, put_version, reserve_place, size_of};
+use crate::target::{Target, put_version, reserve_place};
 use snapshot::OwnIds;
-use tuple_header::Row;
+use tuple_header::{Row, row_size};
 use xid_circle::{Tid, Xid};
 
 impl HeapState {
@@ -38,7 +38,7 @@ impl HeapState {
         if needs_freeze(&self.table, own) {
             return Err(WriteFault::NeedsFreeze);
         }
-        match reserve_place(self.alloc, &mut self.pages, size_of(row), self.max_pages) {
+        match reserve_place(self.alloc, &mut self.pages, row_size(row), self.max_pages) {
             Ok(Some(target)) => self.insert_at(target, own, row),
             Ok(None) => Err(WriteFault::NoRoom),
             Err(_) => Err(WriteFault::NoMemory),

@@ -1,6 +1,6 @@
 //! What a step looks for, through the index by key. None takes memory.
 
-ghost use Rattle.std.specs.Prelude.{pos, option_copied};
+ghost use Rattle.std.specs.Prelude.{pos};
 ghost use Rattle.visibility.specs.Visible.{IsVisible};
 ghost use Rattle.sound_entries.specs.Looking.{FirstFound, FirstPlace, IsMissed, IsForeign, IsIdOf};
 ghost use Rattle.heap_write.specs.Heap.{slots_of};
@@ -8,14 +8,13 @@ ghost use Rattle.heap_write.specs.Indexes.{entries_in};
 
 use crate::heap::HeapState;
 use snapshot::{OwnIds, Snapshot};
-use sound_entries::{holder_of, missed_of, place_of, row_of};
-use tuple_header::Row;
-use xid_circle::{Tid, Xid};
+use sound_entries::{Standing, row_of, standing_of};
+use tuple_header::RowRef;
 
 impl HeapState {
     /// The row of the key that the reader sees, where it stands.
-    pub fn row(&self, key: u64, snapshot: &Snapshot, own: &OwnIds) -> Option<&Row>
-        ensures { FirstFound self.now.table (IsVisible self.now.table snapshot.now own.now.ids) (slots_of self.now) (entries_in self.now.indexes 0) (pos key) key (option_copied result) }
+    pub fn row(&self, key: u64, snapshot: &Snapshot, own: &OwnIds) -> Option<RowRef<'_>>
+        ensures { FirstFound self.now.table (IsVisible self.now.table snapshot.now own.now.ids) (slots_of self.now) (entries_in self.now.indexes 0) (pos key) key result }
     {
         let value = i128::from(key);
         row_of(
@@ -29,47 +28,19 @@ impl HeapState {
         )
     }
 
-    /// The place of the version of the key that the reader sees.
-    pub fn place_of(&self, key: u64, snapshot: &Snapshot, own: &OwnIds) -> Option<Tid>
-        ensures { FirstPlace self.now.table (IsVisible self.now.table snapshot.now own.now.ids) (slots_of self.now) (entries_in self.now.indexes 0) (pos key) key result }
+    /// How the versions of the key stand to a session that is about to write it.
+    pub fn standing(&self, key: u64, snapshot: &Snapshot, own: &OwnIds) -> Standing
+        ensures place { FirstPlace self.now.table (IsVisible self.now.table snapshot.now own.now.ids) (slots_of self.now) (entries_in self.now.indexes 0) (pos key) key result.place }
+        ensures missed { IsIdOf self.now.table (IsMissed self.now.table snapshot.now) (slots_of self.now) (entries_in self.now.indexes 0) (pos key) key result.missed }
+        ensures holder { IsIdOf self.now.table (IsForeign self.now.table own.now.ids) (slots_of self.now) (entries_in self.now.indexes 0) (pos key) key result.holder }
     {
         let value = i128::from(key);
-        place_of(
+        standing_of(
             &self.pages,
             self.indexes.by_key(),
             value,
             key,
             snapshot,
-            own,
-            &self.table,
-        )
-    }
-
-    /// A committed id that made or deleted a version of the key, and that the snapshot does not see.
-    pub fn missed(&self, key: u64, snapshot: &Snapshot) -> Option<Xid>
-        ensures { IsIdOf self.now.table (IsMissed self.now.table snapshot.now) (slots_of self.now) (entries_in self.now.indexes 0) (pos key) key result }
-    {
-        let value = i128::from(key);
-        missed_of(
-            &self.pages,
-            self.indexes.by_key(),
-            value,
-            key,
-            snapshot,
-            &self.table,
-        )
-    }
-
-    /// An id in progress, none of these, that made or deleted a version of the key.
-    pub fn holder(&self, key: u64, own: &OwnIds) -> Option<Xid>
-        ensures { IsIdOf self.now.table (IsForeign self.now.table own.now.ids) (slots_of self.now) (entries_in self.now.indexes 0) (pos key) key result }
-    {
-        let value = i128::from(key);
-        holder_of(
-            &self.pages,
-            self.indexes.by_key(),
-            value,
-            key,
             own,
             &self.table,
         )

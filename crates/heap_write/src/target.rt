@@ -24,14 +24,6 @@ pub(crate) enum Target {
     New(Page),
 }
 
-/// How many bytes a version of the row takes on a page.
-pub(crate) fn size_of(row: &Row) -> usize
-    ensures value { result ≡ rounded_size_of row.now }
-    ensures limit { result ≤ 1096 }
-{
-    (66 + row.body.len()).next_multiple_of(8)
-}
-
 /// Makes room in memory for one more slot where none is unused.
 pub(crate) fn reserve_slot(page: &mut Page) -> Result<(), AllocError>
     ensures same { SamePage page.old page.new }

@@ -15,11 +15,11 @@ ghost use Rattle.heap_write.specs.Steps.{IsChosen, FailsReady};
 
 use crate::heap::{HeapState, WriteFault};
 use crate::ids::{needs_freeze, reserve_ids, take_ids};
-use crate::target::{Target, reserve_place, reserve_slot, size_of};
+use crate::target::{Target, reserve_place, reserve_slot};
 use page_writes::{move_away, update_here};
 use snapshot::OwnIds;
 use std::alloc::AllocError;
-use tuple_header::Row;
+use tuple_header::{Row, row_size};
 use xid_circle::{Tid, Xid};
 
 impl HeapState {
@@ -64,7 +64,7 @@ impl HeapState {
     fn has_room(&self, number: u32, row: &Row) -> bool
         ensures { IsTrue result ↔ (rounded_size_of row.now ≤ room_of (page_on self.now number).slots) }
     {
-        let size = size_of(row);
+        let size = row_size(row);
         match self.pages.page(number) {
             Some(page) => size <= page.room(),
             None => true,
@@ -77,7 +77,7 @@ impl HeapState {
     {
         match self.pages.page(place.page) {
             Some(page) => match page.row(place.slot) {
-                Some(old) => self.indexes.same_values(old, row),
+                Some(old) => self.indexes.same_values(&old, row),
                 None => true,
             },
             None => true,
@@ -152,7 +152,7 @@ impl HeapState {
         ensures window { IsWindow self.new.table }
         ensures normal { IfOk result (λ x. IsNormal x.0) }
     {
-        let reserved = self.reserve_update(own, place.page, size_of(row));
+        let reserved = self.reserve_update(own, place.page, row_size(row));
         self.table.is_window();
         match reserved {
             Ok(target) => {

@@ -1,7 +1,6 @@
 //! How cursors go on: along an index from place to place, and over a page from slot to slot. Nothing here takes memory.
 
-ghost use Rattle.std.specs.Prelude.{◌≡◌, ◌↔◌, ◌≤◌, ◌≤ℤ◌, length, Some, IsTrue, FitsSigned, option_copied};
-ghost use Rattle.std.specs.Option.{option_map};
+ghost use Rattle.std.specs.Prelude.{◌≡◌, ◌↔◌, ◌≤◌, ◌≤ℤ◌, length, Some, IsTrue, FitsSigned};
 ghost use Rattle.std.specs.Int.{w128};
 ghost use Rattle.root_index.specs.Sets.{IsLeast, IsBelow};
 ghost use Rattle.visibility.specs.Visible.{IsVisible};
@@ -16,7 +15,7 @@ use heap_pages::Pages;
 use root_index::{Entry, RootIndex};
 use snapshot::{OwnIds, Snapshot};
 use sound_entries::row_from;
-use tuple_header::Row;
+use tuple_header::RowRef;
 use visibility::visible_header;
 use xid_circle::Tid;
 
@@ -40,8 +39,13 @@ pub struct Span {
 impl HeapState {
     /// The first place of the span, in the order of the index, where the reader sees a row, and that row, where it stands.
     /// An index that is not in use has none.
-    pub fn next_row(&self, span: &Span, snapshot: &Snapshot, own: &OwnIds) -> Option<(Mark, &Row)>
-        ensures { NextRow self.now.table (IsVisible self.now.table snapshot.now own.now.ids) (slots_of self.now) (entries_in self.now.indexes span.now.index) span.now (option_map (λ found. (found.0, found.1.now)) result) }
+    pub fn next_row(
+        &self,
+        span: &Span,
+        snapshot: &Snapshot,
+        own: &OwnIds,
+    ) -> Option<(Mark, RowRef<'_>)>
+        ensures { NextRow self.now.table (IsVisible self.now.table snapshot.now own.now.ids) (slots_of self.now) (entries_in self.now.indexes span.now.index) span.now result }
     {
         match self.indexes.get(span.index) {
             Some(index) => next_row_in(&self.pages, index, span, snapshot, own, &self.table),
@@ -50,8 +54,8 @@ impl HeapState {
     }
 
     /// The row of the version at a place, where it stands, if the reader sees it.
-    pub fn seen_row(&self, place: Tid, snapshot: &Snapshot, own: &OwnIds) -> Option<&Row>
-        ensures { SeenRow (IsVisible self.now.table snapshot.now own.now.ids) (slots_of self.now) place (option_copied result) }
+    pub fn seen_row(&self, place: Tid, snapshot: &Snapshot, own: &OwnIds) -> Option<RowRef<'_>>
+        ensures { SeenRow (IsVisible self.now.table snapshot.now own.now.ids) (slots_of self.now) place result }
     {
         let page = match self.pages.page(place.page) {
             Some(page) => page,
@@ -174,8 +178,8 @@ fn next_row_in<'a>(
     snapshot: &Snapshot,
     own: &OwnIds,
     table: &StatusTable,
-) -> Option<(Mark, &'a Row)>
-    ensures { NextRow table.now (IsVisible table.now snapshot.now own.now.ids) (slots_in pages.now) index.now.entries span.now (option_map (λ found. (found.0, found.1.now)) result) }
+) -> Option<(Mark, RowRef<'a>)>
+    ensures { NextRow table.now (IsVisible table.now snapshot.now own.now.ids) (slots_in pages.now) index.now.entries span.now result }
 {
     index.is_ascending();
     let mut left = *span;

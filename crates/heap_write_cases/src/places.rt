@@ -22,7 +22,7 @@ fn row_at(
     own: &OwnIds,
 ) -> Option<(u64, i64)> {
     let row = heap.seen_row(place(page, slot), snapshot, own)?;
-    Some((row.key, row.cols[1]))
+    Some((row.key(), row.cols()[1]))
 }
 
 /// The key and the second column of the row at a place, for who has no ids and begins when this id is the next.

@@ -199,21 +199,21 @@ pub fn top_of(heap: &HeapState, x: u32) -> Xid {
     heap.table().top_of(Xid(x))
 }
 
-pub fn holder(heap: &HeapState, key: u64, own: &OwnIds) -> Option<Xid> {
-    heap.holder(key, own)
+pub fn holder(heap: &HeapState, key: u64, snapshot: &Snapshot, own: &OwnIds) -> Option<Xid> {
+    heap.standing(key, snapshot, own).holder
 }
 
-pub fn missed(heap: &HeapState, key: u64, snapshot: &Snapshot) -> Option<Xid> {
-    heap.missed(key, snapshot)
+pub fn missed(heap: &HeapState, key: u64, snapshot: &Snapshot, own: &OwnIds) -> Option<Xid> {
+    heap.standing(key, snapshot, own).missed
 }
 
 /// The first column of the row of the key.
 pub fn first(heap: &HeapState, key: u64, snapshot: &Snapshot, own: &OwnIds) -> Option<i64> {
-    Some(heap.row(key, snapshot, own)?.cols[0])
+    Some(heap.row(key, snapshot, own)?.cols()[0])
 }
 
 pub fn place_of(heap: &HeapState, key: u64, snapshot: &Snapshot, own: &OwnIds) -> Option<Tid> {
-    heap.place_of(key, snapshot, own)
+    heap.standing(key, snapshot, own).place
 }
 
 /// How many entries the index of this number has, if it is in use.

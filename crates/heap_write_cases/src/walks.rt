@@ -48,7 +48,7 @@ fn next_row(
     own: &OwnIds,
 ) -> Option<(Mark, u64, i64)> {
     let (mark, row) = heap.next_row(span, snapshot, own)?;
-    Some((mark, row.key, row.cols[0]))
+    Some((mark, row.key(), row.cols()[0]))
 }
 
 /// Whether a walk finds rows with these first columns and these keys, in this order, each at the place of its value and key,

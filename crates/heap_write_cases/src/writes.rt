@@ -36,11 +36,11 @@ fn who_holds_a_key_and_what_is_missed(rt: HostRuntime) {
     let nobody = session(rt.alloc());
     let before = begun(rt.alloc(), Xid(3));
     same(&rt, insert(&mut heap, &mut own, row(7, 70, 0)), Ok(Xid(3)));
-    same(&rt, holder(&heap, 7, &nobody), Some(Xid(3)));
+    same(&rt, holder(&heap, 7, &before, &nobody), Some(Xid(3)));
     finish(&mut heap, Xid(3), Status::Committed);
-    same(&rt, holder(&heap, 7, &nobody), None);
-    same(&rt, missed(&heap, 7, &before), Some(Xid(3)));
-    same(&rt, missed(&heap, 8, &before), None);
+    same(&rt, holder(&heap, 7, &before, &nobody), None);
+    same(&rt, missed(&heap, 7, &before, &nobody), Some(Xid(3)));
+    same(&rt, missed(&heap, 8, &before, &nobody), None);
 }
 
 /// What an insert and an update answer that find no room, and an update and a delete of what is not there.
@@ -112,12 +112,12 @@ fn a_deleted_row(rt: HostRuntime) {
     same(&rt, insert(&mut heap, &mut own, row(1, 10, 0)), Ok(Xid(3)));
     finish(&mut heap, Xid(3), Status::Committed);
     same(&rt, delete(&mut heap, &mut next, place(0, 1)), Ok(Xid(4)));
-    same(&rt, holder(&heap, 1, &nobody), Some(Xid(4)));
+    let before = begun(rt.alloc(), Xid(4));
+    same(&rt, holder(&heap, 1, &before, &nobody), Some(Xid(4)));
     same(&rt, count(&heap, 0), Some(1));
     finish(&mut heap, Xid(4), Status::Committed);
-    let before = begun(rt.alloc(), Xid(4));
     let after = begun(rt.alloc(), Xid(5));
     same(&rt, first(&heap, 1, &before, &nobody), Some(10));
     same(&rt, first(&heap, 1, &after, &nobody), None);
-    same(&rt, missed(&heap, 1, &before), Some(Xid(4)));
+    same(&rt, missed(&heap, 1, &before, &nobody), Some(Xid(4)));
 }

@@ -6,5 +6,5 @@ mod roots;
 mod walk;
 
 pub use fetching::fetch;
-pub use roots::root_of;
-pub use walk::{chain, chain_is_one};
+pub use roots::{is_root, root_of};
+pub use walk::{chain, chain_is_one, list_chain};

@@ -5,16 +5,15 @@ ghost use Rattle.hot_chain.specs.Chain.{has_aborted, is_root, LeadsTo, IsLowestR
 
 use crate::walk::chain;
 use commit_status::StatusTable;
-use page_slots::{Page, Slot};
+use page_slots::Page;
 
 /// Whether an index entry may lead to a slot: it holds a version that isn't heap-only, or is a redirect.
-fn is_root(page: &Page, number: u16) -> bool
+pub fn is_root(page: &Page, number: u16) -> bool
     ensures { result ≡ is_root page.now.slots number }
 {
-    match page.get(number) {
-        Some(Slot::Normal(version)) => !version.header.is_heap_only(),
-        Some(Slot::Redirect(_)) => true,
-        _ => false,
+    match page.header(number) {
+        Some(header) => !header.is_heap_only(),
+        None => page.redirect(number).is_some(),
     }
 }
 

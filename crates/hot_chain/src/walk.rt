@@ -8,7 +8,7 @@ ghost use Rattle.hot_chain.specs.Laws.{ChainIsOne};
 
 use arrayvec::ArrayVec;
 use commit_status::{Status, StatusTable};
-use page_slots::{Page, Slot};
+use page_slots::Page;
 use tuple_header::Header;
 use xid_circle::Xid;
 
@@ -23,13 +23,10 @@ fn first(page: &Page, number: u16) -> Option<u16>
     ensures value { result ≡ first_of page.now.slots number }
     ensures there { IfSome result (λ n. IsThere page.now.slots n) }
 {
-    match page.get(number) {
-        Some(Slot::Normal(_)) => Some(number),
-        Some(Slot::Redirect(target)) => match page.header(*target) {
-            Some(_) => Some(*target),
-            None => None,
-        },
-        _ => None,
+    let to = page.redirect(number).unwrap_or(number);
+    match page.header(to) {
+        Some(_) => Some(to),
+        None => None,
     }
 }
 
@@ -57,12 +54,12 @@ fn next(page: &Page, number: u16, table: &StatusTable) -> Option<u16>
     }
 }
 
-/// The slots of the chain that a slot leads to, in order, on any page. It takes no memory.
-pub fn chain(page: &Page, number: u16, table: &StatusTable) -> ArrayVec<u16, 292>
-    ensures { IsChain (has_aborted table.now) page.now.slots number result.items }
+/// Lists the slots of the chain that a slot leads to, in order, on any page. What was in the list goes. It takes no memory.
+pub fn list_chain(page: &Page, number: u16, table: &StatusTable, visited: &mut ArrayVec<u16, 292>)
+    ensures { IsChain (has_aborted table.now) page.now.slots number visited.new.items }
 {
     let _count = page.slots();
-    let mut visited: ArrayVec<u16, 292> = ArrayVec::new();
+    visited.clear();
     let mut at = first(page, number);
     'walk: while let Some(n) = at {
         if visited.contains(&n) {
@@ -71,7 +68,16 @@ pub fn chain(page: &Page, number: u16, table: &StatusTable) -> ArrayVec<u16, 292
         visited.push(n);
         at = next(page, n, table);
     }
-    visited
+}
+
+/// The slots of the chain that a slot leads to, in order, on any page: a list of over half a kilobyte, which is handed on by
+/// value, where [`list_chain`] fills one that is there. It takes no memory.
+pub fn chain(page: &Page, number: u16, table: &StatusTable) -> ArrayVec<u16, 292>
+    ensures { IsChain (has_aborted table.now) page.now.slots number result.items }
+{
+    let mut listed: ArrayVec<u16, 292> = ArrayVec::new();
+    list_chain(page, number, table, &mut listed);
+    listed
 }
 
 /// The law of chains: a slot has one. It does nothing; its contract is the law.

@@ -4,13 +4,15 @@ use Rattle.std.proofs.lemmas.Bool.{cases_Bool, lt-ltb}
 use Rattle.std.proofs.lemmas.List.Sums.{sum_by-set}
 use Rattle.std.proofs.lemmas.List.Folds.{position_or_len-set}
 use Rattle.std.specs.List.{position_or_len}
-use Rattle.std.proofs.lemmas.List.{get_or_default}
+use Rattle.std.proofs.lemmas.Option.{slice_get-get_or}
+use Rattle.std.specs.Prelude.{Option, Some, None, slice_get, unwrap_or}
+use Rattle.std.specs.Option.{option_map, option_and_then}
 use Rattle.std.proofs.Math.ListN.{length-set}
 use Rattle.page_slots.specs.declared.slot.Slot.{Slot}
-use Rattle.page_slots.specs.declared.slot.Slot.TheVariants.{Unused, Normal}
-use Rattle.tuple_header.specs.Version.{Version}
+use Rattle.page_slots.specs.declared.slot.Slot.TheVariants.{Unused, Normal, Redirect, Dead}
+use Rattle.page_slots.specs.Hints.{same_but_hints}
 use Rattle.tuple_header.specs.declared.version.Header.{Header}
-use Rattle.page_slots.specs.Slots.{is_unused, taken, IsThere, the_slot, with_header_at, has_unused, free_number, with_added, free_bytes, room_of}
+use Rattle.page_slots.specs.Slots.{is_unused, taken, version_of, with_header, has_unused, free_number, with_added, free_bytes, room_of, differs_in_hints_alone}
 use Rattle.page_slots.proofs.SlotLemmas.{free_number-new, length-with_added}
 use Rattle.page_slots.proofs.FreeLemmas.{taken-after_added}
 
@@ -45,19 +47,45 @@ kept_added slots free bytes next s some fits place first kept =
     (omega arith, omega arith, first, omega arith))
     (cases_Bool (has_unused slots))
 
--- an element that is there does not depend on the default
-pub any_default : (slots : List Slot) (i : ℕ) (x d : Slot) → i < length slots → x ≡ get_or slots i x → get_or slots i d ≡ x
-any_default slots i x d within e = get_or_default slots i d x within ∙ sym e
+header-same_size : (s : Slot) (h : Header) → taken (with_header s h) ≡ taken s
+header-same_size Unused h = refl
+header-same_size (Normal t) h = refl
+header-same_size (Redirect target) h = refl
+header-same_size Dead h = refl
 
--- the slot that was read at an index is that of the number
-pub the_slot-read : (slots : List Slot) (n index : ℕ) (x : Slot) (t : Version) → IsThere slots n → index ≡ n
-    → x ≡ get_or slots (index - 1) x → x ≡ Normal t → the_slot slots n ≡ Normal t
-the_slot-read slots n index x t there same read is =
-    let within : n - 1 < length slots = omega (arith, there.0, there.1) in
-    let at : x ≡ get_or slots (n - 1) x = rw (← same) read in
-    any_default slots (n - 1) x Unused within at ∙ is
+header-same_kind : (s : Slot) (h : Header) → is_unused (with_header s h) ≡ is_unused s
+header-same_kind Unused h = refl
+header-same_kind (Normal t) h = refl
+header-same_kind (Redirect target) h = refl
+header-same_kind Dead h = refl
 
--- the version's header written in its place
-pub header_written : (slots : List Slot) (n index : ℕ) (t u : Version) (h : Header) → index ≡ n → the_slot slots n ≡ Normal t → u ≡ t
-    → set slots (index - 1) (Normal (record { header = h; row = u.row })) ≡ with_header_at slots n h
-header_written slots n index t u h same is v = rw (same, is, v) refl
+-- another header changes none of this
+pub kept_header : (slots : List Slot) (free bytes i : ℕ) (h : Header) → i < length slots → IsKept slots free bytes
+    → IsKept (set slots i (with_header (get_or slots i Unused) h)) free bytes
+kept_header slots free bytes i h within kept =
+    let old = get_or slots i Unused in
+    kept_as_before slots free bytes i old (with_header old h) within refl (header-same_size old h) (header-same_kind old h) kept
+
+abbrev header_of : Slot → Option Header
+header_of s = option_map (λ t. t.header) (version_of s)
+
+hints-slot_some : (s : Slot) (old h : Header) → header_of s ≡ Some old → differs_in_hints_alone s h ≡ same_but_hints old h
+hints-slot_some Unused old h e = absurd (cc e)
+hints-slot_some (Normal t) old h e = ap (λ (o : Option Header). same_but_hints (unwrap_or o old) h) e
+hints-slot_some (Redirect target) old h e = absurd (cc e)
+hints-slot_some Dead old h e = absurd (cc e)
+
+hints-slot_none : (s : Slot) (h : Header) → header_of s ≡ None → differs_in_hints_alone s h ≡ true
+hints-slot_none Unused h e = refl
+hints-slot_none (Normal t) h e = absurd (cc e)
+hints-slot_none (Redirect target) h e = refl
+hints-slot_none Dead h e = refl
+
+-- whether another header changes hints alone is read off the one that is there
+pub hints-some : (slots : List Slot) (i : ℕ) (old h : Header) → i < length slots → option_map (λ t. t.header) (option_and_then version_of (slice_get slots i)) ≡ Some old
+    → differs_in_hints_alone (get_or slots i Unused) h ≡ same_but_hints old h
+hints-some slots i old h within e = hints-slot_some (get_or slots i Unused) old h (rw (slice_get-get_or slots i Unused within) at e)
+
+pub hints-none : (slots : List Slot) (i : ℕ) (h : Header) → i < length slots → option_map (λ t. t.header) (option_and_then version_of (slice_get slots i)) ≡ None
+    → differs_in_hints_alone (get_or slots i Unused) h ≡ true
+hints-none slots i h within e = hints-slot_none (get_or slots i Unused) h (rw (slice_get-get_or slots i Unused within) at e)

@@ -1,3 +1,4 @@
+pub mod BodyLemmas
 pub mod FreeLemmas
 pub mod Kept
 pub mod SlotLemmas

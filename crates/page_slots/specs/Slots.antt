@@ -36,6 +36,13 @@ version_of (Normal t) = Some t
 version_of (Redirect target) = None
 version_of Dead = None
 
+-- where a slot leads, if it is a redirect
+abbrev pub target_of : Slot → Option ℕ
+target_of Unused = None
+target_of (Normal t) = None
+target_of (Redirect target) = Some target
+target_of Dead = None
+
 -- What stands at a number.
 
 -- the slot of this number, if there is one
@@ -56,6 +63,10 @@ row_at slots n = option_map (λ t. t.row) (version_at slots n)
 
 abbrev pub key_at : List Slot → ℕ → Option ℕ
 key_at slots n = option_map (λ t. t.row.key) (version_at slots n)
+
+-- where the slot of this number leads, if it is there and a redirect
+abbrev pub redirect_at : List Slot → ℕ → Option ℕ
+redirect_at slots n = option_and_then target_of (slot_at slots n)
 
 -- whether there is a slot of this number
 abbrev pub IsThere : List Slot → ℕ → Type 0

@@ -6,14 +6,20 @@
 //! nothing but what it names, that [`Page::add`] takes the lowest unused slot and is full exactly where the version is
 //! larger than the room, and that each slot that is afterwards not the same otherwise than in hints raises the change
 //! number by one, modulo 2^64. A page knows its first unused slot and how many bytes its versions take, so [`Page::room`]
-//! and [`Page::free_number`] go through no slots. What stands at a number, the room and the change number are defined in
-//! `specs/Slots.antt`, hints in `specs/Hints.antt`; `proofs/SlotLemmas.antt` says, for the crates above, what each change
-//! does to the map from numbers to slots.
+//! and [`Page::free_number`] go through no slots. The bodies of its versions stand apart from its slots, one behind the
+//! other, and are moved together only where there is no room behind the last (`store.rt`, `packing.rt`); so a slot takes 80
+//! bytes, a row is looked at where it stands ([`Page::row`]), and [`Page::slot`] makes a copy. What stands at a number, the
+//! room and the change number are defined in `specs/Slots.antt`, hints in `specs/Hints.antt`, and how a page keeps what its
+//! contract shows in `specs/Store.antt`; `proofs/SlotLemmas.antt` says, for the crates above, what each change does to the
+//! map from numbers to slots.
 #![tactic(auto)]
 
 mod hints;
+mod item;
+mod packing;
 mod page;
 mod slot;
+mod store;
 
 pub use page::{AddFault, Page};
 pub use slot::Slot;

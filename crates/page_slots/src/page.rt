@@ -1,16 +1,19 @@
 //! Pages.
 
-ghost use Rattle.std.specs.Prelude.{◌≡◌, ◌≤◌, ◌<◌, ◌+◌, ◌%◌, ◌^◌, ℕ, IsTrue, [], true, false, length, OnOk, OnErr, IfOk, IfSome, IsSome, ◌↔◌, None, if◌then◌else◌, option_copied};
+ghost use Rattle.std.specs.Prelude.{◌≡◌, ◌≤◌, ◌<◌, ◌+◌, ◌%◌, ◌^◌, ℕ, IsTrue, [], true, false, length, OnOk, OnErr, IfOk, IfSome, IsSome, ◌↔◌, None, MatchOption, if◌then◌else◌};
 ghost use Rattle.tuple_header.specs.Version.{rounded_size_of};
 ghost use Rattle.tuple_header.specs.Faults.{header_fault};
-ghost use Rattle.page_slots.specs.Slots.{is_unused, is_dead, leads_to, slot_at, header_at, row_at, key_at, IsThere, IsNormalAt, the_slot, with_slot, with_header_at, has_unused, free_number, with_added, taken, room_of, next_change, change_unless, differs_in_hints_alone};
+ghost use Rattle.page_slots.specs.Store.{slot_in, is_bare};
+ghost use Rattle.page_slots.specs.Slots.{is_unused, is_dead, leads_to, slot_at, header_at, row_at, key_at, redirect_at, IsThere, IsNormalAt, the_slot, with_slot, with_header_at, has_unused, free_number, with_added, room_of, next_change, change_unless, differs_in_hints_alone};
 
 use crate::hints::differ_in_hints_alone;
-use crate::slot::{Slot, first_unused_from, taken_by};
+use crate::item::Item;
+use crate::slot::Slot;
+use crate::store::Store;
 use std::alloc::{AllocError, Global};
 use std::marker::Model;
 use thiserror::Error;
-use tuple_header::{Header, Row, Tuple, size};
+use tuple_header::{Header, Row, RowRef, Tuple, row_size};
 
 /// Why a version was not added.
 #[derive(Clone, Copy, Debug, PartialEq, Eq, Error)]
@@ -26,7 +29,7 @@ pub enum AddFault {
 /// A page of the table: at most 291 slots, whose pointers and versions take at most 8168 bytes.
 #[derive(Debug, Drop)]
 pub struct Page {
-    slots: Vec<Slot>,
+    slots: Store,
     // The index of the first unused slot, or how many slots there are.
     free: usize,
     // How many bytes the versions take.
@@ -36,7 +39,7 @@ pub struct Page {
 }
 
 impl Model for Page {
-    ghost use Rattle.std.specs.Prelude.{◌-◌, ◌+◌, ◌*◌, ◌≤◌, vec_len, vec_capacity, length, sum_by};
+    ghost use Rattle.std.specs.Prelude.{◌+◌, ◌*◌, ◌≤◌, length, sum_by};
     ghost use Rattle.page_slots.specs.View.{PageView};
 
     ghost Value = { PageView };
@@ -45,10 +48,10 @@ impl Model for Page {
     ghost use Rattle.std.specs.List.{position_or_len};
     ghost use Rattle.page_slots.specs.Slots.{is_unused, taken};
 
-    ghost view = { λ p. record { slots = p.slots.items; change = p.change; flag = p.flag; spare = vec_capacity p.slots - vec_len p.slots } };
+    ghost view = { λ p. record { slots = p.slots.slots; change = p.change; flag = p.flag; spare = p.slots.spare } };
 
-    ghost invariant = { λ p. (length p.slots.items ≤ 291) × (4 * length p.slots.items + sum_by taken p.slots.items ≤ 8168)
-        × (p.free ≡ position_or_len is_unused p.slots.items) × (p.taken_bytes ≡ sum_by taken p.slots.items) };
+    ghost invariant = { λ p. (length p.slots.slots ≤ 291) × (4 * length p.slots.slots + sum_by taken p.slots.slots ≤ 8168)
+        × (p.free ≡ position_or_len is_unused p.slots.slots) × (p.taken_bytes ≡ sum_by taken p.slots.slots) };
 }
 
 impl Page {
@@ -59,7 +62,7 @@ impl Page {
         ensures flag { result.flag ≡ false }
     {
         Page {
-            slots: Vec::new(alloc),
+            slots: Store::new(alloc),
             free: 0,
             taken_bytes: 0,
             change: 0,
@@ -96,23 +99,12 @@ impl Page {
         self.flag = flag;
     }
 
-    /// The slot of this number, where it stands, if there is one.
-    pub fn get(&self, number: u16) -> Option<&Slot>
-        ensures value { option_copied result ≡ slot_at self.now.slots number }
-        ensures there { IsSome result ↔ IsThere self.now.slots number }
-    {
-        if number == 0 || usize::from(number) > self.slots.len() {
-            return None;
-        }
-        Some(&self.slots[usize::from(number) - 1])
-    }
-
     /// The slot of this number, by value, if there is one. It takes no memory.
     pub fn slot(&self, number: u16) -> Option<Slot>
         ensures value { result ≡ slot_at self.now.slots number }
         ensures there { IsSome result ↔ IsThere self.now.slots number }
     {
-        Some(self.get(number)?.copy())
+        self.slots.slot(index_of(number)?)
     }
 
     /// The header of the version in the slot of this number, if that is there and normal.
@@ -122,7 +114,7 @@ impl Page {
         ensures normal { IsSome result ↔ IsNormalAt self.now.slots number }
         ensures faultless { IfSome result (λ header. header_fault header ≡ None) }
     {
-        self.get(number)?.header()
+        self.slots.header(index_of(number)?)
     }
 
     /// The key of the version in the slot of this number, if that is there and normal.
@@ -131,16 +123,24 @@ impl Page {
         ensures there { IsSome result → IsThere self.now.slots number }
         ensures normal { IsSome result ↔ IsNormalAt self.now.slots number }
     {
-        self.get(number)?.key()
+        self.slots.key(index_of(number)?)
     }
 
     /// The row of the version in the slot of this number, where it stands, if that is there and normal.
-    pub fn row(&self, number: u16) -> Option<&Row>
-        ensures value { option_copied result ≡ row_at self.now.slots number }
+    pub fn row(&self, number: u16) -> Option<RowRef<'_>>
+        ensures value { result ≡ row_at self.now.slots number }
         ensures there { IsSome result → IsThere self.now.slots number }
         ensures normal { IsSome result ↔ IsNormalAt self.now.slots number }
     {
-        self.get(number)?.row()
+        self.slots.row(index_of(number)?)
+    }
+
+    /// Where the slot of this number leads, if that is there and a redirect.
+    pub fn redirect(&self, number: u16) -> Option<u16>
+        ensures value { result ≡ redirect_at self.now.slots number }
+        ensures there { IsSome result → IsThere self.now.slots number }
+    {
+        self.slots.redirect(index_of(number)?)
     }
 
     /// The number that the next version added gets: of the lowest unused slot, or else of a new last one. It is 292 where
@@ -173,6 +173,13 @@ impl Page {
     }
 }
 
+/// The index in the list of slots that this number stands for, unless it is 0.
+fn index_of(number: u16) -> Option<usize>
+    ensures { MatchOption result (number ≡ 0) (λ index. number ≡ index + 1) }
+{
+    usize::from(number).checked_sub(1)
+}
+
 /// Counts one more change.
 fn raise(change: &mut u64)
     ensures { change.new ≡ next_change change.old }
@@ -198,19 +205,40 @@ impl Page {
         ensures err_change { OnErr result (self.new.change ≡ self.old.change) }
         ensures err_spare { OnErr result (self.old.spare ≤ self.new.spare) }
     {
-        let bytes = size(&version);
+        self.add_row(version.header, &version.row)
+    }
+
+    /// Adds a version with this header of this row, which it copies nowhere but into its place: in the lowest unused slot, or else in a new last one, and answers the slot's number. It is full
+    /// exactly where the version's size is over the room.
+    pub fn add_row(&mut self, header: Header, row: &Row) -> Result<u16, AddFault>
+        requires faultless { header_fault header ≡ None }
+        ensures full { (result ≡ Err AddFault.Full) ↔ (room_of self.old.slots < rounded_size_of row.now) }
+        ensures memory { result ≡ Err AddFault.NoMemory → self.old.spare ≡ 0 }
+        ensures memory_only_to_grow { result ≡ Err AddFault.NoMemory → has_unused self.old.slots ≡ false }
+        ensures number { IfOk result (λ n. n ≡ free_number self.old.slots) }
+        ensures limit { IfOk result (λ n. n ≤ 291) }
+        ensures slots { OnOk result (self.new.slots ≡ with_added self.old.slots (Slot.Normal (record { header = header; row = row.now }))) }
+        ensures change { OnOk result (self.new.change ≡ next_change self.old.change) }
+        ensures spare { OnOk result (self.old.spare ≤ self.new.spare + 1) }
+        ensures spare_kept { has_unused self.old.slots ≡ true → self.old.spare ≤ self.new.spare }
+        ensures flag { self.new.flag ≡ self.old.flag }
+        ensures err_slots { OnErr result (self.new.slots ≡ self.old.slots) }
+        ensures err_change { OnErr result (self.new.change ≡ self.old.change) }
+        ensures err_spare { OnErr result (self.old.spare ≤ self.new.spare) }
+    {
+        let bytes = row_size(row);
         if bytes > self.room() {
             return Err(AddFault::Full);
         }
         let index = self.free;
         if index < self.slots.len() {
-            self.slots[index] = Slot::Normal(version);
+            self.slots.put_version(index, header, row);
         } else {
             self.slots
-                .push(Slot::Normal(version))
+                .push_version(header, row)
                 .map_err(|_| AddFault::NoMemory)?;
         }
-        self.free = first_unused_from(&self.slots, index + 1);
+        self.free = self.slots.first_unused_from(index + 1);
         self.taken_bytes += bytes;
         raise(&mut self.change);
         Ok(index as u16 + 1)
@@ -225,7 +253,7 @@ impl Page {
         ensures change { self.new.change ≡ self.old.change }
         ensures flag { self.new.flag ≡ self.old.flag }
     {
-        self.slots.try_reserve(count)
+        self.slots.make_room(count)
     }
 
     /// Gives the version in the slot of this number another header. The change number is raised where the header differs
@@ -239,12 +267,13 @@ impl Page {
         ensures spare { self.new.spare ≡ self.old.spare }
     {
         let index = usize::from(number) - 1;
-        if let Slot::Normal(version) = &mut self.slots[index] {
-            let hints_alone = differ_in_hints_alone(&version.header, &header);
-            version.header = header;
-            if !hints_alone {
-                raise(&mut self.change);
-            }
+        let hints_alone = match self.slots.header(index) {
+            Some(old) => differ_in_hints_alone(&old, &header),
+            None => true,
+        };
+        self.slots.set_header(index, header);
+        if !hints_alone {
+            raise(&mut self.change);
         }
     }
 
@@ -256,8 +285,8 @@ impl Page {
           change = change_unless (is_unused (the_slot self.old.slots number)) self.old.change;
         } }
     {
-        let same = self.slots[usize::from(number) - 1].is_unused();
-        self.put(number, Slot::Unused, same);
+        let same = self.slots.is_unused(usize::from(number) - 1);
+        self.put(number, Item::Unused, same);
     }
 
     /// Makes the slot of this number dead. The change number is raised where it was not dead.
@@ -268,8 +297,8 @@ impl Page {
           change = change_unless (is_dead (the_slot self.old.slots number)) self.old.change;
         } }
     {
-        let same = self.slots[usize::from(number) - 1].is_dead();
-        self.put(number, Slot::Dead, same);
+        let same = self.slots.is_dead(usize::from(number) - 1);
+        self.put(number, Item::Dead, same);
     }
 
     /// Makes the slot of this number lead to the slot `target`. The change number is raised where it did not lead there.
@@ -281,28 +310,28 @@ impl Page {
           change = change_unless (leads_to target (the_slot self.old.slots number)) self.old.change;
         } }
     {
-        let same = self.slots[usize::from(number) - 1].leads_to(target);
-        self.put(number, Slot::Redirect(target), same);
+        let same = self.slots.leads_to(usize::from(number) - 1, target);
+        self.put(number, Item::Redirect(target), same);
     }
 
-    // Puts a slot that takes no bytes in the place of its number.
-    fn put(&mut self, number: u16, slot: Slot, same: bool)
+    // Puts a slot without a version in the place of its number.
+    fn put(&mut self, number: u16, item: Item, same: bool)
         requires there { IsThere self.old.slots number }
-        requires no_larger { taken slot ≡ 0 }
+        requires bare { is_bare item ≡ true }
         ensures { self.new ≡ record self.old {
-          slots = with_slot self.old.slots number slot;
+          slots = with_slot self.old.slots number (slot_in [] item);
           change = change_unless same self.old.change;
         } }
     {
         let index = usize::from(number) - 1;
-        let from = if slot.is_unused() {
+        let from = if item.is_unused() {
             self.free.min(index)
         } else {
             self.free
         };
-        self.taken_bytes -= taken_by(&self.slots[index]);
-        self.slots[index] = slot;
-        self.free = first_unused_from(&self.slots, from);
+        self.taken_bytes -= self.slots.taken(index);
+        self.slots.put(index, item);
+        self.free = self.slots.first_unused_from(from);
         if !same {
             raise(&mut self.change);
         }

@@ -11,7 +11,7 @@ ghost use Rattle.page_writes.specs.Writes.{with_replaced, replaced_change, with_
 
 use crate::headers::{heap_only, replaced, root};
 use page_slots::Page;
-use tuple_header::{Header, Row, Tuple};
+use tuple_header::{Header, Row};
 use xid_circle::{Tid, Xid};
 
 /// Adds a version.
@@ -25,10 +25,7 @@ fn add(page: &mut Page, header: Header, row: &Row)
     ensures spare { page.old.spare ≤ page.new.spare + 1 }
     ensures spare_kept { has_unused page.old.slots ≡ true → page.old.spare ≤ page.new.spare }
 {
-    match page.add(Tuple {
-        header,
-        row: row.copy(),
-    }) {
+    match page.add_row(header, row) {
         Ok(_) => {}
         Err(_) => unreachable!(),
     }

@@ -11,10 +11,10 @@ ghost use Rattle.prune.specs.Checks.{HasFront, Checks};
 ghost use Rattle.prune.specs.Named.{named_at, IsNamedFront, BecomesUnused, IsLooseRight};
 
 use crate::action::{Action, PrunePlan};
-use crate::marks::{Mark, Marks, cut_count, is_root, marks_of, root_action};
+use crate::marks::{Mark, Marks, cut_count, marks_of, root_action};
 use crate::planning::loose_action;
 use commit_status::StatusTable;
-use hot_chain::chain;
+use hot_chain::{chain, is_root};
 use page_slots::Page;
 use xid_circle::Xid;
 

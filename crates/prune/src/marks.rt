@@ -10,8 +10,8 @@ ghost use Rattle.prune.specs.Marks.{AreNumbers, mark_at, MarksChain, IsMark};
 
 use crate::action::Action;
 use commit_status::StatusTable;
-use hot_chain::chain;
-use page_slots::{Page, Slot};
+use hot_chain::{chain, is_root};
+use page_slots::Page;
 use visibility::{Fate, fate_of};
 use xid_circle::Xid;
 
@@ -26,16 +26,6 @@ pub(crate) enum Mark {
 
 /// A mark for each number from 0 to 291.
 pub(crate) type Marks = [Mark; 292];
-
-/// Whether an index entry may lead to a slot: it holds a version that isn't heap-only, or is a redirect.
-pub(crate) fn is_root(page: &Page, number: u16) -> bool
-    ensures { result ≡ is_root page.now.slots number }
-{
-    match page.header(number) {
-        Some(header) => !header.is_heap_only(),
-        None => matches!(page.get(number), Some(Slot::Redirect(_))),
-    }
-}
 
 /// Whether a slot holds a dead version.
 fn is_dead_at(page: &Page, number: u16, table: &StatusTable, horizon: Xid) -> bool

@@ -143,8 +143,8 @@ impl Counts {
     /// Counts the slots of the page of this number.
     pub(crate) fn add_page(&mut self, page: &Page, number: u32) {
         for slot in 1..page.slots() + 1 {
-            if let Some(slot) = page.get(slot) {
-                self.add(place_of_slot(slot, number));
+            if let Some(slot) = page.slot(slot) {
+                self.add(place_of_slot(&slot, number));
             }
         }
     }

@@ -83,8 +83,8 @@ fn slots(out: &mut Vec<u8>, page: &Page) -> Result<(), AllocError>
     ensures { OnOk result (out.new.items ≡ out.old.items ++ slot_lines (length page.now.slots) page.now.slots) }
 {
     for i in 0..page.slots() {
-        if let Some(one) = page.get(i + 1) {
-            slot_line(out, i + 1, one)?;
+        if let Some(one) = page.slot(i + 1) {
+            slot_line(out, i + 1, &one)?;
         }
     }
     Ok(())

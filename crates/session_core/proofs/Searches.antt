@@ -2,7 +2,7 @@
 use Rattle.session_core.proofs.InUse.{by-key}
 use Rattle.heap_write.specs.Indexes.{entries_in}
 use Rattle.std.proofs.Common.{◌≡◌, ◌≢◌, ℕ, List, Option, Some, None, Bool, true, false, refl, sym, ap, ◌∙◌, subst, inl, inr, cond}
-use Rattle.std.specs.Prelude.{pos, Contains, IsSome, ◌==◌}
+use Rattle.std.specs.Prelude.{pos, Contains, IsSome, MatchOption, ◌==◌}
 use Rattle.std.specs.Option.{option_map}
 use Rattle.std.proofs.lemmas.Bool.{cases_Bool, cond-false, eq-eqb, ne_eqb}
 use Rattle.std.proofs.lemmas.Option.{same_Some, none-some}
@@ -10,6 +10,7 @@ use Rattle.tuple_header.specs.declared.version.Row.{Row}
 use Rattle.tuple_header.specs.Version.{Version}
 use Rattle.tuple_header.specs.Marks.{is_frozen}
 use Rattle.xid_circle.specs.declared.Tid.{Tid}
+use Rattle.xid_circle.specs.declared.Xid.{Xid}
 use Rattle.commit_status.specs.declared.status.Status.{Status}
 use Rattle.commit_status.specs.declared.status.Status.TheVariants.{InProgress}
 use Rattle.commit_status.specs.Window.{Window, place, status_of}
@@ -21,7 +22,7 @@ use Rattle.sound_entries.specs.Leading as search
 use Rattle.sound_entries.specs.Looking.{FirstFound}
 use Rattle.sound_entries.proofs.Fetching.{found-on_heap, place-on_heap}
 use Rattle.sound_entries.proofs.Among.{missed-on_heap, foreign-on_heap}
-use Rattle.heap_write.specs.Heap.{slots_of, key_value}
+use Rattle.heap_write.specs.Heap.{HeapView, slots_of, key_value}
 use Rattle.history.specs.World.{World}
 use Rattle.session_relation.specs.Heap as relation
 use Rattle.session_relation.specs.Visible.{maker, deleter, Reads, by_itself, by_others, IsVisible, Touches, made_by, deleted_by, IsActive}
@@ -35,6 +36,14 @@ use Rattle.session_core.specs.Tests.{FindsPlace, IsLateBy, IsHeldUnder, IsNobody
 use Rattle.session_core.specs.Tests as tests
 use Rattle.session_core.proofs.Windows.{committed-to, committed-from, active-to, state-is}
 use Rattle.session_core.proofs.Owns.{reader-is, reader-at}
+
+-- the answers of a search for an id
+
+abbrev pub Misses : HeapView → Session → ℕ → Option Xid → Type 0
+Misses h e key answer = MatchOption answer ((x : ℕ) → ¬ IsLateBy h e key x) (λ x. IsLateBy h e key x.0)
+
+abbrev pub Holds : HeapView → Session → ℕ → Option Xid → Type 0
+Holds h e key answer = MatchOption answer ((x : ℕ) → ¬ IsHeldUnder h e key x) (λ x. IsHeldUnder h e key x.0)
 
 -- the maker and the deleter of a version
 

@@ -1,12 +1,13 @@
 //! A session reads.
 
-ghost use Rattle.std.specs.Prelude.{◌≡◌, option_copied};
+ghost use Rattle.std.specs.Prelude.{◌≡◌};
 ghost use Rattle.session_relation.specs.declared.step.Step.{Step};
 ghost use Rattle.session_core.specs.Agrees.{Follows};
 ghost use Rattle.session_core.specs.Exact.{Exact};
 
 use crate::engine::Engine;
 use session_relation::{Reply, Row};
+use tuple_header::RowRef;
 
 impl Engine {
     /// The row of the key that the session reads. Refusals in order: NoSuchSession, NotOpen, Failed. It takes no
@@ -25,8 +26,8 @@ impl Engine {
 }
 
 /// A row that was found, by value. It takes no memory.
-pub(crate) fn copy_of(found: Option<&Row>) -> Option<Row>
-    ensures { result ≡ option_copied found.entry }
+pub(crate) fn copy_of(found: Option<RowRef<'_>>) -> Option<Row>
+    ensures { result ≡ found.entry }
 {
     match found {
         Some(row) => Some(row.copy()),

@@ -1,6 +1,6 @@
 //! A session asks its cursor for rows.
 
-ghost use Rattle.std.specs.Prelude.{◌≡◌, ◌≤◌, length, IfOk, OnErr};
+ghost use Rattle.std.specs.Prelude.{◌≡◌, ◌≤◌, ◌++◌, ◌∷◌, [], length, IfOk, OnOk, OnErr};
 ghost use Rattle.sound_entries.specs.Pages.{slots_on};
 ghost use Rattle.heap_write.specs.Heap.{slots_of};
 ghost use Rattle.session_relation.specs.declared.step.Step.{Step};
@@ -15,7 +15,26 @@ use crate::session::Session;
 use heap_write::Span;
 use session_relation::{Refusal, Reply, Row};
 use std::alloc::AllocError;
+use tuple_header::RowRef;
 use xid_circle::Tid;
+
+/// For how many rows memory is asked for with the first, at most.
+const AT_ONCE: usize = 64;
+
+/// Adds a copy of a row to those that are handed out, of which there may be so many in all.
+fn add_row(rows: &mut Vec<Row>, row: &RowRef<'_>, most: u16) -> Result<(), AllocError>
+    ensures { OnOk result (rows.new.items ≡ rows.old.items ++ row.now ∷ []) }
+{
+    // a row has over a kilobyte, and is copied whenever the list grows
+    let more = if rows.is_empty() {
+        usize::from(most).clamp(1, AT_ONCE)
+    } else {
+        1
+    };
+    rows.try_reserve(more)?;
+    rows.push_reserved(row.copy());
+    Ok(())
+}
 
 impl Engine {
     /// Hands out rows of the session's cursor: of an index the next `n` in its order, none counting as one, or all that are
@@ -84,7 +103,7 @@ impl Engine {
         for _ in 0..count {
             match self.heap.next_row(&left, &session.snapshot, &session.own) {
                 Some((mark, row)) => {
-                    rows.push(row.copy())?;
+                    add_row(&mut rows, &row, count)?;
                     left.last = Some(mark);
                 }
                 None => return Ok((rows, left)),
@@ -124,10 +143,11 @@ impl Engine {
         ensures refused { OnErr result (SomeStands self.now session.now page) }
     {
         let mut rows = Vec::new(self.alloc);
-        for slot in 1..self.slots_on(page) + 1 {
+        let slots = self.slots_on(page);
+        for slot in 1..slots + 1 {
             let place = Tid { page, slot };
             if let Some(row) = self.heap.seen_row(place, &session.snapshot, &session.own) {
-                rows.push(row.copy())?;
+                add_row(&mut rows, &row, slots)?;
             }
         }
         Ok(rows)

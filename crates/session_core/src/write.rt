@@ -5,7 +5,7 @@ ghost use Rattle.session_relation.specs.Words.{FitsRow, row_of};
 ghost use Rattle.session_relation.specs.declared.reply.Reply.{Reply};
 ghost use Rattle.session_core.specs.Keeps.{open_at};
 ghost use Rattle.session_core.specs.State.{refused_state};
-ghost use Rattle.session_core.specs.Tests.{IsFree, Delays, MayWrite, HindersInsert, HindersChange};
+ghost use Rattle.session_core.specs.Tests.{FindsPlace, IsFree, Delays, MayWrite, HindersInsert, HindersChange};
 ghost use Rattle.session_core.specs.Replies.{reply_to};
 ghost use Rattle.session_core.specs.Writes.{refusal_for, reply_for};
 
@@ -71,19 +71,22 @@ pub(crate) fn outcome_of(tried: Result<(), WriteFault>) -> Outcome
 }
 
 impl Engine {
-    /// What keeps a session from writing the key, whatever it reads of it. Tests in order: Conflict, Busy.
-    fn delay(&self, session: &Session, key: u64) -> Option<Refusal>
-        ensures { MatchOption result (IsFree self.now session.now key) (λ refusal. Delays self.now session.now key refusal) }
+    /// The place of the version of the key that a session reads, and what keeps it from writing the key, whatever it reads
+    /// of it. Tests in order: Conflict, Busy.
+    fn delay(&self, session: &Session, key: u64) -> (Option<Tid>, Option<Refusal>)
+        ensures place { FindsPlace self.now.heap session.now key result.0 }
+        ensures delay { MatchOption result.1 (IsFree self.now session.now key) (λ refusal. Delays self.now session.now key refusal) }
     {
-        if let Some(_) = self.heap.missed(key, &session.snapshot) {
-            return Some(Refusal::Conflict);
+        let standing = self.heap.standing(key, &session.snapshot, &session.own);
+        if let Some(_) = standing.missed {
+            return (standing.place, Some(Refusal::Conflict));
         }
-        match self.heap.holder(key, &session.own) {
+        match standing.holder {
             Some(x) => match owner(&self.sessions, x) {
-                Some(o) => Some(Refusal::Busy(o)),
-                None => None,
+                Some(o) => (standing.place, Some(Refusal::Busy(o))),
+                None => (standing.place, None),
             },
-            None => None,
+            None => (standing.place, None),
         }
     }
 
@@ -93,13 +96,16 @@ impl Engine {
         ensures { MatchResult result (λ _. MayWrite self.now s key None) (λ refusal. HindersInsert self.now s key refusal) }
     {
         match self.free(s) {
-            Ok(session) => match self.heap.place_of(key, &session.snapshot, &session.own) {
-                Some(_) => Err(Refusal::AlreadyThere),
-                None => match self.delay(session, key) {
-                    None => Ok(()),
-                    Some(refusal) => Err(refusal),
-                },
-            },
+            Ok(session) => {
+                let (place, delay) = self.delay(session, key);
+                match place {
+                    Some(_) => Err(Refusal::AlreadyThere),
+                    None => match delay {
+                        None => Ok(()),
+                        Some(refusal) => Err(refusal),
+                    },
+                }
+            }
             Err(refusal) => Err(refusal),
         }
     }
@@ -110,13 +116,16 @@ impl Engine {
         ensures { MatchResult result (λ place. MayWrite self.now s key (Some place)) (λ refusal. HindersChange self.now s key refusal) }
     {
         match self.free(s) {
-            Ok(session) => match self.heap.place_of(key, &session.snapshot, &session.own) {
-                None => Err(Refusal::NotThere),
-                Some(place) => match self.delay(session, key) {
-                    None => Ok(place),
-                    Some(refusal) => Err(refusal),
-                },
-            },
+            Ok(session) => {
+                let (place, delay) = self.delay(session, key);
+                match place {
+                    None => Err(Refusal::NotThere),
+                    Some(place) => match delay {
+                        None => Ok(place),
+                        Some(refusal) => Err(refusal),
+                    },
+                }
+            }
             Err(refusal) => Err(refusal),
         }
     }

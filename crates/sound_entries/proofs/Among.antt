@@ -1,7 +1,7 @@
 -- Ids that made or deleted a version: in a chain, along the entries, and on the heap.
 use Rattle.std.proofs.Common.{◌≡◌, ◌⊎◌, ◌↔◌, ℕ, zero, suc, ℤ, ◌+◌, ◌<◌, Bool, false, List, [], get_or, map, Option, Some, None, refl, sym, ap, ◌∙◌, subst, ⊎_elim, arith, slice_get}
 use Rattle.std.specs.List.{Contains}
-use Rattle.std.specs.Prelude.{IsTrue, MatchOption}
+use Rattle.std.specs.Prelude.{IsTrue}
 use Rattle.std.specs.Option.{option_map}
 use Rattle.std.proofs.lemmas.Bool.{cases_lt}
 use Rattle.std.proofs.lemmas.Option.{none-some, same_Some}
@@ -26,7 +26,7 @@ use Rattle.root_index.specs.Sets.{IsOf}
 use Rattle.sound_entries.specs.Pages.{slots_on, version_in}
 use Rattle.sound_entries.specs.Entries.{IsSound}
 use Rattle.sound_entries.specs.Leading.{IsUndone, Touches, IsByIndex}
-use Rattle.sound_entries.specs.Looking.{IsMissed, IsForeign, SomeAmong, SomeAt, SomeOf, SomeOnHeap}
+use Rattle.sound_entries.specs.Looking.{IsMissed, IsForeign, SomeAmong, SomeAt, SomeOf, IsIdAmong, IsIdAt, SomeOnHeap}
 use Rattle.sound_entries.proofs.Leads.{found, touched-made}
 use Rattle.sound_entries.proofs.Fetching.{slots-there, slots-none, listed-in}
 
@@ -63,12 +63,6 @@ pub none-other : (P : ℕ → Header → Type 0) (slots : List Slot) (n : ℕ) (
 none-other P slots n r value is u at x has = none-some u.header (sym is ∙ value ∙ ap (option_map (λ (t : Version). t.header)) at)
 
 -- The chain of a place.
-
-abbrev pub IsIdAmong : (ℕ → Header → Type 0) → List Slot → List ℕ → Option Xid → Type 0
-IsIdAmong P slots chain answer = MatchOption answer ((x : ℕ) → SomeAmong (P x) slots chain → ⊥) (λ x. SomeAmong (P x.0) slots chain)
-
-abbrev pub IsIdAt : Window → (ℕ → Header → Type 0) → List (List Slot) → Tid → Option Xid → Type 0
-IsIdAt w P pages p answer = MatchOption answer ((x : ℕ) → SomeAt w (P x) pages p → ⊥) (λ x. SomeAt w (P x.0) pages p)
 
 pub at-page : (w : Window) (P : ℕ → Header → Type 0) (pages : List PageView) (p : Tid) (page : PageView) (chain : List ℕ) (answer : Option Xid) → slice_get pages p.page ≡ Some page
     → IsChain (has_aborted w) page.slots p.slot chain → IsIdAmong P page.slots chain answer → IsIdAt w P (map (λ (q : PageView). q.slots) pages) p answer

@@ -4,5 +4,6 @@ pub mod Changes
 pub mod Finishing
 pub mod Fetching
 pub mod Turns
+pub mod Searching
 pub mod Among
 pub mod Tables

@@ -140,7 +140,14 @@ pub record SomeOf (w : Window) (P : Header → Type 0) (pages : List (List Slot)
   pub of : IsOf value key entry
   pub at : SomeAt w P pages entry.tid
 
--- an id is answered that P says of a version there, or there is none
+-- An id is answered that P says of a version there, or there is none.
+
+abbrev pub IsIdAmong : (ℕ → Header → Type 0) → List Slot → List ℕ → Option Xid → Type 0
+IsIdAmong P slots chain answer = MatchOption answer ((x : ℕ) → ¬ SomeAmong (P x) slots chain) (λ x. SomeAmong (P x.0) slots chain)
+
+abbrev pub IsIdAt : Window → (ℕ → Header → Type 0) → List (List Slot) → Tid → Option Xid → Type 0
+IsIdAt w P pages p answer = MatchOption answer ((x : ℕ) → ¬ SomeAt w (P x) pages p) (λ x. SomeAt w (P x.0) pages p)
+
 abbrev pub IsIdOf : Window → (ℕ → Header → Type 0) → List (List Slot) → List Entry → ℤ → ℕ → Option Xid → Type 0
 IsIdOf w P pages entries value key answer = MatchOption answer
     ((x : ℕ) → ¬ SomeOf w (P x) pages entries value key)

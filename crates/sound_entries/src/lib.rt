@@ -6,13 +6,14 @@
 //! leads to. The laws of `specs/Laws.antt`, which are contracts of functions that do nothing, say that by sound entries
 //! one finds what is found on the heap, and that writes, pruning, and what becomes of transactions leave the entries sound.
 //!
-//! [`place_of`], [`row_of`], [`missed_of`] and [`holder_of`] go along the entries of one value and one key, and [`place_from`]
-//! and [`row_from`] do so from the first of them, where that is known. Their contracts speak of entries and chains alone
+//! [`place_of`], [`row_of`] and [`standing_of`] go along the entries of one value and one key, and [`place_from`] and
+//! [`row_from`] do so from the first of them, where that is known. Their contracts speak of entries and chains alone
 //! (`specs/Looking.antt`), on any pages and any index; the laws there tie them to the heap.
 #![tactic(auto)]
 
 mod laws;
 mod looking;
+mod standing;
 mod touched;
 
 pub use laws::{
@@ -22,6 +23,7 @@ pub use laws::{
     updating_stays_sound,
 };
 pub use looking::{
-    foreign_is_on_heap, found_is_on_heap, holder_of, missed_is_on_heap, missed_of, place_from,
-    place_is_on_heap, place_of, row_from, row_of, the_row_is_found,
+    foreign_is_on_heap, found_is_on_heap, missed_is_on_heap, place_from, place_is_on_heap,
+    place_of, row_from, row_of, the_row_is_found,
 };
+pub use standing::{Standing, standing_of};

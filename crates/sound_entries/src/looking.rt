@@ -1,24 +1,24 @@
 //! Looking along the entries of one value and one key. None takes memory.
 
-ghost use Rattle.std.specs.Prelude.{◌≡◌, ℕ, IfSome, MatchOption, None, Some, option_copied, FitsSigned};
+ghost use Rattle.std.specs.Prelude.{◌≡◌, IfSome, MatchOption, None, Some, FitsSigned};
 ghost use Rattle.std.specs.Int.{w128};
 ghost use Rattle.std.specs.Option.{option_map};
 ghost use Rattle.root_index.specs.Sets.{IsOf};
 ghost use Rattle.visibility.specs.Visible.{IsVisible};
 ghost use Rattle.hot_chain.specs.Chain.{NoneSeen};
 ghost use Rattle.sound_entries.specs.Pages.{version_in};
-ghost use Rattle.sound_entries.specs.Looking.{slots_of, IsNextOf, IsFirstOf, FirstFound, IsSeenIn, SeenAt, FirstPlace, FoundIsOnHeap, TheRowIsFound, PlaceIsOnHeap, IsMissed, IsForeign, SomeAt, IsIdOf, MissedIsOnHeap, ForeignIsOnHeap};
+ghost use Rattle.sound_entries.specs.Looking.{slots_of, IsNextOf, IsFirstOf, FirstFound, IsSeenIn, SeenAt, FirstPlace, FoundIsOnHeap, TheRowIsFound, PlaceIsOnHeap, MissedIsOnHeap, ForeignIsOnHeap};
 
-use crate::touched::{foreign_among, missed_among};
+use arrayvec::ArrayVec;
 use commit_status::StatusTable;
 use heap_pages::Pages;
-use hot_chain::chain;
+use hot_chain::list_chain;
 use page_slots::Page;
 use root_index::{Entry, RootIndex};
 use snapshot::{OwnIds, Snapshot};
-use tuple_header::Row;
+use tuple_header::RowRef;
 use visibility::visible_header;
-use xid_circle::{Tid, Xid};
+use xid_circle::Tid;
 
 /// An entry, if it is of this value and this key.
 fn only_of(found: Option<Entry>, value: i128, key: u64) -> Option<Entry>
@@ -38,7 +38,12 @@ fn has_value(entry: &Entry)
 }
 
 /// The first entry of this value and this key that comes after another one of these, or the first of all.
-fn next_of(index: &RootIndex, value: i128, key: u64, from: Option<Entry>) -> Option<Entry>
+pub(crate) fn next_of(
+    index: &RootIndex,
+    value: i128,
+    key: u64,
+    from: Option<Entry>,
+) -> Option<Entry>
     requires { IfSome from (IsOf value key) }
     ensures { IsNextOf index.now.entries value key from result }
 {
@@ -49,7 +54,7 @@ fn next_of(index: &RootIndex, value: i128, key: u64, from: Option<Entry>) -> Opt
 }
 
 /// The first slot of these whose version the reader sees.
-fn first_seen(
+pub(crate) fn first_seen(
     page: &Page,
     slots: &[u16],
     snapshot: &Snapshot,
@@ -83,7 +88,8 @@ fn seen_at(
         Some(page) => page,
         None => return None,
     };
-    let slots = chain(page, place.slot, table);
+    let mut slots: ArrayVec<u16, 292> = ArrayVec::new();
+    list_chain(page, place.slot, table, &mut slots);
     match first_seen(page, slots.as_slice(), snapshot, own, table) {
         Some(slot) => Some(Tid {
             page: place.page,
@@ -143,8 +149,8 @@ pub fn place_of(
 }
 
 /// The row of the version at a place, where it stands, if there is one.
-fn row_at(pages: &Pages, place: Tid) -> Option<&Row>
-    ensures { option_copied result ≡ option_map (λ t. t.row) (version_in (slots_of pages.now) place) }
+fn row_at(pages: &Pages, place: Tid) -> Option<RowRef<'_>>
+    ensures { result ≡ option_map (λ t. t.row) (version_in (slots_of pages.now) place) }
 {
     match pages.page(place.page) {
         Some(page) => page.row(place.slot),
@@ -162,8 +168,8 @@ pub fn row_of<'a>(
     snapshot: &Snapshot,
     own: &OwnIds,
     table: &StatusTable,
-) -> Option<&'a Row>
-    ensures { FirstFound table.now (IsVisible table.now snapshot.now own.now.ids) (slots_of pages.now) index.now.entries value key (option_copied result) }
+) -> Option<RowRef<'a>>
+    ensures { FirstFound table.now (IsVisible table.now snapshot.now own.now.ids) (slots_of pages.now) index.now.entries value key result }
 {
     match place_of(pages, index, value, key, snapshot, own, table) {
         Some(place) => row_at(pages, place),
@@ -180,98 +186,14 @@ pub fn row_from<'a>(
     snapshot: &Snapshot,
     own: &OwnIds,
     table: &StatusTable,
-) -> Option<&'a Row>
+) -> Option<RowRef<'a>>
     requires { IsFirstOf index.now.entries first }
-    ensures { FirstFound table.now (IsVisible table.now snapshot.now own.now.ids) (slots_of pages.now) index.now.entries first.value first.key (option_copied result) }
+    ensures { FirstFound table.now (IsVisible table.now snapshot.now own.now.ids) (slots_of pages.now) index.now.entries first.value first.key result }
 {
     match place_from(pages, index, first, snapshot, own, table) {
         Some(place) => row_at(pages, place),
         None => None,
     }
-}
-
-/// A committed id that made or deleted a version in the chain of a place, and that the snapshot does not see.
-fn missed_at(pages: &Pages, place: Tid, snapshot: &Snapshot, table: &StatusTable) -> Option<Xid>
-    ensures { MatchOption result ((x : ℕ) → SomeAt table.now (IsMissed table.now snapshot.now x) (slots_of pages.now) place → ⊥)
-        (λ x. SomeAt table.now (IsMissed table.now snapshot.now x.0) (slots_of pages.now) place) }
-{
-    match pages.page(place.page) {
-        Some(page) => {
-            let slots = chain(page, place.slot, table);
-            missed_among(page, slots.as_slice(), snapshot, table)
-        }
-        None => None,
-    }
-}
-
-/// An id in progress, none of these, that made or deleted a version in the chain of a place.
-fn foreign_at(pages: &Pages, place: Tid, own: &OwnIds, table: &StatusTable) -> Option<Xid>
-    ensures { MatchOption result ((x : ℕ) → SomeAt table.now (IsForeign table.now own.now.ids x) (slots_of pages.now) place → ⊥)
-        (λ x. SomeAt table.now (IsForeign table.now own.now.ids x.0) (slots_of pages.now) place) }
-{
-    match pages.page(place.page) {
-        Some(page) => {
-            let slots = chain(page, place.slot, table);
-            foreign_among(page, slots.as_slice(), own, table)
-        }
-        None => None,
-    }
-}
-
-/// A committed id that made or deleted a version in a chain to which an entry of this value and this key leads, and that
-/// the snapshot does not see. It takes no memory.
-pub fn missed_of(
-    pages: &Pages,
-    index: &RootIndex,
-    value: i128,
-    key: u64,
-    snapshot: &Snapshot,
-    table: &StatusTable,
-) -> Option<Xid>
-    ensures { IsIdOf table.now (IsMissed table.now snapshot.now) (slots_of pages.now) index.now.entries value key result }
-{
-    index.is_ascending();
-    let mut next = next_of(index, value, key, None);
-    for _ in 0..index.len() {
-        match next {
-            None => return None,
-            Some(entry) => {
-                if let Some(x) = missed_at(pages, entry.tid, snapshot, table) {
-                    return Some(x);
-                }
-                next = next_of(index, value, key, Some(entry));
-            }
-        }
-    }
-    None
-}
-
-/// An id in progress, none of these, that made or deleted a version in a chain to which an entry of this value and this key
-/// leads. It takes no memory.
-pub fn holder_of(
-    pages: &Pages,
-    index: &RootIndex,
-    value: i128,
-    key: u64,
-    own: &OwnIds,
-    table: &StatusTable,
-) -> Option<Xid>
-    ensures { IsIdOf table.now (IsForeign table.now own.now.ids) (slots_of pages.now) index.now.entries value key result }
-{
-    index.is_ascending();
-    let mut next = next_of(index, value, key, None);
-    for _ in 0..index.len() {
-        match next {
-            None => return None,
-            Some(entry) => {
-                if let Some(x) = foreign_at(pages, entry.tid, own, table) {
-                    return Some(x);
-                }
-                next = next_of(index, value, key, Some(entry));
-            }
-        }
-    }
-    None
 }
 
 /// Where the entries are sound, the row that is found is that of a version on the heap, and none where there is none. It
@@ -292,13 +214,13 @@ pub fn place_is_on_heap()
     ensures { PlaceIsOnHeap }
 {}
 
-/// Where the entries are sound, the ids that `missed_of` looks for are those of versions on the heap. It does nothing; its
+/// Where the entries are sound, the missed ids that a standing names are those of versions on the heap. It does nothing; its
 /// contract is the law.
 pub fn missed_is_on_heap()
     ensures { MissedIsOnHeap }
 {}
 
-/// Where the entries are sound, the ids that `holder_of` looks for are those of versions on the heap. It does nothing; its
+/// Where the entries are sound, the holders that a standing names are those of versions on the heap. It does nothing; its
 /// contract is the law.
 pub fn foreign_is_on_heap()
     ensures { ForeignIsOnHeap }

@@ -13,7 +13,7 @@ use root_index::{Entry, RootIndex, members_determine};
 use std::alloc::{AllocError, Global};
 use std::fmt::Debug;
 use std::process::Abort;
-use tuple_header::{Header, Row, Tuple, TupleFault, decode, encode, fault_of, reads_back};
+use tuple_header::{Header, Row, RowRef, Tuple, TupleFault, decode, encode, fault_of, reads_back};
 use xid_circle::{Tid, Xid, order_of_giving};
 
 /// Asserts that the two are equal. It is a function, so that nothing is known of them afterwards.
@@ -57,18 +57,49 @@ pub fn law_of_the_circle() {
 
 /// A version with this key and a body of so many bytes.
 pub fn version(key: u64, size: usize) -> Tuple {
+    version_of(key, [0, 0, 0, 0], size)
+}
+
+/// A version with this key, these columns and a body of so many bytes.
+pub fn version_of(key: u64, cols: [i64; 4], size: usize) -> Tuple {
     let mut body = ArrayVec::new();
     for _ in 0..size {
         let _ = body.try_push(7);
     }
     Tuple {
         header: Header::inserted(Xid(3), Tid { page: 0, slot: 1 }),
+        row: Row { key, cols, body },
+    }
+}
+
+/// A version with this key and a body of so many bytes, each of which is the key.
+pub fn filled(key: u8, size: usize) -> Tuple {
+    let mut body = ArrayVec::new();
+    for _ in 0..size {
+        let _ = body.try_push(key);
+    }
+    Tuple {
+        header: Header::inserted(Xid(3), Tid { page: 0, slot: 1 }),
         row: Row {
-            key,
+            key: u64::from(key),
             cols: [0, 0, 0, 0],
             body,
         },
     }
+}
+
+/// A row where it stands, if its body is not too long.
+pub fn in_place(key: u64, cols: [i64; 4], body: &[u8]) -> Option<RowRef<'_>> {
+    if body.len() <= 1024 {
+        Some(RowRef::new(key, cols, body))
+    } else {
+        None
+    }
+}
+
+/// The key and the columns of a row where it stands, and an equal row.
+pub fn parts(row: &RowRef<'_>) -> (u64, [i64; 4], Row) {
+    (row.key(), *row.cols(), row.copy())
 }
 
 /// The version's bytes, and then sevens.
@@ -111,6 +142,11 @@ pub fn marks(header: &Header) -> (bool, bool, bool) {
 
 pub fn add(page: &mut Page, version: Tuple) -> Result<u16, AddFault> {
     page.add(version)
+}
+
+/// Adds a version with this one's header of its row, by reference.
+pub fn add_row(page: &mut Page, version: &Tuple) -> Result<u16, AddFault> {
+    page.add_row(version.header, &version.row)
 }
 
 pub fn make_room(page: &mut Page, count: usize) -> Result<(), AllocError> {
@@ -174,17 +210,21 @@ pub fn header(page: &Page, number: u16) -> Option<Header> {
     page.header(number)
 }
 
-pub fn row(page: &Page, number: u16) -> Option<&Row> {
+pub fn row(page: &Page, number: u16) -> Option<RowRef<'_>> {
     page.row(number)
+}
+
+/// The row that stands on the page, taken from there.
+pub fn row_of(page: &Page, number: u16) -> Option<Row> {
+    Some(page.row(number)?.copy())
+}
+
+pub fn redirect(page: &Page, number: u16) -> Option<u16> {
+    page.redirect(number)
 }
 
 pub fn slot(page: &Page, number: u16) -> Option<Slot> {
     page.slot(number)
-}
-
-/// The slot where it stands.
-pub fn get(page: &Page, number: u16) -> Option<&Slot> {
-    page.get(number)
 }
 
 pub fn free_byte_of(page: &Page) -> u8 {

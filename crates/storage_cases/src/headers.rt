@@ -1,10 +1,12 @@
 //! Versions whose bytes were written down by hand.
 
-use crate::calls::{bytes_of, decoded, fault, law_of_bytes, marks, put};
+use crate::calls::{
+    bytes_of, decoded, fault, in_place, law_of_bytes, marks, parts, put, version_of,
+};
 use arrayvec::ArrayVec;
 use std::process::Abort;
 use tuple_header::TupleFault::{Attributes, Cid, Ctid, Hoff, Length, Masks, Padding, Xmax, Xmin};
-use tuple_header::{Header, Row, Tuple, TupleFault, size};
+use tuple_header::{Header, Row, Tuple, TupleFault, row_size, size};
 use xid_circle::{Tid, Xid};
 
 /// Made by id 3 at slot 1 of page 0: key 1, columns 5, 0, 0, 0, no body.
@@ -36,6 +38,11 @@ fn bytes_of_the_first_version(rt: HostRuntime) {
 fn the_first_version_is_read(rt: HostRuntime) {
     assert_eq!(rt; decoded(&FIRST), Ok(first()));
     assert_eq!(rt; size(&first()), 72);
+    let largest = version_of(1, [0, 0, 0, 0], 1024);
+    assert_eq!(rt;
+        (row_size(&first().row), row_size(&largest.row)),
+        (72, 1096)
+    );
     law_of_bytes();
 }
 
@@ -139,4 +146,15 @@ fn faults_of_a_header(rt: HostRuntime) {
     assert_eq!(rt; fault(&header), None);
     header.mask2 = 0x4006;
     assert_eq!(rt; fault(&header), Some(Xmax));
+}
+
+#[test]
+fn rows_in_place(rt: HostRuntime) {
+    for size in [0, 1024] {
+        let expected = version_of(u64::MAX, [5, 0, -1, -2], size).row;
+        match in_place(u64::MAX, [5, 0, -1, -2], expected.body.as_slice()) {
+            Some(row) => assert_eq!(rt; parts(&row), (u64::MAX, [5, 0, -1, -2], expected.copy())),
+            None => assert!(rt; false, "a body of 1024 bytes is not too long"),
+        }
+    }
 }

@@ -1,10 +1,11 @@
 //! Room, numbers of slots and change numbers, each reckoned by hand.
 
 use crate::calls::{
-    add, change, free_number, get, header, key, make_room, mark, room, row, set_dead, set_header,
-    set_redirect, set_unused, slot, state, version,
+    add, add_row, change, filled, free_number, header, key, make_room, mark, parts, redirect, room,
+    row, row_of, set_dead, set_header, set_redirect, set_unused, slot, state, version, version_of,
 };
 use page_slots::{AddFault, Page, Slot};
+use std::alloc::Global;
 use std::process::Abort;
 use xid_circle::Xid;
 
@@ -115,23 +116,82 @@ fn looks_into_a_page(rt: HostRuntime) {
         (key(&page, 1), key(&page, 2), key(&page, 3)),
         (Some(8), None, None)
     );
-    assert_eq!(rt; row(&page, 1), Some(&version(8, 2).row));
+    assert_eq!(rt; row_of(&page, 1), Some(version(8, 2).row));
     assert!(rt; header(&page, 0).is_none() && header(&page, 2).is_none());
     assert!(rt; slot(&page, 2).is_some() && slot(&page, 3).is_none());
-    assert!(rt; matches!(get(&page, 2), Some(Slot::Dead)));
-    assert!(rt; get(&page, 0).is_none() && get(&page, 3).is_none());
+    assert!(rt; matches!(slot(&page, 2), Some(Slot::Dead)));
+    assert!(rt; slot(&page, 0).is_none());
 }
 
 #[test]
-fn looks_into_a_slot(rt: HostRuntime) {
+fn rows_where_they_stand(rt: HostRuntime) {
     let mut page = Page::new(rt.alloc());
-    assert_eq!(rt; add(&mut page, version(8, 2)), Ok(1));
-    match slot(&page, 1) {
-        Some(slot) => {
-            assert!(rt; !slot.is_unused() && !slot.is_dead() && !slot.leads_to(1));
-            assert_eq!(rt; (slot.header(), slot.key()), (header(&page, 1), Some(8)));
-            assert_eq!(rt; slot.row(), row(&page, 1));
-        }
-        None => assert!(rt; false, "there is a slot 1"),
+    let given = version_of(8, [5, 0, -1, -2], 1024);
+    assert_eq!(rt; add(&mut page, given.copy()), Ok(1));
+    assert_eq!(rt; add(&mut page, version(9, 0)), Ok(2));
+    match row(&page, 1) {
+        Some(row) => assert_eq!(rt; parts(&row), (8, [5, 0, -1, -2], given.row)),
+        None => assert!(rt; false, "slot 1 holds a row"),
     }
+    match row(&page, 2) {
+        Some(row) => assert_eq!(rt; parts(&row), (9, [0, 0, 0, 0], version(9, 0).row)),
+        None => assert!(rt; false, "slot 2 holds a row"),
+    }
+    assert!(rt; row(&page, 0).is_none() && row(&page, 3).is_none());
+    set_redirect(&mut page, 1, 2);
+    set_dead(&mut page, 2);
+    assert!(rt; row(&page, 1).is_none() && row(&page, 2).is_none());
+}
+
+#[test]
+fn where_slots_lead(rt: HostRuntime) {
+    let mut page = Page::new(rt.alloc());
+    for number in 1..5u16 {
+        assert_eq!(rt; add(&mut page, version(1, 0)), Ok(number));
+    }
+    set_unused(&mut page, 1);
+    set_redirect(&mut page, 3, 2);
+    set_dead(&mut page, 4);
+    // unused, normal, a redirect, dead
+    for (number, target) in [(1, None), (2, None), (3, Some(2)), (4, None)] {
+        assert_eq!(rt; redirect(&page, number), target);
+    }
+    assert_eq!(rt; (redirect(&page, 0), redirect(&page, 5)), (None, None));
+}
+
+/// A page of seven versions whose bodies take 7168 bytes, without the second and the fourth.
+fn gaps(alloc: Global) -> Page {
+    let mut page = Page::new(alloc);
+    for key in 1..8u8 {
+        let _ = add(&mut page, filled(key, 1024));
+    }
+    set_unused(&mut page, 2);
+    set_unused(&mut page, 4);
+    page
+}
+
+/// Whether these slots hold versions of these keys with bodies of so many bytes, each of which is the key.
+fn hold(page: &Page, rows: &[(u16, u8, usize)]) -> bool {
+    for (number, key, size) in rows {
+        if row_of(page, *number) != Some(filled(*key, *size).row) {
+            return false;
+        }
+    }
+    true
+}
+
+#[test]
+fn bodies_are_moved_together(rt: HostRuntime) {
+    let mut page = gaps(rt.alloc());
+    // 1000 bytes are left behind the bodies, and then none
+    assert_eq!(rt; add(&mut page, filled(9, 1000)), Ok(2));
+    assert!(rt; hold(&page, &[(1, 1, 1024), (2, 9, 1000), (7, 7, 1024)]));
+    assert_eq!(rt; add_row(&mut page, &filled(10, 1024)), Ok(4));
+    assert!(rt;
+        hold(
+            &page,
+            &[(1, 1, 1024), (2, 9, 1000), (3, 3, 1024), (4, 10, 1024)]
+        )
+    );
+    assert!(rt; hold(&page, &[(5, 5, 1024), (6, 6, 1024), (7, 7, 1024)]));
 }

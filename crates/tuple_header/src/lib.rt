@@ -10,9 +10,11 @@
 mod decoding;
 mod encoding;
 mod fault;
+mod row_ref;
 mod version;
 
 pub use decoding::{decode, fault_of};
 pub use encoding::{encode, reads_back};
 pub use fault::TupleFault;
-pub use version::{Header, Row, Tuple, size};
+pub use row_ref::RowRef;
+pub use version::{Header, Row, Tuple, row_size, size};

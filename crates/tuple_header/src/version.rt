@@ -175,9 +175,17 @@ fn columns(cols: &[i64; 4])
     let _fourth = cols[3];
 }
 
-/// How many bytes a version takes on a page: 66 and its body, rounded up to a multiple of 8.
+/// How many bytes a version of the row takes on a page: 66 and its body, rounded up to a multiple of 8. It is at most 1096.
+pub fn row_size(row: &Row) -> usize
+    ensures value { result ≡ rounded_size_of row.now }
+    ensures limit { result ≤ 1096 }
+{
+    (66 + row.body.len()).next_multiple_of(8)
+}
+
+/// How many bytes a version takes on a page: those of its row.
 pub fn size(t: &Tuple) -> usize
     ensures { result ≡ rounded_size_of t.now.row }
 {
-    (66 + t.row.body.len()).next_multiple_of(8)
+    row_size(&t.row)
 }

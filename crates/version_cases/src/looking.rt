@@ -3,21 +3,23 @@
 ghost use Rattle.std.specs.Prelude.{IfSome};
 ghost use Rattle.sound_entries.specs.Looking.{IsFirstOf};
 
-use crate::table::{begun, empty_page, finish, give_ids, insert, owner, row, same, update, window};
+use crate::table::{
+    begun, empty_page, finish, give_ids, holds, insert, owner, row, same, update, window,
+};
 use commit_status::{Status, StatusTable};
 use heap_pages::{MAX_PAGES, Pages};
 use page_slots::Page;
 use root_index::{Entry, RootIndex};
 use sound_entries::{
-    aborting_stays_sound, adding_stays_sound, committing_stays_sound, entries_go_sound,
-    foreign_is_on_heap, found_by_index, found_is_on_heap, giving_stays_sound, holder_of,
-    later_horizon_stays_sound, led_by_entry, led_by_two_steps, missed_is_on_heap, missed_of,
-    nothing_is_sound, pages_grow_sound, place_from, place_is_on_heap, place_of,
-    pruning_stays_sound, row_from, row_of, taking_stays_sound, the_row_is_found, touched_by_index,
+    Standing, aborting_stays_sound, adding_stays_sound, committing_stays_sound, entries_go_sound,
+    foreign_is_on_heap, found_by_index, found_is_on_heap, giving_stays_sound,
+    later_horizon_stays_sound, led_by_entry, led_by_two_steps, missed_is_on_heap, nothing_is_sound,
+    pages_grow_sound, place_from, place_is_on_heap, place_of, pruning_stays_sound, row_from,
+    row_of, standing_of, taking_stays_sound, the_row_is_found, touched_by_index,
     updating_stays_sound,
 };
 use std::alloc::Global;
-use tuple_header::Row;
+use tuple_header::RowRef;
 use xid_circle::{Tid, Xid};
 
 /// Of ids 3 to 5 the first is committed, the second in progress, the third aborted.
@@ -74,8 +76,8 @@ fn place(page: u32, slot: u16) -> Tid {
 }
 
 /// The first column of a row.
-fn column(row: Option<&Row>) -> Option<i64> {
-    Some(row?.cols[0])
+fn column(row: Option<RowRef<'_>>) -> Option<i64> {
+    Some(row?.cols()[0])
 }
 
 /// The first column of the row of a key that the owner of an id finds who began when this id was the next.
@@ -95,18 +97,24 @@ fn place_seen(alloc: Global, pages: &Pages, key: u64, next: u32, own: u32) -> Op
     place_of(pages, &index, i128::from(key), key, &snapshot, &own, &table)
 }
 
-fn id_missed(alloc: Global, pages: &Pages, key: u64, next: u32) -> Option<Xid> {
+/// What the owner of an id who began when this id was the next has to know of a key before writing it.
+fn standing(alloc: Global, pages: &Pages, key: u64, next: u32, own: u32) -> Standing {
     let table = statuses(alloc);
     let index = entries(alloc, &BY_KEY);
     let snapshot = begun(alloc, next);
-    missed_of(pages, &index, i128::from(key), key, &snapshot, &table)
+    let own = owner(alloc, own);
+    standing_of(pages, &index, i128::from(key), key, &snapshot, &own, &table)
 }
 
-fn id_holding(alloc: Global, pages: &Pages, key: u64, own: u32) -> Option<Xid> {
-    let table = statuses(alloc);
-    let index = entries(alloc, &BY_KEY);
-    let own = owner(alloc, own);
-    holder_of(pages, &index, i128::from(key), key, &own, &table)
+/// Whether that is this place, this committed id and this id in progress.
+fn stands(
+    alloc: Global,
+    pages: &Pages,
+    (key, next, own): (u64, u32, u32),
+    (at, missed, holder): (Option<Tid>, Option<Xid>, Option<Xid>),
+) -> bool {
+    let found = standing(alloc, pages, key, next, own);
+    found.place == at && found.missed == missed && found.holder == holder
 }
 
 #[test]
@@ -138,13 +146,18 @@ fn the_place_is_that_of_the_version_that_is_seen(rt: HostRuntime) {
 }
 
 #[test]
-fn ids_are_found_by_the_entries_of_the_key(rt: HostRuntime) {
+fn who_writes_a_key_knows_its_place_who_missed_it_and_who_holds_it(rt: HostRuntime) {
     let pages = two_pages(rt.alloc());
-    for (key, next, found) in [(7u64, 3u32, Some(Xid(3))), (7, 4, None), (9, 3, None)] {
-        same(&rt, id_missed(rt.alloc(), &pages, key, next), found);
-    }
-    for (key, own, found) in [(7u64, 0u32, Some(Xid(4))), (7, 4, None), (8, 0, None)] {
-        same(&rt, id_holding(rt.alloc(), &pages, key, own), found);
+    for (asked, found) in [
+        ((7u64, 3u32, 0u32), (None, Some(Xid(3)), Some(Xid(4)))),
+        ((7, 3, 4), (Some(place(1, 3)), Some(Xid(3)), None)),
+        ((7, 4, 0), (Some(place(1, 1)), None, Some(Xid(4)))),
+        ((7, 4, 4), (Some(place(1, 3)), None, None)),
+        ((8, 4, 0), (Some(place(1, 2)), None, None)),
+        ((8, 3, 0), (None, Some(Xid(3)), None)),
+        ((9, 3, 0), (None, None, None)),
+    ] {
+        holds(&rt, stands(rt.alloc(), &pages, asked, found));
     }
 }
 
@@ -153,8 +166,10 @@ fn an_entry_of_a_page_that_is_not_in_use_leads_nowhere(rt: HostRuntime) {
     let pages = no_pages(rt.alloc());
     same(&rt, row_seen(rt.alloc(), &pages, 7, 3, 0), None);
     same(&rt, place_seen(rt.alloc(), &pages, 7, 3, 0), None);
-    same(&rt, id_missed(rt.alloc(), &pages, 7, 3), None);
-    same(&rt, id_holding(rt.alloc(), &pages, 7, 0), None);
+    holds(
+        &rt,
+        stands(rt.alloc(), &pages, (7, 3, 0), (None, None, None)),
+    );
 }
 
 /// The first entry of a key, if it has one.

@@ -11,7 +11,7 @@ ghost use Rattle.tuple_header.specs.Version.{rounded_size_of};
 
 use arrayvec::ArrayVec;
 use commit_status::{Status, StatusTable};
-use hot_chain::{chain, root_of};
+use hot_chain::{chain, list_chain, root_of};
 use page_slots::{Page, Slot};
 use page_writes::{insert_version, update_here};
 use prune::prune;
@@ -155,9 +155,18 @@ pub fn header_at(page: &Page, number: u16) -> Option<Header> {
     page.header(number)
 }
 
+/// The chain of a slot, listed over slots of another.
+fn listed_over(page: &Page, number: u16, table: &StatusTable) -> ArrayVec<u16, 292> {
+    let mut listed: ArrayVec<u16, 292> = ArrayVec::new();
+    let _ = listed.try_push(9);
+    list_chain(page, number, table, &mut listed);
+    listed
+}
+
 /// Whether the chain of a slot is this.
 pub fn has_chain(page: &Page, number: u16, table: &StatusTable, slots: &[u16]) -> bool {
-    chain(page, number, table).as_slice() == slots
+    listed_over(page, number, table).as_slice() == slots
+        && chain(page, number, table).as_slice() == slots
 }
 
 pub fn root(page: &Page, slot: u16, table: &StatusTable) -> Option<u16> {

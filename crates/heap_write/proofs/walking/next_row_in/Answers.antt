@@ -12,7 +12,7 @@ pub returns-in-Some-row_from : goal.returns-in-Some-row_from
 returns-in-Some-row_from c =
     let seen = IsVisible c.args.table.now c.args.snapshot.now c.args.own.now.ids in
     let mark = c.mark_of-mark.result in
-    walked-row c.args.table.now seen (slots_of c.args.pages.now) c.args.index.now.entries c.args.span.now c.loop.left c.loop.counter c.in-Some.entry mark c.in-Some-row_from.row.now
+    walked-row c.args.table.now seen (slots_of c.args.pages.now) c.args.index.now.entries c.args.span.now c.loop.left c.loop.counter c.in-Some.entry mark c.in-Some-row_from.row
     c.loop.invariant c.in-Some.ensures c.mark_of-mark.ensures c.in-Some-row_from.ensures
 
 pub loop-preserved : goal.loop-preserved

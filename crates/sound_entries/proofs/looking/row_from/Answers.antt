@@ -1,5 +1,4 @@
 use Rattle.std.proofs.Common.{Option, subst}
-use Rattle.std.specs.Prelude.{option_copied}
 use Rattle.xid_circle.specs.declared.Tid.{Tid}
 use Rattle.visibility.specs.Visible.{IsVisible}
 use Rattle.sound_entries.specs.Looking.{slots_of, FirstPlace}
@@ -12,4 +11,4 @@ returns-in-Some c =
     let pages = slots_of c.args.pages.now in
     let entries = c.args.index.now.entries in
     let first = subst (λ (o : Option Tid). FirstPlace c.args.table.now seen pages entries c.args.first.value c.args.first.key o) c.in-Some.is c.place_from.ensures in
-    row-found c.args.table.now seen pages entries c.args.first.value c.args.first.key c.in-Some.place (option_copied c.row_at.result) first c.row_at.ensures
+    row-found c.args.table.now seen pages entries c.args.first.value c.args.first.key c.in-Some.place c.row_at.result first c.row_at.ensures

@@ -1,6 +1,5 @@
 use Rattle.std.proofs.Common.{ℤ, Option, subst, to_z, of_z}
 use Rattle.std.specs.Int.{w128}
-use Rattle.std.specs.Prelude.{option_copied}
 use Rattle.std.proofs.lemmas.Int.{to_z-of_z}
 use Rattle.xid_circle.specs.declared.Tid.{Tid}
 use Rattle.visibility.specs.Visible.{IsVisible}
@@ -15,4 +14,4 @@ returns-in-Some c =
     let entries = c.args.index.now.entries in
     let first = subst (λ (o : Option Tid). FirstPlace c.args.table.now seen pages entries (to_z w128 (of_z w128 c.args.value)) c.args.key o) c.in-Some.is c.place_of.ensures in
     let same = subst (λ (v : ℤ). IsFirstPlace c.args.table.now seen pages entries v c.args.key c.in-Some.place) (to_z-of_z w128 c.args.value c.ranges.value) first in
-    row-found c.args.table.now seen pages entries c.args.value c.args.key c.in-Some.place (option_copied c.row_at.result) same c.row_at.ensures
+    row-found c.args.table.now seen pages entries c.args.value c.args.key c.in-Some.place c.row_at.result same c.row_at.ensures

@@ -15,13 +15,13 @@ returns-in-Some-first_seen c =
     let seen = IsVisible c.args.table.now c.args.snapshot.now c.args.own.now.ids in
     let slots = c.in-Some.page.now.slots in
     let answer = subst (λ (chain : List ℕ). MatchOption c.first_seen.result (NoneSeen seen slots chain) (IsSeenIn seen slots chain)) c.as_slice.ensures.value c.first_seen.ensures in
-    seen-on_page c.args.table.now seen c.args.pages.now.pages c.args.place c.in-Some.page.now c.chain-slots.result.items (sym c.in-Some.ensures) c.chain-slots.ensures c.in-Some-first_seen.slot
-    (subst (λ (o : Option ℕ). MatchOption o (NoneSeen seen slots c.chain-slots.result.items) (IsSeenIn seen slots c.chain-slots.result.items)) c.in-Some-first_seen.is answer)
+    seen-on_page c.args.table.now seen c.args.pages.now.pages c.args.place c.in-Some.page.now c.list_chain.new.visited.items (sym c.in-Some.ensures) c.list_chain.ensures c.in-Some-first_seen.slot
+    (subst (λ (o : Option ℕ). MatchOption o (NoneSeen seen slots c.list_chain.new.visited.items) (IsSeenIn seen slots c.list_chain.new.visited.items)) c.in-Some-first_seen.is answer)
 
 pub returns-in-None-first_seen : goal.returns-in-None-first_seen
 returns-in-None-first_seen c =
     let seen = IsVisible c.args.table.now c.args.snapshot.now c.args.own.now.ids in
     let slots = c.in-Some.page.now.slots in
     let answer = subst (λ (chain : List ℕ). MatchOption c.first_seen.result (NoneSeen seen slots chain) (IsSeenIn seen slots chain)) c.as_slice.ensures.value c.first_seen.ensures in
-    none-on_page c.args.table.now seen c.args.pages.now.pages c.args.place c.in-Some.page.now c.chain-slots.result.items (sym c.in-Some.ensures) c.chain-slots.ensures
-    (subst (λ (o : Option ℕ). MatchOption o (NoneSeen seen slots c.chain-slots.result.items) (IsSeenIn seen slots c.chain-slots.result.items)) c.in-None-first_seen.is answer)
+    none-on_page c.args.table.now seen c.args.pages.now.pages c.args.place c.in-Some.page.now c.list_chain.new.visited.items (sym c.in-Some.ensures) c.list_chain.ensures
+    (subst (λ (o : Option ℕ). MatchOption o (NoneSeen seen slots c.list_chain.new.visited.items) (IsSeenIn seen slots c.list_chain.new.visited.items)) c.in-None-first_seen.is answer)

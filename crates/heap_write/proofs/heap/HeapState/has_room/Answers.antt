@@ -7,4 +7,4 @@ use Rattle.heap_write.proofs.heap.HeapState.has_room.Goals as goal
 pub returns-in-None : goal.returns-in-None
 returns-in-None c =
     let free = subst (λ (h : HeapView). room_of (page_on h c.args.number).slots ≡ 8164) c.self.view_is (room-none c.self.inside.pages.pages c.args.number (sym c.in-None.ensures)) in
-    (λ t. omega (arith, free, c.size_of-size.ensures.value, c.size_of-size.ensures.limit), λ h. refl)
+    (λ t. omega (arith, free, c.row_size-size.ensures.value, c.row_size-size.ensures.limit), λ h. refl)

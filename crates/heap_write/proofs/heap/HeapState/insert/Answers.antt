@@ -20,7 +20,7 @@ returns-in-Ok-Some-clause-ok c =
     let h = the_view c.self.inside in
     let free = refuted c.needs_freeze.result (NeedsFreeze c.self.inside.table c.args.own.now) c.needs_freeze.ensures c.if-needs_freeze.false in
     let R : ℕ → Option Target → Type 0 = λ size found. Reserves c.self.inside.pages c.reserve_place.new.pages c.self.inside.max_pages size found in
-    let reserves = subst (λ found. R (rounded_size_of c.args.row.now) found) c.in-Ok-Some.field-0-is (subst (λ size. R size c.in-Ok-Some.field-0) c.size_of.ensures.value c.in-Ok-Some.ensures.reserves) in
+    let reserves = subst (λ found. R (rounded_size_of c.args.row.now) found) c.in-Ok-Some.field-0-is (subst (λ size. R size c.in-Ok-Some.field-0) c.row_size.ensures.value c.in-Ok-Some.ensures.reserves) in
     both-ok c.insert_at.result (λ x takes root. subst (λ v. Inserts v c.insert_at.new.self c.args.own.now c.insert_at.new.own c.args.row.now x.0) c.self.view_is
     (inserts h _ c.insert_at.new.self c.args.own.now c.insert_at.new.own c.args.row.now x.0 c.in-Ok-Some.target free reserves (λ n. refl) takes root c.insert_at.ensures.max_pages)) c.insert_at.ensures.takes c.insert_at.ensures.root
 
@@ -29,8 +29,8 @@ returns-in-Err-clause-fault c =
     let h = the_view c.self.inside in
     let free = refuted c.needs_freeze.result (NeedsFreeze c.self.inside.table c.args.own.now) c.needs_freeze.ensures c.if-needs_freeze.false in
     let P : HeapView → ℕ → Type 0 = λ v size. (¬ NeedsFreeze v.table c.args.own.now) × (¬ IsFull v size) × RootNeedsMemory v c.args.own.now size in
-    let lacks = needs-memory h c.args.own.now c.size_of.result c.in-Err.ensures.needs in
-    subst (λ v. P v (rounded_size_of c.args.row.now)) c.self.view_is (subst (λ size. P h size) c.size_of.ensures.value (free, lacks.0, lacks.1))
+    let lacks = needs-memory h c.args.own.now c.row_size.result c.in-Err.ensures.needs in
+    subst (λ v. P v (rounded_size_of c.args.row.now)) c.self.view_is (subst (λ size. P h size) c.row_size.ensures.value (free, lacks.0, lacks.1))
 
 pub returns-in-Ok-Some-clause-fault : goal.returns-in-Ok-Some-clause-fault
 returns-in-Ok-Some-clause-fault c =
@@ -39,7 +39,7 @@ returns-in-Ok-Some-clause-fault c =
     let size = rounded_size_of c.args.row.now in
     let free = refuted c.needs_freeze.result (NeedsFreeze c.self.inside.table own) c.needs_freeze.ensures c.if-needs_freeze.false in
     let R : ℕ → Option Target → Type 0 = λ n found. Reserves c.self.inside.pages c.reserve_place.new.pages c.self.inside.max_pages n found in
-    let reserves = subst (λ found. R size found) c.in-Ok-Some.field-0-is (subst (λ n. R n c.in-Ok-Some.field-0) c.size_of.ensures.value c.in-Ok-Some.ensures.reserves) in
+    let reserves = subst (λ found. R size found) c.in-Ok-Some.field-0-is (subst (λ n. R n c.in-Ok-Some.field-0) c.row_size.ensures.value c.in-Ok-Some.ensures.reserves) in
     let failed = c.insert_at.ensures in
     subst (λ v. IfErr c.insert_at.result (λ fault. LacksForInsert v own c.args.row.now fault)) c.self.view_is
     (insert-refused h own c.args.row.now c.insert_at.result free (room-left h size c.in-Ok-Some.target reserves.0) failed.fault failed.needs)

@@ -1,9 +1,16 @@
-use Rattle.std.proofs.Common.{sym, subst}
+use Rattle.std.proofs.Common.{◌≡◌, ◌⊎◌, true, sym, subst, ◌∙◌, inl, inr}
+use Rattle.std.specs.Prelude.{Result, Ok, Err, OnErr}
+use Rattle.std.specs.Result.{is_err}
+use Rattle.std.proofs.lemmas.Bool.{true≢false}
+use Rattle.heap_write.specs.Indexes.{NeedsEntry}
+use Rattle.heap_write.specs.Refusals.{NeedsIds}
+use Rattle.heap_write.specs.contracts.heap.HeapState.{the_view}
 use Rattle.commit_status.specs.Window.{Window}
 use Rattle.heap_write.specs.Heap.{HeapView}
 use Rattle.heap_write.specs.Writes.{TakesIds}
 use Rattle.heap_write.proofs.IdLemmas.{takes-grown}
 use Rattle.heap_write.proofs.heap.HeapState.insert_at.Goals as goal
+use Rattle.heap_write.proofs.heap.HeapState.insert_at.Goals.{then-is_err-via-then-is_err, then-is_err-via-else-is_err+then-is_err-2}
 
 pub returns-clause-takes : goal.returns-clause-takes
 returns-clause-takes c =
@@ -14,3 +21,16 @@ returns-clause-takes c =
     let takes = takes-grown c.self.inside.table c.reserve_ids.new.table c.take_ids-x.new.table own c.reserve_ids.new.own own' x reserved.ids reserved.own reserved.none c.take_ids-x.ensures.takes in
     subst (λ (h : HeapView). TakesIds h.table c.put_root-place.new.self.table own own' x) c.self.view_is
     (subst (λ (w : Window). TakesIds c.self.inside.table w own own' x) (sym c.put_root-place.ensures.table) takes)
+
+refusal : {X E : Type 0} (r : Result X E) (P : Type 0) → is_err r ≡ true → OnErr r P → P
+refusal (Ok x) P e needs = absurd (true≢false (sym e))
+refusal (Err x) P e needs = needs
+
+pub returns-then-is_err-clause-needs : goal.returns-then-is_err-clause-needs
+returns-then-is_err-clause-needs c =
+    let h = the_view c.self.inside in
+    subst (λ (h : HeapView). NeedsEntry h.indexes ⊎ NeedsIds h c.args.own.now) c.self.view_is
+    (elim c.then-is_err.branch [
+      | then-is_err-via-then-is_err w ↦ inl (refusal c.make_room.result (NeedsEntry h.indexes) (sym c.is_err.ensures.value ∙ w.if-is_err.true) c.make_room.ensures.refused)
+      | then-is_err-via-else-is_err+then-is_err-2 w ↦ inr (refusal w.reserve_ids.result (NeedsIds h c.args.own.now) (sym w.is_err-else-is_err.ensures.value ∙ w.if-is_err-2.true) w.reserve_ids.ensures.refused)
+    ])

@@ -1,6 +1,5 @@
 use Rattle.std.proofs.Common.{Option, [], subst}
 use Rattle.std.specs.Prelude.{unwrap_or}
-use Rattle.std.specs.Option.{option_map}
 use Rattle.root_index.specs.View.{IndexView}
 use Rattle.visibility.specs.Visible.{IsVisible}
 use Rattle.heap_write.specs.Heap.{HeapView, slots_of}
@@ -11,7 +10,7 @@ use Rattle.heap_write.proofs.heap.HeapState.next_row.Goals as goal
 
 pub returns-in-Some : goal.returns-in-Some
 returns-in-Some c =
-    let answer = option_map (λ found. (found.0, found.1.now)) c.next_row_in.result in
+    let answer = c.next_row_in.result in
     let h = the_view c.self.inside in
     let seen = IsVisible h.table c.args.snapshot.now c.args.own.now.ids in
     let found = subst (λ (o : Option IndexView). NextRow h.table seen (slots_of h) (unwrap_or (entries_of o) []) c.args.span.now answer) c.in-Some.ensures c.next_row_in.ensures in

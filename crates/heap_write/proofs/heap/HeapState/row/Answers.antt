@@ -1,5 +1,4 @@
 use Rattle.std.proofs.Common.{List, ℤ, pos, subst}
-use Rattle.std.specs.Prelude.{option_copied}
 use Rattle.root_index.specs.declared.entry.Entry.{Entry}
 use Rattle.visibility.specs.Visible.{IsVisible}
 use Rattle.sound_entries.specs.Looking.{FirstFound}
@@ -11,7 +10,7 @@ use Rattle.heap_write.proofs.heap.HeapState.row.Goals as goal
 
 pub returns : goal.returns
 returns c =
-    let P : HeapView → List Entry → ℤ → Type 0 = λ h entries value. FirstFound h.table (IsVisible h.table c.args.snapshot.now c.args.own.now.ids) (slots_of h) entries value c.args.key (option_copied c.row_of.result) in
+    let P : HeapView → List Entry → ℤ → Type 0 = λ h entries value. FirstFound h.table (IsVisible h.table c.args.snapshot.now c.args.own.now.ids) (slots_of h) entries value c.args.key c.row_of.result in
     let v = the_view c.self.inside in
     let at = read-back c.args.key c.from-value.result c.ranges.key.fits c.from-value.ensures in
     subst (λ h. P h (entries_in h.indexes 0) (pos c.args.key)) c.self.view_is

@@ -1,5 +1,4 @@
 use Rattle.std.proofs.Common.{None, sym, subst, ◌∙◌}
-use Rattle.std.specs.Prelude.{option_copied}
 use Rattle.std.proofs.lemmas.Bool.{true≢false}
 use Rattle.visibility.specs.Visible.{IsVisible}
 use Rattle.heap_write.specs.Heap.{HeapView, slots_of}
@@ -19,8 +18,8 @@ pub returns-in-Some-header : goal.returns-in-Some-header
 returns-in-Some-header c =
     let h = the_view c.self.inside in
     let header = c.in-Some-header.header in
-    subst (λ (v : HeapView). SeenRow (IsVisible v.table c.args.snapshot.now c.args.own.now.ids) (slots_of v) c.args.place (option_copied c.row.result)) c.self.view_is
-    (seen-there (IsVisible h.table c.args.snapshot.now c.args.own.now.ids) h.pages.pages c.args.place c.in-Some.page.now c.header.result header (option_copied c.row.result)
+    subst (λ (v : HeapView). SeenRow (IsVisible v.table c.args.snapshot.now c.args.own.now.ids) (slots_of v) c.args.place c.row.result) c.self.view_is
+    (seen-there (IsVisible h.table c.args.snapshot.now c.args.own.now.ids) h.pages.pages c.args.place c.in-Some.page.now c.header.result header c.row.result
     (sym c.in-Some.ensures) c.header.ensures.value c.in-Some-header.is (c.visible_header.ensures.0 c.if-visible_header.true) c.row.ensures.value)
 
 pub returns-in_default : goal.returns-in_default

@@ -15,7 +15,7 @@ pub update_ready-requires-clause-chosen : goal.update_ready-requires-clause-chos
 update_ready-requires-clause-chosen c small =
     let size = rounded_size_of c.args.row.now in
     let grown = c.reserve_update-reserved.new.self in
-    let chosen = subst (λ n. IsChosen grown n c.in-Ok.target) c.size_of.ensures.value c.in-Ok.ensures.chosen in
+    let chosen = subst (λ n. IsChosen grown n c.in-Ok.target) c.row_size.ensures.value c.in-Ok.ensures.chosen in
     pruned-chosen grown c.prune_page.new.self c.args.place.page c.args.horizon.0 size c.in-Ok.target c.prune_page.ensures.prunes
     (kept-full c.args.self.now grown c.args.place.page size c.reserve_update-reserved.ensures.keeps c.requires.room) chosen small
 
@@ -24,9 +24,9 @@ update_ready-requires-clause-ready c =
     let size = rounded_size_of c.args.row.now in
     let grown = c.reserve_update-reserved.new.self in
     let full = kept-full c.args.self.now grown c.args.place.page size c.reserve_update-reserved.ensures.keeps c.requires.room in
-    some-weaker c.in-Ok.target (λ target. IsReady grown.pages c.size_of.result target) (λ target. IsReady c.prune_page.new.self.pages size target)
+    some-weaker c.in-Ok.target (λ target. IsReady grown.pages c.row_size.result target) (λ target. IsReady c.prune_page.new.self.pages size target)
     (λ target is_ready. pruned-ready grown c.prune_page.new.self c.args.place.page c.args.horizon.0 size target c.prune_page.ensures.prunes full
-    (subst (λ n. IsReady grown.pages n target) c.size_of.ensures.value is_ready)) c.in-Ok.ensures.ready
+    (subst (λ n. IsReady grown.pages n target) c.row_size.ensures.value is_ready)) c.in-Ok.ensures.ready
 
 pub returns-in-Ok-clause-ok : goal.returns-in-Ok-clause-ok
 returns-in-Ok-clause-ok c =
@@ -51,6 +51,6 @@ returns-in-Err-clause-fault c =
     let Needs : ℕ → Type 0 = λ size. ((page_on h c.args.place.page).spare ≡ 0) ⊎ RootNeedsMemory h own size in (
       c.requires.there,
       c.requires.free,
-      to_prune c.requires.room (subst Needs c.size_of.ensures.value c.in-Err.ensures.needs),
+      to_prune c.requires.room (subst Needs c.row_size.ensures.value c.in-Err.ensures.needs),
       c.reserve_update-reserved.ensures.keeps,
     )

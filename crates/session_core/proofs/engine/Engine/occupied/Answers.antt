@@ -1,36 +1,35 @@
-use Rattle.std.proofs.Common.{Option, ap, subst}
+use Rattle.std.proofs.Common.{Option, subst}
+use Rattle.std.specs.Prelude.{MatchOption}
 use Rattle.xid_circle.specs.declared.Tid.{Tid}
 use Rattle.heap_write.specs.Heap.{HeapView}
-use Rattle.session_core.specs.State.{State}
-use Rattle.session_core.specs.Tests.{FindsPlace}
+use Rattle.session_relation.specs.declared.reply.Refusal.{Refusal}
+use Rattle.session_core.specs.Tests.{FindsPlace, IsFree, Delays}
 use Rattle.session_core.proofs.Searches.{delayed-change}
 use Rattle.session_core.proofs.engine.Engine.occupied.Goals as goal
 
 pub returns-in-None : goal.returns-in-None
 returns-in-None c =
     let e = c.in-Ok.session.now in
-    let heap_is = ap (λ (st : State). st.heap) c.self.view_is in
     let F : HeapView → Option Tid → Type 0 = λ h o. FindsPlace h e c.args.key o in
-    let finds : F c.args.self.now.heap c.place_of.result = subst (λ (h : HeapView). F h c.place_of.result) heap_is c.place_of.ensures in
+    let finds = c.delay-place.ensures.place in
     (e, record { within = c.in-Ok.ensures.0; at = c.in-Ok.ensures.1; sound = c.in-Ok.ensures.2; bare = c.in-Ok.ensures.3; finds = subst (λ (o : Option Tid). F c.args.self.now.heap o) c.in-None.is finds })
 
 pub returns-in-None-delay : goal.returns-in-None-delay
 returns-in-None-delay c =
     let e = c.in-Ok.session.now in
-    let heap_is = ap (λ (st : State). st.heap) c.self.view_is in
     let F : HeapView → Option Tid → Type 0 = λ h o. FindsPlace h e c.args.key o in
-    let finds : F c.args.self.now.heap c.place_of.result = subst (λ (h : HeapView). F h c.place_of.result) heap_is c.place_of.ensures in
+    let finds = c.delay-place.ensures.place in
     record {
       session = e;
       reads = record { within = c.in-Ok.ensures.0; at = c.in-Ok.ensures.1; sound = c.in-Ok.ensures.2; bare = c.in-Ok.ensures.3; finds = subst (λ (o : Option Tid). F c.args.self.now.heap o) c.in-Some.is finds };
-      free = c.in-None-delay.ensures;
+      free = subst (λ (o : Option Refusal). MatchOption o (IsFree c.args.self.now e c.args.key) (λ refusal. Delays c.args.self.now e c.args.key refusal)) c.in-None-delay.is c.delay-place.ensures.delay;
     }
 
 pub returns-in-Some-delay : goal.returns-in-Some-delay
 returns-in-Some-delay c =
     let e = c.in-Ok.session.now in
-    let heap_is = ap (λ (st : State). st.heap) c.self.view_is in
     let F : HeapView → Option Tid → Type 0 = λ h o. FindsPlace h e c.args.key o in
-    let finds : F c.args.self.now.heap c.place_of.result = subst (λ (h : HeapView). F h c.place_of.result) heap_is c.place_of.ensures in
+    let finds = c.delay-place.ensures.place in
     delayed-change c.args.self.now c.args.s c.args.key e c.in-Some.place c.in-Some-delay.refusal
-    (record { within = c.in-Ok.ensures.0; at = c.in-Ok.ensures.1; sound = c.in-Ok.ensures.2; bare = c.in-Ok.ensures.3; finds = subst (λ (o : Option Tid). F c.args.self.now.heap o) c.in-Some.is finds }) c.in-Some-delay.ensures
+    (record { within = c.in-Ok.ensures.0; at = c.in-Ok.ensures.1; sound = c.in-Ok.ensures.2; bare = c.in-Ok.ensures.3; finds = subst (λ (o : Option Tid). F c.args.self.now.heap o) c.in-Some.is finds })
+    (subst (λ (o : Option Refusal). MatchOption o (IsFree c.args.self.now e c.args.key) (λ refusal. Delays c.args.self.now e c.args.key refusal)) c.in-Some-delay.is c.delay-place.ensures.delay)

@@ -1,6 +1,5 @@
 use Rattle.heap_write.specs.Indexes.{entries_in}
 use Rattle.std.proofs.Common.{Option, sym, ap, subst, pos}
-use Rattle.std.specs.Prelude.{option_copied}
 use Rattle.tuple_header.specs.declared.version.Row.{Row}
 use Rattle.visibility.specs.Visible.{IsVisible}
 use Rattle.sound_entries.specs.Looking.{FirstFound}
@@ -14,4 +13,4 @@ returns-in-Ok c w agrees =
     let e = c.in-Ok.session.now in
     let G : HeapView → Option Row → Type 0 = λ h row. FirstFound h.table (IsVisible h.table e.snapshot e.own.ids) (slots_of h) (entries_in h.indexes 0) (pos c.args.key) c.args.key row in
     reads-view c.args.self.now w c.args.s e c.args.key c.copy_of.result agrees c.in-Ok.ensures.1
-    (subst (G c.args.self.now.heap) (sym c.copy_of.ensures) (subst (λ h. G h (option_copied c.row.result)) (ap (λ (st : State). st.heap) c.self.view_is) c.row.ensures))
+    (subst (G c.args.self.now.heap) (sym c.copy_of.ensures) (subst (λ h. G h c.row.result) (ap (λ (st : State). st.heap) c.self.view_is) c.row.ensures))

@@ -7,25 +7,24 @@ use Rattle.session_core.specs.Takes.{seen_by}
 use Rattle.session_core.proofs.Outcomes.{on-err}
 use Rattle.session_core.proofs.Standing.{IsSeen, NoneIsSeen, seen-stands, none-stands, gathers-all}
 use Rattle.session_core.proofs.engine.Engine.rows_on.Goals as goal
-use Rattle.session_core.proofs.engine.Engine.rows_on.Goals.{in-Some+in_ok-push, in_default}
+use Rattle.session_core.proofs.engine.Engine.rows_on.Goals.{in-Some+in_ok-add_row, in_default}
 
-pub returns-in_err-push-clause-refused : goal.returns-in_err-push-clause-refused
-returns-in_err-push-clause-refused c =
-    let is = subst (λ (st : State). IsSeen st c.args.session.now c.args.page c.loop-slot.slot c.in-Some.row.now) c.self.view_is c.in-Some.ensures in
-    on-err c.from_residual.result (c.loop-slot.slot, c.in-Some.row.now, seen-stands c.args.self.now c.args.session.now c.args.page c.loop-slot.slot c.in-Some.row.now is)
+pub returns-in_err-add_row-clause-refused : goal.returns-in_err-add_row-clause-refused
+returns-in_err-add_row-clause-refused c =
+    let is = subst (λ (st : State). IsSeen st c.args.session.now c.args.page c.loop-slot.slot c.in-Some.row) c.self.view_is c.in-Some.ensures in
+    on-err c.from_residual.result (c.loop-slot.slot, c.in-Some.row, seen-stands c.args.self.now c.args.session.now c.args.page c.loop-slot.slot c.in-Some.row is)
 
 pub loop-slot-preserved : goal.loop-slot-preserved
 loop-slot-preserved c =
     let Gathered : List Row → Type 0 = Gathers (seen c.args.self.now).version (seen_by c.args.self.now c.args.session.now) c.args.page (c.loop-slot.slot + 1) in
     elim c.match-seen_row.branch [
-      | in-Some+in_ok-push w ↦ (let is = subst (λ (st : State). IsSeen st c.args.session.now c.args.page c.loop-slot.slot w.in-Some.row.now) c.self.view_is w.in-Some.ensures in
-          let copied = subst (IsSeen c.args.self.now c.args.session.now c.args.page c.loop-slot.slot) (sym w.copy.ensures) is in
-          rw w.rows-is (subst Gathered (sym w.in_ok-push.ensures.items)
-          (Gathers-one w.copy.result (seen-stands c.args.self.now c.args.session.now c.args.page c.loop-slot.slot w.copy.result copied) c.loop-slot.invariant)))
+      | in-Some+in_ok-add_row w ↦ (let is = subst (λ (st : State). IsSeen st c.args.session.now c.args.page c.loop-slot.slot w.in-Some.row) c.self.view_is w.in-Some.ensures in
+          rw w.rows-is (subst Gathered (sym w.in_ok-add_row.ensures)
+          (Gathers-one w.in-Some.row (seen-stands c.args.self.now c.args.session.now c.args.page c.loop-slot.slot w.in-Some.row is) c.loop-slot.invariant)))
       | in_default w ↦ (let none = subst (λ (st : State). NoneIsSeen st c.args.session.now c.args.page c.loop-slot.slot) c.self.view_is w.in_default.ensures in
           rw w.rows-is (Gathers-pass (none-stands c.args.self.now c.args.session.now c.args.page c.loop-slot.slot none) c.loop-slot.invariant))
     ]
 
 pub returns-clause-taken : goal.returns-clause-taken
 returns-clause-taken c =
-    gathers-all c.args.self.now c.args.session.now c.args.page c.loop-slot.slot c.loop-slot.rows.items (omega (arith, c.loop-slot-test.false, c.slots_on-slot-end.ensures.count)) c.loop-slot.invariant
+    gathers-all c.args.self.now c.args.session.now c.args.page c.loop-slot.slot c.loop-slot.rows.items (omega (arith, c.loop-slot-test.false, c.slots_on-slots.ensures.count)) c.loop-slot.invariant

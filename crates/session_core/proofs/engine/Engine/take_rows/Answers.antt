@@ -5,10 +5,10 @@ use Rattle.session_core.proofs.Walks.{IsNextFor, NoneIsLeft}
 use Rattle.session_core.proofs.WalkSteps.{HasMet, one-met, not-at_end, all-met}
 use Rattle.session_core.proofs.engine.Engine.take_rows.Goals as goal
 
-pub returns-in_err-push-in-Some-clause-refused : goal.returns-in_err-push-in-Some-clause-refused
-returns-in_err-push-in-Some-clause-refused c =
-    let next = subst (λ (st : State). IsNextFor st c.args.session.now c.loop.left c.in-Some.mark c.in-Some.row.now) c.self.view_is c.in-Some.ensures in
-    on-err c.from_residual.result (not-at_end c.args.self.now c.args.session.now c.args.span c.loop.left c.loop.counter c.loop.rows.items c.loop.invariant c.in-Some.mark c.in-Some.row.now next)
+pub returns-in_err-add_row-in-Some-clause-refused : goal.returns-in_err-add_row-in-Some-clause-refused
+returns-in_err-add_row-in-Some-clause-refused c =
+    let next = subst (λ (st : State). IsNextFor st c.args.session.now c.loop.left c.in-Some.mark c.in-Some.row) c.self.view_is c.in-Some.ensures in
+    on-err c.from_residual.result (not-at_end c.args.self.now c.args.session.now c.args.span c.loop.left c.loop.counter c.loop.rows.items c.loop.invariant c.in-Some.mark c.in-Some.row next)
 
 pub returns-in-None-clause-taken : goal.returns-in-None-clause-taken
 returns-in-None-clause-taken c =
@@ -17,7 +17,6 @@ returns-in-None-clause-taken c =
 
 pub loop-preserved : goal.loop-preserved
 loop-preserved c =
-    let next = subst (λ (st : State). IsNextFor st c.args.session.now c.loop.left c.in-Some.mark c.in-Some.row.now) c.self.view_is c.in-Some.ensures in
-    let copied = subst (IsNextFor c.args.self.now c.args.session.now c.loop.left c.in-Some.mark) (sym c.copy.ensures) next in
-    subst (HasMet c.args.self.now c.args.session.now c.args.span (record c.loop.left { last = Some c.in-Some.mark }) (c.loop.counter + 1)) (sym c.in_ok-push-in-Some.ensures.items)
-    (one-met c.args.self.now c.args.session.now c.args.span c.loop.left c.loop.counter c.loop.rows.items c.loop.invariant c.in-Some.mark c.copy.result copied)
+    let next = subst (λ (st : State). IsNextFor st c.args.session.now c.loop.left c.in-Some.mark c.in-Some.row) c.self.view_is c.in-Some.ensures in
+    subst (HasMet c.args.self.now c.args.session.now c.args.span (record c.loop.left { last = Some c.in-Some.mark }) (c.loop.counter + 1)) (sym c.in_ok-add_row-in-Some.ensures)
+    (one-met c.args.self.now c.args.session.now c.args.span c.loop.left c.loop.counter c.loop.rows.items c.loop.invariant c.in-Some.mark c.in-Some.row next)

@@ -1,0 +1,223 @@
+//! The slots of a page as they are kept: those of all pages take little room, since each body takes only its own bytes.
+
+ghost use Rattle.std.specs.Prelude.{◌≡◌, ◌≤◌, ◌<◌, ◌+◌, ◌++◌, ◌∷◌, [], true, length, sum_by, slice_get, slice_set, slice_index_or, OnOk, OnErr, IfSome, None};
+ghost use Rattle.std.specs.Option.{option_map, option_and_then};
+ghost use Rattle.std.specs.List.{position_or_len};
+ghost use Rattle.tuple_header.specs.Faults.{header_fault};
+ghost use Rattle.page_slots.specs.Slots.{is_unused, is_dead, leads_to, version_of, target_of, with_header, taken};
+ghost use Rattle.page_slots.specs.Store.{slot_in, is_bare};
+
+use crate::item::Item;
+use crate::packing::{MOST_BYTES, keep_version};
+use crate::slot::Slot;
+use std::alloc::{AllocError, Global};
+use std::marker::Model;
+use tuple_header::{Header, Row, RowRef};
+
+/// The slots of a page, with the bodies of their versions, which stand in any order and may have gaps between them.
+#[derive(Debug, Drop)]
+pub(crate) struct Store {
+    items: Vec<Item>,
+    // Memory for all bodies of a page is asked for with that for its first slot.
+    bytes: Vec<u8>,
+}
+
+impl Model for Store {
+    ghost use Rattle.std.specs.Prelude.{◌<◌, ◌≤◌, ◌-◌, nat_lt, if◌then◌else◌, length, vec_len, vec_capacity};
+    ghost use Rattle.page_slots.specs.Stored.{StoreView};
+    ghost use Rattle.page_slots.specs.Store.{slots_in, AreWithin};
+
+    ghost Value = { StoreView };
+
+    ghost view = { λ s. record {
+      slots = slots_in s.bytes.items s.items.items;
+      spare = if nat_lt (vec_capacity s.bytes) 8168 then 0 else vec_capacity s.items - vec_len s.items;
+    } };
+
+    ghost invariant = { λ s. AreWithin (length s.bytes.items) s.items.items × (length s.bytes.items ≤ 8168) × (0 < length s.items.items → 8168 ≤ vec_capacity s.bytes) };
+}
+
+impl Store {
+    /// No slot.
+    pub(crate) fn new(alloc: Global) -> Self
+        ensures { result.slots ≡ [] }
+    {
+        Store {
+            items: Vec::new(alloc),
+            bytes: Vec::new(alloc),
+        }
+    }
+
+    /// How many slots there are.
+    pub(crate) fn len(&self) -> usize
+        ensures { result ≡ length self.now.slots }
+    {
+        self.items.len()
+    }
+
+    /// The slot at an index, by value.
+    pub(crate) fn slot(&self, index: usize) -> Option<Slot>
+        ensures { result ≡ slice_get self.now.slots index }
+    {
+        match self.items.get(index) {
+            Some(item) => Some(item.slot(&self.bytes)),
+            None => None,
+        }
+    }
+
+    /// The header of the version at an index, if there is one.
+    pub(crate) fn header(&self, index: usize) -> Option<Header>
+        ensures value { result ≡ option_map (λ t. t.header) (option_and_then version_of (slice_get self.now.slots index)) }
+        ensures faultless { IfSome result (λ header. header_fault header ≡ None) }
+    {
+        match self.items.get(index) {
+            Some(item) => item.header(),
+            None => None,
+        }
+    }
+
+    /// The key of the version at an index, if there is one.
+    pub(crate) fn key(&self, index: usize) -> Option<u64>
+        ensures { result ≡ option_map (λ t. t.row.key) (option_and_then version_of (slice_get self.now.slots index)) }
+    {
+        match self.items.get(index) {
+            Some(item) => item.key(),
+            None => None,
+        }
+    }
+
+    /// The row of the version at an index, where it stands, if there is one.
+    pub(crate) fn row(&self, index: usize) -> Option<RowRef<'_>>
+        ensures { result ≡ option_map (λ t. t.row) (option_and_then version_of (slice_get self.now.slots index)) }
+    {
+        match self.items.get(index) {
+            Some(item) => item.row(&self.bytes),
+            None => None,
+        }
+    }
+
+    /// Where the slot at an index leads, if that is a redirect.
+    pub(crate) fn redirect(&self, index: usize) -> Option<u16>
+        ensures { result ≡ option_and_then target_of (slice_get self.now.slots index) }
+    {
+        match self.items.get(index) {
+            Some(item) => item.redirect(),
+            None => None,
+        }
+    }
+
+    /// Whether the slot at an index is unused.
+    pub(crate) fn is_unused(&self, index: usize) -> bool
+        requires { index < length self.now.slots }
+        ensures { result ≡ is_unused (slice_index_or self.now.slots index Slot.Unused) }
+    {
+        self.items[index].is_unused()
+    }
+
+    /// Whether the slot at an index is dead.
+    pub(crate) fn is_dead(&self, index: usize) -> bool
+        requires { index < length self.now.slots }
+        ensures { result ≡ is_dead (slice_index_or self.now.slots index Slot.Unused) }
+    {
+        self.items[index].is_dead()
+    }
+
+    /// Whether the slot at an index is a redirect to the slot of this number.
+    pub(crate) fn leads_to(&self, index: usize, number: u16) -> bool
+        requires { index < length self.now.slots }
+        ensures { result ≡ leads_to number (slice_index_or self.now.slots index Slot.Unused) }
+    {
+        self.items[index].leads_to(number)
+    }
+
+    /// How many bytes the version at an index takes on the page.
+    pub(crate) fn taken(&self, index: usize) -> usize
+        requires { index < length self.now.slots }
+        ensures { result ≡ taken (slice_index_or self.now.slots index Slot.Unused) }
+    {
+        self.items[index].taken()
+    }
+
+    /// The index of the first unused slot, or the number of slots, where none below `from` is unused.
+    pub(crate) fn first_unused_from(&self, from: usize) -> usize
+        requires { from ≤ position_or_len is_unused self.now.slots }
+        ensures index { result ≡ position_or_len is_unused self.now.slots }
+        ensures bound { result ≤ length self.now.slots }
+    {
+        for index in from..self.len() {
+            if self.is_unused(index) {
+                return index;
+            }
+        }
+        self.len()
+    }
+
+    /// Makes room in memory for `count` more slots, and for all bodies.
+    pub(crate) fn make_room(&mut self, count: usize) -> Result<(), AllocError>
+        ensures room { OnOk result (count ≤ self.new.spare) }
+        ensures refused { OnErr result (self.old.spare < count) }
+        ensures spare { self.old.spare ≤ self.new.spare }
+        ensures slots { self.new.slots ≡ self.old.slots }
+    {
+        if count > 0 {
+            self.bytes.try_reserve_exact(MOST_BYTES - self.bytes.len())?;
+        }
+        self.items.try_reserve(count)
+    }
+
+    /// Puts a slot without a version at an index.
+    pub(crate) fn put(&mut self, index: usize, item: Item)
+        requires there { index < length self.old.slots }
+        requires bare { is_bare item ≡ true }
+        ensures { self.new ≡ record self.old { slots = slice_set self.old.slots index (slot_in [] item) } }
+    {
+        self.items[index] = item;
+    }
+
+    /// Gives the version at an index another header.
+    pub(crate) fn set_header(&mut self, index: usize, header: Header)
+        requires there { index < length self.old.slots }
+        requires faultless { header_fault header ≡ None }
+        ensures { self.new ≡ record self.old { slots = slice_set self.old.slots index (with_header (slice_index_or self.old.slots index Slot.Unused) header) } }
+    {
+        self.items[index].set_header(header);
+    }
+
+    /// Puts a version at an index.
+    pub(crate) fn put_version(&mut self, index: usize, header: Header, row: &Row)
+        requires there { index < length self.old.slots }
+        requires faultless { header_fault header ≡ None }
+        requires room { sum_by taken self.old.slots + length row.now.body.items ≤ 8168 }
+        ensures { self.new ≡ record self.old { slots = slice_set self.old.slots index (Slot.Normal (record { header = header; row = row.now })) } }
+    {
+        let item = keep_version(&mut self.items, &mut self.bytes, header, row);
+        self.items[index] = item;
+    }
+
+    /// Adds a version behind all slots, for which there is memory.
+    fn push_ready(&mut self, header: Header, row: &Row)
+        requires memory { 0 < self.old.spare }
+        requires faultless { header_fault header ≡ None }
+        requires room { sum_by taken self.old.slots + length row.now.body.items ≤ 8168 }
+        ensures slots { self.new.slots ≡ self.old.slots ++ Slot.Normal (record { header = header; row = row.now }) ∷ [] }
+        ensures spare { self.old.spare ≤ self.new.spare + 1 }
+    {
+        let item = keep_version(&mut self.items, &mut self.bytes, header, row);
+        self.items.push_reserved(item);
+    }
+
+    /// Adds a version behind all slots.
+    pub(crate) fn push_version(&mut self, header: Header, row: &Row) -> Result<(), AllocError>
+        requires faultless { header_fault header ≡ None }
+        requires room { sum_by taken self.old.slots + length row.now.body.items ≤ 8168 }
+        ensures slots { OnOk result (self.new.slots ≡ self.old.slots ++ Slot.Normal (record { header = header; row = row.now }) ∷ []) }
+        ensures spare { OnOk result (self.old.spare ≤ self.new.spare + 1) }
+        ensures refused { OnErr result (self.old.spare ≡ 0) }
+        ensures err { OnErr result (self.new.slots ≡ self.old.slots) }
+        ensures err_spare { OnErr result (self.old.spare ≤ self.new.spare) }
+    {
+        self.make_room(1)?;
+        self.push_ready(header, row);
+        Ok(())
+    }
+}

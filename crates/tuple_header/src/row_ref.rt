@@ -1,0 +1,63 @@
+//! Rows where they stand.
+
+ghost use Rattle.std.specs.Prelude.{◌≡◌, ◌≤◌, length};
+
+use crate::Row;
+use arrayvec::ArrayVec;
+use std::marker::Model;
+
+/// A row where it stands on a page, which keeps its body apart. It is looked at without a copy of the body.
+#[derive(Drop)]
+pub struct RowRef<'a> {
+    key: u64,
+    cols: [i64; 4],
+    body: &'a [u8],
+}
+
+impl<'a> Model for RowRef<'a> {
+    ghost use Rattle.std.specs.Prelude.{◌≤◌, length};
+    ghost use Rattle.tuple_header.specs.declared.version.Row.{Row as SpecRow};
+
+    ghost Value = { SpecRow };
+
+    ghost view = { λ r. record { key = r.key; cols = r.cols; body = record { items = r.body.now } } };
+
+    ghost invariant = { λ r. length r.body.now ≤ 1024 };
+}
+
+impl<'a> RowRef<'a> {
+    /// The row of this key, these columns and this body, which has at most 1024 bytes.
+    pub fn new(key: u64, cols: [i64; 4], body: &'a [u8]) -> RowRef<'a>
+        requires { length body.now ≤ 1024 }
+        ensures { result ≡ record { key = key; cols = cols; body = record { items = body.now } } }
+    {
+        RowRef { key, cols, body }
+    }
+
+    /// The key.
+    pub fn key(&self) -> u64
+        ensures { result ≡ self.now.key }
+    {
+        self.key
+    }
+
+    /// The four columns.
+    pub fn cols(&self) -> &[i64; 4]
+        ensures { result.now ≡ self.now.cols }
+    {
+        &self.cols
+    }
+
+    /// An equal row. It takes no memory.
+    pub fn copy(&self) -> Row
+        ensures { result ≡ self.now }
+    {
+        let mut row = Row {
+            key: self.key,
+            cols: self.cols,
+            body: ArrayVec::new(),
+        };
+        let _ = row.body.try_extend_from_slice(self.body);
+        row
+    }
+}
