@@ -136,10 +136,13 @@ pruned st h p w prunes agrees =
     let stays = pruned-stays st.heap h p (horizon_of st) agrees.sound.table prunes in
     let f = theory.Follows-prune (seen st) p (version_in (slots_of h)) (removes-past st w (version_in (slots_of h)) p agrees (prunes-stand st.heap h p (horizon_of st) prunes)) w agrees.found in
     let table : h.table ≡ st.heap.table = ap (λ (g : HeapView). g.table) prunes.is in
+    let limit : h.max_pages ≡ st.heap.max_pages = ap (λ (g : HeapView). g.max_pages) prunes.is in
     record {
       found = subst (λ t. relation_agrees.Agrees (seen_in (slots_of h) t st.sessions) w) (sym table) f.1;
       sound = record {
         count = agrees.sound.count;
+        max_pages = limit ∙ agrees.sound.max_pages;
+        stop_age = rw table agrees.sound.stop_age;
         window = rw table agrees.sound.window;
         sessions = rw table agrees.sound.sessions;
         tops = rw table agrees.sound.tops;

@@ -169,6 +169,11 @@ tops-given xs w v parent is gives tops x done active =
     let top : top_of v x ≡ top_of w x = given-top_old xs w v parent x gives is (is-from_some (place w x) at.0 at.1) in
     tops x was (sym (given-status xs w v parent (top_of w x) gives is) ∙ (ap (status_of v) (sym top) ∙ active))
 
+-- the limit of ids stays
+given-stop_age : (xs : List ℕ) (w v : Window) (parent : Option ℕ) → GivesUnder w parent xs v → v.stop_age ≡ w.stop_age
+given-stop_age [] w v parent g = ap (λ (w : Window). w.stop_age) g
+given-stop_age (x ∷ xs) w v parent g = given-stop_age xs g.0 v (Some x) g.3 ∙ g.2.stop_age
+
 -- The engine after a write, or after one that failed.
 
 -- what holds of all that is held back, and of what the session holds back now, holds of all that is held back then
@@ -197,14 +202,16 @@ module _ (st : State) (w : World) (h : HeapView) (s : ℕ) (e e' : Session) (at 
       held = held-then {P = λ y. IsUpToNext h.table y} st.sessions s e e' at (λ o f y bt among. upto y (held-in st w agrees o f y bt among)) (λ y among. (mine y among).0)
 
   -- the session's ids stay
-  pub Sound-kept : SameSession e e' → SameIds st.heap.table h.table → StaysSoundTable st.heap h (horizon_of st) → Sound (with_write st h s e')
-  Sound-kept same ids stays =
+  pub Sound-kept : SameSession e e' → SameIds st.heap.table h.table → h.max_pages ≡ st.heap.max_pages → StaysSoundTable st.heap h (horizon_of st) → Sound (with_write st h s e')
+  Sound-kept same ids limit stays =
       let sound = stays.sound in
       let is = spared-is st.heap.table h.table ids in
       let k = h.table.spare in
       let table = st.heap.table in
       record {
         count = length-set st.sessions s (Some e') ∙ agrees.sound.count;
+        max_pages = limit ∙ agrees.sound.max_pages;
+        stop_age = ids.stop_age ∙ agrees.sound.stop_age;
         window = rw is (window-spared table k agrees.sound.window);
         sessions = λ o f bt. rw is (elim (open-set_cases st.sessions s o (Some e') f (open-within st.sessions s e at) bt) [
           | inl now ↦ subst (λ f. SessionKeeps (spared table k) f) (same_Some e' f now.1) (keeps-spared table k e e' same (agrees.sound.sessions s e at))
@@ -221,8 +228,8 @@ module _ (st : State) (w : World) (h : HeapView) (s : ℕ) (e e' : Session) (at 
       }
 
   -- the session has taken ids
-  pub Sound-given : (own : Own) (x : ℕ) → TakesIds st.heap.table h.table e.own own x → e' ≡ with_own e own → IsWindow h.table → StaysSoundTable st.heap h (horizon_of st) → Sound (with_write st h s e')
-  Sound-given own x takes is window stays =
+  pub Sound-given : (own : Own) (x : ℕ) → TakesIds st.heap.table h.table e.own own x → e' ≡ with_own e own → IsWindow h.table → h.max_pages ≡ st.heap.max_pages → StaysSoundTable st.heap h (horizon_of st) → Sound (with_write st h s e')
+  Sound-given own x takes is window limit stays =
       let sound = stays.sound in
       let table = st.heap.table in
       let parent = level_id e.own.ids e.own.saved in
@@ -230,6 +237,8 @@ module _ (st : State) (w : World) (h : HeapView) (s : ℕ) (e e' : Session) (at 
       λ o f bt y mine. (active-to table y ((agrees.found.opened o (reader_of f) (reader-is st o f bt)).2.own_active y mine)).is_given in
       record {
         count = length-set st.sessions s (Some e') ∙ agrees.sound.count;
+        max_pages = limit ∙ agrees.sound.max_pages;
+        stop_age = given-stop_age takes.given table h.table parent takes.gives ∙ agrees.sound.stop_age;
         window = window;
         sessions = λ o f bt. elim (open-set_cases st.sessions s o (Some e') f (open-within st.sessions s e at) bt) [
           | inl now ↦ subst (λ f. SessionKeeps h.table f) (sym is ∙ same_Some e' f now.1) (keeps-taken table h.table e own x window takes (there s e at) (agrees.sound.sessions s e at))

@@ -71,7 +71,7 @@ module _ (st : State) (w : World) (s : ℕ) (e e' : Session) (at : session_at st
         record {
           found = subst (λ slots. theory.Agrees (seen_in slots h.table (set st.sessions s (Some e'))) w') (sym keeps.slots)
               (found-kept (slots_of st.heap) st.heap.table h.table st.sessions s e e' w' at same keeps.table found);
-          sound = Sound-kept st w h s e e' at agrees same keeps.table stays;
+          sound = Sound-kept st w h s e e' at agrees same keeps.table keeps.max_pages stays;
         },
         stays.led,
       )
@@ -88,7 +88,7 @@ module _ (st : State) (w : World) (s : ℕ) (e e' : Session) (at : session_at st
         record {
           found = subst (λ slots. theory.Agrees (seen_in slots h.table (set st.sessions s (Some e'))) w') (sym keeps.slots)
               (found-kept (slots_of ready) st.heap.table h.table st.sessions s e e' w' at same ids pruned);
-          sound = Sound-kept st w h s e e' at agrees same ids stays;
+          sound = Sound-kept st w h s e e' at agrees same ids (keeps.max_pages ∙ ready-limit readies) stays;
         },
         stays.led,
       )
@@ -99,6 +99,10 @@ module _ (st : State) (w : World) (s : ℕ) (e e' : Session) (at : session_at st
       ready-ids : Readies st.heap ready n (horizon_of st) size → SameIds st.heap.table ready.table
       ready-ids (Readies.has_room room is) = rw is (record { first = refl; stop_age = refl; entries = refl })
       ready-ids (Readies.is_pruned full grown keeps prunes) = rw prunes.is keeps.table
+
+      ready-limit : Readies st.heap ready n (horizon_of st) size → ready.max_pages ≡ st.heap.max_pages
+      ready-limit (Readies.has_room room is) = ap (λ (g : HeapView). g.max_pages) is
+      ready-limit (Readies.is_pruned full grown keeps prunes) = ap (λ (g : HeapView). g.max_pages) prunes.is ∙ keeps.max_pages
 
 -- Inserts.
 
@@ -118,7 +122,7 @@ module _ (st : State) (w : World) (s : ℕ) (text : RowText) (e : Session) (free
       let done = insert_done (seen st) (seen_in (slots_of st.heap) h.table (set st.sessions s (Some e'))) w s (reader_of e) (reader_of e') text x (free_place st.heap i.number) new (version_in (slots_of h))
       free fits agrees.found still (reader-now st w h.table s e own x at i.takes_ids window agrees) (current-now st w h.table s e own x at i.takes_ids window agrees)
       (adds-from (version_in (slots_of st.heap)) (version_in (slots_of h)) (free_place st.heap i.number) new (inserts-stand st.heap h e.own own row x i)) (is-new x row new (root-new st.heap false x row i.number)) refl in
-      (done.0, record { found = done.1; sound = Sound-given st w h s e e' at agrees own x i.takes_ids refl window stays }, stays.led)
+      (done.0, record { found = done.1; sound = Sound-given st w h s e e' at agrees own x i.takes_ids refl window i.max_pages stays }, stays.led)
 
   insert-fails : (h : HeapView) (e' : Session) (f : WriteFault) → SameSession e e' → LacksForInsert st.heap e.own (row_of text) f → Keeps st.heap h
       → Allows w (Insert s text) (reply_for (Err f)) × Agrees (with_write st h s e') (next w (Insert s text) (reply_for (Err f))) × StaysLed st (with_write st h s e')
@@ -190,7 +194,7 @@ module _ (st : State) (w : World) (s : ℕ) (text : RowText) (e : Session) (plac
       (updates-ready st.heap h e.own own place row (horizon_of st) x t u target.there) (seen-now st w s text.key e place t target at agrees h.table own x u.takes_ids window) target.of_key
       (adds-from (version_in (slots_of u.ready)) put.added put.to put.new put.adds) (is-new x row put.new put.is_new) put.is_new.of_row
       (alters-from put.added (version_in (slots_of h)) place t (taken_version t x put.to put.hot) put.alters) (is-deleted h.table x t put.to put.hot active) in
-      (done.0, record { found = done.1; sound = Sound-given st w h s e e' at agrees own x u.takes_ids refl window stays }, stays.led)
+      (done.0, record { found = done.1; sound = Sound-given st w h s e e' at agrees own x u.takes_ids refl window u.max_pages stays }, stays.led)
 
   update-fails : (h : HeapView) (e' : Session) (f : WriteFault) → SameSession e e' → FailsUpdate st.heap h e.own place (row_of text) (horizon_of st) f
       → Allows w (Update s text) (reply_for (Err f)) × Agrees (with_write st h s e') (next w (Update s text) (reply_for (Err f))) × StaysLed st (with_write st h s e')
@@ -242,7 +246,7 @@ module _ (st : State) (w : World) (s key : ℕ) (e : Session) (place : Tid) (t :
       free refl agrees.found still (reader-now st w h.table s e own x at d.takes_ids window agrees) (current-now st w h.table s e own x at d.takes_ids window agrees)
       (seen-now st w s key e place t target at agrees h.table own x d.takes_ids window) target.of_key
       (alters-from (version_in (slots_of st.heap)) (version_in (slots_of h)) place t (taken_version t x place false) alters) (is-deleted h.table x t place false active) in
-      (done.0, record { found = done.1; sound = Sound-given st w h s e e' at agrees own x d.takes_ids refl window stays }, stays.led)
+      (done.0, record { found = done.1; sound = Sound-given st w h s e e' at agrees own x d.takes_ids refl window d.max_pages stays }, stays.led)
 
   delete-fails : (h : HeapView) (e' : Session) (f : WriteFault) → SameSession e e' → FailsDelete st.heap h e.own place f
       → Allows w (Delete s key) (reply_for (Err f)) × Agrees (with_write st h s e') (next w (Delete s key) (reply_for (Err f))) × StaysLed st (with_write st h s e')

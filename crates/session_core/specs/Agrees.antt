@@ -30,6 +30,9 @@ pub record SessionKeeps (w : Window) (e : Session) : Type 0 where
 -- what the ids and the pages of an engine keep
 pub record Sound (st : State) : Type 0 where
   pub count : length st.sessions ≡ 64
+  -- no more pages may be in use, and no id is given further from the first, than the settings say
+  pub max_pages : st.heap.max_pages ≡ st.settings.max_pages
+  pub stop_age : st.heap.table.stop_age ≡ st.settings.stop_age
   -- the window is shorter than half the circle
   pub window : IsWindow st.heap.table
   pub sessions : (s : ℕ) (e : Session) → session_at st s ≡ Some e → SessionKeeps st.heap.table e

@@ -4,23 +4,24 @@ use Rattle.std.specs.Prelude.{◌≡◌, ◌⊎◌, ℕ, ◌<◌, ◌≤◌, len
 use Rattle.std.specs.Option.{option_map}
 use Rattle.xid_circle.specs.declared.Tid.{Tid}
 use Rattle.tuple_header.specs.declared.version.Row.{Row}
+use Rattle.commit_status.specs.declared.status.Status.TheVariants as status
 use Rattle.commit_status.specs.Window.{next_id}
-use Rattle.snapshot.specs.Snap.{taken}
+use Rattle.snapshot.specs.Snap.{Snap, taken}
 use Rattle.heap_write.specs.Heap.{HeapView}
 use Rattle.heap_write.specs.Writes.{Prunes}
 use Rattle.heap_write.specs.declared.heap.WriteFault.{WriteFault}
 use Rattle.heap_write.specs.declared.heap.WriteFault.TheVariants as fault
 use Rattle.session_relation.specs.declared.step.Step.{Step}
-use Rattle.session_relation.specs.declared.step.Step.TheVariants.{Begin, Get, Insert, Update, Delete, Savepoint, RollbackTo, Release, OpenIndex, OpenHeap, Next, Close, Prune}
+use Rattle.session_relation.specs.declared.step.Step.TheVariants.{Begin, Get, Insert, Update, Delete, Savepoint, RollbackTo, Release, OpenIndex, OpenHeap, Next, Close, Commit, Abort, Prune}
 use Rattle.session_relation.specs.declared.reply.Reply.{Reply}
-use Rattle.session_relation.specs.declared.reply.Reply.TheVariants.{Done, Rows, End, Refused}
+use Rattle.session_relation.specs.declared.reply.Reply.TheVariants.{Done, Rows, End, Committed, RolledBack, Refused}
 use Rattle.session_relation.specs.declared.reply.Refusal.TheVariants.{NotThere, Conflict, NoRoom, NeedsFreeze, NoMemory, NoSuchPage, NoSuchIndex, BadBounds}
 use Rattle.session_relation.specs.Words.{row_of}
 use Rattle.session_core.specs.declared.session.Session.{Session}
 use Rattle.session_core.specs.declared.cursor.Cursor.{Cursor}
 use Rattle.session_core.specs.declared.cursor.Cursor.TheVariants.{Index, Heap}
 use Rattle.session_core.specs.State.{State, session_at, index_at, put_session, map_session, with_cursor, as_failed, owns_of, horizon_of}
-use Rattle.session_core.specs.Changes.{SetsSavepoint, Releases, Becomes, RollsBack}
+use Rattle.session_core.specs.Changes.{Opens, Closes, SetsSavepoint, Releases, Becomes, RollsBack}
 use Rattle.session_core.specs.Takes.{HandsOut}
 use Rattle.session_core.specs.Tests.{MayWrite}
 use Rattle.session_core.specs.Writes.{TriesInsert, TriesUpdate, TriesDelete}
@@ -80,15 +81,13 @@ pub record Cleans (old new : State) (p : ℕ) : Type 0 where
   pub sessions : new.sessions ≡ old.sessions
   pub heap : Prunes old.heap new.heap p (horizon_of old)
 
--- the pages and the index are as they were
-pub record KeepsPages (old new : State) : Type 0 where
-  pub settings : new.settings ≡ old.settings
-  pub pages : new.heap.pages ≡ old.heap.pages
-  pub indexes : new.heap.indexes ≡ old.heap.indexes
+-- the snapshot that is taken now
+abbrev pub snapshot_of : State → Snap
+snapshot_of st = taken (next_id st.heap.table) (owns_of st.sessions)
 
--- a snapshot that is taken now lists more ids than it holds without memory
+-- it lists more ids than it holds without memory
 abbrev pub MustList : State → Type 0
-MustList st = 8 < length (taken (next_id st.heap.table) (owns_of st.sessions)).listed
+MustList st = 8 < length (snapshot_of st).listed
 
 -- a savepoint more than the session can note without memory
 abbrev pub MustNote : State → ℕ → Type 0
@@ -99,10 +98,12 @@ abbrev pub HasCursor : State → State → ℕ → Option Cursor → Type 0
 HasCursor old new s cursor = new ≡ put_session old s (map_session (with_cursor cursor) (session_at old s))
 
 -- Beside what the history says of a reply: a read and a refusal leave all as it was, but for a page that an update has pruned;
--- a beginning and an end leave all pages as they were, as do savepoints; a return to a savepoint aborts the ids that were given
--- since, and no others; a step of a cursor changes that cursor alone; and memory is refused only where something has to grow,
--- never at a read, a return to a savepoint or its release, at the opening or closing of a cursor, a commit, an abort or a prune.
+-- a beginning takes the snapshot of that moment and no id, and an end gives its status to the session's ids, and no others; neither
+-- changes a page, nor do savepoints; a return to one aborts the ids that were given since, and no others; a step of a cursor
+-- changes that cursor alone; and memory is refused only where something has to grow, never at a read, a return to a savepoint
+-- or its release, at the opening or closing of a cursor, a commit, an abort or a prune.
 abbrev pub Exact : State → Step → Reply → State → Type 0
+Exact old (Begin s) Done new = Opens old new s (snapshot_of old)
 Exact old (Begin s) (Refused NoMemory) new = MustList old × (new ≡ old)
 Exact old (Insert s row) reply new = ExactInsert old s (row_of row) reply new
 Exact old (Update s row) reply new = ExactUpdate old s (row_of row) reply new
@@ -119,8 +120,11 @@ Exact old (OpenHeap s) Done new = HasCursor old new s (Some (Heap 0))
 Exact old (Next s n) (Rows rows) new = HandsOut old new s rows.items
 Exact old (Next s n) End new = new ≡ old
 Exact old (Close s) Done new = HasCursor old new s None
+Exact old (Commit s) Committed new = Closes old new s status.Committed
+Exact old (Commit s) RolledBack new = Closes old new s status.Aborted
+Exact old (Abort s) RolledBack new = Closes old new s status.Aborted
 Exact old (Prune p) Done new = Cleans old new p
 Exact old (Prune p) (Refused NoSuchPage) new = (length old.heap.pages.pages ≤ p) × (new ≡ old)
 Exact old (Prune p) (Refused NoMemory) new = ⊥
 Exact old step (Refused refusal) new = new ≡ old
-Exact old step reply new = KeepsPages old new
+Exact old step reply new = ⊥

@@ -81,6 +81,7 @@ impl Engine {
     pub fn new(alloc: Global, settings: Settings) -> Result<Engine, SettingsFault>
         ensures agrees { IfOk result (λ e. Agrees e empty) }
         ensures settings { IfOk result (λ e. e.settings ≡ settings) }
+        ensures first { IfOk result (λ e. e.heap.table.first ≡ settings.first_xid) }
         ensures fault { IfErr result (λ fault. FirstFault settings fault) }
         ensures valid { OnOk result (AreSettings settings) }
     {

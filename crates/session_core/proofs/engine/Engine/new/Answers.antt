@@ -10,4 +10,4 @@ invariant_of-result c =
     keeps-idle c.in-Ok.sessions.items c.new.result.table c.in-Ok.ensures (ap length c.in-Ok.ensures ∙ length-replicate {A = Option Session} 64 None)
 
 pub returns-clause-agrees : goal.returns-clause-agrees
-returns-clause-agrees c = Agrees-new _ c.new.ensures.pages c.new.ensures.indexes c.new.ensures.entries c.new.ensures.window c.in-Ok.ensures
+returns-clause-agrees c = Agrees-new _ c.new.ensures.pages c.new.ensures.indexes c.new.ensures.entries c.new.ensures.window c.new.ensures.max_pages c.new.ensures.stop_age c.in-Ok.ensures
