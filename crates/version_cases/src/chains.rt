@@ -5,7 +5,7 @@ use crate::table::{
     root, same, slots, window,
 };
 use commit_status::StatusTable;
-use hot_chain::{chain_is_one, fetch};
+use hot_chain::{chain_is_one, fetch, is_root};
 use page_slots::Page;
 use std::alloc::Global;
 use xid_circle::Xid;
@@ -72,6 +72,10 @@ fn redirect_to_a_chain(rt: HostRuntime) {
     holds(&rt, has_chain(&page, 4, &table, &[4]));
     same(&rt, root(&page, 3, &table), Some(1));
     same(&rt, root(&page, 4, &table), Some(4));
+    // a redirect, two heap-only versions, another row's, and no slot
+    for (slot, leads) in [(1u16, true), (2, false), (3, false), (4, true), (5, false)] {
+        same(&rt, is_root(&page, slot), leads);
+    }
     same(
         &rt,
         found(rt.alloc(), &page, 1, &table),
