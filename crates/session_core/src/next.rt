@@ -12,6 +12,7 @@ ghost use Rattle.session_core.specs.Takes.{IsAt, IsNotAtEnd, TakesRows, SomeStan
 use crate::cursor::Cursor;
 use crate::engine::Engine;
 use crate::session::Session;
+use arrayvec::ArrayVec;
 use heap_write::Span;
 use session_relation::{Refusal, Reply, Row};
 use std::alloc::AllocError;
@@ -19,7 +20,7 @@ use tuple_header::RowRef;
 use xid_circle::Tid;
 
 /// For how many rows memory is asked for with the first, at most.
-const AT_ONCE: usize = 64;
+const AT_ONCE: usize = 128;
 
 /// Adds a copy of a row to those that are handed out, of which there may be so many in all.
 fn add_row(rows: &mut Vec<Row>, row: &RowRef<'_>, most: u16) -> Result<(), AllocError>
@@ -32,7 +33,14 @@ fn add_row(rows: &mut Vec<Row>, row: &RowRef<'_>, most: u16) -> Result<(), Alloc
         1
     };
     rows.try_reserve(more)?;
-    rows.push_reserved(row.copy());
+    // and is written where it stays
+    let place = rows.as_slice().len();
+    rows.push_reserved(Row {
+        key: 0,
+        cols: [0; 4],
+        body: ArrayVec::new(),
+    });
+    row.copy_to(&mut rows[place]);
     Ok(())
 }
 

@@ -102,6 +102,13 @@ pub fn parts(row: &RowRef<'_>) -> (u64, [i64; 4], Row) {
     (row.key(), *row.cols(), row.copy())
 }
 
+/// What becomes of another row that the row is copied to.
+pub fn copied_over_another(row: &RowRef<'_>) -> Row {
+    let mut other = version_of(4, [1, 2, 3, 4], 7).row;
+    row.copy_to(&mut other);
+    other
+}
+
 /// The version's bytes, and then sevens.
 pub fn bytes_of(version: &Tuple) -> [u8; 1090] {
     let mut out = [7; 1090];

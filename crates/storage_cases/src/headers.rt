@@ -1,7 +1,8 @@
 //! Versions whose bytes were written down by hand.
 
 use crate::calls::{
-    bytes_of, decoded, fault, in_place, law_of_bytes, marks, parts, put, version_of,
+    bytes_of, copied_over_another, decoded, fault, in_place, law_of_bytes, marks, parts, put,
+    version_of,
 };
 use arrayvec::ArrayVec;
 use std::process::Abort;
@@ -153,7 +154,10 @@ fn rows_in_place(rt: HostRuntime) {
     for size in [0, 1024] {
         let expected = version_of(u64::MAX, [5, 0, -1, -2], size).row;
         match in_place(u64::MAX, [5, 0, -1, -2], expected.body.as_slice()) {
-            Some(row) => assert_eq!(rt; parts(&row), (u64::MAX, [5, 0, -1, -2], expected.copy())),
+            Some(row) => {
+                assert_eq!(rt; parts(&row), (u64::MAX, [5, 0, -1, -2], expected.copy()));
+                assert_eq!(rt; copied_over_another(&row), expected);
+            }
             None => assert!(rt; false, "a body of 1024 bytes is not too long"),
         }
     }

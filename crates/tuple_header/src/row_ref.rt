@@ -53,11 +53,21 @@ impl<'a> RowRef<'a> {
         ensures { result ≡ self.now }
     {
         let mut row = Row {
-            key: self.key,
-            cols: self.cols,
+            key: 0,
+            cols: [0; 4],
             body: ArrayVec::new(),
         };
-        let _ = row.body.try_extend_from_slice(self.body);
+        self.copy_to(&mut row);
         row
+    }
+
+    /// Makes the other row equal to this one, where it stands. It takes no memory.
+    pub fn copy_to(&self, row: &mut Row)
+        ensures { row.new ≡ self.now }
+    {
+        row.key = self.key;
+        row.cols = self.cols;
+        row.body.clear();
+        let _ = row.body.try_extend_from_slice(self.body);
     }
 }
