@@ -49,6 +49,20 @@ lower-cases a b = by_value a b (int_cmp a.value b.value) refl
 above : (x y : ℤ) → ¬ (x ≤ℤ y) → y <ℤ x
 above x y h = grind (arith, ints)
 
+-- Places of the order, and entries that are there.
+
+-- the place of this entry's value and key
+abbrev pub IsPlaceOf : Entry → Mark → Type 0
+IsPlaceOf f mark = (mark.value ≡ f.value) × (mark.key ≡ f.key)
+
+pub lower-from_after : (f e : Entry) (mark : Mark) → IsPlaceOf f mark → ComesAfter e (Some mark) → IsLower f e
+lower-from_after f e mark is (inl lt) = inl (subst (λ v. v <ℤ e.value) is.0 lt)
+lower-from_after f e mark is (inr (same, lt)) = inr (sym is.0 ∙ same, subst (λ k. k < e.key) is.1 lt)
+
+pub after-from_lower : (f e : Entry) (mark : Mark) → IsPlaceOf f mark → IsLower f e → ComesAfter e (Some mark)
+after-from_lower f e mark is (inl lt) = inl (subst (λ v. v <ℤ e.value) (sym is.0) lt)
+after-from_lower f e mark is (inr (same, lt)) = inr (is.0 ∙ same, subst (λ k. k < e.key) (sym is.1) lt)
+
 -- From the beginning of a span.
 
 least-same : (entries : List Entry) (P Q : Entry → Type 0) (r : Option Entry) → ((e : Entry) → P e ↔ Q e) → IsLeast entries P r → IsLeast entries Q r

@@ -1,5 +1,5 @@
 -- A walk along an index goes from place to place, until a row is found.
-use Rattle.std.proofs.Common.{◌≡◌, ◌⊎◌, inl, inr, ⊎_elim, ℕ, ◌+◌, ◌<◌, ◌≤◌, ℤ, List, length, Option, Some, None, slice_get, sym, ap, subst, ◌∙◌, arith, Contains}
+use Rattle.std.proofs.Common.{◌≡◌, ◌⊎◌, inl, inr, ⊎_elim, ℕ, ◌+◌, ◌<◌, ◌≤◌, ℤ, ◌<ℤ◌, List, length, Option, Some, None, slice_get, subst, ◌∙◌, arith, Contains}
 use Rattle.std.proofs.lemmas.Bool.{cases_lt}
 use Rattle.std.proofs.lemmas.Int.{ints}
 use Rattle.std.proofs.lemmas.Option.{slice_get_within}
@@ -15,7 +15,7 @@ use Rattle.sound_entries.specs.Looking.{FirstFound}
 use Rattle.heap_write.specs.declared.walking.Mark.{Mark}
 use Rattle.heap_write.specs.declared.walking.Span.{Span}
 use Rattle.heap_write.specs.Walking.{ComesBefore, ComesAfter, LiesIn, IsNextRow}
-use Rattle.heap_write.proofs.SpanLemmas.{IsLower, lower-precedes, lower-cases}
+use Rattle.heap_write.proofs.SpanLemmas.{IsLower, lower-precedes, lower-cases, IsPlaceOf, lower-from_after, after-from_lower}
 
 -- After some turns this part of the span is left.
 pub record Walked (entries : List Entry) (HasNone : ℤ → ℕ → Type 0) (span left : Span) (turn : ℕ) : Type 0 where
@@ -31,12 +31,9 @@ walked-first entries HasNone span = record {
   behind = λ k e lt at lies. omega (arith, lt);
 }
 
-abbrev pub mark_of : Entry → Mark
-mark_of e = record { value = e.value; key = e.key }
-
--- what is left of a span after this entry's place
-abbrev pub past : Span → Entry → Span
-past left f = record left { last = Some (mark_of f) }
+-- what is left of a span after this place
+abbrev pub past : Span → Mark → Span
+past left mark = record left { last = Some mark }
 
 after-then : (e f : Entry) (o : Option Mark) → ComesAfter f o → IsLower f e → ComesAfter e o
 after-then e f None after later = tt
@@ -45,16 +42,16 @@ after-then e f (Some m) (inl lt) (inr (same, lt')) = inl (omega (arith, ints, lt
 after-then e f (Some m) (inr (same, lt)) (inl lt') = inl (omega (arith, ints, same, lt'))
 after-then e f (Some m) (inr (same, lt)) (inr (same', lt')) = inr (same ∙ same', omega (arith, lt, lt'))
 
-past-of : (left : Span) (f e : Entry) → LiesIn left f → LiesIn (past left f) e → LiesIn left e
-past-of left f e first lies = record { from = lies.from; to = lies.to; after = after-then e f left.last first.after lies.after }
+past-of : (left : Span) (f e : Entry) (mark : Mark) → IsPlaceOf f mark → LiesIn left f → LiesIn (past left mark) e → LiesIn left e
+past-of left f e mark is first lies = record { from = lies.from; to = lies.to; after = after-then e f left.last first.after (lower-from_after f e mark is lies.after) }
 
-past-rest : (entries : List Entry) (HasNone : ℤ → ℕ → Type 0) (left : Span) (f e : Entry) → IsLeast entries (LiesIn left) (Some f) → HasNone f.value f.key → Contains entries e → LiesIn left e
-    → LiesIn (past left f) e ⊎ HasNone e.value e.key
-past-rest entries HasNone left f e least none there lies = elim (lower-cases e f) [
+past-rest : (entries : List Entry) (HasNone : ℤ → ℕ → Type 0) (left : Span) (f e : Entry) (mark : Mark) → IsPlaceOf f mark → IsLeast entries (LiesIn left) (Some f) → HasNone f.value f.key
+    → Contains entries e → LiesIn left e → LiesIn (past left mark) e ⊎ HasNone e.value e.key
+past-rest entries HasNone left f e mark is least none there lies = elim (lower-cases e f) [
   | inl lower ↦ absurd (least.2 e there lies (lower-precedes e f lower))
   | inr rest ↦ elim rest [
     | inl same ↦ inr (rw (same.0, same.1) none)
-    | inr higher ↦ inl (record { from = lies.from; to = lies.to; after = higher })
+    | inr higher ↦ inl (record { from = lies.from; to = lies.to; after = after-from_lower f e mark is higher })
   ]
 ]
 
@@ -64,21 +61,16 @@ reached entries HasNone span left turn i f l at lies = elim (cases_lt i turn) [
   | inr le ↦ le
 ]
 
-pub walked-next : (entries : List Entry) (HasNone : ℤ → ℕ → Type 0) (span left : Span) (turn : ℕ) (f : Entry) → IsAscending entries → Walked entries HasNone span left turn
-    → IsLeast entries (LiesIn left) (Some f) → HasNone f.value f.key → Walked entries HasNone span (past left f) (turn + 1)
-walked-next entries HasNone span left turn f up l least none = record {
-  of = λ e lies. l.of e (past-of left f e least.1 lies);
-  rest = λ e there lies. ⊎_elim (λ in_left. past-rest entries HasNone left f e least none there in_left) (λ has. inr has) (l.rest e there lies);
+pub walked-on : (entries : List Entry) (HasNone : ℤ → ℕ → Type 0) (span left : Span) (turn : ℕ) (f : Entry) (mark : Mark) → IsAscending entries → Walked entries HasNone span left turn
+    → IsLeast entries (LiesIn left) (Some f) → IsPlaceOf f mark → HasNone f.value f.key → Walked entries HasNone span (past left mark) (turn + 1)
+walked-on entries HasNone span left turn f mark up l least is none = record {
+  of = λ e lies. l.of e (past-of left f e mark is least.1 lies);
+  rest = λ e there lies. ⊎_elim (λ in_left. past-rest entries HasNone left f e mark is least none there in_left) (λ has. inr has) (l.rest e there lies);
   behind = λ k e lt at lies.
       let p = place_of entries f least.0 in
       let le = reached entries HasNone span left turn p.0 f l p.1 least.1 in
-      (start_after entries f p.0 up p.1).before k e (omega (arith, lt, le)) at (lower-precedes f e lies.after);
+      (start_after entries f p.0 up p.1).before k e (omega (arith, lt, le)) at (lower-precedes f e (lower-from_after f e mark is lies.after));
 }
-
-pub walked-on : (entries : List Entry) (HasNone : ℤ → ℕ → Type 0) (span left : Span) (turn : ℕ) (f : Entry) (mark : Mark) → IsAscending entries → Walked entries HasNone span left turn
-    → IsLeast entries (LiesIn left) (Some f) → mark ≡ mark_of f → HasNone f.value f.key → Walked entries HasNone span (record left { last = Some mark }) (turn + 1)
-walked-on entries HasNone span left turn f mark up l least is none =
-    subst (λ (m : Mark). Walked entries HasNone span (record left { last = Some m }) (turn + 1)) (sym is) (walked-next entries HasNone span left turn f up l least none)
 
 -- The end, of one kind or the other.
 
@@ -96,18 +88,22 @@ pub walked-none : (entries : List Entry) (HasNone : ℤ → ℕ → Type 0) (spa
     → (e : Entry) → Contains entries e → LiesIn span e → HasNone e.value e.key
 walked-none entries HasNone span left turn l least e there lies = ⊎_elim (λ in_left. absurd (least e there in_left)) (λ has. has) (l.rest e there lies)
 
+before-lower : (f e : Entry) (mark : Mark) → IsPlaceOf f mark → ComesBefore e mark → IsLower e f
+before-lower f e mark is (inl lt) = inl (subst (λ v. e.value <ℤ v) is.0 lt)
+before-lower f e mark is (inr (same, lt)) = inr (same ∙ is.0, subst (λ k. e.key < k) is.1 lt)
+
 pub walked-row : (w : Window) (seen : Header → Type 0) (pages : List (List Slot)) (entries : List Entry) (span left : Span) (turn : ℕ) (f : Entry) (mark : Mark) (row : Row)
-    → Walked entries (λ value key. FirstFound w seen pages entries value key None) span left turn → IsLeast entries (LiesIn left) (Some f) → mark ≡ mark_of f
+    → Walked entries (λ value key. FirstFound w seen pages entries value key None) span left turn → IsLeast entries (LiesIn left) (Some f) → IsPlaceOf f mark
     → FirstFound w seen pages entries f.value f.key (Some row) → IsNextRow w seen pages entries span mark row
 walked-row w seen pages entries span left turn f mark row l least is found = record {
   entry = f;
   there = least.0;
   lies = l.of f least.1;
-  value = ap (λ (m : Mark). m.value) is;
-  key = ap (λ (m : Mark). m.key) is;
-  found = subst (λ (m : Mark). FirstFound w seen pages entries m.value m.key (Some row)) (sym is) found;
+  value = is.0;
+  key = is.1;
+  found = rw (is.0, is.1) found;
   none_before = λ e there lies before. ⊎_elim
-      (λ in_left. absurd (least.2 e there in_left (lower-precedes e f (subst (ComesBefore e) is before))))
+      (λ in_left. absurd (least.2 e there in_left (lower-precedes e f (before-lower f e mark is before))))
       (λ has. has)
       (l.rest e there lies);
 }

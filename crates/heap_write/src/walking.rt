@@ -2,7 +2,8 @@
 
 ghost use Rattle.std.specs.Prelude.{◌≡◌, ◌↔◌, ◌≤◌, ◌≤ℤ◌, length, Some, IsTrue, FitsSigned};
 ghost use Rattle.std.specs.Int.{w128};
-ghost use Rattle.root_index.specs.Sets.{IsLeast, IsBelow};
+ghost use Rattle.std.specs.Option.{option_map};
+ghost use Rattle.root_index.specs.Sets.{IsLeast, IsBelow, IsOf};
 ghost use Rattle.visibility.specs.Visible.{IsVisible};
 ghost use Rattle.sound_entries.specs.Looking.{slots_of as slots_in};
 ghost use Rattle.heap_write.specs.Heap.{slots_of};
@@ -12,7 +13,7 @@ ghost use Rattle.heap_write.specs.Walking.{ComesAfter, last_at, StartsIn, LiesIn
 use crate::heap::HeapState;
 use commit_status::StatusTable;
 use heap_pages::Pages;
-use root_index::{Entry, RootIndex};
+use root_index::{Entry, Near, RootIndex};
 use snapshot::{OwnIds, Snapshot};
 use sound_entries::row_from;
 use tuple_header::RowRef;
@@ -24,6 +25,10 @@ use xid_circle::Tid;
 pub struct Mark {
     pub value: i128,
     pub key: u64,
+    /// The root to which the entry of this value and key leads, and where that entry stood. Nothing but the search that they
+    /// spare depends on them.
+    pub tid: Tid,
+    pub near: Near,
 }
 
 /// Part of an index: what lies between two values, both included, and after a place of its order, if one is given.
@@ -124,13 +129,44 @@ fn last_at(mark: &Mark) -> Entry
     }
 }
 
-/// The first entry that comes after a place of the order.
-fn after_mark(index: &RootIndex, mark: &Mark) -> Option<Entry>
-    ensures { IsLeast index.now.entries (λ e. ComesAfter e (Some mark.now)) result }
+/// The entry at a place of the order, by the root that it leads to.
+fn entry_of(mark: &Mark) -> Entry
+    ensures value { result.value ≡ mark.now.value }
+    ensures key { result.key ≡ mark.now.key }
 {
-    let entry = index.next_after(Some(last_at(mark)))?;
+    Entry {
+        value: mark.value,
+        key: mark.key,
+        tid: mark.tid,
+    }
+}
+
+/// Whether the entry is at this place of the order.
+fn is_at(entry: &Entry, mark: &Mark) -> bool
+    ensures { IsTrue result ↔ IsOf mark.now.value mark.now.key entry.now }
+{
+    entry.value == mark.value && entry.key == mark.key
+}
+
+/// The first entry that comes after a place of the order, and where it stood.
+fn after_mark(index: &RootIndex, mark: &Mark) -> Option<(Entry, Near)>
+    ensures { IsLeast index.now.entries (λ e. ComesAfter e (Some mark.now)) (option_map (λ found. found.0) result) }
+{
+    let (entry, near) = index.next_near(entry_of(mark), mark.near)?;
+    if !is_at(&entry, mark) {
+        return Some((entry, near));
+    }
+    // one more entry of this value and this key
+    past_all(index, mark, near)
+}
+
+/// The first entry that comes after all that there can be at a place of the order, and where it stood.
+fn past_all(index: &RootIndex, mark: &Mark, near: Near) -> Option<(Entry, Near)>
+    ensures { IsLeast index.now.entries (λ e. ComesAfter e (Some mark.now)) (option_map (λ found. found.0) result) }
+{
+    let (entry, near) = index.next_near(last_at(mark), near)?;
     has_place(&entry);
-    Some(entry)
+    Some((entry, near))
 }
 
 /// The first entry that is not below the span's low value.
@@ -140,33 +176,46 @@ fn from_low(index: &RootIndex, span: &Span) -> Option<Entry>
     index.first_from(span.low(), 0)
 }
 
-/// The first entry that is not below the span's low value, and comes after its last place.
-fn entry_from(index: &RootIndex, span: &Span) -> Option<Entry>
-    ensures { IsLeast index.now.entries (StartsIn span.now) result }
+/// The same, as if it stood at the front.
+fn found_from_low(index: &RootIndex, span: &Span) -> Option<(Entry, Near)>
+    ensures { IsLeast index.now.entries (λ e. ¬ IsBelow span.now.low 0 e) (option_map (λ found. found.0) result) }
 {
-    match &span.last {
-        Some(last) if span.begins_by(last) => after_mark(index, last),
-        _ => from_low(index, span),
+    match from_low(index, span) {
+        Some(entry) => Some((entry, Near::default())),
+        None => None,
     }
 }
 
-/// The first entry of the span.
-fn entry_in(index: &RootIndex, span: &Span) -> Option<Entry>
-    ensures { IsLeast index.now.entries (LiesIn span.now) result }
+/// The first entry that is not below the span's low value, and comes after its last place, and where it stood.
+fn entry_from(index: &RootIndex, span: &Span) -> Option<(Entry, Near)>
+    ensures { IsLeast index.now.entries (StartsIn span.now) (option_map (λ found. found.0) result) }
+{
+    match &span.last {
+        Some(last) if span.begins_by(last) => after_mark(index, last),
+        _ => found_from_low(index, span),
+    }
+}
+
+/// The first entry of the span, and where it stood.
+fn entry_in(index: &RootIndex, span: &Span) -> Option<(Entry, Near)>
+    ensures { IsLeast index.now.entries (LiesIn span.now) (option_map (λ found. found.0) result) }
 {
     match entry_from(index, span) {
-        Some(entry) if span.reaches(&entry) => Some(entry),
+        Some((entry, near)) if span.reaches(&entry) => Some((entry, near)),
         _ => None,
     }
 }
 
 /// The place of an entry in the order of its index.
-fn mark_of(entry: &Entry) -> Mark
-    ensures { result ≡ record { value = entry.now.value; key = entry.now.key } }
+fn mark_of(entry: &Entry, near: Near) -> Mark
+    ensures value { result.value ≡ entry.now.value }
+    ensures key { result.key ≡ entry.now.key }
 {
     Mark {
         value: entry.value,
         key: entry.key,
+        tid: entry.tid,
+        near,
     }
 }
 
@@ -186,8 +235,8 @@ fn next_row_in<'a>(
     for _ in 0..index.len() {
         match entry_in(index, &left) {
             None => return None,
-            Some(entry) => {
-                let mark = mark_of(&entry);
+            Some((entry, near)) => {
+                let mark = mark_of(&entry, near);
                 if let Some(row) = row_from(pages, index, entry, snapshot, own, table) {
                     return Some((mark, row));
                 }

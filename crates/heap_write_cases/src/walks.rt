@@ -7,6 +7,7 @@ use crate::table::{
 };
 use commit_status::Status;
 use heap_write::{HeapState, Mark, Span};
+use root_index::Near;
 use snapshot::{OwnIds, Snapshot};
 use std::alloc::Global;
 use xid_circle::Xid;
@@ -30,25 +31,36 @@ fn between(low: i128, high: i128) -> Span {
     }
 }
 
-/// What of a span comes after the place of a row with this value and this key.
+/// What of a span comes after the place of a row with this value and this key, for who knows no entry of it.
 fn after(span: Span, value: i128, key: u64) -> Span {
     Span {
         index: span.index,
         low: span.low,
         high: span.high,
-        last: Some(Mark { value, key }),
+        last: Some(Mark {
+            value,
+            key,
+            tid: place(u32::MAX, 0),
+            near: Near::default(),
+        }),
     }
 }
 
-/// The place of the first row of a span, and the key and the first column of the row.
-fn next_row(
+/// The place of the first row of a span, if the row has this first column and this key, and stands at the place of them.
+fn place_if(
     heap: &HeapState,
     span: &Span,
     snapshot: &Snapshot,
     own: &OwnIds,
-) -> Option<(Mark, u64, i64)> {
-    let (mark, row) = heap.next_row(span, snapshot, own)?;
-    Some((mark, row.key(), row.cols()[0]))
+    row: (i64, u64),
+) -> Option<Mark> {
+    let (mark, found) = heap.next_row(span, snapshot, own)?;
+    if (mark.value, mark.key) == (i128::from(row.0), row.1)
+        && (found.cols()[0], found.key()) == row
+    {
+        return Some(mark);
+    }
+    None
 }
 
 /// Whether a walk finds rows with these first columns and these keys, in this order, each at the place of its value and key,
@@ -61,17 +73,13 @@ fn walks(
     rows: &[(i64, u64)],
 ) -> bool {
     let mut left = span;
-    for (value, key) in rows {
-        let place = Mark {
-            value: i128::from(*value),
-            key: *key,
-        };
-        if next_row(heap, &left, snapshot, own) != Some((place, *key, *value)) {
-            return false;
+    for row in rows {
+        match place_if(heap, &left, snapshot, own, *row) {
+            Some(mark) => left.last = Some(mark),
+            None => return false,
         }
-        left.last = Some(place);
     }
-    next_row(heap, &left, snapshot, own).is_none()
+    heap.next_row(&left, snapshot, own).is_none()
 }
 
 /// A table with an index by the first column, whose first id is 3, and rows of these values and keys under it, committed.
@@ -155,15 +163,16 @@ const EXTREMES: [(i64, u64); 3] = [(i64::MAX, 7), (0, 8), (i64::MIN, 9)];
 
 const EXTREMES_IN_ORDER: [(i64, u64); 3] = [(i64::MIN, 9), (0, 8), (i64::MAX, 7)];
 
-/// The first row from 8 on along the index of this number.
-fn from_8(heap: &HeapState, index: u8, alloc: Global) -> Option<(Mark, u64, i64)> {
+/// The first row from 8 on along the index of this number: the value and the key of its place, and its first column.
+fn from_8(heap: &HeapState, index: u8, alloc: Global) -> Option<(i128, u64, i64)> {
     let span = Span {
         index,
         low: 8,
         high: i128::MAX,
         last: None,
     };
-    next_row(heap, &span, &begun(alloc, Xid(4)), &session(alloc))
+    let (mark, row) = heap.next_row(&span, &begun(alloc, Xid(4)), &session(alloc))?;
+    Some((mark.value, mark.key, row.cols()[0]))
 }
 
 #[test]
@@ -171,8 +180,7 @@ fn a_walk_along_any_index(rt: HostRuntime) {
     let heap = table_of(rt.alloc(), &EXTREMES);
     assert!(rt; shows(rt.alloc(), &heap, Xid(4), &EXTREMES_IN_ORDER));
     // by key, and by columns that have no index, or are none
-    let place = Mark { value: 8, key: 8 };
-    same(&rt, from_8(&heap, 0, rt.alloc()), Some((place, 8, 0)));
+    same(&rt, from_8(&heap, 0, rt.alloc()), Some((8, 8, 0)));
     same(&rt, from_8(&heap, 2, rt.alloc()), None);
     same(&rt, from_8(&heap, 4, rt.alloc()), None);
     same(&rt, from_8(&heap, 5, rt.alloc()), None);

@@ -1,6 +1,8 @@
 -- Leaves joined: where an entry of a leaf stands among all.
-use Rattle.std.proofs.Common.{◌≡◌, ◌∙◌, ℕ, zero, suc, ◌+◌, ◌-◌, ◌<◌, ◌≤◌, ℤ, pos, inl, inr, List, [], ◌∷◌, ◌++◌, length, take, get_or, true, false, Some, None, slice_get, sym, ap, refl, subst, arith}
-use Rattle.std.specs.Ordering.{is_lt, ordering_reverse}
+use Rattle.std.proofs.Common.{◌≡◌, ◌∙◌, Bool, ℕ, zero, suc, ◌+◌, ◌-◌, ◌<◌, ◌≤◌, ℤ, pos, inl, inr, List, [], ◌∷◌, ◌++◌, length, take, get_or, true, false, Some, None, slice_get, sym, ap, refl, subst, arith}
+use Rattle.std.specs.Ordering.{is_lt, is_eq, ordering_reverse}
+use Rattle.std.specs.Bool.{OnTrue}
+use Rattle.std.proofs.lemmas.Bool.{true≢false}
 use Rattle.std.specs.declared.cmp.Ordering.{Ordering}
 use Rattle.std.specs.declared.cmp.Ordering.TheVariants.{Less, Equal, Greater}
 use Rattle.std.proofs.lemmas.Bool.{cases_lt}
@@ -227,3 +229,18 @@ count_fits ls i count n limit l within so_far is size fits =
     let whole = start_within ls i within in
     let same : length l ≡ length (leaf_at ls i) = ap length (is ∙ get_or_default ls i l [] within) in
     omega arith
+
+-- an entry that ties with the sought one is it
+pub found_tied : (ls : List (List Entry)) (x e : Entry) (p : Place) (l : List Entry) → slice_get ls p.leaf ≡ Some l → slice_get l p.entry ≡ Some e → comparison e x ≡ Equal → IsFoundAt ls x p
+found_tied ls x e p l leaf at tied =
+    let is : leaf_at ls p.leaf ≡ l = get_or_from_slice_get ls p.leaf l [] leaf in
+    found_joined ls x p (slice_get_within ls p.leaf l leaf) (rw is (at ∙ ap (λ (e : Entry). Some e) (same-from_tied e x tied)))
+
+pub equal-from_test : (o : Ordering) → is_eq o ≡ true → o ≡ Equal
+equal-from_test Less e = absurd (true≢false (sym e))
+equal-from_test Equal e = refl
+equal-from_test Greater e = absurd (true≢false (sym e))
+
+pub on_true : (b : Bool) (P : Type 0) → (b ≡ true → P) → OnTrue b P
+on_true true P h = h refl
+on_true false P h = tt

@@ -1,15 +1,23 @@
 //! The index.
 
-ghost use Rattle.std.specs.Prelude.{◌≡◌, ◌<◌, ◌≤◌, ◌+◌, ℕ, [], length, OnOk, OnErr, Contains};
+ghost use Rattle.std.specs.Prelude.{◌≡◌, ◌<◌, ◌≤◌, ◌+◌, ℕ, [], length, OnOk, OnErr, Some, Contains};
+ghost use Rattle.std.specs.Option.{option_map};
 ghost use Rattle.root_index.specs.Order.{IsAscending};
 ghost use Rattle.root_index.specs.Sets.{Adds, Removes, IsLeast, IsAfter, IsBelow};
 
 use crate::entry::Entry;
 use crate::leaf::Leaf;
-use crate::leaves;
+use crate::leaves::{self, Place};
 use std::alloc::{AllocError, Global};
 use std::marker::Model;
 use xid_circle::Tid;
+
+/// Where an entry stood when it was found; the first place of all, by default. It may stand elsewhere since, or nowhere; then
+/// the next is searched for.
+#[derive(Clone, Copy, Debug, Default, PartialEq, Eq)]
+pub struct Near {
+    place: Place,
+}
 
 /// An ordered set of entries.
 #[derive(Debug, Drop)]
@@ -110,6 +118,18 @@ impl RootIndex {
     {
         let place = leaves::place_after(&self.leaves, from);
         leaves::entry_at(&self.leaves, place)
+    }
+
+    /// The first entry after this one, and where it stood. Where the other still stands at the place that is given, that is
+    /// found without a search.
+    pub fn next_near(&self, from: Entry, near: Near) -> Option<(Entry, Near)>
+        ensures { IsLeast self.now.entries (IsAfter (Some from)) (option_map (λ found. found.0) result) }
+    {
+        let place = leaves::place_near(&self.leaves, from, near.place);
+        match leaves::entry_at(&self.leaves, place) {
+            Some(entry) => Some((entry, Near { place })),
+            None => None,
+        }
     }
 
     /// The first entry of this value and this key; or else the first of a higher key, or of a higher value.

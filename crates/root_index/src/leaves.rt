@@ -1,17 +1,18 @@
 //! Leaves, one after another: looking for an entry's place, making room there, and removing entries from all of them.
 
-ghost use Rattle.std.specs.Prelude.{◌≡◌, ◌<◌, ◌≤◌, ◌+◌, ◌-◌, ◌^◌, ◌⊎◌, ℕ, [], length, IfOk, IfErr, OnOk, OnErr, map, vec_len, vec_capacity, slice_get, option_copied};
+ghost use Rattle.std.specs.Prelude.{◌≡◌, ◌<◌, ◌≤◌, ◌+◌, ◌-◌, ◌^◌, ◌⊎◌, ℕ, [], length, IfOk, IfErr, OnOk, OnErr, map, vec_len, vec_capacity, slice_get, option_copied, Some};
+ghost use Rattle.std.specs.Bool.{OnTrue};
 ghost use Rattle.std.specs.List.{filter, insert};
 ghost use Rattle.root_index.specs.Sets.{IsAfter, IsBelow};
 ghost use Rattle.root_index.specs.Leaves.{joined, leaf_at, rank, stays, IsTidy, IsFilled, IsPlaceIn, IsFoundAt, IsAbsentAt, IsStartAt, IsBetween, IsOpenAt};
 
-use crate::entry::Entry;
+use crate::entry::{Entry, compare};
 use crate::leaf::{self, HALF, Leaf, MAX_ENTRIES};
 use std::alloc::{AllocError, Global};
 use xid_circle::Tid;
 
 /// A place for an entry: in a leaf, or right after its last entry.
-#[derive(Clone, Copy, Debug)]
+#[derive(Clone, Copy, Debug, Default, PartialEq, Eq)]
 pub(crate) struct Place {
     /// The leaf's number, counted from 0.
     pub(crate) leaf: usize,
@@ -76,6 +77,34 @@ pub(crate) fn place_after(leaves: &[Leaf], from: Option<Entry>) -> Place
             Err(place) => place,
         },
     }
+}
+
+/// Whether this entry stands at this place.
+fn stands_at(leaves: &[Leaf], sought: &Entry, place: Place) -> bool
+    ensures found { OnTrue result (IsFoundAt leaves.now sought.now place) }
+    ensures limit { OnTrue result (place.entry < 128) }
+{
+    match leaf_of(leaves, place.leaf) {
+        Some(leaf) if place.entry < leaf.len() => match leaf.entry(place.entry) {
+            Some(entry) => compare(&entry, sought).is_eq(),
+            None => false,
+        },
+        _ => false,
+    }
+}
+
+/// Where the entries after this one begin. It is not searched for where it still stands at the place that is given.
+pub(crate) fn place_near(leaves: &[Leaf], from: Entry, near: Place) -> Place
+    requires { IsTidy leaves.now }
+    ensures { IsStartAt leaves.now (IsAfter (Some from)) result }
+{
+    if stands_at(leaves, &from, near) {
+        return Place {
+            leaf: near.leaf,
+            entry: near.entry + 1,
+        };
+    }
+    place_after(leaves, Some(from))
 }
 
 /// Where the entries begin that are not below this value and this key.

@@ -16,4 +16,4 @@ mod leaf;
 mod leaves;
 
 pub use entry::{Entry, members_determine};
-pub use index::RootIndex;
+pub use index::{Near, RootIndex};

@@ -9,7 +9,7 @@ ghost use Rattle.xid_circle.specs.Circle.{IsNormal};
 use arrayvec::ArrayVec;
 use heap_pages::{MAX_PAGES, Pages, Place, free_byte};
 use page_slots::{AddFault, Page, Slot};
-use root_index::{Entry, RootIndex, members_determine};
+use root_index::{Entry, Near, RootIndex, members_determine};
 use std::alloc::{AllocError, Global};
 use std::fmt::Debug;
 use std::process::Abort;
@@ -303,6 +303,10 @@ pub fn remove(index: &mut RootIndex, dead: &[Tid]) {
 
 pub fn next_after(index: &RootIndex, from: Option<Entry>) -> Option<Entry> {
     index.next_after(from)
+}
+
+pub fn next_near(index: &RootIndex, from: Entry, near: Near) -> Option<(Entry, Near)> {
+    index.next_near(from, near)
 }
 
 pub fn first_from(index: &RootIndex, value: i128, key: u64) -> Option<Entry> {

@@ -1,7 +1,7 @@
 //! Sets of entries, each reckoned by hand.
 
-use crate::calls::{count, first_from, insert, laws, next_after, promise, remove};
-use root_index::{Entry, RootIndex};
+use crate::calls::{count, first_from, insert, laws, next_after, next_near, promise, remove, same};
+use root_index::{Entry, Near, RootIndex};
 use std::alloc::{AllocError, Global};
 use std::process::Abort;
 use xid_circle::Tid;
@@ -213,6 +213,56 @@ fn a_thousand_entries_in_no_order_come_out_in_order(rt: HostRuntime) -> Result<(
         assert_eq!(rt; first_from(&index, i128::from(key), key), last);
     }
     assert_eq!(rt; next_after(&index, last), None);
+    Ok(())
+}
+
+/// The entry behind this one, looked for where one stood.
+fn next_by(index: &RootIndex, from: Entry, near: Near) -> Option<Entry> {
+    match next_near(index, from, near) {
+        Some((entry, _)) => Some(entry),
+        None => None,
+    }
+}
+
+/// Whether the entries of the keys below 1000 come one behind another, each looked for where the one before it was found,
+/// and also where the first of all stands.
+fn come_in_turn(index: &RootIndex) -> bool {
+    let mut last = LEAST;
+    let mut near = Near::default();
+    for key in 0..1000u64 {
+        if next_by(index, last, Near::default()) != Some(of_key(key)) {
+            return false;
+        }
+        match next_near(index, last, near) {
+            Some((entry, place)) if entry == of_key(key) => near = place,
+            _ => return false,
+        }
+        last = of_key(key);
+    }
+    next_near(index, last, near).is_none()
+}
+
+/// What comes behind these, where the entry of key 2 stands or stood.
+fn behind(index: &RootIndex, from: [Entry; 4]) -> Option<[Option<Entry>; 4]> {
+    let (_, near) = next_near(index, of_key(1), Near::default())?;
+    Some([
+        next_by(index, from[0], near),
+        next_by(index, from[1], near),
+        next_by(index, from[2], near),
+        next_by(index, from[3], near),
+    ])
+}
+
+#[test]
+fn the_next_is_found_where_one_stood_and_elsewhere(rt: HostRuntime) -> Result<(), AllocError> {
+    let mut index = a_thousand(rt.alloc())?;
+    assert!(rt; come_in_turn(&index));
+    let from = [of_key(2), of_key(1), of_key(998), of_key(999)];
+    let next = [Some(of_key(3)), Some(of_key(2)), Some(of_key(999)), None];
+    same(&rt, behind(&index, from), Some(next));
+    // another one stands there now
+    insert(&mut index, entry(0, 1, 7, 7))?;
+    same(&rt, behind(&index, from), Some(next));
     Ok(())
 }
 

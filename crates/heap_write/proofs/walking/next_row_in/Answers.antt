@@ -13,7 +13,7 @@ returns-in-Some-row_from c =
     let seen = IsVisible c.args.table.now c.args.snapshot.now c.args.own.now.ids in
     let mark = c.mark_of-mark.result in
     walked-row c.args.table.now seen (slots_of c.args.pages.now) c.args.index.now.entries c.args.span.now c.loop.left c.loop.counter c.in-Some.entry mark c.in-Some-row_from.row
-    c.loop.invariant c.in-Some.ensures c.mark_of-mark.ensures c.in-Some-row_from.ensures
+    c.loop.invariant c.in-Some.ensures (c.mark_of-mark.ensures.value, c.mark_of-mark.ensures.key) c.in-Some-row_from.ensures
 
 pub loop-preserved : goal.loop-preserved
 loop-preserved c =
@@ -22,7 +22,7 @@ loop-preserved c =
     let entries = c.args.index.now.entries in
     let mark = c.mark_of-mark.result in
     walked-on entries (λ value key. FirstFound c.args.table.now seen pages entries value key None) c.args.span.now c.loop.left c.loop.counter c.in-Some.entry mark
-    c.is_ascending.ensures c.loop.invariant c.in-Some.ensures c.mark_of-mark.ensures c.in_default.ensures
+    c.is_ascending.ensures c.loop.invariant c.in-Some.ensures (c.mark_of-mark.ensures.value, c.mark_of-mark.ensures.key) c.in_default.ensures
 
 pub returns : goal.returns
 returns c =
