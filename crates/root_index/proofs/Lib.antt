@@ -1,6 +1,9 @@
 pub mod EditLemmas
+pub mod FlatLemmas
+pub mod GrowthLemmas
 pub mod JoinedLemmas
 pub mod LookUpLemmas
 pub mod OrderLemmas
 pub mod SetLemmas
 pub mod SoundLemmas
+pub mod SpotLemmas

@@ -1,5 +1,5 @@
 -- How the entries are kept: in leaves, one after another.
-use Rattle.std.specs.Prelude.{◌≡◌, ◌<◌, ◌≤◌, ◌+◌, ◌^◌, ◌||◌, ◌&&◌, ◌==◌, ◌∷◌, [], ℕ, List, Bool, true, false, not, length, take, slice_index_or, slice_set}
+use Rattle.std.specs.Prelude.{◌≡◌, ◌<◌, ◌≤◌, ◌+◌, ◌||◌, ◌&&◌, ◌==◌, ◌∷◌, [], ℕ, List, Bool, true, false, not, length, take, slice_index_or, slice_set}
 use Rattle.std.specs.List.{flat_map}
 use Rattle.std.specs.Ordering.{is_lt}
 use Rattle.xid_circle.specs.declared.Tid.{Tid}
@@ -79,12 +79,3 @@ is_among (t ∷ dead) tid = (t.page == tid.page && t.slot == tid.slot) || is_amo
 
 abbrev pub stays : List Tid → Entry → Bool
 stays dead e = not (is_among dead e.tid)
-
--- the leaves, the places that the directory has left, the spare leaves, the count of entries and how many more may come
--- without memory
-pub record IsSound (leaves : List (List Entry)) (room spare count promised : ℕ) : Type 0 where
-  pub tidy : IsTidy leaves
-  pub counted : count ≡ length (joined leaves)
-  pub in_directory : promised ≤ room
-  pub in_leaves : promised ≤ spare
-  pub countable : count + promised < 2 ^ 64

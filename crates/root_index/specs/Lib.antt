@@ -1,3 +1,4 @@
+pub mod Branches
 pub mod Leaves
 pub mod Order
 pub mod Sets

@@ -5,9 +5,11 @@ ghost use Rattle.std.specs.Option.{option_map};
 ghost use Rattle.root_index.specs.Order.{IsAscending};
 ghost use Rattle.root_index.specs.Sets.{Adds, Removes, IsLeast, IsAfter, IsBelow};
 
+use crate::branch::Branch;
+use crate::branches::{self, Spot};
 use crate::entry::Entry;
 use crate::leaf::Leaf;
-use crate::leaves::{self, Place};
+use crate::leaves;
 use std::alloc::{AllocError, Global};
 use std::marker::Model;
 use xid_circle::Tid;
@@ -16,16 +18,19 @@ use xid_circle::Tid;
 /// the next is searched for.
 #[derive(Clone, Copy, Debug, Default, PartialEq, Eq)]
 pub struct Near {
-    place: Place,
+    spot: Spot,
 }
 
 /// An ordered set of entries.
 #[derive(Debug, Drop)]
 pub struct RootIndex {
-    /// The entries, in leaves of at most 128, none empty. An insert moves no more than a leaf's.
-    leaves: Vec<Leaf>,
+    /// The entries, in leaves of at most 128, and these in branches of at most 128, none empty. An insert moves no more than
+    /// a leaf's entries, and where it splits a leaf or a branch the pointers of a branch or of this list.
+    branches: Vec<Branch>,
+    /// Branches for splits to come.
+    spare: Vec<Branch>,
     /// Leaves for splits to come.
-    spare: Vec<Leaf>,
+    leaves: Vec<Leaf>,
     /// The number of entries.
     count: u64,
     /// So many more entries take no memory.
@@ -35,13 +40,14 @@ pub struct RootIndex {
 impl Model for RootIndex {
     ghost use Rattle.std.specs.Prelude.{◌-◌, vec_len, vec_capacity};
     ghost use Rattle.root_index.specs.View.{IndexView};
-    ghost use Rattle.root_index.specs.Leaves.{joined, IsSound};
+    ghost use Rattle.root_index.specs.Leaves.{joined};
+    ghost use Rattle.root_index.specs.Branches.{flat, IsSound};
 
     ghost Value = { IndexView };
 
-    ghost view = { λ x. record { entries = joined x.leaves.items; spare = x.promised } };
+    ghost view = { λ x. record { entries = joined (flat x.branches.items); spare = x.promised } };
 
-    ghost invariant = { λ x. IsSound x.leaves.items (vec_capacity x.leaves - vec_len x.leaves) (vec_len x.spare) x.count x.promised };
+    ghost invariant = { λ x. IsSound x.branches.items (vec_capacity x.branches - vec_len x.branches) (vec_len x.spare) (vec_len x.leaves) x.count x.promised };
 }
 
 impl RootIndex {
@@ -50,8 +56,9 @@ impl RootIndex {
         ensures { result.entries ≡ [] }
     {
         RootIndex {
-            leaves: Vec::new(alloc),
+            branches: Vec::new(alloc),
             spare: Vec::new(alloc),
+            leaves: Vec::new(alloc),
             count: 0,
             promised: 0,
         }
@@ -72,7 +79,7 @@ impl RootIndex {
     }
 
     /// Makes room in memory for `count` more entries, so that the next `count` of them are inserted without asking for any.
-    /// Each may split a leaf, so this keeps as many spare leaves, of 4 KiB. It is also refused where the number of entries
+    /// Each may split a leaf and a branch, so this keeps as many spare ones, of 4 and 3 KiB. It is also refused where the number of entries
     /// would be above 2^64 - 1.
     pub fn make_room(&mut self, count: usize) -> Result<(), AllocError>
         ensures room { OnOk result (count ≤ self.new.spare) }
@@ -84,8 +91,9 @@ impl RootIndex {
         if u64::MAX - self.count < count as u64 {
             return Err(AllocError);
         }
-        self.leaves.try_reserve(count)?;
-        leaves::add_leaves(&mut self.spare, count)?;
+        self.branches.try_reserve(count)?;
+        branches::add_branches(&mut self.spare, count)?;
+        leaves::add_leaves(&mut self.leaves, count)?;
         self.promised = self.promised.max(count);
         Ok(())
     }
@@ -98,15 +106,21 @@ impl RootIndex {
         ensures memory { OnErr result ((self.old.spare ≡ 0) × ¬ Contains self.old.entries entry) }
         ensures err { OnErr result (self.new.entries ≡ self.old.entries) }
     {
-        let place = match leaves::search(&self.leaves, &entry) {
+        let spot = match branches::search(&self.branches, &entry) {
             Ok(_) => return Ok(()),
-            Err(place) => place,
+            Err(spot) => spot,
         };
         // one more could not be counted
         if self.count == u64::MAX {
             return Err(AllocError);
         }
-        leaves::insert(&mut self.leaves, &mut self.spare, place, entry)?;
+        branches::insert(
+            &mut self.branches,
+            &mut self.spare,
+            &mut self.leaves,
+            spot,
+            entry,
+        )?;
         self.count += 1;
         self.promised = self.promised.saturating_sub(1);
         Ok(())
@@ -116,8 +130,8 @@ impl RootIndex {
     pub fn next_after(&self, from: Option<Entry>) -> Option<Entry>
         ensures { IsLeast self.now.entries (IsAfter from) result }
     {
-        let place = leaves::place_after(&self.leaves, from);
-        leaves::entry_at(&self.leaves, place)
+        let spot = branches::spot_after(&self.branches, from);
+        branches::entry_at(&self.branches, spot)
     }
 
     /// The first entry after this one, and where it stood. Where the other still stands at the place that is given, that is
@@ -125,9 +139,9 @@ impl RootIndex {
     pub fn next_near(&self, from: Entry, near: Near) -> Option<(Entry, Near)>
         ensures { IsLeast self.now.entries (IsAfter (Some from)) (option_map (λ found. found.0) result) }
     {
-        let place = leaves::place_near(&self.leaves, from, near.place);
-        match leaves::entry_at(&self.leaves, place) {
-            Some(entry) => Some((entry, Near { place })),
+        let spot = branches::spot_near(&self.branches, from, near.spot);
+        match branches::entry_at(&self.branches, spot) {
+            Some(entry) => Some((entry, Near { spot })),
             None => None,
         }
     }
@@ -136,8 +150,8 @@ impl RootIndex {
     pub fn first_from(&self, value: i128, key: u64) -> Option<Entry>
         ensures { IsLeast self.now.entries (λ e. ¬ IsBelow value key e) result }
     {
-        let place = leaves::place_from(&self.leaves, value, key);
-        leaves::entry_at(&self.leaves, place)
+        let spot = branches::spot_from(&self.branches, value, key);
+        branches::entry_at(&self.branches, spot)
     }
 
     /// Removes the entries that lead to one of these places, which stand in any order, and no others. It takes no memory.
@@ -145,8 +159,7 @@ impl RootIndex {
         ensures removes { Removes self.old.entries self.new.entries dead.now }
         ensures spare { self.old.spare ≤ self.new.spare }
     {
-        leaves::sweep(&mut self.leaves, dead);
-        leaves::drop_empty(&mut self.leaves);
-        self.count = leaves::count(&self.leaves);
+        branches::sweep(&mut self.branches, dead);
+        self.count = branches::count(&self.branches);
     }
 }

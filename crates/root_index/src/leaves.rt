@@ -3,7 +3,6 @@
 ghost use Rattle.std.specs.Prelude.{◌≡◌, ◌<◌, ◌≤◌, ◌+◌, ◌-◌, ◌^◌, ◌⊎◌, ℕ, [], length, IfOk, IfErr, OnOk, OnErr, map, vec_len, vec_capacity, slice_get, option_copied, Some};
 ghost use Rattle.std.specs.Bool.{OnTrue};
 ghost use Rattle.std.specs.List.{filter, insert};
-ghost use Rattle.root_index.specs.Sets.{IsAfter, IsBelow};
 ghost use Rattle.root_index.specs.Leaves.{joined, leaf_at, rank, stays, IsTidy, IsFilled, IsPlaceIn, IsFoundAt, IsAbsentAt, IsStartAt, IsBetween, IsOpenAt};
 
 use crate::entry::{Entry, compare};
@@ -62,25 +61,8 @@ pub(crate) fn search(leaves: &[Leaf], sought: &Entry) -> Result<Place, Place>
     }
 }
 
-/// Where the entries after this one begin, or all, where there is none.
-pub(crate) fn place_after(leaves: &[Leaf], from: Option<Entry>) -> Place
-    requires { IsTidy leaves.now }
-    ensures { IsStartAt leaves.now (IsAfter from) result }
-{
-    match from {
-        None => Place { leaf: 0, entry: 0 },
-        Some(entry) => match search(leaves, &entry) {
-            Ok(Place { leaf, entry }) => Place {
-                leaf,
-                entry: entry + 1,
-            },
-            Err(place) => place,
-        },
-    }
-}
-
 /// Whether this entry stands at this place.
-fn stands_at(leaves: &[Leaf], sought: &Entry, place: Place) -> bool
+pub(crate) fn stands_at(leaves: &[Leaf], sought: &Entry, place: Place) -> bool
     ensures found { OnTrue result (IsFoundAt leaves.now sought.now place) }
     ensures limit { OnTrue result (place.entry < 128) }
 {
@@ -90,32 +72,6 @@ fn stands_at(leaves: &[Leaf], sought: &Entry, place: Place) -> bool
             None => false,
         },
         _ => false,
-    }
-}
-
-/// Where the entries after this one begin. It is not searched for where it still stands at the place that is given.
-pub(crate) fn place_near(leaves: &[Leaf], from: Entry, near: Place) -> Place
-    requires { IsTidy leaves.now }
-    ensures { IsStartAt leaves.now (IsAfter (Some from)) result }
-{
-    if stands_at(leaves, &from, near) {
-        return Place {
-            leaf: near.leaf,
-            entry: near.entry + 1,
-        };
-    }
-    place_after(leaves, Some(from))
-}
-
-/// Where the entries begin that are not below this value and this key.
-pub(crate) fn place_from(leaves: &[Leaf], value: i128, key: u64) -> Place
-    requires { IsTidy leaves.now }
-    ensures { IsStartAt leaves.now (λ e. ¬ IsBelow value key e) result }
-{
-    let tid = Tid { page: 0, slot: 0 };
-    match search(leaves, &Entry { value, key, tid }) {
-        Ok(place) => place,
-        Err(place) => place,
     }
 }
 
@@ -156,7 +112,7 @@ fn take_leaf(spare: &mut Vec<Leaf>) -> Result<Leaf, AllocError>
 }
 
 /// Puts a leaf before those from this number on. There is room for it in memory.
-fn put_leaf(leaves: &mut Vec<Leaf>, number: usize, leaf: Leaf)
+pub(crate) fn put_leaf(leaves: &mut Vec<Leaf>, number: usize, leaf: Leaf)
     requires in_range { number ≤ vec_len leaves.old }
     requires room { vec_len leaves.old < vec_capacity leaves.old }
     ensures items { leaves.new.items ≡ insert leaves.old.items number leaf }
@@ -176,6 +132,8 @@ fn split(leaves: &mut Vec<Leaf>, mut upper: Leaf, place: Place) -> Place
     requires full { length (leaf_at leaves.old.items place.leaf) ≡ 128 }
     ensures opened { IsOpenAt leaves.old.items leaves.new.items place result }
     ensures room { (vec_capacity leaves.old - vec_len leaves.old) ≤ (vec_capacity leaves.new - vec_len leaves.new) + 1 }
+    ensures longer { length leaves.new.items ≤ length leaves.old.items + 1 }
+    ensures capacity { vec_capacity leaves.old ≤ vec_capacity leaves.new }
 {
     leaves[place.leaf].give_half(&mut upper);
     put_leaf(leaves, place.leaf + 1, upper);
@@ -198,6 +156,8 @@ fn open(leaves: &mut Vec<Leaf>, spare: &mut Vec<Leaf>, place: Place) -> Result<P
     ensures spare { vec_len spare.old ≤ vec_len spare.new + 1 }
     ensures err { OnErr result (leaves.new.items ≡ leaves.old.items) }
     ensures refused { OnErr result ((vec_capacity leaves.old - vec_len leaves.old ≡ 0) ⊎ (vec_len spare.old ≡ 0)) }
+    ensures longer { length leaves.new.items ≤ length leaves.old.items + 1 }
+    ensures capacity { vec_capacity leaves.old ≤ vec_capacity leaves.new }
 {
     if let Some(leaf) = leaves.get(place.leaf) {
         if leaf.len() < MAX_ENTRIES {
@@ -229,6 +189,8 @@ pub(crate) fn insert(
     ensures spare { vec_len spare.old ≤ vec_len spare.new + 1 }
     ensures err { OnErr result (leaves.new.items ≡ leaves.old.items) }
     ensures refused { OnErr result ((vec_capacity leaves.old - vec_len leaves.old ≡ 0) ⊎ (vec_len spare.old ≡ 0)) }
+    ensures longer { length leaves.new.items ≤ length leaves.old.items + 1 }
+    ensures capacity { vec_capacity leaves.old ≤ vec_capacity leaves.new }
 {
     let place = open(leaves, spare, place)?;
     leaves[place.leaf].insert(place.entry, entry);
@@ -251,6 +213,7 @@ pub(crate) fn add_leaves(spare: &mut Vec<Leaf>, count: usize) -> Result<(), Allo
 pub(crate) fn sweep(leaves: &mut Vec<Leaf>, dead: &[Tid])
     ensures leaves { leaves.new.items ≡ map (filter (stays dead.now)) leaves.old.items }
     ensures room { (vec_capacity leaves.new - vec_len leaves.new) ≡ (vec_capacity leaves.old - vec_len leaves.old) }
+    ensures capacity { vec_capacity leaves.old ≤ vec_capacity leaves.new }
 {
     for number in 0..leaves.len() {
         leaves[number].remove(dead);
@@ -262,6 +225,8 @@ pub(crate) fn drop_empty(leaves: &mut Vec<Leaf>)
     ensures entries { joined leaves.new.items ≡ joined leaves.old.items }
     ensures filled { IsFilled leaves.new.items }
     ensures room { (vec_capacity leaves.old - vec_len leaves.old) ≤ (vec_capacity leaves.new - vec_len leaves.new) }
+    ensures shorter { length leaves.new.items ≤ length leaves.old.items }
+    ensures capacity { vec_capacity leaves.old ≤ vec_capacity leaves.new }
 {
     leaves.retain(|leaf| !leaf.entries().is_empty());
 }

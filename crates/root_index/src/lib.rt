@@ -5,11 +5,14 @@
 //! of how many can be inserted without memory (`specs/View.antt`). The order is by value, then key, then page, then slot
 //! (`specs/Order.antt`). The contract promises that a call does to the set of entries what it is named after and nothing
 //! else (`specs/Sets.antt`), and [`members_determine`] that there is only one ascending list with the same entries. It says
-//! nothing of how they are kept, which is in leaves of at most 128 entries (`specs/Leaves.antt`): an insert moves no more than
-//! a leaf's, and where it splits one the directory's pointers. For the crates above, `proofs/LookUpLemmas.antt` says what
+//! nothing of how they are kept, which is in leaves of at most 128 entries (`specs/Leaves.antt`), and these in branches of at
+//! most 128 leaves (`specs/Branches.antt`): an insert moves no more than a leaf's entries, and where it splits a leaf or a
+//! branch, 24 bytes for each leaf of a branch, or for each branch. For the crates above, `proofs/LookUpLemmas.antt` says what
 //! look-ups find one after another.
 #![tactic(auto)]
 
+mod branch;
+mod branches;
 mod entry;
 mod index;
 mod leaf;

@@ -324,25 +324,57 @@ fn an_entry_goes_to_any_place_of_a_full_leaf(rt: HostRuntime) -> Result<(), Allo
     Ok(())
 }
 
-/// The entries of the keys below 10000, put in in mixed order.
-fn ten_thousand(alloc: Global) -> Result<RootIndex, AllocError> {
+/// The entries of the keys below 30000, put in in mixed order.
+fn thirty_thousand(alloc: Global) -> Result<RootIndex, AllocError> {
     let mut index = RootIndex::new(alloc);
-    // 3877 and 10000 have no common divisor, so each key below 10000 comes once
-    for i in 0..10000u32 {
-        insert(&mut index, numbered(i * 3877 % 10000))?;
+    // 7919 and 30000 have no common divisor, so each key below 30000 comes once
+    for i in 0..30000u32 {
+        insert(&mut index, numbered(i * 7919 % 30000))?;
     }
     Ok(index)
 }
 
 #[test]
-fn ten_thousand_entries_in_mixed_order(rt: HostRuntime) -> Result<(), AllocError> {
-    let index = ten_thousand(rt.alloc())?;
-    assert!(rt; holds_below(&index, 10000));
-    for key in 0..9999u32 {
+fn thirty_thousand_entries_in_mixed_order(rt: HostRuntime) -> Result<(), AllocError> {
+    let index = thirty_thousand(rt.alloc())?;
+    assert!(rt; holds_below(&index, 30000));
+    for key in 0..29999u32 {
         let next = first_from(&index, i128::from(key), u64::from(key) + 1);
         assert_eq!(rt; next, Some(numbered(key + 1)));
     }
-    assert_eq!(rt; first_from(&index, 9999, 10000), None);
+    assert_eq!(rt; first_from(&index, 29999, 30000), None);
+    Ok(())
+}
+
+/// More entries than a branch has room for, in one order and in the other.
+#[test]
+fn a_full_branch_is_split(rt: HostRuntime) -> Result<(), AllocError> {
+    let mut upward = RootIndex::new(rt.alloc());
+    let mut downward = RootIndex::new(rt.alloc());
+    for key in 0..20000u32 {
+        insert(&mut upward, numbered(key))?;
+        insert(&mut downward, numbered(19999 - key))?;
+    }
+    assert!(rt; holds_below(&upward, 20000));
+    assert!(rt; holds_below(&downward, 20000));
+    Ok(())
+}
+
+/// Those of one place, of which there are some in each branch, and all of some.
+#[test]
+fn branches_without_entries_go(rt: HostRuntime) -> Result<(), AllocError> {
+    let mut index = RootIndex::new(rt.alloc());
+    for key in 0..20000u32 {
+        insert(&mut index, of_key(u64::from(key) + 100))?;
+    }
+    for key in 0..200u32 {
+        insert(&mut index, numbered(key))?;
+    }
+    assert_eq!(rt; count(&index), 20200);
+    remove(&mut index, &[Tid { page: 7, slot: 7 }]);
+    assert!(rt; holds_below(&index, 200));
+    insert(&mut index, of_key(200))?;
+    assert_eq!(rt; next_after(&index, Some(numbered(199))), Some(of_key(200)));
     Ok(())
 }
 
