@@ -201,9 +201,9 @@ fn is_no_memory(reply: &Reply) -> bool {
 
 fn may_grow(ask: Ask) -> bool {
     match ask {
-        Ask::Get(_, _) | Ask::RollbackTo(_) | Ask::Release(_) => false,
-        Ask::Commit(_) | Ask::Abort(_) | Ask::Close(_) => false,
-        _ => true,
+        Ask::Begin(_) | Ask::Savepoint(_) | Ask::Next(_, _) => true,
+        Ask::Insert(_, _, _) | Ask::Update(_, _, _) | Ask::Delete(_, _) => true,
+        _ => false,
     }
 }
 

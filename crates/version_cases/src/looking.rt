@@ -313,7 +313,7 @@ fn from_an_entry_of_a_page_that_is_not_in_use(rt: HostRuntime) {
 }
 
 #[test]
-fn the_laws_do_nothing(rt: HostRuntime) {
+fn laws() {
     led_by_entry();
     found_by_index();
     touched_by_index();
@@ -334,5 +334,4 @@ fn the_laws_do_nothing(rt: HostRuntime) {
     aborting_stays_sound();
     later_horizon_stays_sound();
     led_by_two_steps();
-    assert!(rt; true);
 }
