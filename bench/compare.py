@@ -21,6 +21,7 @@ import time
 from workloads import WORKLOADS, write
 
 ENGINES = ["heapsh", "sqlite3", "PostgreSQL"]
+# of a shell at least as many as there are rows, since else they drown in the loading
 OPERATIONS = {"shell": 100_000, "server": 10_000}
 SIZES = [1_000, 10_000, 100_000, 1_000_000]
 RUNS = 3
@@ -81,7 +82,7 @@ def files(folder, name, rows, count, **how):
 
 def shell_rate(command, folder, name, rows, which):
     """Operations a second of a shell that reads the script (0) or the SQL (1)."""
-    count = OPERATIONS["shell"]
+    count = max(OPERATIONS["shell"], rows) // (10 if name.startswith("index scans") else 1)
     loading = files(folder, name, rows, 0)[which]
     idle = min(timed(command, loading) for _ in range(RUNS))
     working = files(folder, name, rows, count)
