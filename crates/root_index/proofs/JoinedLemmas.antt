@@ -1,8 +1,6 @@
--- Leaves joined: where an entry of a leaf stands among all.
-use Rattle.std.proofs.Common.{◌≡◌, ◌∙◌, Bool, ℕ, zero, suc, ◌+◌, ◌-◌, ◌<◌, ◌≤◌, ℤ, pos, inl, inr, List, [], ◌∷◌, ◌++◌, length, take, get_or, true, false, Some, None, slice_get, sym, ap, refl, subst, arith}
-use Rattle.std.specs.Ordering.{is_lt, is_eq, ordering_reverse}
-use Rattle.std.specs.Bool.{OnTrue}
-use Rattle.std.proofs.lemmas.Bool.{true≢false}
+-- Lists joined: where an entry of a list stands among all.
+use Rattle.std.proofs.Common.{◌≡◌, ◌∙◌, ℕ, zero, suc, ◌+◌, ◌-◌, ◌<◌, ◌≤◌, pos, inl, inr, List, [], ◌∷◌, ◌++◌, length, take, get_or, true, false, Some, None, slice_get, sym, ap, refl, subst, arith}
+use Rattle.std.specs.Ordering.{is_lt, ordering_reverse}
 use Rattle.std.specs.declared.cmp.Ordering.{Ordering}
 use Rattle.std.specs.declared.cmp.Ordering.TheVariants.{Less, Equal, Greater}
 use Rattle.std.proofs.lemmas.Bool.{cases_lt}
@@ -11,51 +9,77 @@ use Rattle.std.proofs.lemmas.List.Concat.{flat_map-append, get_or-flat_map}
 use Rattle.std.proofs.lemmas.List.Folds.{length-flat_map-take}
 use Rattle.std.proofs.lemmas.Option.{slice_get-get_or, slice_get_within, slice_get_past, get_or_from_slice_get}
 use Rattle.root_index.specs.declared.entry.Entry.{Entry}
-use Rattle.root_index.specs.declared.leaves.Place.{Place}
 use Rattle.root_index.specs.Order.{comparison, Precedes, IsAscending}
-use Rattle.root_index.specs.Sets.{IsAfter, IsBelow, IsAt, IsGapFor, IsStart}
-use Rattle.root_index.specs.Leaves.{joined, leaf_at, rank, IsFilled, IsTidy, IsPlaceIn, IsFoundAt, IsAbsentAt, IsStartAt, begins_after, IsBetween}
+use Rattle.root_index.specs.Sets.{IsAt, IsGapFor}
+use Rattle.root_index.specs.Lists.{joined, list_of, rank, begins_after, Place, IsBetween}
 use Rattle.root_index.proofs.OrderLemmas.{comparison_total, Precedes-trans, same-from_tied}
-use Rattle.root_index.proofs.SetLemmas.{ascending-at, lowest, start_after, start_after_gap, start_from, start_from_gap}
+use Rattle.root_index.proofs.SetLemmas.{ascending-at, lowest}
 
--- where the entries of a leaf begin among all
+-- How lists stand, and places in them.
+
+-- no list is empty
+abbrev pub IsFilled : List (List Entry) → Type 0
+IsFilled lists = (i : ℕ) → i < length lists → 0 < length (list_of lists i)
+
+-- ascending from list to list, none empty
+pub record IsTidy (lists : List (List Entry)) : Type 0 where
+  pub ascending : IsAscending (joined lists)
+  pub filled : IsFilled lists
+
+-- in a list, or right after its last entry; the very first place, where there is no list
+pub record IsPlaceIn (lists : List (List Entry)) (place : Place) : Type 0 where
+  pub list : 0 < length lists → place.list < length lists
+  pub entry : place.entry ≤ length (list_of lists place.list)
+
+-- an entry stands at the place, this one
+pub record IsFoundAt (lists : List (List Entry)) (sought : Entry) (place : Place) : Type 0 where
+  pub list : place.list < length lists
+  pub entry : place.entry < length (list_of lists place.list)
+  pub at : IsAt (joined lists) sought (rank lists place)
+
+-- the entry is not there, and would stand at this place
+pub record IsAbsentAt (lists : List (List Entry)) (sought : Entry) (place : Place) : Type 0 where
+  pub in_range : IsPlaceIn lists place
+  pub gap : IsGapFor (joined lists) sought (rank lists place)
+
+-- where the entries of a list begin among all
 abbrev pub start : List (List Entry) → ℕ → ℕ
 start ls i = length (joined (take i ls))
 
-pub start_next : (ls : List (List Entry)) (i : ℕ) → i < length ls → start ls (i + 1) ≡ start ls i + length (leaf_at ls i)
+pub start_next : (ls : List (List Entry)) (i : ℕ) → i < length ls → start ls (i + 1) ≡ start ls i + length (list_of ls i)
 start_next ls i within =
     ap (λ xs. length (joined xs)) (take_more ls i [] within)
-    ∙ ap length (flat_map-append (λ l. l) (take i ls) (leaf_at ls i ∷ []))
-    ∙ length-append (joined (take i ls)) (leaf_at ls i ++ [])
-    ∙ ap (λ l. start ls i + length l) (append-nil (leaf_at ls i))
+    ∙ ap length (flat_map-append (λ l. l) (take i ls) (list_of ls i ∷ []))
+    ∙ length-append (joined (take i ls)) (list_of ls i ++ [])
+    ∙ ap (λ l. start ls i + length l) (append-nil (list_of ls i))
 
 start_end : (ls : List (List Entry)) (i : ℕ) → length ls ≤ i → start ls i ≡ length (joined ls)
 start_end ls i past = ap (λ xs. length (joined xs)) (take_all i ls past)
 
-pub start_within : (ls : List (List Entry)) (i : ℕ) → i < length ls → start ls i + length (leaf_at ls i) ≤ length (joined ls)
+pub start_within : (ls : List (List Entry)) (i : ℕ) → i < length ls → start ls i + length (list_of ls i) ≤ length (joined ls)
 start_within ls i within = length-flat_map-take (λ l. l) ls i [] within
 
-pub joined_get : (ls : List (List Entry)) (i j : ℕ) → i < length ls → j < length (leaf_at ls i)
-    → slice_get (joined ls) (start ls i + j) ≡ slice_get (leaf_at ls i) j
+pub joined_get : (ls : List (List Entry)) (i j : ℕ) → i < length ls → j < length (list_of ls i)
+    → slice_get (joined ls) (start ls i + j) ≡ slice_get (list_of ls i) j
 joined_get ls i j within inside =
     let d = lowest (pos 0) 0 in
     let low = start_within ls i within in
     slice_get-get_or (joined ls) (start ls i + j) d (omega arith)
     ∙ ap Some (get_or-flat_map (λ l. l) ls i j [] d within inside)
-    ∙ sym (slice_get-get_or (leaf_at ls i) j d inside)
+    ∙ sym (slice_get-get_or (list_of ls i) j d inside)
 
-first_joined : (ls : List (List Entry)) (i : ℕ) (f : Entry) → i < length ls → slice_get (leaf_at ls i) 0 ≡ Some f → slice_get (joined ls) (start ls i) ≡ Some f
+first_joined : (ls : List (List Entry)) (i : ℕ) (f : Entry) → i < length ls → slice_get (list_of ls i) 0 ≡ Some f → slice_get (joined ls) (start ls i) ≡ Some f
 first_joined ls i f within at =
     let is : start ls i ≡ start ls i + 0 = omega arith in
-    ap (slice_get (joined ls)) is ∙ joined_get ls i 0 within (slice_get_within (leaf_at ls i) 0 f at) ∙ at
+    ap (slice_get (joined ls)) is ∙ joined_get ls i 0 within (slice_get_within (list_of ls i) 0 f at) ∙ at
 
-in_leaf : (ls : List (List Entry)) (i k : ℕ) (e : Entry) → i < length ls → start ls i ≤ k → k < start ls i + length (leaf_at ls i)
-    → slice_get (joined ls) k ≡ Some e → slice_get (leaf_at ls i) (k - start ls i) ≡ Some e
-in_leaf ls i k e within low high at =
+in_list : (ls : List (List Entry)) (i k : ℕ) (e : Entry) → i < length ls → start ls i ≤ k → k < start ls i + length (list_of ls i)
+    → slice_get (joined ls) k ≡ Some e → slice_get (list_of ls i) (k - start ls i) ≡ Some e
+in_list ls i k e within low high at =
     let is : start ls i + (k - start ls i) ≡ k = omega arith in
     sym (joined_get ls i (k - start ls i) within (omega arith)) ∙ ap (slice_get (joined ls)) is ∙ at
 
--- The entries before a leaf that doesn't begin after the sought one precede it, and it precedes those from the next leaf on.
+-- The entries before a list that doesn't begin after the sought one precede it, and it precedes those from the next list on.
 
 head_is : (x : Entry) (l : List Entry) → 0 < length l → (f : Entry) × ((slice_get l 0 ≡ Some f) × (begins_after x l ≡ is_lt (comparison x f)))
 head_is x [] some = absurd (omega arith)
@@ -71,11 +95,11 @@ less_from_test Less h = refl
 less_from_test Equal h = absurd (cc h)
 less_from_test Greater h = absurd (cc h)
 
-before_leaf : (ls : List (List Entry)) (x : Entry) (i k : ℕ) (e : Entry) → IsTidy ls → i < length ls → (0 < i → begins_after x (leaf_at ls i) ≡ false)
+before_list : (ls : List (List Entry)) (x : Entry) (i k : ℕ) (e : Entry) → IsTidy ls → i < length ls → (0 < i → begins_after x (list_of ls i) ≡ false)
     → k < start ls i → slice_get (joined ls) k ≡ Some e → Precedes e x
-before_leaf ls x zero k e tidy within below lt at = absurd (omega arith)
-before_leaf ls x (suc i) k e tidy within below lt at =
-    let head = head_is x (leaf_at ls (suc i)) (tidy.filled (suc i) within) in
+before_list ls x zero k e tidy within below lt at = absurd (omega arith)
+before_list ls x (suc i) k e tidy within below lt at =
+    let head = head_is x (list_of ls (suc i)) (tidy.filled (suc i) within) in
     let there = first_joined ls (suc i) head.0 within head.1.0 in
     before_by_case e head.0 x (comparison x head.0) refl
     (ascending-at (joined ls) k (start ls (suc i)) e head.0 tidy.ascending lt at there) (sym head.1.1 ∙ below (omega arith))
@@ -83,14 +107,14 @@ before_leaf ls x (suc i) k e tidy within below lt at =
 same_found : (xs : List Entry) (k i : ℕ) (e f : Entry) → k ≡ i → slice_get xs k ≡ Some e → slice_get xs i ≡ Some f → f ≡ e
 same_found xs k i e f same at_k at_i = cc
 
-after_leaf : (ls : List (List Entry)) (x : Entry) (i k : ℕ) (e : Entry) → IsTidy ls → i < length ls → (i + 1 < length ls → begins_after x (leaf_at ls (i + 1)) ≡ true)
-    → start ls i + length (leaf_at ls i) ≤ k → slice_get (joined ls) k ≡ Some e → Precedes x e
-after_leaf ls x i k e tidy within above le at =
+after_list : (ls : List (List Entry)) (x : Entry) (i k : ℕ) (e : Entry) → IsTidy ls → i < length ls → (i + 1 < length ls → begins_after x (list_of ls (i + 1)) ≡ true)
+    → start ls i + length (list_of ls i) ≤ k → slice_get (joined ls) k ≡ Some e → Precedes x e
+after_list ls x i k e tidy within above le at =
     let next = start_next ls i within in
     let inside = slice_get_within (joined ls) k e at in
     elim (cases_lt (i + 1) (length ls)) [
       | inl more ↦
-          let head = head_is x (leaf_at ls (i + 1)) (tidy.filled (i + 1) more) in
+          let head = head_is x (list_of ls (i + 1)) (tidy.filled (i + 1) more) in
           let there = first_joined ls (i + 1) head.0 more head.1.0 in
           let first : Precedes x head.0 = less_from_test (comparison x head.0) (sym head.1.1 ∙ above more) in
           elim (cases_lt (start ls (i + 1)) k) [
@@ -100,9 +124,9 @@ after_leaf ls x i k e tidy within above le at =
       | inr last ↦ let end = start_end ls (i + 1) last in absurd (omega arith)
     ]
 
--- What a search in the leaf finds.
+-- What a search in the list finds.
 
-gap_joined : (ls : List (List Entry)) (x : Entry) (i j : ℕ) → IsTidy ls → IsBetween ls x i (i + 1) → IsGapFor (leaf_at ls i) x j → IsGapFor (joined ls) x (start ls i + j)
+gap_joined : (ls : List (List Entry)) (x : Entry) (i j : ℕ) → IsTidy ls → IsBetween ls x i (i + 1) → IsGapFor (list_of ls i) x j → IsGapFor (joined ls) x (start ls i + j)
 gap_joined ls x i j tidy between gap =
     let within : i < length ls = omega (arith, between.in_range) in
     let fits = start_within ls i within in
@@ -110,137 +134,83 @@ gap_joined ls x i j tidy between gap =
     record {
       in_range = omega arith;
       before = λ k e lt at. elim (cases_lt k (start ls i)) [
-        | inl early ↦ before_leaf ls x i k e tidy within between.below early at
-        | inr late ↦ gap.before (k - start ls i) e (omega arith) (in_leaf ls i k e within late (omega arith) at)
+        | inl early ↦ before_list ls x i k e tidy within between.below early at
+        | inr late ↦ gap.before (k - start ls i) e (omega arith) (in_list ls i k e within late (omega arith) at)
       ];
-      after = λ k e le at. elim (cases_lt k (start ls i + length (leaf_at ls i))) [
-        | inl early ↦ gap.after (k - start ls i) e (omega arith) (in_leaf ls i k e within (omega arith) early at)
-        | inr late ↦ after_leaf ls x i k e tidy within between.above late at
+      after = λ k e le at. elim (cases_lt k (start ls i + length (list_of ls i))) [
+        | inl early ↦ gap.after (k - start ls i) e (omega arith) (in_list ls i k e within (omega arith) early at)
+        | inr late ↦ after_list ls x i k e tidy within between.above late at
       ];
     }
 
-pub absent_joined : (ls : List (List Entry)) (x : Entry) (p : Place) → IsTidy ls → IsBetween ls x p.leaf (p.leaf + 1) → IsGapFor (leaf_at ls p.leaf) x p.entry → IsAbsentAt ls x p
+pub absent_joined : (ls : List (List Entry)) (x : Entry) (p : Place) → IsTidy ls → IsBetween ls x p.list (p.list + 1) → IsGapFor (list_of ls p.list) x p.entry → IsAbsentAt ls x p
 absent_joined ls x p tidy between gap = record {
-  in_range = record { leaf = λ some. omega (arith, between.in_range); entry = gap.in_range };
-  gap = gap_joined ls x p.leaf p.entry tidy between gap;
+  in_range = record { list = λ some. omega (arith, between.in_range); entry = gap.in_range };
+  gap = gap_joined ls x p.list p.entry tidy between gap;
 }
 
-pub absent_none : (x : Entry) → IsAbsentAt [] x (record { leaf = 0; entry = 0 })
-absent_none x = record {
-  in_range = record { leaf = λ some. some; entry = omega arith };
-  gap = record { in_range = omega arith; before = λ k e lt at. absurd (omega arith); after = λ k e le at. absurd (let inside = slice_get_within [] k e at in omega arith) };
-}
-
-pub found_joined : (ls : List (List Entry)) (x : Entry) (p : Place) → p.leaf < length ls → IsAt (leaf_at ls p.leaf) x p.entry → IsFoundAt ls x p
+pub found_joined : (ls : List (List Entry)) (x : Entry) (p : Place) → p.list < length ls → IsAt (list_of ls p.list) x p.entry → IsFoundAt ls x p
 found_joined ls x p within at =
-    let inside = slice_get_within (leaf_at ls p.leaf) p.entry x at in
-    record { leaf = within; entry = inside; at = joined_get ls p.leaf p.entry within inside ∙ at }
+    let inside = slice_get_within (list_of ls p.list) p.entry x at in
+    record { list = within; entry = inside; at = joined_get ls p.list p.entry within inside ∙ at }
 
 -- Where the entries begin that a look-up asks for.
 
-pub all_start : (ls : List (List Entry)) → IsStartAt ls (IsAfter None) (record { leaf = 0; entry = 0 })
-all_start ls = record {
-  in_range = record { leaf = λ some. some; entry = omega arith };
-  start = record { in_range = omega arith; before = λ k e lt at h. omega arith; from = λ k e le at. tt };
-}
+-- The entry at a place: in its list, or the first of the next, or none.
 
-pub start_behind : (ls : List (List Entry)) (x : Entry) (p : Place) → IsTidy ls → IsFoundAt ls x p
-    → IsStartAt ls (IsAfter (Some x)) (record { leaf = p.leaf; entry = p.entry + 1 })
-start_behind ls x p tidy found =
-    let is : rank ls p + 1 ≡ start ls p.leaf + (p.entry + 1) = omega arith in
-    record {
-      in_range = record { leaf = λ some. found.leaf; entry = omega (arith, found.entry) };
-      start = subst (IsStart (joined ls) (IsAfter (Some x))) is (start_after (joined ls) x (rank ls p) tidy.ascending found.at);
-    }
+list_is : (ls : List (List Entry)) (i : ℕ) (l : List Entry) → slice_get ls i ≡ Some l → list_of ls i ≡ l
+list_is ls i l at = get_or_from_slice_get ls i l [] at
 
-pub start_at_gap : (ls : List (List Entry)) (x : Entry) (p : Place) → IsAbsentAt ls x p → IsStartAt ls (IsAfter (Some x)) p
-start_at_gap ls x p absent = record { in_range = absent.in_range; start = start_after_gap (joined ls) x (rank ls p) absent.gap }
-
-pub from_found : (ls : List (List Entry)) (value : ℤ) (key : ℕ) (p : Place) → IsTidy ls → IsFoundAt ls (lowest value key) p → IsStartAt ls (λ e. ¬ IsBelow value key e) p
-from_found ls value key p tidy found = record {
-  in_range = record { leaf = λ some. found.leaf; entry = omega (arith, found.entry) };
-  start = start_from (joined ls) value key (rank ls p) tidy.ascending found.at;
-}
-
-pub from_gap : (ls : List (List Entry)) (value : ℤ) (key : ℕ) (p : Place) → IsAbsentAt ls (lowest value key) p → IsStartAt ls (λ e. ¬ IsBelow value key e) p
-from_gap ls value key p absent = record { in_range = absent.in_range; start = start_from_gap (joined ls) value key (rank ls p) absent.gap }
-
--- The entry at a place: in its leaf, or the first of the next, or none.
-
-leaf_is : (ls : List (List Entry)) (i : ℕ) (l : List Entry) → slice_get ls i ≡ Some l → leaf_at ls i ≡ l
-leaf_is ls i l at = get_or_from_slice_get ls i l [] at
-
-pub entry_in_leaf : (ls : List (List Entry)) (p : Place) (l : List Entry) (e : Entry) → slice_get ls p.leaf ≡ Some l → slice_get l p.entry ≡ Some e
+pub entry_in_list : (ls : List (List Entry)) (p : Place) (l : List Entry) (e : Entry) → slice_get ls p.list ≡ Some l → slice_get l p.entry ≡ Some e
     → slice_get (joined ls) (rank ls p) ≡ Some e
-entry_in_leaf ls p l e at in_l =
-    let there : slice_get (leaf_at ls p.leaf) p.entry ≡ Some e = ap (λ m. slice_get m p.entry) (leaf_is ls p.leaf l at) ∙ in_l in
-    joined_get ls p.leaf p.entry (slice_get_within ls p.leaf l at) (slice_get_within (leaf_at ls p.leaf) p.entry e there) ∙ there
+entry_in_list ls p l e at in_l =
+    let there : slice_get (list_of ls p.list) p.entry ≡ Some e = ap (λ m. slice_get m p.entry) (list_is ls p.list l at) ∙ in_l in
+    joined_get ls p.list p.entry (slice_get_within ls p.list l at) (slice_get_within (list_of ls p.list) p.entry e there) ∙ there
 
 none_there : {X : Type 0} (xs : List X) (i : ℕ) → slice_get xs i ≡ None → length xs ≤ i
 none_there [] i none = omega arith
 none_there (x ∷ xs) zero none = absurd (cc none)
 none_there (x ∷ xs) (suc i) none = let rest = none_there xs i none in omega arith
 
-pub none_without_leaf : (ls : List (List Entry)) (p : Place) → IsPlaceIn ls p → slice_get ls p.leaf ≡ None → slice_get (joined ls) (rank ls p) ≡ None
-none_without_leaf ls p in_range none =
-    let past = none_there ls p.leaf none in
-    let end = start_end ls p.leaf past in
-    slice_get_past (joined ls) (rank ls p) (omega arith)
-
-behind_leaf : (ls : List (List Entry)) (p : Place) (l : List Entry) → IsPlaceIn ls p → slice_get ls p.leaf ≡ Some l → slice_get l p.entry ≡ None
-    → rank ls p ≡ start ls (p.leaf + 1)
-behind_leaf ls p l in_range at none =
-    let within = slice_get_within ls p.leaf l at in
-    let next = start_next ls p.leaf within in
+behind_list : (ls : List (List Entry)) (p : Place) (l : List Entry) → IsPlaceIn ls p → slice_get ls p.list ≡ Some l → slice_get l p.entry ≡ None
+    → rank ls p ≡ start ls (p.list + 1)
+behind_list ls p l in_range at none =
+    let within = slice_get_within ls p.list l at in
+    let next = start_next ls p.list within in
     let long = none_there l p.entry none in
-    let size : length (leaf_at ls p.leaf) ≡ length l = ap length (leaf_is ls p.leaf l at) in
+    let size : length (list_of ls p.list) ≡ length l = ap length (list_is ls p.list l at) in
     let short = in_range.entry in
     omega arith
 
-pub entry_in_next : (ls : List (List Entry)) (p : Place) (l m : List Entry) → IsFilled ls → IsPlaceIn ls p → slice_get ls p.leaf ≡ Some l → slice_get l p.entry ≡ None
-    → slice_get ls (p.leaf + 1) ≡ Some m → slice_get (joined ls) (rank ls p) ≡ slice_get m 0
+pub entry_in_next : (ls : List (List Entry)) (p : Place) (l m : List Entry) → IsFilled ls → IsPlaceIn ls p → slice_get ls p.list ≡ Some l → slice_get l p.entry ≡ None
+    → slice_get ls (p.list + 1) ≡ Some m → slice_get (joined ls) (rank ls p) ≡ slice_get m 0
 entry_in_next ls p l m filled in_range at none next =
-    let within = slice_get_within ls (p.leaf + 1) m next in
-    let is : rank ls p ≡ start ls (p.leaf + 1) + 0 = behind_leaf ls p l in_range at none ∙ omega arith in
-    ap (slice_get (joined ls)) is ∙ joined_get ls (p.leaf + 1) 0 within (filled (p.leaf + 1) within) ∙ ap (λ k. slice_get k 0) (leaf_is ls (p.leaf + 1) m next)
+    let within = slice_get_within ls (p.list + 1) m next in
+    let is : rank ls p ≡ start ls (p.list + 1) + 0 = behind_list ls p l in_range at none ∙ omega arith in
+    ap (slice_get (joined ls)) is ∙ joined_get ls (p.list + 1) 0 within (filled (p.list + 1) within) ∙ ap (λ k. slice_get k 0) (list_is ls (p.list + 1) m next)
 
-pub none_behind : (ls : List (List Entry)) (p : Place) (l : List Entry) → IsPlaceIn ls p → slice_get ls p.leaf ≡ Some l → slice_get l p.entry ≡ None
-    → slice_get ls (p.leaf + 1) ≡ None → slice_get (joined ls) (rank ls p) ≡ None
+pub none_behind : (ls : List (List Entry)) (p : Place) (l : List Entry) → IsPlaceIn ls p → slice_get ls p.list ≡ Some l → slice_get l p.entry ≡ None
+    → slice_get ls (p.list + 1) ≡ None → slice_get (joined ls) (rank ls p) ≡ None
 none_behind ls p l in_range at none last =
-    let end = start_end ls (p.leaf + 1) (none_there ls (p.leaf + 1) last) in
-    let is = behind_leaf ls p l in_range at none in
+    let end = start_end ls (p.list + 1) (none_there ls (p.list + 1) last) in
+    let is = behind_list ls p l in_range at none in
     slice_get_past (joined ls) (rank ls p) (omega arith)
 
--- Each leaf is ascending.
+-- Each list is ascending.
 
-pub ascending_leaf : (ls : List (List Entry)) (i : ℕ) → i < length ls → IsAscending (joined ls) → IsAscending (leaf_at ls i)
-ascending_leaf ls i within up j k d lt inside =
+pub ascending_list : (ls : List (List Entry)) (i : ℕ) → i < length ls → IsAscending (joined ls) → IsAscending (list_of ls i)
+ascending_list ls i within up j k d lt inside =
     let fits = start_within ls i within in
     let low = get_or-flat_map (λ l. l) ls i j [] d within (omega arith) in
     let high = get_or-flat_map (λ l. l) ls i k [] d within inside in
-    subst (λ y. Precedes y (get_or (leaf_at ls i) k d)) low
+    subst (λ y. Precedes y (get_or (list_of ls i) k d)) low
     (subst (λ y. Precedes (get_or (joined ls) (start ls i + j) d) y) high (up (start ls i + j) (start ls i + k) d (omega arith) (omega arith)))
 
--- The count of the entries of the leaves so far and the next fits.
+-- The count of the entries of the lists so far and the next fits.
 
 pub count_fits : (ls : List (List Entry)) (i count n limit : ℕ) (l : List Entry) → i < length ls → count ≡ start ls i → l ≡ get_or ls i l → n ≡ length l
     → length (joined ls) < limit → count + n < limit
 count_fits ls i count n limit l within so_far is size fits =
     let whole = start_within ls i within in
-    let same : length l ≡ length (leaf_at ls i) = ap length (is ∙ get_or_default ls i l [] within) in
+    let same : length l ≡ length (list_of ls i) = ap length (is ∙ get_or_default ls i l [] within) in
     omega arith
-
--- an entry that ties with the sought one is it
-pub found_tied : (ls : List (List Entry)) (x e : Entry) (p : Place) (l : List Entry) → slice_get ls p.leaf ≡ Some l → slice_get l p.entry ≡ Some e → comparison e x ≡ Equal → IsFoundAt ls x p
-found_tied ls x e p l leaf at tied =
-    let is : leaf_at ls p.leaf ≡ l = get_or_from_slice_get ls p.leaf l [] leaf in
-    found_joined ls x p (slice_get_within ls p.leaf l leaf) (rw is (at ∙ ap (λ (e : Entry). Some e) (same-from_tied e x tied)))
-
-pub equal-from_test : (o : Ordering) → is_eq o ≡ true → o ≡ Equal
-equal-from_test Less e = absurd (true≢false (sym e))
-equal-from_test Equal e = refl
-equal-from_test Greater e = absurd (true≢false (sym e))
-
-pub on_true : (b : Bool) (P : Type 0) → (b ≡ true → P) → OnTrue b P
-on_true true P h = h refl
-on_true false P h = tt

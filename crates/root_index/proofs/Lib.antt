@@ -1,9 +1,9 @@
 pub mod EditLemmas
-pub mod FlatLemmas
-pub mod GrowthLemmas
 pub mod JoinedLemmas
 pub mod LookUpLemmas
 pub mod OrderLemmas
+pub mod RowEditLemmas
+pub mod RowGrowthLemmas
+pub mod RowLemmas
 pub mod SetLemmas
 pub mod SoundLemmas
-pub mod SpotLemmas

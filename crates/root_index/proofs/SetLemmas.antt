@@ -17,7 +17,7 @@ use Rattle.std.proofs.lemmas.List.Sorted.{searchable_from_sorted, Contains-permu
 use Rattle.root_index.specs.declared.entry.Entry.{Entry}
 use Rattle.root_index.specs.Order.{comparison, Precedes, IsAscending}
 use Rattle.root_index.specs.Sets.{Adds, Removes, IsLeast, IsAfter, IsBelow, IsAt, IsGapFor, IsStart}
-use Rattle.root_index.specs.Leaves.{is_among, stays}
+use Rattle.root_index.specs.Lists.{is_among, stays}
 use Rattle.root_index.proofs.OrderLemmas.{comparison_total, not_before_itself, Precedes-not_back, same-from_tied, Contains-first, Contains-rest, Contains-cases, Contains-none, ascending-tail}
 
 -- Places.

@@ -1,15 +1,16 @@
 -- What the calls of an index keep.
-use Rattle.std.proofs.Common.{◌≡◌, ◌∙◌, ℕ, suc, ◌+◌, ◌-◌, ◌^◌, ◌<◌, ◌≤◌, ◌⊎◌, inl, inr, List, [], ◌∷◌, length, Bool, true, false, Contains, sym, ap, refl, subst, arith}
+use Rattle.std.proofs.Common.{◌≡◌, ◌∙◌, ℕ, zero, suc, ◌+◌, ◌-◌, ◌^◌, ◌<◌, ◌≤◌, ◌⊎◌, inl, inr, max, List, ◌∷◌, [], length, Bool, true, false, Option, slice_get, sym, ap, refl, subst, arith}
 use Rattle.std.specs.List.{insert, filter}
+use Rattle.std.proofs.lemmas.Bool.{cases_lt}
 use Rattle.std.proofs.lemmas.List.Edits.{length-insert}
 use Rattle.std.proofs.lemmas.List.Kept.{AllPairs-filter}
 use Rattle.root_index.specs.declared.entry.Entry.{Entry}
-use Rattle.root_index.specs.declared.branches.Spot.{Spot}
 use Rattle.root_index.specs.Order.{Precedes, IsAscending}
-use Rattle.root_index.specs.Sets.{Adds}
-use Rattle.root_index.specs.Leaves.{joined, rank}
-use Rattle.root_index.specs.Branches.{flat, whole, AreFilled, AreTidy, IsFoundIn, IsAbsentIn, IsSound}
-use Rattle.root_index.proofs.SetLemmas.{ascending-insert, adds-inserted, adds-there, absent_in_gap}
+use Rattle.root_index.specs.Sets.{Adds, IsAt, IsGapFor, IsLeast}
+use Rattle.root_index.specs.declared.nodes.Spot.{Spot}
+use Rattle.root_index.specs.Nodes.{all, rank_in, AreNeat, IsStartIn}
+use Rattle.root_index.specs.Trees.{IsSound}
+use Rattle.root_index.proofs.SetLemmas.{ascending-insert, adds-inserted, first_is_least}
 
 less_by_case : {X : Type 0} (test : X → Bool) (x : X) (xs : List X) (b : Bool) → test x ≡ b → length (filter test xs) ≤ length xs → length (filter test (x ∷ xs)) ≤ suc (length xs)
 less_by_case test x xs true is rest = rw is (omega arith)
@@ -19,94 +20,148 @@ filter_less : {X : Type 0} (test : X → Bool) (xs : List X) → length (filter 
 filter_less test [] = omega arith
 filter_less test (x ∷ xs) = less_by_case test x xs (test x) refl (filter_less test xs)
 
-pub fewer : (bs new : List (List (List Entry))) (test : Entry → Bool) → joined (flat new) ≡ filter test (joined (flat bs)) → length (joined (flat new)) ≤ length (joined (flat bs))
-fewer bs new test made = subst (λ n. n ≤ length (joined (flat bs))) (sym (ap length made)) (filter_less test (joined (flat bs)))
+pub fewer : (xs new : List Entry) (test : Entry → Bool) → new ≡ filter test xs → length new ≤ length xs
+fewer xs new test made = subst (λ n. n ≤ length xs) (sym (ap length made)) (filter_less test xs)
 
--- where the entry would stand among all
-abbrev pub rank_of : List (List (List Entry)) → Spot → ℕ
-rank_of bs p = rank (flat bs) (whole bs p)
+-- what is left for one insert fewer
+left_after : (HasLeft HasLeft' : ℕ → Type 0) → ((k : ℕ) → HasLeft (k + 1) → HasLeft' k) → HasLeft' 0 → (promised : ℕ) → HasLeft promised → HasLeft' (promised - 1)
+left_after HasLeft HasLeft' next none zero left = none
+left_after HasLeft HasLeft' next none (suc k) left =
+    let is : suc k ≡ k + 1 = omega arith in
+    let less : k ≡ suc k - 1 = omega arith in
+    subst HasLeft' less (next k (subst HasLeft is left))
 
-module _ (bs new : List (List (List Entry))) (room room' spare spare' leaves leaves' count promised : ℕ) (sound : IsSound bs room spare leaves count promised) where
-  pub sound_inserted : (p : Spot) (x : Entry) (count' promised' : ℕ) → IsAbsentIn bs x p → joined (flat new) ≡ insert (joined (flat bs)) (rank_of bs p) x → AreFilled new
-      → room ≤ room' + 1 → spare ≤ spare' + 1 → leaves ≤ leaves' + 1 → count' ≡ count + 1 → promised' ≡ promised - 1 → count' < 2 ^ 64
-      → IsSound new room' spare' leaves' count' promised'
-  sound_inserted p x count' promised' absent made filled in_room in_spare in_leaves counted kept fits =
-      let up = ascending-insert (joined (flat bs)) x (rank_of bs p) sound.tidy.ascending absent.absent.gap in
-      let size = length-insert (joined (flat bs)) (rank_of bs p) x absent.absent.gap.in_range in
+module _ {N : Type 0} (entries : N → List Entry) (IsNeat : N → Type 0) (size : N → ℕ) (nodes new : List N) (room room' spare spare' : ℕ) (HasLeft HasLeft' : ℕ → Type 0) (count promised : ℕ)
+    (sound : IsSound entries IsNeat size nodes room spare HasLeft count promised) where
+  pub sound_inserted : (x : Entry) (rank count' promised' : ℕ) → IsGapFor (all entries nodes) x rank → all entries new ≡ insert (all entries nodes) rank x → AreNeat IsNeat size new
+      → room ≤ room' + 1 → spare ≤ spare' + 1 → ((k : ℕ) → HasLeft (k + 1) → HasLeft' k) → HasLeft' 0 → count' ≡ count + 1 → promised' ≡ promised - 1 → count' < 2 ^ 64
+      → IsSound entries IsNeat size new room' spare' HasLeft' count' promised'
+  sound_inserted x rank count' promised' gap made neat in_room in_spare next none counted kept fits =
+      let up = ascending-insert (all entries nodes) x rank sound.ascending gap in
+      let longer = length-insert (all entries nodes) rank x gap.in_range in
       let before = sound.counted in
-      let after : length (joined (flat new)) ≡ length (joined (flat bs)) + 1 = ap length made ∙ size in
-      let directory = sound.in_directory in
-      let branches = sound.in_branches in
-      let leaves = sound.in_leaves in
+      let after : length (all entries new) ≡ length (insert (all entries nodes) rank x) = ap length made in
+      let list = sound.in_list in
+      let trees = sound.in_trees in
       let bound = sound.countable in
       record {
-        tidy = record { ascending = subst IsAscending (sym made) up; filled = filled };
+        ascending = subst IsAscending (sym made) up;
+        neat = neat;
         counted = omega arith;
-        in_directory = omega arith;
-        in_branches = omega arith;
-        in_leaves = omega arith;
+        in_list = omega arith;
+        in_trees = omega arith;
+        below = subst HasLeft' (sym kept) (left_after HasLeft HasLeft' next none promised sound.below);
         countable = omega arith;
       }
 
-  -- a call that is refused, where nothing is promised
-  pub sound_refused : promised ≡ 0 → joined (flat new) ≡ joined (flat bs) → AreFilled new → IsSound new room' spare' leaves' count promised
-  sound_refused none same filled =
-      let before = sound.counted in
-      let size : length (joined (flat new)) ≡ length (joined (flat bs)) = ap length same in
-      let bound = sound.countable in
-      record {
-        tidy = record { ascending = subst IsAscending (sym same) sound.tidy.ascending; filled = filled };
-        counted = omega arith;
-        in_directory = omega arith;
-        in_branches = omega arith;
-        in_leaves = omega arith;
-        countable = bound;
-      }
+-- Of an index alone: entries that go, and calls that may be refused.
 
-  pub sound_removed : (test : Entry → Bool) (count' : ℕ) → joined (flat new) ≡ filter test (joined (flat bs)) → AreFilled new
-      → room ≤ room' → spare ≤ spare' → leaves ≤ leaves' → count' ≡ length (joined (flat new)) → IsSound new room' spare' leaves' count' promised
-  sound_removed test count' made filled in_room in_spare in_leaves counted =
-      let less = fewer bs new test made in
+module _ {N : Type 0} (entries : N → List Entry) (IsNeat : N → Type 0) (size : N → ℕ) (nodes : List N) (room spare : ℕ) (HasLeft : ℕ → Type 0) (count promised : ℕ)
+    (sound : IsSound entries IsNeat size nodes room spare HasLeft count promised) where
+  pub sound_removed : (new : List N) (test : Entry → Bool) (room' count' : ℕ) → all entries new ≡ filter test (all entries nodes) → AreNeat IsNeat size new
+      → room ≤ room' → count' ≡ length (all entries new) → IsSound entries IsNeat size new room' spare HasLeft count' promised
+  sound_removed new test room' count' made neat in_room counted =
+      let less = fewer (all entries nodes) (all entries new) test made in
       let before = sound.counted in
-      let directory = sound.in_directory in
-      let branches = sound.in_branches in
-      let leaves = sound.in_leaves in
+      let list = sound.in_list in
       let bound = sound.countable in
       record {
-        tidy = record { ascending = subst IsAscending (sym made) (AllPairs-filter Precedes test (joined (flat bs)) sound.tidy.ascending); filled = filled };
+        ascending = subst IsAscending (sym made) (AllPairs-filter Precedes test (all entries nodes) sound.ascending);
+        neat = neat;
         counted = counted;
-        in_directory = omega arith;
-        in_branches = omega arith;
-        in_leaves = omega arith;
+        in_list = omega arith;
+        in_trees = sound.in_trees;
+        below = sound.below;
         countable = omega arith;
       }
 
--- Where nothing is promised a call may be refused.
+  pub count_of_fewer : (new : List N) (test : Entry → Bool) → all entries new ≡ filter test (all entries nodes) → length (all entries new) < 2 ^ 64
+  count_of_fewer new test made =
+      let less = fewer (all entries nodes) (all entries new) test made in
+      let counted = sound.counted in
+      let bound = sound.countable in
+      omega arith
 
-pub none_promised : (bs : List (List (List Entry))) (room spare leaves count promised : ℕ) → IsSound bs room spare leaves count promised
-    → (room ≡ 0) ⊎ ((spare ≡ 0) ⊎ (leaves ≡ 0)) → promised ≡ 0
-none_promised bs room spare leaves count promised sound (inl none) = let directory = sound.in_directory in omega arith
-none_promised bs room spare leaves count promised sound (inr (inl none)) = let branches = sound.in_branches in omega arith
-none_promised bs room spare leaves count promised sound (inr (inr none)) = let leaves = sound.in_leaves in omega arith
+  -- Where nothing is promised a call may be refused.
 
-pub none_countable : (bs : List (List (List Entry))) (room spare leaves count promised : ℕ) → IsSound bs room spare leaves count promised → count + 1 ≡ 2 ^ 64 → promised ≡ 0
-none_countable bs room spare leaves count promised sound full = let bound = sound.countable in omega arith
+  pub one_left : ((k : ℕ) → HasLeft (k + 1) → HasLeft k) → ¬ HasLeft 1 → promised ≡ 0
+  one_left less none = by_case promised sound.below
+    where
+      down : (k : ℕ) → HasLeft (suc k) → HasLeft 1
+      down zero left = left
+      down (suc k) left =
+          let is : suc (suc k) ≡ suc k + 1 = omega arith in
+          down k (less (suc k) (subst HasLeft is left))
 
-pub adds_found : (bs : List (List (List Entry))) (x : Entry) (p : Spot) → AreTidy bs → IsFoundIn bs x p → Adds (joined (flat bs)) (joined (flat bs)) x
-adds_found bs x p tidy found = adds-there (joined (flat bs)) x (rank_of bs p) tidy.ascending found.found.at
+      by_case : (p : ℕ) → HasLeft p → p ≡ 0
+      by_case zero left = refl
+      by_case (suc k) left = absurd (none (down k left))
 
-pub adds_absent : (bs new : List (List (List Entry))) (x : Entry) (p : Spot) → AreTidy bs → IsAbsentIn bs x p → joined (flat new) ≡ insert (joined (flat bs)) (rank_of bs p) x
-    → Adds (joined (flat bs)) (joined (flat new)) x
-adds_absent bs new x p tidy absent made =
-    subst (λ (xs : List Entry). Adds (joined (flat bs)) xs x) (sym made) (adds-inserted (joined (flat bs)) x (rank_of bs p) tidy.ascending absent.absent.gap)
+  pub none_promised : ((k : ℕ) → HasLeft (k + 1) → HasLeft k) → (room ≡ 0) ⊎ ((spare ≡ 0) ⊎ (¬ HasLeft 1)) → promised ≡ 0
+  none_promised less (inl none) = let list = sound.in_list in omega arith
+  none_promised less (inr (inl none)) = let trees = sound.in_trees in omega arith
+  none_promised less (inr (inr none)) = one_left less none
 
-pub not_there : (bs : List (List (List Entry))) (x : Entry) (p : Spot) → IsAbsentIn bs x p → ¬ Contains (joined (flat bs)) x
-not_there bs x p absent = absent_in_gap (joined (flat bs)) x (rank_of bs p) absent.absent.gap
+  pub none_countable : count + 1 ≡ 2 ^ 64 → promised ≡ 0
+  none_countable full = let bound = sound.countable in omega arith
 
-pub count_of_fewer : (bs new : List (List (List Entry))) (room spare leaves count promised : ℕ) (test : Entry → Bool) → IsSound bs room spare leaves count promised
-    → joined (flat new) ≡ filter test (joined (flat bs)) → length (joined (flat new)) < 2 ^ 64
-count_of_fewer bs new room spare leaves count promised test sound made =
-    let less = fewer bs new test made in
-    let counted = sound.counted in
+-- A tree as contracts see it: its branches, each the list of its leaves, and these the lists of their entries.
+
+abbrev pub Tree : Type 0
+Tree = List (List (List Entry))
+
+abbrev pub tree_entries : Tree → List Entry
+tree_entries tree = all (λ (branch : List (List Entry)). all (λ (leaf : List Entry). leaf) branch) tree
+
+abbrev pub among : List Tree → List Entry
+among trees = all tree_entries trees
+
+-- what a call reads through a reference
+pub ascending_there : (trees there : List Tree) → there ≡ trees → IsAscending (among trees) → IsAscending (among there)
+ascending_there trees there is up = subst (λ (ts : List Tree). IsAscending (among ts)) (sym is) up
+
+-- the first entry from where those begin that a look-up asks for
+pub least_found : {N S : Type 0} (entries : N → List Entry) (rank : N → S → ℕ) (IsSpot : N → S → Type 0) (nodes there here : List N) (P : Entry → Type 0) (spot : Spot S) (found : Option Entry)
+    → there ≡ nodes → here ≡ nodes → IsAscending (all entries nodes) → IsStartIn entries rank IsSpot there P spot
+    → found ≡ slice_get (all entries here) (rank_in entries rank here spot) → IsLeast (all entries nodes) P found
+least_found {N} entries rank IsSpot nodes there here P spot found is is_too up start at =
+    let begins = (subst (λ (ns : List N). IsStartIn entries rank IsSpot ns P spot) is start).start in
+    let first = first_is_least (all entries nodes) P (rank_in entries rank nodes spot) up begins in
+    subst (IsLeast (all entries nodes) P) (sym (at ∙ ap (λ (ns : List N). slice_get (all entries ns) (rank_in entries rank ns spot)) is_too)) first
+
+pub found_there : {N S : Type 0} (entries : N → List Entry) (rank : N → S → ℕ) (nodes there : List N) (x : Entry) (spot : Spot S) → there ≡ nodes
+    → IsAt (all entries there) x (rank_in entries rank there spot) → IsAt (all entries nodes) x (rank_in entries rank nodes spot)
+found_there {N} entries rank nodes there x spot is found = subst (λ (ns : List N). IsAt (all entries ns) x (rank_in entries rank ns spot)) is found
+
+pub gap_there : {N S : Type 0} (entries : N → List Entry) (rank : N → S → ℕ) (nodes there : List N) (x : Entry) (spot : Spot S) → there ≡ nodes
+    → IsGapFor (all entries there) x (rank_in entries rank there spot) → IsGapFor (all entries nodes) x (rank_in entries rank nodes spot)
+gap_there {N} entries rank nodes there x spot is gap = subst (λ (ns : List N). IsGapFor (all entries ns) x (rank_in entries rank ns spot)) is gap
+
+pub adds_in_gap : (old new : List Entry) (x : Entry) (rank : ℕ) → IsAscending old → IsGapFor old x rank → new ≡ insert old rank x → Adds old new x
+adds_in_gap old new x rank up gap made = subst (λ (xs : List Entry). Adds old xs x) (sym made) (adds-inserted old x rank up gap)
+
+pub max_left : (HasLeft : ℕ → Type 0) (a b most : ℕ) → HasLeft a → HasLeft b → (most ≡ a) ⊎ (most ≡ b) → HasLeft most
+max_left HasLeft a b most left left_too (inl is) = subst HasLeft (sym is) left
+max_left HasLeft a b most left left_too (inr is) = subst HasLeft (sym is) left_too
+
+most_is : (a b most : ℕ) → most ≡ max a b → (most ≡ a) ⊎ (most ≡ b)
+most_is a b most is = elim (cases_lt a b) [ inl less ↦ inr (omega (arith, is)) | inr more ↦ inl (omega (arith, is)) ]
+
+-- an index that has room for more
+pub sound_roomier : {N : Type 0} (entries : N → List Entry) (IsNeat : N → Type 0) (size : N → ℕ) (nodes new : List N) (room room' spare spare' : ℕ) (HasLeft HasLeft' : ℕ → Type 0)
+    (count promised given most : ℕ) → IsSound entries IsNeat size nodes room spare HasLeft count promised → new ≡ nodes → room ≤ room' → given ≤ room' → spare ≤ spare' → given ≤ spare'
+    → ((k : ℕ) → HasLeft k → HasLeft' k) → HasLeft' given → most ≡ max promised given → count + given < 2 ^ 64 → IsSound entries IsNeat size new room' spare' HasLeft' count most
+sound_roomier {N} entries IsNeat size nodes new room room' spare spare' HasLeft HasLeft' count promised given most sound same kept_room in_room kept_spare in_spare kept left is fits =
+    let which = most_is promised given most is in
+    let list = sound.in_list in
+    let trees = sound.in_trees in
     let bound = sound.countable in
-    omega arith
+    record {
+      ascending = subst (λ (ns : List N). IsAscending (all entries ns)) (sym same) sound.ascending;
+      neat = subst (AreNeat IsNeat size) (sym same) sound.neat;
+      counted = sound.counted ∙ ap (λ (ns : List N). length (all entries ns)) (sym same);
+      in_list = omega arith;
+      in_trees = omega arith;
+      below = max_left HasLeft' promised given most (kept promised sound.below) left which;
+      countable = omega arith;
+    }

@@ -1,5 +1,8 @@
-pub mod Branches
-pub mod Leaves
+pub mod Halves
+pub mod Lists
+pub mod Nodes
 pub mod Order
+pub mod Rows
 pub mod Sets
+pub mod Trees
 pub mod View

@@ -1,126 +1,159 @@
-//! A branch: leaves that stand together in memory.
+//! A branch: nodes that stand together in memory.
 
-ghost use Rattle.std.specs.Prelude.{◌≡◌, ◌<◌, ◌≤◌, ◌+◌, ◌++◌, [], length, IfOk, OnOk, OnErr, vec_len, vec_capacity};
-ghost use Rattle.std.specs.List.{insert, filter};
-ghost use Rattle.root_index.specs.Leaves.{joined, rank, stays, begins_after, IsFilled, IsTidy, IsAbsentAt};
+ghost use Rattle.std.specs.Prelude.{◌≡◌, ◌≤◌, ◌++◌, [], length, vec_len, vec_capacity};
+ghost use Rattle.std.proofs.Common.{arith};
+ghost use Rattle.root_index.specs.Rows.{none_without, some_with, rank_within, entry_is_spot};
+ghost use Rattle.root_index.specs.Nodes.{all, rank_in, AreNeat, IsSpotIn, IsEntryIn, AreLeft};
 
 use crate::entry::Entry;
-use crate::leaf::Leaf;
-use crate::leaves::{self, Place};
+use crate::node::{HALF, Half, MAX_PARTS, Node};
+use crate::nodes::{self, Spares, Spot};
 use std::alloc::{AllocError, Global};
 use std::marker::Model;
 use xid_circle::Tid;
 
-/// A branch holds at most so many leaves.
-pub(crate) const MAX_LEAVES: usize = 128;
-
-/// A full branch keeps so many when it is split.
-pub(crate) const HALF: usize = 64;
-
-/// At most 128 leaves. There is always room for all of them in memory.
+/// At most 128 nodes. There is always room for all of them in memory.
 #[derive(Debug, Drop)]
-pub(crate) struct Branch {
-    leaves: Vec<Leaf>,
+pub(crate) struct Branch<N> {
+    nodes: Vec<N>,
 }
 
-impl Model for Branch {
+impl<N> Model for Branch<N> {
     ghost use Rattle.std.specs.Prelude.{◌≤◌, List, length, vec_capacity};
-    ghost use Rattle.root_index.specs.declared.entry.Entry.{Entry as Seen};
 
-    ghost Value = { List (List Seen) };
+    ghost Value = { List N };
 
-    ghost view = { λ b. b.leaves.items };
+    ghost view = { λ b. b.nodes.items };
 
-    ghost invariant = { λ b. (length b.leaves.items ≤ 128) × (128 ≤ vec_capacity b.leaves) };
+    ghost invariant = { λ b. (length b.nodes.items ≤ 128) × (128 ≤ vec_capacity b.nodes) };
 }
 
-impl Branch {
-    /// A branch without leaves.
-    pub(crate) fn new(alloc: Global) -> Result<Self, AllocError>
-        ensures { IfOk result (λ branch. branch ≡ []) }
-    {
-        let leaves = Vec::with_capacity(alloc, MAX_LEAVES)?;
-        Ok(Branch { leaves })
+impl<N: Node> Node for Branch<N> {
+    type Spot = Spot<N::Spot>;
+
+    type Spares = Spares<N, N::Spares>;
+
+    ghost entries = { λ b. all N.entries b };
+
+    ghost size = { λ b. length b };
+
+    ghost IsNeat = { λ b. AreNeat N.IsNeat N.size b };
+
+    ghost IsSpot = { λ b spot. IsSpotIn N.IsSpot b spot };
+
+    ghost IsEntry = { λ b spot. IsEntryIn N.IsEntry b spot };
+
+    ghost rank = { λ b spot. rank_in N.entries N.rank b spot };
+
+    ghost HasLeft = { λ spares k. AreLeft N.HasLeft (vec_len spares.nodes) spares.below k };
+
+    fn new(alloc: Global) -> Result<Self, AllocError> {
+        let nodes = Vec::with_capacity(alloc, MAX_PARTS)?;
+        Ok(Branch { nodes })
     }
 
-    /// The leaves.
-    pub(crate) fn leaves(&self) -> &[Leaf]
-        ensures value { result.now ≡ self.now }
-        ensures limit { length result.now ≤ 128 }
-    {
-        &self.leaves
+    fn clear(&mut self) {
+        self.nodes.clear();
     }
 
-    /// Takes all leaves out.
-    pub(crate) fn clear(&mut self)
-        ensures { self.new ≡ [] }
-    {
-        self.leaves.clear();
+    fn len(&self) -> usize {
+        self.nodes.len()
     }
 
-    /// Whether the entry precedes the branch's first.
-    pub(crate) fn begins_after(&self, sought: &Entry) -> bool
-        requires { IsFilled self.now }
-        ensures { result ≡ begins_after sought.now (joined self.now) }
-    {
-        match self.leaves.first() {
+    fn begins_after(&self, sought: &Entry) -> bool {
+        match self.nodes.first() {
             Some(first) => first.begins_after(sought),
             None => false,
         }
     }
 
-    /// Moves all leaves of a full branch but the first 64 to `upper`, which has none. It takes no memory.
-    pub(crate) fn give_half(&mut self, upper: &mut Branch)
-        requires full { length self.old ≡ 128 }
-        requires none { upper.old ≡ [] }
-        ensures leaves { self.new ++ upper.new ≡ self.old }
-        ensures half { length self.new ≡ 64 }
-    {
-        move_half(&mut self.leaves, &mut upper.leaves);
+    fn search(&self, sought: &Entry) -> Result<Spot<N::Spot>, Spot<N::Spot>> {
+        nodes::search(&self.nodes, sought)
     }
 
-    /// Puts an entry at its place. It takes memory only where its leaf is full.
-    pub(crate) fn insert(
+    fn stands_at(&self, sought: &Entry, spot: Spot<N::Spot>) -> bool {
+        nodes::stands_at(&self.nodes, sought, spot)
+    }
+
+    fn first() -> Spot<N::Spot> {
+        nodes::first::<N>()
+    }
+
+    fn behind(spot: Spot<N::Spot>) -> Spot<N::Spot> {
+        nodes::behind::<N>(spot)
+    }
+
+    fn entry_at(&self, spot: Spot<N::Spot>) -> Option<Entry> {
+        nodes::entry_at(&self.nodes, spot)
+    }
+
+    fn count(&self) -> u64 {
+        nodes::count(&self.nodes)
+    }
+
+    fn split(&mut self, upper: &mut Self, spot: Spot<N::Spot>) -> Half<Spot<N::Spot>> {
+        move_half(&mut self.nodes, &mut upper.nodes);
+        if spot.node < HALF {
+            Half::Lower(spot)
+        } else {
+            Half::Upper(Spot {
+                node: spot.node - HALF,
+                inner: spot.inner,
+            })
+        }
+    }
+
+    fn insert(
         &mut self,
-        spare: &mut Vec<Leaf>,
-        place: Place,
+        spares: &mut Spares<N, N::Spares>,
+        spot: Spot<N::Spot>,
         entry: Entry,
-    ) -> Result<(), AllocError>
-        requires tidy { IsTidy self.old }
-        requires absent { IsAbsentAt self.old entry place }
-        requires room { length self.old < 128 }
-        ensures entries { OnOk result (joined self.new ≡ insert (joined self.old) (rank self.old place) entry) }
-        ensures filled { OnOk result (IsFilled self.new) }
-        ensures spare { vec_len spare.old ≤ vec_len spare.new + 1 }
-        ensures err { OnErr result (self.new ≡ self.old) }
-        ensures refused { OnErr result (vec_len spare.old ≡ 0) }
-    {
-        leaves::insert(&mut self.leaves, spare, place, entry)
+    ) -> Result<(), AllocError> {
+        nodes::insert(&mut self.nodes, spares, spot, entry)
     }
 
-    /// Removes the entries that lead to one of these places, and the leaves that are left without any.
-    pub(crate) fn remove(&mut self, dead: &[Tid])
-        ensures entries { joined self.new ≡ filter (stays dead.now) (joined self.old) }
-        ensures filled { IsFilled self.new }
-    {
-        leaves::sweep(&mut self.leaves, dead);
-        leaves::drop_empty(&mut self.leaves);
+    fn remove(&mut self, dead: &[Tid]) {
+        nodes::sweep(&mut self.nodes, dead);
     }
+
+    fn no_spares(alloc: Global) -> Spares<N, N::Spares> {
+        Spares {
+            nodes: Vec::new(alloc),
+            below: N::no_spares(alloc),
+        }
+    }
+
+    fn add_spares(spares: &mut Spares<N, N::Spares>, count: usize) -> Result<(), AllocError> {
+        nodes::add_nodes(&mut spares.nodes, count)?;
+        N::add_spares(&mut spares.below, count)
+    }
+
+    ghost none = { λ b none. none_without N.entries b none };
+
+    ghost some = { λ b neat some. some_with N.entries N.IsNeat N.size N.some b neat some };
+
+    ghost before = { λ b spot entry. entry_is_spot N.IsSpot N.IsEntry N.before b spot entry };
+
+    ghost within = { λ b spot in_range. rank_within N.entries N.rank N.IsSpot N.within b spot in_range };
+
+    ghost fewer = { λ spares k left. (omega (arith, left.0), N.fewer spares.below k left.1) };
+
+    ghost enough = { λ spares. (omega arith, N.enough spares.below) };
 }
 
-/// Moves all of 128 leaves but the first 64. There is room for them in memory.
-fn move_half(lower: &mut Vec<Leaf>, upper: &mut Vec<Leaf>)
+/// Moves all of 128 nodes but the first 64. There is room for them in memory.
+fn move_half<N: Node>(lower: &mut Vec<N>, upper: &mut Vec<N>)
     requires full { length lower.old.items ≡ 128 }
     requires none { upper.old.items ≡ [] }
     requires room { 128 ≤ vec_capacity upper.old }
-    ensures leaves { lower.new.items ++ upper.new.items ≡ lower.old.items }
+    ensures nodes { lower.new.items ++ upper.new.items ≡ lower.old.items }
     ensures half { length lower.new.items ≡ 64 }
     ensures capacity { vec_capacity lower.old ≤ vec_capacity lower.new }
     ensures capacity_too { vec_capacity upper.old ≤ vec_capacity upper.new }
 {
-    for _ in HALF..MAX_LEAVES {
-        if let Some(leaf) = lower.pop() {
-            leaves::put_leaf(upper, 0, leaf);
+    for _ in HALF..MAX_PARTS {
+        if let Some(node) = lower.pop() {
+            nodes::put_node(upper, 0, node);
         }
     }
 }

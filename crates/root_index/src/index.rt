@@ -6,31 +6,34 @@ ghost use Rattle.root_index.specs.Order.{IsAscending};
 ghost use Rattle.root_index.specs.Sets.{Adds, Removes, IsLeast, IsAfter, IsBelow};
 
 use crate::branch::Branch;
-use crate::branches::{self, Spot};
 use crate::entry::Entry;
 use crate::leaf::Leaf;
-use crate::leaves;
+use crate::look_ups;
+use crate::node::Node;
+use crate::nodes::{self, Spares, Spot};
 use std::alloc::{AllocError, Global};
 use std::marker::Model;
 use xid_circle::Tid;
+
+/// What the entries stand in: 128 branches at most, of 128 leaves at most, of 128 entries at most.
+type Tree = Branch<Branch<Leaf>>;
 
 /// Where an entry stood when it was found; the first place of all, by default. It may stand elsewhere since, or nowhere; then
 /// the next is searched for.
 #[derive(Clone, Copy, Debug, Default, PartialEq, Eq)]
 pub struct Near {
-    spot: Spot,
+    spot: Spot<Spot<Spot<usize>>>,
 }
 
 /// An ordered set of entries.
 #[derive(Debug, Drop)]
 pub struct RootIndex {
-    /// The entries, in leaves of at most 128, and these in branches of at most 128, none empty. An insert moves no more than
-    /// a leaf's entries, and where it splits a leaf or a branch the pointers of a branch or of this list.
-    branches: Vec<Branch>,
-    /// Branches for splits to come.
-    spare: Vec<Branch>,
-    /// Leaves for splits to come.
-    leaves: Vec<Leaf>,
+    /// The entries. No node is empty, and one that is split keeps half: so there is one tree here for each 262,144 entries or
+    /// more, where none were removed. An insert moves no more than a leaf's entries, and where it splits a leaf or a branch
+    /// the pointers of a branch or of this list.
+    trees: Vec<Tree>,
+    /// Nodes for splits to come.
+    spares: Spares<Tree, Spares<Branch<Leaf>, Spares<Leaf, ()>>>,
     /// The number of entries.
     count: u64,
     /// So many more entries take no memory.
@@ -40,14 +43,14 @@ pub struct RootIndex {
 impl Model for RootIndex {
     ghost use Rattle.std.specs.Prelude.{◌-◌, vec_len, vec_capacity};
     ghost use Rattle.root_index.specs.View.{IndexView};
-    ghost use Rattle.root_index.specs.Leaves.{joined};
-    ghost use Rattle.root_index.specs.Branches.{flat, IsSound};
+    ghost use Rattle.root_index.specs.Nodes.{all};
+    ghost use Rattle.root_index.specs.Trees.{IsSound};
 
     ghost Value = { IndexView };
 
-    ghost view = { λ x. record { entries = joined (flat x.branches.items); spare = x.promised } };
+    ghost view = { λ x. record { entries = all ⟦<Tree as Node>⟧.entries x.trees.items; spare = x.promised } };
 
-    ghost invariant = { λ x. IsSound x.branches.items (vec_capacity x.branches - vec_len x.branches) (vec_len x.spare) (vec_len x.leaves) x.count x.promised };
+    ghost invariant = { λ x. IsSound ⟦<Tree as Node>⟧.entries ⟦<Tree as Node>⟧.IsNeat ⟦<Tree as Node>⟧.size x.trees.items (vec_capacity x.trees - vec_len x.trees) (vec_len x.spares.nodes) (⟦<Tree as Node>⟧.HasLeft x.spares.below) x.count x.promised };
 }
 
 impl RootIndex {
@@ -56,9 +59,11 @@ impl RootIndex {
         ensures { result.entries ≡ [] }
     {
         RootIndex {
-            branches: Vec::new(alloc),
-            spare: Vec::new(alloc),
-            leaves: Vec::new(alloc),
+            trees: Vec::new(alloc),
+            spares: Spares {
+                nodes: Vec::new(alloc),
+                below: Tree::no_spares(alloc),
+            },
             count: 0,
             promised: 0,
         }
@@ -79,8 +84,8 @@ impl RootIndex {
     }
 
     /// Makes room in memory for `count` more entries, so that the next `count` of them are inserted without asking for any.
-    /// Each may split a leaf and a branch, so this keeps as many spare ones, of 4 and 3 KiB. It is also refused where the number of entries
-    /// would be above 2^64 - 1.
+    /// Each may split a node of each kind, so this keeps as many spare ones, of 4, 3 and 3 KiB. It is also refused where the
+    /// number of entries would be above 2^64 - 1.
     pub fn make_room(&mut self, count: usize) -> Result<(), AllocError>
         ensures room { OnOk result (count ≤ self.new.spare) }
         ensures refused { OnErr result (self.old.spare < count) }
@@ -91,9 +96,9 @@ impl RootIndex {
         if u64::MAX - self.count < count as u64 {
             return Err(AllocError);
         }
-        self.branches.try_reserve(count)?;
-        branches::add_branches(&mut self.spare, count)?;
-        leaves::add_leaves(&mut self.leaves, count)?;
+        self.trees.try_reserve(count)?;
+        nodes::add_nodes(&mut self.spares.nodes, count)?;
+        Tree::add_spares(&mut self.spares.below, count)?;
         self.promised = self.promised.max(count);
         Ok(())
     }
@@ -106,7 +111,7 @@ impl RootIndex {
         ensures memory { OnErr result ((self.old.spare ≡ 0) × ¬ Contains self.old.entries entry) }
         ensures err { OnErr result (self.new.entries ≡ self.old.entries) }
     {
-        let spot = match branches::search(&self.branches, &entry) {
+        let spot = match nodes::search(&self.trees, &entry) {
             Ok(_) => return Ok(()),
             Err(spot) => spot,
         };
@@ -114,13 +119,7 @@ impl RootIndex {
         if self.count == u64::MAX {
             return Err(AllocError);
         }
-        branches::insert(
-            &mut self.branches,
-            &mut self.spare,
-            &mut self.leaves,
-            spot,
-            entry,
-        )?;
+        nodes::insert(&mut self.trees, &mut self.spares, spot, entry)?;
         self.count += 1;
         self.promised = self.promised.saturating_sub(1);
         Ok(())
@@ -130,8 +129,8 @@ impl RootIndex {
     pub fn next_after(&self, from: Option<Entry>) -> Option<Entry>
         ensures { IsLeast self.now.entries (IsAfter from) result }
     {
-        let spot = branches::spot_after(&self.branches, from);
-        branches::entry_at(&self.branches, spot)
+        let spot = look_ups::spot_after(&self.trees, from);
+        nodes::entry_at(&self.trees, spot)
     }
 
     /// The first entry after this one, and where it stood. Where the other still stands at the place that is given, that is
@@ -139,8 +138,8 @@ impl RootIndex {
     pub fn next_near(&self, from: Entry, near: Near) -> Option<(Entry, Near)>
         ensures { IsLeast self.now.entries (IsAfter (Some from)) (option_map (λ found. found.0) result) }
     {
-        let spot = branches::spot_near(&self.branches, from, near.spot);
-        match branches::entry_at(&self.branches, spot) {
+        let spot = look_ups::spot_near(&self.trees, from, near.spot);
+        match nodes::entry_at(&self.trees, spot) {
             Some(entry) => Some((entry, Near { spot })),
             None => None,
         }
@@ -150,8 +149,8 @@ impl RootIndex {
     pub fn first_from(&self, value: i128, key: u64) -> Option<Entry>
         ensures { IsLeast self.now.entries (λ e. ¬ IsBelow value key e) result }
     {
-        let spot = branches::spot_from(&self.branches, value, key);
-        branches::entry_at(&self.branches, spot)
+        let spot = look_ups::spot_from(&self.trees, value, key);
+        nodes::entry_at(&self.trees, spot)
     }
 
     /// Removes the entries that lead to one of these places, which stand in any order, and no others. It takes no memory.
@@ -159,7 +158,7 @@ impl RootIndex {
         ensures removes { Removes self.old.entries self.new.entries dead.now }
         ensures spare { self.old.spare ≤ self.new.spare }
     {
-        branches::sweep(&mut self.branches, dead);
-        self.count = branches::count(&self.branches);
+        nodes::sweep(&mut self.trees, dead);
+        self.count = nodes::count(&self.trees);
     }
 }

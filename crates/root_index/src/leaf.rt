@@ -1,23 +1,18 @@
 //! A leaf: entries that stand together in memory.
 
-ghost use Rattle.std.specs.Prelude.{◌≡◌, ◌<◌, ◌≤◌, ℕ, [], length, take, drop, IfOk, IfErr, IsTrue, ◌↔◌, slice_get, vec_capacity, Contains};
-ghost use Rattle.std.specs.List.{insert, filter};
+ghost use Rattle.std.specs.Prelude.{◌≡◌, ◌<◌, ◌≤◌, ◌↔◌, [], ◌∷◌, refl, length, drop, IfOk, IfErr, IsTrue, slice_get, vec_capacity, Contains};
+ghost use Rattle.std.proofs.Common.{arith};
+ghost use Rattle.std.specs.List.{insert};
 ghost use Rattle.root_index.specs.Order.{IsAscending};
 ghost use Rattle.root_index.specs.Sets.{IsAt, IsGapFor};
-ghost use Rattle.root_index.specs.Leaves.{begins_after, stays};
 
 use crate::entry::{Entry, compare};
+use crate::node::{HALF, Half, MAX_PARTS, Node};
 use std::alloc::{AllocError, Global};
 use std::marker::Model;
 use xid_circle::Tid;
 
-/// A leaf holds at most so many entries, 4 KiB of them.
-pub(crate) const MAX_ENTRIES: usize = 128;
-
-/// A full leaf keeps so many when it is split.
-pub(crate) const HALF: usize = 64;
-
-/// At most 128 entries. There is always room for all of them in memory.
+/// At most 128 entries, 4 KiB of them. There is always room for all of them in memory.
 #[derive(Debug, Drop)]
 pub(crate) struct Leaf {
     entries: Vec<Entry>,
@@ -34,81 +29,110 @@ impl Model for Leaf {
     ghost invariant = { λ l. (length l.entries.items ≤ 128) × (128 ≤ vec_capacity l.entries) };
 }
 
-impl Leaf {
-    /// A leaf without entries.
-    pub(crate) fn new(alloc: Global) -> Result<Self, AllocError>
-        ensures { IfOk result (λ leaf. leaf ≡ []) }
-    {
-        let entries = Vec::with_capacity(alloc, MAX_ENTRIES)?;
+impl Node for Leaf {
+    type Spot = usize;
+
+    type Spares = ();
+
+    ghost entries = { λ l. l };
+
+    ghost size = { λ l. length l };
+
+    ghost IsNeat = { λ l. Unit {0} };
+
+    ghost IsSpot = { λ l spot. spot ≤ length l };
+
+    ghost IsEntry = { λ l spot. (spot < length l) × (spot < 128) };
+
+    ghost rank = { λ l spot. spot };
+
+    ghost HasLeft = { λ spares k. Unit {0} };
+
+    fn new(alloc: Global) -> Result<Self, AllocError> {
+        let entries = Vec::with_capacity(alloc, MAX_PARTS)?;
         Ok(Leaf { entries })
     }
 
-    /// The entries.
-    pub(crate) fn entries(&self) -> &[Entry]
-        ensures value { result.now ≡ self.now }
-        ensures limit { length result.now ≤ 128 }
-    {
-        &self.entries
-    }
-
-    /// The entry at this place, if there is one.
-    pub(crate) fn entry(&self, place: usize) -> Option<Entry>
-        ensures { result ≡ slice_get self.now place }
-    {
-        entry_in(&self.entries, place)
-    }
-
-    /// The number of entries.
-    pub(crate) fn len(&self) -> usize
-        ensures count { result ≡ length self.now }
-        ensures limit { result ≤ 128 }
-    {
-        self.entries.len()
-    }
-
-    /// Takes all entries out.
-    pub(crate) fn clear(&mut self)
-        ensures { self.new ≡ [] }
-    {
+    fn clear(&mut self) {
         self.entries.clear();
     }
 
-    /// Whether the entry precedes the leaf's first.
-    pub(crate) fn begins_after(&self, sought: &Entry) -> bool
-        ensures { result ≡ begins_after sought.now self.now }
-    {
+    fn len(&self) -> usize {
+        self.entries.len()
+    }
+
+    fn begins_after(&self, sought: &Entry) -> bool {
         match self.entries.first() {
             Some(first) => compare(sought, first).is_lt(),
             None => false,
         }
     }
 
-    /// Puts an entry at this place, before those from there on. It takes no memory.
-    pub(crate) fn insert(&mut self, place: usize, entry: Entry)
-        requires in_range { place ≤ length self.old }
-        requires room { length self.old < 128 }
-        ensures { self.new ≡ insert self.old place entry }
-    {
-        // never refused, since there is room
-        let _done = self.entries.insert(place, entry);
+    fn search(&self, sought: &Entry) -> Result<usize, usize> {
+        search(&self.entries, sought)
     }
 
-    /// Moves all entries but the first 64 to `upper`, which loses what it had. It takes no memory.
-    pub(crate) fn give_half(&mut self, upper: &mut Leaf)
-        requires { 64 ≤ length self.old }
-        ensures kept { self.new ≡ take 64 self.old }
-        ensures given { upper.new ≡ drop 64 self.old }
-    {
+    fn stands_at(&self, sought: &Entry, spot: usize) -> bool {
+        match entry_in(&self.entries, spot) {
+            Some(entry) => compare(&entry, sought).is_eq(),
+            None => false,
+        }
+    }
+
+    fn first() -> usize {
+        0
+    }
+
+    fn behind(spot: usize) -> usize {
+        // no leaf has more than 128 entries
+        spot.saturating_add(1)
+    }
+
+    fn entry_at(&self, spot: usize) -> Option<Entry> {
+        entry_in(&self.entries, spot)
+    }
+
+    fn count(&self) -> u64 {
+        self.entries.len() as u64
+    }
+
+    fn split(&mut self, upper: &mut Self, spot: usize) -> Half<usize> {
         refill(&mut upper.entries, &self.entries[HALF..]);
         self.entries.truncate(HALF);
+        if spot <= HALF {
+            Half::Lower(spot)
+        } else {
+            Half::Upper(spot - HALF)
+        }
     }
 
-    /// Removes the entries that lead to one of these places.
-    pub(crate) fn remove(&mut self, dead: &[Tid])
-        ensures { self.new ≡ filter (stays dead.now) self.old }
-    {
+    fn insert(&mut self, _spares: &mut (), spot: usize, entry: Entry) -> Result<(), AllocError> {
+        // never refused, since there is room
+        let _done = self.entries.insert(spot, entry);
+        Ok(())
+    }
+
+    fn remove(&mut self, dead: &[Tid]) {
         self.entries.retain(|entry| !is_dead(dead, entry.tid));
     }
+
+    fn no_spares(_alloc: Global) {}
+
+    fn add_spares(_spares: &mut (), _count: usize) -> Result<(), AllocError> {
+        Ok(())
+    }
+
+    ghost none = { elim [ [] ↦ λ none. refl | entry ∷ rest ↦ λ none. absurd (omega (arith, none)) ] };
+
+    ghost some = { λ l neat some. some };
+
+    ghost before = { λ l spot entry. omega (arith, entry.0) };
+
+    ghost within = { λ l spot within. within };
+
+    ghost fewer = { λ spares k enough. tt };
+
+    ghost enough = { λ spares. tt };
 }
 
 /// Puts these entries in the place of all others. There is room for them in memory.
@@ -123,7 +147,7 @@ fn refill(entries: &mut Vec<Entry>, with: &[Entry])
 }
 
 /// Where the entry stands among these, or where it would.
-pub(crate) fn search(entries: &[Entry], sought: &Entry) -> Result<usize, usize>
+fn search(entries: &[Entry], sought: &Entry) -> Result<usize, usize>
     requires { IsAscending entries.now }
     ensures found { IfOk result (IsAt entries.now sought.now) }
     ensures absent { IfErr result (IsGapFor entries.now sought.now) }

@@ -5,18 +5,20 @@
 //! of how many can be inserted without memory (`specs/View.antt`). The order is by value, then key, then page, then slot
 //! (`specs/Order.antt`). The contract promises that a call does to the set of entries what it is named after and nothing
 //! else (`specs/Sets.antt`), and [`members_determine`] that there is only one ascending list with the same entries. It says
-//! nothing of how they are kept, which is in leaves of at most 128 entries (`specs/Leaves.antt`), and these in branches of at
-//! most 128 leaves (`specs/Branches.antt`): an insert moves no more than a leaf's entries, and where it splits a leaf or a
-//! branch, 24 bytes for each leaf of a branch, or for each branch. For the crates above, `proofs/LookUpLemmas.antt` says what
-//! look-ups find one after another.
+//! nothing of how they are kept, which is in leaves of at most 128 entries, these in branches of at most 128 leaves, and these in
+//! trees of at most 128 branches. Each of them is a `Node`, whose trait says what a node owes the one above it, so that look-ups,
+//! inserts and removals are written and proved once for all (`node.rt`, `nodes.rt`; `specs/Nodes.antt`). An insert moves no more
+//! than a node's parts, and the list of trees is shorter than a node's. For the crates above, `proofs/LookUpLemmas.antt` says
+//! what look-ups find one after another.
 #![tactic(auto)]
 
 mod branch;
-mod branches;
 mod entry;
 mod index;
 mod leaf;
-mod leaves;
+mod look_ups;
+mod node;
+mod nodes;
 
 pub use entry::{Entry, members_determine};
 pub use index::{Near, RootIndex};

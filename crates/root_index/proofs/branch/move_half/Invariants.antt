@@ -3,8 +3,8 @@ use Rattle.root_index.proofs.branch.move_half.Given as goal
 
 -- what has left the one stands at the front of the other
 abbrev pub invariant-loop : goal.invariant-loop
-invariant-loop l = record {
-  leaves : l.lower.items ++ l.upper.items ≡ l.fn.lower.items;
+invariant-loop g l = record {
+  nodes : l.lower.items ++ l.upper.items ≡ l.fn.lower.items;
   left : length l.lower.items + l.counter ≡ 192;
   moved : vec_len l.upper + 64 ≡ l.counter;
   capacity : vec_capacity l.fn.lower ≤ vec_capacity l.lower;

@@ -1,0 +1,52 @@
+-- Nodes one after another, be they leaves or branches.
+use Rattle.std.specs.Prelude.{◌≡◌, ◌<◌, ◌≤◌, ℕ, List, Option, Some, None, map, length, slice_get, IfSome, IsSomeAnd}
+use Rattle.std.specs.List.{All}
+use Rattle.root_index.specs.declared.entry.Entry.{Entry}
+use Rattle.root_index.specs.declared.nodes.Spot.{Spot}
+use Rattle.root_index.specs.Sets.{IsStart}
+use Rattle.root_index.specs.Lists.{joined, rank, Place}
+
+-- the entries of the nodes, one node after another
+abbrev pub all : {N : Type 0} → (N → List Entry) → List N → List Entry
+all entries nodes = joined (map entries nodes)
+
+-- no node is empty, nor any part of one
+abbrev pub AreNeat : {N : Type 0} → (N → Type 0) → (N → ℕ) → List N → Type 0
+AreNeat IsNeat size nodes = All (λ n. IsNeat n × (0 < size n)) nodes
+
+-- the number of entries before the spot in its node, if there is such a node
+abbrev pub inner_rank : {N S : Type 0} → (N → S → ℕ) → Option N → S → ℕ
+inner_rank rank None spot = 0
+inner_rank rank (Some n) spot = rank n spot
+
+-- the spot as a place in its node's list of entries
+abbrev pub place : {N S : Type 0} → (N → S → ℕ) → List N → Spot S → Place
+place rank nodes spot = record { list = spot.node; entry = inner_rank rank (slice_get nodes spot.node) spot.inner }
+
+-- the number of entries before the spot
+abbrev pub rank_in : {N S : Type 0} → (N → List Entry) → (N → S → ℕ) → List N → Spot S → ℕ
+rank_in entries inner nodes spot = rank (map entries nodes) (place inner nodes spot)
+
+-- where an entry may be put
+pub record IsSpotIn {N S : Type 0} (IsSpot : N → S → Type 0) (nodes : List N) (spot : Spot S) : Type 0 where
+  pub node : 0 < length nodes → spot.node < length nodes
+  pub inner : IfSome (slice_get nodes spot.node) (λ n. IsSpot n spot.inner)
+
+-- where an entry stands
+abbrev pub IsEntryIn : {N S : Type 0} → (N → S → Type 0) → List N → Spot S → Type 0
+IsEntryIn IsEntry nodes spot = IsSomeAnd (slice_get nodes spot.node) (λ n. IsEntry n spot.inner)
+
+-- the entries from this spot on have P, and none before it has
+pub record IsStartIn {N S : Type 0} (entries : N → List Entry) (rank : N → S → ℕ) (IsSpot : N → S → Type 0) (nodes : List N) (P : Entry → Type 0) (spot : Spot S) : Type 0 where
+  pub in_range : IsSpotIn IsSpot nodes spot
+  pub start : IsStart (all entries nodes) P (rank_in entries rank nodes spot)
+
+-- after a node was split if it was full: the same entries, and one more part may come where the spot is
+pub record IsOpen {N S : Type 0} (entries : N → List Entry) (size : N → ℕ) (rank : N → S → ℕ) (IsSpot : N → S → Type 0) (old new : List N) (was is : Spot S) : Type 0 where
+  pub same : all entries new ≡ all entries old
+  pub before : rank_in entries rank new is ≡ rank_in entries rank old was
+  pub room : IsSomeAnd (slice_get new is.node) (λ n. (size n < 128) × IsSpot n is.inner)
+
+-- enough nodes for so many inserts, those below them too
+abbrev pub AreLeft : {B : Type 0} → (B → ℕ → Type 0) → ℕ → B → ℕ → Type 0
+AreLeft HasLeft count below k = (k ≤ count) × HasLeft below k

@@ -1,0 +1,85 @@
+-- What holds of nodes one after another where it holds of each: the laws of a branch. No definition: these are proofs.
+use Rattle.std.proofs.Common.{◌≡◌, ℕ, zero, suc, ◌+◌, ◌<◌, ◌≤◌, Option, Some, None, List, [], ◌∷◌, length, map, take, slice_get, IfSome, IsSomeAnd, sym, ap, refl, subst, arith}
+use Rattle.std.proofs.lemmas.List.{length-append}
+use Rattle.std.proofs.lemmas.Option.{slice_get_within}
+use Rattle.root_index.specs.declared.entry.Entry.{Entry}
+use Rattle.root_index.specs.declared.nodes.Spot.{Spot}
+use Rattle.root_index.specs.Lists.{joined}
+use Rattle.root_index.specs.Nodes.{all, AreNeat, inner_rank, rank_in, IsSpotIn, IsEntryIn}
+
+pub none_without : {N : Type 0} (entries : N → List Entry) (nodes : List N) → length nodes ≡ 0 → all entries nodes ≡ []
+none_without entries [] none = refl
+none_without entries (n ∷ nodes) none = absurd (omega (arith, none))
+
+pub some_with : {N : Type 0} (entries : N → List Entry) (IsNeat : N → Type 0) (size : N → ℕ) (some : (n : N) → IsNeat n → 0 < size n → 0 < length (entries n)) (nodes : List N)
+    → AreNeat IsNeat size nodes → 0 < length nodes → 0 < length (all entries nodes)
+some_with entries IsNeat size some [] neat within = absurd (omega arith)
+some_with entries IsNeat size some (n ∷ nodes) neat within =
+    let front = neat 0 n (omega arith) in
+    let first = some n front.0 front.1 in
+    let whole = length-append (entries n) (all entries nodes) in
+    omega arith
+
+-- A spot in a node is one among all.
+
+pub inner_is : {N S : Type 0} (rank : N → S → ℕ) (nodes : List N) (spot : Spot S) (n : N) → slice_get nodes spot.node ≡ Some n
+    → inner_rank rank (slice_get nodes spot.node) spot.inner ≡ rank n spot.inner
+inner_is rank nodes spot n at = ap (λ o. inner_rank rank o spot.inner) at
+
+pub spot_in : {N S : Type 0} (IsSpot : N → S → Type 0) (nodes : List N) (spot : Spot S) (n : N) → slice_get nodes spot.node ≡ Some n → IsSpot n spot.inner → IsSpotIn IsSpot nodes spot
+spot_in {N} IsSpot nodes spot n at inner = record {
+  node = λ some. slice_get_within nodes spot.node n at;
+  inner = subst (λ (o : Option N). IfSome o (λ n. IsSpot n spot.inner)) (sym at) inner;
+}
+
+pub entry_in : {N S : Type 0} (IsEntry : N → S → Type 0) (nodes : List N) (spot : Spot S) (n : N) → slice_get nodes spot.node ≡ Some n → IsEntry n spot.inner → IsEntryIn IsEntry nodes spot
+entry_in {N} IsEntry nodes spot n at inner = subst (λ (o : Option N). IsSomeAnd o (λ n. IsEntry n spot.inner)) (sym at) inner
+
+pub entry_is_spot : {N S : Type 0} (IsSpot IsEntry : N → S → Type 0) (before : (n : N) (s : S) → IsEntry n s → IsSpot n s) (nodes : List N) (spot : Spot S)
+    → IsEntryIn IsEntry nodes spot → IsSpotIn IsSpot nodes spot
+entry_is_spot {N} IsSpot IsEntry before nodes spot entry = by_node (slice_get nodes spot.node) refl entry
+  where
+    by_node : (o : Option N) → slice_get nodes spot.node ≡ o → IsSomeAnd o (λ n. IsEntry n spot.inner) → IsSpotIn IsSpot nodes spot
+    by_node None at entry = absurd entry
+    by_node (Some n) at entry = spot_in IsSpot nodes spot n at (before n spot.inner entry)
+
+-- a spot is among the entries, or right behind the last
+
+front_short : {N : Type 0} (entries : N → List Entry) (nodes : List N) (i : ℕ) → length (joined (take i (map entries nodes))) ≤ length (all entries nodes)
+front_short entries nodes zero = omega arith
+front_short entries [] (suc i) = omega arith
+front_short entries (n ∷ nodes) (suc i) =
+    let front = length-append (entries n) (joined (take i (map entries nodes))) in
+    let whole = length-append (entries n) (all entries nodes) in
+    let rest = front_short entries nodes i in
+    omega arith
+
+front_and : {N : Type 0} (entries : N → List Entry) (nodes : List N) (i k : ℕ) (n : N) → slice_get nodes i ≡ Some n → k ≤ length (entries n)
+    → length (joined (take i (map entries nodes))) + k ≤ length (all entries nodes)
+front_and entries [] zero k n at short = absurd (cc at)
+front_and entries [] (suc i) k n at short = absurd (cc at)
+front_and entries (m ∷ nodes) zero k n at short =
+    let is : m ≡ n = cc at in
+    let size : length (entries m) ≡ length (entries n) = ap (λ n. length (entries n)) is in
+    let whole = length-append (entries m) (all entries nodes) in
+    omega arith
+front_and entries (m ∷ nodes) (suc i) k n at short =
+    let front = length-append (entries m) (joined (take i (map entries nodes))) in
+    let whole = length-append (entries m) (all entries nodes) in
+    let rest = front_and entries nodes i k n at short in
+    omega arith
+
+pub rank_within : {N S : Type 0} (entries : N → List Entry) (rank : N → S → ℕ) (IsSpot : N → S → Type 0) (within : (n : N) (s : S) → IsSpot n s → rank n s ≤ length (entries n))
+    (nodes : List N) (spot : Spot S) → IsSpotIn IsSpot nodes spot → rank_in entries rank nodes spot ≤ length (all entries nodes)
+rank_within {N} {S} entries rank IsSpot within nodes spot in_range = by_node (slice_get nodes spot.node) refl
+  where
+    by_node : (o : Option N) → slice_get nodes spot.node ≡ o → rank_in entries rank nodes spot ≤ length (all entries nodes)
+    by_node None none =
+        let is : inner_rank rank (slice_get nodes spot.node) spot.inner ≡ 0 = ap (λ o. inner_rank rank o spot.inner) none in
+        let front = front_short entries nodes spot.node in
+        omega arith
+    by_node (Some n) at =
+        let is = inner_is rank nodes spot n at in
+        let inner : IsSpot n spot.inner = subst (λ (o : Option N). IfSome o (λ n. IsSpot n spot.inner)) at in_range.inner in
+        let short : inner_rank rank (slice_get nodes spot.node) spot.inner ≤ length (entries n) = omega (arith, is, within n spot.inner inner) in
+        front_and entries nodes spot.node (inner_rank rank (slice_get nodes spot.node) spot.inner) n at short

@@ -1,0 +1,174 @@
+//! Nodes: what an index is made of.
+
+ghost use Rattle.std.specs.Prelude.{◌≡◌, ◌<◌, ◌≤◌, ◌+◌, ◌^◌, ◌++◌, ℕ, List, [], length, slice_get, IfOk, IfErr, OnOk, OnErr};
+ghost use Rattle.std.specs.Bool.{OnTrue};
+ghost use Rattle.std.specs.List.{filter, insert};
+ghost use Rattle.root_index.specs.declared.entry.Entry.{Entry as Seen};
+ghost use Rattle.root_index.specs.Order.{IsAscending};
+ghost use Rattle.root_index.specs.Sets.{IsAt, IsGapFor};
+ghost use Rattle.root_index.specs.Lists.{begins_after, stays};
+ghost use Rattle.root_index.specs.Halves.{IsHalf, rank_half};
+
+use crate::entry::Entry;
+use std::alloc::{AllocError, Global};
+use xid_circle::Tid;
+
+/// A node has at most so many parts.
+pub(crate) const MAX_PARTS: usize = 128;
+
+/// A full node keeps so many parts when it is split.
+pub(crate) const HALF: usize = 64;
+
+/// Where a spot is when its node was split.
+#[derive(Clone, Copy, Debug)]
+pub(crate) enum Half<S> {
+    Lower(S),
+    Upper(S),
+}
+
+/// A leaf, whose parts are entries, or a branch, whose parts are smaller nodes: at most 128, in order.
+pub(crate) trait Node: Drop {
+    /// Where an entry stands, or where it would.
+    type Spot: Copy;
+
+    /// The nodes that splits of its parts take.
+    type Spares: Drop;
+
+    // the entries, in order
+    ghost entries: { Self → List Seen };
+
+    // the number of parts
+    ghost size: { Self → ℕ };
+
+    // no part is empty
+    ghost IsNeat: { Self → Type 0 };
+
+    // where an entry may be put
+    ghost IsSpot: { Self → Self.Spot → Type 0 };
+
+    // where an entry stands
+    ghost IsEntry: { Self → Self.Spot → Type 0 };
+
+    // the number of entries before the spot
+    ghost rank: { Self → Self.Spot → ℕ };
+
+    // enough for so many inserts
+    ghost HasLeft: { Self.Spares → ℕ → Type 0 };
+
+    /// A node without parts.
+    fn new(alloc: Global) -> Result<Self, AllocError>
+        ensures none { IfOk result (λ node. size node ≡ 0) }
+        ensures neat { IfOk result IsNeat };
+
+    /// Takes all parts out.
+    fn clear(&mut self)
+        ensures none { size self.new ≡ 0 }
+        ensures neat { IsNeat self.new };
+
+    /// The number of parts.
+    fn len(&self) -> usize
+        ensures value { result ≡ size self.now }
+        ensures limit { result ≤ 128 };
+
+    /// Whether the entry precedes the first of the node.
+    fn begins_after(&self, sought: &Entry) -> bool
+        requires neat { IsNeat self.now }
+        ensures { result ≡ begins_after sought.now (entries self.now) };
+
+    /// Where the entry stands, or where it would.
+    fn search(&self, sought: &Entry) -> Result<Self::Spot, Self::Spot>
+        requires neat { IsNeat self.now }
+        requires ascending { IsAscending (entries self.now) }
+        ensures entry { IfOk result (IsEntry self.now) }
+        ensures found { IfOk result (λ spot. IsAt (entries self.now) sought.now (rank self.now spot)) }
+        ensures spot { IfErr result (IsSpot self.now) }
+        ensures absent { IfErr result (λ spot. IsGapFor (entries self.now) sought.now (rank self.now spot)) };
+
+    /// Whether this entry stands at this spot.
+    fn stands_at(&self, sought: &Entry, spot: Self::Spot) -> bool
+        ensures entry { OnTrue result (IsEntry self.now spot) }
+        ensures found { OnTrue result (IsAt (entries self.now) sought.now (rank self.now spot)) };
+
+    /// The first spot of any node.
+    fn first() -> Self::Spot
+        ensures spot { (node : Self) → IsNeat node → IsSpot node result }
+        ensures rank { (node : Self) → rank node result ≡ 0 };
+
+    /// The spot right behind an entry's.
+    fn behind(spot: Self::Spot) -> Self::Spot
+        ensures spot { (node : Self) → IsEntry node spot → IsSpot node result }
+        ensures rank { (node : Self) → IsEntry node spot → rank node result ≡ rank node spot + 1 };
+
+    /// The entry at this spot, if there is one.
+    fn entry_at(&self, spot: Self::Spot) -> Option<Entry>
+        requires neat { IsNeat self.now }
+        requires spot { IsSpot self.now spot }
+        ensures { result ≡ slice_get (entries self.now) (rank self.now spot) };
+
+    /// The number of entries, where it is below 2^64.
+    fn count(&self) -> u64
+        requires { length (entries self.now) < 2 ^ 64 }
+        ensures { result ≡ length (entries self.now) };
+
+    /// Moves the upper parts of a full node to one without any, and says where the spot is then. It takes no memory.
+    fn split(&mut self, upper: &mut Self, spot: Self::Spot) -> Half<Self::Spot>
+        requires full { size self.old ≡ 128 }
+        requires none { size upper.old ≡ 0 }
+        requires neat { IsNeat self.old }
+        requires spot { IsSpot self.old spot }
+        ensures entries { entries self.new ++ entries upper.new ≡ entries self.old }
+        ensures half { size self.new ≡ 64 }
+        ensures half_too { size upper.new ≡ 64 }
+        ensures neat { IsNeat self.new }
+        ensures neat_too { IsNeat upper.new }
+        ensures spot { IsHalf IsSpot self.new upper.new result }
+        ensures rank { rank_half entries rank self.new upper.new result ≡ rank self.old spot };
+
+    /// Puts an entry at this spot. Where memory is refused, the entries stay as they are.
+    fn insert(
+        &mut self,
+        spares: &mut Self::Spares,
+        spot: Self::Spot,
+        entry: Entry,
+    ) -> Result<(), AllocError>
+        requires room { size self.old < 128 }
+        requires neat { IsNeat self.old }
+        requires spot { IsSpot self.old spot }
+        ensures entries { OnOk result (entries self.new ≡ insert (entries self.old) (rank self.old spot) entry) }
+        ensures some { OnOk result (0 < size self.new) }
+        ensures kept { size self.old ≤ size self.new }
+        ensures neat { IsNeat self.new }
+        ensures spares { (k : ℕ) → HasLeft spares.old (k + 1) → HasLeft spares.new k }
+        ensures err { OnErr result (entries self.new ≡ entries self.old) }
+        ensures refused { OnErr result (¬ HasLeft spares.old 1) };
+
+    /// Removes the entries that lead to one of these places, and the parts that are left without any.
+    fn remove(&mut self, dead: &[Tid])
+        ensures entries { entries self.new ≡ filter (stays dead.now) (entries self.old) }
+        ensures neat { IsNeat self.new };
+
+    /// No spares.
+    fn no_spares(alloc: Global) -> Self::Spares;
+
+    /// Adds spares until they are enough for so many inserts.
+    fn add_spares(spares: &mut Self::Spares, count: usize) -> Result<(), AllocError>
+        ensures ok { OnOk result (HasLeft spares.new count) }
+        ensures kept { (k : ℕ) → HasLeft spares.old k → HasLeft spares.new k }
+        ensures err { OnErr result (¬ HasLeft spares.old count) };
+
+    // a node without parts has no entries, and any other has some
+    ghost none: { (node : Self) → size node ≡ 0 → entries node ≡ [] };
+
+    ghost some: { (node : Self) → IsNeat node → 0 < size node → 0 < length (entries node) };
+
+    // where an entry stands another may be put
+    ghost before: { (node : Self) (spot : Self.Spot) → IsEntry node spot → IsSpot node spot };
+
+    // a spot is in the node, or right after its last entry
+    ghost within: { (node : Self) (spot : Self.Spot) → IsSpot node spot → rank node spot ≤ length (entries node) };
+
+    // what is enough is enough for fewer, and anything for none
+    ghost fewer: { (spares : Self.Spares) (k : ℕ) → HasLeft spares (k + 1) → HasLeft spares k };
+
+    ghost enough: { (spares : Self.Spares) → HasLeft spares 0 };
+}

@@ -1,0 +1,294 @@
+//! Nodes, one after another: looking for an entry's spot, putting one there, and removing entries from all of them.
+
+ghost use Rattle.std.specs.Prelude.{◌≡◌, ◌<◌, ◌≤◌, ◌+◌, ◌-◌, ◌^◌, ◌⊎◌, ℕ, [], length, map, IfOk, IfErr, OnOk, OnErr, vec_len, vec_capacity, slice_get, option_copied, Some, IfSome};
+ghost use Rattle.std.specs.Bool.{OnTrue};
+ghost use Rattle.std.specs.List.{filter, insert};
+ghost use Rattle.root_index.specs.Order.{IsAscending};
+ghost use Rattle.root_index.specs.Sets.{IsAt, IsGapFor, IsAfter, IsBelow};
+ghost use Rattle.root_index.specs.Lists.{stays, IsBetween};
+ghost use Rattle.root_index.specs.Nodes.{all, rank_in, AreNeat, IsSpotIn, IsEntryIn, IsStartIn, IsOpen};
+
+use crate::entry::Entry;
+use crate::node::{Half, MAX_PARTS, Node};
+use std::alloc::{AllocError, Global};
+use xid_circle::Tid;
+
+/// A place among nodes.
+#[derive(Clone, Copy, Debug, Default, PartialEq, Eq)]
+pub(crate) struct Spot<S> {
+    /// The node's number, counted from 0.
+    pub(crate) node: usize,
+    /// The place in the node.
+    pub(crate) inner: S,
+}
+
+/// Nodes for splits to come.
+#[derive(Debug, Drop)]
+pub(crate) struct Spares<N, B> {
+    pub(crate) nodes: Vec<N>,
+    /// Those for the splits in a node.
+    pub(crate) below: B,
+}
+
+/// The node of this number, if there is one.
+fn node_of<N: Node>(nodes: &[N], number: usize) -> Option<&N>
+    ensures { option_copied result ≡ slice_get nodes.now number }
+{
+    nodes.get(number)
+}
+
+/// The number of the last node that doesn't begin after the entry, or else 0.
+fn node_for<N: Node>(nodes: &[N], sought: &Entry) -> usize
+    requires some { 0 < length nodes.now }
+    requires neat { AreNeat N.IsNeat N.size nodes.now }
+    ensures { IsBetween (map N.entries nodes.now) sought.now result (result + 1) }
+{
+    let mut low = 0;
+    let mut high = nodes.len();
+    while high - low > 1 {
+        let middle = low + (high - low) / 2;
+        if nodes[middle].begins_after(sought) {
+            high = middle;
+        } else {
+            low = middle;
+        }
+    }
+    low
+}
+
+/// The first spot.
+pub(crate) fn first<N: Node>() -> Spot<N::Spot>
+    ensures spot { (nodes : _) → AreNeat N.IsNeat N.size nodes → IsSpotIn N.IsSpot nodes result }
+    ensures rank { (nodes : _) → rank_in N.entries N.rank nodes result ≡ 0 }
+{
+    Spot {
+        node: 0,
+        inner: N::first(),
+    }
+}
+
+/// The spot right behind an entry's.
+pub(crate) fn behind<N: Node>(spot: Spot<N::Spot>) -> Spot<N::Spot>
+    ensures spot { (nodes : _) → IsEntryIn N.IsEntry nodes spot → IsSpotIn N.IsSpot nodes result }
+    ensures rank { (nodes : _) → IsEntryIn N.IsEntry nodes spot → rank_in N.entries N.rank nodes result ≡ rank_in N.entries N.rank nodes spot + 1 }
+{
+    Spot {
+        node: spot.node,
+        inner: N::behind(spot.inner),
+    }
+}
+
+/// Where the entry stands, or where it would.
+pub(crate) fn search<N: Node>(nodes: &[N], sought: &Entry) -> Result<Spot<N::Spot>, Spot<N::Spot>>
+    requires neat { AreNeat N.IsNeat N.size nodes.now }
+    requires ascending { IsAscending (all N.entries nodes.now) }
+    ensures entry { IfOk result (IsEntryIn N.IsEntry nodes.now) }
+    ensures found { IfOk result (λ spot. IsAt (all N.entries nodes.now) sought.now (rank_in N.entries N.rank nodes.now spot)) }
+    ensures spot { IfErr result (IsSpotIn N.IsSpot nodes.now) }
+    ensures absent { IfErr result (λ spot. IsGapFor (all N.entries nodes.now) sought.now (rank_in N.entries N.rank nodes.now spot)) }
+{
+    if nodes.is_empty() {
+        return Err(first::<N>());
+    }
+    let node = node_for(nodes, sought);
+    match nodes[node].search(sought) {
+        Ok(inner) => Ok(Spot { node, inner }),
+        Err(inner) => Err(Spot { node, inner }),
+    }
+}
+
+/// Whether this entry stands at this spot.
+pub(crate) fn stands_at<N: Node>(nodes: &[N], sought: &Entry, spot: Spot<N::Spot>) -> bool
+    ensures entry { OnTrue result (IsEntryIn N.IsEntry nodes.now spot) }
+    ensures found { OnTrue result (IsAt (all N.entries nodes.now) sought.now (rank_in N.entries N.rank nodes.now spot)) }
+{
+    match node_of(nodes, spot.node) {
+        Some(node) => node.stands_at(sought, spot.inner),
+        None => false,
+    }
+}
+
+/// The entry at this spot; behind a node's last, the first of the next node.
+pub(crate) fn entry_at<N: Node>(nodes: &[N], spot: Spot<N::Spot>) -> Option<Entry>
+    requires neat { AreNeat N.IsNeat N.size nodes.now }
+    requires spot { IsSpotIn N.IsSpot nodes.now spot }
+    ensures { result ≡ slice_get (all N.entries nodes.now) (rank_in N.entries N.rank nodes.now spot) }
+{
+    let node = node_of(nodes, spot.node)?;
+    if let Some(entry) = node.entry_at(spot.inner) {
+        return Some(entry);
+    }
+    node_of(nodes, spot.node + 1)?.entry_at(N::first())
+}
+
+/// The number of entries, where it is below 2^64.
+pub(crate) fn count<N: Node>(nodes: &[N]) -> u64
+    requires { length (all N.entries nodes.now) < 2 ^ 64 }
+    ensures { result ≡ length (all N.entries nodes.now) }
+{
+    let mut count = 0;
+    for node in nodes {
+        count += node.count();
+    }
+    count
+}
+
+/// A node without parts: a spare one, or else a new one.
+fn take_node<N: Node>(spare: &mut Vec<N>) -> Result<N, AllocError>
+    ensures none { IfOk result (λ node. N.size node ≡ 0) }
+    ensures neat { IfOk result N.IsNeat }
+    ensures count { vec_len spare.old ≤ vec_len spare.new + 1 }
+    ensures err { OnErr result (vec_len spare.old ≡ 0) }
+{
+    match spare.pop() {
+        Some(mut node) => {
+            node.clear();
+            Ok(node)
+        }
+        None => N::new(*spare.allocator()),
+    }
+}
+
+/// Puts a node before those from this number on. There is room for it in memory.
+pub(crate) fn put_node<N: Node>(nodes: &mut Vec<N>, number: usize, node: N)
+    requires in_range { number ≤ vec_len nodes.old }
+    requires room { vec_len nodes.old < vec_capacity nodes.old }
+    ensures items { nodes.new.items ≡ insert nodes.old.items number node }
+    ensures count { vec_len nodes.new ≡ vec_len nodes.old + 1 }
+    ensures capacity { vec_capacity nodes.old ≤ vec_capacity nodes.new }
+{
+    // never refused, since there is room
+    let _done = nodes.insert(number, node);
+}
+
+/// Splits the spot's node, which is full, and says where the spot is then. It takes no memory.
+fn split<N: Node>(nodes: &mut Vec<N>, mut upper: N, spot: Spot<N::Spot>) -> Spot<N::Spot>
+    requires room { vec_len nodes.old < vec_capacity nodes.old }
+    requires none { N.size upper ≡ 0 }
+    requires neat { AreNeat N.IsNeat N.size nodes.old.items }
+    requires node { spot.node < length nodes.old.items }
+    requires spot { IsSpotIn N.IsSpot nodes.old.items spot }
+    requires full { IfSome (slice_get nodes.old.items spot.node) (λ node. N.size node ≡ 128) }
+    ensures opened { IsOpen N.entries N.size N.rank N.IsSpot nodes.old.items nodes.new.items spot result }
+    ensures neat { AreNeat N.IsNeat N.size nodes.new.items }
+    ensures count { vec_len nodes.new ≡ vec_len nodes.old + 1 }
+    ensures capacity { vec_capacity nodes.old ≤ vec_capacity nodes.new }
+{
+    let half = nodes[spot.node].split(&mut upper, spot.inner);
+    put_node(nodes, spot.node + 1, upper);
+    match half {
+        Half::Lower(inner) => Spot {
+            node: spot.node,
+            inner,
+        },
+        Half::Upper(inner) => Spot {
+            node: spot.node + 1,
+            inner,
+        },
+    }
+}
+
+/// Splits the spot's node if it is full, and says where the spot is then.
+fn open<N: Node>(
+    nodes: &mut Vec<N>,
+    spare: &mut Vec<N>,
+    spot: Spot<N::Spot>,
+) -> Result<Spot<N::Spot>, AllocError>
+    requires neat { AreNeat N.IsNeat N.size nodes.old.items }
+    requires node { spot.node < length nodes.old.items }
+    requires spot { IsSpotIn N.IsSpot nodes.old.items spot }
+    ensures opened { IfOk result (IsOpen N.entries N.size N.rank N.IsSpot nodes.old.items nodes.new.items spot) }
+    ensures neat { AreNeat N.IsNeat N.size nodes.new.items }
+    ensures room { (vec_capacity nodes.old - vec_len nodes.old) ≤ (vec_capacity nodes.new - vec_len nodes.new) + 1 }
+    ensures longer { vec_len nodes.new ≤ vec_len nodes.old + 1 }
+    ensures shorter { vec_len nodes.old ≤ vec_len nodes.new }
+    ensures capacity { vec_capacity nodes.old ≤ vec_capacity nodes.new }
+    ensures spare { vec_len spare.old ≤ vec_len spare.new + 1 }
+    ensures err { OnErr result (nodes.new.items ≡ nodes.old.items) }
+    ensures refused { OnErr result ((vec_capacity nodes.old - vec_len nodes.old ≡ 0) ⊎ (vec_len spare.old ≡ 0)) }
+{
+    if nodes[spot.node].len() < MAX_PARTS {
+        return Ok(spot);
+    }
+    nodes.try_reserve(1)?;
+    let upper = take_node(spare)?;
+    Ok(split(nodes, upper, spot))
+}
+
+/// Makes the first node, with this entry alone.
+fn insert_first<N: Node>(
+    nodes: &mut Vec<N>,
+    spares: &mut Spares<N, N::Spares>,
+    entry: Entry,
+) -> Result<(), AllocError>
+    requires { nodes.old.items ≡ [] }
+    ensures entries { OnOk result (all N.entries nodes.new.items ≡ insert [] 0 entry) }
+    ensures neat { AreNeat N.IsNeat N.size nodes.new.items }
+    ensures room { (vec_capacity nodes.old - vec_len nodes.old) ≤ (vec_capacity nodes.new - vec_len nodes.new) + 1 }
+    ensures longer { vec_len nodes.new ≤ vec_len nodes.old + 1 }
+    ensures some { OnOk result (0 < vec_len nodes.new) }
+    ensures capacity { vec_capacity nodes.old ≤ vec_capacity nodes.new }
+    ensures spare { vec_len spares.old.nodes ≤ vec_len spares.new.nodes + 1 }
+    ensures below { (k : ℕ) → N.HasLeft spares.old.below (k + 1) → N.HasLeft spares.new.below k }
+    ensures err { OnErr result (nodes.new.items ≡ nodes.old.items) }
+    ensures refused { OnErr result ((vec_capacity nodes.old - vec_len nodes.old ≡ 0) ⊎ (vec_len spares.old.nodes ≡ 0) ⊎ ¬ N.HasLeft spares.old.below 1) }
+{
+    nodes.try_reserve(1)?;
+    let mut node = take_node(&mut spares.nodes)?;
+    node.insert(&mut spares.below, N::first(), entry)?;
+    nodes.push_reserved(node);
+    Ok(())
+}
+
+/// Puts an entry at its spot. Where memory is refused, the entries stay as they are.
+pub(crate) fn insert<N: Node>(
+    nodes: &mut Vec<N>,
+    spares: &mut Spares<N, N::Spares>,
+    spot: Spot<N::Spot>,
+    entry: Entry,
+) -> Result<(), AllocError>
+    requires neat { AreNeat N.IsNeat N.size nodes.old.items }
+    requires spot { IsSpotIn N.IsSpot nodes.old.items spot }
+    ensures entries { OnOk result (all N.entries nodes.new.items ≡ insert (all N.entries nodes.old.items) (rank_in N.entries N.rank nodes.old.items spot) entry) }
+    ensures neat { AreNeat N.IsNeat N.size nodes.new.items }
+    ensures room { (vec_capacity nodes.old - vec_len nodes.old) ≤ (vec_capacity nodes.new - vec_len nodes.new) + 1 }
+    ensures longer { vec_len nodes.new ≤ vec_len nodes.old + 1 }
+    ensures kept { vec_len nodes.old ≤ vec_len nodes.new }
+    ensures some { OnOk result (0 < vec_len nodes.new) }
+    ensures capacity { vec_capacity nodes.old ≤ vec_capacity nodes.new }
+    ensures spare { vec_len spares.old.nodes ≤ vec_len spares.new.nodes + 1 }
+    ensures below { (k : ℕ) → N.HasLeft spares.old.below (k + 1) → N.HasLeft spares.new.below k }
+    ensures err { OnErr result (all N.entries nodes.new.items ≡ all N.entries nodes.old.items) }
+    ensures refused { OnErr result ((vec_capacity nodes.old - vec_len nodes.old ≡ 0) ⊎ (vec_len spares.old.nodes ≡ 0) ⊎ ¬ N.HasLeft spares.old.below 1) }
+{
+    if nodes.is_empty() {
+        return insert_first(nodes, spares, entry);
+    }
+    let spot = open(nodes, &mut spares.nodes, spot)?;
+    nodes[spot.node].insert(&mut spares.below, spot.inner, entry)
+}
+
+/// Adds nodes until there are so many.
+pub(crate) fn add_nodes<N: Node>(spare: &mut Vec<N>, count: usize) -> Result<(), AllocError>
+    ensures ok { OnOk result (count ≤ vec_len spare.new) }
+    ensures kept { vec_len spare.old ≤ vec_len spare.new }
+    ensures err { OnErr result (vec_len spare.old < count) }
+{
+    while spare.len() < count {
+        spare.push(N::new(*spare.allocator())?)?;
+    }
+    Ok(())
+}
+
+/// Removes the entries that lead to one of these places from each node, and the nodes that are left without any.
+pub(crate) fn sweep<N: Node>(nodes: &mut Vec<N>, dead: &[Tid])
+    ensures entries { all N.entries nodes.new.items ≡ filter (stays dead.now) (all N.entries nodes.old.items) }
+    ensures neat { AreNeat N.IsNeat N.size nodes.new.items }
+    ensures shorter { vec_len nodes.new ≤ vec_len nodes.old }
+    ensures capacity { vec_capacity nodes.old ≤ vec_capacity nodes.new }
+{
+    for number in 0..nodes.len() {
+        nodes[number].remove(dead);
+    }
+    nodes.retain(|node| node.len() > 0);
+}
