@@ -137,8 +137,6 @@ impl<N: Node> Node for Branch<N> {
     ghost within = { λ b spot in_range. rank_within N.entries N.rank N.IsSpot N.within b spot in_range };
 
     ghost fewer = { λ spares k left. (omega (arith, left.0), N.fewer spares.below k left.1) };
-
-    ghost enough = { λ spares. (omega arith, N.enough spares.below) };
 }
 
 /// Moves all of 128 nodes but the first 64. There is room for them in memory.

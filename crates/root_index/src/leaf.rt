@@ -131,8 +131,6 @@ impl Node for Leaf {
     ghost within = { λ l spot within. within };
 
     ghost fewer = { λ spares k enough. tt };
-
-    ghost enough = { λ spares. tt };
 }
 
 /// Puts these entries in the place of all others. There is room for them in memory.

@@ -167,8 +167,6 @@ pub(crate) trait Node: Drop {
     // a spot is in the node, or right after its last entry
     ghost within: { (node : Self) (spot : Self.Spot) → IsSpot node spot → rank node spot ≤ length (entries node) };
 
-    // what is enough is enough for fewer, and anything for none
+    // what is enough is enough for fewer
     ghost fewer: { (spares : Self.Spares) (k : ℕ) → HasLeft spares (k + 1) → HasLeft spares k };
-
-    ghost enough: { (spares : Self.Spares) → HasLeft spares 0 };
 }
