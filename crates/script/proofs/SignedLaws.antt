@@ -1,13 +1,12 @@
 -- A number with its sign is read just where it is written so.
-use Rattle.std.proofs.Common.{◌≡◌, ℕ, ℤ, pos, negsuc, ◌+◌, ◌-◌, ◌^◌, ◌<◌, ◌≤◌, suc, List, [], ◌∷◌, ◌++◌, drop, get_or, refl, ap, ◌∙◌, sym, arith, None, Some, Bool, true, false, eqb}
+use Rattle.std.proofs.Common.{◌≡◌, ℕ, ℤ, pos, negsuc, ◌-◌, ◌^◌, ◌<◌, suc, List, [], ◌∷◌, ◌++◌, drop, get_or, refl, ap, ◌∙◌, sym, arith, Some, Bool, true, false, eqb}
 use Rattle.std.specs.Int.{w64, w128}
 use Rattle.std.specs.Prelude.{FitsSigned}
-use Rattle.std.specs.Option.{option_map}
 use Rattle.std.specs.Fmt.{decimal, signed_decimal}
 use Rattle.std.proofs.lemmas.Option.{same_Some}
 use Rattle.std.proofs.lemmas.Bool.Decides.{nat_tests}
 use Rattle.std.proofs.lemmas.Int.{ints}
-use Rattle.script.specs.Reading.{cut, number_of, signed_of, signed_then, column_of, column_then, bound_of, bound_then}
+use Rattle.script.specs.Reading.{cut, number_of, signed_of, signed_then, column_then, bound_of, bound_then}
 use Rattle.script.proofs.ByteLemmas.{Free}
 use Rattle.script.proofs.NumberLaws.{unguarded, bound, mapped, cut_says, cut-free, number_of_says, number_of-decimal, decimal_free}
 
