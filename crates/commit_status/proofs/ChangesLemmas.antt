@@ -7,8 +7,7 @@ use Rattle.std.proofs.lemmas.List.Elements.{Contains-append_left, Contains-appen
 use Rattle.std.proofs.lemmas.List.{map_more, get_or-map, length-map}
 use Rattle.xid_circle.specs.declared.Xid.{Xid}
 use Rattle.commit_status.specs.declared.status.Status.{Status}
-use Rattle.commit_status.specs.declared.status.Status.TheVariants.{InProgress}
-use Rattle.commit_status.specs.Window.{Entry, Window, IsWindow, IsGiven, IsActive, place, place_in, entry_of, status_in, parent_in, status_of}
+use Rattle.commit_status.specs.Window.{Entry, Window, IsWindow, place, place_in, entry_of, status_in, parent_in}
 use Rattle.commit_status.specs.Changes.{numbers, Finishes}
 use Rattle.commit_status.proofs.Places.{place-lt, place-one, is-from_some}
 use Rattle.commit_status.proofs.Tables.{window_of}
@@ -38,10 +37,6 @@ contains-one x y e = (0, omega arith, e)
 pub one-contains : (x y : ℕ) → Contains (x ∷ []) y → x ≡ y
 one-contains x y (zero, h, e) = e
 one-contains x y (suc k, h, e) = absurd (omega arith)
-
--- an id alone
-pub only-active : (w : Window) (x : ℕ) → IsGiven w x → status_of w x ≡ InProgress → (y : ℕ) → Contains (x ∷ []) y → IsActive w y
-only-active w x given_ unfinished y c = subst (IsActive w) (one-contains x y c) (record { is_given = given_; unfinished = unfinished })
 
 -- an id takes another status, and keeps its parent
 pub finishes-set : (f s : ℕ) (e : List Entry) (p : ℕ) (w : Window) (x i : ℕ) (old : Entry) (status : Status)
@@ -89,20 +84,6 @@ finishes-set f s e p w x i old status same is at there =
 
     entry-other : (y : ℕ) → x ≢ y → entry_of after y ≡ entry_of before y
     entry-other y b = other-cases y b (place before y) refl
-
--- nothing changes
-pub finishes-none : (w : Window) (status : Status) → Finishes w w [] status
-finishes-none w status = record {
-  first = refl;
-  stop_age = refl;
-  count = refl;
-  spare = refl;
-  each = λ y. inr ((λ c. none y c), refl);
-  parents = λ y. refl;
-}
-  where
-    none : (y : ℕ) → ¬ Contains [] y
-    none y (k, h, e) = absurd (omega arith)
 
 -- the places stay
 pub finishes-place : (w v : Window) (ids : List ℕ) (status : Status) (x : ℕ) → Finishes w v ids status → place v x ≡ place w x

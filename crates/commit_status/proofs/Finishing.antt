@@ -1,5 +1,5 @@
 -- What finishing ids does to each id.
-use Rattle.std.proofs.Common.{◌≡◌, ◌≢◌, ℕ, ◌≤◌, ◌⊎◌, List, length, IsSome, arith, inl, inr, ⊎_elim, sym, ap, ◌∙◌, subst}
+use Rattle.std.proofs.Common.{◌≡◌, ℕ, ◌≤◌, ◌⊎◌, List, length, IsSome, arith, inl, inr, ⊎_elim, sym, ap, ◌∙◌, subst}
 use Rattle.std.specs.List.{Contains}
 use Rattle.commit_status.specs.declared.status.Status.{Status}
 use Rattle.commit_status.specs.declared.status.Status.TheVariants.{InProgress, Committed, Aborted}
@@ -19,9 +19,6 @@ finishes-next w v ids status f = ap (given v.first) f.count ∙ ap (λ n. given 
 pub finishes-given : (w v : Window) (ids : List ℕ) (status : Status) (x : ℕ) → Finishes w v ids status → IsGiven w x → IsGiven v x
 finishes-given w v ids status x f h = subst IsSome (sym (finishes-place w v ids status x f)) h
 
-pub finishes-given_back : (w v : Window) (ids : List ℕ) (status : Status) (x : ℕ) → Finishes w v ids status → IsGiven v x → IsGiven w x
-finishes-given_back w v ids status x f h = subst IsSome (finishes-place w v ids status x f) h
-
 pub finishes-upto : (w v : Window) (ids : List ℕ) (status : Status) (x : ℕ) → Finishes w v ids status → IsUpToNext w x → IsUpToNext v x
 finishes-upto w v ids status x f up =
     let count = f.count in
@@ -34,12 +31,6 @@ finishes-named w v ids status x f named = ⊎_elim (λ a. a.2) (λ b. absurd (b.
 
 pub finishes-other : (w v : Window) (ids : List ℕ) (status : Status) (x : ℕ) → Finishes w v ids status → ¬ Contains ids x → status_of v x ≡ status_of w x
 finishes-other w v ids status x f other = ⊎_elim (λ a. absurd (other a.0)) (λ b. b.1) (f.each x)
-
--- ids in progress become committed or aborted
-pub finishes-active : (w v : Window) (ids : List ℕ) (status : Status) (x : ℕ) → status ≢ InProgress → Finishes w v ids status → IsActive v x → IsActive w x × (¬ Contains ids x)
-finishes-active w v ids status x finished f a =
-    ⊎_elim (λ mine. absurd (finished (sym mine.2 ∙ a.unfinished)))
-    (λ other. (record { is_given = finishes-given_back w v ids status x f a.is_given; unfinished = sym other.1 ∙ a.unfinished }, other.0)) (f.each x)
 
 pub finishes-active_other : (w v : Window) (ids : List ℕ) (status : Status) (x : ℕ) → Finishes w v ids status → ¬ Contains ids x → IsActive w x → IsActive v x
 finishes-active_other w v ids status x f other a =

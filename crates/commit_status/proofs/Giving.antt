@@ -1,16 +1,13 @@
 -- What giving an id does to each id: a new one is in progress, and nothing else is known anew.
 use Rattle.std.proofs.Common.{◌≡◌, ◌≢◌, ℕ, zero, suc, ◌+◌, ◌<◌, ◌≤◌, ◌⊎◌, List, [], ◌∷◌, ◌++◌, length, Option, Some, None, arith, inl, inr, ⊎_elim, refl, sym, ap, ◌∙◌, subst, slice_get, length-append}
 use Rattle.std.proofs.lemmas.Bool.{cases_eq, cases_lt}
-use Rattle.xid_circle.specs.Circle.{next_of, given}
+use Rattle.xid_circle.specs.Circle.{given}
 use Rattle.commit_status.specs.declared.status.Status.TheVariants.{InProgress}
 use Rattle.commit_status.specs.Window.{Entry, Window, IsWindow, IsGiven, IsActive, IsUpToNext, turns, place, entry_of, status_in, parent_in, status_of, parent_of, ancestor_in, top_of, next_id}
 use Rattle.commit_status.specs.Changes.{Gives}
 use Rattle.commit_status.proofs.Places.{IsAt, at-from_place, place-from_at, given-place, place-given, place-lt, none-unless, next-none, is-from_some, some-from_is}
 use Rattle.commit_status.proofs.Ancestors.{parent-place, parent-not_next, height-le, ancestor-none, ancestor-some, ancestor-enough, parent-cases, top-none, top-parent}
 use Rattle.commit_status.proofs.ChangesLemmas.{entry-at, entry-none}
-
-new_entry : Option ℕ → Entry
-new_entry parent = record { status = InProgress; parent = parent }
 
 slice_get-push_old : (xs : List Entry) (y : Entry) (i : ℕ) → i < length xs → slice_get (xs ++ y ∷ []) i ≡ slice_get xs i
 slice_get-push_old [] y i h = absurd (omega arith)
@@ -99,10 +96,6 @@ gives-top_old w v parent x before after g other =
     ap (λ n. ancestor_in n v x) long ∙ ancestor-old (length w.entries + 1) w v parent x before after g other
     ∙ ancestor-enough (length w.entries + 1) (length w.entries) w x before (omega arith) low
 
--- an id outside the window is its own top
-pub top-outsider : (w : Window) (x : ℕ) → place w x ≡ None → top_of w x ≡ x
-top-outsider w x e = top-none w x (ap parent_in (entry-none w x e))
-
 -- the new id has its parent's top, or is its own
 pub gives-top_next : (w v : Window) (p : ℕ) → IsWindow w → IsWindow v → Gives w v (Some p) → IsGiven w p → top_of v (next_id w) ≡ top_of w p
 gives-top_next w v p before after g there =
@@ -113,34 +106,11 @@ gives-top_next w v p before after g there =
 pub gives-top_alone : (w v : Window) → IsWindow v → Gives w v None → top_of v (next_id w) ≡ next_id w
 gives-top_alone w v after g = top-none v (next_id w) (gives-parent_next w v None after g)
 
--- the ids in progress are those from before and the new one
-pub gives-active_old : (w v : Window) (parent : Option ℕ) (x : ℕ) → IsWindow w → IsWindow v → Gives w v parent → IsActive w x → IsActive v x
-gives-active_old w v parent x before after g a =
-    let found = some-from_is (place w x) a.is_given in
-    record {
-      is_given = is-from_some (place v x) found.0 (gives-place_old w v parent x found.0 g found.1);
-      unfinished = gives-status w v parent x before after g ∙ a.unfinished;
-    }
-
 pub gives-active_next : (w v : Window) (parent : Option ℕ) → IsWindow v → Gives w v parent → IsActive v (next_id w)
 gives-active_next w v parent is g = record {
   is_given = is-from_some (place v (next_id w)) (length w.entries) (gives-place_next w v parent is g);
   unfinished = ap status_in (gives-entry_next w v parent is g);
 }
-
-pub gives-active_cases : (w v : Window) (parent : Option ℕ) (x : ℕ) → IsWindow w → IsWindow v → Gives w v parent → IsActive v x → IsActive w x ⊎ (x ≡ next_id w)
-gives-active_cases w v parent x before after g a =
-    let found = some-from_is (place v x) a.is_given in
-    ⊎_elim
-    (λ old. inl (record { is_given = is-from_some (place w x) found.0 old; unfinished = sym (gives-status w v parent x before after g) ∙ a.unfinished }))
-    (λ new. inr new.0) (gives-place_cases w v parent x found.0 after g found.1)
-
--- the next id
-pub gives-next : (w v : Window) (parent : Option ℕ) → Gives w v parent → next_id v ≡ next_of (next_id w)
-gives-next w v parent g =
-    let long = gives-length w v parent g in
-    let n : length v.entries ≡ suc (length w.entries) = omega arith in
-    ap (given v.first) n ∙ ap (λ f. given f (suc (length w.entries))) g.first
 
 pub gives-upto : (w v : Window) (parent : Option ℕ) (x : ℕ) → Gives w v parent → IsUpToNext w x → IsUpToNext v x
 gives-upto w v parent x g up =

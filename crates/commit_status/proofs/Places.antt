@@ -81,9 +81,6 @@ place-given w i is within =
 pub place-one : (w : Window) (x y i : ℕ) → IsWindow w → place w x ≡ Some i → place w y ≡ Some i → x ≡ y
 place-one w x y i is e f = sym (given-place w x i is e) ∙ given-place w y i is f
 
-pub one-place : (w : Window) (x i j : ℕ) → place w x ≡ Some i → place w x ≡ Some j → i ≡ j
-one-place w x i j e f = let s : Some i ≡ Some j = sym e ∙ f in cc
-
 -- the next id is not in the window
 pub next-none : (w : Window) → IsWindow w → place w (next_id w) ≡ None
 next-none w is =
@@ -133,7 +130,3 @@ precedes-turns w x y is ux uy =
     let P : ℕ → Type 0 = λ v. Precedes v (given w.first (turns w.first y)) ↔ (turns w.first x < turns w.first y) in
     let Q : ℕ → Type 0 = λ v. Precedes x v ↔ (turns w.first x < turns w.first y) in
     subst Q (given-upto w y is uy) (subst P (given-upto w x is ux) law)
-
--- the id at a turn up to the next
-pub turn-one : (w : Window) (x y : ℕ) → IsWindow w → IsUpToNext w x → IsUpToNext w y → turns w.first x ≡ turns w.first y → x ≡ y
-turn-one w x y is ux uy e = sym (given-upto w x is ux) ∙ ap (given w.first) e ∙ given-upto w y is uy

@@ -9,9 +9,6 @@ use Rattle.heap_pages.specs.View.{PagesView, with_page}
 
 -- One page is changed.
 
-pub length-with_page : (p : PagesView) (n : ℕ) (page : PageView) → length (with_page p n page).pages ≡ length p.pages
-length-with_page p n page = length-set p.pages n page
-
 pub page-with_page : (p : PagesView) (n : ℕ) (page : PageView) → n < length p.pages → slice_get (with_page p n page).pages n ≡ Some page
 page-with_page p n page within =
     let long = length-set p.pages n page in

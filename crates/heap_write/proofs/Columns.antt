@@ -8,7 +8,7 @@ use Rattle.tuple_header.specs.declared.version.Row.{Row}
 use Rattle.root_index.specs.Sets.{Adds}
 use Rattle.root_index.specs.View.{IndexView}
 use Rattle.history.specs.Cursors.{value_in}
-use Rattle.heap_write.specs.Indexes.{index_at, entries_of, entries_at, IsInUse, without_body, SameValues, entry_in, SameEntries, AddsAny, Enters, HasEntry, HasEntries, LacksEntry, NeedsEntry}
+use Rattle.heap_write.specs.Indexes.{index_at, entries_of, entries_at, IsInUse, SameValues, entry_in, SameEntries, AddsAny, Enters, HasEntry, HasEntries}
 
 -- the indexes up to a number were changed so, and the others are as they were
 pub record Changed (P : ℕ → Option IndexView → Option IndexView → Type 0) (before after : List (Option IndexView)) (i : ℕ) : Type 0 where
@@ -59,15 +59,6 @@ changed-key P before cols key index view_is size new = subst (λ v. Changed P v 
 pub column-at : (cols : List (Option IndexView)) (c : ℕ) (x : Option IndexView) → c < 4 → length cols ≡ 4 → get_or cols c x ≡ get_or cols c None
 column-at cols c x within size = get_or_default cols c x None (omega (arith, within, size))
 
-pub changed-all : (P : ℕ → Option IndexView → Option IndexView → Type 0) (before after : List (Option IndexView)) → ((n : ℕ) → P n None None)
-    → Changed P before after 5 → (n : ℕ) → P n (index_at before n) (index_at after n)
-changed-all P before after none changed n =
-    elim (cases_lt n 5) [
-      | inl lt ↦ changed.done n lt
-      | inr le ↦ let past = get_or_past after n None (omega (arith, le, changed.size)) in
-          subst (λ o. P n o (index_at after n)) (changed.rest n le) (subst (λ o. P n o o) (sym past) (none n))
-    ]
-
 size-after : (key : Option IndexView) (cols : List (Option IndexView)) → length (key ∷ cols) ≡ 5 → length cols ≡ 4
 size-after key cols size = let long : length (key ∷ cols) ≡ suc (length cols) = refl in omega (arith, long, size)
 
@@ -91,31 +82,6 @@ pub reserved-column : (before cols : List (Option IndexView)) (key x index : Opt
 reserved-column before cols key x index c within reserved room same =
     changed-column HasRoom before cols key index c within reserved
     (record { room = room; same = same ∙ ap entries_of (column-at cols c x within (size-after key cols reserved.size)) })
-
-none-reserved : (n : ℕ) → HasRoom n None None
-none-reserved n = record { room = tt; same = refl }
-
-pub reserved-all : (before after : List (Option IndexView)) → Reserved before after 5 → HasEntries after × SameEntries before after
-reserved-all before after reserved = (
-  λ n. (changed-all HasRoom before after none-reserved reserved n).room,
-  λ n. (changed-all HasRoom before after none-reserved reserved n).same,
-)
-
--- one that was not reached yet has no memory for an entry
-pub reserved-lacks : (before after : List (Option IndexView)) (i : ℕ) → Reserved before after i → LacksEntry (index_at after i) → NeedsEntry before
-reserved-lacks before after i reserved lacks = (i, subst LacksEntry (reserved.rest i (omega arith)) lacks)
-
-pub reserved-same : (before after : List (Option IndexView)) (i : ℕ) (index : Option IndexView) → i < 5 → Reserved before after i
-    → entries_of index ≡ entries_of (index_at after i) → SameEntries before (set after i index)
-reserved-same before after i index within reserved same n =
-    elim (cases_eq n i) [
-      | inl here ↦ ap (λ k. entries_of (index_at (set after i index) k)) here ∙ ap entries_of (get_or-set_same after i index None (omega (arith, within, reserved.size)))
-          ∙ same ∙ ap entries_of (reserved.rest i (omega arith)) ∙ ap (λ k. entries_of (index_at before k)) (sym here)
-      | inr other ↦ ap entries_of (get_or-set_other after i n index None other) ∙ elim (cases_lt n i) [
-        | inl lt ↦ (reserved.done n lt).same
-        | inr le ↦ ap entries_of (reserved.rest n le)
-      ]
-    ]
 
 -- Entries.
 
@@ -147,14 +113,6 @@ entered-room row place before cols key x c within room entered =
     let one : c + 1 ≡ suc c = omega arith in
     subst HasEntry (sym (column-at cols c x within (size-after key cols entered.size)))
     (subst (λ n. HasEntry (index_at (key ∷ cols) n)) one (subst HasEntry (sym (entered.rest (c + 1) (omega arith))) (room (c + 1))))
-
-pub entered-all : (row : Row) (place : Tid) (before after : List (Option IndexView)) → Entered row place before after 5 → Enters before after row place
-entered-all row place before after entered = changed-all (λ n old new. AddsAny (entries_of old) (entries_of new) (entry_in n row place)) before after (λ n. refl) entered
-
--- an index takes the key and the columns of a row alone
-pub enters-row : (indexes indexes' : List (Option IndexView)) (row : Row) (place : Tid) → Enters indexes indexes' (without_body row.key row.cols) place → Enters indexes indexes' row place
-enters-row indexes indexes' row place enters zero = enters 0
-enters-row indexes indexes' row place enters (suc c) = enters (suc c)
 
 -- Where there is more memory.
 

@@ -1,8 +1,5 @@
 -- The ids of a write: where there is more memory for them, and while they are given.
-use Rattle.std.proofs.Common.{◌≡◌, ◌≢◌, ℕ, suc, ◌+◌, ◌-◌, ◌<◌, ◌≤◌, inl, inr, List, [], ◌∷◌, ◌++◌, length, Option, Some, None, sym, ap, subst, refl, ◌∙◌, arith, append_assoc}
-use Rattle.std.proofs.lemmas.Bool.{cases_lt}
-use Rattle.std.proofs.lemmas.List.{append-nil}
-use Rattle.xid_circle.specs.Circle.{distance_of, given}
+use Rattle.std.proofs.Common.{◌≡◌, ◌≢◌, ℕ, suc, ◌+◌, ◌-◌, ◌<◌, ◌≤◌, List, [], ◌∷◌, ◌++◌, length, Option, Some, None, sym, ap, subst, refl, ◌∙◌, arith, append_assoc}
 use Rattle.commit_status.specs.Window.{Window, IsWindow, IsGiven, next_id, place_in}
 use Rattle.commit_status.specs.Changes.{begun, Gives, CanGive}
 use Rattle.commit_status.proofs.Giving.{gives-length, gives-place_next}
@@ -10,7 +7,7 @@ use Rattle.commit_status.proofs.Places.{is-from_some}
 use Rattle.snapshot.specs.Own.{Own, lacks, level_id, saved_with, saved_with_each, AreFronts}
 use Rattle.snapshot.proofs.Levels.{level-added, lacks-level, lacks-added, fronts-added}
 use Rattle.heap_write.specs.Heap.{SameIds}
-use Rattle.heap_write.specs.Writes.{NeedsFreeze, GivesUnder, TakesIds, SameOwn}
+use Rattle.heap_write.specs.Writes.{GivesUnder, TakesIds, SameOwn}
 use Rattle.heap_write.specs.Growth.{HasIds}
 use Rattle.prune.proofs.Links.{same_some}
 
@@ -22,25 +19,11 @@ same-ids w = record { first = refl; stop_age = refl; entries = refl }
 same-next : (w v : Window) → SameIds w v → next_id v ≡ next_id w
 same-next w v same = rw (same.first, same.entries) refl
 
-given-same : (w v : Window) (x : ℕ) → SameIds w v → IsGiven w x → IsGiven v x
-given-same w v x same is = rw (same.first, same.entries) is
-
 level-same : (own grown : Own) → SameOwn own grown → level_id grown.ids grown.saved ≡ level_id own.ids own.saved
 level-same own grown same = rw (same.ids, same.saved) refl
 
-pub known-same : (w v : Window) (own grown : Own) → SameIds w v → SameOwn own grown → ((x : ℕ) → level_id own.ids own.saved ≡ Some x → IsGiven w x)
-    → (x : ℕ) → level_id grown.ids grown.saved ≡ Some x → IsGiven v x
-known-same w v own grown same same_own newest x is = given-same w v x same (newest x (sym (level-same own grown same_own) ∙ is))
-
 pub lacks-same : (own grown : Own) → SameOwn own grown → lacks grown.ids grown.saved ≡ lacks own.ids own.saved
 lacks-same own grown same = rw (same.ids, same.saved) refl
-
-can-same : (w v : Window) (n m : ℕ) → SameIds w v → m ≡ n → CanGive w n → CanGive v m
-can-same w v n m same is can i lt = rw (same.first, same.stop_age, same.entries) (can i (subst (λ k. i < k) is lt))
-
-pub free-grown : (w v : Window) (own grown : Own) → SameIds w v → SameOwn own grown → ¬ NeedsFreeze w own → ¬ NeedsFreeze v grown
-free-grown w v own grown same same_own free needs =
-    free (λ can. needs (can-same w v (lacks own.ids own.saved) (lacks grown.ids grown.saved) same (lacks-same own grown same_own) can))
 
 gives-grown : (w v u : Window) (parent : Option ℕ) (ids : List ℕ) → SameIds w v → (length ids ≡ 0 → v ≡ w) → GivesUnder v parent ids u → GivesUnder w parent ids u
 gives-grown w v u parent [] same none gives = gives ∙ none refl
@@ -77,25 +60,6 @@ pub record Giving (w0 : Window) (own0 : Own) (w : Window) (own : Own) (count : �
   pub newest : (x : ℕ) → level_id own.ids own.saved ≡ Some x → IsGiven w x
   pub window : IsWindow w
   pub whole : (w' : Window) (own' : Own) (x : ℕ) → TakesIds w w' own own' x → TakesIds w0 w' own0 own' x
-
-can-from : (w : Window) (own : Own) → ¬ NeedsFreeze w own → CanGive w (lacks own.ids own.saved)
-can-from w own free i lt =
-    elim (cases_lt (distance_of w.first (given w.first (length w.entries + i))) w.stop_age) [
-      | inl near ↦ near
-      | inr far ↦ absurd (free (λ can. let near = can i lt in let no : 1 ≤ 0 = omega (arith, near, far) in omega (arith, no)))
-    ]
-
-pub giving-start : (w : Window) (own : Own) → ¬ NeedsFreeze w own → HasIds w own → ((x : ℕ) → level_id own.ids own.saved ≡ Some x → IsGiven w x)
-    → IsWindow w → AreFronts own.ids own.saved → Giving w own w own 0
-giving-start w own free room newest window fronts = record {
-  more = omega arith;
-  fronts = fronts;
-  can = can-from w own free;
-  room = room;
-  newest = newest;
-  window = window;
-  whole = λ w' own' x takes. takes;
-}
 
 -- one id was given, to the lowest level that had none
 pub record GivesOne (w v : Window) (own next : Own) (n : ℕ) : Type 0 where
@@ -149,19 +113,6 @@ giving-one w0 own0 w own count v next now lacking gives ids saved spare own_spar
       window = window;
       whole = λ w' own' x takes. now.whole w' own' x (takes-one w v w' own next own' n x one takes);
     }
-
--- the next id can be given, and there is memory for it
-pub giving-near : (w0 : Window) (own0 : Own) (w : Window) (own : Own) (count : ℕ) → Giving w0 own0 w own count → 0 < lacks own.ids own.saved
-    → distance_of w.first (next_id w) < w.stop_age
-giving-near w0 own0 w own count now lacking =
-    let at : length w.entries + 0 ≡ length w.entries = omega arith in
-    subst (λ i. distance_of w.first (given w.first i) < w.stop_age) at (now.can 0 lacking)
-
--- all are given
-pub giving-end : (w0 : Window) (own0 : Own) (w : Window) (own : Own) (count x : ℕ) → Giving w0 own0 w own count → lacks own.ids own.saved ≡ 0
-    → level_id own.ids own.saved ≡ Some x → TakesIds w0 w own0 own x
-giving-end w0 own0 w own count x now none newest =
-    now.whole w own x (record { given = []; count = sym none; gives = refl; ids = sym (append-nil own.ids); saved = refl; newest = newest })
 
 -- while there are turns, a level lacks an id; after them none does
 pub giving-lacking : (w0 : Window) (own0 : Own) (w : Window) (own : Own) (count : ℕ) → Giving w0 own0 w own count → count < lacks own0.ids own0.saved → 0 < lacks own.ids own.saved

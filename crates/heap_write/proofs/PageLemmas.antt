@@ -2,7 +2,7 @@
 use Rattle.std.proofs.Common.{◌≡◌, ◌≢◌, ℕ, zero, suc, ◌<◌, ◌≤◌, inl, inr, List, [], length, set, Some, None, slice_get, sym, ap, subst, refl, ◌∙◌, arith}
 use Rattle.std.proofs.lemmas.Bool.{cases_lt, true≢false}
 use Rattle.std.proofs.lemmas.Option.{slice_get-get_or, slice_get_within}
-use Rattle.std.proofs.lemmas.List.{get_or_past, get_or-set_same, get_or-set_other, set-set, set-get_or, length-set}
+use Rattle.std.proofs.lemmas.List.{get_or_past, get_or-set_same, get_or-set_other, set-set, length-set}
 use Rattle.std.proofs.Math.Seq.{map-set_same}
 use Rattle.xid_circle.specs.declared.Tid.{Tid}
 use Rattle.page_slots.specs.View.{PageView}
@@ -114,10 +114,6 @@ pub puts-grown : (pages middle pages' : List PageView) (n : ℕ) (grown page : P
 puts-grown pages middle pages' n grown page within is (in_use lt e) = in_use within (e ∙ ap (λ ps. set ps n page) is ∙ set-set pages n grown page)
 puts-grown pages middle pages' n grown page within is (after_all over e) =
     absurd (let long : length middle ≡ length pages = ap length is ∙ length-set pages n grown in let no : 1 ≤ 0 = omega (arith, within, over, long) in omega (arith, no))
-
--- what was read, put back
-pub set-read : (pages : List PageView) (n : ℕ) (before after : PageView) → slice_get pages n ≡ Some before → after ≡ before → set pages n after ≡ pages
-set-read pages n before after at same = ap (λ p. set pages n p) (same ∙ sym (page-at pages n before at)) ∙ set-get_or pages n unused_page
 
 -- the same, of a table whose view is known
 pub keeps-viewed : (v h h' : HeapView) → v ≡ h → SamePages v.pages.pages h'.pages.pages → SameIds v.table h'.table → SameEntries v.indexes h'.indexes → h'.max_pages ≡ v.max_pages → Keeps h h'

@@ -24,13 +24,6 @@ pub record Walked (entries : List Entry) (HasNone : ℤ → ℕ → Type 0) (spa
   -- each turn leaves an entry behind
   pub behind : (k : ℕ) (e : Entry) → k < turn → slice_get entries k ≡ Some e → ¬ LiesIn left e
 
-pub walked-first : (entries : List Entry) (HasNone : ℤ → ℕ → Type 0) (span : Span) → Walked entries HasNone span span 0
-walked-first entries HasNone span = record {
-  of = λ e lies. lies;
-  rest = λ e there lies. inl lies;
-  behind = λ k e lt at lies. omega (arith, lt);
-}
-
 -- what is left of a span after this place
 abbrev pub past : Span → Mark → Span
 past left mark = record left { last = Some mark }
@@ -83,10 +76,6 @@ walked-end entries HasNone span left turn l all e there lies = ⊎_elim
     absurd (l.behind p.0 e (omega (arith, all, within)) p.1 in_left))
     (λ has. has)
     (l.rest e there lies)
-
-pub walked-none : (entries : List Entry) (HasNone : ℤ → ℕ → Type 0) (span left : Span) (turn : ℕ) → Walked entries HasNone span left turn → IsLeast entries (LiesIn left) None
-    → (e : Entry) → Contains entries e → LiesIn span e → HasNone e.value e.key
-walked-none entries HasNone span left turn l least e there lies = ⊎_elim (λ in_left. absurd (least e there in_left)) (λ has. has) (l.rest e there lies)
 
 before-lower : (f e : Entry) (mark : Mark) → IsPlaceOf f mark → ComesBefore e mark → IsLower e f
 before-lower f e mark is (inl lt) = inl (subst (λ v. e.value <ℤ v) is.0 lt)

@@ -54,16 +54,6 @@ committed-push_all history t key =
     committed_all (history ++ t ∷ []) key ∙ (ap option_flatten (latest-push history t key)
     ∙ (flatten_or (written t.writes key) (latest history key) ∙ ap (own_or (written t.writes key)) (sym (committed_all history key))))
 
-pub own_or-option_or : (o p : Option (Option Row)) (row : Option Row) → own_or (option_or o p) row ≡ own_or o (own_or p row)
-own_or-option_or None p row = refl
-own_or-option_or (Some r) p row = refl
-
--- one more write of one's own
-pub reading-push : (history : List Transaction) (start : ℕ) (writes : List Write) (write : Write) (key : ℕ)
-    → reading history start (writes ++ write ∷ []) key ≡ own_or (said write key) (reading history start writes key)
-reading-push history start writes write key =
-    ap (λ o. own_or o (committed history start key)) (written-push writes write key) ∙ own_or-option_or (said write key) (written writes key) (committed history start key)
-
 pub reading-append_history : (history more : List Transaction) (start : ℕ) (writes : List Write) (key : ℕ) → start ≤ length history
     → reading (history ++ more) start writes key ≡ reading history start writes key
 reading-append_history history more start writes key le = ap (own_or (written writes key)) (committed-append history more start key le)

@@ -1,19 +1,6 @@
 -- A list as a map from places to elements.
-use Rattle.std.proofs.Common.{◌≡◌, ℕ, suc, zero, ◌+◌, ◌<◌, ◌≢◌, List, [], ◌∷◌, ◌++◌, length, get_or, set, Some, refl, sym, ap, subst, arith, ◌⊎◌, inl, inr, slice_get}
-use Rattle.std.proofs.lemmas.Option.{get_or_from_slice_get, same_Some}
-
--- nothing below n + 1 has P, where nothing below n has it, nor the element at n
-pub none_more : {X : Type 0} (P : X → Type 0) (xs : List X) (n : ℕ) (d : X) → n < length xs
-    → ((i : ℕ) (x : X) → i < n → slice_get xs i ≡ Some x → P x → ⊥) → (P (get_or xs n d) → ⊥)
-    → (i : ℕ) (x : X) → i < n + 1 → slice_get xs i ≡ Some x → P x → ⊥
-none_more P xs n d within below here i x lt at p =
-    elim (lt_or_eq i n lt) [
-      | inl less ↦ below i x less at p
-      | inr same ↦ here (subst P (sym (get_or_from_slice_get xs n x d (subst (λ j. slice_get xs j ≡ Some x) same at))) p)
-    ]
-  where
-    lt_or_eq : (a b : ℕ) → a < b + 1 → (a < b) ⊎ (a ≡ b)
-    lt_or_eq a b h = grind arith
+use Rattle.std.proofs.Common.{◌≡◌, ℕ, suc, zero, ◌<◌, ◌≢◌, List, [], ◌∷◌, ◌++◌, length, set, Some, refl, sym, ap, arith, ◌⊎◌, inl, inr, slice_get}
+use Rattle.std.proofs.lemmas.Option.{same_Some}
 
 -- after a write
 pub slice_get-set_same : {X : Type 0} (xs : List X) (i : ℕ) (y : X) → i < length xs → slice_get (set xs i y) i ≡ Some y
@@ -44,9 +31,3 @@ slice_get-push_cases [] y (suc i) x at = cc
 slice_get-push_cases (z ∷ xs) y zero x at = inl at
 slice_get-push_cases (z ∷ xs) y (suc i) x at =
     elim (slice_get-push_cases xs y i x at) [ inl old ↦ inl old | inr new ↦ inr (ap suc new.0, new.1) ]
-
-pub slice_get-push_other : {X : Type 0} (xs : List X) (y : X) (j : ℕ) → j ≢ length xs → slice_get (xs ++ y ∷ []) j ≡ slice_get xs j
-slice_get-push_other [] y zero ne = absurd (ne refl)
-slice_get-push_other [] y (suc j) ne = refl
-slice_get-push_other (z ∷ xs) y zero ne = refl
-slice_get-push_other (z ∷ xs) y (suc j) ne = slice_get-push_other xs y j (λ e. ne (ap suc e))

@@ -45,9 +45,6 @@ body-le-taken bytes Item.Dead = omega arith
 below_or_past : (j n : ℕ) → (j < n) ⊎ (n ≤ j)
 below_or_past j n = ⊎_elim (λ e. inl (ltb-true j n e)) (λ e. inr (ltb-false j n e)) (cases_Bool (nat_lt j n))
 
-past_or_below : (j n : ℕ) → (n ≤ j) ⊎ (j < n)
-past_or_below j n = ⊎_elim (λ b. inr b) (λ p. inl p) (below_or_past j n)
-
 -- What is done once the first i bodies are moved.
 
 pub record IsPacked (bytes : List ℕ) (old items : List Item) (packed : List ℕ) (i : ℕ) : Type 0 where
@@ -56,15 +53,6 @@ pub record IsPacked (bytes : List ℕ) (old items : List Item) (packed : List �
   pub within : (j : ℕ) → j < i → fits (length packed) (get_or items j Item.Unused) ≡ true
   pub rest : (j : ℕ) → i ≤ j → get_or items j Item.Unused ≡ get_or old j Item.Unused
   pub limit : length packed ≤ sum_by taken (take i (slots_in bytes old))
-
-pub packed-none : (bytes : List ℕ) (old : List Item) → IsPacked bytes old old [] 0
-packed-none bytes old = record {
-  count = refl;
-  done = λ j below. absurd (omega (arith, below));
-  within = λ j below. absurd (omega (arith, below));
-  rest = λ j from. refl;
-  limit = omega arith;
-}
 
 -- the slot that is read is the old one
 pub packed-here : (bytes : List ℕ) (old items : List Item) (packed : List ℕ) (i : ℕ) (x : Item) → IsPacked bytes old items packed i → i < length old
@@ -129,14 +117,6 @@ packed-slots bytes old items packed i done all =
     ∙ done.done j (omega arith)
     ∙ sym (get_or-map (slot_in bytes) old j Item.Unused Slot.Unused (omega arith)))
 
-pub packed-within : (bytes : List ℕ) (old items : List Item) (packed : List ℕ) (i : ℕ) → IsPacked bytes old items packed i → length old ≤ i
-    → AreWithin (length packed) items
-packed-within bytes old items packed i done all =
-    let count = done.count in
-    λ j. ⊎_elim (λ below. done.within j (omega (arith, below)))
-    (λ past. rw (get_or_past items j Item.Unused (omega (arith, past))) refl)
-    (below_or_past j (length items))
-
 -- More bytes behind the bodies.
 
 pub slots_stay : (bytes more : List ℕ) (items : List Item) → AreWithin (length bytes) items → slots_in (bytes ++ more) items ≡ slots_in bytes items
@@ -154,9 +134,6 @@ pub slots-stay_or_not : (added : Bool) (bytes more : List ℕ) (items : List Ite
 slots-stay_or_not true bytes more items within = slots_stay bytes more items within
 slots-stay_or_not false bytes more items within = refl
 
-pub are_within-more : (n m : ℕ) (items : List Item) → n ≤ m → AreWithin n items → AreWithin m items
-are_within-more n m items more within = λ j. fits-more n m (get_or items j Item.Unused) more (within j)
-
 -- One slot in the place of another.
 
 -- what holds no version is the same slot beside any bytes
@@ -166,33 +143,11 @@ bare-anywhere bytes (Item.Normal s) bare = absurd (cc bare)
 bare-anywhere bytes (Item.Redirect target) bare = refl
 bare-anywhere bytes Item.Dead bare = refl
 
-bare-within : (n : ℕ) (x : Item) → is_bare x ≡ true → fits n x ≡ true
-bare-within n Item.Unused bare = refl
-bare-within n (Item.Normal s) bare = absurd (cc bare)
-bare-within n (Item.Redirect target) bare = refl
-bare-within n Item.Dead bare = refl
-
 pub header-same_body : (bytes : List ℕ) (x : Item) (h : Header) → slot_in bytes (with_header x h) ≡ Slots.with_header (slot_in bytes x) h
 header-same_body bytes Item.Unused h = refl
 header-same_body bytes (Item.Normal s) h = refl
 header-same_body bytes (Item.Redirect target) h = refl
 header-same_body bytes Item.Dead h = refl
-
-header-same_place : (n : ℕ) (x : Item) (h : Header) → fits n (with_header x h) ≡ fits n x
-header-same_place n Item.Unused h = refl
-header-same_place n (Item.Normal s) h = refl
-header-same_place n (Item.Redirect target) h = refl
-header-same_place n Item.Dead h = refl
-
--- an item that fits in the place of another
-within-set : (n : ℕ) (items : List Item) (i : ℕ) (x : Item) → fits n x ≡ true → AreWithin n items → AreWithin n (set items i x)
-within-set n items i x fit within = λ j. ⊎_elim
-    (λ past. rw (get_or_past (set items i x) j Item.Unused (omega (arith, past, length-set items i x))) refl)
-    (λ below. ⊎_elim
-    (λ e. ap (fits n) (get_or-set_at items i j x Item.Unused e (omega (arith, below, e))) ∙ fit)
-    (λ apart. rw (get_or-set_other items i j x Item.Unused apart) (within j))
-    (same_or_other j i))
-    (past_or_below j (length items))
 
 pub header-set : (bytes : List ℕ) (items : List Item) (i : ℕ) (old x : Item) (h : Header) → i < length items → old ≡ get_or items i old → x ≡ with_header old h
     → slots_in bytes (set items i x) ≡ set (slots_in bytes items) i (Slots.with_header (get_or (slots_in bytes items) i Slot.Unused) h)

@@ -2,17 +2,16 @@
 use Rattle.std.proofs.Common.{◌≡◌, ◌≢◌, ℕ, zero, suc, ◌+◌, ◌-◌, ◌<◌, ◌≤◌, ◌==◌, true, false, not, if◌then◌else◌, ◌⊎◌, inl, inr, ⊎_elim, List, [], ◌∷◌, ◌++◌, length, get_or, set, Option, Some, None, IsSome, sym, ap, ◌∙◌, refl, arith, length-append, eq-eqb}
 use Rattle.std.proofs.lemmas.Bool.{cases_Bool, true≢false, ltb-true, ltb-false, eqb-true}
 use Rattle.std.proofs.lemmas.Option.{slice_get-get_or, slice_get_past, slice_get_within, slice_get_cases, get_or_from_slice_get}
-use Rattle.std.proofs.lemmas.List.{length-set, get_or-set_same, get_or-set_other, set-get_or}
+use Rattle.std.proofs.lemmas.List.{length-set, get_or-set_same, get_or-set_other}
 use Rattle.std.proofs.lemmas.List.Sums.{prefix_len-le-length, passes_at_first}
 use Rattle.std.proofs.Math.ListN.{get_or-append}
 use Rattle.std.proofs.Math.Seq.{get_or-append_seam}
 use Rattle.std.specs.List.{slice_get, position_or_len}
-use Rattle.std.specs.Option.{option_map, option_and_then}
+use Rattle.std.specs.Option.{option_and_then}
 use Rattle.page_slots.specs.declared.slot.Slot.{Slot}
 use Rattle.page_slots.specs.declared.slot.Slot.TheVariants.{Unused, Normal, Redirect, Dead}
 use Rattle.tuple_header.specs.Version.{Version}
-use Rattle.tuple_header.specs.declared.version.Header.{Header}
-use Rattle.page_slots.specs.Slots.{is_unused, slot_at, version_at, version_of, row_at, IsThere, IsNormalAt, the_slot, with_slot, with_header, with_header_at, has_unused, free_number, with_added}
+use Rattle.page_slots.specs.Slots.{is_unused, slot_at, version_at, version_of, IsThere, IsNormalAt, the_slot, with_slot, has_unused, free_number, with_added}
 
 -- a place that is another's holds what it held
 slice_get-set_other : (slots : List Slot) (i j : ℕ) (s : Slot) → j ≢ i → slice_get (set slots i s) j ≡ slice_get slots j
@@ -115,38 +114,6 @@ pub slot_at-with_slot_other : (slots : List Slot) (n m : ℕ) (s : Slot) → 1 �
 slot_at-with_slot_other slots n zero s from other = refl
 slot_at-with_slot_other slots n (suc i) s from other = slice_get-set_other slots (n - 1) i s (λ e. other (omega arith))
 
--- the same slot in its own place changes nothing
-pub with_slot-same : (slots : List Slot) (n : ℕ) (s : Slot) → slot_at slots n ≡ Some s → with_slot slots n s ≡ slots
-with_slot-same slots n s e =
-    ap (λ x. set slots (n - 1) x) (sym (the_slot-from_slot_at slots n s e)) ∙ set-get_or slots (n - 1) Unused
-
--- Another header.
-
-pub length-with_header_at : (slots : List Slot) (n : ℕ) (h : Header) → length (with_header_at slots n h) ≡ length slots
-length-with_header_at slots n h = length-with_slot slots n (with_header (the_slot slots n) h)
-
-pub version_at-with_header_at : (slots : List Slot) (n : ℕ) (h : Header) (t : Version) → version_at slots n ≡ Some t
-    → version_at (with_header_at slots n h) n ≡ Some (record t { header = h })
-version_at-with_header_at slots n h t e =
-    let slot = slot_at-from_version_at slots n t e in
-    let is = the_slot-from_slot_at slots n (Normal t) slot in
-    let put = slot_at-with_slot slots n (with_header (the_slot slots n) h) (there-from_slot_at slots n (Normal t) slot) in
-    version_at-from_slot_at (with_header_at slots n h) n (record t { header = h }) (put ∙ ap (λ s. Some (with_header s h)) is)
-
-pub slot_at-with_header_at_other : (slots : List Slot) (n m : ℕ) (h : Header) → 1 ≤ n → m ≢ n → slot_at (with_header_at slots n h) m ≡ slot_at slots m
-slot_at-with_header_at_other slots n m h from other = slot_at-with_slot_other slots n m (with_header (the_slot slots n) h) from other
-
--- what a header's change leaves of the slot itself: its row
-pub row_at-with_header_at : (slots : List Slot) (n m : ℕ) (h : Header) → IsNormalAt slots n → row_at (with_header_at slots n h) m ≡ row_at slots m
-row_at-with_header_at slots n m h normal =
-    let t = normal_at slots n normal in
-    let there = there-from_slot_at slots n (Normal t.0) t.1 in
-    let old = version_at-from_slot_at slots n t.0 t.1 in
-    let new = version_at-with_header_at slots n h t.0 old in
-    ⊎_elim (λ same. rw same (ap (option_map (λ v. v.row)) new ∙ sym (ap (option_map (λ v. v.row)) old)))
-    (λ other. rw (slot_at-with_header_at_other slots n m h there.0 other) refl)
-    (same_or_other m n)
-
 -- A new slot.
 
 reused_place : (slots : List Slot) → (position_or_len is_unused slots + 1) - 1 ≡ position_or_len is_unused slots
@@ -194,13 +161,6 @@ length-with_added slots s =
     (λ none. rw (with_added-new slots s none, none) (rw length-append refl))
     (cases_Bool (has_unused slots))
 
--- no slot goes
-pub length-with_added-le : (slots : List Slot) (s : Slot) → length slots ≤ length (with_added slots s)
-length-with_added-le slots s =
-    ⊎_elim (λ some. let e = length-with_added slots s ∙ ap (λ b. if b then length slots else length slots + 1) some in omega arith)
-    (λ none. let e = length-with_added slots s ∙ ap (λ b. if b then length slots else length slots + 1) none in omega arith)
-    (cases_Bool (has_unused slots))
-
 pub slot_at-with_added : (slots : List Slot) (s : Slot) → slot_at (with_added slots s) (free_number slots) ≡ Some s
 slot_at-with_added slots s =
     ⊎_elim (λ some. let there = there-from_slot_at slots (free_number slots) Unused (free_number-unused slots some) in
@@ -213,6 +173,3 @@ slot_at-with_added_other slots m s other =
     ⊎_elim (λ some. rw (with_added-reused slots s some) (slot_at-with_slot_other slots (free_number slots) m s (omega arith) other))
     (λ none. let new = free_number-new slots none in rw (with_added-new slots s none) (others_pushed slots m s (λ e. other (e ∙ sym new))))
     (cases_Bool (has_unused slots))
-
-pub free_number-there : (slots : List Slot) (s : Slot) → IsThere (with_added slots s) (free_number slots)
-free_number-there slots s = there-from_slot_at (with_added slots s) (free_number slots) s (slot_at-with_added slots s)

@@ -12,7 +12,6 @@ use Rattle.sound_entries.specs.Pages.{slots_on}
 use Rattle.heap_write.specs.Heap.{slots_of}
 use Rattle.heap_write.specs.Walking.{IsSeenRow, NoneSeen}
 use Rattle.session_relation.specs.Cursors.{Stands, Gathers}
-use Rattle.session_relation.proofs.CursorWalks.{Gathers-none, Gathers-pass}
 use Rattle.session_core.specs.declared.session.Session.{Session}
 use Rattle.session_core.specs.declared.cursor.Cursor.TheVariants.{Heap}
 use Rattle.session_core.specs.State.{State, seen}
@@ -63,10 +62,6 @@ pub none-stands : (st : State) (e : Session) (page slot : ℕ) → NoneIsSeen st
 none-stands st e page slot none row stands = none stands.version stands.here (visible-from st.heap.table e.snapshot e.own.ids stands.version stands.shown)
 
 -- A page.
-
--- the walk begins at slot 1
-pub gathers-first : (st : State) (e : Session) (page : ℕ) → Gathers (seen st).version (seen_by st e) page 1 []
-gathers-first st e page = Gathers-pass (none-first st e page) (Gathers-none (seen st).version (seen_by st e) page)
 
 -- and goes up to the last
 pub gathers-all : (st : State) (e : Session) (page end : ℕ) (rows : List Row) → length (slots_on (slots_of st.heap) page) + 1 ≤ end → Gathers (seen st).version (seen_by st e) page end rows → TakesAll st e page rows

@@ -1,5 +1,5 @@
 -- A walk of a cursor along an index, row by row.
-use Rattle.std.proofs.Common.{◌≡◌, ℕ, ◌+◌, ◌<◌, ◌≤◌, List, [], ◌∷◌, ◌++◌, length, Some, refl, sym, ap, ◌∙◌, subst, inl, inr, arith}
+use Rattle.std.proofs.Common.{◌≡◌, ℕ, ◌+◌, ◌<◌, ◌≤◌, List, [], ◌∷◌, ◌++◌, length, Some, sym, ap, ◌∙◌, subst, inl, inr, arith}
 use Rattle.std.proofs.lemmas.List.{length-append}
 use Rattle.std.proofs.lemmas.Option.{slice_get_within}
 use Rattle.tuple_header.specs.declared.version.Row.{Row}
@@ -10,7 +10,7 @@ use Rattle.history.specs.Cursors.{ComesBefore}
 use Rattle.session_relation.specs.Heap.{in_index}
 use Rattle.session_relation.specs.Cursors.{Comes, Meets}
 use Rattle.session_relation.specs.Cursors as cursors
-use Rattle.session_relation.proofs.CursorWalks.{Comes-back, Comes-from, Meets-none, Meets-one}
+use Rattle.session_relation.proofs.CursorWalks.{Comes-back, Comes-from, Meets-one}
 use Rattle.session_core.specs.declared.session.Session.{Session}
 use Rattle.session_core.specs.declared.cursor.Cursor.TheVariants.{Index}
 use Rattle.session_core.specs.State.{State, seen, mark_of}
@@ -43,12 +43,6 @@ left-in st e span left row same comes =
 pub record HasMet (st : State) (e : Session) (span left : Span) (count : ℕ) (rows : List Row) : Type 0 where
   pub walks : Walks st e span left rows
   pub met : length rows ≡ count
-
-pub none-met : (st : State) (e : Session) (span : Span) → HasMet st e span span 0 []
-none-met st e span = record {
-  walks = record { same = refl; meets = λ at. Meets-none (seen st).version (seen_by st e) span.index span.low span.high (mark_of span.last) };
-  met = refl;
-}
 
 module _ (st : State) (e : Session) (span left : Span) (count : ℕ) (rows : List Row) (h : HasMet st e span left count rows) where
   -- the next row comes, and none comes before it
@@ -85,10 +79,6 @@ module _ (st : State) (e : Session) (span left : Span) (count : ℕ) (rows : Lis
     at_most = (let met = h.met in omega arith);
     all = λ at fewer row comes. none-comes st at.world at.number e at.agrees at.there left (used-left st e span left rows h.walks at) none row comes;
   }
-
-  -- as many are met as were asked for
-  pub enough-met : TakesRows st e span left count rows
-  enough-met = record { walks = h.walks; at_most = (let met = h.met in omega arith); all = λ at fewer. absurd (let met = h.met in omega arith) }
 
 -- None is met: nothing comes in the whole span.
 pub none-taken : (st : State) (e : Session) (span left : Span) (most : ℕ) (rows : List Row) → TakesRows st e span left most rows → length rows ≡ 0 → 0 < most → IsAt st e (Index span) → IsAtEnd st e (Index span)

@@ -3,7 +3,7 @@ use Rattle.std.proofs.Common.{◌≡◌, ◌≢◌, ℕ, zero, suc, ◌≤◌, �
 use Rattle.std.proofs.lemmas.Bool.{cond-true, cond-false, eq-eqb, ne_eqb}
 use Rattle.std.proofs.lemmas.Bool.Decides.{nat_tests}
 use Rattle.std.proofs.lemmas.List.{append-nil}
-use Rattle.std.proofs.lemmas.List.Elements.{Contains-append_left, Contains-append_right, Contains-push_cases}
+use Rattle.std.proofs.lemmas.List.Elements.{Contains-append_left, Contains-append_right}
 use Rattle.std.specs.List.{Contains}
 use Rattle.snapshot.specs.Own.{lacks, level_id, saved_with, saved_with_each, AreFronts, AreDistinct}
 use Rattle.snapshot.proofs.Earliest.{contains-cases, contains-head, contains-tail}
@@ -44,13 +44,6 @@ distinct-front ids before since d e = front before since (subst AreDistinct e d)
 
 pub distinct-after : (ids before since : List ℕ) → AreDistinct ids → ids ≡ before ++ since → (x : ℕ) → Contains since x → ¬ Contains before x
 distinct-after ids before since d e x c = apart before since x (subst AreDistinct e d) c
-
-pub distinct-push : (ids : List ℕ) (x : ℕ) → AreDistinct ids → ¬ Contains ids x → AreDistinct (ids ++ x ∷ [])
-distinct-push [] x d new = ((λ c. none-in x c), tt)
-distinct-push (y ∷ ids) x d new = (
-  (λ c. ⊎_elim (λ among. d.0 among) (λ e. new (subst (Contains (y ∷ ids)) (sym e) (contains-head y ids))) (Contains-push_cases ids x y c)),
-  distinct-push ids x d.1 (λ c. new (contains-tail y x ids c)),
-)
 
 -- levels that lack an id
 

@@ -28,9 +28,6 @@ fronts-take (k ∷ ms) ids n m h l =
     let rest = fronts-take ms ids k m h.1 (omega arith) in
     cc
 
-pub newest-fronts : (ids ms : List ℕ) (k : ℕ) → newest (fronts ids (k ∷ ms)) ≡ take k ids
-newest-fronts ids ms k = refl
-
 pub normal-push : (ids : List Xid) (x : Xid) → AreNormal ids → IsNormal x.0 → AreNormal (ids ++ x ∷ [])
 normal-push [] x all here zero y at = let e : x ≡ y = (let s : Some x ≡ Some y = at in cc) in subst (λ (z : Xid). IsNormal z.0) e here
 normal-push [] x all here (suc i) y at = absurd (cc)

@@ -1,8 +1,6 @@
 -- What a header without a fault is.
-use Rattle.std.proofs.Common.{◌≡◌, ◌≢◌, ℕ, ◌≤◌, Bool, true, false, ◌||◌, nat_lt, nat_eq, List, [], ◌∷◌, Some, None, arith, refl, sym, ◌∙◌}
+use Rattle.std.proofs.Common.{◌≡◌, Bool, true, false, ◌||◌, List, [], ◌∷◌, Some, None, refl, sym, ◌∙◌}
 use Rattle.std.specs.List.{find}
-use Rattle.std.proofs.lemmas.Bool.Decides.{nat_tests}
-use Rattle.xid_circle.specs.Circle.{IsNormal}
 use Rattle.tuple_header.specs.declared.version.Header.{Header}
 use Rattle.tuple_header.specs.declared.fault.TupleFault.{TupleFault}
 use Rattle.tuple_header.specs.declared.fault.TupleFault.TheVariants.{Attributes, Masks, Xmin, Xmax, Ctid}
@@ -45,22 +43,6 @@ fault-no h n =
     (found-none p Xmax (Ctid ∷ []) n.xmax
     (found-none p Ctid [] n.ctid refl))))
 
-lt-false : (x : ℕ) → nat_lt x 3 ≡ false → 3 ≤ x
-lt-false x h = grind (arith, nat_tests)
-
 or-false : (a b : Bool) → a || b ≡ false → (a ≡ false) × (b ≡ false)
 or-false true b e = absurd (cc)
 or-false false b e = (refl, e)
-
-small-id : (x : ℕ) → x ≢ 0 → nat_eq x 1 ≡ false → nat_eq x 2 ≡ false → 3 ≤ x
-small-id x a b c = grind (arith, nat_tests)
-
--- the maker is a normal id, and so is a deleter
-pub maker-normal : (h : Header) → header_fault h ≡ None → IsNormal h.xmin.0
-maker-normal h e = lt-false h.xmin.0 (no-fault h e).xmin
-
-pub deleter-normal : (h : Header) → header_fault h ≡ None → h.xmax.0 ≢ 0 → IsNormal h.xmax.0
-deleter-normal h e some =
-    let outer = or-false _ _ (no-fault h e).xmax in
-    let inner = or-false _ _ outer.0 in
-    small-id h.xmax.0 some inner.0 inner.1
