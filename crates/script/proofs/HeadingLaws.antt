@@ -49,9 +49,6 @@ flags4_of_says w bs h =
       refl,
     )
 
-flag_bit : Bool → ℕ
-flag_bit b = cond b 49 48
-
 flag_of-text : (b : Bool) → flag_of (cond b 49 48) ≡ Some b
 unfolding flag_of
 flag_of-text true = refl

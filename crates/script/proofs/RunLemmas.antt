@@ -8,7 +8,7 @@ use Rattle.std.specs.Io.KnownBytes.{Appends}
 use Rattle.script.specs.Engine.{World, State, Allows, next, IsRun, Agrees}
 use Rattle.script.specs.Grammar.{IsAllowed, Fits, spelling, with_feed}
 use Rattle.script.specs.Pieces.{Takes, Gives, HasNoLine}
-use Rattle.script.specs.Script.{Event, did, showed_ids, showed_page, showed_entries, line_of, answer_of, steps_of, replies_of, lines_of, answers_of, IsBadLine, Begins, IsRefused, IsCaused}
+use Rattle.script.specs.Script.{Event, did, showed_ids, showed_page, showed_entries, line_of, answer_of, steps_of, replies_of, lines_of, answers_of, IsBadLine, Begins, IsRefused}
 use Rattle.script.specs.Steps.{Moves, Ends, Advance, Uses, Does}
 use Rattle.script.specs.declared.line.Line.{Line}
 use Rattle.script.specs.declared.watch.Watch.{Watch}
@@ -19,7 +19,7 @@ use Rattle.script.proofs.GrammarLaws.{Free-spelling}
 use Rattle.std.proofs.lemmas.Option.{IfSome_then}
 use Rattle.std.proofs.Math.Seq.{take-append_seam}
 use Rattle.std.proofs.lemmas.List.{take-append-le}
-use Rattle.script.proofs.PiecesLemmas.{Consumes-Consumes, Appends-Appends, Keeps-nothing, Keeps-refl, Gives-Gives, Gives-refl}
+use Rattle.script.proofs.PiecesLemmas.{Consumes-Consumes, Appends-Appends, Keeps-nothing, Keeps-refl, Gives-Gives}
 
 pub Uses-refl : (a : Option (List ℕ)) (p : List ℕ) → Uses a a p [] p
 Uses-refl a p = ([], Keeps-nothing a a (Keeps-refl a), append-nil p)
@@ -113,18 +113,6 @@ pub record Progress (from : World) (state : State) (before now : Option (List �
   pub uses : Uses before now old (lines_of events) new
   pub gives : Gives w0 w1 (text ++ answers_of events) left
   pub number_is : number ≡ length events + 2
-
-pub Progress-start : (from : World) (state : State) (before : Option (List ℕ)) (old : List ℕ) (w0 : Option (List ℕ)) (text : List ℕ) → Agrees state from → Progress from state before before old old w0 w0 text text 2
-Progress-start from state before old w0 text agrees = record {
-  events = [];
-  to = from;
-  allowed = tt;
-  reaches = refl;
-  agrees = agrees;
-  uses = Uses-refl before old;
-  gives = rw (append-nil text) (Gives-refl w0 text);
-  number_is = refl;
-}
 
 -- more is read, and some of the text is written
 pub Progress-more : (from : World) (state : State) (before now now' : Option (List ℕ)) (old new new' : List ℕ) (w0 w1 w2 : Option (List ℕ)) (text left left' : List ℕ) (number : ℕ)
@@ -222,13 +210,6 @@ ends_fault NoMemory watch f k left before after text b = b
 -- that a growth was refused is noted
 pub refused_growth : (e : ShellFault) (watch : Watch) → e ≡ NoMemory → watch.memory ≡ true → IsRefused e watch
 refused_growth e watch is noted = rw is noted
-
--- a refusal is a cause
-pub Refused-caused : (e : ShellFault) (watch : Watch) → IsRefused e watch → IsCaused e watch
-Refused-caused (BadLine n) watch h = absurd h
-Refused-caused Input watch h = h
-Refused-caused Output watch h = h
-Refused-caused NoMemory watch h = h
 
 pub adv_fault : (from : World) (state : State) (before now : Option (List ℕ)) (old new : List ℕ) (w0 w1 w2 : Option (List ℕ)) (text left : List ℕ) (number : ℕ) (e : ShellFault) (watch : Watch)
     → Progress from state before now old new w0 w1 text left number → IsRefused e watch → Begins w1 w2 left → IfSome before (λ bytes. Advance from (old ++ bytes) w0 w2 text (Err e))
