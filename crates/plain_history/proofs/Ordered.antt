@@ -16,7 +16,7 @@ use Rattle.history.specs.World.{OpenSession, joined, own_write, view}
 use Rattle.history.proofs.HistoryLemmas.{written-append, said-other, option_or-none, option_or_assoc}
 use Rattle.plain_history.proofs.Lists.{written-take, latest-take, joined-take}
 use Rattle.history.specs.Cursors.{value_in, ComesBefore, kept_where, keys_of, without, AreNext}
-use Rattle.plain_history.specs.Order.{row_in, comes_before, ComesBeforeAll, IsInOrder, placed, has, Adds, Covers}
+use Rattle.plain_history.specs.Order.{row_in, comes_before, ComesBeforeAll, IsInOrder, placed, has, Adds}
 
 -- the order of two values with their keys
 abbrev Comes : ℤ → ℤ → ℕ → ℕ → Type 0
@@ -143,21 +143,6 @@ has-push_other : (keys : List ℕ) (key k : ℕ) → key ≢ k → has (keys ++ 
 has-push_other [] key k ne = ap (λ b. b || false) (ne_eqb key k ne)
 has-push_other (j ∷ keys) key k ne = ap (λ b. nat_eq j k || b) (has-push_other keys key k ne)
 
-pub covers-none : (rows : ℕ → Option Row) → Covers rows [] []
-covers-none rows key = refl
-
-pub covers-more : (rows : ℕ → Option Row) (old new : List Row) (keys : List ℕ) (key : ℕ) → Covers rows old keys → Adds rows key old new → Covers rows new (keys ++ key ∷ [])
-covers-more rows old new keys key covers adds k = elim (cases_eq key k) [
-  | inl same ↦ subst (λ j. row_in new j ≡ cond (has (keys ++ key ∷ []) j) (rows j) None) same
-      (adds.0 ∙ (ap (λ o. option_or o (rows key)) (covers key) ∙ (twice (has keys key) (rows key) ∙ sym (cond-true (has (keys ++ key ∷ []) key) (rows key) None (has-push_same keys key)))))
-  | inr ne ↦ adds.1 k (λ same. ne (sym same)) ∙ (covers k ∙ ap (λ b. cond b (rows k) None) (sym (has-push_other keys key k ne)))
-]
-  where
-    twice : (b : Bool) (o : Option Row) → option_or (cond b o None) o ≡ o
-    twice true None = refl
-    twice true (Some x) = refl
-    twice false o = refl
-
 pub absent_from : (o : Option Row) (answer : Bool) → (IsTrue answer ↔ IsSome o) → answer ≡ false → o ≡ None
 absent_from None answer says isnt = refl
 absent_from (Some row) answer says isnt = let yes : answer ≡ true = says.1 refl in let never : false ≡ true = sym isnt ∙ yes in absurd (cc)
@@ -223,12 +208,6 @@ view-none history m older newest key all none none' none'' =
     right_none : {A : Type 0} (o p : Option A) → option_or o p ≡ None → p ≡ None
     right_none None p e = e
     right_none (Some x) p e = absurd (cc)
-
-pub covers-all : (rows : ℕ → Option Row) (list : List Row) (keys : List ℕ) → Covers rows list keys → ((key : ℕ) → has keys key ≡ false → rows key ≡ None) → (key : ℕ) → row_in list key ≡ rows key
-covers-all rows list keys covers all key = elim (cases_Bool (has keys key)) [
-  | inl there ↦ covers key ∙ cond-true (has keys key) (rows key) None there
-  | inr absent ↦ covers key ∙ (cond-false (has keys key) (rows key) None absent ∙ sym (all key absent))
-]
 
 -- The front of the rows, and what is left.
 

@@ -98,13 +98,6 @@ never waits s o seen t w back (suc i) n e (p, wait, rest) = elim (w.next n p e w
 pub walk-back : (waits : ℕ → Option ℕ) (s o : ℕ) (seen : List ℕ) (t : ℕ) → Walk waits s o seen (Some t) → among t seen ≡ true → ¬ ClosesRing waits s o
 walk-back waits s o seen t w back ring = let r = w.ahead ring in never waits s o seen t w back r.0 t back r.1
 
--- one that ends doesn't
-pub walk-ends : (waits : ℕ → Option ℕ) (s o : ℕ) (seen : List ℕ) → Walk waits s o seen None → ¬ ClosesRing waits s o
-walk-ends waits s o seen w ring = w.ahead ring
-
-pub walk-found : (waits : ℕ → Option ℕ) (s o : ℕ) (seen : List ℕ) (t : ℕ) → Walk waits s o seen (Some t) → t ≡ s → ClosesRing waits s o
-walk-found waits s o seen t w same = w.back (0, same)
-
 -- there is room for one more
 pub walk-room : (waits : ℕ → Option ℕ) (s o : ℕ) (seen : List ℕ) (t : ℕ) → Walk waits s o seen (Some t) → among t seen ≡ false → length seen < 256
 walk-room waits s o seen t w new =

@@ -13,23 +13,12 @@ pub session_in-read : (sessions : List (Option PlainSession)) (o : ℕ) (x : Opt
     → session_in sessions o ≡ option_map open_of x
 session_in-read sessions o x within is = ap (λ y. option_map open_of (option_flatten y)) (slice_get_read sessions (length sessions) o x refl within is)
 
-pub session_in-at : (sessions : List (Option PlainSession)) (o : ℕ) (x : Option PlainSession) (m : PlainSession) → o < length sessions → x ≡ get_or sessions o x → x ≡ Some m
-    → session_in sessions o ≡ Some (open_of m)
-session_in-at sessions o x m within is there = session_in-read sessions o x within is ∙ ap (option_map open_of) there
-
-pub session_in-none : (sessions : List (Option PlainSession)) (o : ℕ) (x : Option PlainSession) → o < length sessions → x ≡ get_or sessions o x → x ≡ None
-    → session_in sessions o ≡ None
-session_in-none sessions o x within is there = session_in-read sessions o x within is ∙ ap (option_map open_of) there
-
 pub session_in-past : (sessions : List (Option PlainSession)) (o : ℕ) → length sessions ≤ o → session_in sessions o ≡ None
 session_in-past sessions o past = ap (λ y. option_map open_of (option_flatten y)) (slice_get_past sessions o past)
 
 pub wrote_some : {A : Type 0} (o result : Option A) → result ≡ o → is_some result ≡ true → IsSome o
 wrote_some None result e h = cc
 wrote_some (Some x) result e h = refl
-
-pub wrote_none : {A : Type 0} (o result : Option A) → result ≡ o → is_some result ≡ false → IsSome o → ⊥
-wrote_none o result e h some = cc
 
 -- no other session below o holds the key
 abbrev pub NoneBelow : List (Option PlainSession) → ℕ → ℕ → ℕ → Type 0
@@ -51,14 +40,6 @@ none_at_all sessions s key n all below o m ne at wrote = elim (cases_lt o n) [
   | inl lt ↦ below o m lt ne at wrote
   | inr past ↦ absurd (none-some m (sym (session_in-past sessions o (omega arith)) ∙ at))
 ]
-
--- where the session at n holds nothing
-pub holds_nothing : (sessions : List (Option PlainSession)) (s key n : ℕ) (x : Option PlainSession) → n < length sessions → x ≡ get_or sessions n x
-    → ((p : PlainSession) → x ≡ Some p → n ≢ s → IsSome (own_write (open_of p) key) → ⊥)
-    → (m : OpenSession) → n ≢ s → session_in sessions n ≡ Some m → IsSome (own_write m key) → ⊥
-holds_nothing sessions s key n None within is none m ne at wrote = absurd (none-some m (sym (session_in-read sessions n None within is) ∙ at))
-holds_nothing sessions s key n (Some p) within is none m ne at wrote =
-    none p refl ne (subst (λ q. IsSome (own_write q key)) (same_Some m (open_of p) (sym at ∙ session_in-read sessions n (Some p) within is)) wrote)
 
 -- whether the open session holds the key
 pub holds_says : (session : Option PlainSession) (p : PlainSession) (key : ℕ) (own : Option (Option Row)) (result : Bool) → session ≡ Some p

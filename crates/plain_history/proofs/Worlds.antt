@@ -1,14 +1,13 @@
 -- What a change of the lists makes of the world.
-use Rattle.std.proofs.Common.{◌≡◌, ℕ, ◌<◌, List, [], ◌∷◌, length, set, slice_get, Option, Some, None, Bool, true, false, cond, nat_eq, refl, sym, ap, ◌∙◌, subst, arith, inl, inr, replicate, get_or, map, not, take, drop, max}
+use Rattle.std.proofs.Common.{◌≡◌, ℕ, ◌<◌, List, [], ◌∷◌, length, set, Option, Some, None, Bool, true, false, cond, nat_eq, refl, sym, ap, ◌∙◌, subst, arith, inl, inr, get_or, take, drop, max}
 use Rattle.std.specs.Prelude.{zero, suc, Result, Ok, Err, OnOk, OnErr, IfOk, IsTrue}
 use mathlib.Core.Path.{fun_ext}
 use Rattle.std.specs.Option.{option_map, option_flatten}
 use Rattle.std.proofs.lemmas.Bool.{cases_eq}
 use Rattle.plain_history.specs.declared.plain.PlainSession.{PlainSession}
 use Rattle.history.specs.History.{Transaction}
-use Rattle.history.specs.World.{OpenSession, World, Cursor, Order, empty}
-use Rattle.history.specs.Cursors.{kept_where}
-use Rattle.history.specs.Moves.{stepped, put, change, blocked_by, awaited_no_more, aborted, transaction_of, appended, committed_by, past, with_taken}
+use Rattle.history.specs.World.{OpenSession, World, Cursor, Order}
+use Rattle.history.specs.Moves.{stepped, put, change, blocked_by, aborted, transaction_of, appended, committed_by, past, with_taken}
 use Rattle.tuple_header.specs.declared.version.Row.{Row}
 use Rattle.plain_history.specs.declared.cursor.PlainOrder.{PlainOrder}
 use Rattle.plain_history.specs.declared.cursor.PlainOrder.TheVariants.{Index, Heap, Keys}
@@ -79,32 +78,6 @@ world-same p s x y within within' stays is =
           (at_same s (option_map open_of y) (session_in p.sessions s) ∙ (stays ∙ sym (session_in-read p.sessions s x within is)))
       | inr ne ↦ at_other t s (option_map open_of y) (session_in p.sessions t) ne
     ]
-
-wait_in-map : (f : Option ℕ → Option ℕ) (waits : List (Option ℕ)) (t : ℕ) → f None ≡ None → wait_in (map f waits) t ≡ f (wait_in waits t)
-wait_in-map f [] t none = sym none
-wait_in-map f (x ∷ waits) zero none = refl
-wait_in-map f (x ∷ waits) (suc t) none = wait_in-map f waits t none
-
-pub world-awake : (p : Plain) (s : ℕ) → world_of (record p { waits = map (kept_where (λ o. not (nat_eq o s))) p.waits }) ≡ awaited_no_more (world_of p) s
-world-awake p s = same_world p.history (session_in p.sessions) (session_in p.sessions) (wait_in (map (kept_where (λ o. not (nat_eq o s))) p.waits)) (λ t. kept_where (λ o. not (nat_eq o s)) (wait_in p.waits t))
-    (λ t. refl) (λ t. wait_in-map (kept_where (λ o. not (nat_eq o s))) p.waits t refl)
-
--- no session and no wait
-session_in-none : (n t : ℕ) → session_in (replicate n None) t ≡ None
-session_in-none n t = ap (option_map open_of) (flat n t)
-  where
-    flat : {A : Type 0} (n t : ℕ) → option_flatten {T = A} (slice_get (replicate n None) t) ≡ None
-    flat zero t = refl
-    flat (suc n) zero = refl
-    flat (suc n) (suc t) = flat n t
-
-wait_in-none : (n t : ℕ) → wait_in (replicate n None) t ≡ None
-wait_in-none zero t = refl
-wait_in-none (suc n) zero = refl
-wait_in-none (suc n) (suc t) = wait_in-none n t
-
-pub world-empty : (n m : ℕ) → world_of (record { history = []; sessions = replicate n None; waits = replicate m None }) ≡ empty
-world-empty n m = same_world [] (session_in (replicate n None)) (λ t. None) (wait_in (replicate m None)) (λ t. None) (session_in-none n) (wait_in-none m)
 
 -- The same, for a list state that is seen as q.
 

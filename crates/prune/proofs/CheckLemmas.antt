@@ -62,11 +62,6 @@ checked w horizon page change actions named marks b same order names marked fron
   λ c. t.1 (λ n from within is a e. loose-right w horizon page.slots n a (mark_at marks n) (marked n) is (c.others n a (sym (names n) ∙ e))),
 )
 
-pub unchecked : (w : Window) (horizon : ℕ) (page : PageView) (change : ℕ) (actions : List (ℕ × Action)) (named : List (Option Action)) → ((n : ℕ) → named_at named n ≡ action_of actions n)
-    → ¬ ((root : ℕ) → is_root page.slots root ≡ true → HasFront w horizon page.slots (named_at named) root) → ¬ Checks w horizon page change actions
-unchecked w horizon page change actions named names never c =
-    never (λ root starts. subst (λ f. HasFront w horizon page.slots f root) (sym (same-names (named_at named) (action_of actions) names)) (c.fronts root starts))
-
 -- It can be applied.
 
 can-from_order : (count low : ℕ) (acts : List (ℕ × Action)) → AreInOrder count low acts → ((n : ℕ) (a : Action) → action_of acts n ≡ Some a → HasTarget count a) → CanApply count acts

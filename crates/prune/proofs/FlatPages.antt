@@ -1,5 +1,5 @@
 -- A page without heap-only versions and redirects: each chain is one version.
-use Rattle.std.proofs.Common.{◌≡◌, ◌≢◌, ◌⊎◌, ℕ, zero, suc, ◌<◌, ◌≤◌, ◌==◌, ◌&&◌, Bool, true, false, not, if◌then◌else◌, List, length, get_or, Option, Some, None, arith, inl, inr, ⊎_elim, sym, ap, ◌∙◌, refl, subst, slice_get}
+use Rattle.std.proofs.Common.{◌≡◌, ◌⊎◌, ℕ, zero, suc, ◌<◌, Bool, true, false, List, length, get_or, Option, Some, None, arith, inl, inr, ⊎_elim, sym, ap, ◌∙◌, refl, subst, slice_get}
 use Rattle.std.specs.Option.{option_map, option_and_then}
 use Rattle.std.proofs.lemmas.Option.{slice_get_within, slice_get_past, slice_get_cases}
 use Rattle.page_slots.specs.declared.slot.Slot.{Slot}
@@ -8,18 +8,15 @@ use Rattle.page_slots.specs.Slots.{slot_at, version_at, version_of}
 use Rattle.page_slots.proofs.SlotLemmas.{there-from_slot_at}
 use Rattle.tuple_header.specs.Version.{Version}
 use Rattle.tuple_header.specs.declared.version.Header.{Header}
-use Rattle.tuple_header.specs.Marks.{is_heap_only, is_hot_updated}
-use Rattle.std.proofs.lemmas.Bool.{and_parts}
-use Rattle.commit_status.specs.Window.{Window, IsCommitted, IsAborted}
-use Rattle.visibility.specs.Visible.{IsFrozen}
-use Rattle.prune.specs.Sound.{entry_in, entry_of, IsIn, SoundPage}
+use Rattle.tuple_header.specs.Marks.{is_heap_only}
+use Rattle.commit_status.specs.Window.{Window}
 use Rattle.hot_chain.specs.Chain.{has_aborted, is_root, is_root_in, IsChain, LeadsTo}
 use Rattle.prune.specs.declared.action.Action.{Action}
 use Rattle.prune.specs.declared.action.Action.TheVariants as action
-use Rattle.prune.specs.Cutting.{NoSharedSlots, IsDeadAt, IsCut, ReachesIn, link}
+use Rattle.prune.specs.Cutting.{NoSharedSlots}
 use Rattle.prune.specs.Actions.{acted, made_by}
 use Rattle.prune.specs.Pruning.{root_action, Does, by_root, by_none, IsPruned, IsFlat}
-use Rattle.prune.proofs.Links.{link-of, member-version, same_some}
+use Rattle.prune.proofs.Links.{member-version, same_some}
 use Rattle.prune.proofs.ChainPlaces.{place-of, place-in_front, first-normal, chain-first, later-heap_only}
 use Rattle.prune.proofs.Removing.{by-answer, chain-cases, lost-from, pruned-removes}
 
@@ -109,67 +106,3 @@ flat-stays w horizon slots after flat p = record {
     some-version : (o : Option Version) (h : Header) → option_map (λ t. t.header) o ≡ Some h → (t : Version) × (o ≡ Some t) × (t.header ≡ h)
     some-version None h e = absurd (cc)
     some-version (Some t) h e = (t, refl, (let f : Some t.header ≡ Some h = e in cc))
-
--- on such a page only what is dead itself is cut
-pub flat-cut : (w : Window) (horizon : ℕ) (slots : List Slot) (n : ℕ) → IsFlat slots → IsCut w horizon slots n → IsDeadAt w horizon slots n
-flat-cut w horizon slots n flat cut = by cut.later.turns n cut.later.along
-  where
-    by : (i k : ℕ) → ReachesIn (link w slots) i k cut.last → IsDeadAt w horizon slots k
-    by zero k same = subst (IsDeadAt w horizon slots) (sym same) cut.dead
-    by (suc i) k along =
-        let l = link-of (has_aborted w) slots k along.0 along.1 in
-        let plain = flat-plain slots along.0 l.new flat l.to in
-        let yes = l.heap_only in
-        absurd (cc)
-
--- A page of plain roots is sound where its versions' ids are.
-
-flat-no_link : (w : Window) (slots : List Slot) (n k : ℕ) → IsFlat slots → ¬ (link w slots n ≡ Some k)
-flat-no_link w slots n k flat e =
-    let l = link-of (has_aborted w) slots n k e in
-    let plain = flat-plain slots k l.new flat l.to in
-    let yes = l.heap_only in
-    absurd (cc)
-
-flat-entry : (slots : List Slot) (n e : ℕ) → IsFlat slots → entry_of slots n ≡ Some e → e ≡ n
-flat-entry slots n e flat leads = by (slot_at slots n) refl leads
-  where
-    by : (o : Option Slot) → slot_at slots n ≡ o → entry_in n o ≡ Some e → e ≡ n
-    by None at f = absurd (cc)
-    by (Some Unused) at f = absurd (cc)
-    by (Some (Normal t)) at f = plain (is_heap_only t.header) f
-      where
-        plain : (b : Bool) → (if b then None else Some n) ≡ Some e → e ≡ n
-        plain true g = absurd (cc)
-        plain false g = sym (same_some n e g)
-    by (Some (Redirect k)) at f = absurd (flat.direct n k at)
-    by (Some Dead) at f = absurd (cc)
-
-flat-in : (w : Window) (slots : List Slot) (root n : ℕ) → IsFlat slots → IsIn w slots root n → n ≡ root
-flat-in w slots root n flat i = by i.later.turns i.entry i.later.along (flat-entry slots root i.entry flat i.leads)
-  where
-    by : (turns k : ℕ) → ReachesIn (link w slots) turns k n → k ≡ root → n ≡ root
-    by zero k same e = sym same ∙ e
-    by (suc turns) k along e = absurd (flat-no_link w slots k along.0 flat along.1)
-
-pub flat-sound : (w : Window) (horizon : ℕ) (slots : List Slot) → IsFlat slots → length slots ≤ 291
-    → ((n : ℕ) (t : Version) → version_at slots n ≡ Some t → is_hot_updated t.header ≡ false)
-    → ((n : ℕ) (t : Version) → version_at slots n ≡ Some t → IsCommitted w t.header.xmax.0 → IsFrozen t.header ⊎ IsCommitted w t.header.xmin.0)
-    → ((n : ℕ) (t : Version) → version_at slots n ≡ Some t → ¬ IsFrozen t.header → IsAborted w t.header.xmin.0 → t.header.xmax.0 ≢ 0 → IsAborted w t.header.xmax.0)
-    → SoundPage w horizon slots
-flat-sound w horizon slots flat few alone made undone = record {
-  few = few;
-  made = made;
-  undone = undone;
-  unfrozen = λ n k u e at. absurd (flat-no_link w slots n k flat e);
-  whole = λ n t at replaced.
-      let outer = and_parts (is_hot_updated t.header && not (t.header.xmax.0 == 0)) (not (has_aborted w t.header.xmax.0)) replaced in
-      let inner = and_parts (is_hot_updated t.header) (not (t.header.xmax.0 == 0)) outer.0 in
-      let off = alone n t at in
-      let on = inner.0 in
-      absurd (cc);
-  ends = λ n k e r. flat-no_link w slots n k flat e;
-  redirects = λ n k at. absurd (flat.direct n k at);
-  owned = λ n t at heap_only. absurd (let plain = flat-plain slots n t flat at in cc);
-  alone = λ a b n x y. sym (flat-in w slots a n flat x) ∙ flat-in w slots b n flat y;
-}

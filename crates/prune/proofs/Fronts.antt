@@ -30,10 +30,6 @@ same-by b x y u v e f t = ((λ h. sym e ∙ t.0 h ∙ f), (λ h. t.1 (e ∙ h �
 pub off-because : (P : Type 0) → ¬ P → IsTrue false ↔ P
 off-because P never = ((λ t. absurd (let f : false ≡ true = t in cc)), (λ p. absurd (never p)))
 
-none-or_some : (o : Option Action) → ¬ IsSome o → o ≡ None
-none-or_some None never = refl
-none-or_some (Some a) never = absurd (never refl)
-
 some-not_none : (o : Option Action) → IsSome o → o ≡ None → ⊥
 some-not_none None s e = let f : false ≡ true = s in cc
 some-not_none (Some a) s e = cc
@@ -48,26 +44,6 @@ front-same w horizon slots named root chain a b n f = ⊎_elim
     (λ lt. absurd (some-not_none (named_at named (get_or chain a 0)) ((f.removed a (let h = f.within in omega arith)).1 lt) (n.next (let h = f.within in omega arith))))
     (λ ge. ⊎_elim (λ gt. absurd (let h = (f.removed b (let l = n.within in omega arith)).0 (n.all b gt) in omega arith)) (λ le. omega arith) (cases_lt b a))
     (cases_lt a b)
-
--- what is asked of the rest, of the front, and of how long it is
-pub rest-unnamed : (w : Window) (horizon : ℕ) (slots : List Slot) (named : List (Option Action)) (root : ℕ) (chain rest : List ℕ) (front : ℕ)
-    → IsChain (has_aborted w) slots root chain → IsNamedFront named chain front → IsRest chain rest front → HasFront w horizon slots (named_at named) root
-    → (i : ℕ) → i < length rest → named_at named (get_or rest i 0) ≡ None
-rest-unnamed w horizon slots named root chain rest front c n r has i h =
-    let f = has chain c in
-    let same = front-same w horizon slots named root chain front f.0 n f.1 in
-    let size = r.size in
-    ap (named_at named) (r.each i h) ∙ none-or_some (named_at named (get_or chain (front + i) 0)) (λ some.
-    let lt = (f.1.removed (front + i) (omega arith)).0 some in absurd (omega arith))
-
-pub front-unused : (w : Window) (horizon : ℕ) (slots : List Slot) (named : List (Option Action)) (root : ℕ) (chain : List ℕ) (front : ℕ)
-    → IsChain (has_aborted w) slots root chain → IsNamedFront named chain front → HasFront w horizon slots (named_at named) root
-    → (i : ℕ) → i < length (take front chain) → BecomesUnused slots named (get_or (take front chain) i 0)
-front-unused w horizon slots named root chain front c n has i h =
-    let f = has chain c in
-    let same = front-same w horizon slots named root chain front f.0 n f.1 in
-    let long = length-take-le front chain n.within in
-    rw (get_or-take front chain i 0 (omega arith)) (λ header at heap_only. f.1.unused i header (omega arith) at heap_only)
 
 pub front-within_cut : (w : Window) (horizon : ℕ) (slots : List Slot) (named : List (Option Action)) (root : ℕ) (chain : List ℕ) (front cut : ℕ)
     → IsChain (has_aborted w) slots root chain → IsNamedFront named chain front → IsCutCount w horizon slots chain cut → cut < front → ¬ HasFront w horizon slots (named_at named) root

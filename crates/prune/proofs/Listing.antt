@@ -64,9 +64,6 @@ push-same bound [] n a b h = chosen (n == n) (Some a) None (same-eq n n refl)
 push-same bound (x ∷ rest) n a b h =
     passed (x.0 == n) (Some x.1) (action_of (rest ++ (n, a) ∷ []) n) (other-eq x.0 n (λ e. let l = b.0 in omega arith)) ∙ push-same bound rest n a b.1 h
 
-pub listed-none : (count : ℕ) (answer : ℕ → Option Action) → AreListed count answer [] 1
-listed-none count answer = record { can = tt; in_order = tt; below = tt; each = λ n a b. absurd (omega arith) }
-
 pub listed-skip : (count : ℕ) (answer : ℕ → Option Action) (acts : List (ℕ × Action)) (bound : ℕ) → AreListed count answer acts bound
     → None ≡ answer bound → AreListed count answer acts (bound + 1)
 listed-skip count answer acts bound l e = record {
@@ -154,19 +151,3 @@ pub record IsApplying (plan : List (ℕ × Action)) (before page : PageView) (i 
 
 pub front-of : (plan : List (ℕ × Action)) (i : ℕ) (d : ℕ × Action) → i < length plan → drop i plan ≡ get_or plan i d ∷ drop (i + 1) plan
 front-of plan i d within = rw add-one (drop-cons plan i d within)
-
-pub applying-can : (plan : List (ℕ × Action)) (before page : PageView) (i : ℕ) (a : ℕ × Action) → IsApplying plan before page i
-    → drop i plan ≡ a ∷ drop (i + 1) plan → CanDo (length page.slots) a.0 a.1
-applying-can plan before page i a p front =
-    let can : CanApply (length page.slots) (a ∷ drop (i + 1) plan) = subst (CanApply (length page.slots)) front p.can in
-    can.0
-
-pub applying-step : (plan : List (ℕ × Action)) (before page after : PageView) (i : ℕ) (a : ℕ × Action) → IsApplying plan before page i
-    → drop i plan ≡ a ∷ drop (i + 1) plan → after ≡ after_action page a.0 a.1 → IsApplying plan before after (i + 1)
-applying-step plan before page after i a p front e =
-    let long : length after.slots ≡ length page.slots = ap (λ (q : PageView). length q.slots) e ∙ length-with_slot page.slots a.0 (made_by a.1) in
-    let can : CanApply (length page.slots) (a ∷ drop (i + 1) plan) = subst (CanApply (length page.slots)) front p.can in
-    record {
-      left = ap (applied (drop (i + 1) plan)) e ∙ ap (λ (l : List (ℕ × Action)). applied l page) (sym front) ∙ p.left;
-      can = subst (λ n. CanApply n (drop (i + 1) plan)) (sym long) can.1;
-    }

@@ -1,9 +1,9 @@
 -- Marks put into an array.
-use Rattle.std.proofs.Common.{◌≡◌, ◌≢◌, ℕ, zero, suc, ◌+◌, ◌<◌, Bool, true, false, nat_eq, if◌then◌else◌, ◌||◌, List, [], ◌∷◌, length, take, get_or, set, Option, Some, None, slice_get, arith, ⊎_elim, sym, ap, ◌∙◌, refl}
+use Rattle.std.proofs.Common.{◌≡◌, ◌≢◌, ℕ, zero, suc, ◌<◌, Bool, true, false, nat_eq, if◌then◌else◌, ◌||◌, List, [], ◌∷◌, length, take, get_or, set, Option, Some, None, slice_get, arith, ⊎_elim, sym, ap, ◌∙◌, refl}
 use Rattle.std.specs.List.{list_any}
 use Rattle.std.proofs.lemmas.Bool.{cases_Bool}
 use Rattle.std.proofs.lemmas.Bool.Decides.{nat_tests}
-use Rattle.std.proofs.lemmas.List.{length-set, get_or-set_same}
+use Rattle.std.proofs.lemmas.List.{get_or-set_same}
 use Rattle.prune.specs.declared.action.Action.{Action}
 use Rattle.prune.specs.declared.marks.Mark.{Mark}
 use Rattle.prune.specs.declared.marks.Mark.TheVariants.{Loose, Held}
@@ -25,58 +25,12 @@ eq-false a b e f = grind (arith, nat_tests)
 pub true-eq : (a b : ℕ) → a ≡ b → nat_eq a b ≡ true
 true-eq a b e = grind (arith, nat_tests)
 
-pub false-eq : (a b : ℕ) → a ≢ b → nat_eq a b ≡ false
-false-eq a b ne = ⊎_elim (λ t. absurd (ne (eq-true a b t))) (λ f. f) (cases_Bool (nat_eq a b))
-
-any-more : (n : ℕ) (xs : List ℕ) (i : ℕ) → i < length xs → list_any (nat_eq n) (take (i + 1) xs) ≡ list_any (nat_eq n) (take i xs) || nat_eq n (get_or xs i 0)
-any-more n [] i h = absurd (omega arith)
-any-more n (x ∷ xs) zero h = by (nat_eq n x)
-  where
-    by : (b : Bool) → b || false ≡ false || b
-    by true = refl
-    by false = refl
-any-more n (x ∷ xs) (suc i) h =
-    let rest = any-more n xs i (omega arith) in
-    let one : suc i + 1 ≡ suc (i + 1) = omega arith in
-    rw one (by (nat_eq n x) (list_any (nat_eq n) (take (i + 1) xs)) (list_any (nat_eq n) (take i xs)) (nat_eq n (get_or xs i 0)) rest)
-  where
-    by : (a b c d : Bool) → b ≡ c || d → a || b ≡ (a || c) || d
-    by true b c d e = refl
-    by false b c d e = e
-
 pub get_or-else : (xs : List Mark) (i n : ℕ) (y : Mark) → n ≢ i → get_or (set xs i y) n Loose ≡ get_or xs n Loose
 get_or-else [] i n y ne = refl
 get_or-else (x ∷ xs) zero zero y ne = absurd (ne refl)
 get_or-else (x ∷ xs) zero (suc n) y ne = refl
 get_or-else (x ∷ xs) (suc i) zero y ne = refl
 get_or-else (x ∷ xs) (suc i) (suc n) y ne = get_or-else xs i n y (λ e. ne (ap suc e))
-
-pub marking-none : (before : List Mark) (numbers : List ℕ) (action : Option Action) → length before ≡ 292 → IsMarking before numbers action before 0
-marking-none before numbers action size = record { size = size; each = λ n. refl }
-
-pub marking-step : (before : List Mark) (numbers : List ℕ) (action : Option Action) (marks : List Mark) (i : ℕ) → IsMarking before numbers action marks i
-    → i < length numbers → get_or numbers i 0 < 292 → IsMarking before numbers action (set marks (get_or numbers i 0) (Held action)) (i + 1)
-marking-step before numbers action marks i m within small =
-    let place = get_or numbers i 0 in
-    let long = length-set marks place (Held action) in
-    let size = m.size in record {
-      size = long ∙ size;
-      each = λ n. ⊎_elim
-          (λ here. let e = eq-true n place here in
-          ap (λ k. get_or (set marks place (Held action)) k Loose) e ∙ get_or-set_same marks place (Held action) Loose (omega arith)
-          ∙ sym (ap (λ b. if b then Held action else mark_at before n) (any-more n numbers i within ∙ ap (λ b. list_any (nat_eq n) (take i numbers) || b) here ∙ or-true (list_any (nat_eq n) (take i numbers)))))
-          (λ off. get_or-else marks place n (Held action) (eq-false n place off) ∙ m.each n
-          ∙ sym (ap (λ b. if b then Held action else mark_at before n) (any-more n numbers i within ∙ ap (λ b. list_any (nat_eq n) (take i numbers) || b) off ∙ or-false (list_any (nat_eq n) (take i numbers)))))
-          (cases_Bool (nat_eq n place));
-    }
-  where
-    or-true : (b : Bool) → b || true ≡ true
-    or-true true = refl
-    or-true false = refl
-
-    or-false : (b : Bool) → b || false ≡ b
-    or-false true = refl
-    or-false false = refl
 
 any-take : (n cut : ℕ) (xs : List ℕ) → list_any (nat_eq n) (take cut xs) ≡ true → list_any (nat_eq n) xs ≡ true
 any-take n zero xs e = absurd (cc)
@@ -98,10 +52,6 @@ chain-marked root chain cut before kept gone after k g e small n =
   where
     what : Mark
     what = Held (root_action cut (slice_get chain cut))
-
-    on-true : (b c : Bool) (o : Option Action) (m : Mark) → b ≡ true → Held o ≡ (if b || c then Held (if b then o else None) else m)
-    on-true true c o m e = refl
-    on-true false c o m e = absurd (cc)
 
     at-root : nat_eq n root ≡ true → get_or (set gone root what) n Loose ≡ marked root chain cut n (mark_at before n)
     at-root here =

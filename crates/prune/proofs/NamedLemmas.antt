@@ -1,43 +1,16 @@
 -- What a plan names, read into an array.
-use Rattle.std.proofs.Common.{◌≡◌, ◌≢◌, ◌⊎◌, ℕ, zero, suc, ◌+◌, ◌<◌, ◌≤◌, ◌==◌, List, [], ◌∷◌, length, get_or, set, drop, replicate, Option, Some, None, IsSome, arith, ⊎_elim, sym, ap, ◌∙◌, refl, subst}
+use Rattle.std.proofs.Common.{◌≡◌, ◌≢◌, ℕ, zero, suc, ◌+◌, ◌<◌, ◌==◌, List, [], ◌∷◌, length, get_or, set, drop, replicate, Option, Some, None, IsSome, arith, ⊎_elim, sym, ap, ◌∙◌, refl, subst}
 use Rattle.std.proofs.lemmas.Bool.{cases_lt, cases_Bool, eqb-true}
 use Rattle.std.proofs.lemmas.List.{length-set, get_or-set_same}
 use Rattle.prune.specs.declared.action.Action.{Action}
 use Rattle.prune.specs.Actions.{AreInOrder, action_of}
-use Rattle.prune.specs.Named.{named_at, IsNamedFront}
+use Rattle.prune.specs.Named.{named_at}
 use Rattle.prune.proofs.Listing.{same-eq, chosen, passed, order-none}
 
 -- whether all are in order is left to those from `i` on
 pub record IsOrderSoFar (count : ℕ) (actions : List (ℕ × Action)) (i last : ℕ) : Type 0 where
   pub to : AreInOrder count 0 actions → AreInOrder count last (drop i actions)
   pub back : AreInOrder count last (drop i actions) → AreInOrder count 0 actions
-
-pub order-start : (count : ℕ) (actions : List (ℕ × Action)) → IsOrderSoFar count actions 0 0
-order-start count actions = record { to = λ o. o; back = λ o. o }
-
-pub order-step : (count : ℕ) (actions : List (ℕ × Action)) (i last : ℕ) (a : ℕ × Action) → IsOrderSoFar count actions i last
-    → drop i actions ≡ a ∷ drop (i + 1) actions → last < a.0 → a.0 ≤ count → IsOrderSoFar count actions (i + 1) a.0
-order-step count actions i last a s front lt le = record {
-  to = λ o. (subst (AreInOrder count last) front (s.to o)).2;
-  back = λ o. s.back (subst (AreInOrder count last) (sym front) (lt, le, o));
-}
-
-pub order-stop : (count : ℕ) (actions : List (ℕ × Action)) (i last : ℕ) (a : ℕ × Action) → IsOrderSoFar count actions i last
-    → drop i actions ≡ a ∷ drop (i + 1) actions → (a.0 ≤ last) ⊎ (count < a.0) → ¬ AreInOrder count 0 actions
-order-stop count actions i last a s front off o =
-    let rest : AreInOrder count last (a ∷ drop (i + 1) actions) = subst (AreInOrder count last) front (s.to o) in
-    let lt = rest.0 in
-    let le = rest.1 in
-    ⊎_elim (λ low. omega arith) (λ high. omega arith) off
-
-pub drop-all : {X : Type 0} (xs : List X) (i : ℕ) → length xs ≤ i → drop i xs ≡ []
-drop-all [] zero h = refl
-drop-all [] (suc i) h = refl
-drop-all (x ∷ xs) zero h = absurd (omega arith)
-drop-all (x ∷ xs) (suc i) h = drop-all xs i (omega arith)
-
-pub order-end : (count : ℕ) (actions : List (ℕ × Action)) (i last : ℕ) → IsOrderSoFar count actions i last → length actions ≤ i → AreInOrder count 0 actions
-order-end count actions i last s h = s.back (subst (AreInOrder count last) (sym (drop-all actions i h)) tt)
 
 -- The array.
 
@@ -68,11 +41,6 @@ naming-start actions named e o = record {
   each = λ n. ap (λ (xs : List (Option Action)). over (action_of actions n) (named_at xs n)) e ∙ ap (over (action_of actions n)) (none-everywhere 292 n) ∙ over-none (action_of actions n);
 }
 
-pub naming-small : (actions : List (ℕ × Action)) (named : List (Option Action)) (i : ℕ) (a : ℕ × Action) → IsNaming actions named i → drop i actions ≡ a ∷ drop (i + 1) actions → a.0 < 292
-naming-small actions named i a s front =
-    let rest : AreInOrder 291 s.last (a ∷ drop (i + 1) actions) = subst (AreInOrder 291 s.last) front s.in_order in
-    let le = rest.1 in omega arith
-
 named-else : (xs : List (Option Action)) (i n : ℕ) (y : Option Action) → n ≢ i → get_or (set xs i y) n None ≡ get_or xs n None
 named-else [] i n y ne = refl
 named-else (x ∷ xs) zero zero y ne = absurd (ne refl)
@@ -102,9 +70,6 @@ naming-step actions named i a s front =
           (cases_Bool (a.0 == n));
     }
 
-pub naming-end : (actions : List (ℕ × Action)) (named : List (Option Action)) (i : ℕ) → IsNaming actions named i → length actions ≤ i → (n : ℕ) → named_at named n ≡ action_of actions n
-naming-end actions named i s h n = ap (λ l. over (action_of l n) (named_at named n)) (sym (drop-all actions i h)) ∙ s.each n
-
 -- Slots one after another.
 
 -- the first so many are named
@@ -114,10 +79,3 @@ AreNamed named numbers i = (k : ℕ) → k < i → IsSome (named_at named (get_o
 -- what is so of the first ones, and of the next
 pub so-far : (P : ℕ → Type 0) (i : ℕ) → ((k : ℕ) → k < i → P k) → P i → (k : ℕ) → k < i + 1 → P k
 so-far P i f p k h = ⊎_elim (f k) (λ ge. let at : i ≡ k = omega arith in subst P at p) (cases_lt k i)
-
-pub none-so_far : (P : ℕ → Type 0) (k : ℕ) → k < 0 → P k
-none-so_far P k h = absurd (omega arith)
-
-pub front-stop : (named : List (Option Action)) (numbers : List ℕ) (i : ℕ) → AreNamed named numbers i → i ≤ length numbers
-    → (i < length numbers → named_at named (get_or numbers i 0) ≡ None) → IsNamedFront named numbers i
-front-stop named numbers i all within next = record { within = within; all = all; next = next }

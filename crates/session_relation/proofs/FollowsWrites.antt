@@ -1,14 +1,12 @@
 -- A write is done: the history allows it, and the engine agrees with the next world. Before it writes, the engine may
 -- have cleaned, and have given the session an id: what it is by now agrees with the same world.
-use Rattle.std.proofs.Common.{◌≡◌, ℕ, List, [], ◌∷◌, ◌++◌, Option, Some, None, refl, sym, ap, ◌∙◌, subst}
+use Rattle.std.proofs.Common.{◌≡◌, ℕ, Option, Some, None, refl, sym, ap, ◌∙◌, subst}
 use Rattle.std.specs.Prelude.{IsSome}
 use Rattle.std.specs.Option.{option_map}
 use Rattle.std.proofs.lemmas.Option.{same_Some}
 use Rattle.xid_circle.specs.declared.Tid.{Tid}
 use Rattle.tuple_header.specs.declared.version.Row.{Row}
 use Rattle.tuple_header.specs.Version.{Version}
-use Rattle.commit_status.specs.declared.status.Status.{Status}
-use Rattle.snapshot.specs.Snap.{Snap}
 use Rattle.history.specs.History.{IsLate}
 use Rattle.history.specs.World.{World, OpenSession, view, Holds}
 use Rattle.history.specs.Moves.{put, with_row, without_row}
@@ -19,16 +17,15 @@ use Rattle.session_relation.specs.Writes.{inserts, updates, deletes}
 use Rattle.session_relation.specs.Allowed.{Allows, next}
 use Rattle.session_relation.specs.Heap.{Session, Heap}
 use Rattle.session_relation.specs.Visible.{IsVisible, At}
-use Rattle.session_relation.specs.Changes.{Adds, Alters, GivesEach, with_ids}
+use Rattle.session_relation.specs.Changes.{Adds, Alters}
 use Rattle.session_relation.specs.Agrees.{SessionAgrees, Agrees}
-use Rattle.session_relation.specs.Finds.{Free, Follows}
+use Rattle.session_relation.specs.Finds.{Free}
 use Rattle.session_relation.proofs.Readers.{IsNew, IsDeleted}
 use Rattle.session_relation.proofs.Itself.{IsCurrent}
-use Rattle.session_relation.proofs.Steps.{OnlyIs, SameSights, Agrees-insert}
+use Rattle.session_relation.proofs.Steps.{Agrees-insert}
 use Rattle.session_relation.proofs.Deleting.{Agrees-delete}
 use Rattle.session_relation.proofs.Updating.{Agrees-update}
 use Rattle.session_relation.proofs.Hindrances.{allows_write}
-use Rattle.session_relation.proofs.GivenBelow.{AreUnseen, Agrees-give_each, current_given, visible_given_each}
 
 -- the session and its model in the engine as it is now
 agrees_now : (now : Heap) (w : World) (s : ℕ) (e : Session) (m : OpenSession) → Agrees now w → now.session s ≡ Some e → w.session s ≡ Some m → SessionAgrees now.status now.version w.history (now.sees e.snapshot) e m
@@ -84,64 +81,3 @@ delete_done h now w s e e' key found x place old old' store' free some agrees st
           (subst (λ k. ¬ IsLate w.history allows.0.start k) (sym same) allows.2.in_time)
           (λ o ne holds. allows.2.unheld o ne (subst (λ k. Holds w o k) same holds)) (agrees_now now w s e' allows.0 still at there) still)),
     )
-
--- Under an id that the session has.
-
-pub Follows-insert : (h : Heap) (s : ℕ) (e : Session) (row : RowText) (x : ℕ) (place : Tid) (new : Version) (store' : Tid → Option Version)
-    → Free h s e row.key None → FitsRow row → IsCurrent e x → Adds h.version store' place new → IsNew x new → new.row ≡ row_of row
-    → Follows h (Insert s row) Done (record h { version = store' })
-Follows-insert h s e row x place new store' free fits current adds is_new same w agrees =
-    insert_done h h w s e e row x place new store' free fits agrees agrees free.begins.at current adds is_new same
-
-pub Follows-update : (h : Heap) (s : ℕ) (e : Session) (row : RowText) (found : Option Row) (x : ℕ) (place q : Tid) (old old' new : Version) (added altered : Tid → Option Version)
-    → Free h s e row.key found → FitsRow row → IsSome found → IsCurrent e x
-    → At h.version place old → IsVisible h.status (h.sees e.snapshot) e.own old → old.row.key ≡ row.key
-    → Adds h.version added q new → IsNew x new → new.row ≡ row_of row → Alters added altered place old old' → IsDeleted x old old'
-    → Follows h (Update s row) Done (record h { version = altered })
-Follows-update h s e row found x place q old old' new added altered free fits some current stood seen key adds is_new same alters deleted w agrees =
-    update_done h h w s e e row found x place q old old' new added altered free fits some agrees agrees free.begins.at current stood seen key adds is_new same alters deleted
-
-pub Follows-delete : (h : Heap) (s : ℕ) (e : Session) (key : ℕ) (found : Option Row) (x : ℕ) (place : Tid) (old old' : Version) (store' : Tid → Option Version)
-    → Free h s e key found → IsSome found → IsCurrent e x
-    → IsVisible h.status (h.sees e.snapshot) e.own old → old.row.key ≡ key → Alters h.version store' place old old' → IsDeleted x old old'
-    → Follows h (Delete s key) Done (record h { version = store' })
-Follows-delete h s e key found x place old old' store' free some current seen same alters deleted w agrees =
-    delete_done h h w s e e key found x place old old' store' free some agrees agrees free.begins.at current seen same alters deleted
-
--- Under an id that the session is given, with one for each level below that has none.
-
-pub Follows-insert_given : (h : Heap) (s : ℕ) (e : Session) (row : RowText) (lower : List ℕ) (x : ℕ) (place : Tid) (new : Version) (store' : Tid → Option Version)
-    (status' : ℕ → Option Status) (sees' : Snap → ℕ → Type 0) (session' : ℕ → Option Session) → Free h s e row.key None → FitsRow row
-    → OnlyIs h.session session' s (Some (with_ids (lower ++ x ∷ []) e)) → GivesEach h.status (lower ++ x ∷ []) status'
-    → SameSights h sees' → AreUnseen h sees' (lower ++ x ∷ [])
-    → Adds h.version store' place new → IsNew x new → new.row ≡ row_of row
-    → Follows h (Insert s row) Done (record { version = store'; status = status'; sees = sees'; session = session' })
-Follows-insert_given h s e row lower x place new store' status' sees' session' free fits only gives sights unseen adds is_new same w agrees =
-    let xs = lower ++ x ∷ [] in
-    insert_done h (record h { status = status'; sees = sees'; session = session' }) w s e (with_ids xs e) row x place new store' free fits agrees
-    (Agrees-give_each xs h w s e status' sees' session' only free.begins.at gives sights unseen agrees) only.itself (current_given lower x h w s e status' sees' free.begins.at gives sights unseen agrees) adds is_new same
-
-pub Follows-update_given : (h : Heap) (s : ℕ) (e : Session) (row : RowText) (found : Option Row) (lower : List ℕ) (x : ℕ) (place q : Tid) (old old' new : Version) (added altered : Tid → Option Version)
-    (status' : ℕ → Option Status) (sees' : Snap → ℕ → Type 0) (session' : ℕ → Option Session) → Free h s e row.key found → FitsRow row → IsSome found
-    → OnlyIs h.session session' s (Some (with_ids (lower ++ x ∷ []) e)) → GivesEach h.status (lower ++ x ∷ []) status'
-    → SameSights h sees' → AreUnseen h sees' (lower ++ x ∷ [])
-    → At h.version place old → IsVisible h.status (h.sees e.snapshot) e.own old → old.row.key ≡ row.key
-    → Adds h.version added q new → IsNew x new → new.row ≡ row_of row → Alters added altered place old old' → IsDeleted x old old'
-    → Follows h (Update s row) Done (record { version = altered; status = status'; sees = sees'; session = session' })
-Follows-update_given h s e row found lower x place q old old' new added altered status' sees' session' free fits some only gives sights unseen stood seen key adds is_new same alters deleted w agrees =
-    let xs = lower ++ x ∷ [] in
-    update_done h (record h { status = status'; sees = sees'; session = session' }) w s e (with_ids xs e) row found x place q old old' new added altered free fits some agrees
-    (Agrees-give_each xs h w s e status' sees' session' only free.begins.at gives sights unseen agrees) only.itself (current_given lower x h w s e status' sees' free.begins.at gives sights unseen agrees)
-    stood (visible_given_each xs h w s e place old status' sees' free.begins.at gives sights unseen agrees stood seen) key adds is_new same alters deleted
-
-pub Follows-delete_given : (h : Heap) (s : ℕ) (e : Session) (key : ℕ) (found : Option Row) (lower : List ℕ) (x : ℕ) (place : Tid) (old old' : Version) (store' : Tid → Option Version)
-    (status' : ℕ → Option Status) (sees' : Snap → ℕ → Type 0) (session' : ℕ → Option Session) → Free h s e key found → IsSome found
-    → OnlyIs h.session session' s (Some (with_ids (lower ++ x ∷ []) e)) → GivesEach h.status (lower ++ x ∷ []) status'
-    → SameSights h sees' → AreUnseen h sees' (lower ++ x ∷ [])
-    → IsVisible h.status (h.sees e.snapshot) e.own old → old.row.key ≡ key → Alters h.version store' place old old' → IsDeleted x old old'
-    → Follows h (Delete s key) Done (record { version = store'; status = status'; sees = sees'; session = session' })
-Follows-delete_given h s e key found lower x place old old' store' status' sees' session' free some only gives sights unseen seen same alters deleted w agrees =
-    let xs = lower ++ x ∷ [] in
-    delete_done h (record h { status = status'; sees = sees'; session = session' }) w s e (with_ids xs e) key found x place old old' store' free some agrees
-    (Agrees-give_each xs h w s e status' sees' session' only free.begins.at gives sights unseen agrees) only.itself (current_given lower x h w s e status' sees' free.begins.at gives sights unseen agrees)
-    (visible_given_each xs h w s e place old status' sees' free.begins.at gives sights unseen agrees alters.before seen) same alters deleted

@@ -1,9 +1,8 @@
 -- The first write of a level gives ids to the session's newest levels, the lowest first.
-use Rattle.std.proofs.Common.{◌≡◌, ◌≢◌, ℕ, List, [], ◌∷◌, ◌++◌, length, Option, Some, refl, sym, ap, ◌∙◌, subst, inl, inr, append_assoc}
+use Rattle.std.proofs.Common.{◌≡◌, ◌≢◌, ℕ, List, [], ◌∷◌, ◌++◌, length, Option, Some, sym, ap, ◌∙◌, subst, inl, inr}
 use Rattle.std.specs.Prelude.{Contains, ◌==◌, if◌then◌else◌}
 use Rattle.std.proofs.lemmas.Bool.{cases_eq}
 use Rattle.std.proofs.lemmas.Option.{same_Some}
-use Rattle.std.proofs.lemmas.List.{append-nil}
 use Rattle.std.proofs.lemmas.List.Elements.{Contains-push, Contains-append_left, Contains-append_right}
 use Rattle.xid_circle.specs.declared.Tid.{Tid}
 use Rattle.tuple_header.specs.Version.{Version}
@@ -25,22 +24,6 @@ use Rattle.session_relation.proofs.Follows.{Agrees-sessions}
 use Rattle.session_relation.proofs.Targets.{visible_given}
 
 -- what the session has by then, and what stays
-
-pub with_ids-own : (xs : List ℕ) (e : Session) → (with_ids xs e).own ≡ e.own ++ xs
-with_ids-own [] e = sym (append-nil e.own)
-with_ids-own (x ∷ xs) e = with_ids-own xs (with_id (length xs) x e) ∙ append_assoc e.own (x ∷ []) xs
-
-pub with_ids-snapshot : (xs : List ℕ) (e : Session) → (with_ids xs e).snapshot ≡ e.snapshot
-with_ids-snapshot [] e = refl
-with_ids-snapshot (x ∷ xs) e = with_ids-snapshot xs (with_id (length xs) x e)
-
-pub with_ids-failed : (xs : List ℕ) (e : Session) → (with_ids xs e).failed ≡ e.failed
-with_ids-failed [] e = refl
-with_ids-failed (x ∷ xs) e = with_ids-failed xs (with_id (length xs) x e)
-
-pub with_ids-cursor : (xs : List ℕ) (e : Session) → (with_ids xs e).cursor ≡ e.cursor
-with_ids-cursor [] e = refl
-with_ids-cursor (x ∷ xs) e = with_ids-cursor xs (with_id (length xs) x e)
 
 -- no open session sees the ids
 abbrev pub AreUnseen : Heap → (Snap → ℕ → Type 0) → List ℕ → Type 0

@@ -8,12 +8,12 @@ use Rattle.history.specs.History.{IsLate}
 use Rattle.history.specs.World.{World, OpenSession, own_write, view, Holds, IsWriter, MayWrite}
 use Rattle.history.specs.Moves.{put, as_failed}
 use Rattle.session_relation.specs.declared.step.Step.TheVariants.{Insert}
-use Rattle.session_relation.specs.declared.reply.Reply.TheVariants.{Done, Refused}
+use Rattle.session_relation.specs.declared.reply.Reply.TheVariants.{Refused}
 use Rattle.session_relation.specs.declared.reply.Refusal.{Refusal}
 use Rattle.session_relation.specs.declared.reply.Refusal.TheVariants.{NotOpen, Failed, CursorOpen, AlreadyThere, NotThere, Conflict, Busy, TooLarge, NoRoom, NeedsFreeze, NoMemory}
 use Rattle.session_relation.specs.Words.{RowText, FitsRow}
 use Rattle.session_relation.specs.Writes.{WriteStep, inserts, updates, deletes, step_of, key_of, PutsRow, Asks}
-use Rattle.session_relation.specs.Allowed.{AllowsHindered, AllowsWrite, Suits, Allows, refused_write}
+use Rattle.session_relation.specs.Allowed.{AllowsHindered, AllowsWrite, Suits, refused_write}
 use Rattle.session_relation.specs.Heap.{Session, Heap}
 use Rattle.session_relation.specs.Agrees.{Agrees}
 use Rattle.session_relation.specs.Finds.{IsLateFor, IsHeldBy, Begins, Free, Follows}
@@ -159,14 +159,6 @@ may_write h w s e k found free agrees = record {
 pub allows_write : (h : Heap) (w : World) (s : ℕ) (e : Session) (write : WriteStep) (found : Option Row) → Free h s e (key_of write) found → Asks write found → Agrees h w → AllowsWrite w s write
 allows_write h w s e write found free asks agrees =
     ((agrees.opened s e free.begins.at).0, suits h w s e write found free.begins agrees asks, may_write h w s e (key_of write) found free agrees)
-
-pub allows_done : (h : Heap) (w : World) (s : ℕ) (e : Session) (write : WriteStep) (found : Option Row) → Free h s e (key_of write) found → Asks write found → Agrees h w → Allows w (step_of s write) Done
-allows_done h w s e write found free asks agrees = done write (allows_write h w s e write found free asks agrees)
-  where
-    done : (write : WriteStep) → AllowsWrite w s write → Allows w (step_of s write) Done
-    done (inserts row) allows = allows
-    done (updates row) allows = allows
-    done (deletes k) allows = allows
 
 -- a refusal after which the engine is as it was, or has cleaned
 

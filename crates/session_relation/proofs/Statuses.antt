@@ -1,9 +1,8 @@
 -- What giving and finishing ids does to each id.
-use Rattle.std.proofs.Common.{◌≡◌, ◌≢◌, ℕ, List, ◌++◌, Option, Some, None, refl, sym, ap, ◌∙◌, subst, ◌⊎◌, inl, inr}
+use Rattle.std.proofs.Common.{◌≡◌, ◌≢◌, ℕ, List, Option, Some, None, refl, sym, ap, ◌∙◌, subst, ◌⊎◌, inl, inr}
 use Rattle.std.specs.Prelude.{IsSome, Contains}
 use Rattle.std.proofs.lemmas.Bool.{cases_eq}
 use Rattle.std.proofs.lemmas.Option.{none-some}
-use Rattle.std.proofs.lemmas.List.Elements.{Contains-append_cases, Contains-append_right}
 use Rattle.commit_status.specs.declared.status.Status.{Status}
 use Rattle.commit_status.specs.declared.status.Status.TheVariants.{InProgress, Committed, Aborted}
 use Rattle.session_relation.specs.Visible.{IsCommitted, IsActive, Reads, by_itself, by_others}
@@ -74,20 +73,6 @@ given-give {status} {status'} {x} gives y some = elim (cases_eq y x) [
 -- none of a session's ids is finished
 pub Finishes-none : (status : ℕ → Option Status) (own : List ℕ) → Finishes status status (λ x. Contains own x × (¬ Contains own x)) Aborted
 Finishes-none status own = record { active = λ x p. absurd (p.1 p.0); each = λ x. inr (λ p. p.1 p.0, refl) }
-
--- ids are finished that a session was given since it had those of before
-pub Finishes-since : {status status' : ℕ → Option Status} {end : Status} (own before since : List ℕ) → own ≡ before ++ since → ((x : ℕ) → Contains since x → ¬ Contains before x)
-    → Finishes status status' (λ x. Contains since x) end → Finishes status status' (λ x. Contains own x × (¬ Contains before x)) end
-Finishes-since own before since is apart f = record {
-  active = λ x p. f.active x (to x p);
-  each = λ x. elim (f.each x) [ inl mine ↦ inl (back x mine.0, mine.1) | inr other ↦ inr (λ p. other.0 (to x p), other.1) ];
-}
-  where
-    to : (x : ℕ) → Contains own x × (¬ Contains before x) → Contains since x
-    to x p = elim (Contains-append_cases before since x (subst (λ xs. Contains xs x) is p.0)) [ inl old ↦ absurd (p.1 old) | inr new ↦ new ]
-
-    back : (x : ℕ) → Contains since x → Contains own x × (¬ Contains before x)
-    back x new = (subst (λ xs. Contains xs x) (sym is) (Contains-append_right before since x new), apart x new)
 
 -- what is read depends on the committed ids, and on what is seen of them
 pub Reads-status : {status status' : ℕ → Option Status} {sees sees' : ℕ → Type 0} {own : List ℕ} {x : ℕ} → (IsCommitted status x → IsCommitted status' x) → (IsCommitted status x → sees x → sees' x) → Reads status sees own x → Reads status' sees' own x

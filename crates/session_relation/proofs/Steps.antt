@@ -197,13 +197,6 @@ Agrees-give_below h w s e n x status' sees' session' only at gives same unseen a
     back : (y : ℕ) → IsCommitted status' y → IsCommitted h.status y
     back y done = IsCommitted-give gives y done
 
--- an id of the newest level
-pub Agrees-give : (h : Heap) (w : World) (s : ℕ) (e : Session) (x : ℕ) (status' : ℕ → Option Status) (sees' : Snap → ℕ → Type 0) (session' : ℕ → Option Session)
-    → OnlyIs h.session session' s (Some (record e { own = e.own ++ x ∷ [] })) → h.session s ≡ Some e
-    → Gives h.status status' x → SameSights h sees' → ((o : ℕ) (f : Session) → h.session o ≡ Some f → ¬ Sees (sees' f.snapshot) x)
-    → Agrees h w → Agrees (record h { status = status'; sees = sees'; session = session' }) w
-Agrees-give h w s e x status' sees' session' only at gives same unseen agrees = Agrees-give_below h w s e 0 x status' sees' session' only at gives same unseen agrees
-
 -- a session that has an id writes a row
 pub Agrees-insert : (h : Heap) (w : World) (s : ℕ) (e : Session) (m : OpenSession) (x : ℕ) (place : Tid) (new : Version) (store' : Tid → Option Version)
     → Adds h.version store' place new → IsNew x new → h.session s ≡ Some e → IsCurrent e x → w.session s ≡ Some m → m.cursor ≡ None

@@ -16,7 +16,6 @@ use Rattle.session_relation.specs.Agrees.{Agrees}
 use Rattle.session_relation.specs.Finds.{Free}
 use Rattle.session_relation.proofs.Statuses.{keeps-give, none_given, IsCommitted-give}
 use Rattle.session_relation.proofs.Versions.{VisibleBy-same}
-use Rattle.session_relation.proofs.Readers.{IsIdle}
 use Rattle.session_relation.proofs.Pruning.{past_unseen}
 use Rattle.session_relation.proofs.Steps.{SameSights}
 
@@ -34,17 +33,6 @@ untaken_of h w s e k found place old free agrees at key seen y is = of (h.status
     of (Some Aborted) is' given = is'
     of (Some Committed) is' given = absurd (free.timely (place, old, at, key, (y, deleted_by is, is', λ sees. seen.kept y is (by_others sees is'))))
     of (Some InProgress) is' given = absurd (free.unheld y (place, old, at, key, record { touch = deleted_by is; active = is'; foreign = λ mine. seen.kept y is (by_itself mine) }))
-
--- so it is no one's
-pub idle_of : (h : Heap) (w : World) (s : ℕ) (e : Session) (k : ℕ) (found : Option Row) (place : Tid) (old : Version) → Free h s e k found → Agrees h w
-    → At h.version place old → old.row.key ≡ k → IsVisible h.status (h.sees e.snapshot) e.own old → (o : ℕ) (f : Session) → h.session o ≡ Some f → IsIdle h.status f.own old
-idle_of h w s e k found place old free agrees at key seen o f bt = record {
-  uncommitted = λ y is done. let undone : h.status y ≡ Some Aborted = untaken y is in cc;
-  foreign = λ y is held. let undone : h.status y ≡ Some Aborted = untaken y is in let active : h.status y ≡ Some InProgress = (agrees.opened o f bt).2.own_active y held in cc;
-}
-  where
-    untaken : (y : ℕ) → deleter old ≡ Some y → IsAborted h.status y
-    untaken = untaken_of h w s e k found place old free agrees at key seen
 
 -- the session still sees it when it has been given an id
 pub visible_given : (h : Heap) (w : World) (s : ℕ) (e : Session) (x : ℕ) (place : Tid) (old : Version) (status' : ℕ → Option Status) (sees' : Snap → ℕ → Type 0)

@@ -20,9 +20,6 @@ use Rattle.session_relation.proofs.Readers.{IsNew, IsDeleted, touches_new}
 pub unseen_still : {status : ℕ → Option Status} {sees sees' : ℕ → Type 0} → SameSight status sees sees' → (x : ℕ) (s : Status) → status x ≡ Some s → ¬ Sees sees x → ¬ Sees sees' x
 unseen_still same x s is unseen seen = unseen ((same x s is).1 seen)
 
-pub seen_still : {status : ℕ → Option Status} {sees sees' : ℕ → Type 0} → SameSight status sees sees' → (x : ℕ) (s : Status) → status x ≡ Some s → Sees sees x → Sees sees' x
-seen_still same x s is seen = (same x s is).0 seen
-
 pub unseen_before : {status : ℕ → Option Status} {sees sees' : ℕ → Type 0} → SameSight status sees sees' → (x : ℕ) (s : Status) → status x ≡ Some s → ¬ Sees sees' x → ¬ Sees sees x
 unseen_before same x s is unseen seen = unseen ((same x s is).0 seen)
 

@@ -1,13 +1,7 @@
 -- Tables as lists of pages: none, one page put, one added; and entries that go.
-use Rattle.std.proofs.Common.{◌≡◌, ℕ, ℤ, zero, suc, ◌+◌, ◌<◌, true, false, List, [], ◌∷◌, ◌++◌, length, map, get_or, set, Option, Some, None, refl, sym, ap, ◌∙◌, ⊎_elim, arith, slice_get}
+use Rattle.std.proofs.Common.{◌≡◌, ℕ, ℤ, zero, suc, ◌<◌, true, false, List, [], ◌∷◌, ◌++◌, length, map, Option, Some, None, refl, sym, ap, ◌∙◌, arith, slice_get}
 use Rattle.std.specs.List.{Contains}
-use Rattle.std.specs.Option.{option_and_then}
-use Rattle.std.proofs.lemmas.Bool.{cases_lt}
-use Rattle.std.proofs.lemmas.List.{get_or-set_same, get_or-set_other, get_or_past}
 use Rattle.std.proofs.lemmas.Option.{none-some}
-use Rattle.std.proofs.Math.ListN.{get_or-append}
-use Rattle.std.proofs.Math.Seq.{get_or-append_seam}
-use Rattle.std.proofs.Common.{length-append}
 use Rattle.xid_circle.specs.declared.Tid.{Tid}
 use Rattle.tuple_header.specs.Version.{Version}
 use Rattle.tuple_header.specs.declared.version.Row.{Row}
@@ -24,30 +18,13 @@ use Rattle.prune.specs.Sound.{IsIn, SoundPage}
 use Rattle.prune.proofs.Links.{link-of}
 use Rattle.root_index.specs.declared.entry.Entry.{Entry}
 use Rattle.root_index.specs.Sets.{Removes}
-use Rattle.sound_entries.specs.Pages.{slots_on, slot_in, version_in, Puts}
+use Rattle.sound_entries.specs.Pages.{slots_on, slot_in, Puts}
 use Rattle.sound_entries.specs.Entries.{IsSound, StaysSound}
 use Rattle.sound_entries.specs.Looking.{slots_of}
 use Rattle.sound_entries.proofs.Going.{stays-same}
 use Rattle.sound_entries.proofs.Fetching.{slots-there, slots-none}
 
 -- The lists.
-
-pub puts-set : (pages : List (List Slot)) (n : ℕ) (after : List Slot) → n < length pages → Puts pages (set pages n after) n after
-puts-set pages n after within = record {
-  put = get_or-set_same pages n after [] within;
-  others = λ m other. get_or-set_other pages n m after [] other;
-}
-
-pub puts-push : (pages : List (List Slot)) (after : List Slot) → Puts pages (pages ++ after ∷ []) (length pages) after
-puts-push pages after = record {
-  put = get_or-append_seam pages after [] [];
-  others = λ m other. ⊎_elim
-      (λ lt. get_or-append pages (after ∷ []) [] m lt)
-      (λ ge.
-      let long : length (pages ++ after ∷ []) ≡ length pages + 1 = length-append pages (after ∷ []) in
-      get_or_past (pages ++ after ∷ []) m [] (omega (arith, other)) ∙ sym (get_or_past pages m [] ge))
-      (cases_lt m (length pages));
-}
 
 -- what a page of the table has, by its slots
 slots-same : (ps qs : List PageView) (m : ℕ) → slice_get ps m ≡ slice_get qs m → slots_on (map (λ (p : PageView). p.slots) ps) m ≡ slots_on (map (λ (p : PageView). p.slots) qs) m
@@ -69,19 +46,6 @@ puts-pushed pages page = record {
   put = slots-there (pages ++ page ∷ []) (length pages) page (page-pushed pages page);
   others = λ m other. slots-same (pages ++ page ∷ []) pages m (page-pushed_other pages m page other);
 }
-
--- the version at a place, if its page is in use
-pub version-by_page : (pages : List (List Slot)) (p : Tid) → option_and_then (λ slots. version_at slots p.slot) (slice_get pages p.page) ≡ version_in pages p
-version-by_page pages p = by pages p.page p.slot
-  where
-    none : (k : ℕ) → None ≡ version_at [] k
-    none zero = refl
-    none (suc k) = refl
-
-    by : (ps : List (List Slot)) (n k : ℕ) → option_and_then (λ slots. version_at slots k) (slice_get ps n) ≡ version_at (get_or ps n []) k
-    by [] n k = none k
-    by (slots ∷ ps) zero k = refl
-    by (slots ∷ ps) (suc n) k = by ps n k
 
 -- Nothing.
 
