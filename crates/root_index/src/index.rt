@@ -29,8 +29,8 @@ pub struct Near {
 #[derive(Debug, Drop)]
 pub struct RootIndex {
     /// The entries. No node is empty, and one that is split keeps half: so there is one tree here for each 262,144 entries or
-    /// more, where none were removed. An insert moves no more than a leaf's entries, and where it splits a leaf or a branch
-    /// the pointers of a branch or of this list.
+    /// more, where none were removed. An insert moves no more than a leaf's entries, and where it splits a node the
+    /// pointers of the node above it or of this list.
     trees: Vec<Tree>,
     /// Nodes for splits to come.
     spares: Spares<Tree, Spares<Branch<Leaf>, Spares<Leaf, ()>>>,

@@ -4,9 +4,9 @@ ghost use Rattle.std.specs.Prelude.{◌≡◌, ◌<◌, ◌≤◌, ◌+◌, ◌-
 ghost use Rattle.std.specs.Bool.{OnTrue};
 ghost use Rattle.std.specs.List.{filter, insert};
 ghost use Rattle.root_index.specs.Order.{IsAscending};
-ghost use Rattle.root_index.specs.Sets.{IsAt, IsGapFor, IsAfter, IsBelow};
+ghost use Rattle.root_index.specs.Sets.{IsAt, IsGapFor};
 ghost use Rattle.root_index.specs.Lists.{stays, IsBetween};
-ghost use Rattle.root_index.specs.Nodes.{all, rank_in, AreNeat, IsSpotIn, IsEntryIn, IsStartIn, IsOpen};
+ghost use Rattle.root_index.specs.Nodes.{all, rank_in, AreNeat, IsSpotIn, IsEntryIn, IsOpen};
 
 use crate::entry::Entry;
 use crate::node::{Half, MAX_PARTS, Node};
