@@ -5,19 +5,19 @@ use session_core::{Engine, Refusal, Reply, Row, RowIn, Settings, SettingsFault, 
 use std::alloc::{AllocError, Global};
 use std::test::Fail;
 
-/// What is asked of an engine. What an insert or an update writes has a body only where that is said.
+/// What is asked of an engine.
 #[derive(Clone, Copy)]
 pub enum Ask {
     Begin(u8),
     Get(u8, u64),
-    /// Inserts a row of the key, with this first column, and 0 in the others.
+    /// Inserts a row of the key with this first column, 0 in the others and no body.
     Insert(u8, u64, i64),
-    /// Inserts a row of the key with the columns of [`SAMPLE`].
-    InsertSample(u8, u64),
-    /// Inserts a row of the key with the largest body, and 0 in all columns.
-    InsertLargest(u8, u64),
-    /// Writes another row of the key, with this first column, and 0 in the others.
+    /// Inserts a row of the key with the columns of [`SAMPLE`] and a body of so many bytes.
+    InsertBody(u8, u64, usize),
+    /// Writes another row of the key, as [`Ask::Insert`] does.
     Update(u8, u64, i64),
+    /// Writes another row of the key, as [`Ask::InsertBody`] does.
+    UpdateBody(u8, u64, usize),
     Delete(u8, u64),
     Savepoint(u8),
     RollbackTo(u8),
@@ -33,11 +33,11 @@ pub enum Ask {
     Read(u8, u64),
     /// The next id to be given, and the oldest that is remembered.
     Ids,
-    /// How many slots a page has, and its bits.
+    /// How many slots a page has, and besides its bits, or its room and how often it was changed.
     Page(u32),
     /// How often a page was changed.
     Changes(u32),
-    /// Whether a slot of the first page is dead or a version.
+    /// What a slot of the first page holds.
     Slot(u16),
     /// The id that deleted the version in a slot of the first page.
     Deleter(u16),
@@ -52,18 +52,27 @@ pub enum Answer {
     NoRow,
     /// A row with this first column.
     Column(i64),
-    /// The row of this key that an [`Ask::InsertSample`] writes.
-    Sample(u64),
+    /// The row of the key that an [`Ask::InsertBody`] with so many bytes writes.
+    Body(usize),
     /// Rows of these keys, with these first columns, in this order.
     Rows(&'static [(u64, i64)]),
+    /// Rows of these keys, with the columns of [`SAMPLE`], in this order.
+    Keys(&'static [u64]),
     End,
     Committed,
     RolledBack,
     Refused(Refusal),
     Ids(u32, u32),
-    Page(u16, u8),
+    /// So many slots, and these bits.
+    Slots(u16, u8),
+    /// So many slots, this room, and so many changes.
+    Page(u16, usize, u64),
+    /// A page, whatever it holds.
+    SomePage,
     NoPage,
     Changes(u64),
+    Unused,
+    Redirect(u16),
     Dead,
     Normal,
     Deleter(u32),
@@ -71,21 +80,25 @@ pub enum Answer {
     NoIndex,
 }
 
-pub const SAMPLE: [i64; 4] = [1, -2, 3, -4];
+const SAMPLE: [i64; 4] = [1, -2, 3, -4];
 
-fn bare_row(alloc: Global, key: u64, cols: [i64; 4]) -> RowIn {
+fn bare_row(alloc: Global, key: u64, column: i64) -> RowIn {
     RowIn {
         key,
-        cols,
+        cols: [column, 0, 0, 0],
         body: Vec::new(alloc),
     }
 }
 
-fn largest_row(alloc: Global, key: u64) -> Result<RowIn, AllocError> {
+fn row_of(alloc: Global, key: u64, length: usize) -> Result<RowIn, AllocError> {
+    let mut body = Vec::with_capacity(alloc, length)?;
+    for _ in 0..length {
+        body.push(0x61)?;
+    }
     Ok(RowIn {
         key,
-        cols: [0; 4],
-        body: vec![in alloc; 0u8; 1024]?,
+        cols: SAMPLE,
+        body,
     })
 }
 
@@ -94,10 +107,10 @@ fn step_of(alloc: Global, ask: Ask) -> Result<Option<Step>, AllocError> {
     Ok(Some(match ask {
         Ask::Begin(s) => Step::Begin(s),
         Ask::Get(s, key) => Step::Get(s, key),
-        Ask::Insert(s, key, column) => Step::Insert(s, bare_row(alloc, key, [column, 0, 0, 0])),
-        Ask::InsertSample(s, key) => Step::Insert(s, bare_row(alloc, key, SAMPLE)),
-        Ask::InsertLargest(s, key) => Step::Insert(s, largest_row(alloc, key)?),
-        Ask::Update(s, key, column) => Step::Update(s, bare_row(alloc, key, [column, 0, 0, 0])),
+        Ask::Insert(s, key, column) => Step::Insert(s, bare_row(alloc, key, column)),
+        Ask::InsertBody(s, key, length) => Step::Insert(s, row_of(alloc, key, length)?),
+        Ask::Update(s, key, column) => Step::Update(s, bare_row(alloc, key, column)),
+        Ask::UpdateBody(s, key, length) => Step::Update(s, row_of(alloc, key, length)?),
         Ask::Delete(s, key) => Step::Delete(s, key),
         Ask::Savepoint(s) => Step::Savepoint(s),
         Ask::RollbackTo(s) => Step::RollbackTo(s),
@@ -113,10 +126,46 @@ fn step_of(alloc: Global, ask: Ask) -> Result<Option<Step>, AllocError> {
     }))
 }
 
-fn is_row(row: &Row, answer: Answer) -> bool {
+// Where a growth is refused, as a run of a test with a failing allocation has it, the second try meets none.
+fn step_anyhow(alloc: Global, ask: Ask) -> Result<Option<Step>, AllocError> {
+    match step_of(alloc, ask) {
+        Ok(step) => Ok(step),
+        Err(_) => step_of(alloc, ask),
+    }
+}
+
+fn is_no_memory(reply: &Reply) -> bool {
+    match reply {
+        Reply::Refused(refusal) => *refusal == Refusal::NoMemory,
+        _ => false,
+    }
+}
+
+fn may_grow(ask: Ask) -> bool {
+    match ask {
+        Ask::Begin(_) | Ask::Savepoint(_) | Ask::Next(_, _) => true,
+        Ask::Insert(_, _, _) | Ask::InsertBody(_, _, _) => true,
+        Ask::Update(_, _, _) | Ask::UpdateBody(_, _, _) | Ask::Delete(_, _) => true,
+        _ => false,
+    }
+}
+
+fn key_of(ask: Ask) -> u64 {
+    match ask {
+        Ask::Get(_, key) | Ask::Read(_, key) => key,
+        _ => 0,
+    }
+}
+
+fn is_row(row: &Row, ask: Ask, answer: Answer) -> bool {
     match answer {
         Answer::Column(column) => row.cols[0] == column,
-        Answer::Sample(key) => row.key == key && row.cols == SAMPLE && row.body.is_empty(),
+        Answer::Body(length) => {
+            row.key == key_of(ask)
+                && row.cols == SAMPLE
+                && row.body.len() == length
+                && row.body.iter().all(|byte| *byte == 0x61)
+        }
         _ => false,
     }
 }
@@ -133,13 +182,26 @@ fn are_rows(rows: &[Row], told: &[(u64, i64)]) -> bool {
     true
 }
 
-fn is_answer(reply: &Reply, answer: Answer) -> bool {
+fn have_keys(rows: &[Row], keys: &[u64]) -> bool {
+    if rows.len() != keys.len() {
+        return false;
+    }
+    for (row, key) in rows.iter().zip(keys) {
+        if row.key != *key || row.cols != SAMPLE {
+            return false;
+        }
+    }
+    true
+}
+
+fn is_answer(reply: &Reply, ask: Ask, answer: Answer) -> bool {
     match reply {
         Reply::Done => matches!(answer, Answer::Done),
         Reply::Found(None) => matches!(answer, Answer::NoRow),
-        Reply::Found(Some(row)) => is_row(row, answer),
+        Reply::Found(Some(row)) => is_row(row, ask, answer),
         Reply::Rows(rows) => match answer {
             Answer::Rows(told) => are_rows(rows.as_slice(), told),
+            Answer::Keys(keys) => have_keys(rows.as_slice(), keys),
             _ => false,
         },
         Reply::End => matches!(answer, Answer::End),
@@ -159,7 +221,7 @@ fn is_refusal(refusal: Refusal, answer: Answer) -> bool {
 fn reads(engine: &Engine, s: u8, key: u64, answer: Answer) -> bool {
     match engine.read(s, key) {
         Ok(None) => matches!(answer, Answer::NoRow),
-        Ok(Some(row)) => is_row(&row, answer),
+        Ok(Some(row)) => is_row(&row, Ask::Read(s, key), answer),
         Err(refusal) => is_refusal(refusal, answer),
     }
 }
@@ -173,11 +235,14 @@ fn are_ids(engine: &Engine, answer: Answer) -> bool {
 }
 
 fn is_page(engine: &Engine, number: u32, answer: Answer) -> bool {
-    let slots = engine.page(number).map(Page::slots);
     let bits = engine.page_bits(number);
-    match answer {
-        Answer::Page(told, told_bits) => slots == Some(told) && bits == Some(told_bits),
-        Answer::NoPage => slots.is_none() && bits.is_none(),
+    match (engine.page(number), answer) {
+        (Some(page), Answer::Slots(slots, told)) => page.slots() == slots && bits == Some(told),
+        (Some(page), Answer::Page(slots, room, changes)) => {
+            page.slots() == slots && page.room() == room && page.change() == changes
+        }
+        (Some(_), Answer::SomePage) => true,
+        (None, Answer::NoPage) => bits.is_none(),
         _ => false,
     }
 }
@@ -191,8 +256,13 @@ fn are_changes(engine: &Engine, number: u32, answer: Answer) -> bool {
 
 fn is_slot(page: &Page, number: u16, answer: Answer) -> bool {
     match page.slot(number) {
+        Some(Slot::Unused) => matches!(answer, Answer::Unused),
         Some(Slot::Dead) => matches!(answer, Answer::Dead),
         Some(Slot::Normal(_)) => matches!(answer, Answer::Normal),
+        Some(Slot::Redirect(next)) => match answer {
+            Answer::Redirect(told) => next == told,
+            _ => false,
+        },
         _ => false,
     }
 }
@@ -233,15 +303,47 @@ fn shows(engine: &Engine, ask: Ask, answer: Answer) -> bool {
     }
 }
 
-// Whether the engine answers so. It promises nothing: what `Engine::step` promises would be carried along by each proof above.
+// What is shown of an engine beside its replies: the next id, the oldest, and how often the first page was changed.
+fn shown(engine: &Engine) -> (u32, u32, Option<u64>) {
+    let (next, oldest) = engine.ids();
+    (next.0, oldest.0, engine.page(0).map(Page::change))
+}
+
+// The reply to a step. It promises nothing: what `Engine::step` promises would be carried along by each proof above.
+fn take(engine: &mut Engine, step: Step) -> Reply {
+    engine.step(step)
+}
+
+// The reply to what is asked, if it is a step, and nothing where a refused growth changed something. What met the refusal of
+// a growth is asked for again.
+fn reply_to(alloc: Global, engine: &mut Engine, ask: Ask) -> Result<Option<Reply>, AllocError> {
+    let before = shown(engine);
+    let first = match step_anyhow(alloc, ask)? {
+        Some(step) => step,
+        None => return Ok(None),
+    };
+    let reply = take(engine, first);
+    if !is_no_memory(&reply) {
+        return Ok(Some(reply));
+    }
+    if !may_grow(ask) || shown(engine) != before {
+        return Ok(None);
+    }
+    match step_anyhow(alloc, ask)? {
+        Some(second) => Ok(Some(take(engine, second))),
+        None => Ok(None),
+    }
+}
+
+// Whether the engine answers so.
 fn answers(
     alloc: Global,
     engine: &mut Engine,
     ask: Ask,
     answer: Answer,
 ) -> Result<bool, AllocError> {
-    match step_of(alloc, ask)? {
-        Some(step) => Ok(is_answer(&engine.step(step), answer)),
+    match reply_to(alloc, engine, ask)? {
+        Some(reply) => Ok(is_answer(&reply, ask, answer)),
         None => Ok(shows(engine, ask, answer)),
     }
 }
@@ -269,11 +371,21 @@ fn none_wrong(wrong: Option<usize>) -> Result<(), Fail> {
     }
 }
 
-fn new_engine(alloc: Global, settings: Settings) -> Result<Engine, SettingsFault> {
+fn try_new(alloc: Global, settings: Settings) -> Result<Engine, SettingsFault> {
     Engine::new(alloc, settings)
 }
 
+fn new_engine(alloc: Global, settings: Settings) -> Result<Engine, SettingsFault> {
+    match try_new(alloc, settings) {
+        Ok(engine) => Ok(engine),
+        Err(_) => try_new(alloc, settings),
+    }
+}
+
 /// Asks a new engine for all in turn, and fails at the first line that is not answered so.
+///
+/// With `rt try --test --fail-alloc N` the step that meets the refusal answers so, changes nothing, and is done when it is
+/// asked for again.
 pub fn ask_new(alloc: Global, settings: Settings, table: &[(Ask, Answer)]) -> Result<(), Fail> {
     let mut engine = new_engine(alloc, settings)?;
     none_wrong(first_wrong(alloc, &mut engine, table)?)
@@ -294,8 +406,8 @@ fn first_wrong_reply(replies: &[Reply], table: &[(Ask, Answer)]) -> Option<usize
     if replies.len() != table.len() {
         return Some(replies.len());
     }
-    for (at, (reply, (_, answer))) in replies.iter().zip(table).enumerate() {
-        if !is_answer(reply, *answer) {
+    for (at, (reply, (ask, answer))) in replies.iter().zip(table).enumerate() {
+        if !is_answer(reply, *ask, *answer) {
             return Some(at);
         }
     }

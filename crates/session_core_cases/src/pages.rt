@@ -17,9 +17,9 @@ const FIRST_ROW: [(Ask, Answer); 8] = [
     (Ask::Page(0), Answer::NoPage),
     (Ask::Begin(0), Answer::Done),
     (Ask::Begin(1), Answer::Done),
-    (Ask::InsertSample(0, 7), Answer::Done),
+    (Ask::InsertBody(0, 7, 0), Answer::Done),
     (Ask::Commit(0), Answer::Committed),
-    (Ask::Page(0), Answer::Page(1, 0)),
+    (Ask::Page(0), Answer::Slots(1, 0)),
     (Ask::Page(1), Answer::NoPage),
     // the id after the last is 3
     (Ask::Ids, Answer::Ids(3, 4_294_967_295)),
@@ -33,16 +33,16 @@ fn the_first_row_makes_a_page(rt: HostRuntime) -> Result<(), Fail> {
 const FAILED: [(Ask, Answer); 13] = [
     (Ask::Begin(0), Answer::Done),
     (Ask::Begin(1), Answer::Done),
-    (Ask::InsertSample(0, 7), Answer::Done),
+    (Ask::InsertBody(0, 7, 0), Answer::Done),
     (Ask::Commit(0), Answer::Committed),
-    (Ask::InsertSample(1, 7), Answer::Refused(Refusal::Conflict)),
+    (Ask::InsertBody(1, 7, 0), Answer::Refused(Refusal::Conflict)),
     (Ask::Get(1, 7), Answer::Refused(Refusal::Failed)),
     (Ask::Read(1, 7), Answer::NoRow),
     (Ask::Commit(1), Answer::RolledBack),
     (Ask::Read(1, 7), Answer::Refused(Refusal::NotOpen)),
     (Ask::Read(64, 7), Answer::Refused(Refusal::NoSuchSession)),
     (Ask::Begin(1), Answer::Done),
-    (Ask::Read(1, 7), Answer::Sample(7)),
+    (Ask::Read(1, 7), Answer::Body(0)),
     (Ask::Abort(1), Answer::RolledBack),
 ];
 
@@ -55,15 +55,15 @@ const ABORTED: [(Ask, Answer); 11] = [
     (Ask::Prune(0), Answer::Refused(Refusal::NoSuchPage)),
     (Ask::Begin(0), Answer::Done),
     (Ask::Begin(1), Answer::Done),
-    (Ask::InsertSample(0, 7), Answer::Done),
-    (Ask::InsertSample(1, 8), Answer::Done),
+    (Ask::InsertBody(0, 7, 0), Answer::Done),
+    (Ask::InsertBody(1, 8, 0), Answer::Done),
     (Ask::Abort(0), Answer::RolledBack),
     (Ask::Prune(0), Answer::Done),
     (Ask::Slot(1), Answer::Dead),
     (Ask::Slot(2), Answer::Normal),
     // two inserts and the slot that died
     (Ask::Changes(0), Answer::Changes(3)),
-    (Ask::Read(1, 8), Answer::Sample(8)),
+    (Ask::Read(1, 8), Answer::Body(0)),
 ];
 
 #[test]
@@ -83,12 +83,12 @@ const LEVELS: [(Ask, Answer); 40] = [
     (Ask::Savepoint(0), Answer::Done),
     (Ask::Savepoint(0), Answer::Done),
     (
-        Ask::InsertSample(0, 7),
+        Ask::InsertBody(0, 7, 0),
         Answer::Refused(Refusal::NeedsFreeze),
     ),
     (Ask::Ids, Answer::Ids(100, 100)),
     (Ask::Release(0), Answer::Done),
-    (Ask::InsertSample(0, 7), Answer::Done),
+    (Ask::InsertBody(0, 7, 0), Answer::Done),
     (Ask::Ids, Answer::Ids(102, 100)),
     // one is set already
     (Ask::Savepoint(0), Answer::Done),
@@ -139,14 +139,14 @@ const FOUR_PAGES: Settings = Settings {
 // The ids are 3, then 4, then 5 of the other session, then 6 of the released level.
 const RELEASED: [(Ask, Answer); 21] = [
     (Ask::Begin(0), Answer::Done),
-    (Ask::InsertSample(0, 1), Answer::Done),
+    (Ask::InsertBody(0, 1, 0), Answer::Done),
     (Ask::Commit(0), Answer::Committed),
     (Ask::Begin(0), Answer::Done),
-    (Ask::InsertSample(0, 2), Answer::Done),
+    (Ask::InsertBody(0, 2, 0), Answer::Done),
     (Ask::Begin(1), Answer::Done),
-    (Ask::InsertSample(1, 3), Answer::Done),
+    (Ask::InsertBody(1, 3, 0), Answer::Done),
     (Ask::Savepoint(0), Answer::Done),
-    (Ask::InsertSample(0, 4), Answer::Done),
+    (Ask::InsertBody(0, 4, 0), Answer::Done),
     (Ask::Release(0), Answer::Done),
     (Ask::Delete(0, 1), Answer::Done),
     (Ask::Commit(0), Answer::Committed),
@@ -173,11 +173,11 @@ const UPDATED: [(Ask, Answer); 7] = [
     (Ask::Entries(1), Answer::NoIndex),
     (Ask::Entries(0), Answer::Entries(0)),
     (Ask::Begin(0), Answer::Done),
-    (Ask::InsertSample(0, 7), Answer::Done),
+    (Ask::InsertBody(0, 7, 0), Answer::Done),
     (Ask::Update(0, 7, 5), Answer::Done),
     // the update stays in the chain, and makes no entry
     (Ask::Entries(0), Answer::Entries(1)),
-    (Ask::Page(0), Answer::Page(2, 0)),
+    (Ask::Page(0), Answer::Slots(2, 0)),
 ];
 
 #[test]

@@ -1,10 +1,11 @@
 //! Updates and deletes, with each answer that they may have.
 
-use crate::steps::{Answer, Ask};
+use crate::asks::{Answer, Ask, ask_new};
 use session_core::{Refusal, Settings};
+use std::test::Fail;
 
 /// The ids end with 7: the next one would be 5 away from the first.
-pub const SETTINGS: Settings = Settings {
+const SETTINGS: Settings = Settings {
     max_pages: 1,
     stop_age: 5,
     freeze_min_age: 0,
@@ -14,49 +15,52 @@ pub const SETTINGS: Settings = Settings {
 };
 
 /// A version takes 66 bytes and its body, rounded up to a multiple of 8.
-pub const STEPS: [(Ask, Answer); 73] = [
-    (Ask::Update(0, 1, 0), Answer::Refused(Refusal::NotOpen)),
+const STEPS: [(Ask, Answer); 73] = [
+    (Ask::UpdateBody(0, 1, 0), Answer::Refused(Refusal::NotOpen)),
     (Ask::Delete(0, 1), Answer::Refused(Refusal::NotOpen)),
     (
-        Ask::Update(64, 1, 0),
+        Ask::UpdateBody(64, 1, 0),
         Answer::Refused(Refusal::NoSuchSession),
     ),
     (Ask::Delete(255, 1), Answer::Refused(Refusal::NoSuchSession)),
     (Ask::Begin(0), Answer::Done),
-    (Ask::Update(0, 1, 0), Answer::Refused(Refusal::NotThere)),
+    (Ask::UpdateBody(0, 1, 0), Answer::Refused(Refusal::NotThere)),
     (Ask::Delete(0, 1), Answer::Refused(Refusal::NotThere)),
     // The body is looked at before the key.
-    (Ask::Update(0, 1, 1025), Answer::Refused(Refusal::TooLarge)),
+    (
+        Ask::UpdateBody(0, 1, 1025),
+        Answer::Refused(Refusal::TooLarge),
+    ),
     // Id 3, slots 1 to 3: 80, 88 and 96 bytes.
-    (Ask::Insert(0, 1, 10), Answer::Done),
-    (Ask::Update(0, 1, 20), Answer::Done),
-    (Ask::Get(0, 1), Answer::Row(20)),
+    (Ask::InsertBody(0, 1, 10), Answer::Done),
+    (Ask::UpdateBody(0, 1, 20), Answer::Done),
+    (Ask::Get(0, 1), Answer::Body(20)),
     (Ask::Delete(0, 1), Answer::Done),
     (Ask::Get(0, 1), Answer::NoRow),
-    (Ask::Update(0, 1, 0), Answer::Refused(Refusal::NotThere)),
-    (Ask::Insert(0, 1, 30), Answer::Done),
+    (Ask::UpdateBody(0, 1, 0), Answer::Refused(Refusal::NotThere)),
+    (Ask::InsertBody(0, 1, 30), Answer::Done),
     (Ask::Begin(1), Answer::Done),
     (Ask::Commit(0), Answer::Committed),
     // Session 1 reads no row of the key, which was committed since it began.
-    (Ask::Update(1, 1, 0), Answer::Refused(Refusal::NotThere)),
+    (Ask::UpdateBody(1, 1, 0), Answer::Refused(Refusal::NotThere)),
     (Ask::Delete(1, 1), Answer::Refused(Refusal::NotThere)),
-    (Ask::Insert(1, 1, 0), Answer::Refused(Refusal::Conflict)),
-    (Ask::Update(1, 1, 0), Answer::Refused(Refusal::Failed)),
+    (Ask::InsertBody(1, 1, 0), Answer::Refused(Refusal::Conflict)),
+    (Ask::UpdateBody(1, 1, 0), Answer::Refused(Refusal::Failed)),
     (Ask::Delete(1, 1), Answer::Refused(Refusal::Failed)),
     (Ask::Commit(1), Answer::RolledBack),
     (Ask::Begin(0), Answer::Done),
     (Ask::Begin(1), Answer::Done),
     // Id 4, slot 4: 112 bytes.
-    (Ask::Update(0, 1, 40), Answer::Done),
-    (Ask::Update(1, 1, 50), Answer::Refused(Refusal::Busy(0))),
+    (Ask::UpdateBody(0, 1, 40), Answer::Done),
+    (Ask::UpdateBody(1, 1, 50), Answer::Refused(Refusal::Busy(0))),
     (Ask::Delete(1, 1), Answer::Refused(Refusal::Busy(0))),
     (
-        Ask::Insert(1, 1, 50),
+        Ask::InsertBody(1, 1, 50),
         Answer::Refused(Refusal::AlreadyThere),
     ),
-    (Ask::Get(1, 1), Answer::Row(30)),
+    (Ask::Get(1, 1), Answer::Body(30)),
     (Ask::Commit(0), Answer::Committed),
-    (Ask::Get(1, 1), Answer::Row(30)),
+    (Ask::Get(1, 1), Answer::Body(30)),
     (Ask::Delete(1, 1), Answer::Refused(Refusal::Conflict)),
     (Ask::Abort(1), Answer::RolledBack),
     // Id 5.
@@ -65,38 +69,50 @@ pub const STEPS: [(Ask, Answer); 73] = [
     (Ask::Abort(0), Answer::RolledBack),
     // The deletion that was aborted stands in nobody's way. Id 6, slot 5: 128 bytes.
     (Ask::Begin(0), Answer::Done),
-    (Ask::Get(0, 1), Answer::Row(40)),
-    (Ask::Update(0, 1, 60), Answer::Done),
+    (Ask::Get(0, 1), Answer::Body(40)),
+    (Ask::UpdateBody(0, 1, 60), Answer::Done),
     (Ask::Commit(0), Answer::Committed),
     // Id 7, slots 6 to 11. Of 8168 bytes 44 go to slots, and 504 and 6 * 1096 to versions; 1044 are left, 4 for a slot.
     (Ask::Begin(2), Answer::Done),
-    (Ask::Insert(2, 2, 1024), Answer::Done),
-    (Ask::Insert(2, 3, 1024), Answer::Done),
-    (Ask::Insert(2, 4, 1024), Answer::Done),
-    (Ask::Insert(2, 5, 1024), Answer::Done),
-    (Ask::Insert(2, 6, 1024), Answer::Done),
-    (Ask::Insert(2, 7, 1024), Answer::Done),
-    (Ask::Insert(2, 8, 1024), Answer::Refused(Refusal::NoRoom)),
+    (Ask::InsertBody(2, 2, 1024), Answer::Done),
+    (Ask::InsertBody(2, 3, 1024), Answer::Done),
+    (Ask::InsertBody(2, 4, 1024), Answer::Done),
+    (Ask::InsertBody(2, 5, 1024), Answer::Done),
+    (Ask::InsertBody(2, 6, 1024), Answer::Done),
+    (Ask::InsertBody(2, 7, 1024), Answer::Done),
+    (
+        Ask::InsertBody(2, 8, 1024),
+        Answer::Refused(Refusal::NoRoom),
+    ),
     // The update prunes the page. The root in slot 1 and its chain go, and slot 3 leads to slot 5: slots 2 and 4 are unused, and
     // 376 bytes more are free. The new version takes slot 2, and 324 bytes are left.
-    (Ask::Update(2, 1, 1024), Answer::Done),
-    (Ask::Get(2, 1), Answer::Row(1024)),
-    (Ask::Update(2, 1, 1024), Answer::Refused(Refusal::NoRoom)),
+    (Ask::UpdateBody(2, 1, 1024), Answer::Done),
+    (Ask::Get(2, 1), Answer::Body(1024)),
+    (
+        Ask::UpdateBody(2, 1, 1024),
+        Answer::Refused(Refusal::NoRoom),
+    ),
     // Slot 4: 320 bytes.
-    (Ask::Update(2, 1, 250), Answer::Done),
-    (Ask::Get(2, 1), Answer::Row(250)),
+    (Ask::UpdateBody(2, 1, 250), Answer::Done),
+    (Ask::Get(2, 1), Answer::Body(250)),
     (Ask::Commit(2), Answer::Committed),
     // There is neither an id nor room.
     (Ask::Begin(3), Answer::Done),
-    (Ask::Update(3, 1, 0), Answer::Refused(Refusal::NeedsFreeze)),
+    (
+        Ask::UpdateBody(3, 1, 0),
+        Answer::Refused(Refusal::NeedsFreeze),
+    ),
     (Ask::Delete(3, 1), Answer::Refused(Refusal::NeedsFreeze)),
-    (Ask::Update(3, 99, 0), Answer::Refused(Refusal::NotThere)),
-    (Ask::Get(3, 1), Answer::Row(250)),
+    (
+        Ask::UpdateBody(3, 99, 0),
+        Answer::Refused(Refusal::NotThere),
+    ),
+    (Ask::Get(3, 1), Answer::Body(250)),
     (Ask::Abort(3), Answer::RolledBack),
     // Slots 5 and 2 become unused, and slot 3 leads to slot 4.
     (Ask::Prune(0), Answer::Done),
     (Ask::Begin(3), Answer::Done),
-    (Ask::Get(3, 1), Answer::Row(250)),
+    (Ask::Get(3, 1), Answer::Body(250)),
     (Ask::Abort(3), Answer::RolledBack),
     (Ask::Ids, Answer::Ids(8, 3)),
     (Ask::Slot(1), Answer::Dead),
@@ -109,3 +125,8 @@ pub const STEPS: [(Ask, Answer); 73] = [
     (Ask::Entries(0), Answer::Entries(8)),
     (Ask::Entries(1), Answer::NoIndex),
 ];
+
+#[test]
+fn updates_and_deletes(rt: HostRuntime) -> Result<(), Fail> {
+    ask_new(rt.alloc(), SETTINGS, &STEPS)
+}

@@ -1,10 +1,11 @@
 //! Opening cursors, asking them for rows and closing them, with each answer that they may have.
 
-use crate::steps::{Answer, Ask};
+use crate::asks::{Answer, Ask, ask_new};
 use session_core::{Refusal, Settings};
+use std::test::Fail;
 
 /// There is no index but the primary one.
-pub const SETTINGS: Settings = Settings {
+const SETTINGS: Settings = Settings {
     max_pages: 2,
     stop_age: 1000,
     freeze_min_age: 0,
@@ -13,7 +14,7 @@ pub const SETTINGS: Settings = Settings {
     indexed: [false; 4],
 };
 
-pub const STEPS: [(Ask, Answer); 82] = [
+const STEPS: [(Ask, Answer); 82] = [
     (
         Ask::OpenIndex(0, 0, 0, 1),
         Answer::Refused(Refusal::NotOpen),
@@ -53,10 +54,13 @@ pub const STEPS: [(Ask, Answer); 82] = [
     ),
     (Ask::OpenHeap(0), Answer::Refused(Refusal::CursorOpen)),
     (
-        Ask::Insert(0, 1, 1025),
+        Ask::InsertBody(0, 1, 1025),
         Answer::Refused(Refusal::CursorOpen),
     ),
-    (Ask::Update(0, 1, 0), Answer::Refused(Refusal::CursorOpen)),
+    (
+        Ask::UpdateBody(0, 1, 0),
+        Answer::Refused(Refusal::CursorOpen),
+    ),
     (Ask::Delete(0, 1), Answer::Refused(Refusal::CursorOpen)),
     (Ask::Savepoint(0), Answer::Refused(Refusal::CursorOpen)),
     (Ask::RollbackTo(0), Answer::Refused(Refusal::CursorOpen)),
@@ -65,23 +69,23 @@ pub const STEPS: [(Ask, Answer); 82] = [
     (Ask::Close(0), Answer::Done),
     (Ask::Close(0), Answer::Refused(Refusal::NoCursor)),
     // Id 3. Seven rows fill a page, and the eighth is on the next.
-    (Ask::Insert(0, 8, 1024), Answer::Done),
-    (Ask::Insert(0, 7, 1024), Answer::Done),
-    (Ask::Insert(0, 6, 1024), Answer::Done),
-    (Ask::Insert(0, 5, 1024), Answer::Done),
-    (Ask::Insert(0, 4, 1024), Answer::Done),
-    (Ask::Insert(0, 3, 1024), Answer::Done),
-    (Ask::Insert(0, 2, 1024), Answer::Done),
-    (Ask::Insert(0, 1, 1024), Answer::Done),
+    (Ask::InsertBody(0, 8, 1024), Answer::Done),
+    (Ask::InsertBody(0, 7, 1024), Answer::Done),
+    (Ask::InsertBody(0, 6, 1024), Answer::Done),
+    (Ask::InsertBody(0, 5, 1024), Answer::Done),
+    (Ask::InsertBody(0, 4, 1024), Answer::Done),
+    (Ask::InsertBody(0, 3, 1024), Answer::Done),
+    (Ask::InsertBody(0, 2, 1024), Answer::Done),
+    (Ask::InsertBody(0, 1, 1024), Answer::Done),
     (Ask::OpenHeap(0), Answer::Done),
-    (Ask::Next(0, 1), Answer::Rows(&[8, 7, 6, 5, 4, 3, 2])),
-    (Ask::Next(0, 1), Answer::Rows(&[1])),
+    (Ask::Next(0, 1), Answer::Keys(&[8, 7, 6, 5, 4, 3, 2])),
+    (Ask::Next(0, 1), Answer::Keys(&[1])),
     (Ask::Next(0, 1), Answer::End),
     (Ask::Close(0), Answer::Done),
     (Ask::OpenIndex(0, 0, 2, 7), Answer::Done),
-    (Ask::Next(0, 0), Answer::Rows(&[2])),
-    (Ask::Next(0, 2), Answer::Rows(&[3, 4])),
-    (Ask::Next(0, 65535), Answer::Rows(&[5, 6, 7])),
+    (Ask::Next(0, 0), Answer::Keys(&[2])),
+    (Ask::Next(0, 2), Answer::Keys(&[3, 4])),
+    (Ask::Next(0, 65535), Answer::Keys(&[5, 6, 7])),
     (Ask::Next(0, 1), Answer::End),
     // The end of the session is that of its cursor.
     (Ask::Commit(0), Answer::Committed),
@@ -95,25 +99,25 @@ pub const STEPS: [(Ask, Answer); 82] = [
     (Ask::Commit(1), Answer::Committed),
     (Ask::Prune(0), Answer::Done),
     (Ask::Prune(1), Answer::Done),
-    (Ask::Next(0, 0), Answer::Rows(&[8, 7, 6, 5, 4, 3, 2])),
-    (Ask::Next(0, 0), Answer::Rows(&[1])),
+    (Ask::Next(0, 0), Answer::Keys(&[8, 7, 6, 5, 4, 3, 2])),
+    (Ask::Next(0, 0), Answer::Keys(&[1])),
     (Ask::Next(0, 0), Answer::End),
     (Ask::Abort(0), Answer::RolledBack),
     // Of the second page nothing is seen any more.
     (Ask::Begin(0), Answer::Done),
     (Ask::OpenHeap(0), Answer::Done),
-    (Ask::Next(0, 0), Answer::Rows(&[8, 7, 6, 5, 4, 2])),
+    (Ask::Next(0, 0), Answer::Keys(&[8, 7, 6, 5, 4, 2])),
     (Ask::Next(0, 0), Answer::End),
     (Ask::Close(0), Answer::Done),
     (Ask::OpenIndex(0, 0, 1, 3), Answer::Done),
-    (Ask::Next(0, 3), Answer::Rows(&[2])),
+    (Ask::Next(0, 3), Answer::Keys(&[2])),
     (Ask::Next(0, 3), Answer::End),
     (Ask::Close(0), Answer::Done),
     // Id 5.
     (Ask::Begin(1), Answer::Done),
-    (Ask::Insert(1, 3, 0), Answer::Done),
+    (Ask::InsertBody(1, 3, 0), Answer::Done),
     (Ask::Commit(1), Answer::Committed),
-    (Ask::Insert(0, 3, 0), Answer::Refused(Refusal::Conflict)),
+    (Ask::InsertBody(0, 3, 0), Answer::Refused(Refusal::Conflict)),
     (Ask::OpenIndex(0, 1, 1, 0), Answer::Refused(Refusal::Failed)),
     (Ask::OpenHeap(0), Answer::Refused(Refusal::Failed)),
     (Ask::Next(0, 1), Answer::Refused(Refusal::Failed)),
@@ -124,3 +128,8 @@ pub const STEPS: [(Ask, Answer); 82] = [
     (Ask::Page(1), Answer::SomePage),
     (Ask::Page(2), Answer::NoPage),
 ];
+
+#[test]
+fn cursors_opened_and_closed(rt: HostRuntime) -> Result<(), Fail> {
+    ask_new(rt.alloc(), SETTINGS, &STEPS)
+}

@@ -1,6 +1,6 @@
 //! Settings at the ends of their ranges, and copies of steps.
 
-use session_core::{RowIn, Settings, SettingsFault, Step};
+use session_relation::{RowIn, Settings, SettingsFault, Step};
 use std::alloc::Global;
 use std::fmt::Debug;
 use std::process::Abort;
