@@ -1,13 +1,16 @@
 //! The free space map: a byte for each page, and the greatest of each group of 256.
 
 ghost use Rattle.std.specs.Prelude.{◌≡◌, ℕ, ◌+◌, ◌*◌, ◌<◌, ◌≤◌, [], ◌∷◌, ◌++◌, length, max, min, slice_set, slice_index, OnOk, OnErr};
-ghost use Rattle.heap_pages.specs.FreeSpace.{IsNext};
+ghost use Rattle.heap_pages.specs.FreeSpace.{IsNext, NoByte};
 
 use std::alloc::{AllocError, Global};
 use std::marker::Model;
 
 // So many bytes make a group.
 const GROUP: usize = 256;
+
+// So many bytes make a run, of which the processor finds the greatest in a few instructions.
+const RUN: usize = 16;
 
 /// A byte for each of at most 65536 pages. The next one that is large enough is found in at most 256 steps over the groups,
 /// and 256 in the group that has it. PostgreSQL keeps a tree of such bytes (src/backend/storage/freespace/README); this one has
@@ -108,7 +111,8 @@ impl FreeSpaceMap {
             return None;
         }
         let end = (GROUP * group + GROUP).min(self.bytes.len());
-        next_between(&self.bytes, from.max(GROUP * group), end, least)
+        let start = pass_runs(&self.bytes, from.max(GROUP * group), end, least);
+        next_between(&self.bytes, start, end, least)
     }
 }
 
@@ -121,6 +125,19 @@ fn greatest(bytes: &[u8], from: usize, to: usize) -> u8
         greatest = bytes[number].max(greatest);
     }
     greatest
+}
+
+/// The number from which on one has to look at each byte: the runs before it have none that is large enough.
+fn pass_runs(bytes: &[u8], from: usize, to: usize, least: u8) -> usize
+    requires { to ≤ length bytes.now }
+    ensures from { from ≤ result }
+    ensures passed { NoByte bytes.now from result least }
+{
+    let mut start = from;
+    while start < to && to - start >= RUN && greatest(bytes, start, start + RUN) < least {
+        start += RUN;
+    }
+    start
 }
 
 fn next_between(bytes: &[u8], from: usize, to: usize, least: u8) -> Option<u32>
