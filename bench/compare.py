@@ -74,21 +74,24 @@ def refusals(heapsh, script):
 
 def files(folder, name, rows, count, **how):
     """The operations as a script and as SQL, after those that load the table."""
-    script, sql = os.path.join(folder, "script"), os.path.join(folder, "sql")
+    script, sql = os.path.join(folder, f"script.{count}"), os.path.join(folder, f"sql.{count}")
     with open(script, "w") as lines, open(sql, "w") as statements:
         write(name, rows, count, lines, statements, **how)
     return script, sql
 
 
 def shell_rate(command, folder, name, rows, which):
-    """Operations a second of a shell that reads the script (0) or the SQL (1)."""
+    """Operations a second of a shell that reads the script (0) or the SQL (1). It loads the table, and loads it and works, in turn: what
+    slows the machine for a while then slows both."""
     count = max(OPERATIONS["shell"], rows) // (10 if name.startswith("index scans") else 1)
-    loading = files(folder, name, rows, 0)[which]
-    idle = min(timed(command, loading) for _ in range(RUNS))
+    loading = files(folder, name, rows, 0)
     working = files(folder, name, rows, count)
     if which == 0 and refusals(command[0], working[0]) > 0:
         sys.exit(f"{name}: heapsh refused a line")
-    return count / (min(timed(command, working[which]) for _ in range(RUNS)) - idle)
+    turns = [(timed(command, loading[which]), timed(command, working[which])) for _ in range(RUNS)]
+    for path in loading + working:
+        os.remove(path)
+    return count / (min(turn[1] for turn in turns) - min(turn[0] for turn in turns))
 
 
 def server_rate(server, folder, name, rows):
