@@ -12,9 +12,9 @@ const GROUP: usize = 256;
 // So many bytes make a run, of which the processor finds the greatest in a few instructions.
 const RUN: usize = 16;
 
-/// A byte for each of at most 65536 pages. The next one that is large enough is found in at most 256 steps over the groups,
-/// and 256 in the group that has it. PostgreSQL keeps a tree of such bytes (src/backend/storage/freespace/README); this one has
-/// two levels, as many as 65536 pages need.
+/// A byte for each of at most 65536 pages. The next one that is large enough is found by a look at 256 groups at most, and at
+/// the 256 bytes of the group that has it, in runs. PostgreSQL keeps a tree of such bytes
+/// (src/backend/storage/freespace/README); this one has two levels, as many as 65536 pages need.
 #[derive(Debug, Drop)]
 pub(crate) struct FreeSpaceMap {
     bytes: Vec<u8>,

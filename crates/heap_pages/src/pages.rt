@@ -121,8 +121,8 @@ impl Pages {
     }
 
     /// The first page whose free-space byte promises room for a version of this size, if there is one; else a new page is
-    /// needed, or a page whose exact room is enough. It takes at most 256 looks at the map's groups and 256 in each group that
-    /// has such a byte, and looks at the page found and the page lent last.
+    /// needed, or a page whose exact room is enough. It looks at the map's 256 groups at most and at the 256 bytes of each
+    /// group that has such a byte, and looks at the page found and the page lent last.
     pub fn page_for(&self, size: usize) -> Option<u32>
         ensures { IsFirst self.now.pages (Promises size) result }
     {
