@@ -9,7 +9,7 @@ ghost use Rattle.page_slots.specs.Slots.{is_unused, is_dead, leads_to, slot_at, 
 use crate::hints::differ_in_hints_alone;
 use crate::item::Item;
 use crate::slot::Slot;
-use crate::store::Store;
+use crate::store::{MOST_SLOTS, Store};
 use std::alloc::{AllocError, Global};
 use std::marker::Model;
 use thiserror::Error;
@@ -165,7 +165,7 @@ impl Page {
         let free_bytes = 8168 - (4 * count + self.taken_bytes);
         if self.free < count {
             free_bytes
-        } else if count < 291 {
+        } else if count < MOST_SLOTS {
             free_bytes.saturating_sub(4)
         } else {
             0

@@ -14,6 +14,9 @@ use std::alloc::{AllocError, Global};
 use std::marker::Model;
 use tuple_header::{Header, Row, RowRef};
 
+/// The most slots that a page has.
+pub(crate) const MOST_SLOTS: usize = 291;
+
 /// The slots of a page, with the bodies of their versions, which stand in any order and may have gaps between them.
 #[derive(Debug, Drop)]
 pub(crate) struct Store {
@@ -152,7 +155,8 @@ impl Store {
         self.len()
     }
 
-    /// Makes room in memory for `count` more slots, and for all bodies.
+    /// Makes room in memory for `count` more slots, and for all bodies. The list of slots gets room for as many as a page may
+    /// have at once, so that it is not copied when it grows.
     pub(crate) fn make_room(&mut self, count: usize) -> Result<(), AllocError>
         ensures room { OnOk result (count ≤ self.new.spare) }
         ensures refused { OnErr result (self.old.spare < count) }
@@ -162,7 +166,12 @@ impl Store {
         if count > 0 {
             self.bytes.try_reserve_exact(MOST_BYTES - self.bytes.len())?;
         }
-        self.items.try_reserve(count)
+        let len = self.items.len();
+        if count > self.items.capacity() - len {
+            self.items
+                .try_reserve_exact(count.max(MOST_SLOTS.saturating_sub(len)))?;
+        }
+        Ok(())
     }
 
     /// Puts a slot without a version at an index.
