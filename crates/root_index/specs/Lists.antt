@@ -30,6 +30,11 @@ abbrev pub begins_after : Entry → List Entry → Bool
 begins_after sought [] = false
 begins_after sought (first ∷ rest) = is_lt (comparison sought first)
 
+-- this one is the list's first, if it has any
+abbrev pub IsFirst : Entry → List Entry → Type 0
+IsFirst entry [] = Unit {0}
+IsFirst entry (first ∷ rest) = entry ≡ first
+
 -- one of these two lists or one between them is the last that doesn't begin after the entry
 pub record IsBetween (lists : List (List Entry)) (sought : Entry) (low high : ℕ) : Type 0 where
   pub order : low < high

@@ -30,7 +30,7 @@ pub struct Near {
 pub struct RootIndex {
     /// The entries. No node is empty, and one that is split keeps half: so there is one tree here for each 262,144 entries or
     /// more, where none were removed. An insert moves no more than a leaf's entries, and where it splits a node the
-    /// pointers of the node above it or of this list.
+    /// parts of the node above it or of this list.
     trees: Vec<Tree>,
     /// Nodes for splits to come.
     spares: Spares<Tree, Spares<Branch<Leaf>, Spares<Leaf, ()>>>,
@@ -84,7 +84,7 @@ impl RootIndex {
     }
 
     /// Makes room in memory for `count` more entries, so that the next `count` of them are inserted without asking for any.
-    /// Each may split a node of each kind, so this keeps as many spare ones, of 4, 3 and 3 KiB. It is also refused where the
+    /// Each may split a node of each kind, so this keeps as many spare ones, of 4, 8 and 3 KiB. It is also refused where the
     /// number of entries would be above 2^64 - 1.
     pub fn make_room(&mut self, count: usize) -> Result<(), AllocError>
         ensures room { OnOk result (count ≤ self.new.spare) }

@@ -5,6 +5,7 @@ ghost use Rattle.std.proofs.Common.{arith};
 ghost use Rattle.std.specs.List.{insert};
 ghost use Rattle.root_index.specs.Order.{IsAscending};
 ghost use Rattle.root_index.specs.Sets.{IsAt, IsGapFor};
+ghost use Rattle.root_index.specs.Lists.{IsFirst};
 
 use crate::entry::{Entry, compare};
 use crate::node::{HALF, Half, MAX_PARTS, Node};
@@ -15,18 +16,22 @@ use xid_circle::Tid;
 /// At most 128 entries, 4 KiB of them. There is always room for all of them in memory.
 #[derive(Debug, Drop)]
 pub(crate) struct Leaf {
+    /// The first entry, if there is one. A search that passes this leaf looks at nothing else of it, and the leaves of a branch
+    /// stand together in memory, where their entries don't.
+    first: Entry,
     entries: Vec<Entry>,
 }
 
 impl Model for Leaf {
     ghost use Rattle.std.specs.Prelude.{◌≤◌, List, length, vec_capacity};
     ghost use Rattle.root_index.specs.declared.entry.Entry.{Entry as Seen};
+    ghost use Rattle.root_index.specs.Lists.{IsFirst};
 
     ghost Value = { List Seen };
 
     ghost view = { λ l. l.entries.items };
 
-    ghost invariant = { λ l. (length l.entries.items ≤ 128) × (128 ≤ vec_capacity l.entries) };
+    ghost invariant = { λ l. (length l.entries.items ≤ 128) × (128 ≤ vec_capacity l.entries) × IsFirst l.first l.entries.items };
 }
 
 impl Node for Leaf {
@@ -50,7 +55,13 @@ impl Node for Leaf {
 
     fn new(alloc: Global) -> Result<Self, AllocError> {
         let entries = Vec::with_capacity(alloc, MAX_PARTS)?;
-        Ok(Leaf { entries })
+        let tid = Tid { page: 0, slot: 0 };
+        let first = Entry {
+            value: 0,
+            key: 0,
+            tid,
+        };
+        Ok(Leaf { first, entries })
     }
 
     fn clear(&mut self) {
@@ -62,10 +73,7 @@ impl Node for Leaf {
     }
 
     fn begins_after(&self, sought: &Entry) -> bool {
-        match self.entries.first() {
-            Some(first) => compare(sought, first).is_lt(),
-            None => false,
-        }
+        !self.entries.is_empty() && compare(sought, &self.first).is_lt()
     }
 
     fn search(&self, sought: &Entry) -> Result<usize, usize> {
@@ -99,6 +107,8 @@ impl Node for Leaf {
     fn split(&mut self, upper: &mut Self, spot: usize) -> Half<usize> {
         refill(&mut upper.entries, &self.entries[HALF..]);
         self.entries.truncate(HALF);
+        upper.first = first_or(&upper.entries, self.first);
+        self.first = first_or(&self.entries, self.first);
         if spot <= HALF {
             Half::Lower(spot)
         } else {
@@ -109,11 +119,13 @@ impl Node for Leaf {
     fn insert(&mut self, _spares: &mut (), spot: usize, entry: Entry) -> Result<(), AllocError> {
         // never refused, since there is room
         let _done = self.entries.insert(spot, entry);
+        self.first = first_or(&self.entries, entry);
         Ok(())
     }
 
     fn remove(&mut self, dead: &[Tid]) {
         self.entries.retain(|entry| !is_dead(dead, entry.tid));
+        self.first = first_or(&self.entries, self.first);
     }
 
     fn no_spares(_alloc: Global) {}
@@ -158,6 +170,16 @@ fn entry_in(entries: &[Entry], place: usize) -> Option<Entry>
     ensures { result ≡ slice_get entries.now place }
 {
     entries.get(place).copied()
+}
+
+/// The first of these entries, or another where there is none.
+fn first_or(entries: &[Entry], other: Entry) -> Entry
+    ensures { IsFirst result entries.now }
+{
+    match entries.first() {
+        Some(first) => *first,
+        None => other,
+    }
 }
 
 /// Whether the place is among these.
