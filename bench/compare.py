@@ -22,7 +22,7 @@ from workloads import WORKLOADS, write
 
 ENGINES = ["heapsh", "sqlite3", "PostgreSQL"]
 # of a shell at least as many as there are rows, since else they drown in the loading
-OPERATIONS = {"shell": 100_000, "server": 10_000}
+OPERATIONS = {"shell": 500_000, "server": 10_000}
 SIZES = [1_000, 10_000, 100_000, 1_000_000]
 RUNS = 3
 # loading more into the server, one statement after another, takes minutes
@@ -80,18 +80,21 @@ def files(folder, name, rows, count, **how):
     return script, sql
 
 
-def shell_rate(command, folder, name, rows, which):
-    """Operations a second of a shell that reads the script (0) or the SQL (1). It loads the table, and loads it and works, in turn: what
-    slows the machine for a while then slows both."""
+def shell_rates(shells, folder, name, rows):
+    """Operations a second of each shell; with its command stands whether it reads the script (0) or the SQL (1). The shells take turns, and
+    each loads the table, and loads it and works: what slows the machine for a while then slows all of them."""
     count = max(OPERATIONS["shell"], rows) // (10 if name.startswith("index scans") else 1)
     loading = files(folder, name, rows, 0)
     working = files(folder, name, rows, count)
-    if which == 0 and refusals(command[0], working[0]) > 0:
+    if refusals(shells["heapsh"][0][0], working[0]) > 0:
         sys.exit(f"{name}: heapsh refused a line")
-    turns = [(timed(command, loading[which]), timed(command, working[which])) for _ in range(RUNS)]
+    turns = [
+        {shell: (timed(command, loading[which]), timed(command, working[which])) for shell, (command, which) in shells.items()}
+        for _ in range(RUNS)
+    ]
     for path in loading + working:
         os.remove(path)
-    return count / (min(turn[1] for turn in turns) - min(turn[0] for turn in turns))
+    return {shell: count / (min(turn[shell][1] for turn in turns) - min(turn[shell][0] for turn in turns)) for shell in shells}
 
 
 def server_rate(server, folder, name, rows):
@@ -103,9 +106,10 @@ def server_rate(server, folder, name, rows):
 
 def measure(heapsh, server, folder, name, rows):
     """Operations a second of each engine that is there."""
-    rates = {"heapsh": shell_rate([heapsh, "run"], folder, name, rows, 0)}
+    shells = {"heapsh": ([heapsh, "run"], 0)}
     if shutil.which("sqlite3"):
-        rates["sqlite3"] = shell_rate(["sqlite3", ":memory:"], folder, name, rows, 1)
+        shells["sqlite3"] = (["sqlite3", ":memory:"], 1)
+    rates = shell_rates(shells, folder, name, rows)
     if server and rows <= SERVER_ROWS:
         rates["PostgreSQL"] = server_rate(server, folder, name, rows)
     return rates
