@@ -1,6 +1,7 @@
 pub mod InUse
 pub mod OwnIdsLemmas
 pub mod StateLemmas
+pub mod Idle
 pub mod Windows
 pub mod Owns
 pub mod Horizons

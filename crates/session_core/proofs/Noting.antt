@@ -64,6 +64,10 @@ pub on-ok : {A B : Type 0} (r : Result A B) (P Q : Type 0) → (P → Q) → OnO
 on-ok (Ok a) P Q to p = to p
 on-ok (Err b) P Q to p = p
 
+pub on-err : {A B : Type 0} (r : Result A B) (P Q : Type 0) → (P → Q) → OnErr r P → OnErr r Q
+on-err (Ok a) P Q to p = p
+on-err (Err b) P Q to p = to p
+
 pub if-err : {A B : Type 0} (r : Result A B) (P Q : B → Type 0) → ((b : B) → P b → Q b) → IfErr r P → IfErr r Q
 if-err (Ok a) P Q to p = p
 if-err (Err b) P Q to p = to b p

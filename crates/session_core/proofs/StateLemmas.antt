@@ -1,8 +1,8 @@
 -- The state of an engine as its own changes leave it.
-use Rattle.std.proofs.Common.{◌≡◌, ℕ, ◌<◌, List, [], length, set, replicate, zero, suc, Option, Some, None, get_or, refl, sym, ap, ◌∙◌}
+use Rattle.std.proofs.Common.{◌≡◌, ℕ, ◌<◌, List, [], length, set, replicate, zero, suc, Option, Some, None, refl, sym, ap, ◌∙◌}
 use Rattle.std.proofs.Math.ListN.{length-set}
-use Rattle.std.specs.Option.{option_flatten, option_map}
-use Rattle.std.proofs.lemmas.Option.{slice_get_read, none-some}
+use Rattle.std.specs.Option.{option_map}
+use Rattle.std.proofs.lemmas.Option.{none-some}
 use Rattle.commit_status.specs.declared.status.Status.{Status}
 use Rattle.commit_status.specs.Window.{Window}
 use Rattle.commit_status.specs.Changes.{Finishes}
@@ -11,10 +11,6 @@ use Rattle.session_core.specs.declared.session.Session.{Session}
 use Rattle.session_core.specs.State.{State, put_session, reader_of, seen, as_failed}
 use Rattle.session_core.specs.Keeps.{open_at, EngineKeeps}
 use Rattle.session_core.proofs.OwnIdsLemmas.{open-set_same, open-set_other, keep-open, keep-close, keep-idle, keep-same}
-
--- a session, by a read of its place
-pub open-read : (xs : List (Option Session)) (s : ℕ) (o : Option Session) → s < length xs → o ≡ get_or xs s o → open_at xs s ≡ o
-open-read xs s o within read = ap option_flatten (slice_get_read xs (length xs) s o refl within read)
 
 -- nobody has a session after all are made idle
 pub none-open : (n s : ℕ) → open_at (replicate n None) s ≡ None
@@ -45,20 +41,20 @@ pub keeps-shut : (xs : List (Option Session)) (w : Window) (s : ℕ) → s < len
 keeps-shut xs w s within h = record { count = length-set xs s None ∙ h.count; own = keep-idle xs w s within h.own }
 
 -- a session that fails keeps its ids
-pub keeps-fail : (xs : List (Option Session)) (w : Window) (s : ℕ) (o : Option Session) → s < length xs → o ≡ get_or xs s o → EngineKeeps xs w → EngineKeeps (set xs s (option_map as_failed o)) w
+pub keeps-fail : (xs : List (Option Session)) (w : Window) (s : ℕ) (o : Option Session) → s < length xs → open_at xs s ≡ o → EngineKeeps xs w → EngineKeeps (set xs s (option_map as_failed o)) w
 keeps-fail xs w s None within read h = keeps-shut xs w s within h
 keeps-fail xs w s (Some e) within read h = record {
   count = length-set xs s (Some (as_failed e)) ∙ h.count;
-  own = keep-same xs w s e (as_failed e) (open-read xs s (Some e) within read) refl h.own;
+  own = keep-same xs w s e (as_failed e) read refl h.own;
 }
 
 -- so does one of which nothing else changes
-pub keeps-mapped : (xs : List (Option Session)) (w : Window) (s : ℕ) (o : Option Session) (f : Session → Session) → ((e : Session) → (f e).own ≡ e.own) → s < length xs → o ≡ get_or xs s o → EngineKeeps xs w
+pub keeps-mapped : (xs : List (Option Session)) (w : Window) (s : ℕ) (o : Option Session) (f : Session → Session) → ((e : Session) → (f e).own ≡ e.own) → s < length xs → open_at xs s ≡ o → EngineKeeps xs w
     → EngineKeeps (set xs s (option_map f o)) w
 keeps-mapped xs w s None f same within read h = keeps-shut xs w s within h
 keeps-mapped xs w s (Some e) f same within read h = record {
   count = length-set xs s (Some (f e)) ∙ h.count;
-  own = keep-same xs w s e (f e) (open-read xs s (Some e) within read) (ap (λ own. own.ids) (same e)) h.own;
+  own = keep-same xs w s e (f e) read (ap (λ own. own.ids) (same e)) h.own;
 }
 
 -- of the sessions that readers see, one changes

@@ -45,7 +45,7 @@ impl Engine {
         ensures ok { IfOk result (λ s. s ≡ taken (next_id self.now.heap.table) (owns_of self.now.sessions)) }
         ensures err { OnErr result (MustList self.now) }
     {
-        take_snapshot(self.alloc, self.heap.table().next(), &self.sessions)
+        take_snapshot(self.alloc, self.heap.table().next(), self.sessions.used())
     }
 
     /// Opens the session: it reads what was committed by now. Refusals in order: NoSuchSession, AlreadyOpen.

@@ -51,7 +51,7 @@ impl Engine {
         ensures value { result.0 ≡ horizon_of self.now }
         ensures normal { IsNormal result.0 }
     {
-        horizon(self.heap.table().next(), &self.sessions)
+        horizon(self.heap.table().next(), self.sessions.used())
     }
 
     /// Takes from the page what nobody can see any more. Refusals: NoSuchPage. It takes no memory.

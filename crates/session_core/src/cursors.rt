@@ -36,7 +36,7 @@ impl Engine {
         requires { s < 64 }
         ensures { self.new ≡ put_session self.old s (map_session (with_cursor cursor) (session_at self.old s)) }
     {
-        put_cursor(&mut self.sessions[s as usize], cursor);
+        put_cursor(self.sessions.place_mut(s), cursor);
     }
 
     /// Opens a cursor over the rows that the session reads whose value in the index lies within two bounds, both included.

@@ -52,7 +52,7 @@ impl Engine {
         ensures follows { Follows self.old (Step.Delete s key) (reply_to result) self.new }
         ensures exact { Exact self.old (Step.Delete s key) (reply_to result) self.new }
     {
-        let tried = delete_open(&mut self.heap, &mut self.sessions[s as usize], place);
+        let tried = delete_open(&mut self.heap, self.sessions.place_mut(s), place);
         self.heap.table().is_window();
         outcome_of(tried)
     }

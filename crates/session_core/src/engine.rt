@@ -1,6 +1,6 @@
 //! The engine and its sessions.
 
-ghost use Rattle.std.specs.Prelude.{◌≡◌, ◌≤◌, ◌<◌, ℕ, [], length, slice_get, slice_set, replicate, option_copied, IfOk, IfErr, OnOk, MatchResult, IsSome, Some, None, false, Contains};
+ghost use Rattle.std.specs.Prelude.{◌≡◌, ◌<◌, ℕ, slice_get, option_copied, IfOk, IfErr, OnOk, MatchResult, IsSome, Some, None, false, Contains};
 ghost use Rattle.std.specs.Option.{option_map};
 ghost use Rattle.history.specs.World.{empty};
 ghost use Rattle.session_relation.specs.Words.{AreSettings, FirstFault};
@@ -12,13 +12,14 @@ ghost use Rattle.session_core.specs.Agrees.{Agrees};
 ghost use Rattle.session_core.specs.Refuses.{Refuses, RefusesReady, RefusesFree, RefusesBare};
 
 use crate::session::Session;
+use crate::sessions::Sessions;
 use commit_status::Status;
 use heap_write::HeapState;
 use page_slots::Page;
 use root_index::RootIndex;
 use session_relation::{Refusal, Settings, SettingsFault};
 use snapshot::{OwnIds, Snapshot};
-use std::alloc::{AllocError, Global};
+use std::alloc::Global;
 use std::marker::Model;
 use xid_circle::Xid;
 
@@ -28,7 +29,7 @@ pub struct Engine {
     pub(crate) alloc: Global,
     pub(crate) settings: Settings,
     pub(crate) heap: HeapState,
-    pub(crate) sessions: Vec<Option<Session>>,
+    pub(crate) sessions: Sessions,
 }
 
 impl Model for Engine {
@@ -37,20 +38,9 @@ impl Model for Engine {
 
     ghost Value = { State };
 
-    ghost view = { λ e. record { settings = e.settings; heap = e.heap; sessions = e.sessions.items } };
+    ghost view = { λ e. record { settings = e.settings; heap = e.heap; sessions = e.sessions } };
 
-    ghost invariant = { λ e. EngineKeeps e.sessions.items e.heap.table };
-}
-
-/// Places for 64 sessions, all idle.
-fn idle_sessions(alloc: Global) -> Result<Vec<Option<Session>>, AllocError>
-    ensures { IfOk result (λ sessions. sessions.items ≡ replicate 64 None) }
-{
-    let mut sessions = Vec::with_capacity(alloc, 64)?;
-    for _ in 0..64usize {
-        sessions.push(None)?;
-    }
-    Ok(sessions)
+    ghost invariant = { λ e. EngineKeeps e.sessions e.heap.table };
 }
 
 fn fail(session: &mut Option<Session>)
@@ -88,7 +78,7 @@ impl Engine {
         if let Some(fault) = settings.fault() {
             return Err(fault);
         }
-        let sessions = match idle_sessions(alloc) {
+        let sessions = match Sessions::new(alloc) {
             Ok(sessions) => sessions,
             Err(_) => return Err(SettingsFault::NoMemory),
         };
@@ -148,7 +138,7 @@ impl Engine {
         if s >= 64 {
             return Err(Refusal::NoSuchSession);
         }
-        match &self.sessions[s as usize] {
+        match self.sessions.place(s) {
             Some(session) => Ok(session),
             None => Err(Refusal::NotOpen),
         }
@@ -199,7 +189,7 @@ impl Engine {
         requires idle { session_at self.old s ≡ None }
         ensures { Opens self.old self.new s snapshot }
     {
-        self.sessions[s as usize] = Some(Session {
+        *self.sessions.place_mut(s) = Some(Session {
             snapshot,
             own: OwnIds::new(self.alloc),
             failed: false,
@@ -212,7 +202,7 @@ impl Engine {
         requires within { s < 64 }
         ensures { Closes self.old self.new s status }
     {
-        let session = self.sessions[s as usize].take();
+        let session = self.sessions.place_mut(s).take();
         end(&mut self.heap, session, status);
     }
 
@@ -221,6 +211,6 @@ impl Engine {
         requires { s < 64 }
         ensures { self.new ≡ put_session self.old s (option_map as_failed (session_at self.old s)) }
     {
-        fail(&mut self.sessions[s as usize]);
+        fail(self.sessions.place_mut(s));
     }
 }

@@ -53,7 +53,7 @@ impl Engine {
         ensures follows { FollowsInsert self.old s row.now (reply_to result) self.new }
         ensures exact { ExactInsert self.old s row.now (reply_to result) self.new }
     {
-        let tried = insert_open(&mut self.heap, &mut self.sessions[s as usize], row);
+        let tried = insert_open(&mut self.heap, self.sessions.place_mut(s), row);
         self.heap.table().is_window();
         outcome_of(tried)
     }

@@ -21,6 +21,7 @@ mod outcome;
 mod runs;
 mod savepoint;
 mod session;
+mod sessions;
 mod step;
 mod update;
 mod write;

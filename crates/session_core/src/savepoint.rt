@@ -70,7 +70,7 @@ impl Engine {
         ensures err { OnErr result (self.new ≡ self.old) }
         ensures fault { IfErr result (λ fault. (e : _) → session_at self.old s ≡ Some e → CannotSave e.own fault) }
     {
-        save(&mut self.sessions[s as usize])
+        save(self.sessions.place_mut(s))
     }
 
     /// Sets a savepoint, to which the session can return. Refusals in order: NoSuchSession, NotOpen, Failed, CursorOpen;
@@ -97,7 +97,7 @@ impl Engine {
         requires some { (e : _) → session_at self.old s ≡ Some e → e.own.saved ≢ [] }
         ensures { RollsBack self.old self.new s }
     {
-        roll_back(&mut self.heap, &mut self.sessions[s as usize]);
+        roll_back(&mut self.heap, self.sessions.place_mut(s));
     }
 
     /// Drops what the session has written since its newest savepoint, which it keeps; the session has not failed any
@@ -129,7 +129,7 @@ impl Engine {
         requires some { (e : _) → session_at self.old s ≡ Some e → e.own.saved ≢ [] }
         ensures { Becomes self.old self.new s Releases }
     {
-        release(&mut self.sessions[s as usize]);
+        release(self.sessions.place_mut(s));
     }
 
     /// Forgets the newest savepoint; what was written since it belongs to the level below. Refusals in order:

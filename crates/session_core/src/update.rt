@@ -66,7 +66,7 @@ impl Engine {
         ensures exact { ExactUpdate self.old s row.now (reply_to result) self.new }
     {
         let horizon = self.horizon();
-        let session = &mut self.sessions[s as usize];
+        let session = self.sessions.place_mut(s);
         let tried = update_open(&mut self.heap, session, place, row, horizon);
         self.heap.table().is_window();
         outcome_of(tried)

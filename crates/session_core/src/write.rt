@@ -1,6 +1,6 @@
 //! What every write of a session asks first, and what it answers.
 
-ghost use Rattle.std.specs.Prelude.{◌≡◌, ◌≢◌, ◌<◌, ℕ, length, MatchOption, MatchResult, Some, None, Contains};
+ghost use Rattle.std.specs.Prelude.{◌≡◌, ◌<◌, ◌≤◌, ℕ, length, MatchOption, MatchResult, Some, None, Contains};
 ghost use Rattle.session_relation.specs.Words.{FitsRow, row_of};
 ghost use Rattle.session_relation.specs.declared.reply.Reply.{Reply};
 ghost use Rattle.session_core.specs.Keeps.{open_at};
@@ -34,7 +34,7 @@ pub(crate) fn table_row(row: &RowIn) -> Option<Row>
 
 /// The session that has the id.
 fn owner(sessions: &[Option<Session>], x: Xid) -> Option<u8>
-    requires { length sessions.now ≡ 64 }
+    requires { length sessions.now ≤ 64 }
     ensures { MatchOption result
         ((s : ℕ) (e : _) → open_at sessions.now s ≡ Some e → Contains e.own.ids x.0 → ⊥)
         (λ s. (e : _) × (open_at sessions.now s ≡ Some e) × Contains e.own.ids x.0) }
@@ -82,7 +82,7 @@ impl Engine {
             return (standing.place, Some(Refusal::Conflict));
         }
         match standing.holder {
-            Some(x) => match owner(&self.sessions, x) {
+            Some(x) => match owner(self.sessions.used(), x) {
                 Some(o) => (standing.place, Some(Refusal::Busy(o))),
                 None => (standing.place, None),
             },

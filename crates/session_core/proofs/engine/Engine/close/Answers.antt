@@ -6,7 +6,7 @@ use Rattle.session_core.specs.declared.session.Session.{Session}
 use Rattle.session_core.specs.Keeps.{EngineKeeps, open_at}
 use Rattle.session_core.specs.State.{State}
 use Rattle.session_core.specs.Changes.{Closes}
-use Rattle.session_core.proofs.StateLemmas.{open-read, keeps-close, keeps-shut}
+use Rattle.session_core.proofs.StateLemmas.{keeps-close, keeps-shut}
 use Rattle.session_core.proofs.engine.Engine.close.Goals as goal
 
 -- the sessions keep their ids, whether or not one was there
@@ -18,31 +18,31 @@ ended xs w v s (Some e) status within at finishes same h = keeps-close xs w v s 
 pub end-requires : goal.end-requires
 end-requires c =
     let count = c.self.invariant.count in
-    let within : c.args.s < length c.self.inside.sessions.items = omega (arith, c.requires.within) in
-    let read = open-read c.self.inside.sessions.items c.args.s c.index_mut.result.now within c.index_mut.ensures.value in
+    let within : c.args.s < length c.self.inside.sessions = omega (arith, c.requires.within) in
+    let read = c.place_mut.ensures.value in
     λ e x is among. c.self.invariant.own.active c.args.s e x (read ∙ (sym c.take-session.ensures.value ∙ is)) among
 
 pub invariant_of-self : goal.invariant_of-self
 invariant_of-self c =
     let count = c.self.invariant.count in
-    let within : c.args.s < length c.self.inside.sessions.items = omega (arith, c.requires.within) in
-    let read = open-read c.self.inside.sessions.items c.args.s c.index_mut.result.now within c.index_mut.ensures.value in
-    rw c.take-session.ensures.after (ended c.self.inside.sessions.items c.self.inside.heap.table _ c.args.s c.take-session.result c.args.status within (read ∙ sym c.take-session.ensures.value) c.end.ensures.finishes c.end.ensures.none c.self.invariant)
+    let within : c.args.s < length c.self.inside.sessions = omega (arith, c.requires.within) in
+    let read = c.place_mut.ensures.value in
+    rw c.take-session.ensures.after (ended c.self.inside.sessions c.self.inside.heap.table _ c.args.s c.take-session.result c.args.status within (read ∙ sym c.take-session.ensures.value) c.end.ensures.finishes c.end.ensures.none c.self.invariant)
 
 pub returns : goal.returns
 returns c =
     let count = c.self.invariant.count in
-    let within : c.args.s < length c.self.inside.sessions.items = omega (arith, c.requires.within) in
-    let read = open-read c.self.inside.sessions.items c.args.s c.index_mut.result.now within c.index_mut.ensures.value in
-    let is : c.take-session.result ≡ open_at c.self.inside.sessions.items c.args.s = c.take-session.ensures.value ∙ sym read in
-    let new : State = record { settings = c.self.inside.settings; heap = c.end.new.heap; sessions = set c.self.inside.sessions.items c.args.s c.take-session.new.self } in
+    let within : c.args.s < length c.self.inside.sessions = omega (arith, c.requires.within) in
+    let read = c.place_mut.ensures.value in
+    let is : c.take-session.result ≡ open_at c.self.inside.sessions c.args.s = c.take-session.ensures.value ∙ sym read in
+    let new : State = record { settings = c.self.inside.settings; heap = c.end.new.heap; sessions = set c.self.inside.sessions c.args.s c.take-session.new.self } in
     let P : State → Type 0 = λ st. Closes st new c.args.s c.args.status in
     subst P c.self.view_is (record {
       settings = refl;
       pages = c.end.ensures.pages;
       indexes = c.end.ensures.indexes;
       max_pages = c.end.ensures.max_pages;
-      sessions = ap (λ o. set c.self.inside.sessions.items c.args.s o) c.take-session.ensures.after;
+      sessions = ap (λ o. set c.self.inside.sessions c.args.s o) c.take-session.ensures.after;
       finishes = λ e at. c.end.ensures.finishes e (is ∙ at);
       window = λ e at. c.end.ensures.window e (is ∙ at);
       idle = λ at. c.end.ensures.none (is ∙ at);

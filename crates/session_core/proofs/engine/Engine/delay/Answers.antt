@@ -43,11 +43,11 @@ returns-in-None-owner-clause-delay c =
     let h = c.args.self.now.heap in
     let missed = subst (λ (st : State). Misses st.heap e c.args.key c.standing-standing.result.missed) c.self.view_is c.standing-standing.ensures.missed in
     let held = subst (λ (st : State). Holds st.heap e c.args.key c.standing-standing.result.holder) c.self.view_is c.standing-standing.ensures.holder in
-    let sessions_are = c.deref.ensures.value ∙ ap (λ (st : State). st.sessions) c.self.view_is in
+    let sessions_are = ap (λ (st : State). st.sessions) c.self.view_is in
     record {
       timely = subst (λ (o : Option Xid). Misses h e c.args.key o) c.in_default.is missed;
       unheld = by_nobody c.in-Some-holder.x.0 (subst (λ (o : Option Xid). Holds h e c.args.key o) c.in-Some-holder.is held)
-          (λ o f at among. c.in-None-owner.ensures o f (subst (λ xs. open_at xs o ≡ Some f) (sym sessions_are) at) among);
+          (λ o f at among. c.in-None-owner.ensures o f (c.used.ensures.each o ∙ (ap (λ xs. open_at xs o) sessions_are ∙ at)) among);
     }
 
 pub returns-in-Some-owner-clause-delay : goal.returns-in-Some-owner-clause-delay
@@ -56,7 +56,7 @@ returns-in-Some-owner-clause-delay c =
     let h = c.args.self.now.heap in
     let missed = subst (λ (st : State). Misses st.heap e c.args.key c.standing-standing.result.missed) c.self.view_is c.standing-standing.ensures.missed in
     let held = subst (λ (st : State). Holds st.heap e c.args.key c.standing-standing.result.holder) c.self.view_is c.standing-standing.ensures.holder in
-    let sessions_are = c.deref.ensures.value ∙ ap (λ (st : State). st.sessions) c.self.view_is in
+    let sessions_are = ap (λ (st : State). st.sessions) c.self.view_is in
     let f = c.in-Some-owner.ensures in
     let O : List (Option Session) → Type 0 = λ xs. open_at xs c.in-Some-owner.o ≡ Some f.0 in
     record {
@@ -64,6 +64,6 @@ returns-in-Some-owner-clause-delay c =
       id = c.in-Some-holder.x.0;
       held = subst (λ (o : Option Xid). Holds h e c.args.key o) c.in-Some-holder.is held;
       other = f.0;
-      at = subst O sessions_are f.1;
+      at = subst O sessions_are (sym (c.used.ensures.each c.in-Some-owner.o) ∙ f.1);
       owns = f.2;
     }

@@ -7,7 +7,7 @@ use Rattle.session_core.proofs.engine.Engine.new.Goals as goal
 
 pub invariant_of-result : goal.invariant_of-result
 invariant_of-result c =
-    keeps-idle c.in-Ok.sessions.items c.new.result.table c.in-Ok.ensures (ap length c.in-Ok.ensures ∙ length-replicate {A = Option Session} 64 None)
+    keeps-idle c.in-Ok.sessions c.new-2.result.table c.in-Ok.ensures (ap length c.in-Ok.ensures ∙ length-replicate {A = Option Session} 64 None)
 
 pub returns-clause-agrees : goal.returns-clause-agrees
-returns-clause-agrees c = Agrees-new _ c.new.ensures.pages c.new.ensures.indexes c.new.ensures.entries c.new.ensures.window c.new.ensures.max_pages c.new.ensures.stop_age c.in-Ok.ensures
+returns-clause-agrees c = Agrees-new _ c.new-2.ensures.pages c.new-2.ensures.indexes c.new-2.ensures.entries c.new-2.ensures.window c.new-2.ensures.max_pages c.new-2.ensures.stop_age c.in-Ok.ensures

@@ -5,5 +5,5 @@ use Rattle.session_core.proofs.engine.Engine.open.Goals as goal
 pub invariant_of-self : goal.invariant_of-self
 invariant_of-self c =
     let count = c.self.invariant.count in
-    let within : c.args.s < length c.self.inside.sessions.items = omega (arith, c.requires.within) in
-    keeps-open c.self.inside.sessions.items c.self.inside.heap.table c.args.s _ within c.new.ensures.ids c.self.invariant
+    let within : c.args.s < length c.self.inside.sessions = omega (arith, c.requires.within) in
+    keeps-open c.self.inside.sessions c.self.inside.heap.table c.args.s _ within c.new.ensures.ids c.self.invariant

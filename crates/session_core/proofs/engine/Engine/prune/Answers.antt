@@ -14,7 +14,7 @@ use Rattle.session_core.proofs.engine.Engine.prune.Goals.{in-Ok, in-Err-NoSuchPa
 
 pub returns-clause-follows : goal.returns-clause-follows
 returns-clause-follows c =
-    let before : State = record { settings = c.self.inside.settings; heap = c.self.inside.heap; sessions = c.self.inside.sessions.items } in
+    let before : State = record { settings = c.self.inside.settings; heap = c.self.inside.heap; sessions = c.self.inside.sessions } in
     let after : State = record before { heap = c.prune.new.self } in
     let horizon : c.horizon-horizon.result.0 ≡ horizon_of before = c.horizon-horizon.ensures.value ∙ ap horizon_of (sym c.self.view_is) in
     let P : State → Type 0 = λ st. Follows st (Prune c.args.page) (reply_to c.match-prune.result) after in

@@ -10,7 +10,6 @@ use Rattle.session_core.specs.Agrees.{Follows}
 use Rattle.session_core.specs.Replies.{reply_to}
 use Rattle.session_core.specs.Exact.{ExactDelete}
 use Rattle.session_core.proofs.OwnIdsLemmas.{open-within}
-use Rattle.session_core.proofs.StateLemmas.{open-read}
 use Rattle.session_core.proofs.Trying.{with_session, keeps-delete, delete-tried, exact-deleted}
 use Rattle.session_core.proofs.Writing.{Follows-deleted}
 use Rattle.session_core.proofs.engine.Engine.take_away.Goals as goal
@@ -19,30 +18,30 @@ pub delete_open-tried-requires-clause-active : goal.delete_open-tried-requires-c
 delete_open-tried-requires-clause-active c =
     let M : State → Type 0 = λ st. MayWrite st c.args.s c.args.key (Some c.args.place) in
     let may = subst M (sym c.self.view_is) c.requires in
-    let within = open-within c.self.inside.sessions.items c.args.s may.session may.reads.at in
-    let read = open-read c.self.inside.sessions.items c.args.s c.index_mut.result.now within c.index_mut.ensures.value in
+    let within = open-within c.self.inside.sessions c.args.s may.session may.reads.at in
+    let read = c.place_mut.ensures.value in
     λ e x is mine. c.self.invariant.own.active c.args.s e x (read ∙ is) mine
 
 pub invariant_of-self : goal.invariant_of-self
 invariant_of-self c =
-    let before : State = record { settings = c.self.inside.settings; heap = c.self.inside.heap; sessions = c.self.inside.sessions.items } in
+    let before : State = record { settings = c.self.inside.settings; heap = c.self.inside.heap; sessions = c.self.inside.sessions } in
     let M : State → Type 0 = λ st. MayWrite st c.args.s c.args.key (Some c.args.place) in
     let may = subst M (sym c.self.view_is) c.requires in
-    let within = open-within c.self.inside.sessions.items c.args.s may.session may.reads.at in
-    let read = open-read c.self.inside.sessions.items c.args.s c.index_mut.result.now within c.index_mut.ensures.value in
+    let within = open-within c.self.inside.sessions c.args.s may.session may.reads.at in
+    let read = c.place_mut.ensures.value in
     let r = c.delete_open-tried in
     let T : Option Session → Type 0 = λ o. OnOpen o r.new.session (λ e e'. TriesDelete c.self.inside.heap r.new.heap e e' c.args.place r.result) in
     let tries = subst T (sym read) r.ensures in
     let window = subst (λ (w : Window). IsWindow w) c.table.ensures c.is_window.ensures in
-    keeps-delete c.self.inside.sessions.items c.self.inside.heap r.new.heap c.args.s c.index_mut.result.now r.new.session c.args.place r.result read r.ensures window c.self.invariant
+    keeps-delete c.self.inside.sessions c.self.inside.heap r.new.heap c.args.s c.place_mut.result.now r.new.session c.args.place r.result read r.ensures window c.self.invariant
 
 pub returns-clause-follows : goal.returns-clause-follows
 returns-clause-follows c =
-    let before : State = record { settings = c.self.inside.settings; heap = c.self.inside.heap; sessions = c.self.inside.sessions.items } in
+    let before : State = record { settings = c.self.inside.settings; heap = c.self.inside.heap; sessions = c.self.inside.sessions } in
     let M : State → Type 0 = λ st. MayWrite st c.args.s c.args.key (Some c.args.place) in
     let may = subst M (sym c.self.view_is) c.requires in
-    let within = open-within c.self.inside.sessions.items c.args.s may.session may.reads.at in
-    let read = open-read c.self.inside.sessions.items c.args.s c.index_mut.result.now within c.index_mut.ensures.value in
+    let within = open-within c.self.inside.sessions c.args.s may.session may.reads.at in
+    let read = c.place_mut.ensures.value in
     let r = c.delete_open-tried in
     let T : Option Session → Type 0 = λ o. OnOpen o r.new.session (λ e e'. TriesDelete c.self.inside.heap r.new.heap e e' c.args.place r.result) in
     let tries = subst T (sym read) r.ensures in
@@ -55,11 +54,11 @@ returns-clause-follows c =
 
 pub returns-clause-exact : goal.returns-clause-exact
 returns-clause-exact c =
-    let before : State = record { settings = c.self.inside.settings; heap = c.self.inside.heap; sessions = c.self.inside.sessions.items } in
+    let before : State = record { settings = c.self.inside.settings; heap = c.self.inside.heap; sessions = c.self.inside.sessions } in
     let M : State → Type 0 = λ st. MayWrite st c.args.s c.args.key (Some c.args.place) in
     let may = subst M (sym c.self.view_is) c.requires in
-    let within = open-within c.self.inside.sessions.items c.args.s may.session may.reads.at in
-    let read = open-read c.self.inside.sessions.items c.args.s c.index_mut.result.now within c.index_mut.ensures.value in
+    let within = open-within c.self.inside.sessions c.args.s may.session may.reads.at in
+    let read = c.place_mut.ensures.value in
     let r = c.delete_open-tried in
     let T : Option Session → Type 0 = λ o. OnOpen o r.new.session (λ e e'. TriesDelete c.self.inside.heap r.new.heap e e' c.args.place r.result) in
     let tries = subst T (sym read) r.ensures in
