@@ -22,7 +22,7 @@ use crate::line::{Line, line_at};
 use crate::output::write_out;
 use crate::telling::{tell_ids, tell_no_page, tell_page};
 use crate::watch::Watch;
-use session_core::{Engine, SettingsFault};
+use session_core::{Engine, Reply, SettingsFault};
 use std::alloc::{AllocError, Global};
 use std::io::{Read, Write};
 
@@ -93,10 +93,12 @@ fn show_index(text: &mut Vec<u8>, engine: &Engine, number: u8) -> Result<(), All
     }
 }
 
-// Does what a line asks for, and adds its answer; false where the line isn't allowed.
+// Does what a line asks for, and adds its answer; false where the line isn't allowed. The reply to a step is put in the place of an
+// earlier one.
 fn do_line(
     alloc: Global,
     engine: &mut Engine,
+    reply: &mut Reply,
     text: &mut Vec<u8>,
     line: &[u8],
 ) -> Result<bool, AllocError>
@@ -106,7 +108,8 @@ fn do_line(
 {
     match line_at(alloc, line)? {
         Some(Line::Do(step)) => {
-            answer(text, &engine.step(step))?;
+            engine.step_into(step, reply);
+            answer(text, reply)?;
             Ok(true)
         }
         Some(Line::Ids) => {
@@ -171,6 +174,7 @@ fn run_lines<R: Read, W: Write>(
     ensures advances { Advances engine.old (R.remaining reader.old) (W.contents writer.old) (W.contents writer.new) pending.old text.old.items result }
     ensures caused { IfErr result (λ e. IsCaused e watch.new) }
 {
+    let mut reply = Reply::Done;
     for number in 2..u64::MAX {
         let next = match next_line(watch, pending, reader, text, writer) {
             Ok(next) => next,
@@ -181,7 +185,7 @@ fn run_lines<R: Read, W: Write>(
             Next::Bad => return close(watch, text, writer, Err(ShellFault::BadLine(number))),
             Next::End => return close(watch, text, writer, Ok(())),
         };
-        match do_line(alloc, engine, text, &pending.as_slice()[..n]) {
+        match do_line(alloc, engine, &mut reply, text, &pending.as_slice()[..n]) {
             Ok(true) => {}
             Ok(false) => return close(watch, text, writer, Err(ShellFault::BadLine(number))),
             Err(_) => return Err(watch.no_memory()),

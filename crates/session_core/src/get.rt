@@ -12,15 +12,16 @@ use tuple_header::RowRef;
 impl Engine {
     /// The row of the key that the session reads. Refusals in order: NoSuchSession, NotOpen, Failed. It takes no
     /// memory.
-    pub(crate) fn get(&self, s: u8, key: u64) -> Reply
-        ensures follows { Follows self.now (Step.Get s key) result self.now }
-        ensures exact { Exact self.now (Step.Get s key) result self.now }
+    pub(crate) fn get(&self, s: u8, key: u64, reply: &mut Reply)
+        ensures follows { Follows self.now (Step.Get s key) reply.new self.now }
+        ensures exact { Exact self.now (Step.Get s key) reply.new self.now }
     {
         match self.ready(s) {
             Ok(session) => {
-                Reply::Found(copy_of(self.heap.row(key, &session.snapshot, &session.own)))
+                let found = self.heap.row(key, &session.snapshot, &session.own);
+                *reply = Reply::Found(copy_of(found));
             }
-            Err(refusal) => Reply::Refused(refusal),
+            Err(refusal) => *reply = Reply::Refused(refusal),
         }
     }
 }

@@ -15,15 +15,16 @@ pub(crate) enum Outcome {
 }
 
 impl Outcome {
-    /// The reply to the step.
-    pub(crate) fn reply(self) -> Reply
-        ensures { result ≡ reply_to self }
+    /// Puts the reply to the step in the place of another.
+    pub(crate) fn put_in(self, reply: &mut Reply)
+        ensures { reply.new ≡ reply_to self }
     {
+        // each is made where it stays
         match self {
-            Outcome::Done => Reply::Done,
-            Outcome::Committed => Reply::Committed,
-            Outcome::RolledBack => Reply::RolledBack,
-            Outcome::Refused(refusal) => Reply::Refused(refusal),
+            Outcome::Done => *reply = Reply::Done,
+            Outcome::Committed => *reply = Reply::Committed,
+            Outcome::RolledBack => *reply = Reply::RolledBack,
+            Outcome::Refused(refusal) => *reply = Reply::Refused(refusal),
         }
     }
 }

@@ -17,10 +17,21 @@ impl Engine {
         ensures follows { Follows self.old step result self.new }
         ensures exact { Exact self.old step result self.new }
     {
+        let mut reply = Reply::Done;
+        self.step_into(step, &mut reply);
+        reply
+    }
+
+    /// Does one step as [`Engine::step`] does, and puts its reply in the place of an earlier one. A reply has room for a row, over a
+    /// kilobyte; who does many steps needs one alone.
+    pub fn step_into(&mut self, step: Step, reply: &mut Reply)
+        ensures follows { Follows self.old step reply.new self.new }
+        ensures exact { Exact self.old step reply.new self.new }
+    {
         step.has_bounds();
         let outcome = match step {
-            Step::Get(s, key) => return self.get(s, key),
-            Step::Next(s, n) => return self.next(s, n),
+            Step::Get(s, key) => return self.get(s, key, reply),
+            Step::Next(s, n) => return self.next(s, n, reply),
             Step::Begin(s) => self.begin(s),
             Step::Insert(s, row) => self.insert(s, row),
             Step::Update(s, row) => self.update(s, row),
@@ -35,8 +46,7 @@ impl Engine {
             Step::Abort(s) => self.abort(s),
             Step::Prune(page) => self.prune(page),
         };
-        // the one place where these replies are made, so that each is made where the caller wants it
-        outcome.reply()
+        outcome.put_in(reply)
     }
 
     /// The row of the key that the session reads, also in a transaction that has failed. It is no step, and takes no

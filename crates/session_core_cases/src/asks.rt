@@ -309,9 +309,12 @@ fn shown(engine: &Engine) -> (u32, u32, Option<u64>) {
     (next.0, oldest.0, engine.page(0).map(Page::change))
 }
 
-// The reply to a step. It promises nothing: what `Engine::step` promises would be carried along by each proof above.
+// The reply to a step, in the place of another. It promises nothing: what `Engine::step_into` promises would be carried along by
+// each proof above.
 fn take(engine: &mut Engine, step: Step) -> Reply {
-    engine.step(step)
+    let mut reply = Reply::Found(None);
+    engine.step_into(step, &mut reply);
+    reply
 }
 
 // The reply to what is asked, if it is a step, and nothing where a refused growth changed something. What met the refusal of

@@ -11,7 +11,7 @@ use Rattle.script.proofs.run.do_line.Goals as goal
 pub returns-in_ok-answer-in-Some-Do-clause-done : goal.returns-in_ok-answer-in-Some-Do-clause-done
 returns-in_ok-answer-in-Some-Do-clause-done c =
     let says = line_at_says c.args.line.now (Do c.in-Some-Do.step) (search rules) in
-    (did c.in-Some-Do.step c.step.result, says.0, says.1, c.step.ensures.follows, c.in_ok-answer-in-Some-Do.ensures)
+    (did c.in-Some-Do.step c.step_into.new.reply, says.0, says.1, c.step_into.ensures.follows, c.in_ok-answer-in-Some-Do.ensures)
 
 pub returns-in_ok-tell_ids-in-Some-Ids-clause-done : goal.returns-in_ok-tell_ids-in-Some-Ids-clause-done
 returns-in_ok-tell_ids-in-Some-Ids-clause-done c =

@@ -14,7 +14,7 @@ returns-in-Ok-clause-follows c =
     let e = c.in-Ok.session.now in
     let G : HeapView → Option Row → Type 0 = λ h row. FirstFound h.table (IsVisible h.table e.snapshot e.own.ids) (slots_of h) (entries_in h.indexes 0) (pos c.args.key) c.args.key row in
     Follows-get c.args.self.now c.args.s e c.args.key c.copy_of.result c.in-Ok.ensures.1 c.in-Ok.ensures.2
-    (subst (G c.args.self.now.heap) (sym c.copy_of.ensures) (subst (λ h. G h c.row.result) (ap (λ (st : State). st.heap) c.self.view_is) c.row.ensures))
+    (subst (G c.args.self.now.heap) (sym c.copy_of.ensures) (subst (λ h. G h c.row-found.result) (ap (λ (st : State). st.heap) c.self.view_is) c.row-found.ensures))
 
 pub returns-in-Err-clause-follows : goal.returns-in-Err-clause-follows
 returns-in-Err-clause-follows c = Follows-unready_get c.args.self.now c.args.s c.args.key c.in-Err.refusal c.in-Err.ensures

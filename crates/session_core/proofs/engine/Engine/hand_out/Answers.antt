@@ -1,7 +1,7 @@
 use Rattle.std.proofs.Common.{subst}
 use Rattle.session_core.specs.Takes.{TakesNext}
 use Rattle.session_core.proofs.NextSteps.{Follows-unready_next, Follows-no_cursor, Follows-end, Follows-no_memory, Follows-rows, hands-out}
-use Rattle.session_core.proofs.engine.Engine.next.Goals as goal
+use Rattle.session_core.proofs.engine.Engine.hand_out.Goals as goal
 
 pub returns-in-Err-clause-follows : goal.returns-in-Err-clause-follows
 returns-in-Err-clause-follows c = Follows-unready_next c.args.self.now c.args.s c.args.n c.in-Err.refusal c.in-Err.ensures

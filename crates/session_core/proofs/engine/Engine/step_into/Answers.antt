@@ -8,8 +8,8 @@ use Rattle.session_core.specs.Replies.{reply_to}
 use Rattle.session_core.specs.Agrees.{Follows}
 use Rattle.session_core.specs.Exact.{Exact}
 use Rattle.session_core.proofs.CursorSteps.{stored-step}
-use Rattle.session_core.proofs.engine.Engine.step.Goals as goal
-use Rattle.session_core.proofs.engine.Engine.step.Goals.{in-Begin, in-Insert, in-Update, in-Delete, in-Savepoint, in-RollbackTo, in-Release, in-OpenIndex, in-OpenHeap, in-Close, in-Commit, in-Abort, in-Prune}
+use Rattle.session_core.proofs.engine.Engine.step_into.Goals as goal
+use Rattle.session_core.proofs.engine.Engine.step_into.Goals.{in-Begin, in-Insert, in-Update, in-Delete, in-Savepoint, in-RollbackTo, in-Release, in-OpenIndex, in-OpenHeap, in-Close, in-Commit, in-Abort, in-Prune}
 
 -- of the step that was asked for, and what came of it
 told : {step asked : Step} {outcome came : Outcome} {new after : State} (P : Step → Outcome → State → Type 0) → step ≡ asked → outcome ≡ came → new ≡ after → P asked came after → P step outcome new
@@ -17,19 +17,19 @@ told {step} {asked} {outcome} {came} {new} {after} P is was now holds =
     subst (λ st. P step outcome st) (sym now) (subst (λ o. P step o after) (sym was) (subst (λ s. P s came after) (sym is) holds))
 
 pub returns-in-Get-clause-follows : goal.returns-in-Get-clause-follows
-returns-in-Get-clause-follows c = subst (λ (step : Step). Follows c.args.self.now step c.get.result c.args.self.now) (sym c.in-Get.is) c.get.ensures.follows
+returns-in-Get-clause-follows c = subst (λ (step : Step). Follows c.args.self.now step c.get.new.reply c.args.self.now) (sym c.in-Get.is) c.get.ensures.follows
 
 pub returns-in-Get-clause-exact : goal.returns-in-Get-clause-exact
-returns-in-Get-clause-exact c = subst (λ (step : Step). Exact c.args.self.now step c.get.result c.args.self.now) (sym c.in-Get.is) c.get.ensures.exact
+returns-in-Get-clause-exact c = subst (λ (step : Step). Exact c.args.self.now step c.get.new.reply c.args.self.now) (sym c.in-Get.is) c.get.ensures.exact
 
 pub returns-in-Next-clause-follows : goal.returns-in-Next-clause-follows
-returns-in-Next-clause-follows c = subst (λ (step : Step). Follows c.args.self.now step c.next.result c.next.new.self) (sym c.in-Next.is) c.next.ensures.follows
+returns-in-Next-clause-follows c = subst (λ (step : Step). Follows c.args.self.now step c.next.new.reply c.next.new.self) (sym c.in-Next.is) c.next.ensures.follows
 
 pub returns-clause-follows : goal.returns-clause-follows
 returns-clause-follows c =
     let P : Step → Outcome → State → Type 0 = λ step outcome new. Follows c.args.self.now step (reply_to outcome) new in
     let B : Step → Type 0 = λ step. HasBounds step in
-    subst (λ (reply : Reply). Follows c.args.self.now c.args.step reply c.match-step.self) (sym c.reply.ensures) (elim c.match-step.branch [
+    subst (λ (reply : Reply). Follows c.args.self.now c.args.step reply c.match-step.self) (sym c.put_in.ensures) (elim c.match-step.branch [
       | in-Begin w ↦ told P w.in-Begin.is w.outcome-is w.self-is w.begin-outcome.ensures.follows
       | in-Insert w ↦ told P w.in-Insert.is w.outcome-is w.self-is w.insert-outcome.ensures.follows
       | in-Update w ↦ told P w.in-Update.is w.outcome-is w.self-is w.update-outcome.ensures.follows
