@@ -1,7 +1,5 @@
 //! A script that is cut off.
 
-ghost use Rattle.std.specs.Prelude.{◌≡◌};
-
 use crate::table::OLDER_SESSION;
 use script::{ShellFault, Watch, run_script};
 use std::test::Fail;

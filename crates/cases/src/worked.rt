@@ -1,7 +1,5 @@
 //! The worked scripts, from their first line to their end.
 
-ghost use Rattle.std.specs.Prelude.{◌≡◌};
-
 use crate::cursors::CURSORS;
 use crate::savepoints::SAVEPOINTS;
 use crate::table::{CASES, Case};

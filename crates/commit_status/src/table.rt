@@ -1,6 +1,6 @@
 //! The table of ids.
 
-ghost use Rattle.std.specs.Prelude.{◌≡◌, ℕ, ◌+◌, ◌^◌, ◌∷◌, ◌-◌, ◌<◌, ◌≤◌, ◌↔◌, [], drop, option_copied, IsTrue, IsSome, IfSome, IfOk, OnOk, OnErr, length, vec_len, vec_capacity, Contains};
+ghost use Rattle.std.specs.Prelude.{◌≡◌, ℕ, ◌+◌, ◌^◌, ◌∷◌, ◌-◌, ◌<◌, ◌≤◌, ◌↔◌, [], drop, option_copied, IsTrue, IfSome, IfOk, OnOk, OnErr, vec_len, vec_capacity, Contains};
 ghost use Rattle.std.specs.Option.{option_map};
 ghost use Rattle.xid_circle.specs.Circle.{IsNormal, distance_of, given};
 ghost use Rattle.commit_status.specs.Window.{next_id, turns, place_in, entry_of, status_of, parent_of, top_of, IsGiven, IsActive, IsUpToNext, IsWindow};
@@ -74,7 +74,7 @@ pub struct StatusTable {
 }
 
 impl Model for StatusTable {
-    ghost use Rattle.std.specs.Prelude.{◌≡◌, ◌-◌, length, vec_len, vec_capacity};
+    ghost use Rattle.std.specs.Prelude.{◌≡◌, ◌-◌, vec_len, vec_capacity};
     ghost use Rattle.xid_circle.specs.Circle.{given};
     ghost use Rattle.commit_status.specs.Window.{Window, IsWindow};
     ghost use Rattle.commit_status.specs.Table.{IsTable};

@@ -13,7 +13,7 @@ const GROUP: usize = 256;
 const RUN: usize = 16;
 
 /// A byte for each of at most 65536 pages. The next one that is large enough is found by a look at 256 groups at most, and at
-/// the 256 bytes of the group that has it, in runs. PostgreSQL keeps a tree of such bytes
+/// the bytes of that in which it begins and of that which has it, in runs. PostgreSQL keeps a tree of such bytes
 /// (src/backend/storage/freespace/README); this one has two levels, as many as 65536 pages need.
 #[derive(Debug, Drop)]
 pub(crate) struct FreeSpaceMap {

@@ -1,6 +1,6 @@
 //! The pages of a table.
 
-ghost use Rattle.std.specs.Prelude.{◌≡◌, ◌≤◌, ◌<◌, ◌+◌, ℕ, [], ◌∷◌, ◌++◌, length, OnOk, OnErr, Some, slice_get, option_copied};
+ghost use Rattle.std.specs.Prelude.{◌≡◌, ◌≤◌, ◌<◌, ◌+◌, [], ◌∷◌, ◌++◌, length, OnOk, OnErr, Some, slice_get, option_copied};
 ghost use Rattle.std.specs.Borrow.{sem};
 ghost use Rattle.heap_pages.specs.Lending.{LendsPage};
 ghost use Rattle.heap_pages.specs.Choice.{Promises, HasRoom, IsFirst, IsPlaceFor};

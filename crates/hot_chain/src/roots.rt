@@ -1,6 +1,6 @@
 //! The root whose chain holds a slot.
 
-ghost use Rattle.std.specs.Prelude.{◌≡◌, ◌↔◌, ◌<◌, ℕ, IsTrue};
+ghost use Rattle.std.specs.Prelude.{◌≡◌, ◌↔◌, ◌<◌, IsTrue};
 ghost use Rattle.hot_chain.specs.Chain.{has_aborted, is_root, LeadsTo, IsLowestRoot};
 
 use crate::walk::chain;

@@ -1,8 +1,7 @@
 //! The walk along a chain. It trusts nothing that it reads: it returns on any page, and visits no slot twice.
 
-ghost use Rattle.std.specs.Prelude.{◌≡◌, IfSome, ◌↔◌, IsTrue};
+ghost use Rattle.std.specs.Prelude.{◌≡◌, IfSome};
 ghost use Rattle.page_slots.specs.Slots.{IsThere};
-ghost use Rattle.commit_status.specs.Window.{status_of};
 ghost use Rattle.hot_chain.specs.Chain.{has_aborted, first_of, is_replaced, next_of, IsChain};
 ghost use Rattle.hot_chain.specs.Laws.{ChainIsOne};
 

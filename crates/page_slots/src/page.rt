@@ -1,6 +1,6 @@
 //! Pages.
 
-ghost use Rattle.std.specs.Prelude.{◌≡◌, ◌≤◌, ◌<◌, ◌+◌, ◌%◌, ◌^◌, ℕ, IsTrue, [], true, false, length, OnOk, OnErr, IfOk, IfSome, IsSome, ◌↔◌, None, MatchOption, if◌then◌else◌};
+ghost use Rattle.std.specs.Prelude.{◌≡◌, ◌≤◌, ◌<◌, ◌+◌, [], true, false, length, OnOk, OnErr, IfOk, IfSome, IsSome, ◌↔◌, None, MatchOption};
 ghost use Rattle.tuple_header.specs.Version.{rounded_size_of};
 ghost use Rattle.tuple_header.specs.Faults.{header_fault};
 ghost use Rattle.page_slots.specs.Store.{slot_in, is_bare};
@@ -208,8 +208,8 @@ impl Page {
         self.add_row(version.header, &version.row)
     }
 
-    /// Adds a version with this header of this row, which it copies nowhere but into its place: in the lowest unused slot, or else in a new last one, and answers the slot's number. It is full
-    /// exactly where the version's size is over the room.
+    /// Adds a version with this header of this row, which it copies nowhere but into its place: in the lowest unused slot, or else
+    /// in a new last one, and answers the slot's number. It is full exactly where the version's size is over the room.
     pub fn add_row(&mut self, header: Header, row: &Row) -> Result<u16, AddFault>
         requires faultless { header_fault header ≡ None }
         ensures full { (result ≡ Err AddFault.Full) ↔ (room_of self.old.slots < rounded_size_of row.now) }

@@ -1,9 +1,9 @@
 //! Writes. None takes memory, and each fits: whoever calls one has tested the page's room, and asked for memory by
 //! `Page::make_room` where no slot is unused.
 
-ghost use Rattle.std.specs.Prelude.{◌≡◌, ◌≢◌, ◌≤◌, ◌<◌, ◌+◌, ◌⊎◌, ℕ, None, true, false, IfSome};
+ghost use Rattle.std.specs.Prelude.{◌≡◌, ◌≤◌, ◌<◌, ◌+◌, ◌⊎◌, None, true, false};
 ghost use Rattle.xid_circle.specs.Circle.{IsNormal};
-ghost use Rattle.page_slots.specs.Slots.{room_of, free_number, with_added, has_unused, next_change, header_at, IsNormalAt};
+ghost use Rattle.page_slots.specs.Slots.{room_of, free_number, with_added, has_unused, next_change, IsNormalAt};
 ghost use Rattle.page_slots.specs.declared.slot.Slot.{Slot};
 ghost use Rattle.tuple_header.specs.Version.{rounded_size_of};
 ghost use Rattle.tuple_header.specs.Faults.{header_fault};

@@ -2,7 +2,6 @@
 
 ghost use Rattle.std.specs.Prelude.{◌≡◌, ◌≤◌, ◌<◌, ◌↔◌, ℕ, IsTrue, None, Some, true, length, slice_index};
 ghost use Rattle.xid_circle.specs.Circle.{IsNormal};
-ghost use Rattle.tuple_header.specs.Marks.{is_heap_only};
 ghost use Rattle.hot_chain.specs.Chain.{is_root};
 ghost use Rattle.prune.specs.Actions.{AreInOrder, CanApply, action_of};
 ghost use Rattle.prune.specs.Pruning.{loose_action};

@@ -1,6 +1,6 @@
 //! A leaf: entries that stand together in memory.
 
-ghost use Rattle.std.specs.Prelude.{◌≡◌, ◌<◌, ◌≤◌, ◌↔◌, [], ◌∷◌, refl, length, drop, IfOk, IfErr, IsTrue, slice_get, vec_capacity, Contains};
+ghost use Rattle.std.specs.Prelude.{◌≡◌, ◌<◌, ◌≤◌, ◌↔◌, [], ◌∷◌, refl, length, IfOk, IfErr, IsTrue, slice_get, vec_capacity, Contains};
 ghost use Rattle.std.proofs.Common.{arith};
 ghost use Rattle.std.specs.List.{insert};
 ghost use Rattle.root_index.specs.Order.{IsAscending};

@@ -10,7 +10,7 @@ ghost use Rattle.root_index.specs.Nodes.{all, rank_in, AreNeat, IsSpotIn, IsEntr
 
 use crate::entry::Entry;
 use crate::node::{Half, MAX_PARTS, Node};
-use std::alloc::{AllocError, Global};
+use std::alloc::AllocError;
 use xid_circle::Tid;
 
 /// A place among nodes.

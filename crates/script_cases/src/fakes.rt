@@ -1,7 +1,5 @@
 //! A reader and a writer that take little at a time, and fail.
 
-ghost use Rattle.std.specs.Prelude.{◌≡◌};
-
 use std::alloc::Global;
 use std::io;
 use std::io::{ErrorKind, Read, Write};

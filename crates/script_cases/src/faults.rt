@@ -1,7 +1,5 @@
 //! The words and exit statuses of faults.
 
-ghost use Rattle.std.specs.Prelude.{◌≡◌};
-
 use script::{ShellFault, Watch};
 use std::test::Fail;
 

@@ -3,8 +3,6 @@
 //! These functions promise nothing: a test asks whether all came as it should, and its proof, which is only that it is safe,
 //! needs no promise of the shell.
 
-ghost use Rattle.std.specs.Prelude.{◌≡◌};
-
 use crate::fakes::small;
 use script::{ShellFault, Watch, run_script};
 use std::alloc::Global;

@@ -10,7 +10,7 @@ use arrayvec::ArrayVec;
 use heap_pages::{MAX_PAGES, Pages, Place, free_byte};
 use page_slots::{AddFault, Page, Slot};
 use root_index::{Entry, Near, RootIndex, members_determine};
-use std::alloc::{AllocError, Global};
+use std::alloc::AllocError;
 use std::fmt::Debug;
 use std::process::Abort;
 use tuple_header::{Header, Row, RowRef, Tuple, TupleFault, decode, encode, fault_of, reads_back};

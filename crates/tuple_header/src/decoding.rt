@@ -1,6 +1,6 @@
 //! A version from its bytes.
 
-ghost use Rattle.std.specs.Prelude.{◌≡◌, ◌≤◌, ◌+◌, length, find, Some, None, IfOk};
+ghost use Rattle.std.specs.Prelude.{◌≡◌, ◌≤◌, ◌+◌, length, Some, None, IfOk};
 ghost use Rattle.tuple_header.specs.Layout.{header_at, column_at, columns_at, row_at, encoding};
 ghost use Rattle.tuple_header.specs.Faults.{header_fault, layout_fault, decoding};
 

@@ -1,6 +1,6 @@
 //! Rows and their versions.
 
-ghost use Rattle.std.specs.Prelude.{◌≡◌, ◌≤◌, ◌+◌, ◌*◌, ◌/◌, length, None};
+ghost use Rattle.std.specs.Prelude.{◌≡◌, ◌≤◌, ◌+◌, length, None};
 ghost use Rattle.std.specs.Prelude.{FitsSigned, slice_index_or, pos};
 ghost use Rattle.std.specs.Int.{w64};
 ghost use Rattle.tuple_header.specs.Version.{rounded_size_of};

@@ -7,7 +7,7 @@
 //! that in which they were given. Whoever compares ids keeps those that are in use within such a window.
 #![tactic(auto)]
 
-ghost use Rattle.std.specs.Prelude.{◌≡◌, ◌≤◌, IsTrue, ◌↔◌};
+ghost use Rattle.std.specs.Prelude.{◌≡◌, IsTrue, ◌↔◌};
 ghost use Rattle.xid_circle.specs.Circle.{distance_of, IsNormal, next_of, Precedes, OrderIsThatOfGiving};
 
 /// A transaction id. 0, 1 and 2 are no ids of transactions; all others are normal.
