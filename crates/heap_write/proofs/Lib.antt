@@ -3,6 +3,7 @@ pub mod IndexLemmas
 pub mod PageLemmas
 pub mod IdLemmas
 pub mod PlaceLemmas
+pub mod SlotMemory
 pub mod Reserving
 pub mod KeyLemmas
 pub mod Writing

@@ -135,6 +135,6 @@ full-grown pages n before after size at same small room =
     let here : size ≤ room_of (page_in pages n).slots = subst (λ slots. size ≤ room_of slots) is room in
     let no : 1 ≤ 0 = omega (arith, here, small) in omega (arith, no)
 
-pub spare-made : {E : Type 0} (r : Result (Unit {0}) E) (b : Bool) (spare : ℕ) → b ≡ is_err r → b ≡ false → OnOk r (1 ≤ spare) → 0 < spare
-spare-made (Ok x) b spare is fine room = omega (arith, room)
-spare-made (Err e) b spare is fine room = absurd (true≢false (sym is ∙ fine))
+pub slot-made : {E : Type 0} (r : Result (Unit {0}) E) (b : Bool) (page : PageView) → b ≡ is_err r → b ≡ false → OnOk r (HasSlot page) → HasSlot page
+slot-made (Ok x) b page is fine has = has
+slot-made (Err e) b page is fine has = absurd (true≢false (sym is ∙ fine))

@@ -28,9 +28,9 @@ pub record HasIds (w : Window) (own : Own) : Type 0 where
 abbrev pub page_in : List PageView → ℕ → PageView
 page_in pages n = slice_index_or pages n unused_page
 
--- a slot is unused, or there is memory for one more
+-- a slot is unused, or there is memory for one more, or there may be no more: a page has at most 291
 abbrev pub HasSlot : PageView → Type 0
-HasSlot page = (has_unused page.slots ≡ true) ⊎ (0 < page.spare)
+HasSlot page = (has_unused page.slots ≡ true) ⊎ (0 < page.spare) ⊎ (291 ≤ length page.slots)
 
 -- the page is as it was, though there may be more memory
 pub record SamePage (page page' : PageView) : Type 0 where

@@ -1,5 +1,5 @@
--- Why a write is not done, of the first reason in this order, and what it leaves: all as it was, though there may be more
--- memory; only an update that finds no room leaves the page of the old version pruned.
+-- Why a write is not done, of the first reason in the order of its tests, and what it leaves: all as it was, though there may
+-- be more memory; only an update that ends in NoRoom or Gone may leave the page of the old version pruned.
 use Rattle.std.specs.Prelude.{◌≡◌, ◌⊎◌, ℕ, ◌<◌, ◌≤◌, false, length}
 use Rattle.xid_circle.specs.declared.Tid.{Tid}
 use Rattle.tuple_header.specs.declared.version.Row.{Row}
@@ -17,9 +17,10 @@ use Rattle.heap_write.specs.Heap.{HeapView, page_on, Keeps}
 use Rattle.heap_write.specs.Writes.{NeedsFreeze, IsFull, Readies, KeepsValues}
 use Rattle.heap_write.specs.Indexes.{NeedsEntry}
 
--- a new slot of a page takes memory
+-- a new slot of a page, which has fewer than the 291 that there are at most, takes memory
 pub record NeedsSlot (page : PageView) : Type 0 where
   pub all_used : has_unused page.slots ≡ false
+  pub few : length page.slots < 291
   pub full : page.spare ≡ 0
 
 -- the new ids take memory: the table of ids has to grow for them, or the session's own list
@@ -44,14 +45,14 @@ abbrev pub IsThere : HeapView → Tid → Type 0
 IsThere h place = IsNormalAt (page_on h place.page).slots place.slot
 
 -- Something has to grow for an update: the ids, the page's list of slots, or an index where a value in one changes. Where the
--- row has no room on the page, pruning may make it there or not, so both are made ready before: a slot more on the page, and
+-- row has no room on the page, pruning may make it there or not, so both are made ready before: a slot on the page, and
 -- whatever a new root takes.
 pub data UpdateNeedsMemory (h : HeapView) (own : Own) (place : Tid) (row : Row) : Type 0 where
   for_ids : NeedsIds h own → UpdateNeedsMemory h own place row
   for_slot : NeedsSlot (page_on h place.page) → UpdateNeedsMemory h own place row
   for_entry : ¬ KeepsValues h place row → NeedsEntry h.indexes → UpdateNeedsMemory h own place row
   to_prune : room_of (page_on h place.page).slots < rounded_size_of row
-      → ((page_on h place.page).spare ≡ 0) ⊎ RootNeedsMemory h own (rounded_size_of row) → UpdateNeedsMemory h own place row
+      → NeedsSlot (page_on h place.page) ⊎ RootNeedsMemory h own (rounded_size_of row) → UpdateNeedsMemory h own place row
 
 -- the page of the old version was made ready, and this is so then
 pub record WhenReady (h h' : HeapView) (own : Own) (place : Tid) (horizon size : ℕ) (P : HeapView → Type 0) : Type 0 where

@@ -1,6 +1,6 @@
 //! The pages, the ids and the indexes of a table.
 
-ghost use Rattle.std.specs.Prelude.{◌≡◌, ◌≤◌, ◌<◌, ℕ, [], length, slice_get, option_copied, Contains};
+ghost use Rattle.std.specs.Prelude.{◌≡◌, ◌≤◌, ◌<◌, ℕ, [], slice_get, option_copied, Contains};
 ghost use Rattle.xid_circle.specs.Circle.{IsNormal};
 ghost use Rattle.commit_status.specs.Window.{IsActive, IsWindow};
 ghost use Rattle.commit_status.specs.Changes.{numbers, Finishes};
@@ -16,7 +16,8 @@ use std::marker::Model;
 use thiserror::Error;
 use xid_circle::Xid;
 
-/// Why a write was not done, in the order of the tests.
+/// Why a write was not done. An insert tests NoRoom before it asks for memory; an update asks for all that it may need before it
+/// prunes, and finds only then that the version went or that there is no room.
 #[derive(Clone, Copy, Debug, PartialEq, Eq, Error)]
 pub enum WriteFault {
     /// There is no version at the place, or it went when its page was pruned.
@@ -28,6 +29,7 @@ pub enum WriteFault {
     /// No page has room for the row, and there may be no further page.
     #[error("there is no room")]
     NoRoom,
+    /// Memory was refused.
     #[error("there is no memory")]
     NoMemory,
 }
@@ -43,7 +45,7 @@ pub struct HeapState {
 }
 
 impl Model for HeapState {
-    ghost use Rattle.std.specs.Prelude.{◌≤◌, length};
+    ghost use Rattle.std.specs.Prelude.{◌≤◌};
     ghost use Rattle.heap_write.specs.Heap.{HeapView};
 
     ghost Value = { HeapView };

@@ -4,7 +4,7 @@
 //! changes nothing; only an update that ends in NoRoom or Gone may have pruned the page of the old version.
 //! `specs/Writes.antt` says what each write does, `specs/Indexes.antt` what that is in an index, and `specs/Refusals.antt` why
 //! one is refused. Whatever has to grow is grown before the first change, so that nothing is left half done
-//! (`specs/Growth.antt`). What is looked for is found through the index by key.
+//! (`specs/Growth.antt`). What a step looks for by key is found through the index by key; a cursor goes along any.
 #![tactic(auto)]
 
 mod cleaning;

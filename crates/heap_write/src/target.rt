@@ -24,13 +24,16 @@ pub(crate) enum Target {
     New(Page),
 }
 
-/// Makes room in memory for one more slot where none is unused.
+/// How many slots a page may have (PostgreSQL, `MaxHeapTuplesPerPage`).
+const MOST_SLOTS: u16 = 291;
+
+/// Makes room in memory for one more slot where none is unused, and there may be one more.
 pub(crate) fn reserve_slot(page: &mut Page) -> Result<(), AllocError>
     ensures same { SamePage page.old page.new }
     ensures room { OnOk result (HasSlot page.new) }
     ensures needs { OnErr result (NeedsSlot page.old) }
 {
-    if page.free_number() <= page.slots() {
+    if page.free_number() <= page.slots() || page.slots() >= MOST_SLOTS {
         return Ok(());
     }
     page.make_room(1)

@@ -27,10 +27,11 @@ impl HeapState {
     /// each level that has none is given one before. Where the row has no room on its page, that page is pruned at the
     /// horizon, a normal id. The new version goes to the same page where it has room there, else where a new root goes. It
     /// is heap-only where it stays on the page and no value in an index changes, else a root, with an entry in each index.
-    /// It answers Gone exactly where no version is there, before or after that pruning, else NeedsFreeze exactly where the
-    /// levels lack more ids than can be given, else NoRoom exactly where all pages that there may be are in use and none has
-    /// room, and NoMemory only where something has to grow. A refused update gives no id, and changes nothing but that the
-    /// page may be pruned. (README.HOT; PostgreSQL, `heap_update` in src/backend/access/heap/heapam.c.)
+    /// It answers Gone exactly where no version is there, else NeedsFreeze exactly where the levels lack more ids than can be
+    /// given, else NoMemory only where something has to grow; then, where the page was pruned, Gone where the version went
+    /// with that, else NoRoom exactly where all pages that there may be are in use and none has room. A refused update gives
+    /// no id, and changes nothing but that the page may be pruned. (README.HOT; PostgreSQL, `heap_update` in
+    /// src/backend/access/heap/heapam.c.)
     pub fn update(
         &mut self,
         own: &mut OwnIds,
@@ -177,16 +178,16 @@ impl HeapState {
         ensures none { lacks own.old.ids own.old.saved ≡ 0 → self.new.table ≡ self.old.table }
         ensures own { SameOwn own.old own.new }
         ensures has_ids { OnOk result (HasIds self.new.table own.new) }
-        ensures has_slot { OnOk result (0 < (page_on self.new number).spare) }
+        ensures has_slot { OnOk result (HasSlot (page_on self.new number)) }
         ensures has_entries { OnOk result (HasEntries self.new.indexes) }
         ensures chosen { IfOk result (λ found. IsChosen self.new size found) }
         ensures ready { IfOk result (λ found. IfSome found (λ target. IsReady self.new.pages size target)) }
-        ensures needs { OnErr result (((page_on self.old number).spare ≡ 0) ⊎ RootNeedsMemory self.old own.old size) }
+        ensures needs { OnErr result (NeedsSlot (page_on self.old number) ⊎ RootNeedsMemory self.old own.old size) }
     {
         if reserve_ids(&mut self.table, own).is_err() || self.indexes.make_room().is_err() {
             return Err(AllocError);
         }
-        if self.pages.page_mut(number).make_room(1).is_err() {
+        if reserve_slot(self.pages.page_mut(number)).is_err() {
             return Err(AllocError);
         }
         reserve_place(self.alloc, &mut self.pages, size, self.max_pages)
@@ -204,7 +205,7 @@ impl HeapState {
         requires newest { (x : ℕ) → level_id own.old.ids own.old.saved ≡ Some x → IsGiven self.old.table x }
         requires free { ¬ NeedsFreeze self.old.table own.old }
         requires has_ids { HasIds self.old.table own.old }
-        requires has_slot { 0 < (page_on self.old place.page).spare }
+        requires has_slot { HasSlot (page_on self.old place.page) }
         requires has_entries { HasEntries self.old.indexes }
         requires chosen { room_of (page_on self.old place.page).slots < rounded_size_of row.now → IsChosen self.old (rounded_size_of row.now) target }
         requires ready { IfSome target (λ t. IsReady self.old.pages (rounded_size_of row.now) t) }

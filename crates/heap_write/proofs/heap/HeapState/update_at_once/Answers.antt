@@ -1,8 +1,23 @@
+use Rattle.std.proofs.Common.{◌≤◌, sym, subst}
+use Rattle.tuple_header.specs.Version.{rounded_size_of}
+use Rattle.page_slots.specs.Slots.{room_of}
 use Rattle.heap_write.proofs.IdLemmas.{takes-grown}
 use Rattle.heap_write.proofs.PageLemmas.{there-within}
 use Rattle.heap_write.proofs.Writing.{values-kept, values-back, grown-page, on_page-grown}
 use Rattle.heap_write.proofs.Updating.{kept-slots}
+use Rattle.heap_write.proofs.SlotMemory.{slot-grown}
 use Rattle.heap_write.proofs.heap.HeapState.update_at_once.Goals as goal
+
+pub replace_on_page-requires-clause-room : goal.replace_on_page-requires-clause-room
+replace_on_page-requires-clause-room c =
+    let h1 = c.reserve_on_page-reserved.new.self in
+    let slots = kept-slots c.args.self.now h1 c.args.place.page c.reserve_on_page-reserved.ensures.keeps in
+    subst (λ s. rounded_size_of c.args.row.now ≤ room_of s) (sym slots) c.requires.room
+
+pub replace_on_page-requires-clause-has_slot : goal.replace_on_page-requires-clause-has_slot
+replace_on_page-requires-clause-has_slot c =
+    let h = c.args.self.now in
+    slot-grown h c.reserve_on_page-reserved.new.self c.args.place.page (there-within h c.args.place c.requires.there) c.in-Ok.ensures.grows
 
 pub replace_on_page-requires-clause-heap_only : goal.replace_on_page-requires-clause-heap_only
 replace_on_page-requires-clause-heap_only c =

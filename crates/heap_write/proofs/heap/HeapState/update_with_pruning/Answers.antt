@@ -1,15 +1,21 @@
-use Rattle.std.proofs.Common.{◌≡◌, ◌⊎◌, ℕ, subst}
+use Rattle.std.proofs.Common.{◌⊎◌, ℕ, subst}
 use Rattle.xid_circle.specs.declared.Xid.{Xid}
 use Rattle.heap_write.specs.Writes.{TakesIds}
 use Rattle.heap_write.specs.Heap.{page_on}
-use Rattle.heap_write.specs.Refusals.{RootNeedsMemory, IsThere}
+use Rattle.heap_write.specs.Refusals.{NeedsSlot, RootNeedsMemory, IsThere}
 use Rattle.heap_write.specs.Refusals.UpdateNeedsMemory.{to_prune}
 use Rattle.tuple_header.specs.Version.{rounded_size_of}
 use Rattle.heap_write.specs.Growth.{IsReady}
 use Rattle.heap_write.specs.Steps.{IsChosen}
 use Rattle.heap_write.proofs.Writing.{both-ok}
 use Rattle.heap_write.proofs.Updating.{both-err, some-weaker, kept-full, pruned-chosen, pruned-ready, updates, fails}
+use Rattle.heap_write.proofs.SlotMemory.{slot-pruned}
 use Rattle.heap_write.proofs.heap.HeapState.update_with_pruning.Goals as goal
+
+pub update_ready-requires-clause-has_slot : goal.update_ready-requires-clause-has_slot
+update_ready-requires-clause-has_slot c =
+    let done = c.prune_page.ensures in
+    slot-pruned c.reserve_update-reserved.new.self c.prune_page.new.self c.args.place.page c.args.horizon.0 done.prunes done.spare c.in-Ok.ensures.has_slot
 
 pub update_ready-requires-clause-chosen : goal.update_ready-requires-clause-chosen
 update_ready-requires-clause-chosen c small =
@@ -48,7 +54,7 @@ pub returns-in-Err-clause-fault : goal.returns-in-Err-clause-fault
 returns-in-Err-clause-fault c =
     let h = c.args.self.now in
     let own = c.args.own.now in
-    let Needs : ℕ → Type 0 = λ size. ((page_on h c.args.place.page).spare ≡ 0) ⊎ RootNeedsMemory h own size in (
+    let Needs : ℕ → Type 0 = λ size. NeedsSlot (page_on h c.args.place.page) ⊎ RootNeedsMemory h own size in (
       c.requires.there,
       c.requires.free,
       to_prune c.requires.room (subst Needs c.row_size.ensures.value c.in-Err.ensures.needs),

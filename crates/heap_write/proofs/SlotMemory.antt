@@ -1,0 +1,88 @@
+-- What stands ready on a page for a new version stays so when the page is pruned: no slot goes, and none that is unused is
+-- used.
+use Rattle.std.proofs.Common.{◌≡◌, ℕ, zero, suc, ◌<◌, ◌≤◌, ◌==◌, ◌≢◌, Bool, true, false, if◌then◌else◌, nat_eq, List, length, take, get_or, Option, Some, None, slice_get, sym, ap, subst, refl, ◌∙◌, arith, inl, inr}
+use Rattle.std.proofs.lemmas.Bool.{cases_lt, true≢false, lt-ltb, eqb-true}
+use Rattle.std.proofs.lemmas.List.Sums.{fails_before_first}
+use Rattle.std.proofs.lemmas.Option.{slice_get-get_or, slice_get_within}
+use Rattle.std.specs.List.{position_or_len, list_any}
+use Rattle.page_slots.specs.View.{PageView}
+use Rattle.page_slots.specs.declared.slot.Slot.{Slot}
+use Rattle.page_slots.specs.declared.slot.Slot.TheVariants.{Unused}
+use Rattle.page_slots.specs.Slots.{slot_at, header_at, is_unused, has_unused, free_number}
+use Rattle.page_slots.proofs.SlotLemmas.{free_number-unused, there-from_slot_at}
+use Rattle.tuple_header.specs.declared.version.Header.{Header}
+use Rattle.commit_status.specs.Window.{Window}
+use Rattle.hot_chain.specs.Chain.{is_root_in}
+use Rattle.prune.specs.declared.action.Action.{Action}
+use Rattle.prune.specs.declared.action.Action.TheVariants as action
+use Rattle.prune.specs.Actions.{acted}
+use Rattle.prune.specs.Pruning.{root_action, loose_in, Does, by_root, by_none, IsPruned}
+use Rattle.prune.proofs.Links.{same_some}
+use Rattle.heap_write.specs.Heap.{HeapView, page_on}
+use Rattle.heap_write.specs.Writes.{Prunes}
+use Rattle.heap_write.specs.Growth.{HasSlot, GrowsPage, page_in}
+use Rattle.heap_write.proofs.PageLemmas.{page-at, page-set}
+
+-- some slot is unused where this one is
+has-unused : (slots : List Slot) (n : ℕ) → slot_at slots n ≡ Some Unused → has_unused slots ≡ true
+has-unused slots zero at = absurd (cc)
+has-unused slots (suc i) at =
+    let within = slice_get_within slots i Unused at in
+    elim (cases_lt (position_or_len is_unused slots) (length slots)) [
+      | inl some ↦ lt-ltb (position_or_len is_unused slots) (length slots) some
+      | inr none ↦
+          let here = same_some (get_or slots i Unused) Unused (sym (slice_get-get_or slots i Unused within) ∙ at) in
+          let before = fails_before_first is_unused slots i Unused (omega (arith, within, none)) in
+          absurd (true≢false (sym (ap is_unused here) ∙ before))
+    ]
+
+-- Pruning does to an unused slot nothing, or makes it unused.
+
+unuse-same : (b : Bool) → acted (Some Unused) (if b then Some action.Unuse else None) ≡ Some Unused
+unuse-same true = refl
+unuse-same false = refl
+
+loose-same : (w : Window) (o : Option Header) → acted (Some Unused) (loose_in w o) ≡ Some Unused
+loose-same w None = refl
+loose-same w (Some h) = unuse-same _
+
+either-same : (here gone : Bool) (o : Option Action) → here ≢ true → acted (Some Unused) (if here then o else (if gone then Some action.Unuse else None)) ≡ Some Unused
+either-same true gone o other = absurd (other refl)
+either-same false gone o other = unuse-same gone
+
+does-same : (w : Window) (horizon : ℕ) (slots : List Slot) (n : ℕ) (answer : Option Action) → slot_at slots n ≡ Some Unused → Does w horizon slots n answer
+    → acted (Some Unused) answer ≡ Some Unused
+does-same w horizon slots n answer at (by_root root chain cut o c e) =
+    let no_root : (n == root) ≢ true = λ here. true≢false (sym o.starts ∙ ap (λ k. is_root_in (slot_at slots k)) (sym (eqb-true n root here)) ∙ ap is_root_in at) in
+    ap (acted (Some Unused)) e ∙ either-same (n == root) (list_any (nat_eq n) (take cut chain)) (root_action cut (slice_get chain cut)) no_root
+does-same w horizon slots n answer at (by_none l e) = ap (acted (Some Unused)) e ∙ loose-same w (header_at slots n)
+
+unused-pruned : (w : Window) (horizon : ℕ) (slots after : List Slot) → IsPruned w horizon slots after → has_unused slots ≡ true → has_unused after ≡ true
+unused-pruned w horizon slots after pruned some =
+    let n = free_number slots in
+    let at = free_number-unused slots some in
+    let slot = pruned.each n (there-from_slot_at slots n Unused at) in
+    has-unused after n (slot.is ∙ ap (λ o. acted o slot.answer) at ∙ does-same w horizon slots n slot.answer at slot.does)
+
+pub slot-pruned : (h ready : HeapView) (n horizon : ℕ) → Prunes h ready n horizon → (page_on ready n).spare ≡ (page_on h n).spare → HasSlot (page_on h n) → HasSlot (page_on ready n)
+slot-pruned h ready n horizon p spare has =
+    let within = slice_get_within h.pages.pages n p.before p.at in
+    let old : page_on h n ≡ p.before = page-at h.pages.pages n p.before p.at in
+    let new : page_on ready n ≡ p.after = ap (λ (v : HeapView). page_on v n) p.is ∙ page-set h.pages.pages n p.after within in
+    elim has [
+      | inl some ↦
+          let before = subst (λ (q : PageView). has_unused q.slots ≡ true) old some in
+          inl (subst (λ (q : PageView). has_unused q.slots ≡ true) (sym new) (unused-pruned h.table horizon p.before.slots p.after.slots p.pruned before))
+      | inr more ↦ elim more [
+        | inl memory ↦ inr (inl (subst (λ s. 0 < s) (sym spare) memory))
+        | inr many ↦
+            let before = subst (λ (q : PageView). 291 ≤ length q.slots) old many in
+            inr (inr (subst (λ (q : PageView). 291 ≤ length q.slots) (sym new) (subst (λ count. 291 ≤ count) (sym p.pruned.count) before)))
+      ]
+    ]
+
+-- a slot stands ready on a page that has grown in memory alone
+pub slot-grown : (h h1 : HeapView) (n : ℕ) → n < length h.pages.pages → GrowsPage h.pages h1.pages n → HasSlot (page_on h1 n)
+slot-grown h h1 n within grows =
+    let is : page_on h1 n ≡ grows.page = ap (λ p. page_in p.pages n) grows.pages_are ∙ page-set h.pages.pages n grows.page within in
+    subst (λ p. HasSlot p) (sym is) grows.has_slot
