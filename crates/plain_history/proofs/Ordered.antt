@@ -56,7 +56,7 @@ before-other index a b ne e =
     (λ comes. let yes : comes_before index a b ≡ true = (Decides-comes (value_in index a) (value_in index b) a.key b.key).1 comes in let never : false ≡ true = sym e ∙ yes in absurd (cc)))
 
 -- the row of a key in a list with one more at its head
-row_in-head : (row : Row) (rows : List Row) (key : ℕ) → row.key ≡ key → row_in (row ∷ rows) key ≡ Some row
+pub row_in-head : (row : Row) (rows : List Row) (key : ℕ) → row.key ≡ key → row_in (row ∷ rows) key ≡ Some row
 row_in-head row rows key same = cond-true (nat_eq row.key key) (Some row) (row_in rows key) (eq-eqb row.key key same)
 
 row_in-tail : (row : Row) (rows : List Row) (key : ℕ) → row.key ≢ key → row_in (row ∷ rows) key ≡ row_in rows key

@@ -1,9 +1,10 @@
 -- What a change of the lists makes of the world.
-use Rattle.std.proofs.Common.{◌≡◌, ℕ, ◌<◌, List, [], ◌∷◌, length, set, Option, Some, None, Bool, true, false, cond, nat_eq, refl, sym, ap, ◌∙◌, subst, arith, inl, inr, get_or, take, drop, max}
+use Rattle.std.proofs.Common.{◌≡◌, ℕ, ◌<◌, ◌≤◌, List, [], ◌∷◌, length, set, Option, Some, None, Bool, true, false, cond, nat_eq, refl, sym, ap, ◌∙◌, subst, arith, inl, inr, get_or, take, drop, max}
 use Rattle.std.specs.Prelude.{zero, suc, Result, Ok, Err, OnOk, OnErr, IfOk, IsTrue}
 use mathlib.Core.Path.{fun_ext}
 use Rattle.std.specs.Option.{option_map, option_flatten}
 use Rattle.std.proofs.lemmas.Bool.{cases_eq}
+use Rattle.std.proofs.lemmas.Option.{none-some, same_Some}
 use Rattle.plain_history.specs.declared.plain.PlainSession.{PlainSession}
 use Rattle.history.specs.History.{Transaction}
 use Rattle.history.specs.World.{OpenSession, World, Cursor, Order}
@@ -13,10 +14,10 @@ use Rattle.plain_history.specs.declared.cursor.PlainOrder.{PlainOrder}
 use Rattle.plain_history.specs.declared.cursor.PlainOrder.TheVariants.{Index, Heap, Keys}
 use Rattle.plain_history.specs.declared.refusal.Handed.{Handed}
 use Rattle.plain_history.specs.declared.refusal.Handed.TheVariants.{Rows, Keys as HandedKeys, End}
-use Rattle.history.specs.Cursors.{keys_of, HandsOut, HandsOutKeys}
+use Rattle.history.specs.Cursors.{keys_of, HandsOut, HandsOutKeys, IsOver}
 use Rattle.plain_history.specs.Order.{KeptCursor, IsInOrder, index_of, row_in}
-use Rattle.plain_history.proofs.Ordered.{row_in-drop, next_rows}
-use Rattle.plain_history.specs.Answers.{with_transaction, HandsFrom, HandsOn}
+use Rattle.plain_history.proofs.Ordered.{row_in-head, row_in-drop, next_rows}
+use Rattle.plain_history.specs.Answers.{with_transaction, Hands, HandsFrom, HandsOn, HasLeft}
 use Rattle.plain_history.specs.Plain.{Plain, open_of, order_of, cursor_of, session_in, wait_in, world_of}
 use Rattle.history.proofs.Places.{slice_get-set_same, slice_get-set_other}
 use Rattle.plain_history.proofs.Sessions.{session_in-read}
@@ -174,3 +175,54 @@ hands_on p q s x y n End seen within within' is hands m at = (
   λ c there. hands.0 m c (sym (session_in-read p.sessions s x within is) ∙ (ap (λ (r : Plain). session_in r.sessions s) seen ∙ at)) there,
   stays_so p q s x y seen within within' is hands.1,
 )
+
+-- something is left for a cursor where a row is
+some_left : (old : KeptCursor) → 0 < length old.rest → ¬ IsOver (cursor_of old).rest
+some_left old some over = by old.rest some over
+  where
+    by : (rest : List Row) → 0 < length rest → ¬ IsOver (row_in rest)
+    by [] some over = let no : 1 ≤ 0 = omega (arith, some) in omega (arith, no)
+    by (row ∷ rest) some over = none-some row (sym (over row.key) ∙ row_in-head row rest row.key refl)
+
+pub left_on : {A E : Type 0} (old : KeptCursor) (answer : Bool) (r : Result A E) → (old.rest ≡ [] → IsTrue answer) → answer ≡ false
+    → OnErr r (¬ IsOver (cursor_of old).rest)
+left_on old answer (Ok x) says isnt = tt
+left_on old answer (Err e) says isnt = some_left old (not_empty old.rest answer says isnt)
+
+-- What the session's cursor hands out is what the session does.
+
+pub hands_from : {E : Type 0} (before : Option PlainSession) (m : PlainSession) (old new : KeptCursor) (n : ℕ) (r : Result Handed E) → before ≡ Some m → m.cursor ≡ Some old
+    → IfOk r (λ handed. Hands (cursor_of old) n handed (cursor_of new)) → IfOk r (λ handed. HandsFrom n handed (option_map open_of before) (option_map open_of (Some (record m { cursor = Some new }))))
+hands_from before m old new n (Err e) is has hands = hands
+hands_from before m old new n (Ok handed) is has hands =
+    subst (λ x. HandsFrom n handed x (Some (record (open_of m) { cursor = Some (cursor_of new) }))) (sym (ap (option_map open_of) is)) (by handed hands)
+  where
+    there : (open_of m).cursor ≡ Some (cursor_of old)
+    there = ap (option_map cursor_of) has
+
+    same : (u : OpenSession) (c : Cursor) → Some (open_of m) ≡ Some u → u.cursor ≡ Some c → cursor_of old ≡ c
+    same u c at cursor = same_Some (cursor_of old) c (sym there ∙ (ap (λ (o : OpenSession). o.cursor) (same_Some (open_of m) u at) ∙ cursor))
+
+    by : (handed : Handed) → Hands (cursor_of old) n handed (cursor_of new) → HandsFrom n handed (Some (open_of m)) (Some (record (open_of m) { cursor = Some (cursor_of new) }))
+    by (Rows rows) h = (
+      λ u c at cursor. subst (λ (d : Cursor). HandsOut d.order n d.rest rows.items) (same u c at cursor) h.0,
+      ap (λ d. Some (record (open_of m) { cursor = d })) (ap Some h.1 ∙ ap (option_map (past (keys_of rows.items))) (sym there)),
+    )
+    by (HandedKeys keys) h = (
+      λ u c at cursor. subst (λ (d : Cursor). HandsOutKeys d.order n d.rest keys.items) (same u c at cursor) h.0,
+      ap (λ d. Some (record (open_of m) { cursor = d })) (ap Some h.1 ∙ ap (option_map (past keys.items)) (sym there)),
+    )
+    by End h = (
+      λ u c at cursor. subst (λ (d : Cursor). IsOver d.rest) (same u c at cursor) h.0,
+      ap (λ d. Some (record (open_of m) { cursor = d })) (ap Some h.1 ∙ sym there),
+    )
+
+pub left_from : {A E : Type 0} (before : Option PlainSession) (m : PlainSession) (old : KeptCursor) (r : Result A E) → before ≡ Some m → m.cursor ≡ Some old
+    → OnErr r (¬ IsOver (cursor_of old).rest) → OnErr r (HasLeft (option_map open_of before))
+left_from before m old r is has left =
+    on_err r (λ some. (open_of m, cursor_of old, ap (option_map open_of) is, ap (option_map cursor_of) has, some)) left
+
+-- and for a session's
+pub left_in : (p q : Plain) (s : ℕ) (x : Option PlainSession) → p ≡ q → s < length p.sessions → x ≡ get_or p.sessions s x → HasLeft (option_map open_of x)
+    → HasLeft ((world_of q).session s)
+left_in p q s x seen within is left = subst HasLeft (sym (session_in-read p.sessions s x within is) ∙ ap (λ (r : Plain). session_in r.sessions s) seen) left

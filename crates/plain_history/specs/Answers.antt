@@ -168,6 +168,14 @@ HandsOn w s n m (Rows rows) after = ((c : Cursor) → m.cursor ≡ Some c → Ha
 HandsOn w s n m (Keys keys) after = ((c : Cursor) → m.cursor ≡ Some c → HandsOutKeys c.order n c.rest keys.items) × (after ≡ change w s (with_taken keys.items))
 HandsOn w s n m End after = ((c : Cursor) → m.cursor ≡ Some c → IsOver c.rest) × (after ≡ stepped w s)
 
+-- something is left for the cursor to hand out
+abbrev pub HasLeft : Option OpenSession → Type 0
+HasLeft session = (m : OpenSession) × (c : Cursor) × (session ≡ Some m) × (m.cursor ≡ Some c) × (¬ IsOver c.rest)
+
+-- a session whose cursor has something left may be handed it
+abbrev pub MayHandOut : World → ℕ → Type 0
+MayHandOut w s = (m : OpenSession) × (c : Cursor) × IsReady w s m × (m.cursor ≡ Some c) × (¬ IsOver c.rest)
+
 -- what a session that has a cursor is handed
 abbrev pub HandsBy : World → ℕ → ℕ → Handed → World → Type 0
 HandsBy w s n handed after = (m : OpenSession) × IsReady w s m × IsSome m.cursor × HandsOn w s n m handed after

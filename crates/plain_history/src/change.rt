@@ -1,16 +1,13 @@
 //! What a step changes: one session, the waits, or the history.
 
 ghost use Rattle.history.specs.Cursors.{kept_where};
-ghost use Rattle.std.specs.Prelude.{◌==◌, map, not, ◌≡◌, ◌∷◌, ◌++◌, [], OnOk, OnErr, Some, None};
+ghost use Rattle.std.specs.Prelude.{◌==◌, map, not, ◌≡◌, OnOk, OnErr, Some, None};
 ghost use Rattle.std.specs.Option.{option_map};
-ghost use Rattle.history.specs.World.{OpenSession};
-ghost use Rattle.history.specs.Moves.{stepped, put, change, as_failed, with_write, with_savepoint, to_savepoint, without_savepoint, rolled_back_to, blocked_by, awaited_no_more, aborted, begun, without_cursor};
+ghost use Rattle.history.specs.Moves.{stepped, put, change, as_failed, with_write, with_savepoint, to_savepoint, without_savepoint, blocked_by, awaited_no_more, without_cursor};
 ghost use Rattle.plain_history.specs.Plain.{open_of, world_of};
-ghost use Rattle.plain_history.specs.Answers.{Becomes, Stays, with_transaction, after_refusal};
+ghost use Rattle.plain_history.specs.Answers.{Becomes, Stays, with_transaction};
 
-use crate::cursor::PlainCursor;
 use crate::plain::{PlainHistory, PlainLevel, PlainSession, PlainTransaction, PlainWrite};
-use crate::refusal::Refused;
 use std::alloc::{AllocError, Global};
 use std::mem;
 

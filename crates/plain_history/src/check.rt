@@ -1,7 +1,7 @@
 //! The tests of a step, in their order.
 
-ghost use Rattle.std.specs.Prelude.{◌≡◌, ◌<◌, ◌≤◌, OnOk, IfErr, IfOk, IsSome, Some, None, length};
-ghost use Rattle.history.specs.World.{OpenSession, IsReady, IsWriter, MayWrite, view};
+ghost use Rattle.std.specs.Prelude.{◌≡◌, ◌<◌, OnOk, IfErr, IfOk, Some, None};
+ghost use Rattle.history.specs.World.{IsReady, IsWriter, MayWrite};
 ghost use Rattle.plain_history.specs.Plain.{open_of, world_of};
 ghost use Rattle.plain_history.specs.Answers.{RefusesOpen, RefusesReady, RefusesWriter, RefusesInsert, RefusesReplace, Meets, MayInsert, MayReplace};
 

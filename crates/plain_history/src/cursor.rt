@@ -1,10 +1,10 @@
 //! Cursors of the plain program: their rows, as lists.
 
-ghost use Rattle.std.specs.Prelude.{◌≡◌, ◌≤◌, ◌∷◌, IsSome, ℕ, List, [], ◌++◌, Option, OnOk, OnErr, IfOk, IsTrue, ◌↔◌, None, Some, false, length, take, drop, map};
+ghost use Rattle.std.specs.Prelude.{◌≡◌, ◌≤◌, ◌∷◌, IsSome, ℕ, [], ◌++◌, OnOk, OnErr, IfOk, IsTrue, ◌↔◌, None, Some, false, length, take, drop};
 ghost use Rattle.history.specs.History.{written, latest};
 ghost use Rattle.history.specs.World.{joined, view};
-ghost use Rattle.history.specs.Cursors.{value_in, keys_of};
-ghost use Rattle.plain_history.specs.Plain.{IsOf, open_of, cursor_of};
+ghost use Rattle.history.specs.Cursors.{value_in, keys_of, IsOver};
+ghost use Rattle.plain_history.specs.Plain.{open_of, cursor_of};
 ghost use Rattle.plain_history.specs.Order.{row_in, comes_before, placed, IsInOrder, has, is_wanted, wanted, Adds, Covers, index_of};
 ghost use Rattle.plain_history.specs.Answers.{Hands};
 
@@ -266,6 +266,7 @@ impl PlainCursor {
     pub(crate) fn hand_out(&mut self, alloc: Global, n: u16) -> Result<Handed, AllocError>
         ensures ok { IfOk result (λ handed. Hands (cursor_of self.old) n handed (cursor_of self.new)) }
         ensures err { OnErr result (self.new ≡ self.old) }
+        ensures left { OnErr result (¬ IsOver (cursor_of self.old).rest) }
     {
         if self.is_over() {
             return Ok(Handed::End);

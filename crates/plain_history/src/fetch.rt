@@ -1,11 +1,11 @@
 //! The steps of a cursor.
 
-ghost use Rattle.std.specs.Prelude.{◌≡◌, Some, OnOk, OnErr, IfOk, IfErr, IsSome};
+ghost use Rattle.std.specs.Prelude.{◌≡◌, Some, OnOk, OnErr, IfOk, IfErr};
 ghost use Rattle.std.specs.Option.{option_map};
-ghost use Rattle.history.specs.World.{OpenSession, IsReady, IsWriter};
+ghost use Rattle.history.specs.World.{OpenSession};
 ghost use Rattle.history.specs.Moves.{change, stepped, with_index_cursor, with_heap_cursor, with_keys_cursor, without_cursor};
 ghost use Rattle.plain_history.specs.Plain.{open_of, world_of};
-ghost use Rattle.plain_history.specs.Answers.{after_refusal, OrMemory, Becomes, Stays, RefusesWriter, RefusesBounds, RefusesNext, MayOpen, MayOpenWithin, HasCursor, HandsFrom, HandsOn, HandsBy, opens};
+ghost use Rattle.plain_history.specs.Answers.{after_refusal, OrMemory, Becomes, Stays, RefusesWriter, RefusesBounds, RefusesNext, MayOpen, MayOpenWithin, HasCursor, HandsFrom, HandsOn, HandsBy, HasLeft, MayHandOut, opens};
 
 use crate::cursor::{Bounds, PlainCursor, PlainOrder, rows_of};
 use crate::plain::{PlainHistory, PlainSession, PlainTransaction};
@@ -32,6 +32,7 @@ fn set_cursor(
 fn hand_out(session: &mut Option<PlainSession>, alloc: Global, n: u16) -> Result<Handed, AllocError>
     ensures ok { IfOk result (λ handed. HandsFrom n handed (option_map open_of session.old) (option_map open_of session.new)) }
     ensures err { OnErr result (Stays session.old session.new) }
+    ensures left { OnErr result (HasLeft (option_map open_of session.old)) }
 {
     if let Some(session) = session {
         if let Some(cursor) = &mut session.cursor {
@@ -150,15 +151,17 @@ impl PlainHistory {
     fn fetch(&mut self, s: u8, n: u16) -> Result<Handed, AllocError>
         ensures ok { IfOk result (λ handed. (m : OpenSession) → (world_of self.old).session s ≡ Some m → HandsOn (world_of self.old) s n m handed (world_of self.new)) }
         ensures err { OnErr result (world_of self.new ≡ stepped (world_of self.old) s) }
+        ensures left { OnErr result (HasLeft ((world_of self.old).session s)) }
     {
         self.waits[s as usize] = None;
         hand_out(&mut self.sessions[s as usize], self.alloc, n)
     }
 
-    /// The next n rows of the cursor, or all that are left; 0 counts as 1. A heap cursor hands out as many.
+    /// The next n rows of the cursor, or all that are left; 0 counts as 1. A heap cursor hands out as many. Where none is
+    /// left that takes no memory.
     pub fn next(&mut self, s: u8, n: u16) -> Result<Handed, Refused>
         ensures handed { IfOk result (λ handed. HandsBy (world_of self.old) s n handed (world_of self.new)) }
-        ensures refused { IfErr result (λ why. OrMemory why (HasCursor (world_of self.old) s) (RefusesNext (world_of self.old) s why) × (world_of self.new ≡ after_refusal (world_of self.old) s why)) }
+        ensures refused { IfErr result (λ why. OrMemory why (MayHandOut (world_of self.old) s) (RefusesNext (world_of self.old) s why) × (world_of self.new ≡ after_refusal (world_of self.old) s why)) }
     {
         match self.check_cursor(s) {
             Ok(()) => match self.fetch(s, n) {

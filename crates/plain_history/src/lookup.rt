@@ -2,11 +2,11 @@
 
 ghost use Rattle.std.specs.Prelude.{◌≡◌, ◌≢◌, ℕ, ◌≤◌, ◌<◌, ◌↔◌, IsTrue, IsSome, MatchOption, length, IfOk, IfSome, OnOk, Some, ◌++◌};
 ghost use Rattle.history.specs.History.{said, written, latest, committed, IsLate};
-ghost use Rattle.history.specs.World.{joined, own_write, view, ClosesRing, OpenSession, Holds};
+ghost use Rattle.history.specs.World.{joined, own_write, view, ClosesRing, OpenSession};
 ghost use Rattle.std.specs.Option.{option_map};
-ghost use Rattle.plain_history.specs.Plain.{IsOf, open_of, session_in, wait_in, world_of};
+ghost use Rattle.plain_history.specs.Plain.{IsOf, open_of, session_in, wait_in};
 
-use crate::plain::{PlainHistory, PlainLevel, PlainSession, PlainTransaction, PlainWrite};
+use crate::plain::{PlainLevel, PlainSession, PlainTransaction, PlainWrite};
 use arrayvec::ArrayVec;
 use std::alloc::{AllocError, Global};
 use tuple_header::Row;

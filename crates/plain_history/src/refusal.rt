@@ -3,17 +3,20 @@
 
 use tuple_header::Row;
 
-/// Why a step was refused. After `Conflict` and `Deadlock` the session can only be rolled back; all others leave it as
-/// it was.
+/// Why a step was refused. After `Conflict` and `Deadlock` the session has failed; all others leave it as it was.
 #[derive(Clone, Copy, Debug, PartialEq, Eq)]
 pub enum Refused {
     /// The number isn't one of 0 to 63.
     NoSuchSession,
+    /// The session is not open.
     NotOpen,
+    /// The session is open already.
     AlreadyOpen,
-    /// The session can only be rolled back.
+    /// The session has failed: it can only return to a savepoint, be aborted, or be committed, which rolls it back.
     Failed,
+    /// The session reads a row of the key.
     AlreadyThere,
+    /// The session reads no row of the key.
     NotThere,
     /// A transaction that committed since the session began wrote the key.
     Conflict,
@@ -21,13 +24,17 @@ pub enum Refused {
     Busy(u8),
     /// An open session holds the key, and a wait for it would close a ring.
     Deadlock,
+    /// The session has a cursor open.
     CursorOpen,
+    /// The session has no cursor open.
     NoCursor,
     /// There are 32 savepoints.
     TooDeep,
+    /// The session has no savepoint.
     NoSavepoint,
     /// The lower bound is over the upper.
     BadBounds,
+    /// Memory was refused.
     NoMemory,
 }
 

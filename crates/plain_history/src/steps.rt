@@ -1,11 +1,9 @@
 //! The steps of a session. Each makes its tests in order, and then its transition; a refused one leaves what its refusal
 //! says.
 
-ghost use Rattle.std.specs.Prelude.{◌≡◌, ◌<◌, ◌≤◌, OnOk, IfErr, IfOk, IsSome, Some, None, length};
-ghost use Rattle.history.specs.History.{committed};
-ghost use Rattle.history.specs.World.{OpenSession, IsReady, IsWriter, view};
-ghost use Rattle.history.specs.Moves.{begun, change, with_row, without_row, with_savepoint, rolled_back_to, without_savepoint, aborted, committed_by, stepped};
-ghost use Rattle.plain_history.specs.Plain.{open_of, world_of};
+ghost use Rattle.std.specs.Prelude.{◌≡◌, ◌<◌, OnOk, IfErr, IfOk, IsSome, Some, None};
+ghost use Rattle.history.specs.Moves.{begun, change, with_row, without_row, with_savepoint, rolled_back_to, without_savepoint, aborted, stepped};
+ghost use Rattle.plain_history.specs.Plain.{world_of};
 ghost use Rattle.plain_history.specs.Answers.{after_refusal, OrMemory, RefusesBegin, RefusesOpen, RefusesReady, RefusesInsert, RefusesReplace, RefusesSave, RefusesRollBack, RefusesRelease, MayInsert, MayReplace, Reads, MaySave, MayRollBack, MayRelease, MayCommit, WouldCommit, Ends};
 
 use crate::plain::{PlainHistory, PlainLevel, PlainSession, PlainTransaction, PlainWrite};
