@@ -1,5 +1,5 @@
 -- The three steps that write a key, as one kind.
-use Rattle.std.specs.Prelude.{◌≡◌, ℕ, Option, None, IsSome}
+use Rattle.std.specs.Prelude.{◌≡◌, ℕ, ◌<◌, length, Option, None, IsSome}
 use Rattle.tuple_header.specs.declared.version.Row.{Row}
 use Rattle.session_relation.specs.declared.step.Step.{Step}
 use Rattle.session_relation.specs.declared.step.Step.TheVariants.{Insert, Update, Delete}
@@ -20,6 +20,12 @@ abbrev pub key_of : WriteStep → ℕ
 key_of (inserts row) = row.key
 key_of (updates row) = row.key
 key_of (deletes k) = k
+
+-- the step has a row whose body is not empty: a copy of no other takes memory
+abbrev pub HasBody : Step → Type 0
+HasBody (Insert s row) = 0 < length row.body
+HasBody (Update s row) = 0 < length row.body
+HasBody step = ⊥
 
 -- it puts a row into the table
 abbrev pub PutsRow : WriteStep → Type 0

@@ -10,7 +10,8 @@ pub enum Refusal {
     NotOpen,
     /// The session is open already.
     AlreadyOpen,
-    /// The transaction has failed: it can only be aborted, or committed, which rolls it back.
+    /// The transaction has failed: it can only return to a savepoint, which makes it usable again, be aborted, or be
+    /// committed, which rolls it back.
     Failed,
     /// The session reads a row of the key.
     AlreadyThere,
@@ -49,9 +50,11 @@ pub enum Refusal {
 /// The reply to a step.
 #[derive(Debug, Drop)]
 pub enum Reply {
+    /// The step was done, and there is nothing else to say.
     Done,
     /// The row that was asked for, if there is one.
     Found(Option<Row>),
+    /// What the session wrote is part of the history.
     Committed,
     /// The transaction was rolled back: by `Abort`, or by `Commit` of one that had failed.
     RolledBack,
@@ -59,5 +62,6 @@ pub enum Reply {
     Rows(Vec<Row>),
     /// The cursor has handed out all its rows. It stays open.
     End,
+    /// The step was not done.
     Refused(Refusal),
 }

@@ -1,7 +1,8 @@
 //! The steps that sessions may take.
 
-ghost use Rattle.std.specs.Prelude.{◌≡◌, IfOk};
+ghost use Rattle.std.specs.Prelude.{◌≡◌, ◌<◌, length, IfOk, OnErr};
 ghost use Rattle.session_relation.specs.Bounds.{HasBounds};
+ghost use Rattle.session_relation.specs.Writes.{HasBody};
 
 use std::alloc::{AllocError, Global};
 use std::marker::Model;
@@ -45,7 +46,8 @@ pub enum Step {
     Commit(u8),
     /// Drops what the session wrote, and closes it.
     Abort(u8),
-    /// Opens a cursor over the rows that the session reads whose value in an index lies within two bounds, both included.
+    /// Opens a cursor over the rows that the session reads whose value in an index lies within two bounds, both included: the
+    /// session, the index (0 by key, c + 1 by column c), the lower and the upper bound.
     OpenIndex(u8, u8, i128, i128),
     /// Opens a cursor over all rows that the session reads.
     OpenHeap(u8),
@@ -58,15 +60,28 @@ pub enum Step {
     Prune(u32),
 }
 
+/// An equal body. An empty one takes no memory.
+fn copy_of(alloc: Global, body: &[u8]) -> Result<Vec<u8>, AllocError>
+    ensures copy { IfOk result (λ copy. copy.items ≡ body.now) }
+    ensures refused { OnErr result (0 < length body.now) }
+{
+    let mut copy = Vec::new(alloc);
+    match copy.extend_from_slice(body) {
+        Ok(()) => Ok(copy),
+        Err(fault) => Err(fault),
+    }
+}
+
 impl RowIn {
-    /// An equal row.
+    /// An equal row. It takes no memory where the body is empty.
     pub fn copy(&self, alloc: Global) -> Result<RowIn, AllocError>
-        ensures { IfOk result (λ row. row ≡ self.now) }
+        ensures copy { IfOk result (λ row. row ≡ self.now) }
+        ensures refused { OnErr result (0 < length self.now.body) }
     {
         Ok(RowIn {
             key: self.key,
             cols: self.cols,
-            body: Vec::from_slice(alloc, self.body.as_slice())?,
+            body: copy_of(alloc, self.body.as_slice())?,
         })
     }
 }
@@ -82,9 +97,10 @@ impl Step {
         }
     }
 
-    /// An equal step.
+    /// An equal step. It takes no memory but for a body that is not empty.
     pub fn copy(&self, alloc: Global) -> Result<Step, AllocError>
-        ensures { IfOk result (λ step. step ≡ self.now) }
+        ensures copy { IfOk result (λ step. step ≡ self.now) }
+        ensures refused { OnErr result (HasBody self.now) }
     {
         match self {
             Step::Begin(s) => Ok(Step::Begin(*s)),

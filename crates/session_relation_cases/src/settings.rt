@@ -154,6 +154,7 @@ fn update_is_copied(alloc: Global, s: u8, key: u64, cols: [i64; 4], body: &[u8])
 fn copies_with_rows_are_equal(rt: HostRuntime) {
     let alloc = rt.alloc();
     same(&rt, is_copied(alloc, 7, [1, -2, 3, -4], b"abc"), Some(true));
+    same(&rt, is_copied(alloc, 7, [1, -2, 3, -4], b""), Some(true));
     same(
         &rt,
         insert_is_copied(alloc, 63, 7, [1, -2, 3, -4], b"abc"),
