@@ -5,7 +5,7 @@ use Rattle.page_slots.specs.Slots.{version_at}
 use Rattle.tuple_header.specs.Version.{Version}
 use Rattle.commit_status.specs.Window.{Window, IsWindow, IsActive, IsCommitted, IsAborted, IsUpToNext, turns}
 use Rattle.snapshot.specs.Snap.{Snap}
-use Rattle.snapshot.specs.Laws.{IsInWindow}
+use Rattle.snapshot.specs.Laws.{IsBounded}
 use Rattle.visibility.specs.Visible.{IsFrozen, Reads, VisibleBy}
 use Rattle.xid_circle.specs.Circle.{Precedes}
 
@@ -30,7 +30,7 @@ Finds w s own slots n t = FindsBy (Reads w s own) slots n t
 -- A snapshot and own ids, in a window: no snapshot that is open, or taken later, has an xmin before the horizon.
 pub record IsOpenReader (w : Window) (horizon : ℕ) (slots : List Slot) (s : Snap) (own : List ℕ) : Type 0 where
   pub window : IsWindow w
-  pub snapshot : IsInWindow w s
+  pub snapshot : IsBounded w s
   pub horizon_upto : IsUpToNext w horizon
   pub low : turns w.first horizon ≤ turns w.first s.xmin
   pub active : (x : ℕ) → Contains own x → IsActive w x

@@ -1,14 +1,15 @@
 -- The first line.
-use Rattle.std.proofs.Common.{◌≡◌, subst, ℕ, ◌+◌, ◌<◌, ◌≤◌, ◌⊎◌, inl, inr, arith, List, [], ◌∷◌, ◌++◌, take, drop, refl, ap, append_assoc, ◌∙◌, sym, Option, Some, Result, Ok, Err, position, IfSome}
+use Rattle.std.proofs.Common.{◌≡◌, subst, ℕ, ◌+◌, ◌<◌, ◌≤◌, ◌⊎◌, inl, inr, arith, List, [], ◌∷◌, ◌++◌, length, take, drop, refl, ap, append_assoc, ◌∙◌, sym, Option, Some, Result, Ok, Err, position, IfSome}
 use Rattle.std.specs.Bool.{◌==◌}
+use Rattle.std.specs.List.{AllByRecursion}
 use Rattle.std.proofs.lemmas.Option.{IfSome_then, same_Some}
 use Rattle.std.proofs.lemmas.List.{append-nil}
 use Rattle.std.specs.Io.KnownBytes.{Appends}
-use Rattle.script.specs.Engine.{Settings, AreSettings, State, Agrees, empty, SettingsFault, FirstFault, MaxPages, StopAge, FreezeMinAge, FirstXid, DeadLimit, NoMemoryForSettings}
-use Rattle.script.specs.Grammar.{heading, with_feed}
+use Rattle.script.specs.Engine.{Settings, AreSettings, State, IsNew, empty, SettingsFault, FirstFault, MaxPages, StopAge, FreezeMinAge, FirstXid, DeadLimit, NoMemoryForSettings}
+use Rattle.script.specs.Grammar.{IsAllowed, heading, with_feed}
 use Rattle.script.specs.Reading.{settings_at}
 use Rattle.script.specs.Pieces.{Takes, Gives}
-use Rattle.script.specs.Script.{Outcome, IsBadHeading, Begins, answers_of, lines_of}
+use Rattle.script.specs.Script.{Event, Outcome, IsBadHeading, IsScriptRun, Leads, Begins, line_of, answers_of, lines_of}
 use Rattle.script.specs.Steps.{Uses, Advance, Advances}
 use Rattle.script.specs.Next.{IsNext}
 use Rattle.script.specs.declared.run.Next.{Next}
@@ -17,7 +18,7 @@ use Rattle.script.specs.declared.fault.ShellFault.{ShellFault}
 use Rattle.script.specs.declared.fault.ShellFault.TheVariants.{BadLine, Input, Output, NoMemory}
 use Rattle.script.proofs.PiecesLemmas.{Appends-Appends}
 use Rattle.script.proofs.HeadingLaws.{settings_at_says, settings_at-heading, Free-heading}
-use Rattle.script.proofs.RunLemmas.{Uses-refl, Uses-Takes, Uses-front, Uses-known, no_text, text_is, position-split}
+use Rattle.script.proofs.RunLemmas.{Leads-run, Uses-refl, Uses-Takes, Uses-front, Uses-known, no_text, text_is, position-split}
 
 first_known : (before now : Option (List ℕ)) (old p : List ℕ) → old ≡ [] → Takes before now old p → IfSome before (λ input. (rest : List ℕ) × (now ≡ Some rest) × (input ≡ p ++ rest))
 first_known before now old p none t =
@@ -55,58 +56,73 @@ nothing_first a b c x h k = Appends-Appends a b c [] x h k
 begun_first : (a b c : Option (List ℕ)) (x : List ℕ) → Appends a b [] → Begins b c x → Begins a c x
 begun_first a b c x h k = (k.0, (k.1.0, nothing_first a b c k.1.0 h k.1.1, k.1.2))
 
-outcome_is : (s : Settings) (input bytes : List ℕ) (w0 w1 w2 : Option (List ℕ)) (r : Result (Unit {0}) ShellFault) → AreSettings s → Appends w0 w1 [] → input ≡ with_feed (heading s) ++ bytes → Advance empty bytes w1 w2 [] r → Outcome r input w0 w2
-outcome_is s input bytes w0 w1 w2 (Ok u) fits q e h = (
+-- a new engine of the settings, which a first line can spell, leads on
+ran_from : (s : Settings) (from : State) (events : List Event) (last : State) → AreSettings s → length s.indexed ≡ 4 → IsNew s from
+    → AllByRecursion (λ e. IsAllowed (line_of e)) events → Leads from events last → IsScriptRun s events
+ran_from s from events last fits columns new allowed led = record {
+  in_range = fits;
+  columns = columns;
+  allowed = allowed;
+  run = Leads-run empty from events last new.agrees led;
+  first = from;
+  new = new;
+  last = last;
+  leads = led;
+}
+
+outcome_is : (s : Settings) (from : State) (input bytes : List ℕ) (w0 w1 w2 : Option (List ℕ)) (r : Result (Unit {0}) ShellFault) → AreSettings s → length s.indexed ≡ 4 → IsNew s from
+    → Appends w0 w1 [] → input ≡ with_feed (heading s) ++ bytes → Advance from bytes w1 w2 [] r → Outcome r input w0 w2
+outcome_is s from input bytes w0 w1 w2 (Ok u) fits columns new q e h = (
   s,
   h.events,
-  record { in_range = fits; allowed = h.ran.allowed; run = h.ran.run },
+  ran_from s from h.events h.last fits columns new h.allowed h.leads,
   e ∙ ap (λ x. with_feed (heading s) ++ x) (h.lines ∙ ap (λ x. lines_of h.events ++ x) h.ends.0 ∙ append-nil (lines_of h.events)),
   nothing_first w0 w1 w2 (answers_of h.events) q h.ends.1,
 )
-outcome_is s input bytes w0 w1 w2 (Err (BadLine n)) fits q e h =
+outcome_is s from input bytes w0 w1 w2 (Err (BadLine n)) fits columns new q e h =
     inr (
       s,
       h.events,
       h.left,
-      record { in_range = fits; allowed = h.ran.allowed; run = h.ran.run },
+      ran_from s from h.events h.last fits columns new h.allowed h.leads,
       e ∙ ap (λ x. with_feed (heading s) ++ x) h.lines ∙ sym (append_assoc (with_feed (heading s)) (lines_of h.events) h.left),
       h.ends.1,
       h.ends.0,
       nothing_first w0 w1 w2 (answers_of h.events) q h.ends.2,
     )
-outcome_is s input bytes w0 w1 w2 (Err Input) fits q e h =
+outcome_is s from input bytes w0 w1 w2 (Err Input) fits columns new q e h =
     inr (
       s,
       h.events,
       h.left,
-      record { in_range = fits; allowed = h.ran.allowed; run = h.ran.run },
+      ran_from s from h.events h.last fits columns new h.allowed h.leads,
       e ∙ ap (λ x. with_feed (heading s) ++ x) h.lines ∙ sym (append_assoc (with_feed (heading s)) (lines_of h.events) h.left),
       begun_first w0 w1 w2 (answers_of h.events) q h.ends,
     )
-outcome_is s input bytes w0 w1 w2 (Err Output) fits q e h =
+outcome_is s from input bytes w0 w1 w2 (Err Output) fits columns new q e h =
     inr (
       s,
       h.events,
       h.left,
-      record { in_range = fits; allowed = h.ran.allowed; run = h.ran.run },
+      ran_from s from h.events h.last fits columns new h.allowed h.leads,
       e ∙ ap (λ x. with_feed (heading s) ++ x) h.lines ∙ sym (append_assoc (with_feed (heading s)) (lines_of h.events) h.left),
       begun_first w0 w1 w2 (answers_of h.events) q h.ends,
     )
-outcome_is s input bytes w0 w1 w2 (Err NoMemory) fits q e h =
+outcome_is s from input bytes w0 w1 w2 (Err NoMemory) fits columns new q e h =
     inr (
       s,
       h.events,
       h.left,
-      record { in_range = fits; allowed = h.ran.allowed; run = h.ran.run },
+      ran_from s from h.events h.last fits columns new h.allowed h.leads,
       e ∙ ap (λ x. with_feed (heading s) ++ x) h.lines ∙ sym (append_assoc (with_feed (heading s)) (lines_of h.events) h.left),
       begun_first w0 w1 w2 (answers_of h.events) q h.ends,
     )
 
 pub outcome_from : (before now : Option (List ℕ)) (p text : List ℕ) (from : State) (s : Settings) (w0 w1 w2 : Option (List ℕ)) (r : Result (Unit {0}) ShellFault)
-    → Uses before now [] (with_feed (heading s)) p → AreSettings s → Appends w0 w1 [] → Agrees from empty → text ≡ [] → Advances from now w1 w2 p text r → IfSome before (λ input. Outcome r input w0 w2)
-outcome_from before now p text from s w0 w1 w2 r u fits q agrees none h =
+    → Uses before now [] (with_feed (heading s)) p → AreSettings s → length s.indexed ≡ 4 → Appends w0 w1 [] → IsNew s from → text ≡ [] → Advances from now w1 w2 p text r → IfSome before (λ input. Outcome r input w0 w2)
+outcome_from before now p text from s w0 w1 w2 r u fits columns q new none h =
     IfSome_then before (Uses-known before now [] (with_feed (heading s)) p u) (λ input k.
-    outcome_is s input (p ++ k.0) w0 w1 w2 r fits q k.2 (rw (k.1, none) at (h empty agrees)))
+    outcome_is s from input (p ++ k.0) w0 w1 w2 r fits columns new q k.2 (rw (k.1, none) at h))
 
 -- a setting that is out of range isn't in range
 outside : (a low high : ℕ) → (a < low) ⊎ (high < a) → (low ≤ a) × (a ≤ high) → ⊥

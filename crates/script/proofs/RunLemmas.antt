@@ -5,11 +5,11 @@ use Rattle.std.specs.List.{AllByRecursion}
 use Rattle.std.proofs.lemmas.List.{append-nil, length-take-le}
 use Rattle.std.proofs.lemmas.Grind.{flat_map-append}
 use Rattle.std.specs.Io.KnownBytes.{Appends}
-use Rattle.script.specs.Engine.{World, State, Allows, next, IsRun, Agrees}
+use Rattle.script.specs.Engine.{World, State, next, IsRun, Agrees}
 use Rattle.script.specs.Grammar.{IsAllowed, Fits, spelling, with_feed}
 use Rattle.script.specs.Pieces.{Takes, Gives, HasNoLine}
-use Rattle.script.specs.Script.{Event, did, showed_ids, showed_page, showed_entries, line_of, answer_of, steps_of, replies_of, lines_of, answers_of, IsBadLine, Begins, IsRefused}
-use Rattle.script.specs.Steps.{Moves, Ends, Advance, Uses, Does}
+use Rattle.script.specs.Script.{Event, did, showed_ids, showed_page, showed_entries, line_of, answer_of, steps_of, replies_of, lines_of, answers_of, Moves, Leads, IsBadLine, Begins, IsRefused}
+use Rattle.script.specs.Steps.{Ends, Advance, Uses, Does}
 use Rattle.script.specs.declared.line.Line.{Line}
 use Rattle.script.specs.declared.watch.Watch.{Watch}
 use Rattle.script.specs.declared.fault.ShellFault.{ShellFault}
@@ -47,51 +47,20 @@ Uses-known (Some xs) (Some ys) old used p h =
 pub Gives-push : (a b : Option (List ℕ)) (text left more new : List ℕ) → Gives a b text left → new ≡ left ++ more → Gives a b (text ++ more) new
 Gives-push a b text left more new h e = (h.0, h.1, ap (λ r. r ++ more) h.2 ∙ append_assoc h.0 left more ∙ ap (λ r. h.0 ++ r) (sym e))
 
--- the world that events lead to
-abbrev Reaches : World → List Event → World → Type 0
-Reaches from [] to = from ≡ to
-Reaches from (did step reply ∷ events) to = Allows from step reply × Reaches (next from step reply) events to
-Reaches from (showed_ids n below ∷ events) to = Reaches from events to
-Reaches from (showed_page p shown ∷ events) to = Reaches from events to
-Reaches from (showed_entries i entries ∷ events) to = Reaches from events to
+-- one more event
+Leads-push : (old : State) (events : List Event) (mid : State) (e : Event) (new : State) → Leads old events mid → Moves mid e new → Leads old (events ++ e ∷ []) new
+Leads-push old [] mid e new led moves = (new, subst (λ (st : State). Moves st e new) (sym led) moves, refl)
+Leads-push old (x ∷ xs) mid e new led moves = (led.0, led.1, Leads-push led.0 xs mid e new led.2 moves)
 
-Reaches-run : (from : World) (events : List Event) (to : World) → Reaches from events to → IsRun from (steps_of events) (replies_of events)
-Reaches-run from [] to h = tt
-Reaches-run from (did step reply ∷ events) to h = (h.0, Reaches-run (next from step reply) events to h.1)
-Reaches-run from (showed_ids n below ∷ events) to h = Reaches-run from events to h
-Reaches-run from (showed_page p shown ∷ events) to h = Reaches-run from events to h
-Reaches-run from (showed_entries i entries ∷ events) to h = Reaches-run from events to h
-
--- one more event, of a world that goes on where it is allowed
-abbrev GoesOn : World → Event → World → Type 0
-GoesOn from (did step reply) to = Allows from step reply × (to ≡ next from step reply)
-GoesOn from look to = from ≡ to
-
-Reaches-one : (from : World) (e : Event) (to : World) → GoesOn from e to → Reaches from (e ∷ []) to
-Reaches-one from (did step reply) to h = (h.0, sym h.1)
-Reaches-one from (showed_ids n below) to h = h
-Reaches-one from (showed_page p shown) to h = h
-Reaches-one from (showed_entries i entries) to h = h
-
-Reaches-append : (from : World) (events : List Event) (to : World) (e : Event) (w : World) → Reaches from events to → GoesOn to e w → Reaches from (events ++ e ∷ []) w
-Reaches-append from [] to e w h k = Reaches-one from e w (subst (λ (v : World). GoesOn v e w) (sym h) k)
-Reaches-append from (did s r ∷ events) to e w h k = (h.0, Reaches-append (next from s r) events to e w h.1 k)
-Reaches-append from (showed_ids n below ∷ events) to e w h k = Reaches-append from events to e w h k
-Reaches-append from (showed_page p shown ∷ events) to e w h k = Reaches-append from events to e w h k
-Reaches-append from (showed_entries i entries ∷ events) to e w h k = Reaches-append from events to e w h k
-
--- the engine agrees with the world that one more event leads to
-goes_on : (to : World) (e : Event) (a b : State) → Agrees a to → Moves a e b → (w : World) × GoesOn to e w × Agrees b w
-goes_on to (did step reply) a b k m = let f = m to k in (next to step reply, (f.0, refl), f.1)
-goes_on to (showed_ids n below) a b k m = (to, refl, subst (λ (s : State). Agrees s to) m k)
-goes_on to (showed_page p shown) a b k m = (to, refl, subst (λ (s : State). Agrees s to) m k)
-goes_on to (showed_entries i entries) a b k m = (to, refl, subst (λ (s : State). Agrees s to) m k)
-
-Reaches-push : (from : World) (events : List Event) (to : World) (e : Event) (a b : State) → Reaches from events to → Agrees a to → Moves a e b
-    → (w : World) × Reaches from (events ++ e ∷ []) w × Agrees b w
-Reaches-push from events to e a b h k m =
-    let g = goes_on to e a b k m in
-    (g.0, Reaches-append from events to e g.0 h g.1, g.2)
+-- of an engine that agrees with a world, the steps and replies are a run from there
+pub Leads-run : (w : World) (old : State) (events : List Event) (new : State) → Agrees old w → Leads old events new → IsRun w (steps_of events) (replies_of events)
+Leads-run w old [] new agrees led = tt
+Leads-run w old (did step reply ∷ events) new agrees led =
+    let now = led.1.0 w agrees in
+    (now.0, Leads-run (next w step reply) led.0 events new now.1 led.2)
+Leads-run w old (showed_ids n below ∷ events) new agrees led = Leads-run w led.0 events new (subst (λ (st : State). Agrees st w) led.1.0 agrees) led.2
+Leads-run w old (showed_page p shown ∷ events) new agrees led = Leads-run w led.0 events new (subst (λ (st : State). Agrees st w) led.1.0 agrees) led.2
+Leads-run w old (showed_entries i entries ∷ events) new agrees led = Leads-run w led.0 events new (subst (λ (st : State). Agrees st w) led.1.0 agrees) led.2
 
 pub allowed-push : (events : List Event) (e : Event) → AllByRecursion (λ e. IsAllowed (line_of e)) events → IsAllowed (line_of e) → AllByRecursion (λ e. IsAllowed (line_of e)) (events ++ e ∷ [])
 allowed-push [] e h k = (k, tt)
@@ -104,25 +73,21 @@ pub answers_of-push : (events : List Event) (e : Event) → answers_of (events +
 answers_of-push events e = flat_map-append (λ e. with_feed (answer_of e)) events (e ∷ []) ∙ ap (λ x. answers_of events ++ x) (append-nil (with_feed (answer_of e)))
 
 -- how far the lines have come
-pub record Progress (from : World) (state : State) (before now : Option (List ℕ)) (old new : List ℕ) (w0 w1 : Option (List ℕ)) (text left : List ℕ) (number : ℕ) : Type 0 where
+pub record Progress (from : State) (state : State) (before now : Option (List ℕ)) (old new : List ℕ) (w0 w1 : Option (List ℕ)) (text left : List ℕ) (number : ℕ) : Type 0 where
   pub events : List Event
-  pub to : World
   pub allowed : AllByRecursion (λ e. IsAllowed (line_of e)) events
-  pub reaches : Reaches from events to
-  pub agrees : Agrees state to
+  pub leads : Leads from events state
   pub uses : Uses before now old (lines_of events) new
   pub gives : Gives w0 w1 (text ++ answers_of events) left
   pub number_is : number ≡ length events + 2
 
 -- more is read, and some of the text is written
-pub Progress-more : (from : World) (state : State) (before now now' : Option (List ℕ)) (old new new' : List ℕ) (w0 w1 w2 : Option (List ℕ)) (text left left' : List ℕ) (number : ℕ)
+pub Progress-more : (from state : State) (before now now' : Option (List ℕ)) (old new new' : List ℕ) (w0 w1 w2 : Option (List ℕ)) (text left left' : List ℕ) (number : ℕ)
     → Progress from state before now old new w0 w1 text left number → Takes now now' new new' → Gives w1 w2 left left' → Progress from state before now' old new' w0 w2 text left' number
 Progress-more from state before now now' old new new' w0 w1 w2 text left left' number h t g = record {
   events = h.events;
-  to = h.to;
   allowed = h.allowed;
-  reaches = h.reaches;
-  agrees = h.agrees;
+  leads = h.leads;
   uses = Uses-Takes before now now' old (lines_of h.events) new new' h.uses t;
   gives = Gives-Gives w0 w1 w2 (text ++ answers_of h.events) left left' h.gives g;
   number_is = h.number_is;
@@ -135,19 +100,16 @@ position-split p n h =
     s ∙ sym (append_assoc (take n p) (10 ∷ []) (drop (n + 1) p))
 
 -- a line is used, and its answer stands behind the text
-pub Progress-line : (from : World) (state state' : State) (before now : Option (List ℕ)) (old new : List ℕ) (w0 w1 : Option (List ℕ)) (text left left' : List ℕ) (number n : ℕ)
+pub Progress-line : (from state state' : State) (before now : Option (List ℕ)) (old new : List ℕ) (w0 w1 : Option (List ℕ)) (text left left' : List ℕ) (number n : ℕ)
     → Progress from state before now old new w0 w1 text left number → position (λ b. b == 10) new ≡ Some n → n ≤ 4096 → n < length new → Does (take n new) state state' left left'
     → Progress from state' before now old (drop (n + 1) new) w0 w1 text left' (number + 1)
 Progress-line from state state' before now old new w0 w1 text left left' number n h at short within d =
     let e = d.0 in
     let size : length (take n new) ≡ n = length-take-le n new (omega arith) in
-    let r = Reaches-push from h.events h.to e state state' h.reaches h.agrees d.3 in
     record {
       events = h.events ++ e ∷ [];
-      to = r.0;
       allowed = allowed-push h.events e h.allowed (record { fits = d.1; short = rw (← d.2) (omega arith) });
-      reaches = r.1;
-      agrees = r.2;
+      leads = Leads-push from h.events state e state' h.leads d.3;
       uses = rw (lines_of-push h.events e) (Uses-front before now old (lines_of h.events) new (with_feed (spelling (line_of e))) (drop (n + 1) new) (position-split new n at ∙ ap (λ x. with_feed x ++ drop (n + 1) new) d.2) h.uses);
       gives = rw (answers_of-push h.events e) (rw (← append_assoc text (answers_of h.events) (with_feed (answer_of e))) (Gives-push w0 w1 (text ++ answers_of h.events) left (with_feed (answer_of e)) left' h.gives d.4));
       number_is = ap (λ k. k + 1) h.number_is ∙ omega (arith, length-append h.events (e ∷ []));
@@ -211,12 +173,14 @@ ends_fault NoMemory watch f k left before after text b = b
 pub refused_growth : (e : ShellFault) (watch : Watch) → e ≡ NoMemory → watch.memory ≡ true → IsRefused e watch
 refused_growth e watch is noted = rw is noted
 
-pub adv_fault : (from : World) (state : State) (before now : Option (List ℕ)) (old new : List ℕ) (w0 w1 w2 : Option (List ℕ)) (text left : List ℕ) (number : ℕ) (e : ShellFault) (watch : Watch)
+pub adv_fault : (from state : State) (before now : Option (List ℕ)) (old new : List ℕ) (w0 w1 w2 : Option (List ℕ)) (text left : List ℕ) (number : ℕ) (e : ShellFault) (watch : Watch)
     → Progress from state before now old new w0 w1 text left number → IsRefused e watch → Begins w1 w2 left → IfSome before (λ bytes. Advance from (old ++ bytes) w0 w2 text (Err e))
 adv_fault from state before now old new w0 w1 w2 text left number e watch h f b =
     IfSome_then before (Uses-known before now old (lines_of h.events) new h.uses) (λ input k. record {
       events = h.events;
-      ran = record { allowed = h.allowed; run = Reaches-run from h.events h.to h.reaches };
+      allowed = h.allowed;
+      last = state;
+      leads = h.leads;
       left = new ++ k.0;
       lines = k.2;
       ends = ends_fault e watch f (length h.events) (new ++ k.0) w0 w2 (text ++ answers_of h.events) (b.0, Gives-Gives w0 w1 w2 (text ++ answers_of h.events) left b.0 h.gives b.1);
@@ -225,12 +189,12 @@ adv_fault from state before now old new w0 w1 w2 text left number e watch h f b 
 Gives-rest : (a b c : Option (List ℕ)) (text left : List ℕ) → Gives a b text left → Appends b c left → Appends a c text
 Gives-rest a b c text left h k = rw h.2 (Appends-Appends a b c h.0 left h.1 k)
 
-closed_fault : (from : World) (state : State) (before now : Option (List ℕ)) (old new : List ℕ) (w0 w1 w2 : Option (List ℕ)) (text left : List ℕ) (number : ℕ) (r : Result (Unit {0}) ShellFault) (watch : Watch)
+closed_fault : (from state : State) (before now : Option (List ℕ)) (old new : List ℕ) (w0 w1 w2 : Option (List ℕ)) (text left : List ℕ) (number : ℕ) (r : Result (Unit {0}) ShellFault) (watch : Watch)
     → Progress from state before now old new w0 w1 text left number → IsErrAnd r (λ e. IsRefused e watch) → Begins w1 w2 left → IfSome before (λ bytes. Advance from (old ++ bytes) w0 w2 text r)
 closed_fault from state before now old new w0 w1 w2 text left number (Ok u) watch h f b = absurd f
 closed_fault from state before now old new w0 w1 w2 text left number (Err e) watch h f b = adv_fault from state before now old new w0 w1 w2 text left number e watch h f b
 
-pub adv_close : (from : World) (state : State) (before now : Option (List ℕ)) (old new : List ℕ) (w0 w1 w2 : Option (List ℕ)) (text left : List ℕ) (number : ℕ) (end r : Result (Unit {0}) ShellFault) (watch : Watch)
+pub adv_close : (from state : State) (before now : Option (List ℕ)) (old new : List ℕ) (w0 w1 w2 : Option (List ℕ)) (text left : List ℕ) (number : ℕ) (end r : Result (Unit {0}) ShellFault) (watch : Watch)
     → (h : Progress from state before now old new w0 w1 text left number)
     → ((r ≡ end) × Appends w1 w2 left) ⊎ (IsErrAnd r (λ e. IsRefused e watch) × Begins w1 w2 left)
     → ((rest : List ℕ) (T : List ℕ) → now ≡ Some rest → Appends w0 w2 T → Ends end (length h.events) (new ++ rest) w0 w2 T)
@@ -238,7 +202,9 @@ pub adv_close : (from : World) (state : State) (before now : Option (List ℕ)) 
 adv_close from state before now old new w0 w1 w2 text left number end r watch h c ends = elim c [
   | inl whole ↦ rw whole.0 (IfSome_then before (Uses-known before now old (lines_of h.events) new h.uses) (λ input k. record {
     events = h.events;
-    ran = record { allowed = h.allowed; run = Reaches-run from h.events h.to h.reaches };
+    allowed = h.allowed;
+    last = state;
+    leads = h.leads;
     left = new ++ k.0;
     lines = k.2;
     ends = ends k.0 (text ++ answers_of h.events) k.1 (Gives-rest w0 w1 w2 (text ++ answers_of h.events) left h.gives whole.1);

@@ -1,9 +1,12 @@
--- What the shell speaks of in the engine: its steps and replies, which replies the history allows, and its indexes.
+-- What the shell speaks of in the engine: its steps and replies, which replies the history allows, and what it holds.
 pub use Rattle.history.specs.World.{World, empty}
 pub use Rattle.session_relation.specs.Words.{RowText, AreSettings, FirstFault}
-pub use Rattle.session_relation.specs.Allowed.{Allows, next, IsRun}
+pub use Rattle.session_relation.specs.Allowed.{next, IsRun}
 pub use Rattle.session_core.specs.State.{State, index_at}
 pub use Rattle.session_core.specs.Agrees.{Agrees, Follows}
+pub use Rattle.session_core.specs.Exact.{Exact}
+pub use Rattle.session_core.specs.Runs.{IsNew}
+pub use Rattle.commit_status.specs.Window.{next_id}
 pub use Rattle.session_relation.specs.declared.settings.Settings.{Settings}
 pub use Rattle.session_relation.specs.declared.settings.SettingsFault.{SettingsFault}
 pub use Rattle.session_relation.specs.declared.settings.SettingsFault.TheVariants.{MaxPages, StopAge, FreezeMinAge, FirstXid, DeadLimit, NoMemory as NoMemoryForSettings}

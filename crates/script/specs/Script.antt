@@ -1,8 +1,9 @@
 -- Whole scripts: the lines that were read, the run of the history that they make, and what is written.
-use Rattle.std.specs.Prelude.{◌≡◌, ℕ, ◌+◌, ◌<◌, ◌≤◌, ◌⊎◌, List, [], ◌∷◌, ◌++◌, length, Option, Ok, Err, Result, true}
+use Rattle.std.specs.Prelude.{◌≡◌, ℕ, ◌+◌, ◌<◌, ◌≤◌, ◌⊎◌, List, [], ◌∷◌, ◌++◌, length, slice_get, Option, Ok, Err, Result, true}
+use Rattle.std.specs.Option.{option_map}
 use Rattle.std.specs.List.{flat_map, AllByRecursion}
 use Rattle.std.specs.Io.KnownBytes.{Appends}
-use Rattle.script.specs.Engine.{Settings, AreSettings, Step, Reply, Entry, empty, IsRun}
+use Rattle.script.specs.Engine.{Settings, AreSettings, State, Step, Reply, Entry, IsNew, Follows, Exact, empty, index_at, next_id, IsRun}
 use Rattle.script.specs.Pieces.{Gives}
 use Rattle.script.specs.Grammar.{heading, spelling, with_feed, IsAllowed}
 use Rattle.script.specs.Answers.{reply_text, ids_text, Shown, shown_text, index_text}
@@ -53,11 +54,33 @@ lines_of events = flat_map (λ e. with_feed (spelling (line_of e))) events
 abbrev pub answers_of : List Event → List ℕ
 answers_of events = flat_map (λ e. with_feed (answer_of e)) events
 
--- allowed lines whose steps and replies are a run of the history from its beginning
+-- what a page, if it is in use, is shown as: there is no visibility map yet
+abbrev pub shown_of : State → ℕ → Option Shown
+shown_of st p = option_map (λ page. record { change = page.change; visible = 0; slots = page.slots }) (slice_get st.heap.pages.pages p)
+
+-- a step leads the engine on, as the history allows, and in what that leaves open exactly; a look shows what is there
+abbrev pub Moves : State → Event → State → Type 0
+Moves old (did step reply) new = Follows old step reply new × Exact old step reply new
+Moves old (showed_ids next frozen_below) new = (old ≡ new) × (next ≡ next_id old.heap.table) × (frozen_below ≡ old.heap.table.first)
+Moves old (showed_page p shown) new = (old ≡ new) × (shown ≡ shown_of old p)
+Moves old (showed_entries i entries) new = (old ≡ new) × (entries ≡ option_map (λ index. index.entries) (index_at old i))
+
+-- the engine's states from event to event
+abbrev pub Leads : State → List Event → State → Type 0
+Leads old [] new = old ≡ new
+Leads old (e ∷ events) new = (st : State) × Moves old e st × Leads st events new
+
+-- Allowed lines behind a first one with these settings. Their steps and replies are a run of the history from its beginning, and
+-- all that was answered comes from an engine that is made by the settings.
 pub record IsScriptRun (settings : Settings) (events : List Event) : Type 0 where
   pub in_range : AreSettings settings
+  pub columns : length settings.indexed ≡ 4
   pub allowed : AllByRecursion (λ e. IsAllowed (line_of e)) events
   pub run : IsRun empty (steps_of events) (replies_of events)
+  pub first : State
+  pub new : IsNew settings first
+  pub last : State
+  pub leads : Leads first events last
 
 abbrev pub script : Settings → List Event → List ℕ
 script settings events = with_feed (heading settings) ++ lines_of events
@@ -87,7 +110,7 @@ Outcome (Err fault) input before after = Appends before after []
     ⊎ ((settings : Settings) × (events : List Event) × (rest : List ℕ) × IsScriptRun settings events
     × (input ≡ script settings events ++ rest) × Begins before after (answers_of events))
 
--- a fault that isn't a bad line comes only where the reader, the writer or a growth refused
+-- a fault that isn't a bad line comes only where the reader, the writer or a growth refused, or the numbers of lines ran out
 abbrev pub IsRefused : ShellFault → Watch → Type 0
 IsRefused (BadLine n) watch = ⊥
 IsRefused Input watch = watch.input ≡ true

@@ -1,26 +1,16 @@
--- The lines after the first, from the world that the engine agrees with.
+-- The lines after the first, from the engine that it asks for.
 use Rattle.std.specs.Prelude.{◌≡◌, ℕ, ◌+◌, List, [], ◌++◌, length, Option, Ok, Err, Result, IfSome}
 use Rattle.std.specs.List.{AllByRecursion}
 use Rattle.std.specs.Io.KnownBytes.{Appends, Consumes}
-use Rattle.script.specs.Engine.{State, World, IsRun, Agrees, Follows}
+use Rattle.script.specs.Engine.{State}
 use Rattle.script.specs.Grammar.{IsAllowed, Fits, spelling, with_feed}
-use Rattle.script.specs.Script.{Event, did, line_of, answer_of, steps_of, replies_of, lines_of, answers_of, IsBadLine, IsBadHeading, Begins}
+use Rattle.script.specs.Script.{Event, line_of, answer_of, lines_of, answers_of, Moves, Leads, IsBadLine, IsBadHeading, Begins}
 use Rattle.script.specs.declared.fault.ShellFault.{ShellFault}
 use Rattle.script.specs.declared.fault.ShellFault.TheVariants.{BadLine}
-
--- a step leads the engine on as the history does; a look leaves it
-abbrev pub Moves : State → Event → State → Type 0
-Moves from (did step reply) to = Follows from step reply to
-Moves from look to = from ≡ to
 
 -- what a line asks for was done, and its answer is added
 abbrev pub Does : List ℕ → State → State → List ℕ → List ℕ → Type 0
 Does text from to old new = (e : Event) × Fits (line_of e) × (text ≡ spelling (line_of e)) × Moves from e to × (new ≡ old ++ with_feed (answer_of e))
-
--- a run over allowed lines
-pub record Ran (from : World) (events : List Event) : Type 0 where
-  pub allowed : AllByRecursion (λ e. IsAllowed (line_of e)) events
-  pub run : IsRun from (steps_of events) (replies_of events)
 
 -- how the lines end: all are read, the next is bad, or a fault comes
 abbrev pub Ends : Result (Unit {0}) ShellFault → ℕ → List ℕ → Option (List ℕ) → Option (List ℕ) → List ℕ → Type 0
@@ -29,16 +19,18 @@ Ends (Err (BadLine n)) lines left before after text = (n ≡ lines + 2) × IsBad
 Ends (Err fault) lines left before after text = Begins before after text
 
 -- lines at the front of the input are run, and their answers written behind the text
-pub record Advance (from : World) (input : List ℕ) (before after : Option (List ℕ)) (text : List ℕ) (result : Result (Unit {0}) ShellFault) : Type 0 where
+pub record Advance (from : State) (input : List ℕ) (before after : Option (List ℕ)) (text : List ℕ) (result : Result (Unit {0}) ShellFault) : Type 0 where
   pub events : List Event
-  pub ran : Ran from events
+  pub allowed : AllByRecursion (λ e. IsAllowed (line_of e)) events
+  pub last : State
+  pub leads : Leads from events last
   pub left : List ℕ
   pub lines : input ≡ lines_of events ++ left
   pub ends : Ends result (length events) left before after (text ++ answers_of events)
 
 abbrev pub Advances : State → Option (List ℕ) → Option (List ℕ) → Option (List ℕ) → List ℕ → List ℕ → Result (Unit {0}) ShellFault → Type 0
 Advances from input before after pending text result =
-    (w : World) → Agrees from w → IfSome input (λ bytes. Advance w (pending ++ bytes) before after text result)
+    IfSome input (λ bytes. Advance from (pending ++ bytes) before after text result)
 
 -- what was read stands behind what was pending; some of it is used, and the rest is pending now
 abbrev pub Uses : Option (List ℕ) → Option (List ℕ) → List ℕ → List ℕ → List ℕ → Type 0

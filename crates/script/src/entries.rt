@@ -1,7 +1,7 @@
 //! The text of an index: its entries in their order.
 
 ghost use Rattle.std.specs.Prelude.{◌≡◌, ◌∷◌, ◌++◌, length, OnOk, Some};
-ghost use Rattle.std.specs.Fmt.{decimal, signed_decimal};
+ghost use Rattle.std.specs.Fmt.{signed_decimal};
 ghost use Rattle.script.specs.Grammar.{spaced, with_feed};
 ghost use Rattle.script.specs.Answers.{entry_text, entry_lines, index_head_text, index_text, no_index_text};
 

@@ -1,6 +1,6 @@
 //! The bytes that were read and are not used yet.
 
-ghost use Rattle.std.specs.Prelude.{◌≡◌, ◌≢◌, ◌+◌, ◌-◌, ◌<◌, ◌≤◌, ◌==◌, [], ◌++◌, length, take, drop, position, Ok, IfOk, IfSome, OnErr, IfErr};
+ghost use Rattle.std.specs.Prelude.{◌≡◌, ◌+◌, ◌-◌, ◌<◌, ◌≤◌, ◌==◌, [], length, take, drop, position, Ok, IfOk, IfSome, OnErr, IfErr};
 ghost use Rattle.std.specs.Io.KnownBytes.{Keeps, Consumes, IsAtEnd};
 ghost use Rattle.script.specs.Pieces.{Takes};
 ghost use Rattle.script.specs.Script.{IsRefused};

@@ -1,13 +1,13 @@
 //! A script from its first line to its end.
 
-ghost use Rattle.std.specs.Prelude.{◌≡◌, ◌++◌, List, ℕ, [], Option, IfSome, IfOk, IfErr, OnOk, IsErrAnd, ◌⊎◌};
+ghost use Rattle.std.specs.Prelude.{◌≡◌, ◌++◌, List, ℕ, [], length, IfSome, IfOk, IfErr, OnOk, IsErrAnd, ◌⊎◌};
 ghost use Rattle.std.specs.Bool.{OnTrue, OnFalse};
 ghost use Rattle.std.specs.Io.KnownBytes.{Appends};
 ghost use Rattle.std.specs.Option.{option_map};
-ghost use Rattle.script.specs.Engine.{Settings, AreSettings, Agrees, empty, index_at};
+ghost use Rattle.script.specs.Engine.{Settings, AreSettings, IsNew, index_at};
 ghost use Rattle.script.specs.Grammar.{Fits, spelling, heading, with_feed};
-ghost use Rattle.script.specs.Script.{Outcome, Begins, IsRefused, IsCaused};
-ghost use Rattle.script.specs.Answers.{Shown, shown_text, index_text};
+ghost use Rattle.script.specs.Script.{Outcome, Begins, IsRefused, IsCaused, shown_of};
+ghost use Rattle.script.specs.Answers.{shown_text, index_text};
 ghost use Rattle.script.specs.Pieces.{Takes, Gives};
 ghost use Rattle.script.specs.Next.{IsNext};
 ghost use Rattle.script.specs.Steps.{Advances, Does, Uses, MatchesHeading};
@@ -75,7 +75,7 @@ fn next_line<R: Read, W: Write>(
 
 // Shows a page, or that it isn't there.
 fn show_page(text: &mut Vec<u8>, engine: &Engine, number: u32) -> Result<(), AllocError>
-    ensures { OnOk result ((shown : Option Shown) × (text.new.items ≡ text.old.items ++ with_feed (shown_text number shown))) }
+    ensures { OnOk result (text.new.items ≡ text.old.items ++ with_feed (shown_text number (shown_of engine.now number))) }
 {
     match (engine.page(number), engine.page_bits(number)) {
         (Some(page), Some(bits)) => tell_page(text, number, page, bits),
@@ -208,7 +208,7 @@ fn first_line<R: Read, W: Write>(
     writer: &mut W,
 ) -> Result<Engine, ShellFault>
     requires { (pending.old ≡ []) × (text.old.items ≡ []) }
-    ensures begins { IfOk result (λ e. (s : Settings) × Agrees e empty × AreSettings s
+    ensures begins { IfOk result (λ e. (s : Settings) × IsNew s e × AreSettings s × (length s.indexed ≡ 4)
         × Uses (R.remaining reader.old) (R.remaining reader.new) [] (with_feed (heading s)) pending.new) }
     ensures quiet { Appends (W.contents writer.old) (W.contents writer.new) [] }
     ensures none { OnOk result (text.new.items ≡ []) }
@@ -239,7 +239,7 @@ fn first_line<R: Read, W: Write>(
 
 /// Reads a script, and writes the answers to its lines. The watch says afterwards which call was refused: a fault of the
 /// reader is answered only where its last read answered an error, one of the writer only where its last write answered
-/// an error or took nothing, want of memory only where a growth was refused.
+/// an error or took nothing, want of memory only where a growth was refused or the numbers of lines ran out.
 pub fn run_script<R: Read, W: Write>(
     alloc: Global,
     watch: &mut Watch,

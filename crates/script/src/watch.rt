@@ -1,6 +1,6 @@
 //! What the outside refused.
 
-ghost use Rattle.std.specs.Prelude.{◌≡◌, Ok, OnErr, OnOk, false, true, ◌<◌, length};
+ghost use Rattle.std.specs.Prelude.{◌≡◌, ℕ, Ok, OnErr, OnOk, false, true, ◌<◌};
 ghost use Rattle.std.specs.Io.KnownBytes.{ReadConsumes, WriteAppends};
 ghost use Rattle.std.specs.Io.{ReadsAtMost, WritesAtMost};
 
@@ -9,14 +9,14 @@ use std::io;
 use std::io::{Read, Write};
 
 /// Whether the last read, the last write, and any growth were refused. The shell calls its reader and its writer through this
-/// alone, so that a fault can be told from one that it made up.
+/// alone, and notes here where it wanted memory, so that a fault can be told from one that it made up.
 #[derive(Clone, Copy, Debug)]
 pub struct Watch {
     /// The last read answered an error.
     pub input: bool,
     /// The last write answered an error, or took nothing.
     pub output: bool,
-    /// A growth was refused.
+    /// A growth was refused, or the numbers of lines ran out.
     pub memory: bool,
 }
 
@@ -54,6 +54,7 @@ impl Watch {
         ensures bytes { WriteAppends (W.contents writer.old) (W.contents writer.new) result buf.now }
         ensures refused { OnErr result (self.new.output ≡ true) }
         ensures nothing { result ≡ Ok 0 → self.new.output ≡ true }
+        ensures taken { (n : ℕ) → result ≡ Ok n → 0 < n → self.new.output ≡ false }
         ensures input { self.new.input ≡ self.old.input }
         ensures memory { self.new.memory ≡ self.old.memory }
     {
@@ -65,7 +66,7 @@ impl Watch {
         result
     }
 
-    /// A growth was refused.
+    /// Notes that a growth was refused, or that the numbers of lines ran out.
     pub fn no_memory(&mut self) -> ShellFault
         ensures fault { result ≡ ShellFault.NoMemory }
         ensures memory { self.new.memory ≡ true }

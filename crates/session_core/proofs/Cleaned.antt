@@ -67,7 +67,7 @@ dead-past st w v agrees (IsDead.is_past done before) =
     change.IsPast.is_over v.header.xmax.0 (deleter-of st v done) (committed-from st.heap.table v.header.xmax.0 done)
     (λ s r bt. let e = reader-at st s r bt in
     subst (λ (r : relation.Session). Sees r.snapshot st.heap.table v.header.xmax.0) e.2
-    (past-seen st.heap.table e.0.snapshot (horizon_of st) v.header.xmax.0 agrees.sound.window (agrees.sound.sessions s e.0 e.1).snapshot (upto-horizon st w agrees) upto (below-xmin st w agrees s e.0 e.1) before))
+    (past-seen st.heap.table e.0.snapshot (horizon_of st) v.header.xmax.0 agrees.sound.window (agrees.sound.sessions s e.0 e.1).snapshot.bounds (upto-horizon st w agrees) upto (below-xmin st w agrees s e.0 e.1) before))
 
 -- Who reads a version's deletion reads its making: so what comes before such a version in a chain, nobody reads either.
 

@@ -1,5 +1,5 @@
 -- What the end of a session keeps, and its return to a savepoint: ids that it has are finished.
-use Rattle.std.proofs.Common.{◌≡◌, ◌≢◌, ℕ, ◌≤◌, List, [], ◌∷◌, ◌++◌, length, set, Option, Some, None, refl, sym, ap, ◌∙◌, subst, ◌⊎◌, inl, inr}
+use Rattle.std.proofs.Common.{◌≡◌, ◌≢◌, ℕ, ◌<◌, ◌≤◌, List, [], ◌∷◌, ◌++◌, length, set, Option, Some, None, refl, sym, ap, ◌∙◌, subst, ◌⊎◌, inl, inr}
 use Rattle.std.proofs.Math.ListN.{length-set}
 use Rattle.std.specs.Prelude.{Contains, IsSome}
 use Rattle.std.proofs.lemmas.Bool.{cases_Bool, cases_eq}
@@ -27,7 +27,7 @@ use Rattle.session_relation.specs.Heap as relation
 use Rattle.session_relation.specs.Visible.{IsCommitted, IsActive, Reads, by_itself, by_others, deleted_by, At, maker, deleter}
 use Rattle.session_relation.specs.Agrees as theory
 use Rattle.session_relation.proofs.Readers.{Levels-top}
-use Rattle.snapshot.specs.Laws.{IsInWindow}
+use Rattle.snapshot.specs.Laws.{IsBounded, IsBetween, IsInWindow}
 use Rattle.snapshot.specs.Snap.{Snap}
 use Rattle.snapshot.specs.Own.{newest}
 use Rattle.snapshot.proofs.Levels.{distinct-after}
@@ -46,16 +46,29 @@ use Rattle.session_core.proofs.Returning.{keeps-returned, fewer-back}
 use Rattle.session_core.proofs.Searches.{is-maker, is-deleter}
 use Rattle.session_core.proofs.Horizons.{IsHeldIn, held-in, horizon-above, horizon-next, horizon-low, horizon-upto, upto-horizon}
 
-in-window : (w v : Window) (ids : List ℕ) (end : Status) (s : Snap) → Finishes w v ids end → IsInWindow w s → IsInWindow v s
-in-window w v ids end s f h = record {
+bounded-finish : (w v : Window) (ids : List ℕ) (end : Status) (s : Snap) → Finishes w v ids end → IsBounded w s → IsBounded v s
+bounded-finish w v ids end s f h = record {
   xmin = finishes-upto w v ids end s.xmin f h.xmin;
   xmax = finishes-upto w v ids end s.xmax f h.xmax;
   ordered = subst (λ first. turns first s.xmin ≤ turns first s.xmax) (sym f.first) h.ordered;
 }
 
+between-finish : (w v : Window) (ids : List ℕ) (end : Status) (s : Snap) (x : ℕ) → Finishes w v ids end → IsBetween w s x → IsBetween v s x
+between-finish w v ids end s x f h = record {
+  upto = finishes-upto w v ids end x f h.upto;
+  from_xmin = subst (λ first. turns first s.xmin ≤ turns first x) (sym f.first) h.from_xmin;
+  before_xmax = subst (λ first. turns first x < turns first s.xmax) (sym f.first) h.before_xmax;
+}
+
+in-window-finish : (w v : Window) (ids : List ℕ) (end : Status) (s : Snap) → Finishes w v ids end → IsInWindow w s → IsInWindow v s
+in-window-finish w v ids end s f h = record {
+  bounds = bounded-finish w v ids end s f h.bounds;
+  listed = λ x among. between-finish w v ids end s x f (h.listed x among);
+}
+
 pub keeps-finish : (w v : Window) (ids : List ℕ) (end : Status) (e : Session) → Finishes w v ids end → SessionKeeps w e → SessionKeeps v e
 keeps-finish w v ids end e f h = record {
-  snapshot = in-window w v ids end e.snapshot f h.snapshot;
+  snapshot = in-window-finish w v ids end e.snapshot f h.snapshot;
   topmost = λ x mine. h.topmost x mine ∙ ap Some (sym (finishes-top w v ids end x f));
   fronts = h.fronts;
   distinct = h.distinct;

@@ -24,7 +24,7 @@ use Rattle.history.specs.World.{World}
 use Rattle.session_relation.specs.declared.step.Step.{Step}
 use Rattle.session_relation.specs.declared.step.Step.TheVariants.{Begin, Get, Commit, Abort}
 use Rattle.session_relation.specs.declared.reply.Reply.{Reply}
-use Rattle.session_relation.specs.declared.reply.Reply.TheVariants.{Done, Found, RolledBack, Refused}
+use Rattle.session_relation.specs.declared.reply.Reply.TheVariants.{Done, RolledBack, Refused}
 use Rattle.session_relation.specs.declared.reply.Reply.TheVariants as reply
 use Rattle.session_relation.specs.declared.reply.Refusal.{Refusal}
 use Rattle.session_relation.specs.declared.reply.Refusal.TheVariants.{NotOpen, AlreadyOpen, Failed, AlreadyThere, NotThere, Conflict, Busy, TooLarge, NoRoom, NeedsFreeze, NoMemory, NoSuchPage, NoSuchSession, TooDeep, NoSavepoint, CursorOpen, NoCursor, NoSuchIndex, BadBounds}
@@ -248,7 +248,7 @@ Sound-opens st w s e within snapshot ids saved bare agrees = record {
     ]
 
     held-upto : ((o : ℕ) (f : Session) (y : ℕ) → session_at st o ≡ Some f → Contains (holds_back f) y → IsUpToNext st.heap.table y) × IsUpToNext st.heap.table (now_taken st).xmin
-    held-upto = (held-in st w agrees, (taken-within st w agrees).xmin)
+    held-upto = (held-in st w agrees, (taken-within st w agrees).bounds.xmin)
 
     later-then : turns st.heap.table.first (horizon_of st) ≤ turns st.heap.table.first (horizon_of (put_session st s (Some e)))
     later-then = horizon-above st.heap.table (set st.sessions s (Some e)) (turns st.heap.table.first (horizon_of st)) agrees.sound.window (held-then held-upto)

@@ -14,6 +14,7 @@ use Rattle.commit_status.proofs.Ancestors.{top-same}
 use Rattle.commit_status.proofs.Giving.{finished-place}
 use Rattle.snapshot.specs.Own.{Own, AreFronts, AreDistinct, lacks, level_id, saved_with_each}
 use Rattle.snapshot.specs.Snap.{Snap, Sees}
+use Rattle.snapshot.specs.Laws.{IsInWindow}
 use Rattle.snapshot.proofs.Sights.{sees-top}
 use Rattle.snapshot.proofs.Earliest.{contains-head, contains-tail, contains-cases}
 use Rattle.snapshot.proofs.Levels.{level-among, level-mine, level-none, level-some, level-newest, lacks-given, fronts-given}
@@ -76,9 +77,17 @@ window-spared w k is = record { normal = is.normal; fits = is.fits; limit = is.l
 upto-spared : (w : Window) (k x : ℕ) → IsUpToNext w x → IsUpToNext (spared w k) x
 upto-spared w k x h = record { normal = h.normal; fits = h.fits; reached = h.reached }
 
+in-window-spared : (w : Window) (k : ℕ) (s : Snap) → IsInWindow w s → IsInWindow (spared w k) s
+in-window-spared w k s h =
+    let b = h.bounds in
+    record {
+      bounds = record { xmin = upto-spared w k s.xmin b.xmin; xmax = upto-spared w k s.xmax b.xmax; ordered = b.ordered };
+      listed = λ x among. let l = h.listed x among in record { upto = upto-spared w k x l.upto; from_xmin = l.from_xmin; before_xmax = l.before_xmax };
+    }
+
 keeps-spared : (w : Window) (k : ℕ) (e e' : Session) → SameSession e e' → SessionKeeps w e → SessionKeeps (spared w k) e'
 keeps-spared w k e e' same h = record {
-  snapshot = rw same.snapshot (record { xmin = upto-spared w k e.snapshot.xmin h.snapshot.xmin; xmax = upto-spared w k e.snapshot.xmax h.snapshot.xmax; ordered = h.snapshot.ordered });
+  snapshot = rw same.snapshot (in-window-spared w k e.snapshot h.snapshot);
   topmost = λ x mine. ap (λ ids. slice_get ids 0) same.own.ids ∙ h.topmost x (subst (λ ids. Contains ids x) same.own.ids mine) ∙ ap Some (sym (top-spared w k x));
   fronts = rw (same.own.ids, same.own.saved) h.fronts;
   distinct = subst AreDistinct (sym same.own.ids) h.distinct;
@@ -302,7 +311,7 @@ module _ (st : State) (w : World) (v : Window) (s : ℕ) (e : Session) (own : Ow
   pub are-unseen : AreUnseen (seen st) (λ sn y. Sees sn v y) takes.given
   are-unseen y among o r bt = let f = reader-at st o r bt in
       subst (λ (r : relation.Session). ¬ Sees r.snapshot v y) f.2
-      (unseen-given takes.given st.heap.table v v (level_id e.own.ids e.own.saved) f.0.snapshot y takes.gives window (agrees.sound.sessions o f.0 f.1).snapshot among)
+      (unseen-given takes.given st.heap.table v v (level_id e.own.ids e.own.saved) f.0.snapshot y takes.gives window (agrees.sound.sessions o f.0 f.1).snapshot.bounds among)
 
   -- the pages may have been pruned before
   pub found-given : (slots : List (List Slot)) → theory.Agrees (seen_in slots st.heap.table st.sessions) w → theory.Agrees (seen_in slots v (set st.sessions s (Some (with_own e own)))) w

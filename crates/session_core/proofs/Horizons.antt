@@ -81,7 +81,7 @@ horizon-above w xs turn is held next each = elim (horizon-least w xs is held).is
 
 pub held-in : (st : State) (w : World) → Agrees st w → IsHeldIn st.heap.table st.sessions
 held-in st w agrees s e y at among = elim (back-cases e y among) [
-  | inl here ↦ subst (λ z. IsUpToNext st.heap.table z) here (agrees.sound.sessions s e at).snapshot.xmin
+  | inl here ↦ subst (λ z. IsUpToNext st.heap.table z) here (agrees.sound.sessions s e at).snapshot.bounds.xmin
   | inr own ↦ upto-given st.heap.table y (active-to st.heap.table y ((agrees.found.opened s (reader_of e) (reader-is st s e at)).2.own_active y own)).is_given
 ]
 

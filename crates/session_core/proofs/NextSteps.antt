@@ -21,7 +21,7 @@ use Rattle.session_core.specs.declared.cursor.Cursor.TheVariants.{Index, Heap}
 use Rattle.session_core.specs.State.{State, session_at, put_session, map_session, with_cursor, seen, mark_of, position_of, reader_of}
 use Rattle.session_core.specs.Agrees.{Agrees, Follows, StaysLed}
 use Rattle.session_core.specs.Refuses.{RefusesReady, RefusesBare}
-use Rattle.session_core.specs.Takes.{IsAt, IsAtEnd, IsNotAtEnd, TakesRows, TakesPage, Takes, TakesSome, MovesOn, HandsOut}
+use Rattle.session_core.specs.Takes.{IsAt, IsAtEnd, IsNotAtEnd, TakesRows, TakesPage, Takes, TakesSome, HandsOut}
 use Rattle.session_core.proofs.Owns.{reader-is}
 use Rattle.session_core.proofs.Follows.{Follows-same, bare_by, led-same}
 use Rattle.session_core.proofs.CursorSteps.{moved, only-cursor, sound-cursor}
@@ -147,18 +147,14 @@ Follows-rows st st' s n e cursor after rows at sound opened taken is = Follows-t
 
 -- And so exactly.
 
-moves-on : (st : State) (e : Session) (cursor after : Cursor) (n : ℕ) (rows : List Row) → Takes st e cursor n rows after → MovesOn st e cursor rows after
-moves-on st e (Index span) after n rows (left, same, takes) = (left.last, same ∙ ap Index takes.walks.same)
-moves-on st e (Heap from) after n rows taken = taken
-
 pub hands-out : (st st' : State) (s n : ℕ) (e : Session) (cursor after : Cursor) (rows : List Row) → session_at st s ≡ Some e → e.cursor ≡ Some cursor → TakesSome st e cursor n rows after
-    → st' ≡ put_session st s (map_session (with_cursor (Some after)) (session_at st s)) → HandsOut st st' s rows
+    → st' ≡ put_session st s (map_session (with_cursor (Some after)) (session_at st s)) → HandsOut st st' s n rows
 hands-out st st' s n e cursor after rows at opened taken is = record {
   session = e;
   there = at;
   before = cursor;
   at = opened;
   after = after;
-  moves = moves-on st e cursor after n rows taken.takes;
+  takes = taken.takes;
   is = moved st st' s e (Some after) at is;
 }

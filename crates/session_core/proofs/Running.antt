@@ -1,27 +1,46 @@
 -- A run of the engine goes on by one step.
-use Rattle.std.proofs.Common.{ℕ, ◌<◌, ◌≤◌, ◌+◌, List, [], ◌∷◌, ◌++◌, take, get_or, length, sym, subst}
+use Rattle.std.proofs.Common.{ℕ, ◌<◌, ◌≤◌, ◌+◌, List, [], ◌∷◌, ◌++◌, take, get_or, length, refl, sym, subst}
 use Rattle.std.proofs.lemmas.List.{take_more, take_all}
+use Rattle.session_relation.specs.declared.settings.Settings.{Settings}
 use Rattle.session_relation.specs.declared.step.Step.{Step}
 use Rattle.session_relation.specs.declared.reply.Reply.{Reply}
 use Rattle.history.specs.World.{World, empty}
-use Rattle.session_relation.specs.Allowed.{after, IsLawful}
-use Rattle.session_relation.proofs.Runs.{IsRun-push, after-push, lawful}
+use Rattle.session_relation.specs.Allowed.{IsRun, next, after}
 use Rattle.session_core.specs.State.{State}
 use Rattle.session_core.specs.Agrees.{Agrees, Follows}
-use Rattle.session_core.specs.Runs.{Ran}
+use Rattle.session_core.specs.Exact.{Exact}
+use Rattle.session_core.specs.Runs.{IsNew, Leads, Ran}
 
-pub Ran-more : (steps : List Step) (replies : List Reply) (st st' : State) (i : ℕ) (d : Step) (reply : Reply) → i < length steps
-    → Ran (take i steps) replies st → Follows st (get_or steps i d) reply st' → Ran (take (i + 1) steps) (replies ++ reply ∷ []) st'
-Ran-more steps replies st st' i d reply within ran follows =
-    let next = follows (after empty (take i steps) replies) ran.agrees in
-    rw (take_more steps i d within) (record {
-      allowed = IsRun-push empty (take i steps) replies (get_or steps i d) reply ran.allowed next.0;
-      agrees = subst (λ (w : World). Agrees st' w) (sym (after-push empty (take i steps) replies (get_or steps i d) reply ran.allowed)) next.1;
-    })
+Leads-push : (old : State) (steps : List Step) (replies : List Reply) (mid : State) (step : Step) (reply : Reply) (new : State) → Leads old steps replies mid
+    → Follows mid step reply new → Exact mid step reply new → Leads old (steps ++ step ∷ []) (replies ++ reply ∷ []) new
+Leads-push old [] [] mid step reply new led follows exact =
+    (new, subst (λ (st : State). Follows st step reply new) (sym led) follows, subst (λ (st : State). Exact st step reply new) (sym led) exact, refl)
+Leads-push old [] (r ∷ rs) mid step reply new led follows exact = absurd led
+Leads-push old (s ∷ ss) [] mid step reply new led follows exact = absurd led
+Leads-push old (s ∷ ss) (r ∷ rs) mid step reply new led follows exact =
+    (led.0, led.1, led.2, Leads-push led.0 ss rs mid step reply new led.3 follows exact)
+
+pub Leads-more : (old : State) (steps : List Step) (replies : List Reply) (st st' : State) (i : ℕ) (d : Step) (reply : Reply) → i < length steps
+    → Leads old (take i steps) replies st → Follows st (get_or steps i d) reply st' → Exact st (get_or steps i d) reply st'
+    → Leads old (take (i + 1) steps) (replies ++ reply ∷ []) st'
+Leads-more old steps replies st st' i d reply within led follows exact =
+    rw (take_more steps i d within) (Leads-push old (take i steps) replies st (get_or steps i d) reply st' led follows exact)
 
 -- after the last step
-pub Ran-all : (steps : List Step) (replies : List Reply) (st : State) (i : ℕ) → length steps ≤ i → Ran (take i steps) replies st → Ran steps replies st
-Ran-all steps replies st i all ran = subst (λ (ss : List Step). Ran ss replies st) (take_all i steps all) ran
+pub Leads-all : (old : State) (steps : List Step) (replies : List Reply) (st : State) (i : ℕ) → length steps ≤ i → Leads old (take i steps) replies st → Leads old steps replies st
+Leads-all old steps replies st i all led = subst (λ (ss : List Step). Leads old ss replies st) (take_all i steps all) led
 
-pub Ran-lawful : (steps : List Step) (replies : List Reply) (st : State) (i : ℕ) → length steps ≤ i → Ran (take i steps) replies st → IsLawful (after empty steps replies)
-Ran-lawful steps replies st i all ran = lawful steps replies (Ran-all steps replies st i all ran).allowed
+-- the history allows what was replied, and the engine agrees with the world after it
+pub Leads-run : (w : World) (old : State) (steps : List Step) (replies : List Reply) (new : State) → Agrees old w → Leads old steps replies new
+    → IsRun w steps replies × Agrees new (after w steps replies)
+Leads-run w old [] [] new agrees led = (tt, subst (λ (st : State). Agrees st w) led agrees)
+Leads-run w old [] (r ∷ rs) new agrees led = absurd led
+Leads-run w old (s ∷ ss) [] new agrees led = absurd led
+Leads-run w old (s ∷ ss) (r ∷ rs) new agrees led =
+    let now = led.1 w agrees in
+    let more = Leads-run (next w s r) led.0 ss rs new now.1 led.3 in
+    ((now.0, more.0), more.1)
+
+pub Leads-ran : (settings : Settings) (old : State) (steps : List Step) (replies : List Reply) (new : State) → IsNew settings old → Leads old steps replies new → Ran settings steps replies
+Leads-ran settings old steps replies new is led =
+    record { first = old; new = is; last = new; leads = led; agrees = (Leads-run empty old steps replies new is.agrees led).1 }

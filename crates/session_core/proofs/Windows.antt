@@ -1,5 +1,5 @@
 -- What the steps of the table of ids change of what readers see.
-use Rattle.std.proofs.Common.{◌≡◌, ◌≢◌, ℕ, ◌≤◌, List, [], ◌∷◌, length, Option, Some, None, refl, sym, ap, ◌∙◌, subst, ◌⊎◌, inl, inr, arith}
+use Rattle.std.proofs.Common.{◌≡◌, ◌≢◌, ℕ, ◌<◌, ◌≤◌, List, [], ◌∷◌, length, Option, Some, None, refl, sym, ap, ◌∙◌, subst, ◌⊎◌, inl, inr, arith}
 use Rattle.std.specs.Prelude.{IsSome, Contains}
 use Rattle.std.specs.Option.{option_map}
 use Rattle.std.proofs.lemmas.Bool.{cases_Bool}
@@ -7,7 +7,7 @@ use Rattle.std.proofs.lemmas.Option.{same_Some, none-some}
 use Rattle.xid_circle.specs.Circle.{Precedes}
 use Rattle.commit_status.specs.declared.status.Status.{Status}
 use Rattle.commit_status.specs.declared.status.Status.TheVariants.{InProgress, Committed}
-use Rattle.commit_status.specs.Window.{Window, IsWindow, IsGiven, IsInProgress, IsUpToNext, place, status_of, next_id, top_of, turns}
+use Rattle.commit_status.specs.Window.{Window, IsWindow, IsGiven, IsUpToNext, place, status_of, next_id, turns}
 use Rattle.commit_status.specs.Window as window
 use Rattle.commit_status.specs.Changes as change
 use Rattle.commit_status.proofs.Turns.{turns-given}
@@ -16,7 +16,7 @@ use Rattle.commit_status.proofs.Giving.{gives-place_old, gives-place_cases, give
 use Rattle.commit_status.proofs.Finishing.{finishes-top, finishes-given}
 use Rattle.commit_status.proofs.ChangesLemmas.{finishes-place}
 use Rattle.snapshot.specs.Snap.{Snap, Sees, SeesAlone, tested, is_before}
-use Rattle.snapshot.specs.Laws.{IsInWindow}
+use Rattle.snapshot.specs.Laws.{IsBounded, IsBetween, IsInWindow}
 use Rattle.snapshot.proofs.Sights.{sees-top}
 use Rattle.snapshot.proofs.Earliest.{before-precedes, precedes-before, contains-cases}
 use Rattle.heap_write.specs.Writes.{GivesUnder}
@@ -93,23 +93,38 @@ not-before w y is upto before =
     let lt = (precedes-turns w (next_id w) y is (upto-next w is) upto).0 before in
     let le = upto.reached in absurd (omega (arith, next-turns w is))
 
-unseen-next : (s : Snap) (w v : Window) → IsWindow w → IsInWindow w s → ¬ Sees s v (next_id w)
+unseen-next : (s : Snap) (w v : Window) → IsWindow w → IsBounded w s → ¬ Sees s v (next_id w)
 unseen-next s w v is within (Sees.early before) = not-before w s.xmin is within.xmin before
 unseen-next s w v is within (Sees.between before alone) = not-before w s.xmax is within.xmax before
 
-pub in-window-given : (xs : List ℕ) (w v : Window) (parent : Option ℕ) (s : Snap) → GivesUnder w parent xs v → IsInWindow w s → IsInWindow v s
-in-window-given xs w v parent s gives h = record {
+bounded-given : (xs : List ℕ) (w v : Window) (parent : Option ℕ) (s : Snap) → GivesUnder w parent xs v → IsBounded w s → IsBounded v s
+bounded-given xs w v parent s gives h = record {
   xmin = given-upto xs w v parent s.xmin gives h.xmin;
   xmax = given-upto xs w v parent s.xmax gives h.xmax;
   ordered = subst (λ first. turns first s.xmin ≤ turns first s.xmax) (sym (given-first xs w v parent gives)) h.ordered;
 }
 
+between-given : (xs : List ℕ) (w v : Window) (parent : Option ℕ) (s : Snap) (x : ℕ) → GivesUnder w parent xs v → IsBetween w s x → IsBetween v s x
+between-given xs w v parent s x gives h =
+    let first = sym (given-first xs w v parent gives) in
+    record {
+      upto = given-upto xs w v parent x gives h.upto;
+      from_xmin = subst (λ f. turns f s.xmin ≤ turns f x) first h.from_xmin;
+      before_xmax = subst (λ f. turns f x < turns f s.xmax) first h.before_xmax;
+    }
+
+pub in-window-given : (xs : List ℕ) (w v : Window) (parent : Option ℕ) (s : Snap) → GivesUnder w parent xs v → IsInWindow w s → IsInWindow v s
+in-window-given xs w v parent s gives h = record {
+  bounds = bounded-given xs w v parent s gives h.bounds;
+  listed = λ x among. between-given xs w v parent s x gives (h.listed x among);
+}
+
 -- no id that is given is seen by a snapshot that was taken before
-pub unseen-given : (xs : List ℕ) (w v u : Window) (parent : Option ℕ) (s : Snap) (x : ℕ) → GivesUnder w parent xs v → IsWindow v → IsInWindow w s → Contains xs x → ¬ Sees s u x
+pub unseen-given : (xs : List ℕ) (w v u : Window) (parent : Option ℕ) (s : Snap) (x : ℕ) → GivesUnder w parent xs v → IsWindow v → IsBounded w s → Contains xs x → ¬ Sees s u x
 unseen-given [] w v u parent s x gives is within among = absurd (none_own x among)
 unseen-given (y ∷ xs) w v u parent s x gives is within among = elim (contains-cases y x xs among) [
   | inl here ↦ subst (λ z. ¬ Sees s u z) (sym gives.1 ∙ here) (unseen-next s w u (given-window (y ∷ xs) w v parent gives is) within)
-  | inr later ↦ unseen-given xs gives.0 v u (Some y) s x gives.3 is (in-window-given (y ∷ []) w gives.0 parent s (gives.0, gives.1, gives.2, refl) within) later
+  | inr later ↦ unseen-given xs gives.0 v u (Some y) s x gives.3 is (bounded-given (y ∷ []) w gives.0 parent s (gives.0, gives.1, gives.2, refl) within) later
 ]
 
 pub SameSight-given : (s : Snap) (xs : List ℕ) (w v : Window) (parent : Option ℕ) → GivesUnder w parent xs v → IsWindow v → SameSight (state_of w) (λ x. Sees s w x) (λ x. Sees s v x)

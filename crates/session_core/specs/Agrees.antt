@@ -19,7 +19,7 @@ use Rattle.session_core.specs.State.{State, session_at, seen, horizon_of}
 
 -- what the ids of an open session keep
 pub record SessionKeeps (w : Window) (e : Session) : Type 0 where
-  -- the ids that its snapshot names are in the window
+  -- the ids that its snapshot names are in the window, or the next one, and each that it lists is between xmin and xmax
   pub snapshot : IsInWindow w e.snapshot
   -- its first id is the topmost parent of each
   pub topmost : (x : ℕ) → Contains e.own.ids x → slice_get e.own.ids 0 ≡ Some (top_of w x)

@@ -89,9 +89,9 @@ snapshot_of st = taken (next_id st.heap.table) (owns_of st.sessions)
 abbrev pub MustList : State → Type 0
 MustList st = 8 < length (snapshot_of st).listed
 
--- a savepoint more than the session can note without memory
+-- it has set four savepoints or more, and no further one can be set without memory
 abbrev pub MustNote : State → ℕ → Type 0
-MustNote st s = (e : Session) × (session_at st s ≡ Some e) × (4 ≤ length e.own.saved)
+MustNote st s = (e : Session) × (session_at st s ≡ Some e) × (4 ≤ length e.own.saved) × (e.own.spare_marks ≡ 0)
 
 -- the session has this cursor now, or none, and nothing else changes
 abbrev pub HasCursor : State → State → ℕ → Option Cursor → Type 0
@@ -117,7 +117,7 @@ Exact old (OpenIndex s index low high) Done new = HasCursor old new s (Some (Ind
 Exact old (OpenIndex s index low high) (Refused NoSuchIndex) new = (index_at old index ≡ None) × (new ≡ old)
 Exact old (OpenIndex s index low high) (Refused BadBounds) new = IsSome (index_at old index) × (new ≡ old)
 Exact old (OpenHeap s) Done new = HasCursor old new s (Some (Heap 0))
-Exact old (Next s n) (Rows rows) new = HandsOut old new s rows.items
+Exact old (Next s n) (Rows rows) new = HandsOut old new s n rows.items
 Exact old (Next s n) End new = new ≡ old
 Exact old (Close s) Done new = HasCursor old new s None
 Exact old (Commit s) Committed new = Closes old new s status.Committed

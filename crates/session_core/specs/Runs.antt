@@ -1,21 +1,42 @@
 -- Runs of the engine.
-use Rattle.std.specs.Prelude.{List, ◌≡◌}
+use Rattle.std.specs.Prelude.{List, [], ◌∷◌, ◌≡◌, ℕ}
 use Rattle.history.specs.World.{empty}
+use Rattle.heap_write.specs.Indexes.{entries_at, new_entries}
 use Rattle.session_relation.specs.declared.settings.Settings.{Settings}
 use Rattle.session_relation.specs.declared.settings.SettingsFault.TheVariants as setting
 use Rattle.session_relation.specs.declared.step.Step.{Step}
 use Rattle.session_relation.specs.declared.reply.Reply.{Reply}
 use Rattle.session_relation.specs.Words.{AreSettings, FirstFault}
-use Rattle.session_relation.specs.Allowed.{IsRun, after}
+use Rattle.session_relation.specs.Allowed.{after}
 use Rattle.session_core.specs.declared.runs.RunFault.{RunFault}
 use Rattle.session_core.specs.declared.runs.RunFault.TheVariants as fault
 use Rattle.session_core.specs.State.{State}
-use Rattle.session_core.specs.Agrees.{Agrees}
+use Rattle.session_core.specs.Agrees.{Agrees, Follows}
+use Rattle.session_core.specs.Exact.{Exact}
 
--- the steps were allowed, and the engine agrees with the world after them
-pub record Ran (steps : List Step) (replies : List Reply) (st : State) : Type 0 where
-  pub allowed : IsRun empty steps replies
-  pub agrees : Agrees st (after empty steps replies)
+-- an engine of these settings on which nothing was done: no id is given, no page in use, and no index has an entry
+pub record IsNew (asked : Settings) (st : State) : Type 0 where
+  pub settings : st.settings ≡ asked
+  pub first : st.heap.table.first ≡ asked.first_xid
+  pub ids : st.heap.table.entries ≡ []
+  pub pages : st.heap.pages.pages ≡ []
+  pub indexes : (n : ℕ) → entries_at st.heap.indexes n ≡ new_entries asked.indexed n
+  pub agrees : Agrees st empty
+
+-- the engine's states one after another: by each step and its reply it follows the history, and does what the history leaves
+-- to it exactly
+abbrev pub Leads : State → List Step → List Reply → State → Type 0
+Leads old [] [] new = old ≡ new
+Leads old (step ∷ steps) (reply ∷ replies) new = (st : State) × Follows old step reply st × Exact old step reply st × Leads st steps replies new
+Leads old steps replies new = ⊥
+
+-- a new engine of these settings did the steps, and gave these replies
+pub record Ran (settings : Settings) (steps : List Step) (replies : List Reply) : Type 0 where
+  pub first : State
+  pub new : IsNew settings first
+  pub last : State
+  pub leads : Leads first steps replies last
+  pub agrees : Agrees last (after empty steps replies)
 
 -- a setting is the first out of its range, or all are in theirs and memory was refused
 abbrev pub FirstRunFault : Settings → RunFault → Type 0

@@ -4,7 +4,6 @@ use Rattle.std.specs.declared.alloc.Global.{Global}
 use Rattle.tuple_header.specs.declared.version.Row.{Row}
 use Rattle.tuple_header.specs.Version.{Version}
 use Rattle.snapshot.specs.Snap.{Sees}
-use Rattle.heap_write.specs.declared.walking.Mark.{Mark}
 use Rattle.heap_write.specs.declared.walking.Span.{Span}
 use Rattle.history.specs.World.{World}
 use Rattle.session_relation.specs.Heap as relation
@@ -96,17 +95,12 @@ pub record TakesSome (st : State) (e : Session) (cursor : Cursor) (n : ℕ) (row
 abbrev pub TakesNext : State → Session → Cursor → ℕ → Option (Vec Row Global × Cursor) → Type 0
 TakesNext st e cursor n answer = MatchOption answer (IsAt st e cursor → IsAtEnd st e cursor) (λ found. TakesSome st e cursor n found.0.items found.1)
 
--- where the cursor is after it handed out these rows: after the last of them in an index, behind their page in the heap
-abbrev pub MovesOn : State → Session → Cursor → List Row → Cursor → Type 0
-MovesOn st e (Index span) rows cursor = (last : Option Mark) × (cursor ≡ Index (record span { last = last }))
-MovesOn st e (Heap from) rows cursor = (page : ℕ) × (cursor ≡ Heap (page + 1)) × TakesPage st e from page rows
-
--- the session has handed out these rows: its cursor alone moves
-pub record HandsOut (old new : State) (s : ℕ) (rows : List Row) : Type 0 where
+-- n rows were asked for, and the session has handed out these: its cursor alone moves, behind them
+pub record HandsOut (old new : State) (s n : ℕ) (rows : List Row) : Type 0 where
   pub session : Session
   pub there : session_at old s ≡ Some session
   pub before : Cursor
   pub at : session.cursor ≡ Some before
   pub after : Cursor
-  pub moves : MovesOn old session before rows after
+  pub takes : Takes old session before n rows after
   pub is : new ≡ put_session old s (Some (with_cursor (Some after) session))

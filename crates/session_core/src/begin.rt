@@ -48,7 +48,8 @@ impl Engine {
         take_snapshot(self.alloc, self.heap.table().next(), self.sessions.used())
     }
 
-    /// Opens the session: it reads what was committed by now. Refusals in order: NoSuchSession, AlreadyOpen.
+    /// Opens the session: it reads what was committed by now. Refusals in order: NoSuchSession, AlreadyOpen, and NoMemory,
+    /// which comes only where its snapshot lists more than 8 ids.
     pub(crate) fn begin(&mut self, s: u8) -> Outcome
         ensures follows { Follows self.old (Step.Begin s) (reply_to result) self.new }
         ensures exact { Exact self.old (Step.Begin s) (reply_to result) self.new }

@@ -1,6 +1,6 @@
 //! A session opens a cursor, asks it for rows, and closes it.
 
-ghost use Rattle.std.specs.Prelude.{◌≡◌, ◌<◌, ℕ, length};
+ghost use Rattle.std.specs.Prelude.{◌≡◌, ◌<◌, length};
 ghost use Rattle.session_relation.specs.declared.step.Step.{Step};
 ghost use Rattle.session_core.specs.State.{session_at, put_session, with_cursor, map_session};
 ghost use Rattle.session_core.specs.Agrees.{Follows};

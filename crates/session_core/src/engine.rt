@@ -2,14 +2,13 @@
 
 ghost use Rattle.std.specs.Prelude.{◌≡◌, ◌<◌, ℕ, slice_get, option_copied, IfOk, IfErr, OnOk, MatchResult, IsSome, Some, None, false, Contains};
 ghost use Rattle.std.specs.Option.{option_map};
-ghost use Rattle.history.specs.World.{empty};
 ghost use Rattle.session_relation.specs.Words.{AreSettings, FirstFault};
 ghost use Rattle.commit_status.specs.Window.{next_id, IsActive, IsWindow};
 ghost use Rattle.commit_status.specs.Changes.{Finishes};
 ghost use Rattle.session_core.specs.State.{session_at, index_at, put_session, as_failed};
 ghost use Rattle.session_core.specs.Changes.{Opens, Closes};
-ghost use Rattle.session_core.specs.Agrees.{Agrees};
 ghost use Rattle.session_core.specs.Refuses.{Refuses, RefusesReady, RefusesFree, RefusesBare};
+ghost use Rattle.session_core.specs.Runs.{IsNew};
 
 use crate::session::Session;
 use crate::sessions::Sessions;
@@ -67,11 +66,10 @@ fn end(heap: &mut HeapState, session: Option<Session>, status: Status)
 }
 
 impl Engine {
-    /// An engine with no rows. The fault names the first setting that is out of its range, or memory.
+    /// An engine of these settings, without sessions, pages or entries. The fault names the first setting that is out of its
+    /// range, or memory.
     pub fn new(alloc: Global, settings: Settings) -> Result<Engine, SettingsFault>
-        ensures agrees { IfOk result (λ e. Agrees e empty) }
-        ensures settings { IfOk result (λ e. e.settings ≡ settings) }
-        ensures first { IfOk result (λ e. e.heap.table.first ≡ settings.first_xid) }
+        ensures new { IfOk result (λ e. IsNew settings e) }
         ensures fault { IfErr result (λ fault. FirstFault settings fault) }
         ensures valid { OnOk result (AreSettings settings) }
     {
@@ -121,7 +119,7 @@ impl Engine {
         self.heap.index(number)
     }
 
-    /// The visibility map's bits of the page, if it is in use: 0, since no page has been cleaned yet.
+    /// The visibility map's bits of the page, if it is in use: 0, since there is no visibility map yet.
     pub fn page_bits(&self, number: u32) -> Option<u8>
         ensures { result ≡ option_map (λ _. 0) (slice_get self.now.heap.pages.pages number) }
     {

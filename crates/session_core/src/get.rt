@@ -1,11 +1,13 @@
 //! A session reads.
 
 ghost use Rattle.std.specs.Prelude.{◌≡◌};
+ghost use Rattle.session_relation.specs.declared.reply.Reply.TheVariants.{Found};
 ghost use Rattle.session_relation.specs.declared.step.Step.{Step};
 ghost use Rattle.session_core.specs.Agrees.{Follows};
 ghost use Rattle.session_core.specs.Exact.{Exact};
 
 use crate::engine::Engine;
+use arrayvec::ArrayVec;
 use session_relation::{Reply, Row};
 use tuple_header::RowRef;
 
@@ -19,10 +21,36 @@ impl Engine {
         match self.ready(s) {
             Ok(session) => {
                 let found = self.heap.row(key, &session.snapshot, &session.own);
-                *reply = Reply::Found(copy_of(found));
+                put_found(found, reply);
             }
             Err(refusal) => *reply = Reply::Refused(refusal),
         }
+    }
+}
+
+/// Puts what was found in the place of another reply. It takes no memory.
+fn put_found(found: Option<RowRef<'_>>, reply: &mut Reply)
+    ensures { reply.new ≡ Found found.entry }
+{
+    let Some(row) = found else {
+        *reply = Reply::Found(None);
+        return;
+    };
+    // where there is a row already, it is written over, and no other is made
+    if !matches!(reply, Reply::Found(Some(_))) {
+        *reply = Reply::Found(Some(no_row()));
+    }
+    if let Reply::Found(Some(place)) = reply {
+        row.copy_to(place);
+    }
+}
+
+/// A row with an empty body, to be written over.
+pub(crate) fn no_row() -> Row {
+    Row {
+        key: 0,
+        cols: [0; 4],
+        body: ArrayVec::new(),
     }
 }
 

@@ -3,7 +3,9 @@
 //! Callers see an [`Engine`] as a `State` (`specs/State.antt`). `specs/Agrees.antt` says when it agrees with a world of
 //! the history, and [`Engine::step`] promises that for every world that it agrees with, the history allows the reply,
 //! the engine agrees with the next world, and no index entry leads to a slot that was given to another row. Beside that it
-//! says exactly what the step does to ids and pages (`specs/Exact.antt`). [`views_by_index`] says what an index leads to.
+//! says exactly what the step does to ids and pages (`specs/Exact.antt`). [`Engine::step_into`] does the same and puts its reply
+//! in the place of an earlier one, [`Engine::read`] reads outside of a step, and [`run`] does a list of steps
+//! (`specs/Runs.antt`). [`views_by_index`] says what an index leads to.
 #![tactic(auto)]
 
 mod begin;

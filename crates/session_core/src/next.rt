@@ -11,8 +11,8 @@ ghost use Rattle.session_core.specs.Takes.{IsAt, IsNotAtEnd, TakesRows, SomeStan
 
 use crate::cursor::Cursor;
 use crate::engine::Engine;
+use crate::get::no_row;
 use crate::session::Session;
-use arrayvec::ArrayVec;
 use heap_write::Span;
 use session_relation::{Refusal, Reply, Row};
 use std::alloc::AllocError;
@@ -35,11 +35,7 @@ fn add_row(rows: &mut Vec<Row>, row: &RowRef<'_>, most: u16) -> Result<(), Alloc
     rows.try_reserve(more)?;
     // and is written where it stays
     let place = rows.as_slice().len();
-    rows.push_reserved(Row {
-        key: 0,
-        cols: [0; 4],
-        body: ArrayVec::new(),
-    });
+    rows.push_reserved(no_row());
     row.copy_to(&mut rows[place]);
     Ok(())
 }

@@ -1,10 +1,8 @@
 //! A list of steps, from the empty table.
 
-ghost use Rattle.std.specs.Prelude.{◌≡◌, IfOk, IfErr};
+ghost use Rattle.std.specs.Prelude.{IfOk, IfErr};
 ghost use Rattle.history.specs.World.{empty};
 ghost use Rattle.session_relation.specs.Allowed.{IsRun, after, IsLawful};
-ghost use Rattle.session_core.specs.State.{State};
-ghost use Rattle.session_core.specs.Agrees.{Agrees};
 ghost use Rattle.session_core.specs.Runs.{Ran, FirstRunFault};
 
 use crate::engine::Engine;
@@ -18,15 +16,17 @@ pub enum RunFault {
     /// A setting is out of its range.
     #[error("a setting is out of its range")]
     Settings(SettingsFault),
+    /// Memory was refused.
     #[error("there is no memory")]
     NoMemory,
 }
 
-/// Runs the steps on a new engine. The replies are a run of the history from the empty world; so the first committer
-/// wins, and no two open sessions have written one key.
+/// Runs the steps on a new engine of these settings. The replies are a run of the history from the empty world; so the first
+/// committer wins, and no two open sessions have written one key. They are those that [`Engine::step`] gives, one after another.
+/// The fault is the first setting that is out of its range, or NoMemory.
 pub fn run(alloc: Global, settings: Settings, steps: &[Step]) -> Result<Vec<Reply>, RunFault>
     ensures run { IfOk result (λ replies. IsRun empty steps.now replies.items) }
-    ensures agrees { IfOk result (λ replies. (st : State) × Agrees st (after empty steps.now replies.items)) }
+    ensures ran { IfOk result (λ replies. Ran settings steps.now replies.items) }
     ensures lawful { IfOk result (λ replies. IsLawful (after empty steps.now replies.items)) }
     ensures fault { IfErr result (λ fault. FirstRunFault settings fault) }
 {

@@ -12,7 +12,8 @@ use session_relation::{Refusal, Reply, Row, Step};
 
 impl Engine {
     /// Does one step, and gives its reply: whatever world of the history the engine agrees with, the history allows
-    /// the reply, and the engine agrees with the next world.
+    /// the reply, and the engine agrees with the next world. A step that is refused names the first reason that holds, in the order
+    /// of the table in docs/rules.md, or NoMemory, as is said below that table.
     pub fn step(&mut self, step: Step) -> Reply
         ensures follows { Follows self.old step result self.new }
         ensures exact { Exact self.old step result self.new }
@@ -23,7 +24,8 @@ impl Engine {
     }
 
     /// Does one step as [`Engine::step`] does, and puts its reply in the place of an earlier one. A reply has room for a row, over a
-    /// kilobyte; who does many steps needs one alone.
+    /// kilobyte; who does many steps needs one alone. The earlier one is dropped only when the new one is there, so the rows of two
+    /// answers of a cursor may stand in memory at once.
     pub fn step_into(&mut self, step: Step, reply: &mut Reply)
         ensures follows { Follows self.old step reply.new self.new }
         ensures exact { Exact self.old step reply.new self.new }

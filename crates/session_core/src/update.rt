@@ -85,7 +85,7 @@ impl Engine {
 
     /// Writes another row of a key that has one. Where the row has no room on the page of the version that it replaces,
     /// that page is pruned first. Refusals in order: NoSuchSession, NotOpen, Failed, CursorOpen, TooLarge, NotThere, Conflict, Busy,
-    /// NeedsFreeze, NoRoom, NoMemory.
+    /// NeedsFreeze, NoMemory, NoRoom.
     pub(crate) fn update(&mut self, s: u8, row: RowIn) -> Outcome
         ensures follows { Follows self.old (Step.Update s row) (reply_to result) self.new }
         ensures exact { Exact self.old (Step.Update s row) (reply_to result) self.new }

@@ -2,7 +2,7 @@
 use Rattle.std.proofs.Common.{◌≡◌, ◌≢◌, ℕ, ◌+◌, ◌<◌, List, [], ◌∷◌, ◌++◌, length, Option, Some, sym, ap, ◌∙◌, subst, ◌⊎◌, inl, inr, arith}
 use Rattle.std.specs.Prelude.{ℤ}
 use Rattle.std.proofs.lemmas.Bool.{cases_eq}
-use Rattle.std.proofs.lemmas.Option.{same_Some, none-some, slice_get_within}
+use Rattle.std.proofs.lemmas.Option.{same_Some, slice_get_within}
 use Rattle.xid_circle.specs.declared.Tid.{Tid}
 use Rattle.tuple_header.specs.declared.version.Row.{Row}
 use Rattle.tuple_header.specs.Version.{Version}
@@ -37,14 +37,6 @@ Comes-from after c = record {
   to_come = record { from = c.to_come.from; to = c.to_come.to; after = after };
 }
 
-pub Meets-none : (store : Tid → Option Version) (seen : Version → Type 0) (index : ℕ) (low high : ℤ) (from : Option Mark) → Meets store seen index low high from from []
-Meets-none _ _ index low high from = record {
-  theirs = λ i row at. absurd (none-some row at);
-  in_order = λ i j a b at. absurd (none-some a at);
-  met = λ row comes. inl comes.to_come.after;
-  onward = λ row after. after;
-}
-
 -- the walk meets one row more, before all others that are still to come
 pub Meets-one : {store : Tid → Option Version} {seen : Version → Type 0} {index : ℕ} {low high : ℤ} {from to : Option Mark} {rows : List Row} (row : Row)
     → Comes store seen (in_index index low high to) row → ((other : Row) → Comes store seen (in_index index low high to) other → other.key ≢ row.key → ComesBefore index row other)
@@ -75,13 +67,6 @@ Meets-one {store} {seen} {index} {low} {high} {from} {to} {rows} row comes first
 }
 
 -- On a page.
-
-pub Gathers-none : (store : Tid → Option Version) (seen : Version → Type 0) (page : ℕ) → Gathers store seen page 0 []
-Gathers-none _ _ page = record {
-  theirs = λ i row at. absurd (none-some row at);
-  in_order = λ i j a b at. absurd (none-some a at);
-  met = λ slot row below. absurd (omega arith);
-}
 
 below_or : (a b : ℕ) → a < b + 1 → (a < b) ⊎ (a ≡ b)
 below_or a b h = grind arith

@@ -1,5 +1,5 @@
 -- The first write of a level gives ids to the session's newest levels, the lowest first.
-use Rattle.std.proofs.Common.{◌≡◌, ◌≢◌, ℕ, List, [], ◌∷◌, ◌++◌, length, Option, Some, sym, ap, ◌∙◌, subst, inl, inr}
+use Rattle.std.proofs.Common.{◌≡◌, ◌≢◌, ℕ, List, [], ◌∷◌, length, Option, Some, sym, ap, ◌∙◌, subst, inl, inr}
 use Rattle.std.specs.Prelude.{Contains, ◌==◌, if◌then◌else◌}
 use Rattle.std.proofs.lemmas.Bool.{cases_eq}
 use Rattle.std.proofs.lemmas.Option.{same_Some}
@@ -7,7 +7,7 @@ use Rattle.std.proofs.lemmas.List.Elements.{Contains-push, Contains-append_left,
 use Rattle.xid_circle.specs.declared.Tid.{Tid}
 use Rattle.tuple_header.specs.Version.{Version}
 use Rattle.commit_status.specs.declared.status.Status.{Status}
-use Rattle.commit_status.specs.declared.status.Status.TheVariants.{InProgress, Committed}
+use Rattle.commit_status.specs.declared.status.Status.TheVariants.{Committed}
 use Rattle.snapshot.specs.Snap.{Snap}
 use Rattle.history.specs.World.{World}
 use Rattle.history.proofs.HistoryLemmas.{at_same, at_other}
@@ -15,9 +15,8 @@ use Rattle.session_relation.specs.Heap.{Session, Heap}
 use Rattle.session_relation.specs.Visible.{Sees, IsVisible, At}
 use Rattle.session_relation.specs.Changes.{Gives, GivesEach, with_id, with_ids}
 use Rattle.session_relation.specs.Agrees.{Agrees}
-use Rattle.session_relation.proofs.Statuses.{none_given, some_of, Reads-status}
+use Rattle.session_relation.proofs.Statuses.{Reads-status}
 use Rattle.session_relation.proofs.Versions.{VisibleBy-same}
-use Rattle.session_relation.proofs.Itself.{IsCurrent, saved_within}
 use Rattle.session_relation.proofs.Steps.{OnlyIs, SameSights, same_sights, Agrees-give_below}
 use Rattle.session_relation.proofs.Sights.{Agrees-sights}
 use Rattle.session_relation.proofs.Follows.{Agrees-sessions}
@@ -74,20 +73,6 @@ Agrees-give_each (x ∷ xs) h w s e status' sees' session' only at gives sights 
     (record { others = λ o ne. only.others o ne ∙ sym (others_first h w s e x xs gives.0 sees' at unseen o ne); itself = only.itself })
     (at_first h w s e x xs gives.0 sees' at unseen) gives.2 (same_sights now) (unseen_first h w s e x xs gives.0 sees' at unseen)
     (Agrees-first h w s e x xs gives.0 sees' at unseen gives.1 sights agrees)
-
--- the last is the newest level's
-pub current_given : (lower : List ℕ) (x : ℕ) (h : Heap) (w : World) (s : ℕ) (e : Session) (status' : ℕ → Option Status) (sees' : Snap → ℕ → Type 0)
-    → h.session s ≡ Some e → GivesEach h.status (lower ++ x ∷ []) status' → SameSights h sees' → AreUnseen h sees' (lower ++ x ∷ [])
-    → Agrees h w → IsCurrent (with_ids (lower ++ x ∷ []) e) x
-current_given [] x h w s e status' sees' at gives sights unseen agrees = record {
-  mine = Contains-push e.own x;
-  newest = λ before is among. let mine = (agrees.opened s e at).2 in
-      none_given (h.status x) gives.1.fresh (some_of InProgress (h.status x) (mine.own_active x (saved_within before mine is x among)));
-}
-current_given (y ∷ lower) x h w s e status' sees' at gives sights unseen agrees =
-    let xs = lower ++ x ∷ [] in let now = after_first h s e y xs gives.0 sees' in
-    current_given lower x now w s (with_id (length xs) y e) status' sees' (at_first h w s e y xs gives.0 sees' at unseen) gives.2 (same_sights now)
-    (unseen_first h w s e y xs gives.0 sees' at unseen) (Agrees-first h w s e y xs gives.0 sees' at unseen gives.1 sights agrees)
 
 -- the session still sees the version that it takes
 pub visible_given_each : (xs : List ℕ) (h : Heap) (w : World) (s : ℕ) (e : Session) (place : Tid) (old : Version) (status' : ℕ → Option Status) (sees' : Snap → ℕ → Type 0)

@@ -1,5 +1,5 @@
 -- A run of steps and replies is a run of the history.
-use Rattle.std.proofs.Common.{◌≡◌, ℕ, ◌<◌, ◌≤◌, length, arith, List, [], ◌∷◌, ◌++◌, refl}
+use Rattle.std.proofs.Common.{ℕ, ◌<◌, ◌≤◌, length, arith, List, [], ◌∷◌}
 use Rattle.history.specs.World.{World, OpenSession, empty}
 use Rattle.history.specs.Moves.{stepped}
 use Rattle.history.specs.Events.{Happens, passes, begins, conflicts, saves, rolls_back_to, releases, commits, aborts, opens_index, opens_heap, takes, closes, Leads, stays, goes_on}
@@ -158,19 +158,3 @@ lawful steps replies run = let h = Lawful-run (leads empty empty steps replies s
   held_in_time = λ s k m at wrote. h.in_time s k m at wrote;
   held_once = h.once;
 }
-
--- a run goes on by one step
-
-pub IsRun-push : (w : World) (steps : List Step) (replies : List Reply) (step : Step) (reply : Reply)
-    → IsRun w steps replies → Allows (after w steps replies) step reply → IsRun w (steps ++ step ∷ []) (replies ++ reply ∷ [])
-IsRun-push w [] [] step reply run allows = (allows, tt)
-IsRun-push w [] (r ∷ rs) step reply run allows = absurd run
-IsRun-push w (s ∷ ss) [] step reply run allows = absurd run
-IsRun-push w (s ∷ ss) (r ∷ rs) step reply run allows = (run.0, IsRun-push (next w s r) ss rs step reply run.1 allows)
-
-pub after-push : (w : World) (steps : List Step) (replies : List Reply) (step : Step) (reply : Reply)
-    → IsRun w steps replies → after w (steps ++ step ∷ []) (replies ++ reply ∷ []) ≡ next (after w steps replies) step reply
-after-push w [] [] step reply run = refl
-after-push w [] (r ∷ rs) step reply run = absurd run
-after-push w (s ∷ ss) [] step reply run = absurd run
-after-push w (s ∷ ss) (r ∷ rs) step reply run = after-push (next w s r) ss rs step reply run.1

@@ -1,5 +1,5 @@
 -- Marks into a list that grows and is cut.
-use Rattle.std.proofs.Common.{◌≡◌, ℕ, zero, suc, ◌<◌, ◌≤◌, List, [], ◌∷◌, ◌++◌, length, take, reverse, get_or, Option, Some, None, arith, refl, sym, ap, ◌∙◌, subst}
+use Rattle.std.proofs.Common.{◌≡◌, ◌≢◌, ℕ, zero, suc, ◌<◌, ◌≤◌, List, [], ◌∷◌, ◌++◌, length, take, reverse, get_or, Option, Some, None, arith, refl, sym, ap, ◌∙◌, subst}
 use Rattle.std.proofs.lemmas.List.{take-append-le, take-take, length-take-le, take-map, length-map, get_or-map, append-nil, reverse-append}
 use Rattle.std.specs.Option.{option_to_list}
 use Rattle.std.specs.List.{Contains}
@@ -75,3 +75,8 @@ nowhere ids x none (k, h, e) =
     let long = length-map ids (λ (y : Xid). y.0) in
     let within : k < length ids = omega arith in
     none k within (sym (get_or-map (λ (y : Xid). y.0) ids k (record { 0 = 0 }) x within) ∙ e)
+
+-- where a savepoint is, a mark is
+pub marks-some : (ids marks : List ℕ) → fronts ids (reverse marks) ≢ [] → 0 < length marks
+marks-some ids [] some = absurd (some refl)
+marks-some ids (mark ∷ marks) some = omega arith

@@ -8,7 +8,7 @@ use Rattle.commit_status.proofs.Turns.{turns-given}
 use Rattle.commit_status.proofs.Ancestors.{top-before}
 use Rattle.commit_status.proofs.Giving.{finished-place}
 use Rattle.snapshot.specs.Snap.{Snap, Sees, SeesAlone, tested, taken}
-use Rattle.snapshot.specs.Laws.{AreOpen, IsInWindow}
+use Rattle.snapshot.specs.Laws.{AreOpen, IsBounded}
 use Rattle.snapshot.proofs.Takes.{taken-lists, own-upto, first-in}
 
 tested-top : (s : Snap) (v : Window) (x : ℕ) → s.overflowed ≡ true → tested s v x ≡ top_of v x
@@ -57,7 +57,7 @@ open-unseen w v owns x is open_ active same =
     (λ e. subst (λ y. ¬ SeesAlone s y) (sym (tested-itself s v x e)) (listed-unseen s x late_x (l.children e found.0 x found.1 found.2))))
 
 -- what comes later is unseen
-pub later-unseen : (s : Snap) (v : Window) (x : ℕ) → IsWindow v → IsInWindow v s → IsUpToNext v x → turns v.first s.xmax ≤ turns v.first x → ¬ Sees s v x
+pub later-unseen : (s : Snap) (v : Window) (x : ℕ) → IsWindow v → IsBounded v s → IsUpToNext v x → turns v.first s.xmax ≤ turns v.first x → ¬ Sees s v x
 later-unseen s v x is within up late (Sees.early p) =
     let lt = (precedes-turns v x s.xmin is up within.xmin).0 p in
     let ordered = within.ordered in
@@ -102,7 +102,7 @@ sees-top s v w x same (Sees.between p q) =
     Sees.between p (subst (SeesAlone s) (ap (λ t. if s.overflowed then t else x) (sym same)) q)
 
 -- what stands before the horizon is seen
-pub past-seen : (w : Window) (s : Snap) (horizon x : ℕ) → IsWindow w → IsInWindow w s → IsUpToNext w horizon → IsUpToNext w x
+pub past-seen : (w : Window) (s : Snap) (horizon x : ℕ) → IsWindow w → IsBounded w s → IsUpToNext w horizon → IsUpToNext w x
     → turns w.first horizon ≤ turns w.first s.xmin → Precedes x horizon → Sees s w x
 past-seen w s horizon x is within uh ux low p =
     let lt = (precedes-turns w x horizon is ux uh).0 p in

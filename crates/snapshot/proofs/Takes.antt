@@ -1,12 +1,14 @@
 -- What a snapshot that is taken now lists.
-use Rattle.std.proofs.Common.{◌≡◌, ℕ, ◌≤◌, ◌||◌, Bool, true, false, if◌then◌else◌, List, [], ◌∷◌, ◌++◌, Some, None, slice_get, arith, ⊎_elim, refl, sym, ap, ◌∙◌, subst, append_assoc}
+use Rattle.std.proofs.Common.{◌≡◌, ℕ, ◌≤◌, ◌||◌, Bool, true, false, if◌then◌else◌, List, [], ◌∷◌, ◌++◌, Some, None, slice_get, length, arith, ⊎_elim, refl, sym, ap, ◌∙◌, subst, append_assoc}
 use Rattle.std.proofs.lemmas.List.{append-nil}
 use Rattle.std.specs.List.{Contains, fold}
 use Rattle.std.proofs.lemmas.List.Elements.{Contains-append_left, Contains-append_right, Contains-append_cases}
-use Rattle.commit_status.specs.Window.{Window, IsWindow, IsUpToNext, turns, place, next_id}
-use Rattle.commit_status.proofs.Places.{some-from_is, upto-place, upto-next}
+use Rattle.commit_status.specs.Window.{Window, IsWindow, IsUpToNext, turns, place, next_id, top_of}
+use Rattle.commit_status.proofs.Turns.{turns-given}
+use Rattle.commit_status.proofs.Places.{at-from_place, some-from_is, upto-place, upto-next}
+use Rattle.commit_status.proofs.Ancestors.{top-before}
 use Rattle.snapshot.specs.Snap.{Snap, earlier, empty_at, are_many, listing, taken}
-use Rattle.snapshot.specs.Laws.{AreOpen, IsInWindow}
+use Rattle.snapshot.specs.Laws.{AreOpen, IsBetween, IsInWindow}
 use Rattle.snapshot.proofs.Earliest.{earlier-is, contains-cases, contains-head, contains-tail}
 
 -- the snapshot that lists these open transactions
@@ -132,11 +134,36 @@ taken-lists w owns is open_ =
     lists-all owns w (next_id w) [] (empty_at (next_id w)) is (λ own t c at. own-upto w owns own t open_ c (first-in own t at))
     (lists-none w (next_id w) (upto-next w is))
 
+-- what it lists stands from xmin on, and before the next id: no id is before its topmost parent, and none is given yet from the next on
+listed-between : (w : Window) (owns : List (List ℕ)) (x : ℕ) → IsWindow w → AreOpen w owns → Contains (taken (next_id w) owns).listed x → IsBetween w (taken (next_id w) owns) x
+listed-between w owns x is open_ among =
+    let s = taken (next_id w) owns in
+    let l = taken-lists w owns is open_ in
+    let by = l.only x among in
+    let top = top_of w x in
+    let at = open_.topmost by.0 x by.1 by.2 in
+    let px = some-from_is (place w x) (open_.active by.0 x by.1 by.2).is_given in
+    let pt = some-from_is (place w top) (open_.active by.0 top by.1 (first-in by.0 top at)).is_given in
+    let low : turns w.first s.xmin ≤ turns w.first top = l.low by.0 top by.1 at in
+    let order = top-before w x px.0 pt.0 is px.1 pt.1 in
+    let ax = at-from_place w.first (length w.entries) x px.0 px.1 in
+    let turn = ax.turn in
+    let given_now = ax.within in
+    let top_turn = (at-from_place w.first (length w.entries) top pt.0 pt.1).turn in
+    let short = is.short in
+    let limit = is.limit in
+    let next : turns w.first (next_id w) ≡ length w.entries = turns-given w.first (length w.entries) is.normal is.fits (omega arith) in
+    let last : turns w.first s.xmax ≡ length w.entries = ap (turns w.first) l.xmax ∙ next in
+    record { upto = own-upto w owns by.0 x open_ by.1 by.2; from_xmin = omega arith; before_xmax = omega arith }
+
 pub taken-in_window : (w : Window) (owns : List (List ℕ)) → IsWindow w → AreOpen w owns → IsInWindow w (taken (next_id w) owns)
 taken-in_window w owns is open_ =
     let l = taken-lists w owns is open_ in
     record {
-      xmin = l.upto;
-      xmax = subst (IsUpToNext w) (sym l.xmax) (upto-next w is);
-      ordered = subst (λ n. turns w.first (taken (next_id w) owns).xmin ≤ turns w.first n) (sym l.xmax) l.below;
+      bounds = record {
+        xmin = l.upto;
+        xmax = subst (IsUpToNext w) (sym l.xmax) (upto-next w is);
+        ordered = subst (λ n. turns w.first (taken (next_id w) owns).xmin ≤ turns w.first n) (sym l.xmax) l.below;
+      };
+      listed = λ x among. listed-between w owns x is open_ among;
     }

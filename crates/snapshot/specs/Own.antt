@@ -10,6 +10,8 @@ pub record Own : Type 0 where
   pub saved : List (List ℕ)
   -- how many ids can be added without memory
   pub spare : ℕ
+  -- how many savepoints can be set without memory
+  pub spare_marks : ℕ
 
 -- the ids up to the newest savepoint
 abbrev pub newest : List (List ℕ) → List ℕ

@@ -4,7 +4,8 @@ use Rattle.snapshot.specs.Own.{Own}
 use Rattle.snapshot.specs.declared.own.SaveFault.{SaveFault}
 use Rattle.snapshot.specs.declared.own.SaveFault.TheVariants.{TooDeep, NoMemory}
 
--- there are 32 already; or there are fewer, but more than are noted without memory
+-- There are 32 already; or there are fewer, four or more of them, and no further one can be set without memory. (A session's
+-- first four take none.)
 abbrev pub CannotSave : Own → SaveFault → Type 0
 CannotSave own TooDeep = length own.saved ≡ 32
-CannotSave own NoMemory = (4 ≤ length own.saved) × (length own.saved < 32)
+CannotSave own NoMemory = (4 ≤ length own.saved) × (length own.saved < 32) × (own.spare_marks ≡ 0)

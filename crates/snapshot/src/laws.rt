@@ -27,7 +27,8 @@ pub fn sees_by_top()
     ensures { SeesByTop }
 {}
 
-/// A snapshot that is taken now names ids from the first that is remembered up to the next.
+/// A snapshot that is taken now names ids from the first that is remembered up to the next, and each that it lists is from
+/// xmin on and before xmax.
 pub fn taken_is_in_window()
     ensures { TakenIsInWindow }
 {}

@@ -20,6 +20,7 @@ pub const MOST_SAVEPOINTS: usize = 32;
 pub enum SaveFault {
     /// There are [`MOST_SAVEPOINTS`] already.
     TooDeep,
+    /// Memory was refused.
     NoMemory,
 }
 
@@ -43,6 +44,7 @@ impl Model for OwnIds {
       ids = numbers o.ids.items;
       saved = fronts (numbers o.ids.items) (reverse o.marks.items);
       spare = vec_capacity o.ids - vec_len o.ids;
+      spare_marks = o.marks.capacity - length o.marks.items;
     } };
 
     ghost invariant = { λ o. AreNormal o.ids.items × AreMarks (length o.ids.items) (reverse o.marks.items) × (length o.marks.items ≤ 32) };
@@ -53,6 +55,7 @@ impl OwnIds {
     pub fn new(alloc: Global) -> Self
         ensures ids { result.ids ≡ [] }
         ensures saved { result.saved ≡ [] }
+        ensures spare_marks { result.spare_marks ≡ 4 }
     {
         OwnIds {
             ids: Vec::new(alloc),
@@ -96,6 +99,7 @@ impl OwnIds {
         ensures spare { self.old.spare ≤ self.new.spare }
         ensures ids { self.new.ids ≡ self.old.ids }
         ensures saved { self.new.saved ≡ self.old.saved }
+        ensures spare_marks { self.new.spare_marks ≡ self.old.spare_marks }
     {
         self.ids.reserve(count)
     }
@@ -150,6 +154,7 @@ impl OwnIds {
         ensures ids { self.new.ids ≡ self.old.ids ++ x.0 ∷ [] }
         ensures saved { self.new.saved ≡ saved_with (lacks self.old.ids self.old.saved - 1) x.0 self.old.saved }
         ensures spare { self.old.spare ≡ self.new.spare + 1 }
+        ensures spare_marks { self.new.spare_marks ≡ self.old.spare_marks }
     {
         let above = self.lacks() as usize - 1;
         self.ids.push_reserved(x);
@@ -166,13 +171,15 @@ impl OwnIds {
     }
 
     /// Begins a savepoint: remembers how many ids there are. It answers TooDeep exactly where there are
-    /// [`MOST_SAVEPOINTS`] already, and NoMemory only where there are four or more; both leave all as it was.
+    /// [`MOST_SAVEPOINTS`] already, and NoMemory only where there are four or more and the place of one more takes memory;
+    /// both leave all as it was.
     pub fn save(&mut self) -> Result<(), SaveFault>
         ensures ids { self.new.ids ≡ self.old.ids }
         ensures spare { self.new.spare ≡ self.old.spare }
         ensures saved { OnOk result (self.new.saved ≡ self.old.ids ∷ self.old.saved) }
         ensures refused { OnErr result (self.new ≡ self.old) }
         ensures room { OnOk result (length self.old.saved < 32) }
+        ensures spare_marks { OnOk result (self.old.spare_marks ≤ self.new.spare_marks + 1) }
         ensures fault { IfErr result (λ fault. CannotSave self.old fault) }
     {
         let count = self.ids.len();
@@ -211,6 +218,7 @@ impl OwnIds {
         ensures ids { self.new.ids ≡ newest self.old.saved }
         ensures saved { self.new.saved ≡ self.old.saved }
         ensures spare { self.old.spare ≤ self.new.spare }
+        ensures spare_marks { self.new.spare_marks ≡ self.old.spare_marks }
     {
         let count = self.newest_mark();
         self.ids.truncate(count);
@@ -222,7 +230,10 @@ impl OwnIds {
         ensures ids { self.new.ids ≡ self.old.ids }
         ensures saved { self.new.saved ≡ older self.old.saved }
         ensures spare { self.new.spare ≡ self.old.spare }
+        ensures spare_marks { self.new.spare_marks ≡ self.old.spare_marks + 1 }
     {
+        // it says that the marks fit
+        let _ = self.marks.len();
         let _ = self.marks.pop();
     }
 }

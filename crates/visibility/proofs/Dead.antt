@@ -7,7 +7,7 @@ use Rattle.commit_status.specs.Window.{Window, IsWindow, IsActive, IsCommitted, 
 use Rattle.commit_status.proofs.Places.{upto-place}
 use Rattle.commit_status.proofs.Giving.{finished-place}
 use Rattle.snapshot.specs.Snap.{Snap}
-use Rattle.snapshot.specs.Laws.{IsInWindow}
+use Rattle.snapshot.specs.Laws.{IsBounded}
 use Rattle.snapshot.proofs.Sights.{past-seen}
 use Rattle.visibility.specs.Visible.{Reads, IsVisible, IsDead}
 
@@ -20,7 +20,7 @@ committed-upto w x done =
     let found = finished-place w x (λ e. let f : Committed ≡ InProgress = sym done ∙ e in cc) in
     upto-place w x found.0 found.1
 
-pub dead-unseen : (w : Window) (s : Snap) (own : List ℕ) (horizon : ℕ) (h : Header) → IsWindow w → IsInWindow w s → IsUpToNext w horizon
+pub dead-unseen : (w : Window) (s : Snap) (own : List ℕ) (horizon : ℕ) (h : Header) → IsWindow w → IsBounded w s → IsUpToNext w horizon
     → turns w.first horizon ≤ turns w.first s.xmin → ((x : ℕ) → Contains own x → IsActive w x) → IsDead w horizon h → ¬ IsVisible w s own h
 dead-unseen w s own horizon h is within up low active (IsDead.never_was thawed gone) =
     λ v. ⊎_elim (λ f. thawed f) (λ r. aborted-unread w s own h.xmin.0 active gone r) v.made

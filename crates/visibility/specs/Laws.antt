@@ -5,7 +5,7 @@ use Rattle.commit_status.specs.declared.status.Status.{Status}
 use Rattle.commit_status.specs.Window.{Window, IsWindow, IsActive, IsUpToNext, turns}
 use Rattle.commit_status.specs.Changes.{Gives, Finishes}
 use Rattle.snapshot.specs.Snap.{Snap, Sees}
-use Rattle.snapshot.specs.Laws.{IsInWindow}
+use Rattle.snapshot.specs.Laws.{IsBounded}
 use Rattle.visibility.specs.Visible.{Reads, IsVisible, IsDead}
 
 -- a reader's verdicts are the same in two windows
@@ -24,5 +24,5 @@ GivingIsUnseen = (w v : Window) (parent : Option ℕ) (s : Snap) (own : List ℕ
 
 -- Nobody sees a dead version: no reader whose snapshot's xmin is not before the horizon, and whose own ids are in progress.
 abbrev pub DeadIsUnseen : Type 0
-DeadIsUnseen = (w : Window) (s : Snap) (own : List ℕ) (horizon : ℕ) (h : Header) → IsWindow w → IsInWindow w s → IsUpToNext w horizon
+DeadIsUnseen = (w : Window) (s : Snap) (own : List ℕ) (horizon : ℕ) (h : Header) → IsWindow w → IsBounded w s → IsUpToNext w horizon
     → turns w.first horizon ≤ turns w.first s.xmin → ((x : ℕ) → Contains own x → IsActive w x) → IsDead w horizon h → ¬ IsVisible w s own h

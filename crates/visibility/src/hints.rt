@@ -2,7 +2,6 @@
 
 ghost use Rattle.std.specs.Prelude.{◌≡◌, None, ◌==◌};
 ghost use Rattle.tuple_header.specs.Faults.{header_fault};
-ghost use Rattle.commit_status.specs.Window.{status_of};
 ghost use Rattle.visibility.specs.Hints.{maker_marks, deleter_marks, hinted, AreTrue, HintsChangeNothing};
 
 use commit_status::{Status, StatusTable};

@@ -12,7 +12,7 @@ pub fn giving_changes_no_verdict()
     ensures { GivingIsUnseen }
 {}
 
-/// Nobody sees a dead version: no reader whose snapshot's xmin is not before the horizon.
+/// Nobody sees a dead version: no reader whose snapshot's xmin is not before the horizon, and whose own ids are in progress.
 pub fn dead_is_unseen()
     ensures { DeadIsUnseen }
 {}

@@ -5,5 +5,6 @@
 pub enum Fate {
     /// No snapshot that is open, or taken later, sees it.
     Dead,
+    /// Somebody may see it.
     Kept,
 }

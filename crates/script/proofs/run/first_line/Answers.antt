@@ -1,5 +1,6 @@
 use Rattle.std.proofs.Common.{refl, sym, ◌∙◌}
 use Rattle.std.proofs.lemmas.Option.{none-some}
+use Rattle.script.proofs.HeadingLaws.{settings_at_says}
 use Rattle.script.proofs.FirstLemmas.{bad_first, bad_text, bad_settings, first_used, nothing_given}
 use Rattle.script.proofs.run.first_line.Goals as goal
 
@@ -24,7 +25,8 @@ pub returns-in-Ok-new-clause-begins : goal.returns-in-Ok-new-clause-begins
 returns-in-Ok-new-clause-begins g c =
     let found = rw c.in-Line.is at c.in-Ok.ensures.line in
     let read = rw c.as_slice.ensures at c.in-Some.ensures in
-    (c.in-Some.settings, c.in-Ok-new.ensures.agrees, c.in-Ok-new.ensures.valid, rw c.consume.ensures (first_used _ _ _ _ c.in-Line.n c.in-Some.settings c.requires.0 c.in-Ok.ensures.takes found.2 (sym read)))
+    let says = settings_at_says _ c.in-Some.settings (sym read) in
+    (c.in-Some.settings, c.in-Ok-new.ensures.new, c.in-Ok-new.ensures.valid, says.flags, rw c.consume.ensures (first_used _ _ _ _ c.in-Line.n c.in-Some.settings c.requires.0 c.in-Ok.ensures.takes found.2 (sym read)))
 
 pub returns-in_default-fault : goal.returns-in_default-fault
 returns-in_default-fault g c =

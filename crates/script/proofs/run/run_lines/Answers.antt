@@ -4,25 +4,25 @@ use Rattle.script.proofs.RunLemmas.{Progress-more, Progress-line, adv_fault, adv
 use Rattle.script.proofs.run.run_lines.Goals as goal
 
 pub returns-in-Err-clause-advances : goal.returns-in-Err-clause-advances
-returns-in-Err-clause-advances g c w a = adv_fault _ _ _ _ _ _ _ _ _ _ _ _ _ _ (c.loop-number.invariant w a) c.in-Err.ensures.fault c.in-Err.ensures.front
+returns-in-Err-clause-advances g c = adv_fault _ _ _ _ _ _ _ _ _ _ _ _ _ _ c.loop-number.invariant c.in-Err.ensures.fault c.in-Err.ensures.front
 
 pub returns-in-Bad-clause-advances : goal.returns-in-Bad-clause-advances
-returns-in-Bad-clause-advances g c w a =
-    let h = Progress-more _ _ _ _ _ _ _ _ _ _ _ _ _ _ _ (c.loop-number.invariant w a) c.in-Ok.ensures.takes c.in-Ok.ensures.gives in
+returns-in-Bad-clause-advances g c =
+    let h = Progress-more _ _ _ _ _ _ _ _ _ _ _ _ _ _ _ c.loop-number.invariant c.in-Ok.ensures.takes c.in-Ok.ensures.gives in
     let none = rw c.in-Bad.is at c.in-Ok.ensures.line in
     adv_close _ _ _ _ _ _ _ _ _ _ _ _ _ _ _ h c.close.ensures (λ rest t e k.
     (h.number_is, bad_from_none _ rest (rw e at none), k))
 
 pub returns-in-End-clause-advances : goal.returns-in-End-clause-advances
-returns-in-End-clause-advances g c w a =
-    let h = Progress-more _ _ _ _ _ _ _ _ _ _ _ _ _ _ _ (c.loop-number.invariant w a) c.in-Ok.ensures.takes c.in-Ok.ensures.gives in
+returns-in-End-clause-advances g c =
+    let h = Progress-more _ _ _ _ _ _ _ _ _ _ _ _ _ _ _ c.loop-number.invariant c.in-Ok.ensures.takes c.in-Ok.ensures.gives in
     let none = rw c.in-End.is at c.in-Ok.ensures.line in
     adv_close _ _ _ _ _ _ _ _ _ _ _ _ _ _ _ h c.close-in-End.ensures (λ rest t e k.
     (let at_end = rw e at none.1 in rw (none.0, at_end) refl, k))
 
 pub returns-in-Ok-false-clause-advances : goal.returns-in-Ok-false-clause-advances
-returns-in-Ok-false-clause-advances g c w a =
-    let h = Progress-more _ _ _ _ _ _ _ _ _ _ _ _ _ _ _ (c.loop-number.invariant w a) c.in-Ok.ensures.takes c.in-Ok.ensures.gives in
+returns-in-Ok-false-clause-advances g c =
+    let h = Progress-more _ _ _ _ _ _ _ _ _ _ _ _ _ _ _ c.loop-number.invariant c.in-Ok.ensures.takes c.in-Ok.ensures.gives in
     let found = rw c.in-Line.is at c.in-Ok.ensures.line in
     let bad = rw (c.in-Ok-false.field-0-test, c.as_slice.ensures) at c.in-Ok-false.ensures.bad in
     let same = rw c.in-Ok-false.field-0-test at c.in-Ok-false.ensures.same in
@@ -31,25 +31,25 @@ returns-in-Ok-false-clause-advances g c w a =
     (h.number_is, bad_from_line _ rest c.in-Line.n found.2 bad, k))
 
 pub returns-in-Err-do_line-clause-advances : goal.returns-in-Err-do_line-clause-advances
-returns-in-Err-do_line-clause-advances g c w a =
-    let h = Progress-more _ _ _ _ _ _ _ _ _ _ _ _ _ _ _ (c.loop-number.invariant w a) c.in-Ok.ensures.takes c.in-Ok.ensures.gives in
+returns-in-Err-do_line-clause-advances g c =
+    let h = Progress-more _ _ _ _ _ _ _ _ _ _ _ _ _ _ _ c.loop-number.invariant c.in-Ok.ensures.takes c.in-Ok.ensures.gives in
     adv_fault _ _ _ _ _ _ _ _ _ _ _ _ _ _ h (refused_growth _ c.no_memory.new.self c.no_memory.ensures.fault c.no_memory.ensures.memory) (_, Gives-refl _ _)
 
 pub returns-in-Err-write_if_full-clause-advances : goal.returns-in-Err-write_if_full-clause-advances
-returns-in-Err-write_if_full-clause-advances g c w a =
-    let h = Progress-more _ _ _ _ _ _ _ _ _ _ _ _ _ _ _ (c.loop-number.invariant w a) c.in-Ok.ensures.takes c.in-Ok.ensures.gives in
+returns-in-Err-write_if_full-clause-advances g c =
+    let h = Progress-more _ _ _ _ _ _ _ _ _ _ _ _ _ _ _ c.loop-number.invariant c.in-Ok.ensures.takes c.in-Ok.ensures.gives in
     let found = rw c.in-Line.is at c.in-Ok.ensures.line in
     let done = rw (c.in-Ok-true.field-0-test, c.as_slice.ensures) at c.in-Ok-true.ensures.done in
     let k = Progress-line _ _ _ _ _ _ _ _ _ _ _ _ _ _ h found.2 found.0 found.1 done in
     adv_fault _ _ _ _ _ _ _ _ _ _ _ _ _ _ k c.in-Err-write_if_full.ensures.fault c.in-Err-write_if_full.ensures.front
 
 pub loop-number-preserved : goal.loop-number-preserved
-loop-number-preserved g c w a =
-    let h = Progress-more _ _ _ _ _ _ _ _ _ _ _ _ _ _ _ (c.loop-number.invariant w a) c.in-Ok.ensures.takes c.in-Ok.ensures.gives in
+loop-number-preserved g c =
+    let h = Progress-more _ _ _ _ _ _ _ _ _ _ _ _ _ _ _ c.loop-number.invariant c.in-Ok.ensures.takes c.in-Ok.ensures.gives in
     let found = rw c.in-Line.is at c.in-Ok.ensures.line in
     let done = rw (c.in-Ok-true.field-0-test, c.as_slice.ensures) at c.in-Ok-true.ensures.done in
     let k = Progress-line _ _ _ _ _ _ _ _ _ _ _ _ _ _ h found.2 found.0 found.1 done in
     rw c.consume.ensures (Progress-more _ _ _ _ _ _ _ _ _ _ _ _ _ _ _ k (Takes-refl _ _ _ (Keeps-refl _)) c.in_default.ensures.ok)
 
 pub returns-clause-advances : goal.returns-clause-advances
-returns-clause-advances g c w a = adv_fault _ _ _ _ _ _ _ _ _ _ _ _ _ _ (c.loop-number.invariant w a) (refused_growth _ c.no_memory-2.new.self c.no_memory-2.ensures.fault c.no_memory-2.ensures.memory) (_, Gives-refl _ _)
+returns-clause-advances g c = adv_fault _ _ _ _ _ _ _ _ _ _ _ _ _ _ c.loop-number.invariant (refused_growth _ c.no_memory-2.new.self c.no_memory-2.ensures.fault c.no_memory-2.ensures.memory) (_, Gives-refl _ _)

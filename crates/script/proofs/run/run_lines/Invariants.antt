@@ -1,7 +1,6 @@
-use Rattle.script.specs.Engine.{World, Agrees}
 use Rattle.script.proofs.RunLemmas.{Progress}
 use Rattle.script.proofs.run.run_lines.Given as goal
 
 abbrev pub invariant-loop-number : goal.invariant-loop-number
-invariant-loop-number g l = (w : World) → Agrees l.initial.engine w → Progress w l.engine (g.R.Read.remaining l.initial.reader) (g.R.Read.remaining l.reader) l.initial.pending l.pending
+invariant-loop-number g l = Progress l.initial.engine l.engine (g.R.Read.remaining l.initial.reader) (g.R.Read.remaining l.reader) l.initial.pending l.pending
     (g.W.Write.contents l.initial.writer) (g.W.Write.contents l.writer) l.initial.text.items l.text.items l.number

@@ -4,4 +4,4 @@ use Rattle.script.proofs.run.run_script.Goals as goal
 pub returns-clause-outcome : goal.returns-clause-outcome
 returns-clause-outcome g c =
     let b = c.in-Ok-first_line.ensures.begins in
-    outcome_from _ _ _ _ _ b.0 _ _ _ _ b.3 b.2 c.in-Ok-first_line.ensures.quiet b.1 c.in-Ok-first_line.ensures.none c.run_lines.ensures.advances
+    outcome_from _ _ _ _ _ b.0 _ _ _ _ b.4 b.2 b.3 c.in-Ok-first_line.ensures.quiet b.1 c.in-Ok-first_line.ensures.none c.run_lines.ensures.advances

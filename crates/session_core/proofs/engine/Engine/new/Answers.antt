@@ -1,4 +1,4 @@
-use Rattle.std.proofs.Common.{length, Option, None, ap, ◌∙◌}
+use Rattle.std.proofs.Common.{length, Option, None, ap, refl, ◌∙◌}
 use Rattle.std.proofs.lemmas.List.{length-replicate}
 use Rattle.session_core.specs.declared.session.Session.{Session}
 use Rattle.session_core.proofs.StateLemmas.{keeps-idle}
@@ -9,5 +9,12 @@ pub invariant_of-result : goal.invariant_of-result
 invariant_of-result c =
     keeps-idle c.in-Ok.sessions c.new-2.result.table c.in-Ok.ensures (ap length c.in-Ok.ensures ∙ length-replicate {A = Option Session} 64 None)
 
-pub returns-clause-agrees : goal.returns-clause-agrees
-returns-clause-agrees c = Agrees-new _ c.new-2.ensures.pages c.new-2.ensures.indexes c.new-2.ensures.entries c.new-2.ensures.window c.new-2.ensures.max_pages c.new-2.ensures.stop_age c.in-Ok.ensures
+pub returns-clause-new : goal.returns-clause-new
+returns-clause-new c = record {
+  settings = refl;
+  first = c.new-2.ensures.first;
+  ids = c.new-2.ensures.entries;
+  pages = c.new-2.ensures.pages;
+  indexes = c.new-2.ensures.indexes;
+  agrees = Agrees-new _ c.new-2.ensures.pages c.new-2.ensures.indexes c.new-2.ensures.entries c.new-2.ensures.window c.new-2.ensures.max_pages c.new-2.ensures.stop_age c.in-Ok.ensures;
+}
