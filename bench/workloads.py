@@ -101,7 +101,7 @@ def scans(rows, count):
 
 
 def many_sessions(rows, count):
-    """As many sessions as there may be, open at once, take turns. SQL runs the same transactions one after another."""
+    """As many sessions as there may be, open at once, take turns. SQL gets the same keys, one session's after another's."""
     rng = random.Random(rows)
     each = max(1, count // SESSIONS)
     picks = [[rng.randrange(rows) for _ in range(each)] for _ in range(SESSIONS)]
