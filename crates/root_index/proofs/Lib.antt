@@ -1,3 +1,4 @@
+pub mod BracketLemmas
 pub mod EditLemmas
 pub mod JoinedLemmas
 pub mod LookUpLemmas

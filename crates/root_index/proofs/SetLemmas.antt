@@ -1,8 +1,7 @@
 -- What a search finds in an ascending list, and what an edit at that place does to the set.
-use Rattle.std.proofs.Common.{◌≡◌, ◌∙◌, ℕ, zero, suc, ◌+◌, ◌<◌, ◌≤◌, ℤ, ◌<ℤ◌, ◌⊎◌, inl, inr, ⊎_elim, ◌↔◌, List, [], ◌∷◌, length, get_or, Bool, true, false, not, ◌==◌, ◌&&◌, ◌||◌, IsTrue, Option, Some, None, Result, Ok, Err, IfOk, IfErr, slice_get, sym, ap, refl, subst, arith, Contains}
+use Rattle.std.proofs.Common.{◌≡◌, ◌∙◌, ℕ, zero, suc, ◌+◌, ◌<◌, ℤ, ◌<ℤ◌, ◌⊎◌, inl, inr, ⊎_elim, ◌↔◌, List, [], ◌∷◌, get_or, Bool, true, false, not, ◌==◌, ◌&&◌, ◌||◌, IsTrue, Option, Some, None, slice_get, sym, ap, refl, subst, arith, Contains}
 use Rattle.std.specs.List.{insert, filter, All}
-use Rattle.std.specs.List.Sorted.{IsSearchInRange, IsBinarySearchResult}
-use Rattle.std.specs.Ordering.{is_lt, nat_cmp, int_cmp, ordering_then, ordering_reverse}
+use Rattle.std.specs.Ordering.{nat_cmp, int_cmp, ordering_then}
 use Rattle.std.specs.declared.cmp.Ordering.{Ordering}
 use Rattle.std.specs.declared.cmp.Ordering.TheVariants.{Less, Equal, Greater}
 use Rattle.std.proofs.lemmas.Bool.{cases_lt}
@@ -13,12 +12,12 @@ use Rattle.xid_circle.specs.declared.Tid.{Tid}
 use Rattle.std.proofs.lemmas.Option.{slice_get-get_or, slice_get_within, get_or_from_slice_get}
 use Rattle.std.proofs.lemmas.List.Elements.{All-cons, All-contains, All-filter, filter_passes, All-contains_itself}
 use Rattle.std.proofs.lemmas.List.Kept.{AllPairs-cons, AllPairs-filter}
-use Rattle.std.proofs.lemmas.List.Sorted.{searchable_from_sorted, Contains-permutation, IsPermutation-insert, IsPermutation-sym, All-permutation}
+use Rattle.std.proofs.lemmas.List.Sorted.{Contains-permutation, IsPermutation-insert, IsPermutation-sym, All-permutation}
 use Rattle.root_index.specs.declared.entry.Entry.{Entry}
-use Rattle.root_index.specs.Order.{comparison, Precedes, IsAscending}
+use Rattle.root_index.specs.Order.{Precedes, IsAscending}
 use Rattle.root_index.specs.Sets.{Adds, Removes, IsLeast, IsAfter, IsBelow, IsAt, IsGapFor, IsStart}
 use Rattle.root_index.specs.Lists.{is_among, stays}
-use Rattle.root_index.proofs.OrderLemmas.{comparison_total, not_before_itself, Precedes-not_back, same-from_tied, Contains-first, Contains-rest, Contains-cases, Contains-none, ascending-tail}
+use Rattle.root_index.proofs.OrderLemmas.{not_before_itself, Precedes-not_back, Contains-first, Contains-rest, Contains-cases, Contains-none, ascending-tail}
 
 -- Places.
 
@@ -28,37 +27,13 @@ place_of xs e (k, within, is) = (k, slice_get-get_or xs k e within ∙ ap Some i
 pub Contains-from_place : (xs : List Entry) (e : Entry) (k : ℕ) → slice_get xs k ≡ Some e → Contains xs e
 Contains-from_place xs e k at = (k, slice_get_within xs k e at, get_or_from_slice_get xs k e e at)
 
-same_place : (xs : List Entry) (k i : ℕ) (e f : Entry) → k ≡ i → slice_get xs k ≡ Some e → slice_get xs i ≡ Some f → e ≡ f
+pub same_place : (xs : List Entry) (k i : ℕ) (e f : Entry) → k ≡ i → slice_get xs k ≡ Some e → slice_get xs i ≡ Some f → e ≡ f
 same_place xs k i e f same at_k at_i = cc
 
 pub ascending-at : (xs : List Entry) (i j : ℕ) (a b : Entry) → IsAscending xs → i < j → slice_get xs i ≡ Some a → slice_get xs j ≡ Some b → Precedes a b
 ascending-at xs i j a b up lt at_i at_j =
     subst (λ x. Precedes x b) (get_or_from_slice_get xs i a b at_i)
     (subst (λ y. Precedes (get_or xs i b) y) (get_or_from_slice_get xs j b b at_j) (up i j b lt (slice_get_within xs j b at_j)))
-
--- The binary search.
-
-not_less : (o : Ordering) → ¬ (o ≡ Less) → is_lt o ≡ false
-not_less Less h = absurd (h refl)
-not_less Equal h = refl
-not_less Greater h = refl
-
-module _ (xs : List Entry) (up : IsAscending xs) (x : Entry) where
-  rising : (k : ℕ) (d : Entry) → 0 ≤ k → k + 1 < length xs → is_lt (comparison (get_or xs (k + 1) d) (get_or xs k d)) ≡ false
-  rising k d low within = not_less (comparison (get_or xs (k + 1) d) (get_or xs k d)) (Precedes-not_back (get_or xs k d) (get_or xs (k + 1) d) (up k (k + 1) d (omega arith) within))
-
-  pub searched : (r : Result ℕ ℕ) → IsSearchInRange r (length xs) → IsBinarySearchResult (λ e. comparison e x) xs r → IfOk r (IsAt xs x) × IfErr r (IsGapFor xs x)
-  searched (Ok i) within tied = (slice_get-get_or xs i x within ∙ ap Some (same-from_tied (get_or xs i x) x (tied x)), tt)
-  searched (Err i) within parted =
-      let parts = parted (searchable_from_sorted comparison_total (λ e. e) xs x rising) in (
-        tt,
-        record {
-          in_range = within;
-          before = λ k e lt at. subst (λ y. comparison y x ≡ Less) (get_or_from_slice_get xs k e e at) (parts.0 k e (omega arith) lt);
-          after = λ k e le at. comparison_total.antisymm x e
-              ∙ ap ordering_reverse (subst (λ y. comparison y x ≡ Greater) (get_or_from_slice_get xs k e e at) (parts.1 k e le (slice_get_within xs k e at)));
-        },
-      )
 
 -- The first entry from a place on.
 

@@ -10,6 +10,7 @@ ghost use Rattle.root_index.specs.Lists.{IsFirst};
 use crate::entry::{Entry, compare};
 use crate::node::{HALF, Half, MAX_PARTS, Node};
 use std::alloc::{AllocError, Global};
+use std::cmp::Ordering;
 use std::marker::Model;
 use xid_circle::Tid;
 
@@ -20,6 +21,8 @@ pub(crate) struct Leaf {
     /// stand together in memory, where their entries don't.
     first: Entry,
     entries: Vec<Entry>,
+    /// How far the last value was behind the first when one of them was put there: a hint where to look.
+    spread: u64,
 }
 
 impl Model for Leaf {
@@ -61,7 +64,11 @@ impl Node for Leaf {
             key: 0,
             tid,
         };
-        Ok(Leaf { first, entries })
+        Ok(Leaf {
+            first,
+            entries,
+            spread: 0,
+        })
     }
 
     fn clear(&mut self) {
@@ -77,7 +84,8 @@ impl Node for Leaf {
     }
 
     fn search(&self, sought: &Entry) -> Result<usize, usize> {
-        search(&self.entries, sought)
+        let guess = guess(sought, &self.first, self.spread, self.entries.len());
+        search(&self.entries, sought, guess)
     }
 
     fn stands_at(&self, sought: &Entry, spot: usize) -> bool {
@@ -109,6 +117,8 @@ impl Node for Leaf {
         self.entries.truncate(HALF);
         upper.first = first_or(&upper.entries, self.first);
         self.first = first_or(&self.entries, self.first);
+        upper.spread = spread_of(&upper.entries);
+        self.spread = spread_of(&self.entries);
         if spot <= HALF {
             Half::Lower(spot)
         } else {
@@ -120,12 +130,16 @@ impl Node for Leaf {
         // never refused, since there is room
         let _done = self.entries.insert(spot, entry);
         self.first = first_or(&self.entries, entry);
+        if spot == 0 || spot + 1 == self.entries.len() {
+            self.spread = spread_of(&self.entries);
+        }
         Ok(())
     }
 
     fn remove(&mut self, dead: &[Tid]) {
         self.entries.retain(|entry| !is_dead(dead, entry.tid));
         self.first = first_or(&self.entries, self.first);
+        self.spread = spread_of(&self.entries);
     }
 
     fn no_spares(_alloc: Global) {}
@@ -156,13 +170,52 @@ fn refill(entries: &mut Vec<Entry>, with: &[Entry])
     let _done = entries.extend_from_slice(with);
 }
 
-/// Where the entry stands among these, or where it would.
-fn search(entries: &[Entry], sought: &Entry) -> Result<usize, usize>
+/// How far the last value is behind the first, where that is less than 2^64.
+fn spread_of(entries: &[Entry]) -> u64 {
+    match (entries.first(), entries.last()) {
+        (Some(first), Some(last)) => {
+            u64::try_from(last.value.wrapping_sub(first.value)).unwrap_or(0)
+        }
+        _ => 0,
+    }
+}
+
+/// Where the entry would stand among so many if their values were evenly spread. It is no more than a hint.
+fn guess(sought: &Entry, first: &Entry, spread: u64, count: usize) -> usize {
+    let last = count.saturating_sub(1);
+    match u64::try_from(sought.value.wrapping_sub(first.value)) {
+        Ok(ahead) if ahead < spread => (ahead.saturating_mul(last as u64) / spread) as usize,
+        Ok(_) => last,
+        Err(_) => 0,
+    }
+}
+
+/// Where the entry stands among these, or where it would. It looks at the guess first, and then beside what it saw, four times
+/// as far each time, but never farther than halving would.
+fn search(entries: &[Entry], sought: &Entry, guess: usize) -> Result<usize, usize>
     requires { IsAscending entries.now }
     ensures found { IfOk result (IsAt entries.now sought.now) }
     ensures absent { IfErr result (IsGapFor entries.now sought.now) }
 {
-    entries.binary_search_by(|entry| compare(entry, sought))
+    let mut low = 0;
+    let mut high = entries.len();
+    let mut place = guess.min(high.saturating_sub(1));
+    let mut reach = 0;
+    while low < high {
+        match compare(&entries[place], sought) {
+            Ordering::Equal => return Ok(place),
+            Ordering::Less => {
+                low = place + 1;
+                place = low + ((high - low) / 2).min(reach);
+            }
+            Ordering::Greater => {
+                high = place;
+                place = high.saturating_sub(((high - low) / 2).min(reach) + 1);
+            }
+        }
+        reach = reach.saturating_mul(4).saturating_add(3);
+    }
+    Err(low)
 }
 
 /// The entry at this place, if there is one.
