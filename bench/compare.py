@@ -5,8 +5,8 @@
 For each workload and each number of rows: operations a second, and what an operation of heapsh costs beside one on the fewest rows.
 SQLite is `sqlite3 :memory:`. For both shells the processor time of a run with the operations is taken, less that of one that only
 loads the table, so that other work on the machine counts little. PostgreSQL, where its server is installed, is a server of this
-script's own with an unlogged table and fsync off, asked by psql over a local socket, one statement after another, for up to 100,000
-rows; there it is the time that passes while the operations are done.
+script's own with an unlogged table and fsync off, asked by psql over a local socket, one statement after another; there it is the
+time that passes while the operations are done.
 """
 
 import os
@@ -25,8 +25,6 @@ ENGINES = ["heapsh", "sqlite3", "PostgreSQL"]
 OPERATIONS = {"shell": 500_000, "server": 10_000}
 SIZES = [1_000, 10_000, 100_000, 1_000_000]
 RUNS = 3
-# loading more into the server, one statement after another, takes minutes
-SERVER_ROWS = 100_000
 SERVER = "/usr/lib/postgresql/15/bin"
 
 
@@ -110,7 +108,7 @@ def measure(heapsh, server, folder, name, rows):
     if shutil.which("sqlite3"):
         shells["sqlite3"] = (["sqlite3", ":memory:"], 1)
     rates = shell_rates(shells, folder, name, rows)
-    if server and rows <= SERVER_ROWS:
+    if server:
         rates["PostgreSQL"] = server_rate(server, folder, name, rows)
     return rates
 
