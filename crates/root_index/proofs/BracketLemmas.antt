@@ -3,7 +3,7 @@ use Rattle.std.proofs.Common.{◌≡◌, ◌∙◌, ℕ, ◌+◌, ◌<◌, ◌�
 use Rattle.std.specs.Ordering.{ordering_reverse}
 use Rattle.std.specs.declared.cmp.Ordering.TheVariants.{Less, Greater}
 use Rattle.std.proofs.lemmas.Bool.{cases_lt}
-use Rattle.std.proofs.lemmas.Option.{slice_get_within, slice_get-get_or}
+use Rattle.std.proofs.lemmas.Option.{slice_get-get_or}
 use Rattle.root_index.specs.declared.entry.Entry.{Entry}
 use Rattle.root_index.specs.Order.{comparison, Precedes, IsAscending}
 use Rattle.root_index.specs.Sets.{IsGapFor}
@@ -16,14 +16,6 @@ pub record IsBracket (entries : List Entry) (sought : Entry) (low high : ℕ) : 
   pub in_range : high ≤ length entries
   pub before : (k : ℕ) (e : Entry) → k < low → slice_get entries k ≡ Some e → Precedes e sought
   pub after : (k : ℕ) (e : Entry) → high ≤ k → slice_get entries k ≡ Some e → Precedes sought e
-
-pub bracket_all : (xs : List Entry) (x : Entry) → IsBracket xs x 0 (length xs)
-bracket_all xs x = record {
-  order = omega arith;
-  in_range = omega arith;
-  before = λ k e lt at. absurd (omega arith);
-  after = λ k e le at. absurd (let within = slice_get_within xs k e at in omega arith);
-}
 
 -- An entry was looked at. Where it precedes the sought one, all before it do so too.
 
