@@ -27,7 +27,7 @@ pub fn history_only_grows()
     ensures { (w : World) (after : World) → Leads empty w → Leads w after → Grows w after }
 {}
 
-/// What a session reads, and all else that is its own, never changes but by its own steps.
+/// What a session reads, and all else that is its own, never changes but by its own steps. For whom it waits is kept apart.
 pub fn views_stay()
     ensures { (w : World) (after : World) (s : ℕ) (other : ℕ) → Leads empty w → Happens w other after → s ≢ other → KeepsView s w after }
 {}

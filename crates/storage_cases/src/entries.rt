@@ -192,7 +192,7 @@ fn of_key(key: u64) -> Entry {
     entry(i128::from(key), key, 7, 7)
 }
 
-/// The entries of the keys below 1000, put in in no order.
+/// The entries of the keys below 1000, which are inserted in no order.
 fn a_thousand(alloc: Global) -> Result<RootIndex, AllocError> {
     let mut index = RootIndex::new(alloc);
     // 387 and 1000 have no common divisor, so each key below 1000 comes once
@@ -324,7 +324,7 @@ fn an_entry_goes_to_any_place_of_a_full_leaf(rt: HostRuntime) -> Result<(), Allo
     Ok(())
 }
 
-/// The entries of the keys below 30000, put in in mixed order.
+/// The entries of the keys below 30000, which are inserted in mixed order.
 fn thirty_thousand(alloc: Global) -> Result<RootIndex, AllocError> {
     let mut index = RootIndex::new(alloc);
     // 7919 and 30000 have no common divisor, so each key below 30000 comes once
