@@ -1,5 +1,5 @@
 -- What is found through an index is what is found on the heap.
-use Rattle.std.proofs.Common.{◌≡◌, ℕ, List, [], length, Option, sym, ap, ◌∙◌, subst}
+use Rattle.std.proofs.Common.{◌≡◌, ℕ, List, [], ◌∷◌, length, Option, sym, ap, ◌∙◌, subst}
 use Rattle.std.specs.Prelude.{◌↔◌, ℤ, Contains}
 use Rattle.std.proofs.lemmas.Option.{same_Some}
 use Rattle.xid_circle.specs.declared.Tid.{Tid}
@@ -14,15 +14,17 @@ use Rattle.heap_write.specs.Heap.{slots_of}
 use Rattle.heap_write.specs.Indexes.{entries_in, IsInUse}
 use Rattle.sound_writes.proofs.InUse.{index-sound}
 use Rattle.history.specs.Cursors.{value_in}
-use Rattle.history.specs.History.{committed}
-use Rattle.history.specs.World.{World, OpenSession, view}
+use Rattle.history.specs.History.{Write, committed, reading}
+use Rattle.history.specs.World.{World, OpenSession, joined, view}
 use Rattle.session_relation.specs.Visible.{IsCommitted, IsVisible, VisibleBy, by_itself, by_others}
 use Rattle.session_relation.specs.Agrees as relation
 use Rattle.session_relation.proofs.Itself.{none_own}
 use Rattle.session_relation.proofs.Follows as theory
+use Rattle.session_relation.proofs.Readers.{Levels-top}
 use Rattle.session_core.specs.State.{State, seen, state_of, reader_of, horizon_of}
 use Rattle.session_core.specs.Agrees.{Agrees}
-use Rattle.session_core.specs.Laws.{IsFound, FindsRows, ViewsByIndex}
+use Rattle.session_core.specs.declared.session.Session.{Session}
+use Rattle.session_core.specs.Laws.{IsFound, FindsRows, FindsAtEach, FindsLevels, ViewsByIndex}
 use Rattle.session_core.proofs.Windows.{active-to}
 use Rattle.session_core.proofs.Owns.{reader-is, now_taken, taken-fresh}
 use Rattle.session_core.proofs.Searches.{visible-to, visible-from}
@@ -70,13 +72,34 @@ fresh st w agrees = record {
       kept = λ x is reads. elim reads [ by_itself own ↦ none_own x own | by_others seen' done ↦ sees.kept x is done ];
     }
 
+-- at each savepoint
+at-each : (st : State) (w : World) (n : ℕ) (s : Snap) (start : ℕ) (own : List ℕ) (saved : List (List ℕ)) (levels : List (List Write)) → Agrees st w → IsInUse st.heap.indexes n
+    → ((x : ℕ) → Contains own x → window.IsActive st.heap.table x)
+    → relation.LevelsAgree (state_of st.heap.table) (seen st).version w.history (λ x. Sees s st.heap.table x) start own saved levels → FindsAtEach st.heap s n w.history start saved levels
+at-each st w n s start own [] levels agrees used active h = tt
+at-each st w n s start own (before ∷ saved) [] agrees used active h = absurd h
+at-each st w n s start own (before ∷ saved) (since ∷ levels) agrees used active h = (
+  by-index st w n s before (reading w.history start (joined levels)) agrees used (λ x mine. active x (h.1 x mine)) (Levels-top before saved levels h.2).rows,
+  at-each st w n s start before saved levels agrees used (λ x mine. active x (h.1 x mine)) h.2,
+)
+
+-- an open session
+levels-by-index : (st : State) (w : World) (n : ℕ) (s : ℕ) (e : Session) (m : OpenSession) → Agrees st w → IsInUse st.heap.indexes n
+    → relation.SessionAgrees (state_of st.heap.table) (seen st).version w.history (λ x. Sees e.snapshot st.heap.table x) (reader_of e) m → FindsLevels st.heap n w.history e m
+levels-by-index st w n s e m agrees used h = record {
+  now = by-index st w n e.snapshot e.own.ids (view w.history m) agrees used active (Levels-top e.own.ids e.own.saved m.levels h.levels).rows;
+  saved = at-each st w n e.snapshot m.start e.own.ids e.own.saved m.levels agrees used active h.levels;
+}
+  where
+    active : (x : ℕ) → Contains e.own.ids x → window.IsActive st.heap.table x
+    active x mine = active-to st.heap.table x (h.own_active x mine)
+
 pub views-by-index : ViewsByIndex
 views-by-index st w agrees n used = (
   λ s e m at there.
       let open_ = agrees.found.opened s (reader_of e) (reader-is st s e at) in
       let is : open_.0 ≡ m = same_Some open_.0 m (sym open_.1 ∙ there) in
-      by-index st w n e.snapshot e.own.ids (view w.history m) agrees used (λ x mine. active-to st.heap.table x (open_.2.own_active x mine))
-      (subst (λ (n : OpenSession). relation.Shows (seen st).version (IsVisible (state_of st.heap.table) (λ x. Sees e.snapshot st.heap.table x) e.own.ids) (view w.history n)) is
-      (theory.reads_rows (seen st) w s (reader_of e) (reader-is st s e at) agrees.found)),
+      levels-by-index st w n s e m agrees used
+      (subst (λ (n : OpenSession). relation.SessionAgrees (state_of st.heap.table) (seen st).version w.history (λ x. Sees e.snapshot st.heap.table x) (reader_of e) n) is open_.2),
   by-index st w n (now_taken st) [] (committed w.history (length w.history)) agrees used (λ x mine. absurd (none_own x mine)) (fresh st w agrees),
 )

@@ -53,7 +53,7 @@ IsHeldIn w xs = (s : ℕ) (e : Session) (y : ℕ) → open_at xs s ≡ Some e �
 abbrev pub horizon_in : Window → List (Option Session) → ℕ
 horizon_in w xs = earliest (next_id w) (held_back xs)
 
-horizon-least : (w : Window) (xs : List (Option Session)) → IsWindow w → IsHeldIn w xs → IsEarliest w (next_id w) (held_back xs) (horizon_in w xs)
+pub horizon-least : (w : Window) (xs : List (Option Session)) → IsWindow w → IsHeldIn w xs → IsEarliest w (next_id w) (held_back xs) (horizon_in w xs)
 horizon-least w xs is held = earliest-is w (next_id w) (held_back xs) is (upto-next w is) (λ y among. let some = held-cases xs y among in held some.0 some.1 y some.2 some.3)
 
 pub horizon-upto : (w : Window) (xs : List (Option Session)) → IsWindow w → IsHeldIn w xs → IsUpToNext w (horizon_in w xs)
@@ -96,7 +96,7 @@ below-xmin st w agrees s e at =
 -- The snapshot that is taken now.
 
 -- the first id of a session is held back
-first-back : (e : Session) (top : ℕ) → slice_get e.own.ids 0 ≡ Some top → Contains (holds_back e) top
+pub first-back : (e : Session) (top : ℕ) → slice_get e.own.ids 0 ≡ Some top → Contains (holds_back e) top
 first-back e top at = first-of e.own.ids at
   where
     first-of : (ids : List ℕ) → slice_get ids 0 ≡ Some top → Contains (e.snapshot.xmin ∷ take 1 ids) top

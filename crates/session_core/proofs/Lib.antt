@@ -28,4 +28,5 @@ pub mod Trying
 pub mod Noting
 pub mod Hindering
 pub mod ByIndex
+pub mod AllHeld
 pub mod Running

@@ -100,8 +100,8 @@ HasCursor old new s cursor = new ≡ put_session old s (map_session (with_cursor
 -- Beside what the history says of a reply: a read and a refusal leave all as it was, but for a page that an update has pruned;
 -- a beginning takes the snapshot of that moment and no id, and an end gives its status to the session's ids, and no others; neither
 -- changes a page, nor do savepoints; a return to one aborts the ids that were given since, and no others; a step of a cursor
--- changes that cursor alone; and memory is refused only where something has to grow, never at a read, a return to a savepoint
--- or its release, at the opening or closing of a cursor, a commit, an abort or a prune.
+-- changes that cursor alone; memory is refused only where something has to grow, and never to a prune. (That no read, return,
+-- release, opening, closing, commit or abort is refused memory is said by what the history allows.)
 abbrev pub Exact : State → Step → Reply → State → Type 0
 Exact old (Begin s) Done new = Opens old new s (snapshot_of old)
 Exact old (Begin s) (Refused NoMemory) new = MustList old × (new ≡ old)

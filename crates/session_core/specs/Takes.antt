@@ -81,7 +81,7 @@ TakesNextPage st e from answer = MatchOption answer (IsAtEnd st e (Heap from)) (
 
 -- Either way.
 
--- the cursor takes these rows when n are asked for, none counting as one, and is then here
+-- the cursor takes these rows when n are asked for, where 0 counts as 1, and is then here
 abbrev pub Takes : State → Session → Cursor → ℕ → List Row → Cursor → Type 0
 Takes st e (Index span) n rows after = (left : Span) × (after ≡ Index left) × TakesRows st e span left (max 1 n) rows
 Takes st e (Heap from) n rows after = (page : ℕ) × (after ≡ Heap (page + 1)) × TakesPage st e from page rows

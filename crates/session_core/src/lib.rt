@@ -5,7 +5,7 @@
 //! the engine agrees with the next world, and no index entry leads to a slot that was given to another row. Beside that it
 //! says exactly what the step does to ids and pages (`specs/Exact.antt`). [`Engine::step_into`] does the same and puts its reply
 //! in the place of an earlier one, [`Engine::read`] reads outside of a step, and [`run`] does a list of steps
-//! (`specs/Runs.antt`). [`views_by_index`] says what an index leads to.
+//! (`specs/Runs.antt`). [`views_by_index`] says what an index leads to, and [`horizon_is_earliest`] what the horizon is.
 #![tactic(auto)]
 
 mod begin;
@@ -29,7 +29,7 @@ mod update;
 mod write;
 
 pub use engine::Engine;
-pub use laws::views_by_index;
+pub use laws::{horizon_is_earliest, views_by_index};
 pub use page_slots::Page;
 pub use runs::{RunFault, run};
 pub use session_relation::{Refusal, Reply, Row, RowIn, Settings, SettingsFault, Step};

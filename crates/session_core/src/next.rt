@@ -41,7 +41,7 @@ fn add_row(rows: &mut Vec<Row>, row: &RowRef<'_>, most: u16) -> Result<(), Alloc
 }
 
 impl Engine {
-    /// Hands out rows of the session's cursor: of an index the next `n` in its order, none counting as one, or all that are
+    /// Hands out rows of the session's cursor: of an index the next `n` in its order, where 0 counts as 1, or all that are
     /// left; of the heap those of the next page on which the session sees any, by their slots. The answer is End exactly
     /// where none is left, and leaves the cursor open. Refusals in order: NoSuchSession, NotOpen, Failed, NoCursor, and
     /// NoMemory, which comes only where there is a row to hand out, and leaves the cursor where it was.

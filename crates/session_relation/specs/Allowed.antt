@@ -132,7 +132,6 @@ Allows w (Close s) Done = (m : OpenSession) × IsReady w s m × IsSome m.cursor
 Allows w (Close s) (Refused refusal) = AllowsBare w s refusal
 Allows w (Prune p) Done = Unit {0}
 Allows w (Prune p) (Refused NoSuchPage) = Unit {0}
-Allows w (Prune p) (Refused NoMemory) = Unit {0}
 Allows w step reply = ⊥
 
 -- a step that reads or is refused only ends the session's own wait

@@ -51,7 +51,7 @@ pub enum Step {
     OpenIndex(u8, u8, i128, i128),
     /// Opens a cursor over all rows that the session reads.
     OpenHeap(u8),
-    /// Asks the cursor for rows: in an index for the next so many, none counting as one, or all that are left; in the heap
+    /// Asks the cursor for rows: in an index for the next so many, where 0 counts as 1, or all that are left; in the heap
     /// for those of a page.
     Next(u8, u16),
     /// Closes the cursor.
