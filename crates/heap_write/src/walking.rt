@@ -23,11 +23,13 @@ use xid_circle::Tid;
 /// A place in the order of an index: that of a row with this value and key.
 #[derive(Clone, Copy, Debug, PartialEq, Eq)]
 pub struct Mark {
+    /// The row's value in the index.
     pub value: i128,
+    /// The row's key.
     pub key: u64,
-    /// The root to which the entry of this value and key leads, and where that entry stood. Nothing but the search that they
-    /// spare depends on them.
+    /// The root to which the entry of this value and key leads. Nothing but the search that it spares depends on it.
     pub tid: Tid,
+    /// Where that entry stood, which is a hint as well.
     pub near: Near,
 }
 
@@ -36,8 +38,11 @@ pub struct Mark {
 pub struct Span {
     /// The index's number: 0 is that by key, and c + 1 that by column c.
     pub index: u8,
+    /// The least value of the span.
     pub low: i128,
+    /// The greatest; one below `low` makes the span empty.
     pub high: i128,
+    /// What comes after this place alone; where there is none, all.
     pub last: Option<Mark>,
 }
 

@@ -77,7 +77,8 @@ impl PlainHistory {
         }
     }
 
-    /// May the session insert the key?
+    /// Whether the session may insert the key; nothing is changed. Refusals in order: NoSuchSession, NotOpen, Failed, CursorOpen,
+    /// AlreadyThere, Conflict, and where another session holds the key Deadlock or Busy.
     pub fn check_insert(&self, s: u8, key: u64) -> Result<(), Refused>
         ensures ok { OnOk result (MayInsert (world_of self.now) s key) }
         ensures err { IfErr result (λ why. RefusesInsert (world_of self.now) s key why) }
@@ -91,7 +92,8 @@ impl PlainHistory {
         }
     }
 
-    /// May the session update or delete the key?
+    /// Whether the session may update or delete the key; nothing is changed. Refusals in order: NoSuchSession, NotOpen, Failed,
+    /// CursorOpen, NotThere, Conflict, and where another session holds the key Deadlock or Busy.
     pub fn check_replace(&self, s: u8, key: u64) -> Result<(), Refused>
         ensures ok { OnOk result (MayReplace (world_of self.now) s key) }
         ensures err { IfErr result (λ why. RefusesReplace (world_of self.now) s key why) }

@@ -20,7 +20,9 @@ use tuple_header::Row;
 pub enum PlainOrder {
     /// By the key (0), or by column c (c + 1) and then the key.
     Index(u8),
+    /// By the key, over all rows.
     Heap,
+    /// By the key, of which alone is handed out.
     Keys,
 }
 

@@ -97,7 +97,8 @@ impl PlainHistory {
     }
 
     /// Opens a cursor over the rows whose value in the index lies from low to high, in order of value and key. Index 0
-    /// orders by the key, index c + 1 by column c.
+    /// orders by the key, index c + 1 by column c. Refusals in order: NoSuchSession, NotOpen, Failed, CursorOpen, BadBounds,
+    /// NoMemory.
     pub fn open_index(&mut self, s: u8, index: u8, low: i128, high: i128) -> Result<(), Refused>
         ensures done { OnOk result (MayOpenWithin (world_of self.old) s low high × (world_of self.new ≡ change (world_of self.old) s (with_index_cursor self.old.history index low high))) }
         ensures refused { IfErr result (λ why. OrMemory why (MayOpenWithin (world_of self.old) s low high) (RefusesBounds (world_of self.old) s low high why) × (world_of self.new ≡ after_refusal (world_of self.old) s why)) }
@@ -114,7 +115,8 @@ impl PlainHistory {
         }
     }
 
-    /// Opens a cursor over all rows that the session reads.
+    /// Opens a cursor over all rows that the session reads. Refusals in order: NoSuchSession, NotOpen, Failed, CursorOpen,
+    /// NoMemory.
     pub fn open_heap(&mut self, s: u8) -> Result<(), Refused>
         ensures done { OnOk result (MayOpen (world_of self.old) s × (world_of self.new ≡ change (world_of self.old) s (with_heap_cursor self.old.history))) }
         ensures refused { IfErr result (λ why. OrMemory why (MayOpen (world_of self.old) s) (RefusesWriter (world_of self.old) s why) × (world_of self.new ≡ after_refusal (world_of self.old) s why)) }
@@ -131,7 +133,8 @@ impl PlainHistory {
         }
     }
 
-    /// Opens a cursor over the keys from low to high.
+    /// Opens a cursor over the keys from low to high. Refusals in order: NoSuchSession, NotOpen, Failed, CursorOpen, BadBounds,
+    /// NoMemory.
     pub fn open_keys(&mut self, s: u8, low: i128, high: i128) -> Result<(), Refused>
         ensures done { OnOk result (MayOpenWithin (world_of self.old) s low high × (world_of self.new ≡ change (world_of self.old) s (with_keys_cursor self.old.history low high))) }
         ensures refused { IfErr result (λ why. OrMemory why (MayOpenWithin (world_of self.old) s low high) (RefusesBounds (world_of self.old) s low high why) × (world_of self.new ≡ after_refusal (world_of self.old) s why)) }
@@ -157,8 +160,8 @@ impl PlainHistory {
         hand_out(&mut self.sessions[s as usize], self.alloc, n)
     }
 
-    /// The next n rows of the cursor, or all that are left; 0 counts as 1. A heap cursor hands out as many. Where none is
-    /// left that takes no memory.
+    /// The next n rows of the cursor, or all that are left; 0 counts as 1. A heap cursor hands out as many. Refusals in order:
+    /// NoSuchSession, NotOpen, Failed, NoCursor, NoMemory, which comes only where a row or a key is left.
     pub fn next(&mut self, s: u8, n: u16) -> Result<Handed, Refused>
         ensures handed { IfOk result (λ handed. HandsBy (world_of self.old) s n handed (world_of self.new)) }
         ensures refused { IfErr result (λ why. OrMemory why (MayHandOut (world_of self.old) s) (RefusesNext (world_of self.old) s why) × (world_of self.new ≡ after_refusal (world_of self.old) s why)) }
@@ -175,7 +178,7 @@ impl PlainHistory {
         }
     }
 
-    /// Closes the cursor.
+    /// Closes the cursor. Refusals in order: NoSuchSession, NotOpen, Failed, NoCursor.
     pub fn close(&mut self, s: u8) -> Result<(), Refused>
         ensures done { OnOk result (HasCursor (world_of self.old) s × (world_of self.new ≡ change (world_of self.old) s without_cursor)) }
         ensures refused { IfErr result (λ why. RefusesNext (world_of self.old) s why × (world_of self.new ≡ after_refusal (world_of self.old) s why)) }

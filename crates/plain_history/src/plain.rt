@@ -140,7 +140,7 @@ impl PlainSession {
 }
 
 impl PlainHistory {
-    /// Nothing has committed, and no session is open.
+    /// Nothing has committed, and no session is open. Memory for the sessions' places may be refused.
     pub fn new(alloc: Global) -> Result<PlainHistory, AllocError>
         ensures { IfOk result (λ p. world_of p ≡ empty) }
     {

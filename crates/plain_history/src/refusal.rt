@@ -1,5 +1,4 @@
 //! What a step of a session is answered, where it isn't a row.
-#![tactic(auto)]
 
 use tuple_header::Row;
 
@@ -41,14 +40,18 @@ pub enum Refused {
 /// How a transaction ended.
 #[derive(Clone, Copy, Debug, PartialEq, Eq)]
 pub enum Outcome {
+    /// What it wrote is part of the history.
     Committed,
+    /// It had failed, and what it wrote is dropped.
     RolledBack,
 }
 
 /// What a cursor hands out.
 #[derive(Debug, Drop, PartialEq, Eq)]
 pub enum Handed {
+    /// Rows, one at least.
     Rows(Vec<Row>),
+    /// Of a cursor of keys, one at least.
     Keys(Vec<u64>),
     /// Nothing is left.
     End,

@@ -34,7 +34,7 @@ impl PlainHistory {
         }
     }
 
-    /// Opens an idle session on what has committed.
+    /// Opens an idle session on what has committed. Refusals: NoSuchSession, AlreadyOpen.
     pub fn begin(&mut self, s: u8) -> Result<(), Refused>
         ensures done { OnOk result ((s < 64) × ((world_of self.old).session s ≡ None) × (world_of self.new ≡ begun (world_of self.old) s)) }
         ensures refused { IfErr result (λ why. RefusesBegin (world_of self.old) s why × (world_of self.new ≡ after_refusal (world_of self.old) s why)) }
@@ -74,7 +74,7 @@ impl PlainHistory {
         }
     }
 
-    /// The row that the session reads.
+    /// The row that the session reads. Refusals in order: NoSuchSession, NotOpen, Failed.
     pub fn get(&mut self, s: u8, key: u64) -> Result<Option<Row>, Refused>
         ensures found { IfOk result (λ row. Reads (world_of self.old) s key row) }
         ensures refused { IfErr result (λ why. RefusesReady (world_of self.old) s why) }
@@ -85,7 +85,7 @@ impl PlainHistory {
         answer
     }
 
-    /// Inserts a row whose key the session doesn't see.
+    /// Inserts a row whose key the session doesn't see. Refusals in order: those of [`PlainHistory::check_insert`], NoMemory.
     pub fn insert(&mut self, s: u8, row: Row) -> Result<(), Refused>
         ensures done { OnOk result (MayInsert (world_of self.old) s row.key × (world_of self.new ≡ change (world_of self.old) s (with_row row))) }
         ensures refused { IfErr result (λ why. OrMemory why (MayInsert (world_of self.old) s row.key) (RefusesInsert (world_of self.old) s row.key why) × (world_of self.new ≡ after_refusal (world_of self.old) s why)) }
@@ -99,7 +99,7 @@ impl PlainHistory {
         }
     }
 
-    /// Gives the session's row of the key another value.
+    /// Gives the session's row of the key another value. Refusals in order: those of [`PlainHistory::check_replace`], NoMemory.
     pub fn update(&mut self, s: u8, row: Row) -> Result<(), Refused>
         ensures done { OnOk result (MayReplace (world_of self.old) s row.key × (world_of self.new ≡ change (world_of self.old) s (with_row row))) }
         ensures refused { IfErr result (λ why. OrMemory why (MayReplace (world_of self.old) s row.key) (RefusesReplace (world_of self.old) s row.key why) × (world_of self.new ≡ after_refusal (world_of self.old) s why)) }
@@ -127,7 +127,7 @@ impl PlainHistory {
         }
     }
 
-    /// Deletes the session's row of the key.
+    /// Deletes the session's row of the key. Refusals in order: those of [`PlainHistory::check_replace`], NoMemory.
     pub fn delete(&mut self, s: u8, key: u64) -> Result<(), Refused>
         ensures done { OnOk result (MayReplace (world_of self.old) s key × (world_of self.new ≡ change (world_of self.old) s (without_row key))) }
         ensures refused { IfErr result (λ why. OrMemory why (MayReplace (world_of self.old) s key) (RefusesReplace (world_of self.old) s key why) × (world_of self.new ≡ after_refusal (world_of self.old) s why)) }
@@ -160,7 +160,8 @@ impl PlainHistory {
         }
     }
 
-    /// Makes a savepoint, of which a session has at most 32.
+    /// Makes a savepoint, of which a session has at most 32. Refusals in order: NoSuchSession, NotOpen, Failed, CursorOpen,
+    /// TooDeep, NoMemory.
     pub fn savepoint(&mut self, s: u8) -> Result<(), Refused>
         ensures done { OnOk result (MaySave (world_of self.old) s × (world_of self.new ≡ change (world_of self.old) s with_savepoint)) }
         ensures refused { IfErr result (λ why. OrMemory why (MaySave (world_of self.old) s) (RefusesSave (world_of self.old) s why) × (world_of self.new ≡ after_refusal (world_of self.old) s why)) }
@@ -195,7 +196,8 @@ impl PlainHistory {
         }
     }
 
-    /// Takes back what was written since the newest savepoint, which stays. A failed session is usable again.
+    /// Takes back what was written since the newest savepoint, which stays. A failed session is usable again. Refusals in order:
+    /// NoSuchSession, NotOpen, CursorOpen, NoSavepoint.
     pub fn roll_back_to(&mut self, s: u8) -> Result<(), Refused>
         ensures done { OnOk result (MayRollBack (world_of self.old) s × (world_of self.new ≡ rolled_back_to (world_of self.old) s)) }
         ensures refused { IfErr result (λ why. RefusesRollBack (world_of self.old) s why × (world_of self.new ≡ after_refusal (world_of self.old) s why)) }
@@ -229,7 +231,8 @@ impl PlainHistory {
         }
     }
 
-    /// Forgets the newest savepoint; what was written since joins the level below.
+    /// Forgets the newest savepoint; what was written since joins the level below. Refusals in order: NoSuchSession, NotOpen,
+    /// Failed, CursorOpen, NoSavepoint, NoMemory.
     pub fn release(&mut self, s: u8) -> Result<(), Refused>
         ensures done { OnOk result (MayRelease (world_of self.old) s × (world_of self.new ≡ change (world_of self.old) s without_savepoint)) }
         ensures refused { IfErr result (λ why. OrMemory why (MayRelease (world_of self.old) s) (RefusesRelease (world_of self.old) s why) × (world_of self.new ≡ after_refusal (world_of self.old) s why)) }
@@ -246,7 +249,8 @@ impl PlainHistory {
         }
     }
 
-    /// Ends the session. What it wrote joins the history, unless it has failed.
+    /// Ends the session. What it wrote joins the history, unless it has failed. Refusals in order: NoSuchSession, NotOpen,
+    /// NoMemory, which leaves the session open and is never answered to one that has failed.
     pub fn commit(&mut self, s: u8) -> Result<Outcome, Refused>
         ensures done { IfOk result (λ outcome. Ends (world_of self.old) s outcome (world_of self.new)) }
         ensures refused { IfErr result (λ why. OrMemory why (MayCommit (world_of self.old) s) (RefusesOpen (world_of self.old) s why) × (world_of self.new ≡ after_refusal (world_of self.old) s why)) }
@@ -273,7 +277,7 @@ impl PlainHistory {
         }
     }
 
-    /// Ends the session, and drops what it wrote.
+    /// Ends the session, and drops what it wrote. Refusals in order: NoSuchSession, NotOpen.
     pub fn abort(&mut self, s: u8) -> Result<(), Refused>
         ensures done { OnOk result (IsSome ((world_of self.old).session s) × (world_of self.new ≡ aborted (world_of self.old) s)) }
         ensures refused { IfErr result (λ why. RefusesOpen (world_of self.old) s why × (world_of self.new ≡ after_refusal (world_of self.old) s why)) }

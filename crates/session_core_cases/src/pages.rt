@@ -1,7 +1,7 @@
 //! What stands on the pages, in the index and among the ids after some steps, each reckoned by hand.
 
 use crate::asks::{Answer, Ask, ask_new};
-use session_core::{Refusal, Settings, views_by_index};
+use session_core::{Refusal, Settings, horizon_is_earliest, views_by_index};
 use std::test::Fail;
 
 const SETTINGS: Settings = Settings {
@@ -189,4 +189,9 @@ fn the_index_leads_to_roots(rt: HostRuntime) -> Result<(), Fail> {
 #[test]
 fn an_index_shows_the_views() {
     views_by_index();
+}
+
+#[test]
+fn nothing_open_is_before_the_horizon() {
+    horizon_is_earliest();
 }

@@ -22,19 +22,25 @@ pub struct Settings {
     pub indexed: [bool; 4],
 }
 
-/// Why an engine is not made: the first setting that is out of its range, or memory.
+/// Why an engine is not made: the first setting that is out of its range (see [`Settings`]), or memory.
 #[derive(Clone, Copy, Debug, PartialEq, Eq, Error)]
 pub enum SettingsFault {
+    /// `max_pages`.
     #[error("the number of pages is not from 1 to 65536")]
     MaxPages,
+    /// `stop_age`.
     #[error("the stop age is not from 1 to 2144483648")]
     StopAge,
+    /// `freeze_min_age`.
     #[error("the freeze minimum is over 1000000000")]
     FreezeMinAge,
+    /// `first_xid`.
     #[error("the first id is below 3")]
     FirstXid,
+    /// `dead_limit`.
     #[error("the limit of dead slots is not from 1 to 4096")]
     DeadLimit,
+    /// All are in range, and memory was refused.
     #[error("there is no memory")]
     NoMemory,
 }

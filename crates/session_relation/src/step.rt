@@ -10,8 +10,11 @@ use std::marker::Model;
 /// A row to be written, whose body may be of any length.
 #[derive(Debug, Drop)]
 pub struct RowIn {
+    /// The row's own key.
     pub key: u64,
+    /// The columns 0 to 3.
     pub cols: [i64; 4],
+    /// At most 1024 bytes, else the step is refused as TooLarge.
     pub body: Vec<u8>,
 }
 
