@@ -151,7 +151,9 @@ fn move_half<N: Node>(lower: &mut Vec<N>, upper: &mut Vec<N>)
 {
     for _ in HALF..MAX_PARTS {
         if let Some(node) = lower.pop() {
-            nodes::put_node(upper, 0, node);
+            upper.push_reserved(node);
         }
     }
+    // they came the last first
+    upper.reverse();
 }

@@ -11,7 +11,9 @@ use xid_circle::Tid;
 /// `i64` and any `u64`.
 #[derive(Clone, Copy, Debug, PartialEq, Eq)]
 pub struct Entry {
+    /// Orders the entries first.
     pub value: i128,
+    /// Of the row that the entry is for; orders those of one value.
     pub key: u64,
     /// The place of the root that the entry leads to.
     pub tid: Tid,

@@ -29,8 +29,8 @@ pub struct Near {
 #[derive(Debug, Drop)]
 pub struct RootIndex {
     /// The entries. No node is empty, and one that is split keeps half: so there is one tree here for each 262,144 entries or
-    /// more, where none were removed. An insert moves no more than a leaf's entries, and where it splits a node the
-    /// parts of the node above it or of this list.
+    /// more, where none were removed. An insert moves no more than a leaf's entries, and where it splits a node
+    /// its upper half, and the parts of the node above it or of this list.
     trees: Vec<Tree>,
     /// Nodes for splits to come.
     spares: Spares<Tree, Spares<Branch<Leaf>, Spares<Leaf, ()>>>,
@@ -103,7 +103,8 @@ impl RootIndex {
         Ok(())
     }
 
-    /// Adds an entry. One that is there already stays there once.
+    /// Adds an entry. One that is there already stays there once. Memory is refused only where the entry is not there and no
+    /// room was made for it, or the entries could not be counted any more; they stay as they were then.
     pub fn insert(&mut self, entry: Entry) -> Result<(), AllocError>
         ensures adds { OnOk result (Adds self.old.entries self.new.entries entry) }
         ensures spare { OnOk result (self.old.spare ≤ self.new.spare + 1) }
