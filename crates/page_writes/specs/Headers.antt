@@ -1,6 +1,6 @@
 -- The headers that writes make. (What heap_insert, heap_delete and heap_update of src/backend/access/heap/heapam.c leave in
 -- a header; README.HOT for the marks of a chain.)
-use Rattle.std.specs.Prelude.{ℕ, Bool, false, bit_and, bit_or, if◌then◌else◌}
+use Rattle.std.specs.Prelude.{ℕ, Bool, bit_and, bit_or, if◌then◌else◌}
 use Rattle.tuple_header.specs.declared.version.Header.{Header}
 use Rattle.tuple_header.specs.Marks.{inserted_header}
 
@@ -24,10 +24,6 @@ replaced_header h x page slot hot = record h {
   mask2 = marked_hot hot h.mask2;
   mask = without_deleter h.mask;
 }
-
--- an id deleted the version, which stands at this place: it has no successor
-abbrev pub deleted_header : Header → ℕ → ℕ → ℕ → Header
-deleted_header h x page slot = replaced_header h x page slot false
 
 -- an id has just made the version at this place, as a root: by an insert, or by an update that is not HOT
 abbrev pub root_header : Bool → ℕ → ℕ → ℕ → Header

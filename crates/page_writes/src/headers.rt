@@ -3,7 +3,7 @@
 ghost use Rattle.std.specs.Prelude.{◌≡◌, ◌≤◌, None};
 ghost use Rattle.xid_circle.specs.Circle.{IsNormal};
 ghost use Rattle.tuple_header.specs.Faults.{header_fault};
-ghost use Rattle.page_writes.specs.Headers.{marked_hot, deleted_header, replaced_header, root_header, heap_only_header};
+ghost use Rattle.page_writes.specs.Headers.{marked_hot, replaced_header, root_header, heap_only_header};
 
 use tuple_header::Header;
 use xid_circle::{Tid, Xid};
@@ -43,19 +43,6 @@ pub fn replaced(header: &Header, x: Xid, place: Tid, hot: bool) -> Header
         mask2: marked_hot(hot, header.mask2),
         mask: header.mask & BUT_DELETER,
     }
-}
-
-/// The header of a version at `place`, a slot from 1 to 291, that `x`, a normal id, deleted: it points at itself and is
-/// not HOT-updated. (PostgreSQL, `heap_delete` in src/backend/access/heap/heapam.c.)
-pub fn deleted(header: &Header, x: Xid, place: Tid) -> Header
-    requires faultless { header_fault header.now ≡ None }
-    requires normal { IsNormal x.0 }
-    requires from { 1 ≤ place.slot }
-    requires to { place.slot ≤ 291 }
-    ensures value { result ≡ deleted_header header.now x.0 place.page place.slot }
-    ensures faultless { header_fault result ≡ None }
-{
-    replaced(header, x, place, false)
 }
 
 /// The header of a version that `x`, a normal id, has just made at `place`, a slot from 1 to 291, as a root: `updated`

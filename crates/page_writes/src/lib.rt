@@ -13,7 +13,7 @@ mod headers;
 mod laws;
 mod writes;
 
-pub use headers::{deleted, heap_only, replaced, root};
+pub use headers::{heap_only, replaced, root};
 pub use laws::{
     aborting_keeps_sound, adding_keeps_sound, committing_keeps_sound, giving_keeps_sound,
     later_horizon_keeps_sound, taking_away_is_counted, taking_away_keeps_sound,

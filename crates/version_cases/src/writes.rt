@@ -2,12 +2,12 @@
 
 use crate::table::{
     change, empty_page, finish, give_ids, has_chain, has_place, header, header_at, holds, insert,
-    is_dead, is_unused, leads_to, prune_at, root, row, same, slots, update, window,
+    is_dead, is_unused, leads_to, prune_at, put, root, row, same, slots, update, window,
 };
 use commit_status::Status;
 use page_slots::Page;
 use page_writes::{
-    aborting_keeps_sound, adding_keeps_sound, committing_keeps_sound, delete_version, deleted,
+    aborting_keeps_sound, adding_keeps_sound, committing_keeps_sound, delete_version,
     giving_keeps_sound, heap_only, later_horizon_keeps_sound, move_away, move_in, replaced,
     taking_away_is_counted, taking_away_keeps_sound, updating_here_keeps_sound,
 };
@@ -194,14 +194,6 @@ fn after_update(old: Header, hot: bool) -> Option<Header> {
     }
 }
 
-/// A header once id 5 has deleted its version, whose place that is.
-fn after_delete(old: Header) -> Option<Header> {
-    match fault_of(&old) {
-        None => Some(deleted(&old, Xid(5), PLACE)),
-        Some(_) => None,
-    }
-}
-
 fn new_root(updated: bool) -> Header {
     page_writes::root(updated, Xid(5), PLACE)
 }
@@ -218,7 +210,14 @@ fn headers_of_old_versions(rt: HostRuntime) {
     let cold = Some(header(3, 5, 9, 0x8000, 0x2300));
     same(&rt, after_update(old, true), hot);
     same(&rt, after_update(old, false), cold);
-    same(&rt, after_delete(old), cold);
+    let mut page = empty_page(rt.alloc());
+    put(&mut page, old);
+    delete(&mut page, 1, 5);
+    same(
+        &rt,
+        header_at(&page, 1),
+        Some(header(3, 5, 1, 0x8000, 0x2300)),
+    );
 }
 
 #[test]
