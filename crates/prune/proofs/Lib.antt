@@ -7,7 +7,6 @@ pub mod Planned
 pub mod ChainPlaces
 pub mod Removing
 pub mod Unshared
-pub mod FlatPages
 pub mod Unseen
 pub mod NamedLemmas
 pub mod Fronts

@@ -1,16 +1,16 @@
 -- What pruning keeps.
-use Rattle.std.specs.Prelude.{◌≡◌, ◌⊎◌, ℕ, List, [], length, Option, Some}
+use Rattle.std.specs.Prelude.{◌≡◌, ℕ, List, [], length, Option, Some}
 use Rattle.page_slots.specs.declared.slot.Slot.{Slot}
 use Rattle.page_slots.specs.Slots.{slot_at}
 use Rattle.page_slots.specs.View.{PageView}
-use Rattle.page_slots.specs.declared.slot.Slot.TheVariants.{Redirect, Dead}
+use Rattle.page_slots.specs.declared.slot.Slot.TheVariants.{Redirect}
 use Rattle.commit_status.specs.Window.{Window}
 use Rattle.hot_chain.specs.Chain.{has_aborted}
 use Rattle.prune.specs.declared.action.Action.{Action}
 use Rattle.prune.specs.declared.action.Action.TheVariants as action
 use Rattle.prune.specs.Actions.{applied, action_of, raised}
 use Rattle.prune.specs.Cutting.{IsDeadAt, Removes, NoSharedSlots}
-use Rattle.prune.specs.Pruning.{Does, IsPlan, IsPruned, IsFlat}
+use Rattle.prune.specs.Pruning.{Does, IsPlan, IsPruned}
 use Rattle.prune.specs.Checks.{Checks}
 use Rattle.prune.specs.Readers.{KeepsFound}
 use Rattle.prune.specs.Sound.{SoundPage, KeepsChains}
@@ -47,12 +47,6 @@ PruningIsDoneOnce = (w : Window) (horizon : ℕ) (slots after again : List Slot)
 
 abbrev pub SoundIsUnshared : Type 0
 SoundIsUnshared = (w : Window) (horizon : ℕ) (slots : List Slot) → SoundPage w horizon slots → NoSharedSlots (has_aborted w) slots
-
--- a page without heap-only versions and redirects has no shared slots, and stays such a page
-abbrev pub FlatStaysFlat : Type 0
-FlatStaysFlat = (w : Window) (horizon : ℕ) (slots : List Slot) → IsFlat slots
-    → NoSharedSlots (has_aborted w) slots
-    × ((after : List Slot) → IsPruned w horizon slots after → IsFlat after × ((n : ℕ) → (slot_at after n ≡ slot_at slots n) ⊎ (slot_at after n ≡ Some Dead)))
 
 -- A plan that checks, whoever made it, removes only what would be cut; so from a sound page it takes nothing that anyone finds.
 abbrev pub CheckedIsNeverSeen : Type 0

@@ -75,8 +75,3 @@ lead (Some k) = Redirect k
 
 abbrev pub KeepsRoots : List Slot → List Slot → Type 0
 KeepsRoots slots after = (n : ℕ) → is_root slots n ≡ true → (slot_at after n ≡ slot_at slots n) ⊎ ((kept : Option ℕ) × (slot_at after n ≡ Some (lead kept)))
-
--- a page without heap-only versions and redirects: each chain is one version
-pub record IsFlat (slots : List Slot) : Type 0 where
-  pub plain : (n : ℕ) (h : Header) → header_at slots n ≡ Some h → is_heap_only h ≡ false
-  pub direct : (n k : ℕ) → ¬ (slot_at slots n ≡ Some (Redirect k))

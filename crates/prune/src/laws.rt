@@ -1,15 +1,10 @@
 //! The laws of pruning. Each function does nothing: its contract is the law.
 
-ghost use Rattle.prune.specs.Laws.{PruningHasOneOutcome, FlatStaysFlat, RemovingIsNeverSeen, PruningIsNeverSeen, CheckedIsNeverSeen, CheckedRaises, ChecksAtEitherEnd, NothingDeadStays, SoundIsUnshared, SoundStaysSound, PruningIsDoneOnce};
+ghost use Rattle.prune.specs.Laws.{PruningHasOneOutcome, RemovingIsNeverSeen, PruningIsNeverSeen, CheckedIsNeverSeen, CheckedRaises, ChecksAtEitherEnd, NothingDeadStays, SoundIsUnshared, SoundStaysSound, PruningIsDoneOnce};
 
 /// Where no slot is in the chains of two roots, there is one answer for each slot, and one page after pruning.
 pub fn pruning_has_one_outcome()
     ensures { PruningHasOneOutcome }
-{}
-
-/// On a page without heap-only versions and redirects no slot is in two chains, and pruning makes slots dead, no more.
-pub fn flat_stays_flat()
-    ensures { FlatStaysFlat }
 {}
 
 /// Whatever goes from a sound page is missed by no reader, as long as only what would be cut goes.

@@ -24,8 +24,8 @@ pub use action::{Action, PrunePlan};
 pub use applying::{apply, prune};
 pub use checking::check_plan;
 pub use laws::{
-    checked_is_never_seen, checked_raises, checks_at_either_end, flat_stays_flat,
-    nothing_dead_stays, pruning_has_one_outcome, pruning_is_done_once, pruning_is_never_seen,
-    removing_is_never_seen, sound_is_unshared, sound_stays_sound,
+    checked_is_never_seen, checked_raises, checks_at_either_end, nothing_dead_stays,
+    pruning_has_one_outcome, pruning_is_done_once, pruning_is_never_seen, removing_is_never_seen,
+    sound_is_unshared, sound_stays_sound,
 };
 pub use planning::plan;

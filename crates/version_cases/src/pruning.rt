@@ -9,9 +9,8 @@ use commit_status::{Status, StatusTable};
 use page_slots::Page;
 use prune::{
     Action, PrunePlan, apply, check_plan, checked_is_never_seen, checked_raises,
-    checks_at_either_end, flat_stays_flat, nothing_dead_stays, plan, pruning_has_one_outcome,
-    pruning_is_done_once, pruning_is_never_seen, removing_is_never_seen, sound_is_unshared,
-    sound_stays_sound,
+    checks_at_either_end, nothing_dead_stays, plan, pruning_has_one_outcome, pruning_is_done_once,
+    pruning_is_never_seen, removing_is_never_seen, sound_is_unshared, sound_stays_sound,
 };
 use std::alloc::Global;
 use tuple_header::{Header, fault_of};
@@ -301,7 +300,6 @@ fn laws() {
     checked_is_never_seen();
     checked_raises();
     checks_at_either_end();
-    flat_stays_flat();
     nothing_dead_stays();
     pruning_has_one_outcome();
     pruning_is_done_once();
