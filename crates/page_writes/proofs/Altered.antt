@@ -1,18 +1,13 @@
 -- The slots that the functions leave are those of the definitions.
-use Rattle.std.proofs.Common.{◌≡◌, ◌≢◌, ℕ, true, List, Option, Some, None, IsSome, sym, ap, ◌∙◌, refl, subst}
-use Rattle.std.specs.Option.{option_map, option_and_then}
+use Rattle.std.proofs.Common.{◌≡◌, ◌≢◌, ℕ, true, List, Some, IsSome, sym, ap, ◌∙◌, refl, subst}
+use Rattle.std.specs.Option.{option_and_then}
 use Rattle.page_slots.specs.declared.slot.Slot.{Slot}
 use Rattle.page_slots.specs.declared.slot.Slot.TheVariants.{Normal}
 use Rattle.page_slots.specs.Slots.{slot_at, version_at, version_of, the_slot, with_added, free_number, change_unless, next_change, IsNormalAt}
 use Rattle.page_slots.proofs.SlotLemmas.{normal_at, the_slot-from_slot_at, slot_at-with_added_other, free_number-not_normal}
 use Rattle.tuple_header.specs.Version.{Version}
-use Rattle.tuple_header.specs.declared.version.Header.{Header}
 use Rattle.page_writes.specs.Writes.{was_replaced, replaced_change}
 use Rattle.page_writes.proofs.Growth.{none-some}
-
-some-version : (o : Option Version) (h : Header) → option_map (λ t. t.header) o ≡ Some h → (t : Version) × (o ≡ Some t) × (t.header ≡ h)
-some-version None h e = absurd (cc)
-some-version (Some t) h e = (t, refl, (let f : Some t.header ≡ Some h = e in cc))
 
 -- A version stays where another is added.
 

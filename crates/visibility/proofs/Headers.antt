@@ -1,5 +1,5 @@
 -- What a header without a fault is.
-use Rattle.std.proofs.Common.{◌≡◌, Bool, true, false, ◌||◌, List, [], ◌∷◌, Some, None, refl, sym, ◌∙◌}
+use Rattle.std.proofs.Common.{◌≡◌, Bool, true, false, List, [], ◌∷◌, Some, None, refl, sym, ◌∙◌}
 use Rattle.std.specs.List.{find}
 use Rattle.tuple_header.specs.declared.version.Header.{Header}
 use Rattle.tuple_header.specs.declared.fault.TupleFault.{TupleFault}
@@ -42,7 +42,3 @@ fault-no h n =
     (found-none p Xmin (Xmax ∷ Ctid ∷ []) n.xmin
     (found-none p Xmax (Ctid ∷ []) n.xmax
     (found-none p Ctid [] n.ctid refl))))
-
-or-false : (a b : Bool) → a || b ≡ false → (a ≡ false) × (b ≡ false)
-or-false true b e = absurd (cc)
-or-false false b e = (refl, e)
