@@ -60,11 +60,8 @@ pub fn root(updated: bool, x: Xid, place: Tid) -> Header
         Header::XMAX_INVALID
     };
     Header {
-        xmin: x,
-        xmax: Xid::INVALID,
-        ctid: place,
-        mask2: Header::ATTRIBUTES,
         mask,
+        ..Header::inserted(x, place)
     }
 }
 
@@ -78,10 +75,8 @@ pub fn heap_only(x: Xid, place: Tid) -> Header
     ensures faultless { header_fault result ≡ None }
 {
     Header {
-        xmin: x,
-        xmax: Xid::INVALID,
-        ctid: place,
         mask2: Header::ATTRIBUTES | Header::HEAP_ONLY,
         mask: Header::UPDATED | Header::XMAX_INVALID,
+        ..Header::inserted(x, place)
     }
 }
