@@ -71,9 +71,9 @@ fn row_of(bytes: &[u8]) -> Row
     }
 }
 
-/// The bits of `mask2` that hold the number of attributes, and those that hold nothing.
+/// The bits of `mask2` that hold the number of attributes.
 const ATTRIBUTE_BITS: u16 = 0x07ff;
-
+/// The bits of `mask2` that hold nothing.
 const OTHER_BITS_2: u16 = 0x3800;
 /// The bits of `mask` that hold nothing.
 const OTHER_BITS: u16 = 0xd0ff;
