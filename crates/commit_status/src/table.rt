@@ -146,8 +146,9 @@ fn forget(entries: &mut Vec<Known>, count: usize)
 }
 
 impl StatusTable {
-    /// A table that remembers no id; the next one is `first`. No id is given `stop_age` numbers from the
-    /// oldest one, or further.
+    /// A table that remembers no id; the next one is `first`, a normal id. No id is given `stop_age` numbers from the
+    /// oldest one, or further; `stop_age` is at most 2144483648, so the ids that are remembered stay within half of the
+    /// circle.
     pub fn new(alloc: Global, first: Xid, stop_age: u32) -> Self
         requires normal { IsNormal first.0 }
         requires limit { stop_age ≤ 2144483648 }
@@ -223,7 +224,7 @@ impl StatusTable {
         Ok(given)
     }
 
-    /// Makes room, so that the next `n` calls of `give` take no memory.
+    /// Makes room, so that the next `n` calls of `give` take no memory. No id changes, also where memory is refused.
     pub fn make_room(&mut self, n: usize) -> Result<(), AllocError>
         ensures room { OnOk result (n ≤ self.new.spare) }
         ensures refused { OnErr result (self.old.spare < n) }

@@ -94,7 +94,8 @@ impl Pages {
         &mut self.pages[number as usize]
     }
 
-    /// Makes room in memory for `count` more pages, so that the next `count` pages are added without asking for any.
+    /// Makes room in memory for `count` more pages, so that the next `count` pages are added without asking for any. Where
+    /// memory is refused, all stays as it was.
     pub fn make_room(&mut self, count: usize) -> Result<(), AllocError>
         ensures room { OnOk result (count ≤ self.new.spare) }
         ensures refused { OnErr result (self.old.spare < count) }
@@ -121,16 +122,17 @@ impl Pages {
     }
 
     /// The first page whose free-space byte promises room for a version of this size, if there is one; else a new page is
-    /// needed, or a page whose exact room is enough. It looks at the map's 256 groups at most and at the 256 bytes of each
-    /// group that has such a byte, and looks at the page found and the page lent last.
+    /// needed, or a page whose exact room is enough. The size is in bytes, as [`tuple_header::row_size`] counts them. It
+    /// looks at the map's 256 groups at most and at the 256 bytes of each group that has such a byte, and looks at the page
+    /// found and the page lent last.
     pub fn page_for(&self, size: usize) -> Option<u32>
         ensures { IsFirst self.now.pages (Promises size) result }
     {
         first_promising(&self.pages, &self.map, size)
     }
 
-    /// The first page in which a version of this size fits, if there is one. It looks at each page before it whose byte
-    /// leaves open whether it fits.
+    /// The first page in which a version of this size fits, if there is one. The size is in bytes, as
+    /// [`tuple_header::row_size`] counts them. It looks at each page before it whose byte leaves open whether it fits.
     pub fn page_with_room(&self, size: usize) -> Option<u32>
         ensures { IsFirst self.now.pages (HasRoom size) result }
     {
@@ -138,7 +140,8 @@ impl Pages {
     }
 
     /// Where a new version of this size goes, where at most `limit` pages may be in use: to the first page whose free-space
-    /// byte promises the room; else to a new page; else, where there may be none, to the first page in which it fits.
+    /// byte promises the room; else to a new page; else, where there may be none, to the first page in which it fits. The
+    /// size is in bytes, as [`tuple_header::row_size`] counts them.
     pub fn place_for(&self, size: usize, limit: u32) -> Place
         ensures { IsPlaceFor self.now.pages limit size result }
     {

@@ -188,8 +188,9 @@ fn raise(change: &mut u64)
 }
 
 impl Page {
-    /// Adds a version in the lowest unused slot, or else in a new last one, and answers the slot's number. It is full
-    /// exactly where the version's size is over the room.
+    /// Adds a version in the lowest unused slot, or else in a new last one, and answers the slot's number. It answers Full
+    /// exactly where the version's size is over the room, and NoMemory only where a new slot is needed and no room was made
+    /// for it. Both change no slot.
     pub fn add(&mut self, version: Tuple) -> Result<u16, AddFault>
         ensures full { (result ≡ Err AddFault.Full) ↔ (room_of self.old.slots < rounded_size_of version.row) }
         ensures memory { result ≡ Err AddFault.NoMemory → self.old.spare ≡ 0 }
@@ -209,7 +210,8 @@ impl Page {
     }
 
     /// Adds a version with this header of this row, which it copies nowhere but into its place: in the lowest unused slot, or else
-    /// in a new last one, and answers the slot's number. It is full exactly where the version's size is over the room.
+    /// in a new last one, and answers the slot's number. The header has no fault. It answers Full and NoMemory as
+    /// [`Page::add`] does, and both change no slot.
     pub fn add_row(&mut self, header: Header, row: &Row) -> Result<u16, AddFault>
         requires faultless { header_fault header ≡ None }
         ensures full { (result ≡ Err AddFault.Full) ↔ (room_of self.old.slots < rounded_size_of row.now) }
@@ -244,7 +246,8 @@ impl Page {
         Ok(index as u16 + 1)
     }
 
-    /// Makes room in memory for `count` more slots, so that the next `count` versions are added without asking for any.
+    /// Makes room in memory for `count` more slots, so that the next `count` versions are added without asking for any. No
+    /// slot changes, also where memory is refused.
     pub fn make_room(&mut self, count: usize) -> Result<(), AllocError>
         ensures room { OnOk result (count ≤ self.new.spare) }
         ensures refused { OnErr result (self.old.spare < count) }
@@ -256,8 +259,8 @@ impl Page {
         self.slots.make_room(count)
     }
 
-    /// Gives the version in the slot of this number another header. The change number is raised where the header differs
-    /// otherwise than in hints.
+    /// Gives the version in the slot of this number, which is there and normal, another header, which has no fault. The
+    /// change number is raised where the header differs otherwise than in hints.
     pub fn set_header(&mut self, number: u16, header: Header)
         requires normal { IsNormalAt self.old.slots number }
         requires faultless { header_fault header ≡ None }
@@ -277,7 +280,7 @@ impl Page {
         }
     }
 
-    /// Makes the slot of this number unused. The change number is raised where it was not unused.
+    /// Makes the slot of this number, which is there, unused. The change number is raised where it was not unused.
     pub fn set_unused(&mut self, number: u16)
         requires { IsThere self.old.slots number }
         ensures { self.new ≡ record self.old {
@@ -289,7 +292,7 @@ impl Page {
         self.put(number, Item::Unused, same);
     }
 
-    /// Makes the slot of this number dead. The change number is raised where it was not dead.
+    /// Makes the slot of this number, which is there, dead. The change number is raised where it was not dead.
     pub fn set_dead(&mut self, number: u16)
         requires { IsThere self.old.slots number }
         ensures { self.new ≡ record self.old {
@@ -301,7 +304,8 @@ impl Page {
         self.put(number, Item::Dead, same);
     }
 
-    /// Makes the slot of this number lead to the slot `target`. The change number is raised where it did not lead there.
+    /// Makes the slot of this number lead to the slot `target`. Both are there. The change number is raised where it did not
+    /// lead there.
     pub fn set_redirect(&mut self, number: u16, target: u16)
         requires there { IsThere self.old.slots number }
         requires target_there { IsThere self.old.slots target }

@@ -92,7 +92,7 @@ impl OwnIds {
         is_among(&self.ids, x)
     }
 
-    /// Makes room for `count` more ids.
+    /// Makes room for `count` more ids. No id or savepoint changes, also where memory is refused.
     pub fn make_room(&mut self, count: usize) -> Result<(), AllocError>
         ensures room { OnOk result (count ≤ self.new.spare) }
         ensures refused { OnErr result (self.old.spare < count) }
@@ -145,8 +145,8 @@ impl OwnIds {
         start
     }
 
-    /// Adds the id that was given last, to the lowest level that has none: the savepoints above that level keep it. It
-    /// takes no memory.
+    /// Adds the id that was given last, to the lowest level that has none: the savepoints above that level keep it. The id
+    /// is normal, there is such a level, and there is room for it, so it takes no memory.
     pub fn add(&mut self, x: Xid)
         requires room { 0 < self.old.spare }
         requires normal { IsNormal x.0 }
@@ -203,7 +203,7 @@ impl OwnIds {
         self.marks[self.marks.len() - 1]
     }
 
-    /// The ids that were given since the newest savepoint.
+    /// The ids that were given since the newest savepoint. There has to be one.
     pub fn since_save(&self) -> &[Xid]
         requires { self.now.saved ≢ [] }
         ensures { self.now.ids ≡ newest self.now.saved ++ numbers result.now }
@@ -212,7 +212,8 @@ impl OwnIds {
         &self.ids[count..]
     }
 
-    /// Goes back to the newest savepoint, and keeps it: the ids since then are dropped. It takes no memory.
+    /// Goes back to the newest savepoint, and keeps it: the ids since then are dropped. There has to be a savepoint. It
+    /// takes no memory.
     pub fn roll_back(&mut self)
         requires { self.old.saved ≢ [] }
         ensures ids { self.new.ids ≡ newest self.old.saved }
@@ -224,7 +225,7 @@ impl OwnIds {
         self.ids.truncate(count);
     }
 
-    /// Forgets the newest savepoint, and keeps the ids since then. It takes no memory.
+    /// Forgets the newest savepoint, and keeps the ids since then. There has to be a savepoint. It takes no memory.
     pub fn release(&mut self)
         requires { self.old.saved ≢ [] }
         ensures ids { self.new.ids ≡ self.old.ids }
