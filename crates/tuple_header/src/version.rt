@@ -11,11 +11,14 @@ use arrayvec::ArrayVec;
 use std::marker::Model;
 use xid_circle::{Tid, Xid};
 
-/// A row of the table: a key, four columns, and a body of at most 1024 bytes.
+/// A row of the table.
 #[derive(Debug, Drop, PartialEq, Eq)]
 pub struct Row {
+    /// Its key.
     pub key: u64,
+    /// Its four columns.
     pub cols: [i64; 4],
+    /// Its body, of at most 1024 bytes.
     pub body: ArrayVec<u8, 1024>,
 }
 
@@ -113,7 +116,9 @@ impl Header {
 /// A version of a row. Its header has no fault: [`fault_of`](crate::fault_of) finds none in it.
 #[derive(Debug, Drop, PartialEq, Eq)]
 pub struct Tuple {
+    /// What the version says of its life.
     pub header: Header,
+    /// The row, as this version has it.
     pub row: Row,
 }
 

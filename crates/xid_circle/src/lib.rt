@@ -30,10 +30,12 @@ impl Xid {
     }
 }
 
-/// The place of a version in the table: a page, counted from 0, and a slot of that page, counted from 1.
+/// The place of a version in the table.
 #[derive(Clone, Copy, Debug, PartialEq, Eq)]
 pub struct Tid {
+    /// The number of the page, counted from 0.
     pub page: u32,
+    /// The number of the slot on that page, counted from 1.
     pub slot: u16,
 }
 
