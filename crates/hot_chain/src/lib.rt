@@ -1,4 +1,8 @@
 //! The chain of versions that a slot leads to.
+//!
+//! The contract promises that [`chain`] lists what `specs/Chain.antt` defines, on any page, however its links go, and by
+//! [`chain_is_one`] that a slot has one chain; that [`fetch`] answers the first version of it that the reader sees, and
+//! [`root_of`] the lowest root or redirect whose chain holds a slot. None takes memory.
 #![tactic(auto)]
 
 mod fetching;
