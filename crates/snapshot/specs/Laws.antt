@@ -1,4 +1,4 @@
--- The laws of snapshots: what began or was in progress when one was taken is unseen for good, and what had finished is seen.
+-- The laws of snapshots: what began or was in progress when one was taken is unseen, and what had finished is seen.
 use Rattle.std.specs.Prelude.{◌≡◌, ℕ, ◌<◌, ◌≤◌, ◌⊎◌, List, Contains, Some, slice_get}
 use Rattle.xid_circle.specs.Circle.{Precedes}
 use Rattle.commit_status.specs.Window.{Window, IsWindow, IsActive, IsInProgress, IsUpToNext, turns, next_id, top_of}
