@@ -1,7 +1,7 @@
 //! A script that is cut off.
 
 use crate::table::OLDER_SESSION;
-use script::{ShellFault, Watch, run_script};
+use script::{ShellFault, run_script};
 use std::test::Fail;
 
 fn count_lines(text: &[u8]) -> usize {
@@ -32,8 +32,7 @@ fn cut_after_each_byte(rt: HostRuntime) -> Result<(), Fail> {
         let lines = count_lines(reader);
         let is_whole = reader.last().copied() == Some(b'\n');
         let mut answers: Vec<u8> = Vec::new(rt.alloc());
-        let mut watch = Watch::new();
-        let result = run_script(rt.alloc(), &mut watch, &mut reader, &mut answers);
+        let (result, _) = run_script(rt.alloc(), &mut reader, &mut answers);
         if is_whole {
             assert_eq!(rt; result, Ok(()), "at {cut}");
         } else {

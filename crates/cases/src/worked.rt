@@ -4,7 +4,7 @@ use crate::cursors::CURSORS;
 use crate::savepoints::SAVEPOINTS;
 use crate::table::{CASES, Case};
 use crate::updates::{CHAINS, PAGES};
-use script::{Watch, run_script};
+use script::run_script;
 use std::alloc::{AllocError, Global};
 use std::test::Fail;
 
@@ -41,21 +41,19 @@ fn run_case(alloc: Global, case: &Case) -> Result<Ended, AllocError> {
     let script = written_out(alloc, case)?;
     let mut reader = script.as_slice();
     let mut answers: Vec<u8> = Vec::new(alloc);
-    let mut watch = Watch::new();
-    Ok(
-        match run_script(alloc, &mut watch, &mut reader, &mut answers) {
-            Ok(()) => Ended {
-                answers,
-                status: 0,
-                words: String::new(alloc),
-            },
-            Err(fault) => Ended {
-                answers,
-                status: fault.status(),
-                words: format!(in alloc; "{fault}")?,
-            },
+    let (result, _) = run_script(alloc, &mut reader, &mut answers);
+    Ok(match result {
+        Ok(()) => Ended {
+            answers,
+            status: 0,
+            words: String::new(alloc),
         },
-    )
+        Err(fault) => Ended {
+            answers,
+            status: fault.status(),
+            words: format!(in alloc; "{fault}")?,
+        },
+    })
 }
 
 // Whether the script has its answers and its end.

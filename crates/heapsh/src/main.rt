@@ -1,7 +1,7 @@
 //! The command-line shell of the heap.
 #![tactic(auto)]
 
-use script::{Watch, run_script};
+use script::run_script;
 use std::env;
 use std::process::ExitCode;
 
@@ -21,8 +21,8 @@ fn main(rt: HostRuntime) -> ExitCode {
     if word.as_str() != "run" {
         return usage(&rt);
     }
-    let mut watch = Watch::new();
-    match run_script(rt.alloc(), &mut watch, &mut rt.stdin(), &mut rt.stdout()) {
+    let (ended, _) = run_script(rt.alloc(), &mut rt.stdin(), &mut rt.stdout());
+    match ended {
         Ok(()) => ExitCode::SUCCESS,
         Err(fault) => {
             let _ = rt.eprintln(fault);

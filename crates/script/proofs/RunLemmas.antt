@@ -8,10 +8,10 @@ use Rattle.std.specs.Io.KnownBytes.{Appends}
 use Rattle.script.specs.Engine.{World, State, next, IsRun, Agrees}
 use Rattle.script.specs.Grammar.{IsAllowed, Fits, spelling, with_feed}
 use Rattle.script.specs.Pieces.{Takes, Gives, HasNoLine}
-use Rattle.script.specs.Script.{Event, did, showed_ids, showed_page, showed_entries, line_of, answer_of, steps_of, replies_of, lines_of, answers_of, Moves, Leads, IsBadLine, Begins, IsRefused}
+use Rattle.script.specs.Script.{Event, did, showed_ids, showed_page, showed_entries, line_of, answer_of, steps_of, replies_of, lines_of, answers_of, Moves, Leads, IsBadLine, Begins}
+use Rattle.script.specs.Refusals.{Refusals, IsRefused}
 use Rattle.script.specs.Steps.{Ends, Advance, Uses, Does}
 use Rattle.script.specs.declared.line.Line.{Line}
-use Rattle.script.specs.declared.watch.Watch.{Watch}
 use Rattle.script.specs.declared.fault.ShellFault.{ShellFault}
 use Rattle.script.specs.declared.fault.ShellFault.TheVariants.{BadLine, Input, Output, NoMemory}
 use Rattle.script.proofs.ByteLemmas.{place, Free, place-free, place-append_found, place-append_past, place-split, position_found, position_none}
@@ -163,17 +163,17 @@ bad_from_line p rest n at h =
       bad = λ l more allowed e. h l allowed.fits (text_is p rest n (spelling l) more at (Free-spelling l allowed.fits) e);
     }
 
-ends_fault : (e : ShellFault) (watch : Watch) → IsRefused e watch → (k : ℕ) (left : List ℕ) (before after : Option (List ℕ)) (text : List ℕ) → Begins before after text → Ends (Err e) k left before after text
+ends_fault : (e : ShellFault) (watch : Refusals) → IsRefused e watch → (k : ℕ) (left : List ℕ) (before after : Option (List ℕ)) (text : List ℕ) → Begins before after text → Ends (Err e) k left before after text
 ends_fault (BadLine n) watch f k left before after text b = absurd f
 ends_fault Input watch f k left before after text b = b
 ends_fault Output watch f k left before after text b = b
 ends_fault NoMemory watch f k left before after text b = b
 
 -- that a growth was refused is noted
-pub refused_growth : (e : ShellFault) (watch : Watch) → e ≡ NoMemory → watch.memory ≡ true → IsRefused e watch
+pub refused_growth : (e : ShellFault) (watch : Refusals) → e ≡ NoMemory → watch.memory ≡ true → IsRefused e watch
 refused_growth e watch is noted = rw is noted
 
-pub adv_fault : (from state : State) (before now : Option (List ℕ)) (old new : List ℕ) (w0 w1 w2 : Option (List ℕ)) (text left : List ℕ) (number : ℕ) (e : ShellFault) (watch : Watch)
+pub adv_fault : (from state : State) (before now : Option (List ℕ)) (old new : List ℕ) (w0 w1 w2 : Option (List ℕ)) (text left : List ℕ) (number : ℕ) (e : ShellFault) (watch : Refusals)
     → Progress from state before now old new w0 w1 text left number → IsRefused e watch → Begins w1 w2 left → IfSome before (λ bytes. Advance from (old ++ bytes) w0 w2 text (Err e))
 adv_fault from state before now old new w0 w1 w2 text left number e watch h f b =
     IfSome_then before (Uses-known before now old (lines_of h.events) new h.uses) (λ input k. record {
@@ -189,12 +189,12 @@ adv_fault from state before now old new w0 w1 w2 text left number e watch h f b 
 Gives-rest : (a b c : Option (List ℕ)) (text left : List ℕ) → Gives a b text left → Appends b c left → Appends a c text
 Gives-rest a b c text left h k = rw h.2 (Appends-Appends a b c h.0 left h.1 k)
 
-closed_fault : (from state : State) (before now : Option (List ℕ)) (old new : List ℕ) (w0 w1 w2 : Option (List ℕ)) (text left : List ℕ) (number : ℕ) (r : Result (Unit {0}) ShellFault) (watch : Watch)
+closed_fault : (from state : State) (before now : Option (List ℕ)) (old new : List ℕ) (w0 w1 w2 : Option (List ℕ)) (text left : List ℕ) (number : ℕ) (r : Result (Unit {0}) ShellFault) (watch : Refusals)
     → Progress from state before now old new w0 w1 text left number → IsErrAnd r (λ e. IsRefused e watch) → Begins w1 w2 left → IfSome before (λ bytes. Advance from (old ++ bytes) w0 w2 text r)
 closed_fault from state before now old new w0 w1 w2 text left number (Ok u) watch h f b = absurd f
 closed_fault from state before now old new w0 w1 w2 text left number (Err e) watch h f b = adv_fault from state before now old new w0 w1 w2 text left number e watch h f b
 
-pub adv_close : (from state : State) (before now : Option (List ℕ)) (old new : List ℕ) (w0 w1 w2 : Option (List ℕ)) (text left : List ℕ) (number : ℕ) (end r : Result (Unit {0}) ShellFault) (watch : Watch)
+pub adv_close : (from state : State) (before now : Option (List ℕ)) (old new : List ℕ) (w0 w1 w2 : Option (List ℕ)) (text left : List ℕ) (number : ℕ) (end r : Result (Unit {0}) ShellFault) (watch : Refusals)
     → (h : Progress from state before now old new w0 w1 text left number)
     → ((r ≡ end) × Appends w1 w2 left) ⊎ (IsErrAnd r (λ e. IsRefused e watch) × Begins w1 w2 left)
     → ((rest : List ℕ) (T : List ℕ) → now ≡ Some rest → Appends w0 w2 T → Ends end (length h.events) (new ++ rest) w0 w2 T)

@@ -2,6 +2,7 @@ pub mod Engine
 pub mod Grammar
 pub mod Answers
 pub mod Status
+pub mod Refusals
 pub mod Script
 pub mod Verbs
 pub mod Reading

@@ -1,5 +1,5 @@
 -- Whole scripts: the lines that were read, the run of the history that they make, and what is written.
-use Rattle.std.specs.Prelude.{◌≡◌, ℕ, ◌+◌, ◌<◌, ◌≤◌, ◌⊎◌, List, [], ◌∷◌, ◌++◌, length, slice_get, Option, Ok, Err, Result, true}
+use Rattle.std.specs.Prelude.{◌≡◌, ℕ, ◌+◌, ◌<◌, ◌≤◌, ◌⊎◌, List, [], ◌∷◌, ◌++◌, length, slice_get, Option, Ok, Err, Result}
 use Rattle.std.specs.Option.{option_map}
 use Rattle.std.specs.List.{flat_map, AllByRecursion}
 use Rattle.std.specs.Io.KnownBytes.{Appends}
@@ -10,8 +10,7 @@ use Rattle.script.specs.Answers.{reply_text, ids_text, Shown, shown_text, index_
 use Rattle.script.specs.declared.line.Line.{Line}
 use Rattle.script.specs.declared.line.Line.TheVariants.{Do, Ids, Page, Entries}
 use Rattle.script.specs.declared.fault.ShellFault.{ShellFault}
-use Rattle.script.specs.declared.fault.ShellFault.TheVariants.{BadLine, Input, Output, NoMemory}
-use Rattle.script.specs.declared.watch.Watch.{Watch}
+use Rattle.script.specs.declared.fault.ShellFault.TheVariants.{BadLine}
 
 -- a line that was read and answered: a step with its reply, or a look at the ids, a page or an index with what it showed
 pub data Event : Type 0 where
@@ -109,14 +108,3 @@ Outcome (Err (BadLine n)) input before after = ((n ≡ 1) × Appends before afte
 Outcome (Err fault) input before after = Appends before after []
     ⊎ ((settings : Settings) × (events : List Event) × (rest : List ℕ) × IsScriptRun settings events
     × (input ≡ script settings events ++ rest) × Begins before after (answers_of events))
-
--- a fault that isn't a bad line comes only where the reader, the writer or a growth refused, or the numbers of lines ran out
-abbrev pub IsRefused : ShellFault → Watch → Type 0
-IsRefused (BadLine n) watch = ⊥
-IsRefused Input watch = watch.input ≡ true
-IsRefused Output watch = watch.output ≡ true
-IsRefused NoMemory watch = watch.memory ≡ true
-
-abbrev pub IsCaused : ShellFault → Watch → Type 0
-IsCaused (BadLine n) watch = Unit {0}
-IsCaused fault watch = IsRefused fault watch

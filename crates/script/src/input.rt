@@ -3,7 +3,7 @@
 ghost use Rattle.std.specs.Prelude.{◌≡◌, ◌+◌, ◌-◌, ◌<◌, ◌≤◌, ◌==◌, [], length, take, drop, position, Ok, IfOk, IfSome, OnErr, IfErr};
 ghost use Rattle.std.specs.Io.KnownBytes.{Keeps, Consumes, IsAtEnd};
 ghost use Rattle.script.specs.Pieces.{Takes};
-ghost use Rattle.script.specs.Script.{IsRefused};
+ghost use Rattle.script.specs.Refusals.{IsRefused};
 
 use crate::fault::ShellFault;
 use crate::watch::Watch;
@@ -36,8 +36,8 @@ impl Model for Pending {
 }
 
 // Reads once, and again where the read was interrupted.
-fn read_some<R: Read>(
-    watch: &mut Watch,
+fn read_some<R: Read, W>(
+    watch: &mut Watch<R, W>,
     reader: &mut R,
     buf: &mut [u8],
 ) -> Result<usize, ShellFault>
@@ -104,9 +104,9 @@ impl Pending {
     }
 
     // Reads more, and puts it behind what is there. 0 bytes come only at the end.
-    pub(crate) fn refill<R: Read>(
+    pub(crate) fn refill<R: Read, W>(
         &mut self,
-        watch: &mut Watch,
+        watch: &mut Watch<R, W>,
         reader: &mut R,
     ) -> Result<usize, ShellFault>
         requires { length self.old ≤ 4096 }
@@ -132,8 +132,8 @@ impl Pending {
 }
 
 // Moves a part to the front, and reads behind it.
-fn read_behind<R: Read>(
-    watch: &mut Watch,
+fn read_behind<R: Read, W>(
+    watch: &mut Watch<R, W>,
     bytes: &mut [u8],
     start: usize,
     end: usize,

@@ -3,14 +3,19 @@
 ghost use Rattle.std.specs.Prelude.{◌≡◌, ◌<◌, ◌≤◌, [], List, ℕ, length, take, IfOk, OnOk, OnErr, IfErr};
 ghost use Rattle.std.specs.Io.KnownBytes.{Appends};
 ghost use Rattle.script.specs.Pieces.{Gives};
-ghost use Rattle.script.specs.Script.{IsRefused};
+ghost use Rattle.script.specs.Refusals.{IsRefused};
 
 use crate::fault::ShellFault;
 use crate::watch::Watch;
 use std::io::{ErrorKind, Write};
 
 // Writes once, and again where the write was interrupted. A writer that takes nothing has refused.
-fn write_some<W: Write>(watch: &mut Watch, writer: &mut W, rest: &[u8]) -> Result<usize, ShellFault>
+fn write_some<R, W: Write>(
+    watch: &mut Watch<R, W>,
+    writer: &mut W,
+    rest: &[u8],
+) -> Result<usize, ShellFault>
+    requires { 0 < length rest.now }
     ensures bound { IfOk result (λ n. n ≤ length rest.now) }
     ensures some { IfOk result (λ n. 0 < n) }
     ensures bytes { IfOk result (λ n. Appends (W.contents writer.old) (W.contents writer.new) (take n rest.now)) }
@@ -35,8 +40,8 @@ fn write_some<W: Write>(watch: &mut Watch, writer: &mut W, rest: &[u8]) -> Resul
 }
 
 // Writes the text and empties it. After a fault a beginning of it was written.
-pub(crate) fn write_out<W: Write>(
-    watch: &mut Watch,
+pub(crate) fn write_out<R, W: Write>(
+    watch: &mut Watch<R, W>,
     text: &mut Vec<u8>,
     writer: &mut W,
 ) -> Result<(), ShellFault>

@@ -6,7 +6,8 @@ ghost use Rattle.std.specs.Io.KnownBytes.{Appends};
 ghost use Rattle.std.specs.Option.{option_map};
 ghost use Rattle.script.specs.Engine.{Settings, AreSettings, IsNew, index_at};
 ghost use Rattle.script.specs.Grammar.{Fits, spelling, heading, with_feed};
-ghost use Rattle.script.specs.Script.{Outcome, Begins, IsRefused, IsCaused, shown_of};
+ghost use Rattle.script.specs.Script.{Outcome, Begins, shown_of};
+ghost use Rattle.script.specs.Refusals.{IsRefused, IsCaused};
 ghost use Rattle.script.specs.Answers.{shown_text, index_text};
 ghost use Rattle.script.specs.Pieces.{Takes, Gives};
 ghost use Rattle.script.specs.Next.{IsNext};
@@ -38,7 +39,7 @@ enum Next {
 
 // Finds the next line. Before it reads, it writes what is to be written, so that nobody waits for an answer.
 fn next_line<R: Read, W: Write>(
-    watch: &mut Watch,
+    watch: &mut Watch<R, W>,
     pending: &mut Pending,
     reader: &mut R,
     text: &mut Vec<u8>,
@@ -130,8 +131,8 @@ fn do_line(
 }
 
 // Writes what is to be written, and gives the result.
-fn close<W: Write>(
-    watch: &mut Watch,
+fn close<R, W: Write>(
+    watch: &mut Watch<R, W>,
     text: &mut Vec<u8>,
     writer: &mut W,
     end: Result<(), ShellFault>,
@@ -145,8 +146,8 @@ fn close<W: Write>(
     }
 }
 
-fn write_if_full<W: Write>(
-    watch: &mut Watch,
+fn write_if_full<R, W: Write>(
+    watch: &mut Watch<R, W>,
     text: &mut Vec<u8>,
     writer: &mut W,
 ) -> Result<(), ShellFault>
@@ -164,7 +165,7 @@ fn write_if_full<W: Write>(
 // needs more of them ends as where a growth was refused.
 fn run_lines<R: Read, W: Write>(
     alloc: Global,
-    watch: &mut Watch,
+    watch: &mut Watch<R, W>,
     engine: &mut Engine,
     pending: &mut Pending,
     reader: &mut R,
@@ -201,7 +202,7 @@ fn run_lines<R: Read, W: Write>(
 // Makes the engine that the first line asks for, and uses that line.
 fn first_line<R: Read, W: Write>(
     alloc: Global,
-    watch: &mut Watch,
+    watch: &mut Watch<R, W>,
     pending: &mut Pending,
     reader: &mut R,
     text: &mut Vec<u8>,
@@ -237,12 +238,10 @@ fn first_line<R: Read, W: Write>(
     }
 }
 
-/// Reads a script, and writes the answers to its lines. The watch says afterwards which call was refused: a fault of the
-/// reader is answered only where its last read answered an error, one of the writer only where its last write answered
-/// an error or took nothing, want of memory only where a growth was refused or the numbers of lines ran out.
-pub fn run_script<R: Read, W: Write>(
+// Reads a script, and writes the answers to its lines, all through the watch.
+fn run_watched<R: Read, W: Write>(
     alloc: Global,
-    watch: &mut Watch,
+    watch: &mut Watch<R, W>,
     reader: &mut R,
     writer: &mut W,
 ) -> Result<(), ShellFault>
@@ -267,4 +266,21 @@ pub fn run_script<R: Read, W: Write>(
         &mut text,
         writer,
     )
+}
+
+/// Reads a script, and writes the answers to its lines. The watch, which is made here, says which call was refused: a fault of
+/// the reader is answered only where its last read answered an error, one of the writer only where its last write answered
+/// an error or took nothing of what there was, want of memory only where the shell noted that a growth was refused or the
+/// numbers of lines ran out.
+pub fn run_script<R: Read, W: Write>(
+    alloc: Global,
+    reader: &mut R,
+    writer: &mut W,
+) -> (Result<(), ShellFault>, Watch<R, W>)
+    ensures outcome { IfSome (R.remaining reader.old) (λ input. Outcome result.0 input (W.contents writer.old) (W.contents writer.new)) }
+    ensures caused { IfErr result.0 (λ e. IsCaused e result.1) }
+{
+    let mut watch = Watch::new();
+    let ended = run_watched(alloc, &mut watch, reader, writer);
+    (ended, watch)
 }

@@ -1,8 +1,8 @@
 //! One script over a reader and a writer that take little, fail, or end too early.
 
 use crate::fakes::slow;
-use crate::runs::{ends_so, refused, runs_so};
-use script::{ShellFault, Watch};
+use crate::runs::{ends_so, runs_so};
+use script::ShellFault;
 
 // An older session doesn't see what was committed since its start.
 const SCRIPT: &[u8] =
@@ -30,53 +30,24 @@ fn first_answers(lines: usize) -> &'static [u8] {
 
 #[test]
 fn whole_by_single_bytes(rt: HostRuntime) {
-    let mut watch = Watch::new();
     let mut reader = slow(SCRIPT, usize::MAX);
-    assert!(rt;
-        runs_so(
-            rt.alloc(),
-            &mut watch,
-            &mut reader,
-            usize::MAX,
-            Ok(()),
-            ANSWERS
-        )
-    );
-    assert_eq!(rt; refused(&watch), [false, false, false]);
+    assert!(rt; runs_so(rt.alloc(), &mut reader, usize::MAX, Ok(()), ANSWERS));
     let mut interrupted = slow(SCRIPT, usize::MAX);
     interrupted.interrupts = true;
-    assert!(rt;
-        runs_so(
-            rt.alloc(),
-            &mut watch,
-            &mut interrupted,
-            usize::MAX,
-            Ok(()),
-            ANSWERS
-        )
-    );
+    assert!(rt; runs_so(rt.alloc(), &mut interrupted, usize::MAX, Ok(()), ANSWERS));
 }
 
 // A reader that fails at any byte: the answers of all lines before that byte are written.
 #[test]
 fn failing_read(rt: HostRuntime) {
     for n in 0..SCRIPT.len() + 1 {
-        let mut watch = Watch::new();
         let mut reader = slow(SCRIPT, n);
         let answers = first_answers(feeds(&SCRIPT[..n]).saturating_sub(1));
         let fault = Err(ShellFault::Input);
         assert!(rt;
-            runs_so(
-                rt.alloc(),
-                &mut watch,
-                &mut reader,
-                usize::MAX,
-                fault,
-                answers
-            ),
+            runs_so(rt.alloc(), &mut reader, usize::MAX, fault, answers),
             "at {n}"
         );
-        assert_eq!(rt; refused(&watch), [true, false, false], "at {n}");
     }
 }
 
@@ -84,14 +55,12 @@ fn failing_read(rt: HostRuntime) {
 #[test]
 fn failing_write(rt: HostRuntime) {
     for n in 0..ANSWERS.len() {
-        let mut watch = Watch::new();
         let mut reader = SCRIPT;
         let fault = Err(ShellFault::Output);
         assert!(rt;
-            runs_so(rt.alloc(), &mut watch, &mut reader, n, fault, &ANSWERS[..n]),
+            runs_so(rt.alloc(), &mut reader, n, fault, &ANSWERS[..n]),
             "at {n}"
         );
-        assert_eq!(rt; refused(&watch), [false, true, false], "at {n}");
     }
 }
 

@@ -1,6 +1,6 @@
 //! The words and exit statuses of faults.
 
-use script::{ShellFault, Watch};
+use script::ShellFault;
 use std::test::Fail;
 
 #[test]
@@ -15,8 +15,5 @@ fn words_of_faults(rt: HostRuntime) -> Result<(), Fail> {
         assert_eq!(rt; format!(in rt.alloc(); "{fault}")?.as_str(), words);
         assert_eq!(rt; fault.status(), status);
     }
-    let mut watch = Watch::new();
-    assert_eq!(rt; watch.no_memory(), ShellFault::NoMemory);
-    assert!(rt; watch.memory);
     Ok(())
 }

@@ -4,29 +4,40 @@
 //! needs no promise of the shell.
 
 use crate::fakes::small;
-use script::{ShellFault, Watch, run_script};
+use script::{ShellFault, run_script};
 use std::alloc::Global;
 use std::io::Read;
 
-/// Whether a script from this reader, with room for so many bytes of answers, ends like this and has written these bytes.
+// Which of the reads, the writes and the growths were refused where a script ends like this.
+fn marks_of(ended: &Result<(), ShellFault>) -> [bool; 3] {
+    match ended {
+        Err(ShellFault::Input) => [true, false, false],
+        Err(ShellFault::Output) => [false, true, false],
+        Err(ShellFault::NoMemory) => [false, false, true],
+        _ => [false, false, false],
+    }
+}
+
+/// Whether a script from this reader, with room for so many bytes of answers, ends like this and has written these bytes, and
+/// the watch tells what was refused.
 pub fn runs_so<R: Read>(
     alloc: Global,
-    watch: &mut Watch,
     reader: &mut R,
     room: usize,
     wanted: Result<(), ShellFault>,
     answers: &[u8],
 ) -> bool {
     let mut writer = small(alloc, room);
-    let ended = run_script(alloc, watch, reader, &mut writer);
-    ended == wanted && writer.bytes.as_slice() == answers
+    let (ended, watch) = run_script(alloc, reader, &mut writer);
+    let marked = [watch.input(), watch.output(), watch.memory()];
+    ended == wanted && marked == marks_of(&wanted) && writer.bytes.as_slice() == answers
 }
 
 /// What a script has written at its end, and how it ended.
 pub fn run_whole(alloc: Global, script: &[u8], written: &mut Vec<u8>) -> Result<(), ShellFault> {
     let mut reader = script;
-    let mut watch = Watch::new();
-    run_script(alloc, &mut watch, &mut reader, written)
+    let (ended, _) = run_script(alloc, &mut reader, written);
+    ended
 }
 
 /// Whether a script ends like this and has written these bytes.
@@ -38,9 +49,4 @@ pub fn ends_so(
 ) -> bool {
     let mut written = Vec::new(alloc);
     run_whole(alloc, script, &mut written) == wanted && written.as_slice() == answers
-}
-
-/// Which of the reads, the writes and the growths were refused.
-pub fn refused(watch: &Watch) -> [bool; 3] {
-    [watch.input, watch.output, watch.memory]
 }

@@ -1,5 +1,5 @@
 use Rattle.script.proofs.FirstLemmas.{outcome_from}
-use Rattle.script.proofs.run.run_script.Goals as goal
+use Rattle.script.proofs.run.run_watched.Goals as goal
 
 pub returns-clause-outcome : goal.returns-clause-outcome
 returns-clause-outcome g c =
