@@ -1,32 +1,40 @@
 //! The command-line shell of the heap.
 #![tactic(auto)]
 
-use script::run_script;
+use script::{Command, ShellFault, USAGE, command_of, run_script};
 use std::env;
+use std::io::ErrorKind;
 use std::process::ExitCode;
 
 fn usage(rt: &impl Eprint) -> ExitCode {
-    let _ = rt.eprintln("usage: heapsh run|threads|inspect");
+    let _ = rt.eprintln(USAGE);
     ExitCode::from(1)
 }
 
-fn main(rt: HostRuntime) -> ExitCode {
-    let Ok(mut words) = env::args(&rt) else {
-        return usage(&rt);
-    };
-    let _ = words.next();
-    let (Some(word), None) = (words.next(), words.next()) else {
-        return usage(&rt);
-    };
-    if word.as_str() != "run" {
-        return usage(&rt);
-    }
+fn fails(rt: &impl Eprint, fault: ShellFault) -> ExitCode {
+    let _ = rt.eprintln(fault);
+    ExitCode::from(fault.status())
+}
+
+fn run(rt: &HostRuntime) -> ExitCode {
     let (ended, _) = run_script(rt.alloc(), &mut rt.stdin(), &mut rt.stdout());
     match ended {
         Ok(()) => ExitCode::SUCCESS,
-        Err(fault) => {
-            let _ = rt.eprintln(fault);
-            ExitCode::from(fault.status())
-        }
+        Err(fault) => fails(rt, fault),
+    }
+}
+
+fn main(rt: HostRuntime) -> ExitCode {
+    let mut words = match env::args(&rt) {
+        Ok(words) => words,
+        Err(e) if e.kind() == ErrorKind::OutOfMemory => return fails(&rt, ShellFault::NoMemory),
+        // a word that is no text
+        Err(_) => return usage(&rt),
+    };
+    let _ = words.next();
+    let (first, second) = (words.next(), words.next());
+    match command_of(first.as_deref(), second.as_deref()) {
+        Command::Run => run(&rt),
+        Command::Usage => usage(&rt),
     }
 }

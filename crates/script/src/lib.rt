@@ -2,6 +2,7 @@
 #![tactic(auto)]
 
 mod answer;
+mod command;
 mod entries;
 mod fault;
 mod heading;
@@ -13,6 +14,7 @@ mod telling;
 mod watch;
 mod words;
 
+pub use command::{Command, USAGE, command_of};
 pub use fault::ShellFault;
 pub use run::run_script;
 pub use watch::Watch;

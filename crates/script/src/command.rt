@@ -1,0 +1,26 @@
+//! What the words behind the program's name ask for.
+
+ghost use Rattle.std.specs.Prelude.{◌≡◌, ◌↔◌, Some, None, codes};
+ghost use Rattle.std.specs.Option.{option_map};
+
+/// What the program is to do.
+#[derive(Clone, Copy, Debug, PartialEq, Eq)]
+pub enum Command {
+    /// To run the script on standard input.
+    Run,
+    /// To say how it is called.
+    Usage,
+}
+
+/// How the program is called.
+pub const USAGE: &str = "usage: heapsh run|threads|inspect";
+
+/// What the first two words ask for: a script is run where `run` is the only word.
+pub fn command_of(first: Option<&str>, second: Option<&str>) -> Command
+    ensures { result ≡ Command.Run ↔ ((option_map (λ word. word.now) first.entry ≡ Some (codes "run")) × (option_map (λ word. word.now) second.entry ≡ None)) }
+{
+    match (first, second) {
+        (Some(word), None) if word == "run" => Command::Run,
+        _ => Command::Usage,
+    }
+}
