@@ -5,3 +5,5 @@
 
 #[cfg(test)]
 mod settings;
+#[cfg(test)]
+mod words;
