@@ -16,4 +16,6 @@ mod updates;
 #[cfg(test)]
 mod walks;
 #[cfg(test)]
+mod words;
+#[cfg(test)]
 mod writes;

@@ -18,3 +18,5 @@ mod pages;
 mod slots;
 #[cfg(test)]
 mod statuses;
+#[cfg(test)]
+mod words;
