@@ -3,7 +3,7 @@
 use crate::table::Case;
 
 /// The scripts of cursors in an index and in the heap, and of an index of a column.
-pub const CURSORS: [Case; 8] = [
+pub static CURSORS: [Case; 8] = [
     // The end of the rows doesn't close a cursor.
     Case {
         name: "heap_cursor",

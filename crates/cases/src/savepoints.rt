@@ -3,7 +3,7 @@
 use crate::table::Case;
 
 /// The scripts of savepoints, of ids for their levels, and of a snapshot that names too many.
-pub const SAVEPOINTS: [Case; 8] = [
+pub static SAVEPOINTS: [Case; 8] = [
     // Ids 4 and 5 are those of the two levels of session 0; that of the newest is aborted, and its key is free.
     Case {
         name: "rollback_to_a_savepoint",

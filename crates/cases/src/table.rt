@@ -26,7 +26,7 @@ pub const OLDER_SESSION: Case = Case {
 };
 
 /// The scripts of reading, inserting and ending, and of ids that start anew.
-pub const CASES: [Case; 11] = [
+pub static CASES: [Case; 11] = [
     Case {
         name: "get_from_an_empty_table",
         script: b"heap 4 1000 0 3 64 0000\nbegin 0\nget 0 1\n",

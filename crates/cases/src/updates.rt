@@ -3,7 +3,7 @@
 use crate::table::Case;
 
 /// The scripts on one page.
-pub const CHAINS: [Case; 8] = [
+pub static CHAINS: [Case; 8] = [
     // The horizon is 4: the deleter of the first version doesn't precede it.
     Case {
         name: "prune_keeps_what_an_older_session_reads",
@@ -97,7 +97,7 @@ pub const CHAINS: [Case; 8] = [
 
 /// The scripts on pages that fill up. Seven rows of 1096 bytes leave 468 bytes on a page, of which 464 are room, and the byte of
 /// free space promises 448.
-pub const PAGES: [Case; 4] = [
+pub static PAGES: [Case; 4] = [
     // The new row takes 456 bytes: no page promises that, and there may be a second.
     Case {
         name: "free_space_byte_two_pages",
