@@ -91,7 +91,7 @@ fn changes_of_a_header(rt: HostRuntime) {
     let mut page = Page::new(rt.alloc());
     assert_eq!(rt; add(&mut page, version(8, 2)), Ok(1));
     let mut given = version(8, 2).header;
-    // a hint, then both marks of the inserter, then a deleter, then a hint
+    // a hint, then both marks of the maker, then a deleter, then a hint
     for (mask, xmax, changes) in [
         (0x0900, 0, 1),
         (0x0b00, 0, 2),

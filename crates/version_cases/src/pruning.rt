@@ -141,7 +141,7 @@ fn pruning_it_step_by_step(rt: HostRuntime) {
 #[test]
 fn chains_of_which_nothing_is_kept(rt: HostRuntime) {
     let table = five_ids(rt.alloc(), 3, 6);
-    // a chain deleted at its end, an aborted root, one deleted by its inserter
+    // a chain deleted at its end, an aborted root, one deleted by its maker
     let mut page = page_of(
         rt.alloc(),
         &[
