@@ -12,7 +12,7 @@ use heap_pages::{Pages, Place};
 use page_slots::Page;
 use page_writes::{insert_version, move_in};
 use std::alloc::{AllocError, Global};
-use tuple_header::Row;
+use tuple_header::{MOST_SLOTS, Row};
 use xid_circle::{Tid, Xid};
 
 /// Where a new root goes.
@@ -23,9 +23,6 @@ pub(crate) enum Target {
     /// On this page, which is to come after all others.
     New(Page),
 }
-
-/// How many slots a page may have (PostgreSQL, `MaxHeapTuplesPerPage`).
-const MOST_SLOTS: u16 = 291;
 
 /// Makes room in memory for one more slot where none is unused, and there may be one more.
 pub(crate) fn reserve_slot(page: &mut Page) -> Result<(), AllocError>

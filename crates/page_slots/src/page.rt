@@ -8,12 +8,13 @@ ghost use Rattle.page_slots.specs.Slots.{is_unused, is_dead, leads_to, slot_at, 
 
 use crate::hints::differ_in_hints_alone;
 use crate::item::Item;
+use crate::packing::MOST_BYTES;
 use crate::slot::Slot;
-use crate::store::{MOST_SLOTS, Store};
+use crate::store::Store;
 use std::alloc::{AllocError, Global};
 use std::marker::Model;
 use thiserror::Error;
-use tuple_header::{Header, Row, RowRef, Tuple, row_size};
+use tuple_header::{Header, MOST_SLOTS, Row, RowRef, Tuple, row_size};
 
 /// Why a version was not added.
 #[derive(Clone, Copy, Debug, PartialEq, Eq, Error)]
@@ -162,10 +163,10 @@ impl Page {
         ensures place { 0 < result → free_number self.now.slots ≤ 291 }
     {
         let count = self.slots.len();
-        let free_bytes = 8168 - (4 * count + self.taken_bytes);
+        let free_bytes = MOST_BYTES - (4 * count + self.taken_bytes);
         if self.free < count {
             free_bytes
-        } else if count < MOST_SLOTS {
+        } else if count < usize::from(MOST_SLOTS) {
             free_bytes.saturating_sub(4)
         } else {
             0

@@ -12,10 +12,7 @@ use crate::packing::{MOST_BYTES, keep_version};
 use crate::slot::Slot;
 use std::alloc::{AllocError, Global};
 use std::marker::Model;
-use tuple_header::{Header, Row, RowRef};
-
-/// The most slots that a page has.
-pub(crate) const MOST_SLOTS: usize = 291;
+use tuple_header::{Header, MOST_SLOTS, Row, RowRef};
 
 /// The slots of a page, with the bodies of their versions, which stand in any order and may have gaps between them.
 #[derive(Debug, Drop)]
@@ -169,7 +166,7 @@ impl Store {
         let len = self.items.len();
         if count > self.items.capacity() - len {
             self.items
-                .try_reserve_exact(count.max(MOST_SLOTS.saturating_sub(len)))?;
+                .try_reserve_exact(count.max(usize::from(MOST_SLOTS).saturating_sub(len)))?;
         }
         Ok(())
     }

@@ -4,7 +4,7 @@ ghost use Rattle.std.specs.Prelude.{◌≡◌, ◌≤◌, ◌+◌, length, Some,
 ghost use Rattle.tuple_header.specs.Layout.{header_at, column_at, columns_at, row_at, encoding};
 ghost use Rattle.tuple_header.specs.Faults.{header_fault, layout_fault, decoding};
 
-use crate::{Header, Row, Tuple, TupleFault};
+use crate::{Header, MOST_SLOTS, Row, Tuple, TupleFault};
 use arrayvec::ArrayVec;
 use byteorder::{ByteOrder, LittleEndian};
 use xid_circle::{Tid, Xid};
@@ -97,7 +97,7 @@ pub fn fault_of(header: &Header) -> Option<TupleFault>
             && (header.mask & Header::XMAX_INVALID == 0 || header.is_hot_updated()))
     {
         Some(TupleFault::Xmax)
-    } else if header.ctid.slot == 0 || header.ctid.slot > 291 {
+    } else if header.ctid.slot == 0 || header.ctid.slot > MOST_SLOTS {
         Some(TupleFault::Ctid)
     } else {
         None

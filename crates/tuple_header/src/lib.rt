@@ -17,4 +17,4 @@ pub use decoding::{decode, fault_of};
 pub use encoding::{encode, reads_back};
 pub use fault::TupleFault;
 pub use row_ref::RowRef;
-pub use version::{Header, Row, Tuple, row_size, size};
+pub use version::{Header, MOST_SLOTS, Row, Tuple, row_size, size};

@@ -37,6 +37,9 @@ impl Row {
     }
 }
 
+/// How many slots a page may have, and so the highest number of one (PostgreSQL, `MaxHeapTuplesPerPage`).
+pub const MOST_SLOTS: u16 = 291;
+
 /// What a version says of its life: who made it, who took it away, and where its successor is (PostgreSQL manual,
 /// Database Page Layout, HeapTupleHeaderData).
 #[derive(Clone, Copy, Debug, PartialEq, Eq)]
