@@ -1,6 +1,8 @@
 -- A write that is refused before it is tried.
-use Rattle.std.proofs.Common.{◌≡◌, ◌<◌, ℕ, Option, Some, None, refl, ap, ◌∙◌, subst, inl}
+use Rattle.std.proofs.Common.{◌≡◌, ◌<◌, ℕ, Option, Some, None, refl, ap, ◌∙◌, subst, inl, Result, Err}
 use Rattle.std.specs.Option.{option_map}
+use Rattle.std.specs.Prelude.{MatchResult}
+use Rattle.std.proofs.lemmas.Result.{MatchResult-at_err}
 use Rattle.xid_circle.specs.declared.Tid.{Tid}
 use Rattle.tuple_header.specs.declared.version.Row.{Row}
 use Rattle.history.specs.World.{World}
@@ -15,15 +17,15 @@ use Rattle.session_relation.proofs.Hindrances as hindrances
 use Rattle.session_core.specs.declared.session.Session.{Session}
 use Rattle.session_core.specs.State.{State, session_at, put_session, refused_state, seen, reader_of, as_failed}
 use Rattle.session_core.specs.Agrees.{Agrees, Follows}
-use Rattle.session_core.specs.Tests.{Reads, IsLate, IsHeld, HindersInsert, HindersChange}
-use Rattle.session_core.specs.Refuses.{Refuses, RefusesFree}
+use Rattle.session_core.specs.Tests.{Reads, IsLate, IsHeld, HindersInsert, HindersChange, MayWrite}
+use Rattle.session_core.specs.Refuses.{Refuses, RefusesFree, MayAct}
 use Rattle.session_core.specs.Exact.{ExactInsert, ExactUpdate, ExactDelete, Exact}
 use Rattle.session_core.specs.Follows.{FollowsInsert, FollowsUpdate}
 use Rattle.session_core.proofs.OwnIdsLemmas.{open-within}
 use Rattle.session_core.proofs.StateLemmas.{only-set}
 use Rattle.session_core.proofs.Owns.{reader-is}
 use Rattle.session_core.proofs.Searches.{late-to, not-late, held-to, begins-none, begins-some, target-of}
-use Rattle.session_core.proofs.Follows.{Follows-same, Follows-barred_write, led-same, Sound-fails}
+use Rattle.session_core.proofs.Follows.{Follows-same, led-same, Sound-fails}
 
 -- A later commit, or another session, has written the key.
 
@@ -70,13 +72,13 @@ insert-hindered st s text AlreadyThere fits (e, p, reads) = λ w agrees.
     (hindrances.Follows-already_there (seen st) s (reader_of e) text t.0.row (begins-some st s e text.key p t.0 reads t.1) fits) w agrees
 insert-hindered st s text Conflict fits d = conflicts st s d.session (inserts text) d.reads.at d.delays (vacant st s d.session text fits d.reads)
 insert-hindered st s text (Busy o) fits d = busies st s o d.session (inserts text) d.reads.at d.delays (vacant st s d.session text fits d.reads)
-insert-hindered st s text Failed fits is = Follows-barred_write st s (inserts text) Failed is
-insert-hindered st s text NotOpen fits is = Follows-barred_write st s (inserts text) NotOpen is
-insert-hindered st s text NoSuchSession fits is = Follows-barred_write st s (inserts text) NoSuchSession is
+insert-hindered st s text Failed fits is = absurd is
+insert-hindered st s text NotOpen fits is = absurd is
+insert-hindered st s text NoSuchSession fits is = absurd is
 insert-hindered st s text NotThere fits is = absurd is
 insert-hindered st s text AlreadyOpen fits is = absurd is
 insert-hindered st s text TooDeep fits is = absurd is
-insert-hindered st s text CursorOpen fits is = Follows-barred_write st s (inserts text) CursorOpen is
+insert-hindered st s text CursorOpen fits is = absurd is
 insert-hindered st s text NoCursor fits is = absurd is
 insert-hindered st s text NoSuchIndex fits is = absurd is
 insert-hindered st s text BadBounds fits is = absurd is
@@ -98,13 +100,13 @@ change-hindered st s write NotThere asks needs (e, reads) = λ w agrees.
     Follows-same st (step_of s write) (Refused NotThere) (hindrances.Follows-not_there (seen st) s (reader_of e) write (begins-none st w s e (key_of write) agrees reads) needs) w agrees
 change-hindered st s write Conflict asks needs d = conflicts st s d.1.session write d.1.reads.at d.1.delays (occupied st s d.1.session d.0 write asks d.1.reads)
 change-hindered st s write (Busy o) asks needs d = busies st s o d.1.session write d.1.reads.at d.1.delays (occupied st s d.1.session d.0 write asks d.1.reads)
-change-hindered st s write Failed asks needs is = Follows-barred_write st s write Failed is
-change-hindered st s write NotOpen asks needs is = Follows-barred_write st s write NotOpen is
-change-hindered st s write NoSuchSession asks needs is = Follows-barred_write st s write NoSuchSession is
+change-hindered st s write Failed asks needs is = absurd is
+change-hindered st s write NotOpen asks needs is = absurd is
+change-hindered st s write NoSuchSession asks needs is = absurd is
 change-hindered st s write AlreadyThere asks needs is = absurd is
 change-hindered st s write AlreadyOpen asks needs is = absurd is
 change-hindered st s write TooDeep asks needs is = absurd is
-change-hindered st s write CursorOpen asks needs is = Follows-barred_write st s write CursorOpen is
+change-hindered st s write CursorOpen asks needs is = absurd is
 change-hindered st s write NoCursor asks needs is = absurd is
 change-hindered st s write NoSuchIndex asks needs is = absurd is
 change-hindered st s write BadBounds asks needs is = absurd is
@@ -231,6 +233,27 @@ exact-unready_update st s row NoMemory is = absurd is
 exact-unready_update st s row NoSuchPage is = refl
 exact-unready_update st s row NoSuchSession is = refl
 
+pub exact-unready_delete : (st : State) (s key : ℕ) (r : Refusal) → RefusesFree st s r → ExactDelete st s key (Refused r) st
+exact-unready_delete st s key NotOpen is = refl
+exact-unready_delete st s key AlreadyOpen is = refl
+exact-unready_delete st s key TooDeep is = refl
+exact-unready_delete st s key CursorOpen is = refl
+exact-unready_delete st s key NoCursor is = refl
+exact-unready_delete st s key NoSuchIndex is = refl
+exact-unready_delete st s key BadBounds is = refl
+exact-unready_delete st s key NoSavepoint is = refl
+exact-unready_delete st s key Failed is = refl
+exact-unready_delete st s key AlreadyThere is = refl
+exact-unready_delete st s key NotThere is = inl refl
+exact-unready_delete st s key Conflict is = absurd is
+exact-unready_delete st s key (Busy o) is = refl
+exact-unready_delete st s key TooLarge is = refl
+exact-unready_delete st s key NoRoom is = refl
+exact-unready_delete st s key NeedsFreeze is = absurd is
+exact-unready_delete st s key NoMemory is = absurd is
+exact-unready_delete st s key NoSuchPage is = refl
+exact-unready_delete st s key NoSuchSession is = refl
+
 pub exact-closed : (st : State) (s : ℕ) (r : Refusal) → Refuses st s r → Exact st (Begin s) (Refused r) st
 exact-closed st s NotOpen is = refl
 exact-closed st s AlreadyOpen is = refl
@@ -259,3 +282,13 @@ small-insert st s key r is h = (subst (λ r. HindersInsert st s key r) is h).rea
 
 pub small-change : (st : State) (s key : ℕ) (r : Refusal) → r ≡ Conflict → HindersChange st s key r → s < 64
 small-change st s key r is h = (subst (λ r. HindersChange st s key r) is h).1.reads.within
+
+-- What keeps a session that may act from a write.
+
+pub hinders-insert : (st : State) (s key : ℕ) (e : Session) {A : Type 0} (r : Result A Refusal) (refusal : Refusal) → r ≡ Err refusal → MayAct st s e
+    → ((s : ℕ) → MayAct st s e → MatchResult r (λ _. MayWrite st s key None) (λ refusal. HindersInsert st s key refusal)) → HindersInsert st s key refusal
+hinders-insert st s key e r refusal is acts says = MatchResult-at_err (λ _. MayWrite st s key None) (λ refusal. HindersInsert st s key refusal) refusal is (says s acts)
+
+pub hinders-change : (st : State) (s key : ℕ) (e : Session) (r : Result Tid Refusal) (refusal : Refusal) → r ≡ Err refusal → MayAct st s e
+    → ((s : ℕ) → MayAct st s e → MatchResult r (λ place. MayWrite st s key (Some place)) (λ refusal. HindersChange st s key refusal)) → HindersChange st s key refusal
+hinders-change st s key e r refusal is acts says = MatchResult-at_err (λ place. MayWrite st s key (Some place)) (λ refusal. HindersChange st s key refusal) refusal is (says s acts)

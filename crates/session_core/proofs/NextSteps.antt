@@ -1,5 +1,5 @@
 -- A session asks its cursor for rows: whatever the answer, the engine follows the history.
-use Rattle.std.proofs.Common.{◌≡◌, ℕ, ◌+◌, ◌<◌, max, List, length, Some, None, false, refl, sym, ap, ◌∙◌, subst}
+use Rattle.std.proofs.Common.{◌≡◌, ℕ, ◌+◌, ◌<◌, max, List, length, Some, false, refl, sym, ap, ◌∙◌, subst}
 use Rattle.std.specs.Prelude.{Vec}
 use Rattle.std.specs.declared.alloc.Global.{Global}
 use Rattle.tuple_header.specs.declared.version.Row.{Row}
@@ -9,7 +9,7 @@ use Rattle.history.specs.World.{World}
 use Rattle.session_relation.specs.declared.step.Step.TheVariants.{Next}
 use Rattle.session_relation.specs.declared.reply.Reply.TheVariants.{Rows, End, Refused}
 use Rattle.session_relation.specs.declared.reply.Refusal.{Refusal}
-use Rattle.session_relation.specs.declared.reply.Refusal.TheVariants.{NotOpen, AlreadyOpen, Failed, AlreadyThere, NotThere, Conflict, Busy, TooLarge, NoRoom, NeedsFreeze, NoMemory, NoSuchPage, NoSuchSession, TooDeep, NoSavepoint, CursorOpen, NoCursor, NoSuchIndex, BadBounds}
+use Rattle.session_relation.specs.declared.reply.Refusal.TheVariants.{NoMemory}
 use Rattle.session_relation.specs.Allowed.{Allows, next}
 use Rattle.session_relation.specs.Heap.{Position, in_index, in_heap}
 use Rattle.session_relation.specs.Finds as finds
@@ -20,43 +20,15 @@ use Rattle.session_core.specs.declared.cursor.Cursor.{Cursor}
 use Rattle.session_core.specs.declared.cursor.Cursor.TheVariants.{Index, Heap}
 use Rattle.session_core.specs.State.{State, session_at, put_session, map_session, with_cursor, seen, mark_of, position_of, reader_of}
 use Rattle.session_core.specs.Agrees.{Agrees, Follows, StaysLed}
-use Rattle.session_core.specs.Refuses.{RefusesReady, RefusesBare}
+use Rattle.session_core.specs.Refuses.{RefusesBare}
 use Rattle.session_core.specs.Takes.{IsAt, IsAtEnd, IsNotAtEnd, TakesRows, TakesPage, Takes, TakesSome, HandsOut}
 use Rattle.session_core.proofs.Owns.{reader-is}
 use Rattle.session_core.proofs.Follows.{Follows-same, bare_by, led-same}
 use Rattle.session_core.proofs.CursorSteps.{moved, only-cursor, sound-cursor}
 use Rattle.session_core.proofs.WalkSteps.{used-at, left-in}
 
-Follows-bare_next : (st : State) (s n : ℕ) (r : Refusal) → RefusesBare st s r → Follows st (Next s n) (Refused r) st
+pub Follows-bare_next : (st : State) (s n : ℕ) (r : Refusal) → RefusesBare st s r → Follows st (Next s n) (Refused r) st
 Follows-bare_next st s n r is = Follows-same st (Next s n) (Refused r) (cursors.Follows-bare_next (seen st) s n r (bare_by st s r is))
-
--- the session cannot be used, or has no cursor
-bare-unready : (st : State) (s : ℕ) (r : Refusal) → RefusesReady st s r → RefusesBare st s r
-bare-unready st s NoCursor is = absurd is
-bare-unready st s NoSuchSession is = is
-bare-unready st s NotOpen is = is
-bare-unready st s AlreadyOpen is = is
-bare-unready st s Failed is = is
-bare-unready st s AlreadyThere is = is
-bare-unready st s NotThere is = is
-bare-unready st s Conflict is = is
-bare-unready st s (Busy o) is = is
-bare-unready st s TooLarge is = is
-bare-unready st s NoRoom is = is
-bare-unready st s NeedsFreeze is = is
-bare-unready st s NoMemory is = is
-bare-unready st s NoSuchPage is = is
-bare-unready st s TooDeep is = is
-bare-unready st s NoSavepoint is = is
-bare-unready st s CursorOpen is = is
-bare-unready st s NoSuchIndex is = is
-bare-unready st s BadBounds is = is
-
-pub Follows-unready_next : (st : State) (s n : ℕ) (r : Refusal) → RefusesReady st s r → Follows st (Next s n) (Refused r) st
-Follows-unready_next st s n r is = Follows-bare_next st s n r (bare-unready st s r is)
-
-pub Follows-no_cursor : (st : State) (s n : ℕ) (e : Session) → s < 64 → session_at st s ≡ Some e → e.failed ≡ false → e.cursor ≡ None → Follows st (Next s n) (Refused NoCursor) st
-Follows-no_cursor st s n e within at sound none = Follows-bare_next st s n NoCursor (within, e, at, sound, none)
 
 -- The session is open and has not failed, and its cursor is here.
 

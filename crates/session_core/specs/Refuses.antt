@@ -21,6 +21,10 @@ abbrev pub RefusesFree : State → ℕ → Refusal → Type 0
 RefusesFree st s CursorOpen = (s < 64) × (e : Session) × (session_at st s ≡ Some e) × (e.failed ≡ false) × IsSome e.cursor
 RefusesFree st s refusal = RefusesReady st s refusal
 
+-- none of these: it may do anything but a step of a cursor
+abbrev pub MayAct : State → ℕ → Session → Type 0
+MayAct st s e = (s < 64) × (session_at st s ≡ Some e) × (e.failed ≡ false) × (e.cursor ≡ None)
+
 -- of a step of a cursor: or it has none
 abbrev pub RefusesBare : State → ℕ → Refusal → Type 0
 RefusesBare st s NoCursor = (s < 64) × (e : Session) × (session_at st s ≡ Some e) × (e.failed ≡ false) × (e.cursor ≡ None)

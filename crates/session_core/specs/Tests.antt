@@ -9,7 +9,6 @@ use Rattle.session_relation.specs.declared.reply.Refusal.{Refusal}
 use Rattle.session_relation.specs.declared.reply.Refusal.TheVariants.{AlreadyThere, NotThere, Conflict, Busy}
 use Rattle.session_core.specs.declared.session.Session.{Session}
 use Rattle.session_core.specs.State.{State, session_at}
-use Rattle.session_core.specs.Refuses.{RefusesFree}
 
 -- the place of the version of the key that the session reads, if it reads one
 abbrev pub FindsPlace : HeapView → Session → ℕ → Option Tid → Type 0
@@ -76,16 +75,16 @@ pub record IsDelayed (st : State) (s key : ℕ) (found : Option Tid) (refusal : 
   pub reads : Reads st s session key found
   pub delays : Delays st session key refusal
 
--- what keeps the session from inserting a row of the key
+-- what keeps a session that may act from inserting a row of the key
 abbrev pub HindersInsert : State → ℕ → ℕ → Refusal → Type 0
 HindersInsert st s key AlreadyThere = (e : Session) × (p : Tid) × Reads st s e key (Some p)
 HindersInsert st s key Conflict = IsDelayed st s key None Conflict
 HindersInsert st s key (Busy o) = IsDelayed st s key None (Busy o)
-HindersInsert st s key refusal = RefusesFree st s refusal
+HindersInsert st s key refusal = ⊥
 
 -- what keeps it from changing the row of the key
 abbrev pub HindersChange : State → ℕ → ℕ → Refusal → Type 0
 HindersChange st s key NotThere = (e : Session) × Reads st s e key None
 HindersChange st s key Conflict = (p : Tid) × IsDelayed st s key (Some p) Conflict
 HindersChange st s key (Busy o) = (p : Tid) × IsDelayed st s key (Some p) (Busy o)
-HindersChange st s key refusal = RefusesFree st s refusal
+HindersChange st s key refusal = ⊥

@@ -63,7 +63,11 @@ impl Engine {
         ensures follows { Follows self.old (Step.Delete s key) (reply_to result) self.new }
         ensures exact { Exact self.old (Step.Delete s key) (reply_to result) self.new }
     {
-        match self.occupied(s, key) {
+        let session = match self.free(s) {
+            Ok(session) => session,
+            Err(refusal) => return Outcome::Refused(refusal),
+        };
+        match self.occupied(session, key) {
             Ok(place) => self.take_away(s, key, place),
             Err(refusal) => self.refuse(s, refusal),
         }

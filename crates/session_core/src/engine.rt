@@ -1,15 +1,16 @@
 //! The engine and its sessions.
 
-ghost use Rattle.std.specs.Prelude.{◌≡◌, ◌<◌, ℕ, slice_get, option_copied, IfOk, IfErr, OnOk, MatchResult, IsSome, Some, None, false, Contains};
+ghost use Rattle.std.specs.Prelude.{◌≡◌, ◌<◌, ℕ, slice_get, option_copied, IfOk, IfErr, OnOk, MatchResult, Some, None, false, Contains};
 ghost use Rattle.std.specs.Option.{option_map};
 ghost use Rattle.session_relation.specs.Words.{AreSettings, FirstFault};
 ghost use Rattle.commit_status.specs.Window.{next_id, IsActive, IsWindow};
 ghost use Rattle.commit_status.specs.Changes.{Finishes};
 ghost use Rattle.session_core.specs.State.{session_at, index_at, put_session, as_failed};
 ghost use Rattle.session_core.specs.Changes.{Opens, Closes};
-ghost use Rattle.session_core.specs.Refuses.{Refuses, RefusesReady, RefusesFree, RefusesBare};
+ghost use Rattle.session_core.specs.Refuses.{Refuses, RefusesReady, RefusesFree, MayAct, RefusesBare};
 ghost use Rattle.session_core.specs.Runs.{IsNew};
 
+use crate::cursor::Cursor;
 use crate::session::Session;
 use crate::sessions::Sessions;
 use commit_status::Status;
@@ -155,7 +156,7 @@ impl Engine {
 
     /// The session, if it is open, has not failed and has no cursor.
     pub(crate) fn free(&self, s: u8) -> Result<&Session, Refusal>
-        ensures { MatchResult result (λ e. (s < 64) × (session_at self.now s ≡ Some e.now) × (e.now.failed ≡ false) × (e.now.cursor ≡ None)) (λ refusal. RefusesFree self.now s refusal) }
+        ensures { MatchResult result (λ e. MayAct self.now s e.now) (λ refusal. RefusesFree self.now s refusal) }
     {
         let session = match self.ready(s) {
             Ok(session) => session,
@@ -167,16 +168,16 @@ impl Engine {
         }
     }
 
-    /// The session, if it is open, has not failed and has a cursor.
-    pub(crate) fn with_cursor(&self, s: u8) -> Result<&Session, Refusal>
-        ensures { MatchResult result (λ e. (s < 64) × (session_at self.now s ≡ Some e.now) × (e.now.failed ≡ false) × IsSome e.now.cursor) (λ refusal. RefusesBare self.now s refusal) }
+    /// The session and its cursor, if it is open, has not failed and has one.
+    pub(crate) fn with_cursor(&self, s: u8) -> Result<(&Session, Cursor), Refusal>
+        ensures { MatchResult result (λ found. (s < 64) × (session_at self.now s ≡ Some found.0.now) × (found.0.now.failed ≡ false) × (found.0.now.cursor ≡ Some found.1)) (λ refusal. RefusesBare self.now s refusal) }
     {
         let session = match self.ready(s) {
             Ok(session) => session,
             Err(refusal) => return Err(refusal),
         };
         match session.cursor {
-            Some(_) => Ok(session),
+            Some(cursor) => Ok((session, cursor)),
             None => Err(Refusal::NoCursor),
         }
     }

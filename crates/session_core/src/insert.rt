@@ -58,29 +58,22 @@ impl Engine {
         outcome_of(tried)
     }
 
-    /// Inserts a row that is not too large.
-    fn insert_row(&mut self, s: u8, row: &Row) -> Outcome
-        ensures follows { FollowsInsert self.old s row.now (reply_to result) self.new }
-        ensures exact { ExactInsert self.old s row.now (reply_to result) self.new }
-    {
-        match self.vacant(s, row.key) {
-            Ok(()) => self.add(s, row),
-            Err(refusal) => self.refuse(s, refusal),
-        }
-    }
-
     /// Writes a row of a key that has none. Refusals in order: NoSuchSession, NotOpen, Failed, CursorOpen, TooLarge,
     /// AlreadyThere, Conflict, Busy, NeedsFreeze, NoRoom, NoMemory.
     pub(crate) fn insert(&mut self, s: u8, row: RowIn) -> Outcome
         ensures follows { Follows self.old (Step.Insert s row) (reply_to result) self.new }
         ensures exact { Exact self.old (Step.Insert s row) (reply_to result) self.new }
     {
-        match self.free(s) {
-            Ok(_) => {}
+        let session = match self.free(s) {
+            Ok(session) => session,
             Err(refusal) => return Outcome::Refused(refusal),
-        }
+        };
+        // the row is not moved: it has over a kilobyte
         match table_row(&row) {
-            Some(row) => self.insert_row(s, &row),
+            Some(row) => match self.vacant(session, row.key) {
+                Ok(()) => self.add(s, &row),
+                Err(refusal) => self.refuse(s, refusal),
+            },
             None => Outcome::Refused(Refusal::TooLarge),
         }
     }

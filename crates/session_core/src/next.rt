@@ -57,13 +57,9 @@ impl Engine {
         ensures follows { Follows self.old (Step.Next s n) result self.new }
         ensures exact { Exact self.old (Step.Next s n) result self.new }
     {
-        let session = match self.ready(s) {
-            Ok(session) => session,
+        let (session, cursor) = match self.with_cursor(s) {
+            Ok(found) => found,
             Err(refusal) => return Reply::Refused(refusal),
-        };
-        let cursor = match session.cursor {
-            Some(cursor) => cursor,
-            None => return Reply::Refused(Refusal::NoCursor),
         };
         match self.take(session, cursor, n) {
             Ok(Some((rows, after))) => {

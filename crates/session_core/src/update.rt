@@ -72,17 +72,6 @@ impl Engine {
         outcome_of(tried)
     }
 
-    /// Updates to a row that is not too large.
-    fn update_row(&mut self, s: u8, row: &Row) -> Outcome
-        ensures follows { FollowsUpdate self.old s row.now (reply_to result) self.new }
-        ensures exact { ExactUpdate self.old s row.now (reply_to result) self.new }
-    {
-        match self.occupied(s, row.key) {
-            Ok(place) => self.replace(s, place, row),
-            Err(refusal) => self.refuse(s, refusal),
-        }
-    }
-
     /// Writes another row of a key that has one. Where the row has no room on the page of the version that it replaces,
     /// that page is pruned first. Refusals in order: NoSuchSession, NotOpen, Failed, CursorOpen, TooLarge, NotThere, Conflict, Busy,
     /// NeedsFreeze, NoMemory, NoRoom.
@@ -90,12 +79,16 @@ impl Engine {
         ensures follows { Follows self.old (Step.Update s row) (reply_to result) self.new }
         ensures exact { Exact self.old (Step.Update s row) (reply_to result) self.new }
     {
-        match self.free(s) {
-            Ok(_) => {}
+        let session = match self.free(s) {
+            Ok(session) => session,
             Err(refusal) => return Outcome::Refused(refusal),
-        }
+        };
+        // the row is not moved: it has over a kilobyte
         match table_row(&row) {
-            Some(row) => self.update_row(s, &row),
+            Some(row) => match self.occupied(session, row.key) {
+                Ok(place) => self.replace(s, place, &row),
+                Err(refusal) => self.refuse(s, refusal),
+            },
             None => Outcome::Refused(Refusal::TooLarge),
         }
     }

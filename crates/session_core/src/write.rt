@@ -4,6 +4,7 @@ ghost use Rattle.std.specs.Prelude.{◌≡◌, ◌<◌, ◌≤◌, ℕ, length, 
 ghost use Rattle.session_relation.specs.Words.{FitsRow, row_of};
 ghost use Rattle.session_relation.specs.declared.reply.Reply.{Reply};
 ghost use Rattle.session_core.specs.Keeps.{open_at};
+ghost use Rattle.session_core.specs.Refuses.{MayAct};
 ghost use Rattle.session_core.specs.State.{refused_state};
 ghost use Rattle.session_core.specs.Tests.{FindsPlace, IsFree, Delays, MayWrite, HindersInsert, HindersChange};
 ghost use Rattle.session_core.specs.Replies.{reply_to};
@@ -90,43 +91,32 @@ impl Engine {
         }
     }
 
-    /// What keeps the session from inserting a row of the key. Tests in order: NoSuchSession, NotOpen, Failed, CursorOpen, AlreadyThere,
-    /// Conflict, Busy.
-    pub(crate) fn vacant(&self, s: u8, key: u64) -> Result<(), Refusal>
-        ensures { MatchResult result (λ _. MayWrite self.now s key None) (λ refusal. HindersInsert self.now s key refusal) }
+    /// What keeps a session that may act from inserting a row of the key. Tests in order: AlreadyThere, Conflict, Busy.
+    pub(crate) fn vacant(&self, session: &Session, key: u64) -> Result<(), Refusal>
+        ensures { (s : ℕ) → MayAct self.now s session.now → MatchResult result (λ _. MayWrite self.now s key None) (λ refusal. HindersInsert self.now s key refusal) }
     {
-        match self.free(s) {
-            Ok(session) => {
-                let (place, delay) = self.delay(session, key);
-                match place {
-                    Some(_) => Err(Refusal::AlreadyThere),
-                    None => match delay {
-                        None => Ok(()),
-                        Some(refusal) => Err(refusal),
-                    },
-                }
-            }
-            Err(refusal) => Err(refusal),
+        let (place, delay) = self.delay(session, key);
+        match place {
+            Some(_) => Err(Refusal::AlreadyThere),
+            None => match delay {
+                None => Ok(()),
+                Some(refusal) => Err(refusal),
+            },
         }
     }
 
-    /// The place of the version of the key that the session reads, which it may update or delete. Tests in order:
-    /// NoSuchSession, NotOpen, Failed, CursorOpen, NotThere, Conflict, Busy.
-    pub(crate) fn occupied(&self, s: u8, key: u64) -> Result<Tid, Refusal>
-        ensures { MatchResult result (λ place. MayWrite self.now s key (Some place)) (λ refusal. HindersChange self.now s key refusal) }
+    /// The place of the version of the key that a session which may act reads, and may update or delete. Tests in order:
+    /// NotThere, Conflict, Busy.
+    pub(crate) fn occupied(&self, session: &Session, key: u64) -> Result<Tid, Refusal>
+        ensures { (s : ℕ) → MayAct self.now s session.now → MatchResult result (λ place. MayWrite self.now s key (Some place)) (λ refusal. HindersChange self.now s key refusal) }
     {
-        match self.free(s) {
-            Ok(session) => {
-                let (place, delay) = self.delay(session, key);
-                match place {
-                    None => Err(Refusal::NotThere),
-                    Some(place) => match delay {
-                        None => Ok(place),
-                        Some(refusal) => Err(refusal),
-                    },
-                }
-            }
-            Err(refusal) => Err(refusal),
+        let (place, delay) = self.delay(session, key);
+        match place {
+            None => Err(Refusal::NotThere),
+            Some(place) => match delay {
+                None => Ok(place),
+                Some(refusal) => Err(refusal),
+            },
         }
     }
 

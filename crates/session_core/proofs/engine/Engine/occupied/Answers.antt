@@ -8,28 +8,28 @@ use Rattle.session_core.proofs.Searches.{delayed-change}
 use Rattle.session_core.proofs.engine.Engine.occupied.Goals as goal
 
 pub returns-in-None : goal.returns-in-None
-returns-in-None c =
-    let e = c.in-Ok.session.now in
+returns-in-None c = λ s acts.
+    let e = c.args.session.now in
     let F : HeapView → Option Tid → Type 0 = λ h o. FindsPlace h e c.args.key o in
     let finds = c.delay-place.ensures.place in
-    (e, record { within = c.in-Ok.ensures.0; at = c.in-Ok.ensures.1; sound = c.in-Ok.ensures.2; bare = c.in-Ok.ensures.3; finds = subst (λ (o : Option Tid). F c.args.self.now.heap o) c.in-None.is finds })
+    (e, record { within = acts.0; at = acts.1; sound = acts.2; bare = acts.3; finds = subst (λ (o : Option Tid). F c.args.self.now.heap o) c.in-None.is finds })
 
 pub returns-in-None-delay : goal.returns-in-None-delay
-returns-in-None-delay c =
-    let e = c.in-Ok.session.now in
+returns-in-None-delay c = λ s acts.
+    let e = c.args.session.now in
     let F : HeapView → Option Tid → Type 0 = λ h o. FindsPlace h e c.args.key o in
     let finds = c.delay-place.ensures.place in
     record {
       session = e;
-      reads = record { within = c.in-Ok.ensures.0; at = c.in-Ok.ensures.1; sound = c.in-Ok.ensures.2; bare = c.in-Ok.ensures.3; finds = subst (λ (o : Option Tid). F c.args.self.now.heap o) c.in-Some.is finds };
+      reads = record { within = acts.0; at = acts.1; sound = acts.2; bare = acts.3; finds = subst (λ (o : Option Tid). F c.args.self.now.heap o) c.in-Some.is finds };
       free = subst (λ (o : Option Refusal). MatchOption o (IsFree c.args.self.now e c.args.key) (λ refusal. Delays c.args.self.now e c.args.key refusal)) c.in-None-delay.is c.delay-place.ensures.delay;
     }
 
 pub returns-in-Some-delay : goal.returns-in-Some-delay
-returns-in-Some-delay c =
-    let e = c.in-Ok.session.now in
+returns-in-Some-delay c = λ s acts.
+    let e = c.args.session.now in
     let F : HeapView → Option Tid → Type 0 = λ h o. FindsPlace h e c.args.key o in
     let finds = c.delay-place.ensures.place in
-    delayed-change c.args.self.now c.args.s c.args.key e c.in-Some.place c.in-Some-delay.refusal
-    (record { within = c.in-Ok.ensures.0; at = c.in-Ok.ensures.1; sound = c.in-Ok.ensures.2; bare = c.in-Ok.ensures.3; finds = subst (λ (o : Option Tid). F c.args.self.now.heap o) c.in-Some.is finds })
+    delayed-change c.args.self.now s c.args.key e c.in-Some.place c.in-Some-delay.refusal
+    (record { within = acts.0; at = acts.1; sound = acts.2; bare = acts.3; finds = subst (λ (o : Option Tid). F c.args.self.now.heap o) c.in-Some.is finds })
     (subst (λ (o : Option Refusal). MatchOption o (IsFree c.args.self.now e c.args.key) (λ refusal. Delays c.args.self.now e c.args.key refusal)) c.in-Some-delay.is c.delay-place.ensures.delay)
