@@ -9,7 +9,7 @@ use Rattle.std.specs.Fmt.{decimal, signed_decimal, digit_glyph}
 use Rattle.std.proofs.lemmas.Option.{none-some, same_Some}
 use Rattle.std.proofs.lemmas.Bool.Decides.{nat_tests}
 use Rattle.std.proofs.lemmas.Slice.Eq.{bytes_eq-Decides}
-use Rattle.std.proofs.lemmas.Bool.{lt-leb, cases_lt}
+use Rattle.std.proofs.lemmas.Bool.{lt-leb, cases_lt, and_right}
 use Rattle.std.proofs.lemmas.List.{nil_from_length, append-nil}
 use Rattle.script.specs.Engine.{Begin, Get, Insert, Update, Delete, Savepoint, RollbackTo, Release, Commit, Abort, OpenIndex, OpenHeap, Next, Close, Prune, RowText}
 use Rattle.script.specs.declared.line.Line.{Line}
@@ -107,10 +107,6 @@ hex_body : (w bs : List ℕ) → 0 < length w → (w ≡ hex_text bs) × AllByRe
 hex_body w [] some h = let e = rw h.0 at some in absurd (omega arith)
 hex_body w (b ∷ bs) some h = h
 
-and_none : (b : Bool) → (b && false) ≡ false
-and_none true = refl
-and_none false = refl
-
 body_of_says : (w bs : List ℕ) → body_of w ≡ Some bs → (w ≡ body_text bs) × AllByRecursion (λ b. b < 2 ^ 8) bs
 unfolding body_of
 body_of_says [] bs h = absurd (none-some bs h)
@@ -128,7 +124,7 @@ unfolding body_of
 body_of-text [] h = refl
 body_of-text (b ∷ bs) h =
     let more : eqb (length (digit_glyph false (b % 16) ∷ hex_text bs)) 0 ≡ false = grind (arith, nat_tests) in
-    rw (more, and_none (eqb (digit_glyph false (b / 16)) 45)) (pairs_of-hex (b ∷ bs) h)
+    rw (more, and_right (eqb (digit_glyph false (b / 16)) 45) false refl) (pairs_of-hex (b ∷ bs) h)
 
 key_words_of_says : (xs : List ℕ) (p : ℕ × ℕ) → key_words_of xs ≡ Some p → KeyFits p.0 p.1 × (xs ≡ key_words p.0 p.1)
 unfolding key_words_of

@@ -10,6 +10,7 @@ use Rattle.std.proofs.lemmas.Str.Parse.{IsNumeralModel, numerals_by_fold}
 use Rattle.script.proofs.WideLaws.{decimal-digits_value, digits_decimal, digits_value-decimal, decimal_nonempty, first_decimal}
 use Rattle.std.proofs.lemmas.Fmt.{decimal_digit}
 use Rattle.std.proofs.Math.Seq.{take-append_seam, drop-append-add}
+use Rattle.std.proofs.lemmas.Bool.{and_right}
 use Rattle.script.specs.Reading.{◌>>=◌, cut, digits_on, number_of, number_then}
 use Rattle.script.proofs.ByteLemmas.{Free, place-free, place-split, position_found}
 
@@ -78,13 +79,9 @@ by_tests_says k false false e true f h = let p : 0 < k = pos_from k e in (p, λ 
 plain_says : (k : ℕ) (z : Bool) → (eqb k 0 || (nat_lt 1 k && z)) ≡ false → (0 < k) × (z ≡ true → k ≡ 1)
 plain_says k z h = by_tests_says k z (eqb k 0) refl (nat_lt 1 k) refl h
 
-and_none : (b : Bool) → (b && false) ≡ false
-and_none true = refl
-and_none false = refl
-
 plain_rest : (k : ℕ) (z : Bool) → (z ≡ true → k ≡ 1) → (nat_lt 1 k && z) ≡ false
 plain_rest k true e = let one = e refl in let t : nat_lt 1 k ≡ false = grind (arith, nat_tests) in rw t refl
-plain_rest k false e = and_none (nat_lt 1 k)
+plain_rest k false e = and_right (nat_lt 1 k) false refl
 
 plain_is : (k : ℕ) (z : Bool) → 0 < k → (z ≡ true → k ≡ 1) → (eqb k 0 || (nat_lt 1 k && z)) ≡ false
 plain_is k z h e =

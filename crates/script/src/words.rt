@@ -1,6 +1,6 @@
 //! The words of a line, and the values that they spell.
 
-ghost use Rattle.std.specs.Prelude.{◌≡◌, ◌<◌, ◌≤◌, ◌==◌, length, position, IfOk, IfSome};
+ghost use Rattle.std.specs.Prelude.{◌≡◌, ◌<◌, ◌≤◌, ◌==◌, ◌&&◌, ◌||◌, nat_lt, slice_index, length, position, IfOk, IfSome};
 ghost use Rattle.std.specs.Option.{option_map};
 ghost use Rattle.script.specs.Reading.{cut as cut_of, digits_on, number_of, number_then as number_then_of, column_of, column_then as column_then_of, bound_of, bound_then as bound_then_of, nibble_of, pairs_of, body_of};
 
@@ -22,16 +22,22 @@ pub(crate) fn cut(text: &[u8]) -> Option<(&[u8], &[u8])>
     Some((&text[..i], &text[i + 1..]))
 }
 
-// The number of at most `max` that a word spells.
-#[tactic(auto, unfolding(crate::specs::Reading::number_of))]
-pub(crate) fn number(word: &[u8], max: u64) -> Option<u64>
-    ensures value { result ≡ number_of max word.now }
-    ensures bound { IfSome result (λ n. n ≤ max) }
-{
-    if word.is_empty() || (word.len() > 1 && word[0] == b'0') {
-        return None;
-    }
-    digits(word, max)
+// What digits spell in a number of this type, up to a highest.
+macro_rules! spelled {
+    ($digits:ident, $number:ty, $max:ident) => {{
+        let mut n: $number = 0;
+        for b in $digits {
+            if !b.is_ascii_digit() {
+                return None;
+            }
+            let digit = <$number>::from(*b - b'0');
+            match n.checked_mul(10).and_then(|m| m.checked_add(digit)) {
+                Some(m) if m <= $max => n = m,
+                _ => return None,
+            }
+        }
+        Some(n)
+    }};
 }
 
 #[tactic(auto, unfolding(crate::specs::Reading::digits_on), using(crate::proofs::ReadingLemmas::read_lemmas))]
@@ -39,18 +45,46 @@ fn digits(word: &[u8], max: u64) -> Option<u64>
     ensures value { result ≡ digits_on max 0 word.now }
     ensures bound { IfSome result (λ n. n ≤ max) }
 {
-    let mut n: u64 = 0;
-    for b in word {
-        if !b.is_ascii_digit() {
-            return None;
-        }
-        let digit = u64::from(*b - b'0');
-        match n.checked_mul(10).and_then(|m| m.checked_add(digit)) {
-            Some(m) if m <= max => n = m,
-            _ => return None,
-        }
+    spelled!(word, u64, max)
+}
+
+#[tactic(auto, unfolding(crate::specs::Reading::digits_on), using(crate::proofs::ReadingLemmas::read_lemmas))]
+fn wide_digits(word: &[u8], max: u128) -> Option<u128>
+    ensures value { result ≡ digits_on max 0 word.now }
+    ensures bound { IfSome result (λ n. n ≤ max) }
+{
+    spelled!(word, u128, max)
+}
+
+// Whether a word is empty, or has a zero in front of another digit.
+fn is_misspelled(word: &[u8]) -> bool
+    ensures { result ≡ (length word.now == 0) || (nat_lt 1 (length word.now) && (slice_index word.now 0 == 48)) }
+{
+    word.is_empty() || (word.len() > 1 && word[0] == b'0')
+}
+
+// The number of at most `max` that a word spells.
+#[tactic(auto, unfolding(crate::specs::Reading::number_of))]
+pub(crate) fn number(word: &[u8], max: u64) -> Option<u64>
+    ensures value { result ≡ number_of max word.now }
+    ensures bound { IfSome result (λ n. n ≤ max) }
+{
+    if is_misspelled(word) {
+        return None;
     }
-    Some(n)
+    digits(word, max)
+}
+
+// The same of a number that may need 128 bits, whose arithmetic is slower.
+#[tactic(auto, unfolding(crate::specs::Reading::number_of))]
+fn wide_number(word: &[u8], max: u128) -> Option<u128>
+    ensures value { result ≡ number_of max word.now }
+    ensures bound { IfSome result (λ n. n ≤ max) }
+{
+    if is_misspelled(word) {
+        return None;
+    }
+    wide_digits(word, max)
 }
 
 // A number, and what stands behind the space after it.
@@ -62,40 +96,6 @@ pub(crate) fn number_then(text: &[u8], max: u64) -> Option<(u64, &[u8])>
     let (word, rest) = cut(text)?;
     let n = number(word, max)?;
     Some((n, rest))
-}
-
-// The same of a number that has up to 128 bits.
-#[tactic(auto, unfolding(crate::specs::Reading::number_of))]
-fn wide_number(word: &[u8], max: u128) -> Option<u128>
-    ensures value { result ≡ number_of max word.now }
-    ensures bound { IfSome result (λ n. n ≤ max) }
-{
-    if word.is_empty() {
-        return None;
-    }
-    if word[0] == b'0' && word.len() > 1 {
-        return None;
-    }
-    wide_digits(word, max)
-}
-
-#[tactic(auto, unfolding(crate::specs::Reading::digits_on), using(crate::proofs::ReadingLemmas::read_lemmas))]
-fn wide_digits(word: &[u8], max: u128) -> Option<u128>
-    ensures value { result ≡ digits_on max 0 word.now }
-    ensures bound { IfSome result (λ n. n ≤ max) }
-{
-    let mut n: u128 = 0;
-    for b in word {
-        if !b.is_ascii_digit() {
-            return None;
-        }
-        let digit = u128::from(*b - b'0');
-        match n.checked_mul(10).and_then(|m| m.checked_add(digit)) {
-            Some(m) if m <= max => n = m,
-            _ => return None,
-        }
-    }
-    Some(n)
 }
 
 #[tactic(auto, unfolding(crate::specs::Reading::signed_of))]
