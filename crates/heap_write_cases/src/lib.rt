@@ -16,6 +16,4 @@ mod updates;
 #[cfg(test)]
 mod walks;
 #[cfg(test)]
-mod words;
-#[cfg(test)]
 mod writes;

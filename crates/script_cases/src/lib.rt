@@ -1,4 +1,4 @@
-//! Tests of the shell's scripts, each answer from the rules of the language.
+//! Tests of the shell's scripts, each answer from the rules of the language, and of the words of all faults.
 //!
 //! They stand apart from `script`, so that neither is checked a second time for the other's sake.
 #![tactic(auto)]

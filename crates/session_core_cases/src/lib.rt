@@ -20,5 +20,3 @@ mod pages;
 mod runs;
 #[cfg(test)]
 mod steps;
-#[cfg(test)]
-mod words;

@@ -5,5 +5,3 @@
 
 #[cfg(test)]
 mod settings;
-#[cfg(test)]
-mod words;

@@ -18,5 +18,3 @@ mod pages;
 mod slots;
 #[cfg(test)]
 mod statuses;
-#[cfg(test)]
-mod words;
