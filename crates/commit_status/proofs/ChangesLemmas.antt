@@ -6,6 +6,7 @@ use Rattle.std.proofs.lemmas.Bool.{cases_eq}
 use Rattle.std.proofs.lemmas.List.Elements.{Contains-append_left, Contains-append_right, Contains-append_cases, Contains-get_or}
 use Rattle.std.proofs.lemmas.List.{map_more, get_or-map, length-map}
 use Rattle.xid_circle.specs.declared.Xid.{Xid}
+use Rattle.xid_circle.proofs.Members.{Contains-first, Contains-one}
 use Rattle.commit_status.specs.declared.status.Status.{Status}
 use Rattle.commit_status.specs.Window.{Entry, Window, IsWindow, place, place_in, entry_of, status_in, parent_in}
 use Rattle.commit_status.specs.Changes.{numbers, Finishes}
@@ -31,13 +32,6 @@ entry-at w x i e = ap (option_and_then (slice_get w.entries)) e
 pub entry-none : (w : Window) (x : ℕ) → place w x ≡ None → entry_of w x ≡ None
 entry-none w x e = ap (option_and_then (slice_get w.entries)) e
 
-pub contains-one : (x y : ℕ) → x ≡ y → Contains (x ∷ []) y
-contains-one x y e = (0, omega arith, e)
-
-pub one-contains : (x y : ℕ) → Contains (x ∷ []) y → x ≡ y
-one-contains x y (zero, h, e) = e
-one-contains x y (suc k, h, e) = absurd (omega arith)
-
 -- an id takes another status, and keeps its parent
 pub finishes-set : (f s : ℕ) (e : List Entry) (p : ℕ) (w : Window) (x i : ℕ) (old : Entry) (status : Status)
     → window_of f s e p ≡ w → IsWindow (window_of f s e p) → place_in f (length e) x ≡ Some i → slice_get e i ≡ Some old
@@ -49,8 +43,8 @@ finishes-set f s e p w x i old status same is at there =
       stop_age = refl;
       count = length-set e i new;
       spare = refl;
-      each = λ y. ⊎_elim (λ a. inl (contains-one x y a, is-from_some (place before y) i (here y a), (ap status_in (entry-here y a))))
-          (λ b. inr ((λ c. b (one-contains x y c)), ap status_in (entry-other y b))) (cases_eq x y);
+      each = λ y. ⊎_elim (λ a. inl (subst (Contains (x ∷ [])) a (Contains-first x []), is-from_some (place before y) i (here y a), (ap status_in (entry-here y a))))
+          (λ b. inr ((λ c. b (Contains-one x y c)), ap status_in (entry-other y b))) (cases_eq x y);
       parents = λ y. ⊎_elim (λ a. ap parent_in (entry-here y a) ∙ sym (ap parent_in (entry-was y a))) (λ b. ap parent_in (entry-other y b)) (cases_eq x y);
     })
   where

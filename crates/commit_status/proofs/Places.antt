@@ -1,6 +1,7 @@
 -- Places in a window, and the ids that they hold.
 use Rattle.std.proofs.Common.{◌≡◌, ℕ, ◌-◌, ◌^◌, ◌<◌, ◌≤◌, ◌↔◌, ◌&&◌, if◌then◌else◌, Bool, true, false, ltb, length, Option, Some, None, IsSome, arith, refl, sym, ap, ◌∙◌, subst}
 use Rattle.std.proofs.lemmas.Bool.Decides.{nat_tests}
+use Rattle.std.proofs.lemmas.Bool.{lt-ltb, ltb-true}
 use Rattle.xid_circle.specs.Circle.{IsNormal, Precedes, given}
 use Rattle.commit_status.specs.Window.{Window, IsWindow, IsGiven, IsUpToNext, turns, place_in, place, next_id, is_id}
 use Rattle.commit_status.proofs.Turns.{turns-given, given-turns, given-normal, given-fits, order}
@@ -19,12 +20,6 @@ id-true x a b = grind (arith, nat_tests)
 true-id : (x : ℕ) → is_id x ≡ true → (3 ≤ x) × (x < 2 ^ 32)
 true-id x e = grind (arith, nat_tests)
 
-lt-true : (a b : ℕ) → a < b → ltb a b ≡ true
-lt-true a b h = grind (arith, nat_tests)
-
-true-lt : (a b : ℕ) → ltb a b ≡ true → a < b
-true-lt a b h = grind (arith, nat_tests)
-
 -- what an id that has a place is
 pub record IsAt (first count x i : ℕ) : Type 0 where
   pub normal : IsNormal x
@@ -36,12 +31,12 @@ pub at-from_place : (first count x i : ℕ) → place_in first count x ≡ Some 
 at-from_place first count x i e =
     let parts = chosen (is_id x) (ltb (turns first x) count) (turns first x) i e in
     let id = true-id x parts.0 in
-    let lt = true-lt (turns first x) count parts.1 in
+    let lt = ltb-true (turns first x) count parts.1 in
     record { normal = id.0; fits = id.1; turn = parts.2; within = subst (λ k. k < count) parts.2 lt }
 
 pub place-from_at : (first count x i : ℕ) → IsAt first count x i → place_in first count x ≡ Some i
 place-from_at first count x i at =
-    made (is_id x) (ltb (turns first x) count) (turns first x) (id-true x at.normal at.fits) (lt-true _ _ (subst (λ k. k < count) (sym at.turn) at.within)) ∙ ap (λ k. Some k) at.turn
+    made (is_id x) (ltb (turns first x) count) (turns first x) (id-true x at.normal at.fits) (lt-ltb _ _ (subst (λ k. k < count) (sym at.turn) at.within)) ∙ ap (λ k. Some k) at.turn
 
 pub none-unless : (o : Option ℕ) → ((i : ℕ) → o ≡ Some i → ⊥) → o ≡ None
 none-unless None h = refl

@@ -1,22 +1,10 @@
 -- The place of an id among those given from a first one on.
-use Rattle.std.proofs.Common.{◌↔◌, ◌≡◌, ℕ, zero, suc, ◌+◌, ◌-◌, ◌^◌, ◌<◌, ◌≤◌, ◌⊎◌, arith, inl, inr, ⊎_elim, ap, ◌∙◌}
+use Rattle.std.proofs.Common.{◌↔◌, ◌≡◌, ℕ, zero, suc, ◌+◌, ◌-◌, ◌^◌, ◌<◌, ◌≤◌, ◌⊎◌, arith, ⊎_elim, ap, ◌∙◌}
 use Rattle.std.proofs.lemmas.Bool.Decides.{nat_tests}
 use Rattle.xid_circle.specs.Circle.{distance_of, IsNormal, Precedes, next_of, given}
 use Rattle.xid_circle.proofs.Order as circle
+use Rattle.xid_circle.proofs.Order.{Stands, given-stands, stands-distance}
 use Rattle.commit_status.specs.Window.{turns}
-
--- where the id stands after n turns: before the numbers start over, or three further after it
-pub Stands : ℕ → ℕ → ℕ → Type 0
-Stands first n x = ((first + n < 2 ^ 32) × (x ≡ first + n)) ⊎ ((2 ^ 32 ≤ first + n) × (x + 2 ^ 32 ≡ first + n + 3))
-
-next-stands : (first n x : ℕ) → IsNormal first → first < 2 ^ 32 → n + 1 < 2 ^ 32 - 3 → Stands first n x → Stands first (suc n) (next_of x)
-unfolding Stands
-next-stands first n x normal fits small s = grind (arith, nat_tests)
-
-pub given-stands : (first n : ℕ) → IsNormal first → first < 2 ^ 32 → n < 2 ^ 32 - 3 → Stands first n (given first n)
-unfolding Stands
-given-stands first zero normal fits small = inl (omega arith, omega arith)
-given-stands first (suc n) normal fits small = next-stands first n (given first n) normal fits (omega arith) (given-stands first n normal fits (omega arith))
 
 turns-stands : (first n x : ℕ) → IsNormal first → first < 2 ^ 32 → n < 2 ^ 32 - 3 → Stands first n x → turns first x ≡ n
 unfolding Stands
@@ -54,16 +42,10 @@ given-given first m (suc n) =
     let e : suc (m + n) ≡ m + suc n = omega arith in
     ap next_of (given-given first m n) ∙ ap (given first) e
 
-stands-age : (first n x : ℕ) → IsNormal first → first < 2 ^ 32 → n < 2 ^ 32 - 3 → Stands first n x
-    → ((first + n < 2 ^ 32) × (distance_of first x ≡ n)) ⊎ ((2 ^ 32 ≤ first + n) × (distance_of first x ≡ n + 3))
-unfolding Stands
-stands-age first n x normal fits small s =
-    ⊎_elim (λ a. inl (a.0, omega arith)) (λ b. inr (b.0, omega arith)) s
-
 -- how far an id is from the first: three more than its turns once the numbers started over
 pub age-at : (first n : ℕ) → IsNormal first → first < 2 ^ 32 → n < 2 ^ 32 - 3
     → ((first + n < 2 ^ 32) × (distance_of first (given first n) ≡ n)) ⊎ ((2 ^ 32 ≤ first + n) × (distance_of first (given first n) ≡ n + 3))
-age-at first n normal fits small = stands-age first n (given first n) normal fits small (given-stands first n normal fits small)
+age-at first n normal fits small = (stands-distance first n (given first n) normal fits small (given-stands first n normal fits small)).1
 
 -- of two ids given less than half of the circle after one, that precedes which is given first
 pub order : (first i j : ℕ) → IsNormal first → first < 2 ^ 32 → i < 2 ^ 31 - 3 → j < 2 ^ 31 - 3

@@ -1,5 +1,5 @@
 -- The first page that has a property, looked for from the beginning on.
-use Rattle.std.proofs.Common.{◌≡◌, ◌∙◌, ℕ, ◌+◌, ◌<◌, ◌≤◌, inl, inr, List, length, get_or, Some, slice_get, sym, ap, subst, arith, IsTrue, ◌↔◌, Bool, false}
+use Rattle.std.proofs.Common.{◌≡◌, ◌∙◌, ℕ, ◌+◌, ◌<◌, ◌≤◌, inl, inr, List, length, get_or, Some, slice_get, sym, ap, subst, arith}
 use Rattle.std.proofs.lemmas.Bool.{cases_lt, true≢false}
 use Rattle.std.proofs.lemmas.Option.{slice_get-get_or, slice_get_within}
 use Rattle.page_slots.specs.View.{PageView}
@@ -17,9 +17,6 @@ pub record IsSearched (pages : List PageView) (P : PageView → Type 0) (from : 
 -- the page that was read at an index
 pub read_at : (pages : List PageView) (n : ℕ) (page : PageView) → n < length pages → page ≡ get_or pages n page → slice_get pages n ≡ Some page
 read_at pages n page within read = slice_get-get_or pages n page within ∙ ap Some (sym read)
-
-pub refuted : (b : Bool) (P : Type 0) → (IsTrue b ↔ P) → b ≡ false → ¬ P
-refuted b P says fails h = absurd (true≢false (sym (says.1 h) ∙ fails))
 
 same_page : (pages : List PageView) (k n : ℕ) (a b : PageView) → k ≡ n → slice_get pages k ≡ Some a → slice_get pages n ≡ Some b → a ≡ b
 same_page pages k n a b same at_k at_n = cc

@@ -4,13 +4,13 @@ use Rattle.std.proofs.Common.{◌≡◌, ◌≢◌, ℕ, zero, suc, ◌^◌, ◌
 use Rattle.std.specs.Prelude.{Contains}
 use Rattle.std.proofs.lemmas.Option.{none-some}
 use Rattle.xid_circle.specs.Circle.{IsNormal, given}
+use Rattle.xid_circle.proofs.Members.{Contains-cases, Contains-none}
 use Rattle.commit_status.specs.Window.{Entry, Window, IsWindow, IsGiven, IsGivenBefore, IsActive, IsUpToNext, turns, place, parent_at, status_of, top_of, next_id}
 use Rattle.commit_status.specs.Changes.{Gives}
 use Rattle.commit_status.proofs.Turns.{turns-given}
 use Rattle.commit_status.proofs.Places.{next-none, none-unless, is-from_some, some-from_is}
 use Rattle.commit_status.proofs.Giving.{gives-length, gives-place_old, gives-status, gives-top_old, gives-top_next, gives-top_alone, gives-active_next, gives-upto}
 use Rattle.snapshot.specs.Own.{AreDistinct}
-use Rattle.snapshot.proofs.Earliest.{contains-cases}
 use Rattle.heap_write.specs.Writes.{GivesUnder}
 
 -- One id.
@@ -48,7 +48,7 @@ given-longer : (xs : List ℕ) (w v : Window) (parent : Option ℕ) → GivesUnd
 given-longer [] w v parent g = subst (λ n. n ≤ length v.entries) (ap (λ (w : Window). length w.entries) g) (omega arith)
 given-longer (x ∷ xs) w v parent g = let long = gives-length w g.0 parent g.2 in let rest = given-longer xs g.0 v (Some x) g.3 in omega arith
 
-next-turn : (w : Window) → IsWindow w → turns w.first (next_id w) ≡ length w.entries
+pub next-turn : (w : Window) → IsWindow w → turns w.first (next_id w) ≡ length w.entries
 next-turn w is = turns-given w.first (length w.entries) is.normal is.fits (let short = is.short in let limit = is.limit in omega arith)
 
 -- the next id is no earlier then
@@ -93,22 +93,19 @@ given-top_old (x ∷ xs) w v parent y g is there =
 given-now : (w v : Window) (parent : Option ℕ) (x : ℕ) → x ≡ next_id w → Gives w v parent → IsWindow v → IsActive v x
 given-now w v parent x same g is = subst (λ x. IsActive v x) (sym same) (gives-active_next w v parent is g)
 
-none-in : {A : Type 0} (x : ℕ) → Contains [] x → A
-none-in x among = absurd (let below : among.0 < 0 = among.1 in omega arith)
-
 pub given-active : (xs : List ℕ) (w v : Window) (parent : Option ℕ) (y : ℕ) → GivesUnder w parent xs v → IsWindow v → Contains xs y → IsActive v y
-given-active [] w v parent y g is among = none-in y among
-given-active (x ∷ xs) w v parent y g is among = elim (contains-cases x y xs among) [
+given-active [] w v parent y g is among = absurd (Contains-none y among)
+given-active (x ∷ xs) w v parent y g is among = elim (Contains-cases x y xs among) [
   | inl here ↦ subst (λ y. IsActive v y) here (given-active_old xs g.0 v (Some x) x g.3 is (given-now w g.0 parent x g.1 g.2 (given-window xs g.0 v (Some x) g.3 is)))
   | inr later ↦ given-active xs g.0 v (Some x) y g.3 is later
 ]
 
 -- it was in no place before
 pub given-fresh : (xs : List ℕ) (w v : Window) (parent : Option ℕ) (y : ℕ) → GivesUnder w parent xs v → IsWindow v → Contains xs y → place w y ≡ None
-given-fresh [] w v parent y g is among = none-in y among
+given-fresh [] w v parent y g is among = absurd (Contains-none y among)
 given-fresh (x ∷ xs) w v parent y g is among =
     let between = given-window xs g.0 v (Some x) g.3 is in
-    elim (contains-cases x y xs among) [
+    elim (Contains-cases x y xs among) [
       | inl here ↦ ap (place w) (sym here ∙ g.1) ∙ next-none w (before-window w g.0 parent g.2 between)
       | inr later ↦ none-unless (place w y) (λ i at. none-some i (sym (given-fresh xs g.0 v (Some x) y g.3 is later) ∙ gives-place_old w g.0 parent y i g.2 at))
     ]
@@ -125,12 +122,12 @@ given-distinct (x ∷ xs) w v parent g is = (
 
 -- the topmost parent of each is that of the id under which the first is given
 pub given-top : (xs : List ℕ) (w v : Window) (p y : ℕ) → GivesUnder w (Some p) xs v → IsWindow v → IsGiven w p → Contains xs y → top_of v y ≡ top_of w p
-given-top [] w v p y g is there among = none-in y among
+given-top [] w v p y g is there among = absurd (Contains-none y among)
 given-top (x ∷ xs) w v p y g is there among =
     let between = given-window xs g.0 v (Some x) g.3 is in
     let now = (given-now w g.0 (Some p) x g.1 g.2 between).is_given in
     let top : top_of g.0 x ≡ top_of w p = ap (top_of g.0) g.1 ∙ gives-top_next w g.0 p (before-window w g.0 (Some p) g.2 between) between g.2 there in
-    elim (contains-cases x y xs among) [
+    elim (Contains-cases x y xs among) [
       | inl here ↦ ap (top_of v) (sym here) ∙ (given-top_old xs g.0 v (Some x) x g.3 is now ∙ top)
       | inr later ↦ given-top xs g.0 v x y g.3 is now later ∙ top
     ]
@@ -141,17 +138,17 @@ given-top_first x xs w v y g is among =
     let between = given-window xs g.0 v (Some x) g.3 is in
     let now = (given-now w g.0 None x g.1 g.2 between).is_given in
     let top : top_of g.0 x ≡ x = ap (top_of g.0) g.1 ∙ (gives-top_alone w g.0 between g.2 ∙ sym g.1) in
-    elim (contains-cases x y xs among) [
+    elim (Contains-cases x y xs among) [
       | inl here ↦ ap (top_of v) (sym here) ∙ (given-top_old xs g.0 v (Some x) x g.3 is now ∙ top)
       | inr later ↦ given-top xs g.0 v x y g.3 is now later ∙ top
     ]
 
 -- and is given after all that were there
 pub given-late : (xs : List ℕ) (w v : Window) (parent : Option ℕ) (y : ℕ) → GivesUnder w parent xs v → IsWindow v → Contains xs y → turns w.first (next_id w) ≤ turns w.first y
-given-late [] w v parent y g is among = none-in y among
+given-late [] w v parent y g is among = absurd (Contains-none y among)
 given-late (x ∷ xs) w v parent y g is among =
     let between = given-window xs g.0 v (Some x) g.3 is in
-    elim (contains-cases x y xs among) [
+    elim (Contains-cases x y xs among) [
       | inl here ↦ subst (λ z. turns w.first (next_id w) ≤ turns w.first z) (sym g.1 ∙ here) (omega arith)
       | inr later ↦ (let next = given-next (x ∷ []) w g.0 parent (g.0, g.1, g.2, refl) between in
           let rest : turns w.first (next_id g.0) ≤ turns w.first y = subst (λ f. turns f (next_id g.0) ≤ turns f y) g.2.first (given-late xs g.0 v (Some x) y g.3 is later) in

@@ -1,5 +1,6 @@
 -- The ids of a write: where there is more memory for them, and while they are given.
 use Rattle.std.proofs.Common.{◌≡◌, ◌≢◌, ℕ, suc, ◌+◌, ◌-◌, ◌<◌, ◌≤◌, List, [], ◌∷◌, ◌++◌, length, Option, Some, None, sym, ap, subst, refl, ◌∙◌, arith, append_assoc}
+use Rattle.std.proofs.lemmas.Option.{same_Some}
 use Rattle.commit_status.specs.Window.{Window, IsWindow, IsGiven, next_id, place_in}
 use Rattle.commit_status.specs.Changes.{begun, Gives, CanGive}
 use Rattle.commit_status.proofs.Giving.{gives-length, gives-place_next}
@@ -9,7 +10,6 @@ use Rattle.snapshot.proofs.Levels.{level-added, lacks-level, lacks-added, fronts
 use Rattle.heap_write.specs.Heap.{SameIds}
 use Rattle.heap_write.specs.Writes.{GivesUnder, TakesIds, SameOwn}
 use Rattle.heap_write.specs.Growth.{HasIds}
-use Rattle.prune.proofs.Links.{same_some}
 
 -- More memory.
 
@@ -108,7 +108,7 @@ giving-one w0 own0 w own count v next now lacking gives ids saved spare own_spar
       can = subst (λ m. CanGive v m) (sym left) (can-one w v own next n one (subst (λ m. CanGive w m) lacked now.can));
       room = record { in_table = omega (arith, left, lacked, spare, in_table); in_own = omega (arith, left, lacked, own_spare, in_own) };
       newest = λ x is.
-          let same : next_id w ≡ x = same_some (next_id w) x (sym (level-one w v own next n one) ∙ is) in
+          let same : next_id w ≡ x = same_Some (next_id w) x (sym (level-one w v own next n one) ∙ is) in
           subst (λ y. IsGiven v y) same (is-from_some (place_in v.first (length v.entries) (next_id w)) (length w.entries) (gives-place_next w v (level_id own.ids own.saved) window gives));
       window = window;
       whole = λ w' own' x takes. now.whole w' own' x (takes-one w v w' own next own' n x one takes);

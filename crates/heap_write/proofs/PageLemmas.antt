@@ -1,13 +1,12 @@
 -- The pages of a table by their numbers, and what keeps them.
 use Rattle.std.proofs.Common.{◌≡◌, ◌≢◌, ℕ, zero, suc, ◌<◌, ◌≤◌, inl, inr, List, [], length, set, Some, None, slice_get, sym, ap, subst, refl, ◌∙◌, arith}
 use Rattle.std.proofs.lemmas.Bool.{cases_lt, true≢false}
-use Rattle.std.proofs.lemmas.Option.{slice_get-get_or, slice_get_within}
+use Rattle.std.proofs.lemmas.Option.{slice_get-get_or, slice_get_within, same_Some}
 use Rattle.std.proofs.lemmas.List.{get_or_past, get_or-set_same, get_or-set_other, set-set, length-set}
 use Rattle.std.proofs.Math.Seq.{map-set_same}
 use Rattle.xid_circle.specs.declared.Tid.{Tid}
 use Rattle.page_slots.specs.View.{PageView}
 use Rattle.page_slots.specs.Slots.{IsNormalAt, row_at, room_of}
-use Rattle.prune.proofs.Links.{same_some}
 use Rattle.heap_write.specs.Heap.{HeapView, unused_page, SameIds, Keeps, PutsPage}
 use Rattle.heap_write.specs.Heap.PutsPage.{in_use, after_all}
 use Rattle.heap_write.specs.Indexes.{SameEntries}
@@ -20,7 +19,7 @@ use Rattle.heap_write.specs.Growth.{page_in, SamePage, SamePages}
 
 pub page-at : (pages : List PageView) (n : ℕ) (page : PageView) → slice_get pages n ≡ Some page → page_in pages n ≡ page
 page-at pages n page at =
-    same_some (page_in pages n) page (sym (slice_get-get_or pages n unused_page (slice_get_within pages n page at)) ∙ at)
+    same_Some (page_in pages n) page (sym (slice_get-get_or pages n unused_page (slice_get_within pages n page at)) ∙ at)
 
 pub page-none : (pages : List PageView) (n : ℕ) → slice_get pages n ≡ None → page_in pages n ≡ unused_page
 page-none pages n none =

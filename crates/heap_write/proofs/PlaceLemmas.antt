@@ -1,12 +1,11 @@
 -- Where a new version goes, when one page has changed.
 use Rattle.std.proofs.Common.{◌≡◌, ◌≢◌, ◌↔◌, ℕ, ◌*◌, ◌/◌, ◌<◌, ◌≤◌, inl, inr, List, length, set, Some, slice_get, sym, ap, subst, ◌∙◌, arith}
 use Rattle.std.proofs.lemmas.Bool.{cases_eq}
-use Rattle.std.proofs.lemmas.Option.{slice_get-get_or, slice_get_within}
+use Rattle.std.proofs.lemmas.Option.{slice_get-get_or, slice_get_within, same_Some}
 use Rattle.std.proofs.lemmas.List.{length-set, set-set, set-get_or}
 use Rattle.std.proofs.Math.Nat.{min-le_left}
 use Rattle.page_slots.specs.View.{PageView}
 use Rattle.page_slots.specs.Slots.{room_of}
-use Rattle.prune.proofs.Links.{same_some}
 use Rattle.heap_pages.specs.Choice.{free_byte_of, Promises, HasRoom, NoPage, IsFirstPage, IsPlaceFor}
 use Rattle.heap_pages.specs.Choice.IsPlaceFor.{by_byte, on_new_page, by_room, nowhere}
 use Rattle.heap_pages.specs.declared.pages.Place.{Place}
@@ -61,7 +60,7 @@ had pages P m k q page within back at h =
       | inl here ↦ (
         page_in pages m,
         ap (slice_get pages) here ∙ slice_get-get_or pages m unused_page within,
-        back (subst P (same_some page q (sym at ∙ ap (slice_get (set pages m q)) here ∙ at-set pages m q within)) h),
+        back (subst P (same_Some page q (sym at ∙ ap (slice_get (set pages m q)) here ∙ at-set pages m q within)) h),
       )
       | inr other ↦ (page, sym (at-set_other pages m k q other) ∙ at, h)
     ]

@@ -8,6 +8,7 @@ use Rattle.tuple_header.specs.declared.version.Header.{Header}
 use Rattle.tuple_header.specs.declared.version.Row.{Row}
 use Rattle.page_slots.specs.Slots.{version_at, header_at, row_at}
 use Rattle.page_slots.specs.View.{PageView}
+use Rattle.page_slots.proofs.SlotLemmas.{version-from_header}
 use Rattle.sound_entries.specs.Pages.{version_in}
 use Rattle.sound_entries.proofs.Fetching.{slots-there, row-nowhere}
 use Rattle.heap_write.specs.Walking.{NoneSeen, SeenRow}
@@ -41,14 +42,10 @@ pub none-unseen : (seen : Header → Type 0) (pages : List PageView) (place : Ti
 none-unseen seen pages place page r h at value is not t there has =
     not (subst seen (sym (header-of (version_at page.slots place.slot) h t (sym value ∙ is) (version-there pages place page at ∙ there))) has)
 
-version-of : (o : Option Version) (h : Header) → option_map (λ (t : Version). t.header) o ≡ Some h → (t : Version) × (o ≡ Some t) × (h ≡ t.header)
-version-of None h e = absurd (cc)
-version-of (Some t) h e = (t, refl, sym (same_Some t.header h e))
-
 pub seen-there : (seen : Header → Type 0) (pages : List PageView) (place : Tid) (page : PageView) (r : Option Header) (h : Header) (answer : Option Row) → slice_get pages place.page ≡ Some page
     → r ≡ header_at page.slots place.slot → r ≡ Some h → seen h → answer ≡ row_at page.slots place.slot → SeenRow seen (map (λ (p : PageView). p.slots) pages) place answer
 seen-there seen pages place page r h answer at value is has row =
-    let t = version-of (version_at page.slots place.slot) h (sym value ∙ is) in
+    let t = version-from_header page.slots place.slot h (sym value ∙ is) in
     subst (SeenRow seen (map (λ (p : PageView). p.slots) pages) place) (sym (row ∙ ap (option_map (λ (t : Version). t.row)) t.1)) (record {
       version = t.0;
       there = sym (version-there pages place page at) ∙ t.1;

@@ -3,7 +3,7 @@
 use Rattle.std.proofs.Common.{◌≡◌, ℕ, zero, suc, ◌<◌, ◌≤◌, ◌==◌, ◌≢◌, Bool, true, false, if◌then◌else◌, nat_eq, List, length, take, get_or, Option, Some, None, slice_get, sym, ap, subst, refl, ◌∙◌, arith, inl, inr}
 use Rattle.std.proofs.lemmas.Bool.{cases_lt, true≢false, lt-ltb, eqb-true}
 use Rattle.std.proofs.lemmas.List.Sums.{fails_before_first}
-use Rattle.std.proofs.lemmas.Option.{slice_get-get_or, slice_get_within}
+use Rattle.std.proofs.lemmas.Option.{slice_get-get_or, slice_get_within, same_Some}
 use Rattle.std.specs.List.{position_or_len, list_any}
 use Rattle.page_slots.specs.View.{PageView}
 use Rattle.page_slots.specs.declared.slot.Slot.{Slot}
@@ -17,7 +17,6 @@ use Rattle.prune.specs.declared.action.Action.{Action}
 use Rattle.prune.specs.declared.action.Action.TheVariants as action
 use Rattle.prune.specs.Actions.{acted}
 use Rattle.prune.specs.Pruning.{root_action, loose_in, Does, by_root, by_none, IsPruned}
-use Rattle.prune.proofs.Links.{same_some}
 use Rattle.heap_write.specs.Heap.{HeapView, page_on}
 use Rattle.heap_write.specs.Writes.{Prunes}
 use Rattle.heap_write.specs.Growth.{HasSlot, GrowsPage, page_in}
@@ -31,7 +30,7 @@ has-unused slots (suc i) at =
     elim (cases_lt (position_or_len is_unused slots) (length slots)) [
       | inl some ↦ lt-ltb (position_or_len is_unused slots) (length slots) some
       | inr none ↦
-          let here = same_some (get_or slots i Unused) Unused (sym (slice_get-get_or slots i Unused within) ∙ at) in
+          let here = same_Some (get_or slots i Unused) Unused (sym (slice_get-get_or slots i Unused within) ∙ at) in
           let before = fails_before_first is_unused slots i Unused (omega (arith, within, none)) in
           absurd (true≢false (sym (ap is_unused here) ∙ before))
     ]

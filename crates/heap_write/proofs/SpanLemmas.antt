@@ -1,5 +1,5 @@
 -- Which entries lie in a span, and which of them comes first.
-use Rattle.std.proofs.Common.{◌≡◌, ◌↔◌, ◌⊎◌, inl, inr, ℕ, ◌<◌, ℤ, ◌<ℤ◌, ◌≤ℤ◌, List, Option, Some, None, refl, sym, subst, ◌∙◌, arith}
+use Rattle.std.proofs.Common.{◌≡◌, ◌↔◌, ◌⊎◌, inl, inr, ◌<◌, ℤ, ◌<ℤ◌, ◌≤ℤ◌, List, Option, Some, None, refl, sym, subst, ◌∙◌, arith}
 use Rattle.std.specs.Ordering.{nat_cmp, int_cmp}
 use Rattle.std.specs.Cmp.{int_cmp_is, nat_cmp_is}
 use Rattle.std.specs.declared.cmp.Ordering.{Ordering}
@@ -20,18 +20,9 @@ use Rattle.heap_write.specs.Walking.{ComesAfter, StartsIn, LiesIn}
 abbrev pub IsLower : Entry → Entry → Type 0
 IsLower a b = (a.value <ℤ b.value) ⊎ ((a.value ≡ b.value) × (a.key < b.key))
 
-int_less : (x y : ℤ) → x <ℤ y → int_cmp x y ≡ Less
-int_less x y lt = sym (int_cmp_is x y Less lt)
-
-int_same : (x : ℤ) → int_cmp x x ≡ Equal
-int_same x = sym (int_cmp_is x x Equal refl)
-
-nat_less : (x y : ℕ) → x < y → nat_cmp x y ≡ Less
-nat_less x y lt = sym (nat_cmp_is x y Less lt)
-
 pub lower-precedes : (a b : Entry) → IsLower a b → Precedes a b
-lower-precedes a b (inl low) = rw (int_less a.value b.value low) refl
-lower-precedes a b (inr (same, low)) = rw (same, int_same b.value, nat_less a.key b.key low) refl
+lower-precedes a b (inl low) = rw (sym (int_cmp_is a.value b.value Less low)) refl
+lower-precedes a b (inr (same, low)) = rw (same, sym (int_cmp_is b.value b.value Equal refl), sym (nat_cmp_is a.key b.key Less low)) refl
 
 by_key : (a b : Entry) (o : Ordering) → o ≡ nat_cmp a.key b.key → a.value ≡ b.value → IsLower a b ⊎ (IsOf b.value b.key a ⊎ IsLower b a)
 by_key a b Less e same = inl (inr (same, ranked a.key b.key Less e))

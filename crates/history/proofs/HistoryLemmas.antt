@@ -19,6 +19,10 @@ pub option_or_assoc : {A : Type 0} (o p q : Option A) → option_or (option_or o
 option_or_assoc None p q = refl
 option_or_assoc (Some x) p q = refl
 
+pub IsSome-or_second : {A : Type 0} (o p : Option A) → IsSome p → IsSome (option_or o p)
+IsSome-or_second None p some = some
+IsSome-or_second (Some x) p some = refl
+
 -- the later writes stand before the earlier
 pub written-append : (earlier later : List Write) (key : ℕ) → written (earlier ++ later) key ≡ option_or (written later key) (written earlier key)
 written-append [] later key = sym (option_or-none (written later key))

@@ -11,7 +11,7 @@ use Rattle.history.specs.Moves.{put, change, add_write, with_write, as_failed, w
 use Rattle.history.specs.Events.{Happens, passes, begins, inserts, updates, deletes, conflicts, waits, deadlocks, saves, rolls_back_to, releases, commits, aborts, opens_index, opens_heap, opens_keys, takes, takes_keys, closes, Leads, stays, goes_on}
 use Rattle.history.specs.Laws.{FirstCommitterWins, HeldInTime, HeldOnce, Grows, KeepsView}
 use Rattle.history.proofs.Places.{slice_get-push_cases}
-use Rattle.history.proofs.HistoryLemmas.{at_same, at_other, said-other, written-append, written-push, joined-add_write, joined-join_newest, IsLate-push_cases, reading-append_history}
+use Rattle.history.proofs.HistoryLemmas.{at_same, at_other, said-other, written-append, written-push, joined-add_write, joined-join_newest, IsLate-push_cases, reading-append_history, IsSome-or_second}
 
 -- what holds after every step
 pub record Lawful (w : World) : Type 0 where
@@ -152,11 +152,7 @@ Lawful-commit w s m h at = subst (λ n. Lawful (record (aborted w s) { history =
 
 -- a write in the newest level is a write in the levels
 holds_newest : (level : List Write) (older : List (List Write)) (key : ℕ) → IsSome (written (joined older) key) → IsSome (written (joined (level ∷ older)) key)
-holds_newest level older key wrote = subst IsSome (sym (written-append (joined older) level key)) (wrote_or (written level key) (written (joined older) key) wrote)
-  where
-    wrote_or : {A : Type 0} (o p : Option A) → IsSome p → IsSome (option_or o p)
-    wrote_or None p some = some
-    wrote_or (Some x) p some = cc
+holds_newest level older key wrote = subst IsSome (sym (written-append (joined older) level key)) (IsSome-or_second (written level key) (written (joined older) key) wrote)
 
 -- and emptying the newest level writes nothing
 pub fewer-empty_newest : (levels : List (List Write)) (key : ℕ) → IsSome (written (joined (empty_newest levels)) key) → IsSome (written (joined levels) key)

@@ -1,5 +1,6 @@
 -- The history and the sessions that are open on it.
-use Rattle.std.specs.Prelude.{◌≡◌, ◌≢◌, ℕ, zero, suc, List, [], ◌∷◌, ◌++◌, Option, Some, None, Bool, false, IsSome}
+use Rattle.std.specs.Prelude.{◌≡◌, ◌≢◌, ℕ, List, [], ◌∷◌, ◌++◌, Option, Some, None, Bool, false, IsSome}
+use Rattle.xid_circle.specs.Following.{ReachesIn}
 use Rattle.tuple_header.specs.declared.version.Row.{Row}
 use Rattle.history.specs.History.{Write, Transaction, written, reading, IsLate}
 
@@ -50,12 +51,7 @@ view history m key = reading history m.start (joined m.levels) key
 abbrev pub Holds : World → ℕ → ℕ → Type 0
 Holds w s key = (m : OpenSession) × (w.session s ≡ Some m) × IsSome (own_write m key)
 
--- following i waits from o, s is reached
-abbrev pub ReachesIn : (ℕ → Option ℕ) → ℕ → ℕ → ℕ → Type 0
-ReachesIn waits zero o s = o ≡ s
-ReachesIn waits (suc i) o s = (p : ℕ) × (waits o ≡ Some p) × ReachesIn waits i p s
-
--- were s to wait for o, the waits would close a ring ("Deadlocks" in the manual's section on explicit locking)
+-- were s to wait for o, the waits, followed from o, would close a ring ("Deadlocks" in the manual's section on explicit locking)
 abbrev pub ClosesRing : (ℕ → Option ℕ) → ℕ → ℕ → Type 0
 ClosesRing waits s o = (i : ℕ) × ReachesIn waits i o s
 

@@ -1,19 +1,12 @@
 -- A slot has one chain.
 use Rattle.std.proofs.Common.{◌≡◌, ℕ, zero, suc, ◌+◌, ◌-◌, ◌<◌, ◌≤◌, ◌↔◌, Bool, true, false, nat_eq, List, [], ◌∷◌, length, get_or, Some, None, slice_get, arith, ⊎_elim, refl, sym, ap, ◌∙◌, subst}
-use Rattle.std.proofs.lemmas.Bool.{cases_lt}
-use Rattle.std.proofs.lemmas.Bool.Decides.{nat_tests}
+use Rattle.std.proofs.lemmas.Bool.{cases_lt, eqb-true, eq-eqb}
 use Rattle.std.proofs.lemmas.List.{ext_get_or, get_or_default}
 use Rattle.std.proofs.lemmas.Map.Keys.{apart_from_distinct}
 use Rattle.std.proofs.lemmas.Option.{slice_get-get_or, slice_get_past}
 use Rattle.std.specs.List.{IsDistinct, list_any, Contains}
 use Rattle.page_slots.specs.declared.slot.Slot.{Slot}
 use Rattle.hot_chain.specs.Chain.{next_of, IsEnd, IsChain, is_root, is_root_in, LeadsTo}
-
-eq-true : (a b : ℕ) → nat_eq a b ≡ true → a ≡ b
-eq-true a b e = grind (arith, nat_tests)
-
-true-eq : (a b : ℕ) → a ≡ b → nat_eq a b ≡ true
-true-eq a b e = grind (arith, nat_tests)
 
 by-test : {P : Type 0} (b : Bool) → (b ≡ true → P) → (b ≡ false → P) → P
 by-test true f g = f refl
@@ -29,12 +22,12 @@ any-here q x xs f = rw f refl
 pub any-place : (q : ℕ) (xs : List ℕ) → list_any (nat_eq q) xs ≡ true → (j : ℕ) × (j < length xs) × (get_or xs j 0 ≡ q)
 any-place q [] e = absurd (cc)
 any-place q (x ∷ xs) e =
-    by-test (nat_eq q x) (λ f. (zero, (omega arith), sym (eq-true q x f)))
+    by-test (nat_eq q x) (λ f. (zero, (omega arith), sym (eqb-true q x f)))
     (λ f. let found = any-place q xs (sym (any-rest q x xs f) ∙ e) in (suc found.0, (let l = found.1 in omega arith), found.2))
 
 pub place-any : (q : ℕ) (xs : List ℕ) (j : ℕ) → j < length xs → get_or xs j 0 ≡ q → list_any (nat_eq q) xs ≡ true
 place-any q [] j h e = absurd (omega arith)
-place-any q (x ∷ xs) zero h e = any-here q x xs (true-eq q x (sym e))
+place-any q (x ∷ xs) zero h e = any-here q x xs (eq-eqb q x (sym e))
 place-any q (x ∷ xs) (suc j) h e =
     by-test (nat_eq q x) (λ f. any-here q x xs f) (λ f. any-rest q x xs f ∙ place-any q xs j (omega arith) e)
 
@@ -45,10 +38,10 @@ pub any-contains : (q : ℕ) (xs : List ℕ) → list_any (nat_eq q) xs ≡ true
 any-contains q xs e = let found = any-place q xs e in (found.0, found.1, get_or_default xs found.0 q 0 found.1 ∙ found.2)
 
 -- in a list without repetition two places hold two numbers
-distinct-places : (xs : List ℕ) (i j : ℕ) → IsDistinct nat_eq xs → i < j → j < length xs → get_or xs i 0 ≡ get_or xs j 0 → ⊥
+pub distinct-places : (xs : List ℕ) (i j : ℕ) → IsDistinct nat_eq xs → i < j → j < length xs → get_or xs i 0 ≡ get_or xs j 0 → ⊥
 distinct-places xs i j d lt within e =
     let apart = apart_from_distinct nat_eq xs i j 0 d lt within in
-    let same = true-eq (get_or xs i 0) (get_or xs j 0) e in
+    let same = eq-eqb (get_or xs i 0) (get_or xs j 0) e in
     absurd (cc)
 
 chains-agree : (aborted : ℕ → Bool) (slots : List Slot) (n : ℕ) (c d : List ℕ) → IsChain aborted slots n c → IsChain aborted slots n d

@@ -69,6 +69,17 @@ pub record IsFirstSeen (seen : Header → Type 0) (slots : List Slot) (chain : L
 abbrev pub NoneSeen : (Header → Type 0) → List Slot → List ℕ → Type 0
 NoneSeen seen slots chain = (j : ℕ) (u : Version) → j < length chain → version_at slots (slice_index chain j) ≡ Some u → ¬ seen u.header
 
+-- the first version of these slots that is seen is in slot n
+pub record IsSeenIn (seen : Header → Type 0) (slots : List Slot) (chain : List ℕ) (n : ℕ) : Type 0 where
+  pub index : ℕ
+  pub slot : n ≡ slice_index chain index
+  pub version : Version
+  pub first : IsFirstSeen seen slots chain index version
+
+-- the slot of the first version of these that is seen, if there is one
+abbrev pub FirstSeenIn : (Header → Type 0) → List Slot → List ℕ → Option ℕ → Type 0
+FirstSeenIn seen slots chain answer = MatchOption answer (NoneSeen seen slots chain) (IsSeenIn seen slots chain)
+
 -- the first version of these slots that is seen, if there is one
 abbrev pub FirstSeen : (Header → Type 0) → List Slot → List ℕ → Option Version → Type 0
 FirstSeen seen slots chain answer = MatchOption answer (NoneSeen seen slots chain) (λ t. (i : ℕ) × IsFirstSeen seen slots chain i t)

@@ -3,7 +3,7 @@
 ghost use Rattle.std.specs.Prelude.{◌≡◌};
 ghost use Rattle.page_slots.specs.Slots.{version_at};
 ghost use Rattle.visibility.specs.Visible.{IsVisible};
-ghost use Rattle.hot_chain.specs.Chain.{has_aborted, FirstSeen, Fetched};
+ghost use Rattle.hot_chain.specs.Chain.{has_aborted, FirstSeenIn, Fetched};
 
 use crate::walk::chain;
 use commit_status::StatusTable;
@@ -22,20 +22,20 @@ fn version_at(page: &Page, number: u16) -> Option<Tuple>
     }
 }
 
-/// The first slot of these whose version the reader sees.
-fn first_seen(
+/// The first slot of these whose version the reader sees. It takes no memory.
+pub fn first_seen(
     page: &Page,
     slots: &[u16],
     snapshot: &Snapshot,
     own: &OwnIds,
     table: &StatusTable,
-) -> Option<Tuple>
-    ensures { FirstSeen (IsVisible table.now snapshot.now own.now.ids) page.now.slots slots.now result }
+) -> Option<u16>
+    ensures { FirstSeenIn (IsVisible table.now snapshot.now own.now.ids) page.now.slots slots.now result }
 {
     for slot in slots {
         if let Some(header) = page.header(*slot) {
             if visible_header(&header, snapshot, own, table) {
-                return version_at(page, *slot);
+                return Some(*slot);
             }
         }
     }
@@ -53,5 +53,8 @@ pub fn fetch(
     ensures { Fetched (has_aborted table.now) (IsVisible table.now snapshot.now own.now.ids) page.now.slots number result }
 {
     let slots = chain(page, number, table);
-    first_seen(page, slots.as_slice(), snapshot, own, table)
+    match first_seen(page, slots.as_slice(), snapshot, own, table) {
+        Some(slot) => version_at(page, slot),
+        None => None,
+    }
 }

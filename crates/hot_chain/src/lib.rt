@@ -1,14 +1,14 @@
 //! The chain of versions that a slot leads to.
 //!
 //! The contract promises that [`chain`] lists what `specs/Chain.antt` defines, on any page, however its links go, and by
-//! [`chain_is_one`] that a slot has one chain; that [`fetch`] answers the first version of it that the reader sees, and
-//! [`root_of`] the lowest root or redirect whose chain holds a slot. None takes memory.
+//! [`chain_is_one`] that a slot has one chain; that [`first_seen`] answers which slot of some has the first version that the
+//! reader sees, [`fetch`] the first version of a chain that it sees, and [`root_of`] the lowest root or redirect whose chain holds a slot. None takes memory.
 #![tactic(auto)]
 
 mod fetching;
 mod roots;
 mod walk;
 
-pub use fetching::fetch;
+pub use fetching::{fetch, first_seen};
 pub use roots::{is_root, root_of};
 pub use walk::{chain, chain_is_one, list_chain};

@@ -1,17 +1,18 @@
 -- The slots of a page as a map from numbers to slots: what each change of a page does to it.
 use Rattle.std.proofs.Common.{◌≡◌, ◌≢◌, ℕ, zero, suc, ◌+◌, ◌-◌, ◌<◌, ◌≤◌, ◌==◌, true, false, not, if◌then◌else◌, ◌⊎◌, inl, inr, ⊎_elim, List, [], ◌∷◌, ◌++◌, length, get_or, set, Option, Some, None, IsSome, sym, ap, ◌∙◌, refl, arith, length-append, eq-eqb}
 use Rattle.std.proofs.lemmas.Bool.{cases_Bool, true≢false, ltb-true, ltb-false, eqb-true}
-use Rattle.std.proofs.lemmas.Option.{slice_get-get_or, slice_get_past, slice_get_within, slice_get_cases, get_or_from_slice_get}
+use Rattle.std.proofs.lemmas.Option.{slice_get-get_or, slice_get_past, slice_get_within, slice_get_cases, get_or_from_slice_get, same_Some, none-some}
 use Rattle.std.proofs.lemmas.List.{length-set, get_or-set_same, get_or-set_other}
 use Rattle.std.proofs.lemmas.List.Sums.{prefix_len-le-length, passes_at_first}
 use Rattle.std.proofs.Math.ListN.{get_or-append}
 use Rattle.std.proofs.Math.Seq.{get_or-append_seam}
 use Rattle.std.specs.List.{slice_get, position_or_len}
-use Rattle.std.specs.Option.{option_and_then}
+use Rattle.std.specs.Option.{option_and_then, option_map}
 use Rattle.page_slots.specs.declared.slot.Slot.{Slot}
 use Rattle.page_slots.specs.declared.slot.Slot.TheVariants.{Unused, Normal, Redirect, Dead}
 use Rattle.tuple_header.specs.Version.{Version}
-use Rattle.page_slots.specs.Slots.{is_unused, slot_at, version_at, version_of, IsThere, IsNormalAt, the_slot, with_slot, has_unused, free_number, with_added}
+use Rattle.tuple_header.specs.declared.version.Header.{Header}
+use Rattle.page_slots.specs.Slots.{is_unused, slot_at, version_at, version_of, IsThere, IsNormalAt, the_slot, with_slot, has_unused, free_number, with_added, header_at}
 
 -- a place that is another's holds what it held
 slice_get-set_other : (slots : List Slot) (i j : ℕ) (s : Slot) → j ≢ i → slice_get (set slots i s) j ≡ slice_get slots j
@@ -62,6 +63,19 @@ slot_at-from_version_at slots n t e = normal_inside (slot_at slots n) t e
 some_inside : (o : Option Version) → IsSome o → (t : Version) × (o ≡ Some t)
 some_inside None e = absurd (cc e)
 some_inside (Some t) e = (t, refl)
+
+-- no version stands where there is no slot
+pub version_at-none : (n : ℕ) (t : Version) → version_at [] n ≡ Some t → ⊥
+version_at-none zero t e = none-some t e
+version_at-none (suc n) t e = none-some t e
+
+-- what a look-up of a header tells of the version
+pub version-from_header : (slots : List Slot) (n : ℕ) (h : Header) → header_at slots n ≡ Some h → (t : Version) × (version_at slots n ≡ Some t) × (h ≡ t.header)
+version-from_header slots n h e = by (version_at slots n) e
+  where
+    by : (o : Option Version) → option_map (λ (t : Version). t.header) o ≡ Some h → (t : Version) × (o ≡ Some t) × (h ≡ t.header)
+    by None none = absurd (cc)
+    by (Some t) is = (t, refl, sym (same_Some t.header h is))
 
 -- the version of a normal slot
 pub normal_at : (slots : List Slot) (n : ℕ) → IsNormalAt slots n → (t : Version) × (slot_at slots n ≡ Some (Normal t))

@@ -3,6 +3,7 @@ use Rattle.std.proofs.Common.{◌≡◌, ℕ, ◌≤◌, Bool, true, false, not,
 use Rattle.std.proofs.lemmas.Bool.Decides.{nat_tests}
 use Rattle.std.proofs.lemmas.Nat.{and_or_apart, and_assoc, or_comm}
 use Rattle.std.specs.Int.Bits.{and_zero_r}
+use Rattle.std.proofs.lemmas.Bool.{or_parts}
 use Rattle.tuple_header.specs.declared.version.Header.{Header}
 use Rattle.tuple_header.specs.Faults.{has_mark, header_fault, is_wrong_in}
 use Rattle.tuple_header.specs.declared.fault.TupleFault.TheVariants.{Masks}
@@ -42,10 +43,6 @@ root-thawed false x page slot = refl
 
 -- Faults.
 
-or-false : (a b : Bool) → a || b ≡ false → (a ≡ false) × (b ≡ false)
-or-false true b e = absurd (cc)
-or-false false b e = (refl, e)
-
 normal-xmax : (x : ℕ) (b : Bool) → 3 ≤ x → nat_eq x 1 || nat_eq x 2 || (nat_eq x 0 && b) ≡ false
 normal-xmax x b h = grind (arith, nat_tests)
 
@@ -56,8 +53,8 @@ slot-in n a b = grind (arith, nat_tests)
 cleared-masks : (hot : Bool) (h : Header) → is_wrong_in Masks h ≡ false
     → has_mark (marked_hot hot h.mask2) 0x3800 || has_mark (without_deleter h.mask) 0xd0ff || (has_mark (without_deleter h.mask) 0x0400 && has_mark (without_deleter h.mask) 0x0800) ≡ false
 cleared-masks hot h e =
-    let outer = or-false _ _ e in
-    let inner = or-false _ _ outer.0 in
+    let outer = or_parts _ _ e in
+    let inner = or_parts _ _ outer.0 in
     let first : has_mark (marked_hot hot h.mask2) 0x3800 ≡ false = ap (λ y. not (nat_eq y 0)) (hot-other hot h.mask2 0x3800 refl refl) ∙ inner.0 in
     let second : has_mark (without_deleter h.mask) 0xd0ff ≡ false = ap (λ y. not (nat_eq y 0)) (and_assoc 0xd0ff h.mask 0xf3ff) ∙ inner.1 in
     let third : has_mark (without_deleter h.mask) 0x0400 ≡ false = ap (λ y. not (nat_eq y 0)) (and_assoc 0x0400 h.mask 0xf3ff ∙ and_zero_r h.mask) in

@@ -1,6 +1,7 @@
 -- What a write does to versions says what it does to links.
 use Rattle.std.proofs.Common.{◌≡◌, ◌⊎◌, ◌≤◌, ◌==◌, ◌&&◌, ℕ, Bool, true, false, not, List, length, Some, None, inl, inr, ⊎_elim, sym, ap, ◌∙◌, refl}
 use Rattle.std.proofs.lemmas.Bool.{and_parts}
+use Rattle.std.proofs.lemmas.Option.{same_Some}
 use Rattle.page_slots.specs.declared.slot.Slot.{Slot}
 use Rattle.page_slots.specs.declared.slot.Slot.TheVariants.{Redirect}
 use Rattle.page_slots.specs.Slots.{slot_at, version_at}
@@ -11,7 +12,7 @@ use Rattle.commit_status.specs.Window.{Window}
 use Rattle.hot_chain.specs.Chain.{has_aborted, is_replaced}
 use Rattle.prune.specs.Cutting.{link}
 use Rattle.prune.specs.Sound.{SomeNext, SoundPage}
-use Rattle.prune.proofs.Links.{IsLink, link-of, same_some}
+use Rattle.prune.proofs.Links.{IsLink, link-of}
 use Rattle.prune.proofs.Unseen.{aborted-has}
 use Rattle.page_writes.specs.Keeps.{IsMade, IsUntaken}
 use Rattle.page_writes.proofs.Statuses.{successor-from}
@@ -77,7 +78,7 @@ change-back w horizon slots after n k a b sound c next =
     to-new from fresh =
         let was = sound.whole a l.old from l.replaced in
         let k = link-of (has_aborted w) slots a was.place was.next in
-        let one : k.old ≡ l.old = same_some k.old l.old (sym k.from ∙ from) in
+        let one : k.old ≡ l.old = same_Some k.old l.old (sym k.from ∙ from) in
         let place : b ≡ was.place = sym l.place ∙ ap (λ (v : Version). v.header.ctid.slot) (sym one) ∙ k.place in
         none-some (version_at slots b) k.new fresh (ap (version_at slots) place ∙ k.to)
 

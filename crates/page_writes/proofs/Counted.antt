@@ -1,6 +1,6 @@
 -- A version that is taken away changes otherwise than in hints.
-use Rattle.std.proofs.Common.{◌≡◌, ◌≢◌, ◌&&◌, ℕ, Bool, true, false, nat_eq, List, arith, ⊎_elim, sym, ap, ◌∙◌, refl}
-use Rattle.std.proofs.lemmas.Bool.Decides.{nat_tests}
+use Rattle.std.proofs.Common.{◌≡◌, ◌≢◌, ◌&&◌, ℕ, Bool, true, false, List, ⊎_elim, sym, ap, ◌∙◌, refl}
+use Rattle.std.proofs.lemmas.Bool.{ne_eqb}
 use Rattle.page_slots.specs.declared.slot.Slot.{Slot}
 use Rattle.page_slots.specs.declared.slot.Slot.TheVariants.{Normal}
 use Rattle.page_slots.specs.Slots.{change_unless, next_change}
@@ -15,9 +15,6 @@ one-differs : (a b c d e : Bool) → b ≡ false → a && b && c && d && e ≡ f
 one-differs true b c d e f = rw f refl
 one-differs false b c d e f = refl
 
-not-same : (x y : ℕ) → x ≢ y → nat_eq x y ≡ false
-not-same x y h = grind (arith, nat_tests)
-
 other-deleter : (w : Window) (n x : ℕ) (slots : List Slot) → IsActive w x → (f : IsFree w slots n) → f.version.header.xmax.0 ≢ x
 other-deleter w n x slots active f same = ⊎_elim
     (λ none. active-some w x active (sym same ∙ none))
@@ -30,5 +27,5 @@ counted w n x page place change hot slots active f =
     let t = f.version in
     let is = the_slot-from_slot_at slots n (Normal t) (slot_at-from_version_at slots n t f.there) in
     let off : was_replaced x page place hot (Normal t) ≡ false =
-    one-differs _ _ _ _ _ (not-same t.header.xmax.0 x (other-deleter w n x slots active f)) in
+    one-differs _ _ _ _ _ (ne_eqb t.header.xmax.0 x (other-deleter w n x slots active f)) in
     ap (λ s. change_unless (was_replaced x page place hot s) change) is ∙ ap (λ b. change_unless b change) off

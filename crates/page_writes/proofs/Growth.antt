@@ -1,23 +1,25 @@
 -- A write leaves a page sound.
 use Rattle.std.proofs.Common.{◌≡◌, ◌≢◌, ◌⊎◌, ◌≤◌, ℕ, zero, suc, Bool, true, false, List, length, Option, Some, None, if◌then◌else◌, inl, inr, ⊎_elim, sym, ap, ◌∙◌, refl, subst}
 use Rattle.std.proofs.lemmas.Bool.{cases_Bool, not-true}
-use Rattle.std.specs.Option.{option_and_then}
+use Rattle.std.proofs.lemmas.Option.{same_Some}
 use Rattle.page_slots.specs.declared.slot.Slot.{Slot}
 use Rattle.page_slots.specs.declared.slot.Slot.TheVariants.{Unused, Normal, Redirect, Dead}
-use Rattle.page_slots.specs.Slots.{slot_at, version_at, version_of}
-use Rattle.page_slots.proofs.SlotLemmas.{slot_at-from_version_at}
+use Rattle.page_slots.specs.Slots.{slot_at, version_at}
+use Rattle.page_slots.proofs.SlotLemmas.{slot_at-from_version_at, version_at-from_slot_at}
 use Rattle.tuple_header.specs.Version.{Version}
 use Rattle.tuple_header.specs.declared.version.Header.{Header}
 use Rattle.tuple_header.specs.Marks.{is_frozen, is_heap_only}
 use Rattle.xid_circle.specs.Circle.{Precedes}
+use Rattle.xid_circle.specs.Following.{ReachesIn}
 use Rattle.commit_status.specs.declared.status.Status.TheVariants.{InProgress, Committed, Aborted}
 use Rattle.commit_status.specs.Window.{Window, IsCommitted, IsAborted, IsInProgress}
 use Rattle.visibility.specs.Visible.{IsFrozen}
-use Rattle.hot_chain.specs.Chain.{has_aborted, is_replaced, is_root, is_root_in}
-use Rattle.prune.specs.Cutting.{link, ReachesIn, Reaches}
+use Rattle.hot_chain.specs.Chain.{has_aborted, is_replaced, is_root_in}
+use Rattle.prune.specs.Cutting.{link, Reaches}
 use Rattle.prune.specs.Sound.{entry_in, entry_of, IsIn, IsTarget, SomeRoot, SomeNext, SoundPage}
-use Rattle.prune.proofs.Links.{link-of, same_some}
+use Rattle.prune.proofs.Links.{link-of}
 use Rattle.prune.proofs.Unseen.{committed-some}
+use Rattle.prune.proofs.CheckLemmas.{plain-root}
 use Rattle.page_writes.specs.Keeps.{IsMade, KeepsEntries}
 
 -- a version before and after
@@ -172,8 +174,8 @@ redirected (Some (Normal t)) n e h = inl (plain (is_heap_only t.header) refl h)
     plain : (b : Bool) → is_heap_only t.header ≡ b → (if b then None else Some n) ≡ Some e
         → (u : Version) × (Some (Normal t) ≡ Some (Normal u)) × (is_heap_only u.header ≡ false) × (n ≡ e)
     plain true is f = absurd (cc)
-    plain false is f = (t, refl, is, same_some n e f)
-redirected (Some (Redirect k)) n e h = inr (let f : k ≡ e = same_some k e h in cc)
+    plain false is f = (t, refl, is, same_Some n e f)
+redirected (Some (Redirect k)) n e h = inr (let f : k ≡ e = same_Some k e h in cc)
 redirected (Some Dead) n e h = absurd (cc)
 
 pub entry-normal : (slots : List Slot) (n : ℕ) (t : Version) → version_at slots n ≡ Some t → is_heap_only t.header ≡ false → entry_of slots n ≡ Some n
@@ -182,12 +184,9 @@ entry-normal slots n t at plain = rw (slot_at-from_version_at slots n t at, plai
 entry-redirect : (slots : List Slot) (n e : ℕ) → slot_at slots n ≡ Some (Redirect e) → entry_of slots n ≡ Some e
 entry-redirect slots n e at = rw at refl
 
-normal-at : (slots : List Slot) (n : ℕ) (t : Version) → slot_at slots n ≡ Some (Normal t) → version_at slots n ≡ Some t
-normal-at slots n t at = ap (option_and_then version_of) at
-
 entry-forth : (w : Window) (slots after : List Slot) (n k a e : ℕ) → IsWrite w slots after n k → entry_of slots a ≡ Some e → entry_of after a ≡ Some e
 entry-forth w slots after n k a e g h = ⊎_elim
-    (λ x. let u = g.kept a x.0 (normal-at slots a x.0 x.1) in entry-normal after a u.new u.there (u.same.heap_only ∙ x.2) ∙ ap (λ (i : ℕ). Some i) x.3)
+    (λ x. let u = g.kept a x.0 (version_at-from_slot_at slots a x.0 x.1) in entry-normal after a u.new u.there (u.same.heap_only ∙ x.2) ∙ ap (λ (i : ℕ). Some i) x.3)
     (λ at. entry-redirect after a e (g.redirect_kept a e at))
     (redirected (slot_at slots a) a e h)
 
@@ -202,7 +201,7 @@ pub record IsNewRoot (slots after : List Slot) (a e : ℕ) : Type 0 where
 entry-back : (w : Window) (slots after : List Slot) (n k a e : ℕ) → IsWrite w slots after n k → entry_of after a ≡ Some e
     → (entry_of slots a ≡ Some e) ⊎ IsNewRoot slots after a e
 entry-back w slots after n k a e g h = ⊎_elim
-    (λ x. let at = normal-at after a x.0 x.1 in ⊎_elim
+    (λ x. let at = version_at-from_slot_at after a x.0 x.1 in ⊎_elim
     (λ u. inl (entry-normal slots a u.old u.there (sym u.same.heap_only ∙ x.2) ∙ ap (λ (i : ℕ). Some i) x.3))
     (λ new. inr (record { itself = x.3; fresh = new.fresh; version = x.0; there = at; plain = x.2 })) (g.was a x.0 at))
     (λ at. inl (entry-redirect slots a e (g.redirect_was a e at)))
@@ -226,7 +225,7 @@ in-version w horizon slots root m sound i = behind i.later.turns i.entry first i
   where
     first : (t : Version) × (version_at slots i.entry ≡ Some t)
     first = ⊎_elim
-        (λ x. (x.0, ap (version_at slots) (sym x.3) ∙ normal-at slots root x.0 x.1))
+        (λ x. (x.0, ap (version_at slots) (sym x.3) ∙ version_at-from_slot_at slots root x.0 x.1))
         (λ at. let t = sound.redirects root i.entry at in (t.version, t.there))
         (redirected (slot_at slots root) root i.entry i.leads)
 
@@ -256,7 +255,7 @@ in-back w slots after n k root m g i = ⊎_elim old new (entry-back w slots afte
 -- a new version is heap-only or a root
 apart : (slots after : List Slot) (k a : ℕ) → IsAdded slots after k → IsNewRoot slots after a a → k ≡ a → ⊥
 apart slots after k a added r same =
-    let one : added.new ≡ r.version = same_some added.new r.version (sym added.there ∙ ap (version_at after) same ∙ r.there) in
+    let one : added.new ≡ r.version = same_Some added.new r.version (sym added.there ∙ ap (version_at after) same ∙ r.there) in
     let e : true ≡ false = sym added.heap_only ∙ ap (λ (v : Version). is_heap_only v.header) one ∙ r.plain in
     absurd (cc)
 
@@ -374,13 +373,10 @@ root-cases (Some (Normal t)) e = inl (t, refl, not-true (is_heap_only t.header) 
 root-cases (Some (Redirect j)) e = inr (j, refl)
 root-cases (Some Dead) e = absurd (cc)
 
-root-normal : (slots : List Slot) (n : ℕ) (t : Version) → version_at slots n ≡ Some t → is_heap_only t.header ≡ false → is_root slots n ≡ true
-root-normal slots n t at plain = rw (slot_at-from_version_at slots n t at, plain) refl
-
 pub write-entries : (w : Window) (slots after : List Slot) (n k : ℕ) → IsWrite w slots after n k → KeepsEntries w slots after
 write-entries w slots after n k g = record {
   roots = λ m starts. ⊎_elim
-      (λ x. let h = g.kept m x.0 (normal-at slots m x.0 x.1) in root-normal after m h.new h.there (h.same.heap_only ∙ x.2))
+      (λ x. let h = g.kept m x.0 (version_at-from_slot_at slots m x.0 x.1) in plain-root after m h.new h.there (h.same.heap_only ∙ x.2))
       (λ x. let at = g.redirect_kept m x.0 x.1 in rw at refl)
       (root-cases (slot_at slots m) starts);
   chains = λ root m i. in-forth w slots after n k root m g i;

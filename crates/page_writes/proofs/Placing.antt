@@ -2,15 +2,16 @@
 use Rattle.std.proofs.Common.{◌≡◌, ◌≢◌, ◌⊎◌, ◌≤◌, ℕ, true, false, List, length, Option, Some, None, inl, inr, ⊎_elim, sym, ap, ◌∙◌, refl, subst}
 use Rattle.std.proofs.lemmas.Bool.{cases_eq}
 use Rattle.std.specs.Option.{option_and_then}
+use Rattle.std.proofs.lemmas.Option.{same_Some}
 use Rattle.page_slots.specs.declared.slot.Slot.{Slot}
 use Rattle.page_slots.specs.declared.slot.Slot.TheVariants.{Unused, Normal, Redirect}
 use Rattle.page_slots.specs.Slots.{slot_at, version_at, version_of}
+use Rattle.page_slots.proofs.SlotLemmas.{version_at-from_slot_at}
 use Rattle.tuple_header.specs.Version.{Version}
 use Rattle.tuple_header.specs.Marks.{is_frozen, is_heap_only, is_hot_updated}
 use Rattle.commit_status.specs.Window.{Window, IsInProgress}
 use Rattle.hot_chain.specs.Chain.{has_aborted, is_replaced}
 use Rattle.prune.specs.Cutting.{link}
-use Rattle.prune.proofs.Links.{same_some}
 use Rattle.page_writes.specs.Keeps.{IsMade, IsUntaken}
 use Rattle.page_writes.proofs.Statuses.{successor-from}
 use Rattle.page_writes.proofs.Growth.{IsSameVersion, HasVersion, IsNew, none-some}
@@ -20,10 +21,7 @@ use Rattle.page_writes.proofs.Changing.{IsAltered, IsChange, same-version}
 abbrev pub IsFreePlace : List Slot → ℕ → Type 0
 IsFreePlace slots k = (slot_at slots k ≡ None) ⊎ (slot_at slots k ≡ Some Unused)
 
-version-in : (slots : List Slot) (m : ℕ) (t : Version) → slot_at slots m ≡ Some (Normal t) → version_at slots m ≡ Some t
-version-in slots m t at = ap (option_and_then version_of) at
-
-version-as : (slots after : List Slot) (m : ℕ) (o : Option Version) → slot_at after m ≡ slot_at slots m → version_at slots m ≡ o → version_at after m ≡ o
+pub version-as : (slots after : List Slot) (m : ℕ) (o : Option Version) → slot_at after m ≡ slot_at slots m → version_at slots m ≡ o → version_at after m ≡ o
 version-as slots after m o same at = ap (option_and_then version_of) same ∙ at
 
 free-version : (slots : List Slot) (k : ℕ) → IsFreePlace slots k → version_at slots k ≡ None
@@ -52,7 +50,7 @@ pub record Adds (slots after : List Slot) (k : ℕ) (v : Version) : Type 0 where
 new-at : (w : Window) (slots after : List Slot) (k m : ℕ) (u v : Version) → IsFreePlace slots k → slot_at after k ≡ Some (Normal v) → IsFresh w v
     → m ≡ k → version_at after m ≡ Some u → IsNew w slots m u
 new-at w slots after k m u v free put fresh here at =
-    let one : v ≡ u = same_some v u (sym (version-in after k v put) ∙ ap (version_at after) (sym here) ∙ at) in
+    let one : v ≡ u = same_Some v u (sym (version_at-from_slot_at after k v put) ∙ ap (version_at after) (sym here) ∙ at) in
     subst (IsNew w slots m) one (record { fresh = ap (version_at slots) here ∙ free-version slots k free; maker = fresh.maker; deleter = fresh.deleter; thawed = fresh.thawed })
 
 pub adding : (w : Window) (slots after : List Slot) (k : ℕ) (v : Version) → Adds slots after k v → IsFresh w v → is_heap_only v.header ≡ false → IsChange w slots after k k
@@ -69,7 +67,7 @@ adding w slots after k v a fresh plain = record {
   redirect_kept = λ m j at. ⊎_elim (λ here. free-redirect slots k j a.free (ap (slot_at slots) (sym here) ∙ at)) (λ other. a.others m other ∙ at) (cases_eq m k);
   redirect_was = λ m j at. ⊎_elim (λ here. normal-redirect after k j v a.put (ap (slot_at after) (sym here) ∙ at)) (λ other. sym (a.others m other) ∙ at) (cases_eq m k);
   linked = λ m u at none heap_only. ⊎_elim
-      (λ here. let one : v ≡ u = same_some v u (sym (version-in after k v a.put) ∙ ap (version_at after) (sym here) ∙ at) in
+      (λ here. let one : v ≡ u = same_Some v u (sym (version_at-from_slot_at after k v a.put) ∙ ap (version_at after) (sym here) ∙ at) in
       let e : true ≡ false = sym heap_only ∙ ap (λ (z : Version). is_heap_only z.header) (sym one) ∙ plain in absurd (cc))
       (λ other. none-some (version_at slots m) u none (version-as after slots m (Some u) (sym (a.others m other)) at))
       (cases_eq m k);
@@ -92,8 +90,8 @@ pub record IsTaken (w : Window) (t u : Version) : Type 0 where
 has-taken : (w : Window) (slots after : List Slot) (n m : ℕ) (t u s : Version) → slot_at slots n ≡ Some (Normal t) → slot_at after n ≡ Some (Normal u) → IsTaken w t u
     → m ≡ n → version_at slots m ≡ Some s → HasVersion w after m s × (IsUntaken w s.header ⊎ (version_at after m ≡ Some s))
 has-taken w slots after n m t u s from put taken here at =
-    let one : t ≡ s = same_some t s (sym (version-in slots n t from) ∙ ap (version_at slots) (sym here) ∙ at) in (
-      record { new = u; there = ap (version_at after) here ∙ version-in after n u put; same = subst (λ (z : Version). IsSameVersion w z u) one taken.same },
+    let one : t ≡ s = same_Some t s (sym (version_at-from_slot_at slots n t from) ∙ ap (version_at slots) (sym here) ∙ at) in (
+      record { new = u; there = ap (version_at after) here ∙ version_at-from_slot_at after n u put; same = subst (λ (z : Version). IsSameVersion w z u) one taken.same },
       inl (subst (λ (z : Version). IsUntaken w z.header) one taken.untaken),
     )
 
@@ -101,10 +99,10 @@ altered-at : (w : Window) (slots after : List Slot) (n k m : ℕ) (t u s : Versi
     → (is_hot_updated u.header ≡ false) ⊎ ((version_at slots k ≡ None) × (u.header.ctid.slot ≡ k) × (link w after n ≡ Some k))
     → m ≡ n → version_at after m ≡ Some s → IsAltered w slots after n k m s
 altered-at w slots after n k m t u s from put taken leads here at =
-    let one : u ≡ s = same_some u s (sym (version-in after n u put) ∙ ap (version_at after) (sym here) ∙ at) in
+    let one : u ≡ s = same_Some u s (sym (version_at-from_slot_at after n u put) ∙ ap (version_at after) (sym here) ∙ at) in
     subst (IsAltered w slots after n k m) one (record {
       here = here;
-      had = record { old = t; there = ap (version_at slots) here ∙ version-in slots n t from; same = taken.same };
+      had = record { old = t; there = ap (version_at slots) here ∙ version_at-from_slot_at slots n t from; same = taken.same };
       made = taken.made;
       leads = leads;
     })
@@ -123,7 +121,7 @@ taking w slots after n t u a taken off = record {
   redirect_kept = λ m j at. ⊎_elim (λ here. normal-redirect slots n j t a.here (ap (slot_at slots) (sym here) ∙ at)) (λ other. a.others m other ∙ at) (cases_eq m n);
   redirect_was = λ m j at. ⊎_elim (λ here. normal-redirect after n j u a.put (ap (slot_at after) (sym here) ∙ at)) (λ other. sym (a.others m other) ∙ at) (cases_eq m n);
   linked = λ m s at none heap_only. ⊎_elim
-      (λ here. none-some (version_at slots m) t none (ap (version_at slots) here ∙ version-in slots n t a.here))
+      (λ here. none-some (version_at slots m) t none (ap (version_at slots) here ∙ version_at-from_slot_at slots n t a.here))
       (λ other. none-some (version_at slots m) s none (version-as after slots m (Some s) (sym (a.others m other)) at))
       (cases_eq m n);
 }
@@ -168,9 +166,9 @@ replacing w slots after n k t u v a taken fresh leads = record {
       (λ here. normal-redirect after k j v a.added (ap (slot_at after) (sym here) ∙ at))
       (λ i l. sym (a.others m i l) ∙ at);
   linked = λ m s at gone heap_only. by-place n k m
-      (λ here. none-some (version_at slots m) t gone (ap (version_at slots) here ∙ version-in slots n t a.here))
+      (λ here. none-some (version_at slots m) t gone (ap (version_at slots) here ∙ version_at-from_slot_at slots n t a.here))
       (λ here. (
-        record { from = refl; to = here; fresh = none; old = t; there = version-in slots n t a.here; made = taken.made },
+        record { from = refl; to = here; fresh = none; old = t; there = version_at-from_slot_at slots n t a.here; made = taken.made },
         next ∙ ap (λ (i : ℕ). Some i) (sym here),
       ))
       (λ i j. none-some (version_at slots m) s gone (version-as after slots m (Some s) (sym (a.others m i j)) at));
@@ -180,4 +178,4 @@ replacing w slots after n k t u v a taken fresh leads = record {
     none = free-version slots k a.free
 
     next : link w after n ≡ Some k
-    next = successor-from (has_aborted w) after n k u v (version-in after n u a.put) (version-in after k v a.added) leads.replaced leads.place leads.heap_only leads.maker
+    next = successor-from (has_aborted w) after n k u v (version_at-from_slot_at after n u a.put) (version_at-from_slot_at after k v a.added) leads.replaced leads.place leads.heap_only leads.maker

@@ -1,12 +1,11 @@
 -- The slots after each write, and what holds of them.
-use Rattle.std.proofs.Common.{◌≡◌, ◌≢◌, ◌⊎◌, ◌≤◌, ◌+◌, ℕ, Bool, true, false, nat_eq, List, length, Option, Some, IsSome, if◌then◌else◌, arith, inl, inr, ⊎_elim, sym, ap, ◌∙◌, refl, subst}
-use Rattle.std.proofs.lemmas.Bool.{cases_eq, cases_Bool}
-use Rattle.std.proofs.lemmas.Bool.Decides.{nat_tests}
-use Rattle.std.specs.Option.{option_and_then}
+use Rattle.std.proofs.Common.{◌≡◌, ◌≢◌, ◌⊎◌, ◌≤◌, ◌+◌, ℕ, Bool, true, false, List, length, Some, IsSome, if◌then◌else◌, arith, inl, inr, ⊎_elim, sym, ap, ◌∙◌, refl, subst}
+use Rattle.std.proofs.lemmas.Bool.{cases_eq, cases_Bool, ne_eqb}
+use Rattle.std.proofs.lemmas.Option.{same_Some}
 use Rattle.page_slots.specs.declared.slot.Slot.{Slot}
 use Rattle.page_slots.specs.declared.slot.Slot.TheVariants.{Normal}
-use Rattle.page_slots.specs.Slots.{slot_at, version_at, version_of, the_slot, with_added, has_unused, free_number}
-use Rattle.page_slots.proofs.SlotLemmas.{there-from_slot_at, slot_at-from_version_at, the_slot-from_slot_at, slot_at-with_slot, slot_at-with_slot_other, length-with_slot, free_number-new, free_number-was, length-with_added, slot_at-with_added, slot_at-with_added_other, free_number-not_normal}
+use Rattle.page_slots.specs.Slots.{slot_at, version_at, the_slot, with_added, has_unused, free_number}
+use Rattle.page_slots.proofs.SlotLemmas.{there-from_slot_at, slot_at-from_version_at, the_slot-from_slot_at, slot_at-with_slot, slot_at-with_slot_other, length-with_slot, free_number-new, free_number-was, length-with_added, slot_at-with_added, slot_at-with_added_other, free_number-not_normal, version_at-from_slot_at}
 use Rattle.tuple_header.specs.Version.{Version}
 use Rattle.tuple_header.specs.declared.version.Row.{Row}
 use Rattle.tuple_header.specs.Marks.{is_heap_only}
@@ -14,7 +13,6 @@ use Rattle.commit_status.specs.Window.{Window, IsActive, place}
 use Rattle.hot_chain.specs.Chain.{has_aborted, is_aborted}
 use Rattle.prune.specs.Cutting.{link}
 use Rattle.prune.specs.Sound.{IsIn, SoundPage}
-use Rattle.prune.proofs.Links.{same_some}
 use Rattle.page_writes.specs.Headers.{replaced_header, root_header, heap_only_header}
 use Rattle.page_writes.specs.Writes.{replaced_slot, with_replaced, with_root, with_updated}
 use Rattle.page_writes.specs.Keeps.{IsFree, NoNew, NewRoot, NewIn}
@@ -23,7 +21,7 @@ use Rattle.page_writes.proofs.Bits.{replaced-hot, replaced-heap_only, replaced-f
 use Rattle.page_writes.proofs.Statuses.{successor-from}
 use Rattle.page_writes.proofs.Growth.{IsWrite, IsInBy, none-some, entry-normal, in-forth, in-on, in-back, write-sound, write-entries}
 use Rattle.page_writes.proofs.Changing.{change-write}
-use Rattle.page_writes.proofs.Placing.{Adds, Takes, Replaces, IsTaken, LeadsOn, adding, taking, replacing}
+use Rattle.page_writes.proofs.Placing.{Adds, Takes, Replaces, IsTaken, LeadsOn, adding, taking, replacing, version-as}
 
 few-added : (slots : List Slot) (s : Slot) → length slots ≤ 291 → free_number slots ≤ 291 → length (with_added slots s) ≤ 291
 few-added slots s few place =
@@ -41,21 +39,15 @@ added slots v few place = record {
   few = few-added slots (Normal v) few place;
 }
 
-normal-in : (slots : List Slot) (m : ℕ) (t : Version) → slot_at slots m ≡ Some (Normal t) → version_at slots m ≡ Some t
-normal-in slots m t at = ap (option_and_then version_of) at
-
-same-in : (slots after : List Slot) (m : ℕ) (o : Option Version) → slot_at after m ≡ slot_at slots m → version_at after m ≡ o → version_at slots m ≡ o
-same-in slots after m o same at = sym (ap (option_and_then version_of) same) ∙ at
-
 one-in : (slots : List Slot) (m : ℕ) (t u : Version) → slot_at slots m ≡ Some (Normal t) → version_at slots m ≡ Some u → t ≡ u
-one-in slots m t u here at = same_some t u (sym (normal-in slots m t here) ∙ at)
+one-in slots m t u here at = same_Some t u (sym (version_at-from_slot_at slots m t here) ∙ at)
 
 both-ways : {P : Type 0} (t u : Version) → t ≡ u → is_heap_only t.header ≡ true → is_heap_only u.header ≡ false → P
 both-ways t u one a b = absurd (let e : true ≡ false = sym a ∙ ap (λ (z : Version). is_heap_only z.header) one ∙ b in cc)
 
 new-root : (w : Window) (slots after : List Slot) (k : ℕ) (v : Version) → Adds slots after k v → is_heap_only v.header ≡ false → IsWrite w slots after k k → NewRoot w slots after k
 new-root w slots after k v a plain g = (
-  record { entry = k; leads = entry-normal after k v (normal-in after k v a.put) plain; later = record { turns = 0; along = refl } },
+  record { entry = k; leads = entry-normal after k v (version_at-from_slot_at after k v a.put) plain; later = record { turns = 0; along = refl } },
   λ root m i. by root m (in-back w slots after k k root m g i),
 )
   where
@@ -64,7 +56,7 @@ new-root w slots after k v a plain g = (
     by root m (IsInBy.behind to x y) = both-ways x.new v (sym (one-in after k v x.new a.put x.there)) x.heap_only plain
     by root m (IsInBy.itself same r) = ⊎_elim
         (λ here. inr (here, same ∙ here))
-        (λ other. none-some (version_at slots root) r.version r.fresh (same-in slots after root (Some r.version) (a.others root other) r.there))
+        (λ other. none-some (version_at slots root) r.version r.fresh (version-as after slots root (Some r.version) (sym (a.others root other)) r.there))
         (cases_eq root k)
 
 pub root-added : (w : Window) (horizon x page : ℕ) (slots : List Slot) (updated : Bool) (row : Row) → SoundPage w horizon slots → IsActive w x → free_number slots ≤ 291
@@ -118,10 +110,10 @@ none-new w slots after n t u a g root m i = by (in-back w slots after n n root m
   where
     by : IsInBy w slots after n n root m → IsIn w slots root m
     by (IsInBy.before x) = x
-    by (IsInBy.behind to x y) = none-some (version_at slots n) t x.fresh (normal-in slots n t a.here)
+    by (IsInBy.behind to x y) = none-some (version_at slots n) t x.fresh (version_at-from_slot_at slots n t a.here)
     by (IsInBy.itself same r) = ⊎_elim
-        (λ here. none-some (version_at slots root) t r.fresh (ap (version_at slots) here ∙ normal-in slots n t a.here))
-        (λ other. none-some (version_at slots root) r.version r.fresh (same-in slots after root (Some r.version) (a.others root other) r.there))
+        (λ here. none-some (version_at slots root) t r.fresh (ap (version_at slots) here ∙ version_at-from_slot_at slots n t a.here))
+        (λ other. none-some (version_at slots root) r.version r.fresh (version-as after slots root (Some r.version) (sym (a.others root other)) r.there))
         (cases_eq root n)
 
 pub taken-away : (w : Window) (horizon n x page place : ℕ) (slots : List Slot) → SoundPage w horizon slots → IsActive w x → IsFree w slots n
@@ -149,9 +141,6 @@ taken-away w horizon n x page place slots sound active f =
 
 -- A version replaced by a heap-only one.
 
-not-zero : (x : ℕ) → x ≢ 0 → nat_eq x 0 ≡ false
-not-zero x h = grind (arith, nat_tests)
-
 pub active-some : (w : Window) (x : ℕ) → IsActive w x → x ≢ 0
 active-some w x active none = absurd (let e : false ≡ true = subst (λ y. IsSome (place w y)) none active.is_given in cc)
 
@@ -159,7 +148,7 @@ leads-on : (w : Window) (x page k : ℕ) (t v : Version) → IsActive w x → is
     → LeadsOn w k (record t { header = replaced_header t.header x page k true }) v
 leads-on w x page k t v active heap_only maker =
     let hot = replaced-hot t.header x page k true in
-    let some = not-zero x (active-some w x active) in
+    let some = ne_eqb x 0 (active-some w x active) in
     let live : has_aborted w x ≡ false = ap is_aborted active.unfinished in
     record { replaced = rw (hot, some, live) refl; place = refl; heap_only = heap_only; maker = maker }
 
@@ -174,10 +163,10 @@ new-in w slots after n k t u v a next heap_only g = (
     by root m (IsInBy.before x) = inl x
     by root m (IsInBy.behind to x y) = inr (y, to)
     by root m (IsInBy.itself same r) = ⊎_elim
-        (λ here. none-some (version_at slots root) t r.fresh (ap (version_at slots) here ∙ normal-in slots n t a.here))
+        (λ here. none-some (version_at slots root) t r.fresh (ap (version_at slots) here ∙ version_at-from_slot_at slots n t a.here))
         (λ off. ⊎_elim
         (λ here. both-ways v r.version (one-in after k v r.version a.added (ap (version_at after) (sym here) ∙ r.there)) heap_only r.plain)
-        (λ other. none-some (version_at slots root) r.version r.fresh (same-in slots after root (Some r.version) (a.others root off other) r.there))
+        (λ other. none-some (version_at slots root) r.version r.fresh (version-as after slots root (Some r.version) (sym (a.others root off other)) r.there))
         (cases_eq root k))
         (cases_eq root n)
 
@@ -189,7 +178,7 @@ updated-slots slots n x page row t few place here =
     let v : Version = record { header = heap_only_header x page k; row = row } in
     let middle = with_added slots (Normal v) in
     let a = added slots v few place in
-    let apart : n ≢ k = (λ same. none-some (version_at slots n) t (ap (version_at slots) same ∙ free_number-not_normal slots) (normal-in slots n t here)) in
+    let apart : n ≢ k = (λ same. none-some (version_at slots n) t (ap (version_at slots) same ∙ free_number-not_normal slots) (version_at-from_slot_at slots n t here)) in
     let moved : slot_at middle n ≡ Some (Normal t) = a.others n apart ∙ here in
     let long = length-replaced middle n x page k true in
     record {
@@ -213,7 +202,7 @@ updated-here w horizon n x page slots row sound active f place =
     let leads = leads-on w x page k t v active refl refl in
     let g = change-write w horizon slots after n k sound
     (replacing w slots after n k t u v a (taken w n x page k true slots active f) (record { maker = active.unfinished; deleter = refl; thawed = refl }) leads) in
-    let next = successor-from (has_aborted w) after n k u v (normal-in after n u a.put) (normal-in after k v a.added) leads.replaced leads.place leads.heap_only leads.maker in
+    let next = successor-from (has_aborted w) after n k u v (version_at-from_slot_at after n u a.put) (version_at-from_slot_at after k v a.added) leads.replaced leads.place leads.heap_only leads.maker in
     record {
       sound = write-sound w horizon slots after n k sound g;
       others = a.others;

@@ -2,24 +2,27 @@
 use Rattle.std.proofs.Common.{◌≡◌, ◌≢◌, ◌⊎◌, ◌≤◌, ℕ, zero, suc, Bool, true, false, not, ◌&&◌, ◌==◌, eq-eqb, List, Option, Some, arith, inl, inr, ⊎_elim, sym, ap, ◌∙◌, refl, subst}
 use Rattle.std.specs.List.{Contains}
 use Rattle.std.proofs.lemmas.Bool.{cases_Bool, and_parts, not-true}
+use Rattle.std.proofs.lemmas.Option.{same_Some}
 use Rattle.page_slots.specs.declared.slot.Slot.{Slot}
 use Rattle.page_slots.specs.Slots.{version_at}
 use Rattle.tuple_header.specs.Version.{Version}
 use Rattle.tuple_header.specs.declared.version.Header.{Header}
 use Rattle.tuple_header.specs.Marks.{is_hot_updated, is_heap_only}
 use Rattle.xid_circle.specs.Circle.{Precedes}
+use Rattle.xid_circle.specs.Following.{ReachesIn}
 use Rattle.commit_status.specs.declared.status.Status.{Status}
 use Rattle.commit_status.specs.declared.status.Status.TheVariants.{InProgress, Committed, Aborted}
 use Rattle.commit_status.specs.Window.{Window, IsWindow, IsActive, IsCommitted, IsAborted, IsUpToNext, status_of, turns}
 use Rattle.commit_status.specs.Changes.{Gives, Finishes}
-use Rattle.commit_status.proofs.Places.{precedes-turns, upto-place}
-use Rattle.commit_status.proofs.Giving.{gives-status, finished-place}
+use Rattle.commit_status.proofs.Places.{precedes-turns}
+use Rattle.commit_status.proofs.Giving.{gives-status}
 use Rattle.commit_status.proofs.Finishing.{finishes-named, finishes-other, finishes-committed_old, commits-cases, aborts-committed}
 use Rattle.visibility.specs.Visible.{IsFrozen}
+use Rattle.visibility.proofs.Dead.{committed-upto}
 use Rattle.hot_chain.specs.Chain.{has_aborted, is_replaced, next_of}
-use Rattle.prune.specs.Cutting.{link, ReachesIn, Reaches}
+use Rattle.prune.specs.Cutting.{link, Reaches}
 use Rattle.prune.specs.Sound.{IsIn, SomeRoot, SomeNext, SoundPage}
-use Rattle.prune.proofs.Links.{IsLink, link-of, same_some}
+use Rattle.prune.proofs.Links.{IsLink, link-of}
 use Rattle.prune.proofs.Removing.{has-aborted}
 use Rattle.prune.proofs.Unseen.{aborted-has, IsUndoneAt}
 use Rattle.page_writes.specs.Laws.{DeletedWhatWasMade, AloneDeletedTheirs}
@@ -84,7 +87,7 @@ undone-next : (w v : Window) (horizon later : ℕ) (slots : List Slot) (n k : �
     → link w slots n ≡ Some k → IsUndoneAt v slots n → IsUndoneAt v slots k
 undone-next w v horizon later slots n k sound g next u =
     let l = link-of (has_aborted w) slots n k next in
-    let same : u.version ≡ l.old = same_some u.version l.old (sym u.there ∙ l.from) in
+    let same : u.version ≡ l.old = same_Some u.version l.old (sym u.there ∙ l.from) in
     let thawed = subst (λ (o : Version). ¬ IsFrozen o.header) same u.thawed in
     let aborted = subst (λ (o : Version). IsAborted v o.header.xmin.0) same u.aborted in
     record {
@@ -120,7 +123,7 @@ owned-forth : (w v : Window) (horizon later : ℕ) (slots : List Slot) (n : ℕ)
     → version_at slots n ≡ Some t → SomeRoot w slots n → (¬ IsFrozen t.header × IsAborted v t.header.xmin.0) ⊎ SomeRoot v slots n
 owned-forth w v horizon later slots n t sound g at r = ⊎_elim
     (λ along. inr (record { root = r.root; leads = record { entry = r.leads.entry; leads = r.leads.leads; later = record { turns = r.leads.later.turns; along = along } } }))
-    (λ u. let same : u.version ≡ t = same_some u.version t (sym u.there ∙ at) in
+    (λ u. let same : u.version ≡ t = same_Some u.version t (sym u.there ∙ at) in
     inl (subst (λ (o : Version). ¬ IsFrozen o.header) same u.thawed, subst (λ (o : Version). IsAborted v o.header.xmin.0) same u.aborted))
     (along-forth w v horizon later slots r.leads.later.turns r.leads.entry n sound g r.leads.later.along)
 
@@ -131,7 +134,7 @@ whole-forth w v horizon later slots n t sound g at replaced =
     let live = live-before w v t.header.xmax.0 (g.aborted t.header.xmax.0) alive in
     let next = sound.whole n t at (replaced-live (has_aborted v) (has_aborted w) t.header replaced live) in
     let l = link-of (has_aborted w) slots n next.place next.next in
-    let same : l.old ≡ t = same_some l.old t (sym l.from ∙ at) in
+    let same : l.old ≡ t = same_Some l.old t (sym l.from ∙ at) in
     record { place = next.place; next = link-forth w v slots n next.place l (ap (λ (o : Version). has_aborted v o.header.xmax.0) same ∙ alive) }
 
 pub goes_on-sound : (w v : Window) (horizon later : ℕ) (slots : List Slot) → GoesOn w v horizon later slots → SoundPage w horizon slots → SoundPage v later slots
@@ -214,11 +217,6 @@ aborting-sound w v horizon ids slots active f theirs sound = goes_on-sound w v h
     gone-old x gone = aborted-other w v ids Aborted x active f gone
 
 -- The horizon goes on.
-
-committed-upto : (w : Window) (x : ℕ) → IsCommitted w x → IsUpToNext w x
-committed-upto w x done =
-    let found = finished-place w x (λ e. let f : Committed ≡ InProgress = sym done ∙ e in cc) in
-    upto-place w x found.0 found.1
 
 pub later-sound : (w : Window) (horizon later : ℕ) (slots : List Slot) → IsWindow w → IsUpToNext w horizon → IsUpToNext w later → turns w.first horizon ≤ turns w.first later
     → SoundPage w horizon slots → SoundPage w later slots

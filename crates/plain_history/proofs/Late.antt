@@ -1,20 +1,16 @@
 -- Looking for a late transaction.
-use Rattle.std.proofs.Common.{◌≡◌, ◌≢◌, ℕ, ◌+◌, ◌<◌, ◌≤◌, List, length, get_or, slice_get, Option, Some, None, Bool, true, false, refl, sym, ap, ◌∙◌, subst, arith, inl, inr}
+use Rattle.std.proofs.Common.{◌≡◌, ℕ, ◌+◌, ◌<◌, ◌≤◌, List, length, get_or, slice_get, Option, Some, Bool, true, false, refl, sym, ap, ◌∙◌, subst, arith, inl, inr}
 use Rattle.std.specs.Prelude.{IsSome, IsTrue, ◌↔◌}
 use Rattle.std.specs.Option.{is_some}
 use Rattle.std.proofs.lemmas.Bool.{cases_eq}
 use Rattle.std.proofs.lemmas.Option.{slice_get_read, slice_get_within, same_Some}
 use Rattle.history.specs.History.{Transaction, written, IsLate}
-use Rattle.plain_history.proofs.Sessions.{wrote_some}
-
-pub is_some-true : {A : Type 0} (o : Option A) → IsSome o → is_some o ≡ true
-is_some-true None some = cc
-is_some-true (Some x) some = refl
+use Rattle.plain_history.proofs.Sessions.{wrote_some, less}
 
 -- the test of an option that equals another
 pub some_says : {A : Type 0} (o result : Option A) (answer : Bool) → result ≡ o → answer ≡ is_some result → IsTrue answer ↔ IsSome o
 some_says o result answer of_it says =
-    (λ yes. wrote_some o result of_it (sym says ∙ yes), λ some. says ∙ (ap is_some of_it ∙ is_some-true o some))
+    (λ yes. wrote_some o result of_it (sym says ∙ yes), λ some. says ∙ (ap is_some of_it ∙ some))
 
 -- nobody before n, from the start on, wrote the key
 abbrev pub NoneBefore : List Transaction → ℕ → ℕ → ℕ → Type 0
@@ -28,9 +24,6 @@ none_later history start key n before here i t lt at le wrote = elim (cases_eq i
   | inl same ↦ here t (subst (λ j. slice_get history j ≡ Some t) same at) (subst (λ j. start ≤ j) same le) wrote
   | inr differs ↦ before i t (less i n lt differs) at le wrote
 ]
-  where
-    less : (a b : ℕ) → a < b + 1 → a ≢ b → a < b
-    less a b lt ne = grind arith
 
 pub none_early : (history : List Transaction) (start key n : ℕ) → n < start → NotHere history start key n
 none_early history start key n early t at le wrote = absurd (omega arith)

@@ -5,7 +5,7 @@ use Rattle.std.specs.Option.{option_or, option_flatten}
 use Rattle.std.specs.List.{list_any}
 use Rattle.std.specs.Ordering.{int_eq}
 use Rattle.std.specs.Bool.{Decides}
-use Rattle.std.proofs.lemmas.Bool.{cases_eq, cases_lt, cases_Bool, cond-true, cond-false, eq-eqb, ne_eqb}
+use Rattle.std.proofs.lemmas.Bool.{cases_eq, cases_lt, cases_Bool, cond-true, cond-false, eq-eqb, ne_eqb, or_right}
 use Rattle.std.proofs.lemmas.Bool.Decides.{Decides-or, Decides-and, Decides-int_eq, Decides-ltb}
 use Rattle.std.proofs.lemmas.Int.{ints, by_lt_z}
 use Rattle.std.proofs.lemmas.List.{take-append-drop}
@@ -133,11 +133,7 @@ in_order-placed index key row old new none keyed placed_is order =
 
 has-push_same : (keys : List ℕ) (key : ℕ) → has (keys ++ key ∷ []) key ≡ true
 has-push_same [] key = ap (λ b. b || false) (eq-eqb key key refl)
-has-push_same (k ∷ keys) key = or-true (nat_eq k key) (has (keys ++ key ∷ []) key) (has-push_same keys key)
-  where
-    or-true : (b c : Bool) → c ≡ true → (b || c) ≡ true
-    or-true true c e = refl
-    or-true false c e = e
+has-push_same (k ∷ keys) key = or_right (nat_eq k key) (has (keys ++ key ∷ []) key) (has-push_same keys key)
 
 has-push_other : (keys : List ℕ) (key k : ℕ) → key ≢ k → has (keys ++ key ∷ []) k ≡ has keys k
 has-push_other [] key k ne = ap (λ b. b || false) (ne_eqb key k ne)

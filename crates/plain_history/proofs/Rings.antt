@@ -2,12 +2,13 @@
 use Rattle.std.proofs.Common.{◌≡◌, ◌≢◌, ℕ, zero, suc, ◌+◌, ◌<◌, ◌≤◌, Bool, true, false, ◌||◌, nat_eq, List, [], ◌∷◌, ◌++◌, length, Option, Some, None, sym, ap, ◌∙◌, refl, arith, length-append, subst, ◌⊎◌, inl, inr}
 use Rattle.std.specs.List.{IsDistinct, list_any}
 use Rattle.std.specs.Cmp.{nat_eq_equiv}
-use Rattle.std.proofs.lemmas.Bool.{eq-eqb, eqb-true}
+use Rattle.std.proofs.lemmas.Bool.{eq-eqb, eqb-true, or_right}
 use Rattle.std.proofs.lemmas.Option.{same_Some}
 use Rattle.std.proofs.lemmas.List.Folds.{list_any-append}
 use Rattle.std.proofs.lemmas.Map.Keys.{IsDistinct-push}
 use Rattle.std.proofs.lemmas.Map.Steps.{length-le_from_distinct_below}
-use Rattle.history.specs.World.{ReachesIn, ClosesRing}
+use Rattle.xid_circle.specs.Following.{ReachesIn}
+use Rattle.history.specs.World.{ClosesRing}
 
 -- whether the number is one of them
 abbrev pub among : ℕ → List ℕ → Bool
@@ -53,11 +54,7 @@ among-old n t seen e = list_any-append (nat_eq n) seen (t ∷ []) ∙ ap (λ b. 
 
 among-new : (t : ℕ) (seen : List ℕ) → among t (seen ++ t ∷ []) ≡ true
 among-new t [] = ap (λ b. b || false) (eq-eqb t t refl)
-among-new t (x ∷ xs) = or-true (nat_eq t x) (among t (xs ++ t ∷ [])) (among-new t xs)
-  where
-    or-true : (b c : Bool) → c ≡ true → (b || c) ≡ true
-    or-true true c e = refl
-    or-true false c e = e
+among-new t (x ∷ xs) = or_right (nat_eq t x) (among t (xs ++ t ∷ [])) (among-new t xs)
 
 -- one session more
 pub walk-more : (waits : ℕ → Option ℕ) (s o : ℕ) (seen : List ℕ) (t : ℕ) (at : Option ℕ) → Walk waits s o seen (Some t) → among t seen ≡ false → t ≢ s

@@ -24,15 +24,15 @@ wrote_some (Some x) result e h = refl
 abbrev pub NoneBelow : List (Option PlainSession) → ℕ → ℕ → ℕ → Type 0
 NoneBelow sessions s key n = (o : ℕ) (m : OpenSession) → o < n → o ≢ s → session_in sessions o ≡ Some m → IsSome (own_write m key) → ⊥
 
+pub less : (a b : ℕ) → a < b + 1 → a ≢ b → a < b
+less a b lt ne = grind arith
+
 pub none_further : (sessions : List (Option PlainSession)) (s key n : ℕ) → NoneBelow sessions s key n
     → ((m : OpenSession) → n ≢ s → session_in sessions n ≡ Some m → IsSome (own_write m key) → ⊥) → NoneBelow sessions s key (n + 1)
 none_further sessions s key n below here o m lt ne at wrote = elim (cases_eq o n) [
   | inl same ↦ here m (subst (λ p. p ≢ s) same ne) (subst (λ p. session_in sessions p ≡ Some m) same at) wrote
   | inr differs ↦ below o m (less o n lt differs) ne at wrote
 ]
-  where
-    less : (a b : ℕ) → a < b + 1 → a ≢ b → a < b
-    less a b lt ne = grind arith
 
 pub none_at_all : (sessions : List (Option PlainSession)) (s key n : ℕ) → length sessions ≤ n → NoneBelow sessions s key n
     → (o : ℕ) (m : OpenSession) → o ≢ s → session_in sessions o ≡ Some m → IsSome (own_write m key) → ⊥
@@ -47,12 +47,8 @@ pub holds_says : (session : Option PlainSession) (p : PlainSession) (key : ℕ) 
     → IsTrue result ↔ ((m : OpenSession) × (option_map open_of session ≡ Some m) × IsSome (own_write m key))
 holds_says session p key own result is of_it says = (
   λ yes. (open_of p, ap (option_map open_of) is, wrote_some (own_write (open_of p) key) own of_it (sym says ∙ yes)),
-  λ (m, at, wrote). says ∙ is_some-true own (subst IsSome (ap (λ n. own_write n key) (same_Some m (open_of p) (sym at ∙ ap (option_map open_of) is)) ∙ sym of_it) wrote),
+  λ (m, at, wrote). says ∙ subst IsSome (ap (λ n. own_write n key) (same_Some m (open_of p) (sym at ∙ ap (option_map open_of) is)) ∙ sym of_it) wrote,
 )
-  where
-    is_some-true : {A : Type 0} (o : Option A) → IsSome o → is_some o ≡ true
-    is_some-true None some = cc
-    is_some-true (Some x) some = refl
 
 abbrev pub Holding : List (Option PlainSession) → ℕ → ℕ → Type 0
 Holding sessions o key = (m : OpenSession) × (session_in sessions o ≡ Some m) × IsSome (own_write m key)

@@ -1,10 +1,11 @@
 -- What a change of the lists makes of the world.
 use Rattle.std.proofs.Common.{◌≡◌, ℕ, ◌<◌, ◌≤◌, List, [], ◌∷◌, length, set, Option, Some, None, Bool, true, false, cond, nat_eq, refl, sym, ap, ◌∙◌, subst, arith, inl, inr, get_or, take, drop, max}
-use Rattle.std.specs.Prelude.{zero, suc, Result, Ok, Err, OnOk, OnErr, IfOk, IsTrue}
+use Rattle.std.specs.Prelude.{zero, suc, Result, Ok, Err, OnErr, IfOk, IsTrue}
 use mathlib.Core.Path.{fun_ext}
 use Rattle.std.specs.Option.{option_map, option_flatten}
 use Rattle.std.proofs.lemmas.Bool.{cases_eq}
 use Rattle.std.proofs.lemmas.Option.{none-some, same_Some}
+use Rattle.std.proofs.lemmas.Result.{on_err_weaker}
 use Rattle.plain_history.specs.declared.plain.PlainSession.{PlainSession}
 use Rattle.history.specs.History.{Transaction}
 use Rattle.history.specs.World.{OpenSession, World, Cursor, Order}
@@ -93,14 +94,6 @@ pub stays_so : (p q : Plain) (s : ℕ) (x y : Option PlainSession) → p ≡ q �
     → world_of (record p { sessions = set p.sessions s y; waits = set p.waits s None }) ≡ stepped (world_of q) s
 stays_so p q s x y seen within within' is stays = world-same p s x y within within' stays is ∙ ap (λ (q : Plain). stepped (world_of q) s) seen
 
-pub on_ok : {A E P Q : Type 0} (r : Result A E) → (P → Q) → OnOk r P → OnOk r Q
-on_ok (Ok x) f p = f p
-on_ok (Err e) f p = p
-
-pub on_err : {A E P Q : Type 0} (r : Result A E) → (P → Q) → OnErr r P → OnErr r Q
-on_err (Ok x) f p = p
-on_err (Err e) f p = f p
-
 pub get_or_twice : {A : Type 0} (xs : List A) (i : ℕ) (d : A) → get_or xs i d ≡ get_or xs i (get_or xs i d)
 get_or_twice [] i d = refl
 get_or_twice (x ∷ xs) zero d = refl
@@ -111,10 +104,6 @@ pub commits_so : (w mid after : World) (s : ℕ) (t : Transaction) (m : OpenSess
     → mid ≡ with_transaction w t → after ≡ aborted mid s → after ≡ committed_by w s
 commits_so w mid after s t m at is appends ends =
     ends ∙ (ap (λ v. aborted v s) (appends ∙ ap (with_transaction w) is) ∙ ap (λ n. record (aborted w s) { history = appended w.history n }) (sym at))
-
-pub if_ok : {A E : Type 0} {P Q : A → Type 0} (r : Result A E) → ((x : A) → P x → Q x) → IfOk r P → IfOk r Q
-if_ok (Ok x) f p = f x p
-if_ok (Err e) f p = p
 
 -- What a cursor hands out.
 
@@ -220,7 +209,7 @@ hands_from before m old new n (Ok handed) is has hands =
 pub left_from : {A E : Type 0} (before : Option PlainSession) (m : PlainSession) (old : KeptCursor) (r : Result A E) → before ≡ Some m → m.cursor ≡ Some old
     → OnErr r (¬ IsOver (cursor_of old).rest) → OnErr r (HasLeft (option_map open_of before))
 left_from before m old r is has left =
-    on_err r (λ some. (open_of m, cursor_of old, ap (option_map open_of) is, ap (option_map cursor_of) has, some)) left
+    on_err_weaker r (λ some. (open_of m, cursor_of old, ap (option_map open_of) is, ap (option_map cursor_of) has, some)) left
 
 -- and for a session's
 pub left_in : (p q : Plain) (s : ℕ) (x : Option PlainSession) → p ≡ q → s < length p.sessions → x ≡ get_or p.sessions s x → HasLeft (option_map open_of x)

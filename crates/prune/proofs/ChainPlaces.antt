@@ -3,7 +3,8 @@ use Rattle.std.proofs.Common.{◌≡◌, ℕ, zero, suc, ◌+◌, ◌-◌, ◌<�
 use Rattle.std.specs.List.{list_any, Contains}
 use Rattle.std.specs.Option.{option_and_then}
 use Rattle.std.proofs.lemmas.List.{length-take-le, get_or-take}
-use Rattle.std.proofs.lemmas.Option.{get_or_from_slice_get, slice_get_within, slice_get-get_or}
+use Rattle.std.proofs.lemmas.Option.{get_or_from_slice_get, slice_get_within, slice_get-get_or, same_Some}
+use Rattle.xid_circle.specs.Following.{ReachesIn}
 use Rattle.page_slots.specs.declared.slot.Slot.{Slot}
 use Rattle.page_slots.specs.Slots.{version_at}
 use Rattle.page_slots.proofs.SlotLemmas.{slot_at-from_version_at}
@@ -12,9 +13,9 @@ use Rattle.tuple_header.specs.Marks.{is_heap_only}
 use Rattle.commit_status.specs.Window.{Window}
 use Rattle.hot_chain.specs.Chain.{has_aborted, first_of, start_in, is_root, is_root_in, IsChain, LeadsTo}
 use Rattle.hot_chain.proofs.Chains.{any-place, place-any, contains-any, any-contains}
-use Rattle.prune.specs.Cutting.{IsCutCount, ReachesIn, Reaches, link, IsCut, NoSharedSlots}
+use Rattle.prune.specs.Cutting.{IsCutCount, Reaches, link, IsCut, NoSharedSlots}
 use Rattle.prune.specs.Pruning.{IsOf, IsLoose}
-use Rattle.prune.proofs.Links.{same_some, link-of, member-version}
+use Rattle.prune.proofs.Links.{link-of, member-version}
 
 pub place-of : (q : ℕ) (xs : List ℕ) → Contains xs q → (j : ℕ) × (j < length xs) × (get_or xs j 0 ≡ q)
 place-of q xs c = any-place q xs (contains-any q xs c)
@@ -51,7 +52,7 @@ later-heap_only aborted slots n chain zero t c h some e = absurd (omega arith)
 later-heap_only aborted slots n chain (suc i) t c h some e =
     let one : i + 1 ≡ suc i = omega arith in
     let l = link-of aborted slots (get_or chain i 0) (get_or chain (i + 1) 0) (c.linked i (omega arith)) in
-    let same : l.new ≡ t = same_some l.new t (sym l.to ∙ ap (λ k. version_at slots (get_or chain k 0)) one ∙ e) in
+    let same : l.new ≡ t = same_Some l.new t (sym l.to ∙ ap (λ k. version_at slots (get_or chain k 0)) one ∙ e) in
     subst (λ (v : Version). is_heap_only v.header ≡ true) same l.heap_only
 
 pub root-plain : (slots : List Slot) (n : ℕ) (t : Version) → is_root slots n ≡ true → version_at slots n ≡ Some t → is_heap_only t.header ≡ false

@@ -1,8 +1,8 @@
 -- What a plan that checks is, and does.
 use Rattle.std.proofs.Common.{◌≡◌, ◌↔◌, ℕ, zero, suc, ◌<◌, ◌≤◌, ◌==◌, Bool, true, false, not, IsTrue, List, [], ◌∷◌, length, get_or, Option, Some, None, IsSome, arith, inl, inr, ⊎_elim, sym, ap, ◌∙◌, refl, subst, slice_get}
 use Rattle.std.specs.Option.{option_and_then, option_map}
-use Rattle.std.proofs.lemmas.Bool.{cases_Bool}
-use Rattle.std.proofs.lemmas.Option.{slice_get_within, get_or_from_slice_get}
+use Rattle.std.proofs.lemmas.Bool.{cases_Bool, eq-eqb, ne_eqb, cond-true, cond-false}
+use Rattle.std.proofs.lemmas.Option.{slice_get_within, get_or_from_slice_get, same_Some}
 use Rattle.page_slots.specs.declared.slot.Slot.{Slot}
 use Rattle.page_slots.specs.View.{PageView}
 use Rattle.page_slots.specs.Slots.{slot_at, version_at, version_of, IsThere}
@@ -21,8 +21,8 @@ use Rattle.prune.specs.Pruning.{root_action, loose_action}
 use Rattle.prune.specs.Marks.{mark_at, IsMark}
 use Rattle.prune.specs.Checks.{IsFront, HasFront, IsAccounted, Checks}
 use Rattle.prune.specs.Named.{named_at, IsLooseRight}
-use Rattle.prune.proofs.Links.{same_some, member-there, member-version}
-use Rattle.prune.proofs.Listing.{chosen, passed, other-eq, same-eq, named-there, applied-slot}
+use Rattle.prune.proofs.Links.{member-there, member-version}
+use Rattle.prune.proofs.Listing.{named-there, applied-slot}
 use Rattle.prune.proofs.ChainPlaces.{place-of, of-not_loose, root-leads, first-normal, chain-first, reaches-places}
 use Rattle.prune.proofs.Removing.{acted-version, by-answer, lost-from, lost-cut, root-cut}
 
@@ -68,20 +68,20 @@ can-from_order : (count low : ℕ) (acts : List (ℕ × Action)) → AreInOrder 
 can-from_order count low [] o t = tt
 can-from_order count low (x ∷ rest) o t =
     let lt = o.0 in (
-      record { there = omega arith; within = o.1; target = t x.0 x.1 (chosen (x.0 == x.0) (Some x.1) (action_of rest x.0) (same-eq x.0 x.0 refl)) },
+      record { there = omega arith; within = o.1; target = t x.0 x.1 (cond-true (x.0 == x.0) (Some x.1) (action_of rest x.0) (eq-eqb x.0 x.0 refl)) },
       can-from_order count x.0 rest o.2 (λ n a e.
           let there = named-there count x.0 n rest a o.2 e in
           let more = there.0 in
-          t n a (passed (x.0 == n) (Some x.1) (action_of rest n) (other-eq x.0 n (λ f. omega arith)) ∙ e)),
+          t n a (cond-false (x.0 == n) (Some x.1) (action_of rest n) (ne_eqb x.0 n (λ f. omega arith)) ∙ e)),
     )
 
 root-target : (aborted : ℕ → Bool) (slots : List Slot) (root : ℕ) (chain : List ℕ) (front : ℕ) (o : Option ℕ) (a : Action) → IsChain aborted slots root chain
     → slice_get chain front ≡ o → root_action front o ≡ Some a → HasTarget (length slots) a
 root-target aborted slots root chain zero o a c at e = absurd (cc)
-root-target aborted slots root chain (suc front) None a c at e = subst (HasTarget (length slots)) (same_some action.Kill a e) tt
+root-target aborted slots root chain (suc front) None a c at e = subst (HasTarget (length slots)) (same_Some action.Kill a e) tt
 root-target aborted slots root chain (suc front) (Some k) a c at e =
     let within = slice_get_within chain (suc front) k at in
-    subst (HasTarget (length slots)) (same_some (action.Redirect k) a e)
+    subst (HasTarget (length slots)) (same_Some (action.Redirect k) a e)
     (subst (IsThere slots) (get_or_from_slice_get chain (suc front) k 0 at) (member-there aborted slots root chain (suc front) c within))
 
 unused-target : (count : ℕ) (a : Action) → a ≡ action.Unuse → HasTarget count a
@@ -112,7 +112,7 @@ checks-target w horizon page change actions c n a e = by (c.others n a e)
         let f = c.fronts root o.starts chain o.is_chain in
         let named : IsSome (action_of actions (get_or chain p.0 0)) = subst (λ k. IsSome (action_of actions k)) (sym p.2) (subst IsSome (sym e) refl) in
         let unused = f.1.unused p.0 v.version.header ((f.1.removed p.0 p.1).0 named) (ap (option_map (λ t. t.header)) v.there) heap_only in
-        unused-target (length page.slots) a (same_some a action.Unuse (sym e ∙ ap (action_of actions) (sym p.2) ∙ unused)))
+        unused-target (length page.slots) a (same_Some a action.Unuse (sym e ∙ ap (action_of actions) (sym p.2) ∙ unused)))
         (λ plain.
         let starts = plain-root page.slots n v.version at plain in
         let leads = root-leads (has_aborted w) page.slots root n chain o.is_chain starts holds in

@@ -13,9 +13,6 @@ use Rattle.std.proofs.lemmas.List.{length-take-le, get_or-take}
 use Rattle.prune.specs.Marks.{AreNumbers}
 use Rattle.hot_chain.specs.Chain.{is_replaced, is_made_by, successor, next_of, start_in, first_of, IsChain}
 
-pub same_some : {A : Type 0} (x y : A) → Some x ≡ Some y → x ≡ y
-same_some x y e = cc
-
 -- what leads to the next version, and to what
 pub record IsLink (aborted : ℕ → Bool) (slots : List Slot) (n k : ℕ) : Type 0 where
   pub old : Version

@@ -1,7 +1,6 @@
 -- A plan's actions, pushed in order of slots.
-use Rattle.std.proofs.Common.{◌≡◌, ◌≢◌, ℕ, ◌+◌, ◌<◌, ◌≤◌, ◌==◌, Bool, true, false, if◌then◌else◌, List, [], ◌∷◌, ◌++◌, length, get_or, drop, Option, Some, None, arith, ⊎_elim, sym, ap, ◌∙◌, refl, subst, add-one, drop-cons}
-use Rattle.std.proofs.lemmas.Bool.{cases_lt, cases_Bool, eqb-true}
-use Rattle.std.proofs.lemmas.Bool.Decides.{nat_tests}
+use Rattle.std.proofs.Common.{◌≡◌, ◌≢◌, ℕ, ◌+◌, ◌<◌, ◌≤◌, ◌==◌, if◌then◌else◌, List, [], ◌∷◌, ◌++◌, length, get_or, drop, Option, Some, None, arith, ⊎_elim, sym, ap, ◌∙◌, refl, subst, add-one, drop-cons}
+use Rattle.std.proofs.lemmas.Bool.{cases_lt, cases_Bool, eqb-true, eq-eqb, ne_eqb, cond-true, cond-false}
 use Rattle.page_slots.specs.View.{PageView}
 use Rattle.page_slots.specs.Slots.{slot_at}
 use Rattle.page_slots.proofs.SlotLemmas.{length-with_slot, slot_at-with_slot, slot_at-with_slot_other}
@@ -18,20 +17,6 @@ pub record AreListed (count : ℕ) (answer : ℕ → Option Action) (acts : List
   pub in_order : AreInOrder count 0 acts
   pub below : AreBelow bound acts
   pub each : (n : ℕ) → 1 ≤ n → n < bound → action_of acts n ≡ answer n
-
-pub chosen : (b : Bool) (o p : Option Action) → b ≡ true → (if b then o else p) ≡ o
-chosen true o p e = refl
-chosen false o p e = absurd (cc)
-
-pub passed : (b : Bool) (o p : Option Action) → b ≡ false → (if b then o else p) ≡ p
-passed true o p e = absurd (cc)
-passed false o p e = refl
-
-pub same-eq : (a b : ℕ) → a ≡ b → a == b ≡ true
-same-eq a b e = grind (arith, nat_tests)
-
-pub other-eq : (a b : ℕ) → a ≢ b → a == b ≡ false
-other-eq a b ne = ⊎_elim (λ t. absurd (ne (eqb-true a b t))) (λ f. f) (cases_Bool (a == b))
 
 can-push : (count : ℕ) (acts : List (ℕ × Action)) (n : ℕ) (a : Action) → CanApply count acts → CanDo count n a → CanApply count (acts ++ (n, a) ∷ [])
 can-push count [] n a can new = (new, tt)
@@ -53,16 +38,16 @@ below-more bound more (x ∷ rest) b h = ((let l = b.0 in omega arith), below-mo
 below-none : (bound n : ℕ) (acts : List (ℕ × Action)) → AreBelow bound acts → bound ≤ n → action_of acts n ≡ None
 below-none bound n [] b h = refl
 below-none bound n (x ∷ rest) b h =
-    passed (x.0 == n) (Some x.1) (action_of rest n) (other-eq x.0 n (λ e. let l = b.0 in omega arith)) ∙ below-none bound n rest b.1 h
+    cond-false (x.0 == n) (Some x.1) (action_of rest n) (ne_eqb x.0 n (λ e. let l = b.0 in omega arith)) ∙ below-none bound n rest b.1 h
 
 push-other : (acts : List (ℕ × Action)) (n k : ℕ) (a : Action) → k ≢ n → action_of (acts ++ (n, a) ∷ []) k ≡ action_of acts k
-push-other [] n k a ne = passed (n == k) (Some a) None (other-eq n k (λ e. ne (sym e)))
+push-other [] n k a ne = cond-false (n == k) (Some a) None (ne_eqb n k (λ e. ne (sym e)))
 push-other (x ∷ rest) n k a ne = ap (λ o. if x.0 == k then Some x.1 else o) (push-other rest n k a ne)
 
 push-same : (bound : ℕ) (acts : List (ℕ × Action)) (n : ℕ) (a : Action) → AreBelow bound acts → bound ≤ n → action_of (acts ++ (n, a) ∷ []) n ≡ Some a
-push-same bound [] n a b h = chosen (n == n) (Some a) None (same-eq n n refl)
+push-same bound [] n a b h = cond-true (n == n) (Some a) None (eq-eqb n n refl)
 push-same bound (x ∷ rest) n a b h =
-    passed (x.0 == n) (Some x.1) (action_of (rest ++ (n, a) ∷ []) n) (other-eq x.0 n (λ e. let l = b.0 in omega arith)) ∙ push-same bound rest n a b.1 h
+    cond-false (x.0 == n) (Some x.1) (action_of (rest ++ (n, a) ∷ []) n) (ne_eqb x.0 n (λ e. let l = b.0 in omega arith)) ∙ push-same bound rest n a b.1 h
 
 pub listed-skip : (count : ℕ) (answer : ℕ → Option Action) (acts : List (ℕ × Action)) (bound : ℕ) → AreListed count answer acts bound
     → None ≡ answer bound → AreListed count answer acts (bound + 1)
@@ -101,7 +86,7 @@ pub order-none : (count low n : ℕ) (acts : List (ℕ × Action)) → AreInOrde
 order-none count low n [] o h = refl
 order-none count low n (x ∷ rest) o h =
     let lt = o.0 in
-    passed (x.0 == n) (Some x.1) (action_of rest n) (other-eq x.0 n (λ e. omega arith)) ∙ order-none count x.0 n rest o.2 (omega arith)
+    cond-false (x.0 == n) (Some x.1) (action_of rest n) (ne_eqb x.0 n (λ e. omega arith)) ∙ order-none count x.0 n rest o.2 (omega arith)
 
 -- only slots that are there are named
 pub named-there : (count low n : ℕ) (acts : List (ℕ × Action)) (a : Action) → AreInOrder count low acts → action_of acts n ≡ Some a → (low < n) × (n ≤ count)
@@ -110,7 +95,7 @@ named-there count low n (x ∷ rest) a o e =
     let lt = o.0 in
     let le = o.1 in
     ⊎_elim (λ t. let at = eqb-true x.0 n t in ((omega arith), (omega arith)))
-    (λ f. let there = named-there count x.0 n rest a o.2 (sym (passed (x.0 == n) (Some x.1) (action_of rest n) f) ∙ e) in
+    (λ f. let there = named-there count x.0 n rest a o.2 (sym (cond-false (x.0 == n) (Some x.1) (action_of rest n) f) ∙ e) in
     let more = there.0 in ((omega arith), there.1))
     (cases_Bool (x.0 == n))
 
@@ -130,9 +115,9 @@ applied-slot low (a ∷ rest) page o n =
     (λ t. let at = eqb-true a.0 n t in
     ap (acted (slot_at after.slots n)) (order-none (length page.slots) a.0 n rest o.2 (omega arith))
     ∙ ap (slot_at after.slots) (sym at) ∙ slot_at-with_slot page.slots a.0 (made_by a.1) ((omega arith), o.1)
-    ∙ sym (ap (acted (slot_at page.slots n)) (chosen (a.0 == n) (Some a.1) (action_of rest n) t)))
-    (λ f. ap (λ s. acted s (action_of rest n)) (slot_at-with_slot_other page.slots a.0 n (made_by a.1) (omega arith) (λ e. let t = same-eq a.0 n (sym e) in cc))
-    ∙ sym (ap (acted (slot_at page.slots n)) (passed (a.0 == n) (Some a.1) (action_of rest n) f)))
+    ∙ sym (ap (acted (slot_at page.slots n)) (cond-true (a.0 == n) (Some a.1) (action_of rest n) t)))
+    (λ f. ap (λ s. acted s (action_of rest n)) (slot_at-with_slot_other page.slots a.0 n (made_by a.1) (omega arith) (λ e. let t = eq-eqb a.0 n (sym e) in cc))
+    ∙ sym (ap (acted (slot_at page.slots n)) (cond-false (a.0 == n) (Some a.1) (action_of rest n) f)))
     (cases_Bool (a.0 == n))
 
 pub applied-flag : (acts : List (ℕ × Action)) (page : PageView) → (applied acts page).flag ≡ page.flag

@@ -1,8 +1,7 @@
 -- Marks put into an array.
-use Rattle.std.proofs.Common.{◌≡◌, ◌≢◌, ℕ, zero, suc, ◌<◌, Bool, true, false, nat_eq, if◌then◌else◌, ◌||◌, List, [], ◌∷◌, length, take, get_or, set, Option, Some, None, slice_get, arith, ⊎_elim, sym, ap, ◌∙◌, refl}
+use Rattle.std.proofs.Common.{◌≡◌, ◌≢◌, ℕ, zero, suc, ◌<◌, Bool, true, false, nat_eq, if◌then◌else◌, ◌||◌, List, [], ◌∷◌, length, take, get_or, set, Option, Some, None, slice_get, ⊎_elim, sym, ap, ◌∙◌, refl}
 use Rattle.std.specs.List.{list_any}
-use Rattle.std.proofs.lemmas.Bool.{cases_Bool}
-use Rattle.std.proofs.lemmas.Bool.Decides.{nat_tests}
+use Rattle.std.proofs.lemmas.Bool.{cases_Bool, eqb-true, eqb-false}
 use Rattle.std.proofs.lemmas.List.{get_or-set_same}
 use Rattle.prune.specs.declared.action.Action.{Action}
 use Rattle.prune.specs.declared.marks.Mark.{Mark}
@@ -15,15 +14,6 @@ use Rattle.prune.specs.Marks.{mark_at, marked}
 pub record IsMarking (before : List Mark) (numbers : List ℕ) (action : Option Action) (marks : List Mark) (i : ℕ) : Type 0 where
   pub size : length marks ≡ 292
   pub each : (n : ℕ) → mark_at marks n ≡ (if list_any (nat_eq n) (take i numbers) then Held action else mark_at before n)
-
-pub eq-true : (a b : ℕ) → nat_eq a b ≡ true → a ≡ b
-eq-true a b e = grind (arith, nat_tests)
-
-pub eq-false : (a b : ℕ) → nat_eq a b ≡ false → a ≢ b
-eq-false a b e f = grind (arith, nat_tests)
-
-pub true-eq : (a b : ℕ) → a ≡ b → nat_eq a b ≡ true
-true-eq a b e = grind (arith, nat_tests)
 
 pub get_or-else : (xs : List Mark) (i n : ℕ) (y : Mark) → n ≢ i → get_or (set xs i y) n Loose ≡ get_or xs n Loose
 get_or-else [] i n y ne = refl
@@ -55,7 +45,7 @@ chain-marked root chain cut before kept gone after k g e small n =
 
     at-root : nat_eq n root ≡ true → get_or (set gone root what) n Loose ≡ marked root chain cut n (mark_at before n)
     at-root here =
-        ap (λ i. get_or (set gone root what) i Loose) (eq-true n root here) ∙ get_or-set_same gone root what Loose small
+        ap (λ i. get_or (set gone root what) i Loose) (eqb-true n root here) ∙ get_or-set_same gone root what Loose small
         ∙ sym (by-root (nat_eq n root) (list_any (nat_eq n) chain) (root_action cut (slice_get chain cut)) (if list_any (nat_eq n) (take cut chain) then Some action.Unuse else None) (mark_at before n) here)
       where
         by-root : (b c : Bool) (o p : Option Action) (m : Mark) → b ≡ true → (if b || c then Held (if b then o else p) else m) ≡ Held o
@@ -64,7 +54,7 @@ chain-marked root chain cut before kept gone after k g e small n =
 
     elsewhere : nat_eq n root ≡ false → get_or (set gone root what) n Loose ≡ marked root chain cut n (mark_at before n)
     elsewhere off =
-        get_or-else gone root n what (eq-false n root off) ∙ g n
+        get_or-else gone root n what (eqb-false n root off) ∙ g n
         ∙ by-take (nat_eq n root) (list_any (nat_eq n) (take cut chain)) (list_any (nat_eq n) chain) (root_action cut (slice_get chain cut)) (mark_at kept n) (mark_at before n) off (any-take n cut chain) (k n)
       where
         by-take : (b t c : Bool) (o : Option Action) (m d : Mark) → b ≡ false → (t ≡ true → c ≡ true) → m ≡ (if c then Held None else d)

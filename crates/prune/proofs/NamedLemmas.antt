@@ -1,11 +1,11 @@
 -- What a plan names, read into an array.
 use Rattle.std.proofs.Common.{◌≡◌, ◌≢◌, ℕ, zero, suc, ◌+◌, ◌<◌, ◌==◌, List, [], ◌∷◌, length, get_or, set, drop, replicate, Option, Some, None, IsSome, arith, ⊎_elim, sym, ap, ◌∙◌, refl, subst}
-use Rattle.std.proofs.lemmas.Bool.{cases_lt, cases_Bool, eqb-true}
+use Rattle.std.proofs.lemmas.Bool.{cases_lt, cases_Bool, eqb-true, eq-eqb, cond-true, cond-false}
 use Rattle.std.proofs.lemmas.List.{length-set, get_or-set_same}
 use Rattle.prune.specs.declared.action.Action.{Action}
 use Rattle.prune.specs.Actions.{AreInOrder, action_of}
 use Rattle.prune.specs.Named.{named_at}
-use Rattle.prune.proofs.Listing.{same-eq, chosen, passed, order-none}
+use Rattle.prune.proofs.Listing.{order-none}
 
 -- whether all are in order is left to those from `i` on
 pub record IsOrderSoFar (count : ℕ) (actions : List (ℕ × Action)) (i last : ℕ) : Type 0 where
@@ -64,9 +64,9 @@ naming-step actions named i a s front =
           (λ t. let at = eqb-true a.0 n t in
           ap (λ o. over o (named_at (set named a.0 (Some a.1)) n)) (order-none 291 a.0 n (drop (i + 1) actions) rest.2 (omega arith))
           ∙ ap (λ k. named_at (set named a.0 (Some a.1)) k) (sym at) ∙ get_or-set_same named a.0 (Some a.1) None small
-          ∙ sym (ap (λ o. over o (named_at named n)) (ap (λ l. action_of l n) front ∙ chosen (a.0 == n) (Some a.1) (action_of (drop (i + 1) actions) n) t)) ∙ s.each n)
-          (λ f. ap (over (action_of (drop (i + 1) actions) n)) (named-else named a.0 n (Some a.1) (λ e. let t = same-eq a.0 n (sym e) in cc))
-          ∙ sym (ap (λ o. over o (named_at named n)) (ap (λ l. action_of l n) front ∙ passed (a.0 == n) (Some a.1) (action_of (drop (i + 1) actions) n) f)) ∙ s.each n)
+          ∙ sym (ap (λ o. over o (named_at named n)) (ap (λ l. action_of l n) front ∙ cond-true (a.0 == n) (Some a.1) (action_of (drop (i + 1) actions) n) t)) ∙ s.each n)
+          (λ f. ap (over (action_of (drop (i + 1) actions) n)) (named-else named a.0 n (Some a.1) (λ e. let t = eq-eqb a.0 n (sym e) in cc))
+          ∙ sym (ap (λ o. over o (named_at named n)) (ap (λ l. action_of l n) front ∙ cond-false (a.0 == n) (Some a.1) (action_of (drop (i + 1) actions) n) f)) ∙ s.each n)
           (cases_Bool (a.0 == n));
     }
 

@@ -2,9 +2,8 @@
 use Rattle.std.proofs.Common.{◌≡◌, ◌≢◌, ◌↔◌, ℕ, zero, suc, ◌-◌, ◌<◌, ◌≤◌, ◌==◌, Bool, true, false, nat_eq, if◌then◌else◌, List, [], length, get_or, take, Option, Some, None, is_some, IsSome, arith, inl, inr, ⊎_elim, sym, ap, ◌∙◌, refl, subst, slice_get}
 use Rattle.std.specs.List.{list_any, IsDistinct}
 use Rattle.std.specs.Option.{option_map, option_and_then}
-use Rattle.std.proofs.lemmas.Bool.{cases_lt, cases_Bool, eqb-true}
-use Rattle.std.proofs.lemmas.Map.Keys.{apart_from_distinct}
-use Rattle.std.proofs.lemmas.Option.{slice_get_within, get_or_from_slice_get, slice_get-get_or}
+use Rattle.std.proofs.lemmas.Bool.{cases_lt, cases_Bool, eqb-true, eq-eqb, ne_eqb, cond-true, cond-false}
+use Rattle.std.proofs.lemmas.Option.{slice_get_within, get_or_from_slice_get, slice_get-get_or, same_Some}
 use Rattle.page_slots.specs.declared.slot.Slot.{Slot}
 use Rattle.page_slots.specs.declared.slot.Slot.TheVariants.{Normal, Redirect}
 use Rattle.page_slots.specs.View.{PageView}
@@ -14,29 +13,22 @@ use Rattle.tuple_header.specs.declared.version.Header.{Header}
 use Rattle.tuple_header.specs.Marks.{is_heap_only}
 use Rattle.commit_status.specs.Window.{Window}
 use Rattle.hot_chain.specs.Chain.{has_aborted, is_root, first_of, start_in, IsChain}
-use Rattle.hot_chain.proofs.Chains.{chain-one, root-there}
+use Rattle.hot_chain.proofs.Chains.{chain-one, root-there, distinct-places}
 use Rattle.prune.specs.declared.action.Action.{Action}
 use Rattle.prune.specs.declared.action.Action.TheVariants as action
 use Rattle.prune.specs.Cutting.{IsCutCount, NoSharedSlots}
 use Rattle.prune.specs.Actions.{action_of}
 use Rattle.prune.specs.Pruning.{root_action, chain_action, IsOf, Does, by_root, by_none, IsPlan}
 use Rattle.prune.specs.Checks.{IsFront, IsAccounted, Checks}
-use Rattle.prune.proofs.Links.{same_some, member-there, member-version}
-use Rattle.prune.proofs.Marking.{true-eq}
-use Rattle.prune.proofs.Listing.{chosen, passed, other-eq, same-eq, named-there}
+use Rattle.prune.proofs.Links.{member-there, member-version}
+use Rattle.prune.proofs.Listing.{named-there}
 use Rattle.prune.proofs.ChainPlaces.{place-of, at-place, place-in_front, in_front-place, of-one, of-not_loose, root-first, root-plain}
 use Rattle.prune.proofs.Unshared.{does-by}
 use Rattle.prune.proofs.Removing.{lost-from}
 
-apart : (xs : List ℕ) (i j : ℕ) → IsDistinct nat_eq xs → i < j → j < length xs → get_or xs i 0 ≡ get_or xs j 0 → ⊥
-apart xs i j d lt within e =
-    let other = apart_from_distinct nat_eq xs i j 0 d lt within in
-    let same = true-eq (get_or xs i 0) (get_or xs j 0) e in
-    absurd (cc)
-
 same-place : (xs : List ℕ) (i j : ℕ) → IsDistinct nat_eq xs → i < length xs → j < length xs → get_or xs i 0 ≡ get_or xs j 0 → i ≡ j
-same-place xs i j d h k e = ⊎_elim (λ lt. absurd (apart xs i j d lt k e))
-    (λ ge. ⊎_elim (λ gt. absurd (apart xs j i d gt h (sym e))) (λ le. omega arith) (cases_lt j i)) (cases_lt i j)
+same-place xs i j d h k e = ⊎_elim (λ lt. absurd (distinct-places xs i j d lt k e))
+    (λ ge. ⊎_elim (λ gt. absurd (distinct-places xs j i d gt h (sym e))) (λ le. omega arith) (cases_lt j i)) (cases_lt i j)
 
 root-some : (cut : ℕ) (o : Option ℕ) → IsSome (root_action cut o) ↔ (0 < cut)
 root-some zero o = ((λ s. absurd (let f : false ≡ true = s in cc)), (λ h. absurd (omega arith)))
@@ -53,11 +45,11 @@ chain-some : (root cut i : ℕ) (chain : List ℕ) → IsDistinct nat_eq chain �
 chain-some root cut i chain d within h first = ⊎_elim
     (λ t.
     let zero_is = first (eqb-true (get_or chain i 0) root t) in
-    let e = chosen (get_or chain i 0 == root) (root_action cut (slice_get chain cut)) (if list_any (nat_eq (get_or chain i 0)) (take cut chain) then Some action.Unuse else None) t in
+    let e = cond-true (get_or chain i 0 == root) (root_action cut (slice_get chain cut)) (if list_any (nat_eq (get_or chain i 0)) (take cut chain) then Some action.Unuse else None) t in
     let s = root-some cut (slice_get chain cut) in
     ((λ some. let lt = s.0 (subst IsSome e some) in omega arith), (λ lt. subst IsSome (sym e) (s.1 (omega arith)))))
     (λ f.
-    let e = passed (get_or chain i 0 == root) (root_action cut (slice_get chain cut)) (if list_any (nat_eq (get_or chain i 0)) (take cut chain) then Some action.Unuse else None) f in
+    let e = cond-false (get_or chain i 0 == root) (root_action cut (slice_get chain cut)) (if list_any (nat_eq (get_or chain i 0)) (take cut chain) then Some action.Unuse else None) f in
     let s = unuse-some (list_any (nat_eq (get_or chain i 0)) (take cut chain)) in (
       (λ some.
           let p = place-in_front (get_or chain i 0) cut chain within (s.0 (subst IsSome e some)) in
@@ -92,7 +84,7 @@ plan-front w horizon slots named root cut chain starts is count does = record {
   cut = λ i h. (cut - 1, (omega arith), (let l = count.within in omega arith), count.dead (omega arith));
   unused = λ i header h at heap_only. unused i header h at heap_only;
   leads = does root (record { starts = starts; is_chain = is; holds = inl refl }) (root-there slots root starts)
-      ∙ chosen (root == root) (root_action cut (slice_get chain cut)) (if list_any (nat_eq root) (take cut chain) then Some action.Unuse else None) (same-eq root root refl);
+      ∙ cond-true (root == root) (root_action cut (slice_get chain cut)) (if list_any (nat_eq root) (take cut chain) then Some action.Unuse else None) (eq-eqb root root refl);
 }
   where
     of-place : (i : ℕ) → i < length chain → named (get_or chain i 0) ≡ chain_action root chain cut (get_or chain i 0)
@@ -108,15 +100,15 @@ plan-front w horizon slots named root cut chain starts is count does = record {
     unused i header h at heap_only =
         let within : i < length chain = (let l = count.within in omega arith) in
         let v = member-version (has_aborted w) slots root chain i is within in
-        let same : v.version.header ≡ header = same_some v.version.header header (sym (ap (option_map (λ t. t.header)) v.there) ∙ at) in
+        let same : v.version.header ≡ header = same_Some v.version.header header (sym (ap (option_map (λ t. t.header)) v.there) ∙ at) in
         let k = get_or chain i 0 in
         of-place i within
-        ∙ passed (k == root) (root_action cut (slice_get chain cut)) (if list_any (nat_eq k) (take cut chain) then Some action.Unuse else None)
-        (other-eq k root (λ e.
+        ∙ cond-false (k == root) (root_action cut (slice_get chain cut)) (if list_any (nat_eq k) (take cut chain) then Some action.Unuse else None)
+        (ne_eqb k root (λ e.
         let plain = root-plain slots root v.version starts (ap (version_at slots) (sym e) ∙ v.there) in
         let yes : is_heap_only v.version.header ≡ true = ap is_heap_only same ∙ heap_only in
         cc))
-        ∙ chosen (list_any (nat_eq k) (take cut chain)) (Some action.Unuse) None (in_front-place k cut i chain count.within h refl)
+        ∙ cond-true (list_any (nat_eq k) (take cut chain)) (Some action.Unuse) None (in_front-place k cut i chain count.within h refl)
 
 pub plan-checks : (w : Window) (horizon : ℕ) (page : PageView) (actions : List (ℕ × Action)) → NoSharedSlots (has_aborted w) page.slots → IsPlan w horizon page.slots actions
     → Checks w horizon page page.change actions
@@ -162,17 +154,17 @@ pub front-target : (root front k first : ℕ) (chain : List ℕ) (o : Option ℕ
 front-target root zero k first chain o d start at e = absurd (cc)
 front-target root (suc front) k first chain None d start at e = absurd (cc)
 front-target root (suc front) k first chain (Some j) d start at e = λ same.
-    let f : action.Redirect j ≡ action.Redirect k = same_some (action.Redirect j) (action.Redirect k) e in
+    let f : action.Redirect j ≡ action.Redirect k = same_Some (action.Redirect j) (action.Redirect k) e in
     let jk : j ≡ k = cc in
     let within = slice_get_within chain (suc front) j at in
-    absurd (apart chain 0 (suc front) d (omega arith) within
+    absurd (distinct-places chain 0 (suc front) d (omega arith) within
     (get_or_from_slice_get chain 0 first 0 start ∙ sym same ∙ sym jk ∙ sym (get_or_from_slice_get chain (suc front) j 0 at)))
 
 redirect-first : (slots : List Slot) (root k first : ℕ) → slot_at slots root ≡ Some (Redirect k) → first_of slots root ≡ Some first → first ≡ k
 redirect-first slots root k first at e = by (is_some (version_at slots k)) (sym (ap (option_and_then (start_in slots root)) at) ∙ e)
   where
     by : (b : Bool) → (if b then Some k else None) ≡ Some first → first ≡ k
-    by true f = sym (same_some k first f)
+    by true f = sym (same_Some k first f)
     by false f = absurd (cc)
 
 leads-within : (front k : ℕ) (chain : List ℕ) (o : Option ℕ) → slice_get chain front ≡ o → root_action front o ≡ Some (action.Redirect k) → front < length chain

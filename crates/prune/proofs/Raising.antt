@@ -1,5 +1,6 @@
 -- A plan that checks changes each slot that it names.
 use Rattle.std.proofs.Common.{◌≡◌, ℕ, ◌==◌, true, false, List, [], ◌∷◌, length, Option, Some, None, arith, ⊎_elim, sym, ap, ◌∙◌, refl, subst}
+use Rattle.std.proofs.lemmas.Bool.{eq-eqb, ne_eqb, cond-true, cond-false}
 use Rattle.page_slots.specs.declared.slot.Slot.{Slot}
 use Rattle.page_slots.specs.declared.slot.Slot.TheVariants.{Unused, Normal, Redirect, Dead}
 use Rattle.page_slots.specs.View.{PageView}
@@ -13,7 +14,7 @@ use Rattle.prune.specs.declared.action.Action.TheVariants as action
 use Rattle.prune.specs.Actions.{is_done, made_by, after_action, applied, AreInOrder, action_of, raised}
 use Rattle.prune.specs.Checks.{IsAccounted, Checks}
 use Rattle.prune.proofs.Links.{member-version}
-use Rattle.prune.proofs.Listing.{chosen, passed, same-eq, other-eq, named-there}
+use Rattle.prune.proofs.Listing.{named-there}
 use Rattle.prune.proofs.ChainPlaces.{place-of}
 use Rattle.prune.proofs.Removing.{lost-from}
 use Rattle.prune.proofs.PlanChecks.{own-target}
@@ -26,7 +27,7 @@ version-new (action.Redirect k) t = refl
 redirect-new : (a : Action) (k : ℕ) → ¬ (a ≡ action.Redirect k) → is_done a (Redirect k) ≡ false
 redirect-new action.Unuse k other = refl
 redirect-new action.Kill k other = refl
-redirect-new (action.Redirect j) k other = other-eq k j (λ e. other (ap (λ x. action.Redirect x) (sym e)))
+redirect-new (action.Redirect j) k other = ne_eqb k j (λ e. other (ap (λ x. action.Redirect x) (sym e)))
 
 at-version : (slots : List Slot) (n : ℕ) (a : Action) (t : Version) → version_at slots n ≡ Some t → is_done a (the_slot slots n) ≡ false
 at-version slots n a t at = ap (is_done a) (the_slot-from_slot_at slots n (Normal t) (slot_at-from_version_at slots n t at)) ∙ version-new a t
@@ -62,7 +63,7 @@ all-new low (x ∷ rest) page o new =
     let after = after_action page x.0 x.1 in
     let long : length after.slots ≡ length page.slots = length-with_slot page.slots x.0 (made_by x.1) in
     let order : AreInOrder (length after.slots) x.0 rest = subst (λ c. AreInOrder c x.0 rest) (sym long) o.2 in
-    let here = new x.0 x.1 (chosen (x.0 == x.0) (Some x.1) (action_of rest x.0) (same-eq x.0 x.0 refl)) in
+    let here = new x.0 x.1 (cond-true (x.0 == x.0) (Some x.1) (action_of rest x.0) (eq-eqb x.0 x.0 refl)) in
     let step : after.change ≡ next_change page.change = ap (λ b. change_unless b page.change) here in
     all-new x.0 rest after order (λ n a e.
     let there = named-there (length page.slots) x.0 n rest a o.2 e in
@@ -70,7 +71,7 @@ all-new low (x ∷ rest) page o new =
     let is_there : IsThere page.slots n = ((omega arith), there.1) in
     let same : the_slot after.slots n ≡ the_slot page.slots n = the_slot-from_slot_at after.slots n (the_slot page.slots n)
     (slot_at-with_slot_other page.slots x.0 n (made_by x.1) (omega arith) (λ f. omega arith) ∙ slot_at-there page.slots n is_there) in
-    ap (is_done a) same ∙ new n a (passed (x.0 == n) (Some x.1) (action_of rest n) (other-eq x.0 n (λ f. omega arith)) ∙ e))
+    ap (is_done a) same ∙ new n a (cond-false (x.0 == n) (Some x.1) (action_of rest n) (ne_eqb x.0 n (λ f. omega arith)) ∙ e))
     ∙ ap (raised (length rest)) step
 
 pub checked-raises : (w : Window) (horizon : ℕ) (page : PageView) (change : ℕ) (actions : List (ℕ × Action)) → Checks w horizon page change actions

@@ -2,7 +2,8 @@
 use Rattle.std.proofs.Common.{◌≡◌, ◌≢◌, ℕ, zero, suc, ◌<◌, ◌==◌, ◌&&◌, not, Bool, true, false, nat_eq, if◌then◌else◌, List, take, Option, Some, None, arith, inl, inr, sym, ap, ◌∙◌, refl, subst, slice_get}
 use Rattle.std.specs.List.{list_any}
 use Rattle.std.specs.Option.{option_and_then, option_map}
-use Rattle.std.proofs.lemmas.Bool.{and_parts, not-true, eqb-true}
+use Rattle.std.proofs.lemmas.Bool.{and_parts, not-true, eqb-true, eq-eqb}
+use Rattle.std.proofs.lemmas.Option.{same_Some}
 use Rattle.page_slots.specs.declared.slot.Slot.{Slot}
 use Rattle.page_slots.specs.Slots.{slot_at, version_at, version_of}
 use Rattle.tuple_header.specs.Version.{Version}
@@ -18,8 +19,7 @@ use Rattle.prune.specs.declared.action.Action.TheVariants as action
 use Rattle.prune.specs.Cutting.{IsCut, Removes, NoSharedSlots}
 use Rattle.prune.specs.Actions.{made_by, acted}
 use Rattle.prune.specs.Pruning.{root_action, chain_action, loose_in, loose_action, Does, by_root, by_none, IsPruned, lead, KeepsRoots}
-use Rattle.prune.proofs.Links.{same_some, version-there}
-use Rattle.prune.proofs.Listing.{same-eq}
+use Rattle.prune.proofs.Links.{version-there}
 use Rattle.prune.proofs.ChainPlaces.{place-in_front, first-normal, chain-first, front-cut, root-leads, at-place}
 
 -- by whether something is done to a slot
@@ -30,7 +30,7 @@ by-answer (Some a) f g = g a refl
 -- Tests of two parts, taken apart.
 
 pub if-some : (b : Bool) (a : Action) → (if b then Some action.Unuse else None) ≡ Some a → (b ≡ true) × (a ≡ action.Unuse)
-if-some true a e = (refl, (let f = same_some action.Unuse a e in sym f))
+if-some true a e = (refl, (let f = same_Some action.Unuse a e in sym f))
 if-some false a e = absurd (cc)
 
 -- a slot to which something is done is the root, or among those that are cut
@@ -41,7 +41,7 @@ chain-cases {P} root cut n chain a e f g = by (n == root) refl e
     by : (b : Bool) → n == root ≡ b → (if b then root_action cut (slice_get chain cut) else (if list_any (nat_eq n) (take cut chain) then Some action.Unuse else None)) ≡ Some a → P
     by true t e = f (eqb-true n root t) e
     by false t e = let both = if-some (list_any (nat_eq n) (take cut chain)) a e in
-        g (λ same. let s = same-eq n root same in cc) both.0 both.1
+        g (λ same. let s = eq-eqb n root same in cc) both.0 both.1
 
 pub root-cut : (cut : ℕ) (o : Option ℕ) (a : Action) → root_action cut o ≡ Some a → 0 < cut
 root-cut zero o a e = absurd (cc)
@@ -49,8 +49,8 @@ root-cut (suc cut) o a e = omega arith
 
 pub root-lead : (cut : ℕ) (o : Option ℕ) (a : Action) → root_action cut o ≡ Some a → made_by a ≡ lead o
 root-lead zero o a e = absurd (cc)
-root-lead (suc cut) None a e = let f = same_some action.Kill a e in ap made_by (sym f)
-root-lead (suc cut) (Some k) a e = let f = same_some (action.Redirect k) a e in ap made_by (sym f)
+root-lead (suc cut) None a e = let f = same_Some action.Kill a e in ap made_by (sym f)
+root-lead (suc cut) (Some k) a e = let f = same_Some (action.Redirect k) a e in ap made_by (sym f)
 
 aborted-is : (s : Status) → is_aborted s ≡ true → s ≡ Aborted
 aborted-is Aborted e = refl

@@ -1,7 +1,7 @@
 -- The marks after the walks along the chains of the first roots.
 use Rattle.std.proofs.Common.{◌≡◌, ◌≢◌, ℕ, zero, suc, ◌+◌, ◌<◌, Bool, true, false, nat_eq, if◌then◌else◌, ◌||◌, List, length, get_or, replicate, arith, inl, inr, ⊎_elim, sym, ap, ◌∙◌, refl, subst}
 use Rattle.std.specs.List.{list_any, Contains}
-use Rattle.std.proofs.lemmas.Bool.{cases_lt, cases_Bool, or_cases}
+use Rattle.std.proofs.lemmas.Bool.{cases_lt, cases_Bool, or_cases, eqb-true, eqb-false, or_parts}
 use Rattle.page_slots.specs.declared.slot.Slot.{Slot}
 use Rattle.commit_status.specs.Window.{Window}
 use Rattle.hot_chain.specs.Chain.{has_aborted, is_root, LeadsTo}
@@ -11,7 +11,6 @@ use Rattle.prune.specs.declared.marks.Mark.TheVariants.{Loose, Held}
 use Rattle.prune.specs.Cutting.{IsCutCount}
 use Rattle.prune.specs.Pruning.{IsOf, chain_action}
 use Rattle.prune.specs.Marks.{mark_at, MarksChain, IsMark, held, loose}
-use Rattle.prune.proofs.Marking.{eq-true, eq-false}
 
 pub data IsMarkSoFar (w : Window) (horizon : ℕ) (slots : List Slot) (bound n : ℕ) (mark : Mark) : Type 0 where
   by_chain : (root : ℕ) (chain : List ℕ) (cut : ℕ) → IsOf (has_aborted w) slots root chain n → IsCutCount w horizon slots chain cut
@@ -36,10 +35,6 @@ so_far-skip w horizon slots bound n mark none (IsMarkSoFar.by_none f g e) = IsMa
     not-root : (root : ℕ) → root ≡ bound → is_root slots root ≡ true → ⊥
     not-root root same starts = let at = ap (is_root slots) same in absurd (cc)
 
-or-false : (a b : Bool) → a || b ≡ false → (a ≡ false) × (b ≡ false)
-or-false true b e = absurd (cc)
-or-false false b e = (refl, e)
-
 pub so_far-chain : (w : Window) (horizon : ℕ) (slots : List Slot) (root n : ℕ) (before after : List Mark) → MarksChain w horizon slots root before after
     → is_root slots root ≡ true → IsMarkSoFar w horizon slots root n (mark_at before n) → IsMarkSoFar w horizon slots (root + 1) n (mark_at after n)
 so_far-chain w horizon slots root n before after m starts old = ⊎_elim in-chain elsewhere (cases_Bool (nat_eq n root || list_any (nat_eq n) m.chain))
@@ -52,15 +47,15 @@ so_far-chain w horizon slots root n before after m starts old = ⊎_elim in-chai
     in-chain here = IsMarkSoFar.by_chain root m.chain m.cut (record {
       starts = starts;
       is_chain = m.is_chain;
-      holds = ⊎_elim (λ a. inl (eq-true n root a)) (λ b. inr (any-contains n m.chain b)) (or_cases (nat_eq n root) (list_any (nat_eq n) m.chain) here);
+      holds = ⊎_elim (λ a. inl (eqb-true n root a)) (λ b. inr (any-contains n m.chain b)) (or_cases (nat_eq n root) (list_any (nat_eq n) m.chain) here);
     }) m.is_cut (chosen true here)
 
     same : nat_eq n root || list_any (nat_eq n) m.chain ≡ false → IsMarkSoFar w horizon slots root n (mark_at before n) → IsMarkSoFar w horizon slots (root + 1) n (mark_at after n)
     same off (IsMarkSoFar.by_chain r chain cut o c e) = IsMarkSoFar.by_chain r chain cut o c (chosen false off ∙ e)
     same off (IsMarkSoFar.by_none f g e) =
-        let apart = or-false (nat_eq n root) (list_any (nat_eq n) m.chain) off in
+        let apart = or_parts (nat_eq n root) (list_any (nat_eq n) m.chain) off in
         IsMarkSoFar.by_none
-        (λ r h s. ⊎_elim (λ lt. f r lt s) (λ ge. let at : r ≡ root = omega arith in subst (λ k. n ≢ k) (sym at) (eq-false n root apart.0)) (cases_lt r root))
+        (λ r h s. ⊎_elim (λ lt. f r lt s) (λ ge. let at : r ≡ root = omega arith in subst (λ k. n ≢ k) (sym at) (eqb-false n root apart.0)) (cases_lt r root))
         (λ r h l. ⊎_elim (λ lt. g r lt l) (λ ge. let at : r ≡ root = omega arith in not-held (subst (λ k. LeadsTo (has_aborted w) slots k n) at l) apart.1) (cases_lt r root))
         (chosen false off ∙ e)
       where

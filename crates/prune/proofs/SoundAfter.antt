@@ -2,8 +2,8 @@
 use Rattle.std.proofs.Common.{◌≡◌, ◌≢◌, ◌⊎◌, ℕ, zero, suc, ◌+◌, ◌-◌, ◌<◌, ◌≤◌, ◌==◌, ◌&&◌, nat_eq, Bool, true, false, if◌then◌else◌, List, length, get_or, take, Option, Some, None, arith, inl, inr, ⊎_elim, sym, ap, ◌∙◌, refl, subst, slice_get}
 use Rattle.std.specs.List.{list_any}
 use Rattle.std.specs.Option.{option_and_then, option_map}
-use Rattle.std.proofs.lemmas.Bool.{cases_lt}
-use Rattle.std.proofs.lemmas.Option.{slice_get_within, get_or_from_slice_get, slice_get-get_or}
+use Rattle.std.proofs.lemmas.Bool.{cases_lt, eq-eqb, cond-true}
+use Rattle.std.proofs.lemmas.Option.{slice_get_within, get_or_from_slice_get, slice_get-get_or, same_Some}
 use Rattle.page_slots.specs.declared.slot.Slot.{Slot}
 use Rattle.page_slots.specs.declared.slot.Slot.TheVariants.{Unused, Normal, Redirect, Dead}
 use Rattle.page_slots.specs.Slots.{slot_at, version_at, header_at}
@@ -11,18 +11,18 @@ use Rattle.page_slots.proofs.SlotLemmas.{there-from_slot_at, version_at-from_slo
 use Rattle.tuple_header.specs.Version.{Version}
 use Rattle.tuple_header.specs.declared.version.Header.{Header}
 use Rattle.xid_circle.specs.Circle.{Precedes}
+use Rattle.xid_circle.specs.Following.{ReachesIn}
 use Rattle.commit_status.specs.Window.{Window, IsCommitted}
 use Rattle.visibility.specs.Visible.{IsFrozen, IsDead}
 use Rattle.hot_chain.specs.Chain.{has_aborted, is_replaced, is_made_by, is_root, successor, IsChain}
 use Rattle.hot_chain.proofs.Chains.{root-there}
 use Rattle.prune.specs.declared.action.Action.{Action}
 use Rattle.prune.specs.declared.action.Action.TheVariants as action
-use Rattle.prune.specs.Cutting.{IsDeadAt, IsCutCount, IsCut, ReachesIn, Reaches, link}
+use Rattle.prune.specs.Cutting.{IsDeadAt, IsCutCount, IsCut, Reaches, link}
 use Rattle.prune.specs.Actions.{acted, made_by}
 use Rattle.prune.specs.Pruning.{root_action, chain_action, IsOf, Does, by_root, by_none, IsPruned}
 use Rattle.prune.specs.Sound.{entry_in, entry_of, IsIn, IsTarget, SoundPage, KeepsChains}
-use Rattle.prune.proofs.Links.{same_some, link-of}
-use Rattle.prune.proofs.Listing.{chosen, same-eq}
+use Rattle.prune.proofs.Links.{link-of}
 use Rattle.prune.proofs.PlanChecks.{front-target}
 use Rattle.prune.proofs.ChainPlaces.{chain-first, of-one, of-not_loose, reaches-places, front-cut}
 use Rattle.prune.proofs.Unshared.{same-by_slots}
@@ -124,7 +124,7 @@ leads-now : (w : Window) (horizon : ℕ) (slots : List Slot) (n k cut : ℕ) (ch
 leads-now w horizon slots n k zero chain o starts c count at e = absurd (cc)
 leads-now w horizon slots n k (suc cut) chain None starts c count at e = absurd (cc)
 leads-now w horizon slots n k (suc cut) chain (Some j) starts c count at e =
-    let f : action.Redirect j ≡ action.Redirect k = same_some (action.Redirect j) (action.Redirect k) e in
+    let f : action.Redirect j ≡ action.Redirect k = same_Some (action.Redirect j) (action.Redirect k) e in
     let jk : j ≡ k = cc in
     Led.now chain (suc cut) starts c count (omega arith) (slice_get_within chain (suc cut) j at) (get_or_from_slice_get chain (suc cut) j 0 at ∙ jk)
 
@@ -141,7 +141,7 @@ led-by w horizon slots after n k p at =
     by-answer each.answer
     (λ none. Led.before (sym (each.is ∙ ap (acted (slot_at slots n)) none) ∙ at))
     (λ a some.
-    let made : made_by a ≡ Redirect k = same_some (made_by a) (Redirect k) (sym (each.is ∙ ap (acted (slot_at slots n)) some) ∙ at) in
+    let made : made_by a ≡ Redirect k = same_Some (made_by a) (Redirect k) (sym (each.is ∙ ap (acted (slot_at slots n)) some) ∙ at) in
     does each.answer a each.does some (made-redirect a k made))
   where
     does : (o : Option Action) (a : Action) → Does w horizon slots n o → o ≡ Some a → a ≡ action.Redirect k → Led w horizon slots n k
@@ -178,7 +178,7 @@ entered w horizon slots after root e sound p leads = by (slot_at after root) ref
     by (Some (Normal t)) at f =
         let kept = version-kept w horizon slots after root t sound p (version_at-from_slot_at after root t at) in
         record { first = e; leads = ap (entry_in root) (slot_at-from_version_at slots root t kept.0) ∙ f; later = record { turns = 0; along = refl } }
-    by (Some (Redirect k)) at f = subst (Entered w slots root) (same_some k e f) (led k (led-by w horizon slots after root k p at))
+    by (Some (Redirect k)) at f = subst (Entered w slots root) (same_Some k e f) (led k (led-by w horizon slots after root k p at))
     by (Some Dead) at f = absurd (cc)
 
 in-before : (w : Window) (horizon : ℕ) (slots after : List Slot) (root n : ℕ) → SoundPage w horizon slots → IsPruned w horizon slots after → IsIn w after root n → IsIn w slots root n
@@ -216,7 +216,7 @@ rooted w horizon slots after root sound p starts =
           is_chain = subst (λ r. IsChain (has_aborted w) slots r chain) one i.is_chain;
           count = c;
           is = is ∙ ap (acted (slot_at slots root)) (e ∙ ap (λ r. chain_action r chain cut root) one
-              ∙ chosen (root == root) (root_action cut (slice_get chain cut)) (if list_any (nat_eq root) (take cut chain) then Some action.Unuse else None) (same-eq root root refl));
+              ∙ cond-true (root == root) (root_action cut (slice_get chain cut)) (if list_any (nat_eq root) (take cut chain) then Some action.Unuse else None) (eq-eqb root root refl));
         }
 
 entry-after : (w : Window) (horizon : ℕ) (slots after : List Slot) (root cut : ℕ) (chain : List ℕ) → is_root slots root ≡ true → IsChain (has_aborted w) slots root chain
@@ -262,7 +262,7 @@ target-new w horizon slots after n cut chain sound p c count within =
     let next : link w slots (get_or chain cut 0) ≡ Some (get_or chain (suc cut) 0) = subst (λ k. link w slots (get_or chain cut 0) ≡ Some (get_or chain k 0)) one (c.linked cut (omega arith)) in
     let l = link-of (has_aborted w) slots (get_or chain cut 0) (get_or chain (suc cut) 0) next in
     let dead : IsDeadAt w horizon slots (get_or chain cut 0) = subst (λ k. IsDeadAt w horizon slots (get_or chain k 0)) less (count.dead (omega arith)) in
-    let same : dead.version ≡ l.old = same_some dead.version l.old (sym dead.there ∙ l.from) in
+    let same : dead.version ≡ l.old = same_Some dead.version l.old (sym dead.there ∙ l.from) in
     record {
       version = l.new;
       there = uncut-stays w horizon slots after (get_or chain (suc cut) 0) l.new p l.to

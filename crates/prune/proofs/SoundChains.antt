@@ -2,8 +2,9 @@
 use Rattle.std.proofs.Common.{◌≡◌, ℕ, zero, suc, ◌+◌, ◌-◌, ◌<◌, ◌≤◌, ◌==◌, ◌&&◌, Bool, true, false, not, nat_eq, if◌then◌else◌, List, [], ◌∷◌, ◌++◌, length, length-append, get_or, take, Option, Some, None, is_some, arith, ⊎_elim, sym, ap, ◌∙◌, refl, subst, slice_get}
 use Rattle.std.specs.List.{list_any}
 use Rattle.std.specs.Option.{option_and_then, option_map}
-use Rattle.std.proofs.lemmas.Bool.{cases_lt, cases_Bool, eqb-true}
-use Rattle.std.proofs.lemmas.Option.{slice_get-get_or}
+use Rattle.std.proofs.lemmas.Bool.{cases_lt, cases_Bool, eqb-true, eq-eqb, cond-true, cond-false}
+use Rattle.std.proofs.lemmas.Option.{slice_get-get_or, same_Some}
+use Rattle.xid_circle.specs.Following.{ReachesIn}
 use Rattle.page_slots.specs.declared.slot.Slot.{Slot}
 use Rattle.page_slots.specs.declared.slot.Slot.TheVariants.{Unused, Normal, Redirect, Dead}
 use Rattle.page_slots.specs.Slots.{slot_at, version_at}
@@ -17,11 +18,10 @@ use Rattle.hot_chain.proofs.Walks.{Walk, walk-none, walk-more, walk-room, chain-
 use Rattle.hot_chain.proofs.Chains.{any-place}
 use Rattle.prune.specs.declared.action.Action.{Action}
 use Rattle.prune.specs.declared.action.Action.TheVariants as action
-use Rattle.prune.specs.Cutting.{IsDeadAt, IsCutCount, IsCut, ReachesIn, Reaches, link, NoSharedSlots}
+use Rattle.prune.specs.Cutting.{IsDeadAt, IsCutCount, IsCut, Reaches, link, NoSharedSlots}
 use Rattle.prune.specs.Pruning.{root_action, chain_action, loose_in, loose_action, IsOf, Does, by_root, by_none, IsPruned}
 use Rattle.prune.specs.Sound.{entry_in, entry_of, IsIn, SoundPage}
-use Rattle.prune.proofs.Links.{same_some, link-of, first-version, version-there}
-use Rattle.prune.proofs.Listing.{chosen, passed, same-eq}
+use Rattle.prune.proofs.Links.{link-of, first-version, version-there}
 use Rattle.prune.proofs.ChainPlaces.{place-of, at-place, in_front-place, first-normal, chain-first, reaches-places}
 use Rattle.prune.proofs.Removing.{acted-version, pruned-removes}
 use Rattle.prune.proofs.Unseen.{aborted-has}
@@ -86,7 +86,7 @@ exact w horizon slots n chain i zero x sound c within along =
     record { within = omega arith; is = sym along ∙ ap (λ k. get_or chain k 0) e }
 exact w horizon slots n chain i (suc j) x sound c within along = ⊎_elim
     (λ more.
-    let same : along.0 ≡ get_or chain (i + 1) 0 = same_some along.0 (get_or chain (i + 1) 0) (sym along.1 ∙ c.linked i more) in
+    let same : along.0 ≡ get_or chain (i + 1) 0 = same_Some along.0 (get_or chain (i + 1) 0) (sym along.1 ∙ c.linked i more) in
     let rest = exact w horizon slots n chain (i + 1) j x sound c more (subst (λ k. ReachesIn (link w slots) j k x) same along.2) in
     let e : i + 1 + j ≡ i + suc j = omega arith in
     record { within = subst (λ k. k < length chain) e rest.within; is = rest.is ∙ ap (λ k. get_or chain k 0) e })
@@ -194,18 +194,18 @@ spared-place : (aborted : ℕ → Bool) (slots : List Slot) (root cut n : ℕ) (
 spared-place aborted slots root cut n chain t at o within none = ⊎_elim
     (λ yes_root.
     let same = eqb-true n root yes_root in
-    let zero_is = root-none cut (slice_get chain cut) (sym (chosen (n == root) (root_action cut (slice_get chain cut)) (if list_any (nat_eq n) (take cut chain) then Some action.Unuse else None) yes_root) ∙ none) in
+    let zero_is = root-none cut (slice_get chain cut) (sym (cond-true (n == root) (root_action cut (slice_get chain cut)) (if list_any (nat_eq n) (take cut chain) then Some action.Unuse else None) yes_root) ∙ none) in
     let first = chain-first aborted slots root n chain o.is_chain (ap (first_of slots) (sym same) ∙ first-normal slots n t at) in
     record { place = 0; after = omega arith; within = first.0; is = first.1 })
     (λ other. ⊎_elim
-    (λ same. absurd (let e = same-eq n root same in cc))
+    (λ same. absurd (let e = eq-eqb n root same in cc))
     (λ holds.
     let p = place-of n chain holds in
     ⊎_elim
     (λ lt.
     let front = in_front-place n cut p.0 chain within lt p.2 in
-    let e = sym (chosen (list_any (nat_eq n) (take cut chain)) (Some action.Unuse) None front)
-    ∙ sym (passed (n == root) (root_action cut (slice_get chain cut)) (if list_any (nat_eq n) (take cut chain) then Some action.Unuse else None) other) ∙ none in
+    let e = sym (cond-true (list_any (nat_eq n) (take cut chain)) (Some action.Unuse) None front)
+    ∙ sym (cond-false (n == root) (root_action cut (slice_get chain cut)) (if list_any (nat_eq n) (take cut chain) then Some action.Unuse else None) other) ∙ none in
     absurd (cc))
     (λ ge. record { place = p.0; after = ge; within = p.1; is = p.2 })
     (cases_lt p.0 cut))

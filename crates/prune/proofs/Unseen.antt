@@ -1,21 +1,21 @@
 -- No reader sees a version that is cut.
 use Rattle.std.proofs.Common.{◌≡◌, ◌≢◌, ◌⊎◌, ◌↔◌, ℕ, zero, suc, true, false, List, Some, inl, inr, ⊎_elim, sym, ap, ◌∙◌, refl, subst}
-use Rattle.std.specs.List.{Contains}
+use Rattle.std.proofs.lemmas.Option.{same_Some}
+use Rattle.xid_circle.specs.Following.{ReachesIn}
 use Rattle.page_slots.specs.declared.slot.Slot.{Slot}
 use Rattle.page_slots.specs.Slots.{version_at}
 use Rattle.tuple_header.specs.Version.{Version}
-use Rattle.commit_status.specs.declared.status.Status.TheVariants.{InProgress, Committed, Aborted}
-use Rattle.commit_status.specs.Window.{Window, IsActive, IsCommitted, IsAborted, IsUpToNext, status_of}
-use Rattle.commit_status.proofs.Places.{upto-place}
-use Rattle.commit_status.proofs.Giving.{finished-place}
+use Rattle.commit_status.specs.declared.status.Status.TheVariants.{InProgress, Committed}
+use Rattle.commit_status.specs.Window.{Window, IsCommitted, IsAborted, status_of}
 use Rattle.snapshot.specs.Snap.{Snap}
 use Rattle.snapshot.proofs.Sights.{past-seen}
 use Rattle.visibility.specs.Visible.{IsFrozen, Reads, VisibleBy, IsDead}
+use Rattle.visibility.proofs.Dead.{committed-upto, aborted-unread}
 use Rattle.hot_chain.specs.Chain.{has_aborted, is_aborted}
-use Rattle.prune.specs.Cutting.{link, ReachesIn, IsCut, Removes}
+use Rattle.prune.specs.Cutting.{link, IsCut, Removes}
 use Rattle.prune.specs.Readers.{FindsBy, IsReader, IsOpenReader, KeepsFound}
 use Rattle.prune.specs.Sound.{SoundPage}
-use Rattle.prune.proofs.Links.{link-of, same_some}
+use Rattle.prune.proofs.Links.{link-of}
 
 pub record IsUndoneAt (w : Window) (slots : List Slot) (n : ℕ) : Type 0 where
   pub version : Version
@@ -44,7 +44,7 @@ committed-some w x done same =
 undone-unlinked : (w : Window) (slots : List Slot) (n k : ℕ) → link w slots n ≡ Some k → ¬ IsUndoneAt w slots k
 undone-unlinked w slots n k next u =
     let l = link-of (has_aborted w) slots n k next in
-    let same : u.version ≡ l.new = same_some u.version l.new (sym u.there ∙ l.to) in
+    let same : u.version ≡ l.new = same_Some u.version l.new (sym u.there ∙ l.to) in
     let id : u.version.header.xmin.0 ≡ l.old.header.xmax.0 = ap (λ (v : Version). v.header.xmin.0) same ∙ l.made in
     let e : has_aborted w l.old.header.xmax.0 ≡ true = ap (has_aborted w) (sym id) ∙ aborted-has w u.version.header.xmin.0 u.aborted in
     let f : false ≡ true = sym l.live ∙ e in
@@ -59,7 +59,7 @@ gone-before : (w : Window) (horizon : ℕ) (slots : List Slot) (R : ℕ → Type
     → link w slots n ≡ Some k → IsGone w slots R k → IsGone w slots R n
 gone-before w horizon slots R n k sound reader next gone =
     let l = link-of (has_aborted w) slots n k next in
-    let same : gone.version ≡ l.new = same_some gone.version l.new (sym gone.there ∙ l.to) in
+    let same : gone.version ≡ l.new = same_Some gone.version l.new (sym gone.there ∙ l.to) in
     let deleted : IsCommitted w l.new.header.xmax.0 = subst (λ (v : Version). IsCommitted w v.header.xmax.0) same gone.deleted in
     let counted : R l.new.header.xmax.0 = subst (λ (v : Version). R v.header.xmax.0) same gone.counted in
     let thawed : ¬ IsFrozen l.new.header = sound.unfrozen n k l.new next l.to in
@@ -96,14 +96,14 @@ cut-unseen w horizon slots R n t sound reader at seen cut = ⊎_elim never gone 
   where
     never : IsUndoneAt w slots n → ⊥
     never u =
-        let same : u.version ≡ t = same_some u.version t (sym u.there ∙ at) in
+        let same : u.version ≡ t = same_Some u.version t (sym u.there ∙ at) in
         let thawed = subst (λ (v : Version). ¬ IsFrozen v.header) same u.thawed in
         let aborted = subst (λ (v : Version). IsAborted w v.header.xmin.0) same u.aborted in
         ⊎_elim (λ f. thawed f) (λ r. reader.none_aborted t.header.xmin.0 aborted r) seen.made
 
     gone : IsGone w slots R n → ⊥
     gone g =
-        let same : g.version ≡ t = same_some g.version t (sym g.there ∙ at) in
+        let same : g.version ≡ t = same_Some g.version t (sym g.there ∙ at) in
         let deleted = subst (λ (v : Version). IsCommitted w v.header.xmax.0) same g.deleted in
         seen.kept (committed-some w t.header.xmax.0 deleted) (subst (λ (v : Version). R v.header.xmax.0) same g.counted)
 
@@ -116,15 +116,6 @@ removed-found w horizon slots after R sound removes reader n t = (
 )
 
 -- A snapshot with own ids is such a reader.
-
-committed-upto : (w : Window) (x : ℕ) → IsCommitted w x → IsUpToNext w x
-committed-upto w x done =
-    let found = finished-place w x (λ e. let f : Committed ≡ InProgress = sym done ∙ e in cc) in
-    upto-place w x found.0 found.1
-
-aborted-unread : (w : Window) (s : Snap) (own : List ℕ) (x : ℕ) → ((y : ℕ) → Contains own y → IsActive w y) → IsAborted w x → ¬ Reads w s own x
-aborted-unread w s own x active gone (Reads.by_itself c) = let e : Aborted ≡ InProgress = sym gone ∙ (active x c).unfinished in absurd (cc)
-aborted-unread w s own x active gone (Reads.by_others sees done) = let e : Aborted ≡ Committed = sym gone ∙ done in absurd (cc)
 
 pub open-reader : (w : Window) (horizon : ℕ) (slots : List Slot) (s : Snap) (own : List ℕ) → IsOpenReader w horizon slots s own → IsReader w horizon slots (Reads w s own)
 open-reader w horizon slots s own r = record {

@@ -1,7 +1,7 @@
 -- Where no slot is in the chains of two roots, pruning has one outcome.
 use Rattle.std.proofs.Common.{◌≡◌, ℕ, suc, ◌-◌, ◌<◌, List, [], ◌∷◌, length, Option, arith, ⊎_elim, sym, ap, ap₂, ◌∙◌, refl, subst, slice_get}
 use Rattle.std.proofs.lemmas.Bool.{cases_lt}
-use Rattle.std.proofs.lemmas.Option.{slice_get_past}
+use Rattle.std.proofs.lemmas.Option.{slice_get_past, same_Some}
 use Rattle.page_slots.specs.declared.slot.Slot.{Slot}
 use Rattle.page_slots.specs.Slots.{slot_at, IsThere}
 use Rattle.commit_status.specs.Window.{Window}
@@ -11,7 +11,6 @@ use Rattle.prune.specs.declared.action.Action.{Action}
 use Rattle.prune.specs.Cutting.{IsCutCount, NoSharedSlots}
 use Rattle.prune.specs.Actions.{acted}
 use Rattle.prune.specs.Pruning.{chain_action, IsOf, Does, by_root, by_none, IsPruned}
-use Rattle.prune.proofs.Links.{same_some}
 use Rattle.prune.proofs.ChainPlaces.{of-one, of-not_loose}
 
 not-more : (w : Window) (horizon : ℕ) (slots : List Slot) (chain : List ℕ) (a b : ℕ) → IsCutCount w horizon slots chain a → IsCutCount w horizon slots chain b → ¬ (a < b)
@@ -42,7 +41,7 @@ pub same-slots : (a b : List Slot) → ((i : ℕ) → slice_get a i ≡ slice_ge
 same-slots [] [] e = refl
 same-slots [] (y ∷ ys) e = absurd (let h = e 0 in cc h)
 same-slots (x ∷ xs) [] e = absurd (let h = e 0 in cc h)
-same-slots (x ∷ xs) (y ∷ ys) e = ap₂ (λ (z : Slot) (zs : List Slot). z ∷ zs) (same_some x y (e 0)) (same-slots xs ys (λ i. e (suc i)))
+same-slots (x ∷ xs) (y ∷ ys) e = ap₂ (λ (z : Slot) (zs : List Slot). z ∷ zs) (same_Some x y (e 0)) (same-slots xs ys (λ i. e (suc i)))
 
 -- slots that are the same as far as there are any
 pub same-by_slots : (slots a b : List Slot) → length a ≡ length slots → length b ≡ length slots → ((n : ℕ) → IsThere slots n → slot_at a n ≡ slot_at b n) → a ≡ b

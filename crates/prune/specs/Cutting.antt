@@ -1,7 +1,8 @@
 -- What pruning cuts: of a chain the front, up to and with the last dead version. (README.HOT, "Pruning"; the manual's
 -- "Heap-Only Tuples": what no transaction can see any more may be taken from the front of a chain, since a reader who sees
 -- a version deleted goes on to the next.)
-use Rattle.std.specs.Prelude.{◌≡◌, ℕ, zero, suc, Bool, ◌-◌, ◌<◌, ◌≤◌, ◌⊎◌, List, length, Option, Some, slice_index}
+use Rattle.std.specs.Prelude.{◌≡◌, ℕ, Bool, ◌-◌, ◌<◌, ◌≤◌, ◌⊎◌, List, length, Option, Some, slice_index}
+use Rattle.xid_circle.specs.Following.{ReachesIn}
 use Rattle.page_slots.specs.declared.slot.Slot.{Slot}
 use Rattle.page_slots.specs.Slots.{version_at}
 use Rattle.tuple_header.specs.Version.{Version}
@@ -33,11 +34,7 @@ NoSharedSlots aborted slots = (a b n : ℕ) → LeadsTo aborted slots a n → Le
 abbrev pub link : Window → List Slot → ℕ → Option ℕ
 link w slots n = next_of (has_aborted w) slots n
 
--- from n one comes to k in so many turns
-abbrev pub ReachesIn : (ℕ → Option ℕ) → ℕ → ℕ → ℕ → Type 0
-ReachesIn next zero n k = n ≡ k
-ReachesIn next (suc i) n k = (j : ℕ) × (next n ≡ Some j) × ReachesIn next i j k
-
+-- from n one comes to k
 pub record Reaches (next : ℕ → Option ℕ) (n k : ℕ) : Type 0 where
   pub turns : ℕ
   pub along : ReachesIn next turns n k

@@ -13,7 +13,7 @@ use Rattle.root_index.specs.Order.{comparison, Precedes, IsAscending}
 use Rattle.root_index.specs.Sets.{IsAt, IsGapFor}
 use Rattle.root_index.specs.Lists.{joined, list_of, rank, begins_after, Place, IsBetween}
 use Rattle.root_index.proofs.OrderLemmas.{comparison_total, Precedes-trans, same-from_tied}
-use Rattle.root_index.proofs.SetLemmas.{ascending-at, lowest}
+use Rattle.root_index.proofs.SetLemmas.{ascending-at, lowest, same_place}
 
 -- How lists stand, and places in them.
 
@@ -104,9 +104,6 @@ before_list ls x (suc i) k e tidy within below lt at =
     before_by_case e head.0 x (comparison x head.0) refl
     (ascending-at (joined ls) k (start ls (suc i)) e head.0 tidy.ascending lt at there) (sym head.1.1 ∙ below (omega arith))
 
-same_found : (xs : List Entry) (k i : ℕ) (e f : Entry) → k ≡ i → slice_get xs k ≡ Some e → slice_get xs i ≡ Some f → f ≡ e
-same_found xs k i e f same at_k at_i = cc
-
 after_list : (ls : List (List Entry)) (x : Entry) (i k : ℕ) (e : Entry) → IsTidy ls → i < length ls → (i + 1 < length ls → begins_after x (list_of ls (i + 1)) ≡ true)
     → start ls i + length (list_of ls i) ≤ k → slice_get (joined ls) k ≡ Some e → Precedes x e
 after_list ls x i k e tidy within above le at =
@@ -119,7 +116,7 @@ after_list ls x i k e tidy within above le at =
           let first : Precedes x head.0 = less_from_test (comparison x head.0) (sym head.1.1 ∙ above more) in
           elim (cases_lt (start ls (i + 1)) k) [
             | inl later ↦ Precedes-trans x head.0 e first (ascending-at (joined ls) (start ls (i + 1)) k head.0 e tidy.ascending later there at)
-            | inr same ↦ subst (λ y. Precedes x y) (same_found (joined ls) k (start ls (i + 1)) e head.0 (omega arith) at there) first
+            | inr same ↦ subst (λ y. Precedes x y) (sym (same_place (joined ls) k (start ls (i + 1)) e head.0 (omega arith) at there)) first
           ]
       | inr last ↦ let end = start_end ls (i + 1) last in absurd (omega arith)
     ]

@@ -9,7 +9,7 @@ use Rattle.std.specs.Cmp.{IsTotalOrder}
 use Rattle.root_index.specs.declared.entry.Entry.{Entry}
 use Rattle.root_index.specs.Order.{comparison, Precedes, IsAscending}
 use Rattle.root_index.specs.Sets.{IsLeast, IsAfter, IsBelow, IsOf, IsStart}
-use Rattle.root_index.proofs.OrderLemmas.{comparison_total, Precedes-not_back, same-from_tied}
+use Rattle.root_index.proofs.OrderLemmas.{comparison_total, Precedes-not_back, same-from_tied, equal_both}
 use Rattle.root_index.proofs.SetLemmas.{first_is_least, start_after, lowest, precedes-below}
 
 -- One is found, and in turn all of them.
@@ -53,14 +53,9 @@ by_key_total = then_total (on_total (λ (e : Entry). e.value) int_cmp_total) (on
 precedes-by_key : (a b : Entry) → by_key a b ≡ Less → Precedes a b
 precedes-by_key a b e = by_key-first (by_key a b) (nat_cmp a.tid.page b.tid.page) (nat_cmp a.tid.slot b.tid.slot) e
 
-equal_parts : (o p : Ordering) → ordering_then o p ≡ Equal → (o ≡ Equal) × (p ≡ Equal)
-equal_parts Less p e = absurd (cc e)
-equal_parts Equal p e = (refl, e)
-equal_parts Greater p e = absurd (cc e)
-
 of-from_tied : (value : ℤ) (key : ℕ) (b : Entry) → ordering_then (int_cmp b.value value) (nat_cmp b.key key) ≡ Equal → IsOf value key b
 of-from_tied value key b e =
-    let both = equal_parts (int_cmp b.value value) (nat_cmp b.key key) e in
+    let both = equal_both (int_cmp b.value value) (nat_cmp b.key key) e in
     (int_ranked b.value value Equal (sym both.0), ranked b.key key Equal (sym both.1))
 
 by_key-back : (a b : Entry) → by_key a b ≡ Greater → by_key b a ≡ Less
@@ -78,7 +73,7 @@ pub between_alike : (value : ℤ) (key : ℕ) (a b c : Entry) → IsOf value key
 between_alike value key a b c of_a of_c after_a before_c =
     between_by_case value key a b c (by_key b (lowest value key)) refl of_a of_c after_a before_c
 
-not_below_itself : (value : ℤ) (key : ℕ) (e : Entry) → IsOf value key e → ¬ IsBelow value key e
+pub not_below_itself : (value : ℤ) (key : ℕ) (e : Entry) → IsOf value key e → ¬ IsBelow value key e
 not_below_itself value key e of (inl low) = omega (arith, ints, of.0)
 not_below_itself value key e of (inr low) = omega (arith, of.1, low.1)
 

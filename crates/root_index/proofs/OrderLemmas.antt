@@ -1,10 +1,11 @@
 -- The order of entries is total, and ascending lists are determined by their members.
-use Rattle.std.proofs.Common.{◌≡◌, ◌∙◌, ℕ, zero, suc, ◌⊎◌, inl, inr, ⊎_elim, List, [], ◌∷◌, sym, refl, subst, arith, Contains}
+use Rattle.std.proofs.Common.{◌≡◌, ◌∙◌, ℕ, suc, ◌⊎◌, ⊎_elim, List, [], ◌∷◌, sym, refl, subst, arith, Contains}
 use Rattle.std.specs.Cmp.{IsTotalOrder}
 use Rattle.std.specs.Ordering.{nat_cmp, ordering_then}
 use Rattle.std.specs.declared.cmp.Ordering.{Ordering}
 use Rattle.std.specs.declared.cmp.Ordering.TheVariants.{Less, Equal, Greater}
 use Rattle.std.proofs.lemmas.Cmp.{then_total, on_total, nat_cmp_total, int_cmp_total, ranked, int_ranked, tied_itself}
+use Rattle.xid_circle.proofs.Members.{Contains-first, Contains-rest, Contains-cases, Contains-none}
 use Rattle.root_index.specs.declared.entry.Entry.{Entry}
 use Rattle.root_index.specs.Order.{comparison, Precedes, IsAscending, MembersDetermine}
 
@@ -22,7 +23,7 @@ Precedes-trans a b c = comparison_total.trans a b c
 pub Precedes-not_back : (a b : Entry) → Precedes a b → ¬ Precedes b a
 Precedes-not_back a b h back = not_before_itself a (Precedes-trans a b a h back)
 
-equal_both : (o p : Ordering) → ordering_then o p ≡ Equal → (o ≡ Equal) × (p ≡ Equal)
+pub equal_both : (o p : Ordering) → ordering_then o p ≡ Equal → (o ≡ Equal) × (p ≡ Equal)
 equal_both Less p e = absurd (cc e)
 equal_both Equal p e = (refl, e)
 equal_both Greater p e = absurd (cc e)
@@ -41,21 +42,6 @@ same-from_tied a b e =
     let s = nat_tied a.tid.slot b.tid.slot slot.1 in
     rw (v, k, p, s) refl
 
--- Members of a list that begins with x.
-
-pub Contains-first : {X : Type 0} (x : X) (xs : List X) → Contains (x ∷ xs) x
-Contains-first x xs = (0, omega arith, refl)
-
-pub Contains-rest : {X : Type 0} (x e : X) (xs : List X) → Contains xs e → Contains (x ∷ xs) e
-Contains-rest x e xs (k, within, is) = (suc k, omega arith, is)
-
-pub Contains-cases : {X : Type 0} (x e : X) (xs : List X) → Contains (x ∷ xs) e → (e ≡ x) ⊎ Contains xs e
-Contains-cases x e xs (zero, within, is) = inl (sym is)
-Contains-cases x e xs (suc k, within, is) = inr (k, omega arith, is)
-
-pub Contains-none : {X : Type 0} (e : X) → ¬ Contains [] e
-Contains-none e (k, within, is) = absurd (omega arith)
-
 -- Ascending lists.
 
 pub ascending-tail : (x : Entry) (xs : List Entry) → IsAscending (x ∷ xs) → IsAscending xs
@@ -67,11 +53,11 @@ ascending-head x e xs up (k, within, is) = subst (λ y. Precedes x y) is (up 0 (
 -- an entry of one list is in the rest of the other, where both begin with the same
 in_rest : (x y e : Entry) (xs ys : List Entry) → IsAscending (x ∷ xs) → x ≡ y → Contains xs e → Contains (y ∷ ys) e → Contains ys e
 in_rest x y e xs ys up same there h =
-    ⊎_elim (λ first. absurd (not_before_itself x (subst (λ z. Precedes x z) (first ∙ sym same) (ascending-head x e xs up there)))) (λ rest. rest) (Contains-cases y e ys h)
+    ⊎_elim (λ first. absurd (not_before_itself x (subst (λ z. Precedes x z) (sym first ∙ sym same) (ascending-head x e xs up there)))) (λ rest. rest) (Contains-cases y e ys h)
 
 same_first : (x y : Entry) (xs ys : List Entry) → IsAscending (x ∷ xs) → IsAscending (y ∷ ys) → Contains (y ∷ ys) x → Contains (x ∷ xs) y → x ≡ y
 same_first x y xs ys up up' x_there y_there =
-    ⊎_elim (λ same. same) (λ x_later. ⊎_elim (λ same. sym same)
+    ⊎_elim (λ same. sym same) (λ x_later. ⊎_elim (λ same. same)
     (λ y_later. absurd (Precedes-not_back x y (ascending-head x y xs up y_later) (ascending-head y x ys up' x_later)))
     (Contains-cases x y xs y_there)) (Contains-cases y x ys x_there)
 

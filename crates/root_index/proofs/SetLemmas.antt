@@ -1,23 +1,25 @@
 -- What a search finds in an ascending list, and what an edit at that place does to the set.
-use Rattle.std.proofs.Common.{◌≡◌, ◌∙◌, ℕ, zero, suc, ◌+◌, ◌<◌, ℤ, ◌<ℤ◌, ◌⊎◌, inl, inr, ⊎_elim, ◌↔◌, List, [], ◌∷◌, get_or, Bool, true, false, not, ◌==◌, ◌&&◌, ◌||◌, IsTrue, Option, Some, None, slice_get, sym, ap, refl, subst, arith, Contains}
+use Rattle.std.proofs.Common.{◌≡◌, ◌∙◌, ℕ, zero, suc, ◌+◌, ◌<◌, ℤ, ◌⊎◌, inl, inr, ⊎_elim, ◌↔◌, List, [], ◌∷◌, get_or, Bool, true, false, not, ◌==◌, ◌&&◌, IsTrue, Option, Some, None, slice_get, sym, ap, refl, subst, arith, Contains}
 use Rattle.std.specs.List.{insert, filter, All}
 use Rattle.std.specs.Ordering.{nat_cmp, int_cmp, ordering_then}
 use Rattle.std.specs.declared.cmp.Ordering.{Ordering}
 use Rattle.std.specs.declared.cmp.Ordering.TheVariants.{Less, Equal, Greater}
-use Rattle.std.proofs.lemmas.Bool.{cases_lt}
+use Rattle.std.proofs.lemmas.Bool.{cases_lt, or_cases, or_right}
 use Rattle.std.proofs.lemmas.Bool.Decides.{nat_tests}
-use Rattle.std.proofs.lemmas.Int.{ints}
-use Rattle.std.proofs.lemmas.Cmp.{ranked, int_ranked, by_ranked, tied_itself, int_cmp_total}
+use Rattle.std.proofs.lemmas.Cmp.{ranked, int_ranked}
 use Rattle.xid_circle.specs.declared.Tid.{Tid}
+use Rattle.xid_circle.proofs.Members.{Contains-first, Contains-rest, Contains-cases, Contains-none}
+use Rattle.xid_circle.proofs.Tids.{same-tid}
 use Rattle.std.proofs.lemmas.Option.{slice_get-get_or, slice_get_within, get_or_from_slice_get}
 use Rattle.std.proofs.lemmas.List.Elements.{All-cons, All-contains, All-filter, filter_passes, All-contains_itself}
 use Rattle.std.proofs.lemmas.List.Kept.{AllPairs-cons, AllPairs-filter}
 use Rattle.std.proofs.lemmas.List.Sorted.{Contains-permutation, IsPermutation-insert, IsPermutation-sym, All-permutation}
+use Rattle.std.specs.Cmp.{int_cmp_is, nat_cmp_is}
 use Rattle.root_index.specs.declared.entry.Entry.{Entry}
 use Rattle.root_index.specs.Order.{Precedes, IsAscending}
 use Rattle.root_index.specs.Sets.{Adds, Removes, IsLeast, IsAfter, IsBelow, IsAt, IsGapFor, IsStart}
 use Rattle.root_index.specs.Lists.{is_among, stays}
-use Rattle.root_index.proofs.OrderLemmas.{not_before_itself, Precedes-not_back, Contains-first, Contains-rest, Contains-cases, Contains-none, ascending-tail}
+use Rattle.root_index.proofs.OrderLemmas.{not_before_itself, Precedes-not_back, ascending-tail}
 
 -- Places.
 
@@ -90,21 +92,12 @@ less_both Greater p e = absurd (cc e)
 none_below_nought : (n : ℕ) → ¬ (nat_cmp n 0 ≡ Less)
 none_below_nought n e = let lt : n < 0 = ranked n 0 Less (sym e) in absurd (omega arith)
 
-nat_less : (x y : ℕ) → x < y → nat_cmp x y ≡ Less
-nat_less x y lt = by_ranked (x < y) (x ≡ y) (y < x) (nat_cmp x y) (ranked x y (nat_cmp x y) refl) (λ e h. e) (λ e same. absurd (omega arith)) (λ e above. absurd (omega arith))
-
-int_less : (x y : ℤ) → x <ℤ y → int_cmp x y ≡ Less
-int_less x y lt = by_ranked (x <ℤ y) (x ≡ y) (y <ℤ x) (int_cmp x y) (int_ranked x y (int_cmp x y) refl) (λ e h. e) (λ e same. absurd (omega (arith, ints))) (λ e above. absurd (omega (arith, ints)))
-
-int_same : (x : ℤ) → int_cmp x x ≡ Equal
-int_same x = tied_itself int_cmp_total x
-
 abbrev pub lowest : ℤ → ℕ → Entry
 lowest value key = record { value = value; key = key; tid = record { page = 0; slot = 0 } }
 
 pub below-precedes : (value : ℤ) (key : ℕ) (e : Entry) → IsBelow value key e → Precedes e (lowest value key)
-below-precedes value key e (inl low) = rw (int_less e.value value low) refl
-below-precedes value key e (inr (same, low)) = rw (same, int_same value, nat_less e.key key low) refl
+below-precedes value key e (inl low) = rw (sym (int_cmp_is e.value value Less low)) refl
+below-precedes value key e (inr (same, low)) = rw (same, sym (int_cmp_is value value Equal refl), sym (nat_cmp_is e.key key Less low)) refl
 
 pub precedes-below : (value : ℤ) (key : ℕ) (e : Entry) → Precedes e (lowest value key) → IsBelow value key e
 precedes-below value key e h =
@@ -175,7 +168,7 @@ pub adds-inserted : (xs : List Entry) (y : Entry) (i : ℕ) → IsAscending xs �
 adds-inserted xs y i up gap = record {
   ascending = ascending-insert xs y i up gap;
   members = λ e. (
-    λ h. ⊎_elim (λ same. inr same) (λ old. inl old) (Contains-cases y e xs (Contains-permutation (insert xs i y) (y ∷ xs) e (IsPermutation-sym (y ∷ xs) (insert xs i y) (IsPermutation-insert xs i y)) h)),
+    λ h. ⊎_elim (λ same. inr (sym same)) (λ old. inl old) (Contains-cases y e xs (Contains-permutation (insert xs i y) (y ∷ xs) e (IsPermutation-sym (y ∷ xs) (insert xs i y) (IsPermutation-insert xs i y)) h)),
     λ h. Contains-permutation (y ∷ xs) (insert xs i y) e (IsPermutation-insert xs i y) (⊎_elim (λ old. Contains-rest y e xs old) (λ same. subst (λ z. Contains (y ∷ xs) z) (sym same) (Contains-first y xs)) h),
   );
 }
@@ -191,7 +184,7 @@ adds-there xs y i up at = record {
 kept : (test : Entry → Bool) (xs : List Entry) (e : Entry) → Contains xs e → test e ≡ true → Contains (filter test xs) e
 kept test [] e there passes = absurd (Contains-none e there)
 kept test (x ∷ xs) e there passes =
-    ⊎_elim (λ first. kept_first test x xs e first passes) (λ rest. kept_rest test x xs e (kept test xs e rest passes) (test x) refl) (Contains-cases x e xs there)
+    ⊎_elim (λ first. kept_first test x xs e (sym first) passes) (λ rest. kept_rest test x xs e (kept test xs e rest passes) (test x) refl) (Contains-cases x e xs there)
   where
     kept_first : (test : Entry → Bool) (x : Entry) (xs : List Entry) (e : Entry) → e ≡ x → test e ≡ true → Contains (filter test (x ∷ xs)) e
     kept_first test x xs e first passes =
@@ -221,26 +214,15 @@ tid_test : (a b : Tid) → ((a.page == b.page && a.slot == b.slot) ≡ true) ↔
 tid_test a b = (λ h. tid_same a b h, λ e. rw e (grind (arith, nat_tests)))
   where
     tid_same : (a b : Tid) → (a.page == b.page && a.slot == b.slot) ≡ true → a ≡ b
-    tid_same a b h =
-        let p : a.page ≡ b.page = grind (arith, nat_tests) in
-        let s : a.slot ≡ b.slot = grind (arith, nat_tests) in
-        rw (p, s) refl
-
-or_cases : (a b : Bool) → (a || b) ≡ true → (a ≡ true) ⊎ (b ≡ true)
-or_cases true b h = inl refl
-or_cases false b h = inr h
-
-or_second : (a b : Bool) → b ≡ true → (a || b) ≡ true
-or_second true b h = refl
-or_second false b h = h
+    tid_same a b h = same-tid a b (grind (arith, nat_tests)) (grind (arith, nat_tests))
 
 among-contains : (dead : List Tid) (tid : Tid) → (is_among dead tid ≡ true) ↔ Contains dead tid
 among-contains [] tid = (λ h. absurd (cc h), λ there. absurd (Contains-none tid there))
 among-contains (t ∷ dead) tid = (
   λ h. ⊎_elim (λ first. subst (λ z. Contains (t ∷ dead) z) ((tid_test t tid).0 first) (Contains-first t dead))
       (λ rest. Contains-rest t tid dead ((among-contains dead tid).0 rest)) (or_cases (t.page == tid.page && t.slot == tid.slot) (is_among dead tid) h),
-  λ there. ⊎_elim (λ first. rw ((tid_test t tid).1 (sym first)) refl)
-      (λ rest. or_second (t.page == tid.page && t.slot == tid.slot) (is_among dead tid) ((among-contains dead tid).1 rest)) (Contains-cases t tid dead there),
+  λ there. ⊎_elim (λ first. rw ((tid_test t tid).1 first) refl)
+      (λ rest. or_right (t.page == tid.page && t.slot == tid.slot) (is_among dead tid) ((among-contains dead tid).1 rest)) (Contains-cases t tid dead there),
 )
 
 not_true : (b : Bool) → (not b ≡ true) ↔ (¬ (b ≡ true))

@@ -2,17 +2,15 @@
 use Rattle.std.proofs.Common.{◌≡◌, ℕ, suc, ◌<◌, ◌≤◌, List, [], ◌∷◌, length, Option, Some, None, refl, subst, ◌⊎◌, inl, inr, arith}
 use Rattle.std.specs.Prelude.{Contains}
 use Rattle.std.proofs.lemmas.List.Elements.{Contains-append_left, Contains-append_right, Contains-append_cases}
+use Rattle.xid_circle.proofs.Members.{Contains-first, Contains-rest, Contains-cases}
 use Rattle.commit_status.specs.Window.{next_id, place, top_of, turns}
 use Rattle.commit_status.proofs.Places.{at-from_place, some-from_is}
 use Rattle.commit_status.proofs.Ancestors.{top-before}
 use Rattle.snapshot.specs.Laws.{IsEarliest}
-use Rattle.snapshot.proofs.Earliest.{contains-cases, contains-head, contains-tail}
 use Rattle.snapshot.proofs.Takes.{first-in}
-use Rattle.history.specs.World.{World}
 use Rattle.session_core.specs.declared.session.Session.{Session}
-use Rattle.session_core.specs.State.{State, session_at, reader_of, holds_back, held_back, horizon_of}
+use Rattle.session_core.specs.State.{session_at, reader_of, holds_back, held_back, horizon_of}
 use Rattle.session_core.specs.Keeps.{open_at}
-use Rattle.session_core.specs.Agrees.{Agrees}
 use Rattle.session_core.specs.Laws.{all_held, HorizonIsEarliest}
 use Rattle.session_core.proofs.Windows.{active-to}
 use Rattle.session_core.proofs.Owns.{reader-is}
@@ -28,8 +26,8 @@ held-all (Some e ∷ xs) y among = elim (Contains-append_cases (holds_back e) (h
 ]
   where
     has : (e.snapshot.xmin ≡ y) ⊎ Contains e.own.ids y → Contains (e.snapshot.xmin ∷ e.own.ids) y
-    has (inl is) = subst (λ z. Contains (e.snapshot.xmin ∷ e.own.ids) z) is (contains-head e.snapshot.xmin e.own.ids)
-    has (inr own) = contains-tail e.snapshot.xmin y e.own.ids own
+    has (inl is) = subst (λ z. Contains (e.snapshot.xmin ∷ e.own.ids) z) is (Contains-first e.snapshot.xmin e.own.ids)
+    has (inr own) = Contains-rest e.snapshot.xmin y e.own.ids own
 
 all-cases : (xs : List (Option Session)) (y : ℕ) → Contains (all_held xs) y → (s : ℕ) × (e : Session) × (open_at xs s ≡ Some e) × Contains (e.snapshot.xmin ∷ e.own.ids) y
 all-cases [] y among = absurd (let below : among.0 < 0 = among.1 in omega arith)
@@ -66,7 +64,7 @@ horizon-is-earliest st w agrees = record {
         omega (arith, low, before, turn_i, turn_j)
 
     each : (s : ℕ) (e : Session) (y : ℕ) → session_at st s ≡ Some e → Contains (e.snapshot.xmin ∷ e.own.ids) y → turns st.heap.table.first (horizon_of st) ≤ turns st.heap.table.first y
-    each s e y at among = elim (contains-cases e.snapshot.xmin y e.own.ids among) [
+    each s e y at among = elim (Contains-cases e.snapshot.xmin y e.own.ids among) [
       | inl here ↦ subst (λ z. turns st.heap.table.first (horizon_of st) ≤ turns st.heap.table.first z) here (below-xmin st w agrees s e at)
       | inr mine ↦ own s e y at mine
     ]

@@ -3,6 +3,7 @@ use Rattle.std.proofs.Common.{◌≡◌, ℕ, List, [], ◌∷◌, length, Optio
 use Rattle.std.specs.Prelude.{◌↔◌, ℤ, Contains}
 use Rattle.std.proofs.lemmas.Option.{same_Some}
 use Rattle.xid_circle.specs.declared.Tid.{Tid}
+use Rattle.xid_circle.proofs.Members.{Contains-none}
 use Rattle.tuple_header.specs.declared.version.Row.{Row}
 use Rattle.tuple_header.specs.Version.{Version}
 use Rattle.commit_status.specs.Window as window
@@ -18,7 +19,6 @@ use Rattle.history.specs.History.{Write, committed, reading}
 use Rattle.history.specs.World.{World, OpenSession, joined, view}
 use Rattle.session_relation.specs.Visible.{IsCommitted, IsVisible, VisibleBy, by_itself, by_others}
 use Rattle.session_relation.specs.Agrees as relation
-use Rattle.session_relation.proofs.Itself.{none_own}
 use Rattle.session_relation.proofs.Follows as theory
 use Rattle.session_relation.proofs.Readers.{Levels-top}
 use Rattle.session_core.specs.State.{State, seen, state_of, reader_of, horizon_of}
@@ -62,14 +62,14 @@ fresh st w agrees = record {
   where
     to : (v : Version) → IsVisible (state_of st.heap.table) (λ x. Sees (now_taken st) st.heap.table x) [] v → VisibleBy (IsCommitted (state_of st.heap.table)) v
     to v sees = record {
-      made = λ x is. elim (sees.made x is) [ by_itself own ↦ absurd (none_own x own) | by_others seen' done ↦ done ];
+      made = λ x is. elim (sees.made x is) [ by_itself own ↦ absurd (Contains-none x own) | by_others seen' done ↦ done ];
       kept = λ x is done. sees.kept x is (by_others ((taken-fresh st w agrees).finished x done) done);
     }
 
     from : (v : Version) → VisibleBy (IsCommitted (state_of st.heap.table)) v → IsVisible (state_of st.heap.table) (λ x. Sees (now_taken st) st.heap.table x) [] v
     from v sees = record {
       made = λ x is. let done = sees.made x is in by_others ((taken-fresh st w agrees).finished x done) done;
-      kept = λ x is reads. elim reads [ by_itself own ↦ none_own x own | by_others seen' done ↦ sees.kept x is done ];
+      kept = λ x is reads. elim reads [ by_itself own ↦ Contains-none x own | by_others seen' done ↦ sees.kept x is done ];
     }
 
 -- at each savepoint
@@ -101,5 +101,5 @@ views-by-index st w agrees n used = (
       let is : open_.0 ≡ m = same_Some open_.0 m (sym open_.1 ∙ there) in
       levels-by-index st w n s e m agrees used
       (subst (λ (n : OpenSession). relation.SessionAgrees (state_of st.heap.table) (seen st).version w.history (λ x. Sees e.snapshot st.heap.table x) (reader_of e) n) is open_.2),
-  by-index st w n (now_taken st) [] (committed w.history (length w.history)) agrees used (λ x mine. absurd (none_own x mine)) (fresh st w agrees),
+  by-index st w n (now_taken st) [] (committed w.history (length w.history)) agrees used (λ x mine. absurd (Contains-none x mine)) (fresh st w agrees),
 )

@@ -3,6 +3,7 @@ use Rattle.session_core.proofs.InUse.{still-in_use}
 use Rattle.std.proofs.Common.{◌≡◌, ◌≢◌, ℕ, zero, suc, ◌≤◌, List, Option, Some, false, refl, sym, ap, ◌∙◌, subst, ◌⊎◌, inl, inr, arith}
 use Rattle.std.proofs.lemmas.Option.{same_Some}
 use Rattle.xid_circle.specs.declared.Tid.{Tid}
+use Rattle.xid_circle.specs.Following.{ReachesIn}
 use Rattle.tuple_header.specs.Version.{Version}
 use Rattle.page_slots.specs.declared.slot.Slot.{Slot}
 use Rattle.page_slots.specs.Slots.{version_at}
@@ -14,7 +15,7 @@ use Rattle.snapshot.specs.Snap.{Sees, earliest}
 use Rattle.snapshot.proofs.Sights.{past-seen}
 use Rattle.visibility.specs.Visible.{IsDead, IsFrozen}
 use Rattle.hot_chain.specs.Chain.{has_aborted}
-use Rattle.prune.specs.Cutting.{IsCut, IsDeadAt, link, ReachesIn}
+use Rattle.prune.specs.Cutting.{IsCut, IsDeadAt, link}
 use Rattle.prune.proofs.Links.{link-of}
 use Rattle.prune.proofs.Unseen.{aborted-has}
 use Rattle.sound_entries.specs.Pages.{slots_on, version_in}

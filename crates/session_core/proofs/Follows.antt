@@ -4,6 +4,7 @@ use Rattle.std.proofs.Math.ListN.{length-set}
 use Rattle.std.specs.Prelude.{Contains, IsSome}
 use Rattle.std.specs.Option.{option_map}
 use Rattle.std.proofs.lemmas.Option.{same_Some, none-some}
+use Rattle.xid_circle.proofs.Members.{Contains-none}
 use Rattle.page_slots.specs.declared.slot.Slot.{Slot}
 use Rattle.page_slots.specs.declared.slot.Slot.TheVariants.{Unused, Normal, Redirect, Dead}
 use Rattle.commit_status.specs.Window.{IsUpToNext, next_id, turns}
@@ -34,7 +35,7 @@ use Rattle.session_relation.specs.Agrees as relation
 use Rattle.session_relation.specs.Allowed.{Allows, next}
 use Rattle.session_relation.specs.Finds as finds
 use Rattle.session_relation.specs.Changes as change
-use Rattle.session_relation.proofs.Itself.{new_session, none_own}
+use Rattle.session_relation.proofs.Itself.{new_session}
 use Rattle.session_relation.proofs.Steps.{OnlyIs, SameSights}
 use Rattle.session_relation.proofs.Follows as theory
 use Rattle.session_relation.proofs.Hindrances as hindrances
@@ -227,7 +228,7 @@ Sound-opens st w s e within snapshot ids saved bare agrees = record {
     mine : SessionKeeps st.heap.table e
     mine = record {
       snapshot = rw snapshot (taken-within st w agrees);
-      topmost = λ x among. absurd (none_own x (subst (λ xs. Contains xs x) ids among));
+      topmost = λ x among. absurd (Contains-none x (subst (λ xs. Contains xs x) ids among));
       fronts = rw saved tt;
       distinct = subst AreDistinct (sym ids) tt;
     }
@@ -243,7 +244,7 @@ Sound-opens st w s e within snapshot ids saved bare agrees = record {
       | inl same ↦ (let is : f ≡ e = sym (same_Some e f same.1) in
           elim (back-cases e y (subst (λ (g : Session). Contains (holds_back g) y) is among)) [
             | inl here ↦ subst P (ap (λ (s : Snap). s.xmin) (sym snapshot) ∙ here) h.1
-            | inr own ↦ absurd (none_own y (subst (λ xs. Contains xs y) ids own))
+            | inr own ↦ absurd (Contains-none y (subst (λ xs. Contains xs y) ids own))
           ])
     ]
 

@@ -7,6 +7,7 @@ use Rattle.std.proofs.lemmas.Bool.{cases_eq}
 use Rattle.std.proofs.lemmas.Option.{same_Some, none-some}
 use Rattle.std.proofs.lemmas.List.{append-nil}
 use Rattle.std.proofs.lemmas.List.Elements.{Contains-append_cases}
+use Rattle.xid_circle.proofs.Members.{Contains-first, Contains-rest, Contains-cases, Contains-none}
 use Rattle.page_slots.specs.declared.slot.Slot.{Slot}
 use Rattle.commit_status.specs.Window.{Window, IsWindow, IsCommitted, IsInProgress, IsGiven, IsUpToNext, next_id, status_of, top_of, turns, place}
 use Rattle.commit_status.proofs.Places.{upto-given, is-from_some}
@@ -16,7 +17,6 @@ use Rattle.snapshot.specs.Own.{Own, AreFronts, AreDistinct, lacks, level_id, sav
 use Rattle.snapshot.specs.Snap.{Snap, Sees}
 use Rattle.snapshot.specs.Laws.{IsInWindow}
 use Rattle.snapshot.proofs.Sights.{sees-top}
-use Rattle.snapshot.proofs.Earliest.{contains-head, contains-tail, contains-cases}
 use Rattle.snapshot.proofs.Levels.{level-among, level-mine, level-none, level-some, level-newest, lacks-given, fronts-given}
 use Rattle.heap_write.specs.Heap.{HeapView, SameIds}
 use Rattle.heap_write.specs.Writes.{GivesUnder, TakesIds}
@@ -28,7 +28,7 @@ use Rattle.history.specs.World.{World}
 use Rattle.session_relation.specs.Heap as relation
 use Rattle.session_relation.specs.Agrees as theory
 use Rattle.session_relation.specs.Changes.{GivesEach, with_id, with_ids}
-use Rattle.session_relation.proofs.Itself.{IsCurrent, none_own}
+use Rattle.session_relation.proofs.Itself.{IsCurrent}
 use Rattle.session_relation.proofs.Steps.{OnlyIs, SameSights}
 use Rattle.session_relation.proofs.GivenBelow.{AreUnseen, Agrees-give_each}
 use Rattle.session_relation.proofs.Follows.{Agrees-sessions}
@@ -130,7 +130,7 @@ first-append (y ∷ ids) xs top at = at
 -- each new id has the topmost parent of those that were there, or the first of the new ones
 new-topmost : (ids xs : List ℕ) (saved : List (List ℕ)) (w v : Window) (y : ℕ) → AreFronts ids saved → IsWindow v → GivesUnder w (level_id ids saved) xs v → ((x : ℕ) → Contains ids x → IsGiven w x)
     → ((x : ℕ) → Contains ids x → slice_get ids 0 ≡ Some (top_of w x)) → Contains xs y → slice_get (ids ++ xs) 0 ≡ Some (top_of v y)
-new-topmost [] [] saved w v y fronts is gives there tops among = absurd (none_own y among)
+new-topmost [] [] saved w v y fronts is gives there tops among = absurd (Contains-none y among)
 new-topmost [] (x ∷ xs) saved w v y fronts is gives there tops among =
     ap Some (sym (given-top_first x xs w v y (subst (λ o. GivesUnder w o (x ∷ xs) v) (level-none saved fronts) gives) is among))
 new-topmost (z ∷ ids) xs saved w v y fronts is gives there tops among =
@@ -277,10 +277,10 @@ module _ (st : State) (w : World) (h : HeapView) (s : ℕ) (e e' : Session) (at 
           let table = st.heap.table in
           let parent = level_id e.own.ids e.own.saved in
           let back : Contains (e.snapshot.xmin ∷ take 1 own.ids) y = subst (λ (f : Session). Contains (holds_back f) y) is among in
-          elim (contains-cases e.snapshot.xmin y (take 1 own.ids) back) [
-            | inl here ↦ old-then own x y takes (subst (λ z. Contains (holds_back e) z) here (contains-head e.snapshot.xmin (take 1 e.own.ids)))
+          elim (Contains-cases e.snapshot.xmin y (take 1 own.ids) back) [
+            | inl here ↦ old-then own x y takes (subst (λ z. Contains (holds_back e) z) here (Contains-first e.snapshot.xmin (take 1 e.own.ids)))
             | inr first ↦ elim (first-cases e.own.ids takes.given y (subst (λ ids. Contains (take 1 ids) y) takes.ids first)) [
-              | inl old ↦ old-then own x y takes (contains-tail e.snapshot.xmin y (take 1 e.own.ids) old)
+              | inl old ↦ old-then own x y takes (Contains-rest e.snapshot.xmin y (take 1 e.own.ids) old)
               | inr new ↦ (
                 upto-given h.table y (given-active takes.given table h.table parent y takes.gives window new).is_given,
                 (let late = given-late takes.given table h.table parent y takes.gives window new in let next = horizon-next table st.sessions agrees.sound.window (held-in st w agrees) in omega arith),

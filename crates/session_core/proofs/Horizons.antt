@@ -6,9 +6,10 @@ use Rattle.std.proofs.lemmas.List.Elements.{Contains-append_left, Contains-appen
 use Rattle.commit_status.specs.Window.{Window, IsWindow, IsUpToNext, next_id, turns}
 use Rattle.commit_status.proofs.Places.{upto-next, upto-given}
 use Rattle.std.specs.List.{fold}
+use Rattle.xid_circle.proofs.Members.{Contains-first, Contains-rest, Contains-cases}
 use Rattle.snapshot.specs.Snap.{Snap, earliest, listing, empty_at}
 use Rattle.snapshot.specs.Laws.{IsEarliest}
-use Rattle.snapshot.proofs.Earliest.{earliest-is, earlier-cases, contains-cases, contains-head, contains-tail}
+use Rattle.snapshot.proofs.Earliest.{earliest-is, earlier-cases}
 use Rattle.history.specs.World.{World}
 use Rattle.session_core.specs.declared.session.Session.{Session}
 use Rattle.session_core.specs.State.{State, session_at, reader_of, owns_of, holds_back, held_back, horizon_of}
@@ -35,14 +36,14 @@ held-cases (Some f ∷ xs) y among = elim (Contains-append_cases (holds_back f) 
 
 pub contains-first : (ids : List ℕ) (y : ℕ) → Contains (take 1 ids) y → Contains ids y
 contains-first [] y among = among
-contains-first (x ∷ xs) y among = elim (contains-cases x y (take 0 xs) among) [
-  | inl here ↦ subst (λ z. Contains (x ∷ xs) z) here (contains-head x xs)
+contains-first (x ∷ xs) y among = elim (Contains-cases x y (take 0 xs) among) [
+  | inl here ↦ subst (λ z. Contains (x ∷ xs) z) here (Contains-first x xs)
   | inr none ↦ absurd (let below : none.0 < 0 = none.1 in omega arith)
 ]
 
 -- what a session holds back: its snapshot's xmin, or an id of its own
 pub back-cases : (e : Session) (y : ℕ) → Contains (holds_back e) y → (e.snapshot.xmin ≡ y) ⊎ Contains e.own.ids y
-back-cases e y among = elim (contains-cases e.snapshot.xmin y (take 1 e.own.ids) among) [ inl here ↦ inl here | inr own ↦ inr (contains-first e.own.ids y own) ]
+back-cases e y among = elim (Contains-cases e.snapshot.xmin y (take 1 e.own.ids) among) [ inl here ↦ inl here | inr own ↦ inr (contains-first e.own.ids y own) ]
 
 -- Of ids in a window.
 
@@ -91,7 +92,7 @@ upto-horizon st w agrees = horizon-upto st.heap.table st.sessions agrees.sound.w
 -- it is not after the xmin of any open session
 pub below-xmin : (st : State) (w : World) → Agrees st w → (s : ℕ) (e : Session) → session_at st s ≡ Some e → turns st.heap.table.first (horizon_of st) ≤ turns st.heap.table.first e.snapshot.xmin
 below-xmin st w agrees s e at =
-    horizon-low st.heap.table st.sessions s e e.snapshot.xmin agrees.sound.window (held-in st w agrees) at (contains-head e.snapshot.xmin (take 1 e.own.ids))
+    horizon-low st.heap.table st.sessions s e e.snapshot.xmin agrees.sound.window (held-in st w agrees) at (Contains-first e.snapshot.xmin (take 1 e.own.ids))
 
 -- The snapshot that is taken now.
 
@@ -101,7 +102,7 @@ first-back e top at = first-of e.own.ids at
   where
     first-of : (ids : List ℕ) → slice_get ids 0 ≡ Some top → Contains (e.snapshot.xmin ∷ take 1 ids) top
     first-of [] at = absurd (none-some top at)
-    first-of (x ∷ xs) at = subst (λ y. Contains (e.snapshot.xmin ∷ x ∷ take 0 xs) y) (same_Some x top at) (contains-tail e.snapshot.xmin x (x ∷ take 0 xs) (contains-head x (take 0 xs)))
+    first-of (x ∷ xs) at = subst (λ y. Contains (e.snapshot.xmin ∷ x ∷ take 0 xs) y) (same_Some x top at) (Contains-rest e.snapshot.xmin x (x ∷ take 0 xs) (Contains-first x (take 0 xs)))
 
 -- what is listed first, or a topmost id
 xmin-cases : (owns : List (List ℕ)) (s : Snap)
@@ -109,14 +110,14 @@ xmin-cases : (owns : List (List ℕ)) (s : Snap)
 xmin-cases [] s = inl refl
 xmin-cases (own ∷ owns) s = elim (xmin-cases owns (listing s own)) [
   | inl e ↦ listed own e
-  | inr some ↦ inr (some.0, some.1, contains-tail own some.0 owns some.2, some.3, some.4)
+  | inr some ↦ inr (some.0, some.1, Contains-rest own some.0 owns some.2, some.3, some.4)
 ]
   where
     listed : (own : List ℕ) → (fold listing (listing s own) owns).xmin ≡ (listing s own).xmin
         → ((fold listing (listing s own) owns).xmin ≡ s.xmin) ⊎ ((one : List ℕ) × (top : ℕ) × Contains (own ∷ owns) one × (slice_get one 0 ≡ Some top) × ((fold listing (listing s own) owns).xmin ≡ top))
     listed [] e = inl e
     listed (top ∷ children) e = elim (earlier-cases s.xmin top) [
-      | inl is_top ↦ inr (top ∷ children, top, contains-head (top ∷ children) owns, refl, e ∙ is_top.1)
+      | inl is_top ↦ inr (top ∷ children, top, Contains-first (top ∷ children) owns, refl, e ∙ is_top.1)
       | inr is_old ↦ inl (e ∙ is_old.1)
     ]
 

@@ -1,7 +1,7 @@
 -- A session in its place becomes another, when it sets a savepoint, returns to one, or releases it.
 use Rattle.std.proofs.Common.{◌≡◌, ◌≢◌, ℕ, ◌<◌, List, [], ◌∷◌, length, set, Option, Some, None, false, refl, sym, ap, ◌∙◌, subst}
 use Rattle.std.proofs.Math.ListN.{length-set}
-use Rattle.std.specs.Prelude.{Result, Ok, Err, IfErr, OnOk, OnErr}
+use Rattle.std.specs.Prelude.{Result, Ok, Err, OnOk, OnErr}
 use Rattle.std.proofs.lemmas.Option.{same_Some}
 use Rattle.commit_status.specs.Window.{Window}
 use Rattle.session_relation.specs.declared.step.Step.TheVariants.{Savepoint, RollbackTo, Release}
@@ -59,18 +59,6 @@ becomes-of st s (Some e) now changes at becomes = record { session = e; at = at;
 pub rolls-back-of : (st : State) (h : HeapView) (s : ℕ) (o now : Option Session) → session_at st s ≡ o → OnOpen o now (λ e e'. RollsBackOn st.heap h e e') → RollsBack st (with_session st h s now) s
 rolls-back-of st h s None now at back = absurd back
 rolls-back-of st h s (Some e) now at back = record { session = e; at = at; now = back.0; settings = refl; sessions = ap (set st.sessions s) back.1; back = back.2 }
-
-pub on-ok : {A B : Type 0} (r : Result A B) (P Q : Type 0) → (P → Q) → OnOk r P → OnOk r Q
-on-ok (Ok a) P Q to p = to p
-on-ok (Err b) P Q to p = p
-
-pub on-err : {A B : Type 0} (r : Result A B) (P Q : Type 0) → (P → Q) → OnErr r P → OnErr r Q
-on-err (Ok a) P Q to p = p
-on-err (Err b) P Q to p = to p
-
-pub if-err : {A B : Type 0} (r : Result A B) (P Q : B → Type 0) → ((b : B) → P b → Q b) → IfErr r P → IfErr r Q
-if-err (Ok a) P Q to p = p
-if-err (Err b) P Q to p = to b p
 
 -- The reply follows the history.
 

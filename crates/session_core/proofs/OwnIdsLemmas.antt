@@ -6,17 +6,16 @@ use Rattle.std.proofs.lemmas.Bool.{cases_eq}
 use Rattle.std.proofs.lemmas.Option.{same_Some, none-some, slice_get_past}
 use Rattle.std.proofs.lemmas.Bool.{cases_lt}
 use Rattle.std.proofs.lemmas.List.Elements.{Contains-append_left, Contains-append_right, Contains-append_cases}
+use Rattle.xid_circle.proofs.Members.{Contains-first, Contains-rest, Contains-none}
 use Rattle.commit_status.specs.declared.status.Status.{Status}
 use Rattle.commit_status.specs.Window.{Window, IsWindow, IsActive}
 use Rattle.commit_status.specs.Changes.{Finishes}
 use Rattle.commit_status.proofs.Finishing.{finishes-active_other}
 use Rattle.snapshot.specs.Own.{AreDistinct}
-use Rattle.snapshot.proofs.Earliest.{contains-head, contains-tail}
 use Rattle.snapshot.proofs.Levels.{distinct-front, distinct-after}
 use Rattle.heap_write.specs.Writes.{GivesUnder}
 use Rattle.heap_write.proofs.GivenIds.{given-active_old, given-active, given-new, given-distinct}
 use Rattle.history.proofs.Places.{slice_get-set_same, slice_get-set_other}
-use Rattle.session_relation.proofs.Itself.{none_own}
 use Rattle.session_core.specs.declared.session.Session.{Session}
 use Rattle.session_core.specs.Keeps.{open_at, OwnIdsKeep}
 
@@ -40,8 +39,8 @@ open-set_cases xs s o v e within at = elim (cases_eq o s) [
 pub distinct-both : (ids xs : List ℕ) → AreDistinct ids → AreDistinct xs → ((x : ℕ) → Contains xs x → ¬ Contains ids x) → AreDistinct (ids ++ xs)
 distinct-both [] xs one two apart = two
 distinct-both (y ∷ ids) xs one two apart = (
-  λ among. elim (Contains-append_cases ids xs y among) [ inl here ↦ one.0 here | inr there ↦ apart y there (contains-head y ids) ],
-  distinct-both ids xs one.1 two (λ x there here. apart x there (contains-tail y x ids here)),
+  λ among. elim (Contains-append_cases ids xs y among) [ inl here ↦ one.0 here | inr there ↦ apart y there (Contains-first y ids) ],
+  distinct-both ids xs one.1 two (λ x there here. apart x there (Contains-rest y x ids here)),
 )
 
 -- the session at one place changes: its ids are in progress, and nobody else's
@@ -81,7 +80,7 @@ keep-open xs w s e within none h = keep-set xs w w s (Some e) within h
     (λ o f g x ne is at own own'. empty f x is own)
   where
     empty : (f : Session) (x : ℕ) → Some e ≡ Some f → ¬ Contains f.own.ids x
-    empty f x is own = none_own x (subst (λ ids. Contains ids x) (ap (λ (f : Session). f.own.ids) (sym (same_Some e f is)) ∙ none) own)
+    empty f x is own = Contains-none x (subst (λ ids. Contains ids x) (ap (λ (f : Session). f.own.ids) (sym (same_Some e f is)) ∙ none) own)
 
 -- a session is closed, and its ids are finished
 pub keep-close : (xs : List (Option Session)) (w v : Window) (s : ℕ) (e : Session) (status : Status) → open_at xs s ≡ Some e → Finishes w v e.own.ids status → OwnIdsKeep xs w → OwnIdsKeep (set xs s None) v

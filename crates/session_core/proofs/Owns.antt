@@ -3,12 +3,12 @@ use Rattle.std.proofs.Common.{◌≡◌, ℕ, zero, suc, ◌<◌, List, [], ◌�
 use Rattle.std.specs.Prelude.{Contains}
 use Rattle.std.specs.Option.{option_map}
 use Rattle.std.proofs.lemmas.Option.{same_Some, none-some}
+use Rattle.xid_circle.proofs.Members.{Contains-first, Contains-rest, Contains-cases}
 use Rattle.commit_status.specs.Window.{next_id, top_of}
 use Rattle.snapshot.specs.Snap.{Snap, Sees, taken}
 use Rattle.snapshot.specs.Laws.{AreOpen, IsInWindow}
 use Rattle.snapshot.proofs.Sights.{open-unseen, finished-seen}
 use Rattle.snapshot.proofs.Takes.{taken-in_window}
-use Rattle.snapshot.proofs.Earliest.{contains-cases, contains-head, contains-tail}
 use Rattle.history.specs.World.{World}
 use Rattle.session_relation.specs.Heap as relation
 use Rattle.session_relation.specs.Visible.{IsFresh}
@@ -22,13 +22,13 @@ pub owns-some : (xs : List (Option Session)) (s : ℕ) (e : Session) → open_at
 owns-some [] s e at = cc
 owns-some (None ∷ xs) zero e at = cc
 owns-some (None ∷ xs) (suc s) e at = owns-some xs s e at
-owns-some (Some f ∷ xs) zero e at = subst (λ (g : Session). Contains (f.own.ids ∷ owns_of xs) g.own.ids) (same_Some f e at) (contains-head f.own.ids (owns_of xs))
-owns-some (Some f ∷ xs) (suc s) e at = contains-tail f.own.ids e.own.ids (owns_of xs) (owns-some xs s e at)
+owns-some (Some f ∷ xs) zero e at = subst (λ (g : Session). Contains (f.own.ids ∷ owns_of xs) g.own.ids) (same_Some f e at) (Contains-first f.own.ids (owns_of xs))
+owns-some (Some f ∷ xs) (suc s) e at = Contains-rest f.own.ids e.own.ids (owns_of xs) (owns-some xs s e at)
 
 pub owns-cases : (xs : List (Option Session)) (own : List ℕ) → Contains (owns_of xs) own → (s : ℕ) × (e : Session) × (open_at xs s ≡ Some e) × (e.own.ids ≡ own)
 owns-cases [] own among = absurd (let below : among.0 < 0 = among.1 in omega arith)
 owns-cases (None ∷ xs) own among = let some = owns-cases xs own among in (suc some.0, some.1, some.2, some.3)
-owns-cases (Some f ∷ xs) own among = elim (contains-cases f.own.ids own (owns_of xs) among) [
+owns-cases (Some f ∷ xs) own among = elim (Contains-cases f.own.ids own (owns_of xs) among) [
   | inl here ↦ (0, f, refl, here)
   | inr there ↦ (let some = owns-cases xs own there in (suc some.0, some.1, some.2, some.3))
 ]

@@ -2,12 +2,11 @@
 use Rattle.std.proofs.Common.{◌≡◌, ℕ, List, [], ◌∷◌, ◌++◌, take, Some, slice_get, refl, sym, ap, ◌∙◌, subst, inl, inr, append_assoc}
 use Rattle.std.specs.Prelude.{Contains}
 use Rattle.std.proofs.lemmas.List.{append-nil}
+use Rattle.xid_circle.proofs.Members.{Contains-first, Contains-rest, Contains-cases, Contains-none}
 use Rattle.commit_status.specs.Window.{Window, top_of}
 use Rattle.snapshot.specs.Laws.{IsInWindow}
 use Rattle.snapshot.specs.Own.{newest, older, AreFronts, AreDistinct}
-use Rattle.snapshot.proofs.Earliest.{contains-head, contains-tail, contains-cases}
 use Rattle.snapshot.proofs.Levels.{distinct-front}
-use Rattle.session_relation.proofs.Itself.{none_own}
 use Rattle.session_core.specs.declared.session.Session.{Session}
 use Rattle.session_core.specs.State.{holds_back}
 use Rattle.session_core.specs.Agrees.{SessionKeeps}
@@ -43,14 +42,14 @@ keeps-released w e now releases h = keeps-ids w e now releases.snapshot releases
 -- Those since the savepoint go.
 
 first-front : (ids xs : List ℕ) (top x : ℕ) → Contains ids x → slice_get (ids ++ xs) 0 ≡ Some top → slice_get ids 0 ≡ Some top
-first-front [] xs top x among at = absurd (none_own x among)
+first-front [] xs top x among at = absurd (Contains-none x among)
 first-front (y ∷ ids) xs top x among at = at
 
 contains-front : (ids xs : List ℕ) (x : ℕ) → Contains ids x → Contains (ids ++ xs) x
-contains-front [] xs x among = absurd (none_own x among)
-contains-front (y ∷ ids) xs x among = elim (contains-cases y x ids among) [
-  | inl here ↦ subst (λ z. Contains (y ∷ (ids ++ xs)) z) here (contains-head y (ids ++ xs))
-  | inr there ↦ contains-tail y x (ids ++ xs) (contains-front ids xs x there)
+contains-front [] xs x among = absurd (Contains-none x among)
+contains-front (y ∷ ids) xs x among = elim (Contains-cases y x ids among) [
+  | inl here ↦ subst (λ z. Contains (y ∷ (ids ++ xs)) z) here (Contains-first y (ids ++ xs))
+  | inr there ↦ Contains-rest y x (ids ++ xs) (contains-front ids xs x there)
 ]
 
 pub keeps-returned : (w : Window) (e now : Session) (before since : List ℕ) (saved : List (List ℕ)) → Returns e now → e.own.ids ≡ now.own.ids ++ since → e.own.saved ≡ before ∷ saved → SessionKeeps w e → SessionKeeps w now
@@ -65,11 +64,11 @@ keeps-returned w e now before since saved returns ids is h = record {
 
 -- no more is held back
 pub fewer-back : (e now : Session) (since : List ℕ) (y : ℕ) → now.snapshot ≡ e.snapshot → e.own.ids ≡ now.own.ids ++ since → Contains (holds_back now) y → Contains (holds_back e) y
-fewer-back e now since y snapshot ids among = elim (contains-cases now.snapshot.xmin y (take 1 now.own.ids) among) [
-  | inl here ↦ subst (λ z. Contains (holds_back e) z) (ap (λ s. s.xmin) (sym snapshot) ∙ here) (contains-head e.snapshot.xmin (take 1 e.own.ids))
-  | inr own ↦ contains-tail e.snapshot.xmin y (take 1 e.own.ids) (subst (λ xs. Contains (take 1 xs) y) (sym ids) (first-of now.own.ids own))
+fewer-back e now since y snapshot ids among = elim (Contains-cases now.snapshot.xmin y (take 1 now.own.ids) among) [
+  | inl here ↦ subst (λ z. Contains (holds_back e) z) (ap (λ s. s.xmin) (sym snapshot) ∙ here) (Contains-first e.snapshot.xmin (take 1 e.own.ids))
+  | inr own ↦ Contains-rest e.snapshot.xmin y (take 1 e.own.ids) (subst (λ xs. Contains (take 1 xs) y) (sym ids) (first-of now.own.ids own))
 ]
   where
     first-of : (xs : List ℕ) → Contains (take 1 xs) y → Contains (take 1 (xs ++ since)) y
-    first-of [] among = absurd (none_own y among)
+    first-of [] among = absurd (Contains-none y among)
     first-of (x ∷ xs) among = among

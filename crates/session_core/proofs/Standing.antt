@@ -1,5 +1,5 @@
 -- What a session sees on the pages that a cursor goes over.
-use Rattle.std.proofs.Common.{◌≡◌, ℕ, zero, suc, ◌+◌, ◌<◌, ◌≤◌, List, [], ◌∷◌, length, map, slice_get, Option, Some, None, refl, sym, subst, ◌⊎◌, inl, inr, arith}
+use Rattle.std.proofs.Common.{◌≡◌, ℕ, zero, suc, ◌+◌, ◌<◌, ◌≤◌, List, [], ◌∷◌, length, map, slice_get, Option, Some, None, refl, sym, subst, inl, inr, arith}
 use Rattle.std.specs.Option.{option_and_then}
 use Rattle.std.proofs.lemmas.Option.{none-some, slice_get_within}
 use Rattle.tuple_header.specs.declared.version.Row.{Row}
@@ -7,11 +7,13 @@ use Rattle.tuple_header.specs.Version.{Version}
 use Rattle.page_slots.specs.declared.slot.Slot.{Slot}
 use Rattle.page_slots.specs.Slots.{version_of, version_at}
 use Rattle.page_slots.specs.View.{PageView}
+use Rattle.page_slots.proofs.SlotLemmas.{version_at-none}
 use Rattle.visibility.specs.Visible as visibility
 use Rattle.sound_entries.specs.Pages.{slots_on}
 use Rattle.heap_write.specs.Heap.{slots_of}
 use Rattle.heap_write.specs.Walking.{IsSeenRow, NoneSeen}
 use Rattle.session_relation.specs.Cursors.{Stands, Gathers}
+use Rattle.session_relation.proofs.CursorWalks.{below_or}
 use Rattle.session_core.specs.declared.session.Session.{Session}
 use Rattle.session_core.specs.declared.cursor.Cursor.TheVariants.{Heap}
 use Rattle.session_core.specs.State.{State, seen}
@@ -29,13 +31,9 @@ slot-within : (slots : List Slot) (n : ℕ) (v : Version) → version_at slots n
 slot-within slots zero v is = omega arith
 slot-within slots (suc i) v is = let some = some-slot (slice_get slots i) v is in let within = slice_get_within slots i some.0 some.1 in omega arith
 
-none-in : (n : ℕ) (v : Version) → version_at [] n ≡ Some v → ⊥
-none-in zero v is = none-some v is
-none-in (suc n) v is = none-some v is
-
 -- on a page in use
 page-within : (pages : List PageView) (page slot : ℕ) (v : Version) → version_at (slots_on (map (λ (p : PageView). p.slots) pages) page) slot ≡ Some v → page < length pages
-page-within [] page slot v is = absurd (none-in slot v is)
+page-within [] page slot v is = absurd (version_at-none slot v is)
 page-within (p ∷ ps) zero slot v is = omega arith
 page-within (p ∷ ps) (suc n) slot v is = let within = page-within ps n slot v is in omega arith
 
@@ -80,9 +78,6 @@ pub record HasPassed (st : State) (e : Session) (from page : ℕ) : Type 0 where
 
 pub none-passed : (st : State) (e : Session) (from : ℕ) → HasPassed st e from from
 none-passed st e from = record { onward = omega arith; bare = λ p slot row past below stands. absurd (omega arith) }
-
-below_or : (a b : ℕ) → a < b + 1 → (a < b) ⊎ (a ≡ b)
-below_or a b h = grind arith
 
 module _ (st : State) (e : Session) (from page : ℕ) (h : HasPassed st e from page) where
   -- this one has none either

@@ -1,16 +1,16 @@
 -- What the steps of the table of ids change of what readers see.
-use Rattle.std.proofs.Common.{◌≡◌, ◌≢◌, ℕ, ◌<◌, ◌≤◌, List, [], ◌∷◌, length, Option, Some, None, refl, sym, ap, ◌∙◌, subst, ◌⊎◌, inl, inr, arith}
+use Rattle.std.proofs.Common.{◌≡◌, ◌≢◌, ℕ, ◌<◌, ◌≤◌, List, [], ◌∷◌, Option, Some, None, refl, sym, ap, ◌∙◌, subst, ◌⊎◌, inl, inr, arith}
 use Rattle.std.specs.Prelude.{IsSome, Contains}
 use Rattle.std.specs.Option.{option_map}
 use Rattle.std.proofs.lemmas.Bool.{cases_Bool}
 use Rattle.std.proofs.lemmas.Option.{same_Some, none-some}
 use Rattle.xid_circle.specs.Circle.{Precedes}
+use Rattle.xid_circle.proofs.Members.{Contains-cases, Contains-none}
 use Rattle.commit_status.specs.declared.status.Status.{Status}
 use Rattle.commit_status.specs.declared.status.Status.TheVariants.{InProgress, Committed}
 use Rattle.commit_status.specs.Window.{Window, IsWindow, IsGiven, IsUpToNext, place, status_of, next_id, turns}
 use Rattle.commit_status.specs.Window as window
 use Rattle.commit_status.specs.Changes as change
-use Rattle.commit_status.proofs.Turns.{turns-given}
 use Rattle.commit_status.proofs.Places.{next-none, upto-next, precedes-turns, is-from_some}
 use Rattle.commit_status.proofs.Giving.{gives-place_old, gives-place_cases, gives-status, gives-active_next, finished-place}
 use Rattle.commit_status.proofs.Finishing.{finishes-top, finishes-given}
@@ -18,12 +18,11 @@ use Rattle.commit_status.proofs.ChangesLemmas.{finishes-place}
 use Rattle.snapshot.specs.Snap.{Snap, Sees, SeesAlone, tested, is_before}
 use Rattle.snapshot.specs.Laws.{IsBounded, IsBetween, IsInWindow}
 use Rattle.snapshot.proofs.Sights.{sees-top}
-use Rattle.snapshot.proofs.Earliest.{before-precedes, precedes-before, contains-cases}
+use Rattle.snapshot.proofs.Earliest.{before-precedes, precedes-before}
 use Rattle.heap_write.specs.Writes.{GivesUnder}
-use Rattle.heap_write.proofs.GivenIds.{given-window, given-first, given-upto, given-top_old}
+use Rattle.heap_write.proofs.GivenIds.{given-window, given-first, given-upto, given-top_old, next-turn}
 use Rattle.session_relation.specs.Visible.{IsCommitted, IsActive}
 use Rattle.session_relation.specs.Changes.{Gives, GivesEach, Finishes, SameSight}
-use Rattle.session_relation.proofs.Itself.{none_own}
 use Rattle.session_relation.proofs.Steps.{cases_Contains}
 use Rattle.session_core.specs.State.{state_of}
 
@@ -85,13 +84,11 @@ GivesEach-from (x ∷ xs) w v parent gives is =
     )
 
 -- nothing that is up to the next id is after it
-next-turns : (w : Window) → IsWindow w → turns w.first (next_id w) ≡ length w.entries
-next-turns w is = turns-given w.first (length w.entries) is.normal is.fits (let short = is.short in let limit = is.limit in omega arith)
 
 not-before : (w : Window) (y : ℕ) → IsWindow w → IsUpToNext w y → ¬ Precedes (next_id w) y
 not-before w y is upto before =
     let lt = (precedes-turns w (next_id w) y is (upto-next w is) upto).0 before in
-    let le = upto.reached in absurd (omega (arith, next-turns w is))
+    let le = upto.reached in absurd (omega (arith, next-turn w is))
 
 unseen-next : (s : Snap) (w v : Window) → IsWindow w → IsBounded w s → ¬ Sees s v (next_id w)
 unseen-next s w v is within (Sees.early before) = not-before w s.xmin is within.xmin before
@@ -121,8 +118,8 @@ in-window-given xs w v parent s gives h = record {
 
 -- no id that is given is seen by a snapshot that was taken before
 pub unseen-given : (xs : List ℕ) (w v u : Window) (parent : Option ℕ) (s : Snap) (x : ℕ) → GivesUnder w parent xs v → IsWindow v → IsBounded w s → Contains xs x → ¬ Sees s u x
-unseen-given [] w v u parent s x gives is within among = absurd (none_own x among)
-unseen-given (y ∷ xs) w v u parent s x gives is within among = elim (contains-cases y x xs among) [
+unseen-given [] w v u parent s x gives is within among = absurd (Contains-none x among)
+unseen-given (y ∷ xs) w v u parent s x gives is within among = elim (Contains-cases y x xs among) [
   | inl here ↦ subst (λ z. ¬ Sees s u z) (sym gives.1 ∙ here) (unseen-next s w u (given-window (y ∷ xs) w v parent gives is) within)
   | inr later ↦ unseen-given xs gives.0 v u (Some y) s x gives.3 is (bounded-given (y ∷ []) w gives.0 parent s (gives.0, gives.1, gives.2, refl) within) later
 ]

@@ -68,7 +68,7 @@ Meets-one {store} {seen} {index} {low} {high} {from} {to} {rows} row comes first
 
 -- On a page.
 
-below_or : (a b : ℕ) → a < b + 1 → (a < b) ⊎ (a ≡ b)
+pub below_or : (a b : ℕ) → a < b + 1 → (a < b) ⊎ (a ≡ b)
 below_or a b h = grind arith
 
 -- the walk passes a slot where nothing is seen

@@ -3,6 +3,7 @@ use Rattle.std.proofs.Common.{◌≡◌, Option, Some, None, refl, sym, ap, ◌�
 use Rattle.std.specs.Prelude.{IsSome}
 use Rattle.std.proofs.lemmas.Option.{same_Some, none-some}
 use Rattle.xid_circle.specs.declared.Tid.{Tid}
+use Rattle.xid_circle.proofs.Tids.{cases-tid}
 use Rattle.tuple_header.specs.declared.version.Row.{Row}
 use Rattle.tuple_header.specs.Version.{Version}
 use Rattle.history.specs.World.{Cursor}
@@ -10,7 +11,7 @@ use Rattle.session_relation.specs.Heap.{Position}
 use Rattle.session_relation.specs.Visible.{At}
 use Rattle.session_relation.specs.Changes.{Adds, Alters, Removes}
 use Rattle.session_relation.specs.Cursors.{Comes, Remains, CursorAgrees}
-use Rattle.session_relation.proofs.Versions.{Adds-cases, Adds-old, Alters-cases, cases_Tid, Alters-same}
+use Rattle.session_relation.proofs.Versions.{Adds-cases, Adds-old, Alters-cases, Alters-same}
 
 -- each version that is seen stands where one with its row stood that was seen, and the other way round
 pub record KeepsSeen (store store' : Tid → Option Version) (V V' : Version → Type 0) : Type 0 where
@@ -82,7 +83,7 @@ KeepsSeen-add {store} {store'} {place} {new} {V} adds hidden = record {
 pub KeepsSeen-alter : {store store' : Tid → Option Version} {place : Tid} {old new : Version} {V : Version → Type 0} → Alters store store' place old new → new.row ≡ old.row → (V old → V new) → (V new → V old)
     → KeepsSeen store store' V V
 KeepsSeen-alter {store} {store'} {place} {old} {new} {V} alters row to back = record {
-  to = λ p v at seen. elim (cases_Tid p place) [
+  to = λ p v at seen. elim (cases-tid p place) [
     | inl same ↦ (let is : v ≡ old = Alters-same alters v (ap store (sym same) ∙ at) in
         (new, subst (λ q. At store' q new) (sym same) alters.here, to (subst V is seen), row ∙ ap (λ (u : Version). u.row) (sym is)))
     | inr ne ↦ (v, alters.others p ne ∙ at, seen, refl)

@@ -1,9 +1,10 @@
 -- What each step of a session does to its own agreement.
-use Rattle.std.proofs.Common.{◌≡◌, ℕ, zero, suc, ◌<◌, List, [], ◌∷◌, ◌++◌, length, Option, Some, None, true, false, refl, sym, subst, inl, inr, arith, slice_get}
+use Rattle.std.proofs.Common.{◌≡◌, ℕ, zero, suc, List, [], ◌∷◌, ◌++◌, length, Option, Some, None, true, false, refl, sym, subst, inl, inr, arith, slice_get}
 use Rattle.std.specs.Prelude.{IsSome, Contains}
 use Rattle.std.proofs.lemmas.Bool.{cases_eq}
 use Rattle.std.proofs.lemmas.List.Elements.{Contains-push, Contains-push_cases, Contains-append_left}
 use Rattle.xid_circle.specs.declared.Tid.{Tid}
+use Rattle.xid_circle.proofs.Members.{Contains-none}
 use Rattle.tuple_header.specs.Version.{Version}
 use Rattle.commit_status.specs.declared.status.Status.{Status}
 use Rattle.commit_status.specs.declared.status.Status.TheVariants.{InProgress, Committed}
@@ -19,7 +20,7 @@ use Rattle.session_relation.specs.Changes.{Adds, Alters, Gives, SameSight, with_
 use Rattle.session_relation.specs.Agrees.{Shows, ReaderAgrees, LevelsAgree, IsOfNewest, SessionAgrees}
 use Rattle.session_relation.proofs.ShowsLemmas.{Shows-same}
 use Rattle.session_relation.proofs.Statuses.{keeps-give, none_given, IsCommitted-give, IsActive-give_cases}
-use Rattle.session_relation.proofs.Versions.{VisibleBy-same}
+use Rattle.session_relation.proofs.Versions.{VisibleBy-same, own-untouched}
 use Rattle.session_relation.proofs.CursorsLemmas.{CursorAgrees-keeps, CursorAgrees-bare, CursorAgrees-none, KeepsSeen-same}
 use Rattle.session_relation.proofs.Readers.{IsNew, IsDeleted, ReaderAgrees-same, ReaderAgrees-add_other, ReaderAgrees-delete_other, ReaderAgrees-insert, ReaderAgrees-delete, Levels-map, Levels-within, Levels-count, wrote_before}
 use Rattle.session_relation.proofs.LevelTraces.{Traced-none, Traced-add_other, Traced-delete_other, Traced-insert, Traced-delete, nested_of, LevelTraces-write, LevelTraces-give}
@@ -131,10 +132,7 @@ SessionAgrees-give {status} {status'} {store} {history} {sees} {sees'} {e} {m} n
 }
   where
     old_own : (own : List ℕ) (p : Tid) (y : ℕ) (v : Version) → At store p v → Touches y v → Contains (own ++ x ∷ []) y → Contains own y
-    old_own own p y v at touch mine = elim (Contains-push_cases own x y mine) [
-      | inl old ↦ old
-      | inr now ↦ absurd (none_given (status x) gives.fresh (subst (λ z. IsSome (status z)) (sym now) (given p y v at touch)))
-    ]
+    old_own own = own-untouched x own (λ p v at touch. none_given (status x) gives.fresh (given p x v at touch))
 
     to : (own : List ℕ) (y : ℕ) → Reads status sees own y → Reads status' sees' (own ++ x ∷ []) y
     to own y (by_itself mine) = by_itself (Contains-append_left own (x ∷ []) y mine)
@@ -183,9 +181,6 @@ SessionAgrees-fail h = record {
   own_active = h.own_active;
 }
 
-pub none_own : (x : ℕ) → ¬ Contains [] x
-none_own x among = let below : among.0 < 0 = among.1 in absurd (omega arith)
-
 -- a session as it begins
 abbrev pub new_session : Snap → Session
 new_session snapshot = record { snapshot = snapshot; own = []; saved = []; failed = false; cursor = None }
@@ -205,7 +200,7 @@ SessionAgrees-begin {status} {store} {sees} snapshot w fresh current made = reco
     rows = Shows-same (λ p v at seen. VisibleBy-same (λ x touch. to x) (λ x touch. back x) seen) (λ p v at seen. VisibleBy-same (λ x touch. back x) (λ x touch. to x) seen) (λ k. refl) current;
     whole = λ p y v at is reads x maker. to x (made p y v at is (back y reads) x maker);
   };
-  level_traces = Traced-none none_own;
+  level_traces = Traced-none Contains-none;
   traces = record {
     late_missed = λ k late. absurd (IsLate-now w.history k late);
     missed_late = λ p v at missed. absurd (missed.3 (fresh.finished missed.0 missed.2));
@@ -213,12 +208,12 @@ SessionAgrees-begin {status} {store} {sees} snapshot w fresh current made = reco
   began = omega arith;
   in_time = λ k wrote. cc;
   active_unseen = fresh.active;
-  own_active = λ x own. absurd (none_own x own);
+  own_active = λ x own. absurd (Contains-none x own);
 }
   where
     to : (x : ℕ) → IsCommitted status x → Reads status sees [] x
     to x done = by_others (fresh.finished x done) done
 
     back : (x : ℕ) → Reads status sees [] x → IsCommitted status x
-    back x (by_itself own) = absurd (none_own x own)
+    back x (by_itself own) = absurd (Contains-none x own)
     back x (by_others seen done) = done

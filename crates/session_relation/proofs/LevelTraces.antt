@@ -4,20 +4,20 @@ use Rattle.std.specs.Prelude.{IsSome, Contains}
 use Rattle.std.specs.Option.{option_or}
 use Rattle.std.proofs.lemmas.Bool.{cases_eq}
 use Rattle.std.proofs.lemmas.Option.{same_Some}
-use Rattle.std.proofs.lemmas.List.Elements.{Contains-push_cases, Contains-append_left}
+use Rattle.std.proofs.lemmas.List.Elements.{Contains-append_left}
 use Rattle.xid_circle.specs.declared.Tid.{Tid}
 use Rattle.tuple_header.specs.declared.version.Row.{Row}
 use Rattle.tuple_header.specs.Version.{Version}
 use Rattle.commit_status.specs.declared.status.Status.{Status}
 use Rattle.history.specs.History.{Write, Transaction, written}
 use Rattle.history.specs.Moves.{add_write}
-use Rattle.history.proofs.HistoryLemmas.{written-append}
+use Rattle.history.proofs.HistoryLemmas.{written-append, IsSome-or_second}
 use Rattle.session_relation.specs.Visible.{Touches, made_by, deleted_by, IsBy, At, deleter}
 use Rattle.snapshot.specs.Own.{saved_with}
 use Rattle.session_relation.specs.Changes.{Adds, Alters}
 use Rattle.session_relation.specs.Agrees.{Traced, IsOfNewest, LevelTraces, LevelsAgree}
 use Rattle.session_relation.proofs.Statuses.{none_given}
-use Rattle.session_relation.proofs.Versions.{SomeVersion-adds, SomeVersion-alters, Adds-cases, Alters-cases}
+use Rattle.session_relation.proofs.Versions.{SomeVersion-adds, SomeVersion-alters, Adds-cases, Alters-cases, own-untouched}
 use Rattle.session_relation.proofs.Readers.{IsNew, IsDeleted, touches_new, wrote_same, wrote_before, wrote_still}
 
 -- One level, whose ids are those of P.
@@ -113,10 +113,6 @@ or_first : {A : Type 0} (o p : Option A) → IsSome o → IsSome (option_or o p)
 or_first {A} None p some = absurd (none_given {A = A} None refl some)
 or_first (Some x) p some = refl
 
-or_second : {A : Type 0} (o p : Option A) → IsSome p → IsSome (option_or o p)
-or_second None p some = some
-or_second (Some x) p some = refl
-
 pub Traced-join : {store : Tid → Option Version} {P Q R : ℕ → Type 0} (writes below : List Write) → ((x : ℕ) → R x → P x ⊎ Q x) → ((x : ℕ) → P x → R x) → ((x : ℕ) → Q x → R x)
     → Traced store P writes → Traced store Q below → Traced store R (below ++ writes)
 Traced-join {store} {P} {Q} {R} writes below either first second h g = record {
@@ -126,7 +122,7 @@ Traced-join {store} {P} {Q} {R} writes below either first second h g = record {
   ];
   there_written = λ p v at by. subst (λ o. IsSome o) (sym (written-append below writes v.row.key)) (elim (either by.0 by.2) [
     | inl new ↦ or_first (written writes v.row.key) (written below v.row.key) (h.there_written p v at (by.0, by.1, new))
-    | inr old ↦ or_second (written writes v.row.key) (written below v.row.key) (g.there_written p v at (by.0, by.1, old))
+    | inr old ↦ IsSome-or_second (written writes v.row.key) (written below v.row.key) (g.there_written p v at (by.0, by.1, old))
   ]);
 }
 
@@ -173,14 +169,8 @@ pub LevelTraces-give : {store : Tid → Option Version} (n x : ℕ) (own : List 
     → LevelTraces store own saved levels → LevelTraces store (own ++ x ∷ []) (saved_with n x saved) levels
 LevelTraces-give {store} n x own saved levels untouched h = given n own saved levels h
   where
-    old : (own : List ℕ) (p : Tid) (y : ℕ) (v : Version) → At store p v → Touches y v → Contains (own ++ x ∷ []) y → Contains own y
-    old own p y v at touch mine = elim (Contains-push_cases own x y mine) [
-      | inl was ↦ was
-      | inr now ↦ absurd (untouched p v at (subst (λ z. Touches z v) (sym now) touch))
-    ]
-
     lowest : (own : List ℕ) (ws : List Write) → Traced store (λ y. Contains own y) ws → Traced store (λ y. Contains (own ++ x ∷ []) y) ws
-    lowest own ws h = Traced-same (λ p y v at touch mine. Contains-append_left own (x ∷ []) y mine) (old own) (λ k. refl) h
+    lowest own ws h = Traced-same (λ p y v at touch mine. Contains-append_left own (x ∷ []) y mine) (own-untouched x own untouched) (λ k. refl) h
 
     given : (n : ℕ) (own : List ℕ) (saved : List (List ℕ)) (levels : List (List Write)) → LevelTraces store own saved levels → LevelTraces store (own ++ x ∷ []) (saved_with n x saved) levels
     given n own [] [] h = absurd h
@@ -189,11 +179,11 @@ LevelTraces-give {store} n x own saved levels untouched h = given n own saved le
     given n own [] (ws ∷ (vs ∷ rest)) h = absurd h
     given n own (before ∷ saved) [] h = absurd h
     given zero own (before ∷ saved) (ws ∷ rest) h = (
-      Traced-same (λ p y v at touch is. (Contains-append_left own (x ∷ []) y is.0, is.1)) (λ p y v at touch is. (old own p y v at touch is.0, is.1)) (λ k. refl) h.0,
+      Traced-same (λ p y v at touch is. (Contains-append_left own (x ∷ []) y is.0, is.1)) (λ p y v at touch is. (own-untouched x own untouched p y v at touch is.0, is.1)) (λ k. refl) h.0,
       h.1,
     )
     given (suc n) own (before ∷ saved) (ws ∷ rest) h = (
-      Traced-same (λ p y v at touch is. (Contains-append_left own (x ∷ []) y is.0, λ among. is.1 (old before p y v at touch among)))
-          (λ p y v at touch is. (old own p y v at touch is.0, λ among. is.1 (Contains-append_left before (x ∷ []) y among))) (λ k. refl) h.0,
+      Traced-same (λ p y v at touch is. (Contains-append_left own (x ∷ []) y is.0, λ among. is.1 (own-untouched x before untouched p y v at touch among)))
+          (λ p y v at touch is. (own-untouched x own untouched p y v at touch is.0, λ among. is.1 (Contains-append_left before (x ∷ []) y among))) (λ k. refl) h.0,
       given n before saved rest h.1,
     )

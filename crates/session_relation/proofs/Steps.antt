@@ -5,6 +5,7 @@ use Rattle.std.proofs.lemmas.Bool.{cases_eq}
 use Rattle.std.proofs.lemmas.Option.{same_Some, none-some}
 use Rattle.std.proofs.lemmas.List.Elements.{Contains-push_cases, Contains-append_left, Contains-append_right, Contains-append_cases, Contains-push}
 use Rattle.xid_circle.specs.declared.Tid.{Tid}
+use Rattle.xid_circle.proofs.Members.{Contains-none}
 use Rattle.tuple_header.specs.Version.{Version}
 use Rattle.commit_status.specs.declared.status.Status.{Status}
 use Rattle.commit_status.specs.declared.status.Status.TheVariants.{InProgress, Committed, Aborted}
@@ -25,7 +26,7 @@ use Rattle.session_relation.proofs.Versions.{VisibleBy-same, Adds-cases, active_
 use Rattle.session_relation.proofs.Readers.{IsNew, touches_new, wrote_before}
 use Rattle.session_relation.proofs.LevelTraces.{Traced-join, Nested, nested_of}
 use Rattle.session_relation.proofs.Others.{SessionAgrees-add_other, SessionAgrees-give_other, SessionAgrees-abort_other}
-use Rattle.session_relation.proofs.Itself.{IsCurrent, new_session, fresh_model, none_own, SessionAgrees-begin, SessionAgrees-fail, SessionAgrees-insert, SessionAgrees-give}
+use Rattle.session_relation.proofs.Itself.{IsCurrent, new_session, fresh_model, SessionAgrees-begin, SessionAgrees-fail, SessionAgrees-insert, SessionAgrees-give}
 use Rattle.session_relation.proofs.SessionsLemmas.{at_value, Matches, opened-change, idle-change, owned-change, apart-change, alone-change}
 
 -- one session alone changed, and is this now
@@ -47,13 +48,13 @@ pub waits-aborted : (w : World) (s : ℕ) → ((t : ℕ) → w.waits_for t ≡ N
 waits-aborted w s none t = ap (λ o. kept_where (λ p. not (p == s)) o) (waits-put w s none t)
 
 pub cases_Contains : (xs : List ℕ) (x : ℕ) → Contains xs x ⊎ (¬ Contains xs x)
-cases_Contains [] x = inr (none_own x)
+cases_Contains [] x = inr (Contains-none x)
 cases_Contains (y ∷ ys) x = elim (cases_eq y x) [
   | inl same ↦ inl (Contains-append_left (y ∷ []) ys x (subst (λ z. Contains (y ∷ []) z) same (Contains-push [] y)))
   | inr ne ↦ elim (cases_Contains ys x) [
     | inl there ↦ inl (Contains-append_right (y ∷ []) ys x there)
     | inr absent ↦ inr (λ among. elim (Contains-append_cases (y ∷ []) ys x among) [
-      | inl here ↦ elim (Contains-push_cases [] y x here) [ inl none ↦ none_own x none | inr same ↦ ne same ]
+      | inl here ↦ elim (Contains-push_cases [] y x here) [ inl none ↦ Contains-none x none | inr same ↦ ne same ]
       | inr there ↦ absent there
     ])
   ]
@@ -88,7 +89,7 @@ Agrees-begin h w s snapshot session' only idle fresh agrees = record {
   made = agrees.made;
   given = agrees.given;
   owned = owned-change h h' w w' s agrees only.others models (λ x active. inl (active, λ e at. absurd (none-some e (sym idle ∙ at))));
-  apart = apart-change h h' w w' s agrees only.others models (λ o x e f ne at bt own own'. let is : e ≡ new_session snapshot = same_Some e (new_session snapshot) (sym at ∙ only.itself) in none_own x (subst (λ (e : Session). Contains e.own x) is own));
+  apart = apart-change h h' w w' s agrees only.others models (λ o x e f ne at bt own own'. let is : e ≡ new_session snapshot = same_Some e (new_session snapshot) (sym at ∙ only.itself) in Contains-none x (subst (λ (e : Session). Contains e.own x) is own));
   alone = alone-change h h' w w' s agrees only.others models (λ o k ne p q. let is : p.0 ≡ fresh_model w = same_Some p.0 (fresh_model w) (sym p.1 ∙ at_same s (Some (fresh_model w)) (w.session s)) in
       (let wrote : IsSome (own_write (fresh_model w) k) = subst (λ m. IsSome (own_write m k)) is p.2 in cc));
 }

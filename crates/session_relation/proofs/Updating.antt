@@ -4,6 +4,7 @@ use Rattle.std.specs.Prelude.{IsSome}
 use Rattle.std.proofs.lemmas.Bool.{cases_eq}
 use Rattle.std.proofs.lemmas.Option.{same_Some, none-some}
 use Rattle.xid_circle.specs.declared.Tid.{Tid}
+use Rattle.xid_circle.proofs.Tids.{cases-tid}
 use Rattle.tuple_header.specs.Version.{Version}
 use Rattle.commit_status.specs.declared.status.Status.{Status}
 use Rattle.history.specs.History.{Write, Transaction, committed, written, own_or, IsLate}
@@ -14,7 +15,6 @@ use Rattle.session_relation.specs.Heap.{Session, Heap}
 use Rattle.session_relation.specs.Visible.{IsVisible, At}
 use Rattle.session_relation.specs.Changes.{Adds, Alters}
 use Rattle.session_relation.specs.Agrees.{ReaderAgrees, LevelsAgree, Traced, LevelTraces, SessionAgrees, Agrees}
-use Rattle.session_relation.proofs.Versions.{cases_Tid}
 use Rattle.session_relation.proofs.Readers.{IsNew, IsDeleted, ReaderAgrees-same, written-push_same, written-push_other}
 use Rattle.session_relation.proofs.LevelTraces.{Traced-same}
 use Rattle.session_relation.proofs.Itself.{IsCurrent}
@@ -174,7 +174,7 @@ Agrees-update h w s e m x place q old old' new added altered stood adds is_new k
   where
     -- without the new version
     between : Tid → Option Version
-    between t = chosen (cases_Tid t q) None (altered t)
+    between t = chosen (cases-tid t q) None (altered t)
 
     elsewhere : place ≢ q
     elsewhere same = none-some old (sym adds.unused ∙ (ap h.version (sym same) ∙ stood))
@@ -182,16 +182,16 @@ Agrees-update h w s e m x place q old old' new added altered stood adds is_new k
     alters' : Alters h.version between place old old'
     alters' = record {
       before = stood;
-      here = chosen-right (cases_Tid place q) None (altered place) elsewhere ∙ alters.here;
-      others = λ t ne. elim (cases_Tid t q) [
-        | inl same ↦ chosen-left (cases_Tid t q) None (altered t) (λ other. other same) ∙ sym (ap h.version same ∙ adds.unused)
-        | inr other ↦ chosen-right (cases_Tid t q) None (altered t) other ∙ (alters.others t ne ∙ adds.others t other)
+      here = chosen-right (cases-tid place q) None (altered place) elsewhere ∙ alters.here;
+      others = λ t ne. elim (cases-tid t q) [
+        | inl same ↦ chosen-left (cases-tid t q) None (altered t) (λ other. other same) ∙ sym (ap h.version same ∙ adds.unused)
+        | inr other ↦ chosen-right (cases-tid t q) None (altered t) other ∙ (alters.others t ne ∙ adds.others t other)
       ];
     }
 
     adds' : Adds between altered q new
     adds' = record {
       here = alters.others q (λ same. elsewhere (sym same)) ∙ adds.here;
-      unused = chosen-left (cases_Tid q q) None (altered q) (λ other. other refl);
-      others = λ t other. sym (chosen-right (cases_Tid t q) None (altered t) other);
+      unused = chosen-left (cases-tid q q) None (altered q) (λ other. other refl);
+      others = λ t other. sym (chosen-right (cases-tid t q) None (altered t) other);
     }

@@ -1,29 +1,22 @@
 -- Places, and the versions that meet a test.
-use Rattle.std.proofs.Common.{◌≡◌, ◌≢◌, ℕ, ◌⊎◌, inl, inr, List, Option, sym, ap, ◌∙◌, subst}
+use Rattle.std.proofs.Common.{◌≡◌, ◌≢◌, ℕ, ◌⊎◌, inl, inr, List, Option, sym, ap, ◌∙◌, subst, [], ◌∷◌, ◌++◌}
 use Rattle.std.specs.Prelude.{Contains}
-use Rattle.std.proofs.lemmas.Bool.{cases_eq}
 use Rattle.std.proofs.lemmas.Option.{same_Some, none-some}
+use Rattle.std.proofs.lemmas.List.Elements.{Contains-push_cases}
 use Rattle.xid_circle.specs.declared.Tid.{Tid}
+use Rattle.xid_circle.proofs.Tids.{cases-tid}
 use Rattle.tuple_header.specs.Version.{Version}
 use Rattle.commit_status.specs.declared.status.Status.{Status}
 use Rattle.session_relation.specs.Visible.{IsCommitted, IsActive, Reads, by_itself, by_others, VisibleBy, Touches, made_by, deleted_by, At, SomeVersion}
 use Rattle.session_relation.specs.Changes.{Adds, Alters}
 
--- two places are one or not
-pub cases_Tid : (p q : Tid) → (p ≡ q) ⊎ (p ≢ q)
-cases_Tid p q = elim (cases_eq p.page q.page) [
-  | inl page ↦ elim (cases_eq p.slot q.slot) [
-    | inl slot ↦ inl (same page slot)
-    | inr ne ↦ inr (λ e. ne (ap (λ (t : Tid). t.slot) e))
-  ]
-  | inr ne ↦ inr (λ e. ne (ap (λ (t : Tid). t.page) e))
+-- an id that touches no version is as if it weren't owned
+pub own-untouched : {store : Tid → Option Version} (x : ℕ) (own : List ℕ) → ((p : Tid) (v : Version) → At store p v → ¬ Touches x v)
+    → (p : Tid) (y : ℕ) (v : Version) → At store p v → Touches y v → Contains (own ++ x ∷ []) y → Contains own y
+own-untouched x own untouched p y v at touch mine = elim (Contains-push_cases own x y mine) [
+  | inl was ↦ was
+  | inr now ↦ absurd (untouched p v at (subst (λ z. Touches z v) (sym now) touch))
 ]
-  where
-    place : ℕ → ℕ → Tid
-    place page slot = record { page = page; slot = slot }
-
-    same : p.page ≡ q.page → p.slot ≡ q.slot → p ≡ q
-    same page slot = ap (λ n. place n p.slot) page ∙ ap (λ n. place q.page n) slot
 
 pub SomeVersion-weaker : (store : Tid → Option Version) (k : ℕ) (P Q : Version → Type 0) → ((p : Tid) (v : Version) → At store p v → P v → Q v) → SomeVersion store k P → SomeVersion store k Q
 SomeVersion-weaker store k P Q to some = (some.0, some.1, some.2, some.3, to some.0 some.1 some.2 some.4)
@@ -31,13 +24,13 @@ SomeVersion-weaker store k P Q to some = (some.0, some.1, some.2, some.3, to som
 -- the places after a version is added
 
 pub Adds-cases : {store store' : Tid → Option Version} {p : Tid} {new : Version} → Adds store store' p new → (q : Tid) (u : Version) → At store' q u → At store q u ⊎ ((q ≡ p) × (u ≡ new))
-Adds-cases {store} {store'} {p} {new} adds q u at = elim (cases_Tid q p) [
+Adds-cases {store} {store'} {p} {new} adds q u at = elim (cases-tid q p) [
   | inl same ↦ inr (same, same_Some u new (sym at ∙ (ap store' same ∙ adds.here)))
   | inr ne ↦ inl (sym (adds.others q ne) ∙ at)
 ]
 
 pub Adds-old : {store store' : Tid → Option Version} {p : Tid} {new : Version} → Adds store store' p new → (q : Tid) (u : Version) → At store q u → At store' q u
-Adds-old {store} {store'} {p} {new} adds q u at = elim (cases_Tid q p) [
+Adds-old {store} {store'} {p} {new} adds q u at = elim (cases-tid q p) [
   | inl same ↦ absurd (none-some u (sym adds.unused ∙ (ap store (sym same) ∙ at)))
   | inr ne ↦ adds.others q ne ∙ at
 ]
@@ -64,7 +57,7 @@ VisibleBy-same {R} {R'} {v} to back seen = record {
 -- the places after a version is altered
 
 pub Alters-cases : {store store' : Tid → Option Version} {p : Tid} {v new : Version} → Alters store store' p v new → (q : Tid) (u : Version) → At store' q u → ((q ≡ p) × (u ≡ new)) ⊎ ((q ≢ p) × At store q u)
-Alters-cases {store} {store'} {p} {v} {new} alters q u at = elim (cases_Tid q p) [
+Alters-cases {store} {store'} {p} {v} {new} alters q u at = elim (cases-tid q p) [
   | inl same ↦ inl (same, same_Some u new (sym at ∙ (ap store' same ∙ alters.here)))
   | inr ne ↦ inr (ne, sym (alters.others q ne) ∙ at)
 ]
@@ -75,7 +68,7 @@ Alters-same {store} {store'} {p} {v} {new} alters u at = same_Some u v (sym at �
 -- a version that has P, where one version was altered
 pub SomeVersion-alters : {store store' : Tid → Option Version} {p : Tid} {v new : Version} → Alters store store' p v new → (k : ℕ) (P Q : Version → Type 0) → new.row.key ≡ v.row.key
     → (P v → Q new) → ((q : Tid) (u : Version) → At store q u → P u → Q u) → SomeVersion store k P → SomeVersion store' k Q
-SomeVersion-alters {store} {store'} {p} {v} {new} alters k P Q key here there some = elim (cases_Tid some.0 p) [
+SomeVersion-alters {store} {store'} {p} {v} {new} alters k P Q key here there some = elim (cases-tid some.0 p) [
   | inl same ↦ (let is : some.1 ≡ v = Alters-same alters some.1 (ap store (sym same) ∙ some.2) in
       (p, new, alters.here, key ∙ (ap (λ (u : Version). u.row.key) (sym is) ∙ some.3), here (subst P is some.4)))
   | inr ne ↦ (some.0, some.1, alters.others some.0 ne ∙ some.2, some.3, there some.0 some.1 some.2 some.4)

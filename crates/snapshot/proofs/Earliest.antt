@@ -1,37 +1,20 @@
 -- The earliest of several ids.
-use Rattle.std.proofs.Common.{◌≡◌, ℕ, zero, suc, ◌<◌, ◌≤◌, ◌⊎◌, Bool, true, false, List, [], ◌∷◌, leb, arith, inl, inr, ⊎_elim, refl, sym, ◌∙◌, subst}
+use Rattle.std.proofs.Common.{◌≡◌, ℕ, ◌<◌, ◌≤◌, ◌⊎◌, Bool, true, false, List, [], ◌∷◌, arith, inl, inr, ⊎_elim, refl, sym, ◌∙◌, subst}
 use Rattle.std.specs.List.{Contains}
-use Rattle.std.proofs.lemmas.Bool.Decides.{nat_tests}
-use Rattle.std.proofs.lemmas.Bool.{cases_lt}
+use Rattle.std.proofs.lemmas.Bool.{cases_lt, leb-true, le-leb}
 use Rattle.xid_circle.specs.Circle.{Precedes}
 use Rattle.commit_status.specs.Window.{Window, IsWindow, IsUpToNext, turns}
 use Rattle.xid_circle.proofs.Order.{precedes-from_far, far-from_precedes}
+use Rattle.xid_circle.proofs.Members.{Contains-first, Contains-rest, Contains-cases, Contains-none}
 use Rattle.commit_status.proofs.Places.{precedes-turns}
 use Rattle.snapshot.specs.Snap.{is_before, earlier, earliest}
 use Rattle.snapshot.specs.Laws.{IsEarliest}
 
-le-true : (a b : ℕ) → leb a b ≡ true → a ≤ b
-le-true a b h = grind (arith, nat_tests)
-
-true-le : (a b : ℕ) → a ≤ b → leb a b ≡ true
-true-le a b h = grind (arith, nat_tests)
-
 pub before-precedes : (a b : ℕ) → is_before a b ≡ true → Precedes a b
-before-precedes a b h = precedes-from_far a b (le-true _ _ h)
+before-precedes a b h = precedes-from_far a b (leb-true _ _ h)
 
 pub precedes-before : (a b : ℕ) → Precedes a b → is_before a b ≡ true
-precedes-before a b h = true-le _ _ (far-from_precedes a b h)
-
--- a member of a longer list
-pub contains-cases : {X : Type 0} (x y : X) (xs : List X) → Contains (x ∷ xs) y → (x ≡ y) ⊎ Contains xs y
-contains-cases x y xs (zero, h, e) = inl e
-contains-cases x y xs (suc k, h, e) = inr (k, (omega arith), e)
-
-pub contains-head : {X : Type 0} (x : X) (xs : List X) → Contains (x ∷ xs) x
-contains-head x xs = (zero, (omega arith), refl)
-
-pub contains-tail : {X : Type 0} (x y : X) (xs : List X) → Contains xs y → Contains (x ∷ xs) y
-contains-tail x y xs (k, h, e) = (suc k, (omega arith), e)
+precedes-before a b h = le-leb _ _ (far-from_precedes a b h)
 
 -- of two ids the earlier is one of them, and no later than either
 pub earlier-cases : (a b : ℕ) → ((is_before b a ≡ true) × (earlier a b ≡ b)) ⊎ ((is_before b a ≡ false) × (earlier a b ≡ a))
@@ -63,20 +46,17 @@ earlier-is w a b is ua ub =
 
 pub earliest-is : (w : Window) (x : ℕ) (others : List ℕ) → IsWindow w → IsUpToNext w x → ((y : ℕ) → Contains others y → IsUpToNext w y)
     → IsEarliest w x others (earliest x others)
-earliest-is w x [] is up all = record { is_one = inl refl; first = omega arith; least = λ y c. absurd (none y c) }
-  where
-    none : (y : ℕ) → ¬ Contains [] y
-    none y (k, h, e) = absurd (omega arith)
+earliest-is w x [] is up all = record { is_one = inl refl; first = omega arith; least = λ y c. absurd (Contains-none y c) }
 earliest-is w x (o ∷ others) is up all =
-    let step = earlier-is w x o is up (all o (contains-head o others)) in
-    let rest = earliest-is w (earlier x o) others is step.upto (λ y c. all y (contains-tail o y others c)) in
+    let step = earlier-is w x o is up (all o (Contains-first o others)) in
+    let rest = earliest-is w (earlier x o) others is step.upto (λ y c. all y (Contains-rest o y others c)) in
     let a = rest.first in
     let b = step.left in
     let d = step.right in
     record {
       is_one = ⊎_elim
-          (λ e. ⊎_elim (λ f. inl (e ∙ f)) (λ f. inr (subst (Contains (o ∷ others)) (sym (e ∙ f)) (contains-head o others))) step.is_one)
-          (λ c. inr (contains-tail o _ others c)) rest.is_one;
+          (λ e. ⊎_elim (λ f. inl (e ∙ f)) (λ f. inr (subst (Contains (o ∷ others)) (sym (e ∙ f)) (Contains-first o others))) step.is_one)
+          (λ c. inr (Contains-rest o _ others c)) rest.is_one;
       first = omega arith;
-      least = λ y c. ⊎_elim (λ e. subst (λ z. turns w.first (earliest (earlier x o) others) ≤ turns w.first z) e (omega arith)) (λ t. rest.least y t) (contains-cases o y others c);
+      least = λ y c. ⊎_elim (λ e. subst (λ z. turns w.first (earliest (earlier x o) others) ≤ turns w.first z) e (omega arith)) (λ t. rest.least y t) (Contains-cases o y others c);
     }

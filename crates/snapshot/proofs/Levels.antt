@@ -1,23 +1,13 @@
 -- Levels of own ids: which of them lack an id, and what giving an id to the lowest of these changes.
 use Rattle.std.proofs.Common.{◌≡◌, ◌≢◌, ℕ, zero, suc, ◌≤◌, ◌==◌, Bool, true, false, List, [], ◌∷◌, ◌++◌, length, Some, None, slice_get, arith, refl, sym, ap, ◌∙◌, subst, ⊎_elim, append_assoc, length-append}
-use Rattle.std.proofs.lemmas.Bool.{cond-true, cond-false, eq-eqb, ne_eqb}
-use Rattle.std.proofs.lemmas.Bool.Decides.{nat_tests}
+use Rattle.std.proofs.lemmas.Bool.{cond-true, cond-false, eq-eqb, ne_eqb, eqb-true, eqb-false}
 use Rattle.std.proofs.lemmas.List.{append-nil}
 use Rattle.std.proofs.lemmas.List.Elements.{Contains-append_left, Contains-append_right}
 use Rattle.std.specs.List.{Contains}
+use Rattle.xid_circle.proofs.Members.{Contains-first, Contains-rest, Contains-cases, Contains-none}
 use Rattle.snapshot.specs.Own.{lacks, level_id, saved_with, saved_with_each, AreFronts, AreDistinct}
-use Rattle.snapshot.proofs.Earliest.{contains-cases, contains-head, contains-tail}
 
 -- lists of numbers
-
-none-in : (x : ℕ) → ¬ Contains [] x
-none-in x (k, h, e) = absurd (omega arith)
-
-same-number : (a b : ℕ) → (a == b) ≡ true → a ≡ b
-same-number a b e = grind (arith, nat_tests)
-
-other-number : (a b : ℕ) → (a == b) ≡ false → a ≢ b
-other-number a b e = grind (arith, nat_tests)
 
 get-after : (before since : List ℕ) (x : ℕ) → slice_get (before ++ x ∷ since) (length before) ≡ Some x
 get-after [] since x = refl
@@ -25,15 +15,15 @@ get-after (y ∷ before) since x = get-after before since x
 
 get-among : (ids : List ℕ) (i x : ℕ) → slice_get ids i ≡ Some x → Contains ids x
 get-among [] i x e = absurd (cc)
-get-among (y ∷ ids) zero x e = let same : y ≡ x = (let s : Some y ≡ Some x = e in cc) in subst (Contains (y ∷ ids)) same (contains-head y ids)
-get-among (y ∷ ids) (suc i) x e = contains-tail y x ids (get-among ids i x e)
+get-among (y ∷ ids) zero x e = let same : y ≡ x = (let s : Some y ≡ Some x = e in cc) in subst (Contains (y ∷ ids)) same (Contains-first y ids)
+get-among (y ∷ ids) (suc i) x e = Contains-rest y x ids (get-among ids i x e)
 
 -- lists in which no number is twice
 
 apart : (before since : List ℕ) (x : ℕ) → AreDistinct (before ++ since) → Contains since x → ¬ Contains before x
-apart [] since x d c among = none-in x among
+apart [] since x d c among = Contains-none x among
 apart (b ∷ before) since x d c among =
-    ⊎_elim (λ e. d.0 (subst (Contains (before ++ since)) (sym e) (Contains-append_right before since x c))) (λ t. apart before since x d.1 c t) (contains-cases b x before among)
+    ⊎_elim (λ e. d.0 (subst (Contains (before ++ since)) (sym e) (Contains-append_right before since x c))) (λ t. apart before since x d.1 c t) (Contains-cases b x before among)
 
 front : (before since : List ℕ) → AreDistinct (before ++ since) → AreDistinct before
 front [] since d = tt
@@ -58,8 +48,8 @@ lacks-less : (ids before : List ℕ) (saved : List (List ℕ)) (n : ℕ) → lac
 lacks-less ids before saved n e = cases (length ids == length before) refl
   where
     cases : (b : Bool) → (length ids == length before) ≡ b → (length ids ≡ length before) × (lacks before saved ≡ n)
-    cases true t = let same = same-number (length ids) (length before) t in let more = lacks-more ids before saved same in (same, (omega arith))
-    cases false t = let none = lacks-nothing ids before saved (other-number (length ids) (length before) t) in absurd (omega arith)
+    cases true t = let same = eqb-true (length ids) (length before) t in let more = lacks-more ids before saved same in (same, (omega arith))
+    cases false t = let none = lacks-nothing ids before saved (eqb-false (length ids) (length before) t) in absurd (omega arith)
 
 lacks-of_some : (x : ℕ) (ids : List ℕ) → lacks (x ∷ ids) [] ≡ 0
 lacks-of_some x ids = cond-false (length (x ∷ ids) == 0) 1 0 (ne_eqb (length (x ∷ ids)) 0 (λ h. absurd (omega arith)))
@@ -77,8 +67,8 @@ lacks-within [] (x ∷ ids) = let none = lacks-of_some x ids in omega arith
 lacks-within (before ∷ saved) ids = let rest = lacks-within saved before in cases (length ids == length before) refl rest
   where
     cases : (b : Bool) → (length ids == length before) ≡ b → lacks before saved ≤ suc (length saved) → lacks ids (before ∷ saved) ≤ suc (length (before ∷ saved))
-    cases true t rest = let more = lacks-more ids before saved (same-number (length ids) (length before) t) in omega arith
-    cases false t rest = let none = lacks-nothing ids before saved (other-number (length ids) (length before) t) in omega arith
+    cases true t rest = let more = lacks-more ids before saved (eqb-true (length ids) (length before) t) in omega arith
+    cases false t rest = let none = lacks-nothing ids before saved (eqb-false (length ids) (length before) t) in omega arith
 
 -- the id of the newest level that has one
 
@@ -104,7 +94,7 @@ level-among ids (before ∷ saved) x ([], e, fronts) is =
     subst (λ l. Contains l x) (sym (e ∙ append-nil before)) (level-among before saved x fronts (sym (level-same ids before saved e) ∙ is))
 level-among ids (before ∷ saved) x (y ∷ since, e, fronts) is =
     let same : y ≡ x = (let s : Some y ≡ Some x = sym (level-first ids before since saved y e) ∙ is in cc) in
-    subst (λ l. Contains l x) (sym e) (Contains-append_right before (y ∷ since) x (subst (Contains (y ∷ since)) same (contains-head y since)))
+    subst (λ l. Contains l x) (sym e) (Contains-append_right before (y ∷ since) x (subst (Contains (y ∷ since)) same (Contains-first y since)))
 
 -- where the newest level has an id it is one of the ids, whatever there was at the savepoints
 pub level-mine : (ids : List ℕ) (saved : List (List ℕ)) (x : ℕ) → lacks ids saved ≡ 0 → level_id ids saved ≡ Some x → Contains ids x
@@ -112,8 +102,8 @@ level-mine ids [] x none is = get-among ids 0 x is
 level-mine ids (before ∷ saved) x none is = cases (length ids == length before) refl
   where
     cases : (b : Bool) → (length ids == length before) ≡ b → Contains ids x
-    cases true t = absurd (let more = lacks-more ids before saved (same-number (length ids) (length before) t) in omega arith)
-    cases false t = get-among ids (length before) x (sym (level-own ids before saved (other-number (length ids) (length before) t)) ∙ is)
+    cases true t = absurd (let more = lacks-more ids before saved (eqb-true (length ids) (length before) t) in omega arith)
+    cases false t = get-among ids (length before) x (sym (level-own ids before saved (eqb-false (length ids) (length before) t)) ∙ is)
 
 -- no level has an id where there is none, and else one has
 pub level-none : (saved : List (List ℕ)) → AreFronts [] saved → level_id [] saved ≡ None
@@ -145,7 +135,7 @@ level-newest ids (b ∷ saved) x ([], e, fronts) d none is before at =
 level-newest ids (b ∷ saved) x (y ∷ since, e, fronts) d none is before at =
     let same : b ≡ before = (let s : Some b ≡ Some before = at in cc) in
     let it : y ≡ x = (let s : Some y ≡ Some x = sym (level-first ids b since saved y e) ∙ is in cc) in
-    let there : Contains (y ∷ since) x = subst (Contains (y ∷ since)) it (contains-head y since) in
+    let there : Contains (y ∷ since) x = subst (Contains (y ∷ since)) it (Contains-first y since) in
     subst (λ l. ¬ Contains l x) same (distinct-after ids b (y ∷ since) d e x there)
 
 -- an id is added to the lowest level that lacks one

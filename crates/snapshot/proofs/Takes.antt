@@ -3,13 +3,15 @@ use Rattle.std.proofs.Common.{◌≡◌, ℕ, ◌≤◌, ◌||◌, Bool, true, f
 use Rattle.std.proofs.lemmas.List.{append-nil}
 use Rattle.std.specs.List.{Contains, fold}
 use Rattle.std.proofs.lemmas.List.Elements.{Contains-append_left, Contains-append_right, Contains-append_cases}
+use Rattle.std.proofs.lemmas.Bool.{or_parts}
+use Rattle.xid_circle.proofs.Members.{Contains-first, Contains-rest, Contains-cases, Contains-none, Contains-one}
 use Rattle.commit_status.specs.Window.{Window, IsWindow, IsUpToNext, turns, place, next_id, top_of}
 use Rattle.commit_status.proofs.Turns.{turns-given}
 use Rattle.commit_status.proofs.Places.{at-from_place, some-from_is, upto-place, upto-next}
 use Rattle.commit_status.proofs.Ancestors.{top-before}
 use Rattle.snapshot.specs.Snap.{Snap, earlier, empty_at, are_many, listing, taken}
 use Rattle.snapshot.specs.Laws.{AreOpen, IsBetween, IsInWindow}
-use Rattle.snapshot.proofs.Earliest.{earlier-is, contains-cases, contains-head, contains-tail}
+use Rattle.snapshot.proofs.Earliest.{earlier-is}
 
 -- the snapshot that lists these open transactions
 pub record Lists (w : Window) (next : ℕ) (owns : List (List ℕ)) (s : Snap) : Type 0 where
@@ -21,12 +23,6 @@ pub record Lists (w : Window) (next : ℕ) (owns : List (List ℕ)) (s : Snap) :
   pub children : s.overflowed ≡ false → (own : List ℕ) (x : ℕ) → Contains owns own → Contains own x → Contains s.listed x
   pub only : (x : ℕ) → Contains s.listed x → (own : List ℕ) × Contains owns own × Contains own x
 
-none-in : {X : Type 0} (x : X) → ¬ Contains [] x
-none-in x (k, h, e) = absurd (omega arith)
-
-one-in : {X : Type 0} (x y : X) → Contains (x ∷ []) y → x ≡ y
-one-in x y c = ⊎_elim (λ e. e) (λ t. absurd (none-in y t)) (contains-cases x y [] c)
-
 made : Snap → ℕ → List ℕ → Bool → Snap
 made s top children many = record {
   xmin = earlier s.xmin top;
@@ -35,13 +31,8 @@ made s top children many = record {
   overflowed = s.overflowed || many;
 }
 
-not_or : (a b : Bool) → a || b ≡ false → (a ≡ false) × (b ≡ false)
-not_or true b e = absurd (cc)
-not_or false true e = absurd (cc)
-not_or false false e = (refl, refl)
-
 kept-in : (top : ℕ) (children : List ℕ) (many : Bool) (x : ℕ) → Contains (top ∷ (if many then [] else children)) x → Contains (top ∷ children) x
-kept-in top children true x c = ⊎_elim (λ e. subst (Contains (top ∷ children)) e (contains-head top children)) (λ t. absurd (none-in x t)) (contains-cases top x [] c)
+kept-in top children true x c = ⊎_elim (λ e. subst (Contains (top ∷ children)) e (Contains-first top children)) (λ t. absurd (Contains-none x t)) (Contains-cases top x [] c)
 kept-in top children false x c = c
 
 all-in : (top : ℕ) (children : List ℕ) (many : Bool) (x : ℕ) → many ≡ false → Contains (top ∷ children) x → Contains (top ∷ (if many then [] else children)) x
@@ -53,10 +44,10 @@ lists-none w next up = record {
   xmax = refl;
   upto = up;
   below = omega arith;
-  low = λ own top c at. absurd (none-in own c);
-  tops = λ own top c at. absurd (none-in own c);
-  children = λ e own x c m. absurd (none-in own c);
-  only = λ x c. absurd (none-in x c);
+  low = λ own top c at. absurd (Contains-none own c);
+  tops = λ own top c at. absurd (Contains-none own c);
+  children = λ e own x c m. absurd (Contains-none own c);
+  only = λ x c. absurd (Contains-none x c);
 }
 
 lists-made : (w : Window) (next : ℕ) (owns : List (List ℕ)) (s : Snap) (top : ℕ) (children : List ℕ) (many : Bool) → IsWindow w → IsUpToNext w top
@@ -73,22 +64,22 @@ lists-made w next owns s top children many is up l =
       below = omega arith;
       low = λ own t c at. ⊎_elim
           (λ old. let lo = l.low own t old at in omega arith)
-          (λ new. let same : top ≡ t = (let i = one-in (top ∷ children) own new in let s : Some top ≡ Some t = ap (λ o. slice_get o 0) i ∙ at in cc) in
+          (λ new. let same : top ≡ t = (let i = Contains-one (top ∷ children) own new in let s : Some top ≡ Some t = ap (λ o. slice_get o 0) i ∙ at in cc) in
           subst (λ v. turns w.first (earlier s.xmin top) ≤ turns w.first v) same right)
           (Contains-append_cases owns ((top ∷ children) ∷ []) own c);
       tops = λ own t c at. ⊎_elim
           (λ old. Contains-append_left s.listed _ t (l.tops own t old at))
-          (λ new. let same : top ≡ t = (let i = one-in (top ∷ children) own new in let s : Some top ≡ Some t = ap (λ o. slice_get o 0) i ∙ at in cc) in
-          Contains-append_right s.listed _ t (subst (Contains (top ∷ (if many then [] else children))) same (contains-head top _)))
+          (λ new. let same : top ≡ t = (let i = Contains-one (top ∷ children) own new in let s : Some top ≡ Some t = ap (λ o. slice_get o 0) i ∙ at in cc) in
+          Contains-append_right s.listed _ t (subst (Contains (top ∷ (if many then [] else children))) same (Contains-first top _)))
           (Contains-append_cases owns ((top ∷ children) ∷ []) own c);
       children = λ none own x c m. ⊎_elim
-          (λ old. Contains-append_left s.listed _ x (l.children (not_or s.overflowed many none).0 own x old m))
-          (λ new. Contains-append_right s.listed _ x (all-in top children many x (not_or s.overflowed many none).1
-          (subst (λ o. Contains o x) (sym (one-in (top ∷ children) own new)) m)))
+          (λ old. Contains-append_left s.listed _ x (l.children (or_parts s.overflowed many none).0 own x old m))
+          (λ new. Contains-append_right s.listed _ x (all-in top children many x (or_parts s.overflowed many none).1
+          (subst (λ o. Contains o x) (sym (Contains-one (top ∷ children) own new)) m)))
           (Contains-append_cases owns ((top ∷ children) ∷ []) own c);
       only = λ x c. ⊎_elim
           (λ old. let found = l.only x old in (found.0, Contains-append_left owns ((top ∷ children) ∷ []) found.0 found.1, found.2))
-          (λ new. (top ∷ children, Contains-append_right owns ((top ∷ children) ∷ []) (top ∷ children) (contains-head (top ∷ children) []), kept-in top children many x new))
+          (λ new. (top ∷ children, Contains-append_right owns ((top ∷ children) ∷ []) (top ∷ children) (Contains-first (top ∷ children) []), kept-in top children many x new))
           (Contains-append_cases s.listed (top ∷ (if many then [] else children)) x c);
     }
 
@@ -100,11 +91,11 @@ lists-more w next owns s [] is up l = record {
   xmax = l.xmax;
   upto = l.upto;
   below = l.below;
-  low = λ own t c at. ⊎_elim (λ old. l.low own t old at) (λ new. absurd (let i = one-in [] own new in let s : None ≡ Some t = ap (λ o. slice_get o 0) i ∙ at in cc))
+  low = λ own t c at. ⊎_elim (λ old. l.low own t old at) (λ new. absurd (let i = Contains-one [] own new in let s : None ≡ Some t = ap (λ o. slice_get o 0) i ∙ at in cc))
       (Contains-append_cases owns ([] ∷ []) own c);
-  tops = λ own t c at. ⊎_elim (λ old. l.tops own t old at) (λ new. absurd (let i = one-in [] own new in let s : None ≡ Some t = ap (λ o. slice_get o 0) i ∙ at in cc))
+  tops = λ own t c at. ⊎_elim (λ old. l.tops own t old at) (λ new. absurd (let i = Contains-one [] own new in let s : None ≡ Some t = ap (λ o. slice_get o 0) i ∙ at in cc))
       (Contains-append_cases owns ([] ∷ []) own c);
-  children = λ none own x c m. ⊎_elim (λ old. l.children none own x old m) (λ new. absurd (none-in x (subst (λ o. Contains o x) (sym (one-in [] own new)) m)))
+  children = λ none own x c m. ⊎_elim (λ old. l.children none own x old m) (λ new. absurd (Contains-none x (subst (λ o. Contains o x) (sym (Contains-one [] own new)) m)))
       (Contains-append_cases owns ([] ∷ []) own c);
   only = λ x c. let found = l.only x c in (found.0, Contains-append_left owns ([] ∷ []) found.0 found.1, found.2);
 }
@@ -115,8 +106,8 @@ lists-all : (rest : List (List ℕ)) (w : Window) (next : ℕ) (owns : List (Lis
 lists-all [] w next owns s is up l = subst (λ os. Lists w next os s) (sym (append-nil owns)) l
 lists-all (own ∷ rest) w next owns s is up l =
     subst (λ os. Lists w next os (fold listing s (own ∷ rest))) (append_assoc owns (own ∷ []) rest)
-    (lists-all rest w next (owns ++ own ∷ []) (listing s own) is (λ o t c. up o t (contains-tail own o rest c))
-    (lists-more w next owns s own is (λ t. up own t (contains-head own rest)) l))
+    (lists-all rest w next (owns ++ own ∷ []) (listing s own) is (λ o t c. up o t (Contains-rest own o rest c))
+    (lists-more w next owns s own is (λ t. up own t (Contains-first own rest)) l))
 
 -- an own id is in the window
 pub own-upto : (w : Window) (owns : List (List ℕ)) (own : List ℕ) (x : ℕ) → AreOpen w owns → Contains owns own → Contains own x → IsUpToNext w x
@@ -126,7 +117,7 @@ own-upto w owns own x open_ c m =
 
 pub first-in : (own : List ℕ) (t : ℕ) → slice_get own 0 ≡ Some t → Contains own t
 first-in [] t at = absurd (cc)
-first-in (x ∷ own) t at = let e : x ≡ t = (let s : Some x ≡ Some t = at in cc) in subst (Contains (x ∷ own)) e (contains-head x own)
+first-in (x ∷ own) t at = let e : x ≡ t = (let s : Some x ≡ Some t = at in cc) in subst (Contains (x ∷ own)) e (Contains-first x own)
 
 -- what is taken lists them all
 pub taken-lists : (w : Window) (owns : List (List ℕ)) → IsWindow w → AreOpen w owns → Lists w (next_id w) owns (taken (next_id w) owns)

@@ -1,7 +1,6 @@
 -- Ids that made or deleted a version: in a chain, along the entries, and on the heap.
-use Rattle.std.proofs.Common.{◌≡◌, ◌⊎◌, ◌↔◌, ℕ, zero, suc, ℤ, ◌+◌, ◌<◌, Bool, false, List, [], get_or, map, Option, Some, None, refl, sym, ap, ◌∙◌, subst, ⊎_elim, arith, slice_get}
+use Rattle.std.proofs.Common.{◌≡◌, ◌⊎◌, ◌↔◌, ℕ, ℤ, ◌+◌, ◌<◌, List, get_or, map, Option, Some, None, refl, sym, ap, ◌∙◌, subst, ⊎_elim, arith, slice_get}
 use Rattle.std.specs.List.{Contains}
-use Rattle.std.specs.Prelude.{IsTrue}
 use Rattle.std.specs.Option.{option_map}
 use Rattle.std.proofs.lemmas.Bool.{cases_lt}
 use Rattle.std.proofs.lemmas.Option.{none-some, same_Some}
@@ -13,6 +12,7 @@ use Rattle.tuple_header.specs.declared.version.Row.{Row}
 use Rattle.page_slots.specs.declared.slot.Slot.{Slot}
 use Rattle.page_slots.specs.Slots.{version_at, header_at}
 use Rattle.page_slots.specs.View.{PageView}
+use Rattle.page_slots.proofs.SlotLemmas.{version_at-none}
 use Rattle.commit_status.specs.declared.status.Status.TheVariants.{InProgress, Committed, Aborted}
 use Rattle.commit_status.specs.Window.{Window, IsCommitted, IsInProgress, IsAborted}
 use Rattle.snapshot.specs.Snap.{Snap}
@@ -31,9 +31,6 @@ use Rattle.sound_entries.proofs.Leads.{found, touched-made}
 use Rattle.sound_entries.proofs.Fetching.{slots-there, slots-none, listed-in}
 
 -- One version.
-
-pub not-true : (b : Bool) (P : Type 0) → (IsTrue b ↔ P) → b ≡ false → ¬ P
-not-true b P is wrong p = let right = is.1 p in cc
 
 -- neither the maker nor the deleter of the version
 pub none-touched : (h : Header) (P : ℕ → Type 0) → (IsFrozen h ⊎ (¬ P h.xmin.0)) → ((h.xmax.0 ≡ 0) ⊎ (¬ P h.xmax.0)) → (x : ℕ) → Touches h x → ¬ P x
@@ -83,11 +80,7 @@ pub at-nowhere : (w : Window) (P : ℕ → Header → Type 0) (pages : List Page
     → (x : ℕ) → SomeAt w (P x) (map (λ (q : PageView). q.slots) pages) p → ⊥
 at-nowhere w P pages p none x some =
     let there = subst (λ slots. version_at slots (get_or some.chain some.some.place 0) ≡ Some some.some.version) (slots-none pages p.page none) some.some.there in
-    never (get_or some.chain some.some.place 0) some.some.version there
-  where
-    never : (n : ℕ) (t : Version) → version_at [] n ≡ Some t → ⊥
-    never zero t e = none-some t e
-    never (suc n) t e = none-some t e
+    version_at-none (get_or some.chain some.some.place 0) some.some.version there
 
 -- Along the entries.
 

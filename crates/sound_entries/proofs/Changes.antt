@@ -2,6 +2,7 @@
 use Rattle.std.proofs.Common.{◌≡◌, ◌⊎◌, ◌≤◌, ℕ, ℤ, Bool, true, false, not, if◌then◌else◌, List, Option, Some, None, refl, sym, ap, ◌∙◌, subst, ⊎_elim, inl, inr}
 use Rattle.std.specs.Option.{option_map, option_and_then}
 use Rattle.std.proofs.lemmas.Bool.{cases_eq}
+use Rattle.std.proofs.lemmas.Option.{same_Some}
 use Rattle.tuple_header.specs.Version.{Version}
 use Rattle.tuple_header.specs.declared.version.Row.{Row}
 use Rattle.tuple_header.specs.Marks.{is_heap_only}
@@ -15,7 +16,7 @@ use Rattle.prune.specs.declared.action.Action.{Action}
 use Rattle.prune.specs.Actions.{acted}
 use Rattle.prune.specs.Pruning.{Does, by_root, by_none, IsPruned, loose_in, loose_action, lead}
 use Rattle.prune.specs.Sound.{entry_in, IsIn, SoundPage}
-use Rattle.prune.proofs.Links.{same_some, member-version}
+use Rattle.prune.proofs.Links.{member-version}
 use Rattle.prune.proofs.ChainPlaces.{place-of}
 use Rattle.prune.proofs.Removing.{pruned-removes}
 use Rattle.prune.proofs.SoundChains.{entry-root}
@@ -75,7 +76,7 @@ still-in : (value_of : Row → ℤ) (w : Window) (horizon : ℕ) (slots after : 
 still-in value_of w horizon slots after root n t sound keeps i at =
     let v = chained-version w horizon slots root n sound i in
     let h = keeps.versions n v.version v.there in
-    let row : t.row ≡ v.version.row = ap (λ (z : Version). z.row) (same_some t h.version (sym at ∙ h.there)) ∙ h.row in
+    let row : t.row ≡ v.version.row = ap (λ (z : Version). z.row) (same_Some t h.version (sym at ∙ h.there)) ∙ h.row in
     record { place = n; version = v.version; within = i; there = v.there; value = ap value_of row; key = ap (λ (r : Row). r.key) row }
 
 -- a version whose header alone changes
@@ -107,7 +108,7 @@ own-chain : (value_of : Row → ℤ) (w : Window) (horizon n : ℕ) (slots after
 own-chain value_of w horizon n slots after new a added i t within at = ⊎_elim
     (λ was. absurd (free-unled slots (inl (in-root w slots (free_number slots) i was))))
     (λ here.
-    let one : t ≡ new = same_some t new (sym at ∙ ap (version_at after) here.1 ∙ version_at-from_slot_at after (free_number slots) new added) in
+    let one : t ≡ new = same_Some t new (sym at ∙ ap (version_at after) here.1 ∙ version_at-from_slot_at after (free_number slots) new added) in
     (ap (λ (z : Version). value_of z.row) (sym one), ap (λ (z : Version). z.row.key) (sym one)))
     (a.chains.1 (free_number slots) i within)
 
@@ -150,7 +151,7 @@ updates-page value_of w horizon k x page slots row old sound few there value key
       chains = λ root n t i at. ⊎_elim
           (λ was. inl (still-in value_of w horizon slots after root n t sound a.entries was at))
           (λ y.
-          let one : t ≡ new = same_some t new (sym at ∙ ap (version_at after) y.1 ∙ version_at-from_slot_at after free new r.added) in
+          let one : t ≡ new = same_Some t new (sym at ∙ ap (version_at after) y.1 ∙ version_at-from_slot_at after free new r.added) in
           inl (record {
             place = k;
             version = old;
@@ -208,7 +209,7 @@ prunes-page value_of w horizon slots after sound p =
 
 -- Each step on the pages.
 
-heap-puts : (w : Window) (horizon n : ℕ) (pages pages' : List (List Slot)) (after : List Slot) → SoundHeap w horizon pages → Puts pages pages' n after → SoundPage w horizon after
+pub heap-puts : (w : Window) (horizon n : ℕ) (pages pages' : List (List Slot)) (after : List Slot) → SoundHeap w horizon pages → Puts pages pages' n after → SoundPage w horizon after
     → SoundHeap w horizon pages'
 heap-puts w horizon n pages pages' after heap puts sound m = ⊎_elim
     (λ same. subst (λ k. SoundPage w horizon (slots_on pages' k)) (sym same) (subst (SoundPage w horizon) (sym puts.put) sound))

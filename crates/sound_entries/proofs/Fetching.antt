@@ -9,12 +9,12 @@ use Rattle.tuple_header.specs.Version.{Version}
 use Rattle.tuple_header.specs.declared.version.Header.{Header}
 use Rattle.tuple_header.specs.declared.version.Row.{Row}
 use Rattle.page_slots.specs.declared.slot.Slot.{Slot}
-use Rattle.page_slots.specs.Slots.{slot_at, version_at, header_at, row_at}
+use Rattle.page_slots.specs.Slots.{slot_at, version_at, row_at}
 use Rattle.page_slots.specs.View.{PageView}
 use Rattle.commit_status.specs.Window.{Window, IsActive}
 use Rattle.snapshot.specs.Snap.{Snap}
 use Rattle.visibility.specs.Visible.{IsVisible}
-use Rattle.hot_chain.specs.Chain.{has_aborted, first_of, start_in, IsChain, NoneSeen, Fetched}
+use Rattle.hot_chain.specs.Chain.{has_aborted, first_of, start_in, IsChain, NoneSeen, Fetched, IsSeenIn}
 use Rattle.hot_chain.proofs.Chains.{chain-one}
 use Rattle.prune.specs.Sound.{IsIn, SoundPage}
 use Rattle.prune.proofs.ChainPlaces.{place-of, at-place}
@@ -24,7 +24,7 @@ use Rattle.root_index.specs.declared.entry.Entry.{Entry}
 use Rattle.sound_entries.specs.Pages.{slots_on, version_in}
 use Rattle.sound_entries.specs.Entries.{MayBeLed, IsSound}
 use Rattle.sound_entries.specs.Leading.{IsOnHeap, IsByIndex}
-use Rattle.sound_entries.specs.Looking.{IsNextOf, FetchedAt, FirstFound, IsSeenIn, IsSeenAt, IsFirstPlace, FirstPlace}
+use Rattle.sound_entries.specs.Looking.{IsNextOf, FetchedAt, FirstFound, IsSeenAt, IsFirstPlace, FirstPlace}
 use Rattle.sound_entries.proofs.Leads.{visible-found}
 
 -- what is in the list of a chain to which an entry may lead, is in the chain
@@ -110,17 +110,6 @@ empty-fetched aborted seen n = (
 pub fetched-nowhere : (w : Window) (seen : Header → Type 0) (pages : List PageView) (p : Tid) → slice_get pages p.page ≡ None
     → FetchedAt w seen (map (λ (q : PageView). q.slots) pages) p None
 fetched-nowhere w seen pages p none = subst (λ slots. Fetched (has_aborted w) seen slots p.slot None) (sym (slots-none pages p.page none)) (empty-fetched (has_aborted w) seen p.slot)
-
-some-header : (o : Option Version) (h : Header) → option_map (λ (t : Version). t.header) o ≡ Some h → (t : Version) × (o ≡ Some t) × (h ≡ t.header)
-some-header None h e = absurd (cc)
-some-header (Some t) h e = (t, refl, (let f : Some t.header ≡ Some h = e in cc))
-
--- the version that a look-up of its header finds, is the first of these slots that is seen
-pub seen-here : (seen : Header → Type 0) (slots : List Slot) (chain : List ℕ) (i : ℕ) (r : Option Header) (h : Header) → i < length chain → r ≡ header_at slots (get_or chain i 0) → r ≡ Some h → seen h
-    → ((j : ℕ) (u : Version) → j < i → version_at slots (get_or chain j 0) ≡ Some u → ¬ seen u.header) → IsSeenIn seen slots chain (get_or chain i 0)
-seen-here seen slots chain i r h within value is has none =
-    let v = some-header (version_at slots (get_or chain i 0)) h (sym value ∙ is) in
-    record { index = i; slot = refl; version = v.0; first = record { within = within; there = v.1; is_seen = subst seen v.2 has; none_before = none } }
 
 pub seen-on_page : (w : Window) (seen : Header → Type 0) (pages : List PageView) (p : Tid) (page : PageView) (chain : List ℕ) → slice_get pages p.page ≡ Some page
     → IsChain (has_aborted w) page.slots p.slot chain → (n : ℕ) → IsSeenIn seen page.slots chain n

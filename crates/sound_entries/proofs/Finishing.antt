@@ -1,23 +1,22 @@
 -- What becomes of transactions and of the horizon leaves the entries right: chains only break.
-use Rattle.std.proofs.Common.{◌≡◌, ◌≤◌, ℕ, ℤ, zero, suc, false, List, Option, Some, sym, ◌∙◌, ⊎_elim}
+use Rattle.std.proofs.Common.{◌≡◌, ◌≤◌, ℕ, ℤ, zero, suc, false, List, Option, Some, ◌∙◌, ⊎_elim}
 use Rattle.std.specs.List.{Contains}
 use Rattle.std.proofs.lemmas.Bool.{cases_Bool}
+use Rattle.xid_circle.specs.Following.{ReachesIn}
 use Rattle.tuple_header.specs.declared.version.Row.{Row}
 use Rattle.page_slots.specs.declared.slot.Slot.{Slot}
-use Rattle.commit_status.specs.declared.status.Status.{Status}
-use Rattle.commit_status.specs.declared.status.Status.TheVariants.{InProgress, Committed, Aborted}
+use Rattle.commit_status.specs.declared.status.Status.TheVariants.{Committed, Aborted}
 use Rattle.commit_status.specs.Window.{Window, IsWindow, IsActive, IsAborted, IsUpToNext, turns}
 use Rattle.commit_status.specs.Changes.{Gives, Finishes}
 use Rattle.commit_status.proofs.Giving.{gives-status}
-use Rattle.commit_status.proofs.Finishing.{finishes-other}
 use Rattle.hot_chain.specs.Chain.{has_aborted}
-use Rattle.prune.specs.Cutting.{link, ReachesIn}
+use Rattle.prune.specs.Cutting.{link}
 use Rattle.prune.specs.Sound.{IsIn}
 use Rattle.prune.proofs.Links.{link-of}
 use Rattle.prune.proofs.Removing.{has-aborted}
 use Rattle.prune.proofs.Unseen.{aborted-has}
 use Rattle.page_writes.specs.Laws.{DeletedWhatWasMade, AloneDeletedTheirs}
-use Rattle.page_writes.proofs.Statuses.{successor-from, replaced-live, giving-sound, committing-sound, aborting-sound, later-sound}
+use Rattle.page_writes.proofs.Statuses.{successor-from, replaced-live, giving-sound, committing-sound, aborting-sound, later-sound, aborted-other}
 use Rattle.root_index.specs.declared.entry.Entry.{Entry}
 use Rattle.sound_entries.specs.Pages.{slots_on, SoundHeap}
 use Rattle.sound_entries.specs.Entries.{IsSound, StaysSound}
@@ -61,22 +60,18 @@ giving-stays value_of w v horizon parent pages entries sound before after gives 
     statuses-stay w v (λ x gone. gives-status w v parent x before after gives ∙ gone) value_of horizon horizon pages entries sound
     (λ n. giving-sound w v horizon parent (slots_on pages n) before after gives (sound.heap n))
 
-gone-still : (w v : Window) (ids : List ℕ) (status : Status) (x : ℕ) → ((y : ℕ) → Contains ids y → IsActive w y) → Finishes w v ids status → IsAborted w x → IsAborted v x
-gone-still w v ids status x active f gone =
-    finishes-other w v ids status x f (λ c. let e : Aborted ≡ InProgress = sym gone ∙ (active x c).unfinished in cc) ∙ gone
-
 pub committing-stays : (value_of : Row → ℤ) (w v : Window) (horizon : ℕ) (ids : List ℕ) (pages : List (List Slot)) (entries : List Entry)
     → IsSound value_of w horizon pages entries → ((x : ℕ) → Contains ids x → IsActive w x) → Finishes w v ids Committed
     → ((n : ℕ) → DeletedWhatWasMade w (slots_on pages n) ids) → StaysSound value_of v horizon pages pages entries entries
 committing-stays value_of w v horizon ids pages entries sound active f theirs =
-    statuses-stay w v (λ x gone. gone-still w v ids Committed x active f gone) value_of horizon horizon pages entries sound
+    statuses-stay w v (λ x gone. aborted-other w v ids Committed x active f gone) value_of horizon horizon pages entries sound
     (λ n. committing-sound w v horizon ids (slots_on pages n) active f (theirs n) (sound.heap n))
 
 pub aborting-stays : (value_of : Row → ℤ) (w v : Window) (horizon : ℕ) (ids : List ℕ) (pages : List (List Slot)) (entries : List Entry)
     → IsSound value_of w horizon pages entries → ((x : ℕ) → Contains ids x → IsActive w x) → Finishes w v ids Aborted
     → ((n : ℕ) → AloneDeletedTheirs w (slots_on pages n) ids) → StaysSound value_of v horizon pages pages entries entries
 aborting-stays value_of w v horizon ids pages entries sound active f theirs =
-    statuses-stay w v (λ x gone. gone-still w v ids Aborted x active f gone) value_of horizon horizon pages entries sound
+    statuses-stay w v (λ x gone. aborted-other w v ids Aborted x active f gone) value_of horizon horizon pages entries sound
     (λ n. aborting-sound w v horizon ids (slots_on pages n) active f (theirs n) (sound.heap n))
 
 pub later-stays : (value_of : Row → ℤ) (w : Window) (horizon later : ℕ) (pages : List (List Slot)) (entries : List Entry)

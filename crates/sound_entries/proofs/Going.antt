@@ -3,6 +3,7 @@ use Rattle.std.proofs.Common.{◌≡◌, ◌⊎◌, ℕ, ℤ, true, false, List,
 use Rattle.std.specs.List.{Contains}
 use Rattle.std.proofs.lemmas.Bool.{cases_eq}
 use Rattle.xid_circle.specs.declared.Tid.{Tid}
+use Rattle.xid_circle.proofs.Tids.{same-tid}
 use Rattle.tuple_header.specs.Version.{Version}
 use Rattle.tuple_header.specs.declared.version.Row.{Row}
 use Rattle.page_slots.specs.declared.slot.Slot.{Slot}
@@ -15,7 +16,6 @@ use Rattle.root_index.specs.declared.entry.Entry.{Entry}
 use Rattle.root_index.specs.Sets.{Adds, IsOf}
 use Rattle.sound_entries.specs.Pages.{slots_on, slot_in, Puts}
 use Rattle.sound_entries.specs.Entries.{MayBeLed, SoundEntries, StaysLed, same_version, led_on, died, KeepsLed}
-use Rattle.sound_entries.proofs.Leads.{tid-same}
 
 -- a version of the chain has the same value and the same key
 pub record Resembles (value_of : Row → ℤ) (w : Window) (slots : List Slot) (root : ℕ) (row : Row) : Type 0 where
@@ -94,7 +94,7 @@ module _ (value_of : Row → ℤ) (w v : Window) (pages pages' : List (List Slot
         ((adds.members e).0 there);
     led = λ p root. ⊎_elim
         (λ old. let s = sound.led p old in record { entry = s.entry; there = (adds.members s.entry).1 (inl s.there); at = s.at })
-        (λ here. record { entry = new; there = (adds.members new).1 (inr refl); at = sym (tid-same p new.tid here.0 here.1) })
+        (λ here. record { entry = new; there = (adds.members new).1 (inr refl); at = sym (same-tid p new.tid here.0 here.1) })
         ((goes p.page).roots p.slot root);
     one = λ e f there among same. ⊎_elim
         (λ old. ⊎_elim
@@ -109,7 +109,7 @@ module _ (value_of : Row → ℤ) (w v : Window) (pages pages' : List (List Slot
     alike = λ e n t there i at. ⊎_elim
         (λ old. ⊎_elim
         (λ r. let of = sound.alike e r.place r.version old r.within r.there in (of.0 ∙ sym r.value, of.1 ∙ sym r.key))
-        (λ here. absurd (not-new e old (tid-same e.tid new.tid here.0 here.1)))
+        (λ here. absurd (not-new e old (same-tid e.tid new.tid here.0 here.1)))
         ((goes e.tid.page).chains e.tid.slot n t i at))
         (λ now. subst (λ (f : Entry). IsIn v (slots_on pages' f.tid.page) f.tid.slot n → version_at (slots_on pages' f.tid.page) n ≡ Some t → IsOf (value_of t.row) t.row.key f)
         (sym now) (λ j there. own n t j there) i at)

@@ -3,6 +3,7 @@ use Rattle.std.proofs.Common.{◌≡◌, ◌↔◌, ℕ, ℤ, List, Some, refl, 
 use Rattle.std.specs.List.{Contains}
 use Rattle.std.proofs.lemmas.Bool.{cases_Bool}
 use Rattle.xid_circle.specs.declared.Tid.{Tid}
+use Rattle.xid_circle.proofs.Tids.{same-tid}
 use Rattle.tuple_header.specs.Version.{Version}
 use Rattle.tuple_header.specs.declared.version.Row.{Row}
 use Rattle.tuple_header.specs.Marks.{is_heap_only}
@@ -50,15 +51,6 @@ seen-made w R t none seen undone = ⊎_elim (λ frozen. undone.thawed frozen) (�
 
 -- On all pages.
 
-pub tid-same : (p q : Tid) → p.page ≡ q.page → p.slot ≡ q.slot → p ≡ q
-tid-same p q a b = by p.page p.slot q.page q.slot a b
-  where
-    place : ℕ → ℕ → Tid
-    place n k = record { page = n; slot = k }
-
-    by : (a b c d : ℕ) → a ≡ c → b ≡ d → place a b ≡ place c d
-    by a b c d e f = rw (e, f) refl
-
 module _ (value_of : Row → ℤ) (w : Window) (horizon : ℕ) (pages : List (List Slot)) (entries : List Entry) (sound : IsSound value_of w horizon pages entries) where
   pub led_by_one : (p : Tid) (t : Version) → version_in pages p ≡ Some t → ¬ IsUndone w t.header → LedByOne w pages entries p (value_of t.row) t.row.key
   led_by_one p t at done =
@@ -74,7 +66,7 @@ module _ (value_of : Row → ℤ) (w : Window) (horizon : ℕ) (pages : List (Li
         only = λ f l.
             let here = subst (λ n. IsIn w (slots_on pages n) f.tid.slot p.slot) (sym l.page) l.chain in
             let slot : f.tid.slot ≡ s.entry.tid.slot = (sound.heap p.page).alone f.tid.slot r.root p.slot here r.leads ∙ sym (ap (λ (q : Tid). q.slot) s.at) in
-            sound.index.one f s.entry l.there s.there (tid-same f.tid s.entry.tid (sym l.page ∙ page) slot);
+            sound.index.one f s.entry l.there s.there (same-tid f.tid s.entry.tid (sym l.page ∙ page) slot);
       }
 
   -- what P says only of versions that were made is found by the index exactly where it is found on the heap

@@ -9,11 +9,11 @@ use Rattle.tuple_header.specs.declared.version.Header.{Header}
 use Rattle.page_slots.specs.declared.slot.Slot.{Slot}
 use Rattle.page_slots.specs.View.{PageView}
 use Rattle.commit_status.specs.Window.{Window}
-use Rattle.hot_chain.specs.Chain.{has_aborted, IsChain, NoneSeen}
+use Rattle.hot_chain.specs.Chain.{has_aborted, IsChain, NoneSeen, IsSeenIn}
 use Rattle.root_index.specs.declared.entry.Entry.{Entry}
 use Rattle.root_index.specs.Order.{Precedes, IsAscending}
 use Rattle.root_index.specs.Sets.{IsOf}
-use Rattle.sound_entries.specs.Looking.{IsNextOf, FetchedAt, IsSeenIn, IsSeenAt, SeenAt, IsFirstPlace, FirstPlace, SomeAt, SomeOf, IsIdAt, IsIdOf}
+use Rattle.sound_entries.specs.Looking.{IsNextOf, FetchedAt, IsSeenAt, SeenAt, IsFirstPlace, FirstPlace, SomeAt, SomeOf, IsIdAt, IsIdOf}
 use Rattle.sound_entries.specs.declared.standing.Standing.{Standing}
 use Rattle.sound_entries.proofs.Among.{none-of}
 use Rattle.sound_entries.proofs.Fetching.{slots-there, none-on_page}

@@ -6,7 +6,6 @@ use Rattle.std.specs.Ordering.{ordering_reverse}
 use Rattle.std.specs.declared.cmp.Ordering.{Ordering}
 use Rattle.std.specs.declared.cmp.Ordering.TheVariants.{Less, Equal, Greater}
 use Rattle.std.proofs.lemmas.Bool.{cases_lt}
-use Rattle.std.proofs.lemmas.Int.{ints}
 use Rattle.std.proofs.lemmas.Option.{slice_get_within, none-some, same_Some}
 use Rattle.root_index.specs.declared.entry.Entry.{Entry}
 use Rattle.root_index.specs.Order.{comparison, Precedes, IsAscending}
@@ -18,17 +17,13 @@ use Rattle.sound_entries.specs.Looking.{IsNextOf}
 
 -- Of what a look-up finds, only that which is of this value and this key.
 
-not_below : (value : ℤ) (key : ℕ) (e : Entry) → IsOf value key e → ¬ IsBelow value key e
-not_below value key e of (inl low) = omega (arith, ints, of.0)
-not_below value key e of (inr low) = omega (arith, of.1, low.1)
-
 first-none : (xs : List Entry) (value : ℤ) (key : ℕ) (r : Option Entry) → IsLeast xs (λ e. ¬ IsBelow value key e) r → ((e : Entry) → r ≡ Some e → ¬ IsOf value key e)
     → IsNextOf xs value key None None
 first-none xs value key None least not e there of = look.none_of xs value key least e there of.0
 first-none xs value key (Some f) least not e there of = not f refl (look.first_of xs value key f least e there of.0)
 
 first-some : (xs : List Entry) (value : ℤ) (key : ℕ) (f : Entry) → IsLeast xs (λ e. ¬ IsBelow value key e) (Some f) → IsOf value key f → IsNextOf xs value key None (Some f)
-first-some xs value key f least of = (least.0, (of, tt), λ e there is. least.2 e there (not_below value key e is.0))
+first-some xs value key f least of = (least.0, (of, tt), λ e there is. least.2 e there (look.not_below_itself value key e is.0))
 
 after-none : (xs : List Entry) (value : ℤ) (key : ℕ) (from : Entry) (r : Option Entry) → IsOf value key from → IsLeast xs (IsAfter (Some from)) r
     → ((e : Entry) → r ≡ Some e → ¬ IsOf value key e) → IsNextOf xs value key (Some from) None

@@ -10,7 +10,7 @@ use Rattle.page_slots.specs.Slots.{version_at}
 use Rattle.commit_status.specs.Window.{Window, IsActive, IsCommitted, IsInProgress}
 use Rattle.snapshot.specs.Snap.{Snap, Sees}
 use Rattle.visibility.specs.Visible.{IsVisible}
-use Rattle.hot_chain.specs.Chain.{has_aborted, IsChain, IsFirstSeen, Fetched}
+use Rattle.hot_chain.specs.Chain.{has_aborted, IsChain, IsSeenIn, Fetched}
 use Rattle.root_index.specs.declared.entry.Entry.{Entry}
 use Rattle.root_index.specs.Order.{Precedes}
 use Rattle.root_index.specs.Sets.{IsLeast, IsAfter, IsOf}
@@ -68,13 +68,6 @@ TheRowIsFound = (value_of : Row → ℤ) (w : Window) (horizon : ℕ) (pages : L
     → (p : Tid) (t : Version) → IsOnHeap value_of pages value key (λ t. IsVisible w s own t.header) p t → answer ≡ Some t.row
 
 -- The place of what is found.
-
--- the first version of these slots that is seen is in slot n
-pub record IsSeenIn (seen : Header → Type 0) (slots : List Slot) (chain : List ℕ) (n : ℕ) : Type 0 where
-  pub index : ℕ
-  pub slot : n ≡ slice_index chain index
-  pub version : Version
-  pub first : IsFirstSeen seen slots chain index version
 
 -- the first version that is seen in the chain of p is at q
 pub record IsSeenAt (w : Window) (seen : Header → Type 0) (pages : List (List Slot)) (p q : Tid) : Type 0 where

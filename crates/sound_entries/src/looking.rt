@@ -5,19 +5,16 @@ ghost use Rattle.std.specs.Int.{w128};
 ghost use Rattle.std.specs.Option.{option_map};
 ghost use Rattle.root_index.specs.Sets.{IsOf};
 ghost use Rattle.visibility.specs.Visible.{IsVisible};
-ghost use Rattle.hot_chain.specs.Chain.{NoneSeen};
 ghost use Rattle.sound_entries.specs.Pages.{version_in};
-ghost use Rattle.sound_entries.specs.Looking.{slots_of, IsNextOf, IsFirstOf, FirstFound, IsSeenIn, SeenAt, FirstPlace, FoundIsOnHeap, TheRowIsFound, PlaceIsOnHeap, MissedIsOnHeap, ForeignIsOnHeap};
+ghost use Rattle.sound_entries.specs.Looking.{slots_of, IsNextOf, IsFirstOf, FirstFound, SeenAt, FirstPlace, FoundIsOnHeap, TheRowIsFound, PlaceIsOnHeap, MissedIsOnHeap, ForeignIsOnHeap};
 
 use arrayvec::ArrayVec;
 use commit_status::StatusTable;
 use heap_pages::Pages;
-use hot_chain::list_chain;
-use page_slots::Page;
+use hot_chain::{first_seen, list_chain};
 use root_index::{Entry, RootIndex};
 use snapshot::{OwnIds, Snapshot};
 use tuple_header::RowRef;
-use visibility::visible_header;
 use xid_circle::Tid;
 
 /// An entry, if it is of this value and this key.
@@ -51,27 +48,6 @@ pub(crate) fn next_of(
         None => only_of(index.first_from(value, key), value, key),
         Some(_) => only_of(index.next_after(from), value, key),
     }
-}
-
-/// The first slot of these whose version the reader sees.
-pub(crate) fn first_seen(
-    page: &Page,
-    slots: &[u16],
-    snapshot: &Snapshot,
-    own: &OwnIds,
-    table: &StatusTable,
-) -> Option<u16>
-    ensures { MatchOption result (NoneSeen (IsVisible table.now snapshot.now own.now.ids) page.now.slots slots.now)
-        (IsSeenIn (IsVisible table.now snapshot.now own.now.ids) page.now.slots slots.now) }
-{
-    for slot in slots {
-        if let Some(header) = page.header(*slot) {
-            if visible_header(&header, snapshot, own, table) {
-                return Some(*slot);
-            }
-        }
-    }
-    None
 }
 
 /// The place of the first version that the reader sees in the chain of a place. A page that is not in use has no chains.

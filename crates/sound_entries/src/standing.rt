@@ -2,15 +2,15 @@
 
 ghost use Rattle.std.specs.Prelude.{◌≡◌, MatchOption, None, Some};
 ghost use Rattle.visibility.specs.Visible.{IsVisible};
-ghost use Rattle.hot_chain.specs.Chain.{NoneSeen};
-ghost use Rattle.sound_entries.specs.Looking.{slots_of, IsSeenIn, SeenAt, FirstPlace, IsMissed, IsForeign, IsIdAmong, IsIdAt, IsIdOf};
+ghost use Rattle.hot_chain.specs.Chain.{NoneSeen, IsSeenIn};
+ghost use Rattle.sound_entries.specs.Looking.{slots_of, SeenAt, FirstPlace, IsMissed, IsForeign, IsIdAmong, IsIdAt, IsIdOf};
 
-use crate::looking::{first_seen, next_of};
+use crate::looking::next_of;
 use crate::touched::{foreign_among, missed_among};
 use arrayvec::ArrayVec;
 use commit_status::StatusTable;
 use heap_pages::Pages;
-use hot_chain::list_chain;
+use hot_chain::{first_seen, list_chain};
 use page_slots::Page;
 use root_index::RootIndex;
 use snapshot::{OwnIds, Snapshot};

@@ -1,12 +1,11 @@
 -- What is found at each place after one version comes, or becomes another, or some go.
 use Rattle.std.proofs.Common.{◌≡◌, ◌≢◌, ◌⊎◌, ◌↔◌, Option, Some, sym, ap, ◌∙◌, subst, ⊎_elim, inl, inr}
-use Rattle.std.proofs.lemmas.Bool.{cases_eq}
 use Rattle.std.proofs.lemmas.Option.{none-some, same_Some}
 use Rattle.xid_circle.specs.declared.Tid.{Tid}
+use Rattle.xid_circle.proofs.Tids.{cases-tid}
 use Rattle.tuple_header.specs.Version.{Version}
 use Rattle.tuple_header.specs.declared.version.Header.{Header}
 use Rattle.tuple_header.specs.declared.version.Row.{Row}
-use Rattle.sound_entries.proofs.Leads.{tid-same}
 use Rattle.sound_writes.specs.Readers.{FindsAt}
 use Rattle.sound_writes.proofs.Standing.{AddsAt, AltersAt}
 
@@ -16,12 +15,6 @@ both f g = (λ a. g.0 (f.0 a), λ c. f.1 (g.1 c))
 -- the same versions are seen by both
 abbrev pub SameSight : (Tid → Option Version) → (Header → Type 0) → (Header → Type 0) → Type 0
 SameSight store seen seen' = (p : Tid) (t : Version) → store p ≡ Some t → seen t.header ↔ seen' t.header
-
-tid-cases : (p q : Tid) → (p ≡ q) ⊎ (p ≢ q)
-tid-cases p q = ⊎_elim
-    (λ page. ⊎_elim (λ slot. inl (tid-same p q page slot)) (λ off. inr (λ e. off (ap (λ (r : Tid). r.slot) e))) (cases_eq p.slot q.slot))
-    (λ off. inr (λ e. off (ap (λ (r : Tid). r.page) e)))
-    (cases_eq p.page q.page)
 
 module _ (store store' : Tid → Option Version) (seen seen' : Header → Type 0) (same : SameSight store seen seen') where
   kept-at : (p : Tid) (r : Row) → store' p ≡ store p → FindsAt seen store p r → FindsAt seen' store' p r
@@ -51,7 +44,7 @@ module _ (store store' : Tid → Option Version) (seen seen' : Header → Type 0
       (λ f. ⊎_elim
           (λ e. inr (e, sym f.of_row ∙ ap (λ (v : Version). v.row) (sym (is-new p f.version e f.there))))
           (λ ne. inl (back-at p r (adds.others p ne) f))
-          (tid-cases p q)),
+          (cases-tid p q)),
       (λ either. ⊎_elim
           (λ f. kept-at p r (adds.others p (not-here p r f)) f)
           (λ here. record { version = new; there = ap store' here.0 ∙ adds.here; is_seen = has; of_row = sym here.1 })
@@ -72,7 +65,7 @@ module _ (store store' : Tid → Option Version) (seen seen' : Header → Type 0
             of_row = row ∙ ap (λ (v : Version). v.row) is ∙ f.of_row;
           })
           (λ ne. kept-at p r (alters.others p ne) f)
-          (tid-cases p place)),
+          (cases-tid p place)),
       (λ f. ⊎_elim
           (λ e. let is : new ≡ f.version = same_Some new f.version (sym alters.here ∙ (ap store' (sym e) ∙ f.there)) in
           record {
@@ -82,7 +75,7 @@ module _ (store store' : Tid → Option Version) (seen seen' : Header → Type 0
             of_row = sym row ∙ ap (λ (v : Version). v.row) is ∙ f.of_row;
           })
           (λ ne. back-at p r (alters.others p ne) f)
-          (tid-cases p place)),
+          (cases-tid p place)),
     )
 
     -- it is seen no more

@@ -11,6 +11,7 @@ use Rattle.commit_status.specs.Window.{Window, IsAborted}
 use Rattle.snapshot.specs.Own.{Own}
 use Rattle.snapshot.specs.Snap.{Snap}
 use Rattle.visibility.specs.Visible.{Reads, IsVisible}
+use Rattle.visibility.proofs.Dead.{aborted-unread}
 use Rattle.prune.specs.Cutting.{IsCut}
 use Rattle.prune.proofs.Unseen.{cut-unseen, open-reader}
 use Rattle.page_writes.proofs.Slotted.{active-some}
@@ -23,7 +24,7 @@ use Rattle.sound_writes.specs.Readers.{FindsAt, Finds, IsReader, FindsTheSame, I
 use Rattle.sound_writes.proofs.Standing.{RemovesOn, Replaced, taken_version, free_place, root_version, root-new, prunes-stand, readies-stand, inserts-stand, deletes-stand, updates-ready, updates-stand}
 use Rattle.sound_writes.proofs.Finding.{both, SameSight, adds-unseen, adds-seen, alters-same, alters-hidden}
 use Rattle.sound_writes.proofs.TakenIds.{takes-verdicts, takes-active, takes-mine}
-use Rattle.sound_writes.proofs.Sights.{active-unread, aborted-unread, new-unseen, new-seen, taken-same, taken-unseen, author-sight}
+use Rattle.sound_writes.proofs.Sights.{active-unread, new-unseen, new-seen, taken-same, taken-unseen, author-sight}
 
 -- Nobody can tell.
 

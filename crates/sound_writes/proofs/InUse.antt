@@ -1,17 +1,13 @@
 -- What a step leaves of each index in use.
 use Rattle.std.proofs.Common.{◌≡◌, ℕ, ◌<◌, List, [], Option, Some, None, refl, sym, ap, subst, inl, ⊎_elim, arith}
 use Rattle.std.specs.Prelude.{◌↔◌, Contains, IsSome, unwrap_or}
-use Rattle.std.proofs.lemmas.Bool.{cases_eq}
 use Rattle.xid_circle.specs.declared.Tid.{Tid}
 use Rattle.tuple_header.specs.declared.version.Row.{Row}
-use Rattle.page_slots.specs.declared.slot.Slot.{Slot}
-use Rattle.commit_status.specs.Window.{Window}
-use Rattle.prune.specs.Sound.{SoundPage}
 use Rattle.root_index.specs.declared.entry.Entry.{Entry}
 use Rattle.root_index.specs.Sets.{Adds}
 use Rattle.root_index.specs.View.{IndexView}
 use Rattle.history.specs.Cursors.{value_in}
-use Rattle.sound_entries.specs.Pages.{slots_on, SoundHeap, Puts}
+use Rattle.sound_entries.specs.Pages.{SoundHeap}
 use Rattle.sound_entries.specs.Entries.{IsSound, StaysSound}
 use Rattle.sound_entries.proofs.Going.{led-then}
 use Rattle.heap_write.specs.Heap.{HeapView, slots_of}
@@ -90,14 +86,6 @@ pub same-stays : (h h' : HeapView) (horizon : ℕ) → SameEntries h.indexes h'.
 same-stays h h' horizon same heap each = table-stays h h' horizon heap (same-used h.indexes h'.indexes same) (λ n used.
     subst (λ (es : List Entry). StaysSound (value_in n) h'.table horizon (slots_of h) (slots_of h') (entries_in h.indexes n) es) (sym (same-in h.indexes h'.indexes same n))
     (each n used))
-
--- one page changes
-pub heap-puts : (w : Window) (horizon n : ℕ) (pages pages' : List (List Slot)) (after : List Slot) → SoundHeap w horizon pages → Puts pages pages' n after → SoundPage w horizon after
-    → SoundHeap w horizon pages'
-heap-puts w horizon n pages pages' after heap puts sound m = ⊎_elim
-    (λ same. subst (λ k. SoundPage w horizon (slots_on pages' k)) (sym same) (subst (SoundPage w horizon) (sym puts.put) sound))
-    (λ other. subst (SoundPage w horizon) (sym (puts.others m other)) (heap m))
-    (cases_eq m n)
 
 -- One step after another, where entries only come.
 pub stays-then : (a b c : HeapView) (horizon : ℕ) → SoundTable a horizon → OnlyCome a.indexes b.indexes

@@ -17,7 +17,7 @@ use Rattle.root_index.specs.declared.entry.Entry.{Entry}
 use Rattle.history.specs.Cursors.{value_in}
 use Rattle.sound_entries.specs.Pages.{slots_on, SoundHeap, Puts}
 use Rattle.sound_entries.specs.Entries.{SoundEntries, IsSound, StaysSound}
-use Rattle.sound_entries.proofs.Changes.{pruning-stays}
+use Rattle.sound_entries.proofs.Changes.{pruning-stays, heap-puts}
 use Rattle.sound_entries.proofs.Finishing.{statuses-stay, giving-stays, committing-stays, aborting-stays}
 use Rattle.sound_entries.proofs.Tables.{nothing-sound}
 use Rattle.heap_pages.specs.View.{PagesView}
@@ -34,7 +34,7 @@ use Rattle.sound_writes.specs.Laws.{Finishes}
 use Rattle.sound_writes.proofs.Memory.{same-status, same-sound}
 use Rattle.sound_writes.proofs.TakenIds.{under-keeps, takes-mine, takes-active}
 use Rattle.sound_writes.proofs.Standing.{prunes-on, prunes-puts}
-use Rattle.sound_writes.proofs.InUse.{OnlyCome, same-come, index-sound, same-stays, heap-puts, stays-then}
+use Rattle.sound_writes.proofs.InUse.{OnlyCome, same-come, index-sound, same-stays, stays-then}
 
 -- A page is pruned.
 

@@ -7,7 +7,7 @@ use Rattle.tuple_header.specs.Version.{Version}
 use Rattle.tuple_header.specs.Marks.{is_frozen}
 use Rattle.tuple_header.specs.declared.version.Header.{Header}
 use Rattle.tuple_header.specs.declared.version.Row.{Row}
-use Rattle.commit_status.specs.declared.status.Status.TheVariants.{InProgress, Committed, Aborted}
+use Rattle.commit_status.specs.declared.status.Status.TheVariants.{InProgress, Committed}
 use Rattle.commit_status.specs.Window.{Window, IsWindow, IsActive, IsGiven, IsAborted}
 use Rattle.snapshot.specs.Own.{Own}
 use Rattle.snapshot.specs.Snap.{Snap}
@@ -26,11 +26,6 @@ use Rattle.sound_writes.proofs.Standing.{IsNewBy, taken_version}
 pub active-unread : (w : Window) (s : Snap) (own : List ℕ) (x : ℕ) → IsActive w x → ¬ Contains own x → ¬ Reads w s own x
 active-unread w s own x active foreign (Reads.by_itself mine) = foreign mine
 active-unread w s own x active foreign (Reads.by_others sees done) = let e : InProgress ≡ Committed = sym active.unfinished ∙ done in absurd (cc)
-
--- nobody reads what is aborted
-pub aborted-unread : (w : Window) (s : Snap) (own : List ℕ) (x : ℕ) → ((y : ℕ) → Contains own y → IsActive w y) → IsAborted w x → ¬ Reads w s own x
-aborted-unread w s own x active gone (Reads.by_itself mine) = let e : Aborted ≡ InProgress = sym gone ∙ (active x mine).unfinished in absurd (cc)
-aborted-unread w s own x active gone (Reads.by_others sees done) = let e : Aborted ≡ Committed = sym gone ∙ done in absurd (cc)
 
 -- One version.
 

@@ -5,6 +5,7 @@ use Rattle.std.specs.Option.{option_map, option_and_then}
 use Rattle.std.proofs.lemmas.Bool.{cases_eq}
 use Rattle.std.proofs.lemmas.Option.{slice_get_within, none-some}
 use Rattle.xid_circle.specs.declared.Tid.{Tid}
+use Rattle.xid_circle.proofs.Tids.{same-tid}
 use Rattle.tuple_header.specs.Version.{Version, rounded_size_of}
 use Rattle.tuple_header.specs.Marks.{is_frozen}
 use Rattle.tuple_header.specs.declared.version.Row.{Row}
@@ -19,7 +20,6 @@ use Rattle.page_writes.proofs.Bits.{root-thawed}
 use Rattle.page_writes.proofs.Slotted.{replaced-at, replaced-other}
 use Rattle.prune.specs.Cutting.{Removes, IsCut}
 use Rattle.sound_entries.specs.Pages.{slots_on, version_in, Puts}
-use Rattle.sound_entries.proofs.Leads.{tid-same}
 use Rattle.sound_entries.proofs.Fetching.{slots-there}
 use Rattle.sound_entries.proofs.Tables.{puts-with_page, puts-pushed}
 use Rattle.snapshot.specs.Own.{Own}
@@ -85,7 +85,7 @@ adds-on h pages' n v puts =
       others = λ p ne. ⊎_elim
           (λ same.
           put-here (slots_of h) pages' n after p puts same
-          ∙ ap (option_and_then version_of) (slot_at-with_added_other slots p.slot (Normal v) (λ slot. ne (tid-same p (record { page = n; slot = k }) same slot)))
+          ∙ ap (option_and_then version_of) (slot_at-with_added_other slots p.slot (Normal v) (λ slot. ne (same-tid p (record { page = n; slot = k }) same slot)))
           ∙ ap (λ m. version_at (page_on h m).slots p.slot) (sym same) ∙ sym (version-on h p))
           (λ other. put-other (slots_of h) pages' n after p puts other)
           (cases_eq p.page n);
@@ -111,7 +111,7 @@ alters-on before pages' slots place x successor hot t store puts at here other =
       others = λ p ne. ⊎_elim
           (λ same.
           put-here before pages' place.page after p puts same
-          ∙ ap (option_and_then version_of) (replaced-other slots place.slot x successor.page successor.slot hot t p.slot slot (λ e. ne (tid-same p place same e)))
+          ∙ ap (option_and_then version_of) (replaced-other slots place.slot x successor.page successor.slot hot t p.slot slot (λ e. ne (same-tid p place same e)))
           ∙ sym (here p same))
           (λ off. put-other before pages' place.page after p puts off ∙ sym (other p off))
           (cases_eq p.page place.page);
@@ -165,7 +165,7 @@ unless false b x y not = refl
 
 with-other : (store : Tid → Option Version) (q : Tid) (v : Version) (p : Tid) → p ≢ q → with_version store q v p ≡ store p
 with-other store q v p ne = unless (p.page == q.page) (p.slot == q.slot) (Some v) (store p)
-    (λ page slot. ne (tid-same p q (eqb-true p.page q.page page) (eqb-true p.slot q.slot slot)))
+    (λ page slot. ne (same-tid p q (eqb-true p.page q.page page) (eqb-true p.slot q.slot slot)))
 
 -- who made the version, of which row, with no deleter yet
 pub record IsNewBy (x : ℕ) (row : Row) (v : Version) : Type 0 where
@@ -207,7 +207,7 @@ here-stands h h' place x row t a at = record {
   alters = alters-on (slots_of h) (slots_of h') middle place x q true t added (here-puts h h' place x row a)
       (ap (option_and_then version_of) (slot_at-with_added_other slots place.slot (Normal v) apart) ∙ there)
       (λ p same. ⊎_elim
-      (λ slot. with-here store q v p (tid-same p q same slot)
+      (λ slot. with-here store q v p (same-tid p q same slot)
       ∙ sym (ap (version_at middle) slot ∙ ap (option_and_then version_of) (slot_at-with_added slots (Normal v))))
       (λ off. with-other store q v p (λ e. off (ap (λ (r : Tid). r.slot) e))
       ∙ version-on h p ∙ ap (λ n. version_at (page_on h n).slots p.slot) same

@@ -16,14 +16,14 @@ use Rattle.history.specs.Cursors.{value_in}
 use Rattle.sound_entries.specs.Pages.{slots_on, slot_in, version_in, Puts}
 use Rattle.sound_entries.specs.Entries.{entry_for}
 use Rattle.sound_entries.proofs.Going.{stays-same}
-use Rattle.sound_entries.proofs.Changes.{adding-stays, taking-stays, updating-stays}
+use Rattle.sound_entries.proofs.Changes.{adding-stays, taking-stays, updating-stays, heap-puts}
 use Rattle.heap_write.specs.Heap.{HeapView, slots_of, page_on}
 use Rattle.heap_write.specs.Indexes.{entries_in, IsInUse}
 use Rattle.heap_write.specs.Writes.{PutsRoot, TakesAway, ReplacesHere, ReplacesByRoot, KeepsValues, ReplacesOnPage, Replaces, Inserts, Updates, Deletes}
 use Rattle.sound_writes.specs.Table.{SoundTable, StaysSoundTable, MayTake}
 use Rattle.sound_writes.specs.Laws.{IsWriter}
 use Rattle.sound_writes.proofs.Standing.{slots_on-page_on, row-there, free_place, root_version, root-puts, away-puts, here-puts, root-stands, by-root-still, updates-ready}
-use Rattle.sound_writes.proofs.InUse.{used-by, enters-used, enters-adds, enters-come, index-sound, table-stays, same-stays, heap-puts, stays-then}
+use Rattle.sound_writes.proofs.InUse.{used-by, enters-used, enters-adds, enters-come, index-sound, table-stays, same-stays, stays-then}
 use Rattle.sound_writes.proofs.TakenIds.{takes-status}
 use Rattle.sound_writes.proofs.Keeping.{with_table, given-stays, ready-come, ready-stays}
 

@@ -5,7 +5,7 @@ use crate::table::{
     root, same, slots, window,
 };
 use commit_status::StatusTable;
-use hot_chain::{chain_is_one, fetch, is_root};
+use hot_chain::{chain_is_one, fetch, first_seen, is_root};
 use page_slots::Page;
 use std::alloc::Global;
 use xid_circle::Xid;
@@ -24,6 +24,13 @@ fn found(alloc: Global, page: &Page, number: u16, table: &StatusTable) -> Option
         Some(tuple) => Some((tuple.header.xmin, tuple.header.xmax)),
         None => None,
     }
+}
+
+/// The first of these slots whose version the owner of id 3 sees.
+fn first(alloc: Global, page: &Page, of: &[u16], table: &StatusTable) -> Option<u16> {
+    let own = owner(alloc, 3);
+    let snapshot = begun(alloc, next_id(table));
+    first_seen(page, of, &snapshot, &own, table)
 }
 
 #[test]
@@ -82,6 +89,13 @@ fn redirect_to_a_chain(rt: HostRuntime) {
         Some((Xid(3), Xid(4))),
     );
     same(&rt, found(rt.alloc(), &page, 5, &table), None);
+    // 4 is another's, and has not committed
+    same(
+        &rt,
+        first(rt.alloc(), &page, &[1, 3, 2, 4], &table),
+        Some(2u16),
+    );
+    same(&rt, first(rt.alloc(), &page, &[1, 3], &table), None);
 }
 
 #[test]

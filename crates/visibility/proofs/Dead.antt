@@ -11,11 +11,11 @@ use Rattle.snapshot.specs.Laws.{IsBounded}
 use Rattle.snapshot.proofs.Sights.{past-seen}
 use Rattle.visibility.specs.Visible.{Reads, IsVisible, IsDead}
 
-aborted-unread : (w : Window) (s : Snap) (own : List ℕ) (x : ℕ) → ((y : ℕ) → Contains own y → IsActive w y) → IsAborted w x → ¬ Reads w s own x
+pub aborted-unread : (w : Window) (s : Snap) (own : List ℕ) (x : ℕ) → ((y : ℕ) → Contains own y → IsActive w y) → IsAborted w x → ¬ Reads w s own x
 aborted-unread w s own x active gone (Reads.by_itself c) = let e : Aborted ≡ InProgress = sym gone ∙ (active x c).unfinished in absurd (cc)
 aborted-unread w s own x active gone (Reads.by_others sees done) = let e : Aborted ≡ Committed = sym gone ∙ done in absurd (cc)
 
-committed-upto : (w : Window) (x : ℕ) → IsCommitted w x → IsUpToNext w x
+pub committed-upto : (w : Window) (x : ℕ) → IsCommitted w x → IsUpToNext w x
 committed-upto w x done =
     let found = finished-place w x (λ e. let f : Committed ≡ InProgress = sym done ∙ e in cc) in
     upto-place w x found.0 found.1

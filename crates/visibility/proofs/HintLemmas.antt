@@ -1,8 +1,8 @@
 -- What hints leave as it is, and that they are true.
-use Rattle.std.proofs.Common.{◌≡◌, ◌≢◌, ℕ, ◌↔◌, Bool, true, false, not, ◌&&◌, ◌||◌, nat_eq, List, None, bit_and, bit_or, arith, inl, inr, ⊎_elim, refl, sym, ap, ◌∙◌}
-use Rattle.std.proofs.lemmas.Bool.Decides.{nat_tests}
+use Rattle.std.proofs.Common.{◌≡◌, ℕ, ◌↔◌, Bool, true, false, not, ◌&&◌, ◌||◌, nat_eq, List, None, bit_and, bit_or, arith, inl, inr, ⊎_elim, refl, sym, ap, ◌∙◌}
 use Rattle.std.proofs.lemmas.Nat.{and_or_apart, and_assoc, or_comm}
 use Rattle.std.specs.Int.Bits.{and_zero_r}
+use Rattle.std.proofs.lemmas.Bool.{or_parts, or_from, ne_eqb}
 use Rattle.tuple_header.specs.declared.version.Header.{Header}
 use Rattle.tuple_header.specs.Faults.{has_mark, header_fault}
 use Rattle.commit_status.specs.declared.status.Status.{Status}
@@ -98,9 +98,6 @@ hinted-frozen w h =
     let e = made-by b s d h.mask (deleter-apart (nat_eq h.xmax.0 0) (status_of w h.xmax.0)).0 in
     ap (λ n. nat_eq n 0x0300) e ∙ frozen-marks b s
 
-not-zero : (x : ℕ) → x ≢ 0 → nat_eq x 0 ≡ false
-not-zero x h = grind (arith, nat_tests)
-
 -- the hints are true
 pub hinted-true : (w : Window) (h : Header) → AreTrue w (hinted w h)
 hinted-true w h =
@@ -117,24 +114,13 @@ hinted-true w h =
       maker_committed = λ e. committed-marks b s (sym made ∙ e);
       maker_aborted = λ e. aborted-marks b s (sym made ∙ e);
       deleter_committed = λ e. deleter-committed z t (ap (λ n. not (nat_eq n 0)) (sym four) ∙ e);
-      deleter_aborted = λ e some. deleter-aborted z t (ap (λ n. not (nat_eq n 0)) (sym eight) ∙ e) (not-zero h.xmax.0 some);
+      deleter_aborted = λ e some. deleter-aborted z t (ap (λ n. not (nat_eq n 0)) (sym eight) ∙ e) (ne_eqb h.xmax.0 0 some);
     }
-
-or-left : (a b : Bool) → a || b ≡ false → a ≡ false
-or-left true b e = absurd (cc)
-or-left false b e = refl
 
 deleter-step : (z old new two : Bool) → z && (not old || two) ≡ false → (z ≡ true → new ≡ true) → z && (not new || two) ≡ false
 deleter-step false old new two e f = refl
 deleter-step true true new two e f = rw (f refl) e
 deleter-step true false new two e f = absurd (cc)
-
-or-right : (a b : Bool) → a || b ≡ false → b ≡ false
-or-right true b e = absurd (cc)
-or-right false b e = e
-
-join : (a b : Bool) → a ≡ false → b ≡ false → a || b ≡ false
-join a b e f = rw (e, f) refl
 
 -- a header without a fault has none with hints
 pub hinted-faultless : (w : Window) (h : Header) → header_fault h ≡ None → header_fault (hinted w h) ≡ None
@@ -152,11 +138,11 @@ hinted-faultless w h e =
     let has : ℕ → Bool = λ m. not (nat_eq m 0) in
     fault-no (hinted w h) (record {
       attributes = n.attributes;
-      masks = join _ _ (join _ _ (or-left _ _ (or-left _ _ n.masks)) (ap has rest))
+      masks = or_from _ _ (or_from _ _ (or_parts _ _ (or_parts _ _ n.masks).0).0 (ap has rest))
           (ap (λ m. has m && has (bit_and (mask_of k d h.mask) 0x0800)) four ∙ ap (λ m. has (bit_and d 0x0400) && has m) eight ∙ not-both z t);
       xmin = n.xmin;
-      xmax = join _ _ (or-left _ _ n.xmax)
-          (deleter-step z (has_mark h.mask 0x0800) (has_mark (mask_of k d h.mask) 0x0800) (has_mark h.mask2 0x4000) (or-right _ _ n.xmax)
+      xmax = or_from _ _ (or_parts _ _ n.xmax).0
+          (deleter-step z (has_mark h.mask 0x0800) (has_mark (mask_of k d h.mask) 0x0800) (has_mark h.mask2 0x4000) (or_parts _ _ n.xmax).1
           (λ none. ap has eight ∙ none-marked z t none));
       ctid = n.ctid;
     })

@@ -38,20 +38,20 @@ precedes-by_distance base a b fits fits_a fits_b near_a near_b = (
 )
 
 -- where the id stands after n turns: before the wrap, or three further after it
-Stands : ℕ → ℕ → ℕ → Type 0
+unfoldable pub Stands : ℕ → ℕ → ℕ → Type 0
 Stands first n x = ((first + n < 2 ^ 32) × (x ≡ first + n)) ⊎ ((2 ^ 32 ≤ first + n) × (x + 2 ^ 32 ≡ first + n + 3))
 
 next-stands : (first n x : ℕ) → IsNormal first → first < 2 ^ 32 → n < 2 ^ 32 - 4 → Stands first n x → Stands first (suc n) (next_of x)
 unfolding Stands
 next-stands first n x normal fits small s = grind (arith, nat_tests)
 
-given-stands : (first n : ℕ) → IsNormal first → first < 2 ^ 32 → n < 2 ^ 32 - 3 → Stands first n (given first n)
+pub given-stands : (first n : ℕ) → IsNormal first → first < 2 ^ 32 → n < 2 ^ 32 - 3 → Stands first n (given first n)
 unfolding Stands
 given-stands first zero normal fits small = inl (omega arith, omega arith)
 given-stands first (suc n) normal fits small = next-stands first n (given first n) normal fits (omega arith) (given-stands first n normal fits (omega arith))
 
 -- its distance is the number of turns, or three more
-stands-distance : (first n x : ℕ) → IsNormal first → first < 2 ^ 32 → n < 2 ^ 32 - 3 → Stands first n x
+pub stands-distance : (first n x : ℕ) → IsNormal first → first < 2 ^ 32 → n < 2 ^ 32 - 3 → Stands first n x
     → (x < 2 ^ 32) × (((first + n < 2 ^ 32) × (distance_of first x ≡ n)) ⊎ ((2 ^ 32 ≤ first + n) × (distance_of first x ≡ n + 3)))
 unfolding Stands
 stands-distance first n x normal fits small s =

@@ -1,6 +1,7 @@
 use Rattle.std.proofs.Common.{arith, ◌<◌, length}
+use Rattle.std.proofs.lemmas.Bool.{iff_false}
 use Rattle.heap_pages.specs.Choice.{Promises}
-use Rattle.heap_pages.proofs.FirstLemmas.{none-more, none-all, first-here, read_at, refuted}
+use Rattle.heap_pages.proofs.FirstLemmas.{none-more, none-all, first-here, read_at}
 use Rattle.heap_pages.proofs.FreeSpaceLemmas.{IsNeeded-promises, none-passed}
 use Rattle.heap_pages.proofs.choice.first_promising.Goals as goal
 
@@ -28,7 +29,7 @@ loop-number-preserved c =
     let none =
     none-passed pages bytes (Promises c.args.size) c.loop-number.from n c.div_ceil-least.result c.requires.covers
     (IsNeeded-promises c.args.size c.div_ceil-least.result c.div_ceil-least.ensures) c.loop-number.invariant.none c.in-Some.ensures.none in
-    let not_this = refuted c.promises.result (Promises c.args.size page) c.promises.ensures c.if-promises.false in
+    let not_this = iff_false c.promises.ensures c.if-promises.false in
     record { within = omega (arith, c.requires.few); none = none-more pages (Promises c.args.size) n page none at not_this }
 
 pub returns : goal.returns

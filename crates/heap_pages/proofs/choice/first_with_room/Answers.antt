@@ -1,6 +1,7 @@
 use Rattle.std.proofs.Common.{arith, ◌<◌, length}
+use Rattle.std.proofs.lemmas.Bool.{iff_false}
 use Rattle.heap_pages.specs.Choice.{HasRoom}
-use Rattle.heap_pages.proofs.FirstLemmas.{none-more, none-all, first-here, read_at, refuted}
+use Rattle.heap_pages.proofs.FirstLemmas.{none-more, none-all, first-here, read_at}
 use Rattle.heap_pages.proofs.FreeSpaceLemmas.{IsNeeded-has_room, none-passed}
 use Rattle.heap_pages.proofs.choice.first_with_room.Goals as goal
 
@@ -28,7 +29,7 @@ loop-number-preserved c =
     let none =
     none-passed pages bytes (HasRoom c.args.size) c.loop-number.from n c.min-least.result c.requires.covers
     (IsNeeded-has_room c.args.size c.min-least.result c.min-least.ensures) c.loop-number.invariant.none c.in-Some.ensures.none in
-    let not_this = refuted c.has_room.result (HasRoom c.args.size page) c.has_room.ensures c.if-has_room.false in
+    let not_this = iff_false c.has_room.ensures c.if-has_room.false in
     record { within = omega (arith, c.requires.few); none = none-more pages (HasRoom c.args.size) n page none at not_this }
 
 pub returns : goal.returns

@@ -1,8 +1,7 @@
 use Rattle.std.proofs.Common.{List, ℕ, Option, sym, subst}
 use Rattle.std.specs.Prelude.{MatchOption}
 use Rattle.visibility.specs.Visible.{IsVisible}
-use Rattle.hot_chain.specs.Chain.{NoneSeen}
-use Rattle.sound_entries.specs.Looking.{IsSeenIn}
+use Rattle.hot_chain.specs.Chain.{NoneSeen, IsSeenIn}
 use Rattle.sound_entries.proofs.Fetching.{fetched-nowhere, seen-on_page, none-on_page}
 use Rattle.sound_entries.proofs.looking.seen_at.Goals as goal
 

@@ -2,8 +2,8 @@ use Rattle.std.proofs.Common.{◌≡◌, ℕ, List, Option, sym, subst}
 use Rattle.std.specs.Prelude.{MatchOption}
 use Rattle.xid_circle.specs.declared.Tid.{Tid}
 use Rattle.visibility.specs.Visible.{IsVisible}
-use Rattle.hot_chain.specs.Chain.{NoneSeen}
-use Rattle.sound_entries.specs.Looking.{slots_of, IsSeenIn, SeenAt, IsMissed, IsForeign, IsIdAmong, IsIdAt}
+use Rattle.hot_chain.specs.Chain.{NoneSeen, IsSeenIn}
+use Rattle.sound_entries.specs.Looking.{slots_of, SeenAt, IsMissed, IsForeign, IsIdAmong, IsIdAt}
 use Rattle.sound_entries.proofs.Among.{at-page, at-nowhere}
 use Rattle.sound_entries.proofs.Fetching.{fetched-nowhere}
 use Rattle.sound_entries.proofs.Searching.{IsKept, kept-same, kept-map, place-on_page}

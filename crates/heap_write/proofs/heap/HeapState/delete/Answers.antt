@@ -1,8 +1,8 @@
 use Rattle.std.proofs.Common.{◌≡◌, Some, slice_get, refl, subst}
-use Rattle.heap_pages.proofs.FirstLemmas.{refuted}
+use Rattle.std.proofs.lemmas.Bool.{iff_false}
 use Rattle.heap_pages.specs.View.{with_page}
 use Rattle.heap_write.specs.Heap.{HeapView}
-use Rattle.heap_write.specs.Writes.{NeedsFreeze, Deletes}
+use Rattle.heap_write.specs.Writes.{Deletes}
 use Rattle.heap_write.specs.Refusals.{IsThere}
 use Rattle.heap_write.specs.contracts.heap.HeapState.{the_view}
 use Rattle.heap_write.proofs.IdLemmas.{takes-grown}
@@ -22,7 +22,7 @@ returns-clause-ok c =
     let x = c.take_ids-x.result.0 in
     let reserved = c.reserve_ids.ensures in
     let done = c.delete_version.ensures in
-    let free = refuted c.needs_freeze.result (NeedsFreeze h.table own) c.needs_freeze.ensures c.if-needs_freeze.false in
+    let free = iff_false c.needs_freeze.ensures c.if-needs_freeze.false in
     let takes = takes-grown h.table c.reserve_ids.new.table c.take_ids-x.new.table own c.reserve_ids.new.own c.take_ids-x.new.own x reserved.ids reserved.own reserved.none c.take_ids-x.ensures.takes in
     let h' : HeapView = record { pages = with_page c.self.inside.pages c.args.place.page c.delete_version.new.page; table = c.take_ids-x.new.table; indexes = c.self.inside.indexes; max_pages = c.self.inside.max_pages } in
     subst (λ (v : HeapView). IsThere v c.args.place → Deletes v h' own c.take_ids-x.new.own c.args.place x) c.self.view_is

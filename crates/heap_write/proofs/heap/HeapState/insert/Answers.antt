@@ -1,6 +1,5 @@
 use Rattle.std.proofs.Common.{ℕ, Option, refl, subst}
 use Rattle.std.specs.Prelude.{IfErr}
-use Rattle.heap_pages.proofs.FirstLemmas.{refuted}
 use Rattle.tuple_header.specs.Version.{rounded_size_of}
 use Rattle.heap_write.specs.declared.target.Target.{Target}
 use Rattle.heap_write.specs.Heap.{HeapView}
@@ -11,6 +10,7 @@ use Rattle.heap_write.specs.contracts.heap.HeapState.{the_view}
 use Rattle.heap_write.proofs.Reserving.{needs-memory, room-left, insert-refused}
 use Rattle.heap_write.proofs.Writing.{both-ok, inserts}
 use Rattle.std.proofs.lemmas.Result.{on_err_weaker}
+use Rattle.std.proofs.lemmas.Bool.{iff_false}
 use Rattle.heap_write.proofs.IdLemmas.{same-ids}
 use Rattle.heap_write.proofs.PageLemmas.{keeps-viewed, keeps-then}
 use Rattle.heap_write.proofs.heap.HeapState.insert.Goals as goal
@@ -18,7 +18,7 @@ use Rattle.heap_write.proofs.heap.HeapState.insert.Goals as goal
 pub returns-in-Ok-Some-clause-ok : goal.returns-in-Ok-Some-clause-ok
 returns-in-Ok-Some-clause-ok c =
     let h = the_view c.self.inside in
-    let free = refuted c.needs_freeze.result (NeedsFreeze c.self.inside.table c.args.own.now) c.needs_freeze.ensures c.if-needs_freeze.false in
+    let free = iff_false c.needs_freeze.ensures c.if-needs_freeze.false in
     let R : ℕ → Option Target → Type 0 = λ size found. Reserves c.self.inside.pages c.reserve_place.new.pages c.self.inside.max_pages size found in
     let reserves = subst (λ found. R (rounded_size_of c.args.row.now) found) c.in-Ok-Some.field-0-is (subst (λ size. R size c.in-Ok-Some.field-0) c.row_size.ensures.value c.in-Ok-Some.ensures.reserves) in
     both-ok c.insert_at.result (λ x takes root. subst (λ v. Inserts v c.insert_at.new.self c.args.own.now c.insert_at.new.own c.args.row.now x.0) c.self.view_is
@@ -27,7 +27,7 @@ returns-in-Ok-Some-clause-ok c =
 pub returns-in-Err-clause-fault : goal.returns-in-Err-clause-fault
 returns-in-Err-clause-fault c =
     let h = the_view c.self.inside in
-    let free = refuted c.needs_freeze.result (NeedsFreeze c.self.inside.table c.args.own.now) c.needs_freeze.ensures c.if-needs_freeze.false in
+    let free = iff_false c.needs_freeze.ensures c.if-needs_freeze.false in
     let P : HeapView → ℕ → Type 0 = λ v size. (¬ NeedsFreeze v.table c.args.own.now) × (¬ IsFull v size) × RootNeedsMemory v c.args.own.now size in
     let lacks = needs-memory h c.args.own.now c.row_size.result c.in-Err.ensures.needs in
     subst (λ v. P v (rounded_size_of c.args.row.now)) c.self.view_is (subst (λ size. P h size) c.row_size.ensures.value (free, lacks.0, lacks.1))
@@ -37,7 +37,7 @@ returns-in-Ok-Some-clause-fault c =
     let h = the_view c.self.inside in
     let own = c.args.own.now in
     let size = rounded_size_of c.args.row.now in
-    let free = refuted c.needs_freeze.result (NeedsFreeze c.self.inside.table own) c.needs_freeze.ensures c.if-needs_freeze.false in
+    let free = iff_false c.needs_freeze.ensures c.if-needs_freeze.false in
     let R : ℕ → Option Target → Type 0 = λ n found. Reserves c.self.inside.pages c.reserve_place.new.pages c.self.inside.max_pages n found in
     let reserves = subst (λ found. R size found) c.in-Ok-Some.field-0-is (subst (λ n. R n c.in-Ok-Some.field-0) c.row_size.ensures.value c.in-Ok-Some.ensures.reserves) in
     let failed = c.insert_at.ensures in

@@ -1,7 +1,8 @@
 use Rattle.std.proofs.Common.{◌<◌, length, arith}
+use Rattle.std.proofs.lemmas.Result.{on_ok_weaker, on_err_weaker}
 use Rattle.history.specs.Moves.{without_savepoint}
 use Rattle.plain_history.specs.Plain.{Plain}
-use Rattle.plain_history.proofs.Worlds.{changes, stays_so, on_ok, on_err}
+use Rattle.plain_history.proofs.Worlds.{changes, stays_so}
 use Rattle.plain_history.proofs.plain.PlainHistory.join.Goals as goal
 
 pub returns-clause-ok : goal.returns-clause-ok
@@ -9,11 +10,11 @@ returns-clause-ok c =
     let p : Plain = record { history = c.self.inside.history.items; sessions = c.self.inside.sessions.items; waits = c.self.inside.waits.items } in
     let within : c.args.s < length c.self.inside.waits.items = omega arith in
     let within' : c.args.s < length c.self.inside.sessions.items = omega arith in
-    on_ok c.release.result (changes p c.args.self.now c.args.s c.index_mut-2.result.now c.release.new.session without_savepoint c.self.view_is within' within c.index_mut-2.ensures.value) c.release.ensures.ok
+    on_ok_weaker c.release.result (changes p c.args.self.now c.args.s c.index_mut-2.result.now c.release.new.session without_savepoint c.self.view_is within' within c.index_mut-2.ensures.value) c.release.ensures.ok
 
 pub returns-clause-err : goal.returns-clause-err
 returns-clause-err c =
     let p : Plain = record { history = c.self.inside.history.items; sessions = c.self.inside.sessions.items; waits = c.self.inside.waits.items } in
     let within : c.args.s < length c.self.inside.waits.items = omega arith in
     let within' : c.args.s < length c.self.inside.sessions.items = omega arith in
-    on_err c.release.result (stays_so p c.args.self.now c.args.s c.index_mut-2.result.now c.release.new.session c.self.view_is within' within c.index_mut-2.ensures.value) c.release.ensures.err
+    on_err_weaker c.release.result (stays_so p c.args.self.now c.args.s c.index_mut-2.result.now c.release.new.session c.self.view_is within' within c.index_mut-2.ensures.value) c.release.ensures.err

@@ -2,8 +2,9 @@ use Rattle.std.proofs.Common.{◌∙◌, ap, subst, List, ◌<◌, length, arith
 use Rattle.plain_history.specs.Answers.{Becomes, opens}
 use Rattle.history.specs.History.{Transaction}
 use Rattle.std.specs.Prelude.{OnOk}
+use Rattle.std.proofs.lemmas.Result.{on_ok_weaker, on_err_weaker}
 use Rattle.plain_history.specs.Plain.{Plain}
-use Rattle.plain_history.proofs.Worlds.{changes, stays_so, on_ok, on_err}
+use Rattle.plain_history.proofs.Worlds.{changes, stays_so}
 use Rattle.plain_history.proofs.plain.PlainHistory.open.Goals as goal
 
 pub returns-clause-ok : goal.returns-clause-ok
@@ -11,7 +12,7 @@ returns-clause-ok c =
     let p : Plain = record { history = c.self.inside.history.items; sessions = c.self.inside.sessions.items; waits = c.self.inside.waits.items } in
     let within : c.args.s < length c.self.inside.waits.items = omega arith in
     let within' : c.args.s < length c.self.inside.sessions.items = omega arith in
-    on_ok c.set_cursor.result (changes p c.args.self.now c.args.s c.index_mut-2.result.now c.set_cursor.new.session (opens c.args.self.now.history c.args.order c.args.bounds) c.self.view_is within' within c.index_mut-2.ensures.value) (subst (λ (h : List Transaction). OnOk c.set_cursor.result (Becomes c.index_mut-2.result.now c.set_cursor.new.session (opens h c.args.order c.args.bounds)))
+    on_ok_weaker c.set_cursor.result (changes p c.args.self.now c.args.s c.index_mut-2.result.now c.set_cursor.new.session (opens c.args.self.now.history c.args.order c.args.bounds) c.self.view_is within' within c.index_mut-2.ensures.value) (subst (λ (h : List Transaction). OnOk c.set_cursor.result (Becomes c.index_mut-2.result.now c.set_cursor.new.session (opens h c.args.order c.args.bounds)))
     (c.deref.ensures.value ∙ ap (λ (q : Plain). q.history) c.self.view_is) c.set_cursor.ensures.ok)
 
 pub returns-clause-err : goal.returns-clause-err
@@ -19,4 +20,4 @@ returns-clause-err c =
     let p : Plain = record { history = c.self.inside.history.items; sessions = c.self.inside.sessions.items; waits = c.self.inside.waits.items } in
     let within : c.args.s < length c.self.inside.waits.items = omega arith in
     let within' : c.args.s < length c.self.inside.sessions.items = omega arith in
-    on_err c.set_cursor.result (stays_so p c.args.self.now c.args.s c.index_mut-2.result.now c.set_cursor.new.session c.self.view_is within' within c.index_mut-2.ensures.value) c.set_cursor.ensures.err
+    on_err_weaker c.set_cursor.result (stays_so p c.args.self.now c.args.s c.index_mut-2.result.now c.set_cursor.new.session c.self.view_is within' within c.index_mut-2.ensures.value) c.set_cursor.ensures.err
