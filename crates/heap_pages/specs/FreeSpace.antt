@@ -2,6 +2,7 @@
 use Rattle.std.specs.Prelude.{◌≡◌, ◌≢◌, ℕ, ◌/◌, ◌<◌, ◌≤◌, List, length, Option, Some, None, slice_get, slice_index}
 use Rattle.page_slots.specs.View.{PageView}
 use Rattle.page_slots.specs.Slots.{room_of}
+use Rattle.space_maps.specs.View.{MarksView}
 use Rattle.heap_pages.specs.Choice.{free_byte_of}
 
 -- the map as its callers see it
@@ -45,9 +46,11 @@ pub record IsSettled (bytes : List ℕ) (pages : List PageView) (lent : Option �
   pub exact : (n : ℕ) (page : PageView) → slice_get pages n ≡ Some page → lent ≢ Some n → slice_index bytes n ≡ free_byte_of (room_of page.slots)
 
 -- what is true of the pages of a table, their map, the page that is lent, and how many more both have memory for
-pub record IsTable (pages : List PageView) (map : MapView) (lent : Option ℕ) (spare room : ℕ) : Type 0 where
+pub record IsTable (pages : List PageView) (map : MapView) (marks : MarksView) (lent : Option ℕ) (spare room : ℕ) : Type 0 where
   pub few : length pages ≤ 65536
   pub covers : Covers map.bytes pages
   pub settled : IsSettled map.bytes pages lent
   pub pages_spare : spare ≤ room
   pub map_spare : spare ≤ map.spare
+  pub marked : length marks.marks ≡ length pages
+  pub marks_spare : spare ≤ marks.spare

@@ -1,6 +1,6 @@
 //! The pages of a table.
 
-ghost use Rattle.std.specs.Prelude.{◌≡◌, ◌≤◌, ◌<◌, ◌+◌, [], ◌∷◌, ◌++◌, length, OnOk, OnErr, Some, slice_get, option_copied};
+ghost use Rattle.std.specs.Prelude.{◌≡◌, ◌≤◌, ◌<◌, ◌+◌, [], ◌∷◌, ◌++◌, length, OnOk, OnErr, Some, slice_get, slice_set, option_copied};
 ghost use Rattle.std.specs.Borrow.{sem};
 ghost use Rattle.heap_pages.specs.Lending.{LendsPage};
 ghost use Rattle.heap_pages.specs.Choice.{Promises, HasRoom, IsFirst, IsPlaceFor};
@@ -9,6 +9,7 @@ ghost use Rattle.heap_pages.specs.FreeSpace.{Covers, IsSettled};
 use crate::choice::{first_promising, first_with_room, free_byte};
 use crate::free_space_map::FreeSpaceMap;
 use page_slots::Page;
+use space_maps::{Mark, VisibilityMap};
 use std::alloc::{AllocError, Global};
 use std::marker::Model;
 
@@ -36,6 +37,7 @@ pub enum Place {
 pub struct Pages {
     pages: Vec<Page>,
     map: FreeSpaceMap,
+    marks: VisibilityMap,
     // the page that was lent last, whose byte may be too high
     lent: Option<u32>,
     // how many pages can be added without memory, here and in the map
@@ -49,19 +51,21 @@ impl Model for Pages {
 
     ghost Value = { PagesView };
 
-    ghost view = { λ p. record { pages = p.pages.items; spare = p.spare } };
+    ghost view = { λ p. record { pages = p.pages.items; marks = p.marks.marks; spare = p.spare } };
 
-    ghost invariant = { λ p. IsTable p.pages.items p.map p.lent p.spare (vec_capacity p.pages - vec_len p.pages) };
+    ghost invariant = { λ p. IsTable p.pages.items p.map p.marks p.lent p.spare (vec_capacity p.pages - vec_len p.pages) };
 }
 
 impl Pages {
     /// A table without pages.
     pub fn new(alloc: Global) -> Self
-        ensures { result.pages ≡ [] }
+        ensures pages { result.pages ≡ [] }
+        ensures marks { result.marks ≡ [] }
     {
         Pages {
             pages: Vec::new(alloc),
             map: FreeSpaceMap::new(alloc),
+            marks: VisibilityMap::new(alloc),
             lent: None,
             spare: 0,
         }
@@ -105,6 +109,7 @@ impl Pages {
     {
         self.pages.try_reserve(count)?;
         self.map.make_room(count)?;
+        self.marks.make_room(count)?;
         self.spare = self.spare.max(count);
         Ok(())
     }
@@ -114,11 +119,28 @@ impl Pages {
         requires room { 0 < self.old.spare }
         requires few { length self.old.pages < 65536 }
         ensures pages { self.new.pages ≡ self.old.pages ++ page ∷ [] }
+        ensures marks { self.new.marks ≡ self.old.marks ++ Mark.Nothing ∷ [] }
         ensures spare { self.old.spare ≡ self.new.spare + 1 }
     {
         self.map.push(free_byte(&page));
+        self.marks.add_page();
         self.pages.push_reserved(page);
         self.spare -= 1;
+    }
+
+    /// What was last noted of the page of this number, if it is in use.
+    pub fn mark(&self, number: u32) -> Option<Mark>
+        ensures { result ≡ slice_get self.now.marks number }
+    {
+        self.marks.mark(number)
+    }
+
+    /// Notes this of the page of this number, which is in use. No page changes.
+    pub fn note(&mut self, number: u32, mark: Mark)
+        requires { number < length self.old.pages }
+        ensures { self.new ≡ record self.old { marks = slice_set self.old.marks number mark } }
+    {
+        self.marks.note(number, mark);
     }
 
     /// The first page whose free-space byte promises room for a version of this size, if there is one; else a new page is

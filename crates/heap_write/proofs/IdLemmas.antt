@@ -1,7 +1,7 @@
 -- The ids of a write: where there is more memory for them, and while they are given.
 use Rattle.std.proofs.Common.{◌≡◌, ◌≢◌, ℕ, suc, ◌+◌, ◌-◌, ◌<◌, ◌≤◌, List, [], ◌∷◌, ◌++◌, length, Option, Some, None, sym, ap, subst, refl, ◌∙◌, arith, append_assoc}
 use Rattle.std.proofs.lemmas.Option.{same_Some}
-use Rattle.commit_status.specs.Window.{Window, IsWindow, IsGiven, next_id, place_in}
+use Rattle.commit_status.specs.Window.{Window, IsWindow, IsGiven, next_id, place_in, status_of}
 use Rattle.commit_status.specs.Changes.{begun, Gives, CanGive}
 use Rattle.commit_status.proofs.Giving.{gives-length, gives-place_next}
 use Rattle.commit_status.proofs.Places.{is-from_some}
@@ -18,6 +18,9 @@ same-ids w = record { first = refl; stop_age = refl; entries = refl }
 
 same-next : (w v : Window) → SameIds w v → next_id v ≡ next_id w
 same-next w v same = rw (same.first, same.entries) refl
+
+pub same-status : (w v : Window) (x : ℕ) → SameIds w v → status_of v x ≡ status_of w x
+same-status w v x same = rw (same.first, same.entries) refl
 
 level-same : (own grown : Own) → SameOwn own grown → level_id grown.ids grown.saved ≡ level_id own.ids own.saved
 level-same own grown same = rw (same.ids, same.saved) refl

@@ -8,6 +8,7 @@ pub mod Reserving
 pub mod KeyLemmas
 pub mod Writing
 pub mod Updating
+pub mod IdlePages
 pub mod GivenIds
 pub mod SpanLemmas
 pub mod WalkLemmas

@@ -1,11 +1,12 @@
 -- The pages of a table by their numbers, and what keeps them.
 use Rattle.std.proofs.Common.{◌≡◌, ◌≢◌, ℕ, zero, suc, ◌<◌, ◌≤◌, inl, inr, List, [], length, set, Some, None, slice_get, sym, ap, subst, refl, ◌∙◌, arith}
 use Rattle.std.proofs.lemmas.Bool.{cases_lt, true≢false}
-use Rattle.std.proofs.lemmas.Option.{slice_get-get_or, slice_get_within, same_Some}
-use Rattle.std.proofs.lemmas.List.{get_or_past, get_or-set_same, get_or-set_other, set-set, length-set}
+use Rattle.std.proofs.lemmas.Option.{slice_get-get_or, slice_get_within, get_or_from_slice_get, same_Some}
+use Rattle.std.proofs.lemmas.List.{get_or_past, get_or-set_same, get_or-set_other, set-get_or, set-set, length-set}
 use Rattle.std.proofs.Math.Seq.{map-set_same}
 use Rattle.xid_circle.specs.declared.Tid.{Tid}
 use Rattle.page_slots.specs.View.{PageView}
+use Rattle.heap_pages.specs.View.{PagesView, with_page}
 use Rattle.page_slots.specs.Slots.{IsNormalAt, row_at, room_of}
 use Rattle.heap_write.specs.Heap.{HeapView, unused_page, SameIds, Keeps, PutsPage}
 use Rattle.heap_write.specs.Heap.PutsPage.{in_use, after_all}
@@ -117,3 +118,9 @@ puts-grown pages middle pages' n grown page within is (after_all over e) =
 -- the same, of a table whose view is known
 pub keeps-viewed : (v h h' : HeapView) → v ≡ h → SamePages v.pages.pages h'.pages.pages → SameIds v.table h'.table → SameEntries v.indexes h'.indexes → h'.max_pages ≡ v.max_pages → Keeps h h'
 keeps-viewed v h h' view_is same ids entries max_pages = subst (λ u. Keeps u h') view_is (keeps v h' same ids entries max_pages)
+
+-- a page in its own place
+pub page-back : (p : PagesView) (n : ℕ) (page : PageView) → slice_get p.pages n ≡ Some page → with_page p n page ≡ p
+page-back p n page at =
+    ap (λ (pages : List PageView). record p { pages = pages })
+    (ap (λ q. set p.pages n q) (sym (get_or_from_slice_get p.pages n page page at)) ∙ set-get_or p.pages n page)

@@ -1,5 +1,5 @@
 -- Where a new version goes, when one page has changed.
-use Rattle.std.proofs.Common.{◌≡◌, ◌≢◌, ◌↔◌, ℕ, ◌*◌, ◌/◌, ◌<◌, ◌≤◌, inl, inr, List, length, set, Some, slice_get, sym, ap, subst, ◌∙◌, arith}
+use Rattle.std.proofs.Common.{◌≡◌, ◌≢◌, ◌↔◌, ℕ, ◌*◌, ◌/◌, ◌<◌, ◌≤◌, inl, inr, List, [], length, set, Some, slice_get, sym, ap, subst, ◌∙◌, arith}
 use Rattle.std.proofs.lemmas.Bool.{cases_eq}
 use Rattle.std.proofs.lemmas.Option.{slice_get-get_or, slice_get_within, same_Some}
 use Rattle.std.proofs.lemmas.List.{length-set, set-set, set-get_or}
@@ -44,7 +44,7 @@ alike-full size p q no_before no_after = record {
 -- One page is changed.
 
 abbrev viewed : List PageView → PagesView
-viewed pages = record { pages = pages; spare = 0 }
+viewed pages = record { pages = pages; marks = []; spare = 0 }
 
 at-set : (pages : List PageView) (m : ℕ) (q : PageView) → m < length pages → slice_get (set pages m q) m ≡ Some q
 at-set pages m q within = page-with_page (viewed pages) m q within

@@ -7,11 +7,13 @@ use Rattle.std.specs.Prelude.{IfErr, OnOk, OnErr, is_err}
 use Rattle.xid_circle.specs.declared.Xid.{Xid}
 use Rattle.tuple_header.specs.declared.version.Row.{Row}
 use Rattle.tuple_header.specs.Version.{rounded_size_of}
-use Rattle.snapshot.specs.Own.{Own}
+use Rattle.commit_status.specs.Window.{Window}
+use Rattle.snapshot.specs.Own.{Own, lacks}
 use Rattle.page_slots.specs.View.{PageView}
 use Rattle.page_slots.specs.Slots.{room_of}
 use Rattle.heap_pages.specs.View.{PagesView, with_page}
 use Rattle.heap_pages.specs.Choice.{HasRoom, IsPlaceFor}
+use Rattle.heap_pages.specs.declared.pages.Place.{Place}
 use Rattle.heap_pages.specs.declared.pages.Place.TheVariants as to
 use Rattle.heap_write.specs.declared.target.Target.{Target}
 use Rattle.heap_write.specs.declared.target.Target.TheVariants.{Page, New}
@@ -93,6 +95,23 @@ needs-before h own size m grown within same full (PlaceNeedsMemory.for_slot n ch
     let before = place-back pages h.max_pages size m grown (to.Page n) within same chosen in
     let other : n ≢ m = λ e. not-chosen pages h.max_pages size n m before full (sym e) in
     RootNeedsMemory.for_slot n before (subst (λ p. NeedsSlot p) (page-set_other pages m n grown other) needs)
+
+chosen-before : (h h1 : HeapView) (size m : ℕ) (grown : GrowsPage h.pages h1.pages m) → h1.max_pages ≡ h.max_pages → (place : Place) → IsPlaceFor h1.pages.pages h1.max_pages size place
+    → IsPlaceFor (set h.pages.pages m grown.page) h.max_pages size place
+chosen-before h h1 size m grown max_pages place chosen =
+    subst (λ (p : PagesView). IsPlaceFor p.pages h.max_pages size place) grown.pages_are (subst (λ limit. IsPlaceFor h1.pages.pages limit size place) max_pages chosen)
+
+-- what a new root needs after a slot was made on a page without room, it needed before
+pub root-before : (h h1 : HeapView) (own : Own) (size m : ℕ) → m < length h.pages.pages → GrowsPage h.pages h1.pages m → h1.table ≡ h.table → h1.indexes ≡ h.indexes
+    → h1.max_pages ≡ h.max_pages → ¬ HasRoom size (page_on h m) → RootNeedsMemory h1 own size → RootNeedsMemory h own size
+root-before h h1 own size m within grown table indexes max_pages full (RootNeedsMemory.for_ids needs) =
+    RootNeedsMemory.for_ids (subst (λ (w : Window). (w.spare < lacks own.ids own.saved) ⊎ (own.spare < lacks own.ids own.saved)) table needs)
+root-before h h1 own size m within grown table indexes max_pages full (RootNeedsMemory.for_entry needs) = RootNeedsMemory.for_entry (subst (λ xs. NeedsEntry xs) indexes needs)
+root-before h h1 own size m within grown table indexes max_pages full (RootNeedsMemory.for_page chosen) =
+    needs-before h own size m grown.page within grown.same.slots full (PlaceNeedsMemory.for_page (chosen-before h h1 size m grown max_pages to.NewPage chosen))
+root-before h h1 own size m within grown table indexes max_pages full (RootNeedsMemory.for_slot n chosen needs) =
+    needs-before h own size m grown.page within grown.same.slots full
+    (PlaceNeedsMemory.for_slot n (chosen-before h h1 size m grown max_pages (to.Page n) chosen) (subst (λ (p : PagesView). NeedsSlot (page_in p.pages n)) grown.pages_are needs))
 
 pub unchosen-kept : (pages pages' : PagesView) (limit size m : ℕ) (found : Option Target) → Reserves pages pages' limit size found → ¬ HasRoom size (page_in pages.pages m)
     → page_in pages'.pages m ≡ page_in pages.pages m

@@ -1,11 +1,12 @@
 -- What stands between the steps of an update.
-use Rattle.std.specs.Prelude.{ℕ, Option}
+use Rattle.std.specs.Prelude.{ℕ, ◌≤◌, Option, length}
 use Rattle.xid_circle.specs.declared.Tid.{Tid}
 use Rattle.heap_pages.specs.Choice.{IsPlaceFor}
 use Rattle.heap_write.specs.declared.heap.WriteFault.{WriteFault}
 use Rattle.heap_write.specs.declared.heap.WriteFault.TheVariants as fault
 use Rattle.heap_write.specs.declared.target.Target.{Target}
-use Rattle.heap_write.specs.Heap.{HeapView}
+use Rattle.prune.specs.Cutting.{HasDead}
+use Rattle.heap_write.specs.Heap.{HeapView, page_on}
 use Rattle.heap_write.specs.Growth.{place_of_target}
 use Rattle.heap_write.specs.Writes.{IsFull}
 use Rattle.heap_write.specs.Refusals.{IsThere}
@@ -20,3 +21,8 @@ FailsReady h place size fault.Gone = ¬ IsThere h place
 FailsReady h place size fault.NoRoom = IsThere h place × IsFull h size
 FailsReady h place size fault.NeedsFreeze = ⊥
 FailsReady h place size fault.NoMemory = ⊥
+
+-- no version on the page of this number is dead, so that pruning leaves it as it is
+pub record HasNoneDead (h : HeapView) (number horizon : ℕ) : Type 0 where
+  pub few : length (page_on h number).slots ≤ 291
+  pub none : ¬ HasDead h.table horizon (page_on h number).slots

@@ -1,13 +1,14 @@
 //! A page is cleaned.
 
-ghost use Rattle.std.specs.Prelude.{◌≡◌, ◌<◌, length, OnOk, OnErr, IfErr};
+ghost use Rattle.std.specs.Prelude.{◌≡◌, ◌<◌, length, OnOk, OnErr, IfErr, IsFalse};
 ghost use Rattle.xid_circle.specs.Circle.{IsNormal};
 ghost use Rattle.heap_write.specs.Heap.{page_on};
 ghost use Rattle.heap_write.specs.Writes.{Prunes};
 ghost use Rattle.heap_write.specs.Refusals.{Unpruned};
+ghost use Rattle.heap_write.specs.Steps.{HasNoneDead};
 
 use crate::heap::HeapState;
-use prune::prune;
+use prune::{has_dead, prune};
 use thiserror::Error;
 use xid_circle::Xid;
 
@@ -31,8 +32,25 @@ impl HeapState {
         if number >= self.pages.len() {
             return Err(PruneFault::NoSuchPage);
         }
+        if !self.has_dead(number, horizon) {
+            return Ok(());
+        }
         self.prune_page(number, horizon);
         Ok(())
+    }
+
+    /// Whether a version on the page of this number is dead. Where none is, pruning leaves the page as it is, and it is not lent.
+    pub(crate) fn has_dead(&self, number: u32, horizon: Xid) -> bool
+        requires { IsNormal horizon.0 }
+        ensures { IsFalse result → HasNoneDead self.now number horizon.0 }
+    {
+        match self.pages.page(number) {
+            Some(page) => {
+                let _limit = page.slots();
+                has_dead(page, &self.table, horizon)
+            }
+            None => false,
+        }
     }
 
     /// Prunes the page of this number, which is in use.

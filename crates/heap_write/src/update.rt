@@ -57,7 +57,7 @@ impl HeapState {
         if self.has_room(place.page, row) {
             self.update_at_once(own, place, row)
         } else {
-            self.update_with_pruning(own, place, row, horizon)
+            self.update_full(own, place, row, horizon)
         }
     }
 
@@ -134,6 +134,61 @@ impl HeapState {
         reserve_slot(self.pages.page_mut(number))
     }
 
+    /// Updates a version whose page has no room for the row. Where no version on the page is dead, pruning would leave it as it
+    /// is, so it isn't tried, and memory is made ready for a new root alone.
+    fn update_full(
+        &mut self,
+        own: &mut OwnIds,
+        place: Tid,
+        row: &Row,
+        horizon: Xid,
+    ) -> Result<Xid, WriteFault>
+        requires newest { (x : ℕ) → level_id own.old.ids own.old.saved ≡ Some x → IsGiven self.old.table x }
+        requires horizon { IsNormal horizon.0 }
+        requires free { ¬ NeedsFreeze self.old.table own.old }
+        requires there { IsThere self.old place }
+        requires room { room_of (page_on self.old place.page).slots < rounded_size_of row.now }
+        ensures ok { IfOk result (λ x. Updates self.old self.new own.old own.new place row.now horizon.0 x.0) }
+        ensures fault { IfErr result (λ fault. FailsUpdate self.old self.new own.old place row.now horizon.0 fault) }
+        ensures own { OnErr result (SameOwn own.old own.new) }
+        ensures window { IsWindow self.new.table }
+        ensures normal { IfOk result (λ x. IsNormal x.0) }
+    {
+        if self.has_dead(place.page, horizon) {
+            return self.update_with_pruning(own, place, row, horizon);
+        }
+        let reserved = self.reserve_root(own, row_size(row));
+        self.table.is_window();
+        match reserved {
+            Ok(target) => self.update_elsewhere(own, place, row, target),
+            Err(_) => Err(WriteFault::NoMemory),
+        }
+    }
+
+    /// Makes room in memory for a new root of this size, with its entries and an id for each level that lacks one, and answers where it
+    /// goes, if anywhere.
+    fn reserve_root(
+        &mut self,
+        own: &mut OwnIds,
+        size: usize,
+    ) -> Result<Option<Target>, AllocError>
+        requires { size ≤ 8164 }
+        ensures keeps { Keeps self.old self.new }
+        ensures none { lacks own.old.ids own.old.saved ≡ 0 → self.new.table ≡ self.old.table }
+        ensures own { SameOwn own.old own.new }
+        ensures has_ids { OnOk result (HasIds self.new.table own.new) }
+        ensures has_entries { OnOk result (HasEntries self.new.indexes) }
+        ensures chosen { IfOk result (λ found. IsChosen self.new size found) }
+        ensures ready { IfOk result (λ found. IfSome found (λ target. IsReady self.new.pages size target)) }
+        ensures unchosen { OnOk result ((n : ℕ) → room_of (page_on self.old n).slots < size → page_on self.new n ≡ page_on self.old n) }
+        ensures needs { OnErr result (RootNeedsMemory self.old own.old size) }
+    {
+        if reserve_ids(&mut self.table, own).is_err() || self.indexes.make_room().is_err() {
+            return Err(AllocError);
+        }
+        reserve_place(self.alloc, &mut self.pages, size, self.max_pages)
+    }
+
     /// Updates a version whose page has no room for the row, and is pruned once memory is made ready.
     fn update_with_pruning(
         &mut self,
@@ -184,13 +239,23 @@ impl HeapState {
         ensures ready { IfOk result (λ found. IfSome found (λ target. IsReady self.new.pages size target)) }
         ensures needs { OnErr result (NeedsSlot (page_on self.old number) ⊎ RootNeedsMemory self.old own.old size) }
     {
-        if reserve_ids(&mut self.table, own).is_err() || self.indexes.make_room().is_err() {
-            return Err(AllocError);
+        match self.reserve_slot_on(number) {
+            Ok(()) => self.reserve_root(own, size),
+            Err(fault) => Err(fault),
         }
-        if reserve_slot(self.pages.page_mut(number)).is_err() {
-            return Err(AllocError);
-        }
-        reserve_place(self.alloc, &mut self.pages, size, self.max_pages)
+    }
+
+    /// Makes room in memory for one more slot on the page of this number.
+    fn reserve_slot_on(&mut self, number: u32) -> Result<(), AllocError>
+        requires { number < length self.old.pages.pages }
+        ensures keeps { Keeps self.old self.new }
+        ensures table { self.new.table ≡ self.old.table }
+        ensures indexes { self.new.indexes ≡ self.old.indexes }
+        ensures max_pages { self.new.max_pages ≡ self.old.max_pages }
+        ensures grows { OnOk result (GrowsPage self.old.pages self.new.pages number) }
+        ensures needs { OnErr result (NeedsSlot (page_on self.old number)) }
+    {
+        reserve_slot(self.pages.page_mut(number))
     }
 
     /// Updates a version, if it is still there, on its page where that has room for the row now, else where a new root goes,
@@ -227,6 +292,36 @@ impl HeapState {
             let heap_only = self.keeps_values(place, row);
             return Ok(self.replace_on_page(own, place, row, heap_only));
         }
+        self.update_elsewhere(own, place, row, target)
+    }
+
+    /// Updates a version whose page has no room for the row where a new root goes, if that is anywhere.
+    fn update_elsewhere(
+        &mut self,
+        own: &mut OwnIds,
+        place: Tid,
+        row: &Row,
+        target: Option<Target>,
+    ) -> Result<Xid, WriteFault>
+        requires newest { (x : ℕ) → level_id own.old.ids own.old.saved ≡ Some x → IsGiven self.old.table x }
+        requires free { ¬ NeedsFreeze self.old.table own.old }
+        requires has_ids { HasIds self.old.table own.old }
+        requires has_entries { HasEntries self.old.indexes }
+        requires there { IsThere self.old place }
+        requires room { room_of (page_on self.old place.page).slots < rounded_size_of row.now }
+        requires chosen { IsChosen self.old (rounded_size_of row.now) target }
+        requires ready { IfSome target (λ t. IsReady self.old.pages (rounded_size_of row.now) t) }
+        ensures takes { IfOk result (λ x. TakesIds self.old.table self.new.table own.old own.new x.0) }
+        ensures there { IfOk result (λ x. IsThere self.old place) }
+        ensures replaces { IfOk result (λ x. Replaces self.old self.new place x.0 row.now) }
+        ensures max_pages { self.new.max_pages ≡ self.old.max_pages }
+        ensures fault { IfErr result (λ fault. FailsReady self.old place (rounded_size_of row.now) fault) }
+        ensures err { OnErr result (self.new ≡ self.old) }
+        ensures own { OnErr result (SameOwn own.old own.new) }
+        ensures window { IsWindow self.new.table }
+        ensures normal { IfOk result (λ x. IsNormal x.0) }
+    {
+        self.table.is_window();
         match target {
             Some(target) => Ok(self.replace_by_root(own, place, row, target)),
             None => Err(WriteFault::NoRoom),

@@ -1,6 +1,6 @@
 //! Pages.
 
-ghost use Rattle.std.specs.Prelude.{◌≡◌, ◌≤◌, ◌<◌, ◌+◌, [], true, false, length, OnOk, OnErr, IfOk, IfSome, IsSome, ◌↔◌, None, MatchOption};
+ghost use Rattle.std.specs.Prelude.{◌≡◌, ◌≤◌, ◌<◌, ◌+◌, [], true, false, length, OnOk, OnErr, IfOk, IfSome, IsSome, IsTrue, ◌↔◌, Some, None, MatchOption};
 ghost use Rattle.tuple_header.specs.Version.{rounded_size_of};
 ghost use Rattle.tuple_header.specs.Faults.{header_fault};
 ghost use Rattle.page_slots.specs.Store.{slot_in, is_bare};
@@ -142,6 +142,16 @@ impl Page {
         ensures there { IsSome result → IsThere self.now.slots number }
     {
         self.slots.redirect(index_of(number)?)
+    }
+
+    /// Whether the slot of this number is there and dead.
+    pub fn is_dead(&self, number: u16) -> bool
+        ensures { IsTrue result ↔ (slot_at self.now.slots number ≡ Some Slot.Dead) }
+    {
+        match index_of(number) {
+            Some(index) => index < self.slots.len() && self.slots.is_dead(index),
+            None => false,
+        }
     }
 
     /// The number that the next version added gets: of the lowest unused slot, or else of a new last one. It is 292 where

@@ -7,7 +7,7 @@ use Rattle.page_slots.specs.declared.slot.Slot.{Slot}
 use Rattle.page_slots.specs.Slots.{version_at}
 use Rattle.tuple_header.specs.Version.{Version}
 use Rattle.tuple_header.specs.declared.version.Header.{Header}
-use Rattle.tuple_header.specs.Marks.{is_hot_updated, is_heap_only}
+use Rattle.tuple_header.specs.Marks.{is_hot_updated, is_heap_only, is_frozen}
 use Rattle.xid_circle.specs.Circle.{Precedes}
 use Rattle.xid_circle.specs.Following.{ReachesIn}
 use Rattle.commit_status.specs.declared.status.Status.{Status}
@@ -29,8 +29,10 @@ use Rattle.page_writes.specs.Laws.{DeletedWhatWasMade, AloneDeletedTheirs}
 
 -- a change of statuses and of the horizon
 pub record GoesOn (w v : Window) (horizon later : ℕ) (slots : List Slot) : Type 0 where
-  pub aborted : (x : ℕ) → IsAborted w x → IsAborted v x
-  pub committed : (x : ℕ) → IsCommitted w x → IsCommitted v x
+  -- of ids that a version there names: its deleter, and its maker unless it is frozen
+  pub aborted : (n : ℕ) (t : Version) → version_at slots n ≡ Some t → IsAborted w t.header.xmax.0 → IsAborted v t.header.xmax.0
+  pub aborted_maker : (n : ℕ) (t : Version) → version_at slots n ≡ Some t → ¬ IsFrozen t.header → IsAborted w t.header.xmin.0 → IsAborted v t.header.xmin.0
+  pub committed : (n : ℕ) (t : Version) → version_at slots n ≡ Some t → ¬ IsFrozen t.header → IsCommitted w t.header.xmin.0 → IsCommitted v t.header.xmin.0
   pub past : (x : ℕ) → IsCommitted w x → Precedes x horizon → Precedes x later
   pub made : (n : ℕ) (t : Version) → version_at slots n ≡ Some t → IsCommitted v t.header.xmax.0 → IsFrozen t.header ⊎ IsCommitted v t.header.xmin.0
   pub undone : (n : ℕ) (t : Version) → version_at slots n ≡ Some t → ¬ IsFrozen t.header → IsAborted v t.header.xmin.0
@@ -63,7 +65,7 @@ live-before w v x f live = ⊎_elim
 link-back : (w v : Window) (horizon later : ℕ) (slots : List Slot) (n k : ℕ) → GoesOn w v horizon later slots → link v slots n ≡ Some k → link w slots n ≡ Some k
 link-back w v horizon later slots n k g next =
     let l = link-of (has_aborted v) slots n k next in
-    let live = live-before w v l.old.header.xmax.0 (g.aborted l.old.header.xmax.0) l.live in
+    let live = live-before w v l.old.header.xmax.0 (g.aborted n l.old l.from) l.live in
     successor-from (has_aborted w) slots n k l.old l.new l.from l.to (replaced-live (has_aborted v) (has_aborted w) l.old.header l.replaced live) l.place l.heap_only l.made
 
 link-forth : (w v : Window) (slots : List Slot) (n k : ℕ) (l : IsLink (has_aborted w) slots n k) → has_aborted v l.old.header.xmax.0 ≡ false → link v slots n ≡ Some k
@@ -131,7 +133,7 @@ whole-forth : (w v : Window) (horizon later : ℕ) (slots : List Slot) (n : ℕ)
     → version_at slots n ≡ Some t → is_replaced (has_aborted v) t.header ≡ true → SomeNext v slots n
 whole-forth w v horizon later slots n t sound g at replaced =
     let alive = replaced-alive (has_aborted v) t.header replaced in
-    let live = live-before w v t.header.xmax.0 (g.aborted t.header.xmax.0) alive in
+    let live = live-before w v t.header.xmax.0 (g.aborted n t at) alive in
     let next = sound.whole n t at (replaced-live (has_aborted v) (has_aborted w) t.header replaced live) in
     let l = link-of (has_aborted w) slots n next.place next.next in
     let same : l.old ≡ t = same_Some l.old t (sym l.from ∙ at) in
@@ -149,9 +151,10 @@ goes_on-sound w v horizon later slots g sound = record {
     version = t.version;
     there = t.there;
     heap_only = t.heap_only;
-    made = ⊎_elim (λ f. inl f) (λ c. inr (g.committed t.version.header.xmin.0 c.0, g.past t.version.header.xmin.0 c.0 c.1)) t.made;
+    made = ⊎_elim (λ f. inl f) (λ thawed. ⊎_elim (λ f. inl f)
+        (λ c. inr (g.committed k t.version t.there (λ f. let e : true ≡ false = sym f ∙ thawed in absurd (cc)) c.0, g.past t.version.header.xmin.0 c.0 c.1)) t.made) (cases_Bool (is_frozen t.version.header));
   };
-  owned = λ n t at h. ⊎_elim (λ a. inl (a.0, g.aborted t.header.xmin.0 a.1)) (λ r. owned-forth w v horizon later slots n t sound g at r) (sound.owned n t at h);
+  owned = λ n t at h. ⊎_elim (λ a. inl (a.0, g.aborted_maker n t at a.0 a.1)) (λ r. owned-forth w v horizon later slots n t sound g at r) (sound.owned n t at h);
   alone = λ a b n x y. sound.alone a b n (in-back w v horizon later slots a n g x) (in-back w v horizon later slots b n g y);
 }
 
@@ -159,8 +162,9 @@ goes_on-sound w v horizon later slots g sound = record {
 
 pub giving-sound : (w v : Window) (horizon : ℕ) (parent : Option ℕ) (slots : List Slot) → IsWindow w → IsWindow v → Gives w v parent → SoundPage w horizon slots → SoundPage v horizon slots
 giving-sound w v horizon parent slots before after gives sound = goes_on-sound w v horizon horizon slots (record {
-  aborted = λ x e. same x ∙ e;
-  committed = λ x e. same x ∙ e;
+  aborted = λ n t at e. same t.header.xmax.0 ∙ e;
+  aborted_maker = λ n t at thawed e. same t.header.xmin.0 ∙ e;
+  committed = λ n t at thawed e. same t.header.xmin.0 ∙ e;
   past = λ x done p. p;
   made = λ n t at done. ⊎_elim (λ f. inl f) (λ c. inr (same t.header.xmin.0 ∙ c)) (sound.made n t at (sym (same t.header.xmax.0) ∙ done));
   undone = λ n t at thawed gone some. same t.header.xmax.0 ∙ sound.undone n t at thawed (sym (same t.header.xmin.0) ∙ gone) some;
@@ -182,8 +186,9 @@ committed-other w v ids x f gone = ⊎_elim
 pub committing-sound : (w v : Window) (horizon : ℕ) (ids : List ℕ) (slots : List Slot) → ((x : ℕ) → Contains ids x → IsActive w x) → Finishes w v ids Committed
     → DeletedWhatWasMade w slots ids → SoundPage w horizon slots → SoundPage v horizon slots
 committing-sound w v horizon ids slots active f theirs sound = goes_on-sound w v horizon horizon slots (record {
-  aborted = λ x gone. aborted-other w v ids Committed x active f gone;
-  committed = old;
+  aborted = λ n t at gone. aborted-other w v ids Committed t.header.xmax.0 active f gone;
+  aborted_maker = λ n t at thawed gone. aborted-other w v ids Committed t.header.xmin.0 active f gone;
+  committed = λ n t at thawed done. old t.header.xmin.0 done;
   past = λ x done p. p;
   made = λ n t at done. ⊎_elim
       (λ mine. ⊎_elim (λ z. inl z) (λ made. inr (⊎_elim (λ c. old t.header.xmin.0 c) (λ c. finishes-named w v ids Committed t.header.xmin.0 f c) made)) (theirs n t at mine))
@@ -199,8 +204,9 @@ committing-sound w v horizon ids slots active f theirs sound = goes_on-sound w v
 pub aborting-sound : (w v : Window) (horizon : ℕ) (ids : List ℕ) (slots : List Slot) → ((x : ℕ) → Contains ids x → IsActive w x) → Finishes w v ids Aborted
     → AloneDeletedTheirs w slots ids → SoundPage w horizon slots → SoundPage v horizon slots
 aborting-sound w v horizon ids slots active f theirs sound = goes_on-sound w v horizon horizon slots (record {
-  aborted = λ x gone. gone-old x gone;
-  committed = old;
+  aborted = λ n t at gone. gone-old t.header.xmax.0 gone;
+  aborted_maker = λ n t at thawed gone. gone-old t.header.xmin.0 gone;
+  committed = λ n t at thawed done. old t.header.xmin.0 done;
   past = λ x done p. p;
   made = λ n t at done. ⊎_elim (λ z. inl z) (λ c. inr (old t.header.xmin.0 c)) (sound.made n t at (aborts-committed w v ids t.header.xmax.0 f done));
   undone = λ n t at thawed gone some. ⊎_elim
@@ -221,8 +227,9 @@ aborting-sound w v horizon ids slots active f theirs sound = goes_on-sound w v h
 pub later-sound : (w : Window) (horizon later : ℕ) (slots : List Slot) → IsWindow w → IsUpToNext w horizon → IsUpToNext w later → turns w.first horizon ≤ turns w.first later
     → SoundPage w horizon slots → SoundPage w later slots
 later-sound w horizon later slots is uh ul low sound = goes_on-sound w w horizon later slots (record {
-  aborted = λ x e. e;
-  committed = λ x e. e;
+  aborted = λ n t at e. e;
+  aborted_maker = λ n t at thawed e. e;
+  committed = λ n t at thawed e. e;
   past = λ x done p.
       let ux = committed-upto w x done in
       let lt = (precedes-turns w x horizon is ux uh).0 p in

@@ -21,6 +21,7 @@ use Rattle.prune.specs.Pruning.{root_action, loose_action}
 use Rattle.prune.specs.Marks.{mark_at, IsMark}
 use Rattle.prune.specs.Checks.{IsFront, HasFront, IsAccounted, Checks}
 use Rattle.prune.specs.Named.{named_at, IsLooseRight}
+use Rattle.prune.proofs.Marking.{held-not_loose}
 use Rattle.prune.proofs.Links.{member-there, member-version}
 use Rattle.prune.proofs.Listing.{named-there, applied-slot}
 use Rattle.prune.proofs.ChainPlaces.{place-of, of-not_loose, root-leads, first-normal, chain-first, reaches-places}
@@ -41,7 +42,7 @@ accounted w horizon slots n a mark (IsMark.loose l e) right = IsAccounted.lost l
 loose-right : (w : Window) (horizon : ℕ) (slots : List Slot) (n : ℕ) (a : Action) (mark : Mark) → IsMark w horizon slots n mark → mark ≡ Loose → IsAccounted w slots n a
     → loose_action w slots n ≡ Some a
 loose-right w horizon slots n a mark m is (IsAccounted.lost l e) = e
-loose-right w horizon slots n a mark (IsMark.held r c cut o d e) is (IsAccounted.of_root root chain i) = absurd (let f = sym e ∙ is in cc)
+loose-right w horizon slots n a mark (IsMark.held r c cut o d e) is (IsAccounted.of_root root chain i) = absurd (held-not_loose _ (sym e ∙ is))
 loose-right w horizon slots n a mark (IsMark.loose l e) is (IsAccounted.of_root root chain i) = absurd (of-not_loose (has_aborted w) slots root n chain i l)
 
 pub checked : (w : Window) (horizon : ℕ) (page : PageView) (change : ℕ) (actions : List (ℕ × Action)) (named : List (Option Action)) (marks : List Mark) (b : Bool)

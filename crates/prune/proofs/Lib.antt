@@ -15,3 +15,5 @@ pub mod PlanChecks
 pub mod Raising
 pub mod SoundChains
 pub mod SoundAfter
+pub mod Idle
+pub mod Single

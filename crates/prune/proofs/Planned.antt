@@ -13,13 +13,17 @@ use Rattle.prune.specs.declared.action.Action.TheVariants as action
 use Rattle.prune.specs.declared.marks.Mark.{Mark}
 use Rattle.prune.specs.Actions.{HasTarget, action_of}
 use Rattle.prune.specs.Pruning.{root_action, loose_in, Does, by_root, by_none, IsPlan, IsPruned}
-use Rattle.prune.specs.Marks.{mark_at, IsMark, planned}
+use Rattle.prune.specs.Marks.{mark_of, mark_at, IsMark, planned}
 use Rattle.prune.specs.Laws.{IsPrunedPage}
 use Rattle.prune.proofs.Links.{member-there}
 use Rattle.prune.proofs.Listing.{AreListed, applied-slot, applied-count}
 
+planned-held : (w : Window) (slots : List Slot) (n : ℕ) (o : Option Action) → planned w slots n (mark_of o) ≡ o
+planned-held w slots n None = refl
+planned-held w slots n (Some a) = refl
+
 pub marked-does : (w : Window) (horizon : ℕ) (slots : List Slot) (n : ℕ) (mark : Mark) → IsMark w horizon slots n mark → Does w horizon slots n (planned w slots n mark)
-marked-does w horizon slots n mark (IsMark.held root chain cut o c e) = by_root root chain cut o c (ap (planned w slots n) e)
+marked-does w horizon slots n mark (IsMark.held root chain cut o c e) = by_root root chain cut o c (ap (planned w slots n) e ∙ planned-held w slots n _)
 marked-does w horizon slots n mark (IsMark.loose l e) = by_none l (ap (planned w slots n) e)
 
 abbrev Target : ℕ → Option Action → Type 0

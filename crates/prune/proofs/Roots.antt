@@ -7,14 +7,14 @@ use Rattle.commit_status.specs.Window.{Window}
 use Rattle.hot_chain.specs.Chain.{has_aborted, is_root, LeadsTo}
 use Rattle.hot_chain.proofs.Chains.{chain-one, any-contains, contains-any, root-there}
 use Rattle.prune.specs.declared.marks.Mark.{Mark}
-use Rattle.prune.specs.declared.marks.Mark.TheVariants.{Loose, Held}
+use Rattle.prune.specs.declared.marks.Mark.TheVariants.{Loose}
 use Rattle.prune.specs.Cutting.{IsCutCount}
 use Rattle.prune.specs.Pruning.{IsOf, chain_action}
-use Rattle.prune.specs.Marks.{mark_at, MarksChain, IsMark, held, loose}
+use Rattle.prune.specs.Marks.{mark_of, mark_at, MarksChain, IsMark, held, loose}
 
 pub data IsMarkSoFar (w : Window) (horizon : ℕ) (slots : List Slot) (bound n : ℕ) (mark : Mark) : Type 0 where
   by_chain : (root : ℕ) (chain : List ℕ) (cut : ℕ) → IsOf (has_aborted w) slots root chain n → IsCutCount w horizon slots chain cut
-      → mark ≡ Held (chain_action root chain cut n) → IsMarkSoFar w horizon slots bound n mark
+      → mark ≡ mark_of (chain_action root chain cut n) → IsMarkSoFar w horizon slots bound n mark
   by_none : ((root : ℕ) → root < bound → is_root slots root ≡ true → n ≢ root) → ((root : ℕ) → root < bound → ¬ LeadsTo (has_aborted w) slots root n)
       → mark ≡ Loose → IsMarkSoFar w horizon slots bound n mark
 
@@ -40,8 +40,8 @@ pub so_far-chain : (w : Window) (horizon : ℕ) (slots : List Slot) (root n : �
 so_far-chain w horizon slots root n before after m starts old = ⊎_elim in-chain elsewhere (cases_Bool (nat_eq n root || list_any (nat_eq n) m.chain))
   where
     chosen : (b : Bool) → nat_eq n root || list_any (nat_eq n) m.chain ≡ b
-        → mark_at after n ≡ (if b then Held (chain_action root m.chain m.cut n) else mark_at before n)
-    chosen b e = m.each n ∙ ap (λ (x : Bool). if x then Held (chain_action root m.chain m.cut n) else mark_at before n) e
+        → mark_at after n ≡ (if b then mark_of (chain_action root m.chain m.cut n) else mark_at before n)
+    chosen b e = m.each n ∙ ap (λ (x : Bool). if x then mark_of (chain_action root m.chain m.cut n) else mark_at before n) e
 
     in-chain : nat_eq n root || list_any (nat_eq n) m.chain ≡ true → IsMarkSoFar w horizon slots (root + 1) n (mark_at after n)
     in-chain here = IsMarkSoFar.by_chain root m.chain m.cut (record {

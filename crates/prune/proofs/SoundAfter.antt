@@ -361,7 +361,7 @@ either : (b : Bool) (o p : Option Action) → o ≡ None → p ≡ None → (if 
 either true o p e f = e
 either false o p e f = f
 
-idle : (w : Window) (horizon : ℕ) (slots : List Slot) (n : ℕ) (o : Option Action) → ((k : ℕ) → ¬ IsDeadAt w horizon slots k) → Does w horizon slots n o → o ≡ None
+pub idle : (w : Window) (horizon : ℕ) (slots : List Slot) (n : ℕ) (o : Option Action) → ((k : ℕ) → ¬ IsDeadAt w horizon slots k) → Does w horizon slots n o → o ≡ None
 idle w horizon slots n o none (by_root root chain cut i c e) =
     let zero_is : cut ≡ 0 = ⊎_elim (λ lt. absurd (none (get_or chain (cut - 1) 0) (c.dead lt))) (λ ge. omega arith) (cases_lt 0 cut) in
     e ∙ either (n == root) (root_action cut (slice_get chain cut)) (if list_any (nat_eq n) (take cut chain) then Some action.Unuse else None) (root-kept cut (slice_get chain cut) zero_is) (take-none cut n chain zero_is)

@@ -16,6 +16,11 @@ pub record IsDeadAt (w : Window) (horizon : ℕ) (slots : List Slot) (n : ℕ) :
   pub there : version_at slots n ≡ Some version
   pub dead : IsDead w horizon version.header
 
+-- some slot of the page does
+pub record HasDead (w : Window) (horizon : ℕ) (slots : List Slot) : Type 0 where
+  pub number : ℕ
+  pub dead : IsDeadAt w horizon slots number
+
 -- By a chain's list, on any page.
 
 -- so many of the first versions of a chain end with its last dead one

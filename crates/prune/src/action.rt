@@ -14,6 +14,9 @@ pub enum Action {
     Redirect(u16),
 }
 
+/// A plan's actions.
+pub(crate) type Actions = ArrayVec<(u16, Action), 292>;
+
 /// What pruning does to a page: made without changing the page, and applied later if it still checks.
 #[derive(Debug, Drop)]
 pub struct PrunePlan {

@@ -11,7 +11,8 @@ ghost use Rattle.prune.specs.Sound.{SoundPage};
 ghost use Rattle.prune.specs.Laws.{IsPrunedPage};
 
 use crate::action::{Action, PrunePlan};
-use crate::planning::plan;
+use crate::planning::list_actions;
+use arrayvec::ArrayVec;
 use commit_status::StatusTable;
 use page_slots::Page;
 use xid_circle::Xid;
@@ -39,7 +40,22 @@ pub fn apply(page: &mut Page, plan: &PrunePlan)
     }
 }
 
-/// Prunes a page at this horizon, a normal id. It takes no memory.
+/// Prunes a page by the chains of its roots. It stands alone, so that its arrays are cleared only where it is called.
+#[inline(never)]
+fn prune_by_chains(page: &mut Page, table: &StatusTable, horizon: Xid)
+    requires { IsNormal horizon.0 }
+    ensures { IsPrunedPage table.now horizon.0 page.old page.new }
+{
+    let mut plan = PrunePlan {
+        change: page.change(),
+        actions: ArrayVec::new(),
+    };
+    list_actions(&mut plan.actions, page, table, horizon);
+    apply(page, &plan);
+}
+
+/// Prunes a page at this horizon, a normal id. Where no version is dead, which [`has_dead`](crate::has_dead) tells at less cost,
+/// nothing changes. It takes no memory.
 pub fn prune(page: &mut Page, table: &StatusTable, horizon: Xid)
     requires { IsNormal horizon.0 }
     ensures by_plan { IsPrunedPage table.now horizon.0 page.old page.new }
@@ -51,6 +67,5 @@ pub fn prune(page: &mut Page, table: &StatusTable, horizon: Xid)
     ensures flag { page.new.flag ≡ page.old.flag }
     ensures spare { page.new.spare ≡ page.old.spare }
 {
-    let plan = plan(page, table, horizon);
-    apply(page, &plan);
+    prune_by_chains(page, table, horizon);
 }

@@ -10,7 +10,7 @@ ghost use Rattle.prune.specs.Checks.{HasFront, Checks};
 ghost use Rattle.prune.specs.Named.{named_at, IsNamedFront, BecomesUnused, IsLooseRight};
 
 use crate::action::{Action, PrunePlan};
-use crate::marks::{Mark, Marks, cut_count, marks_of, root_action};
+use crate::marks::{Mark, Marks, cut_count, mark_page, root_action};
 use crate::planning::loose_action;
 use commit_status::StatusTable;
 use hot_chain::{chain, is_root};
@@ -154,7 +154,7 @@ fn is_accounted(page: &Page, marks: &Marks, named: &Named, number: u16, table: &
     let mark = marks[usize::from(number)];
     let action = named[usize::from(number)];
     match mark {
-        Mark::Held(_) => true,
+        Mark::Kept | Mark::Goes(_) => true,
         Mark::Loose => { action.is_none() || are_same(action, loose_action(page, number, table)) }
     }
 }
@@ -183,6 +183,7 @@ pub fn check_plan(page: &Page, plan: &PrunePlan, table: &StatusTable, horizon: X
         return false;
     }
     let named = named_by(&plan.actions);
-    let marks = marks_of(page, table, horizon);
+    let mut marks = [Mark::Loose; 292];
+    mark_page(&mut marks, page, table, horizon);
     have_fronts(page, &named, table, horizon) && are_accounted(page, &marks, &named, table)
 }

@@ -6,7 +6,8 @@
 //! "Heap-Only Tuples" and "Routine Vacuuming").
 //!
 //! [`plan`] says what is to be done without changing the page, [`check_plan`] whether a plan may be applied, whoever made
-//! it, and when, [`apply`] does what it names and nothing else, and [`prune`] is the first and the last of these.
+//! it, and when, [`apply`] does what it names and nothing else, and [`prune`] is the first and the last of these. Where no
+//! version on the page is dead, there is nothing to do, and no chain has to be walked: [`has_dead`] tells.
 //! `specs/Cutting.antt` defines what is cut, by a chain's list on any page and by its links, `specs/Pruning.antt` what
 //! becomes of each slot, `specs/Checks.antt` which plans check, `specs/Sound.antt` and `specs/Readers.antt` on which pages
 //! no reader misses anything. Those who see a page as a list of slots use `Removes` (what goes would be cut), `IsPruned`
@@ -16,6 +17,7 @@
 mod action;
 mod applying;
 mod checking;
+mod dead;
 mod laws;
 mod marks;
 mod planning;
@@ -23,6 +25,7 @@ mod planning;
 pub use action::{Action, PrunePlan};
 pub use applying::{apply, prune};
 pub use checking::check_plan;
+pub use dead::has_dead;
 pub use laws::{
     checked_is_never_seen, checked_raises, checks_at_either_end, nothing_dead_stays,
     pruning_has_one_outcome, pruning_is_done_once, pruning_is_never_seen, removing_is_never_seen,

@@ -1,16 +1,19 @@
-//! What pruning makes of each slot: one walk along the chain of each root, noted in a fixed array.
+//! What pruning makes of each slot, noted in a fixed array: by one walk along the chain of each root, but for those that
+//! a header tells to be of one version.
 
-ghost use Rattle.std.specs.Prelude.{◌≡◌, ◌≤◌, ◌<◌, ℕ, IsTrue, ◌↔◌, None, Some, length, nat_eq, slice_get, if◌then◌else◌};
+ghost use Rattle.std.specs.Prelude.{◌≡◌, ◌≤◌, ◌<◌, ℕ, None, Some, IfSome, Bool, [], ◌∷◌, length, nat_eq, slice_get, if◌then◌else◌};
 ghost use Rattle.std.specs.List.{list_any};
 ghost use Rattle.xid_circle.specs.Circle.{IsNormal};
-ghost use Rattle.hot_chain.specs.Chain.{is_root};
-ghost use Rattle.prune.specs.Cutting.{IsDeadAt, IsCutCount};
+ghost use Rattle.hot_chain.specs.Chain.{has_aborted, IsChain};
+ghost use Rattle.prune.specs.Cutting.{IsCutCount};
 ghost use Rattle.prune.specs.Pruning.{root_action};
-ghost use Rattle.prune.specs.Marks.{AreNumbers, mark_at, MarksChain, IsMark};
+ghost use Rattle.prune.specs.Marks.{AreNumbers, mark_of, mark_at, marked, MarksChain, IsMark, IsSingle};
 
 use crate::action::Action;
+use crate::dead::is_dead_at;
+use arrayvec::ArrayVec;
 use commit_status::StatusTable;
-use hot_chain::{chain, is_root};
+use hot_chain::{is_root, list_chain};
 use page_slots::Page;
 use visibility::{Fate, fate_of};
 use xid_circle::Xid;
@@ -20,23 +23,29 @@ use xid_circle::Xid;
 pub(crate) enum Mark {
     /// It is neither a root nor in the chain of one.
     Loose,
+    /// It is, and nothing is done to it.
+    Kept,
     /// It is, and this is done to it.
-    Held(Option<Action>),
+    Goes(Action),
+}
+
+impl Mark {
+    /// That of a slot in a chain, or of a root, to which this is done, if anything.
+    fn held(action: Option<Action>) -> Mark
+        ensures { result ≡ mark_of action }
+    {
+        match action {
+            Some(action) => Mark::Goes(action),
+            None => Mark::Kept,
+        }
+    }
 }
 
 /// A mark for each number from 0 to 291.
 pub(crate) type Marks = [Mark; 292];
 
-/// Whether a slot holds a dead version.
-fn is_dead_at(page: &Page, number: u16, table: &StatusTable, horizon: Xid) -> bool
-    requires { IsNormal horizon.0 }
-    ensures { IsTrue result ↔ IsDeadAt table.now horizon.0 page.now.slots number }
-{
-    match page.header(number) {
-        Some(header) => matches!(fate_of(&header, horizon, table), Fate::Dead),
-        None => false,
-    }
-}
+/// The slots of a chain.
+type Listed = ArrayVec<u16, 292>;
 
 /// How many of these versions end with the last dead one.
 pub(crate) fn cut_count(page: &Page, chain: &[u16], table: &StatusTable, horizon: Xid) -> usize
@@ -69,38 +78,99 @@ pub(crate) fn root_action(cut: usize, chain: &[u16]) -> Option<Action>
 /// Notes for each of these slots that this is done to it.
 fn mark_all(marks: &mut Marks, numbers: &[u16], action: Option<Action>)
     requires { AreNumbers numbers.now }
-    ensures { (n : ℕ) → mark_at marks.new n ≡ (if list_any (nat_eq n) numbers.now then Mark.Held action else mark_at marks.old n) }
+    ensures { (n : ℕ) → mark_at marks.new n ≡ (if list_any (nat_eq n) numbers.now then mark_of action else mark_at marks.old n) }
 {
     for number in numbers {
-        marks[usize::from(*number)] = Mark::Held(action);
+        marks[usize::from(*number)] = Mark::held(action);
     }
 }
 
-/// Notes what becomes of a root and of the slots of its chain.
-fn mark_chain(marks: &mut Marks, page: &Page, root: u16, table: &StatusTable, horizon: Xid)
+/// The only slot of a root's chain, and whether its version is dead, where the header there tells that no later version
+/// replaced it.
+fn single_of(page: &Page, root: u16, table: &StatusTable, horizon: Xid) -> Option<(u16, bool)>
+    requires { IsNormal horizon.0 }
+    ensures { IfSome result (λ single. IsSingle table.now horizon.0 page.now.slots root single.0 single.1) }
+{
+    let start = page.redirect(root).unwrap_or(root);
+    let header = page.header(start)?;
+    if header.is_hot_updated() {
+        return None;
+    }
+    Some((
+        start,
+        matches!(fate_of(&header, horizon, table), Fate::Dead),
+    ))
+}
+
+/// Notes what becomes of a root whose chain is this slot, and of the slot.
+fn mark_single(marks: &mut Marks, root: u16, start: u16, is_dead: bool)
+    requires root { root < 292 }
+    requires start { start < 292 }
+    ensures { (n : ℕ) → mark_at marks.new n ≡ marked root (start ∷ []) (if is_dead then 1 else 0) n (mark_at marks.old n) }
+{
+    if is_dead {
+        marks[usize::from(start)] = Mark::Goes(Action::Unuse);
+        marks[usize::from(root)] = Mark::Goes(Action::Kill);
+    } else {
+        marks[usize::from(start)] = Mark::Kept;
+        marks[usize::from(root)] = Mark::Kept;
+    }
+}
+
+/// Notes what becomes of a root with this chain, and of the chain's slots.
+fn mark_chain(
+    marks: &mut Marks,
+    chain: &[u16],
+    page: &Page,
+    root: u16,
+    table: &StatusTable,
+    horizon: Xid,
+)
+    requires normal { IsNormal horizon.0 }
+    requires number { root < 292 }
+    requires chain { IsChain (has_aborted table.now) page.now.slots root chain.now }
+    ensures { MarksChain table.now horizon.0 page.now.slots root marks.old marks.new }
+{
+    let _limit = page.slots();
+    let cut = cut_count(page, chain, table, horizon);
+    mark_all(marks, chain, None);
+    mark_all(marks, &chain[..cut], Some(Action::Unuse));
+    marks[usize::from(root)] = Mark::held(root_action(cut, chain));
+}
+
+/// Notes what becomes of a root and of the slots of its chain, which is listed only where it may have more than one.
+fn mark_root(
+    marks: &mut Marks,
+    listed: &mut Listed,
+    page: &Page,
+    root: u16,
+    table: &StatusTable,
+    horizon: Xid,
+)
     requires normal { IsNormal horizon.0 }
     requires number { root < 292 }
     ensures { MarksChain table.now horizon.0 page.now.slots root marks.old marks.new }
 {
     let _limit = page.slots();
-    let slots = chain(page, root, table);
-    let numbers = slots.as_slice();
-    let cut = cut_count(page, numbers, table, horizon);
-    mark_all(marks, numbers, None);
-    mark_all(marks, &numbers[..cut], Some(Action::Unuse));
-    marks[usize::from(root)] = Mark::Held(root_action(cut, numbers));
-}
-
-/// The mark of each slot.
-pub(crate) fn marks_of(page: &Page, table: &StatusTable, horizon: Xid) -> Marks
-    requires { IsNormal horizon.0 }
-    ensures { (n : ℕ) → IsMark table.now horizon.0 page.now.slots n (mark_at result n) }
-{
-    let mut marks = [Mark::Loose; 292];
-    for root in 1..page.slots() + 1 {
-        if is_root(page, root) {
-            mark_chain(&mut marks, page, root, table, horizon);
+    match single_of(page, root, table, horizon) {
+        Some((start, is_dead)) => mark_single(marks, root, start, is_dead),
+        None => {
+            list_chain(page, root, table, listed);
+            mark_chain(marks, listed.as_slice(), page, root, table, horizon);
         }
     }
-    marks
+}
+
+/// Notes the mark of each slot. Nothing is noted before.
+pub(crate) fn mark_page(marks: &mut Marks, page: &Page, table: &StatusTable, horizon: Xid)
+    requires normal { IsNormal horizon.0 }
+    requires blank { (n : ℕ) → mark_at marks.old n ≡ Mark.Loose }
+    ensures { (n : ℕ) → IsMark table.now horizon.0 page.now.slots n (mark_at marks.new n) }
+{
+    let mut listed: Listed = ArrayVec::new();
+    for root in 1..page.slots() + 1 {
+        if is_root(page, root) {
+            mark_root(marks, &mut listed, page, root, table, horizon);
+        }
+    }
 }

@@ -1,6 +1,6 @@
 //! The plan of a page's pruning.
 
-ghost use Rattle.std.specs.Prelude.{◌≡◌, ◌<◌, length};
+ghost use Rattle.std.specs.Prelude.{◌≡◌, ◌<◌, [], length};
 ghost use Rattle.xid_circle.specs.Circle.{IsNormal};
 ghost use Rattle.prune.specs.Actions.{CanApply};
 ghost use Rattle.prune.specs.Pruning.{loose_action, IsPlan};
@@ -9,8 +9,9 @@ ghost use Rattle.prune.specs.Cutting.{NoSharedSlots};
 ghost use Rattle.prune.specs.Checks.{Checks};
 ghost use Rattle.prune.specs.Marks.{mark_at, planned};
 
-use crate::action::{Action, PrunePlan};
-use crate::marks::{Mark, Marks, marks_of};
+use crate::action::{Action, Actions, PrunePlan};
+use crate::dead::has_dead;
+use crate::marks::{Mark, Marks, mark_page};
 use arrayvec::ArrayVec;
 use commit_status::{Status, StatusTable};
 use page_slots::Page;
@@ -35,8 +36,25 @@ fn action_at(page: &Page, marks: &Marks, number: u16, table: &StatusTable) -> Op
     ensures { result ≡ planned table.now page.now.slots number (mark_at marks.now number) }
 {
     match marks[usize::from(number)] {
-        Mark::Held(action) => action,
+        Mark::Kept => None,
+        Mark::Goes(action) => Some(action),
         Mark::Loose => loose_action(page, number, table),
+    }
+}
+
+/// Lists the changes of pruning a page, by a walk along the chain of each root. The list is empty before.
+pub(crate) fn list_actions(actions: &mut Actions, page: &Page, table: &StatusTable, horizon: Xid)
+    requires normal { IsNormal horizon.0 }
+    requires blank { actions.old.items ≡ [] }
+    ensures can_apply { CanApply (length page.now.slots) actions.new.items }
+    ensures exact { IsPlan table.now horizon.0 page.now.slots actions.new.items }
+{
+    let mut marks = [Mark::Loose; 292];
+    mark_page(&mut marks, page, table, horizon);
+    for number in 1..page.slots() + 1 {
+        if let Some(action) = action_at(page, &marks, number, table) {
+            actions.push((number, action));
+        }
     }
 }
 
@@ -50,12 +68,10 @@ pub fn plan(page: &Page, table: &StatusTable, horizon: Xid) -> PrunePlan
     ensures exact { IsPlan table.now horizon.0 page.now.slots result.actions.items }
     ensures checks { NoSharedSlots (has_aborted table.now) page.now.slots → Checks table.now horizon.0 page.now result.change result.actions.items }
 {
-    let marks = marks_of(page, table, horizon);
+    let _limit = page.slots();
     let mut actions = ArrayVec::new();
-    for number in 1..page.slots() + 1 {
-        if let Some(action) = action_at(page, &marks, number, table) {
-            actions.push((number, action));
-        }
+    if has_dead(page, table, horizon) {
+        list_actions(&mut actions, page, table, horizon);
     }
     PrunePlan {
         change: page.change(),

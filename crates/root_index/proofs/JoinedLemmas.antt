@@ -12,7 +12,7 @@ use Rattle.root_index.specs.declared.entry.Entry.{Entry}
 use Rattle.root_index.specs.Order.{comparison, Precedes, IsAscending}
 use Rattle.root_index.specs.Sets.{IsAt, IsGapFor}
 use Rattle.root_index.specs.Lists.{joined, list_of, rank, begins_after, Place, IsBetween}
-use Rattle.root_index.proofs.OrderLemmas.{comparison_total, Precedes-trans, same-from_tied}
+use Rattle.root_index.proofs.OrderLemmas.{comparison_total, Precedes-trans, same-from_tied, less_from_test}
 use Rattle.root_index.proofs.SetLemmas.{ascending-at, lowest, same_place}
 
 -- How lists stand, and places in them.
@@ -89,11 +89,6 @@ before_by_case : (a f x : Entry) (o : Ordering) → comparison x f ≡ o → Pre
 before_by_case a f x Less e h less = absurd (cc less)
 before_by_case a f x Equal e h less = subst (λ y. Precedes a y) (sym (same-from_tied x f e)) h
 before_by_case a f x Greater e h less = Precedes-trans a f x h (comparison_total.antisymm f x ∙ ap ordering_reverse e)
-
-less_from_test : (o : Ordering) → is_lt o ≡ true → o ≡ Less
-less_from_test Less h = refl
-less_from_test Equal h = absurd (cc h)
-less_from_test Greater h = absurd (cc h)
 
 before_list : (ls : List (List Entry)) (x : Entry) (i k : ℕ) (e : Entry) → IsTidy ls → i < length ls → (0 < i → begins_after x (list_of ls i) ≡ false)
     → k < start ls i → slice_get (joined ls) k ≡ Some e → Precedes e x

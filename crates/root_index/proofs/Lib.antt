@@ -1,10 +1,13 @@
+pub mod BoundLemmas
 pub mod BracketLemmas
 pub mod EditLemmas
 pub mod JoinedLemmas
 pub mod LookUpLemmas
 pub mod OrderLemmas
+pub mod PlaceLemmas
 pub mod RowEditLemmas
 pub mod RowGrowthLemmas
 pub mod RowLemmas
 pub mod SetLemmas
 pub mod SoundLemmas
+pub mod SweepLemmas

@@ -1,20 +1,17 @@
--- What a change of nodes does to all entries: halves of a branch, and entries that go.
-use Rattle.std.proofs.Common.{◌≡◌, ◌∙◌, ℕ, zero, suc, ◌+◌, ◌-◌, ◌<◌, ◌≤◌, Option, Some, List, [], ◌∷◌, ◌++◌, length, map, take, drop, slice_get, slice_set, get_or, Bool, true, false, not, ◌==◌, IfSome, sym, ap, refl, subst, arith}
-use Rattle.std.specs.List.{filter, All}
-use Rattle.std.proofs.lemmas.Bool.Decides.{nat_tests}
-use Rattle.std.proofs.lemmas.List.{length-append, append-nil, take_all, take-append-le, drop_all, map-set, map-append}
-use Rattle.std.proofs.lemmas.List.Elements.{All-cons, All-head, All-tail, All-nil}
-use Rattle.std.proofs.lemmas.Option.{slice_get-get_or, get_or_from_slice_get}
+-- What a change of nodes does to all entries: halves of a branch.
+use Rattle.std.proofs.Common.{◌≡◌, ◌∙◌, ℕ, zero, suc, ◌+◌, ◌-◌, ◌<◌, ◌≤◌, Option, List, [], ◌∷◌, ◌++◌, length, map, take, slice_get, IfSome, sym, ap, refl, subst, arith}
+use Rattle.std.specs.List.{All}
+use Rattle.std.proofs.lemmas.List.{length-append, take-append-le, map-append}
+use Rattle.std.proofs.lemmas.List.Elements.{All-tail}
 use Rattle.root_index.specs.declared.entry.Entry.{Entry}
 use Rattle.root_index.specs.declared.node.Half.{Half}
 use Rattle.root_index.specs.declared.node.Half.TheVariants.{Lower, Upper}
 use Rattle.root_index.specs.declared.nodes.Spot.{Spot}
 use Rattle.root_index.specs.Halves.{IsHalf, rank_half}
 use Rattle.root_index.specs.Lists.{joined}
-use Rattle.root_index.specs.Nodes.{all, AreNeat, inner_rank, rank_in, IsSpotIn}
+use Rattle.root_index.specs.Nodes.{all, inner_rank, rank_in, IsSpotIn}
 use Rattle.root_index.proofs.JoinedLemmas.{start}
-use Rattle.root_index.proofs.EditLemmas.{joined_swept, swept_next}
-use Rattle.root_index.proofs.RowLemmas.{length-lists, list_at}
+use Rattle.root_index.proofs.RowLemmas.{length-lists}
 
 -- Two rows of nodes, one behind the other.
 
@@ -22,12 +19,12 @@ pub all_back : {X : Type 0} (P : X → Type 0) (xs ys : List X) → All P (xs ++
 all_back P [] ys holds = holds
 all_back P (x ∷ xs) ys holds = all_back P xs ys (All-tail P x (xs ++ ys) holds)
 
-get_front : {X : Type 0} (xs ys : List X) (i : ℕ) → i < length xs → slice_get (xs ++ ys) i ≡ slice_get xs i
+pub get_front : {X : Type 0} (xs ys : List X) (i : ℕ) → i < length xs → slice_get (xs ++ ys) i ≡ slice_get xs i
 get_front [] ys i within = absurd (omega arith)
 get_front (x ∷ xs) ys zero within = refl
 get_front (x ∷ xs) ys (suc i) within = get_front xs ys i (omega arith)
 
-get_behind : {X : Type 0} (xs ys : List X) (k : ℕ) → slice_get (xs ++ ys) (length xs + k) ≡ slice_get ys k
+pub get_behind : {X : Type 0} (xs ys : List X) (k : ℕ) → slice_get (xs ++ ys) (length xs + k) ≡ slice_get ys k
 get_behind [] ys k = let is : 0 + k ≡ k = omega arith in ap (slice_get ys) is
 get_behind (x ∷ xs) ys k =
     let next : suc (length xs) + k ≡ suc (length xs + k) = omega arith in
@@ -110,60 +107,3 @@ module _ {N S : Type 0} (entries : N → List Entry) (rank : N → S → ℕ) (I
       ap (rank_half (λ b. all entries b) (λ b s. rank_in entries rank b s) l u) upper
       ∙ sym (rank_back entries rank l u spot.node spot.inner n size past)
       ∙ ap (λ (b : List N). rank_in entries rank b spot) is
-
--- Entries that go from each node, and nodes that go since they are empty.
-
-pub swept_row : {N : Type 0} (entries : N → List Entry) (f : List Entry → List Entry) (nodes now : List N) (i : ℕ) (was new : N) → i < length nodes → length now ≡ length nodes
-    → map entries now ≡ map f (take i (map entries nodes)) ++ drop i (map entries nodes) → was ≡ get_or now i was → entries new ≡ f (entries was)
-    → map entries (slice_set now i new) ≡ map f (take (i + 1) (map entries nodes)) ++ drop (i + 1) (map entries nodes)
-swept_row entries f nodes now i was new within count so_far is made =
-    let size = length-lists entries nodes in
-    let at : slice_get now i ≡ Some was = slice_get-get_or now i was (omega arith) ∙ ap Some (sym is) in
-    let there : entries was ≡ get_or (map entries now) i (entries was) =
-    sym (get_or_from_slice_get (map entries now) i (entries was) (entries was) (list_at entries now i was at)) in
-    map-set entries now i new ∙ swept_next f (map entries nodes) (map entries now) i (entries was) (entries new) (omega arith) so_far there made
-
-pub all_at_end : {N : Type 0} (entries : N → List Entry) (test : Entry → Bool) (nodes now : List N) (n : ℕ) → length nodes ≤ n
-    → map entries now ≡ map (filter test) (take n (map entries nodes)) ++ drop n (map entries nodes) → all entries now ≡ filter test (all entries nodes)
-all_at_end entries test nodes now n past so_far =
-    let size = length-lists entries nodes in
-    let lists = map entries nodes in
-    ap joined so_far
-    ∙ ap (λ r. joined (map (filter test) (take n lists) ++ r)) (drop_all n lists (omega arith))
-    ∙ ap joined (append-nil (map (filter test) (take n lists)))
-    ∙ ap (λ r. joined (map (filter test) r)) (take_all n lists (omega arith))
-    ∙ joined_swept test lists
-
--- whether a node has parts
-abbrev pub has_parts : ℕ → Bool
-has_parts zero = false
-has_parts (suc n) = true
-
-module _ {N : Type 0} (entries : N → List Entry) (IsNeat : N → Type 0) (size : N → ℕ) where
-  kept_entries : ((n : N) → size n ≡ 0 → entries n ≡ []) → (n : N) (nodes : List N) (k : ℕ) → size n ≡ k → all entries (filter (λ n. has_parts (size n)) nodes) ≡ all entries nodes
-      → all entries (filter (λ n. has_parts (size n)) (n ∷ nodes)) ≡ all entries (n ∷ nodes)
-  kept_entries none n nodes zero is rest = rw is (rest ∙ ap (λ l. l ++ all entries nodes) (sym (none n is)))
-  kept_entries none n nodes (suc k) is rest = rw is (ap (λ l. entries n ++ l) rest)
-
-  pub all_kept : ((n : N) → size n ≡ 0 → entries n ≡ []) → (nodes : List N) → all entries (filter (λ n. has_parts (size n)) nodes) ≡ all entries nodes
-  all_kept none [] = refl
-  all_kept none (n ∷ nodes) = kept_entries none n nodes (size n) refl (all_kept none nodes)
-
-  some_parts : (k : ℕ) → has_parts k ≡ true → 0 < k
-  some_parts zero has = absurd (cc has)
-  some_parts (suc k) has = omega arith
-
-  kept_neat : (n : N) (nodes : List N) (b : Bool) → has_parts (size n) ≡ b → IsNeat n → AreNeat IsNeat size (filter (λ n. has_parts (size n)) nodes)
-      → AreNeat IsNeat size (filter (λ n. has_parts (size n)) (n ∷ nodes))
-  kept_neat n nodes false is neat rest = rw is rest
-  kept_neat n nodes true is neat rest =
-      let some = some_parts (size n) is in
-      rw is (All-cons (λ n. IsNeat n × (0 < size n)) n (filter (λ n. has_parts (size n)) nodes) (neat, some) rest)
-
-  pub neat_kept : (nodes : List N) → All IsNeat nodes → AreNeat IsNeat size (filter (λ n. has_parts (size n)) nodes)
-  neat_kept [] neat = All-nil (λ n. IsNeat n × (0 < size n))
-  neat_kept (n ∷ nodes) neat = kept_neat n nodes (has_parts (size n)) refl (All-head IsNeat n nodes neat) (neat_kept nodes (All-tail IsNeat n nodes neat))
-
-pub has_parts_is : (n : ℕ) (b : Bool) → b ≡ not (n == 0) → b ≡ has_parts n
-has_parts_is zero b h = h
-has_parts_is (suc n) b h = h ∙ grind (arith, nat_tests)

@@ -74,9 +74,9 @@ module _ {N : Type 0} (entries : N → List Entry) where
 
   module _ {S : Type 0} (size : N → ℕ) (rank : N → S → ℕ) (IsSpot : N → S → Type 0) where
     module _ (nodes : List N) (spot : Spot S) (n l u : N) (inner : S) (at : slice_get nodes spot.node ≡ Some n) (is : entries l ++ entries u ≡ entries n) where
-      pub opened_low : size l ≡ 64 → IsSpot l inner → rank l inner ≡ rank n spot.inner
+      pub opened_low : size l < 128 → IsSpot l inner → rank l inner ≡ rank n spot.inner
           → IsOpen entries size rank IsSpot nodes (split_to nodes spot.node l u) spot (record { node = spot.node; inner = inner })
-      opened_low half low ranked =
+      opened_low few low ranked =
           let low_at = get_low nodes spot.node l u (slice_get_within nodes spot.node n at) in
           let front = start_split nodes spot.node l u in
           let there : inner_rank rank (slice_get (split_to nodes spot.node l u) spot.node) inner ≡ rank l inner = ap (λ o. inner_rank rank o inner) low_at in
@@ -84,12 +84,12 @@ module _ {N : Type 0} (entries : N → List Entry) where
           record {
             same = entries_split nodes spot.node n l u at is;
             before = omega arith;
-            room = subst (λ (o : Option N). IsSomeAnd o (λ n. (size n < 128) × IsSpot n inner)) (sym low_at) (omega arith, low);
+            room = subst (λ (o : Option N). IsSomeAnd o (λ n. (size n < 128) × IsSpot n inner)) (sym low_at) (few, low);
           }
 
-      pub opened_high : size u ≡ 64 → IsSpot u inner → length (entries l) + rank u inner ≡ rank n spot.inner
+      pub opened_high : size u < 128 → IsSpot u inner → length (entries l) + rank u inner ≡ rank n spot.inner
           → IsOpen entries size rank IsSpot nodes (split_to nodes spot.node l u) spot (record { node = spot.node + 1; inner = inner })
-      opened_high half high ranked =
+      opened_high few high ranked =
           let within = slice_get_within nodes spot.node n at in
           let high_at = get_high nodes spot.node l u within in
           let front = start_split nodes spot.node l u in
@@ -99,7 +99,7 @@ module _ {N : Type 0} (entries : N → List Entry) where
           record {
             same = entries_split nodes spot.node n l u at is;
             before = omega arith;
-            room = subst (λ (o : Option N). IsSomeAnd o (λ n. (size n < 128) × IsSpot n inner)) (sym high_at) (omega arith, high);
+            room = subst (λ (o : Option N). IsSomeAnd o (λ n. (size n < 128) × IsSpot n inner)) (sym high_at) (few, high);
           }
 
     -- An entry that is put into a node with room.

@@ -11,13 +11,13 @@ use Rattle.xid_circle.specs.declared.Tid.{Tid}
 use Rattle.xid_circle.proofs.Members.{Contains-first, Contains-rest, Contains-cases, Contains-none}
 use Rattle.xid_circle.proofs.Tids.{same-tid}
 use Rattle.std.proofs.lemmas.Option.{slice_get-get_or, slice_get_within, get_or_from_slice_get}
-use Rattle.std.proofs.lemmas.List.Elements.{All-cons, All-contains, All-filter, filter_passes, All-contains_itself}
-use Rattle.std.proofs.lemmas.List.Kept.{AllPairs-cons, AllPairs-filter}
+use Rattle.std.proofs.lemmas.List.Elements.{All-cons}
+use Rattle.std.proofs.lemmas.List.Kept.{AllPairs-cons}
 use Rattle.std.proofs.lemmas.List.Sorted.{Contains-permutation, IsPermutation-insert, IsPermutation-sym, All-permutation}
 use Rattle.std.specs.Cmp.{int_cmp_is, nat_cmp_is}
 use Rattle.root_index.specs.declared.entry.Entry.{Entry}
 use Rattle.root_index.specs.Order.{Precedes, IsAscending}
-use Rattle.root_index.specs.Sets.{Adds, Removes, IsLeast, IsAfter, IsBelow, IsAt, IsGapFor, IsStart}
+use Rattle.root_index.specs.Sets.{Adds, IsLeast, IsAfter, IsBelow, IsAt, IsGapFor, IsStart}
 use Rattle.root_index.specs.Lists.{is_among, stays}
 use Rattle.root_index.proofs.OrderLemmas.{not_before_itself, Precedes-not_back, ascending-tail}
 
@@ -84,7 +84,7 @@ start_after_gap xs from i gap = record {
 
 -- Where the entries begin that are not below a value and a key: at the lowest entry of these, which has place (0, 0).
 
-less_both : (o p : Ordering) → ordering_then o p ≡ Less → (o ≡ Less) ⊎ ((o ≡ Equal) × (p ≡ Less))
+pub less_both : (o p : Ordering) → ordering_then o p ≡ Less → (o ≡ Less) ⊎ ((o ≡ Equal) × (p ≡ Less))
 less_both Less p e = inl refl
 less_both Equal p e = inr (refl, e)
 less_both Greater p e = absurd (cc e)
@@ -179,9 +179,9 @@ adds-there xs y i up at = record {
   members = λ e. (λ h. inl h, λ h. ⊎_elim (λ old. old) (λ same. subst (λ z. Contains xs z) (sym same) (Contains-from_place xs y i at)) h);
 }
 
--- Entries that are taken away: the test keeps what leads to no dead place.
+-- Entries that stay, since they pass the test.
 
-kept : (test : Entry → Bool) (xs : List Entry) (e : Entry) → Contains xs e → test e ≡ true → Contains (filter test xs) e
+pub kept : (test : Entry → Bool) (xs : List Entry) (e : Entry) → Contains xs e → test e ≡ true → Contains (filter test xs) e
 kept test [] e there passes = absurd (Contains-none e there)
 kept test (x ∷ xs) e there passes =
     ⊎_elim (λ first. kept_first test x xs e (sym first) passes) (λ rest. kept_rest test x xs e (kept test xs e rest passes) (test x) refl) (Contains-cases x e xs there)
@@ -194,19 +194,6 @@ kept test (x ∷ xs) e there passes =
     kept_rest : (test : Entry → Bool) (x : Entry) (xs : List Entry) (e : Entry) → Contains (filter test xs) e → (b : Bool) → test x ≡ b → Contains (filter test (x ∷ xs)) e
     kept_rest test x xs e there true is = rw is (Contains-rest x e (filter test xs) there)
     kept_rest test x xs e there false is = rw is there
-
-pub removes-filter : (xs : List Entry) (dead : List Tid) (test : Entry → Bool) → IsAscending xs
-    → ((e : Entry) → (test e ≡ true) ↔ (¬ Contains dead e.tid)) → Removes xs (filter test xs) dead
-removes-filter xs dead test up says = record {
-  ascending = AllPairs-filter Precedes test xs up;
-  members = λ e. (
-    λ h. (
-      All-contains (Contains xs) (filter test xs) e (All-filter test (Contains xs) xs (All-contains_itself xs)) h,
-      (says e).0 (All-contains (λ x. test x ≡ true) (filter test xs) e (filter_passes test xs) h),
-    ),
-    λ h. kept test xs e h.0 ((says e).1 h.1),
-  );
-}
 
 -- The test that tells which entries stay, from what is known of its answers.
 
@@ -241,8 +228,13 @@ same_test true false h = sym (h.0 refl)
 same_test false true h = h.1 refl
 same_test false false h = refl
 
--- what answers whether the entry's place is not among these is that test
-pub stays-from : (dead : List Tid) (e : Entry) (b : Bool) → ((IsTrue b) ↔ (¬ Contains dead e.tid)) → b ≡ stays dead e
-stays-from dead e b says =
+-- what answers whether the entry's place is among these is its opposite
+pub dead-is : (dead : List Tid) (e : Entry) (b : Bool) → ((IsTrue b) ↔ Contains dead e.tid) → b ≡ not (stays dead e)
+dead-is dead e b says =
     let test = stays-is dead e in
-    same_test b (stays dead e) (λ h. test.1 (says.0 h), λ h. says.1 (test.0 h))
+    let negated = not_true (stays dead e) in
+    same_test b (not (stays dead e)) (λ h. negated.1 (λ yes. test.0 yes (says.0 h)), λ h. says.1 (by_case (is_among dead e.tid) refl (negated.0 h)))
+  where
+    by_case : (a : Bool) → is_among dead e.tid ≡ a → ¬ (stays dead e ≡ true) → Contains dead e.tid
+    by_case true is h = (among-contains dead e.tid).0 is
+    by_case false is h = absurd (h (ap not is))

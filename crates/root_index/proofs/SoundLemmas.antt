@@ -1,27 +1,15 @@
 -- What the calls of an index keep.
-use Rattle.std.proofs.Common.{◌≡◌, ◌∙◌, ℕ, zero, suc, ◌+◌, ◌-◌, ◌^◌, ◌<◌, ◌≤◌, ◌⊎◌, inl, inr, max, List, ◌∷◌, [], length, Bool, true, false, Option, slice_get, sym, ap, refl, subst, arith}
-use Rattle.std.specs.List.{insert, filter}
+use Rattle.std.proofs.Common.{◌≡◌, ◌∙◌, ℕ, zero, suc, ◌+◌, ◌-◌, ◌^◌, ◌<◌, ◌≤◌, ◌⊎◌, inl, inr, max, List, length, Option, slice_get, sym, ap, refl, subst, arith}
+use Rattle.std.specs.List.{insert}
 use Rattle.std.proofs.lemmas.Bool.{cases_lt}
 use Rattle.std.proofs.lemmas.List.Edits.{length-insert}
-use Rattle.std.proofs.lemmas.List.Kept.{AllPairs-filter}
 use Rattle.root_index.specs.declared.entry.Entry.{Entry}
-use Rattle.root_index.specs.Order.{Precedes, IsAscending}
+use Rattle.root_index.specs.Order.{IsAscending}
 use Rattle.root_index.specs.Sets.{Adds, IsAt, IsGapFor, IsLeast}
 use Rattle.root_index.specs.declared.nodes.Spot.{Spot}
 use Rattle.root_index.specs.Nodes.{all, rank_in, AreNeat, IsStartIn}
 use Rattle.root_index.specs.Trees.{IsSound}
 use Rattle.root_index.proofs.SetLemmas.{ascending-insert, adds-inserted, first_is_least}
-
-less_by_case : {X : Type 0} (test : X → Bool) (x : X) (xs : List X) (b : Bool) → test x ≡ b → length (filter test xs) ≤ length xs → length (filter test (x ∷ xs)) ≤ suc (length xs)
-less_by_case test x xs true is rest = rw is (omega arith)
-less_by_case test x xs false is rest = rw is (omega arith)
-
-filter_less : {X : Type 0} (test : X → Bool) (xs : List X) → length (filter test xs) ≤ length xs
-filter_less test [] = omega arith
-filter_less test (x ∷ xs) = less_by_case test x xs (test x) refl (filter_less test xs)
-
-pub fewer : (xs new : List Entry) (test : Entry → Bool) → new ≡ filter test xs → length new ≤ length xs
-fewer xs new test made = subst (λ n. n ≤ length xs) (sym (ap length made)) (filter_less test xs)
 
 -- what is left for one insert fewer
 left_after : (HasLeft HasLeft' : ℕ → Type 0) → ((k : ℕ) → HasLeft (k + 1) → HasLeft' k) → HasLeft' 0 → (promised : ℕ) → HasLeft promised → HasLeft' (promised - 1)
@@ -58,30 +46,6 @@ module _ {N : Type 0} (entries : N → List Entry) (IsNeat : N → Type 0) (size
 
 module _ {N : Type 0} (entries : N → List Entry) (IsNeat : N → Type 0) (size : N → ℕ) (nodes : List N) (room spare : ℕ) (HasLeft : ℕ → Type 0) (count promised : ℕ)
     (sound : IsSound entries IsNeat size nodes room spare HasLeft count promised) where
-  pub sound_removed : (new : List N) (test : Entry → Bool) (room' count' : ℕ) → all entries new ≡ filter test (all entries nodes) → AreNeat IsNeat size new
-      → room ≤ room' → count' ≡ length (all entries new) → IsSound entries IsNeat size new room' spare HasLeft count' promised
-  sound_removed new test room' count' made neat in_room counted =
-      let less = fewer (all entries nodes) (all entries new) test made in
-      let before = sound.counted in
-      let list = sound.in_list in
-      let bound = sound.countable in
-      record {
-        ascending = subst IsAscending (sym made) (AllPairs-filter Precedes test (all entries nodes) sound.ascending);
-        neat = neat;
-        counted = counted;
-        in_list = omega arith;
-        in_trees = sound.in_trees;
-        below = sound.below;
-        countable = omega arith;
-      }
-
-  pub count_of_fewer : (new : List N) (test : Entry → Bool) → all entries new ≡ filter test (all entries nodes) → length (all entries new) < 2 ^ 64
-  count_of_fewer new test made =
-      let less = fewer (all entries nodes) (all entries new) test made in
-      let counted = sound.counted in
-      let bound = sound.countable in
-      omega arith
-
   -- Where nothing is promised a call may be refused.
 
   pub one_left : ((k : ℕ) → HasLeft (k + 1) → HasLeft k) → ¬ HasLeft 1 → promised ≡ 0

@@ -1,8 +1,12 @@
+pub mod Bounds
 pub mod Halves
 pub mod Lists
 pub mod Nodes
 pub mod Order
+pub mod Pieces
+pub mod Places
 pub mod Rows
 pub mod Sets
+pub mod Sweeps
 pub mod Trees
 pub mod View

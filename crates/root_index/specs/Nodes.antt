@@ -1,5 +1,5 @@
 -- Nodes one after another, be they leaves or branches.
-use Rattle.std.specs.Prelude.{◌≡◌, ◌<◌, ◌≤◌, ℕ, List, Option, Some, None, map, length, slice_get, IfSome, IsSomeAnd}
+use Rattle.std.specs.Prelude.{◌≡◌, ◌≢◌, ◌<◌, ◌≤◌, ℕ, List, Option, Some, None, map, length, take, slice_get, IfSome, IsSomeAnd}
 use Rattle.std.specs.List.{All}
 use Rattle.root_index.specs.declared.entry.Entry.{Entry}
 use Rattle.root_index.specs.declared.nodes.Spot.{Spot}
@@ -14,6 +14,10 @@ all entries nodes = joined (map entries nodes)
 abbrev pub AreNeat : {N : Type 0} → (N → Type 0) → (N → ℕ) → List N → Type 0
 AreNeat IsNeat size nodes = All (λ n. IsNeat n × (0 < size n)) nodes
 
+-- the number of entries before the node of this number
+abbrev pub before_node : {N : Type 0} → (N → List Entry) → List N → ℕ → ℕ
+before_node entries nodes number = length (joined (take number (map entries nodes)))
+
 -- the number of entries before the spot in its node, if there is such a node
 abbrev pub inner_rank : {N S : Type 0} → (N → S → ℕ) → Option N → S → ℕ
 inner_rank rank None spot = 0
@@ -27,6 +31,10 @@ place rank nodes spot = record { list = spot.node; entry = inner_rank rank (slic
 abbrev pub rank_in : {N S : Type 0} → (N → List Entry) → (N → S → ℕ) → List N → Spot S → ℕ
 rank_in entries inner nodes spot = rank (map entries nodes) (place inner nodes spot)
 
+-- no node is empty but for that of this number, nor any part of one
+abbrev pub AreNeatBut : {N : Type 0} → (N → Type 0) → (N → ℕ) → List N → ℕ → Type 0
+AreNeatBut {N} IsNeat size nodes number = (i : ℕ) (n : N) → slice_get nodes i ≡ Some n → IsNeat n × (i ≢ number → 0 < size n)
+
 -- where an entry may be put
 pub record IsSpotIn {N S : Type 0} (IsSpot : N → S → Type 0) (nodes : List N) (spot : Spot S) : Type 0 where
   pub node : 0 < length nodes → spot.node < length nodes
@@ -35,6 +43,10 @@ pub record IsSpotIn {N S : Type 0} (IsSpot : N → S → Type 0) (nodes : List N
 -- where an entry stands
 abbrev pub IsEntryIn : {N S : Type 0} → (N → S → Type 0) → List N → Spot S → Type 0
 IsEntryIn IsEntry nodes spot = IsSomeAnd (slice_get nodes spot.node) (λ n. IsEntry n spot.inner)
+
+-- behind all entries of its node
+abbrev pub IsBehindIn : {N S : Type 0} → (N → List Entry) → (N → S → ℕ) → List N → Spot S → Type 0
+IsBehindIn entries rank nodes spot = IfSome (slice_get nodes spot.node) (λ n. length (entries n) ≤ rank n spot.inner)
 
 -- the entries from this spot on have P, and none before it has
 pub record IsStartIn {N S : Type 0} (entries : N → List Entry) (rank : N → S → ℕ) (IsSpot : N → S → Type 0) (nodes : List N) (P : Entry → Type 0) (spot : Spot S) : Type 0 where

@@ -9,10 +9,10 @@ pub record Adds (old new : List Entry) (entry : Entry) : Type 0 where
   pub ascending : IsAscending new
   pub members : (e : Entry) → Contains new e ↔ (Contains old e ⊎ (e ≡ entry))
 
--- the same entries but those that lead to one of these places
-pub record Removes (old new : List Entry) (dead : List Tid) : Type 0 where
-  pub ascending : IsAscending new
-  pub members : (e : Entry) → Contains new e ↔ (Contains old e × ¬ Contains dead e.tid)
+-- the same entries but some of those that lead to one of these places, as a piece of a sweep leaves them
+pub record Loses (old new : List Entry) (dead : List Tid) : Type 0 where
+  pub none_new : (e : Entry) → Contains new e → Contains old e
+  pub kept : (e : Entry) → Contains old e → ¬ Contains dead e.tid → Contains new e
 
 -- the first of the entries that have P, if any has
 abbrev pub IsLeast : List Entry → (Entry → Type 0) → Option Entry → Type 0

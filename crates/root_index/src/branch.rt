@@ -5,12 +5,12 @@ ghost use Rattle.std.proofs.Common.{arith};
 ghost use Rattle.root_index.specs.Rows.{none_without, some_with, rank_within, entry_is_spot};
 ghost use Rattle.root_index.specs.Nodes.{all, rank_in, AreNeat, IsSpotIn, IsEntryIn, AreLeft};
 
+use crate::dead_set::DeadSet;
 use crate::entry::Entry;
-use crate::node::{HALF, Half, MAX_PARTS, Node};
+use crate::node::{HALF, Half, MAX_PARTS, Node, Swept};
 use crate::nodes::{self, Spares, Spot};
 use std::alloc::{AllocError, Global};
 use std::marker::Model;
-use xid_circle::Tid;
 
 /// At most 128 nodes. There is always room for all of them in memory.
 #[derive(Debug, Drop)]
@@ -87,10 +87,6 @@ impl<N: Node> Node for Branch<N> {
         nodes::entry_at(&self.nodes, spot)
     }
 
-    fn count(&self) -> u64 {
-        nodes::count(&self.nodes)
-    }
-
     fn split(&mut self, upper: &mut Self, spot: Spot<N::Spot>) -> Half<Spot<N::Spot>> {
         move_half(&mut self.nodes, &mut upper.nodes);
         if spot.node < HALF {
@@ -112,8 +108,8 @@ impl<N: Node> Node for Branch<N> {
         nodes::insert(&mut self.nodes, spares, spot, entry)
     }
 
-    fn remove(&mut self, dead: &[Tid]) {
-        nodes::sweep(&mut self.nodes, dead);
+    fn sweep_from(&mut self, spot: Spot<N::Spot>, dead: &DeadSet) -> Option<Swept> {
+        nodes::sweep_from(&mut self.nodes, spot, dead)
     }
 
     fn no_spares(alloc: Global) -> Spares<N, N::Spares> {

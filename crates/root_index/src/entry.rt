@@ -1,8 +1,8 @@
 //! Entries and their order.
 
 ghost use Rattle.std.specs.Prelude.{◌≡◌};
-ghost use Rattle.std.specs.Ordering.{nat_cmp, ordering_then};
 ghost use Rattle.root_index.specs.Order.{comparison, MembersDetermine};
+ghost use Rattle.root_index.specs.Places.{place_order};
 
 use std::cmp::Ordering;
 use xid_circle::Tid;
@@ -34,10 +34,13 @@ pub(crate) fn compare(a: &Entry, b: &Entry) -> Ordering
 }
 
 /// How two places compare: by page, then slot.
-fn compare_places(a: &Tid, b: &Tid) -> Ordering
-    ensures { result ≡ ordering_then (nat_cmp a.now.page b.now.page) (nat_cmp a.now.slot b.now.slot) }
+pub(crate) fn compare_places(a: &Tid, b: &Tid) -> Ordering
+    ensures { result ≡ place_order a.now b.now }
 {
-    a.page.cmp(&b.page).then(a.slot.cmp(&b.slot))
+    if a.page != b.page {
+        return a.page.cmp(&b.page);
+    }
+    a.slot.cmp(&b.slot)
 }
 
 /// The law of ordered sets: two ascending lists with the same entries are the same list. It does nothing; its contract is

@@ -3,17 +3,19 @@
 ghost use Rattle.std.specs.Prelude.{◌≡◌, ◌<◌, ◌≤◌, ◌+◌, [], length, OnOk, OnErr, Some, Contains};
 ghost use Rattle.std.specs.Option.{option_map};
 ghost use Rattle.root_index.specs.Order.{IsAscending};
-ghost use Rattle.root_index.specs.Sets.{Adds, Removes, IsLeast, IsAfter, IsBelow};
+ghost use Rattle.root_index.specs.Sets.{Adds, IsLeast, IsAfter, IsBelow};
+ghost use Rattle.root_index.specs.Pieces.{RemovesPiece};
 
 use crate::branch::Branch;
+use crate::dead_set::DeadSet;
 use crate::entry::Entry;
 use crate::leaf::Leaf;
 use crate::look_ups;
 use crate::node::Node;
 use crate::nodes::{self, Spares, Spot};
+use crate::progress::Progress;
 use std::alloc::{AllocError, Global};
 use std::marker::Model;
-use xid_circle::Tid;
 
 /// What the entries stand in: 128 branches at most, of 128 leaves at most, of 128 entries at most.
 type Tree = Branch<Branch<Leaf>>;
@@ -84,7 +86,7 @@ impl RootIndex {
     }
 
     /// Makes room in memory for `count` more entries, so that the next `count` of them are inserted without asking for any.
-    /// Each may split a node of each kind, so this keeps as many spare ones, of 4, 8 and 3 KiB. It is also refused where the
+    /// Each may split a node of each kind, so this keeps as many spare ones, of 4, 10 and 3 KiB. It is also refused where the
     /// number of entries would be above 2^64 - 1.
     pub fn make_room(&mut self, count: usize) -> Result<(), AllocError>
         ensures room { OnOk result (count ≤ self.new.spare) }
@@ -154,12 +156,23 @@ impl RootIndex {
         nodes::entry_at(&self.trees, spot)
     }
 
-    /// Removes the entries that lead to one of these places, which stand in any order, and no others. It takes no memory.
-    pub fn remove(&mut self, dead: &[Tid])
-        ensures removes { Removes self.old.entries self.new.entries dead.now }
+    /// Goes over the entries after this one, or over all, as far as the leaf goes that holds the first of them, and removes those
+    /// to dead places. Says how far it came, so that the next call goes on from there. It takes no memory.
+    pub fn remove_where(&mut self, dead: &DeadSet, from: Option<Entry>) -> Progress
+        ensures piece { RemovesPiece self.old.entries self.new.entries dead.now from result }
         ensures spare { self.old.spare ≤ self.new.spare }
     {
-        nodes::sweep(&mut self.trees, dead);
-        self.count = nodes::count(&self.trees);
+        let spot = look_ups::spot_after(&self.trees, from);
+        match nodes::sweep_from(&mut self.trees, spot, dead) {
+            Some(swept) => {
+                self.count -= swept.removed;
+                if swept.more {
+                    Progress::More(swept.last)
+                } else {
+                    Progress::Done
+                }
+            }
+            None => Progress::Done,
+        }
     }
 }

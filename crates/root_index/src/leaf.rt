@@ -1,14 +1,17 @@
 //! A leaf: entries that stand together in memory.
 
-ghost use Rattle.std.specs.Prelude.{◌≡◌, ◌<◌, ◌≤◌, ◌↔◌, [], ◌∷◌, refl, length, IfOk, IfErr, IsTrue, slice_get, vec_capacity, Contains};
+ghost use Rattle.std.specs.Prelude.{◌≡◌, ◌<◌, ◌≤◌, ◌+◌, ◌-◌, ◌++◌, [], ◌∷◌, refl, length, take, drop, not, IfOk, IfErr, IfSome, IfNone, Some, slice_get, vec_len, vec_capacity};
 ghost use Rattle.std.proofs.Common.{arith};
-ghost use Rattle.std.specs.List.{insert};
+ghost use Rattle.std.specs.List.{insert, filter};
 ghost use Rattle.root_index.specs.Order.{IsAscending};
 ghost use Rattle.root_index.specs.Sets.{IsAt, IsGapFor};
-ghost use Rattle.root_index.specs.Lists.{IsFirst};
+ghost use Rattle.root_index.specs.Lists.{IsFirst, stays};
+ghost use Rattle.root_index.specs.Bounds.{AreOn};
 
+use crate::dead_set::DeadSet;
 use crate::entry::{Entry, compare};
-use crate::node::{HALF, Half, MAX_PARTS, Node};
+use crate::node::{HALF, Half, MAX_PARTS, Node, Swept};
+use crate::page_bounds::{NO_PAGES, PageBounds, bounds_of, widened};
 use std::alloc::{AllocError, Global};
 use std::cmp::Ordering;
 use std::marker::Model;
@@ -21,6 +24,8 @@ pub(crate) struct Leaf {
     /// stand together in memory, where their entries don't.
     first: Entry,
     entries: Vec<Entry>,
+    /// The entries lead to these pages.
+    pages: PageBounds,
     /// How far the last value was behind the first when one of them was put there: a hint where to look.
     spread: u64,
 }
@@ -29,12 +34,13 @@ impl Model for Leaf {
     ghost use Rattle.std.specs.Prelude.{◌≤◌, List, length, vec_capacity};
     ghost use Rattle.root_index.specs.declared.entry.Entry.{Entry as Seen};
     ghost use Rattle.root_index.specs.Lists.{IsFirst};
+    ghost use Rattle.root_index.specs.Bounds.{AreOn};
 
     ghost Value = { List Seen };
 
     ghost view = { λ l. l.entries.items };
 
-    ghost invariant = { λ l. (length l.entries.items ≤ 128) × (128 ≤ vec_capacity l.entries) × IsFirst l.first l.entries.items };
+    ghost invariant = { λ l. (length l.entries.items ≤ 128) × (128 ≤ vec_capacity l.entries) × IsFirst l.first l.entries.items × AreOn l.pages l.entries.items };
 }
 
 impl Node for Leaf {
@@ -67,12 +73,14 @@ impl Node for Leaf {
         Ok(Leaf {
             first,
             entries,
+            pages: NO_PAGES,
             spread: 0,
         })
     }
 
     fn clear(&mut self) {
         self.entries.clear();
+        self.pages = NO_PAGES;
     }
 
     fn len(&self) -> usize {
@@ -108,18 +116,17 @@ impl Node for Leaf {
         entry_in(&self.entries, spot)
     }
 
-    fn count(&self) -> u64 {
-        self.entries.len() as u64
-    }
-
     fn split(&mut self, upper: &mut Self, spot: usize) -> Half<usize> {
-        refill(&mut upper.entries, &self.entries[HALF..]);
-        self.entries.truncate(HALF);
+        let kept = kept_with(spot);
+        refill(&mut upper.entries, &self.entries[kept..]);
+        self.entries.truncate(kept);
         upper.first = first_or(&upper.entries, self.first);
         self.first = first_or(&self.entries, self.first);
+        upper.pages = bounds_of(&upper.entries);
+        self.pages = bounds_of(&self.entries);
         upper.spread = spread_of(&upper.entries);
         self.spread = spread_of(&self.entries);
-        if spot <= HALF {
+        if spot < HALF {
             Half::Lower(spot)
         } else {
             Half::Upper(spot - HALF)
@@ -127,19 +134,36 @@ impl Node for Leaf {
     }
 
     fn insert(&mut self, _spares: &mut (), spot: usize, entry: Entry) -> Result<(), AllocError> {
-        // never refused, since there is room
-        let _done = self.entries.insert(spot, entry);
+        put(&mut self.entries, spot, entry);
         self.first = first_or(&self.entries, entry);
+        self.pages = widened(self.pages, entry.tid);
         if spot == 0 || spot + 1 == self.entries.len() {
             self.spread = spread_of(&self.entries);
         }
         Ok(())
     }
 
-    fn remove(&mut self, dead: &[Tid]) {
-        self.entries.retain(|entry| !is_dead(dead, entry.tid));
+    fn sweep_from(&mut self, spot: usize, dead: &DeadSet) -> Option<Swept> {
+        let last = last_from(&self.entries, spot)?;
+        let count = self.entries.len();
+        let goes = next_to_go(&self.entries, self.pages, spot, dead);
+        if goes == count {
+            return Some(Swept {
+                last,
+                removed: 0,
+                more: false,
+            });
+        }
+        remove_from(&mut self.entries, goes, dead);
         self.first = first_or(&self.entries, self.first);
+        self.pages = bounds_of(&self.entries);
         self.spread = spread_of(&self.entries);
+        let removed = (count - self.entries.len()) as u64;
+        Some(Swept {
+            last,
+            removed,
+            more: false,
+        })
     }
 
     fn no_spares(_alloc: Global) {}
@@ -159,6 +183,15 @@ impl Node for Leaf {
     ghost fewer = { λ spares k enough. tt };
 }
 
+/// How many entries a full leaf keeps when it is split for one more at this spot: the first 64 of all stay, be the new one among
+/// them or not.
+fn kept_with(spot: usize) -> usize
+    ensures among { spot < 64 → result + 1 ≡ 64 }
+    ensures behind { 64 ≤ spot → result ≡ 64 }
+{
+    if spot < HALF { HALF - 1 } else { HALF }
+}
+
 /// Puts these entries in the place of all others. There is room for them in memory.
 fn refill(entries: &mut Vec<Entry>, with: &[Entry])
     requires { length with.now ≤ vec_capacity entries.old }
@@ -168,6 +201,18 @@ fn refill(entries: &mut Vec<Entry>, with: &[Entry])
     entries.clear();
     // never refused, since there is room
     let _done = entries.extend_from_slice(with);
+}
+
+/// Puts an entry before those from this place on. There is room for it in memory.
+fn put(entries: &mut Vec<Entry>, place: usize, entry: Entry)
+    requires in_range { place ≤ vec_len entries.old }
+    requires room { vec_len entries.old < vec_capacity entries.old }
+    ensures items { entries.new.items ≡ insert entries.old.items place entry }
+    ensures count { vec_len entries.new ≡ vec_len entries.old + 1 }
+    ensures capacity { vec_capacity entries.old ≤ vec_capacity entries.new }
+{
+    // never refused, since there is room
+    let _done = entries.insert(place, entry);
 }
 
 /// How far the last value is behind the first, where that is less than 2^64.
@@ -235,9 +280,59 @@ fn first_or(entries: &[Entry], other: Entry) -> Entry
     }
 }
 
-/// Whether the place is among these.
-fn is_dead(dead: &[Tid], tid: Tid) -> bool
-    ensures { IsTrue result ↔ Contains dead.now tid }
+/// The last of these entries, if it doesn't stand before this place.
+fn last_from(entries: &[Entry], from: usize) -> Option<Entry>
+    ensures last { IfSome result (λ last. (from < length entries.now) × (slice_get entries.now (length entries.now - 1) ≡ Some last)) }
+    ensures none { IfNone result (length entries.now ≤ from) }
 {
-    dead.contains(&tid)
+    if from >= entries.len() {
+        return None;
+    }
+    entries.last().copied()
+}
+
+/// The first place, from this one on, of an entry that leads to a dead place; the end, where none does. All entries lead to these
+/// pages.
+fn next_to_go(entries: &[Entry], pages: PageBounds, from: usize, dead: &DeadSet) -> usize
+    requires in_range { from ≤ length entries.now }
+    requires on { AreOn pages entries.now }
+    ensures in_range { result ≤ length entries.now }
+    ensures kept { take result entries.now ++ filter (stays dead.now) (drop result entries.now) ≡ take from entries.now ++ filter (stays dead.now) (drop from entries.now) }
+{
+    // the entries of most leaves lead to other pages
+    if dead.is_beside(pages) {
+        return entries.len();
+    }
+    for place in from..entries.len() {
+        let entry = entries[place];
+        if is_dead(dead, entry) {
+            return place;
+        }
+    }
+    entries.len()
+}
+
+/// Removes the entries to dead places from this place on, and moves those behind them up.
+fn remove_from(entries: &mut Vec<Entry>, from: usize, dead: &DeadSet)
+    requires { from ≤ vec_len entries.old }
+    ensures items { entries.new.items ≡ take from entries.old.items ++ filter (stays dead.now) (drop from entries.old.items) }
+    ensures shorter { vec_len entries.new ≤ vec_len entries.old }
+    ensures capacity { vec_capacity entries.old ≤ vec_capacity entries.new }
+{
+    let mut kept = from;
+    for place in from..entries.len() {
+        let entry = entries[place];
+        if !is_dead(dead, entry) {
+            entries[kept] = entry;
+            kept += 1;
+        }
+    }
+    entries.truncate(kept);
+}
+
+/// Whether the entry leads to a dead place.
+fn is_dead(dead: &DeadSet, entry: Entry) -> bool
+    ensures { result ≡ not (stays dead.now entry) }
+{
+    dead.contains(entry.tid)
 }

@@ -7,18 +7,27 @@
 //! else (`specs/Sets.antt`), and [`members_determine`] that there is only one ascending list with the same entries. It says
 //! nothing of how they are kept, which is in leaves of at most 128 entries, these in branches of at most 128 leaves, and these in
 //! trees of at most 128 branches. Each of them is a `Node`, whose trait says what a node owes the one above it, so that look-ups,
-//! inserts and removals are written and proved once for all (`node.rt`, `nodes.rt`; `specs/Nodes.antt`). An insert moves no more
+//! inserts and sweeps are written and proved once for all (`node.rt`, `nodes.rt`; `specs/Nodes.antt`). An insert moves no more
 //! than a node's parts, and the list of trees is shorter than a node's. For the crates above, `proofs/LookUpLemmas.antt` says
 //! what look-ups find one after another.
+//!
+//! Entries to dead places go piece by piece ([`RootIndex::remove_where`], `specs/Pieces.antt`): a piece goes from an entry on as far
+//! as its leaf, and says where it ended, so that entries may come and go between two pieces. The dead places are a [`DeadSet`]. A
+//! leaf keeps bounds of the pages that its entries lead to, so that one that leads to none of the dead places' pages is passed over.
 #![tactic(auto)]
 
 mod branch;
+mod dead_set;
 mod entry;
 mod index;
 mod leaf;
 mod look_ups;
 mod node;
 mod nodes;
+mod page_bounds;
+mod progress;
 
+pub use dead_set::DeadSet;
 pub use entry::{Entry, members_determine};
 pub use index::{Near, RootIndex};
+pub use progress::Progress;

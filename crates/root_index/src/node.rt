@@ -1,22 +1,23 @@
 //! Nodes: what an index is made of.
 
-ghost use Rattle.std.specs.Prelude.{◌≡◌, ◌<◌, ◌≤◌, ◌+◌, ◌^◌, ◌++◌, ℕ, List, [], length, slice_get, IfOk, IfErr, OnOk, OnErr};
+ghost use Rattle.std.specs.Prelude.{◌≡◌, ◌<◌, ◌≤◌, ◌+◌, ◌++◌, ℕ, List, [], length, slice_get, IfOk, IfErr, IfSome, IfNone, OnOk, OnErr};
 ghost use Rattle.std.specs.Bool.{OnTrue};
-ghost use Rattle.std.specs.List.{filter, insert};
+ghost use Rattle.std.specs.List.{insert};
 ghost use Rattle.root_index.specs.declared.entry.Entry.{Entry as Seen};
 ghost use Rattle.root_index.specs.Order.{IsAscending};
 ghost use Rattle.root_index.specs.Sets.{IsAt, IsGapFor};
-ghost use Rattle.root_index.specs.Lists.{begins_after, stays};
+ghost use Rattle.root_index.specs.Lists.{begins_after};
 ghost use Rattle.root_index.specs.Halves.{IsHalf, rank_half};
+ghost use Rattle.root_index.specs.Sweeps.{IsSwept};
 
+use crate::dead_set::DeadSet;
 use crate::entry::Entry;
 use std::alloc::{AllocError, Global};
-use xid_circle::Tid;
 
 /// A node has at most so many parts.
 pub(crate) const MAX_PARTS: usize = 128;
 
-/// A full node keeps so many parts when it is split.
+/// Where a full node is split, so many parts stay in it, counting an entry that it is split for.
 pub(crate) const HALF: usize = 64;
 
 /// Where a spot is when its node was split.
@@ -24,6 +25,17 @@ pub(crate) const HALF: usize = 64;
 pub(crate) enum Half<S> {
     Lower(S),
     Upper(S),
+}
+
+/// What a sweep did.
+#[derive(Clone, Copy, Debug)]
+pub(crate) struct Swept {
+    /// The entry that it looked at last, removed or not.
+    pub(crate) last: Entry,
+    /// The number of entries that it removed.
+    pub(crate) removed: u64,
+    /// Whether an entry follows the last one.
+    pub(crate) more: bool,
 }
 
 /// A leaf, whose parts are entries, or a branch, whose parts are smaller nodes: at most 128, in order.
@@ -105,11 +117,6 @@ pub(crate) trait Node: Drop {
         requires spot { IsSpot self.now spot }
         ensures { result ≡ slice_get (entries self.now) (rank self.now spot) };
 
-    /// The number of entries, where it is below 2^64.
-    fn count(&self) -> u64
-        requires { length (entries self.now) < 2 ^ 64 }
-        ensures { result ≡ length (entries self.now) };
-
     /// Moves the upper parts of a full node to one without any, and says where the spot is then. It takes no memory.
     fn split(&mut self, upper: &mut Self, spot: Self::Spot) -> Half<Self::Spot>
         requires full { size self.old ≡ 128 }
@@ -117,8 +124,8 @@ pub(crate) trait Node: Drop {
         requires neat { IsNeat self.old }
         requires spot { IsSpot self.old spot }
         ensures entries { entries self.new ++ entries upper.new ≡ entries self.old }
-        ensures half { size self.new ≡ 64 }
-        ensures half_too { size upper.new ≡ 64 }
+        ensures part { (0 < size self.new) × (size self.new < 128) }
+        ensures part_too { (0 < size upper.new) × (size upper.new < 128) }
         ensures neat { IsNeat self.new }
         ensures neat_too { IsNeat upper.new }
         ensures spot { IsHalf IsSpot self.new upper.new result }
@@ -142,9 +149,14 @@ pub(crate) trait Node: Drop {
         ensures err { OnErr result (entries self.new ≡ entries self.old) }
         ensures refused { OnErr result (¬ HasLeft spares.old 1) };
 
-    /// Removes the entries that lead to one of these places, and the parts that are left without any.
-    fn remove(&mut self, dead: &[Tid])
-        ensures entries { entries self.new ≡ filter (stays dead.now) (entries self.old) }
+    /// Removes entries to dead places, from this spot on as far as its leaf goes, and the parts that are left without any. It
+    /// does nothing where no entry follows.
+    fn sweep_from(&mut self, spot: Self::Spot, dead: &DeadSet) -> Option<Swept>
+        requires neat { IsNeat self.old }
+        requires spot { IsSpot self.old spot }
+        ensures swept { IfSome result (IsSwept (entries self.old) (entries self.new) (rank self.old spot) dead.now) }
+        ensures none { IfNone result (length (entries self.old) ≤ rank self.old spot) }
+        ensures same { IfNone result (self.new ≡ self.old) }
         ensures neat { IsNeat self.new };
 
     /// No spares.

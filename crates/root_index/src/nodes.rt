@@ -1,17 +1,18 @@
 //! Nodes, one after another: looking for an entry's spot, putting one there, and removing entries from all of them.
 
-ghost use Rattle.std.specs.Prelude.{◌≡◌, ◌<◌, ◌≤◌, ◌+◌, ◌-◌, ◌^◌, ◌⊎◌, ℕ, [], length, map, IfOk, IfErr, OnOk, OnErr, vec_len, vec_capacity, slice_get, option_copied, Some, IfSome};
+ghost use Rattle.std.specs.Prelude.{◌≡◌, ◌<◌, ◌≤◌, ◌+◌, ◌-◌, ◌⊎◌, ℕ, [], length, map, IfOk, IfErr, IfSome, IfNone, OnOk, OnErr, vec_len, vec_capacity, slice_get, option_copied};
 ghost use Rattle.std.specs.Bool.{OnTrue};
-ghost use Rattle.std.specs.List.{filter, insert};
+ghost use Rattle.std.specs.List.{insert};
 ghost use Rattle.root_index.specs.Order.{IsAscending};
 ghost use Rattle.root_index.specs.Sets.{IsAt, IsGapFor};
-ghost use Rattle.root_index.specs.Lists.{stays, IsBetween};
-ghost use Rattle.root_index.specs.Nodes.{all, rank_in, AreNeat, IsSpotIn, IsEntryIn, IsOpen};
+ghost use Rattle.root_index.specs.Lists.{IsBetween};
+ghost use Rattle.root_index.specs.Nodes.{all, rank_in, before_node, AreNeat, AreNeatBut, IsSpotIn, IsEntryIn, IsBehindIn, IsOpen};
+ghost use Rattle.root_index.specs.Sweeps.{IsSwept};
 
+use crate::dead_set::DeadSet;
 use crate::entry::Entry;
-use crate::node::{Half, MAX_PARTS, Node};
+use crate::node::{Half, MAX_PARTS, Node, Swept};
 use std::alloc::AllocError;
-use xid_circle::Tid;
 
 /// A place among nodes.
 #[derive(Clone, Copy, Debug, Default, PartialEq, Eq)]
@@ -119,18 +120,6 @@ pub(crate) fn entry_at<N: Node>(nodes: &[N], spot: Spot<N::Spot>) -> Option<Entr
         return Some(entry);
     }
     node_of(nodes, spot.node + 1)?.entry_at(N::first())
-}
-
-/// The number of entries, where it is below 2^64.
-pub(crate) fn count<N: Node>(nodes: &[N]) -> u64
-    requires { length (all N.entries nodes.now) < 2 ^ 64 }
-    ensures { result ≡ length (all N.entries nodes.now) }
-{
-    let mut count = 0;
-    for node in nodes {
-        count += node.count();
-    }
-    count
 }
 
 /// A node without parts: a spare one, or else a new one.
@@ -280,15 +269,92 @@ pub(crate) fn add_nodes<N: Node>(spare: &mut Vec<N>, count: usize) -> Result<(),
     Ok(())
 }
 
-/// Removes the entries that lead to one of these places from each node, and the nodes that are left without any.
-pub(crate) fn sweep<N: Node>(nodes: &mut Vec<N>, dead: &[Tid])
-    ensures entries { all N.entries nodes.new.items ≡ filter (stays dead.now) (all N.entries nodes.old.items) }
+/// Takes the node of this number out if it has no parts.
+fn drop_empty<N: Node>(nodes: &mut Vec<N>, number: usize)
+    requires in_range { number < length nodes.old.items }
+    requires neat { AreNeatBut N.IsNeat N.size nodes.old.items number }
+    ensures entries { all N.entries nodes.new.items ≡ all N.entries nodes.old.items }
     ensures neat { AreNeat N.IsNeat N.size nodes.new.items }
     ensures shorter { vec_len nodes.new ≤ vec_len nodes.old }
     ensures capacity { vec_capacity nodes.old ≤ vec_capacity nodes.new }
 {
-    for number in 0..nodes.len() {
-        nodes[number].remove(dead);
+    if nodes[number].len() == 0 {
+        let _empty = nodes.remove(number);
     }
-    nodes.retain(|node| node.len() > 0);
+}
+
+/// Sweeps the spot's node alone, and takes it out if that leaves it without parts.
+fn sweep_one<N: Node>(nodes: &mut Vec<N>, spot: Spot<N::Spot>, dead: &DeadSet) -> Option<Swept>
+    requires neat { AreNeat N.IsNeat N.size nodes.old.items }
+    requires node { spot.node < length nodes.old.items }
+    requires spot { IsSpotIn N.IsSpot nodes.old.items spot }
+    ensures swept { IfSome result (IsSwept (all N.entries nodes.old.items) (all N.entries nodes.new.items) (rank_in N.entries N.rank nodes.old.items spot) dead.now) }
+    ensures none { IfNone result (IsBehindIn N.entries N.rank nodes.old.items spot) }
+    ensures same { IfNone result (nodes.new.items ≡ nodes.old.items) }
+    ensures neat { AreNeat N.IsNeat N.size nodes.new.items }
+    ensures shorter { vec_len nodes.new ≤ vec_len nodes.old }
+    ensures capacity { vec_capacity nodes.old ≤ vec_capacity nodes.new }
+{
+    let others = spot.node + 1 < nodes.len();
+    match nodes[spot.node].sweep_from(spot.inner, dead) {
+        Some(swept) => {
+            drop_empty(nodes, spot.node);
+            Some(Swept {
+                last: swept.last,
+                removed: swept.removed,
+                more: swept.more || others,
+            })
+        }
+        None => None,
+    }
+}
+
+/// Removes entries to dead places, from this spot on as far as its leaf goes, and the nodes that are left without any. It does
+/// nothing where no entry follows.
+pub(crate) fn sweep_from<N: Node>(
+    nodes: &mut Vec<N>,
+    spot: Spot<N::Spot>,
+    dead: &DeadSet,
+) -> Option<Swept>
+    requires neat { AreNeat N.IsNeat N.size nodes.old.items }
+    requires spot { IsSpotIn N.IsSpot nodes.old.items spot }
+    ensures swept { IfSome result (IsSwept (all N.entries nodes.old.items) (all N.entries nodes.new.items) (rank_in N.entries N.rank nodes.old.items spot) dead.now) }
+    ensures none { IfNone result (length (all N.entries nodes.old.items) ≤ rank_in N.entries N.rank nodes.old.items spot) }
+    ensures same { IfNone result (nodes.new.items ≡ nodes.old.items) }
+    ensures neat { AreNeat N.IsNeat N.size nodes.new.items }
+    ensures shorter { vec_len nodes.new ≤ vec_len nodes.old }
+    ensures capacity { vec_capacity nodes.old ≤ vec_capacity nodes.new }
+{
+    // where there are no nodes
+    if spot.node >= nodes.len() {
+        return None;
+    }
+    match sweep_one(nodes, spot, dead) {
+        Some(swept) => Some(swept),
+        None => sweep_next(nodes, spot.node + 1, dead),
+    }
+}
+
+/// Sweeps the node of this number from its first entry on, if there is such a node.
+fn sweep_next<N: Node>(nodes: &mut Vec<N>, number: usize, dead: &DeadSet) -> Option<Swept>
+    requires neat { AreNeat N.IsNeat N.size nodes.old.items }
+    ensures swept { IfSome result (IsSwept (all N.entries nodes.old.items) (all N.entries nodes.new.items) (before_node N.entries nodes.old.items number) dead.now) }
+    ensures none { IfNone result (length nodes.old.items ≤ number) }
+    ensures same { IfNone result (nodes.new.items ≡ nodes.old.items) }
+    ensures neat { AreNeat N.IsNeat N.size nodes.new.items }
+    ensures shorter { vec_len nodes.new ≤ vec_len nodes.old }
+    ensures capacity { vec_capacity nodes.old ≤ vec_capacity nodes.new }
+{
+    if number >= nodes.len() {
+        return None;
+    }
+    let inner = N::first();
+    sweep_one(
+        nodes,
+        Spot {
+            node: number,
+            inner,
+        },
+        dead,
+    )
 }

@@ -163,7 +163,7 @@ updates-page value_of w horizon k x page slots row old sound few there value key
           (a.chains.1 root n i);
     }
 
-dead-stays : (w : Window) (horizon : ℕ) (slots after : List Slot) (n : ℕ) → IsPruned w horizon slots after → slot_at slots n ≡ Some Dead → slot_at after n ≡ Some Dead
+pub dead-stays : (w : Window) (horizon : ℕ) (slots after : List Slot) (n : ℕ) → IsPruned w horizon slots after → slot_at slots n ≡ Some Dead → slot_at after n ≡ Some Dead
 dead-stays w horizon slots after n p at =
     let each = p.each n (there-from_slot_at slots n Dead at) in
     by each.answer each.does each.is

@@ -17,7 +17,7 @@ use Rattle.prune.specs.Cutting.{link}
 use Rattle.prune.specs.Sound.{IsIn, SoundPage}
 use Rattle.prune.proofs.Links.{link-of}
 use Rattle.root_index.specs.declared.entry.Entry.{Entry}
-use Rattle.root_index.specs.Sets.{Removes}
+use Rattle.root_index.specs.Sets.{Loses}
 use Rattle.sound_entries.specs.Pages.{slots_on, slot_in, Puts}
 use Rattle.sound_entries.specs.Entries.{IsSound, StaysSound}
 use Rattle.sound_entries.specs.Looking.{slots_of}
@@ -98,28 +98,25 @@ nothing-sound value_of w horizon = record {
 -- Entries that lead to dead slots go.
 
 pub going-stays : (value_of : Row → ℤ) (w : Window) (horizon : ℕ) (pages : List (List Slot)) (entries entries' : List Entry) (dead : List Tid) → IsSound value_of w horizon pages entries
-    → Removes entries entries' dead → ((p : Tid) → Contains dead p → slot_in pages p ≡ Some Dead) → StaysSound value_of w horizon pages pages entries entries'
-going-stays value_of w horizon pages entries entries' dead sound removes are_dead = record {
+    → Loses entries entries' dead → ((p : Tid) → Contains dead p → slot_in pages p ≡ Some Dead) → StaysSound value_of w horizon pages pages entries entries'
+going-stays value_of w horizon pages entries entries' dead sound loses are_dead = record {
   sound = record {
     heap = sound.heap;
     index = record {
-      leads = λ e there. sound.index.leads e (old e there);
+      leads = λ e there. sound.index.leads e (loses.none_new e there);
       led = λ p root.
           let s = sound.index.led p root in
           record {
             entry = s.entry;
-            there = (removes.members s.entry).1 (s.there, λ among. not-root p (ap (slot_in pages) (sym s.at) ∙ are_dead s.entry.tid among) root);
+            there = loses.kept s.entry s.there (λ among. not-root p (ap (slot_in pages) (sym s.at) ∙ are_dead s.entry.tid among) root);
             at = s.at;
           };
-      one = λ e f there among same. sound.index.one e f (old e there) (old f among) same;
-      alike = λ e n t there i at. sound.index.alike e n t (old e there) i at;
+      one = λ e f there among same. sound.index.one e f (loses.none_new e there) (loses.none_new f among) same;
+      alike = λ e n t there i at. sound.index.alike e n t (loses.none_new e there) i at;
     };
   };
   led = λ e there after. stays-same (slot_in pages e.tid) (sound.index.leads e there);
 }
   where
-    old : (e : Entry) → Contains entries' e → Contains entries e
-    old e there = ((removes.members e).0 there).0
-
     not-root : (p : Tid) → slot_in pages p ≡ Some Dead → is_root_in (slot_in pages p) ≡ true → ⊥
     not-root p at root = let e : false ≡ true = sym (ap is_root_in at) ∙ root in cc

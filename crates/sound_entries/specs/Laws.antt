@@ -16,7 +16,7 @@ use Rattle.page_writes.specs.Writes.{with_replaced, with_root, with_updated}
 use Rattle.page_writes.specs.Keeps.{IsFree}
 use Rattle.page_writes.specs.Laws.{DeletedWhatWasMade, AloneDeletedTheirs}
 use Rattle.root_index.specs.declared.entry.Entry.{Entry}
-use Rattle.root_index.specs.Sets.{Adds, Removes}
+use Rattle.root_index.specs.Sets.{Adds, Loses}
 use Rattle.sound_entries.specs.Pages.{slots_on, slot_in, version_in, Puts}
 use Rattle.sound_entries.specs.Entries.{entry_for, SoundEntries, IsSound, StaysSound, KeepsLed}
 use Rattle.sound_entries.specs.Leading.{IsUndone, Touches, LedByOne, IsOnHeap, IsByIndex}
@@ -79,10 +79,10 @@ abbrev pub PagesGrowSound : Type 0
 PagesGrowSound = (value_of : Row → ℤ) (w : Window) (horizon n : ℕ) (pages pages' : List (List Slot)) (entries : List Entry)
     → IsSound value_of w horizon pages entries → Puts pages pages' n (slots_on pages n) → StaysSound value_of w horizon pages pages' entries entries
 
--- entries that lead to dead slots go
+-- entries that lead to dead slots go, all of them or some
 abbrev pub EntriesGoSound : Type 0
 EntriesGoSound = (value_of : Row → ℤ) (w : Window) (horizon : ℕ) (pages : List (List Slot)) (entries entries' : List Entry) (dead : List Tid)
-    → IsSound value_of w horizon pages entries → Removes entries entries' dead → ((p : Tid) → Contains dead p → slot_in pages p ≡ Some Dead)
+    → IsSound value_of w horizon pages entries → Loses entries entries' dead → ((p : Tid) → Contains dead p → slot_in pages p ≡ Some Dead)
     → StaysSound value_of w horizon pages pages entries entries'
 
 -- What becomes of transactions, and of the horizon, keeps it too.

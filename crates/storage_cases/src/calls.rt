@@ -9,7 +9,7 @@ ghost use Rattle.xid_circle.specs.Circle.{IsNormal};
 use arrayvec::ArrayVec;
 use heap_pages::{MAX_PAGES, Pages, Place, free_byte};
 use page_slots::{AddFault, Page, Slot};
-use root_index::{Entry, Near, RootIndex, members_determine};
+use root_index::{DeadSet, Entry, Near, Progress, RootIndex, members_determine};
 use std::alloc::AllocError;
 use std::fmt::Debug;
 use std::process::Abort;
@@ -297,8 +297,31 @@ pub fn insert(index: &mut RootIndex, entry: Entry) -> Result<(), AllocError> {
     index.insert(entry)
 }
 
+/// The set of these places, of which there are 4096 at most.
+pub fn dead_set(tids: &[Tid]) -> DeadSet {
+    let mut dead = DeadSet::new();
+    for tid in tids {
+        if !dead.is_full() {
+            dead.insert(*tid);
+        }
+    }
+    dead
+}
+
+pub fn remove_where(index: &mut RootIndex, dead: &DeadSet, from: Option<Entry>) -> Progress {
+    index.remove_where(dead, from)
+}
+
+/// Removes all entries that lead to one of these places, piece by piece.
 pub fn remove(index: &mut RootIndex, dead: &[Tid]) {
-    index.remove(dead);
+    let dead = dead_set(dead);
+    let mut from = None;
+    for _ in 0..u64::MAX {
+        match index.remove_where(&dead, from) {
+            Progress::More(last) => from = Some(last),
+            Progress::Done => return,
+        }
+    }
 }
 
 pub fn next_after(index: &RootIndex, from: Option<Entry>) -> Option<Entry> {

@@ -1,7 +1,10 @@
 //! Sets of entries, each reckoned by hand.
 
-use crate::calls::{count, first_from, insert, laws, next_after, next_near, promise, remove, same};
-use root_index::{Entry, Near, RootIndex};
+use crate::calls::{
+    count, dead_set, first_from, insert, laws, next_after, next_near, promise, remove,
+    remove_where, same,
+};
+use root_index::{Entry, Near, Progress, RootIndex};
 use std::alloc::{AllocError, Global};
 use std::process::Abort;
 use xid_circle::Tid;
@@ -465,5 +468,93 @@ fn promised_entries_take_no_memory(rt: HostRuntime) -> Result<(), AllocError> {
     assert_eq!(rt; count(&index), 390);
     assert!(rt; promise(&mut index, usize::MAX).is_err());
     assert_eq!(rt; count(&index), 390);
+    Ok(())
+}
+
+/// Asserts that the leaves but the last end with these entries: a piece that removes nothing goes as far as its leaf.
+fn leaves_end(rt: &impl Abort, index: &mut RootIndex, lasts: &[Entry]) {
+    let none = dead_set(&[]);
+    let mut from = None;
+    for last in lasts {
+        let progress = remove_where(index, &none, from);
+        same(rt, progress, Progress::More(*last));
+        from = Some(*last);
+    }
+    let progress = remove_where(index, &none, from);
+    same(rt, progress, Progress::Done);
+}
+
+#[test]
+fn of_a_full_leaf_and_one_more_the_first_64_stay(rt: HostRuntime) -> Result<(), AllocError> {
+    let mut upward = RootIndex::new(rt.alloc());
+    for key in 1..301u32 {
+        insert(&mut upward, numbered(key))?;
+    }
+    leaves_end(
+        &rt,
+        &mut upward,
+        &[numbered(64), numbered(128), numbered(192)],
+    );
+    let mut downward = RootIndex::new(rt.alloc());
+    for key in 0..193u32 {
+        insert(&mut downward, numbered(193 - key))?;
+    }
+    leaves_end(&rt, &mut downward, &[numbered(128)]);
+    Ok(())
+}
+
+/// A full leaf of even keys, and then this one.
+fn split_by(alloc: Global, key: u32) -> Result<RootIndex, AllocError> {
+    let mut index = RootIndex::new(alloc);
+    for i in 0..128u32 {
+        insert(&mut index, numbered(2 * i))?;
+    }
+    insert(&mut index, numbered(key))?;
+    Ok(index)
+}
+
+#[test]
+fn the_new_entry_counts_among_the_first(rt: HostRuntime) -> Result<(), AllocError> {
+    let mut below = split_by(rt.alloc(), 125)?;
+    leaves_end(&rt, &mut below, &[numbered(125)]);
+    let mut above = split_by(rt.alloc(), 127)?;
+    leaves_end(&rt, &mut above, &[numbered(126)]);
+    Ok(())
+}
+
+#[test]
+fn a_sweep_goes_on_where_it_came_to(rt: HostRuntime) -> Result<(), AllocError> {
+    let mut index = RootIndex::new(rt.alloc());
+    insert_slots(&mut index, 1, 301)?;
+    let dead = dead_set(&[
+        Tid { page: 0, slot: 130 },
+        Tid { page: 0, slot: 10 },
+        Tid { page: 1, slot: 11 },
+        Tid { page: 0, slot: 64 },
+        Tid { page: 0, slot: 10 },
+    ]);
+    // from the middle of a leaf, and its last entry goes
+    let first = remove_where(&mut index, &dead, Some(of_slot(20)));
+    same(&rt, first, Progress::More(of_slot(64)));
+    same(&rt, next_after(&index, Some(of_slot(9))), Some(of_slot(10)));
+    same(
+        &rt,
+        next_after(&index, Some(of_slot(63))),
+        Some(of_slot(65)),
+    );
+    // an entry that comes behind is seen by the next piece, and one that comes before is not
+    insert(&mut index, of_slot(64))?;
+    let second = remove_where(&mut index, &dead, Some(of_slot(64)));
+    same(&rt, second, Progress::More(of_slot(128)));
+    let third = remove_where(&mut index, &dead, Some(of_slot(128)));
+    same(&rt, third, Progress::More(of_slot(192)));
+    let last = remove_where(&mut index, &dead, Some(of_slot(192)));
+    same(&rt, last, Progress::Done);
+    same(&rt, count(&index), 299);
+    same(
+        &rt,
+        next_after(&index, Some(of_slot(129))),
+        Some(of_slot(131)),
+    );
     Ok(())
 }

@@ -31,7 +31,7 @@ impl Xid {
 }
 
 /// The place of a version in the table.
-#[derive(Clone, Copy, Debug, PartialEq, Eq)]
+#[derive(Clone, Copy, Debug, Default, PartialEq, Eq)]
 pub struct Tid {
     /// The number of the page, counted from 0.
     pub page: u32,

@@ -4,7 +4,11 @@ use Rattle.prune.specs.Actions.{AreInOrder, action_of}
 use Rattle.prune.specs.Named.{named_at}
 use Rattle.prune.proofs.Fronts.{taken}
 use Rattle.prune.proofs.CheckLemmas.{order-more, checked, checks-can_apply}
+use Rattle.prune.proofs.Roots.{loose-everywhere}
 use Rattle.prune.proofs.checking.check_plan.Goals as goal
+
+pub mark_page-requires-clause-blank : goal.mark_page-requires-clause-blank
+mark_page-requires-clause-blank c = λ n. loose-everywhere 292 n
 
 pub named_by-named-requires : goal.named_by-named-requires
 named_by-named-requires c =
@@ -16,10 +20,10 @@ returns-then-have_fronts-clause-exact c =
     let o : AreInOrder c.slots.result 0 c.deref.result.now = taken c.are_in_order.result _ c.if-not-are_in_order.false c.are_in_order.ensures in
     let p : AreInOrder (length c.args.page.now.slots) 0 c.args.plan.now.actions.items =
     subst (λ (n : ℕ). AreInOrder n 0 c.args.plan.now.actions.items) c.slots.ensures.count (subst (AreInOrder c.slots.result 0) c.deref.ensures.0 o) in
-    checked c.args.table.now c.args.horizon.0 c.args.page.now c.args.plan.now.change c.args.plan.now.actions.items c.named_by-named.result c.marks_of-marks.result c.are_accounted.result
+    checked c.args.table.now c.args.horizon.0 c.args.page.now c.args.plan.now.change c.args.plan.now.actions.items c.named_by-named.result c.mark_page.new.marks c.are_accounted.result
     (taken c.is_fresh.result _ c.if-not-is_fresh.false c.is_fresh.ensures) p
     (subst (λ (l : List (ℕ × Action)). (n : ℕ) → named_at c.named_by-named.result n ≡ action_of l n) c.deref-2.ensures.0 c.named_by-named.ensures)
-    c.marks_of-marks.ensures (taken c.have_fronts.result _ c.if-have_fronts.true c.have_fronts.ensures) c.are_accounted.ensures
+    c.mark_page.ensures (taken c.have_fronts.result _ c.if-have_fronts.true c.have_fronts.ensures) c.are_accounted.ensures
 
 pub returns-then-have_fronts-clause-can_apply : goal.returns-then-have_fronts-clause-can_apply
 returns-then-have_fronts-clause-can_apply c = λ yes.
@@ -27,7 +31,7 @@ returns-then-have_fronts-clause-can_apply c = λ yes.
     let p : AreInOrder (length c.args.page.now.slots) 0 c.args.plan.now.actions.items =
     subst (λ (n : ℕ). AreInOrder n 0 c.args.plan.now.actions.items) c.slots.ensures.count (subst (AreInOrder c.slots.result 0) c.deref.ensures.0 o) in
     checks-can_apply c.args.table.now c.args.horizon.0 c.args.page.now c.args.plan.now.change c.args.plan.now.actions.items
-    ((checked c.args.table.now c.args.horizon.0 c.args.page.now c.args.plan.now.change c.args.plan.now.actions.items c.named_by-named.result c.marks_of-marks.result c.are_accounted.result
+    ((checked c.args.table.now c.args.horizon.0 c.args.page.now c.args.plan.now.change c.args.plan.now.actions.items c.named_by-named.result c.mark_page.new.marks c.are_accounted.result
     (taken c.is_fresh.result _ c.if-not-is_fresh.false c.is_fresh.ensures) p
     (subst (λ (l : List (ℕ × Action)). (n : ℕ) → named_at c.named_by-named.result n ≡ action_of l n) c.deref-2.ensures.0 c.named_by-named.ensures)
-    c.marks_of-marks.ensures (taken c.have_fronts.result _ c.if-have_fronts.true c.have_fronts.ensures) c.are_accounted.ensures).0 yes)
+    c.mark_page.ensures (taken c.have_fronts.result _ c.if-have_fronts.true c.have_fronts.ensures) c.are_accounted.ensures).0 yes)

@@ -1,59 +1,26 @@
-use Rattle.std.proofs.Common.{◌≡◌, ℕ, ◌+◌, ◌<◌, ◌≤◌, List, [], ◌∷◌, ◌++◌, length, Option, Some, arith, sym, ap, ◌∙◌, subst}
+use Rattle.std.proofs.Common.{◌≤◌, ℕ, length, arith, ap, sym, subst, ◌∙◌}
 use Rattle.arrayvec.specs.ArrayVec.{ArrayVec}
 use Rattle.prune.specs.declared.action.Action.{Action}
 use Rattle.prune.specs.Checks.{Checks}
-use Rattle.prune.specs.Marks.{mark_at, planned}
+use Rattle.prune.specs.Pruning.{IsPlan}
+use Rattle.prune.proofs.Fronts.{refused}
+use Rattle.prune.proofs.Idle.{idle-plan}
 use Rattle.prune.proofs.PlanChecks.{plan-checks}
-use Rattle.prune.proofs.Listing.{AreListed, listed-skip, listed-push, listed-length}
-use Rattle.prune.proofs.Planned.{marked-does, does-has_target, listed-plan}
-use Rattle.prune.proofs.planning.plan.Goals.{in-Some, in_default}
+use Rattle.prune.proofs.planning.plan.Goals.{then-has_dead, else-has_dead}
 use Rattle.prune.proofs.planning.plan.Goals as goal
-
-pub push-requires : goal.push-requires
-push-requires c =
-    let count : ℕ = length c.args.page.now.slots in
-    let few : count ≤ 291 = omega (arith, c.slots-number-end.ensures.count, c.slots-number-end.ensures.limit) in
-    let listed : length c.loop-number.actions.items ≤ count = listed-length count _ c.loop-number.actions.items c.loop-number.number c.loop-number.invariant.0 in
-    (omega arith, omega arith)
-
-pub loop-number-preserved : goal.loop-number-preserved
-loop-number-preserved c =
-    let slots = c.args.page.now.slots in
-    let count : ℕ = length slots in
-    let w = c.args.table.now in
-    let marks = c.marks_of-marks.result in
-    let answer : ℕ → Option Action = λ n. planned w slots n (mark_at marks n) in
-    let number : ℕ = c.loop-number.number in
-    let acts = c.loop-number.actions.items in
-    let from = c.loop-number.invariant.1 in (
-      elim c.match-action_at.branch [
-        | in-Some b ↦
-            let a : Action = b.in-Some.action in
-            let items : c.match-action_at.actions.items ≡ acts ++ (number, a) ∷ [] =
-            ap (λ (v : ArrayVec (ℕ × Action)). v.items) b.actions-is ∙ b.push.ensures.items in
-            let within : number ≤ count = omega (arith, c.slots-number-end.ensures.count, c.loop-number-test.true) in
-            let e : Some a ≡ answer number = sym b.in-Some.is ∙ c.action_at.ensures in
-            subst (λ (l : List (ℕ × Action)). AreListed count answer l (number + 1)) (sym items)
-            (listed-push count answer acts number a c.loop-number.invariant.0 from within
-            (does-has_target w c.args.horizon.0 slots number (answer number) a (marked-does w c.args.horizon.0 slots number (mark_at marks number) (c.marks_of-marks.ensures number)) (sym e)) e)
-        | in_default b ↦
-            let items : c.match-action_at.actions.items ≡ acts = ap (λ (v : ArrayVec (ℕ × Action)). v.items) b.actions-is in
-            subst (λ (l : List (ℕ × Action)). AreListed count answer l (number + 1)) (sym items)
-            (listed-skip count answer acts number c.loop-number.invariant.0 (sym b.in_default.is ∙ c.action_at.ensures))
-      ],
-      (omega arith),
-    )
 
 pub returns-clause-exact : goal.returns-clause-exact
 returns-clause-exact c =
-    let past : length c.args.page.now.slots < c.loop-number.number = omega (arith, c.slots-number-end.ensures.count) in
-    listed-plan c.args.table.now c.args.horizon.0 c.args.page.now.slots c.marks_of-marks.result c.loop-number.actions.items c.loop-number.number
-    c.marks_of-marks.ensures c.loop-number.invariant.0 past
+    let w = c.args.table.now in
+    let slots = c.args.page.now.slots in
+    let few : length slots ≤ 291 = omega (arith, c.slots-limit.ensures.count, c.slots-limit.ensures.limit) in
+    elim c.if-has_dead.branch [
+      | then-has_dead b ↦ subst (λ (v : ArrayVec (ℕ × Action)). IsPlan w c.args.horizon.0 slots v.items) (sym b.actions-is) b.list_actions.ensures.exact
+      | else-has_dead b ↦ subst (IsPlan w c.args.horizon.0 slots) (sym (ap (λ (v : ArrayVec (ℕ × Action)). v.items) b.actions-is ∙ c.new-actions.ensures))
+          (idle-plan w c.args.horizon.0 slots few (refused c.has_dead.result _ b.if-has_dead.false c.has_dead.ensures))
+    ]
 
 pub returns-clause-checks : goal.returns-clause-checks
 returns-clause-checks c = λ unshared.
-    let past : length c.args.page.now.slots < c.loop-number.number = omega (arith, c.slots-number-end.ensures.count) in
-    subst (λ (k : ℕ). Checks c.args.table.now c.args.horizon.0 c.args.page.now k c.loop-number.actions.items) (sym c.change.ensures)
-    (plan-checks c.args.table.now c.args.horizon.0 c.args.page.now c.loop-number.actions.items unshared
-    (listed-plan c.args.table.now c.args.horizon.0 c.args.page.now.slots c.marks_of-marks.result c.loop-number.actions.items c.loop-number.number
-    c.marks_of-marks.ensures c.loop-number.invariant.0 past))
+    subst (λ (k : ℕ). Checks c.args.table.now c.args.horizon.0 c.args.page.now k c.if-has_dead.actions.items) (sym c.change.ensures)
+    (plan-checks c.args.table.now c.args.horizon.0 c.args.page.now c.if-has_dead.actions.items unshared (returns-clause-exact c))

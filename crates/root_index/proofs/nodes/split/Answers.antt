@@ -1,4 +1,4 @@
-use Rattle.std.proofs.Common.{◌∙◌, ◌<◌, ◌+◌, sym, subst, arith}
+use Rattle.std.proofs.Common.{◌∙◌, ◌<◌, ◌+◌, sym, subst}
 use Rattle.root_index.specs.Nodes.{AreNeat, IsOpen}
 use Rattle.root_index.proofs.RowLemmas.{item}
 use Rattle.root_index.proofs.RowGrowthLemmas.{split_to_is, all_split, opened_low, opened_high}
@@ -12,7 +12,7 @@ returns-in-Lower-clause-opened g c =
     let made = split_to_is nodes i c.split-half.new.self c.split-half.new.upper c.requires.node ∙ sym c.put_node.ensures.items in
     subst (λ new. IsOpen g.N.Node.entries g.N.Node.size g.N.Node.rank g.N.Node.IsSpot nodes new c.args.spot (record { node = i; inner = c.in-Lower.inner })) made
     (opened_low g.N.Node.entries g.N.Node.size g.N.Node.rank g.N.Node.IsSpot nodes c.args.spot c.index_mut.result.now c.split-half.new.self c.split-half.new.upper c.in-Lower.inner at
-    c.split-half.ensures.entries c.split-half.ensures.half c.in-Lower.ensures.spot c.in-Lower.ensures.rank)
+    c.split-half.ensures.entries c.split-half.ensures.part.1 c.in-Lower.ensures.spot c.in-Lower.ensures.rank)
 
 pub returns-in-Lower-clause-neat : goal.returns-in-Lower-clause-neat
 returns-in-Lower-clause-neat g c =
@@ -21,7 +21,7 @@ returns-in-Lower-clause-neat g c =
     let halves = c.split-half.ensures in
     subst (AreNeat g.N.Node.IsNeat g.N.Node.size) made
     (all_split (λ n. g.N.Node.IsNeat n × (0 < g.N.Node.size n)) nodes c.args.spot.node c.split-half.new.self c.split-half.new.upper c.requires.neat
-    (halves.neat, omega (arith, halves.half)) (halves.neat_too, omega (arith, halves.half_too)))
+    (halves.neat, halves.part.0) (halves.neat_too, halves.part_too.0))
 
 pub returns-in-Upper-clause-opened : goal.returns-in-Upper-clause-opened
 returns-in-Upper-clause-opened g c =
@@ -31,7 +31,7 @@ returns-in-Upper-clause-opened g c =
     let made = split_to_is nodes i c.split-half.new.self c.split-half.new.upper c.requires.node ∙ sym c.put_node.ensures.items in
     subst (λ new. IsOpen g.N.Node.entries g.N.Node.size g.N.Node.rank g.N.Node.IsSpot nodes new c.args.spot (record { node = i + 1; inner = c.in-Upper.inner })) made
     (opened_high g.N.Node.entries g.N.Node.size g.N.Node.rank g.N.Node.IsSpot nodes c.args.spot c.index_mut.result.now c.split-half.new.self c.split-half.new.upper c.in-Upper.inner at
-    c.split-half.ensures.entries c.split-half.ensures.half_too c.in-Upper.ensures.spot c.in-Upper.ensures.rank)
+    c.split-half.ensures.entries c.split-half.ensures.part_too.1 c.in-Upper.ensures.spot c.in-Upper.ensures.rank)
 
 pub returns-in-Upper-clause-neat : goal.returns-in-Upper-clause-neat
 returns-in-Upper-clause-neat g c =
@@ -40,4 +40,4 @@ returns-in-Upper-clause-neat g c =
     let halves = c.split-half.ensures in
     subst (AreNeat g.N.Node.IsNeat g.N.Node.size) made
     (all_split (λ n. g.N.Node.IsNeat n × (0 < g.N.Node.size n)) nodes c.args.spot.node c.split-half.new.self c.split-half.new.upper c.requires.neat
-    (halves.neat, omega (arith, halves.half)) (halves.neat_too, omega (arith, halves.half_too)))
+    (halves.neat, halves.part.0) (halves.neat_too, halves.part_too.0))

@@ -1,4 +1,5 @@
 use Rattle.std.proofs.Common.{arith, ap, ◌∷◌, [], length, length-append}
+use Rattle.space_maps.specs.declared.mark.Mark.TheVariants.{Nothing}
 use Rattle.heap_pages.proofs.FreeSpaceLemmas.{Covers-pushed, IsSettled-pushed}
 use Rattle.heap_pages.proofs.pages.Pages.push_page.Goals as goal
 
@@ -13,4 +14,6 @@ invariant_of-self c =
           (IsSettled-pushed c.self.inside.map.bytes pages c.self.inside.lent c.free_byte.result c.args.page c.self.invariant.covers.count c.self.invariant.settled c.free_byte.ensures);
       pages_spare = omega (arith, c.push_reserved.ensures.len, c.push_reserved.ensures.capacity, c.self.invariant.pages_spare);
       map_spare = omega (arith, c.push.ensures.spare, c.self.invariant.map_spare);
+      marked = omega (arith, ap length c.push_reserved.ensures.items, ap length c.add_page.ensures.marks, length-append pages (c.args.page ∷ []), length-append c.self.inside.marks.marks (Nothing ∷ []), c.self.invariant.marked);
+      marks_spare = omega (arith, c.add_page.ensures.spare, c.self.invariant.marks_spare);
     }

@@ -6,7 +6,7 @@ use Rattle.root_index.proofs.leaf.LeafNode.split.Goals as goal
 pub returns-clause-entries : goal.returns-clause-entries
 returns-clause-entries c =
     ap (λ (xs : List Entry). xs ++ c.refill.new.entries.items) c.truncate.ensures.items
-    ∙ ap (λ (xs : List Entry). take 64 c.self.inside.entries.items ++ xs)
-    (c.refill.ensures.items ∙ ap (λ (xs : List Entry). take (length xs - 64) (drop 64 xs)) c.deref.ensures.value ∙ take_rest c.self.inside.entries.items 64)
-    ∙ take-append-drop 64 c.self.inside.entries.items
+    ∙ ap (λ (xs : List Entry). take c.kept_with-kept.result c.self.inside.entries.items ++ xs)
+    (c.refill.ensures.items ∙ ap (λ (xs : List Entry). take (length xs - c.kept_with-kept.result) (drop c.kept_with-kept.result xs)) c.deref.ensures.value ∙ take_rest c.self.inside.entries.items c.kept_with-kept.result)
+    ∙ take-append-drop c.kept_with-kept.result c.self.inside.entries.items
     ∙ c.self.view_is

@@ -1,0 +1,133 @@
+-- The order of places is total; what a search finds in an ascending list of them, and what an edit there does.
+use Rattle.std.proofs.Common.{◌≡◌, ◌∙◌, ℕ, zero, suc, ◌+◌, ◌-◌, ◌<◌, ◌≤◌, inl, inr, ⊎_elim, List, [], ◌∷◌, ◌++◌, length, get_or, Some, slice_get, sym, ap, refl, subst, arith, Contains}
+use Rattle.std.specs.Cmp.{IsTotalOrder}
+use Rattle.std.specs.Ordering.{nat_cmp, ordering_reverse}
+use Rattle.std.specs.declared.cmp.Ordering.TheVariants.{Less, Equal, Greater}
+use Rattle.std.specs.List.{insert, All}
+use Rattle.std.proofs.lemmas.Bool.{cases_lt}
+use Rattle.std.proofs.lemmas.Cmp.{then_total, on_total, nat_cmp_total, ranked, tied_itself}
+use Rattle.std.proofs.lemmas.List.Edits.{insert_end}
+use Rattle.std.proofs.lemmas.List.Elements.{All-cons}
+use Rattle.std.proofs.lemmas.List.Kept.{AllPairs-cons}
+use Rattle.std.proofs.lemmas.List.Sorted.{Contains-permutation, IsPermutation-insert, IsPermutation-sym, All-permutation}
+use Rattle.std.proofs.lemmas.Option.{slice_get-get_or, slice_get_within, get_or_from_slice_get}
+use Rattle.xid_circle.specs.declared.Tid.{Tid}
+use Rattle.xid_circle.proofs.Members.{Contains-first, Contains-rest, Contains-cases}
+use Rattle.xid_circle.proofs.Tids.{same-tid}
+use Rattle.root_index.specs.Places.{place_order, IsBefore, AreAscending, AddsPlace, IsRoomFor}
+use Rattle.root_index.proofs.OrderLemmas.{equal_both}
+
+pub place_total : IsTotalOrder place_order
+place_total = then_total (on_total (λ (t : Tid). t.page) nat_cmp_total) (on_total (λ (t : Tid). t.slot) nat_cmp_total)
+
+pub not_before_itself : (a : Tid) → ¬ IsBefore a a
+not_before_itself a h = absurd (let e = tied_itself place_total a in cc)
+
+pub IsBefore-trans : (a b c : Tid) → IsBefore a b → IsBefore b c → IsBefore a c
+IsBefore-trans a b c = place_total.trans a b c
+
+pub IsBefore-not_back : (a b : Tid) → IsBefore a b → ¬ IsBefore b a
+IsBefore-not_back a b h back = not_before_itself a (IsBefore-trans a b a h back)
+
+pub same-from_tied : (a b : Tid) → place_order a b ≡ Equal → a ≡ b
+same-from_tied a b e =
+    let both = equal_both (nat_cmp a.page b.page) (nat_cmp a.slot b.slot) e in
+    same-tid a b (ranked a.page b.page Equal (sym both.0)) (ranked a.slot b.slot Equal (sym both.1))
+
+-- Places by their numbers.
+
+pub ascending-at : (xs : List Tid) (i j : ℕ) (a b : Tid) → AreAscending xs → i < j → slice_get xs i ≡ Some a → slice_get xs j ≡ Some b → IsBefore a b
+ascending-at xs i j a b up lt at_i at_j =
+    subst (λ x. IsBefore x b) (get_or_from_slice_get xs i a b at_i)
+    (subst (λ y. IsBefore (get_or xs i b) y) (get_or_from_slice_get xs j b b at_j) (up i j b lt (slice_get_within xs j b at_j)))
+
+pub same_number : (xs : List Tid) (k i : ℕ) (e f : Tid) → k ≡ i → slice_get xs k ≡ Some e → slice_get xs i ≡ Some f → e ≡ f
+same_number xs k i e f same at_k at_i = cc
+
+-- the places before low are before the sought one, and it is before those from high on
+pub record IsAround (tids : List Tid) (sought : Tid) (low high : ℕ) : Type 0 where
+  pub order : low ≤ high
+  pub in_range : high ≤ length tids
+  pub before : (k : ℕ) (t : Tid) → k < low → slice_get tids k ≡ Some t → IsBefore t sought
+  pub after : (k : ℕ) (t : Tid) → high ≤ k → slice_get tids k ≡ Some t → IsBefore sought t
+
+pub looked_less : (xs : List Tid) (x d : Tid) (low high i : ℕ) → AreAscending xs → IsAround xs x low high → i < high → place_order (get_or xs i d) x ≡ Less → IsAround xs x (i + 1) high
+looked_less xs x d low high i up around within less =
+    let at = slice_get-get_or xs i d (omega (arith, within, around.in_range)) in
+    record {
+      order = omega arith;
+      in_range = around.in_range;
+      before = λ k e lt at_k. elim (cases_lt k i) [
+        | inl below ↦ IsBefore-trans e (get_or xs i d) x (ascending-at xs k i e (get_or xs i d) up below at_k at) less
+        | inr le ↦ subst (λ y. IsBefore y x) (same_number xs i k (get_or xs i d) e (omega arith) at at_k) less
+      ];
+      after = around.after;
+    }
+
+pub looked_greater : (xs : List Tid) (x d : Tid) (low high i : ℕ) → AreAscending xs → IsAround xs x low high → low ≤ i → i < high → place_order (get_or xs i d) x ≡ Greater
+    → IsAround xs x low i
+looked_greater xs x d low high i up around from_low within greater =
+    let at = slice_get-get_or xs i d (omega (arith, within, around.in_range)) in
+    let less : IsBefore x (get_or xs i d) = place_total.antisymm x (get_or xs i d) ∙ ap ordering_reverse greater in
+    record {
+      order = from_low;
+      in_range = omega (arith, within, around.in_range);
+      before = around.before;
+      after = λ k e le at_k. elim (cases_lt i k) [
+        | inl above ↦ IsBefore-trans x (get_or xs i d) e less (ascending-at xs i k (get_or xs i d) e up above at at_k)
+        | inr same ↦ subst (IsBefore x) (same_number xs i k (get_or xs i d) e (omega arith) at at_k) less
+      ];
+    }
+
+-- behind the last
+pub room_behind : (xs : List Tid) (x last : Tid) → AreAscending xs → slice_get xs (length xs - 1) ≡ Some last → IsBefore last x → IsRoomFor xs x (length xs)
+room_behind xs x last up at less = let n = length xs - 1 in record {
+  in_range = omega arith;
+  before = λ k e lt at_k. elim (cases_lt k n) [
+    | inl below ↦ IsBefore-trans e last x (ascending-at xs k n e last up below at_k at) less
+    | inr le ↦ subst (λ y. IsBefore y x) (same_number xs n k last e (omega arith) at at_k) less
+  ];
+  after = λ k e le at_k. absurd (let within = slice_get_within xs k e at_k in omega arith);
+}
+
+-- A place that is added.
+
+room_of_rest : (x y : Tid) (xs : List Tid) (i : ℕ) → IsRoomFor (x ∷ xs) y (suc i) → IsRoomFor xs y i
+room_of_rest x y xs i room = record {
+  in_range = omega (arith, room.in_range);
+  before = λ k e lt at. room.before (suc k) e (omega arith) at;
+  after = λ k e le at. room.after (suc k) e (omega arith) at;
+}
+
+all-after : (xs : List Tid) (y : Tid) → IsRoomFor xs y 0 → All (IsBefore y) xs
+all-after xs y room k d within = room.after k (get_or xs k d) (omega arith) (slice_get-get_or xs k d within)
+
+all-later : (x : Tid) (xs : List Tid) → AreAscending (x ∷ xs) → All (IsBefore x) xs
+all-later x xs up k d within = up 0 (suc k) d (omega arith) (omega arith)
+
+ascending-tail : (x : Tid) (xs : List Tid) → AreAscending (x ∷ xs) → AreAscending xs
+ascending-tail x xs up i j d lt within = up (suc i) (suc j) d (omega arith) (omega arith)
+
+ascending-insert : (xs : List Tid) (y : Tid) (i : ℕ) → AreAscending xs → IsRoomFor xs y i → AreAscending (insert xs i y)
+ascending-insert xs y zero up room = AllPairs-cons IsBefore y xs (all-after xs y room) up
+ascending-insert [] y (suc i) up room = absurd (omega (arith, room.in_range))
+ascending-insert (x ∷ xs) y (suc i) up room =
+    AllPairs-cons IsBefore x (insert xs i y)
+    (All-permutation (IsBefore x) (y ∷ xs) (insert xs i y) (IsPermutation-insert xs i y) (All-cons (IsBefore x) y xs (room.before 0 x (omega arith) refl) (all-later x xs up)))
+    (ascending-insert xs y i (ascending-tail x xs up) (room_of_rest x y xs i room))
+
+pub adds-inserted : (xs : List Tid) (y : Tid) (i : ℕ) → AreAscending xs → IsRoomFor xs y i → AddsPlace xs (insert xs i y) y
+adds-inserted xs y i up room = record {
+  ascending = ascending-insert xs y i up room;
+  members = λ e. (
+    λ h. ⊎_elim (λ same. inr (sym same)) (λ old. inl old) (Contains-cases y e xs (Contains-permutation (insert xs i y) (y ∷ xs) e (IsPermutation-sym (y ∷ xs) (insert xs i y) (IsPermutation-insert xs i y)) h)),
+    λ h. Contains-permutation (y ∷ xs) (insert xs i y) e (IsPermutation-insert xs i y) (⊎_elim (λ old. Contains-rest y e xs old) (λ same. subst (λ z. Contains (y ∷ xs) z) (sym same) (Contains-first y xs)) h),
+  );
+}
+
+-- where all others are before it
+pub inserted_last : (xs : List Tid) (y : Tid) (i : ℕ) → IsRoomFor xs y i → All (λ t. IsBefore t y) xs → insert xs i y ≡ xs ++ y ∷ []
+inserted_last xs y i room below = elim (cases_lt i (length xs)) [
+  | inl within ↦ absurd (IsBefore-not_back (get_or xs i y) y (below i y within) (room.after i (get_or xs i y) (omega arith) (slice_get-get_or xs i y within)))
+  | inr past ↦ let end : i ≡ length xs = omega (arith, room.in_range) in ap (λ n. insert xs n y) end ∙ insert_end xs y
+]

@@ -1,0 +1,414 @@
+-- What a sweep does: in a leaf, in a node among others, and to the set of all entries.
+use Rattle.std.proofs.Common.{◌≡◌, ◌∙◌, ℕ, zero, suc, ◌+◌, ◌-◌, ◌<◌, ◌≤◌, ◌⊎◌, inl, inr, ⊎_elim, ◌↔◌, List, [], ◌∷◌, ◌++◌, length, take, drop, map, get_or, Bool, true, false, Option, Some, None, slice_get, slice_set, IfSome, IfNone, ◌≢◌, sym, ap, refl, subst, arith, Contains}
+use Rattle.std.specs.List.{filter, remove, All}
+use Rattle.std.proofs.lemmas.Bool.{cases_lt, cases_eq}
+use Rattle.std.proofs.lemmas.List.{append_assoc, append-nil, length-append, length-drop, length-take-le, take-append-drop, take_all, drop_all}
+use Rattle.std.proofs.lemmas.List.Edits.{length-remove, get_or-remove_below, get_or-remove_above}
+use Rattle.std.proofs.lemmas.List.Elements.{Contains-get_or, All-contains, All-filter, All-contains_itself, filter_passes, Contains-append_left, Contains-append_right, Contains-append_cases}
+use Rattle.std.proofs.lemmas.List.Kept.{AllPairs-cons}
+use Rattle.std.proofs.lemmas.Option.{slice_get-get_or, slice_get_within, slice_get_past, get_or_from_slice_get}
+use Rattle.xid_circle.specs.declared.Tid.{Tid}
+use Rattle.xid_circle.proofs.Members.{Contains-none}
+use Rattle.root_index.specs.declared.entry.Entry.{Entry}
+use Rattle.root_index.specs.declared.node.Swept.{Swept}
+use Rattle.root_index.specs.declared.progress.Progress.{Progress}
+use Rattle.root_index.specs.declared.progress.Progress.TheVariants.{More, Done}
+use Rattle.root_index.specs.declared.nodes.Spot.{Spot}
+use Rattle.root_index.specs.Order.{Precedes, IsAscending}
+use Rattle.root_index.specs.Sets.{IsAfter, IsStart}
+use Rattle.root_index.specs.Lists.{joined, stays}
+use Rattle.root_index.specs.Nodes.{all, rank_in, before_node, AreNeat, AreNeatBut, IsSpotIn, IsStartIn, IsBehindIn}
+use Rattle.root_index.specs.Rows.{inner_is, some_with}
+use Rattle.root_index.specs.Sweeps.{IsSwept}
+use Rattle.root_index.specs.Trees.{IsSound}
+use Rattle.root_index.specs.Pieces.{RemovesPiece}
+use Rattle.root_index.proofs.OrderLemmas.{Precedes-not_back, not_before_itself, ascending-tail, ascending-head}
+use Rattle.root_index.proofs.RowEditLemmas.{get_front, get_behind}
+use Rattle.root_index.proofs.RowLemmas.{count_next, length-lists}
+use Rattle.root_index.proofs.SetLemmas.{place_of, ascending-at, same_place, kept, stays-is, Contains-from_place}
+
+-- A node among others.
+
+slice_get_past_not : {X : Type 0} (xs : List X) (i : ℕ) → i < length xs → ¬ (slice_get xs i ≡ None)
+slice_get_past_not [] i within none = absurd (omega arith)
+slice_get_past_not (x ∷ xs) zero within none = absurd (cc none)
+slice_get_past_not (x ∷ xs) (suc i) within none = slice_get_past_not xs i (omega arith) none
+
+-- the entries of the nodes behind that of this number
+abbrev pub behind_node : {N : Type 0} → (N → List Entry) → List N → ℕ → List Entry
+behind_node entries nodes i = joined (drop (suc i) (map entries nodes))
+
+abbrev pub entries_before : {N : Type 0} → (N → List Entry) → List N → ℕ → List Entry
+entries_before entries nodes i = joined (take i (map entries nodes))
+
+module _ {N : Type 0} (entries : N → List Entry) where
+  pub around : (nodes : List N) (i : ℕ) (n : N) → slice_get nodes i ≡ Some n
+      → all entries nodes ≡ entries_before entries nodes i ++ (entries n ++ behind_node entries nodes i)
+  around [] i n at = absurd (cc at)
+  around (m ∷ nodes) zero n at = let same : m ≡ n = cc at in ap (λ m. entries m ++ all entries nodes) same
+  around (m ∷ nodes) (suc i) n at =
+      ap (λ r. entries m ++ r) (around nodes i n at)
+      ∙ sym (append_assoc (entries m) (entries_before entries nodes i) (entries n ++ behind_node entries nodes i))
+
+  pub around_set : (nodes : List N) (i : ℕ) (n : N) → i < length nodes
+      → all entries (slice_set nodes i n) ≡ entries_before entries nodes i ++ (entries n ++ behind_node entries nodes i)
+  around_set [] i n within = absurd (omega arith)
+  around_set (m ∷ nodes) zero n within = refl
+  around_set (m ∷ nodes) (suc i) n within =
+      ap (λ r. entries m ++ r) (around_set nodes i n (omega arith))
+      ∙ sym (append_assoc (entries m) (entries_before entries nodes i) (entries n ++ behind_node entries nodes i))
+
+  pub none_removed : (nodes : List N) (i : ℕ) (n : N) → slice_get nodes i ≡ Some n → entries n ≡ [] → all entries (remove nodes i) ≡ all entries nodes
+  none_removed [] i n at none = absurd (cc at)
+  none_removed (m ∷ nodes) zero n at none =
+      let same : n ≡ m = cc at in
+      ap (λ l. l ++ all entries nodes) (sym none ∙ ap entries same)
+  none_removed (m ∷ nodes) (suc i) n at none = ap (λ r. entries m ++ r) (none_removed nodes i n at none)
+
+  pub none_behind : (nodes : List N) (i : ℕ) → length nodes ≤ i + 1 → behind_node entries nodes i ≡ []
+  none_behind nodes i past =
+      let size = length-lists entries nodes in
+      ap joined (drop_all (suc i) (map entries nodes) (omega arith))
+
+  module _ (IsNeat : N → Type 0) (size : N → ℕ) where
+    pub some_behind : ((n : N) → IsNeat n → 0 < size n → 0 < length (entries n)) → (nodes : List N) (i : ℕ) → AreNeat IsNeat size nodes → i + 1 < length nodes
+        → 0 < length (behind_node entries nodes i)
+    some_behind some [] i neat within = absurd (omega arith)
+    some_behind some (m ∷ nodes) zero neat within = some_with entries IsNeat size some nodes (λ k d lt. neat (suc k) d (omega arith)) (omega arith)
+    some_behind some (m ∷ nodes) (suc i) neat within = some_behind some nodes i (λ k d lt. neat (suc k) d (omega arith)) (omega arith)
+
+-- what is swept in the middle is swept in all
+pub swept_among : (es es' front back : List Entry) (rank : ℕ) (dead : List Tid) (swept now : Swept) → IsSwept es es' rank dead swept
+    → now.last ≡ swept.last → now.removed ≡ swept.removed → ((now.more ≡ true) ↔ ((swept.more ≡ true) ⊎ (0 < length back)))
+    → IsSwept (front ++ (es ++ back)) (front ++ (es' ++ back)) (length front + rank) dead now
+swept_among es es' front back rank dead swept now s last removed more = record {
+  front = front ++ s.front;
+  piece = s.piece;
+  back = s.back ++ back;
+  was = parted es s.piece s.was;
+  is = parted es' (filter (stays dead) s.piece) s.is;
+  begins = length-append front s.front ∙ ap (λ n. length front + n) s.begins;
+  last = s.last ∙ ap Some (sym last);
+  removed = ap (λ n. n + length (filter (stays dead) s.piece)) removed ∙ s.removed;
+  more = (
+    λ h. ⊎_elim (λ inner. omega (arith, whole, s.more.0 inner)) (λ outer. omega (arith, whole, outer)) (more.0 h),
+    λ h. more.1 (elim (cases_lt 0 (length back)) [ inl some ↦ inr some | inr none ↦ inl (s.more.1 (omega (arith, whole, h, none))) ]),
+  );
+}
+  where
+    whole : length (s.back ++ back) ≡ length s.back + length back
+    whole = length-append s.back back
+
+    parted : (xs here : List Entry) → xs ≡ s.front ++ (here ++ s.back) → front ++ (xs ++ back) ≡ (front ++ s.front) ++ (here ++ (s.back ++ back))
+    parted xs here is =
+        ap (λ xs. front ++ (xs ++ back)) is
+        ∙ ap (λ xs. front ++ xs) (append_assoc s.front (here ++ s.back) back ∙ ap (λ xs. s.front ++ xs) (append_assoc here s.back back))
+        ∙ sym (append_assoc front s.front (here ++ (s.back ++ back)))
+
+module _ {N S : Type 0} (entries : N → List Entry) (rank : N → S → ℕ) where
+  pub rank_among : (nodes : List N) (spot : Spot S) (n : N) → slice_get nodes spot.node ≡ Some n
+      → length (entries_before entries nodes spot.node) + rank n spot.inner ≡ rank_in entries rank nodes spot
+  rank_among nodes spot n at = ap (λ k. before_node entries nodes spot.node + k) (sym (inner_is rank nodes spot n at))
+
+  -- a node that was swept, and then taken out if it is empty
+  pub swept_one : (IsNeat : N → Type 0) (size : N → ℕ) (some : (n : N) → IsNeat n → 0 < size n → 0 < length (entries n)) (nodes new : List N) (spot : Spot S) (n m : N) (dead : List Tid)
+      (swept now : Swept) (others : Bool) → AreNeat IsNeat size nodes → slice_get nodes spot.node ≡ Some n → IsSwept (entries n) (entries m) (rank n spot.inner) dead swept
+      → all entries new ≡ all entries (slice_set nodes spot.node m) → now.last ≡ swept.last → now.removed ≡ swept.removed
+      → ((now.more ≡ true) ↔ ((swept.more ≡ true) ⊎ (others ≡ true))) → ((others ≡ true) ↔ (spot.node + 1 < length nodes))
+      → IsSwept (all entries nodes) (all entries new) (rank_in entries rank nodes spot) dead now
+  swept_one IsNeat size some nodes new spot n m dead swept now others neat at s same last removed more is_other =
+      let i = spot.node in
+      let within = slice_get_within nodes i n at in
+      let behind = behind_node entries nodes i in
+      let there : (others ≡ true) ↔ (0 < length behind) = (
+        λ h. some_behind entries IsNeat size some nodes i neat (is_other.0 h),
+        λ h. elim (cases_lt (i + 1) (length nodes)) [
+          | inl next ↦ is_other.1 next
+          | inr last ↦ let none = ap length (none_behind entries nodes i (omega arith)) in absurd (omega (arith, none, h))
+        ],
+      ) in
+      let whole : IsSwept (entries_before entries nodes i ++ (entries n ++ behind)) (entries_before entries nodes i ++ (entries m ++ behind))
+      (length (entries_before entries nodes i) + rank n spot.inner) dead now =
+      swept_among (entries n) (entries m) (entries_before entries nodes i) behind (rank n spot.inner) dead swept now s last removed (
+        λ h. ⊎_elim (λ inner. inl inner) (λ outer. inr (there.0 outer)) (more.0 h),
+        λ h. more.1 (⊎_elim (λ inner. inl inner) (λ outer. inr (there.1 outer)) h),
+      ) in
+      subst (λ (xs : List Entry). IsSwept xs (all entries new) (rank_in entries rank nodes spot) dead now) (sym (around entries nodes i n at))
+      (subst (λ (xs : List Entry). IsSwept (entries_before entries nodes i ++ (entries n ++ behind)) xs (rank_in entries rank nodes spot) dead now)
+      (sym (same ∙ around_set entries nodes i m within))
+      (subst (λ k. IsSwept (entries_before entries nodes i ++ (entries n ++ behind)) (entries_before entries nodes i ++ (entries m ++ behind)) k dead now) (rank_among nodes spot n at) whole))
+
+  -- behind all of a node is before the next one
+  pub rank_next : (IsSpot : N → S → Type 0) (within : (n : N) (s : S) → IsSpot n s → rank n s ≤ length (entries n)) (nodes : List N) (spot : Spot S) → spot.node < length nodes
+      → IsSpotIn IsSpot nodes spot → IsBehindIn entries rank nodes spot → before_node entries nodes (spot.node + 1) ≡ rank_in entries rank nodes spot
+  rank_next IsSpot within nodes spot there in_range behind = by_node (slice_get nodes spot.node) refl
+    where
+      by_node : (o : Option N) → slice_get nodes spot.node ≡ o → before_node entries nodes (spot.node + 1) ≡ rank_in entries rank nodes spot
+      by_node None none = absurd (let n = slice_get_past_not nodes spot.node there in n none)
+      by_node (Some n) at =
+          let inner : IsSpot n spot.inner = subst (λ (o : Option N). IfSome o (λ n. IsSpot n spot.inner)) at in_range.inner in
+          let past : length (entries n) ≤ rank n spot.inner = subst (λ (o : Option N). IfSome o (λ n. length (entries n) ≤ rank n spot.inner)) at behind in
+          let next = count_next entries nodes spot.node n at in
+          let here = rank_among nodes spot n at in
+          omega (arith, within n spot.inner inner, past, next, here)
+
+  pub behind_in : (nodes : List N) (spot : Spot S) (n : N) → slice_get nodes spot.node ≡ Some n → length (entries n) ≤ rank n spot.inner → IsBehindIn entries rank nodes spot
+  behind_in nodes spot n at past = subst (λ (o : Option N). IfSome o (λ n. length (entries n) ≤ rank n spot.inner)) (sym at) past
+
+  -- the next node is swept where nothing follows in the first
+  pub swept_next : (nodes there : List N) (new : List Entry) (spot : Spot S) (dead : List Tid) (result : Option Swept) → there ≡ nodes
+      → before_node entries nodes (spot.node + 1) ≡ rank_in entries rank nodes spot
+      → IfSome result (IsSwept (all entries there) new (before_node entries there (spot.node + 1)) dead)
+      → IfSome result (IsSwept (all entries nodes) new (rank_in entries rank nodes spot) dead)
+  swept_next nodes there new spot dead result same next swept =
+      subst (λ k. IfSome result (IsSwept (all entries nodes) new k dead)) next
+      (subst (λ (ns : List N). IfSome result (IsSwept (all entries ns) new (before_node entries ns (spot.node + 1)) dead)) same swept)
+
+  pub past_all : (nodes there : List N) (spot : Spot S) → there ≡ nodes → before_node entries nodes (spot.node + 1) ≡ rank_in entries rank nodes spot
+      → length there ≤ spot.node + 1 → length (all entries nodes) ≤ rank_in entries rank nodes spot
+  past_all nodes there spot same next past =
+      let size = length-lists entries nodes in
+      let long : length there ≡ length nodes = ap length same in
+      let end : before_node entries nodes (spot.node + 1) ≡ length (all entries nodes) =
+      ap (λ ls. length (joined ls)) (take_all (spot.node + 1) (map entries nodes) (omega arith)) in
+      omega (arith, end, next)
+
+pub none_weaker : {T : Type 0} {P Q : Type 0} (result : Option T) → (P → Q) → IfNone result P → IfNone result Q
+none_weaker None f h = f h
+none_weaker (Some t) f h = h
+
+-- A node that is taken out where it is empty.
+
+module _ {N : Type 0} (IsNeat : N → Type 0) (size : N → ℕ) (nodes : List N) (i : ℕ) (within : i < length nodes) (neat : AreNeatBut IsNeat size nodes i) where
+  other : (k : ℕ) (d : N) → k < length nodes → k ≢ i → IsNeat (get_or nodes k d) × (0 < size (get_or nodes k d))
+  other k d inside apart =
+      let here = neat k (get_or nodes k d) (slice_get-get_or nodes k d inside) in
+      (here.0, here.1 apart)
+
+  pub neat_removed : AreNeat IsNeat size (remove nodes i)
+  neat_removed k d inside =
+      let long = length-remove nodes i within in
+      elim (cases_lt k i) [
+        | inl below ↦ subst (λ n. IsNeat n × (0 < size n)) (sym (get_or-remove_below nodes i d k below within)) (other k d (omega arith) (λ e. omega (arith, e, below)))
+        | inr above ↦ subst (λ n. IsNeat n × (0 < size n)) (sym (get_or-remove_above nodes i d k above within)) (other (k + 1) d (omega (arith, inside, long)) (λ e. omega (arith, e, above)))
+      ]
+
+  pub neat_filled : (n : N) → slice_get nodes i ≡ Some n → 0 < size n → AreNeat IsNeat size nodes
+  neat_filled n at some k d inside = elim (cases_eq k i) [
+    | inl same ↦
+        let here = neat k (get_or nodes k d) (slice_get-get_or nodes k d inside) in
+        let is : n ≡ get_or nodes k d = sym (get_or_from_slice_get nodes i n d at) ∙ ap (λ j. get_or nodes j d) (sym same) in
+        (here.0, subst (λ n. 0 < size n) is some)
+    | inr apart ↦ other k d inside apart
+  ]
+
+-- In a leaf.
+
+-- the rest of a leaf
+pub swept_leaf : (xs new : List Entry) (from : ℕ) (dead : List Tid) (swept : Swept) → from < length xs → new ≡ take from xs ++ filter (stays dead) (drop from xs)
+    → slice_get xs (length xs - 1) ≡ Some swept.last → swept.removed + length new ≡ length xs → swept.more ≡ false → IsSwept xs new from dead swept
+swept_leaf xs new from dead swept within is last removed more =
+    let long = length-drop from xs in
+    let end : from + (length (drop from xs) - 1) ≡ length xs - 1 = omega arith in
+    let short = length-take-le from xs (omega arith) in
+    let made : length new ≡ length (take from xs) + length (filter (stays dead) (drop from xs)) = ap length is ∙ length-append (take from xs) (filter (stays dead) (drop from xs)) in
+    record {
+      front = take from xs;
+      piece = drop from xs;
+      back = [];
+      was = sym (take-append-drop from xs) ∙ ap (λ ys. take from xs ++ ys) (sym (append-nil (drop from xs)));
+      is = is ∙ ap (λ ys. take from xs ++ ys) (sym (append-nil (filter (stays dead) (drop from xs))));
+      begins = short;
+      last = get_drop xs from (length (drop from xs) - 1) ∙ ap (slice_get xs) end ∙ last;
+      removed = omega arith;
+      more = (λ h. absurd (cc (h, more)), λ h. absurd (omega (arith, h)));
+    }
+  where
+    get_drop : (xs : List Entry) (n k : ℕ) → slice_get (drop n xs) k ≡ slice_get xs (n + k)
+    get_drop xs zero k = let is : k ≡ 0 + k = omega arith in ap (slice_get xs) is
+    get_drop [] (suc n) k = sym (slice_get_past [] (suc n + k) (omega arith)) ∙ refl
+    get_drop (x ∷ xs) (suc n) k = let is : suc (n + k) ≡ suc n + k = omega arith in get_drop xs n k ∙ ap (slice_get (x ∷ xs)) is
+
+-- To the set of all entries.
+
+ascending_back : (xs ys : List Entry) → IsAscending (xs ++ ys) → IsAscending ys
+ascending_back [] ys up = up
+ascending_back (x ∷ xs) ys up = ascending_back xs ys (ascending-tail x (xs ++ ys) up)
+
+all-from : (P : Entry → Type 0) (xs : List Entry) → ((e : Entry) → Contains xs e → P e) → All P xs
+all-from P xs h k d within = h (get_or xs k d) (Contains-get_or xs k d within)
+
+filtered : (test : Entry → Bool) (xs : List Entry) (e : Entry) → Contains (filter test xs) e → Contains xs e × (test e ≡ true)
+filtered test xs e h = (
+  All-contains (Contains xs) (filter test xs) e (All-filter test (Contains xs) xs (All-contains_itself xs)) h,
+  All-contains (λ x. test x ≡ true) (filter test xs) e (filter_passes test xs) h,
+)
+
+among_both : (xs xs' ys : List Entry) → ((e : Entry) → Contains xs e → Contains xs' e) → (e : Entry) → Contains (xs ++ ys) e → Contains (xs' ++ ys) e
+among_both xs xs' ys more e h =
+    ⊎_elim (λ first. Contains-append_left xs' ys e (more e first)) (λ second. Contains-append_right xs' ys e second) (Contains-append_cases xs ys e h)
+
+ascending_filtered : (test : Entry → Bool) (piece back : List Entry) → IsAscending (piece ++ back) → IsAscending (filter test piece ++ back)
+ascending_filtered test [] back up = up
+ascending_filtered test (x ∷ piece) back up = by_case (test x) refl (ascending_filtered test piece back (ascending-tail x (piece ++ back) up))
+  where
+    later : All (Precedes x) (filter test piece ++ back)
+    later = all-from (Precedes x) (filter test piece ++ back)
+        (λ e h. ascending-head x e (piece ++ back) up (among_both (filter test piece) piece back (λ e there. (filtered test piece e there).0) e h))
+
+    by_case : (b : Bool) → test x ≡ b → IsAscending (filter test piece ++ back) → IsAscending (filter test (x ∷ piece) ++ back)
+    by_case true is rest = rw is (AllPairs-cons Precedes x (filter test piece ++ back) later rest)
+    by_case false is rest = rw is rest
+
+ascending_front : (front xs ys : List Entry) → IsAscending (front ++ xs) → IsAscending ys → ((e : Entry) → Contains ys e → Contains xs e) → IsAscending (front ++ ys)
+ascending_front [] xs ys up up_ys among = up_ys
+ascending_front (x ∷ front) xs ys up up_ys among =
+    AllPairs-cons Precedes x (front ++ ys)
+    (all-from (Precedes x) (front ++ ys) (λ e h. ascending-head x e (front ++ xs) up
+    (⊎_elim (λ first. Contains-append_left front xs e first) (λ second. Contains-append_right front xs e (among e second)) (Contains-append_cases front ys e h))))
+    (ascending_front front xs ys (ascending-tail x (front ++ xs) up) up_ys among)
+
+module _ (front piece back : List Entry) (dead : List Tid) (up : IsAscending (front ++ (piece ++ back))) where
+  up_rest : IsAscending (piece ++ back)
+  up_rest = ascending_back front (piece ++ back) up
+
+  pub ascending_left : IsAscending (front ++ (filter (stays dead) piece ++ back))
+  ascending_left =
+      ascending_front front (piece ++ back) (filter (stays dead) piece ++ back) up (ascending_filtered (stays dead) piece back up_rest)
+      (λ e h. among_both (filter (stays dead) piece) piece back (λ e there. (filtered (stays dead) piece e there).0) e h)
+
+  module _ (from : Option Entry) (start : IsStart (front ++ (piece ++ back)) (IsAfter from) (length front)) where
+    in_front : (e : Entry) → Contains front e → ¬ IsAfter from e
+    in_front e there =
+        let p = place_of front e there in
+        let within = slice_get_within front p.0 e p.1 in
+        start.before p.0 e within (get_front front (piece ++ back) p.0 within ∙ p.1)
+
+    in_rest : (e : Entry) → Contains (piece ++ back) e → IsAfter from e
+    in_rest e there =
+        let p = place_of (piece ++ back) e there in
+        start.from (length front + p.0) e (omega arith) (get_behind front (piece ++ back) p.0 ∙ p.1)
+
+    pub members_left : (IsUp : Entry → Type 0) → ((e : Entry) → Contains piece e → IsUp e) → ((e : Entry) → Contains back e → ¬ IsUp e) → (e : Entry)
+        → Contains (front ++ (filter (stays dead) piece ++ back)) e ↔ (Contains (front ++ (piece ++ back)) e × (¬ (IsAfter from e × IsUp e × Contains dead e.tid)))
+    members_left IsUp here behind e = (
+      λ h. ⊎_elim (λ first. (Contains-append_left front (piece ++ back) e first, λ gone. in_front e first gone.0))
+          (λ rest. ⊎_elim
+          (λ looked. let both = filtered (stays dead) piece e looked in
+          (Contains-append_right front (piece ++ back) e (Contains-append_left piece back e both.0), λ gone. (stays-is dead e).0 both.1 gone.2))
+          (λ last. (Contains-append_right front (piece ++ back) e (Contains-append_right piece back e last), λ gone. behind e last gone.1))
+          (Contains-append_cases (filter (stays dead) piece) back e rest))
+          (Contains-append_cases front (filter (stays dead) piece ++ back) e h),
+      λ h. ⊎_elim (λ first. Contains-append_left front (filter (stays dead) piece ++ back) e first)
+          (λ rest. Contains-append_right front (filter (stays dead) piece ++ back) e (⊎_elim
+          (λ looked. Contains-append_left (filter (stays dead) piece) back e
+          (kept (stays dead) piece e looked ((stays-is dead e).1 (λ gone. h.1 (in_rest e rest, here e looked, gone)))))
+          (λ last. Contains-append_right (filter (stays dead) piece) back e last)
+          (Contains-append_cases piece back e rest)))
+          (Contains-append_cases front (piece ++ back) e h.0),
+    )
+
+    module _ (last : Entry) (at : slice_get piece (length piece - 1) ≡ Some last) where
+      at_rest : slice_get (piece ++ back) (length piece - 1) ≡ Some last
+      at_rest = get_front piece back (length piece - 1) (slice_get_within piece (length piece - 1) last at) ∙ at
+
+      in_piece : (e : Entry) → Contains piece e → ¬ Precedes last e
+      in_piece e there =
+          let p = place_of piece e there in
+          let within = slice_get_within piece p.0 e p.1 in
+          let there = get_front piece back p.0 within ∙ p.1 in
+          elim (cases_lt p.0 (length piece - 1)) [
+            | inl below ↦ Precedes-not_back e last (ascending-at (piece ++ back) p.0 (length piece - 1) e last up_rest below there at_rest)
+            | inr same ↦ λ after. not_before_itself last
+                (subst (λ y. Precedes last y) (same_place (piece ++ back) p.0 (length piece - 1) e last (omega (arith, same, within)) there at_rest) after)
+          ]
+
+      in_back : (e : Entry) → Contains back e → Precedes last e
+      in_back e there =
+          let p = place_of back e there in
+          let within = slice_get_within piece (length piece - 1) last at in
+          ascending-at (piece ++ back) (length piece - 1) (length piece + p.0) last e up_rest (omega (arith, within)) at_rest (get_behind piece back p.0 ∙ p.1)
+
+      next_of : 0 < length back → (next : Entry) × Contains (front ++ (piece ++ back)) next × Precedes last next
+      next_of some =
+          let d = get_or back 0 last in
+          let there = Contains-get_or back 0 last some in
+          (d, Contains-append_right front (piece ++ back) d (Contains-append_right piece back d there), in_back d there)
+
+      there : Contains (piece ++ back) last
+      there = Contains-from_place (piece ++ back) last (length piece - 1) at_rest
+
+      pub removes_more : 0 < length back → RemovesPiece (front ++ (piece ++ back)) (front ++ (filter (stays dead) piece ++ back)) dead from (More last)
+      removes_more some = record {
+        ascending = ascending_left;
+        members = members_left (λ e. ¬ Precedes last e) in_piece (λ e behind up. up (in_back e behind));
+        goes_on = (Contains-append_right front (piece ++ back) last there, in_rest last there, next_of some);
+      }
+
+    pub removes_last : back ≡ [] → RemovesPiece (front ++ (piece ++ back)) (front ++ (filter (stays dead) piece ++ back)) dead from Done
+    removes_last none = record {
+      ascending = ascending_left;
+      members = members_left (λ e. Unit {0}) (λ e there. tt) (λ e there. absurd (Contains-none e (subst (λ (xs : List Entry). Contains xs e) none there)));
+      goes_on = tt;
+    }
+
+empty_back : (xs : List Entry) → ¬ (0 < length xs) → xs ≡ []
+empty_back [] none = refl
+empty_back (x ∷ xs) none = absurd (none (omega arith))
+
+pub removes_swept : (old new : List Entry) (rank : ℕ) (dead : List Tid) (swept : Swept) (from : Option Entry) (progress : Progress) → IsAscending old → IsStart old (IsAfter from) rank
+    → IsSwept old new rank dead swept → (swept.more ≡ true → progress ≡ More swept.last) → (swept.more ≡ false → progress ≡ Done) → RemovesPiece old new dead from progress
+removes_swept old new rank dead swept from progress up start s more done =
+    let up_parts = subst IsAscending s.was up in
+    let start_parts = subst (λ (xs : List Entry). IsStart xs (IsAfter from) (length s.front)) s.was (subst (IsStart old (IsAfter from)) (sym s.begins) start) in
+    subst (λ (xs : List Entry). RemovesPiece xs new dead from progress) (sym s.was)
+    (subst (λ (xs : List Entry). RemovesPiece (s.front ++ (s.piece ++ s.back)) xs dead from progress) (sym s.is) (by_case swept.more refl up_parts start_parts))
+  where
+    by_case : (b : Bool) → swept.more ≡ b → IsAscending (s.front ++ (s.piece ++ s.back)) → IsStart (s.front ++ (s.piece ++ s.back)) (IsAfter from) (length s.front)
+        → RemovesPiece (s.front ++ (s.piece ++ s.back)) (s.front ++ (filter (stays dead) s.piece ++ s.back)) dead from progress
+    by_case true is up start =
+        subst (RemovesPiece (s.front ++ (s.piece ++ s.back)) (s.front ++ (filter (stays dead) s.piece ++ s.back)) dead from) (sym (more is))
+        (removes_more s.front s.piece s.back dead up from start swept.last s.last (s.more.0 is))
+    by_case false is up start =
+        subst (RemovesPiece (s.front ++ (s.piece ++ s.back)) (s.front ++ (filter (stays dead) s.piece ++ s.back)) dead from) (sym (done is))
+        (removes_last s.front s.piece s.back dead up from start (empty_back s.back (λ some. let yes = s.more.1 some in absurd (cc (yes, is)))))
+
+-- what a look-up found through a reference
+pub start_there : {N S : Type 0} (entries : N → List Entry) (rank : N → S → ℕ) (IsSpot : N → S → Type 0) (nodes seen : List N) (P : Entry → Type 0) (spot : Spot S) → seen ≡ nodes
+    → IsStartIn entries rank IsSpot seen P spot → IsStart (all entries nodes) P (rank_in entries rank nodes spot)
+start_there {N} entries rank IsSpot nodes seen P spot is start = (subst (λ (ns : List N). IsStartIn entries rank IsSpot ns P spot) is start).start
+
+-- where no entry follows
+pub removes_none : (old new : List Entry) (rank : ℕ) (dead : List Tid) (from : Option Entry) → IsAscending old → IsStart old (IsAfter from) rank → length old ≤ rank → new ≡ old
+    → RemovesPiece old new dead from Done
+removes_none old new rank dead from up start past same = subst (λ (xs : List Entry). RemovesPiece old xs dead from Done) (sym same) (record {
+  ascending = up;
+  members = λ e. (
+    λ h. (h, λ gone. let p = place_of old e h in start.before p.0 e (omega (arith, slice_get_within old p.0 e p.1)) p.1 gone.0),
+    λ h. h.0,
+  );
+  goes_on = tt;
+})
+
+pub sound_swept : {N : Type 0} (entries : N → List Entry) (IsNeat : N → Type 0) (size : N → ℕ) (nodes new : List N) (room room' spare : ℕ) (HasLeft : ℕ → Type 0) (count count' promised rank : ℕ)
+    (dead : List Tid) (swept : Swept) → IsSound entries IsNeat size nodes room spare HasLeft count promised → IsSwept (all entries nodes) (all entries new) rank dead swept
+    → AreNeat IsNeat size new → room ≤ room' → count' ≡ count - swept.removed → IsSound entries IsNeat size new room' spare HasLeft count' promised
+sound_swept entries IsNeat size nodes new room room' spare HasLeft count count' promised rank dead swept sound s neat in_room counted =
+    let up = ascending_left s.front s.piece s.back dead (subst IsAscending s.was sound.ascending) in
+    let was : length (all entries nodes) ≡ length s.front + (length s.piece + length s.back) =
+    ap length s.was ∙ length-append s.front (s.piece ++ s.back) ∙ ap (λ n. length s.front + n) (length-append s.piece s.back) in
+    let is : length (all entries new) ≡ length s.front + (length (filter (stays dead) s.piece) + length s.back) =
+    ap length s.is ∙ length-append s.front (filter (stays dead) s.piece ++ s.back) ∙ ap (λ n. length s.front + n) (length-append (filter (stays dead) s.piece) s.back) in
+    let before = sound.counted in
+    let gone = s.removed in
+    let list = sound.in_list in
+    let bound = sound.countable in
+    record {
+      ascending = subst IsAscending (sym s.is) up;
+      neat = neat;
+      counted = omega arith;
+      in_list = omega arith;
+      in_trees = sound.in_trees;
+      below = sound.below;
+      countable = omega arith;
+    }

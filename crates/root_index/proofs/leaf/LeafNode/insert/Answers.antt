@@ -1,0 +1,22 @@
+use Rattle.std.proofs.Common.{rules, sym, subst}
+use Rattle.root_index.specs.Bounds.{AreOn}
+use Rattle.root_index.proofs.BoundLemmas.{on_inserted}
+use Rattle.root_index.proofs.leaf.LeafNode.insert.Goals as goal
+
+pub invariant_of-self : goal.invariant_of-self
+invariant_of-self c = (
+  search rules,
+  search rules,
+  search rules,
+  subst (AreOn c.widened-self-inside.result) (sym c.put.ensures.items)
+      (on_inserted c.self.inside.pages c.widened-self-inside.result c.self.inside.entries.items c.args.spot c.args.entry c.self.invariant.3 c.widened-self-inside.ensures.kept c.widened-self-inside.ensures.on),
+)
+
+pub invariant_of-self-then-spot-eq0 : goal.invariant_of-self-then-spot-eq0
+invariant_of-self-then-spot-eq0 c = (
+  search rules,
+  search rules,
+  search rules,
+  subst (AreOn c.widened-self-inside.result) (sym c.put.ensures.items)
+      (on_inserted c.self.inside.pages c.widened-self-inside.result c.self.inside.entries.items c.args.spot c.args.entry c.self.invariant.3 c.widened-self-inside.ensures.kept c.widened-self-inside.ensures.on),
+)

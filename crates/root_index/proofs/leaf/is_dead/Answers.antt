@@ -1,0 +1,5 @@
+use Rattle.root_index.proofs.SetLemmas.{dead-is}
+use Rattle.root_index.proofs.leaf.is_dead.Goals as goal
+
+pub returns : goal.returns
+returns c = dead-is c.args.dead.now c.args.entry c.contains.result c.contains.ensures

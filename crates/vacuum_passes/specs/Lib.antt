@@ -1,0 +1,5 @@
+pub mod View
+pub mod Visits
+pub mod Steps
+pub mod Keeps
+pub mod Bound

@@ -1,0 +1,132 @@
+//! A vacuum in progress.
+
+ghost use Rattle.std.specs.Prelude.{◌≡◌, ◌<◌, ◌≤◌};
+ghost use Rattle.vacuum_passes.specs.View.{begun, disturbed};
+
+use root_index::{DeadSet, Entry};
+use std::marker::Model;
+use xid_circle::Xid;
+
+/// Which pages a vacuum passes over.
+#[derive(Clone, Copy, Debug, PartialEq, Eq)]
+pub enum Mode {
+    /// Those that are all-visible.
+    Normal,
+    /// Only those that are all-frozen. At its end old ids are forgotten.
+    Aggressive,
+}
+
+/// What one step did.
+#[derive(Clone, Copy, Debug, PartialEq, Eq)]
+pub enum Piece {
+    /// Visited this page: pruned it, froze it, and collected dead slots.
+    Heap(u32),
+    /// Removed entries to collected slots from a piece of this index.
+    Index(u8),
+    /// Made the collected slots of this page unused.
+    Free(u32),
+}
+
+/// What a vacuum does next.
+#[derive(Clone, Copy, Debug, PartialEq, Eq)]
+pub enum Phase {
+    /// Visits pages.
+    Heap,
+    /// Goes through this index, after this entry, or from its beginning.
+    Index(u8, Option<Entry>),
+    /// Frees collected slots.
+    Free,
+}
+
+/// A vacuum in progress. It holds at most 4096 dead slots at a time.
+#[derive(Debug, Drop)]
+pub struct Vacuum {
+    pub(crate) mode: Mode,
+    pub(crate) horizon: Xid,
+    pub(crate) cutoff: Xid,
+    pub(crate) pages: u32,
+    pub(crate) entries: u128,
+    pub(crate) limit: u32,
+    pub(crate) phase: Phase,
+    pub(crate) next: u32,
+    pub(crate) store: DeadSet,
+    // how many of these are unused by now
+    pub(crate) freed: usize,
+    pub(crate) alone: bool,
+    pub(crate) quiet: bool,
+    pub(crate) steps: u64,
+}
+
+impl Model for Vacuum {
+    ghost use Rattle.std.specs.Prelude.{drop, length, ◌≤◌};
+    ghost use Rattle.vacuum_passes.specs.View.{VacuumView};
+    ghost use Rattle.vacuum_passes.specs.Keeps.{IsVacuum};
+
+    ghost Value = { VacuumView };
+
+    ghost view = { λ v. record {
+      mode = v.mode;
+      horizon = v.horizon.0;
+      cutoff = v.cutoff.0;
+      pages = v.pages;
+      entries = v.entries;
+      limit = v.limit;
+      phase = v.phase;
+      next = v.next;
+      store = drop v.freed v.store;
+      alone = v.alone;
+      quiet = v.quiet;
+      steps = v.steps;
+    } };
+
+    ghost invariant = { λ v. IsVacuum (record {
+      mode = v.mode;
+      horizon = v.horizon.0;
+      cutoff = v.cutoff.0;
+      pages = v.pages;
+      entries = v.entries;
+      limit = v.limit;
+      phase = v.phase;
+      next = v.next;
+      store = drop v.freed v.store;
+      alone = v.alone;
+      quiet = v.quiet;
+      steps = v.steps;
+    }) × (v.limit ≤ 4096) × (v.freed ≤ length v.store) };
+}
+
+impl Vacuum {
+    /// A vacuum that begins: it visits so many pages, freezes what committed before `cutoff`, and collects at most `limit` dead slots at
+    /// a time, up to 4096. `horizon` is that of this moment, and `entries` is how many the indexes have.
+    pub fn new(mode: Mode, horizon: Xid, cutoff: Xid, pages: u32, entries: u128, limit: u32) -> Self
+        requires some { 0 < limit }
+        requires few { limit ≤ 4096 }
+        ensures { result ≡ begun mode horizon.0 cutoff.0 pages entries limit }
+    {
+        Vacuum {
+            mode,
+            horizon,
+            cutoff,
+            pages,
+            entries,
+            limit,
+            phase: Phase::Heap,
+            next: 0,
+            store: DeadSet::new(),
+            freed: 0,
+            alone: true,
+            quiet: true,
+            steps: 0,
+        }
+    }
+
+    /// Notes another step than one of the vacuum's own, and whether it was a session's.
+    pub fn disturbed(&mut self, session: bool)
+        ensures { self.new ≡ disturbed session self.old }
+    {
+        self.alone = false;
+        if session {
+            self.quiet = false;
+        }
+    }
+}
