@@ -26,3 +26,5 @@ pub mod GivenBelow
 pub mod FollowsWrites
 pub mod FollowsSavepoints
 pub mod FollowsCursors
+pub mod SettlingLemmas
+pub mod ForgettingLemmas

@@ -8,3 +8,4 @@ pub mod Changes
 pub mod Agrees
 pub mod Finds
 pub mod Bounds
+pub mod Settling

@@ -1,0 +1,235 @@
+#!/usr/bin/env python3
+"""Tries many wrong edits of a crate in few checks: tools/audit.py [--jobs N] [--only WORD] [NAME ..]
+
+Run at the top of the repository, with `rt` on the path; without names, every crate that has edits. The edits are those of
+crates/NAME/must-fail/ and crates/NAME/audit/. They are tried on copies, some sixteen in one check: a round changes each function
+at most once, and judges each edit by the line that `rt check` prints for the function that it changes. An edit is refused where
+that function itself is not proved. One that changes no single function (a definition, a constant), and one whose function was
+only not reached ("it calls .."), is tried alone. Prints the edits that were not refused, and exits 1 if there are any.
+
+"By form alone" says that a hand-written answer names a part of the old body and nothing else failed, so that the contract may
+not have been tried: such an edit is to be written closer to the body.
+"""
+import argparse
+import glob
+import os
+import re
+import shutil
+import subprocess
+import sys
+import tempfile
+import threading
+import time
+
+HEAD = re.compile(r"^(\s*)(?:pub(?:\([a-z]+\))?\s+)?(?:const\s+|unsafe\s+)*fn\s+(\w+)")
+
+
+def text_of(path):
+    with open(path, encoding="utf-8") as file:
+        return file.read()
+
+
+def pairs_of(edit):
+    """The changes of an edit file, as (path, old text, new text)."""
+    path = old = None
+    pairs = []
+    for line in text_of(edit).split("\n"):
+        if line.startswith("file: "):
+            path = line[6:].strip()
+        elif line.startswith("old: "):
+            old = line[5:]
+        elif line.startswith("new:"):
+            pairs.append((path, old, line[4:].removeprefix(" ")))
+    return pairs
+
+
+def type_above(lines, at):
+    """The name of the type (and trait) whose impl block holds line `at`, as `rt check` writes it."""
+    for line in reversed(lines[:at]):
+        if line.startswith("impl"):
+            head = re.sub(r"^impl\s*(<.*?>)?\s*(?=[A-Z])", "", line.rstrip("{ ").strip())
+            words = [re.sub(r"<.*>", "", part).strip().split("::")[-1] for part in head.split(" for ", 1)]
+            return words[1] + words[0] if len(words) == 2 else words[0]
+    return None
+
+
+def function_at(crate, path, old, names):
+    """The names, among those that `rt check` printed, of the function whose text holds `old`."""
+    if not path.startswith("src/"):
+        return set()
+    text = text_of(f"{crate}/{path}")
+    place = text.find(old)
+    if place < 0:
+        return set()
+    lines, at = text.split("\n"), text.count("\n", 0, place)
+    module = path[4:-3].replace("/", "::")
+    module = "" if module in ("lib", "main") else module + "::"
+    for n in range(at, -1, -1):
+        head = HEAD.match(lines[n])
+        if not head:
+            continue
+        if any(line.startswith(head[1] + "}") and not line.startswith(head[1] + "} else") for line in lines[n + 1 : at]):
+            return set()
+        owner = type_above(lines, n) if head[1] else None
+        if owner:
+            return {name for name in names if name.endswith(f"::{owner}::{head[2]}")}
+        return {name for name in names if name == f"{os.path.basename(crate)}::{module}{head[2]}"}
+    return set()
+
+
+class Said:
+    """What a check said: of each function, the errors of reading, and which functions fail by form alone."""
+
+    def __init__(self, top, name):
+        before = time.time()
+        words = ["rt", "check", "--jobs", "1"]
+        with tempfile.TemporaryFile("w+", encoding="utf-8", errors="replace") as out:
+            started = subprocess.Popen(words, cwd=f"{top}/crates/{name}", stdin=subprocess.DEVNULL, stdout=out, stderr=subprocess.STDOUT)
+            _, status, used = os.wait4(started.pid, 0)
+            out.seek(0)
+            said = out.read()
+        self.status, self.spent, self.clock = status, used.ru_utime + used.ru_stime, time.time() - before
+        self.functions = {m[1]: m[2] for m in re.finditer(r"^fn (\S+): (.*)$", said, re.M)}
+        self.unread = re.findall(r"^.*error\[.*$", said, re.M)[:3]
+        wrong = {}
+        for m in re.finditer(r"\./proofs/(\S+)/Answers\.antt:\d+:\d+: error: (.*)", said):
+            wrong.setdefault(f"{name}::" + m[1].replace("/", "::"), []).append(m[2])
+        self.by_form = {f for f, errors in wrong.items() if all(re.search(r"has no (field )?`|can be named", error) for error in errors)}
+        self.by_form = {f for f in self.by_form if self.functions.get(f, "").startswith("not proved")}
+
+
+def changed(crate, edits):
+    """The files' texts after the edits that can be made together, and those edits."""
+    texts, made = {}, []
+    for edit in edits:
+        here = dict(texts)
+        for path, old, new in edit["pairs"]:
+            text = here[path] if path in here else text_of(f"{crate}/{path}")
+            if text.count(old) != 1:
+                break
+            here[path] = text.replace(old, new)
+        else:
+            texts = here
+            made.append(edit)
+    return texts, made
+
+
+def next_round(todo):
+    """The edits that are tried together next: each changes another function, or is alone."""
+    this, used = [], set()
+    for edit in todo:
+        alone = edit["of"] is None
+        if not this or (not alone and this[0]["of"] is not None and not edit["of"] & used):
+            this.append(edit)
+            used |= edit["of"] or set()
+            if alone:
+                break
+    return this
+
+
+def verdict_of(edit, made, said, names):
+    """Whether an edit of a round was refused, or None where the round doesn't tell."""
+    lost = {f for f in names if not said.functions.get(f, "absent").startswith("proved")}
+    own = {f for f in lost if not said.functions.get(f, "absent").startswith("no proof: it calls")}
+    if said.unread:
+        return f"BAD: {said.unread[0].strip()}" if len(made) == 1 else None
+    if edit["of"] is None:
+        return "refused" if said.status else "NOT REFUSED"
+    if edit["of"] & own:
+        return "refused by form alone" if not (edit["of"] & own) - said.by_form else "refused"
+    if edit["of"] & lost:
+        return "refused" if len(made) == 1 else None
+    return "NOT REFUSED"
+
+
+def try_round(crate, top, name, made, texts):
+    was = {path: text_of(f"{crate}/{path}") for path in texts}
+    for path, text in texts.items():
+        with open(f"{crate}/{path}", "w", encoding="utf-8") as file:
+            file.write(text)
+    said = Said(top, name)
+    for path, text in was.items():
+        with open(f"{crate}/{path}", "w", encoding="utf-8") as file:
+            file.write(text)
+    return said
+
+
+def audit(top, name, only):
+    """The edits of a crate that were not refused, and a line on all of them."""
+    crate = f"{top}/crates/{name}"
+    files = sorted(glob.glob(f"{crate}/must-fail/*.edit") + glob.glob(f"{crate}/audit/*.edit"))
+    files = [file for file in files if not only or only in os.path.basename(file)]
+    if not files:
+        return [], None
+    plain = Said(top, name)
+    if plain.status:
+        return [f"{name} is not proved as it is"], None
+    names, checks, spent, clock = plain.functions, 0, 0.0, 0.0
+    edits = []
+    for file in files:
+        pairs = pairs_of(file)
+        found = [function_at(crate, path, old, names) for path, old, _ in pairs]
+        of = set.union(*found) if found and all(found) else None
+        edits.append({"name": os.path.basename(file)[:-5], "pairs": pairs, "of": of})
+    todo, verdicts = edits, {}
+    while todo:
+        this = next_round(todo)
+        texts, made = changed(crate, this)
+        if not made:
+            verdicts[this[0]["name"]] = "BAD: a text is not there once"
+            todo = todo[1:]
+            continue
+        said = try_round(crate, top, name, made, texts)
+        spent, clock, checks = spent + said.spent, clock + said.clock, checks + 1
+        for edit in made:
+            verdict = verdict_of(edit, made, said, names)
+            if verdict:
+                verdicts[edit["name"]] = verdict
+        left = [edit for edit in todo if edit["name"] not in verdicts]
+        # Where a round gave no verdict on an edit, that edit is tried alone.
+        held = [edit for edit in left if edit in made]
+        for edit in held:
+            edit["of"] = None
+        todo = [edit for edit in left if edit not in held] + held
+    bad = [f"{name}/{edit}: {verdict}" for edit, verdict in sorted(verdicts.items()) if not verdict.startswith("refused")]
+    forms = sorted(edit for edit, verdict in verdicts.items() if verdict == "refused by form alone")
+    line = f"| `{name}` | {len(files)} | {len(verdicts) - len(bad)} | {checks} | {spent:.0f} |"
+    return bad, line + (f" by form alone: {', '.join(forms)}" if forms else "")
+
+
+def work(room, number, names, lock, only, bad):
+    """Audits crates in a copy of the repository of its own, until none is left."""
+    top = f"{room}/{number}"
+    shutil.copytree(".", top, symlinks=True, ignore=shutil.ignore_patterns(".git", "out"))
+    while True:
+        with lock:
+            if not names:
+                return
+            name = names.pop(0)
+        missed, line = audit(top, name, only)
+        with lock:
+            bad += missed
+            if line:
+                print(line, flush=True)
+
+
+def main():
+    parser = argparse.ArgumentParser(description=__doc__, formatter_class=argparse.RawDescriptionHelpFormatter)
+    parser.add_argument("--jobs", type=int, default=1, help="how many crates are tried side by side")
+    parser.add_argument("--only", help="try the edits whose names have this in them")
+    parser.add_argument("names", nargs="*", help="crates; all that have edits, if none is named")
+    words = parser.parse_args()
+    names = words.names or [line.split(":")[0].split()[0] for line in text_of("crates.txt").split("\n") if ":" in line]
+    began, bad, lock = time.time(), [], threading.Lock()
+    print("| crate | edits | refused | checks | processor seconds |\n|---|---:|---:|---:|---:|", flush=True)
+    with tempfile.TemporaryDirectory(prefix="audit-") as room:
+        threads = [threading.Thread(target=work, args=(room, n, names, lock, words.only, bad)) for n in range(words.jobs)]
+        for thread in threads:
+            thread.start()
+        for thread in threads:
+            thread.join()
+    print("\n".join(sorted(bad)) or f"each edit was refused; {time.time() - began:.0f} s")
+    sys.exit(1 if bad else 0)
+
+
+main()

@@ -1,0 +1,68 @@
+#!/usr/bin/env python3
+"""Says what a run of the gate costs: tools/gate_times.py [COMMAND ..]
+
+Runs the command (`rt ci --anew` if none is given) at the top of the repository, looks at the processor time of each of the prover's
+processes twice a second, and prints a table in processor minutes: each crate's proof (with its build), its tests and its edits (the
+second proof that they begin with counts there), and what the whole run took by its own count. Other runs of `rt` beside it are counted
+too, so let there be none. Needs Linux's /proc. Ends with the command's status.
+"""
+import os
+import re
+import subprocess
+import sys
+import threading
+import time
+
+TICK = os.sysconf("SC_CLK_TCK")
+
+
+def processes():
+    """Each process of the prover that runs now: its number and birth, its crate and kind, and its seconds so far."""
+    for number in filter(str.isdigit, os.listdir("/proc")):
+        try:
+            with open(f"/proc/{number}/cmdline", "rb") as file:
+                words = file.read().decode(errors="replace").split("\0")
+            if "--crate-name" not in words or not re.fullmatch(r"rattle.*", os.path.basename(words[0])):
+                continue
+            with open(f"/proc/{number}/stat", encoding="utf-8") as file:
+                fields = file.read().rpartition(")")[2].split()
+            folder = os.readlink(f"/proc/{number}/cwd")
+        except OSError:
+            continue
+        crate = words[words.index("--crate-name") + 1]
+        kind = "edits" if "rt-edit" in folder or any("rt-edit" in word for word in words) else "tests" if "--test" in words else "proof"
+        yield (number, fields[19]), (crate.removesuffix("_tests"), kind), sum(map(int, fields[11:15])) / TICK
+
+
+def main():
+    command = sys.argv[1:] or ["rt", "ci", "--anew"]
+    began, seen, over = time.time(), {}, threading.Event()
+
+    def watch():
+        while not over.is_set():
+            for process, what, seconds in processes():
+                seen[process] = (what, seconds)
+            over.wait(0.5)
+
+    watcher = threading.Thread(target=watch)
+    watcher.start()
+    started = subprocess.Popen(command)
+    _, status, used = os.wait4(started.pid, 0)
+    over.set()
+    watcher.join()
+    table = {}
+    for (crate, kind), seconds in seen.values():
+        row = table.setdefault(crate, {"proof": 0, "tests": 0, "edits": 0})
+        row[kind] += seconds / 60
+    print("\n| crate | proof | tests | edits | in all |\n|---|---:|---:|---:|---:|")
+    cell = lambda minutes: f"{minutes:.1f}" if minutes >= 0.05 else ""
+    for crate, row in sorted(table.items(), key=lambda it: -sum(it[1].values())):
+        print(f"| `{crate}` | {cell(row['proof'])} | {cell(row['tests'])} | {cell(row['edits'])} | {sum(row.values()):.1f} |")
+    sums = [sum(row[kind] for row in table.values()) for kind in ("proof", "tests", "edits")]
+    print(f"| all | {sums[0]:.1f} | {sums[1]:.1f} | {sums[2]:.1f} | {sum(sums):.1f} |")
+    whole = (used.ru_utime + used.ru_stime) / 60
+    print(f"\nthe whole run: {whole:.1f} processor minutes (user and system), {(time.time() - began) / 60:.1f} by the clock")
+    sys.exit(os.waitstatus_to_exitcode(status))
+
+
+main()
