@@ -8,7 +8,7 @@ use Rattle.xid_circle.proofs.Members.{Contains-cases, Contains-none}
 use Rattle.commit_status.specs.Window.{Entry, Window, IsWindow, IsGiven, IsGivenBefore, IsActive, IsUpToNext, turns, place, parent_at, status_of, top_of, next_id}
 use Rattle.commit_status.specs.Changes.{Gives}
 use Rattle.commit_status.proofs.Turns.{turns-given}
-use Rattle.commit_status.proofs.Places.{next-none, none-unless, is-from_some, some-from_is}
+use Rattle.commit_status.proofs.Places.{IsAt, at-from_place, place-from_at, next-none, none-unless, is-from_some, some-from_is}
 use Rattle.commit_status.proofs.Giving.{gives-length, gives-place_old, gives-status, gives-top_old, gives-top_next, gives-top_alone, gives-active_next, gives-upto}
 use Rattle.snapshot.specs.Own.{AreDistinct}
 use Rattle.heap_write.specs.Writes.{GivesUnder}
@@ -65,9 +65,15 @@ pub given-upto : (xs : List ℕ) (w v : Window) (parent : Option ℕ) (y : ℕ) 
 given-upto [] w v parent y g upto = subst (λ w. IsUpToNext w y) (sym g) upto
 given-upto (x ∷ xs) w v parent y g upto = given-upto xs g.0 v (Some x) y g.3 (gives-upto w g.0 parent y g.2 upto)
 
-given-place : (xs : List ℕ) (w v : Window) (parent : Option ℕ) (y i : ℕ) → GivesUnder w parent xs v → place w y ≡ Some i → place v y ≡ Some i
+pub given-place : (xs : List ℕ) (w v : Window) (parent : Option ℕ) (y i : ℕ) → GivesUnder w parent xs v → place w y ≡ Some i → place v y ≡ Some i
 given-place [] w v parent y i g at = ap (λ w. place w y) g ∙ at
 given-place (x ∷ xs) w v parent y i g at = given-place xs g.0 v (Some x) y i g.3 (gives-place_old w g.0 parent y i g.2 at)
+
+-- what stands before the new ones was there
+pub given-earlier : (xs : List ℕ) (w v : Window) (parent : Option ℕ) (y j : ℕ) → GivesUnder w parent xs v → place v y ≡ Some j → j < length w.entries → place w y ≡ Some j
+given-earlier xs w v parent y j g at within =
+    let a = at-from_place v.first (length v.entries) y j at in
+    place-from_at w.first (length w.entries) y j (record { normal = a.normal; fits = a.fits; turn = subst (λ f. turns f y ≡ j) (given-first xs w v parent g) a.turn; within = within })
 
 pub given-old : (xs : List ℕ) (w v : Window) (parent : Option ℕ) (y : ℕ) → GivesUnder w parent xs v → IsGiven w y → IsGiven v y
 given-old xs w v parent y g there = let at = some-from_is (place w y) there in is-from_some (place v y) at.0 (given-place xs w v parent y at.0 g at.1)

@@ -167,11 +167,7 @@ impl HeapState {
 
     /// Makes room in memory for a new root of this size, with its entries and an id for each level that lacks one, and answers where it
     /// goes, if anywhere.
-    fn reserve_root(
-        &mut self,
-        own: &mut OwnIds,
-        size: usize,
-    ) -> Result<Option<Target>, AllocError>
+    fn reserve_root(&mut self, own: &mut OwnIds, size: usize) -> Result<Option<Target>, AllocError>
         requires { size ≤ 8164 }
         ensures keeps { Keeps self.old self.new }
         ensures none { lacks own.old.ids own.old.saved ≡ 0 → self.new.table ≡ self.old.table }

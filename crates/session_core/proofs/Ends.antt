@@ -15,6 +15,7 @@ use Rattle.commit_status.specs.Window.{Window, IsWindow, IsInProgress, turns, to
 use Rattle.commit_status.specs.Window as window
 use Rattle.commit_status.specs.Changes.{Finishes}
 use Rattle.commit_status.proofs.Finishing.{finishes-top, finishes-upto, finishes-next}
+use Rattle.forgetting.proofs.WellTopped.{finishes-well_topped}
 use Rattle.page_writes.specs.Laws.{DeletedWhatWasMade, AloneDeletedTheirs}
 use Rattle.sound_entries.specs.Pages.{slots_on}
 use Rattle.heap_write.specs.Heap.{slots_of}
@@ -73,26 +74,6 @@ keeps-finish w v ids end e f h = record {
   fronts = h.fronts;
   distinct = h.distinct;
 }
-
--- an id that was finished, or is by this, is not in progress
-finished-then : (w v : Window) (ids : List ℕ) (end : Status) (y : ℕ) → end ≢ InProgress → Finishes w v ids end → (¬ IsInProgress w y) ⊎ Contains ids y → ¬ IsInProgress v y
-finished-then w v ids end y ended f was active = elim (f.each y) [
-  | inl mine ↦ ended (sym mine.2 ∙ active)
-  | inr other ↦ elim was [ inl done ↦ done (sym other.1 ∙ active) | inr mine ↦ other.0 mine ]
-]
-
--- ids that commit are finished with their topmost parent
-tops-finish : (w v : Window) (ids : List ℕ) (end : Status) → end ≢ InProgress → Finishes w v ids end
-    → (end ≡ Committed → (x : ℕ) → Contains ids x → Contains ids (top_of w x)) → ((x : ℕ) → window.IsCommitted w x → ¬ IsInProgress w (top_of w x))
-    → (x : ℕ) → window.IsCommitted v x → ¬ IsInProgress v (top_of v x)
-tops-finish w v ids end ended f with_tops tops x done =
-    subst (λ y. ¬ IsInProgress v y) (sym (finishes-top w v ids end x f)) (finished-then w v ids end (top_of w x) ended f was)
-  where
-    was : (¬ IsInProgress w (top_of w x)) ⊎ Contains ids (top_of w x)
-    was = elim (f.each x) [
-      | inl mine ↦ inr (with_tops (sym mine.2 ∙ done) x mine.0)
-      | inr other ↦ inl (tops x (sym other.1 ∙ done))
-    ]
 
 -- Who deletes what: whoever reads the deletion reads the making.
 
@@ -274,7 +255,7 @@ module _ (st st' : State) (s : ℕ) (e : Session) (now : Option Session) (ids : 
       | inl same ↦ along f same.1 span is
       | inr other ↦ agrees.sound.cursors o f span other.1 is
     ]);
-    tops = tops-finish st.heap.table st'.heap.table ids end ended change.finishes with_tops agrees.sound.tops;
+    tops = finishes-well_topped st.heap.table st'.heap.table ids end ended change.finishes agrees.sound.window with_tops agrees.sound.tops;
     table = later-stays-sound st'.heap (horizon_of st) (horizon_of st') stays.sound change.window
         (finishes-upto st.heap.table st'.heap.table ids end (horizon_of st) change.finishes (upto-horizon st w agrees))
         (horizon-upto st'.heap.table st'.sessions change.window held-then) later-then;

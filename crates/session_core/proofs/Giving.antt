@@ -9,8 +9,8 @@ use Rattle.std.proofs.lemmas.List.{append-nil}
 use Rattle.std.proofs.lemmas.List.Elements.{Contains-append_cases}
 use Rattle.xid_circle.proofs.Members.{Contains-first, Contains-rest, Contains-cases, Contains-none}
 use Rattle.page_slots.specs.declared.slot.Slot.{Slot}
-use Rattle.commit_status.specs.Window.{Window, IsWindow, IsCommitted, IsInProgress, IsGiven, IsUpToNext, next_id, status_of, top_of, turns, place}
-use Rattle.commit_status.proofs.Places.{upto-given, is-from_some}
+use Rattle.commit_status.specs.Window.{Window, IsWindow, IsActive, IsCommitted, IsGiven, IsGivenBefore, IsUpToNext, next_id, top_of, turns, place}
+use Rattle.commit_status.proofs.Places.{upto-given, place-lt, some-from_is, is-from_some}
 use Rattle.commit_status.proofs.Ancestors.{top-same}
 use Rattle.commit_status.proofs.Giving.{finished-place}
 use Rattle.snapshot.specs.Own.{Own, AreFronts, AreDistinct, lacks, level_id, saved_with_each}
@@ -20,7 +20,9 @@ use Rattle.snapshot.proofs.Sights.{sees-top}
 use Rattle.snapshot.proofs.Levels.{level-among, level-mine, level-none, level-some, level-newest, lacks-given, fronts-given}
 use Rattle.heap_write.specs.Heap.{HeapView, SameIds}
 use Rattle.heap_write.specs.Writes.{GivesUnder, TakesIds}
-use Rattle.heap_write.proofs.GivenIds.{given-first, given-next, given-upto, given-status, given-top_old, given-active, given-new, given-distinct, given-top, given-top_first, given-late}
+use Rattle.forgetting.specs.Truncating.{IsWellTopped}
+use Rattle.forgetting.proofs.WellTopped.{before-place}
+use Rattle.heap_write.proofs.GivenIds.{given-place, given-earlier, given-first, given-next, given-upto, given-status, given-top_old, given-active, given-new, given-distinct, given-top, given-top_first, given-late}
 use Rattle.sound_writes.specs.Table.{SoundTable, StaysSoundTable}
 use Rattle.session_core.proofs.InUse.{still-in_use, cursors-put, same-cursor}
 use Rattle.sound_writes.proofs.Keeping.{later-stays-sound}
@@ -76,6 +78,12 @@ window-spared w k is = record { normal = is.normal; fits = is.fits; limit = is.l
 
 upto-spared : (w : Window) (k x : ℕ) → IsUpToNext w x → IsUpToNext (spared w k) x
 upto-spared w k x h = record { normal = h.normal; fits = h.fits; reached = h.reached }
+
+well-spared : (w : Window) (k x : ℕ) → IsWellTopped w x → IsWellTopped (spared w k) x
+well-spared w k x h = record {
+  finished = λ active. let a = subst (IsActive (spared w k)) (top-spared w k x) active in h.finished (record { is_given = a.is_given; unfinished = a.unfinished });
+  near = subst (λ t. (t ≡ x) ⊎ IsGivenBefore t x) (sym (top-spared w k x)) h.near;
+}
 
 in-window-spared : (w : Window) (k : ℕ) (s : Snap) → IsInWindow w s → IsInWindow (spared w k) s
 in-window-spared w k s h =
@@ -171,12 +179,22 @@ module _ (w v : Window) (e : Session) (own : Own) (x : ℕ) (is : IsWindow v) (t
     newest = λ before at. level-newest own.ids own.saved x fronts-taken distinct-taken lacks-taken takes.newest before at;
   }
 
-tops-given : (xs : List ℕ) (w v : Window) (parent : Option ℕ) → IsWindow v → GivesUnder w parent xs v → ((x : ℕ) → IsCommitted w x → ¬ IsInProgress w (top_of w x)) → (x : ℕ) → IsCommitted v x → ¬ IsInProgress v (top_of v x)
-tops-given xs w v parent is gives tops x done active =
+-- a topmost parent that is in progress was before: it stands before its child, so it isn't one of the new ids
+tops-given : (xs : List ℕ) (w v : Window) (parent : Option ℕ) → IsWindow v → GivesUnder w parent xs v → ((x : ℕ) → IsCommitted w x → IsWellTopped w x) → (x : ℕ) → IsCommitted v x → IsWellTopped v x
+tops-given xs w v parent is gives tops x done =
     let was : IsCommitted w x = sym (given-status xs w v parent x gives is) ∙ done in
     let at = finished-place w x (λ going. cc) in
     let top : top_of v x ≡ top_of w x = given-top_old xs w v parent x gives is (is-from_some (place w x) at.0 at.1) in
-    tops x was (sym (given-status xs w v parent (top_of w x) gives is) ∙ (ap (status_of v) (sym top) ∙ active))
+    record {
+      finished = λ active. let active' = subst (IsActive v) top active in
+          let there = some-from_is (place v (top_of w x)) active'.is_given in
+          let before = before-place v (top_of w x) x at.0 there.0 is (given-place xs w v parent x at.0 gives at.1) there.1 (tops x was).near in
+          (tops x was).finished (record {
+            is_given = is-from_some (place w (top_of w x)) there.0 (given-earlier xs w v parent (top_of w x) there.0 gives there.1 (let within = place-lt w x at.0 at.1 in omega arith));
+            unfinished = sym (given-status xs w v parent (top_of w x) gives is) ∙ active'.unfinished;
+          });
+      near = subst (λ t. (t ≡ x) ⊎ IsGivenBefore t x) (sym top) (tops x was).near;
+    }
 
 -- the limit of ids stays
 given-stop_age : (xs : List ℕ) (w v : Window) (parent : Option ℕ) → GivesUnder w parent xs v → v.stop_age ≡ w.stop_age
@@ -228,7 +246,7 @@ module _ (st : State) (w : World) (h : HeapView) (s : ℕ) (e e' : Session) (at 
         ]);
         indexes = still-in_use st.heap.indexes h.indexes st.settings.indexed stays.in_use agrees.sound.indexes;
         cursors = cursors-put st.sessions st.heap.indexes h.indexes s e' (open-within st.sessions s e at) stays.in_use (same-cursor st.sessions st.heap.indexes s e e' at same.cursor agrees.sound.cursors) agrees.sound.cursors;
-        tops = rw is (λ x done active. agrees.sound.tops x done (subst (λ y. IsInProgress table y) (top-spared table k x) active));
+        tops = rw is (λ x done. well-spared table k x (agrees.sound.tops x done));
         table = later-sound (rw is (window-spared table k agrees.sound.window)) ids.first (subst (λ n. turns table.first (next_id table) ≤ turns table.first n) (sym (ap next_id is)) (omega arith))
             (λ y upto. rw is (upto-spared table k y upto))
             (λ y among. let mine = subst (λ (ids : List ℕ). Contains (e'.snapshot.xmin ∷ take 1 ids) y) same.own.ids among in

@@ -7,8 +7,9 @@ use Rattle.xid_circle.proofs.Members.{Contains-first, Contains-rest, Contains-ca
 use Rattle.commit_status.specs.Window.{next_id, top_of}
 use Rattle.snapshot.specs.Snap.{Snap, Sees, taken}
 use Rattle.snapshot.specs.Laws.{AreOpen, IsInWindow}
-use Rattle.snapshot.proofs.Sights.{open-unseen, finished-seen}
+use Rattle.snapshot.proofs.Sights.{open-unseen}
 use Rattle.snapshot.proofs.Takes.{taken-in_window}
+use Rattle.forgetting.proofs.Fresh.{fresh-seen}
 use Rattle.history.specs.World.{World}
 use Rattle.session_relation.specs.Heap as relation
 use Rattle.session_relation.specs.Visible.{IsFresh}
@@ -62,7 +63,7 @@ now_taken st = taken (next_id st.heap.table) (owns_of st.sessions)
 pub taken-fresh : (st : State) (w : World) → Agrees st w → IsFresh (state_of st.heap.table) (λ x. Sees (now_taken st) st.heap.table x)
 taken-fresh st w agrees = record {
   finished = λ x done. let d = committed-to st.heap.table x done in
-      finished-seen st.heap.table (owns_of st.sessions) x agrees.sound.window (are-open st w agrees) (λ active. cc) (inl (agrees.sound.tops x d));
+      fresh-seen st.heap.table (owns_of st.sessions) x agrees.sound.window (are-open st w agrees) d (agrees.sound.tops x d);
   active = λ x active. open-unseen st.heap.table st.heap.table (owns_of st.sessions) x agrees.sound.window (are-open st w agrees) (active-to st.heap.table x active) refl;
 }
 

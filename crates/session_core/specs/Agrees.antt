@@ -3,7 +3,8 @@ use Rattle.std.specs.Prelude.{◌≡◌, ◌↔◌, ℕ, length, Some, IsSome, s
 use Rattle.history.specs.World.{World}
 use Rattle.snapshot.specs.Laws.{IsInWindow}
 use Rattle.snapshot.specs.Own.{AreFronts, AreDistinct}
-use Rattle.commit_status.specs.Window.{Window, IsWindow, IsCommitted, IsInProgress, top_of}
+use Rattle.commit_status.specs.Window.{Window, IsWindow, IsCommitted, top_of}
+use Rattle.forgetting.specs.Truncating.{IsWellTopped}
 use Rattle.session_relation.specs.declared.step.Step.{Step}
 use Rattle.session_relation.specs.declared.reply.Reply.{Reply}
 use Rattle.session_relation.specs.Allowed.{Allows, next}
@@ -36,8 +37,8 @@ pub record Sound (st : State) : Type 0 where
   -- the window is shorter than half the circle
   pub window : IsWindow st.heap.table
   pub sessions : (s : ℕ) (e : Session) → session_at st s ≡ Some e → SessionKeeps st.heap.table e
-  -- what is committed, its topmost parent is not in progress
-  pub tops : (x : ℕ) → IsCommitted st.heap.table x → ¬ IsInProgress st.heap.table (top_of st.heap.table x)
+  -- what is committed, its topmost parent is not in progress, and is itself or was given before it
+  pub tops : (x : ℕ) → IsCommitted st.heap.table x → IsWellTopped st.heap.table x
   -- the indexes in use are the primary index and those of the columns that the settings name
   pub indexes : (n : ℕ) → IsInUse st.heap.indexes n ↔ IsSome (new_entries st.settings.indexed n)
   -- an open session's cursor goes along one of these
