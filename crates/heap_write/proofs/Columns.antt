@@ -6,7 +6,7 @@ use Rattle.std.proofs.lemmas.List.{get_or_default, get_or_past, get_or-set_same,
 use Rattle.xid_circle.specs.declared.Tid.{Tid}
 use Rattle.tuple_header.specs.declared.version.Row.{Row}
 use Rattle.root_index.specs.Sets.{Adds}
-use Rattle.root_index.specs.View.{IndexView}
+use Rattle.root_index.specs.View.{IndexView, room_in}
 use Rattle.history.specs.Cursors.{value_in}
 use Rattle.heap_write.specs.Indexes.{index_at, entries_of, entries_at, IsInUse, SameValues, entry_in, SameEntries, AddsAny, Enters, HasEntry, HasEntries}
 
@@ -72,7 +72,7 @@ pub record HasRoom (n : ℕ) (before after : Option IndexView) : Type 0 where
 abbrev pub Reserved : List (Option IndexView) → List (Option IndexView) → ℕ → Type 0
 Reserved before after i = Changed HasRoom before after i
 
-pub reserved-key : (before cols : List (Option IndexView)) (key key' : IndexView) → Some key ∷ cols ≡ before → length cols ≡ 4 → 1 ≤ key'.spare → key'.entries ≡ key.entries
+pub reserved-key : (before cols : List (Option IndexView)) (key key' : IndexView) → Some key ∷ cols ≡ before → length cols ≡ 4 → 1 ≤ room_in key' → key'.entries ≡ key.entries
     → Reserved before (Some key' ∷ cols) (0 + 1)
 reserved-key before cols key key' view_is size room same =
     changed-key HasRoom before cols (Some key) (Some key') view_is size (record { room = omega (arith, room); same = ap Some same })

@@ -5,7 +5,7 @@ use Rattle.xid_circle.specs.declared.Tid.{Tid}
 use Rattle.tuple_header.specs.declared.version.Row.{Row}
 use Rattle.root_index.specs.declared.entry.Entry.{Entry}
 use Rattle.root_index.specs.Sets.{Adds}
-use Rattle.root_index.specs.View.{IndexView}
+use Rattle.root_index.specs.View.{IndexView, room_in}
 use Rattle.history.specs.Cursors.{value_in}
 use Rattle.sound_entries.specs.Entries.{entry_for}
 
@@ -64,18 +64,18 @@ Enters indexes indexes' row place = (n : ℕ) → AddsAny (entries_at indexes n)
 
 -- Memory.
 
--- an entry takes no memory
+-- an entry takes no memory: nodes are set aside for one, or none is full
 abbrev pub HasEntry : Option IndexView → Type 0
 HasEntry None = Unit {0}
-HasEntry (Some index) = 0 < index.spare
+HasEntry (Some index) = 0 < room_in index
 
 abbrev pub HasEntries : List (Option IndexView) → Type 0
 HasEntries indexes = (n : ℕ) → HasEntry (index_at indexes n)
 
--- it does
+-- it may: none is set aside, and there is no entry, or there are 128 or more
 abbrev pub LacksEntry : Option IndexView → Type 0
 LacksEntry None = ⊥
-LacksEntry (Some index) = index.spare ≡ 0
+LacksEntry (Some index) = room_in index ≡ 0
 
 -- an entry in one of the indexes in use takes memory
 abbrev pub NeedsEntry : List (Option IndexView) → Type 0

@@ -1,12 +1,12 @@
 -- Why a write is not done, of the first reason in the order of its tests, and what it leaves: all as it was, though there may
 -- be more memory; only an update that ends in NoRoom or Gone may leave the page of the old version pruned.
-use Rattle.std.specs.Prelude.{◌≡◌, ◌⊎◌, ℕ, ◌<◌, ◌≤◌, false, length}
+use Rattle.std.specs.Prelude.{◌≡◌, ◌⊎◌, ℕ, ◌<◌, ◌≤◌, length}
 use Rattle.xid_circle.specs.declared.Tid.{Tid}
 use Rattle.tuple_header.specs.declared.version.Row.{Row}
 use Rattle.tuple_header.specs.Version.{rounded_size_of}
 use Rattle.page_slots.specs.View.{PageView}
 use Rattle.snapshot.specs.Own.{Own, lacks}
-use Rattle.page_slots.specs.Slots.{room_of, has_unused, IsNormalAt}
+use Rattle.page_slots.specs.Slots.{room_of, IsNormalAt}
 use Rattle.heap_pages.specs.Choice.{IsPlaceFor}
 use Rattle.heap_pages.specs.declared.pages.Place.TheVariants.{Page, NewPage}
 use Rattle.heap_write.specs.declared.cleaning.PruneFault.{PruneFault}
@@ -17,10 +17,9 @@ use Rattle.heap_write.specs.Heap.{HeapView, page_on, Keeps}
 use Rattle.heap_write.specs.Writes.{NeedsFreeze, IsFull, Readies, KeepsValues}
 use Rattle.heap_write.specs.Indexes.{NeedsEntry}
 
--- a new slot of a page, which has fewer than the 291 that there are at most, takes memory
+-- the first slot of a page takes memory: with it comes memory for all that the page may have
 pub record NeedsSlot (page : PageView) : Type 0 where
-  pub all_used : has_unused page.slots ≡ false
-  pub few : length page.slots < 291
+  pub none : length page.slots ≡ 0
   pub full : page.spare ≡ 0
 
 -- the new ids take memory: the table of ids has to grow for them, or the session's own list

@@ -126,11 +126,8 @@ impl HeapState {
         ensures has_entries { OnOk result (IsFalse heap_only → HasEntries self.new.indexes) }
         ensures needs { OnErr result (NeedsIds self.old own.old ⊎ NeedsSlot (page_on self.old number) ⊎ IsFalse heap_only × NeedsEntry self.old.indexes) }
     {
-        if reserve_ids(&mut self.table, own).is_err()
-            || self.indexes.make_room_for(heap_only).is_err()
-        {
-            return Err(AllocError);
-        }
+        reserve_ids(&mut self.table, own)?;
+        self.indexes.make_room_for(heap_only)?;
         reserve_slot(self.pages.page_mut(number))
     }
 
@@ -179,9 +176,8 @@ impl HeapState {
         ensures unchosen { OnOk result ((n : ℕ) → room_of (page_on self.old n).slots < size → page_on self.new n ≡ page_on self.old n) }
         ensures needs { OnErr result (RootNeedsMemory self.old own.old size) }
     {
-        if reserve_ids(&mut self.table, own).is_err() || self.indexes.make_room().is_err() {
-            return Err(AllocError);
-        }
+        reserve_ids(&mut self.table, own)?;
+        self.indexes.make_room()?;
         reserve_place(self.alloc, &mut self.pages, size, self.max_pages)
     }
 

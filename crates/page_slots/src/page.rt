@@ -1,6 +1,6 @@
 //! Pages.
 
-ghost use Rattle.std.specs.Prelude.{◌≡◌, ◌≤◌, ◌<◌, ◌+◌, [], true, false, length, OnOk, OnErr, IfOk, IfSome, IsSome, IsTrue, ◌↔◌, Some, None, MatchOption};
+ghost use Rattle.std.specs.Prelude.{◌≡◌, ◌⊎◌, ◌≤◌, ◌<◌, ◌+◌, [], true, false, length, OnOk, OnErr, IfOk, IfSome, IsSome, IsTrue, ◌↔◌, Some, None, MatchOption};
 ghost use Rattle.tuple_header.specs.Version.{rounded_size_of};
 ghost use Rattle.tuple_header.specs.Faults.{header_fault};
 ghost use Rattle.page_slots.specs.Store.{slot_in, is_bare};
@@ -200,12 +200,13 @@ fn raise(change: &mut u64)
 
 impl Page {
     /// Adds a version in the lowest unused slot, or else in a new last one, and answers the slot's number. It answers Full
-    /// exactly where the version's size is over the room, and NoMemory only where a new slot is needed and no room was made
-    /// for it. Both change no slot.
+    /// exactly where the version's size is over the room, and NoMemory only where the page has no slot and no room was made for
+    /// one: with the first slot a page gets memory for all that it may have. Both change no slot.
     pub fn add(&mut self, version: Tuple) -> Result<u16, AddFault>
         ensures full { (result ≡ Err AddFault.Full) ↔ (room_of self.old.slots < rounded_size_of version.row) }
         ensures memory { result ≡ Err AddFault.NoMemory → self.old.spare ≡ 0 }
         ensures memory_only_to_grow { result ≡ Err AddFault.NoMemory → has_unused self.old.slots ≡ false }
+        ensures memory_for_the_first { result ≡ Err AddFault.NoMemory → length self.old.slots ≡ 0 }
         ensures number { IfOk result (λ n. n ≡ free_number self.old.slots) }
         ensures limit { IfOk result (λ n. n ≤ 291) }
         ensures slots { OnOk result (self.new.slots ≡ with_added self.old.slots (Slot.Normal version)) }
@@ -228,6 +229,7 @@ impl Page {
         ensures full { (result ≡ Err AddFault.Full) ↔ (room_of self.old.slots < rounded_size_of row.now) }
         ensures memory { result ≡ Err AddFault.NoMemory → self.old.spare ≡ 0 }
         ensures memory_only_to_grow { result ≡ Err AddFault.NoMemory → has_unused self.old.slots ≡ false }
+        ensures memory_for_the_first { result ≡ Err AddFault.NoMemory → length self.old.slots ≡ 0 }
         ensures number { IfOk result (λ n. n ≡ free_number self.old.slots) }
         ensures limit { IfOk result (λ n. n ≤ 291) }
         ensures slots { OnOk result (self.new.slots ≡ with_added self.old.slots (Slot.Normal (record { header = header; row = row.now }))) }
@@ -257,11 +259,13 @@ impl Page {
         Ok(index as u16 + 1)
     }
 
-    /// Makes room in memory for `count` more slots, so that the next `count` versions are added without asking for any. No
-    /// slot changes, also where memory is refused.
+    /// Makes room in memory for `count` more slots, so that the next `count` versions are added without asking for any. It is
+    /// refused only where there is not that room, and the page has no slot yet or would have more than 291. No slot changes,
+    /// also where memory is refused.
     pub fn make_room(&mut self, count: usize) -> Result<(), AllocError>
         ensures room { OnOk result (count ≤ self.new.spare) }
         ensures refused { OnErr result (self.old.spare < count) }
+        ensures grows { OnErr result ((length self.old.slots ≡ 0) ⊎ (291 < length self.old.slots + count)) }
         ensures spare { self.old.spare ≤ self.new.spare }
         ensures slots { self.new.slots ≡ self.old.slots }
         ensures change { self.new.change ≡ self.old.change }

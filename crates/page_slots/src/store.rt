@@ -1,6 +1,6 @@
 //! The slots of a page as they are kept: those of all pages take little room, since each body takes only its own bytes.
 
-ghost use Rattle.std.specs.Prelude.{◌≡◌, ◌≤◌, ◌<◌, ◌+◌, ◌++◌, ◌∷◌, [], true, length, sum_by, slice_get, slice_set, slice_index_or, OnOk, OnErr, IfSome, None};
+ghost use Rattle.std.specs.Prelude.{◌≡◌, ◌≤◌, ◌<◌, ◌+◌, ◌++◌, ◌∷◌, [], ◌⊎◌, true, length, sum_by, slice_get, slice_set, slice_index_or, OnOk, OnErr, IfSome, None};
 ghost use Rattle.std.specs.Option.{option_map, option_and_then};
 ghost use Rattle.std.specs.List.{position_or_len};
 ghost use Rattle.tuple_header.specs.Faults.{header_fault};
@@ -18,12 +18,12 @@ use tuple_header::{Header, MOST_SLOTS, Row, RowRef};
 #[derive(Debug, Drop)]
 pub(crate) struct Store {
     items: Vec<Item>,
-    // Memory for all bodies of a page is asked for with that for its first slot.
+    // Memory for all bodies of a page, and for all slots that it may have, is asked for with that for its first slot.
     bytes: Vec<u8>,
 }
 
 impl Model for Store {
-    ghost use Rattle.std.specs.Prelude.{◌<◌, ◌≤◌, ◌-◌, nat_lt, if◌then◌else◌, length, vec_len, vec_capacity};
+    ghost use Rattle.std.specs.Prelude.{◌≡◌, ◌⊎◌, ◌<◌, ◌≤◌, ◌-◌, nat_lt, if◌then◌else◌, length, vec_len, vec_capacity};
     ghost use Rattle.page_slots.specs.Stored.{StoreView};
     ghost use Rattle.page_slots.specs.Store.{slots_in, AreWithin};
 
@@ -34,7 +34,8 @@ impl Model for Store {
       spare = if nat_lt (vec_capacity s.bytes) 8168 then 0 else vec_capacity s.items - vec_len s.items;
     } };
 
-    ghost invariant = { λ s. AreWithin (length s.bytes.items) s.items.items × (length s.bytes.items ≤ 8168) × (0 < length s.items.items → 8168 ≤ vec_capacity s.bytes) };
+    ghost invariant = { λ s. AreWithin (length s.bytes.items) s.items.items × (length s.bytes.items ≤ 8168) × (0 < length s.items.items → 8168 ≤ vec_capacity s.bytes)
+        × ((vec_capacity s.items ≡ 0) ⊎ (291 ≤ vec_capacity s.items)) };
 }
 
 impl Store {
@@ -153,10 +154,11 @@ impl Store {
     }
 
     /// Makes room in memory for `count` more slots, and for all bodies. The list of slots gets room for as many as a page may
-    /// have at once, so that it is not copied when it grows.
+    /// have at once, so that it is not copied when it grows, and nothing more is asked for once there is a slot.
     pub(crate) fn make_room(&mut self, count: usize) -> Result<(), AllocError>
         ensures room { OnOk result (count ≤ self.new.spare) }
         ensures refused { OnErr result (self.old.spare < count) }
+        ensures grows { OnErr result ((length self.old.slots ≡ 0) ⊎ (291 < length self.old.slots + count)) }
         ensures spare { self.old.spare ≤ self.new.spare }
         ensures slots { self.new.slots ≡ self.old.slots }
     {
@@ -219,6 +221,7 @@ impl Store {
         ensures slots { OnOk result (self.new.slots ≡ self.old.slots ++ Slot.Normal (record { header = header; row = row.now }) ∷ []) }
         ensures spare { OnOk result (self.old.spare ≤ self.new.spare + 1) }
         ensures refused { OnErr result (self.old.spare ≡ 0) }
+        ensures grows { OnErr result ((length self.old.slots ≡ 0) ⊎ (291 ≤ length self.old.slots)) }
         ensures err { OnErr result (self.new.slots ≡ self.old.slots) }
         ensures err_spare { OnErr result (self.old.spare ≤ self.new.spare) }
     {

@@ -1,6 +1,7 @@
 -- What holds of nodes one after another where it holds of each: the laws of a branch. No definition: these are proofs.
 use Rattle.std.proofs.Common.{◌≡◌, ℕ, zero, suc, ◌+◌, ◌<◌, ◌≤◌, Option, Some, None, List, [], ◌∷◌, length, map, take, slice_get, IfSome, IsSomeAnd, sym, ap, refl, subst, arith}
 use Rattle.std.proofs.lemmas.List.{length-append}
+use Rattle.std.proofs.lemmas.List.Elements.{All-tail}
 use Rattle.std.proofs.lemmas.Option.{slice_get_within}
 use Rattle.root_index.specs.declared.entry.Entry.{Entry}
 use Rattle.root_index.specs.declared.nodes.Spot.{Spot}
@@ -17,6 +18,16 @@ some_with entries IsNeat size some [] neat within = absurd (omega arith)
 some_with entries IsNeat size some (n ∷ nodes) neat within =
     let front = neat 0 n (omega arith) in
     let first = some n front.0 front.1 in
+    let whole = length-append (entries n) (all entries nodes) in
+    omega arith
+
+pub many_with : {N : Type 0} (entries : N → List Entry) (IsNeat : N → Type 0) (size : N → ℕ) (some : (n : N) → IsNeat n → 0 < size n → 0 < length (entries n)) (nodes : List N)
+    → AreNeat IsNeat size nodes → length nodes ≤ length (all entries nodes)
+many_with entries IsNeat size some [] neat = omega arith
+many_with entries IsNeat size some (n ∷ nodes) neat =
+    let front = neat 0 n (omega arith) in
+    let first = some n front.0 front.1 in
+    let rest = many_with entries IsNeat size some nodes (All-tail (λ n. IsNeat n × (0 < size n)) n nodes neat) in
     let whole = length-append (entries n) (all entries nodes) in
     omega arith
 

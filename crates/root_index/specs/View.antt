@@ -1,9 +1,18 @@
 -- An index as its callers see it.
-use Rattle.std.specs.Prelude.{ℕ, List}
+use Rattle.std.specs.Prelude.{ℕ, zero, suc, ◌-◌, max, List, length}
 use Rattle.root_index.specs.declared.entry.Entry.{Entry}
 
 pub record IndexView : Type 0 where
   -- in ascending order, each once
   pub entries : List Entry
-  -- how many can be inserted without memory
+  -- for so many inserts nodes are set aside, whatever they split
   pub spare : ℕ
+
+-- Where there are entries, and fewer than 128 of them, no node is full: all have places for as many as are lacking.
+abbrev pub free_places : ℕ → ℕ
+free_places zero = 0
+free_places (suc n) = 127 - n
+
+-- how many entries can be inserted without memory, wherever they go
+abbrev pub room_in : IndexView → ℕ
+room_in index = max index.spare (free_places (length index.entries))

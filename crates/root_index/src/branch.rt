@@ -2,7 +2,7 @@
 
 ghost use Rattle.std.specs.Prelude.{◌≡◌, ◌≤◌, ◌++◌, [], length, vec_len, vec_capacity};
 ghost use Rattle.std.proofs.Common.{arith};
-ghost use Rattle.root_index.specs.Rows.{none_without, some_with, rank_within, entry_is_spot};
+ghost use Rattle.root_index.specs.Rows.{none_without, some_with, many_with, rank_within, entry_is_spot};
 ghost use Rattle.root_index.specs.Nodes.{all, rank_in, AreNeat, IsSpotIn, IsEntryIn, AreLeft};
 
 use crate::dead_set::DeadSet;
@@ -127,6 +127,8 @@ impl<N: Node> Node for Branch<N> {
     ghost none = { λ b none. none_without N.entries b none };
 
     ghost some = { λ b neat some. some_with N.entries N.IsNeat N.size N.some b neat some };
+
+    ghost many = { λ b neat. many_with N.entries N.IsNeat N.size N.some b neat };
 
     ghost before = { λ b spot entry. entry_is_spot N.IsSpot N.IsEntry N.before b spot entry };
 

@@ -1,9 +1,10 @@
 //! The index.
 
-ghost use Rattle.std.specs.Prelude.{◌≡◌, ◌<◌, ◌≤◌, ◌+◌, [], length, OnOk, OnErr, Some, Contains};
+ghost use Rattle.std.specs.Prelude.{◌≡◌, ◌<◌, ◌≤◌, ◌+◌, [], length, OnOk, OnErr, Some, Contains, vec_len, vec_capacity};
 ghost use Rattle.std.specs.Option.{option_map};
 ghost use Rattle.root_index.specs.Order.{IsAscending};
 ghost use Rattle.root_index.specs.Sets.{Adds, IsLeast, IsAfter, IsBelow};
+ghost use Rattle.root_index.specs.View.{free_places, room_in};
 ghost use Rattle.root_index.specs.Pieces.{RemovesPiece};
 
 use crate::branch::Branch;
@@ -85,18 +86,33 @@ impl RootIndex {
         let _count = self.count;
     }
 
-    /// Makes room in memory for `count` more entries, so that the next `count` of them are inserted without asking for any.
-    /// Each may split a node of each kind, so this keeps as many spare ones, of 4, 10 and 3 KiB. It is also refused where the
-    /// number of entries would be above 2^64 - 1.
+    /// Makes room in memory for `count` more entries, so that the next `count` of them are inserted without asking for any. Where
+    /// there are entries, and with these they are no more than 128, no node will be full, and nothing has to grow; only else may
+    /// it be refused. It is always refused where the number of entries would be above 2^64 - 1.
     pub fn make_room(&mut self, count: usize) -> Result<(), AllocError>
+        ensures room { OnOk result (count ≤ room_in self.new) }
+        ensures refused { OnErr result (room_in self.old < count) }
+        ensures spare { self.old.spare ≤ self.new.spare }
+        ensures entries { self.new.entries ≡ self.old.entries }
+        ensures err { OnErr result (self.new ≡ self.old) }
+    {
+        if count as u64 <= free_places(self.count) {
+            return Ok(());
+        }
+        self.set_aside(count)
+    }
+
+    /// Sets nodes aside for `count` more entries. Each may split a node of each kind, so these are as many of 4, 10 and 3 KiB.
+    fn set_aside(&mut self, count: usize) -> Result<(), AllocError>
         ensures room { OnOk result (count ≤ self.new.spare) }
         ensures refused { OnErr result (self.old.spare < count) }
         ensures spare { self.old.spare ≤ self.new.spare }
         ensures entries { self.new.entries ≡ self.old.entries }
         ensures err { OnErr result (self.new ≡ self.old) }
     {
+        // so many more could not be counted
         if u64::MAX - self.count < count as u64 {
-            return Err(AllocError);
+            return ask_for_too_much(&mut self.trees);
         }
         self.trees.try_reserve(count)?;
         nodes::add_nodes(&mut self.spares.nodes, count)?;
@@ -105,13 +121,15 @@ impl RootIndex {
         Ok(())
     }
 
-    /// Adds an entry. One that is there already stays there once. Memory is refused only where the entry is not there and no
-    /// room was made for it, or the entries could not be counted any more; they stay as they were then.
+    /// Adds an entry. One that is there already stays there once. Memory is refused only where the entry is not there, no room
+    /// was made for it, and there is no entry or there are 128 or more, so that a node may be full; or where the entries could
+    /// not be counted any more. They stay as they were then.
     pub fn insert(&mut self, entry: Entry) -> Result<(), AllocError>
         ensures adds { OnOk result (Adds self.old.entries self.new.entries entry) }
         ensures spare { OnOk result (self.old.spare ≤ self.new.spare + 1) }
+        ensures room { OnOk result (room_in self.old ≤ room_in self.new + 1) }
         ensures spare_kept { Contains self.old.entries entry → self.old.spare ≤ self.new.spare }
-        ensures memory { OnErr result ((self.old.spare ≡ 0) × ¬ Contains self.old.entries entry) }
+        ensures memory { OnErr result ((room_in self.old ≡ 0) × ¬ Contains self.old.entries entry) }
         ensures err { OnErr result (self.new.entries ≡ self.old.entries) }
     {
         let spot = match nodes::search(&self.trees, &entry) {
@@ -120,7 +138,7 @@ impl RootIndex {
         };
         // one more could not be counted
         if self.count == u64::MAX {
-            return Err(AllocError);
+            return ask_for_too_much(&mut self.trees);
         }
         nodes::insert(&mut self.trees, &mut self.spares, spot, entry)?;
         self.count += 1;
@@ -175,4 +193,26 @@ impl RootIndex {
             None => Progress::Done,
         }
     }
+}
+
+/// How many entries an index of so many takes without another node, wherever they go.
+fn free_places(count: u64) -> u64
+    ensures { result ≡ free_places count }
+{
+    if count == 0 {
+        0
+    } else {
+        128u64.saturating_sub(count)
+    }
+}
+
+/// Asks for memory for more trees than there may be. The error is the allocator's, as every one here.
+fn ask_for_too_much(trees: &mut Vec<Tree>) -> Result<(), AllocError>
+    requires { 0 < vec_len trees.old }
+    ensures refused { OnOk result ⊥ }
+    ensures same { trees.new.items ≡ trees.old.items }
+    ensures len { vec_len trees.new ≡ vec_len trees.old }
+    ensures capacity { vec_capacity trees.old ≤ vec_capacity trees.new }
+{
+    trees.try_reserve(usize::MAX)
 }

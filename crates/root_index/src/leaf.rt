@@ -176,6 +176,8 @@ impl Node for Leaf {
 
     ghost some = { λ l neat some. some };
 
+    ghost many = { λ l neat. omega arith };
+
     ghost before = { λ l spot entry. omega (arith, entry.0) };
 
     ghost within = { λ l spot within. within };

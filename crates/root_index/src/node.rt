@@ -1,6 +1,6 @@
 //! Nodes: what an index is made of.
 
-ghost use Rattle.std.specs.Prelude.{◌≡◌, ◌<◌, ◌≤◌, ◌+◌, ◌++◌, ℕ, List, [], length, slice_get, IfOk, IfErr, IfSome, IfNone, OnOk, OnErr};
+ghost use Rattle.std.specs.Prelude.{◌≡◌, ◌<◌, ◌≤◌, ◌+◌, ◌++◌, ◌⊎◌, ℕ, List, [], length, slice_get, IfOk, IfErr, IfSome, IfNone, OnOk, OnErr};
 ghost use Rattle.std.specs.Bool.{OnTrue};
 ghost use Rattle.std.specs.List.{insert};
 ghost use Rattle.root_index.specs.declared.entry.Entry.{Entry as Seen};
@@ -147,7 +147,8 @@ pub(crate) trait Node: Drop {
         ensures neat { IsNeat self.new }
         ensures spares { (k : ℕ) → HasLeft spares.old (k + 1) → HasLeft spares.new k }
         ensures err { OnErr result (entries self.new ≡ entries self.old) }
-        ensures refused { OnErr result (¬ HasLeft spares.old 1) };
+        ensures refused { OnErr result (¬ HasLeft spares.old 1) }
+        ensures full { OnErr result ((size self.old ≡ 0) ⊎ (128 ≤ length (entries self.old))) };
 
     /// Removes entries to dead places, from this spot on as far as its leaf goes, and the parts that are left without any. It
     /// does nothing where no entry follows.
@@ -172,6 +173,9 @@ pub(crate) trait Node: Drop {
     ghost none: { (node : Self) → size node ≡ 0 → entries node ≡ [] };
 
     ghost some: { (node : Self) → IsNeat node → 0 < size node → 0 < length (entries node) };
+
+    // so it has no fewer entries than parts
+    ghost many: { (node : Self) → IsNeat node → size node ≤ length (entries node) };
 
     // where an entry stands another may be put
     ghost before: { (node : Self) (spot : Self.Spot) → IsEntry node spot → IsSpot node spot };

@@ -195,6 +195,7 @@ fn open<N: Node>(
     ensures spare { vec_len spare.old ≤ vec_len spare.new + 1 }
     ensures err { OnErr result (nodes.new.items ≡ nodes.old.items) }
     ensures refused { OnErr result ((vec_capacity nodes.old - vec_len nodes.old ≡ 0) ⊎ (vec_len spare.old ≡ 0)) }
+    ensures full { OnErr result (128 ≤ length (all N.entries nodes.old.items)) }
 {
     if nodes[spot.node].len() < MAX_PARTS {
         return Ok(spot);
@@ -249,6 +250,7 @@ pub(crate) fn insert<N: Node>(
     ensures below { (k : ℕ) → N.HasLeft spares.old.below (k + 1) → N.HasLeft spares.new.below k }
     ensures err { OnErr result (all N.entries nodes.new.items ≡ all N.entries nodes.old.items) }
     ensures refused { OnErr result ((vec_capacity nodes.old - vec_len nodes.old ≡ 0) ⊎ (vec_len spares.old.nodes ≡ 0) ⊎ ¬ N.HasLeft spares.old.below 1) }
+    ensures full { OnErr result ((length nodes.old.items ≡ 0) ⊎ (128 ≤ length (all N.entries nodes.old.items))) }
 {
     if nodes.is_empty() {
         return insert_first(nodes, spares, entry);

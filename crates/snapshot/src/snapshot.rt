@@ -1,6 +1,6 @@
 //! Snapshots.
 
-ghost use Rattle.std.specs.Prelude.{◌≡◌, ◌<◌, ◌↔◌, ◌++◌, IsTrue, OnOk, OnErr, length};
+ghost use Rattle.std.specs.Prelude.{◌≡◌, ◌≢◌, ◌<◌, ◌↔◌, ◌++◌, [], IsTrue, OnOk, OnErr, length};
 ghost use Rattle.smallvec.specs.SmallVec.{HasRoomFor};
 ghost use Rattle.xid_circle.specs.Circle.{IsNormal};
 ghost use Rattle.commit_status.specs.Changes.{numbers};
@@ -97,11 +97,12 @@ impl Snapshot {
     }
 
     /// Lists an open transaction by its own ids: the topmost one, and the others where they are at most 64. A
-    /// transaction that has no id yet is not listed. It takes memory only where more than 8 ids are listed then.
+    /// transaction that has no id yet is not listed. It takes memory only where it is listed, and more than 8 ids are then.
     pub fn list(&mut self, own: &OwnIds) -> Result<(), AllocError>
         ensures listed { OnOk result (self.new ≡ listing self.old own.now.ids) }
         ensures refused { OnErr result (self.new ≡ self.old) }
         ensures no_memory { OnErr result (8 < length (listing self.old own.now.ids).listed) }
+        ensures longer { OnErr result (own.now.ids ≢ []) }
     {
         let Some(top) = own.first() else {
             return Ok(());

@@ -1,5 +1,7 @@
-use Rattle.std.proofs.Common.{◌<◌}
+use Rattle.std.proofs.Common.{◌<◌, ◌≤◌, inr, length, subst}
 use Rattle.std.proofs.lemmas.Result.{on_ok_weaker, on_err_weaker}
+use Rattle.root_index.specs.Nodes.{all}
+use Rattle.root_index.proofs.FullLemmas.{full_below}
 use Rattle.root_index.proofs.RowGrowthLemmas.{put_in, kept_in, opened_at}
 use Rattle.root_index.proofs.nodes.insert.Goals as goal
 
@@ -22,3 +24,13 @@ returns-clause-err g c =
     (λ same. kept_in g.N.Node.entries g.N.Node.size g.N.Node.rank g.N.Node.IsSpot g.met.N.Node.within c.args.nodes.now.items new c.args.spot c.in_ok-spot.spot c.index_mut.result.now
     c.insert.new.self opened at same)
     c.insert.ensures.err
+
+-- what is full stands among all
+pub returns-clause-full : goal.returns-clause-full
+returns-clause-full g c =
+    let new = c.open.new.nodes.items in
+    let opened = c.in_ok-spot.ensures.opened in
+    let at = opened_at (λ n. (g.N.Node.size n < 128) × g.N.Node.IsSpot n c.in_ok-spot.spot.inner) new c.in_ok-spot.spot.node c.index_mut.result.now opened.room c.index_mut.ensures.value in
+    on_err_weaker c.insert.result
+    (λ full. inr (subst (λ es. 128 ≤ length es) opened.same (full_below g.N.Node.entries g.N.Node.IsNeat g.N.Node.size new c.in_ok-spot.spot.node c.index_mut.result.now c.open.ensures.neat at full)))
+    c.insert.ensures.full

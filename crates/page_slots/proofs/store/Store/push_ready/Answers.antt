@@ -1,4 +1,4 @@
-use Rattle.std.proofs.Common.{◌≡◌, ◌++◌, ◌∷◌, [], List, length, ap, sym, subst, ◌∙◌}
+use Rattle.std.proofs.Common.{◌≡◌, ◌++◌, ◌∷◌, [], List, length, ap, sym, subst, ◌∙◌, rules}
 use Rattle.page_slots.specs.declared.item.Item.{Item}
 use Rattle.page_slots.specs.Store.{AreWithin}
 use Rattle.page_slots.proofs.BodyLemmas.{refilled, within-push}
@@ -15,4 +15,5 @@ invariant_of-self c =
       subst (AreWithin (length bytes)) (sym now) (within-push (length bytes) moved c.keep_version-item.result c.keep_version-item.ensures.fits c.keep_version-item.ensures.within),
       c.keep_version-item.ensures.limit,
       λ some. c.keep_version-item.ensures.memory,
+      search rules,
     )

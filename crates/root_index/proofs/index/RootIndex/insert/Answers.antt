@@ -1,13 +1,11 @@
-use Rattle.std.proofs.Common.{◌≡◌, ◌+◌, Contains, Result, Ok, Err, OnErr, sym, refl, subst, arith}
-use Rattle.root_index.specs.View.{IndexView}
+use Rattle.std.proofs.Common.{◌≡◌, ◌∙◌, ◌+◌, ◌≤◌, inr, length, Contains, sym, ap, refl, subst, arith}
+use Rattle.std.proofs.lemmas.List.Edits.{length-insert}
+use Rattle.root_index.specs.View.{IndexView, room_in}
 use Rattle.root_index.specs.Sets.{Adds}
 use Rattle.root_index.proofs.SetLemmas.{adds-there, absent_in_gap}
 use Rattle.root_index.proofs.SoundLemmas.{among, ascending_there, found_there, gap_there, adds_in_gap, sound_inserted, none_promised, none_countable}
+use Rattle.root_index.proofs.FullLemmas.{on_err, full_among, no_room, room_less}
 use Rattle.root_index.proofs.index.RootIndex.insert.Goals as goal
-
-on_err : {T E : Type 0} (r : Result T E) (P : Type 0) → P → OnErr r P
-on_err (Ok t) P h = tt
-on_err (Err e) P h = h
 
 pub search-requires-clause-ascending : goal.search-requires-clause-ascending
 search-requires-clause-ascending c = ascending_there c.self.inside.trees.items c.deref.result.now c.deref.ensures.value c.self.invariant.ascending
@@ -18,21 +16,25 @@ returns-in-Ok-clause-adds c =
     let found = found_there _ _ c.self.inside.trees.items c.deref.result.now c.args.entry c.in-Ok.field-0 c.deref.ensures.value c.in-Ok.ensures.found in
     subst (λ (v : IndexView). Adds v.entries v.entries c.args.entry) c.self.view_is (adds-there (among c.self.inside.trees.items) c.args.entry _ c.self.invariant.ascending found)
 
--- memory is refused only where nothing is promised, and the entry is not there
+-- memory is refused only where there is no room, and the entry is not there
 pub returns-then-self-clause-memory : goal.returns-then-self-clause-memory
 returns-then-self-clause-memory c =
-    let gap = gap_there _ _ c.self.inside.trees.items c.deref.result.now c.args.entry c.in-Err.spot c.deref.ensures.value c.in-Err.ensures.absent in
-    subst (λ (v : IndexView). (v.spare ≡ 0) × (¬ Contains v.entries c.args.entry)) c.self.view_is
-    (none_countable _ _ _ _ _ _ _ _ _ c.self.invariant (omega (arith, c.if-self.true)), absent_in_gap (among c.self.inside.trees.items) c.args.entry _ gap)
+    let trees = c.self.inside.trees.items in
+    let gap = gap_there _ _ trees c.deref.result.now c.args.entry c.in-Err.spot c.deref.ensures.value c.in-Err.ensures.absent in
+    let none = none_countable _ _ _ _ _ _ _ _ _ c.self.invariant (omega (arith, c.if-self.true)) in
+    let counted : c.self.inside.count ≡ length (among trees) = c.self.invariant.counted in
+    on_err c.ask_for_too_much.result ((room_in c.args.self.now ≡ 0) × (¬ Contains c.args.self.now.entries c.args.entry))
+    (subst (λ (v : IndexView). (room_in v ≡ 0) × (¬ Contains v.entries c.args.entry)) c.self.view_is
+    (no_room c.self.inside.promised (length (among trees)) none (inr (omega (arith, counted, c.if-self.true))), absent_in_gap (among trees) c.args.entry _ gap))
 
 pub returns-in_err-insert-clause-memory : goal.returns-in_err-insert-clause-memory
 returns-in_err-insert-clause-memory c =
-    let gap = gap_there _ _ c.self.inside.trees.items c.deref.result.now c.args.entry c.in-Err.spot c.deref.ensures.value c.in-Err.ensures.absent in
-    on_err c.from_residual.result ((c.args.self.now.spare ≡ 0) × (¬ Contains c.args.self.now.entries c.args.entry))
-    (subst (λ (v : IndexView). (v.spare ≡ 0) × (¬ Contains v.entries c.args.entry)) c.self.view_is (
-      none_promised _ _ _ _ _ _ _ _ _ c.self.invariant (λ k left. (omega (arith, left.0), (omega (arith, left.1.0), tt))) c.in_err-insert.ensures.refused,
-      absent_in_gap (among c.self.inside.trees.items) c.args.entry _ gap,
-    ))
+    let trees = c.self.inside.trees.items in
+    let gap = gap_there _ _ trees c.deref.result.now c.args.entry c.in-Err.spot c.deref.ensures.value c.in-Err.ensures.absent in
+    let none = none_promised _ _ _ _ _ _ _ _ _ c.self.invariant (λ k left. (omega (arith, left.0), (omega (arith, left.1.0), tt))) c.in_err-insert.ensures.refused in
+    on_err c.from_residual.result ((room_in c.args.self.now ≡ 0) × (¬ Contains c.args.self.now.entries c.args.entry))
+    (subst (λ (v : IndexView). (room_in v ≡ 0) × (¬ Contains v.entries c.args.entry)) c.self.view_is
+    (no_room c.self.inside.promised (length (among trees)) none (full_among trees c.in_err-insert.ensures.full), absent_in_gap (among trees) c.args.entry _ gap))
 
 -- it goes to its place
 pub invariant_of-self-2 : goal.invariant_of-self-2
@@ -53,3 +55,13 @@ pub returns-clause-spare_kept : goal.returns-clause-spare_kept
 returns-clause-spare_kept c there =
     let gap = gap_there _ _ c.self.inside.trees.items c.deref.result.now c.args.entry c.in-Err.spot c.deref.ensures.value c.in-Err.ensures.absent in
     absurd (absent_in_gap (among c.self.inside.trees.items) c.args.entry _ gap (subst (λ (v : IndexView). Contains v.entries c.args.entry) (sym c.self.view_is) there))
+
+pub returns-clause-room : goal.returns-clause-room
+returns-clause-room c =
+    let trees = c.self.inside.trees.items in
+    let new = c.insert.new.nodes.items in
+    let gap = gap_there _ _ trees c.deref.result.now c.args.entry c.in-Err.spot c.deref.ensures.value c.in-Err.ensures.absent in
+    let longer : length (among new) ≡ length (among trees) + 1 =
+    ap length c.in_ok-insert.ensures.entries ∙ length-insert (among trees) _ c.args.entry gap.in_range in
+    subst (λ (v : IndexView). room_in v ≤ room_in (record { entries = among new; spare = c.saturating_sub-self-inside.result }) + 1) c.self.view_is
+    (room_less c.self.inside.promised c.saturating_sub-self-inside.result (length (among trees)) (length (among new)) c.saturating_sub-self-inside.ensures longer)

@@ -1,0 +1,85 @@
+#!/usr/bin/env python3
+"""Says where the code builds an error of the allocator by hand, or answers NoMemory where no call was refused memory.
+
+A contract can say that more was asked for than there was room for, but not that memory was really lacking: the allocator alone
+knows. So such an error has to come from a call. This reads crates/*/src/*.rt, but for the crates of tests (*_cases), the modules
+under #[cfg(test)], comments, and ghost and contract lines. It refuses
+
+- `AllocError` as an expression, as in `Err(AllocError)`, `=> AllocError` or `return AllocError`: pass on what the call answered,
+  by `?` or by `Err(error) => return Err(error)`;
+- the NoMemory of an enum as an expression, unless it answers a call that failed: in the arm of an `Err(..)`, in a `map_err(..)`,
+  in a block behind `is_err()` or behind the `else` of a `let Ok(..)`, in an `impl From<AllocError>`, or as one NoMemory turned
+  into another's. (`no_memory` of crates/script/src/watch.rs makes one for its callers, which call it where a call failed.)
+
+Run it at the top of the repository, with no words: python3 tools/alloc_errors.py. It prints a line for each place, and ends
+with status 1 where there is one.
+"""
+
+import pathlib
+import re
+import sys
+
+GHOST = re.compile(r"\s*(ghost|requires|ensures)\b")
+BY_HAND = re.compile(r"(\(|=>|=|\breturn|\{|^)\s*(\w+::)*AllocError\s*(\(\s*\))?\s*(\)|,|;|\}|$)")
+VALUE = re.compile(r"\b[A-Z]\w*::NoMemory\b(?!\s*\)*\s*(=>|\|))")
+FAILED = re.compile(r"\bErr\((_|\w+|[\w:]+::NoMemory)\)(\s+if\b[^>]*)?\s*=>|\bNoMemory\b\)*\s*=>|map_err\(|\.is_err\(\)|\blet\s+.*\bOk\(.*\belse\b")
+MAKES = re.compile(r"\bimpl\b.*\bFrom<AllocError>|\bfn no_memory\b")
+
+
+def bare(text):
+    """The lines without strings and comments."""
+    lines = []
+    for line in text.splitlines():
+        line = re.sub(r"'\"'|\"(\\.|[^\"\\])*\"", '""', line)
+        lines.append(re.sub(r"//.*", "", line))
+    return lines
+
+
+def with_heads(lines):
+    """Each line's number, the line, and the heads of the blocks that it stands in, the innermost last."""
+    stack, head = [], ""
+    for number, line in enumerate(lines, 1):
+        yield number, line, list(stack)
+        if GHOST.match(line):
+            continue
+        for part in re.split(r"([{};,])", line):
+            if part == "{":
+                stack.append(head)
+                head = ""
+            elif part == "}":
+                del stack[-1:]
+                head = ""
+            elif part in ";,":
+                head = "" if part == ";" or not head.lstrip().startswith(("let", "if", "fn", "pub", "impl")) else head
+            else:
+                head += " " + part.strip()
+
+
+def is_wrong(line, heads):
+    if GHOST.match(line) or re.match(r"\s*(pub\s+)?use\b", line):
+        return False
+    if any("#[cfg(test)]" in head or re.match(r"\s*(pub\s+)?use\b", head) for head in heads):
+        return False
+    if any(MAKES.search(head) for head in heads):
+        return False
+    if BY_HAND.search(line):
+        return True
+    near = heads[-1] if heads else ""
+    return bool(VALUE.search(line)) and not FAILED.search(line) and not FAILED.search(near + " {")
+
+
+def main():
+    top = pathlib.Path(__file__).resolve().parent.parent
+    wrong = []
+    for path in sorted(top.glob("crates/*/src/**/*.rt")):
+        if path.relative_to(top).parts[1].endswith("_cases"):
+            continue
+        for number, line, heads in with_heads(bare(path.read_text(encoding="utf-8"))):
+            if is_wrong(line, heads):
+                wrong.append(f"{path.relative_to(top)}:{number}: {line.strip()}")
+    print("\n".join(wrong) if wrong else "no error of the allocator is built by hand")
+    return 1 if wrong else 0
+
+
+if __name__ == "__main__":
+    sys.exit(main())
