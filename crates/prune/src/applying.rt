@@ -1,7 +1,6 @@
 //! A plan's changes of a page.
 
 ghost use Rattle.std.specs.Prelude.{◌≡◌, length, ℕ};
-ghost use Rattle.xid_circle.specs.Circle.{IsNormal};
 ghost use Rattle.hot_chain.specs.Chain.{has_aborted};
 ghost use Rattle.prune.specs.Actions.{CanDo, CanApply, after_action, applied};
 ghost use Rattle.prune.specs.Cutting.{Removes, NoSharedSlots, IsDeadAt};
@@ -43,7 +42,6 @@ pub fn apply(page: &mut Page, plan: &PrunePlan)
 /// Prunes a page by the chains of its roots. It stands alone, so that its arrays are cleared only where it is called.
 #[inline(never)]
 fn prune_by_chains(page: &mut Page, table: &StatusTable, horizon: Xid)
-    requires { IsNormal horizon.0 }
     ensures { IsPrunedPage table.now horizon.0 page.old page.new }
 {
     let mut plan = PrunePlan {
@@ -57,7 +55,6 @@ fn prune_by_chains(page: &mut Page, table: &StatusTable, horizon: Xid)
 /// Prunes a page at this horizon, a normal id. Where no version is dead, which [`has_dead`](crate::has_dead) tells at less cost,
 /// nothing changes. It takes no memory.
 pub fn prune(page: &mut Page, table: &StatusTable, horizon: Xid)
-    requires { IsNormal horizon.0 }
     ensures by_plan { IsPrunedPage table.now horizon.0 page.old page.new }
     ensures pruned { IsPruned table.now horizon.0 page.old.slots page.new.slots }
     ensures removes { Removes table.now horizon.0 page.old.slots page.new.slots }

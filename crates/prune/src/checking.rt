@@ -1,7 +1,6 @@
 //! Whether a plan may be applied to a page.
 
 ghost use Rattle.std.specs.Prelude.{◌≡◌, ◌≤◌, ◌<◌, ◌↔◌, ℕ, IsTrue, None, Some, true, length, slice_index};
-ghost use Rattle.xid_circle.specs.Circle.{IsNormal};
 ghost use Rattle.hot_chain.specs.Chain.{is_root};
 ghost use Rattle.prune.specs.Actions.{AreInOrder, CanApply, action_of};
 ghost use Rattle.prune.specs.Pruning.{loose_action};
@@ -113,7 +112,6 @@ fn are_same(a: Option<Action>, b: Option<Action>) -> bool
 
 /// Whether of a root's chain a front is named that pruning would cut too, and becomes what goes with the first that is kept.
 fn has_front(page: &Page, named: &Named, root: u16, table: &StatusTable, horizon: Xid) -> bool
-    requires normal { IsNormal horizon.0 }
     requires number { root < 292 }
     ensures { IsTrue result ↔ HasFront table.now horizon.0 page.now.slots (named_at named.now) root }
 {
@@ -135,7 +133,6 @@ fn has_front(page: &Page, named: &Named, root: u16, table: &StatusTable, horizon
 
 /// Whether each root's chain has such a front.
 fn have_fronts(page: &Page, named: &Named, table: &StatusTable, horizon: Xid) -> bool
-    requires { IsNormal horizon.0 }
     ensures { IsTrue result ↔ ((root : ℕ) → is_root page.now.slots root ≡ true → HasFront table.now horizon.0 page.now.slots (named_at named.now) root) }
 {
     for root in 1..page.slots() + 1 {
@@ -175,7 +172,6 @@ fn are_accounted(page: &Page, marks: &Marks, named: &Named, table: &StatusTable)
 /// strictly ascending and on the page, of each chain it cuts a front that pruning at this horizon, a normal id, would cut
 /// too, and every other slot that it names holds an aborted heap-only version that no chain reaches. It takes no memory.
 pub fn check_plan(page: &Page, plan: &PrunePlan, table: &StatusTable, horizon: Xid) -> bool
-    requires { IsNormal horizon.0 }
     ensures exact { IsTrue result ↔ Checks table.now horizon.0 page.now plan.now.change plan.now.actions.items }
     ensures can_apply { IsTrue result → CanApply (length page.now.slots) plan.now.actions.items }
 {

@@ -1,16 +1,17 @@
 //! Which slots of a page hold dead versions.
 
 ghost use Rattle.std.specs.Prelude.{◌↔◌, ◌⊎◌, IsTrue, MatchOption};
-ghost use Rattle.xid_circle.specs.Circle.{IsNormal, Precedes};
+ghost use Rattle.xid_circle.specs.Circle.{Precedes};
 ghost use Rattle.commit_status.specs.Window.{IsAborted, IsCommitted};
 ghost use Rattle.visibility.specs.Visible.{IsFrozen};
 ghost use Rattle.prune.specs.Cutting.{IsDeadAt, HasDead};
 
 use commit_status::{Status, StatusTable};
 use page_slots::Page;
+use snapshot::stands_before;
 use tuple_header::Header;
 use visibility::{Fate, fate_of};
-use xid_circle::{Xid, precedes};
+use xid_circle::Xid;
 
 fn is_aborted(x: Xid, table: &StatusTable) -> bool
     ensures { IsTrue result ↔ IsAborted table.now x.0 }
@@ -20,7 +21,6 @@ fn is_aborted(x: Xid, table: &StatusTable) -> bool
 
 /// Whether a slot holds a dead version.
 pub(crate) fn is_dead_at(page: &Page, number: u16, table: &StatusTable, horizon: Xid) -> bool
-    requires { IsNormal horizon.0 }
     ensures { IsTrue result ↔ IsDeadAt table.now horizon.0 page.now.slots number }
 {
     match page.header(number) {
@@ -31,10 +31,9 @@ pub(crate) fn is_dead_at(page: &Page, number: u16, table: &StatusTable, horizon:
 
 /// Whether a version's deleter committed before the horizon.
 fn is_past(header: &Header, table: &StatusTable, horizon: Xid) -> bool
-    requires normal { IsNormal horizon.0 }
     ensures { IsTrue result ↔ IsCommitted table.now header.now.xmax.0 × Precedes header.now.xmax.0 horizon.0 }
 {
-    matches!(table.status(header.xmax), Status::Committed) && precedes(header.xmax, horizon)
+    matches!(table.status(header.xmax), Status::Committed) && stands_before(header.xmax, horizon)
 }
 
 /// An id that was not aborted, unless the version was rolled back: its maker, or the one that is known to be such an id.
@@ -62,7 +61,6 @@ fn unaborted_after(
     table: &StatusTable,
     horizon: Xid,
 ) -> Option<Xid>
-    requires normal { IsNormal horizon.0 }
     requires known { ¬ IsAborted table.now known.0 }
     ensures { MatchOption result (IsDeadAt table.now horizon.0 page.now.slots number)
         (λ x. ¬ IsDeadAt table.now horizon.0 page.now.slots number × ¬ IsAborted table.now x.0) }
@@ -82,7 +80,6 @@ fn unaborted_after(
 /// Whether any slot of a page holds a dead version at this horizon, a normal id. Where none does, pruning changes nothing, so no
 /// chain has to be walked. It takes no memory.
 pub fn has_dead(page: &Page, table: &StatusTable, horizon: Xid) -> bool
-    requires { IsNormal horizon.0 }
     ensures { IsTrue result ↔ HasDead table.now horizon.0 page.now.slots }
 {
     // 0 is no id, so it was not aborted.

@@ -3,7 +3,6 @@
 
 ghost use Rattle.std.specs.Prelude.{◌≡◌, ◌≤◌, ◌<◌, ℕ, None, Some, IfSome, Bool, [], ◌∷◌, length, nat_eq, slice_get, if◌then◌else◌};
 ghost use Rattle.std.specs.List.{list_any};
-ghost use Rattle.xid_circle.specs.Circle.{IsNormal};
 ghost use Rattle.hot_chain.specs.Chain.{has_aborted, IsChain};
 ghost use Rattle.prune.specs.Cutting.{IsCutCount};
 ghost use Rattle.prune.specs.Pruning.{root_action};
@@ -49,7 +48,6 @@ type Listed = ArrayVec<u16, 292>;
 
 /// How many of these versions end with the last dead one.
 pub(crate) fn cut_count(page: &Page, chain: &[u16], table: &StatusTable, horizon: Xid) -> usize
-    requires { IsNormal horizon.0 }
     ensures { IsCutCount table.now horizon.0 page.now.slots chain.now result }
 {
     let mut cut = 0;
@@ -88,7 +86,6 @@ fn mark_all(marks: &mut Marks, numbers: &[u16], action: Option<Action>)
 /// The only slot of a root's chain, and whether its version is dead, where the header there tells that no later version
 /// replaced it.
 fn single_of(page: &Page, root: u16, table: &StatusTable, horizon: Xid) -> Option<(u16, bool)>
-    requires { IsNormal horizon.0 }
     ensures { IfSome result (λ single. IsSingle table.now horizon.0 page.now.slots root single.0 single.1) }
 {
     let start = page.redirect(root).unwrap_or(root);
@@ -126,7 +123,6 @@ fn mark_chain(
     table: &StatusTable,
     horizon: Xid,
 )
-    requires normal { IsNormal horizon.0 }
     requires number { root < 292 }
     requires chain { IsChain (has_aborted table.now) page.now.slots root chain.now }
     ensures { MarksChain table.now horizon.0 page.now.slots root marks.old marks.new }
@@ -147,7 +143,6 @@ fn mark_root(
     table: &StatusTable,
     horizon: Xid,
 )
-    requires normal { IsNormal horizon.0 }
     requires number { root < 292 }
     ensures { MarksChain table.now horizon.0 page.now.slots root marks.old marks.new }
 {
@@ -163,7 +158,6 @@ fn mark_root(
 
 /// Notes the mark of each slot. Nothing is noted before.
 pub(crate) fn mark_page(marks: &mut Marks, page: &Page, table: &StatusTable, horizon: Xid)
-    requires normal { IsNormal horizon.0 }
     requires blank { (n : ℕ) → mark_at marks.old n ≡ Mark.Loose }
     ensures { (n : ℕ) → IsMark table.now horizon.0 page.now.slots n (mark_at marks.new n) }
 {

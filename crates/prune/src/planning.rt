@@ -1,7 +1,6 @@
 //! The plan of a page's pruning.
 
 ghost use Rattle.std.specs.Prelude.{◌≡◌, ◌<◌, [], length};
-ghost use Rattle.xid_circle.specs.Circle.{IsNormal};
 ghost use Rattle.prune.specs.Actions.{CanApply};
 ghost use Rattle.prune.specs.Pruning.{loose_action, IsPlan};
 ghost use Rattle.hot_chain.specs.Chain.{has_aborted};
@@ -44,7 +43,6 @@ fn action_at(page: &Page, marks: &Marks, number: u16, table: &StatusTable) -> Op
 
 /// Lists the changes of pruning a page, by a walk along the chain of each root. The list is empty before.
 pub(crate) fn list_actions(actions: &mut Actions, page: &Page, table: &StatusTable, horizon: Xid)
-    requires normal { IsNormal horizon.0 }
     requires blank { actions.old.items ≡ [] }
     ensures can_apply { CanApply (length page.now.slots) actions.new.items }
     ensures exact { IsPlan table.now horizon.0 page.now.slots actions.new.items }
@@ -62,7 +60,6 @@ pub(crate) fn list_actions(actions: &mut Actions, page: &Page, table: &StatusTab
 /// the last dead version goes. Where no slot is in the chains of two roots or redirects, there is one such plan, and it
 /// checks. It takes no memory. (README.HOT, "Pruning")
 pub fn plan(page: &Page, table: &StatusTable, horizon: Xid) -> PrunePlan
-    requires { IsNormal horizon.0 }
     ensures change { result.change ≡ page.now.change }
     ensures can_apply { CanApply (length page.now.slots) result.actions.items }
     ensures exact { IsPlan table.now horizon.0 page.now.slots result.actions.items }

@@ -1,5 +1,5 @@
 -- Where memory is refused some node is full, and so there are many entries.
-use Rattle.std.proofs.Common.{◌≡◌, ◌∙◌, ℕ, zero, suc, ◌+◌, ◌-◌, ◌<◌, ◌≤◌, ◌⊎◌, inl, inr, max, List, [], ◌∷◌, Option, Some, IfSome, length, slice_get, Result, Ok, Err, OnErr, sym, ap, subst, refl, arith}
+use Rattle.std.proofs.Common.{◌≡◌, ◌∙◌, ℕ, zero, suc, ◌+◌, ◌-◌, ◌<◌, ◌≤◌, ◌⊎◌, inl, inr, max, List, [], ◌∷◌, Option, Some, IfSome, length, sum_by, slice_get, Result, Ok, Err, OnErr, sym, ap, subst, refl, arith}
 use Rattle.std.proofs.lemmas.Bool.{cases_lt}
 use Rattle.root_index.specs.declared.entry.Entry.{Entry}
 use Rattle.root_index.specs.Nodes.{all, AreNeat}
@@ -49,9 +49,13 @@ free_less zero = omega arith
 free_less (suc n) = omega arith
 
 -- an insert takes at most one place
-pub room_less : (promised promised' n n' : ℕ) → promised' ≡ promised - 1 → n' ≡ n + 1 → max promised (free_places n) ≤ max promised' (free_places n') + 1
+pub room_less : (promised promised' n n' : ℕ) → promised - 1 ≤ promised' → n' ≡ n + 1 → max promised (free_places n) ≤ max promised' (free_places n') + 1
 room_less promised promised' n n' less more =
     let free = free_less n in
     let next : n' ≡ suc n = omega (arith, more) in
     let is = ap free_places next in
     omega (arith, less, free, is)
+
+-- the number of nodes that trees are made of
+abbrev pub nodes_of : List Tree → ℕ
+nodes_of trees = sum_by (λ (tree : Tree). suc (sum_by (λ (branch : List (List Entry)). suc (sum_by (λ (leaf : List Entry). 1) branch)) tree)) trees

@@ -4,6 +4,7 @@ pub mod EditLemmas
 pub mod FullLemmas
 pub mod JoinedLemmas
 pub mod LookUpLemmas
+pub mod NodeLemmas
 pub mod OrderLemmas
 pub mod PlaceLemmas
 pub mod RowEditLemmas

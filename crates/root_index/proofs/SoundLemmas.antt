@@ -42,6 +42,25 @@ module _ {N : Type 0} (entries : N → List Entry) (IsNeat : N → Type 0) (size
         countable = omega arith;
       }
 
+  -- what was promised for others is kept where it is still enough
+  pub sound_unspent : (x : Entry) (rank count' promised' : ℕ) → IsGapFor (all entries nodes) x rank → all entries new ≡ insert (all entries nodes) rank x → AreNeat IsNeat size new
+      → count' ≡ count + 1 → promised ≤ room' → promised ≤ spare' → HasLeft' promised → count' + promised < 2 ^ 64 → promised' ≡ promised
+      → IsSound entries IsNeat size new room' spare' HasLeft' count' promised'
+  sound_unspent x rank count' promised' gap made neat counted in_list in_trees below countable is =
+      let up = ascending-insert (all entries nodes) x rank sound.ascending gap in
+      let longer = length-insert (all entries nodes) rank x gap.in_range in
+      let before = sound.counted in
+      let after : length (all entries new) ≡ length (insert (all entries nodes) rank x) = ap length made in
+      record {
+        ascending = subst IsAscending (sym made) up;
+        neat = neat;
+        counted = omega arith;
+        in_list = omega (arith, is, in_list);
+        in_trees = omega (arith, is, in_trees);
+        below = subst HasLeft' (sym is) below;
+        countable = omega (arith, is, countable);
+      }
+
 -- Of an index alone: entries that go, and calls that may be refused.
 
 module _ {N : Type 0} (entries : N → List Entry) (IsNeat : N → Type 0) (size : N → ℕ) (nodes : List N) (room spare : ℕ) (HasLeft : ℕ → Type 0) (count promised : ℕ)

@@ -1,5 +1,5 @@
 -- Nodes one after another, be they leaves or branches.
-use Rattle.std.specs.Prelude.{◌≡◌, ◌≢◌, ◌<◌, ◌≤◌, ℕ, List, Option, Some, None, map, length, take, slice_get, IfSome, IsSomeAnd}
+use Rattle.std.specs.Prelude.{◌≡◌, ◌≢◌, ◌<◌, ◌≤◌, ◌+◌, ◌^◌, ℕ, List, Option, Some, None, map, length, take, slice_get, IfSome, IsSomeAnd}
 use Rattle.std.specs.List.{All}
 use Rattle.root_index.specs.declared.entry.Entry.{Entry}
 use Rattle.root_index.specs.declared.nodes.Spot.{Spot}
@@ -58,6 +58,16 @@ pub record IsOpen {N S : Type 0} (entries : N → List Entry) (size : N → ℕ)
   pub same : all entries new ≡ all entries old
   pub before : rank_in entries rank new is ≡ rank_in entries rank old was
   pub room : IsSomeAnd (slice_get new is.node) (λ n. (size n < 128) × IsSpot n is.inner)
+
+-- no node was taken of those that are set aside, nor a place in their list
+pub record IsUnspent {B : Type 0} (HasLeft : B → ℕ → Type 0) (room room' spare spare' : ℕ) (left left' : B) : Type 0 where
+  pub in_list : room ≤ room'
+  pub nodes : spare ≤ spare'
+  pub below : (k : ℕ) → HasLeft left k → HasLeft left' k
+
+-- what is there is enough for so many inserts, and they can be counted
+abbrev pub AreKept : {B : Type 0} → (B → ℕ → Type 0) → ℕ → ℕ → B → ℕ → ℕ → Type 0
+AreKept HasLeft room spare left count promised = (promised ≤ room) × (promised ≤ spare) × HasLeft left promised × (count + promised < 2 ^ 64)
 
 -- enough nodes for so many inserts, those below them too
 abbrev pub AreLeft : {B : Type 0} → (B → ℕ → Type 0) → ℕ → B → ℕ → Type 0

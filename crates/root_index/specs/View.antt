@@ -7,6 +7,8 @@ pub record IndexView : Type 0 where
   pub entries : List Entry
   -- for so many inserts nodes are set aside, whatever they split
   pub spare : ℕ
+  -- in so many nodes they stand
+  pub nodes : ℕ
 
 -- Where there are entries, and fewer than 128 of them, no node is full: all have places for as many as are lacking.
 abbrev pub free_places : ℕ → ℕ

@@ -1,6 +1,6 @@
 //! A branch: nodes that stand together in memory.
 
-ghost use Rattle.std.specs.Prelude.{◌≡◌, ◌≤◌, ◌++◌, [], length, vec_len, vec_capacity};
+ghost use Rattle.std.specs.Prelude.{◌≡◌, ◌≤◌, ◌++◌, [], suc, length, sum_by, vec_len, vec_capacity};
 ghost use Rattle.std.proofs.Common.{arith};
 ghost use Rattle.root_index.specs.Rows.{none_without, some_with, many_with, rank_within, entry_is_spot};
 ghost use Rattle.root_index.specs.Nodes.{all, rank_in, AreNeat, IsSpotIn, IsEntryIn, AreLeft};
@@ -36,6 +36,8 @@ impl<N: Node> Node for Branch<N> {
     ghost entries = { λ b. all N.entries b };
 
     ghost size = { λ b. length b };
+
+    ghost nodes = { λ b. suc (sum_by N.nodes b) };
 
     ghost IsNeat = { λ b. AreNeat N.IsNeat N.size b };
 
@@ -119,6 +121,13 @@ impl<N: Node> Node for Branch<N> {
         }
     }
 
+    fn has_left(spares: &Spares<N, N::Spares>, count: usize) -> bool {
+        if count > spares.nodes.len() {
+            return false;
+        }
+        N::has_left(&spares.below, count)
+    }
+
     fn add_spares(spares: &mut Spares<N, N::Spares>, count: usize) -> Result<(), AllocError> {
         nodes::add_nodes(&mut spares.nodes, count)?;
         N::add_spares(&mut spares.below, count)
@@ -129,6 +138,8 @@ impl<N: Node> Node for Branch<N> {
     ghost some = { λ b neat some. some_with N.entries N.IsNeat N.size N.some b neat some };
 
     ghost many = { λ b neat. many_with N.entries N.IsNeat N.size N.some b neat };
+
+    ghost itself = { λ b. omega arith };
 
     ghost before = { λ b spot entry. entry_is_spot N.IsSpot N.IsEntry N.before b spot entry };
 

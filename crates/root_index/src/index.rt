@@ -1,6 +1,6 @@
 //! The index.
 
-ghost use Rattle.std.specs.Prelude.{◌≡◌, ◌<◌, ◌≤◌, ◌+◌, [], length, OnOk, OnErr, Some, Contains, vec_len, vec_capacity};
+ghost use Rattle.std.specs.Prelude.{◌≡◌, ◌<◌, ◌≤◌, ◌+◌, ◌^◌, [], length, OnOk, OnErr, Some, Contains, vec_len, vec_capacity};
 ghost use Rattle.std.specs.Option.{option_map};
 ghost use Rattle.root_index.specs.Order.{IsAscending};
 ghost use Rattle.root_index.specs.Sets.{Adds, IsLeast, IsAfter, IsBelow};
@@ -44,14 +44,14 @@ pub struct RootIndex {
 }
 
 impl Model for RootIndex {
-    ghost use Rattle.std.specs.Prelude.{◌-◌, vec_len, vec_capacity};
+    ghost use Rattle.std.specs.Prelude.{◌-◌, sum_by, vec_len, vec_capacity};
     ghost use Rattle.root_index.specs.View.{IndexView};
     ghost use Rattle.root_index.specs.Nodes.{all};
     ghost use Rattle.root_index.specs.Trees.{IsSound};
 
     ghost Value = { IndexView };
 
-    ghost view = { λ x. record { entries = all ⟦<Tree as Node>⟧.entries x.trees.items; spare = x.promised } };
+    ghost view = { λ x. record { entries = all ⟦<Tree as Node>⟧.entries x.trees.items; spare = x.promised; nodes = sum_by ⟦<Tree as Node>⟧.nodes x.trees.items } };
 
     ghost invariant = { λ x. IsSound ⟦<Tree as Node>⟧.entries ⟦<Tree as Node>⟧.IsNeat ⟦<Tree as Node>⟧.size x.trees.items (vec_capacity x.trees - vec_len x.trees) (vec_len x.spares.nodes) (⟦<Tree as Node>⟧.HasLeft x.spares.below) x.count x.promised };
 }
@@ -123,12 +123,14 @@ impl RootIndex {
 
     /// Adds an entry. One that is there already stays there once. Memory is refused only where the entry is not there, no room
     /// was made for it, and there is no entry or there are 128 or more, so that a node may be full; or where the entries could
-    /// not be counted any more. They stay as they were then.
+    /// not be counted any more. They stay as they were then. The room that was made for others is kept where no node is split.
     pub fn insert(&mut self, entry: Entry) -> Result<(), AllocError>
         ensures adds { OnOk result (Adds self.old.entries self.new.entries entry) }
         ensures spare { OnOk result (self.old.spare ≤ self.new.spare + 1) }
         ensures room { OnOk result (room_in self.old ≤ room_in self.new + 1) }
         ensures spare_kept { Contains self.old.entries entry → self.old.spare ≤ self.new.spare }
+        ensures nodes { self.old.nodes ≤ self.new.nodes }
+        ensures unspent { OnOk result (self.new.nodes ≡ self.old.nodes → length self.new.entries + self.old.spare < 2 ^ 64 → self.old.spare ≤ self.new.spare) }
         ensures memory { OnErr result ((room_in self.old ≡ 0) × ¬ Contains self.old.entries entry) }
         ensures err { OnErr result (self.new.entries ≡ self.old.entries) }
     {
@@ -142,7 +144,7 @@ impl RootIndex {
         }
         nodes::insert(&mut self.trees, &mut self.spares, spot, entry)?;
         self.count += 1;
-        self.promised = self.promised.saturating_sub(1);
+        self.promised = nodes::still_promised(&self.trees, &self.spares, self.count, self.promised);
         Ok(())
     }
 

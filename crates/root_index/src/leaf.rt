@@ -52,6 +52,8 @@ impl Node for Leaf {
 
     ghost size = { λ l. length l };
 
+    ghost nodes = { λ l. 1 };
+
     ghost IsNeat = { λ l. Unit {0} };
 
     ghost IsSpot = { λ l spot. spot ≤ length l };
@@ -168,6 +170,10 @@ impl Node for Leaf {
 
     fn no_spares(_alloc: Global) {}
 
+    fn has_left(_spares: &(), _count: usize) -> bool {
+        true
+    }
+
     fn add_spares(_spares: &mut (), _count: usize) -> Result<(), AllocError> {
         Ok(())
     }
@@ -177,6 +183,8 @@ impl Node for Leaf {
     ghost some = { λ l neat some. some };
 
     ghost many = { λ l neat. omega arith };
+
+    ghost itself = { λ l. omega arith };
 
     ghost before = { λ l spot entry. omega (arith, entry.0) };
 

@@ -1,8 +1,8 @@
 //! The index of a table: an ordered set of entries.
 //!
 //! An entry is a value, the key of a row, and the place of a chain's root (PostgreSQL manual, Heap-Only Tuples: an index entry
-//! points at the root of a chain). Callers see a [`RootIndex`] as the list of its entries in ascending order, with a count
-//! of how many can be inserted without memory (`specs/View.antt`). The order is by value, then key, then page, then slot
+//! points at the root of a chain). Callers see a [`RootIndex`] as the list of its entries in ascending order, with the number of
+//! nodes in which they stand, and of inserts for which nodes are set aside (`specs/View.antt`). The order is by value, then key, then page, then slot
 //! (`specs/Order.antt`). The contract promises that a call does to the set of entries what it is named after and nothing
 //! else (`specs/Sets.antt`), and [`members_determine`] that there is only one ascending list with the same entries. It says
 //! nothing of how they are kept, which is in leaves of at most 128 entries, these in branches of at most 128 leaves, and these in

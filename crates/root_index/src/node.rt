@@ -1,6 +1,6 @@
 //! Nodes: what an index is made of.
 
-ghost use Rattle.std.specs.Prelude.{◌≡◌, ◌<◌, ◌≤◌, ◌+◌, ◌++◌, ◌⊎◌, ℕ, List, [], length, slice_get, IfOk, IfErr, IfSome, IfNone, OnOk, OnErr};
+ghost use Rattle.std.specs.Prelude.{◌≡◌, ◌<◌, ◌≤◌, ◌+◌, ◌++◌, ◌⊎◌, ℕ, List, [], length, slice_get, IfOk, IfErr, IfSome, IfNone, IsTrue, OnOk, OnErr, ◌↔◌};
 ghost use Rattle.std.specs.Bool.{OnTrue};
 ghost use Rattle.std.specs.List.{insert};
 ghost use Rattle.root_index.specs.declared.entry.Entry.{Entry as Seen};
@@ -51,6 +51,9 @@ pub(crate) trait Node: Drop {
 
     // the number of parts
     ghost size: { Self → ℕ };
+
+    // the number of nodes that it is made of, itself among them
+    ghost nodes: { Self → ℕ };
 
     // no part is empty
     ghost IsNeat: { Self → Type 0 };
@@ -128,6 +131,7 @@ pub(crate) trait Node: Drop {
         ensures part_too { (0 < size upper.new) × (size upper.new < 128) }
         ensures neat { IsNeat self.new }
         ensures neat_too { IsNeat upper.new }
+        ensures nodes { nodes self.new + nodes upper.new ≡ nodes self.old + 1 }
         ensures spot { IsHalf IsSpot self.new upper.new result }
         ensures rank { rank_half entries rank self.new upper.new result ≡ rank self.old spot };
 
@@ -145,7 +149,9 @@ pub(crate) trait Node: Drop {
         ensures some { OnOk result (0 < size self.new) }
         ensures kept { size self.old ≤ size self.new }
         ensures neat { IsNeat self.new }
+        ensures grown { nodes self.old ≤ nodes self.new }
         ensures spares { (k : ℕ) → HasLeft spares.old (k + 1) → HasLeft spares.new k }
+        ensures unspent { OnOk result (nodes self.new ≡ nodes self.old → (k : ℕ) → HasLeft spares.old k → HasLeft spares.new k) }
         ensures err { OnErr result (entries self.new ≡ entries self.old) }
         ensures refused { OnErr result (¬ HasLeft spares.old 1) }
         ensures full { OnErr result ((size self.old ≡ 0) ⊎ (128 ≤ length (entries self.old))) };
@@ -163,6 +169,10 @@ pub(crate) trait Node: Drop {
     /// No spares.
     fn no_spares(alloc: Global) -> Self::Spares;
 
+    /// Whether spares are enough for so many inserts.
+    fn has_left(spares: &Self::Spares, count: usize) -> bool
+        ensures { IsTrue result ↔ HasLeft spares.now count };
+
     /// Adds spares until they are enough for so many inserts.
     fn add_spares(spares: &mut Self::Spares, count: usize) -> Result<(), AllocError>
         ensures ok { OnOk result (HasLeft spares.new count) }
@@ -176,6 +186,9 @@ pub(crate) trait Node: Drop {
 
     // so it has no fewer entries than parts
     ghost many: { (node : Self) → IsNeat node → size node ≤ length (entries node) };
+
+    // it is a node itself
+    ghost itself: { (node : Self) → 0 < nodes node };
 
     // where an entry stands another may be put
     ghost before: { (node : Self) (spot : Self.Spot) → IsEntry node spot → IsSpot node spot };

@@ -1,12 +1,12 @@
 //! Nodes, one after another: looking for an entry's spot, putting one there, and removing entries from all of them.
 
-ghost use Rattle.std.specs.Prelude.{◌≡◌, ◌<◌, ◌≤◌, ◌+◌, ◌-◌, ◌⊎◌, ℕ, [], length, map, IfOk, IfErr, IfSome, IfNone, OnOk, OnErr, vec_len, vec_capacity, slice_get, option_copied};
+ghost use Rattle.std.specs.Prelude.{◌≡◌, ◌<◌, ◌≤◌, ◌+◌, ◌-◌, ◌⊎◌, ℕ, [], length, map, sum_by, ◌↔◌, ◌^◌, IsTrue, IfOk, IfErr, IfSome, IfNone, OnOk, OnErr, vec_len, vec_capacity, slice_get, option_copied};
 ghost use Rattle.std.specs.Bool.{OnTrue};
 ghost use Rattle.std.specs.List.{insert};
 ghost use Rattle.root_index.specs.Order.{IsAscending};
 ghost use Rattle.root_index.specs.Sets.{IsAt, IsGapFor};
 ghost use Rattle.root_index.specs.Lists.{IsBetween};
-ghost use Rattle.root_index.specs.Nodes.{all, rank_in, before_node, AreNeat, AreNeatBut, IsSpotIn, IsEntryIn, IsBehindIn, IsOpen};
+ghost use Rattle.root_index.specs.Nodes.{all, rank_in, before_node, AreNeat, AreNeatBut, IsSpotIn, IsEntryIn, IsBehindIn, IsOpen, IsUnspent, AreKept};
 ghost use Rattle.root_index.specs.Sweeps.{IsSwept};
 
 use crate::dead_set::DeadSet;
@@ -160,6 +160,7 @@ fn split<N: Node>(nodes: &mut Vec<N>, mut upper: N, spot: Spot<N::Spot>) -> Spot
     requires full { IfSome (slice_get nodes.old.items spot.node) (λ node. N.size node ≡ 128) }
     ensures opened { IsOpen N.entries N.size N.rank N.IsSpot nodes.old.items nodes.new.items spot result }
     ensures neat { AreNeat N.IsNeat N.size nodes.new.items }
+    ensures nodes { sum_by N.nodes nodes.new.items ≡ sum_by N.nodes nodes.old.items + 1 }
     ensures count { vec_len nodes.new ≡ vec_len nodes.old + 1 }
     ensures capacity { vec_capacity nodes.old ≤ vec_capacity nodes.new }
 {
@@ -196,6 +197,9 @@ fn open<N: Node>(
     ensures err { OnErr result (nodes.new.items ≡ nodes.old.items) }
     ensures refused { OnErr result ((vec_capacity nodes.old - vec_len nodes.old ≡ 0) ⊎ (vec_len spare.old ≡ 0)) }
     ensures full { OnErr result (128 ≤ length (all N.entries nodes.old.items)) }
+    ensures grown { sum_by N.nodes nodes.old.items ≤ sum_by N.nodes nodes.new.items }
+    ensures unspent_list { OnOk result (sum_by N.nodes nodes.new.items ≡ sum_by N.nodes nodes.old.items → vec_capacity nodes.old - vec_len nodes.old ≤ vec_capacity nodes.new - vec_len nodes.new) }
+    ensures unspent_nodes { OnOk result (sum_by N.nodes nodes.new.items ≡ sum_by N.nodes nodes.old.items → vec_len spare.old ≤ vec_len spare.new) }
 {
     if nodes[spot.node].len() < MAX_PARTS {
         return Ok(spot);
@@ -217,6 +221,7 @@ fn insert_first<N: Node>(
     ensures room { (vec_capacity nodes.old - vec_len nodes.old) ≤ (vec_capacity nodes.new - vec_len nodes.new) + 1 }
     ensures longer { vec_len nodes.new ≤ vec_len nodes.old + 1 }
     ensures some { OnOk result (0 < vec_len nodes.new) }
+    ensures nodes { OnOk result (0 < sum_by N.nodes nodes.new.items) }
     ensures capacity { vec_capacity nodes.old ≤ vec_capacity nodes.new }
     ensures spare { vec_len spares.old.nodes ≤ vec_len spares.new.nodes + 1 }
     ensures below { (k : ℕ) → N.HasLeft spares.old.below (k + 1) → N.HasLeft spares.new.below k }
@@ -251,12 +256,49 @@ pub(crate) fn insert<N: Node>(
     ensures err { OnErr result (all N.entries nodes.new.items ≡ all N.entries nodes.old.items) }
     ensures refused { OnErr result ((vec_capacity nodes.old - vec_len nodes.old ≡ 0) ⊎ (vec_len spares.old.nodes ≡ 0) ⊎ ¬ N.HasLeft spares.old.below 1) }
     ensures full { OnErr result ((length nodes.old.items ≡ 0) ⊎ (128 ≤ length (all N.entries nodes.old.items))) }
+    ensures grown { sum_by N.nodes nodes.old.items ≤ sum_by N.nodes nodes.new.items }
+    ensures unspent { OnOk result (sum_by N.nodes nodes.new.items ≡ sum_by N.nodes nodes.old.items → IsUnspent N.HasLeft (vec_capacity nodes.old - vec_len nodes.old) (vec_capacity nodes.new - vec_len nodes.new) (vec_len spares.old.nodes) (vec_len spares.new.nodes) spares.old.below spares.new.below) }
 {
     if nodes.is_empty() {
         return insert_first(nodes, spares, entry);
     }
     let spot = open(nodes, &mut spares.nodes, spot)?;
     nodes[spot.node].insert(&mut spares.below, spot.inner, entry)
+}
+
+/// Whether so many inserts take no memory, whatever they split, and can be counted where there are `count` entries.
+fn are_kept<N: Node>(
+    nodes: &Vec<N>,
+    spares: &Spares<N, N::Spares>,
+    count: u64,
+    promised: usize,
+) -> bool
+    ensures { IsTrue result ↔ AreKept N.HasLeft (vec_capacity nodes.now - vec_len nodes.now) (vec_len spares.now.nodes) spares.now.below count promised }
+{
+    if promised as u64 > u64::MAX - count {
+        return false;
+    }
+    if promised > nodes.capacity() - nodes.len() || promised > spares.nodes.len() {
+        return false;
+    }
+    N::has_left(&spares.below, promised)
+}
+
+/// How many inserts are promised still, after one: all of them where they take no memory still, else one fewer.
+pub(crate) fn still_promised<N: Node>(
+    nodes: &Vec<N>,
+    spares: &Spares<N, N::Spares>,
+    count: u64,
+    promised: usize,
+) -> usize
+    ensures all { AreKept N.HasLeft (vec_capacity nodes.now - vec_len nodes.now) (vec_len spares.now.nodes) spares.now.below count promised → result ≡ promised }
+    ensures fewer { (result ≡ promised - 1) ⊎ (AreKept N.HasLeft (vec_capacity nodes.now - vec_len nodes.now) (vec_len spares.now.nodes) spares.now.below count promised × (result ≡ promised)) }
+{
+    if are_kept(nodes, spares, count, promised) {
+        promised
+    } else {
+        promised.saturating_sub(1)
+    }
 }
 
 /// Adds nodes until there are so many.

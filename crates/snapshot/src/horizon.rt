@@ -1,7 +1,7 @@
 //! The earliest of several ids.
 
-ghost use Rattle.std.specs.Prelude.{◌≡◌};
-ghost use Rattle.xid_circle.specs.Circle.{IsNormal};
+ghost use Rattle.std.specs.Prelude.{◌≡◌, ◌↔◌, IsTrue};
+ghost use Rattle.xid_circle.specs.Circle.{IsNormal, Precedes};
 ghost use Rattle.snapshot.specs.Snap.{earlier};
 
 use xid_circle::{Xid, precedes};
@@ -15,4 +15,11 @@ pub fn earlier(a: Xid, b: Xid) -> Xid
     ensures normal { IsNormal result.0 }
 {
     if precedes(b, a) { b } else { a }
+}
+
+/// Whether `a` stands before `b` on the circle, be they normal ids or not: what [`precedes`] says of normal ones.
+pub fn stands_before(a: Xid, b: Xid) -> bool
+    ensures { IsTrue result ↔ Precedes a.0 b.0 }
+{
+    a.0.wrapping_sub(b.0).cast_signed() < 0
 }

@@ -6,13 +6,13 @@ ghost use Rattle.xid_circle.specs.Circle.{IsNormal};
 ghost use Rattle.commit_status.specs.Changes.{numbers};
 ghost use Rattle.snapshot.specs.Snap.{Snap, Sees, SeesAlone, empty_at, listing};
 
-use crate::horizon::earlier;
+use crate::horizon::{earlier, stands_before};
 use crate::own::OwnIds;
 use commit_status::StatusTable;
 use smallvec::SmallVec;
 use std::alloc::{AllocError, Global};
 use std::marker::Model;
-use xid_circle::{Xid, precedes};
+use xid_circle::Xid;
 
 /// Which transactions had finished at one moment.
 #[derive(Drop)]
@@ -71,25 +71,23 @@ impl Snapshot {
     }
 
     fn sees_alone(&self, x: Xid) -> bool
-        requires { IsNormal x.0 }
         ensures { IsTrue result ↔ SeesAlone self.now x.0 }
     {
-        if precedes(x, self.xmin) {
+        if stands_before(x, self.xmin) {
             return true;
         }
-        precedes(x, self.xmax) && !self.listed.as_slice().contains(&x.0)
+        stands_before(x, self.xmax) && !self.listed.as_slice().contains(&x.0)
     }
 
     /// Whether the transaction of an id had finished. Of an id between xmin and xmax the topmost parent is looked up
     /// where children are not listed.
     pub fn sees(&self, x: Xid, table: &StatusTable) -> bool
-        requires { IsNormal x.0 }
         ensures { IsTrue result ↔ Sees self.now table.now x.0 }
     {
-        if precedes(x, self.xmin) {
+        if stands_before(x, self.xmin) {
             return true;
         }
-        if !precedes(x, self.xmax) {
+        if !stands_before(x, self.xmax) {
             return false;
         }
         let tested = if self.overflowed { table.top_of(x) } else { x };

@@ -2,26 +2,25 @@
 
 ghost use Rattle.std.specs.Prelude.{◌≡◌, ◌↔◌, IsTrue, None};
 ghost use Rattle.commit_status.specs.Window.{IsCommitted, IsAborted};
-ghost use Rattle.xid_circle.specs.Circle.{IsNormal};
 ghost use Rattle.tuple_header.specs.Faults.{header_fault};
 ghost use Rattle.visibility.specs.Visible.{IsDead};
 
 use crate::verdict::Fate;
 use commit_status::{Status, StatusTable};
+use snapshot::stands_before;
 use tuple_header::{Header, Tuple};
-use xid_circle::{Xid, precedes};
+use xid_circle::Xid;
 
 /// The fate of the version with this header. It is dead where its maker was rolled back, or where its deleter
 /// committed and stands before the horizon. No hint is read.
 pub fn fate_of(header: &Header, horizon: Xid, table: &StatusTable) -> Fate
-    requires faultless { header_fault header.now ≡ None }
-    requires normal { IsNormal horizon.0 }
+    requires { header_fault header.now ≡ None }
     ensures { (result ≡ Fate.Dead) ↔ IsDead table.now horizon.0 header.now }
 {
     if !header.is_frozen() && is_aborted(header.xmin, table) {
         return Fate::Dead;
     }
-    if is_committed(header.xmax, table) && precedes(header.xmax, horizon) {
+    if is_committed(header.xmax, table) && stands_before(header.xmax, horizon) {
         return Fate::Dead;
     }
     Fate::Kept
@@ -29,7 +28,6 @@ pub fn fate_of(header: &Header, horizon: Xid, table: &StatusTable) -> Fate
 
 /// The fate of a version.
 pub fn fate(tuple: &Tuple, horizon: Xid, table: &StatusTable) -> Fate
-    requires { IsNormal horizon.0 }
     ensures { (result ≡ Fate.Dead) ↔ IsDead table.now horizon.0 tuple.now.header }
 {
     fate_of(&tuple.header, horizon, table)

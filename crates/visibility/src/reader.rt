@@ -1,7 +1,6 @@
 //! What a reader sees.
 
 ghost use Rattle.std.specs.Prelude.{◌≡◌, ◌≢◌, ◌↔◌, ◌⊎◌, IsTrue, None};
-ghost use Rattle.xid_circle.specs.Circle.{IsNormal};
 ghost use Rattle.tuple_header.specs.Faults.{header_fault};
 ghost use Rattle.visibility.specs.Visible.{IsFrozen, Reads, IsVisible};
 
@@ -12,7 +11,6 @@ use xid_circle::Xid;
 
 /// Whether a reader counts what an id did: it is its own, or seen and committed.
 pub fn reads(x: Xid, snapshot: &Snapshot, own: &OwnIds, table: &StatusTable) -> bool
-    requires { IsNormal x.0 }
     ensures { IsTrue result ↔ Reads table.now snapshot.now own.now.ids x.0 }
 {
     if own.contains(x) {

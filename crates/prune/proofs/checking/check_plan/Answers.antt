@@ -7,8 +7,8 @@ use Rattle.prune.proofs.CheckLemmas.{order-more, checked, checks-can_apply}
 use Rattle.prune.proofs.Roots.{loose-everywhere}
 use Rattle.prune.proofs.checking.check_plan.Goals as goal
 
-pub mark_page-requires-clause-blank : goal.mark_page-requires-clause-blank
-mark_page-requires-clause-blank c = λ n. loose-everywhere 292 n
+pub mark_page-requires : goal.mark_page-requires
+mark_page-requires c = record { blank = λ n. loose-everywhere 292 n }
 
 pub named_by-named-requires : goal.named_by-named-requires
 named_by-named-requires c =

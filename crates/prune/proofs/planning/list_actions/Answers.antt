@@ -8,8 +8,8 @@ use Rattle.prune.proofs.planning.list_actions.Goals.{in-Some, in_default}
 use Rattle.prune.proofs.Roots.{loose-everywhere}
 use Rattle.prune.proofs.planning.list_actions.Goals as goal
 
-pub mark_page-requires-clause-blank : goal.mark_page-requires-clause-blank
-mark_page-requires-clause-blank c = λ n. loose-everywhere 292 n
+pub mark_page-requires : goal.mark_page-requires
+mark_page-requires c = record { blank = λ n. loose-everywhere 292 n }
 
 pub push-requires : goal.push-requires
 push-requires c =

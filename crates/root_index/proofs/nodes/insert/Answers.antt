@@ -1,8 +1,10 @@
-use Rattle.std.proofs.Common.{◌<◌, ◌≤◌, inr, length, subst}
+use Rattle.std.proofs.Common.{◌<◌, ◌≤◌, inr, length, subst, arith}
+use Rattle.std.proofs.lemmas.Option.{slice_get_within}
 use Rattle.std.proofs.lemmas.Result.{on_ok_weaker, on_err_weaker}
 use Rattle.root_index.specs.Nodes.{all}
 use Rattle.root_index.proofs.FullLemmas.{full_below}
 use Rattle.root_index.proofs.RowGrowthLemmas.{put_in, kept_in, opened_at}
+use Rattle.root_index.proofs.NodeLemmas.{count_put}
 use Rattle.root_index.proofs.nodes.insert.Goals as goal
 
 pub returns-clause-entries : goal.returns-clause-entries
@@ -34,3 +36,29 @@ returns-clause-full g c =
     on_err_weaker c.insert.result
     (λ full. inr (subst (λ es. 128 ≤ length es) opened.same (full_below g.N.Node.entries g.N.Node.IsNeat g.N.Node.size new c.in_ok-spot.spot.node c.index_mut.result.now c.open.ensures.neat at full)))
     c.insert.ensures.full
+
+-- nodes that were set aside are taken only where there are more nodes then
+
+pub returns-clause-grown : goal.returns-clause-grown
+returns-clause-grown g c =
+    let new = c.open.new.nodes.items in
+    let at = opened_at (λ n. (g.N.Node.size n < 128) × g.N.Node.IsSpot n c.in_ok-spot.spot.inner) new c.in_ok-spot.spot.node c.index_mut.result.now c.in_ok-spot.ensures.opened.room c.index_mut.ensures.value in
+    let within = slice_get_within new c.in_ok-spot.spot.node c.index_mut.result.now at in
+    let put = count_put g.N.Node.nodes new c.in_ok-spot.spot.node c.index_mut.result.now within c.index_mut.ensures.value c.insert.new.self in
+    omega (arith, put, c.insert.ensures.grown, c.open.ensures.grown)
+
+pub returns-clause-unspent : goal.returns-clause-unspent
+returns-clause-unspent g c =
+    let new = c.open.new.nodes.items in
+    let at = opened_at (λ n. (g.N.Node.size n < 128) × g.N.Node.IsSpot n c.in_ok-spot.spot.inner) new c.in_ok-spot.spot.node c.index_mut.result.now c.in_ok-spot.ensures.opened.room c.index_mut.ensures.value in
+    let within = slice_get_within new c.in_ok-spot.spot.node c.index_mut.result.now at in
+    let put = count_put g.N.Node.nodes new c.in_ok-spot.spot.node c.index_mut.result.now within c.index_mut.ensures.value c.insert.new.self in
+    let grown = c.insert.ensures.grown in
+    let opened = c.open.ensures.grown in
+    on_ok_weaker c.insert.result
+    (λ unspent same. record {
+      in_list = c.in_ok-spot.ensures.unspent_list (omega (arith, put, grown, opened, same));
+      nodes = c.in_ok-spot.ensures.unspent_nodes (omega (arith, put, grown, opened, same));
+      below = unspent (omega (arith, put, grown, opened, same));
+    })
+    c.insert.ensures.unspent

@@ -2,6 +2,7 @@ use Rattle.std.proofs.Common.{◌∙◌, ◌<◌, ◌+◌, sym, subst}
 use Rattle.root_index.specs.Nodes.{AreNeat, IsOpen}
 use Rattle.root_index.proofs.RowLemmas.{item}
 use Rattle.root_index.proofs.RowGrowthLemmas.{split_to_is, all_split, opened_low, opened_high}
+use Rattle.root_index.proofs.NodeLemmas.{count_split}
 use Rattle.root_index.proofs.nodes.split.Goals as goal
 
 pub returns-in-Lower-clause-opened : goal.returns-in-Lower-clause-opened
@@ -41,3 +42,13 @@ returns-in-Upper-clause-neat g c =
     subst (AreNeat g.N.Node.IsNeat g.N.Node.size) made
     (all_split (λ n. g.N.Node.IsNeat n × (0 < g.N.Node.size n)) nodes c.args.spot.node c.split-half.new.self c.split-half.new.upper c.requires.neat
     (halves.neat, halves.part.0) (halves.neat_too, halves.part_too.0))
+
+pub returns-in-Lower-clause-nodes : goal.returns-in-Lower-clause-nodes
+returns-in-Lower-clause-nodes g c =
+    count_split g.N.Node.nodes c.args.nodes.now.items c.args.spot.node c.index_mut.result.now c.requires.node c.index_mut.ensures.value c.put_node.new.nodes.items c.split-half.new.self
+    c.split-half.new.upper c.put_node.ensures.items c.split-half.ensures.nodes
+
+pub returns-in-Upper-clause-nodes : goal.returns-in-Upper-clause-nodes
+returns-in-Upper-clause-nodes g c =
+    count_split g.N.Node.nodes c.args.nodes.now.items c.args.spot.node c.index_mut.result.now c.requires.node c.index_mut.ensures.value c.put_node.new.nodes.items c.split-half.new.self
+    c.split-half.new.upper c.put_node.ensures.items c.split-half.ensures.nodes

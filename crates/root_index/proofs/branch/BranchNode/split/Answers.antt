@@ -1,4 +1,5 @@
-use Rattle.std.proofs.Common.{◌≡◌, ◌∙◌, ◌++◌, ◌<◌, sym, subst, arith}
+use Rattle.std.proofs.Common.{◌≡◌, ◌∙◌, ◌++◌, ◌<◌, sum_by, sym, ap, subst, arith}
+use Rattle.std.proofs.lemmas.List.Sums.{sum_by-append}
 use Rattle.root_index.specs.Nodes.{AreNeat}
 use Rattle.root_index.proofs.RowEditLemmas.{all_back, half_front, half_back, rank_half_front, rank_half_back}
 use Rattle.root_index.proofs.branch.BranchNode.split.Goals as goal
@@ -35,3 +36,10 @@ returns-clause-rank g c =
           rank_half_back g.N.Node.entries g.N.Node.rank g.N.Node.IsSpot c.move_half.new.lower.items c.move_half.new.upper.items c.args.self.now c.args.spot c.if-spot-lt-HALF.result is
           64 w.result-is half (omega (arith, w.if-spot-lt-HALF.false))
     ]
+
+pub returns-clause-nodes : goal.returns-clause-nodes
+returns-clause-nodes g c =
+    let is : c.move_half.new.lower.items ++ c.move_half.new.upper.items ≡ c.args.self.now = c.move_half.ensures.nodes ∙ c.self.view_is in
+    let all = ap (sum_by g.N.Node.nodes) is in
+    let both = sum_by-append g.N.Node.nodes c.move_half.new.lower.items c.move_half.new.upper.items in
+    omega (arith, all, both)

@@ -1,10 +1,10 @@
-use Rattle.std.proofs.Common.{◌≡◌, ◌∙◌, ◌+◌, ◌≤◌, inr, length, Contains, sym, ap, refl, subst, arith}
+use Rattle.std.proofs.Common.{◌≡◌, ◌∙◌, ◌+◌, ◌-◌, ◌^◌, ◌<◌, ◌≤◌, ◌⊎◌, ℕ, inl, inr, max, length, Contains, sym, ap, refl, subst, arith}
 use Rattle.std.proofs.lemmas.List.Edits.{length-insert}
-use Rattle.root_index.specs.View.{IndexView, room_in}
+use Rattle.root_index.specs.View.{IndexView, room_in, free_places}
 use Rattle.root_index.specs.Sets.{Adds}
 use Rattle.root_index.proofs.SetLemmas.{adds-there, absent_in_gap}
-use Rattle.root_index.proofs.SoundLemmas.{among, ascending_there, found_there, gap_there, adds_in_gap, sound_inserted, none_promised, none_countable}
-use Rattle.root_index.proofs.FullLemmas.{on_err, full_among, no_room, room_less}
+use Rattle.root_index.proofs.SoundLemmas.{among, ascending_there, found_there, gap_there, adds_in_gap, sound_inserted, sound_unspent, none_promised, none_countable}
+use Rattle.root_index.proofs.FullLemmas.{on_err, full_among, no_room, room_less, nodes_of}
 use Rattle.root_index.proofs.index.RootIndex.insert.Goals as goal
 
 pub search-requires-clause-ascending : goal.search-requires-clause-ascending
@@ -41,9 +41,15 @@ pub invariant_of-self-2 : goal.invariant_of-self-2
 invariant_of-self-2 c =
     let gap = gap_there _ _ c.self.inside.trees.items c.deref.result.now c.args.entry c.in-Err.spot c.deref.ensures.value c.in-Err.ensures.absent in
     let now = c.in_ok-insert.ensures in
-    sound_inserted _ _ _ c.self.inside.trees.items c.insert.new.nodes.items _ _ _ _ _ _ c.self.inside.count c.self.inside.promised c.self.invariant
-    c.args.entry _ (c.self.inside.count + 1) _ gap now.entries now.neat now.room now.spare now.below (omega arith, (omega arith, tt)) refl c.saturating_sub-self-inside.ensures
-    (omega (arith, c.self.invariant.countable, c.if-self.false))
+    elim c.still_promised-self-inside.ensures.fewer [
+      | inl fewer ↦
+          sound_inserted _ _ _ c.self.inside.trees.items c.insert.new.nodes.items _ _ _ _ _ _ c.self.inside.count c.self.inside.promised c.self.invariant
+          c.args.entry _ (c.self.inside.count + 1) _ gap now.entries now.neat now.room now.spare now.below (omega arith, (omega arith, tt)) refl fewer
+          (omega (arith, c.self.invariant.countable, c.if-self.false))
+      | inr kept ↦
+          sound_unspent _ _ _ c.self.inside.trees.items c.insert.new.nodes.items _ _ _ _ _ _ c.self.inside.count c.self.inside.promised c.self.invariant
+          c.args.entry _ (c.self.inside.count + 1) _ gap now.entries now.neat refl kept.0.0 kept.0.1 kept.0.2 kept.0.3 kept.1
+    ]
 
 pub returns-clause-adds : goal.returns-clause-adds
 returns-clause-adds c =
@@ -56,12 +62,39 @@ returns-clause-spare_kept c there =
     let gap = gap_there _ _ c.self.inside.trees.items c.deref.result.now c.args.entry c.in-Err.spot c.deref.ensures.value c.in-Err.ensures.absent in
     absurd (absent_in_gap (among c.self.inside.trees.items) c.args.entry _ gap (subst (λ (v : IndexView). Contains v.entries c.args.entry) (sym c.self.view_is) there))
 
+still_less : (promised still : ℕ) (P : Type 0) → (still ≡ promised - 1) ⊎ (P × (still ≡ promised)) → promised - 1 ≤ still
+still_less promised still P (inl fewer) = omega (arith, fewer)
+still_less promised still P (inr kept) = omega (arith, kept.1)
+
 pub returns-clause-room : goal.returns-clause-room
 returns-clause-room c =
     let trees = c.self.inside.trees.items in
     let new = c.insert.new.nodes.items in
+    let still = c.still_promised-self-inside.result in
     let gap = gap_there _ _ trees c.deref.result.now c.args.entry c.in-Err.spot c.deref.ensures.value c.in-Err.ensures.absent in
     let longer : length (among new) ≡ length (among trees) + 1 =
     ap length c.in_ok-insert.ensures.entries ∙ length-insert (among trees) _ c.args.entry gap.in_range in
-    subst (λ (v : IndexView). room_in v ≤ room_in (record { entries = among new; spare = c.saturating_sub-self-inside.result }) + 1) c.self.view_is
-    (room_less c.self.inside.promised c.saturating_sub-self-inside.result (length (among trees)) (length (among new)) c.saturating_sub-self-inside.ensures longer)
+    subst (λ (v : IndexView). room_in v ≤ max still (free_places (length (among new))) + 1) c.self.view_is
+    (room_less c.self.inside.promised still (length (among trees)) (length (among new)) (still_less c.self.inside.promised still _ c.still_promised-self-inside.ensures.fewer) longer)
+
+-- where no node was split all others stay promised
+pub returns-clause-unspent : goal.returns-clause-unspent
+returns-clause-unspent c =
+    let trees = c.self.inside.trees.items in
+    let new = c.insert.new.nodes.items in
+    let still = c.still_promised-self-inside.result in
+    let sound = c.self.invariant in
+    let gap = gap_there _ _ trees c.deref.result.now c.args.entry c.in-Err.spot c.deref.ensures.value c.in-Err.ensures.absent in
+    let longer : length (among new) ≡ length (among trees) + 1 =
+    ap length c.in_ok-insert.ensures.entries ∙ length-insert (among trees) _ c.args.entry gap.in_range in
+    let counted : c.self.inside.count ≡ length (among trees) = sound.counted in
+    subst (λ (v : IndexView). nodes_of new ≡ v.nodes → length (among new) + v.spare < 2 ^ 64 → v.spare ≤ still) c.self.view_is
+    (λ same countable.
+    let unspent = c.in_ok-insert.ensures.unspent same in
+    let is = c.still_promised-self-inside.ensures.all (
+      omega (arith, unspent.in_list, sound.in_list),
+      omega (arith, unspent.nodes, sound.in_trees),
+      unspent.below c.self.inside.promised sound.below,
+      omega (arith, countable, longer, counted),
+    ) in
+    omega (arith, is))
