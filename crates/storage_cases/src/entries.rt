@@ -1,15 +1,44 @@
 //! Sets of entries, each reckoned by hand.
 
-use crate::calls::{
-    count, dead_set, first_from, insert, laws, next_after, next_near, promise, remove,
-    remove_where, same,
-};
-use root_index::{Entry, Near, Progress, RootIndex};
+use crate::steps::{Step, run};
+use root_index::{DeadSet, Entry, Near, Progress, RootIndex, members_determine};
 use std::alloc::{AllocError, Global};
-use std::process::Abort;
+use std::test::Fail;
 use xid_circle::Tid;
 
-fn entry(value: i128, key: u64, page: u32, slot: u16) -> Entry {
+/// The value, the key, the page and the slot of an entry.
+type Parts = (i128, u64, u32, u16);
+
+/// What is done to an index, or asked of it.
+#[derive(Clone, Copy)]
+enum IndexStep {
+    /// So many more entries are to take no memory.
+    MakeRoom(usize),
+    /// That is refused.
+    NoRoomFor(usize),
+    Insert(Parts),
+    /// Entries are inserted, from this key on so many, and each key is so far behind the one before; after 29999 comes 0.
+    InsertRun(u16, u16, u16),
+    /// The same, but with [`SHARED`] for their place.
+    InsertShared(u16, u16, u16),
+    /// All entries that lead to these places are removed.
+    Remove(&'static [Tid]),
+    /// One piece of that, behind an entry, comes so far, or to the end.
+    RemovePiece(&'static [Tid], Option<Parts>, Option<Parts>),
+    /// What comes behind an entry.
+    After(Option<Parts>, Option<Parts>),
+    /// What comes behind the second, looked for where what comes behind the first was found.
+    AfterNear(Parts, Parts, Option<Parts>),
+    /// The first of this value and this key, or of higher ones.
+    From(i128, u64, Option<Parts>),
+    /// There are these and no others, in this order.
+    Hold(&'static [Parts]),
+    /// There are those of the keys below this one and no others, which lead to the pages of their keys.
+    HoldBelow(u32),
+    Count(u64),
+}
+
+fn entry((value, key, page, slot): Parts) -> Entry {
     Entry {
         value,
         key,
@@ -17,544 +46,386 @@ fn entry(value: i128, key: u64, page: u32, slot: u16) -> Entry {
     }
 }
 
-/// No entry is below this one.
-const LEAST: Entry = Entry {
-    value: i128::MIN,
-    key: 0,
-    tid: Tid { page: 0, slot: 0 },
-};
+fn parts(entry: Entry) -> Parts {
+    (entry.value, entry.key, entry.tid.page, entry.tid.slot)
+}
 
-/// No entry is above this one.
-const GREATEST: Entry = Entry {
-    value: i128::MAX,
-    key: u64::MAX,
-    tid: Tid {
-        page: u32::MAX,
-        slot: u16::MAX,
-    },
-};
+/// The entry of this key, of the same value and for the page of this number.
+fn numbered(key: u32) -> Entry {
+    entry((i128::from(key), u64::from(key), key, 1))
+}
 
-/// Whether these are the index's entries, in this order.
-fn holds(index: &RootIndex, entries: &[Entry]) -> bool {
+/// One place for many entries.
+const SHARED: Tid = Tid { page: 7, slot: 7 };
+
+/// The entry of this key, of the same value and with one place for all.
+fn shared(key: u32) -> Entry {
+    entry((i128::from(key), u64::from(key), SHARED.page, SHARED.slot))
+}
+
+/// The key of this number in a run.
+fn key_of(first: u16, number: u16, stride: u16) -> u32 {
+    (u32::from(first) + u32::from(number) * u32::from(stride)) % 30000
+}
+
+fn insert_run(
+    index: &mut RootIndex,
+    first: u16,
+    count: u16,
+    stride: u16,
+) -> Result<(), AllocError> {
+    for number in 0..count {
+        index.insert(numbered(key_of(first, number, stride)))?;
+    }
+    Ok(())
+}
+
+fn insert_shared(
+    index: &mut RootIndex,
+    first: u16,
+    count: u16,
+    stride: u16,
+) -> Result<(), AllocError> {
+    for number in 0..count {
+        index.insert(shared(key_of(first, number, stride)))?;
+    }
+    Ok(())
+}
+
+/// The set of these places.
+fn dead_set(tids: &[Tid]) -> DeadSet {
+    let mut dead = DeadSet::new();
+    for tid in tids {
+        if !dead.is_full() {
+            dead.insert(*tid);
+        }
+    }
+    dead
+}
+
+/// Removes all entries that lead to one of these places, piece by piece.
+fn remove(index: &mut RootIndex, dead: &[Tid]) {
+    let dead = dead_set(dead);
+    let mut from = None;
+    for _ in 0..u64::MAX {
+        match index.remove_where(&dead, from) {
+            Progress::More(last) => from = Some(last),
+            Progress::Done => return,
+        }
+    }
+}
+
+/// How far one piece of that comes.
+fn remove_piece(index: &mut RootIndex, dead: &[Tid], from: Option<Parts>) -> Option<Parts> {
+    match index.remove_where(&dead_set(dead), from.map(entry)) {
+        Progress::More(last) => Some(parts(last)),
+        Progress::Done => None,
+    }
+}
+
+fn after(index: &RootIndex, from: Option<Parts>) -> Option<Parts> {
+    Some(parts(index.next_after(from.map(entry))?))
+}
+
+fn from(index: &RootIndex, value: i128, key: u64) -> Option<Parts> {
+    Some(parts(index.first_from(value, key)?))
+}
+
+/// What comes behind the second, where the place of what comes behind the first is given.
+fn after_near(index: &RootIndex, first: Parts, second: Parts) -> Option<Parts> {
+    let (_, near) = index.next_near(entry(first), Near::default())?;
+    Some(parts(index.next_near(entry(second), near)?.0))
+}
+
+fn hold(index: &RootIndex, entries: &[Parts]) -> bool {
     let mut last = None;
     for entry in entries {
-        let next = next_after(index, last);
-        if next != Some(*entry) {
+        if after(index, last) != Some(*entry) {
             return false;
         }
-        last = next;
+        last = Some(*entry);
     }
-    next_after(index, last).is_none() && count(index) == entries.len() as u64
+    after(index, last).is_none() && index.len() == entries.len() as u64
 }
 
-fn insert_all(index: &mut RootIndex, entries: &[Entry]) -> Result<(), AllocError> {
-    for entry in entries {
-        insert(index, *entry)?;
+/// Whether the entries of the keys below this one come one behind another, each found where the one before it was.
+fn hold_below(index: &RootIndex, limit: u32) -> bool {
+    let mut last = entry(LEAST);
+    let mut near = Near::default();
+    for key in 0..limit {
+        match index.next_near(last, near) {
+            Some((entry, place)) if entry == numbered(key) => near = place,
+            _ => return false,
+        }
+        last = numbered(key);
     }
-    Ok(())
+    index.next_near(last, near).is_none() && index.len() == u64::from(limit)
 }
 
-fn ascending() -> [Entry; 9] {
-    [
+impl IndexStep {
+    /// What of an index is asked for.
+    fn is_seen(&self, index: &RootIndex) -> bool {
+        match *self {
+            IndexStep::After(from, next) => after(index, from) == next,
+            IndexStep::AfterNear(first, from, next) => after_near(index, first, from) == next,
+            IndexStep::From(value, key, first) => from(index, value, key) == first,
+            IndexStep::Hold(entries) => hold(index, entries),
+            IndexStep::HoldBelow(limit) => hold_below(index, limit),
+            IndexStep::Count(count) => index.len() == count,
+            _ => false,
+        }
+    }
+}
+
+impl Step for IndexStep {
+    type Subject = RootIndex;
+
+    fn is_so(&self, _alloc: Global, index: &mut RootIndex) -> Result<bool, AllocError> {
+        match *self {
+            IndexStep::MakeRoom(count) => index.make_room(count)?,
+            IndexStep::NoRoomFor(count) => return Ok(index.make_room(count).is_err()),
+            IndexStep::Insert(parts) => index.insert(entry(parts))?,
+            IndexStep::InsertRun(first, count, stride) => insert_run(index, first, count, stride)?,
+            IndexStep::InsertShared(first, count, stride) => {
+                insert_shared(index, first, count, stride)?;
+            }
+            IndexStep::Remove(dead) => remove(index, dead),
+            IndexStep::RemovePiece(dead, from, last) => {
+                return Ok(remove_piece(index, dead, from) == last);
+            }
+            _ => return Ok(self.is_seen(index)),
+        }
+        Ok(true)
+    }
+}
+
+/// How far a key is behind the next one.
+const DOWN: u16 = 29999;
+
+/// No entry is below this one.
+const LEAST: Parts = (i128::MIN, 0, 0, 0);
+
+/// No entry is above this one.
+const GREATEST: Parts = (i128::MAX, u64::MAX, u32::MAX, u16::MAX);
+
+/// Each part orders where those before it are equal, and each entry is there once.
+static ORDER: [IndexStep; 14] = [
+    IndexStep::Hold(&[]),
+    IndexStep::From(i128::MIN, 0, None),
+    IndexStep::MakeRoom(9),
+    IndexStep::Insert((0, 0, 1, 0)),
+    IndexStep::Insert(GREATEST),
+    IndexStep::Insert((0, 1, 0, 0)),
+    IndexStep::Insert((-1, 9, 9, 9)),
+    IndexStep::Insert((0, 0, 0, 1)),
+    IndexStep::Insert((18446744073709551615, u64::MAX, u32::MAX, 1)),
+    IndexStep::Insert((1, 0, 0, 0)),
+    IndexStep::Insert((0, 0, 0, 0)),
+    IndexStep::Insert(LEAST),
+    IndexStep::Insert((0, 0, 0, 1)),
+    IndexStep::Hold(&[
         LEAST,
-        entry(-1, 9, 9, 9),
-        entry(0, 0, 0, 0),
-        entry(0, 0, 0, 1),
-        entry(0, 0, 1, 0),
-        entry(0, 1, 0, 0),
-        entry(1, 0, 0, 0),
-        entry(18446744073709551615, u64::MAX, u32::MAX, 1),
+        (-1, 9, 9, 9),
+        (0, 0, 0, 0),
+        (0, 0, 0, 1),
+        (0, 0, 1, 0),
+        (0, 1, 0, 0),
+        (1, 0, 0, 0),
+        (18446744073709551615, u64::MAX, u32::MAX, 1),
         GREATEST,
-    ]
-}
+    ]),
+];
 
 #[test]
-fn each_part_orders_where_those_before_it_are_equal(rt: HostRuntime) -> Result<(), AllocError> {
-    let mut index = RootIndex::new(rt.alloc());
-    promise(&mut index, 9)?;
-    insert_all(&mut index, &ascending())?;
-    assert!(rt; holds(&index, &ascending()));
-    laws(&index);
-    Ok(())
+fn each_part_orders_where_those_before_it_are_equal(rt: HostRuntime) -> Result<(), Fail> {
+    run(rt.alloc(), RootIndex::new(rt.alloc()), &ORDER)
 }
+
+/// What comes behind an entry, and from a key on.
+static LOOK_UPS: [IndexStep; 26] = [
+    IndexStep::Insert((10, 3, 0, 3)),
+    IndexStep::Insert((10, 2, 0, 2)),
+    IndexStep::Insert((30, 1, 0, 1)),
+    IndexStep::Insert((10, 2, 1, 1)),
+    // of those that are there
+    IndexStep::After(None, Some((10, 2, 0, 2))),
+    IndexStep::After(Some((10, 2, 0, 2)), Some((10, 2, 1, 1))),
+    IndexStep::After(Some((10, 2, 1, 1)), Some((10, 3, 0, 3))),
+    IndexStep::After(Some((10, 3, 0, 3)), Some((30, 1, 0, 1))),
+    IndexStep::After(Some((30, 1, 0, 1)), None),
+    // before all, between, and after all
+    IndexStep::After(Some(LEAST), Some((10, 2, 0, 2))),
+    IndexStep::After(Some((10, 2, 0, 1)), Some((10, 2, 0, 2))),
+    IndexStep::After(Some((10, 2, 0, 3)), Some((10, 2, 1, 1))),
+    IndexStep::After(Some((29, 9, 9, 9)), Some((30, 1, 0, 1))),
+    IndexStep::After(Some(GREATEST), None),
+    IndexStep::From(i128::MIN, 0, Some((10, 2, 0, 2))),
+    IndexStep::From(9, u64::MAX, Some((10, 2, 0, 2))),
+    IndexStep::From(10, 2, Some((10, 2, 0, 2))),
+    IndexStep::From(10, 3, Some((10, 3, 0, 3))),
+    IndexStep::From(10, 4, Some((30, 1, 0, 1))),
+    IndexStep::From(30, 1, Some((30, 1, 0, 1))),
+    IndexStep::From(30, 2, None),
+    IndexStep::From(i128::MAX, u64::MAX, None),
+    IndexStep::Insert(GREATEST),
+    IndexStep::From(i128::MAX, u64::MAX, Some(GREATEST)),
+    // the second is looked for where it stands, and elsewhere
+    IndexStep::AfterNear(LEAST, (10, 2, 0, 2), Some((10, 2, 1, 1))),
+    IndexStep::AfterNear(LEAST, (30, 1, 0, 1), Some(GREATEST)),
+];
 
 #[test]
-fn each_part_orders_what_comes_backward(rt: HostRuntime) -> Result<(), AllocError> {
-    let mut index = RootIndex::new(rt.alloc());
-    let ascending = ascending();
-    for i in 0..9usize {
-        insert(&mut index, ascending[8 - i])?;
-    }
-    assert!(rt; holds(&index, &ascending));
-    Ok(())
+fn what_comes_after_and_from(rt: HostRuntime) -> Result<(), Fail> {
+    run(rt.alloc(), RootIndex::new(rt.alloc()), &LOOK_UPS)
 }
+
+static DEAD_PLACES: [IndexStep; 10] = [
+    IndexStep::Insert((1, 1, 0, 1)),
+    IndexStep::Insert((2, 2, 0, 2)),
+    IndexStep::Insert((3, 1, 0, 1)),
+    // the same slot of another page, and another slot of the same page
+    IndexStep::Remove(&[Tid { page: 1, slot: 1 }, Tid { page: 0, slot: 3 }]),
+    IndexStep::Count(3),
+    IndexStep::Remove(&[Tid { page: 0, slot: 1 }]),
+    IndexStep::Hold(&[(2, 2, 0, 2)]),
+    IndexStep::Remove(&[Tid { page: 0, slot: 2 }]),
+    IndexStep::Insert((3, 1, 0, 1)),
+    IndexStep::Hold(&[(3, 1, 0, 1)]),
+];
 
 #[test]
-fn an_entry_is_there_once(rt: HostRuntime) -> Result<(), AllocError> {
-    let mut index = RootIndex::new(rt.alloc());
-    assert_eq!(rt; count(&index), 0);
-    assert_eq!(rt; next_after(&index, None), None);
-    assert_eq!(rt; first_from(&index, i128::MIN, 0), None);
-    for _ in 0..3usize {
-        insert(&mut index, entry(5, 1, 0, 1))?;
-    }
-    insert(&mut index, entry(5, 1, 0, 2))?;
-    insert(&mut index, entry(5, 1, 0, 1))?;
-    assert!(rt; holds(&index, &[entry(5, 1, 0, 1), entry(5, 1, 0, 2)]));
-    Ok(())
+fn entries_to_dead_places_go(rt: HostRuntime) -> Result<(), Fail> {
+    run(rt.alloc(), RootIndex::new(rt.alloc()), &DEAD_PLACES)
 }
 
-/// Four entries in order.
-fn four() -> (Entry, Entry, Entry, Entry) {
-    (
-        entry(10, 2, 0, 2),
-        entry(10, 2, 1, 1),
-        entry(10, 3, 0, 3),
-        entry(30, 1, 0, 1),
+/// Of a full leaf of 128 and one more the first 64 stay, of which the new one may be one: a piece that removes nothing goes
+/// as far as its leaf.
+static LEAVES_UPWARD: [IndexStep; 5] = [
+    IndexStep::InsertRun(1, 300, 1),
+    IndexStep::RemovePiece(&[], None, Some((64, 64, 64, 1))),
+    IndexStep::RemovePiece(&[], Some((64, 64, 64, 1)), Some((128, 128, 128, 1))),
+    IndexStep::RemovePiece(&[], Some((128, 128, 128, 1)), Some((192, 192, 192, 1))),
+    IndexStep::RemovePiece(&[], Some((192, 192, 192, 1)), None),
+];
+
+/// From 193 down to 1.
+static LEAVES_DOWNWARD: [IndexStep; 3] = [
+    IndexStep::InsertRun(193, 193, DOWN),
+    IndexStep::RemovePiece(&[], None, Some((128, 128, 128, 1))),
+    IndexStep::RemovePiece(&[], Some((128, 128, 128, 1)), None),
+];
+
+/// The even keys, and one between the 63rd and the 64th.
+static NEW_ENTRY_IN_THE_FIRST_LEAF: [IndexStep; 4] = [
+    IndexStep::InsertRun(0, 128, 2),
+    IndexStep::Insert((125, 125, 125, 1)),
+    IndexStep::RemovePiece(&[], None, Some((125, 125, 125, 1))),
+    IndexStep::RemovePiece(&[], Some((125, 125, 125, 1)), None),
+];
+
+/// The even keys, and one between the 64th and the 65th.
+static NEW_ENTRY_IN_THE_SECOND_LEAF: [IndexStep; 4] = [
+    IndexStep::InsertRun(0, 128, 2),
+    IndexStep::Insert((127, 127, 127, 1)),
+    IndexStep::RemovePiece(&[], None, Some((126, 126, 126, 1))),
+    IndexStep::RemovePiece(&[], Some((126, 126, 126, 1)), None),
+];
+
+#[test]
+fn of_a_full_leaf_and_one_more_the_first_64_stay(rt: HostRuntime) -> Result<(), Fail> {
+    run(rt.alloc(), RootIndex::new(rt.alloc()), &LEAVES_UPWARD)?;
+    run(rt.alloc(), RootIndex::new(rt.alloc()), &LEAVES_DOWNWARD)?;
+    run(
+        rt.alloc(),
+        RootIndex::new(rt.alloc()),
+        &NEW_ENTRY_IN_THE_FIRST_LEAF,
+    )?;
+    run(
+        rt.alloc(),
+        RootIndex::new(rt.alloc()),
+        &NEW_ENTRY_IN_THE_SECOND_LEAF,
     )
 }
 
-/// An index that was given them in no order.
-fn index_of_four(alloc: Global) -> Result<RootIndex, AllocError> {
-    let mut index = RootIndex::new(alloc);
-    let (a, b, c, d) = four();
-    insert_all(&mut index, &[c, a, d, b])?;
-    Ok(index)
-}
+/// Places in no order, and one twice.
+const DEAD: [Tid; 5] = [
+    Tid { page: 130, slot: 1 },
+    Tid { page: 10, slot: 1 },
+    Tid { page: 11, slot: 2 },
+    Tid { page: 64, slot: 1 },
+    Tid { page: 10, slot: 1 },
+];
+
+static PIECES: [IndexStep; 10] = [
+    IndexStep::InsertRun(1, 300, 1),
+    // from the middle of a leaf, and its last entry goes
+    IndexStep::RemovePiece(&DEAD, Some((20, 20, 20, 1)), Some((64, 64, 64, 1))),
+    IndexStep::After(Some((9, 9, 9, 1)), Some((10, 10, 10, 1))),
+    IndexStep::After(Some((63, 63, 63, 1)), Some((65, 65, 65, 1))),
+    // an entry that comes behind is seen by the next piece, and one that comes before is not
+    IndexStep::Insert((64, 64, 64, 1)),
+    IndexStep::RemovePiece(&DEAD, Some((64, 64, 64, 1)), Some((128, 128, 128, 1))),
+    IndexStep::RemovePiece(&DEAD, Some((128, 128, 128, 1)), Some((192, 192, 192, 1))),
+    IndexStep::RemovePiece(&DEAD, Some((192, 192, 192, 1)), None),
+    IndexStep::Count(299),
+    IndexStep::After(Some((129, 129, 129, 1)), Some((131, 131, 131, 1))),
+];
 
 #[test]
-fn what_comes_after(rt: HostRuntime) -> Result<(), AllocError> {
-    let index = index_of_four(rt.alloc())?;
-    let (a, b, c, d) = four();
-    let after = [
-        // those that are there
-        (None, Some(a)),
-        (Some(a), Some(b)),
-        (Some(b), Some(c)),
-        (Some(c), Some(d)),
-        (Some(d), None),
-        // before all, between, and after all
-        (Some(LEAST), Some(a)),
-        (Some(entry(10, 2, 0, 1)), Some(a)),
-        (Some(entry(10, 2, 0, 3)), Some(b)),
-        (Some(entry(29, 9, 9, 9)), Some(d)),
-        (Some(GREATEST), None),
-    ];
-    for (from, next) in after {
-        assert_eq!(rt; next_after(&index, from), next);
-    }
-    Ok(())
+fn a_sweep_goes_on_where_it_came_to(rt: HostRuntime) -> Result<(), Fail> {
+    run(rt.alloc(), RootIndex::new(rt.alloc()), &PIECES)
 }
+
+/// 7919 and 30000 have no common divisor, so each key below 30000 comes once.
+static MIXED: [IndexStep; 5] = [
+    IndexStep::InsertRun(0, 30000, 7919),
+    IndexStep::HoldBelow(30000),
+    IndexStep::After(
+        Some((14999, 14999, 14999, 1)),
+        Some((15000, 15000, 15000, 1)),
+    ),
+    IndexStep::From(29998, 29999, Some((29999, 29999, 29999, 1))),
+    IndexStep::From(29999, 30000, None),
+];
+
+/// More entries than a branch has room for, first from the highest down; then all of most leaves go, and some of others.
+static BRANCHES: [IndexStep; 8] = [
+    IndexStep::InsertShared(20099, 20000, DOWN),
+    IndexStep::InsertRun(0, 200, 1),
+    IndexStep::Count(20200),
+    IndexStep::Remove(&[SHARED]),
+    IndexStep::HoldBelow(200),
+    IndexStep::Insert((200, 200, 7, 7)),
+    IndexStep::After(Some((199, 199, 199, 1)), Some((200, 200, 7, 7))),
+    IndexStep::Count(201),
+];
 
 #[test]
-fn what_comes_from(rt: HostRuntime) -> Result<(), AllocError> {
-    let mut index = index_of_four(rt.alloc())?;
-    let (a, _, c, d) = four();
-    let from = [
-        (i128::MIN, 0, Some(a)),
-        (9, u64::MAX, Some(a)),
-        (10, 2, Some(a)),
-        (10, 3, Some(c)),
-        (10, 4, Some(d)),
-        (30, 1, Some(d)),
-        (30, 2, None),
-        (i128::MAX, u64::MAX, None),
-    ];
-    for (value, key, first) in from {
-        assert_eq!(rt; first_from(&index, value, key), first);
-    }
-    insert(&mut index, GREATEST)?;
-    assert_eq!(rt; first_from(&index, i128::MAX, u64::MAX), Some(GREATEST));
-    Ok(())
-}
-
-/// Removes the entries that lead to dead places, and then these are left.
-fn sweep(rt: &impl Abort, index: &mut RootIndex, dead: &[Tid], left: &[Entry]) {
-    remove(index, dead);
-    assert!(rt; holds(index, left));
-}
-
-#[test]
-fn entries_to_dead_places_go(rt: HostRuntime) -> Result<(), AllocError> {
-    let mut index = RootIndex::new(rt.alloc());
-    let (a, b, c) = (entry(1, 1, 0, 1), entry(2, 2, 0, 2), entry(3, 1, 0, 1));
-    insert_all(&mut index, &[a, b, c])?;
-    sweep(&rt, &mut index, &[], &[a, b, c]);
-    // the same slot of another page, and another slot of the same page
-    let elsewhere = [Tid { page: 1, slot: 1 }, Tid { page: 0, slot: 3 }];
-    sweep(&rt, &mut index, &elsewhere, &[a, b, c]);
-    sweep(&rt, &mut index, &[Tid { page: 0, slot: 1 }], &[b]);
-    sweep(&rt, &mut index, &[Tid { page: 0, slot: 2 }], &[]);
-    insert(&mut index, c)?;
-    assert!(rt; holds(&index, &[c]));
-    Ok(())
-}
-
-/// The entry of this key, of the same value and with one place for all.
-fn of_key(key: u64) -> Entry {
-    entry(i128::from(key), key, 7, 7)
-}
-
-/// The entries of the keys below 1000, which are inserted in no order.
-fn a_thousand(alloc: Global) -> Result<RootIndex, AllocError> {
-    let mut index = RootIndex::new(alloc);
-    // 387 and 1000 have no common divisor, so each key below 1000 comes once
-    for i in 0..1000u64 {
-        insert(&mut index, of_key(i * 387 % 1000))?;
-    }
-    Ok(index)
-}
-
-#[test]
-fn a_thousand_entries_in_no_order_come_out_in_order(rt: HostRuntime) -> Result<(), AllocError> {
-    let index = a_thousand(rt.alloc())?;
-    assert_eq!(rt; count(&index), 1000);
-    let mut last = None;
-    for key in 0..1000u64 {
-        last = next_after(&index, last);
-        assert_eq!(rt; last, Some(of_key(key)));
-        assert_eq!(rt; first_from(&index, i128::from(key), key), last);
-    }
-    assert_eq!(rt; next_after(&index, last), None);
-    Ok(())
-}
-
-/// The entry behind this one, looked for where one stood.
-fn next_by(index: &RootIndex, from: Entry, near: Near) -> Option<Entry> {
-    match next_near(index, from, near) {
-        Some((entry, _)) => Some(entry),
-        None => None,
-    }
-}
-
-/// Whether the entries of the keys below 1000 come one behind another, each looked for where the one before it was found,
-/// and also where the first of all stands.
-fn come_in_turn(index: &RootIndex) -> bool {
-    let mut last = LEAST;
-    let mut near = Near::default();
-    for key in 0..1000u64 {
-        if next_by(index, last, Near::default()) != Some(of_key(key)) {
-            return false;
-        }
-        match next_near(index, last, near) {
-            Some((entry, place)) if entry == of_key(key) => near = place,
-            _ => return false,
-        }
-        last = of_key(key);
-    }
-    next_near(index, last, near).is_none()
-}
-
-/// What comes behind these, where the entry of key 2 stands or stood.
-fn behind(index: &RootIndex, from: [Entry; 4]) -> Option<[Option<Entry>; 4]> {
-    let (_, near) = next_near(index, of_key(1), Near::default())?;
-    Some([
-        next_by(index, from[0], near),
-        next_by(index, from[1], near),
-        next_by(index, from[2], near),
-        next_by(index, from[3], near),
-    ])
-}
-
-#[test]
-fn the_next_is_found_where_one_stood_and_elsewhere(rt: HostRuntime) -> Result<(), AllocError> {
-    let mut index = a_thousand(rt.alloc())?;
-    assert!(rt; come_in_turn(&index));
-    let from = [of_key(2), of_key(1), of_key(998), of_key(999)];
-    let next = [Some(of_key(3)), Some(of_key(2)), Some(of_key(999)), None];
-    same(&rt, behind(&index, from), Some(next));
-    // another one stands there now
-    insert(&mut index, entry(0, 1, 7, 7))?;
-    same(&rt, behind(&index, from), Some(next));
-    Ok(())
-}
-
-/// The entry of this key, of the same value and in the page of this number.
-fn numbered(key: u32) -> Entry {
-    entry(i128::from(key), u64::from(key), key, 1)
-}
-
-/// Whether the index holds the entries of the keys below this one, and no others.
-fn holds_below(index: &RootIndex, limit: u32) -> bool {
-    let mut last = None;
-    for key in 0..limit {
-        last = next_after(index, last);
-        if last != Some(numbered(key)) {
-            return false;
-        }
-    }
-    next_after(index, last).is_none() && count(index) == u64::from(limit)
-}
-
-#[test]
-fn a_full_leaf_is_split(rt: HostRuntime) -> Result<(), AllocError> {
-    let mut upward = RootIndex::new(rt.alloc());
-    let mut downward = RootIndex::new(rt.alloc());
-    for key in 0..300u32 {
-        insert(&mut upward, numbered(key))?;
-        insert(&mut downward, numbered(299 - key))?;
-        if key == 127 || key == 128 {
-            assert!(rt; holds_below(&upward, key + 1));
-            assert_eq!(rt; count(&downward), u64::from(key) + 1);
-            assert_eq!(rt; next_after(&downward, None), Some(numbered(299 - key)));
-        }
-    }
-    assert!(rt; holds_below(&upward, 300));
-    assert!(rt; holds_below(&downward, 300));
-    Ok(())
-}
-
-/// The entries of the keys below 129, but that of this key: a full leaf.
-fn full_but(alloc: Global, place: u32) -> Result<RootIndex, AllocError> {
-    let mut index = RootIndex::new(alloc);
-    for key in 0..129u32 {
-        if key != place {
-            insert(&mut index, numbered(key))?;
-        }
-    }
-    Ok(index)
-}
-
-#[test]
-fn an_entry_goes_to_any_place_of_a_full_leaf(rt: HostRuntime) -> Result<(), AllocError> {
-    for place in [0, 1, 63, 64, 65, 127, 128] {
-        let mut index = full_but(rt.alloc(), place)?;
-        assert_eq!(rt; count(&index), 128);
-        insert(&mut index, numbered(place))?;
-        insert(&mut index, numbered(place))?;
-        assert!(rt; holds_below(&index, 129));
-    }
-    Ok(())
-}
-
-/// The entries of the keys below 30000, which are inserted in mixed order.
-fn thirty_thousand(alloc: Global) -> Result<RootIndex, AllocError> {
-    let mut index = RootIndex::new(alloc);
-    // 7919 and 30000 have no common divisor, so each key below 30000 comes once
-    for i in 0..30000u32 {
-        insert(&mut index, numbered(i * 7919 % 30000))?;
-    }
-    Ok(index)
-}
-
-#[test]
-fn thirty_thousand_entries_in_mixed_order(rt: HostRuntime) -> Result<(), AllocError> {
-    let index = thirty_thousand(rt.alloc())?;
-    assert!(rt; holds_below(&index, 30000));
-    for key in 0..29999u32 {
-        let next = first_from(&index, i128::from(key), u64::from(key) + 1);
-        assert_eq!(rt; next, Some(numbered(key + 1)));
-    }
-    assert_eq!(rt; first_from(&index, 29999, 30000), None);
-    Ok(())
-}
-
-/// More entries than a branch has room for, in one order and in the other.
-#[test]
-fn a_full_branch_is_split(rt: HostRuntime) -> Result<(), AllocError> {
-    let mut upward = RootIndex::new(rt.alloc());
-    let mut downward = RootIndex::new(rt.alloc());
-    for key in 0..20000u32 {
-        insert(&mut upward, numbered(key))?;
-        insert(&mut downward, numbered(19999 - key))?;
-    }
-    assert!(rt; holds_below(&upward, 20000));
-    assert!(rt; holds_below(&downward, 20000));
-    Ok(())
-}
-
-/// Those of one place, of which there are some in each branch, and all of some.
-#[test]
-fn branches_without_entries_go(rt: HostRuntime) -> Result<(), AllocError> {
-    let mut index = RootIndex::new(rt.alloc());
-    for key in 0..20000u32 {
-        insert(&mut index, of_key(u64::from(key) + 100))?;
-    }
-    for key in 0..200u32 {
-        insert(&mut index, numbered(key))?;
-    }
-    assert_eq!(rt; count(&index), 20200);
-    remove(&mut index, &[Tid { page: 7, slot: 7 }]);
-    assert!(rt; holds_below(&index, 200));
-    insert(&mut index, of_key(200))?;
-    assert_eq!(rt; next_after(&index, Some(numbered(199))), Some(of_key(200)));
-    Ok(())
-}
-
-/// The entry of a slot of page 0, with the slot for its value.
-fn of_slot(slot: u16) -> Entry {
-    entry(i128::from(slot), 0, 0, slot)
-}
-
-fn insert_slots(index: &mut RootIndex, from: u16, to: u16) -> Result<(), AllocError> {
-    for slot in from..to {
-        insert(index, of_slot(slot))?;
-    }
-    Ok(())
-}
-
-/// Removes the entries of these slots, one after another.
-fn remove_slots(index: &mut RootIndex, from: u16, to: u16) {
-    for slot in from..to {
-        remove(index, &[Tid { page: 0, slot }]);
-    }
-}
-
-/// The places of the slots from 100 to 399.
-fn middle() -> [Tid; 300] {
-    let mut places = [Tid { page: 0, slot: 0 }; 300];
-    for i in 0..300u16 {
-        places[usize::from(i)].slot = 100 + i;
-    }
-    places
-}
-
-/// The entries of the slots below 500 without those in the middle, which were there.
-fn without_middle(alloc: Global) -> Result<RootIndex, AllocError> {
-    let mut index = RootIndex::new(alloc);
-    insert_slots(&mut index, 0, 500)?;
-    remove(&mut index, &middle());
-    Ok(index)
-}
-
-#[test]
-fn leaves_without_entries_go(rt: HostRuntime) -> Result<(), AllocError> {
-    let mut index = without_middle(rt.alloc())?;
-    assert_eq!(rt; count(&index), 200);
-    assert_eq!(rt; next_after(&index, Some(of_slot(99))), Some(of_slot(400)));
-    assert_eq!(rt; first_from(&index, 100, 0), Some(of_slot(400)));
-    insert_slots(&mut index, 100, 400)?;
-    assert_eq!(rt; count(&index), 500);
-    assert_eq!(rt; next_after(&index, Some(of_slot(99))), Some(of_slot(100)));
-    Ok(())
-}
-
-#[test]
-fn the_last_leaves_go_and_then_the_others(rt: HostRuntime) -> Result<(), AllocError> {
-    let mut index = without_middle(rt.alloc())?;
-    insert_slots(&mut index, 100, 400)?;
-    remove_slots(&mut index, 400, 500);
-    assert_eq!(rt; next_after(&index, Some(of_slot(399))), None);
-    remove_slots(&mut index, 0, 100);
-    assert_eq!(rt; next_after(&index, None), Some(of_slot(100)));
-    sweep(&rt, &mut index, &middle(), &[]);
-    insert(&mut index, of_slot(400))?;
-    assert!(rt; holds(&index, &[of_slot(400)]));
-    Ok(())
-}
-
-/// Inserts the entries of 128 keys, and then two that were promised.
-fn insert_round(rt: &impl Abort, index: &mut RootIndex, round: u16) -> Result<(), AllocError> {
-    let first = u32::from(round) * 1000;
-    for key in 0..128u32 {
-        insert(index, numbered(first + key))?;
-    }
-    promise(index, 2)?;
-    promise(index, 1)?;
-    assert!(rt; insert(index, numbered(first + 200)).is_ok());
-    assert!(rt; insert(index, numbered(first + 300)).is_ok());
-    Ok(())
+fn many_entries(rt: HostRuntime) -> Result<(), Fail> {
+    run(rt.alloc(), RootIndex::new(rt.alloc()), &MIXED)?;
+    run(rt.alloc(), RootIndex::new(rt.alloc()), &BRANCHES)
 }
 
 /// Also where any one allocation fails, the first entry and each split have their leaf.
-#[test]
-fn promised_entries_take_no_memory(rt: HostRuntime) -> Result<(), AllocError> {
-    let mut index = RootIndex::new(rt.alloc());
-    promise(&mut index, 1)?;
-    assert!(rt; insert(&mut index, numbered(0)).is_ok());
-    for round in 0..3u16 {
-        insert_round(&rt, &mut index, round)?;
-    }
-    assert_eq!(rt; count(&index), 390);
-    assert!(rt; promise(&mut index, usize::MAX).is_err());
-    assert_eq!(rt; count(&index), 390);
-    Ok(())
-}
+static PROMISED: [IndexStep; 9] = [
+    IndexStep::MakeRoom(1),
+    IndexStep::Insert((0, 0, 0, 1)),
+    IndexStep::InsertRun(1, 127, 1),
+    IndexStep::MakeRoom(2),
+    IndexStep::MakeRoom(1),
+    IndexStep::Insert((200, 200, 200, 1)),
+    IndexStep::Insert((300, 300, 300, 1)),
+    IndexStep::NoRoomFor(usize::MAX),
+    IndexStep::Count(130),
+];
 
-/// Asserts that the leaves but the last end with these entries: a piece that removes nothing goes as far as its leaf.
-fn leaves_end(rt: &impl Abort, index: &mut RootIndex, lasts: &[Entry]) {
-    let none = dead_set(&[]);
-    let mut from = None;
-    for last in lasts {
-        let progress = remove_where(index, &none, from);
-        same(rt, progress, Progress::More(*last));
-        from = Some(*last);
-    }
-    let progress = remove_where(index, &none, from);
-    same(rt, progress, Progress::Done);
+#[test]
+fn promised_entries_take_no_memory(rt: HostRuntime) -> Result<(), Fail> {
+    run(rt.alloc(), RootIndex::new(rt.alloc()), &PROMISED)
 }
 
 #[test]
-fn of_a_full_leaf_and_one_more_the_first_64_stay(rt: HostRuntime) -> Result<(), AllocError> {
-    let mut upward = RootIndex::new(rt.alloc());
-    for key in 1..301u32 {
-        insert(&mut upward, numbered(key))?;
-    }
-    leaves_end(
-        &rt,
-        &mut upward,
-        &[numbered(64), numbered(128), numbered(192)],
-    );
-    let mut downward = RootIndex::new(rt.alloc());
-    for key in 0..193u32 {
-        insert(&mut downward, numbered(193 - key))?;
-    }
-    leaves_end(&rt, &mut downward, &[numbered(128)]);
-    Ok(())
-}
-
-/// A full leaf of even keys, and then this one.
-fn split_by(alloc: Global, key: u32) -> Result<RootIndex, AllocError> {
-    let mut index = RootIndex::new(alloc);
-    for i in 0..128u32 {
-        insert(&mut index, numbered(2 * i))?;
-    }
-    insert(&mut index, numbered(key))?;
-    Ok(index)
-}
-
-#[test]
-fn the_new_entry_counts_among_the_first(rt: HostRuntime) -> Result<(), AllocError> {
-    let mut below = split_by(rt.alloc(), 125)?;
-    leaves_end(&rt, &mut below, &[numbered(125)]);
-    let mut above = split_by(rt.alloc(), 127)?;
-    leaves_end(&rt, &mut above, &[numbered(126)]);
-    Ok(())
-}
-
-#[test]
-fn a_sweep_goes_on_where_it_came_to(rt: HostRuntime) -> Result<(), AllocError> {
-    let mut index = RootIndex::new(rt.alloc());
-    insert_slots(&mut index, 1, 301)?;
-    let dead = dead_set(&[
-        Tid { page: 0, slot: 130 },
-        Tid { page: 0, slot: 10 },
-        Tid { page: 1, slot: 11 },
-        Tid { page: 0, slot: 64 },
-        Tid { page: 0, slot: 10 },
-    ]);
-    // from the middle of a leaf, and its last entry goes
-    let first = remove_where(&mut index, &dead, Some(of_slot(20)));
-    same(&rt, first, Progress::More(of_slot(64)));
-    same(&rt, next_after(&index, Some(of_slot(9))), Some(of_slot(10)));
-    same(
-        &rt,
-        next_after(&index, Some(of_slot(63))),
-        Some(of_slot(65)),
-    );
-    // an entry that comes behind is seen by the next piece, and one that comes before is not
-    insert(&mut index, of_slot(64))?;
-    let second = remove_where(&mut index, &dead, Some(of_slot(64)));
-    same(&rt, second, Progress::More(of_slot(128)));
-    let third = remove_where(&mut index, &dead, Some(of_slot(128)));
-    same(&rt, third, Progress::More(of_slot(192)));
-    let last = remove_where(&mut index, &dead, Some(of_slot(192)));
-    same(&rt, last, Progress::Done);
-    same(&rt, count(&index), 299);
-    same(
-        &rt,
-        next_after(&index, Some(of_slot(129))),
-        Some(of_slot(131)),
-    );
-    Ok(())
+fn laws(rt: HostRuntime) {
+    RootIndex::new(rt.alloc()).is_ascending();
+    members_determine();
 }

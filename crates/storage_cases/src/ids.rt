@@ -1,24 +1,62 @@
 //! Ids on the circle, which go round.
 
-use crate::calls::{distance, is_normal, law_of_the_circle, next, precedes};
-use xid_circle::{Tid, Xid};
+use xid_circle::{Tid, Xid, distance, next, order_of_giving, precedes};
+
+/// Whether the first of two normal ids precedes the second.
+fn is_before(a: Xid, b: Xid) -> Option<bool> {
+    if a.is_normal() && b.is_normal() {
+        Some(precedes(a, b))
+    } else {
+        None
+    }
+}
+
+/// How far it is from the first of two normal ids to the second.
+fn ahead(a: Xid, b: Xid) -> Option<u32> {
+    if a.is_normal() && b.is_normal() {
+        Some(distance(a, b))
+    } else {
+        None
+    }
+}
+
+/// The id after a normal one.
+fn after(a: Xid) -> Option<Xid> {
+    if a.is_normal() { Some(next(a)) } else { None }
+}
+
+static PAIRS: [(Xid, Xid, Option<bool>, Option<u32>); 7] = [
+    (Xid(4294967295), Xid(3), Some(true), Some(4)),
+    (Xid(4294967294), Xid(3), Some(true), Some(5)),
+    (Xid(3), Xid(4294967295), Some(false), Some(4294967292)),
+    (Xid(3), Xid(2147483650), Some(true), Some(2147483647)),
+    (Xid(2147483650), Xid(3), Some(false), Some(2147483649)),
+    (Xid(3), Xid(3), Some(false), Some(0)),
+    (Xid::FROZEN, Xid(3), None, None),
+];
+
+static NEXT: [(Xid, Option<Xid>); 3] = [
+    (Xid(4294967295), Some(Xid(3))),
+    (Xid(3), Some(Xid(4))),
+    (Xid::FROZEN, None),
+];
 
 #[test]
 fn ids_go_round(rt: HostRuntime) {
-    assert!(rt; precedes(Xid(4294967295), Xid(3)));
-    assert!(rt; !precedes(Xid(3), Xid(4294967295)));
-    assert!(rt; !precedes(Xid(2147483650), Xid(3)));
-    assert!(rt; precedes(Xid(3), Xid(2147483650)));
-    assert_eq!(rt; next(Xid(4294967295)), Xid(3));
-    assert_eq!(rt; next(Xid(3)), Xid(4));
-    assert_eq!(rt; distance(Xid(4294967294), Xid(3)), 5);
-    law_of_the_circle();
+    for (a, b, before, far) in &PAIRS {
+        assert!(rt;
+            is_before(*a, *b) == *before && ahead(*a, *b) == *far,
+            "{a:?} and {b:?}"
+        );
+    }
+    for (a, told) in &NEXT {
+        assert!(rt; after(*a) == *told, "{a:?}");
+    }
 }
 
 #[test]
-fn some_numbers_are_no_ids(rt: HostRuntime) {
-    assert!(rt; is_normal(Xid(3)));
-    assert!(rt; !is_normal(Xid::FROZEN));
+fn laws() {
+    order_of_giving();
 }
 
 #[test]

@@ -5,8 +5,6 @@
 #![tactic(auto)]
 
 #[cfg(test)]
-mod calls;
-#[cfg(test)]
 mod entries;
 #[cfg(test)]
 mod headers;
@@ -18,3 +16,5 @@ mod pages;
 mod slots;
 #[cfg(test)]
 mod statuses;
+#[cfg(test)]
+mod steps;

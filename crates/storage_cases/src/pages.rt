@@ -1,219 +1,270 @@
 //! Pages and the choice of one, reckoned by hand.
 
-use crate::calls::{
-    add, add_page, fill, flag, free_byte_of, make_empty, make_room, page_count, page_for,
-    page_with_room, place_for, room, set_flag, version,
-};
-use heap_pages::{Pages, Place};
+use crate::steps::{Step, run};
+use arrayvec::ArrayVec;
+use heap_pages::{MAX_PAGES, Pages, Place, free_byte};
 use page_slots::Page;
 use std::alloc::{AllocError, Global};
-use std::process::Abort;
+use std::test::Fail;
+use tuple_header::{Header, Row, Tuple};
+use xid_circle::{Tid, Xid};
 
-/// So many pages without versions.
-fn empty_pages(alloc: Global, count: usize) -> Result<Pages, AllocError> {
-    let mut pages = Pages::new(alloc);
-    for _ in 0..count {
-        add_page(&mut pages, Page::new(alloc))?;
+/// The body of the largest version, which takes 1096 bytes, and its pointer 4.
+const LARGEST: usize = 1024;
+
+/// What is done to a table's pages, or asked of them.
+#[derive(Clone, Copy)]
+enum PagesStep {
+    /// So many pages are added, each of which holds so many versions of the largest size.
+    Add(u16, u8),
+    /// Takes the first version from a page.
+    Empty(u32),
+    /// Adds a version of the largest size to a page.
+    Fill(u32),
+    /// Lends a page, and sets its flag.
+    Flag(u32),
+    Count(u32),
+    /// The flag and the free-space byte of a page.
+    Page(u32, Option<(bool, u8)>),
+    /// The first page that promises room for a version of this size.
+    Promises(usize, Option<u32>),
+    /// The first page that has room for it.
+    HasRoom(usize, Option<u32>),
+    /// Where it goes if so many pages may be in use.
+    Goes(usize, u32, Place),
+}
+
+/// A version with a body of so many bytes.
+fn version_of(length: usize) -> Tuple {
+    let mut body = ArrayVec::new();
+    for _ in 0..length {
+        let _ = body.try_push(7);
     }
-    Ok(pages)
-}
-
-/// The flags of the first four pages.
-fn flags(pages: &Pages) -> [Option<bool>; 4] {
-    [
-        flag(pages, 0),
-        flag(pages, 1),
-        flag(pages, 2),
-        flag(pages, 3),
-    ]
-}
-
-#[test]
-fn one_page_is_changed(rt: HostRuntime) -> Result<(), AllocError> {
-    let mut pages = empty_pages(rt.alloc(), 3)?;
-    assert_eq!(rt; page_count(&pages), 3);
-    set_flag(&mut pages, 1);
-    set_flag(&mut pages, 3);
-    let expected = [Some(false), Some(true), Some(false), None];
-    assert_eq!(rt; flags(&pages), expected);
-    Ok(())
-}
-
-#[test]
-fn a_new_table_has_no_page(rt: HostRuntime) {
-    let pages = Pages::new(rt.alloc());
-    assert_eq!(rt; page_count(&pages), 0);
-}
-
-/// Which pages promise room for these sizes, and which have it.
-fn has_room(
-    rt: &impl Abort,
-    pages: &Pages,
-    promised: &[(usize, Option<u32>)],
-    exact: &[(usize, Option<u32>)],
-) {
-    for (size, page) in promised {
-        assert_eq!(rt; page_for(pages, *size), *page);
-    }
-    for (size, page) in exact {
-        assert_eq!(rt; page_with_room(pages, *size), *page);
+    Tuple {
+        header: Header::inserted(Xid(3), Tid { page: 0, slot: 1 }),
+        row: Row {
+            key: 1,
+            cols: [0; 4],
+            body,
+        },
     }
 }
 
-/// Where versions of these sizes go, where so many pages may be in use.
-fn has_places(rt: &impl Abort, pages: &Pages, places: &[(usize, u32, Place)]) {
-    for (size, limit, place) in places {
-        assert_eq!(rt; place_for(pages, *size, *limit), *place);
-    }
-}
-
-/// A page with seven versions.
-fn page_of_seven(rt: &impl Abort, alloc: Global) -> Page {
-    let mut full = Page::new(alloc);
-    for key in 1..8u64 {
-        assert!(rt; add(&mut full, version(key, 1024)).is_ok());
-    }
-    // 8168 - 7 * (1096 + 4) - 4 is 464, which is 14 times 32 and 16 more
-    assert_eq!(rt; room(&full), 464);
-    assert_eq!(rt; free_byte_of(&full), 14);
-    full
-}
-
-#[test]
-fn the_byte_promises_less_than_the_room(rt: HostRuntime) -> Result<(), AllocError> {
-    let mut pages = Pages::new(rt.alloc());
-    let first = [(1096, 1, Place::NewPage), (1096, 0, Place::Nowhere)];
-    has_places(&rt, &pages, &first);
-    add_page(&mut pages, page_of_seven(&rt, rt.alloc()))?;
-    let promised = [(448, Some(0)), (449, None)];
-    has_room(&rt, &pages, &promised, &[(464, Some(0)), (465, None)]);
-    let places = [
-        (448, 2, Place::Page(0)),
-        (456, 2, Place::NewPage),
-        (456, 1, Place::Page(0)),
-        (472, 1, Place::Nowhere),
-    ];
-    has_places(&rt, &pages, &places);
-    Ok(())
-}
-
-#[test]
-fn an_empty_page_promises_most_of_its_room(rt: HostRuntime) -> Result<(), AllocError> {
-    let mut pages = Pages::new(rt.alloc());
-    add_page(&mut pages, page_of_seven(&rt, rt.alloc()))?;
-    // an empty page has room 8164, and 255 times 32 is 8160
-    add_page(&mut pages, Page::new(rt.alloc()))?;
-    let places = [(448, 2, Place::Page(0)), (456, 2, Place::Page(1))];
-    has_places(&rt, &pages, &places);
-    let promised = [(8160, Some(1)), (8161, None)];
-    has_room(&rt, &pages, &promised, &[(8164, Some(1))]);
-    Ok(())
-}
-
-/// A page with one version, which leaves room 8168 - (1096 + 4) - 4 or 7064: 220 times 32, and 24 more.
-fn page_in_use(alloc: Global) -> Result<Page, AllocError> {
+fn page_of(alloc: Global, versions: u8) -> Result<Page, AllocError> {
     let mut page = Page::new(alloc);
-    make_room(&mut page, 1)?;
-    let _ = add(&mut page, version(1, 1024));
+    page.make_room(usize::from(versions))?;
+    for _ in 0..versions {
+        let _ = page.add(version_of(LARGEST));
+    }
     Ok(page)
 }
 
-/// So many pages with one version each.
-fn pages_in_use(alloc: Global, count: usize) -> Result<Pages, AllocError> {
-    let mut pages = Pages::new(alloc);
+fn push(pages: &mut Pages, page: Page) -> Result<(), AllocError> {
+    pages.make_room(1)?;
+    if pages.len() < MAX_PAGES {
+        pages.push_page(page);
+    }
+    Ok(())
+}
+
+fn add(alloc: Global, pages: &mut Pages, count: u16, versions: u8) -> Result<(), AllocError> {
     for _ in 0..count {
-        add_page(&mut pages, page_in_use(alloc)?)?;
+        push(pages, page_of(alloc, versions)?)?;
     }
-    Ok(pages)
-}
-
-#[test]
-fn three_hundred_pages_have_the_room_of_each(rt: HostRuntime) -> Result<(), AllocError> {
-    let pages = pages_in_use(rt.alloc(), 300)?;
-    let promised = [(7040, Some(0)), (7041, None)];
-    has_room(&rt, &pages, &promised, &[(7064, Some(0)), (7065, None)]);
-    let places = [
-        (7041, 301, Place::NewPage),
-        (7041, 300, Place::Page(0)),
-        (7065, 300, Place::Nowhere),
-    ];
-    has_places(&rt, &pages, &places);
     Ok(())
 }
 
-#[test]
-fn a_page_of_the_second_256_is_found(rt: HostRuntime) -> Result<(), AllocError> {
-    let mut pages = pages_in_use(rt.alloc(), 300)?;
-    add_page(&mut pages, Page::new(rt.alloc()))?;
-    let promised = [
-        (7040, Some(0)),
-        (7041, Some(300)),
-        (8160, Some(300)),
-        (8161, None),
-    ];
-    let exact = [
-        (7064, Some(0)),
-        (7065, Some(300)),
-        (8164, Some(300)),
-        (8165, None),
-    ];
-    has_room(&rt, &pages, &promised, &exact);
-    Ok(())
-}
+// Each of these changes the page of a number, if it is in use.
 
-/// Empties these pages one after another, and each is then the first with room.
-fn empty_all(rt: &impl Abort, pages: &mut Pages, numbers: &[u32]) {
-    for number in numbers {
-        make_empty(pages, *number);
-        assert_eq!(rt; page_for(pages, 8000), Some(*number));
+fn empty(pages: &mut Pages, number: u32) {
+    if number < pages.len() {
+        let page = pages.page_mut(number);
+        if page.slots() > 0 {
+            page.set_unused(1);
+        }
     }
 }
 
-/// Fills these pages one after another, and then the other is the first with room.
-fn fill_all(rt: &impl Abort, pages: &mut Pages, numbers: &[(u32, Option<u32>)]) {
-    for (number, next) in numbers {
-        fill(pages, *number);
-        assert_eq!(rt; page_for(pages, 8000), *next);
+fn fill(pages: &mut Pages, number: u32) {
+    if number < pages.len() {
+        let _ = pages.page_mut(number).add(version_of(LARGEST));
     }
 }
 
-#[test]
-fn the_first_page_of_a_256_is_found(rt: HostRuntime) -> Result<(), AllocError> {
-    let mut pages = pages_in_use(rt.alloc(), 514)?;
-    empty_all(&rt, &mut pages, &[513, 512, 511, 256, 255, 0]);
-    let filled = [
-        (0, Some(255)),
-        (255, Some(256)),
-        (256, Some(511)),
-        (511, Some(512)),
-        (512, Some(513)),
-        (513, None),
-    ];
-    fill_all(&rt, &mut pages, &filled);
-    Ok(())
-}
-
-/// Lends these pages one after another, and still page 299 has the room.
-fn lend_all(rt: &impl Abort, pages: &mut Pages, numbers: &[u32]) {
-    for number in numbers {
-        set_flag(pages, *number);
-        assert_eq!(rt; page_for(pages, 8000), Some(299));
-        assert_eq!(rt; page_with_room(pages, 8164), Some(299));
+fn set_flag(pages: &mut Pages, number: u32) {
+    if number < pages.len() {
+        pages.page_mut(number).set_flag(true);
     }
 }
 
+fn page_at(pages: &Pages, number: u32) -> Option<(bool, u8)> {
+    let page = pages.page(number)?;
+    Some((page.flag(), free_byte(page)))
+}
+
+impl PagesStep {
+    /// What of the pages is asked for.
+    fn is_seen(self, pages: &Pages) -> bool {
+        match self {
+            PagesStep::Count(count) => pages.len() == count,
+            PagesStep::Page(number, page) => page_at(pages, number) == page,
+            PagesStep::Promises(size, page) => pages.page_for(size) == page,
+            PagesStep::HasRoom(size, page) => pages.page_with_room(size) == page,
+            PagesStep::Goes(size, limit, place) => pages.place_for(size, limit) == place,
+            _ => false,
+        }
+    }
+}
+
+impl Step for PagesStep {
+    type Subject = Pages;
+
+    fn is_so(&self, alloc: Global, pages: &mut Pages) -> Result<bool, AllocError> {
+        match *self {
+            PagesStep::Add(count, versions) => add(alloc, pages, count, versions)?,
+            PagesStep::Empty(number) => empty(pages, number),
+            PagesStep::Fill(number) => fill(pages, number),
+            PagesStep::Flag(number) => set_flag(pages, number),
+            _ => return Ok(self.is_seen(pages)),
+        }
+        Ok(true)
+    }
+}
+
+static ONE_PAGE_IS_CHANGED: [PagesStep; 9] = [
+    PagesStep::Count(0),
+    PagesStep::Add(3, 0),
+    PagesStep::Count(3),
+    PagesStep::Flag(1),
+    PagesStep::Flag(3),
+    PagesStep::Page(0, Some((false, 255))),
+    PagesStep::Page(1, Some((true, 255))),
+    PagesStep::Page(2, Some((false, 255))),
+    PagesStep::Page(3, None),
+];
+
 #[test]
-fn a_page_gets_room_again(rt: HostRuntime) -> Result<(), AllocError> {
-    let mut pages = pages_in_use(rt.alloc(), 300)?;
-    empty_all(&rt, &mut pages, &[299]);
-    lend_all(&rt, &mut pages, &[5, 270, 299, 6]);
-    fill_all(&rt, &mut pages, &[(299, None)]);
-    set_flag(&mut pages, 5);
-    has_room(&rt, &pages, &[(8000, None)], &[(8000, None)]);
+fn one_page_is_changed(rt: HostRuntime) -> Result<(), Fail> {
+    run(rt.alloc(), Pages::new(rt.alloc()), &ONE_PAGE_IS_CHANGED)
+}
+
+/// The room is 8168 - 7 * (1096 + 4) - 4 or 464, which is 14 times 32 and 16 more. That of an empty page is 8164, and 255
+/// times 32 is 8160.
+static LESS_THAN_THE_ROOM: [PagesStep; 18] = [
+    PagesStep::Goes(1096, 1, Place::NewPage),
+    PagesStep::Goes(1096, 0, Place::Nowhere),
+    PagesStep::Add(1, 7),
+    PagesStep::Page(0, Some((false, 14))),
+    PagesStep::Promises(448, Some(0)),
+    PagesStep::Promises(449, None),
+    PagesStep::HasRoom(464, Some(0)),
+    PagesStep::HasRoom(465, None),
+    PagesStep::Goes(448, 2, Place::Page(0)),
+    PagesStep::Goes(456, 2, Place::NewPage),
+    PagesStep::Goes(456, 1, Place::Page(0)),
+    PagesStep::Goes(472, 1, Place::Nowhere),
+    PagesStep::Add(1, 0),
+    PagesStep::Goes(448, 2, Place::Page(0)),
+    PagesStep::Goes(456, 2, Place::Page(1)),
+    PagesStep::Promises(8160, Some(1)),
+    PagesStep::Promises(8161, None),
+    PagesStep::HasRoom(8164, Some(1)),
+];
+
+#[test]
+fn the_byte_promises_less_than_the_room(rt: HostRuntime) -> Result<(), Fail> {
+    run(rt.alloc(), Pages::new(rt.alloc()), &LESS_THAN_THE_ROOM)
+}
+
+/// One version leaves room 8168 - (1096 + 4) - 4 or 7064: 220 times 32, and 24 more.
+static PAGES_OF_THE_SECOND_256: [PagesStep; 17] = [
+    PagesStep::Add(300, 1),
+    PagesStep::Promises(7040, Some(0)),
+    PagesStep::Promises(7041, None),
+    PagesStep::HasRoom(7064, Some(0)),
+    PagesStep::HasRoom(7065, None),
+    PagesStep::Goes(7041, 301, Place::NewPage),
+    PagesStep::Goes(7041, 300, Place::Page(0)),
+    PagesStep::Goes(7065, 300, Place::Nowhere),
+    PagesStep::Add(1, 0),
+    PagesStep::Promises(7040, Some(0)),
+    PagesStep::Promises(7041, Some(300)),
+    PagesStep::Promises(8160, Some(300)),
+    PagesStep::Promises(8161, None),
+    PagesStep::HasRoom(7064, Some(0)),
+    PagesStep::HasRoom(7065, Some(300)),
+    PagesStep::HasRoom(8164, Some(300)),
+    PagesStep::HasRoom(8165, None),
+];
+
+#[test]
+fn a_page_of_the_second_256_is_found(rt: HostRuntime) -> Result<(), Fail> {
+    run(rt.alloc(), Pages::new(rt.alloc()), &PAGES_OF_THE_SECOND_256)
+}
+
+/// Each page that is emptied is then the first with room, and each that is filled is not.
+static ENDS_OF_A_256: [PagesStep; 25] = [
+    PagesStep::Add(514, 1),
+    PagesStep::Empty(513),
+    PagesStep::Promises(8000, Some(513)),
+    PagesStep::Empty(512),
+    PagesStep::Promises(8000, Some(512)),
+    PagesStep::Empty(511),
+    PagesStep::Promises(8000, Some(511)),
+    PagesStep::Empty(256),
+    PagesStep::Promises(8000, Some(256)),
+    PagesStep::Empty(255),
+    PagesStep::Promises(8000, Some(255)),
+    PagesStep::Empty(0),
+    PagesStep::Promises(8000, Some(0)),
+    PagesStep::Fill(0),
+    PagesStep::Promises(8000, Some(255)),
+    PagesStep::Fill(255),
+    PagesStep::Promises(8000, Some(256)),
+    PagesStep::Fill(256),
+    PagesStep::Promises(8000, Some(511)),
+    PagesStep::Fill(511),
+    PagesStep::Promises(8000, Some(512)),
+    PagesStep::Fill(512),
+    PagesStep::Promises(8000, Some(513)),
+    PagesStep::Fill(513),
+    PagesStep::Promises(8000, None),
+];
+
+#[test]
+fn the_first_page_of_a_256_is_found(rt: HostRuntime) -> Result<(), Fail> {
+    run(rt.alloc(), Pages::new(rt.alloc()), &ENDS_OF_A_256)
+}
+
+/// Pages are lent in turn, which changes what is promised by none.
+static ROOM_AGAIN: [PagesStep; 23] = [
+    PagesStep::Add(300, 1),
+    PagesStep::Empty(299),
+    PagesStep::Promises(8000, Some(299)),
+    PagesStep::Flag(5),
+    PagesStep::Promises(8000, Some(299)),
+    PagesStep::HasRoom(8164, Some(299)),
+    PagesStep::Flag(270),
+    PagesStep::Promises(8000, Some(299)),
+    PagesStep::HasRoom(8164, Some(299)),
+    PagesStep::Flag(299),
+    PagesStep::Promises(8000, Some(299)),
+    PagesStep::Flag(6),
+    PagesStep::Promises(8000, Some(299)),
+    PagesStep::Fill(299),
+    PagesStep::Promises(8000, None),
+    PagesStep::Flag(5),
+    PagesStep::Promises(8000, None),
+    PagesStep::HasRoom(8000, None),
     // the version that was added stands in the slot that was unused
-    make_empty(&mut pages, 299);
-    empty_all(&rt, &mut pages, &[270]);
-    fill(&mut pages, 270);
-    has_places(&rt, &pages, &[(8000, 300, Place::Page(299))]);
-    Ok(())
+    PagesStep::Empty(299),
+    PagesStep::Empty(270),
+    PagesStep::Promises(8000, Some(270)),
+    PagesStep::Fill(270),
+    PagesStep::Goes(8000, 300, Place::Page(299)),
+];
+
+#[test]
+fn a_page_gets_room_again(rt: HostRuntime) -> Result<(), Fail> {
+    run(rt.alloc(), Pages::new(rt.alloc()), &ROOM_AGAIN)
 }
