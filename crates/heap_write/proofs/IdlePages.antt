@@ -10,7 +10,7 @@ use Rattle.page_slots.specs.Slots.{IsNormalAt, version_at}
 use Rattle.commit_status.specs.Window.{Window}
 use Rattle.visibility.specs.Visible.{IsDead}
 use Rattle.heap_pages.specs.View.{PagesView}
-use Rattle.prune.specs.Cutting.{HasDead}
+use Rattle.sound_page.specs.Dead.{HasDead}
 use Rattle.prune.proofs.Idle.{idle-page}
 use Rattle.prune.proofs.Planned.{plan-pruned}
 use Rattle.prune.proofs.Removing.{pruned-removes}

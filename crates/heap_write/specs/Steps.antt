@@ -5,7 +5,7 @@ use Rattle.heap_pages.specs.Choice.{IsPlaceFor}
 use Rattle.heap_write.specs.declared.heap.WriteFault.{WriteFault}
 use Rattle.heap_write.specs.declared.heap.WriteFault.TheVariants as fault
 use Rattle.heap_write.specs.declared.target.Target.{Target}
-use Rattle.prune.specs.Cutting.{HasDead}
+use Rattle.sound_page.specs.Dead.{HasDead}
 use Rattle.heap_write.specs.Heap.{HeapView, page_on}
 use Rattle.heap_write.specs.Growth.{place_of_target}
 use Rattle.heap_write.specs.Writes.{IsFull}

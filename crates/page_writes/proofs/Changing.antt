@@ -10,10 +10,10 @@ use Rattle.tuple_header.specs.declared.version.Header.{Header}
 use Rattle.tuple_header.specs.Marks.{is_heap_only, is_hot_updated}
 use Rattle.commit_status.specs.Window.{Window}
 use Rattle.hot_chain.specs.Chain.{has_aborted, is_replaced}
-use Rattle.prune.specs.Cutting.{link}
-use Rattle.prune.specs.Sound.{SomeNext, SoundPage}
-use Rattle.prune.proofs.Links.{IsLink, link-of}
-use Rattle.prune.proofs.Unseen.{aborted-has}
+use Rattle.sound_page.specs.Links.{link}
+use Rattle.sound_page.specs.Sound.{SomeNext, SoundPage}
+use Rattle.sound_page.proofs.Links.{IsLink, link-of}
+use Rattle.sound_page.proofs.Undone.{aborted-has}
 use Rattle.page_writes.specs.Keeps.{IsMade, IsUntaken}
 use Rattle.page_writes.proofs.Statuses.{successor-from}
 use Rattle.page_writes.proofs.Growth.{IsSameVersion, HadVersion, HasVersion, IsNew, IsNewLink, IsWrite, none-some}

@@ -15,11 +15,11 @@ use Rattle.commit_status.specs.declared.status.Status.TheVariants.{InProgress, C
 use Rattle.commit_status.specs.Window.{Window, IsCommitted, IsAborted, IsInProgress}
 use Rattle.visibility.specs.Visible.{IsFrozen}
 use Rattle.hot_chain.specs.Chain.{has_aborted, is_replaced, is_root_in}
-use Rattle.prune.specs.Cutting.{link, Reaches}
-use Rattle.prune.specs.Sound.{entry_in, entry_of, IsIn, IsTarget, SomeRoot, SomeNext, SoundPage}
-use Rattle.prune.proofs.Links.{link-of}
-use Rattle.prune.proofs.Unseen.{committed-some}
-use Rattle.prune.proofs.CheckLemmas.{plain-root}
+use Rattle.sound_page.specs.Links.{link, Reaches}
+use Rattle.sound_page.specs.Sound.{entry_in, entry_of, IsIn, IsTarget, SomeRoot, SomeNext, SoundPage}
+use Rattle.sound_page.proofs.Links.{link-of}
+use Rattle.sound_page.proofs.Undone.{committed-some}
+use Rattle.sound_page.proofs.SoundChains.{plain-root}
 use Rattle.page_writes.specs.Keeps.{IsMade, KeepsEntries}
 
 -- a version before and after

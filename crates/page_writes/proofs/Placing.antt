@@ -11,7 +11,7 @@ use Rattle.tuple_header.specs.Version.{Version}
 use Rattle.tuple_header.specs.Marks.{is_frozen, is_heap_only, is_hot_updated}
 use Rattle.commit_status.specs.Window.{Window, IsInProgress}
 use Rattle.hot_chain.specs.Chain.{has_aborted, is_replaced}
-use Rattle.prune.specs.Cutting.{link}
+use Rattle.sound_page.specs.Links.{link}
 use Rattle.page_writes.specs.Keeps.{IsMade, IsUntaken}
 use Rattle.page_writes.proofs.Statuses.{successor-from}
 use Rattle.page_writes.proofs.Growth.{IsSameVersion, HasVersion, IsNew, none-some}

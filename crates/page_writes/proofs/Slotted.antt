@@ -11,8 +11,8 @@ use Rattle.tuple_header.specs.declared.version.Row.{Row}
 use Rattle.tuple_header.specs.Marks.{is_heap_only}
 use Rattle.commit_status.specs.Window.{Window, IsActive, place}
 use Rattle.hot_chain.specs.Chain.{has_aborted, is_aborted}
-use Rattle.prune.specs.Cutting.{link}
-use Rattle.prune.specs.Sound.{IsIn, SoundPage}
+use Rattle.sound_page.specs.Links.{link}
+use Rattle.sound_page.specs.Sound.{IsIn, SoundPage}
 use Rattle.page_writes.specs.Headers.{replaced_header, root_header, heap_only_header}
 use Rattle.page_writes.specs.Writes.{replaced_slot, with_replaced, with_root, with_updated}
 use Rattle.page_writes.specs.Keeps.{IsFree, NoNew, NewRoot, NewIn}

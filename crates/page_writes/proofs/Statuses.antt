@@ -20,11 +20,10 @@ use Rattle.commit_status.proofs.Finishing.{finishes-named, finishes-other, finis
 use Rattle.visibility.specs.Visible.{IsFrozen}
 use Rattle.visibility.proofs.Dead.{committed-upto}
 use Rattle.hot_chain.specs.Chain.{has_aborted, is_replaced, next_of}
-use Rattle.prune.specs.Cutting.{link, Reaches}
-use Rattle.prune.specs.Sound.{IsIn, SomeRoot, SomeNext, SoundPage}
-use Rattle.prune.proofs.Links.{IsLink, link-of}
-use Rattle.prune.proofs.Removing.{has-aborted}
-use Rattle.prune.proofs.Unseen.{aborted-has, IsUndoneAt}
+use Rattle.sound_page.specs.Links.{link, Reaches}
+use Rattle.sound_page.specs.Sound.{IsIn, SomeRoot, SomeNext, SoundPage}
+use Rattle.sound_page.proofs.Links.{IsLink, link-of}
+use Rattle.sound_page.proofs.Undone.{has-aborted, aborted-has, IsUndoneAt}
 use Rattle.page_writes.specs.Laws.{DeletedWhatWasMade, AloneDeletedTheirs}
 
 -- a change of statuses and of the horizon

@@ -7,7 +7,7 @@ use Rattle.tuple_header.specs.declared.version.Header.{Header}
 use Rattle.commit_status.specs.Window.{Window, IsCommitted, IsInProgress, IsAborted}
 use Rattle.visibility.specs.Visible.{IsFrozen}
 use Rattle.hot_chain.specs.Chain.{is_root}
-use Rattle.prune.specs.Sound.{IsIn}
+use Rattle.sound_page.specs.Sound.{IsIn}
 
 -- a version that no deleter counts for
 abbrev pub IsUntaken : Window → Header → Type 0

@@ -8,7 +8,7 @@ use Rattle.commit_status.specs.declared.status.Status.TheVariants.{Committed, Ab
 use Rattle.commit_status.specs.Window.{Window, IsWindow, IsActive, IsCommitted, IsAborted, IsUpToNext, turns}
 use Rattle.commit_status.specs.Changes.{Gives, Finishes}
 use Rattle.visibility.specs.Visible.{IsFrozen}
-use Rattle.prune.specs.Sound.{SoundPage}
+use Rattle.sound_page.specs.Sound.{SoundPage}
 use Rattle.page_writes.specs.Writes.{with_replaced, replaced_change, with_root, with_updated}
 use Rattle.page_writes.specs.Keeps.{IsFree, KeepsEntries, NoNew, NewRoot, NewIn}
 

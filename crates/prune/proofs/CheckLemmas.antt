@@ -1,16 +1,15 @@
 -- What a plan that checks is, and does.
-use Rattle.std.proofs.Common.{◌≡◌, ◌↔◌, ℕ, zero, suc, ◌<◌, ◌≤◌, ◌==◌, Bool, true, false, not, IsTrue, List, [], ◌∷◌, length, get_or, Option, Some, None, IsSome, arith, inl, inr, ⊎_elim, sym, ap, ◌∙◌, refl, subst, slice_get}
+use Rattle.std.proofs.Common.{◌≡◌, ◌↔◌, ℕ, zero, suc, ◌<◌, ◌≤◌, ◌==◌, Bool, true, IsTrue, List, [], ◌∷◌, length, get_or, Option, Some, None, IsSome, arith, inl, inr, ⊎_elim, sym, ap, ◌∙◌, refl, subst, slice_get}
 use Rattle.std.specs.Option.{option_and_then, option_map}
 use Rattle.std.proofs.lemmas.Bool.{cases_Bool, eq-eqb, ne_eqb, cond-true, cond-false}
 use Rattle.std.proofs.lemmas.Option.{slice_get_within, get_or_from_slice_get, same_Some}
 use Rattle.page_slots.specs.declared.slot.Slot.{Slot}
 use Rattle.page_slots.specs.View.{PageView}
 use Rattle.page_slots.specs.Slots.{slot_at, version_at, version_of, IsThere}
-use Rattle.page_slots.proofs.SlotLemmas.{slot_at-from_version_at}
 use Rattle.tuple_header.specs.Version.{Version}
 use Rattle.tuple_header.specs.Marks.{is_heap_only}
 use Rattle.commit_status.specs.Window.{Window}
-use Rattle.hot_chain.specs.Chain.{has_aborted, is_root, is_root_in, first_of, IsChain}
+use Rattle.hot_chain.specs.Chain.{has_aborted, is_root, first_of, IsChain}
 use Rattle.prune.specs.declared.action.Action.{Action}
 use Rattle.prune.specs.declared.action.Action.TheVariants as action
 use Rattle.prune.specs.declared.marks.Mark.{Mark}
@@ -22,10 +21,12 @@ use Rattle.prune.specs.Marks.{mark_at, IsMark}
 use Rattle.prune.specs.Checks.{IsFront, HasFront, IsAccounted, Checks}
 use Rattle.prune.specs.Named.{named_at, IsLooseRight}
 use Rattle.prune.proofs.Marking.{held-not_loose}
-use Rattle.prune.proofs.Links.{member-there, member-version}
+use Rattle.sound_page.proofs.Links.{member-there, member-version}
 use Rattle.prune.proofs.Listing.{named-there, applied-slot}
-use Rattle.prune.proofs.ChainPlaces.{place-of, of-not_loose, root-leads, first-normal, chain-first, reaches-places}
+use Rattle.sound_page.proofs.ChainPlaces.{place-of, root-leads, first-normal, chain-first, reaches-places}
+use Rattle.prune.proofs.CutPlaces.{of-not_loose}
 use Rattle.prune.proofs.Removing.{acted-version, by-answer, lost-from, lost-cut, root-cut}
+use Rattle.sound_page.proofs.SoundChains.{plain-root}
 
 pub order-more : (a b low : ℕ) (acts : List (ℕ × Action)) → a ≤ b → AreInOrder a low acts → AreInOrder b low acts
 order-more a b low [] h o = tt
@@ -87,10 +88,6 @@ root-target aborted slots root chain (suc front) (Some k) a c at e =
 
 unused-target : (count : ℕ) (a : Action) → a ≡ action.Unuse → HasTarget count a
 unused-target count a e = subst (HasTarget count) (sym e) tt
-
--- a version that isn't heap-only stands in a root's slot
-pub plain-root : (slots : List Slot) (n : ℕ) (t : Version) → version_at slots n ≡ Some t → is_heap_only t.header ≡ false → is_root slots n ≡ true
-plain-root slots n t at plain = ap is_root_in (slot_at-from_version_at slots n t at) ∙ ap not plain
 
 pub checks-target : (w : Window) (horizon : ℕ) (page : PageView) (change : ℕ) (actions : List (ℕ × Action)) → Checks w horizon page change actions
     → (n : ℕ) (a : Action) → action_of actions n ≡ Some a → HasTarget (length page.slots) a

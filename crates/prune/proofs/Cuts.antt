@@ -11,7 +11,7 @@ use Rattle.tuple_header.specs.Version.{Version}
 use Rattle.tuple_header.specs.declared.version.Header.{Header}
 use Rattle.commit_status.specs.Window.{Window, IsAborted, IsCommitted}
 use Rattle.visibility.specs.Visible.{IsFrozen, IsDead}
-use Rattle.prune.specs.Cutting.{IsDeadAt}
+use Rattle.sound_page.specs.Dead.{IsDeadAt}
 
 -- of the first `front` of a chain
 pub record IsCutFront (w : Window) (horizon : ℕ) (slots : List Slot) (chain : List ℕ) (front cut : ℕ) : Type 0 where

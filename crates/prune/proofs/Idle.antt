@@ -9,11 +9,12 @@ use Rattle.visibility.specs.Visible.{IsDead}
 use Rattle.hot_chain.specs.Chain.{has_aborted, is_root, LeadsTo}
 use Rattle.hot_chain.proofs.Chains.{leads-by, root-there}
 use Rattle.prune.specs.declared.action.Action.TheVariants as action
-use Rattle.prune.specs.Cutting.{HasDead, IsCutCount}
+use Rattle.sound_page.specs.Dead.{HasDead}
+use Rattle.prune.specs.Cutting.{IsCutCount}
 use Rattle.prune.specs.Pruning.{loose_action, chain_action, Does, by_root, by_none, IsPlan}
 use Rattle.prune.specs.Laws.{IsPrunedPage}
 use Rattle.prune.proofs.Removing.{by-answer, lost-from}
-use Rattle.prune.proofs.SoundChains.{chain-exists}
+use Rattle.sound_page.proofs.SoundChains.{chain-exists}
 
 -- a root below a bound whose chain holds the slot, if there is one
 record SomeRoot (aborted : ℕ → Bool) (slots : List Slot) (n : ℕ) : Type 0 where

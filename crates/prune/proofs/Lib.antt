@@ -1,10 +1,10 @@
 pub mod Cuts
 pub mod Marking
-pub mod Links
+pub mod Numbers
 pub mod Roots
 pub mod Listing
 pub mod Planned
-pub mod ChainPlaces
+pub mod CutPlaces
 pub mod Removing
 pub mod Unshared
 pub mod Unseen
@@ -13,7 +13,7 @@ pub mod Fronts
 pub mod CheckLemmas
 pub mod PlanChecks
 pub mod Raising
-pub mod SoundChains
+pub mod Spared
 pub mod SoundAfter
 pub mod Idle
 pub mod Single

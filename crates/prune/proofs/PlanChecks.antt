@@ -16,13 +16,15 @@ use Rattle.hot_chain.specs.Chain.{has_aborted, is_root, first_of, start_in, IsCh
 use Rattle.hot_chain.proofs.Chains.{chain-one, root-there, distinct-places}
 use Rattle.prune.specs.declared.action.Action.{Action}
 use Rattle.prune.specs.declared.action.Action.TheVariants as action
-use Rattle.prune.specs.Cutting.{IsCutCount, NoSharedSlots}
+use Rattle.prune.specs.Cutting.{IsCutCount}
+use Rattle.sound_page.specs.Links.{NoSharedSlots}
 use Rattle.prune.specs.Actions.{action_of}
 use Rattle.prune.specs.Pruning.{root_action, chain_action, IsOf, Does, by_root, by_none, IsPlan}
 use Rattle.prune.specs.Checks.{IsFront, IsAccounted, Checks}
-use Rattle.prune.proofs.Links.{member-there, member-version}
+use Rattle.sound_page.proofs.Links.{member-there, member-version}
 use Rattle.prune.proofs.Listing.{named-there}
-use Rattle.prune.proofs.ChainPlaces.{place-of, at-place, place-in_front, in_front-place, of-one, of-not_loose, root-first, root-plain}
+use Rattle.sound_page.proofs.ChainPlaces.{place-of, at-place, place-in_front, in_front-place, root-first, root-plain}
+use Rattle.prune.proofs.CutPlaces.{of-one, of-not_loose}
 use Rattle.prune.proofs.Unshared.{does-by}
 use Rattle.prune.proofs.Removing.{lost-from}
 

@@ -15,7 +15,7 @@ use Rattle.prune.specs.Actions.{HasTarget, action_of}
 use Rattle.prune.specs.Pruning.{root_action, loose_in, Does, by_root, by_none, IsPlan, IsPruned}
 use Rattle.prune.specs.Marks.{mark_of, mark_at, IsMark, planned}
 use Rattle.prune.specs.Laws.{IsPrunedPage}
-use Rattle.prune.proofs.Links.{member-there}
+use Rattle.sound_page.proofs.Links.{member-there}
 use Rattle.prune.proofs.Listing.{AreListed, applied-slot, applied-count}
 
 planned-held : (w : Window) (slots : List Slot) (n : ℕ) (o : Option Action) → planned w slots n (mark_of o) ≡ o

@@ -13,9 +13,9 @@ use Rattle.prune.specs.declared.action.Action.{Action}
 use Rattle.prune.specs.declared.action.Action.TheVariants as action
 use Rattle.prune.specs.Actions.{is_done, made_by, after_action, applied, AreInOrder, action_of, raised}
 use Rattle.prune.specs.Checks.{IsAccounted, Checks}
-use Rattle.prune.proofs.Links.{member-version}
+use Rattle.sound_page.proofs.Links.{member-version}
 use Rattle.prune.proofs.Listing.{named-there}
-use Rattle.prune.proofs.ChainPlaces.{place-of}
+use Rattle.sound_page.proofs.ChainPlaces.{place-of}
 use Rattle.prune.proofs.Removing.{lost-from}
 use Rattle.prune.proofs.PlanChecks.{own-target}
 

@@ -8,19 +8,21 @@ use Rattle.page_slots.specs.declared.slot.Slot.{Slot}
 use Rattle.page_slots.specs.Slots.{slot_at, version_at, version_of}
 use Rattle.tuple_header.specs.Version.{Version}
 use Rattle.tuple_header.specs.Marks.{is_frozen, is_heap_only}
-use Rattle.commit_status.specs.declared.status.Status.{Status}
-use Rattle.commit_status.specs.declared.status.Status.TheVariants.{InProgress, Committed, Aborted}
-use Rattle.commit_status.specs.Window.{Window, IsAborted, status_of}
+use Rattle.commit_status.specs.Window.{Window, IsAborted}
 use Rattle.visibility.specs.Visible.{IsDead, IsFrozen}
-use Rattle.hot_chain.specs.Chain.{has_aborted, is_aborted, first_of}
+use Rattle.hot_chain.specs.Chain.{has_aborted, first_of}
 use Rattle.hot_chain.proofs.Chains.{root-there}
 use Rattle.prune.specs.declared.action.Action.{Action}
 use Rattle.prune.specs.declared.action.Action.TheVariants as action
-use Rattle.prune.specs.Cutting.{IsCut, Removes, NoSharedSlots}
+use Rattle.prune.specs.Cutting.{IsCut, Removes}
+use Rattle.sound_page.specs.Links.{NoSharedSlots}
 use Rattle.prune.specs.Actions.{made_by, acted}
-use Rattle.prune.specs.Pruning.{root_action, chain_action, loose_in, loose_action, Does, by_root, by_none, IsPruned, lead, KeepsRoots}
-use Rattle.prune.proofs.Links.{version-there}
-use Rattle.prune.proofs.ChainPlaces.{place-in_front, first-normal, chain-first, front-cut, root-leads, at-place}
+use Rattle.prune.specs.Pruning.{root_action, chain_action, loose_in, loose_action, Does, by_root, by_none, IsPruned}
+use Rattle.sound_page.specs.Sound.{lead, KeepsRoots}
+use Rattle.sound_page.proofs.Links.{version-there}
+use Rattle.sound_page.proofs.ChainPlaces.{place-in_front, first-normal, chain-first, root-leads, at-place}
+use Rattle.prune.proofs.CutPlaces.{front-cut}
+use Rattle.sound_page.proofs.Undone.{has-aborted}
 
 -- by whether something is done to a slot
 pub by-answer : {P : Type 0} (o : Option Action) → (o ≡ None → P) → ((a : Action) → o ≡ Some a → P) → P
@@ -51,14 +53,6 @@ pub root-lead : (cut : ℕ) (o : Option ℕ) (a : Action) → root_action cut o 
 root-lead zero o a e = absurd (cc)
 root-lead (suc cut) None a e = let f = same_Some action.Kill a e in ap made_by (sym f)
 root-lead (suc cut) (Some k) a e = let f = same_Some (action.Redirect k) a e in ap made_by (sym f)
-
-aborted-is : (s : Status) → is_aborted s ≡ true → s ≡ Aborted
-aborted-is Aborted e = refl
-aborted-is Committed e = absurd (cc)
-aborted-is InProgress e = absurd (cc)
-
-pub has-aborted : (w : Window) (x : ℕ) → has_aborted w x ≡ true → IsAborted w x
-has-aborted w x e = aborted-is (status_of w x) e
 
 -- a loose slot that goes holds a heap-only version whose maker is aborted
 pub record IsLost (w : Window) (slots : List Slot) (n : ℕ) : Type 0 where

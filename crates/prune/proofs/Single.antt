@@ -11,7 +11,8 @@ use Rattle.tuple_header.specs.Marks.{is_hot_updated}
 use Rattle.commit_status.specs.Window.{Window}
 use Rattle.visibility.specs.Visible.{IsDead}
 use Rattle.hot_chain.specs.Chain.{has_aborted, successor, start_in, first_of, IsChain, IsEnd}
-use Rattle.prune.specs.Cutting.{IsDeadAt, IsCutCount}
+use Rattle.sound_page.specs.Dead.{IsDeadAt}
+use Rattle.prune.specs.Cutting.{IsCutCount}
 use Rattle.prune.specs.Marks.{IsSingle}
 use Rattle.prune.proofs.Cuts.{some-version, dead-there, dead-here}
 

@@ -18,17 +18,21 @@ use Rattle.hot_chain.specs.Chain.{has_aborted, is_replaced, is_made_by, is_root,
 use Rattle.hot_chain.proofs.Chains.{root-there}
 use Rattle.prune.specs.declared.action.Action.{Action}
 use Rattle.prune.specs.declared.action.Action.TheVariants as action
-use Rattle.prune.specs.Cutting.{IsDeadAt, IsCutCount, IsCut, Reaches, link}
+use Rattle.sound_page.specs.Dead.{IsDeadAt}
+use Rattle.prune.specs.Cutting.{IsCutCount, IsCut}
+use Rattle.sound_page.specs.Links.{Reaches, link}
 use Rattle.prune.specs.Actions.{acted, made_by}
 use Rattle.prune.specs.Pruning.{root_action, chain_action, IsOf, Does, by_root, by_none, IsPruned}
-use Rattle.prune.specs.Sound.{entry_in, entry_of, IsIn, IsTarget, SoundPage, KeepsChains}
-use Rattle.prune.proofs.Links.{link-of}
+use Rattle.sound_page.specs.Sound.{entry_in, entry_of, IsIn, IsTarget, SoundPage, KeepsChains}
+use Rattle.sound_page.proofs.Links.{link-of}
 use Rattle.prune.proofs.PlanChecks.{front-target}
-use Rattle.prune.proofs.ChainPlaces.{chain-first, of-one, of-not_loose, reaches-places, front-cut}
+use Rattle.sound_page.proofs.ChainPlaces.{chain-first, reaches-places}
+use Rattle.prune.proofs.CutPlaces.{of-one, of-not_loose, front-cut}
 use Rattle.prune.proofs.Unshared.{same-by_slots}
-use Rattle.prune.proofs.Unseen.{aborted-has}
+use Rattle.sound_page.proofs.Undone.{aborted-has}
 use Rattle.prune.proofs.Removing.{by-answer, chain-cases, lost-from, pruned-removes, pruned-keeps_roots}
-use Rattle.prune.proofs.SoundChains.{chain-exists, exact, uncut-place, entry-root, entry-first, first-entry, sound-unshared, version-kept, pruned-none_dead}
+use Rattle.sound_page.proofs.SoundChains.{chain-exists, exact, entry-root, entry-first, first-entry, sound-unshared}
+use Rattle.prune.proofs.Spared.{uncut-place, version-kept, pruned-none_dead}
 
 -- Links.
 

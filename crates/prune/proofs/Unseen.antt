@@ -1,27 +1,20 @@
 -- No reader sees a version that is cut.
-use Rattle.std.proofs.Common.{◌≡◌, ◌≢◌, ◌⊎◌, ◌↔◌, ℕ, zero, suc, true, false, List, Some, inl, inr, ⊎_elim, sym, ap, ◌∙◌, refl, subst}
+use Rattle.std.proofs.Common.{◌≡◌, ◌⊎◌, ◌↔◌, ℕ, zero, suc, List, Some, inl, inr, ⊎_elim, sym, ◌∙◌, subst}
 use Rattle.std.proofs.lemmas.Option.{same_Some}
 use Rattle.xid_circle.specs.Following.{ReachesIn}
 use Rattle.page_slots.specs.declared.slot.Slot.{Slot}
 use Rattle.page_slots.specs.Slots.{version_at}
 use Rattle.tuple_header.specs.Version.{Version}
-use Rattle.commit_status.specs.declared.status.Status.TheVariants.{InProgress, Committed}
-use Rattle.commit_status.specs.Window.{Window, IsCommitted, IsAborted, status_of}
-use Rattle.snapshot.specs.Snap.{Snap}
-use Rattle.snapshot.proofs.Sights.{past-seen}
+use Rattle.commit_status.specs.Window.{Window, IsCommitted, IsAborted}
 use Rattle.visibility.specs.Visible.{IsFrozen, Reads, VisibleBy, IsDead}
-use Rattle.visibility.proofs.Dead.{committed-upto, aborted-unread}
-use Rattle.hot_chain.specs.Chain.{has_aborted, is_aborted}
-use Rattle.prune.specs.Cutting.{link, IsCut, Removes}
-use Rattle.prune.specs.Readers.{FindsBy, IsReader, IsOpenReader, KeepsFound}
-use Rattle.prune.specs.Sound.{SoundPage}
-use Rattle.prune.proofs.Links.{link-of}
-
-pub record IsUndoneAt (w : Window) (slots : List Slot) (n : ℕ) : Type 0 where
-  pub version : Version
-  pub there : version_at slots n ≡ Some version
-  pub thawed : ¬ IsFrozen version.header
-  pub aborted : IsAborted w version.header.xmin.0
+use Rattle.hot_chain.specs.Chain.{has_aborted}
+use Rattle.sound_page.specs.Links.{link}
+use Rattle.prune.specs.Cutting.{IsCut, Removes}
+use Rattle.sound_page.specs.Readers.{FindsBy, IsReader, KeepsFound}
+use Rattle.sound_page.specs.Sound.{SoundPage}
+use Rattle.sound_page.proofs.Links.{link-of}
+use Rattle.sound_page.proofs.ReaderLemmas.{open-reader}
+use Rattle.sound_page.proofs.Undone.{committed-some, IsUndoneAt, undone-alone}
 
 -- deleted by a committed id that the reader counts
 pub record IsGone (w : Window) (slots : List Slot) (R : ℕ → Type 0) (n : ℕ) : Type 0 where
@@ -29,31 +22,6 @@ pub record IsGone (w : Window) (slots : List Slot) (R : ℕ → Type 0) (n : ℕ
   pub there : version_at slots n ≡ Some version
   pub deleted : IsCommitted w version.header.xmax.0
   pub counted : R version.header.xmax.0
-
-pub aborted-has : (w : Window) (x : ℕ) → IsAborted w x → has_aborted w x ≡ true
-aborted-has w x e = ap is_aborted e
-
--- 0 is no id, so it is not committed
-pub committed-some : (w : Window) (x : ℕ) → IsCommitted w x → x ≢ 0
-committed-some w x done same =
-    let none : status_of w 0 ≡ InProgress = refl in
-    let e : Committed ≡ InProgress = sym done ∙ ap (status_of w) same ∙ none in
-    absurd (cc)
-
--- a link leads to no version whose maker is aborted
-undone-unlinked : (w : Window) (slots : List Slot) (n k : ℕ) → link w slots n ≡ Some k → ¬ IsUndoneAt w slots k
-undone-unlinked w slots n k next u =
-    let l = link-of (has_aborted w) slots n k next in
-    let same : u.version ≡ l.new = same_Some u.version l.new (sym u.there ∙ l.to) in
-    let id : u.version.header.xmin.0 ≡ l.old.header.xmax.0 = ap (λ (v : Version). v.header.xmin.0) same ∙ l.made in
-    let e : has_aborted w l.old.header.xmax.0 ≡ true = ap (has_aborted w) (sym id) ∙ aborted-has w u.version.header.xmin.0 u.aborted in
-    let f : false ≡ true = sym l.live ∙ e in
-    absurd (cc)
-
-undone-alone : (w : Window) (slots : List Slot) (i n k : ℕ) → ReachesIn (link w slots) i n k → IsUndoneAt w slots k → IsUndoneAt w slots n
-undone-alone w slots zero n k same u = subst (IsUndoneAt w slots) (sym same) u
-undone-alone w slots (suc i) n k along u =
-    absurd (undone-unlinked w slots n along.0 along.1 (undone-alone w slots i along.0 k along.2 u))
 
 gone-before : (w : Window) (horizon : ℕ) (slots : List Slot) (R : ℕ → Type 0) (n k : ℕ) → SoundPage w horizon slots → IsReader w horizon slots R
     → link w slots n ≡ Some k → IsGone w slots R k → IsGone w slots R n
@@ -116,13 +84,6 @@ removed-found w horizon slots after R sound removes reader n t = (
 )
 
 -- A snapshot with own ids is such a reader.
-
-pub open-reader : (w : Window) (horizon : ℕ) (slots : List Slot) (s : Snap) (own : List ℕ) → IsOpenReader w horizon slots s own → IsReader w horizon slots (Reads w s own)
-open-reader w horizon slots s own r = record {
-  past = λ x done before. Reads.by_others (past-seen w s horizon x r.window r.snapshot r.horizon_upto (committed-upto w x done) r.low before) done;
-  none_aborted = λ x gone. aborted-unread w s own x r.active gone;
-  in_order = r.in_order;
-}
 
 pub removed-keeps_found : (w : Window) (horizon : ℕ) (slots after : List Slot) → SoundPage w horizon slots → Removes w horizon slots after → KeepsFound w horizon slots after
 removed-keeps_found w horizon slots after sound removes s own r n t =

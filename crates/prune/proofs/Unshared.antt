@@ -8,10 +8,11 @@ use Rattle.commit_status.specs.Window.{Window}
 use Rattle.hot_chain.specs.Chain.{has_aborted, IsChain}
 use Rattle.hot_chain.proofs.Chains.{chain-one}
 use Rattle.prune.specs.declared.action.Action.{Action}
-use Rattle.prune.specs.Cutting.{IsCutCount, NoSharedSlots}
+use Rattle.prune.specs.Cutting.{IsCutCount}
+use Rattle.sound_page.specs.Links.{NoSharedSlots}
 use Rattle.prune.specs.Actions.{acted}
 use Rattle.prune.specs.Pruning.{chain_action, IsOf, Does, by_root, by_none, IsPruned}
-use Rattle.prune.proofs.ChainPlaces.{of-one, of-not_loose}
+use Rattle.prune.proofs.CutPlaces.{of-one, of-not_loose}
 
 not-more : (w : Window) (horizon : ℕ) (slots : List Slot) (chain : List ℕ) (a b : ℕ) → IsCutCount w horizon slots chain a → IsCutCount w horizon slots chain b → ¬ (a < b)
 not-more w horizon slots chain a b x y h = x.none_after (b - 1) (omega arith) (let l = y.within in omega arith) (y.dead (omega arith))

@@ -9,7 +9,7 @@ use Rattle.commit_status.specs.Window.{Window}
 use Rattle.hot_chain.specs.Chain.{has_aborted, is_root, IsChain}
 use Rattle.prune.specs.declared.action.Action.{Action}
 use Rattle.prune.specs.declared.action.Action.TheVariants as action
-use Rattle.prune.specs.Cutting.{IsDeadAt}
+use Rattle.sound_page.specs.Dead.{IsDeadAt}
 use Rattle.prune.specs.Actions.{AreInOrder, action_of}
 use Rattle.prune.specs.Pruning.{root_action, loose_action, IsOf, IsLoose}
 

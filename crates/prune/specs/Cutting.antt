@@ -1,25 +1,13 @@
 -- What pruning cuts: of a chain the front, up to and with the last dead version. (README.HOT, "Pruning"; the manual's
 -- "Heap-Only Tuples": what no transaction can see any more may be taken from the front of a chain, since a reader who sees
 -- a version deleted goes on to the next.)
-use Rattle.std.specs.Prelude.{◌≡◌, ℕ, Bool, ◌-◌, ◌<◌, ◌≤◌, ◌⊎◌, List, length, Option, Some, slice_index}
-use Rattle.xid_circle.specs.Following.{ReachesIn}
+use Rattle.std.specs.Prelude.{◌≡◌, ℕ, ◌-◌, ◌<◌, ◌≤◌, ◌⊎◌, List, length, Some, slice_index}
 use Rattle.page_slots.specs.declared.slot.Slot.{Slot}
 use Rattle.page_slots.specs.Slots.{version_at}
 use Rattle.tuple_header.specs.Version.{Version}
 use Rattle.commit_status.specs.Window.{Window}
-use Rattle.visibility.specs.Visible.{IsDead}
-use Rattle.hot_chain.specs.Chain.{has_aborted, next_of, LeadsTo}
-
--- the slot holds a dead version
-pub record IsDeadAt (w : Window) (horizon : ℕ) (slots : List Slot) (n : ℕ) : Type 0 where
-  pub version : Version
-  pub there : version_at slots n ≡ Some version
-  pub dead : IsDead w horizon version.header
-
--- some slot of the page does
-pub record HasDead (w : Window) (horizon : ℕ) (slots : List Slot) : Type 0 where
-  pub number : ℕ
-  pub dead : IsDeadAt w horizon slots number
+use Rattle.sound_page.specs.Dead.{IsDeadAt}
+use Rattle.sound_page.specs.Links.{link, Reaches}
 
 -- By a chain's list, on any page.
 
@@ -29,20 +17,7 @@ pub record IsCutCount (w : Window) (horizon : ℕ) (slots : List Slot) (chain : 
   pub dead : 0 < cut → IsDeadAt w horizon slots (slice_index chain (cut - 1))
   pub none_after : (j : ℕ) → cut ≤ j → j < length chain → ¬ IsDeadAt w horizon slots (slice_index chain j)
 
--- no slot is in the chains of two roots or redirects
-abbrev pub NoSharedSlots : (ℕ → Bool) → List Slot → Type 0
-NoSharedSlots aborted slots = (a b n : ℕ) → LeadsTo aborted slots a n → LeadsTo aborted slots b n → a ≡ b
-
 -- By links alone: where no chain comes back to itself, this says the same.
-
--- where a chain goes on from a slot
-abbrev pub link : Window → List Slot → ℕ → Option ℕ
-link w slots n = next_of (has_aborted w) slots n
-
--- from n one comes to k
-pub record Reaches (next : ℕ → Option ℕ) (n k : ℕ) : Type 0 where
-  pub turns : ℕ
-  pub along : ReachesIn next turns n k
 
 -- the version in the slot, or a later one along its links, is dead
 pub record IsCut (w : Window) (horizon : ℕ) (slots : List Slot) (n : ℕ) : Type 0 where

@@ -9,11 +9,13 @@ use Rattle.hot_chain.specs.Chain.{has_aborted}
 use Rattle.prune.specs.declared.action.Action.{Action}
 use Rattle.prune.specs.declared.action.Action.TheVariants as action
 use Rattle.prune.specs.Actions.{applied, action_of, raised}
-use Rattle.prune.specs.Cutting.{IsDeadAt, Removes, NoSharedSlots}
+use Rattle.sound_page.specs.Dead.{IsDeadAt}
+use Rattle.prune.specs.Cutting.{Removes}
+use Rattle.sound_page.specs.Links.{NoSharedSlots}
 use Rattle.prune.specs.Pruning.{Does, IsPlan, IsPruned}
 use Rattle.prune.specs.Checks.{Checks}
-use Rattle.prune.specs.Readers.{KeepsFound}
-use Rattle.prune.specs.Sound.{SoundPage, KeepsChains}
+use Rattle.sound_page.specs.Readers.{KeepsFound}
+use Rattle.sound_page.specs.Sound.{SoundPage, KeepsChains}
 
 -- the whole page after pruning: what the plan names is done, and nothing else
 pub record IsPrunedPage (w : Window) (horizon : ℕ) (old new : PageView) : Type 0 where
@@ -44,9 +46,6 @@ SoundStaysSound = (w : Window) (horizon : ℕ) (slots after : List Slot) → Sou
 -- a second pruning changes nothing
 abbrev pub PruningIsDoneOnce : Type 0
 PruningIsDoneOnce = (w : Window) (horizon : ℕ) (slots after again : List Slot) → SoundPage w horizon slots → IsPruned w horizon slots after → IsPruned w horizon after again → again ≡ after
-
-abbrev pub SoundIsUnshared : Type 0
-SoundIsUnshared = (w : Window) (horizon : ℕ) (slots : List Slot) → SoundPage w horizon slots → NoSharedSlots (has_aborted w) slots
 
 -- A plan that checks, whoever made it, removes only what would be cut; so from a sound page it takes nothing that anyone finds.
 abbrev pub CheckedIsNeverSeen : Type 0

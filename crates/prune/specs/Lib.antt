@@ -1,8 +1,6 @@
 pub mod Cutting
 pub mod Actions
 pub mod Pruning
-pub mod Readers
-pub mod Sound
 pub mod Checks
 pub mod Laws
 pub mod Marks

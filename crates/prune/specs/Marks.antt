@@ -7,7 +7,8 @@ use Rattle.hot_chain.specs.Chain.{has_aborted, IsChain}
 use Rattle.prune.specs.declared.action.Action.{Action}
 use Rattle.prune.specs.declared.marks.Mark.{Mark}
 use Rattle.prune.specs.declared.marks.Mark.TheVariants.{Loose, Kept, Goes}
-use Rattle.prune.specs.Cutting.{IsDeadAt, IsCutCount}
+use Rattle.sound_page.specs.Dead.{IsDeadAt}
+use Rattle.prune.specs.Cutting.{IsCutCount}
 use Rattle.prune.specs.Pruning.{IsOf, IsLoose, chain_action, loose_action}
 
 -- all are numbers that a slot may have

@@ -4,7 +4,7 @@
 use Rattle.std.specs.Prelude.{◌≡◌, ◌⊎◌, ℕ, zero, suc, ◌==◌, ◌&&◌, not, Bool, true, false, nat_eq, List, length, take, Option, Some, None, slice_get, if◌then◌else◌, Contains}
 use Rattle.std.specs.List.{list_any}
 use Rattle.page_slots.specs.declared.slot.Slot.{Slot}
-use Rattle.page_slots.specs.declared.slot.Slot.TheVariants.{Redirect, Dead}
+use Rattle.page_slots.specs.declared.slot.Slot.TheVariants.{Redirect}
 use Rattle.page_slots.specs.Slots.{slot_at, header_at, IsThere}
 use Rattle.tuple_header.specs.declared.version.Header.{Header}
 use Rattle.tuple_header.specs.Marks.{is_frozen, is_heap_only}
@@ -67,11 +67,3 @@ pub record IsPrunedSlot (w : Window) (horizon : ℕ) (slots after : List Slot) (
 pub record IsPruned (w : Window) (horizon : ℕ) (slots after : List Slot) : Type 0 where
   pub count : length after ≡ length slots
   pub each : (n : ℕ) → IsThere slots n → IsPrunedSlot w horizon slots after n
-
--- what an index entry leads to stays, or becomes a redirect or dead
-abbrev pub lead : Option ℕ → Slot
-lead None = Dead
-lead (Some k) = Redirect k
-
-abbrev pub KeepsRoots : List Slot → List Slot → Type 0
-KeepsRoots slots after = (n : ℕ) → is_root slots n ≡ true → (slot_at after n ≡ slot_at slots n) ⊎ ((kept : Option ℕ) × (slot_at after n ≡ Some (lead kept)))

@@ -3,10 +3,12 @@
 ghost use Rattle.std.specs.Prelude.{◌≡◌, length, ℕ};
 ghost use Rattle.hot_chain.specs.Chain.{has_aborted};
 ghost use Rattle.prune.specs.Actions.{CanDo, CanApply, after_action, applied};
-ghost use Rattle.prune.specs.Cutting.{Removes, NoSharedSlots, IsDeadAt};
-ghost use Rattle.prune.specs.Pruning.{IsPruned, KeepsRoots};
-ghost use Rattle.prune.specs.Readers.{KeepsFound};
-ghost use Rattle.prune.specs.Sound.{SoundPage};
+ghost use Rattle.prune.specs.Cutting.{Removes};
+ghost use Rattle.sound_page.specs.Links.{NoSharedSlots};
+ghost use Rattle.sound_page.specs.Dead.{IsDeadAt};
+ghost use Rattle.prune.specs.Pruning.{IsPruned};
+ghost use Rattle.sound_page.specs.Sound.{KeepsRoots, SoundPage};
+ghost use Rattle.sound_page.specs.Readers.{KeepsFound};
 ghost use Rattle.prune.specs.Laws.{IsPrunedPage};
 
 use crate::action::{Action, PrunePlan};

@@ -4,7 +4,7 @@ ghost use Rattle.std.specs.Prelude.{◌↔◌, ◌⊎◌, IsTrue, MatchOption};
 ghost use Rattle.xid_circle.specs.Circle.{Precedes};
 ghost use Rattle.commit_status.specs.Window.{IsAborted, IsCommitted};
 ghost use Rattle.visibility.specs.Visible.{IsFrozen};
-ghost use Rattle.prune.specs.Cutting.{IsDeadAt, HasDead};
+ghost use Rattle.sound_page.specs.Dead.{IsDeadAt, HasDead};
 
 use commit_status::{Status, StatusTable};
 use page_slots::Page;

@@ -1,6 +1,6 @@
 //! The laws of pruning. Each function does nothing: its contract is the law.
 
-ghost use Rattle.prune.specs.Laws.{PruningHasOneOutcome, RemovingIsNeverSeen, PruningIsNeverSeen, CheckedIsNeverSeen, CheckedRaises, ChecksAtEitherEnd, NothingDeadStays, SoundIsUnshared, SoundStaysSound, PruningIsDoneOnce};
+ghost use Rattle.prune.specs.Laws.{PruningHasOneOutcome, RemovingIsNeverSeen, PruningIsNeverSeen, CheckedIsNeverSeen, CheckedRaises, ChecksAtEitherEnd, NothingDeadStays, SoundStaysSound, PruningIsDoneOnce};
 
 /// Where no slot is in the chains of two roots, there is one answer for each slot, and one page after pruning.
 pub fn pruning_has_one_outcome()
@@ -30,11 +30,6 @@ pub fn checks_at_either_end()
 /// After pruning a sound page no version on it is dead.
 pub fn nothing_dead_stays()
     ensures { NothingDeadStays }
-{}
-
-/// On a sound page no slot is in the chains of two roots or redirects.
-pub fn sound_is_unshared()
-    ensures { SoundIsUnshared }
 {}
 
 /// A sound page stays sound under pruning, with the same chains as far as they are kept.

@@ -9,9 +9,9 @@
 //! it, and when, [`apply`] does what it names and nothing else, and [`prune`] is the first and the last of these. Where no
 //! version on the page is dead, there is nothing to do, and no chain has to be walked: [`has_dead`] tells.
 //! `specs/Cutting.antt` defines what is cut, by a chain's list on any page and by its links, `specs/Pruning.antt` what
-//! becomes of each slot, `specs/Checks.antt` which plans check, `specs/Sound.antt` and `specs/Readers.antt` on which pages
-//! no reader misses anything. Those who see a page as a list of slots use `Removes` (what goes would be cut), `IsPruned`
-//! (the outcome slot by slot) and the laws, which are contracts of functions that do nothing.
+//! becomes of each slot, `specs/Checks.antt` which plans check; `Sound` and `Readers` of `sound_page`, on which pages no
+//! reader misses anything. Those who see a page as a list of slots use `Removes` (what goes would be cut), `IsPruned` (the
+//! outcome slot by slot) and the laws, which are contracts of functions that do nothing.
 #![tactic(auto)]
 
 mod action;
@@ -29,6 +29,6 @@ pub use dead::has_dead;
 pub use laws::{
     checked_is_never_seen, checked_raises, checks_at_either_end, nothing_dead_stays,
     pruning_has_one_outcome, pruning_is_done_once, pruning_is_never_seen, removing_is_never_seen,
-    sound_is_unshared, sound_stays_sound,
+    sound_stays_sound,
 };
 pub use planning::plan;

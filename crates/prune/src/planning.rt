@@ -4,7 +4,7 @@ ghost use Rattle.std.specs.Prelude.{◌≡◌, ◌<◌, [], length};
 ghost use Rattle.prune.specs.Actions.{CanApply};
 ghost use Rattle.prune.specs.Pruning.{loose_action, IsPlan};
 ghost use Rattle.hot_chain.specs.Chain.{has_aborted};
-ghost use Rattle.prune.specs.Cutting.{NoSharedSlots};
+ghost use Rattle.sound_page.specs.Links.{NoSharedSlots};
 ghost use Rattle.prune.specs.Checks.{Checks};
 ghost use Rattle.prune.specs.Marks.{mark_at, planned};
 

@@ -15,9 +15,11 @@ use Rattle.snapshot.specs.Snap.{Sees, earliest}
 use Rattle.snapshot.proofs.Sights.{past-seen}
 use Rattle.visibility.specs.Visible.{IsDead, IsFrozen}
 use Rattle.hot_chain.specs.Chain.{has_aborted}
-use Rattle.prune.specs.Cutting.{IsCut, IsDeadAt, link}
-use Rattle.prune.proofs.Links.{link-of}
-use Rattle.prune.proofs.Unseen.{aborted-has}
+use Rattle.prune.specs.Cutting.{IsCut}
+use Rattle.sound_page.specs.Dead.{IsDeadAt}
+use Rattle.sound_page.specs.Links.{link}
+use Rattle.sound_page.proofs.Links.{link-of}
+use Rattle.sound_page.proofs.Undone.{aborted-has}
 use Rattle.sound_entries.specs.Pages.{slots_on, version_in}
 use Rattle.heap_write.specs.Heap.{HeapView, slots_of}
 use Rattle.heap_write.specs.Writes.{Prunes}

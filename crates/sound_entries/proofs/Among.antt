@@ -19,8 +19,8 @@ use Rattle.snapshot.specs.Snap.{Snap}
 use Rattle.visibility.specs.Visible.{IsFrozen}
 use Rattle.hot_chain.specs.Chain.{has_aborted, IsChain}
 use Rattle.hot_chain.proofs.Chains.{chain-one}
-use Rattle.prune.proofs.ChainPlaces.{place-of}
-use Rattle.prune.proofs.SoundChains.{in-leads}
+use Rattle.sound_page.proofs.ChainPlaces.{place-of}
+use Rattle.sound_page.proofs.SoundChains.{in-leads}
 use Rattle.root_index.specs.declared.entry.Entry.{Entry}
 use Rattle.root_index.specs.Sets.{IsOf}
 use Rattle.sound_entries.specs.Pages.{slots_on, version_in}

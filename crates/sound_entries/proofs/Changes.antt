@@ -14,12 +14,12 @@ use Rattle.commit_status.specs.Window.{Window, IsActive}
 use Rattle.hot_chain.specs.Chain.{has_aborted, is_root, is_root_in}
 use Rattle.prune.specs.declared.action.Action.{Action}
 use Rattle.prune.specs.Actions.{acted}
-use Rattle.prune.specs.Pruning.{Does, by_root, by_none, IsPruned, loose_in, loose_action, lead}
-use Rattle.prune.specs.Sound.{entry_in, IsIn, SoundPage}
-use Rattle.prune.proofs.Links.{member-version}
-use Rattle.prune.proofs.ChainPlaces.{place-of}
+use Rattle.prune.specs.Pruning.{Does, by_root, by_none, IsPruned, loose_in, loose_action}
+use Rattle.sound_page.specs.Sound.{lead, entry_in, IsIn, SoundPage}
+use Rattle.sound_page.proofs.Links.{member-version}
+use Rattle.sound_page.proofs.ChainPlaces.{place-of}
 use Rattle.prune.proofs.Removing.{pruned-removes}
-use Rattle.prune.proofs.SoundChains.{entry-root}
+use Rattle.sound_page.proofs.SoundChains.{entry-root}
 use Rattle.prune.proofs.SoundAfter.{pruned-sound, pruned-keeps_chains}
 use Rattle.page_writes.specs.Headers.{root_header, heap_only_header, replaced_header}
 use Rattle.page_writes.specs.Writes.{with_root, with_replaced, with_updated}

@@ -16,9 +16,9 @@ use Rattle.snapshot.specs.Snap.{Snap}
 use Rattle.visibility.specs.Visible.{IsVisible}
 use Rattle.hot_chain.specs.Chain.{has_aborted, first_of, start_in, IsChain, NoneSeen, Fetched, IsSeenIn}
 use Rattle.hot_chain.proofs.Chains.{chain-one}
-use Rattle.prune.specs.Sound.{IsIn, SoundPage}
-use Rattle.prune.proofs.ChainPlaces.{place-of, at-place}
-use Rattle.prune.proofs.SoundChains.{in-leads, leads-in}
+use Rattle.sound_page.specs.Sound.{IsIn, SoundPage}
+use Rattle.sound_page.proofs.ChainPlaces.{place-of, at-place}
+use Rattle.sound_page.proofs.SoundChains.{in-leads, leads-in}
 use Rattle.page_writes.proofs.Growth.{none-some}
 use Rattle.root_index.specs.declared.entry.Entry.{Entry}
 use Rattle.sound_entries.specs.Pages.{slots_on, version_in}

@@ -10,11 +10,10 @@ use Rattle.commit_status.specs.Window.{Window, IsWindow, IsActive, IsAborted, Is
 use Rattle.commit_status.specs.Changes.{Gives, Finishes}
 use Rattle.commit_status.proofs.Giving.{gives-status}
 use Rattle.hot_chain.specs.Chain.{has_aborted}
-use Rattle.prune.specs.Cutting.{link}
-use Rattle.prune.specs.Sound.{IsIn}
-use Rattle.prune.proofs.Links.{link-of}
-use Rattle.prune.proofs.Removing.{has-aborted}
-use Rattle.prune.proofs.Unseen.{aborted-has}
+use Rattle.sound_page.specs.Links.{link}
+use Rattle.sound_page.specs.Sound.{IsIn}
+use Rattle.sound_page.proofs.Links.{link-of}
+use Rattle.sound_page.proofs.Undone.{has-aborted, aborted-has}
 use Rattle.page_writes.specs.Laws.{DeletedWhatWasMade, AloneDeletedTheirs}
 use Rattle.page_writes.proofs.Statuses.{successor-from, replaced-live, giving-sound, committing-sound, aborting-sound, later-sound, aborted-other}
 use Rattle.root_index.specs.declared.entry.Entry.{Entry}

@@ -11,7 +11,7 @@ use Rattle.page_slots.specs.declared.slot.Slot.TheVariants.{Unused, Normal, Redi
 use Rattle.page_slots.specs.Slots.{slot_at, version_at}
 use Rattle.commit_status.specs.Window.{Window}
 use Rattle.hot_chain.specs.Chain.{is_root, is_root_in}
-use Rattle.prune.specs.Sound.{IsIn}
+use Rattle.sound_page.specs.Sound.{IsIn}
 use Rattle.root_index.specs.declared.entry.Entry.{Entry}
 use Rattle.root_index.specs.Sets.{Adds, IsOf}
 use Rattle.sound_entries.specs.Pages.{slots_on, slot_in, Puts}

@@ -13,10 +13,10 @@ use Rattle.commit_status.specs.declared.status.Status.TheVariants.{InProgress, C
 use Rattle.commit_status.specs.Window.{Window, IsActive, IsAborted}
 use Rattle.snapshot.specs.Snap.{Snap}
 use Rattle.visibility.specs.Visible.{Reads, VisibleBy, IsVisible}
-use Rattle.prune.specs.Sound.{IsIn, SoundPage, SomeRoot}
-use Rattle.prune.proofs.Links.{SomeVersion, member-version}
-use Rattle.prune.proofs.ChainPlaces.{place-of}
-use Rattle.prune.proofs.SoundChains.{entry-root, in-leads}
+use Rattle.sound_page.specs.Sound.{IsIn, SoundPage, SomeRoot}
+use Rattle.sound_page.proofs.Links.{SomeVersion, member-version}
+use Rattle.sound_page.proofs.ChainPlaces.{place-of}
+use Rattle.sound_page.proofs.SoundChains.{entry-root, in-leads}
 use Rattle.page_writes.proofs.Growth.{entry-normal}
 use Rattle.root_index.specs.declared.entry.Entry.{Entry}
 use Rattle.sound_entries.specs.Pages.{slots_on, version_in}

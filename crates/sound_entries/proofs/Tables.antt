@@ -1,21 +1,16 @@
 -- Tables as lists of pages: none, one page put, one added; and entries that go.
 use Rattle.std.proofs.Common.{◌≡◌, ℕ, ℤ, zero, suc, ◌<◌, true, false, List, [], ◌∷◌, ◌++◌, length, map, Option, Some, None, refl, sym, ap, ◌∙◌, arith, slice_get}
 use Rattle.std.specs.List.{Contains}
-use Rattle.std.proofs.lemmas.Option.{none-some}
 use Rattle.xid_circle.specs.declared.Tid.{Tid}
-use Rattle.tuple_header.specs.Version.{Version}
 use Rattle.tuple_header.specs.declared.version.Row.{Row}
 use Rattle.page_slots.specs.declared.slot.Slot.{Slot}
-use Rattle.page_slots.specs.declared.slot.Slot.TheVariants.{Redirect, Dead}
-use Rattle.page_slots.specs.Slots.{slot_at, version_at}
+use Rattle.page_slots.specs.declared.slot.Slot.TheVariants.{Dead}
+use Rattle.page_slots.specs.Slots.{slot_at}
 use Rattle.commit_status.specs.Window.{Window}
 use Rattle.hot_chain.specs.Chain.{is_root_in}
 use Rattle.page_slots.specs.View.{PageView}
 use Rattle.heap_pages.specs.View.{PagesView, with_page}
 use Rattle.heap_pages.proofs.PageLemmas.{page-with_page, page-with_page_other, page-pushed, page-pushed_other}
-use Rattle.prune.specs.Cutting.{link}
-use Rattle.prune.specs.Sound.{IsIn, SoundPage}
-use Rattle.prune.proofs.Links.{link-of}
 use Rattle.root_index.specs.declared.entry.Entry.{Entry}
 use Rattle.root_index.specs.Sets.{Loses}
 use Rattle.sound_entries.specs.Pages.{slots_on, slot_in, Puts}
@@ -23,6 +18,7 @@ use Rattle.sound_entries.specs.Entries.{IsSound, StaysSound}
 use Rattle.sound_entries.specs.Looking.{slots_of}
 use Rattle.sound_entries.proofs.Going.{stays-same}
 use Rattle.sound_entries.proofs.Fetching.{slots-there, slots-none}
+use Rattle.sound_page.proofs.Empty.{empty-page}
 
 -- The lists.
 
@@ -48,34 +44,6 @@ puts-pushed pages page = record {
 }
 
 -- Nothing.
-
-none-at : {P : Type 0} (n : ℕ) (s : Slot) → slot_at [] n ≡ Some s → P
-none-at zero s at = absurd (none-some s at)
-none-at (suc n) s at = absurd (none-some s at)
-
-no-version : {P : Type 0} (n : ℕ) (t : Version) → version_at [] n ≡ Some t → P
-no-version zero t at = absurd (none-some t at)
-no-version (suc n) t at = absurd (none-some t at)
-
-no-link : {P : Type 0} (w : Window) (n k : ℕ) → link w [] n ≡ Some k → P
-no-link w n k next = let l = link-of _ [] n k next in no-version n l.old l.from
-
-no-chain : {P : Type 0} (w : Window) (root n : ℕ) → IsIn w [] root n → P
-no-chain w zero n i = absurd (none-some i.entry i.leads)
-no-chain w (suc root) n i = absurd (none-some i.entry i.leads)
-
-empty-page : (w : Window) (horizon : ℕ) → SoundPage w horizon []
-empty-page w horizon = record {
-  few = omega arith;
-  made = λ n t at done. no-version n t at;
-  undone = λ n t at thawed gone some. no-version n t at;
-  unfrozen = λ n k u next at. no-link w n k next;
-  whole = λ n t at replaced. no-version n t at;
-  ends = λ n k next back. no-link w n k next;
-  redirects = λ n k at. none-at n (Redirect k) at;
-  owned = λ n t at heap_only. no-version n t at;
-  alone = λ a b n x y. no-chain w a n x;
-}
 
 none-among : {P : Type 0} (e : Entry) → Contains [] e → P
 none-among e there = let below : there.0 < 0 = there.1 in absurd (omega arith)

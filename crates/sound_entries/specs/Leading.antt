@@ -7,7 +7,7 @@ use Rattle.tuple_header.specs.declared.version.Row.{Row}
 use Rattle.page_slots.specs.declared.slot.Slot.{Slot}
 use Rattle.commit_status.specs.Window.{Window, IsAborted}
 use Rattle.visibility.specs.Visible.{IsFrozen}
-use Rattle.prune.specs.Sound.{IsIn}
+use Rattle.sound_page.specs.Sound.{IsIn}
 use Rattle.root_index.specs.declared.entry.Entry.{Entry}
 use Rattle.root_index.specs.Sets.{IsOf}
 use Rattle.sound_entries.specs.Pages.{slots_on, version_in}

@@ -5,7 +5,7 @@ use Rattle.tuple_header.specs.Version.{Version}
 use Rattle.page_slots.specs.declared.slot.Slot.{Slot}
 use Rattle.page_slots.specs.Slots.{slot_at, version_at}
 use Rattle.commit_status.specs.Window.{Window}
-use Rattle.prune.specs.Sound.{SoundPage}
+use Rattle.sound_page.specs.Sound.{SoundPage}
 
 -- the slots of the page of this number; where it is not in use, there are none
 abbrev pub slots_on : List (List Slot) → ℕ → List Slot

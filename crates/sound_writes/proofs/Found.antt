@@ -13,7 +13,8 @@ use Rattle.snapshot.specs.Snap.{Snap}
 use Rattle.visibility.specs.Visible.{Reads, IsVisible}
 use Rattle.visibility.proofs.Dead.{aborted-unread}
 use Rattle.prune.specs.Cutting.{IsCut}
-use Rattle.prune.proofs.Unseen.{cut-unseen, open-reader}
+use Rattle.prune.proofs.Unseen.{cut-unseen}
+use Rattle.sound_page.proofs.ReaderLemmas.{open-reader}
 use Rattle.page_writes.proofs.Slotted.{active-some}
 use Rattle.sound_entries.specs.Pages.{slots_on, version_in}
 use Rattle.heap_write.specs.Heap.{HeapView, slots_of}

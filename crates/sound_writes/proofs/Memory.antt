@@ -6,7 +6,7 @@ use Rattle.commit_status.specs.Window.{Window, status_of}
 use Rattle.commit_status.specs.Window as known
 use Rattle.visibility.specs.Visible.{IsDead}
 use Rattle.prune.specs.Cutting.{IsCut}
-use Rattle.prune.specs.Sound.{SoundPage}
+use Rattle.sound_page.specs.Sound.{SoundPage}
 use Rattle.page_writes.proofs.Statuses.{goes_on-sound}
 use Rattle.heap_write.specs.Heap.{SameIds}
 

@@ -9,7 +9,7 @@ use Rattle.commit_status.specs.Window.{IsGiven}
 use Rattle.snapshot.specs.Snap.{Snap}
 use Rattle.snapshot.specs.Own.{Own}
 use Rattle.visibility.specs.Visible.{IsFrozen, IsVisible}
-use Rattle.prune.specs.Readers.{IsOpenReader}
+use Rattle.sound_page.specs.Readers.{IsOpenReader}
 use Rattle.sound_entries.specs.Pages.{slots_on, version_in}
 use Rattle.heap_write.specs.Heap.{HeapView, slots_of}
 use Rattle.heap_write.specs.Writes.{Inserts, Updates, Deletes, Prunes}

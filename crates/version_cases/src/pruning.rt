@@ -5,8 +5,9 @@ use commit_status::Status;
 use prune::{
     Action, checked_is_never_seen, checked_raises, checks_at_either_end, nothing_dead_stays,
     pruning_has_one_outcome, pruning_is_done_once, pruning_is_never_seen, removing_is_never_seen,
-    sound_is_unshared, sound_stays_sound,
+    sound_stays_sound,
 };
+use sound_page::{empty_page_is_sound, open_readers_are_readers, sound_is_unshared};
 use std::test::Fail;
 
 /// Of versions of which each replaced the one before the first goes, and then the second.
@@ -159,6 +160,12 @@ fn laws() {
     pruning_is_done_once();
     pruning_is_never_seen();
     removing_is_never_seen();
-    sound_is_unshared();
     sound_stays_sound();
+}
+
+#[test]
+fn laws_of_sound_pages() {
+    empty_page_is_sound();
+    open_readers_are_readers();
+    sound_is_unshared();
 }

@@ -4,7 +4,7 @@ use Rattle.prune.proofs.Listing.{applied-flag, applied-spare}
 use Rattle.prune.proofs.Planned.{plan-pruned}
 use Rattle.prune.proofs.Removing.{pruned-removes, pruned-keeps_roots}
 use Rattle.prune.proofs.Unseen.{removed-keeps_found}
-use Rattle.prune.proofs.SoundChains.{pruned-none_dead}
+use Rattle.prune.proofs.Spared.{pruned-none_dead}
 use Rattle.prune.proofs.applying.prune.Goals as goal
 
 pub returns-clause-pruned : goal.returns-clause-pruned

@@ -2,7 +2,7 @@ use Rattle.std.proofs.Common.{length, ◌≤◌, arith, sym, ap, subst}
 use Rattle.prune.specs.Named.{named_at}
 use Rattle.hot_chain.specs.Chain.{has_aborted, IsChain}
 use Rattle.prune.specs.Marks.{AreNumbers}
-use Rattle.prune.proofs.Links.{numbers-from_chain}
+use Rattle.prune.proofs.Numbers.{numbers-from_chain}
 use Rattle.prune.proofs.Fronts.{rest-is, numbers-rest, off-because, front-within_cut, front-right, taken, same-by}
 use Rattle.prune.proofs.checking.has_front.Goals as goal
 

@@ -1,6 +1,6 @@
 use Rattle.std.proofs.Common.{ℕ, ◌<◌}
 use Rattle.commit_status.specs.Window.{IsAborted}
-use Rattle.prune.specs.Cutting.{IsDeadAt}
+use Rattle.sound_page.specs.Dead.{IsDeadAt}
 use Rattle.prune.proofs.dead.has_dead.Given as goal
 
 abbrev pub invariant-loop-number : goal.invariant-loop-number

@@ -1,6 +1,6 @@
 use Rattle.std.proofs.Common.{length, ◌≤◌, refl, arith}
 use Rattle.hot_chain.specs.Chain.{has_aborted}
-use Rattle.prune.proofs.Links.{numbers-from_chain, numbers-take}
+use Rattle.prune.proofs.Numbers.{numbers-from_chain, numbers-take}
 use Rattle.prune.proofs.Marking.{chain-marked}
 use Rattle.prune.proofs.marks.mark_chain.Goals as goal
 

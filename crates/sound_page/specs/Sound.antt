@@ -8,9 +8,8 @@ use Rattle.tuple_header.specs.Marks.{is_heap_only}
 use Rattle.commit_status.specs.Window.{Window, IsCommitted, IsAborted}
 use Rattle.xid_circle.specs.Circle.{Precedes}
 use Rattle.visibility.specs.Visible.{IsFrozen}
-use Rattle.hot_chain.specs.Chain.{has_aborted, is_replaced}
-use Rattle.prune.specs.Cutting.{link, Reaches}
-use Rattle.prune.specs.Pruning.{KeepsRoots}
+use Rattle.hot_chain.specs.Chain.{has_aborted, is_replaced, is_root}
+use Rattle.sound_page.specs.Links.{link, Reaches}
 
 -- where the chain of a root or a redirect begins
 abbrev pub entry_in : ℕ → Option Slot → Option ℕ
@@ -62,6 +61,14 @@ pub record SoundPage (w : Window) (horizon : ℕ) (slots : List Slot) : Type 0 w
   pub owned : (n : ℕ) (t : Version) → version_at slots n ≡ Some t → is_heap_only t.header ≡ true
       → (¬ IsFrozen t.header × IsAborted w t.header.xmin.0) ⊎ SomeRoot w slots n
   pub alone : (a b n : ℕ) → IsIn w slots a n → IsIn w slots b n → a ≡ b
+
+-- what an index entry leads to stays, or becomes a redirect or dead
+abbrev pub lead : Option ℕ → Slot
+lead None = Dead
+lead (Some k) = Redirect k
+
+abbrev pub KeepsRoots : List Slot → List Slot → Type 0
+KeepsRoots slots after = (n : ℕ) → is_root slots n ≡ true → (slot_at after n ≡ slot_at slots n) ⊎ ((kept : Option ℕ) × (slot_at after n ≡ Some (lead kept)))
 
 -- each root or redirect stays one or dies, and its chain is what is left of it
 pub record KeepsChains (w : Window) (slots after : List Slot) : Type 0 where

@@ -1,5 +1,5 @@
 -- The places of a chain.
-use Rattle.std.proofs.Common.{◌≡◌, ℕ, zero, suc, ◌+◌, ◌-◌, ◌<◌, ◌≤◌, Bool, true, false, nat_eq, List, length, take, get_or, not, Option, Some, arith, ⊎_elim, sym, ap, ◌∙◌, refl, subst}
+use Rattle.std.proofs.Common.{◌≡◌, ℕ, zero, suc, ◌+◌, ◌-◌, ◌<◌, ◌≤◌, Bool, true, false, nat_eq, List, length, take, get_or, not, Option, Some, arith, sym, ap, ◌∙◌, refl, subst}
 use Rattle.std.specs.List.{list_any, Contains}
 use Rattle.std.specs.Option.{option_and_then}
 use Rattle.std.proofs.lemmas.List.{length-take-le, get_or-take}
@@ -13,9 +13,8 @@ use Rattle.tuple_header.specs.Marks.{is_heap_only}
 use Rattle.commit_status.specs.Window.{Window}
 use Rattle.hot_chain.specs.Chain.{has_aborted, first_of, start_in, is_root, is_root_in, IsChain, LeadsTo}
 use Rattle.hot_chain.proofs.Chains.{any-place, place-any, contains-any, any-contains}
-use Rattle.prune.specs.Cutting.{IsCutCount, Reaches, link, IsCut, NoSharedSlots}
-use Rattle.prune.specs.Pruning.{IsOf, IsLoose}
-use Rattle.prune.proofs.Links.{link-of, member-version}
+use Rattle.sound_page.specs.Links.{Reaches, link}
+use Rattle.sound_page.proofs.Links.{link-of, member-version}
 
 pub place-of : (q : ℕ) (xs : List ℕ) → Contains xs q → (j : ℕ) × (j < length xs) × (get_or xs j 0 ≡ q)
 place-of q xs c = any-place q xs (contains-any q xs c)
@@ -100,23 +99,6 @@ root-leads aborted slots root n chain c starts holds =
       holds = holds;
     }
 
--- where no slot is in two chains, a slot is of one root alone
-pub of-one : (aborted : ℕ → Bool) (slots : List Slot) (a b n : ℕ) (c d : List ℕ) → NoSharedSlots aborted slots → IsOf aborted slots a c n → IsOf aborted slots b d n → a ≡ b
-of-one aborted slots a b n c d apart x y = ⊎_elim
-    (λ xa. ⊎_elim (λ yb. sym xa ∙ yb) (λ yd. itself a b c d x.starts y (subst (Contains d) xa yd)) y.holds)
-    (λ xc. ⊎_elim (λ yb. sym (itself b a d c y.starts x (subst (Contains c) yb xc)))
-    (λ yd. apart a b n (record { starts = x.starts; chain = c; is_chain = x.is_chain; holds = xc }) (record { starts = y.starts; chain = d; is_chain = y.is_chain; holds = yd })) y.holds)
-    x.holds
-  where
-    itself : (a b : ℕ) (c d : List ℕ) → is_root slots a ≡ true → IsOf aborted slots b d n → Contains d a → a ≡ b
-    itself a b c d starts y holds = apart a b a (root-leads aborted slots b a d y.is_chain starts holds)
-        (record { starts = y.starts; chain = d; is_chain = y.is_chain; holds = holds })
-
-pub of-not_loose : (aborted : ℕ → Bool) (slots : List Slot) (root n : ℕ) (chain : List ℕ) → IsOf aborted slots root chain n → ¬ IsLoose aborted slots n
-of-not_loose aborted slots root n chain o l = ⊎_elim
-    (λ same. let e = ap (is_root slots) same in let s = o.starts in let f = l.no_root in absurd (cc))
-    (λ holds. l.unreached root (record { starts = o.starts; chain = chain; is_chain = o.is_chain; holds = holds })) o.holds
-
 -- From slot to slot.
 
 pub forward : (next : ℕ → Option ℕ) (chain : List ℕ) (i j : ℕ) → ((i : ℕ) → i + 1 < length chain → next (get_or chain i 0) ≡ Some (get_or chain (i + 1) 0))
@@ -136,12 +118,3 @@ pub reaches-places : (w : Window) (slots : List Slot) (n : ℕ) (chain : List �
 reaches-places w slots n chain i k c le within =
     let gap : i + (k - i) ≡ k = omega arith in
     record { turns = k - i; along = subst (λ j. ReachesIn (link w slots) (k - i) (get_or chain i 0) (get_or chain j 0)) gap (forward (link w slots) chain i (k - i) c.linked (omega arith)) }
-
--- what is in the front of a chain that is cut is cut
-pub front-cut : (w : Window) (horizon : ℕ) (slots : List Slot) (n : ℕ) (chain : List ℕ) (cut i : ℕ) → IsChain (has_aborted w) slots n chain
-    → IsCutCount w horizon slots chain cut → i < cut → IsCut w horizon slots (get_or chain i 0)
-front-cut w horizon slots n chain cut i c count h = record {
-  last = get_or chain (cut - 1) 0;
-  later = reaches-places w slots n chain i (cut - 1) c (omega arith) (let l = count.within in omega arith);
-  dead = count.dead (omega arith);
-}

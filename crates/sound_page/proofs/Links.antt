@@ -1,5 +1,5 @@
 -- What a step along a chain tells.
-use Rattle.std.proofs.Common.{◌≡◌, ◌≢◌, ℕ, zero, suc, ◌+◌, ◌<◌, ◌≤◌, Bool, true, false, not, ◌&&◌, ◌==◌, List, length, take, get_or, Option, Some, None, is_some, arith, sym, ap, ◌∙◌, refl, subst, if◌then◌else◌}
+use Rattle.std.proofs.Common.{◌≡◌, ◌≢◌, ℕ, zero, suc, ◌+◌, ◌<◌, Bool, true, false, not, ◌&&◌, ◌==◌, List, length, get_or, Option, Some, None, is_some, arith, sym, ap, ◌∙◌, refl, subst, if◌then◌else◌}
 use Rattle.std.specs.Option.{option_map, option_and_then}
 use Rattle.std.proofs.lemmas.Bool.{and_parts, eqb-true, not-true}
 use Rattle.std.proofs.lemmas.Option.{slice_get-get_or}
@@ -9,8 +9,6 @@ use Rattle.page_slots.specs.Slots.{slot_at, version_at, header_at, version_of, I
 use Rattle.page_slots.proofs.SlotLemmas.{there-from_slot_at, slot_at-from_version_at}
 use Rattle.tuple_header.specs.Version.{Version}
 use Rattle.tuple_header.specs.Marks.{is_hot_updated, is_heap_only}
-use Rattle.std.proofs.lemmas.List.{length-take-le, get_or-take}
-use Rattle.prune.specs.Marks.{AreNumbers}
 use Rattle.hot_chain.specs.Chain.{is_replaced, is_made_by, successor, next_of, start_in, first_of, IsChain}
 
 -- what leads to the next version, and to what
@@ -117,11 +115,3 @@ version-there slots n t e = there-from_slot_at slots n (Normal t) (slot_at-from_
 
 pub member-there : (aborted : ℕ → Bool) (slots : List Slot) (n : ℕ) (chain : List ℕ) (i : ℕ) → IsChain aborted slots n chain → i < length chain → IsThere slots (get_or chain i 0)
 member-there aborted slots n chain i c h = let v = member-version aborted slots n chain i c h in version-there slots (get_or chain i 0) v.version v.there
-
-pub numbers-from_chain : (aborted : ℕ → Bool) (slots : List Slot) (n : ℕ) (chain : List ℕ) → IsChain aborted slots n chain → length slots ≤ 291 → AreNumbers chain
-numbers-from_chain aborted slots n chain c few = λ i h. let there = member-there aborted slots n chain i c h in omega (arith, there.1)
-
-pub numbers-take : (xs : List ℕ) (cut : ℕ) → cut ≤ length xs → AreNumbers xs → AreNumbers (take cut xs)
-numbers-take xs cut within small = λ i h.
-    let long : length (take cut xs) ≡ cut = length-take-le cut xs within in
-    rw (get_or-take cut xs i 0 (omega arith)) (small i (omega arith))

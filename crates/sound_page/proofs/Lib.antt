@@ -1,0 +1,6 @@
+pub mod Links
+pub mod ChainPlaces
+pub mod Undone
+pub mod ReaderLemmas
+pub mod SoundChains
+pub mod Empty

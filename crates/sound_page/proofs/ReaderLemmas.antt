@@ -1,0 +1,16 @@
+-- A snapshot with own ids is a reader.
+use Rattle.std.proofs.Common.{ℕ, List}
+use Rattle.page_slots.specs.declared.slot.Slot.{Slot}
+use Rattle.commit_status.specs.Window.{Window}
+use Rattle.snapshot.specs.Snap.{Snap}
+use Rattle.snapshot.proofs.Sights.{past-seen}
+use Rattle.visibility.specs.Visible.{Reads}
+use Rattle.visibility.proofs.Dead.{committed-upto, aborted-unread}
+use Rattle.sound_page.specs.Readers.{IsReader, IsOpenReader}
+
+pub open-reader : (w : Window) (horizon : ℕ) (slots : List Slot) (s : Snap) (own : List ℕ) → IsOpenReader w horizon slots s own → IsReader w horizon slots (Reads w s own)
+open-reader w horizon slots s own r = record {
+  past = λ x done before. Reads.by_others (past-seen w s horizon x r.window r.snapshot r.horizon_upto (committed-upto w x done) r.low before) done;
+  none_aborted = λ x gone. aborted-unread w s own x r.active gone;
+  in_order = r.in_order;
+}
