@@ -1,12 +1,12 @@
 -- What every run keeps.
-use Rattle.std.proofs.Common.{◌≡◌, ◌≢◌, ℕ, ◌<◌, ◌≤◌, List, [], ◌∷◌, ◌++◌, length, Option, Some, None, refl, sym, ap, ◌∙◌, subst, arith, ◌⊎◌, inl, inr, length-append, append_assoc}
+use Rattle.std.proofs.Common.{◌≡◌, ◌≢◌, ℕ, ◌<◌, ◌≤◌, List, [], ◌∷◌, ◌++◌, length, Bool, Option, Some, None, refl, sym, ap, ◌∙◌, subst, arith, ◌⊎◌, inl, inr, length-append, append_assoc}
 use Rattle.std.specs.Prelude.{IsSome}
 use Rattle.std.specs.Option.{option_map, option_or}
 use Rattle.std.proofs.lemmas.Bool.{cases_eq, cases_lt}
 use Rattle.std.proofs.lemmas.Option.{slice_get_within, same_Some, none-some}
 use Rattle.std.proofs.lemmas.List.{append-nil}
 use Rattle.history.specs.History.{Write, Transaction, written, IsLate}
-use Rattle.history.specs.World.{World, OpenSession, empty, joined, own_write, view, Holds, MayWrite}
+use Rattle.history.specs.World.{World, OpenSession, beginning, joined, own_write, view, Holds, MayWrite}
 use Rattle.history.specs.Moves.{put, change, add_write, with_write, as_failed, with_savepoint, empty_newest, to_savepoint, without_savepoint, without_cursor, aborted, transaction_of, appended, committed_by}
 use Rattle.history.specs.Events.{Happens, passes, begins, inserts, updates, deletes, conflicts, waits, deadlocks, saves, rolls_back_to, releases, commits, aborts, opens_index, opens_heap, opens_keys, takes, takes_keys, closes, Leads, stays, goes_on}
 use Rattle.history.specs.Laws.{FirstCommitterWins, HeldInTime, HeldOnce, Grows, KeepsView}
@@ -25,8 +25,8 @@ pub record MayHold (w : World) (s start key : ℕ) : Type 0 where
   pub in_time : ¬ IsLate w.history start key
   pub unheld : (o : ℕ) → o ≢ s → ¬ Holds w o key
 
-pub Lawful-empty : Lawful empty
-Lawful-empty = record {
+pub Lawful-beginning : (columns : List Bool) → Lawful (beginning columns)
+Lawful-beginning columns = record {
   began = λ s m at. cc;
   in_time = λ s key m at wrote. cc;
   once = λ s o key holds held. absurd (let at = holds.1 in cc);
@@ -177,7 +177,7 @@ Lawful-step {w} {s} (releases m writer saved) h =
     Lawful-change w s without_savepoint m h writer.ready.there refl (λ key wrote. subst (λ ws. IsSome (written ws key)) (joined-join_newest m.levels) wrote)
 Lawful-step {w} {s} (commits m ready) h = Lawful-commit w s m h ready.there
 Lawful-step {w} {s} (aborts m is_open) h = Lawful-aborted w s h
-Lawful-step {w} {s} (opens_index index low high m writer order) h = Lawful-change w s _ m h writer.ready.there refl (λ key wrote. wrote)
+Lawful-step {w} {s} (opens_index index low high m writer there order) h = Lawful-change w s _ m h writer.ready.there refl (λ key wrote. wrote)
 Lawful-step {w} {s} (opens_heap m writer) h = Lawful-change w s _ m h writer.ready.there refl (λ key wrote. wrote)
 Lawful-step {w} {s} (opens_keys low high m writer order) h = Lawful-change w s _ m h writer.ready.there refl (λ key wrote. wrote)
 Lawful-step {w} {s} (takes n rows m c ready there part) h = Lawful-change w s _ m h ready.there refl (λ key wrote. wrote)
@@ -188,6 +188,15 @@ Lawful-step {w} {s} (closes m ready there) h = Lawful-change w s without_cursor 
 pub Lawful-run : {from after : World} → Leads from after → Lawful from → Lawful after
 Lawful-run stays h = h
 Lawful-run (goes_on before after s run step) h = Lawful-step step (Lawful-run run h)
+
+-- no step changes which indexes there are
+indexes-step : {w : World} {s : ℕ} {after : World} → Happens w s after → after.has_index ≡ w.has_index
+indexes-step passes = refl
+indexes-step {w} _ = refl
+
+pub indexes-run : {from after : World} → Leads from after → after.has_index ≡ from.has_index
+indexes-run stays = refl
+indexes-run (goes_on before after s run step) = indexes-step step ∙ indexes-run run
 
 -- each step leaves what has committed as it is
 pub Grows-step : {w : World} {s : ℕ} {after : World} → Happens w s after → Grows w after

@@ -1,5 +1,5 @@
 -- What may happen in a world, step by step, and what comes of it.
-use Rattle.std.specs.Prelude.{◌≡◌, ℕ, ◌<◌, ◌≤◌, List, length, Some, None, IsSome, ℤ, ◌≤ℤ◌}
+use Rattle.std.specs.Prelude.{◌≡◌, ℕ, ◌<◌, ◌≤◌, List, length, Some, None, IsSome, true, ℤ, ◌≤ℤ◌}
 use Rattle.tuple_header.specs.declared.version.Row.{Row}
 use Rattle.history.specs.History.{IsLate}
 use Rattle.history.specs.World.{World, OpenSession, Cursor, view, ClosesRing, IsReady, IsWriter, MayWrite, IsBlocked}
@@ -22,7 +22,7 @@ pub data Happens (w : World) (s : ℕ) : World → Type 0 where
   releases : (m : OpenSession) → IsWriter w s m → 1 < length m.levels → Happens w s (change w s without_savepoint)
   commits : (m : OpenSession) → IsReady w s m → Happens w s (committed_by w s)
   aborts : (m : OpenSession) → w.session s ≡ Some m → Happens w s (aborted w s)
-  opens_index : (index : ℕ) (low high : ℤ) (m : OpenSession) → IsWriter w s m → low ≤ℤ high → Happens w s (change w s (with_index_cursor w.history index low high))
+  opens_index : (index : ℕ) (low high : ℤ) (m : OpenSession) → IsWriter w s m → w.has_index index ≡ true → low ≤ℤ high → Happens w s (change w s (with_index_cursor w.history index low high))
   opens_heap : (m : OpenSession) → IsWriter w s m → Happens w s (change w s (with_heap_cursor w.history))
   opens_keys : (low high : ℤ) (m : OpenSession) → IsWriter w s m → low ≤ℤ high → Happens w s (change w s (with_keys_cursor w.history low high))
   takes : (n : ℕ) (rows : List Row) (m : OpenSession) (c : Cursor) → IsReady w s m → m.cursor ≡ Some c → HandsOut c.order n c.rest rows → Happens w s (change w s (with_taken (keys_of rows)))

@@ -1,5 +1,5 @@
 -- The history and the sessions that are open on it.
-use Rattle.std.specs.Prelude.{◌≡◌, ◌≢◌, ℕ, List, [], ◌∷◌, ◌++◌, Option, Some, None, Bool, false, IsSome}
+use Rattle.std.specs.Prelude.{◌≡◌, ◌≢◌, ℕ, List, [], ◌∷◌, ◌++◌, Option, Some, None, Bool, true, false, IsSome, slice_index_or}
 use Rattle.xid_circle.specs.Following.{ReachesIn}
 use Rattle.tuple_header.specs.declared.version.Row.{Row}
 use Rattle.history.specs.History.{Write, Transaction, written, reading, IsLate}
@@ -24,15 +24,20 @@ pub record OpenSession : Type 0 where
   pub failed : Bool
   pub cursor : Option Cursor
 
--- all that has committed, the sessions that are open, and for whom each waits
+-- all that has committed, the sessions that are open, for whom each waits, and which indexes there are
 pub record World : Type 0 where
   pub history : List Transaction
   pub session : ℕ → Option OpenSession
   pub waits_for : ℕ → Option ℕ
+  pub has_index : ℕ → Bool
 
--- nothing has committed, and no session is open
-abbrev pub empty : World
-empty = record { history = []; session = λ _. None; waits_for = λ _. None }
+-- index 0, by the key, is always there, and index c + 1 where column c is indexed
+abbrev pub is_indexed : List Bool → ℕ → Bool
+is_indexed columns index = slice_index_or (true ∷ columns) index false
+
+-- nothing has committed, no session is open, and these columns are indexed
+abbrev pub beginning : List Bool → World
+beginning columns = record { history = []; session = λ _. None; waits_for = λ _. None; has_index = is_indexed columns }
 
 -- what the levels say together, the oldest write first
 abbrev pub joined : List (List Write) → List Write

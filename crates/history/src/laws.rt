@@ -1,33 +1,33 @@
-//! Laws of every run that begins where nothing has committed and no session is open. Each is the contract of a
-//! function that does nothing.
+//! Laws of every run that begins where nothing has committed and no session is open, whichever columns are indexed. Each is
+//! the contract of a function that does nothing.
 
-ghost use Rattle.std.specs.Prelude.{ℕ, ◌≢◌};
-ghost use Rattle.history.specs.World.{World, empty};
+ghost use Rattle.std.specs.Prelude.{ℕ, ◌≢◌, List, Bool};
+ghost use Rattle.history.specs.World.{World, beginning};
 ghost use Rattle.history.specs.Events.{Happens, Leads};
 ghost use Rattle.history.specs.Laws.{FirstCommitterWins, Grows, HeldInTime, HeldOnce, KeepsView};
 
 /// The first committer wins: of two transactions that wrote one key, the second to commit began after the first had
 /// committed (Berenson et al. 1995, snapshot isolation).
 pub fn first_committer_wins()
-    ensures { (w : World) → Leads empty w → FirstCommitterWins w.history }
+    ensures { (columns : List Bool) (w : World) → Leads (beginning columns) w → FirstCommitterWins w.history }
 {}
 
 /// A key in an open session's levels has not been written by anyone who committed since the session began.
 pub fn held_keys_are_in_time()
-    ensures { (w : World) → Leads empty w → HeldInTime w }
+    ensures { (columns : List Bool) (w : World) → Leads (beginning columns) w → HeldInTime w }
 {}
 
 /// No two open sessions hold one key.
 pub fn keys_are_held_once()
-    ensures { (w : World) → Leads empty w → HeldOnce w }
+    ensures { (columns : List Bool) (w : World) → Leads (beginning columns) w → HeldOnce w }
 {}
 
 /// The history only grows.
 pub fn history_only_grows()
-    ensures { (w : World) (after : World) → Leads empty w → Leads w after → Grows w after }
+    ensures { (columns : List Bool) (w : World) (after : World) → Leads (beginning columns) w → Leads w after → Grows w after }
 {}
 
 /// What a session reads, and all else that is its own, never changes but by its own steps. For whom it waits is kept apart.
 pub fn views_stay()
-    ensures { (w : World) (after : World) (s : ℕ) (other : ℕ) → Leads empty w → Happens w other after → s ≢ other → KeepsView s w after }
+    ensures { (columns : List Bool) (w : World) (after : World) (s : ℕ) (other : ℕ) → Leads (beginning columns) w → Happens w other after → s ≢ other → KeepsView s w after }
 {}

@@ -8,7 +8,7 @@ use Rattle.std.proofs.lemmas.Option.{none-some, same_Some}
 use Rattle.std.proofs.lemmas.Result.{on_err_weaker}
 use Rattle.plain_history.specs.declared.plain.PlainSession.{PlainSession}
 use Rattle.history.specs.History.{Transaction}
-use Rattle.history.specs.World.{OpenSession, World, Cursor, Order}
+use Rattle.history.specs.World.{OpenSession, World, is_indexed, Cursor, Order}
 use Rattle.history.specs.Moves.{stepped, put, change, blocked_by, aborted, transaction_of, appended, committed_by, past, with_taken}
 use Rattle.tuple_header.specs.declared.version.Row.{Row}
 use Rattle.plain_history.specs.declared.cursor.PlainOrder.{PlainOrder}
@@ -24,13 +24,13 @@ use Rattle.history.proofs.Places.{slice_get-set_same, slice_get-set_other}
 use Rattle.plain_history.proofs.Sessions.{session_in-read}
 use Rattle.history.proofs.HistoryLemmas.{at_same, at_other}
 
-abbrev world : List Transaction → (ℕ → Option OpenSession) → (ℕ → Option ℕ) → World
-world history session waits = record { history = history; session = session; waits_for = waits }
+abbrev world : (ℕ → Bool) → List Transaction → (ℕ → Option OpenSession) → (ℕ → Option ℕ) → World
+world indexes history session waits = record { history = history; session = session; waits_for = waits; has_index = indexes }
 
-same_world : (history : List Transaction) (sessions sessions' : ℕ → Option OpenSession) (waits waits' : ℕ → Option ℕ) → ((s : ℕ) → sessions s ≡ sessions' s) → ((s : ℕ) → waits s ≡ waits' s)
-    → world history sessions waits ≡ world history sessions' waits'
-same_world history sessions sessions' waits waits' same same' =
-    ap (λ f. world history f waits) (fun_ext same) ∙ ap (world history sessions') (fun_ext same')
+same_world : (p : Plain) (sessions sessions' : ℕ → Option OpenSession) (waits waits' : ℕ → Option ℕ) → ((s : ℕ) → sessions s ≡ sessions' s) → ((s : ℕ) → waits s ≡ waits' s)
+    → world (is_indexed p.indexed) p.history sessions waits ≡ world (is_indexed p.indexed) p.history sessions' waits'
+same_world p sessions sessions' waits waits' same same' =
+    ap (λ f. world (is_indexed p.indexed) p.history f waits) (fun_ext same) ∙ ap (world (is_indexed p.indexed) p.history sessions') (fun_ext same')
 
 -- one place of the lists
 session_in-set : (sessions : List (Option PlainSession)) (s : ℕ) (x : Option PlainSession) → s < length sessions → (t : ℕ)
@@ -49,16 +49,16 @@ wait_in-set waits s x within t = elim (cases_eq t s) [
 ]
 
 pub world-step : (p : Plain) (s : ℕ) → s < length p.waits → world_of (record p { waits = set p.waits s None }) ≡ stepped (world_of p) s
-world-step p s within = same_world p.history (session_in p.sessions) (session_in p.sessions) (wait_in (set p.waits s None)) (λ t. cond (nat_eq t s) None (wait_in p.waits t))
+world-step p s within = same_world p (session_in p.sessions) (session_in p.sessions) (wait_in (set p.waits s None)) (λ t. cond (nat_eq t s) None (wait_in p.waits t))
     (λ t. refl) (wait_in-set p.waits s None within)
 
 pub world-wait : (p : Plain) (s o : ℕ) → s < length p.waits → world_of (record p { waits = set p.waits s (Some o) }) ≡ blocked_by (world_of p) s o
-world-wait p s o within = same_world p.history (session_in p.sessions) (session_in p.sessions) (wait_in (set p.waits s (Some o))) (λ t. cond (nat_eq t s) (Some o) (wait_in p.waits t))
+world-wait p s o within = same_world p (session_in p.sessions) (session_in p.sessions) (wait_in (set p.waits s (Some o))) (λ t. cond (nat_eq t s) (Some o) (wait_in p.waits t))
     (λ t. refl) (wait_in-set p.waits s (Some o) within)
 
 pub world-put : (p : Plain) (s : ℕ) (x : Option PlainSession) → s < length p.sessions → s < length p.waits
     → world_of (record p { sessions = set p.sessions s x; waits = set p.waits s None }) ≡ put (world_of p) s (option_map open_of x)
-world-put p s x within within' = same_world p.history (session_in (set p.sessions s x)) (λ t. cond (nat_eq t s) (option_map open_of x) (session_in p.sessions t))
+world-put p s x within within' = same_world p (session_in (set p.sessions s x)) (λ t. cond (nat_eq t s) (option_map open_of x) (session_in p.sessions t))
     (wait_in (set p.waits s None)) (λ t. cond (nat_eq t s) None (wait_in p.waits t)) (session_in-set p.sessions s x within) (wait_in-set p.waits s None within')
 
 pub world-change : (p : Plain) (s : ℕ) (x y : Option PlainSession) (f : OpenSession → OpenSession) → s < length p.sessions → s < length p.waits
@@ -71,7 +71,7 @@ pub world-same : (p : Plain) (s : ℕ) (x y : Option PlainSession) → s < lengt
     → option_map open_of y ≡ option_map open_of x → x ≡ get_or p.sessions s x
     → world_of (record p { sessions = set p.sessions s y; waits = set p.waits s None }) ≡ stepped (world_of p) s
 world-same p s x y within within' stays is =
-    same_world p.history (session_in (set p.sessions s y)) (session_in p.sessions) (wait_in (set p.waits s None)) (λ t. cond (nat_eq t s) None (wait_in p.waits t))
+    same_world p (session_in (set p.sessions s y)) (session_in p.sessions) (wait_in (set p.waits s None)) (λ t. cond (nat_eq t s) None (wait_in p.waits t))
     (λ t. session_in-set p.sessions s y within t ∙ unchanged t) (wait_in-set p.waits s None within')
   where
     unchanged : (t : ℕ) → cond (nat_eq t s) (option_map open_of y) (session_in p.sessions t) ≡ session_in p.sessions t

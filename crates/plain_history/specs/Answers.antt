@@ -1,10 +1,10 @@
 -- What the plain program answers, and what comes of it.
-use Rattle.std.specs.Prelude.{[], ◌≡◌, ℕ, ◌≤◌, ◌<◌, List, ◌∷◌, ◌++◌, Option, Some, None, IsSome, true, ◌<ℤ◌, ◌≤ℤ◌, ℤ, length}
+use Rattle.std.specs.Prelude.{[], ◌≡◌, ℕ, ◌≤◌, ◌<◌, List, ◌∷◌, ◌++◌, Option, Some, None, IsSome, true, false, ◌<ℤ◌, ◌≤ℤ◌, ℤ, length}
 use Rattle.std.specs.Option.{option_map}
 use Rattle.tuple_header.specs.declared.version.Row.{Row}
 use Rattle.plain_history.specs.declared.plain.PlainSession.{PlainSession}
 use Rattle.plain_history.specs.declared.refusal.Refused.{Refused}
-use Rattle.plain_history.specs.declared.refusal.Refused.TheVariants.{NoSuchSession, NotOpen, AlreadyOpen, Failed, AlreadyThere, NotThere, Conflict, Busy, Deadlock, CursorOpen, NoCursor, TooDeep, NoSavepoint, BadBounds, NoMemory}
+use Rattle.plain_history.specs.declared.refusal.Refused.TheVariants.{NoSuchSession, NotOpen, AlreadyOpen, Failed, AlreadyThere, NotThere, Conflict, Busy, Deadlock, CursorOpen, NoCursor, TooDeep, NoSavepoint, NoSuchIndex, BadBounds, NoMemory}
 use Rattle.plain_history.specs.declared.refusal.Outcome.{Outcome}
 use Rattle.plain_history.specs.declared.refusal.Outcome.TheVariants.{Committed, RolledBack}
 use Rattle.history.specs.History.{Transaction, IsLate}
@@ -95,6 +95,11 @@ abbrev pub RefusesBounds : World → ℕ → ℤ → ℤ → Refused → Type 0
 RefusesBounds w s low high BadBounds = (m : OpenSession) × IsWriter w s m × (high <ℤ low)
 RefusesBounds w s low high why = RefusesWriter w s why
 
+abbrev pub RefusesIndex : World → ℕ → ℕ → ℤ → ℤ → Refused → Type 0
+RefusesIndex w s index low high NoSuchIndex = (m : OpenSession) × IsWriter w s m × (w.has_index index ≡ false)
+RefusesIndex w s index low high BadBounds = (m : OpenSession) × IsWriter w s m × (w.has_index index ≡ true) × (high <ℤ low)
+RefusesIndex w s index low high why = RefusesWriter w s why
+
 abbrev pub RefusesNext : World → ℕ → Refused → Type 0
 RefusesNext w s NoCursor = (m : OpenSession) × IsReady w s m × (m.cursor ≡ None)
 RefusesNext w s why = RefusesReady w s why
@@ -141,6 +146,9 @@ MayOpen w s = (m : OpenSession) × IsWriter w s m
 
 abbrev pub MayOpenWithin : World → ℕ → ℤ → ℤ → Type 0
 MayOpenWithin w s low high = (m : OpenSession) × IsWriter w s m × (low ≤ℤ high)
+
+abbrev pub MayOpenIndex : World → ℕ → ℕ → ℤ → ℤ → Type 0
+MayOpenIndex w s index low high = (m : OpenSession) × IsWriter w s m × (w.has_index index ≡ true) × (low ≤ℤ high)
 
 abbrev pub HasCursor : World → ℕ → Type 0
 HasCursor w s = (m : OpenSession) × IsReady w s m × IsSome m.cursor

@@ -1,5 +1,5 @@
 -- The world that the plain program's lists stand for.
-use Rattle.std.specs.Prelude.{ℕ, List, ◌∷◌, Option, IfSome, ◌≡◌, slice_get}
+use Rattle.std.specs.Prelude.{ℕ, Bool, List, ◌∷◌, Option, IfSome, ◌≡◌, slice_get}
 use Rattle.std.specs.Option.{option_map, option_flatten}
 use Rattle.tuple_header.specs.declared.version.Row.{Row}
 use Rattle.plain_history.specs.declared.cursor.PlainOrder.{PlainOrder}
@@ -7,12 +7,13 @@ use Rattle.plain_history.specs.declared.cursor.PlainOrder.TheVariants.{Index, He
 use Rattle.plain_history.specs.Order.{KeptCursor, row_in}
 use Rattle.plain_history.specs.declared.plain.PlainSession.{PlainSession}
 use Rattle.history.specs.History.{Transaction}
-use Rattle.history.specs.World.{World, OpenSession, Cursor, Order, by_index, by_heap, by_keys}
+use Rattle.history.specs.World.{World, is_indexed, OpenSession, Cursor, Order, by_index, by_heap, by_keys}
 
 pub record Plain : Type 0 where
   pub history : List Transaction
   pub sessions : List (Option PlainSession)
   pub waits : List (Option ℕ)
+  pub indexed : List Bool
 
 abbrev pub order_of : PlainOrder → Order
 order_of (Index index) = by_index index
@@ -41,4 +42,4 @@ abbrev pub wait_in : List (Option ℕ) → ℕ → Option ℕ
 wait_in waits s = option_flatten (slice_get waits s)
 
 abbrev pub world_of : Plain → World
-world_of p = record { history = p.history; session = session_in p.sessions; waits_for = wait_in p.waits }
+world_of p = record { history = p.history; session = session_in p.sessions; waits_for = wait_in p.waits; has_index = is_indexed p.indexed }

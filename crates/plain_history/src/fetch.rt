@@ -5,7 +5,7 @@ ghost use Rattle.std.specs.Option.{option_map};
 ghost use Rattle.history.specs.World.{OpenSession};
 ghost use Rattle.history.specs.Moves.{change, stepped, with_index_cursor, with_heap_cursor, with_keys_cursor, without_cursor};
 ghost use Rattle.plain_history.specs.Plain.{open_of, world_of};
-ghost use Rattle.plain_history.specs.Answers.{after_refusal, OrMemory, Becomes, Stays, RefusesWriter, RefusesBounds, RefusesNext, MayOpen, MayOpenWithin, HasCursor, HandsFrom, HandsOn, HandsBy, HasLeft, MayHandOut, opens};
+ghost use Rattle.plain_history.specs.Answers.{after_refusal, OrMemory, Becomes, Stays, RefusesWriter, RefusesBounds, RefusesIndex, RefusesNext, MayOpen, MayOpenWithin, MayOpenIndex, HasCursor, HandsFrom, HandsOn, HandsBy, HasLeft, MayHandOut, opens};
 
 use crate::cursor::{Bounds, PlainCursor, PlainOrder, rows_of};
 use crate::plain::{PlainHistory, PlainSession, PlainTransaction};
@@ -69,6 +69,24 @@ impl PlainHistory {
         }
     }
 
+    fn check_index(&self, s: u8, index: u8, low: i128, high: i128) -> Result<(), Refused>
+        ensures ok { OnOk result (MayOpenIndex (world_of self.now) s index low high) }
+        ensures err { IfErr result (λ why. RefusesIndex (world_of self.now) s index low high why) }
+    {
+        match self.writer(s) {
+            Ok(_) => {
+                if !self.has_index(index) {
+                    Err(Refused::NoSuchIndex)
+                } else if high < low {
+                    Err(Refused::BadBounds)
+                } else {
+                    Ok(())
+                }
+            }
+            Err(why) => Err(why),
+        }
+    }
+
     fn check_cursor(&self, s: u8) -> Result<(), Refused>
         ensures ok { OnOk result (HasCursor (world_of self.now) s) }
         ensures err { IfErr result (λ why. RefusesNext (world_of self.now) s why) }
@@ -97,13 +115,13 @@ impl PlainHistory {
     }
 
     /// Opens a cursor over the rows whose value in the index lies from low to high, in order of value and key. Index 0
-    /// orders by the key, index c + 1 by column c. Refusals in order: NoSuchSession, NotOpen, Failed, CursorOpen, BadBounds,
-    /// NoMemory.
+    /// orders by the key, index c + 1 by column c. Refusals in order: NoSuchSession, NotOpen, Failed, CursorOpen, NoSuchIndex,
+    /// BadBounds, NoMemory.
     pub fn open_index(&mut self, s: u8, index: u8, low: i128, high: i128) -> Result<(), Refused>
-        ensures done { OnOk result (MayOpenWithin (world_of self.old) s low high × (world_of self.new ≡ change (world_of self.old) s (with_index_cursor self.old.history index low high))) }
-        ensures refused { IfErr result (λ why. OrMemory why (MayOpenWithin (world_of self.old) s low high) (RefusesBounds (world_of self.old) s low high why) × (world_of self.new ≡ after_refusal (world_of self.old) s why)) }
+        ensures done { OnOk result (MayOpenIndex (world_of self.old) s index low high × (world_of self.new ≡ change (world_of self.old) s (with_index_cursor self.old.history index low high))) }
+        ensures refused { IfErr result (λ why. OrMemory why (MayOpenIndex (world_of self.old) s index low high) (RefusesIndex (world_of self.old) s index low high why) × (world_of self.new ≡ after_refusal (world_of self.old) s why)) }
     {
-        match self.check_bounds(s, low, high) {
+        match self.check_index(s, index, low, high) {
             Ok(()) => match self.open(s, PlainOrder::Index(index), Bounds::Within(low, high)) {
                 Ok(()) => Ok(()),
                 Err(_) => Err(Refused::NoMemory),

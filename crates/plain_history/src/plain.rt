@@ -1,7 +1,7 @@
 //! The plain program's state: the history and the sessions as lists.
 
 ghost use Rattle.std.specs.Prelude.{◌≡◌, [], ◌∷◌, ◌++◌, OnOk, OnErr, IfOk};
-ghost use Rattle.history.specs.World.{empty};
+ghost use Rattle.history.specs.World.{beginning};
 ghost use Rattle.history.specs.Moves.{without_savepoint};
 ghost use Rattle.plain_history.specs.Plain.{open_of, world_of};
 
@@ -77,6 +77,7 @@ pub struct PlainHistory {
     // A place for each number of a u8, of which 0 to 63 are ever taken.
     pub(crate) sessions: Vec<Option<PlainSession>>,
     pub(crate) waits: Vec<Option<u8>>,
+    pub(crate) indexed: [bool; 4],
 }
 
 impl Model for PlainHistory {
@@ -85,7 +86,7 @@ impl Model for PlainHistory {
 
     ghost Value = { Plain };
 
-    ghost view = { λ p. record { history = p.history.items; sessions = p.sessions.items; waits = p.waits.items } };
+    ghost view = { λ p. record { history = p.history.items; sessions = p.sessions.items; waits = p.waits.items; indexed = p.indexed } };
 
     ghost invariant = { λ p. (length p.sessions.items ≡ 256) × (length p.waits.items ≡ 256) };
 }
@@ -140,9 +141,10 @@ impl PlainSession {
 }
 
 impl PlainHistory {
-    /// Nothing has committed, and no session is open. Memory for the sessions' places may be refused.
-    pub fn new(alloc: Global) -> Result<PlainHistory, AllocError>
-        ensures { IfOk result (λ p. world_of p ≡ empty) }
+    /// Nothing has committed, no session is open, and these columns are indexed. Memory for the sessions' places may be
+    /// refused.
+    pub fn new(alloc: Global, indexed: [bool; 4]) -> Result<PlainHistory, AllocError>
+        ensures { IfOk result (λ p. world_of p ≡ beginning indexed) }
     {
         let mut sessions = Vec::new(alloc);
         for _ in 0..256usize {
@@ -157,6 +159,20 @@ impl PlainHistory {
             history: Vec::new(alloc),
             sessions,
             waits,
+            indexed,
         })
+    }
+
+    /// Whether there is the index of this number: index 0, by the key, always, and index c + 1 where column c is indexed.
+    pub(crate) fn has_index(&self, index: u8) -> bool
+        ensures { result ≡ (world_of self.now).has_index index }
+    {
+        if index == 0 {
+            return true;
+        }
+        match self.indexed.get(index as usize - 1) {
+            Some(indexed) => *indexed,
+            None => false,
+        }
     }
 }

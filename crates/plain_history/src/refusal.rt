@@ -31,6 +31,8 @@ pub enum Refused {
     TooDeep,
     /// The session has no savepoint.
     NoSavepoint,
+    /// There is no index of that number.
+    NoSuchIndex,
     /// The lower bound is over the upper.
     BadBounds,
     /// Memory was refused.

@@ -118,9 +118,9 @@ pub fn answer_to(history: &mut PlainHistory, call: Call) -> Answer {
     }
 }
 
-/// A history in which session 0 has committed these rows in one transaction.
+/// A history in which session 0 has committed these rows in one transaction, and in which column 0 alone is indexed.
 pub fn holding(alloc: Global, rows: &[(u64, i64)]) -> Result<PlainHistory, Refused> {
-    let Ok(mut history) = PlainHistory::new(alloc) else {
+    let Ok(mut history) = PlainHistory::new(alloc, [true, false, false, false]) else {
         return Err(Refused::NoMemory);
     };
     history.begin(0)?;

@@ -46,3 +46,29 @@ fn a_heap_cursor_and_a_cursor_over_keys(rt: HostRuntime) {
         None
     );
 }
+
+#[test]
+fn an_index_is_there_before_its_bounds_are_bad(rt: HostRuntime) {
+    let calls = [
+        (Call::Begin(1), Answer::Done),
+        (
+            Call::OpenIndex(1, 2, 5, 4),
+            Answer::Refused(Refused::NoSuchIndex),
+        ),
+        (
+            Call::OpenIndex(1, 5, 0, 9),
+            Answer::Refused(Refused::NoSuchIndex),
+        ),
+        (
+            Call::OpenIndex(1, 1, 5, 4),
+            Answer::Refused(Refused::BadBounds),
+        ),
+        (Call::OpenIndex(1, 0, 2, 9), Answer::Done),
+        (
+            Call::OpenIndex(1, 2, 0, 9),
+            Answer::Refused(Refused::CursorOpen),
+        ),
+        (Call::Next(1, 9), Answer::Rows([2, 0, 0])),
+    ];
+    assert_eq!(rt; first_wrong(rt.alloc(), &[(1, 0), (2, 0)], &calls), None);
+}

@@ -89,15 +89,6 @@ fn no_cursors(alloc: Global) -> Result<Vec<Cursor>, AllocError> {
     Ok(cursors)
 }
 
-// Whether there is an index of this number: 0 is the primary index, and c + 1 that of column c.
-fn has_index(settings: &Settings, index: u8) -> bool {
-    match index {
-        0 => true,
-        1..=4 => settings.indexed[index as usize - 1],
-        _ => false,
-    }
-}
-
 // Whether the page is in use, and a version of this size does not fit.
 fn is_full_page(page: Option<&Page>, size: usize) -> bool
     ensures { IsTrue result ↔ IsFull (option_copied page.entry) size }
@@ -119,7 +110,7 @@ impl Pair {
         let Ok(engine) = Engine::new(alloc, settings) else {
             return Err(Difference::NoMemory);
         };
-        let Ok(plain) = PlainHistory::new(alloc) else {
+        let Ok(plain) = PlainHistory::new(alloc, settings.indexed) else {
             return Err(Difference::NoMemory);
         };
         let (Ok(levels), Ok(cursors)) = (no_levels(alloc), no_cursors(alloc)) else {
@@ -274,9 +265,6 @@ impl Pair {
                 } else {
                     Some(Reply::Refused(Refusal::NoSuchPage))
                 }
-            }
-            Ask::OpenIndex(s, index, _, _) if !has_index(&self.settings, index) => {
-                refused_or(&mut self.plain, s, Refusal::NoSuchIndex)
             }
             Ask::Next(s, _) => self.expected_of_next(alloc, bodies, s, ask, reply),
             _ => answer(&mut self.plain, bodies, ask),

@@ -15,6 +15,7 @@ pub(crate) fn refusal_of(why: Refused) -> Option<Refusal>
     ensures no_cursor { (why ≡ Refused.NoCursor) ↔ (result ≡ Some Refusal.NoCursor) }
     ensures too_deep { (why ≡ Refused.TooDeep) ↔ (result ≡ Some Refusal.TooDeep) }
     ensures no_savepoint { (why ≡ Refused.NoSavepoint) ↔ (result ≡ Some Refusal.NoSavepoint) }
+    ensures no_such_index { (why ≡ Refused.NoSuchIndex) ↔ (result ≡ Some Refusal.NoSuchIndex) }
     ensures deadlock { why ≡ Refused.Deadlock → result ≡ None }
 {
     match why {
@@ -30,6 +31,7 @@ pub(crate) fn refusal_of(why: Refused) -> Option<Refusal>
         Refused::NoCursor => Some(Refusal::NoCursor),
         Refused::TooDeep => Some(Refusal::TooDeep),
         Refused::NoSavepoint => Some(Refusal::NoSavepoint),
+        Refused::NoSuchIndex => Some(Refusal::NoSuchIndex),
         Refused::BadBounds => Some(Refusal::BadBounds),
         _ => None,
     }

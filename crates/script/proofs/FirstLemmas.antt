@@ -5,7 +5,7 @@ use Rattle.std.specs.List.{AllByRecursion}
 use Rattle.std.proofs.lemmas.Option.{IfSome_then, same_Some}
 use Rattle.std.proofs.lemmas.List.{append-nil}
 use Rattle.std.specs.Io.KnownBytes.{Appends}
-use Rattle.script.specs.Engine.{Settings, AreSettings, State, IsNew, empty, SettingsFault, FirstFault, MaxPages, StopAge, FreezeMinAge, FirstXid, DeadLimit, NoMemoryForSettings}
+use Rattle.script.specs.Engine.{Settings, AreSettings, State, IsNew, beginning, SettingsFault, FirstFault, MaxPages, StopAge, FreezeMinAge, FirstXid, DeadLimit, NoMemoryForSettings}
 use Rattle.script.specs.Grammar.{IsAllowed, heading, with_feed}
 use Rattle.script.specs.Reading.{settings_at}
 use Rattle.script.specs.Pieces.{Takes, Gives}
@@ -63,7 +63,7 @@ ran_from s from events last fits columns new allowed led = record {
   in_range = fits;
   columns = columns;
   allowed = allowed;
-  run = Leads-run empty from events last new.agrees led;
+  run = Leads-run (beginning s.indexed) from events last new.agrees led;
   first = from;
   new = new;
   last = last;

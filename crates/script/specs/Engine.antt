@@ -1,5 +1,5 @@
 -- What the shell speaks of in the engine: its steps and replies, which replies the history allows, and what it holds.
-pub use Rattle.history.specs.World.{World, empty}
+pub use Rattle.history.specs.World.{World, beginning}
 pub use Rattle.session_relation.specs.Words.{RowText, AreSettings, FirstFault}
 pub use Rattle.session_relation.specs.Allowed.{next, IsRun}
 pub use Rattle.session_core.specs.State.{State, index_at}

@@ -3,7 +3,7 @@ use Rattle.std.specs.Prelude.{◌≡◌, ℕ, ◌+◌, ◌<◌, ◌≤◌, ◌�
 use Rattle.std.specs.Option.{option_map}
 use Rattle.std.specs.List.{flat_map, AllByRecursion}
 use Rattle.std.specs.Io.KnownBytes.{Appends}
-use Rattle.script.specs.Engine.{Settings, AreSettings, State, Step, Reply, Entry, IsNew, Follows, Exact, empty, index_at, next_id, IsRun}
+use Rattle.script.specs.Engine.{Settings, AreSettings, State, Step, Reply, Entry, IsNew, Follows, Exact, beginning, index_at, next_id, IsRun}
 use Rattle.script.specs.Pieces.{Gives}
 use Rattle.script.specs.Grammar.{heading, spelling, with_feed, IsAllowed}
 use Rattle.script.specs.Answers.{reply_text, ids_text, Shown, shown_text, index_text}
@@ -75,7 +75,7 @@ pub record IsScriptRun (settings : Settings) (events : List Event) : Type 0 wher
   pub in_range : AreSettings settings
   pub columns : length settings.indexed ≡ 4
   pub allowed : AllByRecursion (λ e. IsAllowed (line_of e)) events
-  pub run : IsRun empty (steps_of events) (replies_of events)
+  pub run : IsRun (beginning settings.indexed) (steps_of events) (replies_of events)
   pub first : State
   pub new : IsNew settings first
   pub last : State

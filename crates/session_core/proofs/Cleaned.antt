@@ -1,5 +1,5 @@
 -- A page is pruned, and no session can tell.
-use Rattle.session_core.proofs.InUse.{still-in_use}
+use Rattle.session_core.proofs.InUse.{still-in_use, agree}
 use Rattle.std.proofs.Common.{◌≡◌, ◌≢◌, ℕ, zero, suc, ◌≤◌, List, Option, Some, false, refl, sym, ap, ◌∙◌, subst, ◌⊎◌, inl, inr, arith}
 use Rattle.std.proofs.lemmas.Option.{same_Some}
 use Rattle.xid_circle.specs.declared.Tid.{Tid}
@@ -140,9 +140,7 @@ pruned st h p w prunes agrees =
     let f = theory.Follows-prune (seen st) p (version_in (slots_of h)) (removes-past st w (version_in (slots_of h)) p agrees (prunes-stand st.heap h p (horizon_of st) prunes)) w agrees.found in
     let table : h.table ≡ st.heap.table = ap (λ (g : HeapView). g.table) prunes.is in
     let limit : h.max_pages ≡ st.heap.max_pages = ap (λ (g : HeapView). g.max_pages) prunes.is in
-    record {
-      found = subst (λ t. relation_agrees.Agrees (seen_in (slots_of h) t st.sessions) w) (sym table) f.1;
-      sound = record {
+    agree agrees refl refl (subst (λ t. relation_agrees.Agrees (seen_in (slots_of h) t st.sessions) w) (sym table) f.1) (record {
         count = agrees.sound.count;
         max_pages = limit ∙ agrees.sound.max_pages;
         stop_age = rw table agrees.sound.stop_age;
@@ -152,8 +150,7 @@ pruned st h p w prunes agrees =
         indexes = still-in_use st.heap.indexes h.indexes st.settings.indexed stays.in_use agrees.sound.indexes;
         cursors = λ s e span at is. (stays.in_use span.index).0 (agrees.sound.cursors s e span at is);
         table = subst (λ t. SoundTable h (earliest (next_id t) (held_back st.sessions))) (sym table) stays.sound;
-      };
-    }
+    })
 
 pub Follows-prune : (st st' : State) (p : ℕ) → Cleans st st' p → Follows st (Prune p) Done st'
 Follows-prune st st' p cleans w agrees =

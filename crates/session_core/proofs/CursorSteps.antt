@@ -3,7 +3,7 @@ use Rattle.std.proofs.lemmas.Int.{to_z-of_z, ints}
 use Rattle.std.specs.Int.Signed.{lt_z}
 use Rattle.std.specs.Int.{w128}
 use Rattle.std.proofs.lemmas.Bool.Decides.{nat_tests}
-use Rattle.std.proofs.Common.{SFits, to_z, of_z, ◌≡◌, ℕ, zero, suc, arith, ℤ, ◌≤ℤ◌, ◌<ℤ◌, List, length, true, false, Option, Some, None, refl, sym, ap, ◌∙◌, subst}
+use Rattle.std.proofs.Common.{SFits, to_z, of_z, ◌≡◌, ℕ, arith, ℤ, ◌≤ℤ◌, ◌<ℤ◌, List, Bool, true, false, Option, Some, None, refl, sym, ap, ◌∙◌, subst}
 use Rattle.std.specs.Prelude.{IsSome}
 use Rattle.std.specs.Option.{option_map}
 use Rattle.root_index.specs.View.{IndexView}
@@ -23,11 +23,11 @@ use Rattle.heap_write.specs.declared.walking.Span.{Span}
 use Rattle.session_core.specs.State.{State, session_at, put_session, map_session, with_cursor, seen, position_of, reader_of}
 use Rattle.session_core.specs.Agrees.{Agrees, Sound, SessionKeeps, Follows, StaysLed}
 use Rattle.session_core.specs.Refuses.{RefusesFree, RefusesBare}
-use Rattle.session_core.proofs.InUse.{GoesAlong, few-used, no-cursor}
+use Rattle.session_core.proofs.InUse.{GoesAlong, no-cursor, agree}
 use Rattle.session_core.proofs.OwnIdsLemmas.{open-within}
 use Rattle.session_core.proofs.StateLemmas.{only-set}
 use Rattle.session_core.proofs.Owns.{reader-is}
-use Rattle.session_core.proofs.Follows.{Follows-same, free_by, bare_by, some-position, led-same, Sound-put}
+use Rattle.session_core.proofs.Follows.{Follows-same, stays-so, free_by, bare_by, some-position, led-same, Sound-put}
 
 pub Follows-barred_open_index : (st : State) (s index : ℕ) (low high : ℤ) (r : Refusal) → RefusesFree st s r → Follows st (OpenIndex s index low high) (Refused r) st
 Follows-barred_open_index st s index low high r is =
@@ -39,22 +39,27 @@ Follows-barred_open_heap st s r is = Follows-same st (OpenHeap s) (Refused r) (c
 pub Follows-bare_close : (st : State) (s : ℕ) (r : Refusal) → RefusesBare st s r → Follows st (Close s) (Refused r) st
 Follows-bare_close st s r is = Follows-same st (Close s) (Refused r) (cursors.Follows-bare_close (seen st) s r (bare_by st s r is))
 
--- An index that is not in use is none of the first, and one that is has a number up to 4.
+-- An index that is not there is not in use.
 
-in-first : (n : ℕ) (o : Option IndexView) (indexes : List (Option IndexView)) → index_at indexes n ≡ None → ¬ IsInUse indexes n
-in-first n o indexes none used = absurd (let e = ap (λ (o : Option IndexView). option_map (λ (i : IndexView). i.entries) o) none in let f = subst (λ (o : Option _). IsSome o) e used in cc)
+not-used : (n : ℕ) (indexes : List (Option IndexView)) → index_at indexes n ≡ None → ¬ IsInUse indexes n
+not-used n indexes none used = absurd (let e = ap (λ (o : Option IndexView). option_map (λ (i : IndexView). i.entries) o) none in let f = subst (λ (o : Option _). IsSome o) e used in cc)
+
+absent : (b : Bool) → ¬ (b ≡ true) → b ≡ false
+absent true not = absurd (not refl)
+absent false not = refl
 
 pub Follows-no_such_index : (st : State) (s : ℕ) (e : Session) (index : ℕ) (low high : ℤ) → session_at st s ≡ Some e → e.failed ≡ false → e.cursor ≡ None → index_at st.heap.indexes index ≡ None
     → Follows st (OpenIndex s index low high) (Refused NoSuchIndex) st
-Follows-no_such_index st s e zero low high at sound bare none = λ w agrees. absurd (in-first 0 None st.heap.indexes none ((agrees.sound.indexes 0).1 refl))
-Follows-no_such_index st s e (suc n) low high at sound bare none = Follows-same st (OpenIndex s (suc n) low high) (Refused NoSuchIndex)
-    (cursors.Follows-no_such_index (seen st) s (reader_of e) (suc n) low high (reader-is st s e at) sound (ap position_of bare) (omega arith))
+Follows-no_such_index st s e index low high at sound bare none w agrees =
+    let has = absent (w.has_index index) (λ has. not-used index st.heap.indexes none ((agrees.indexes index).1 has)) in
+    stays-so st w (OpenIndex s index low high) (Refused NoSuchIndex) agrees
+    (cursors.Follows-no_such_index (seen st) s (reader_of e) index low high (reader-is st s e at) sound (ap position_of bare) w has agrees.found)
 
-pub Follows-bad_bounds : (st : State) (s : ℕ) (e : Session) (index : ℕ) (low high : ℤ) → session_at st s ≡ Some e → e.failed ≡ false → e.cursor ≡ None → length st.settings.indexed ≡ 4 → IsInUse st.heap.indexes index → high <ℤ low
+pub Follows-bad_bounds : (st : State) (s : ℕ) (e : Session) (index : ℕ) (low high : ℤ) → session_at st s ≡ Some e → e.failed ≡ false → e.cursor ≡ None → IsInUse st.heap.indexes index → high <ℤ low
     → Follows st (OpenIndex s index low high) (Refused BadBounds) st
-Follows-bad_bounds st s e index low high at sound bare columns used order w agrees =
-    Follows-same st (OpenIndex s index low high) (Refused BadBounds)
-    (cursors.Follows-bad_bounds (seen st) s (reader_of e) index low high (reader-is st s e at) sound (ap position_of bare) (few-used st index columns agrees.sound used) order) w agrees
+Follows-bad_bounds st s e index low high at sound bare used order w agrees =
+    stays-so st w (OpenIndex s index low high) (Refused BadBounds) agrees
+    (cursors.Follows-bad_bounds (seen st) s (reader_of e) index low high (reader-is st s e at) sound (ap position_of bare) order w ((agrees.indexes index).0 used) agrees.found)
 
 -- A session's cursor changes, and nothing else.
 
@@ -74,15 +79,15 @@ module _ (st st' : State) (s : ℕ) (e : Session) (cursor : Option Cursor) (at :
 along-span : (indexes : List (Option IndexView)) (span : Span) → IsInUse indexes span.index → GoesAlong indexes (Some (Index span))
 along-span indexes span used other is = let same : span ≡ other = cc in subst (λ (span : Span). IsInUse indexes span.index) same used
 
-pub Follows-opened_index : (st st' : State) (s : ℕ) (e : Session) (span : Span) → session_at st s ≡ Some e → e.failed ≡ false → e.cursor ≡ None → length st.settings.indexed ≡ 4 → span.low ≤ℤ span.high → span.last ≡ None → IsInUse st.heap.indexes span.index
+pub Follows-opened_index : (st st' : State) (s : ℕ) (e : Session) (span : Span) → session_at st s ≡ Some e → e.failed ≡ false → e.cursor ≡ None → span.low ≤ℤ span.high → span.last ≡ None → IsInUse st.heap.indexes span.index
     → st' ≡ put_session st s (map_session (with_cursor (Some (Index span))) (session_at st s)) → Follows st (OpenIndex s span.index span.low span.high) Done st'
-Follows-opened_index st st' s e span at sound bare columns order none used is w agrees =
+Follows-opened_index st st' s e span at sound bare order none used is w agrees =
     let position : position_of (Some (Index span)) ≡ Some (relation.in_index span.index span.low span.high None) = rw none refl in
     let only = subst (λ p. OnlyIs (seen st).session (seen (put_session st s (Some (with_cursor (Some (Index span)) e)))).session s (Some (record (reader_of e) { cursor = p }))) position (only-cursor st st' s e (Some (Index span)) at is) in
     let f = cursors.Follows-open_index (seen st) s (reader_of e) span.index span.low span.high (seen (put_session st s (Some (with_cursor (Some (Index span)) e)))).session only
-    (reader-is st s e at) sound (ap position_of bare) (few-used st span.index columns agrees.sound used) order w agrees.found in
+    (reader-is st s e at) sound (ap position_of bare) order w ((agrees.indexes span.index).0 used) agrees.found in
     subst (λ st'. Allows w (OpenIndex s span.index span.low span.high) Done × Agrees st' (next w (OpenIndex s span.index span.low span.high) Done) × StaysLed st st') (sym (moved st st' s e (Some (Index span)) at is))
-    (f.0, record { found = f.1; sound = sound-cursor st st' s e (Some (Index span)) at is (along-span st.heap.indexes span used) agrees.sound }, led-same st w agrees)
+    (f.0, agree agrees refl refl f.1 (sound-cursor st st' s e (Some (Index span)) at is (along-span st.heap.indexes span used) agrees.sound), led-same st w agrees)
 
 pub Follows-opened_heap : (st st' : State) (s : ℕ) (e : Session) → session_at st s ≡ Some e → e.failed ≡ false → e.cursor ≡ None
     → st' ≡ put_session st s (map_session (with_cursor (Some (Heap 0))) (session_at st s)) → Follows st (OpenHeap s) Done st'
@@ -90,7 +95,7 @@ Follows-opened_heap st st' s e at sound bare is w agrees =
     let f = cursors.Follows-open_heap (seen st) s (reader_of e) (seen (put_session st s (Some (with_cursor (Some (Heap 0)) e)))).session (only-cursor st st' s e (Some (Heap 0)) at is)
     (reader-is st s e at) sound (ap position_of bare) w agrees.found in
     subst (λ st'. Allows w (OpenHeap s) Done × Agrees st' (next w (OpenHeap s) Done) × StaysLed st st') (sym (moved st st' s e (Some (Heap 0)) at is))
-    (f.0, record { found = f.1; sound = sound-cursor st st' s e (Some (Heap 0)) at is (λ span here. absurd (cc)) agrees.sound }, led-same st w agrees)
+    (f.0, agree agrees refl refl f.1 (sound-cursor st st' s e (Some (Heap 0)) at is (λ span here. absurd (cc)) agrees.sound), led-same st w agrees)
 
 pub Follows-closed_cursor : (st st' : State) (s : ℕ) (e : Session) → session_at st s ≡ Some e → e.failed ≡ false → IsSome e.cursor
     → st' ≡ put_session st s (map_session (with_cursor None) (session_at st s)) → Follows st (Close s) Done st'
@@ -98,7 +103,7 @@ Follows-closed_cursor st st' s e at sound some is w agrees =
     let f = cursors.Follows-close (seen st) s (reader_of e) (seen (put_session st s (Some (with_cursor None e)))).session (only-cursor st st' s e None at is)
     (reader-is st s e at) sound (some-position e.cursor some) w agrees.found in
     subst (λ st'. Allows w (Close s) Done × Agrees st' (next w (Close s) Done) × StaysLed st st') (sym (moved st st' s e None at is))
-    (f.0, record { found = f.1; sound = sound-cursor st st' s e None at is (no-cursor st.heap.indexes None refl) agrees.sound }, led-same st w agrees)
+    (f.0, agree agrees refl refl f.1 (sound-cursor st st' s e None at is (no-cursor st.heap.indexes None refl) agrees.sound), led-same st w agrees)
 
 abbrev pub span-of : ℕ → ℤ → ℤ → Span
 span-of index low high = record { index = index; low = low; high = high; last = None }

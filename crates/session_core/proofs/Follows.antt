@@ -47,7 +47,8 @@ use Rattle.session_core.specs.Refuses.{Refuses, RefusesReady, RefusesFree, Refus
 use Rattle.session_core.specs.declared.cursor.Cursor.{Cursor}
 use Rattle.session_core.specs.declared.cursor.Cursor.TheVariants.{Index, Heap}
 use Rattle.session_core.specs.Changes.{Opens, Closes}
-use Rattle.session_core.proofs.InUse.{GoesAlong, used-still, no-cursor, cursors-put}
+use Rattle.session_relation.proofs.Runs.{same_indexes}
+use Rattle.session_core.proofs.InUse.{GoesAlong, used-still, no-cursor, cursors-put, agree}
 use Rattle.session_core.proofs.OwnIdsLemmas.{open-within, open-set_cases}
 use Rattle.session_core.proofs.StateLemmas.{only-set}
 use Rattle.session_core.proofs.Windows.{active-to, Finishes-from, SameSight-finish, decided}
@@ -67,8 +68,11 @@ pub led-same : (st : State) (w : World) → Agrees st w → StaysLed st st
 led-same st w agrees n e there still = stays-led (slot_in (slots_of st.heap) e.tid) ((agrees.sound.table.indexes n (used-by st.heap.indexes n e there)).leads e there)
 
 -- a step that leaves the engine as it is
+pub stays-so : (st : State) (w : World) (step : Step) (r : Reply) → Agrees st w → Allows w step r × relation.Agrees (seen st) (next w step r) → Allows w step r × Agrees st (next w step r) × StaysLed st st
+stays-so st w step r agrees f = (f.0, agree agrees refl (same_indexes w step r f.0) f.1 agrees.sound, led-same st w agrees)
+
 pub Follows-same : (st : State) (step : Step) (r : Reply) → finds.Follows (seen st) step r (seen st) → Follows st step r st
-Follows-same st step r follows w agrees = let f = follows w agrees.found in (f.0, record { found = f.1; sound = agrees.sound }, led-same st w agrees)
+Follows-same st step r follows w agrees = stays-so st w step r agrees (follows w agrees.found)
 
 -- Refusals.
 
@@ -270,7 +274,7 @@ Follows-begin st st' s snapshot within idle is opens w agrees =
     } in
     let f = theory.Follows-begin (seen st) s (now_taken st) (seen (put_session st s (Some e))).session now within (ap (option_map reader_of) idle) (λ w' found. taken-fresh st w agrees) w agrees.found in
     subst (λ st'. Allows w (Begin s) Done × Agrees st' (next w (Begin s) Done) × StaysLed st st') (sym opens.is)
-    (f.0, record { found = f.1; sound = Sound-opens st w s e within (opens.with_snapshot ∙ is) opens.no_ids opens.unsaved opens.bare agrees }, led-same st w agrees)
+    (f.0, agree agrees refl refl f.1 (Sound-opens st w s e within (opens.with_snapshot ∙ is) opens.no_ids opens.unsaved opens.bare agrees), led-same st w agrees)
 
 -- Commit and Abort.
 
@@ -301,21 +305,21 @@ Follows-abort st st' s e at closes w agrees =
     let f = theory.Follows-abort (seen st) s (reader_of e) (seen st').status (seen st').sees (seen st').session (only-closes st st' s e Aborted at closes) (reader-is st s e at)
     (own-finishes st st' s e Aborted at closes) (same-sights st st' s e Aborted at closes) w agrees.found in
     let sound' = aborts-sound st st' s e w at closes agrees in
-    (f.0, record { found = closed-with st st' s e Aborted at closes (next w (Abort s) RolledBack) f.1; sound = sound'.0 }, sound'.1)
+    (f.0, agree agrees closes.settings refl (closed-with st st' s e Aborted at closes (next w (Abort s) RolledBack) f.1) sound'.0, sound'.1)
 
 pub Follows-commit_failed : (st st' : State) (s : ℕ) (e : Session) → session_at st s ≡ Some e → e.failed ≡ true → Closes st st' s Aborted → Follows st (Commit s) RolledBack st'
 Follows-commit_failed st st' s e at failed closes w agrees =
     let f = theory.Follows-commit_failed (seen st) s (reader_of e) (seen st').status (seen st').sees (seen st').session (only-closes st st' s e Aborted at closes) (reader-is st s e at) failed
     (own-finishes st st' s e Aborted at closes) (same-sights st st' s e Aborted at closes) w agrees.found in
     let sound' = aborts-sound st st' s e w at closes agrees in
-    (f.0, record { found = closed-with st st' s e Aborted at closes (next w (Commit s) RolledBack) f.1; sound = sound'.0 }, sound'.1)
+    (f.0, agree agrees closes.settings refl (closed-with st st' s e Aborted at closes (next w (Commit s) RolledBack) f.1) sound'.0, sound'.1)
 
 pub Follows-commit : (st st' : State) (s : ℕ) (e : Session) → session_at st s ≡ Some e → e.failed ≡ false → Closes st st' s Committed → Follows st (Commit s) reply.Committed st'
 Follows-commit st st' s e at sound closes w agrees =
     let f = theory.Follows-commit (seen st) s (reader_of e) (seen st').status (seen st').sees (seen st').session (only-closes st st' s e Committed at closes) (reader-is st s e at) sound
     (own-finishes st st' s e Committed at closes) (same-sights st st' s e Committed at closes) (λ x. decided e.snapshot st.heap.table x) w agrees.found in
     let sound' = commits-sound st st' s e w at closes agrees in
-    (f.0, record { found = closed-with st st' s e Committed at closes (next w (Commit s) reply.Committed) f.1; sound = sound'.0 }, sound'.1)
+    (f.0, agree agrees closes.settings refl (closed-with st st' s e Committed at closes (next w (Commit s) reply.Committed) f.1) sound'.0, sound'.1)
 
 -- Writes that are refused before they are tried.
 

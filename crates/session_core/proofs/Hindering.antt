@@ -21,11 +21,13 @@ use Rattle.session_core.specs.Tests.{Reads, IsLate, IsHeld, HindersInsert, Hinde
 use Rattle.session_core.specs.Refuses.{Refuses, RefusesFree, MayAct}
 use Rattle.session_core.specs.Exact.{ExactInsert, ExactUpdate, ExactDelete, Exact}
 use Rattle.session_core.specs.Follows.{FollowsInsert, FollowsUpdate}
+use Rattle.session_relation.proofs.Runs.{same_indexes}
+use Rattle.session_core.proofs.InUse.{agree}
 use Rattle.session_core.proofs.OwnIdsLemmas.{open-within}
 use Rattle.session_core.proofs.StateLemmas.{only-set}
 use Rattle.session_core.proofs.Owns.{reader-is}
 use Rattle.session_core.proofs.Searches.{late-to, not-late, held-to, begins-none, begins-some, target-of}
-use Rattle.session_core.proofs.Follows.{Follows-same, led-same, Sound-fails}
+use Rattle.session_core.proofs.Follows.{Follows-same, stays-so, led-same, Sound-fails}
 
 -- A later commit, or another session, has written the key.
 
@@ -39,7 +41,7 @@ conflicts st s e write at late begins w agrees =
     let f = hindrances.Follows-conflict (seen st) s (reader_of e) write b.0 (seen (put_session st s (option_map as_failed (session_at st s)))).session b.1 b.2
     (late-to st w e (key_of write) late.id agrees late.late)
     (record { others = only.others; itself = only.itself ∙ ap (λ o. option_map reader_of (option_map as_failed o)) at }) w agrees.found in
-    (f.0, record { found = f.1; sound = Sound-fails st s e at agrees.sound }, led-same st w agrees)
+    (f.0, agree agrees refl (same_indexes w (step_of s write) (Refused Conflict) f.0) f.1 (Sound-fails st s e at agrees.sound), led-same st w agrees)
 
 busies : (st : State) (s o : ℕ) (e : Session) (write : WriteStep) → session_at st s ≡ Some e → IsHeld st e (key_of write) o
     → ((w : World) → Agrees st w → (found : Option Row) × Begins (seen st) s (reader_of e) (key_of write) found × Asks write found)
@@ -50,7 +52,7 @@ busies st s o e write at held begins w agrees =
     let active = (agrees.found.opened o (reader_of f) (reader-is st o f held.at)).2.own_active held.id held.owns in
     let g = hindrances.Follows-busy (seen st) s o (reader_of e) (reader_of f) held.id write b.0 b.1 b.2 (not-late st w e (key_of write) agrees held.timely)
     (held-to st w e (key_of write) held.id agrees active held.held) (reader-is st o f held.at) held.owns w agrees.found in
-    (g.0, record { found = g.1; sound = agrees.sound }, led-same st w agrees)
+    stays-so st w (step_of s write) (Refused (Busy o)) agrees g
 
 -- what an insert reads is none of the key, and what an update or a deletion reads is a row of it
 vacant : (st : State) (s : ℕ) (e : Session) (text : RowText) → FitsRow text → Reads st s e text.key None

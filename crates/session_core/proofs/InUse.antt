@@ -1,5 +1,5 @@
 -- The indexes in use: those that the settings name, whatever is done. Cursors go along these.
-use Rattle.std.proofs.Common.{◌≡◌, ◌<◌, ◌≤◌, ℕ, zero, suc, Bool, true, false, List, [], ◌∷◌, length, set, Option, Some, None, refl, sym, ap, ◌∙◌, subst, inl, inr, arith}
+use Rattle.std.proofs.Common.{◌≡◌, ◌<◌, ℕ, zero, suc, Bool, true, false, List, [], length, set, Option, Some, None, refl, sym, ap, ◌∙◌, subst, inl, inr}
 use Rattle.std.proofs.lemmas.Option.{same_Some, none-some}
 use Rattle.std.specs.Prelude.{◌↔◌, IsSome, is_some, unwrap_or, slice_index_or, if◌then◌else◌}
 use Rattle.root_index.specs.declared.entry.Entry.{Entry}
@@ -9,12 +9,15 @@ use Rattle.heap_write.specs.Heap.{slots_of, key_value}
 use Rattle.heap_write.specs.Indexes.{index_at, entries_at, entries_in, entries_of, IsInUse, new_entries}
 use Rattle.heap_write.specs.declared.walking.Span.{Span}
 use Rattle.sound_writes.proofs.InUse.{index-sound}
+use Rattle.history.specs.World.{World, is_indexed}
+use Rattle.session_relation.specs.declared.settings.Settings.{Settings}
+use Rattle.session_relation.specs.Agrees as relation
 use Rattle.session_core.specs.declared.session.Session.{Session}
 use Rattle.session_core.specs.declared.cursor.Cursor.{Cursor}
 use Rattle.session_core.specs.declared.cursor.Cursor.TheVariants.{Index}
 use Rattle.session_core.specs.Keeps.{open_at}
-use Rattle.session_core.specs.State.{State, horizon_of}
-use Rattle.session_core.specs.Agrees.{Sound}
+use Rattle.session_core.specs.State.{State, horizon_of, seen}
+use Rattle.session_core.specs.Agrees.{Sound, Agrees}
 use Rattle.session_core.proofs.OwnIdsLemmas.{open-set_cases}
 
 abbrev pub AreInUse : List (Option IndexView) → List Bool → Type 0
@@ -43,16 +46,26 @@ new-empty indexes indexed is (suc c) = ap (λ (o : Option (List Entry)). unwrap_
 pub new-in_use : (indexes : List (Option IndexView)) (indexed : List Bool) → ((n : ℕ) → entries_at indexes n ≡ new_entries indexed n) → AreInUse indexes indexed
 new-in_use indexes indexed is n = (λ used. subst (λ (o : Option (List Entry)). IsSome o) (is n) used, λ used. subst (λ (o : Option (List Entry)). IsSome o) (sym (is n)) used)
 
--- The number of an index in use is at most 4: there are four columns.
+-- The world's indexes.
 
-named-column : (indexed : List Bool) (c : ℕ) → IsSome (new_entries indexed (suc c)) → c < length indexed
-named-column [] c some = absurd (let e : IsSome {T = List Entry} None = some in cc)
-named-column (b ∷ indexed) zero some = omega arith
-named-column (b ∷ indexed) (suc c) some = let within = named-column indexed c some in omega arith
+is-named : (b : Bool) → IsSome {T = List Entry} (if b then Some [] else None) ↔ (b ≡ true)
+is-named true = (λ some. refl, λ is. refl)
+is-named false = (λ some. absurd (let e : IsSome {T = List Entry} None = some in cc), λ is. absurd (cc))
 
-pub few-used : (st : State) (n : ℕ) → length st.settings.indexed ≡ 4 → Sound st → IsInUse st.heap.indexes n → n ≤ 4
-few-used st zero columns sound used = omega arith
-few-used st (suc c) columns sound used = let within = named-column st.settings.indexed c ((sound.indexes (suc c)).0 used) in omega arith
+pub indexed-is : (columns : List Bool) (n : ℕ) → IsSome (new_entries columns n) ↔ (is_indexed columns n ≡ true)
+indexed-is columns zero = (λ some. refl, λ is. refl)
+indexed-is columns (suc c) = is-named (slice_index_or columns c false)
+
+-- an engine of the same settings agrees with a world that has the same
+pub agree : {st st' : State} {w w' : World} → Agrees st w → st'.settings ≡ st.settings → w'.has_index ≡ w.has_index → relation.Agrees (seen st') w' → Sound st' → Agrees st' w'
+agree {st} {st'} {w} {w'} agrees settings had found sound = record {
+  found = found;
+  indexes = λ n. let named = λ (g : Settings). IsSome (new_entries g.indexed n) in (
+    λ used. ap (λ (has : ℕ → Bool). has n) had ∙ (agrees.indexes n).0 ((agrees.sound.indexes n).1 (subst named settings ((sound.indexes n).0 used))),
+    λ has. (sound.indexes n).1 (subst named (sym settings) ((agrees.sound.indexes n).0 ((agrees.indexes n).1 (sym (ap (λ (has : ℕ → Bool). has n) had) ∙ has)))),
+  );
+  sound = sound;
+}
 
 -- an index that is found is in use
 pub there-used : (before st : State) (n : ℕ) (index : IndexView) → before ≡ st → index_at before.heap.indexes n ≡ Some index → IsInUse st.heap.indexes n

@@ -1,4 +1,4 @@
--- A new engine agrees with the empty history.
+-- A new engine agrees with the history's beginning.
 use Rattle.std.proofs.Common.{◌≡◌, ℕ, zero, suc, List, [], length, map, replicate, Option, Some, None, refl, sym, ap, ◌∙◌, arith}
 use Rattle.std.specs.Option.{option_map}
 use Rattle.std.proofs.lemmas.List.{length-replicate}
@@ -13,10 +13,10 @@ use Rattle.page_slots.specs.declared.slot.Slot.{Slot}
 use Rattle.sound_entries.specs.Pages.{version_in, slots_on}
 use Rattle.heap_write.specs.Heap.{slots_of}
 use Rattle.heap_write.specs.Indexes.{entries_at, new_entries}
-use Rattle.session_core.proofs.InUse.{new-empty, new-in_use}
+use Rattle.session_core.proofs.InUse.{new-empty, new-in_use, indexed-is}
 use Rattle.sound_writes.proofs.Keeping.{nothing-stays}
-use Rattle.history.specs.World.{empty}
-use Rattle.session_relation.proofs.Steps.{Agrees-empty}
+use Rattle.history.specs.World.{beginning}
+use Rattle.session_relation.proofs.Steps.{Agrees-beginning}
 use Rattle.session_core.specs.declared.session.Session.{Session}
 use Rattle.session_core.specs.State.{State, session_at, seen, reader_of, horizon_of}
 use Rattle.session_core.specs.Agrees.{Agrees}
@@ -40,12 +40,14 @@ no-version : (pages : List (List Slot)) (p : Tid) → pages ≡ [] → version_i
 no-version pages p bare = ap (λ (pages : List (List Slot)). version_in pages p) bare ∙ (ap (λ (slots : List Slot). version_at slots p.slot) (no-slots p.page) ∙ none-at p.slot)
 
 pub Agrees-new : (st : State) → st.heap.pages.pages ≡ [] → ((n : ℕ) → entries_at st.heap.indexes n ≡ new_entries st.settings.indexed n) → st.heap.table.entries ≡ [] → IsWindow st.heap.table
-    → st.heap.max_pages ≡ st.settings.max_pages → st.heap.table.stop_age ≡ st.settings.stop_age → st.sessions ≡ replicate 64 None → Agrees st empty
+    → st.heap.max_pages ≡ st.settings.max_pages → st.heap.table.stop_age ≡ st.settings.stop_age → st.sessions ≡ replicate 64 None → Agrees st (beginning st.settings.indexed)
 Agrees-new st pages index entries window max_pages stop_age idle = record {
-  found = Agrees-empty (seen st)
+  found = Agrees-beginning (seen st) st.settings.indexed
       (λ p. no-version (slots_of st.heap) p (ap (λ (pages : List PageView). map (λ (p : PageView). p.slots) pages) pages))
       (λ x. ap (λ o. option_map (λ _. status_of st.heap.table x) o) (no-place st.heap.table x entries))
       (λ s. ap (option_map reader_of) (closed s));
+  indexes = λ n. let used = new-in_use st.heap.indexes st.settings.indexed index n in let has = indexed-is st.settings.indexed n in
+      (λ h. has.0 (used.0 h), λ h. used.1 (has.1 h));
   sound = record {
     count = ap length idle ∙ length-replicate {A = Option Session} 64 None;
     max_pages = max_pages;

@@ -22,6 +22,7 @@ use Rattle.session_core.specs.State.{State, session_at, put_session, map_session
 use Rattle.session_core.specs.Agrees.{Agrees, Follows, StaysLed}
 use Rattle.session_core.specs.Refuses.{RefusesBare}
 use Rattle.session_core.specs.Takes.{IsAt, IsAtEnd, IsNotAtEnd, TakesRows, TakesPage, Takes, TakesSome, HandsOut}
+use Rattle.session_core.proofs.InUse.{agree}
 use Rattle.session_core.proofs.Owns.{reader-is}
 use Rattle.session_core.proofs.Follows.{Follows-same, bare_by, led-same}
 use Rattle.session_core.proofs.CursorSteps.{moved, only-cursor, sound-cursor}
@@ -71,7 +72,7 @@ module _ (st st' : State) (s n : ℕ) (e : Session) (after : Cursor) (rows : Vec
   put-after along follows w agrees =
       let f = follows w agrees w agrees.found in
       subst (λ st'. Allows w (Next s n) (Rows rows) × Agrees st' (next w (Next s n) (Rows rows)) × StaysLed st st') (sym (moved st st' s e (Some after) at is))
-      (f.0, record { found = f.1; sound = sound-cursor st st' s e (Some after) at is along agrees.sound }, led-same st w agrees)
+      (f.0, agree agrees refl refl f.1 (sound-cursor st st' s e (Some after) at is along agrees.sound), led-same st w agrees)
 
   only-at : (position : Position) → position_of (Some after) ≡ Some position → OnlyIs (seen st).session (seen now).session s (Some (record (reader_of e) { cursor = Some position }))
   only-at position same = subst (λ p. OnlyIs (seen st).session (seen now).session s (Some (record (reader_of e) { cursor = p }))) same (only-cursor st st' s e (Some after) at is)

@@ -4,7 +4,7 @@ use Rattle.std.proofs.lemmas.List.{take_more, take_all}
 use Rattle.session_relation.specs.declared.settings.Settings.{Settings}
 use Rattle.session_relation.specs.declared.step.Step.{Step}
 use Rattle.session_relation.specs.declared.reply.Reply.{Reply}
-use Rattle.history.specs.World.{World, empty}
+use Rattle.history.specs.World.{World, beginning}
 use Rattle.session_relation.specs.Allowed.{IsRun, next, after}
 use Rattle.session_core.specs.State.{State}
 use Rattle.session_core.specs.Agrees.{Agrees, Follows}
@@ -43,4 +43,4 @@ Leads-run w old (s ∷ ss) (r ∷ rs) new agrees led =
 
 pub Leads-ran : (settings : Settings) (old : State) (steps : List Step) (replies : List Reply) (new : State) → IsNew settings old → Leads old steps replies new → Ran settings steps replies
 Leads-ran settings old steps replies new is led =
-    record { first = old; new = is; last = new; leads = led; agrees = (Leads-run empty old steps replies new is.agrees led).1 }
+    record { first = old; new = is; last = new; leads = led; agrees = (Leads-run (beginning settings.indexed) old steps replies new is.agrees led).1 }

@@ -31,7 +31,7 @@ use Rattle.session_core.proofs.Windows.{active-to, Finishes-from, SameSight-fini
 use Rattle.session_core.proofs.Owns.{reader-is}
 use Rattle.session_core.proofs.Returning.{same-holds, keeps-saved, keeps-released}
 use Rattle.session_core.proofs.Ends.{rolls-back-sound}
-use Rattle.session_core.proofs.InUse.{same-cursor}
+use Rattle.session_core.proofs.InUse.{same-cursor, agree}
 use Rattle.session_core.proofs.Follows.{Follows-same, closed_by, free_by, some-position, led-same, Sound-put}
 
 -- Refusals.
@@ -75,7 +75,8 @@ Follows-savepoint st st' s e at sound bare room now is sets w agrees =
     let f = savepoints.Follows-savepoint (seen st) s (reader_of e) (seen (put_session st s (Some now))).session (only-becomes st s e now (record (reader_of e) { saved = e.own.ids ∷ e.own.saved }) at reader)
     (reader-is st s e at) sound (ap position_of bare) room w agrees.found in
     subst (λ st'. Allows w (Savepoint s) Done × Agrees st' (next w (Savepoint s) Done) × StaysLed st st') (sym is)
-    (f.0, record { found = f.1; sound = Sound-put st s e now at (same-holds e now sets.snapshot sets.ids) (keeps-saved st.heap.table e now sets (agrees.sound.sessions s e at)) (same-cursor st.sessions st.heap.indexes s e now at sets.cursor agrees.sound.cursors) agrees.sound }, led-same st w agrees)
+    (f.0, agree agrees refl refl f.1
+        (Sound-put st s e now at (same-holds e now sets.snapshot sets.ids) (keeps-saved st.heap.table e now sets (agrees.sound.sessions s e at)) (same-cursor st.sessions st.heap.indexes s e now at sets.cursor agrees.sound.cursors) agrees.sound), led-same st w agrees)
 
 pub Follows-release : (st st' : State) (s : ℕ) (e : Session) (before : List ℕ) (saved : List (List ℕ)) → session_at st s ≡ Some e → e.failed ≡ false → e.cursor ≡ None → e.own.saved ≡ before ∷ saved → (now : Session)
     → st' ≡ put_session st s (Some now) → Releases e now → Follows st (Release s) Done st'
@@ -85,7 +86,8 @@ Follows-release st st' s e before saved at sound bare some now is releases w agr
     let f = savepoints.Follows-release (seen st) s (reader_of e) before saved (seen (put_session st s (Some now))).session (only-becomes st s e now (record (reader_of e) { saved = saved }) at reader)
     (reader-is st s e at) sound (ap position_of bare) some w agrees.found in
     subst (λ st'. Allows w (Release s) Done × Agrees st' (next w (Release s) Done) × StaysLed st st') (sym is)
-    (f.0, record { found = f.1; sound = Sound-put st s e now at (same-holds e now releases.snapshot releases.ids) (keeps-released st.heap.table e now releases (agrees.sound.sessions s e at)) (same-cursor st.sessions st.heap.indexes s e now at releases.cursor agrees.sound.cursors) agrees.sound }, led-same st w agrees)
+    (f.0, agree agrees refl refl f.1
+        (Sound-put st s e now at (same-holds e now releases.snapshot releases.ids) (keeps-released st.heap.table e now releases (agrees.sound.sessions s e at)) (same-cursor st.sessions st.heap.indexes s e now at releases.cursor agrees.sound.cursors) agrees.sound), led-same st w agrees)
 
 -- The ids since the newest savepoint are aborted.
 
@@ -129,4 +131,4 @@ Follows-roll_back_to st st' s before saved back bare is w agrees =
     let f = savepoints.Follows-roll_back_to (seen st) s (reader_of back.session) before saved (seen st').status (seen st').sees (seen st').session (only-returns st st' s before saved back is)
     (reader-is st s back.session back.at) (ap position_of bare) is (λ w' found. finishes-since st st' s before saved back is w agrees) (same-sights st st' s before saved back is) w agrees.found in
     let sound' = rolls-back-sound st st' s before saved w back is agrees in
-    (f.0, record { found = subst (λ pages. theory.Agrees (with_pages st' pages) (next w (RollbackTo s) Done)) (sym back.back.pages) f.1; sound = sound'.0 }, sound'.1)
+    (f.0, agree agrees back.settings refl (subst (λ pages. theory.Agrees (with_pages st' pages) (next w (RollbackTo s) Done)) (sym back.back.pages) f.1) sound'.0, sound'.1)

@@ -40,6 +40,7 @@ use Rattle.session_core.specs.Tests.{MayWrite}
 use Rattle.session_core.specs.Writes.{SameSession, TriesInsert, TriesUpdate, TriesDelete, reply_for}
 use Rattle.session_core.specs.Exact.{InsertTried, UpdateTried, DeleteTried}
 use Rattle.session_core.specs.Follows.{FollowsInsert, FollowsUpdate}
+use Rattle.session_core.proofs.InUse.{agree}
 use Rattle.session_core.proofs.Windows.{active-to}
 use Rattle.session_core.proofs.Owns.{reader-is}
 use Rattle.session_core.proofs.Searches.{IsTarget, begins-none, begins-some, target-of, free-with}
@@ -65,31 +66,29 @@ now-active st w s e own x at agrees {v} takes window =
 -- All is as it was.
 
 module _ (st : State) (w : World) (s : ℕ) (e e' : Session) (at : session_at st s ≡ Some e) (agrees : Agrees st w) (same : SameSession e e') where
-  kept : (h : HeapView) (w' : World) → Keeps st.heap h → theory.Agrees (seen st) w' → Agrees (with_write st h s e') w' × StaysLed st (with_write st h s e')
-  kept h w' keeps found =
+  kept : (h : HeapView) (w' : World) → Keeps st.heap h → w'.has_index ≡ w.has_index → theory.Agrees (seen st) w' → Agrees (with_write st h s e') w' × StaysLed st (with_write st h s e')
+  kept h w' keeps had found =
       let stays = kept-stays st.heap h (horizon_of st) agrees.sound.table keeps in (
-        record {
-          found = subst (λ slots. theory.Agrees (seen_in slots h.table (set st.sessions s (Some e'))) w') (sym keeps.slots)
-              (found-kept (slots_of st.heap) st.heap.table h.table st.sessions s e e' w' at same keeps.table found);
-          sound = Sound-kept st w h s e e' at agrees same keeps.table keeps.max_pages stays;
-        },
+        agree agrees refl had
+            (subst (λ slots. theory.Agrees (seen_in slots h.table (set st.sessions s (Some e'))) w') (sym keeps.slots)
+            (found-kept (slots_of st.heap) st.heap.table h.table st.sessions s e e' w' at same keeps.table found))
+            (Sound-kept st w h s e e' at agrees same keeps.table keeps.max_pages stays),
         stays.led,
       )
 
   -- or the page of the old version was pruned
-  readied : (ready h : HeapView) (n size : ℕ) (w' : World) → Readies st.heap ready n (horizon_of st) size → Keeps ready h → theory.Agrees (seen st) w'
+  readied : (ready h : HeapView) (n size : ℕ) (w' : World) → Readies st.heap ready n (horizon_of st) size → Keeps ready h → w'.has_index ≡ w.has_index → theory.Agrees (seen st) w'
       → Agrees (with_write st h s e') w' × StaysLed st (with_write st h s e')
-  readied ready h n size w' readies keeps found =
+  readied ready h n size w' readies keeps had found =
       let first = readied-stays st.heap ready n (horizon_of st) size agrees.sound.table readies in
       let second = kept-stays ready h (horizon_of st) first.sound keeps in
       let stays = stays-then st.heap ready h (horizon_of st) agrees.sound.table (ready-come st.heap ready n (horizon_of st) size readies) first second in
       let ids = same-then st.heap.table ready.table h.table (ready-ids readies) keeps.table in
       let pruned = (follows.Follows-prune (seen st) 0 (version_in (slots_of ready)) (removes-past st w (version_in (slots_of ready)) n agrees (readies-stand st.heap ready n (horizon_of st) size readies)) w' found).1 in (
-        record {
-          found = subst (λ slots. theory.Agrees (seen_in slots h.table (set st.sessions s (Some e'))) w') (sym keeps.slots)
-              (found-kept (slots_of ready) st.heap.table h.table st.sessions s e e' w' at same ids pruned);
-          sound = Sound-kept st w h s e e' at agrees same ids (keeps.max_pages ∙ ready-limit readies) stays;
-        },
+        agree agrees refl had
+            (subst (λ slots. theory.Agrees (seen_in slots h.table (set st.sessions s (Some e'))) w') (sym keeps.slots)
+            (found-kept (slots_of ready) st.heap.table h.table st.sessions s e e' w' at same ids pruned))
+            (Sound-kept st w h s e e' at agrees same ids (keeps.max_pages ∙ ready-limit readies) stays),
         stays.led,
       )
     where
@@ -122,19 +121,19 @@ module _ (st : State) (w : World) (s : ℕ) (text : RowText) (e : Session) (free
       let done = insert_done (seen st) (seen_in (slots_of st.heap) h.table (set st.sessions s (Some e'))) w s (reader_of e) (reader_of e') text x (free_place st.heap i.number) new (version_in (slots_of h))
       free fits agrees.found still (reader-now st w h.table s e own x at i.takes_ids window agrees) (current-now st w h.table s e own x at i.takes_ids window agrees)
       (adds-from (version_in (slots_of st.heap)) (version_in (slots_of h)) (free_place st.heap i.number) new (inserts-stand st.heap h e.own own row x i)) (is-new x row new (root-new st.heap false x row i.number)) refl in
-      (done.0, record { found = done.1; sound = Sound-given st w h s e e' at agrees own x i.takes_ids refl window i.max_pages stays }, stays.led)
+      (done.0, agree agrees refl refl done.1 (Sound-given st w h s e e' at agrees own x i.takes_ids refl window i.max_pages stays), stays.led)
 
   insert-fails : (h : HeapView) (e' : Session) (f : WriteFault) → SameSession e e' → LacksForInsert st.heap e.own (row_of text) f → Keeps st.heap h
       → Allows w (Insert s text) (reply_for (Err f)) × Agrees (with_write st h s e') (next w (Insert s text) (reply_for (Err f))) × StaysLed st (with_write st h s e')
   insert-fails h e' fault.NeedsFreeze same lacks keeps =
       let f = hindrances.Follows-needs_freeze (seen st) s (reader_of e) (inserts text) None free (fits, refl) w agrees.found in
-      let k = kept st w s e e' at agrees same h (next w (Insert s text) (Refused NeedsFreeze)) keeps f.1 in (f.0, k.0, k.1)
+      let k = kept st w s e e' at agrees same h (next w (Insert s text) (Refused NeedsFreeze)) keeps refl f.1 in (f.0, k.0, k.1)
   insert-fails h e' fault.NoRoom same lacks keeps =
       let f = hindrances.Follows-no_room (seen st) s (reader_of e) (inserts text) None free (fits, refl) tt w agrees.found in
-      let k = kept st w s e e' at agrees same h (next w (Insert s text) (Refused NoRoom)) keeps f.1 in (f.0, k.0, k.1)
+      let k = kept st w s e e' at agrees same h (next w (Insert s text) (Refused NoRoom)) keeps refl f.1 in (f.0, k.0, k.1)
   insert-fails h e' fault.NoMemory same lacks keeps =
       let f = hindrances.Follows-no_memory (seen st) s (reader_of e) (inserts text) None free (fits, refl) w agrees.found in
-      let k = kept st w s e e' at agrees same h (next w (Insert s text) (Refused NoMemory)) keeps f.1 in (f.0, k.0, k.1)
+      let k = kept st w s e e' at agrees same h (next w (Insert s text) (Refused NoMemory)) keeps refl f.1 in (f.0, k.0, k.1)
   insert-fails h e' fault.Gone same lacks keeps = absurd lacks
 
   insert-tried : (h : HeapView) (e' : Session) (r : Result (Unit {0}) WriteFault) → TriesInsert st.heap h e e' (row_of text) r → IsWindow h.table
@@ -194,19 +193,19 @@ module _ (st : State) (w : World) (s : ℕ) (text : RowText) (e : Session) (plac
       (updates-ready st.heap h e.own own place row (horizon_of st) x t u target.there) (seen-now st w s text.key e place t target at agrees h.table own x u.takes_ids window) target.of_key
       (adds-from (version_in (slots_of u.ready)) put.added put.to put.new put.adds) (is-new x row put.new put.is_new) put.is_new.of_row
       (alters-from put.added (version_in (slots_of h)) place t (taken_version t x put.to put.hot) put.alters) (is-deleted h.table x t put.to put.hot active) in
-      (done.0, record { found = done.1; sound = Sound-given st w h s e e' at agrees own x u.takes_ids refl window u.max_pages stays }, stays.led)
+      (done.0, agree agrees refl refl done.1 (Sound-given st w h s e e' at agrees own x u.takes_ids refl window u.max_pages stays), stays.led)
 
   update-fails : (h : HeapView) (e' : Session) (f : WriteFault) → SameSession e e' → FailsUpdate st.heap h e.own place (row_of text) (horizon_of st) f
       → Allows w (Update s text) (reply_for (Err f)) × Agrees (with_write st h s e') (next w (Update s text) (reply_for (Err f))) × StaysLed st (with_write st h s e')
   update-fails h e' fault.NeedsFreeze same fails =
       let f = hindrances.Follows-needs_freeze (seen st) s (reader_of e) (updates text) (Some t.row) free (fits, refl) w agrees.found in
-      let k = kept st w s e e' at agrees same h (next w (Update s text) (Refused NeedsFreeze)) fails.2 f.1 in (f.0, k.0, k.1)
+      let k = kept st w s e e' at agrees same h (next w (Update s text) (Refused NeedsFreeze)) fails.2 refl f.1 in (f.0, k.0, k.1)
   update-fails h e' fault.NoRoom same fails =
       let f = hindrances.Follows-no_room (seen st) s (reader_of e) (updates text) (Some t.row) free (fits, refl) tt w agrees.found in
-      let k = readied st w s e e' at agrees same fails.ready h place.page (rounded_size_of (row_of text)) (next w (Update s text) (Refused NoRoom)) fails.readies fails.keeps f.1 in (f.0, k.0, k.1)
+      let k = readied st w s e e' at agrees same fails.ready h place.page (rounded_size_of (row_of text)) (next w (Update s text) (Refused NoRoom)) fails.readies fails.keeps refl f.1 in (f.0, k.0, k.1)
   update-fails h e' fault.NoMemory same fails =
       let f = hindrances.Follows-no_memory (seen st) s (reader_of e) (updates text) (Some t.row) free (fits, refl) w agrees.found in
-      let k = kept st w s e e' at agrees same h (next w (Update s text) (Refused NoMemory)) fails.3 f.1 in (f.0, k.0, k.1)
+      let k = kept st w s e e' at agrees same h (next w (Update s text) (Refused NoMemory)) fails.3 refl f.1 in (f.0, k.0, k.1)
   update-fails h e' fault.Gone same fails = elim fails [
     | inl gone ↦ absurd (gone.0 (is-there st w s text.key e place t target at agrees))
     | inr went ↦ absurd (went.has (ready-there st w s text.key e place t target at agrees went.ready (rounded_size_of (row_of text)) went.readies))
@@ -246,17 +245,17 @@ module _ (st : State) (w : World) (s key : ℕ) (e : Session) (place : Tid) (t :
       free refl agrees.found still (reader-now st w h.table s e own x at d.takes_ids window agrees) (current-now st w h.table s e own x at d.takes_ids window agrees)
       (seen-now st w s key e place t target at agrees h.table own x d.takes_ids window) target.of_key
       (alters-from (version_in (slots_of st.heap)) (version_in (slots_of h)) place t (taken_version t x place false) alters) (is-deleted h.table x t place false active) in
-      (done.0, record { found = done.1; sound = Sound-given st w h s e e' at agrees own x d.takes_ids refl window d.max_pages stays }, stays.led)
+      (done.0, agree agrees refl refl done.1 (Sound-given st w h s e e' at agrees own x d.takes_ids refl window d.max_pages stays), stays.led)
 
   delete-fails : (h : HeapView) (e' : Session) (f : WriteFault) → SameSession e e' → FailsDelete st.heap h e.own place f
       → Allows w (Delete s key) (reply_for (Err f)) × Agrees (with_write st h s e') (next w (Delete s key) (reply_for (Err f))) × StaysLed st (with_write st h s e')
   delete-fails h e' fault.NeedsFreeze same fails =
       let f = hindrances.Follows-needs_freeze (seen st) s (reader_of e) (deletes key) (Some t.row) free refl w agrees.found in
-      let k = kept st w s e e' at agrees same h (next w (Delete s key) (Refused NeedsFreeze)) fails.2 f.1 in (f.0, k.0, k.1)
+      let k = kept st w s e e' at agrees same h (next w (Delete s key) (Refused NeedsFreeze)) fails.2 refl f.1 in (f.0, k.0, k.1)
   delete-fails h e' fault.NoRoom same fails = absurd fails
   delete-fails h e' fault.NoMemory same fails =
       let f = hindrances.Follows-no_memory (seen st) s (reader_of e) (deletes key) (Some t.row) free refl w agrees.found in
-      let k = kept st w s e e' at agrees same h (next w (Delete s key) (Refused NoMemory)) fails.3 f.1 in (f.0, k.0, k.1)
+      let k = kept st w s e e' at agrees same h (next w (Delete s key) (Refused NoMemory)) fails.3 refl f.1 in (f.0, k.0, k.1)
   delete-fails h e' fault.Gone same fails = absurd (fails.0 (is-there st w s key e place t target at agrees))
 
   delete-tried : (h : HeapView) (e' : Session) (r : Result (Unit {0}) WriteFault) → TriesDelete st.heap h e e' place r → IsWindow h.table

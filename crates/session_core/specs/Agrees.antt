@@ -1,5 +1,5 @@
 -- When an engine agrees with a world of the history.
-use Rattle.std.specs.Prelude.{◌≡◌, ◌↔◌, ℕ, length, Some, IsSome, slice_get, Contains}
+use Rattle.std.specs.Prelude.{◌≡◌, ◌↔◌, ℕ, true, length, Some, IsSome, slice_get, Contains}
 use Rattle.history.specs.World.{World}
 use Rattle.snapshot.specs.Laws.{IsInWindow}
 use Rattle.snapshot.specs.Own.{AreFronts, AreDistinct}
@@ -49,6 +49,8 @@ pub record Sound (st : State) : Type 0 where
 pub record Agrees (st : State) (w : World) : Type 0 where
   -- each session reads its view, a new one would read what is committed; same sessions; exact traces
   pub found : relation.Agrees (seen st) w
+  -- the indexes in use are those that there are
+  pub indexes : (n : ℕ) → IsInUse st.heap.indexes n ↔ (w.has_index n ≡ true)
   pub sound : Sound st
 
 -- what an entry of any index leads to before and after is the same version, a redirect to a later one of its row, or dead

@@ -100,8 +100,8 @@ HasCursor old new s cursor = new ≡ put_session old s (map_session (with_cursor
 -- Beside what the history says of a reply: a read and a refusal leave all as it was, but for a page that an update has pruned;
 -- a beginning takes the snapshot of that moment and no id, and an end gives its status to the session's ids, and no others; neither
 -- changes a page, nor do savepoints; a return to one aborts the ids that were given since, and no others; a step of a cursor
--- changes that cursor alone; memory is refused only where something has to grow, and never to a prune. (That no read, return,
--- release, opening, closing, commit or abort is refused memory is said by what the history allows.)
+-- changes that cursor alone; memory is refused only where something has to grow, and never to a prune or the opening of a cursor.
+-- (That no read, return, release, closing, commit or abort is refused memory is said by what the history allows.)
 abbrev pub Exact : State → Step → Reply → State → Type 0
 Exact old (Begin s) Done new = Opens old new s (snapshot_of old)
 Exact old (Begin s) (Refused NoMemory) new = MustList old × (new ≡ old)
@@ -116,7 +116,9 @@ Exact old (Release s) Done new = Becomes old new s Releases
 Exact old (OpenIndex s index low high) Done new = HasCursor old new s (Some (Index (record { index = index; low = low; high = high; last = None })))
 Exact old (OpenIndex s index low high) (Refused NoSuchIndex) new = (index_at old index ≡ None) × (new ≡ old)
 Exact old (OpenIndex s index low high) (Refused BadBounds) new = IsSome (index_at old index) × (new ≡ old)
+Exact old (OpenIndex s index low high) (Refused NoMemory) new = ⊥
 Exact old (OpenHeap s) Done new = HasCursor old new s (Some (Heap 0))
+Exact old (OpenHeap s) (Refused NoMemory) new = ⊥
 Exact old (Next s n) (Rows rows) new = HandsOut old new s n rows.items
 Exact old (Next s n) End new = new ≡ old
 Exact old (Close s) Done new = HasCursor old new s None

@@ -1,6 +1,6 @@
 -- Runs of the engine.
 use Rattle.std.specs.Prelude.{List, [], ◌∷◌, ◌≡◌, ℕ}
-use Rattle.history.specs.World.{empty}
+use Rattle.history.specs.World.{beginning}
 use Rattle.heap_write.specs.Indexes.{entries_at, new_entries}
 use Rattle.session_relation.specs.declared.settings.Settings.{Settings}
 use Rattle.session_relation.specs.declared.settings.SettingsFault.TheVariants as setting
@@ -21,7 +21,7 @@ pub record IsNew (asked : Settings) (st : State) : Type 0 where
   pub ids : st.heap.table.entries ≡ []
   pub pages : st.heap.pages.pages ≡ []
   pub indexes : (n : ℕ) → entries_at st.heap.indexes n ≡ new_entries asked.indexed n
-  pub agrees : Agrees st empty
+  pub agrees : Agrees st (beginning asked.indexed)
 
 -- the engine's states one after another: by each step and its reply it follows the history, and does what the history leaves
 -- to it exactly
@@ -36,7 +36,7 @@ pub record Ran (settings : Settings) (steps : List Step) (replies : List Reply) 
   pub new : IsNew settings first
   pub last : State
   pub leads : Leads first steps replies last
-  pub agrees : Agrees last (after empty steps replies)
+  pub agrees : Agrees last (after (beginning settings.indexed) steps replies)
 
 -- a setting is the first out of its range, or all are in theirs and memory was refused
 abbrev pub FirstRunFault : Settings → RunFault → Type 0

@@ -1,6 +1,6 @@
 //! A session opens a cursor, asks it for rows, and closes it.
 
-ghost use Rattle.std.specs.Prelude.{◌≡◌, ◌<◌, length};
+ghost use Rattle.std.specs.Prelude.{◌≡◌, ◌<◌};
 ghost use Rattle.session_relation.specs.declared.step.Step.{Step};
 ghost use Rattle.session_core.specs.State.{session_at, put_session, with_cursor, map_session};
 ghost use Rattle.session_core.specs.Agrees.{Follows};
@@ -12,14 +12,7 @@ use crate::engine::Engine;
 use crate::outcome::Outcome;
 use crate::session::Session;
 use heap_write::Span;
-use session_relation::{Refusal, Settings};
-
-/// Settings speak of four columns. It does nothing: its contract is the law.
-fn has_columns(settings: &Settings)
-    ensures { length settings.now.indexed ≡ 4 }
-{
-    let _columns = settings.indexed;
-}
+use session_relation::Refusal;
 
 /// Puts another cursor, or none, in the place of the session's.
 fn put_cursor(session: &mut Option<Session>, cursor: Option<Cursor>)
@@ -49,7 +42,6 @@ impl Engine {
             Ok(_) => {}
             Err(refusal) => return Outcome::Refused(refusal),
         }
-        has_columns(&self.settings);
         match self.heap.index(index) {
             Some(_) => {}
             None => return Outcome::Refused(Refusal::NoSuchIndex),

@@ -1,7 +1,7 @@
 //! A list of steps, from the empty table.
 
 ghost use Rattle.std.specs.Prelude.{IfOk, IfErr};
-ghost use Rattle.history.specs.World.{empty};
+ghost use Rattle.history.specs.World.{beginning};
 ghost use Rattle.session_relation.specs.Allowed.{IsRun, after, IsLawful};
 ghost use Rattle.session_core.specs.Runs.{Ran, FirstRunFault};
 
@@ -21,13 +21,13 @@ pub enum RunFault {
     NoMemory,
 }
 
-/// Runs the steps on a new engine of these settings. The replies are a run of the history from the empty world; so the first
+/// Runs the steps on a new engine of these settings. The replies are a run of the history from its beginning; so the first
 /// committer wins, and no two open sessions have written one key. They are those that [`Engine::step`] gives, one after another.
 /// The fault is the first setting that is out of its range, or NoMemory.
 pub fn run(alloc: Global, settings: Settings, steps: &[Step]) -> Result<Vec<Reply>, RunFault>
-    ensures run { IfOk result (λ replies. IsRun empty steps.now replies.items) }
+    ensures run { IfOk result (λ replies. IsRun (beginning settings.indexed) steps.now replies.items) }
     ensures ran { IfOk result (λ replies. Ran settings steps.now replies.items) }
-    ensures lawful { IfOk result (λ replies. IsLawful (after empty steps.now replies.items)) }
+    ensures lawful { IfOk result (λ replies. IsLawful (after (beginning settings.indexed) steps.now replies.items)) }
     ensures fault { IfErr result (λ fault. FirstRunFault settings fault) }
 {
     let mut engine = match Engine::new(alloc, settings) {

@@ -1,6 +1,6 @@
 -- A session opens a cursor, is handed rows by it, and closes it: the reply is one that the history allows, and the engine
 -- agrees with the next world.
-use Rattle.std.proofs.Common.{◌≡◌, ℕ, ◌+◌, ◌<◌, ◌≤◌, max, List, length, Option, Some, None, false, refl, sym, ap, ◌∙◌, subst, arith}
+use Rattle.std.proofs.Common.{◌≡◌, ℕ, ◌+◌, ◌<◌, ◌≤◌, max, List, length, Option, Some, None, true, false, refl, sym, ap, ◌∙◌, subst, arith}
 use Rattle.std.specs.Prelude.{IsSome, ℤ, ◌<ℤ◌, ◌≤ℤ◌, Vec}
 use Rattle.std.specs.declared.alloc.Global.{Global}
 use Rattle.std.specs.Option.{option_map}
@@ -13,11 +13,13 @@ use Rattle.history.specs.History.{Transaction}
 use Rattle.history.specs.World.{World, OpenSession, Cursor, by_index, by_heap, view, IsReady}
 use Rattle.history.specs.Cursors.{rows_within, keys_of}
 use Rattle.history.specs.Moves.{change, past, with_taken}
+use Rattle.session_relation.specs.declared.step.Step.{Step}
 use Rattle.session_relation.specs.declared.step.Step.TheVariants.{OpenIndex, OpenHeap, Next, Close}
+use Rattle.session_relation.specs.declared.reply.Reply.{Reply}
 use Rattle.session_relation.specs.declared.reply.Reply.TheVariants.{Done, Rows, End, Refused}
 use Rattle.session_relation.specs.declared.reply.Refusal.{Refusal}
 use Rattle.session_relation.specs.declared.reply.Refusal.TheVariants.{NotOpen, Failed, CursorOpen, NoCursor, NoMemory, NoSuchIndex, BadBounds}
-use Rattle.session_relation.specs.Allowed.{Allows}
+use Rattle.session_relation.specs.Allowed.{Allows, next}
 use Rattle.session_relation.specs.Heap.{Mark, Position, in_index, in_heap, Session, Heap}
 use Rattle.session_relation.specs.Visible.{IsVisible, At}
 use Rattle.session_relation.specs.Cursors.{Comes, Remains, CursorAgrees, Meets, Stands, Gathers}
@@ -95,9 +97,13 @@ remains_heap {store} {seen} {rows} shows = record {
   there = λ k row is. let some = shown k row shows is in (record { place = some.0; version = some.1; here = some.2; shown = some.3; same_row = some.4; to_come = omega arith }, some.5);
 }
 
+-- as `Follows` has it, of the worlds of P
+abbrev pub FollowsWhere : (World → Type 0) → Heap → Step → Reply → Heap → Type 0
+FollowsWhere P old step reply new = (w : World) → P w → Agrees old w → Allows w step reply × Agrees new (next w step reply)
+
 pub Follows-open_index : (h : Heap) (s : ℕ) (e : Session) (index : ℕ) (low high : ℤ) (session' : ℕ → Option Session) → OnlyIs h.session session' s (Some (record e { cursor = Some (in_index index low high None) }))
-    → h.session s ≡ Some e → e.failed ≡ false → e.cursor ≡ None → index ≤ 4 → low ≤ℤ high → Follows h (OpenIndex s index low high) Done (record h { session = session' })
-Follows-open_index h s e index low high session' only at sound bare there order w agrees = (
+    → h.session s ≡ Some e → e.failed ≡ false → e.cursor ≡ None → low ≤ℤ high → FollowsWhere (λ w. w.has_index index ≡ true) h (OpenIndex s index low high) Done (record h { session = session' })
+Follows-open_index h s e index low high session' only at sound bare order w there agrees = (
   ((agrees.opened s e at).0, writer h w s e at agrees sound bare, there, order),
   Agrees-cursor h w s e (Some (in_index index low high None)) (λ m. Some (record { order = by_index index; rest = rows_within index low high (view w.history m) })) session' only at
       (λ m mine. CursorAgrees-some (remains_index index low high (Levels-top e.own e.saved m.levels mine.levels).rows)) agrees,
@@ -111,13 +117,13 @@ Follows-open_heap h s e session' only at sound bare w agrees = (
       (λ m mine. CursorAgrees-some (remains_heap (Levels-top e.own e.saved m.levels mine.levels).rows)) agrees,
 )
 
-pub Follows-no_such_index : (h : Heap) (s : ℕ) (e : Session) (index : ℕ) (low high : ℤ) → h.session s ≡ Some e → e.failed ≡ false → e.cursor ≡ None → 0 < index
-    → Follows h (OpenIndex s index low high) (Refused NoSuchIndex) h
-Follows-no_such_index h s e index low high at sound bare other w agrees = (((agrees.opened s e at).0, writer h w s e at agrees sound bare, other), Agrees-stepped h w s agrees)
+pub Follows-no_such_index : (h : Heap) (s : ℕ) (e : Session) (index : ℕ) (low high : ℤ) → h.session s ≡ Some e → e.failed ≡ false → e.cursor ≡ None
+    → FollowsWhere (λ w. w.has_index index ≡ false) h (OpenIndex s index low high) (Refused NoSuchIndex) h
+Follows-no_such_index h s e index low high at sound bare w none agrees = (((agrees.opened s e at).0, writer h w s e at agrees sound bare, none), Agrees-stepped h w s agrees)
 
-pub Follows-bad_bounds : (h : Heap) (s : ℕ) (e : Session) (index : ℕ) (low high : ℤ) → h.session s ≡ Some e → e.failed ≡ false → e.cursor ≡ None → index ≤ 4 → high <ℤ low
-    → Follows h (OpenIndex s index low high) (Refused BadBounds) h
-Follows-bad_bounds h s e index low high at sound bare there order w agrees = (((agrees.opened s e at).0, writer h w s e at agrees sound bare, there, order), Agrees-stepped h w s agrees)
+pub Follows-bad_bounds : (h : Heap) (s : ℕ) (e : Session) (index : ℕ) (low high : ℤ) → h.session s ≡ Some e → e.failed ≡ false → e.cursor ≡ None → high <ℤ low
+    → FollowsWhere (λ w. w.has_index index ≡ true) h (OpenIndex s index low high) (Refused BadBounds) h
+Follows-bad_bounds h s e index low high at sound bare order w there agrees = (((agrees.opened s e at).0, writer h w s e at agrees sound bare, there, order), Agrees-stepped h w s agrees)
 
 pub Follows-barred_open_index : (h : Heap) (s index : ℕ) (low high : ℤ) (r : Refusal) → IsBarred h s r → Follows h (OpenIndex s index low high) (Refused r) h
 Follows-barred_open_index h s index low high r is w agrees = (
@@ -128,7 +134,12 @@ Follows-barred_open_index h s index low high r is w agrees = (
 )
 
 pub Follows-barred_open_heap : (h : Heap) (s : ℕ) (r : Refusal) → IsBarred h s r → Follows h (OpenHeap s) (Refused r) h
-Follows-barred_open_heap h s r is w agrees = (allows_barred h w s r agrees is, Agrees-stepped h w s agrees)
+Follows-barred_open_heap h s r is w agrees = (
+  barred_cases h s (λ r. Allows w (OpenHeap s) (Refused r)) r is
+      (λ r unready. unready_cases h s (λ r. Allows w (OpenHeap s) (Refused r)) r unready (λ none. none) (λ idle. allows_unready h w s NotOpen agrees idle) (λ failed. allows_unready h w s Failed agrees failed))
+      (λ barred. allows_barred h w s CursorOpen agrees barred),
+  Agrees-stepped h w s agrees,
+)
 
 -- Next.
 

@@ -1,10 +1,10 @@
 -- A run of steps and replies is a run of the history.
-use Rattle.std.proofs.Common.{ℕ, ◌<◌, ◌≤◌, length, arith, List, [], ◌∷◌}
-use Rattle.history.specs.World.{World, OpenSession, empty}
+use Rattle.std.proofs.Common.{◌≡◌, ℕ, ◌<◌, ◌≤◌, length, arith, List, [], ◌∷◌, Bool}
+use Rattle.history.specs.World.{World, OpenSession, beginning}
 use Rattle.history.specs.Moves.{stepped}
 use Rattle.history.specs.Events.{Happens, passes, begins, conflicts, saves, rolls_back_to, releases, commits, aborts, opens_index, opens_heap, takes, closes, Leads, stays, goes_on}
 use Rattle.history.specs.Events as events
-use Rattle.history.proofs.RunLemmas.{Lawful-empty, Lawful-run}
+use Rattle.history.proofs.RunLemmas.{Lawful-beginning, Lawful-run, indexes-run}
 use Rattle.session_relation.specs.declared.step.Step.{Step}
 use Rattle.session_relation.specs.declared.step.Step.TheVariants.{Begin, Get, Insert, Update, Delete, Savepoint, RollbackTo, Release, Commit, Abort, OpenIndex, OpenHeap, Next, Close, Prune}
 use Rattle.session_relation.specs.declared.reply.Reply.{Reply}
@@ -116,7 +116,7 @@ leads_on from w (Abort s) RolledBack led allows = goes_on w (next w (Abort s) Ro
 leads_on from w (Abort s) (Rows rows) led allows = absurd allows
 leads_on from w (Abort s) End led allows = absurd allows
 leads_on from w (Abort s) (Refused r) led allows = goes_on w (stepped w s) s led passes
-leads_on from w (OpenIndex s index low high) Done led allows = goes_on w (next w (OpenIndex s index low high) Done) s led (opens_index index low high allows.0 allows.1 allows.3)
+leads_on from w (OpenIndex s index low high) Done led allows = goes_on w (next w (OpenIndex s index low high) Done) s led (opens_index index low high allows.0 allows.1 allows.2 allows.3)
 leads_on from w (OpenIndex s index low high) (Found f) led allows = absurd allows
 leads_on from w (OpenIndex s index low high) Committed led allows = absurd allows
 leads_on from w (OpenIndex s index low high) RolledBack led allows = absurd allows
@@ -152,8 +152,12 @@ leads from w [] (r ∷ rs) run ok = absurd ok
 leads from w (s ∷ ss) [] run ok = absurd ok
 leads from w (s ∷ ss) (r ∷ rs) run ok = leads from (next w s r) ss rs (leads_on from w s r run ok.0) ok.1
 
-pub lawful : (steps : List Step) (replies : List Reply) → IsRun empty steps replies → IsLawful (after empty steps replies)
-lawful steps replies run = let h = Lawful-run (leads empty empty steps replies stays run) Lawful-empty in record {
+-- no step changes which indexes there are
+pub same_indexes : (w : World) (step : Step) (reply : Reply) → Allows w step reply → (next w step reply).has_index ≡ w.has_index
+same_indexes w step reply allows = indexes-run (leads_on w w step reply stays allows)
+
+pub lawful : (columns : List Bool) (steps : List Step) (replies : List Reply) → IsRun (beginning columns) steps replies → IsLawful (after (beginning columns) steps replies)
+lawful columns steps replies run = let h = Lawful-run (leads (beginning columns) (beginning columns) steps replies stays run) (Lawful-beginning columns) in record {
   first_committer_wins = h.first;
   held_in_time = λ s k m at wrote. h.in_time s k m at wrote;
   held_once = h.once;

@@ -1,5 +1,5 @@
 -- Each step keeps the engine's agreement with the model.
-use Rattle.std.proofs.Common.{◌≡◌, ◌≢◌, ℕ, List, [], ◌∷◌, ◌++◌, Option, Some, None, true, cond, nat_eq, refl, sym, ap, ◌∙◌, subst, ◌⊎◌, inl, inr}
+use Rattle.std.proofs.Common.{◌≡◌, ◌≢◌, ℕ, List, [], ◌∷◌, ◌++◌, Option, Some, None, Bool, true, cond, nat_eq, refl, sym, ap, ◌∙◌, subst, ◌⊎◌, inl, inr}
 use Rattle.std.specs.Prelude.{IsSome, Contains}
 use Rattle.std.proofs.lemmas.Bool.{cases_eq}
 use Rattle.std.proofs.lemmas.Option.{same_Some, none-some}
@@ -11,7 +11,7 @@ use Rattle.commit_status.specs.declared.status.Status.{Status}
 use Rattle.commit_status.specs.declared.status.Status.TheVariants.{InProgress, Committed, Aborted}
 use Rattle.snapshot.specs.Snap.{Snap}
 use Rattle.history.specs.History.{Write, Transaction, written, reading, IsLate}
-use Rattle.history.specs.World.{World, OpenSession, joined, own_write, Holds, empty}
+use Rattle.history.specs.World.{World, OpenSession, joined, own_write, Holds, beginning}
 use Rattle.history.specs.Moves.{put, stepped, begun, with_row, as_failed, aborted}
 use Rattle.history.specs.Cursors.{kept_where}
 use Rattle.std.specs.Prelude.{not, ◌==◌}
@@ -285,8 +285,8 @@ Agrees-abort h w s e status' sees' session' only at finishes same agrees = recor
     models o ne = at_other o s None (w.session o) ne
 
 -- nothing is there, and no session is open
-pub Agrees-empty : (h : Heap) → ((p : Tid) → h.version p ≡ None) → ((x : ℕ) → h.status x ≡ None) → ((s : ℕ) → h.session s ≡ None) → Agrees h empty
-Agrees-empty h bare unused idle = record {
+pub Agrees-beginning : (h : Heap) (columns : List Bool) → ((p : Tid) → h.version p ≡ None) → ((x : ℕ) → h.status x ≡ None) → ((s : ℕ) → h.session s ≡ None) → Agrees h (beginning columns)
+Agrees-beginning h columns bare unused idle = record {
   opened = λ s e at. absurd (none-some e (sym (idle s) ∙ at));
   idle = λ s at. refl;
   waits = λ s. refl;

@@ -1,7 +1,7 @@
 -- Which replies the history allows to a step, and what the world is after each.
-use Rattle.std.specs.Prelude.{◌≡◌, ℕ, ◌-◌, ◌<◌, ◌≤◌, List, [], ◌∷◌, length, Option, Some, None, true, IsSome, ◌<ℤ◌, ◌≤ℤ◌}
+use Rattle.std.specs.Prelude.{◌≡◌, ℕ, ◌-◌, ◌<◌, ◌≤◌, List, [], ◌∷◌, length, Option, Some, None, Bool, true, false, IsSome, ◌<ℤ◌, ◌≤ℤ◌}
 use Rattle.history.specs.History.{IsLate}
-use Rattle.history.specs.World.{World, OpenSession, Cursor, empty, view, IsReady, IsWriter, MayWrite, IsBlocked}
+use Rattle.history.specs.World.{World, OpenSession, Cursor, beginning, view, IsReady, IsWriter, MayWrite, IsBlocked}
 use Rattle.history.specs.Cursors.{keys_of, IsOver, HandsOut}
 use Rattle.history.specs.Moves.{stepped, begun, change, with_row, without_row, as_failed, with_savepoint, rolled_back_to, without_savepoint, aborted, committed_by, with_index_cursor, with_heap_cursor, with_taken, without_cursor}
 use Rattle.history.specs.Laws.{FirstCommitterWins, HeldInTime, HeldOnce}
@@ -118,11 +118,13 @@ Allows w (Commit s) RolledBack = (m : OpenSession) × IsOpen w s m × (m.failed 
 Allows w (Commit s) (Refused refusal) = AllowsClosed w s refusal
 Allows w (Abort s) RolledBack = (m : OpenSession) × IsOpen w s m
 Allows w (Abort s) (Refused refusal) = AllowsClosed w s refusal
-Allows w (OpenIndex s index low high) Done = (m : OpenSession) × IsWriter w s m × (index ≤ 4) × (low ≤ℤ high)
-Allows w (OpenIndex s index low high) (Refused NoSuchIndex) = (m : OpenSession) × IsWriter w s m × (0 < index)
-Allows w (OpenIndex s index low high) (Refused BadBounds) = (m : OpenSession) × IsWriter w s m × (index ≤ 4) × (high <ℤ low)
+Allows w (OpenIndex s index low high) Done = (m : OpenSession) × IsWriter w s m × (w.has_index index ≡ true) × (low ≤ℤ high)
+Allows w (OpenIndex s index low high) (Refused NoSuchIndex) = (m : OpenSession) × IsWriter w s m × (w.has_index index ≡ false)
+Allows w (OpenIndex s index low high) (Refused BadBounds) = (m : OpenSession) × IsWriter w s m × (w.has_index index ≡ true) × (high <ℤ low)
+Allows w (OpenIndex s index low high) (Refused NoMemory) = (m : OpenSession) × IsWriter w s m × (w.has_index index ≡ true) × (low ≤ℤ high)
 Allows w (OpenIndex s index low high) (Refused refusal) = AllowsBarred w s refusal
 Allows w (OpenHeap s) Done = (m : OpenSession) × IsWriter w s m
+Allows w (OpenHeap s) (Refused NoMemory) = (m : OpenSession) × IsWriter w s m
 Allows w (OpenHeap s) (Refused refusal) = AllowsBarred w s refusal
 Allows w (Next s n) (Rows rows) = (m : OpenSession) × (c : Cursor) × IsReady w s m × (m.cursor ≡ Some c) × HandsOut c.order n c.rest rows.items
 Allows w (Next s n) End = (m : OpenSession) × (c : Cursor) × IsReady w s m × (m.cursor ≡ Some c) × IsOver c.rest
@@ -132,6 +134,7 @@ Allows w (Close s) Done = (m : OpenSession) × IsReady w s m × IsSome m.cursor
 Allows w (Close s) (Refused refusal) = AllowsBare w s refusal
 Allows w (Prune p) Done = Unit {0}
 Allows w (Prune p) (Refused NoSuchPage) = Unit {0}
+Allows w (Prune p) (Refused NoMemory) = Unit {0}
 Allows w step reply = ⊥
 
 -- a step that reads or is refused only ends the session's own wait
@@ -176,11 +179,12 @@ abbrev pub after : World → List Step → List Reply → World
 after w (step ∷ steps) (reply ∷ replies) = after (next w step reply) steps replies
 after w steps replies = w
 
--- what is so of the world after any run from the empty one
+-- what is so of the world after any run from a beginning
 pub record IsLawful (w : World) : Type 0 where
   pub first_committer_wins : FirstCommitterWins w.history
   pub held_in_time : HeldInTime w
   pub held_once : HeldOnce w
 
 abbrev pub RunsAreLawful : Type 0
-RunsAreLawful = (steps : List Step) (replies : List Reply) → IsRun empty steps replies → IsLawful (after empty steps replies)
+RunsAreLawful = (columns : List Bool) (steps : List Step) (replies : List Reply) → IsRun (beginning columns) steps replies
+    → IsLawful (after (beginning columns) steps replies)

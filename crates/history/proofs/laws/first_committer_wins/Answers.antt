@@ -1,5 +1,5 @@
-use Rattle.history.proofs.RunLemmas.{Lawful-empty, Lawful-run}
+use Rattle.history.proofs.RunLemmas.{Lawful-beginning, Lawful-run}
 use Rattle.history.proofs.laws.first_committer_wins.Goals as goal
 
 pub returns : goal.returns
-returns c = λ w run. (Lawful-run run Lawful-empty).first
+returns c = λ columns w run. (Lawful-run run (Lawful-beginning columns)).first

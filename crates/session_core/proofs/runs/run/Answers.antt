@@ -1,5 +1,5 @@
 use Rattle.std.proofs.Common.{◌∙◌, ◌∷◌, ◌++◌, [], List, ap, sym, subst, take, ◌+◌}
-use Rattle.history.specs.World.{empty}
+use Rattle.history.specs.World.{beginning}
 use Rattle.session_relation.specs.declared.step.Step.{Step}
 use Rattle.session_relation.specs.declared.reply.Reply.{Reply}
 use Rattle.session_relation.proofs.Runs.{lawful}
@@ -22,7 +22,7 @@ loop-step-preserved c =
 pub returns-clause-run : goal.returns-clause-run
 returns-clause-run c =
     let led = Leads-all c.in-Ok.engine c.args.steps.now c.loop-step.replies.items c.loop-step.engine c.loop-step.step-index c.loop-step-test.false c.loop-step.invariant in
-    (Leads-run empty c.in-Ok.engine c.args.steps.now c.loop-step.replies.items c.loop-step.engine c.in-Ok.ensures.new.agrees led).0
+    (Leads-run (beginning c.args.settings.indexed) c.in-Ok.engine c.args.steps.now c.loop-step.replies.items c.loop-step.engine c.in-Ok.ensures.new.agrees led).0
 
 pub returns-clause-ran : goal.returns-clause-ran
 returns-clause-ran c =
@@ -32,4 +32,4 @@ returns-clause-ran c =
 pub returns-clause-lawful : goal.returns-clause-lawful
 returns-clause-lawful c =
     let led = Leads-all c.in-Ok.engine c.args.steps.now c.loop-step.replies.items c.loop-step.engine c.loop-step.step-index c.loop-step-test.false c.loop-step.invariant in
-    lawful c.args.steps.now c.loop-step.replies.items (Leads-run empty c.in-Ok.engine c.args.steps.now c.loop-step.replies.items c.loop-step.engine c.in-Ok.ensures.new.agrees led).0
+    lawful c.args.settings.indexed c.args.steps.now c.loop-step.replies.items (Leads-run (beginning c.args.settings.indexed) c.in-Ok.engine c.args.steps.now c.loop-step.replies.items c.loop-step.engine c.in-Ok.ensures.new.agrees led).0
