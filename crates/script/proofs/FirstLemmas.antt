@@ -1,5 +1,5 @@
 -- The first line.
-use Rattle.std.proofs.Common.{◌≡◌, subst, ℕ, ◌+◌, ◌<◌, ◌≤◌, ◌⊎◌, inl, inr, arith, List, [], ◌∷◌, ◌++◌, length, take, drop, refl, ap, append_assoc, ◌∙◌, sym, Option, Some, Result, Ok, Err, position, IfSome}
+use Rattle.std.proofs.Common.{◌≡◌, subst, ℕ, ◌+◌, ◌<◌, ◌≤◌, ◌⊎◌, inl, inr, arith, List, [], ◌∷◌, ◌++◌, length, take, drop, refl, ap, append_assoc, ◌∙◌, sym, Option, Some, None, Result, Ok, Err, position, IfSome}
 use Rattle.std.specs.Bool.{◌==◌}
 use Rattle.std.specs.List.{AllByRecursion}
 use Rattle.std.proofs.lemmas.Option.{IfSome_then, same_Some}
@@ -10,12 +10,13 @@ use Rattle.script.specs.Grammar.{IsAllowed, heading, with_feed}
 use Rattle.script.specs.Reading.{settings_at}
 use Rattle.script.specs.Pieces.{Takes, Gives}
 use Rattle.script.specs.Script.{Event, Outcome, IsBadHeading, IsScriptRun, Leads, Begins, line_of, answers_of, lines_of}
-use Rattle.script.specs.Steps.{Uses, Advance, Advances}
+use Rattle.script.specs.Refusals.{Refusals, IsRefused}
+use Rattle.script.specs.Steps.{Uses, Advance, Advances, MatchesHeading}
 use Rattle.script.specs.Next.{IsNext}
 use Rattle.script.specs.declared.run.Next.{Next}
 use Rattle.script.specs.declared.run.Next.TheVariants.{Line, Bad, End}
 use Rattle.script.specs.declared.fault.ShellFault.{ShellFault}
-use Rattle.script.specs.declared.fault.ShellFault.TheVariants.{BadLine, Input, Output, NoMemory}
+use Rattle.script.specs.declared.fault.ShellFault.TheVariants.{BadLine, Input, Output, NoMemory, TooManyLines}
 use Rattle.script.proofs.PiecesLemmas.{Appends-Appends}
 use Rattle.script.proofs.HeadingLaws.{settings_at_says, settings_at-heading, Free-heading}
 use Rattle.script.proofs.RunLemmas.{Leads-run, Uses-refl, Uses-Takes, Uses-front, Uses-known, no_text, text_is, position-split}
@@ -117,6 +118,15 @@ outcome_is s from input bytes w0 w1 w2 (Err NoMemory) fits columns new q e h =
       e ∙ ap (λ x. with_feed (heading s) ++ x) h.lines ∙ sym (append_assoc (with_feed (heading s)) (lines_of h.events) h.left),
       begun_first w0 w1 w2 (answers_of h.events) q h.ends,
     )
+outcome_is s from input bytes w0 w1 w2 (Err TooManyLines) fits columns new q e h = (
+  s,
+  h.events,
+  h.left,
+  ran_from s from h.events h.last fits columns new h.allowed h.leads,
+  e ∙ ap (λ x. with_feed (heading s) ++ x) h.lines ∙ sym (append_assoc (with_feed (heading s)) (lines_of h.events) h.left),
+  h.ends.0,
+  begun_first w0 w1 w2 (answers_of h.events) q h.ends.1,
+)
 
 pub outcome_from : (before now : Option (List ℕ)) (p text : List ℕ) (from : State) (s : Settings) (w0 w1 w2 : Option (List ℕ)) (r : Result (Unit {0}) ShellFault)
     → Uses before now [] (with_feed (heading s)) p → AreSettings s → length s.indexed ≡ 4 → Appends w0 w1 [] → IsNew s from → text ≡ [] → Advances from now w1 w2 p text r → IfSome before (λ input. Outcome r input w0 w2)
@@ -124,12 +134,29 @@ outcome_from before now p text from s w0 w1 w2 r u fits columns q new none h =
     IfSome_then before (Uses-known before now [] (with_feed (heading s)) p u) (λ input k.
     outcome_is s from input (p ++ k.0) w0 w1 w2 r fits columns new q k.2 (rw (k.1, none) at h))
 
+-- a refusal says nothing of the first line
+pub no_heading : (e : ShellFault) (watch : Refusals) (input : Option (List ℕ)) → IsRefused e watch → MatchesHeading e input
+no_heading (BadLine n) watch input f = absurd f
+no_heading Input watch input f = tt
+no_heading Output watch input f = tt
+no_heading NoMemory watch input f = tt
+no_heading TooManyLines watch input f = absurd f
+
+-- no line was read, but perhaps a bad first one
+pub outcome_of_none : (e : ShellFault) (input w0 w1 : Option (List ℕ)) → MatchesHeading e input → Appends w0 w1 [] → IfSome input (λ bytes. Outcome (Err e) bytes w0 w1)
+outcome_of_none e None w0 w1 h quiet = tt
+outcome_of_none (BadLine n) (Some bytes) w0 w1 h quiet = inl (h.0, quiet, h.1)
+outcome_of_none Input (Some bytes) w0 w1 h quiet = inl quiet
+outcome_of_none Output (Some bytes) w0 w1 h quiet = inl quiet
+outcome_of_none NoMemory (Some bytes) w0 w1 h quiet = inl quiet
+outcome_of_none TooManyLines (Some bytes) w0 w1 h quiet = absurd h
+
 -- a setting that is out of range isn't in range
 outside : (a low high : ℕ) → (a < low) ⊎ (high < a) → (low ≤ a) × (a ≤ high) → ⊥
 outside a low high (inl below) r = let at = r.0 in omega arith
 outside a low high (inr above) r = let at = r.1 in omega arith
 
-out_of_range : (s : Settings) (f : SettingsFault) → FirstFault s f → (f ≡ NoMemoryForSettings → ⊥) → AreSettings s → ⊥
+pub out_of_range : (s : Settings) (f : SettingsFault) → FirstFault s f → (f ≡ NoMemoryForSettings → ⊥) → AreSettings s → ⊥
 out_of_range s MaxPages h other k = outside s.max_pages 1 65536 h.0 k.max_pages
 out_of_range s StopAge h other k = outside s.stop_age 1 2144483648 h.0 k.stop_age
 out_of_range s FreezeMinAge h other k = let out = h.0 in let least = k.freeze_min_age in omega arith
@@ -137,10 +164,10 @@ out_of_range s FirstXid h other k = let out = h.0 in let first = k.first_xid.0 i
 out_of_range s DeadLimit h other k = outside s.dead_limit 1 4096 h.0 k.dead_limit
 out_of_range s NoMemoryForSettings h other k = other refl
 
-pub bad_settings : (before now : Option (List ℕ)) (old p : List ℕ) (n : ℕ) (s : Settings) (f : SettingsFault) → old ≡ [] → Takes before now old p → position (λ b. b == 10) p ≡ Some n
-    → Some s ≡ settings_at (take n p) → FirstFault s f → (f ≡ NoMemoryForSettings → ⊥) → IfSome before (λ input. IsBadHeading input)
-bad_settings before now old p n s f none t at read fault other =
-    bad_text before now old p n none t at (λ s' fits e. out_of_range s f fault other (subst AreSettings (sym (same_Some s s' (read ∙ e))) fits))
+pub bad_settings : (before now : Option (List ℕ)) (old p : List ℕ) (n : ℕ) (s : Settings) → old ≡ [] → Takes before now old p → position (λ b. b == 10) p ≡ Some n
+    → Some s ≡ settings_at (take n p) → (AreSettings s → ⊥) → IfSome before (λ input. IsBadHeading input)
+bad_settings before now old p n s none t at read outside =
+    bad_text before now old p n none t at (λ s' fits e. outside (subst AreSettings (sym (same_Some s s' (read ∙ e))) fits))
 
 nil_front : (xs ys : List ℕ) → [] ≡ xs ++ ys → xs ≡ []
 nil_front [] ys e = refl

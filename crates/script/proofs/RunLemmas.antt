@@ -1,5 +1,5 @@
 -- Lines that are used, one after another.
-use Rattle.std.proofs.Common.{◌≡◌, ℕ, ◌+◌, ◌<◌, ◌≤◌, ◌⊎◌, inl, inr, List, [], ◌∷◌, ◌++◌, length, take, drop, refl, ap, append_assoc, length-append, ◌∙◌, sym, subst, arith, Option, None, Some, Result, Ok, Err, position, IfSome, IsErrAnd, true}
+use Rattle.std.proofs.Common.{◌≡◌, ℕ, ◌+◌, ◌<◌, ◌≤◌, ◌⊎◌, inl, inr, List, [], ◌∷◌, ◌++◌, length, take, drop, refl, ap, append_assoc, length-append, ◌∙◌, sym, subst, arith, Option, None, Some, Result, Ok, Err, position, IfSome, IfErr, IsErrAnd, true}
 use Rattle.std.specs.Bool.{◌==◌}
 use Rattle.std.specs.List.{AllByRecursion}
 use Rattle.std.proofs.lemmas.List.{append-nil, length-take-le}
@@ -9,11 +9,11 @@ use Rattle.script.specs.Engine.{World, State, next, IsRun, Agrees}
 use Rattle.script.specs.Grammar.{IsAllowed, Fits, spelling, with_feed}
 use Rattle.script.specs.Pieces.{Takes, Gives, HasNoLine}
 use Rattle.script.specs.Script.{Event, did, showed_ids, showed_page, showed_entries, line_of, answer_of, steps_of, replies_of, lines_of, answers_of, Moves, Leads, IsBadLine, Begins}
-use Rattle.script.specs.Refusals.{Refusals, IsRefused}
+use Rattle.script.specs.Refusals.{Refusals, IsRefused, IsCaused}
 use Rattle.script.specs.Steps.{Ends, Advance, Uses, Does}
 use Rattle.script.specs.declared.line.Line.{Line}
 use Rattle.script.specs.declared.fault.ShellFault.{ShellFault}
-use Rattle.script.specs.declared.fault.ShellFault.TheVariants.{BadLine, Input, Output, NoMemory}
+use Rattle.script.specs.declared.fault.ShellFault.TheVariants.{BadLine, Input, Output, NoMemory, TooManyLines}
 use Rattle.script.proofs.ByteLemmas.{place, Free, place-free, place-append_found, place-append_past, place-split, position_found, position_none}
 use Rattle.script.proofs.GrammarLaws.{Free-spelling}
 use Rattle.std.proofs.lemmas.Option.{IfSome_then}
@@ -168,6 +168,26 @@ ends_fault (BadLine n) watch f k left before after text b = absurd f
 ends_fault Input watch f k left before after text b = b
 ends_fault Output watch f k left before after text b = b
 ends_fault NoMemory watch f k left before after text b = b
+ends_fault TooManyLines watch f k left before after text b = absurd f
+
+-- a refusal causes its fault
+pub caused_by : (e : ShellFault) (watch : Refusals) → IsRefused e watch → IsCaused e watch
+caused_by (BadLine n) watch f = absurd f
+caused_by Input watch f = f
+caused_by Output watch f = f
+caused_by NoMemory watch f = f
+caused_by TooManyLines watch f = absurd f
+
+err_caused : (r : Result (Unit {0}) ShellFault) (watch : Refusals) → IsErrAnd r (λ e. IsRefused e watch) → IfErr r (λ e. IsCaused e watch)
+err_caused (Ok u) watch f = absurd f
+err_caused (Err e) watch f = caused_by e watch f
+
+-- the end is given, or a refusal of the last write
+pub closed_caused : {A B : Type 0} (r end : Result (Unit {0}) ShellFault) (watch : Refusals) → ((r ≡ end) × A) ⊎ (IsErrAnd r (λ e. IsRefused e watch) × B) → IfErr end (λ e. IsCaused e watch) → IfErr r (λ e. IsCaused e watch)
+closed_caused r end watch c caused = elim c [
+  | inl h ↦ rw h.0 caused
+  | inr h ↦ err_caused r watch h.0
+]
 
 -- that a growth was refused is noted
 pub refused_growth : (e : ShellFault) (watch : Refusals) → e ≡ NoMemory → watch.memory ≡ true → IsRefused e watch
@@ -184,6 +204,20 @@ adv_fault from state before now old new w0 w1 w2 text left number e watch h f b 
       left = new ++ k.0;
       lines = k.2;
       ends = ends_fault e watch f (length h.events) (new ++ k.0) w0 w2 (text ++ answers_of h.events) (b.0, Gives-Gives w0 w1 w2 (text ++ answers_of h.events) left b.0 h.gives b.1);
+    })
+
+-- the numbers of lines ran out
+pub adv_over : (from state : State) (before now : Option (List ℕ)) (old new : List ℕ) (w0 w1 : Option (List ℕ)) (text left : List ℕ) (number : ℕ)
+    → Progress from state before now old new w0 w1 text left number → number ≡ 18446744073709551615 → IfSome before (λ bytes. Advance from (old ++ bytes) w0 w1 text (Err TooManyLines))
+adv_over from state before now old new w0 w1 text left number h last =
+    IfSome_then before (Uses-known before now old (lines_of h.events) new h.uses) (λ input k. record {
+      events = h.events;
+      allowed = h.allowed;
+      last = state;
+      leads = h.leads;
+      left = new ++ k.0;
+      lines = k.2;
+      ends = (sym h.number_is ∙ last, (left, h.gives));
     })
 
 Gives-rest : (a b c : Option (List ℕ)) (text left : List ℕ) → Gives a b text left → Appends b c left → Appends a c text

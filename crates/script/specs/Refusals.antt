@@ -1,21 +1,33 @@
 -- What the outside refused.
-use Rattle.std.specs.Prelude.{◌≡◌, Bool, true}
+use Rattle.std.specs.Prelude.{◌≡◌, ◌+◌, ◌≤◌, ℕ, ◌⊎◌, Bool, true}
 use Rattle.script.specs.declared.fault.ShellFault.{ShellFault}
-use Rattle.script.specs.declared.fault.ShellFault.TheVariants.{BadLine, Input, Output, NoMemory}
+use Rattle.script.specs.declared.fault.ShellFault.TheVariants.{BadLine, Input, Output, NoMemory, TooManyLines}
 
--- what is known of a watch: whether the last read and the last write were refused, and any growth (or number of a line)
+-- what is known of a watch: whether the last read and the last write were refused, how many calls in a row, up to the last, were
+-- interrupted, and whether a growth was refused
 pub record Refusals : Type 0 where
   pub input : Bool
   pub output : Bool
+  pub interrupted : ℕ
   pub memory : Bool
 
--- a fault that isn't a bad line comes only where the reader, the writer or a growth refused, or the numbers of lines ran out
+-- one more call was interrupted
+abbrev pub IsOneMore : Refusals → Refusals → Type 0
+IsOneMore old new = new.interrupted ≡ old.interrupted + 1
+
+-- an interrupted call is made again, 2^64 - 1 times in a row
+abbrev pub IsWornOut : Refusals → Type 0
+IsWornOut refusals = 18446744073709551615 ≤ refusals.interrupted
+
+-- which refusal a fault of the shell tells of: a line that isn't allowed, and that numbers run out, are none
 abbrev pub IsRefused : ShellFault → Refusals → Type 0
 IsRefused (BadLine n) refusals = ⊥
-IsRefused Input refusals = refusals.input ≡ true
-IsRefused Output refusals = refusals.output ≡ true
+IsRefused Input refusals = (refusals.input ≡ true) ⊎ IsWornOut refusals
+IsRefused Output refusals = (refusals.output ≡ true) ⊎ IsWornOut refusals
 IsRefused NoMemory refusals = refusals.memory ≡ true
+IsRefused TooManyLines refusals = ⊥
 
 abbrev pub IsCaused : ShellFault → Refusals → Type 0
 IsCaused (BadLine n) refusals = Unit {0}
+IsCaused TooManyLines refusals = Unit {0}
 IsCaused fault refusals = IsRefused fault refusals

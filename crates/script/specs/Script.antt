@@ -10,7 +10,7 @@ use Rattle.script.specs.Answers.{reply_text, ids_text, Shown, shown_text, index_
 use Rattle.script.specs.declared.line.Line.{Line}
 use Rattle.script.specs.declared.line.Line.TheVariants.{Do, Ids, Page, Entries}
 use Rattle.script.specs.declared.fault.ShellFault.{ShellFault}
-use Rattle.script.specs.declared.fault.ShellFault.TheVariants.{BadLine}
+use Rattle.script.specs.declared.fault.ShellFault.TheVariants.{BadLine, TooManyLines}
 
 -- a line that was read and answered: a step with its reply, or a look at the ids, a page or an index with what it showed
 pub data Event : Type 0 where
@@ -98,13 +98,16 @@ abbrev pub Begins : Option (List ℕ) → Option (List ℕ) → List ℕ → Typ
 Begins before after text = (left : List ℕ) × Gives before after text left
 
 -- what a script's result says of its input and of what was written: without a fault all lines were read and answered; after bad
--- line n those before it were, and it is the first that isn't allowed; after another fault a beginning of the answers was written
+-- line n those before it were, and it is the first that isn't allowed; where the numbers of lines ran out, all lines with a number
+-- were read; after another fault a beginning of the answers was written
 abbrev pub Outcome : Result (Unit {0}) ShellFault → List ℕ → Option (List ℕ) → Option (List ℕ) → Type 0
 Outcome (Ok u) input before after = (settings : Settings) × (events : List Event)
     × IsScriptRun settings events × (input ≡ script settings events) × Appends before after (answers_of events)
 Outcome (Err (BadLine n)) input before after = ((n ≡ 1) × Appends before after [] × IsBadHeading input)
     ⊎ ((settings : Settings) × (events : List Event) × (rest : List ℕ) × IsScriptRun settings events
     × (input ≡ script settings events ++ rest) × IsBadLine rest × (n ≡ length events + 2) × Appends before after (answers_of events))
+Outcome (Err TooManyLines) input before after = (settings : Settings) × (events : List Event) × (rest : List ℕ) × IsScriptRun settings events
+    × (input ≡ script settings events ++ rest) × (length events + 2 ≡ 18446744073709551615) × Begins before after (answers_of events)
 Outcome (Err fault) input before after = Appends before after []
     ⊎ ((settings : Settings) × (events : List Event) × (rest : List ℕ) × IsScriptRun settings events
     × (input ≡ script settings events ++ rest) × Begins before after (answers_of events))

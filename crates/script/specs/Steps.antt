@@ -6,7 +6,7 @@ use Rattle.script.specs.Engine.{State}
 use Rattle.script.specs.Grammar.{IsAllowed, Fits, spelling, with_feed}
 use Rattle.script.specs.Script.{Event, line_of, answer_of, lines_of, answers_of, Moves, Leads, IsBadLine, IsBadHeading, Begins}
 use Rattle.script.specs.declared.fault.ShellFault.{ShellFault}
-use Rattle.script.specs.declared.fault.ShellFault.TheVariants.{BadLine}
+use Rattle.script.specs.declared.fault.ShellFault.TheVariants.{BadLine, TooManyLines}
 
 -- what a line asks for was done, and its answer is added
 abbrev pub Does : List ℕ → State → State → List ℕ → List ℕ → Type 0
@@ -16,6 +16,7 @@ Does text from to old new = (e : Event) × Fits (line_of e) × (text ≡ spellin
 abbrev pub Ends : Result (Unit {0}) ShellFault → ℕ → List ℕ → Option (List ℕ) → Option (List ℕ) → List ℕ → Type 0
 Ends (Ok u) lines left before after text = (left ≡ []) × Appends before after text
 Ends (Err (BadLine n)) lines left before after text = (n ≡ lines + 2) × IsBadLine left × Appends before after text
+Ends (Err TooManyLines) lines left before after text = (lines + 2 ≡ 18446744073709551615) × Begins before after text
 Ends (Err fault) lines left before after text = Begins before after text
 
 -- lines at the front of the input are run, and their answers written behind the text
@@ -39,4 +40,5 @@ Uses before after old used new = (more : List ℕ) × Consumes before after more
 -- why there is no engine: the first line is bad, or a fault came
 abbrev pub MatchesHeading : ShellFault → Option (List ℕ) → Type 0
 MatchesHeading (BadLine n) input = (n ≡ 1) × IfSome input (λ bytes. IsBadHeading bytes)
+MatchesHeading TooManyLines input = ⊥
 MatchesHeading fault input = Unit {0}

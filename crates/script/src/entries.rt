@@ -5,25 +5,24 @@ ghost use Rattle.std.specs.Fmt.{signed_decimal};
 ghost use Rattle.script.specs.Grammar.{spaced, with_feed};
 ghost use Rattle.script.specs.Answers.{entry_text, entry_lines, index_head_text, index_text, no_index_text};
 
+use crate::growth::{Refused, extend, push};
 use crate::telling::{label, spaced_number};
 use itoa::Buffer;
 use root_index::{Entry, RootIndex};
-use std::alloc::AllocError;
 
 // A space and a value, which has its sign and up to 128 bits.
-fn spaced_value(out: &mut Vec<u8>, value: i128) -> Result<(), AllocError>
+fn spaced_value(out: &mut Vec<u8>, value: i128) -> Result<(), Refused>
     ensures { OnOk result (out.new.items ≡ out.old.items ++ spaced (signed_decimal value)) }
 {
     let mut buffer = Buffer::new();
-    out.push(b' ')?;
-    out.extend_from_slice(buffer.format(value).as_bytes())?;
-    Ok(())
+    push(out, b' ')?;
+    extend(out, buffer.format(value).as_bytes())
 }
 
-fn entry(out: &mut Vec<u8>, entry: &Entry) -> Result<(), AllocError>
+fn entry(out: &mut Vec<u8>, entry: &Entry) -> Result<(), Refused>
     ensures { OnOk result (out.new.items ≡ out.old.items ++ entry_text entry.now) }
 {
-    out.extend_from_slice(b"entry")?;
+    extend(out, b"entry")?;
     spaced_value(out, entry.value)?;
     spaced_number(out, entry.key)?;
     spaced_number(out, u64::from(entry.tid.page))?;
@@ -31,14 +30,14 @@ fn entry(out: &mut Vec<u8>, entry: &Entry) -> Result<(), AllocError>
 }
 
 // A line feed, and then the line of an entry.
-fn entry_line(out: &mut Vec<u8>, one: &Entry) -> Result<(), AllocError>
+fn entry_line(out: &mut Vec<u8>, one: &Entry) -> Result<(), Refused>
     ensures { OnOk result (out.new.items ≡ out.old.items ++ 10 ∷ entry_text one.now) }
 {
-    out.push(b'\n')?;
+    push(out, b'\n')?;
     entry(out, one)
 }
 
-fn entries(out: &mut Vec<u8>, index: &RootIndex) -> Result<(), AllocError>
+fn entries(out: &mut Vec<u8>, index: &RootIndex) -> Result<(), Refused>
     ensures { OnOk result (out.new.items ≡ out.old.items ++ entry_lines index.now.entries) }
 {
     index.is_ascending();
@@ -52,7 +51,7 @@ fn entries(out: &mut Vec<u8>, index: &RootIndex) -> Result<(), AllocError>
     Ok(())
 }
 
-fn index_head(out: &mut Vec<u8>, number: u8, index: &RootIndex) -> Result<(), AllocError>
+fn index_head(out: &mut Vec<u8>, number: u8, index: &RootIndex) -> Result<(), Refused>
     ensures { OnOk result (out.new.items ≡ out.old.items ++ index_head_text number (length index.now.entries)) }
 {
     label(out, b"entries", u64::from(number))?;
@@ -60,18 +59,17 @@ fn index_head(out: &mut Vec<u8>, number: u8, index: &RootIndex) -> Result<(), Al
 }
 
 // Adds the lines of an index: one of the index, and one of each entry.
-pub(crate) fn tell_index(out: &mut Vec<u8>, number: u8, index: &RootIndex) -> Result<(), AllocError>
+pub(crate) fn tell_index(out: &mut Vec<u8>, number: u8, index: &RootIndex) -> Result<(), Refused>
     ensures { OnOk result (out.new.items ≡ out.old.items ++ with_feed (index_text number (Some index.now.entries))) }
 {
     index_head(out, number, index)?;
     entries(out, index)?;
-    out.push(b'\n')?;
-    Ok(())
+    push(out, b'\n')
 }
 
 // Adds the line for an index that isn't there.
-pub(crate) fn tell_no_index(out: &mut Vec<u8>) -> Result<(), AllocError>
+pub(crate) fn tell_no_index(out: &mut Vec<u8>) -> Result<(), Refused>
     ensures { OnOk result (out.new.items ≡ out.old.items ++ with_feed no_index_text) }
 {
-    out.extend_from_slice(b"error 20 NoSuchIndex\n")
+    extend(out, b"error 20 NoSuchIndex\n")
 }

@@ -11,27 +11,30 @@ pub enum ShellFault {
     /// The line of this number, counted from 1, isn't allowed.
     #[error("bad line {0}")]
     BadLine(u64),
-    /// The reader answered an error.
+    /// The reader answered an error that is no interruption, or its reads were interrupted over and over.
     #[error("input fault")]
     Input,
-    /// The writer answered an error, or took nothing.
+    /// The writer answered such an error, took nothing, or its writes were interrupted over and over.
     #[error("output fault")]
     Output,
-    /// A growth was refused, or the numbers of lines, which end at 2^64 - 1, ran out.
+    /// A growth was refused.
     #[error("no memory")]
     NoMemory,
+    /// The numbers of lines, which end at 2^64 - 1, ran out.
+    #[error("too many lines")]
+    TooManyLines,
 }
 
 impl ShellFault {
     /// The status that the program ends with: 1 after a bad line, 2 after a fault of the reader or the writer, 3 for want of
-    /// memory.
+    /// memory or of numbers.
     pub fn status(&self) -> u8
         ensures { result ≡ status_of self.now }
     {
         match self {
             ShellFault::BadLine(_) => 1,
             ShellFault::Input | ShellFault::Output => 2,
-            ShellFault::NoMemory => 3,
+            ShellFault::NoMemory | ShellFault::TooManyLines => 3,
         }
     }
 }

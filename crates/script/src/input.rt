@@ -6,16 +6,14 @@ ghost use Rattle.script.specs.Pieces.{Takes};
 ghost use Rattle.script.specs.Refusals.{IsRefused};
 
 use crate::fault::ShellFault;
-use crate::watch::Watch;
-use std::alloc::{AllocError, Global};
-use std::io::{ErrorKind, Read};
+use crate::growth::{Refused, buffer};
+use crate::watch::{Watch, is_interruption};
+use std::alloc::Global;
+use std::io::Read;
 use std::marker::Model;
 
 /// The longest line, its line feed not counted.
 pub(crate) const MAX_LINE: usize = 4096;
-
-// How many bytes are read at once, at most.
-const CAPACITY: usize = 65536;
 
 /// What was read and not used yet, from `start` to `end` of a buffer that never grows.
 #[derive(Drop)]
@@ -35,7 +33,7 @@ impl Model for Pending {
     ghost invariant = { λ p. (p.start ≤ p.end) × (p.end ≤ length p.bytes.items) × (length p.bytes.items ≡ 65536) };
 }
 
-// Reads once, and again where the read was interrupted.
+// Reads once, and again as long as the read is interrupted.
 fn read_some<R: Read, W>(
     watch: &mut Watch<R, W>,
     reader: &mut R,
@@ -47,29 +45,26 @@ fn read_some<R: Read, W>(
     ensures err { OnErr result (Keeps (R.remaining reader.old) (R.remaining reader.new)) }
     ensures fault { IfErr result (λ e. IsRefused e watch.new) }
 {
-    for _ in 0..u64::MAX {
+    while watch.may_try() {
         match watch.read(reader, buf) {
             Ok(n) => return Ok(n),
             Err(e) => {
-                if e.kind() != ErrorKind::Interrupted {
+                if !is_interruption(&e) {
                     return Err(ShellFault::Input);
                 }
             }
         }
     }
-    match watch.read(reader, buf) {
-        Ok(n) => Ok(n),
-        Err(_) => Err(ShellFault::Input),
-    }
+    Err(ShellFault::Input)
 }
 
 impl Pending {
     // Nothing was read yet.
-    pub(crate) fn new(alloc: Global) -> Result<Pending, AllocError>
+    pub(crate) fn new(alloc: Global) -> Result<Pending, Refused>
         ensures { IfOk result (λ p. p ≡ []) }
     {
         Ok(Pending {
-            bytes: vec![in alloc; 0; CAPACITY]?,
+            bytes: buffer(alloc)?,
             start: 0,
             end: 0,
         })

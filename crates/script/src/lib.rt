@@ -11,6 +11,7 @@ mod answer;
 mod command;
 mod entries;
 mod fault;
+mod growth;
 mod heading;
 mod input;
 mod line;

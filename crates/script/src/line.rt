@@ -5,9 +5,10 @@ ghost use Rattle.std.specs.Option.{option_map};
 ghost use Rattle.script.specs.Verbs.{verb_of, verb_in, other_verbs};
 ghost use Rattle.script.specs.Reading.{number_of, row_words_of, key_words_of, count_words_of, range_words_of, line_of, line_at as line_at_of};
 
+use crate::growth::Refused;
 use crate::words::{body, bound, bound_then, column_then, cut, number, number_then};
 use session_core::{RowIn, Step};
-use std::alloc::{AllocError, Global};
+use std::alloc::Global;
 
 /// What a line asks for.
 #[derive(Debug, Drop)]
@@ -98,7 +99,7 @@ fn verb_at(word: &[u8]) -> Option<Verb>
 
 // A session and a row.
 #[tactic(auto, unfolding(crate::specs::Reading::row_words_of))]
-fn row(alloc: Global, text: &[u8]) -> Result<Option<(u8, RowIn)>, AllocError>
+fn row(alloc: Global, text: &[u8]) -> Result<Option<(u8, RowIn)>, Refused>
     ensures { IfOk result (λ o. option_map (λ p. (p.0, p.1)) o ≡ row_words_of text.now) }
 {
     let Some((s, rest)) = number_then(text, 255) else {
@@ -178,7 +179,7 @@ fn page(word: &[u8]) -> Option<u32>
 }
 
 // What a verb asks for with the words behind it.
-fn line_with(alloc: Global, verb: Verb, rest: &[u8]) -> Result<Option<Line>, AllocError>
+fn line_with(alloc: Global, verb: Verb, rest: &[u8]) -> Result<Option<Line>, Refused>
     ensures { IfOk result (λ o. o ≡ line_of verb rest.now) }
 {
     match verb {
@@ -206,7 +207,7 @@ fn line_with(alloc: Global, verb: Verb, rest: &[u8]) -> Result<Option<Line>, All
 
 // What a line asks for, if it is allowed. The line has no line feed.
 #[tactic(auto, unfolding(crate::specs::Reading::line_at))]
-pub(crate) fn line_at(alloc: Global, line: &[u8]) -> Result<Option<Line>, AllocError>
+pub(crate) fn line_at(alloc: Global, line: &[u8]) -> Result<Option<Line>, Refused>
     ensures { IfOk result (λ o. o ≡ line_at_of line.now) }
 {
     if line == b"ids".as_slice() {

@@ -6,10 +6,10 @@ ghost use Rattle.script.specs.Pieces.{Gives};
 ghost use Rattle.script.specs.Refusals.{IsRefused};
 
 use crate::fault::ShellFault;
-use crate::watch::Watch;
-use std::io::{ErrorKind, Write};
+use crate::watch::{Watch, is_interruption};
+use std::io::Write;
 
-// Writes once, and again where the write was interrupted. A writer that takes nothing has refused.
+// Writes once, and again as long as the write is interrupted. A writer that takes nothing has refused.
 fn write_some<R, W: Write>(
     watch: &mut Watch<R, W>,
     writer: &mut W,
@@ -22,21 +22,18 @@ fn write_some<R, W: Write>(
     ensures err { OnErr result (Appends (W.contents writer.old) (W.contents writer.new) []) }
     ensures fault { IfErr result (λ e. IsRefused e watch.new) }
 {
-    for _ in 0..u64::MAX {
+    while watch.may_try() {
         match watch.write(writer, rest) {
             Ok(0) => return Err(ShellFault::Output),
             Ok(n) => return Ok(n),
             Err(e) => {
-                if e.kind() != ErrorKind::Interrupted {
+                if !is_interruption(&e) {
                     return Err(ShellFault::Output);
                 }
             }
         }
     }
-    match watch.write(writer, rest) {
-        Ok(0) | Err(_) => Err(ShellFault::Output),
-        Ok(n) => Ok(n),
-    }
+    Err(ShellFault::Output)
 }
 
 // Writes the text and empties it. After a fault a beginning of it was written.

@@ -17,14 +17,15 @@ ghost use Rattle.script.specs.declared.line.Line.{Line};
 use crate::answer::answer;
 use crate::entries::{tell_index, tell_no_index};
 use crate::fault::ShellFault;
+use crate::growth::{Refused, new_engine};
 use crate::heading::settings_at;
 use crate::input::{MAX_LINE, Pending};
 use crate::line::{Line, line_at};
 use crate::output::write_out;
 use crate::telling::{tell_ids, tell_no_page, tell_page};
 use crate::watch::Watch;
-use session_core::{Engine, Reply, SettingsFault};
-use std::alloc::{AllocError, Global};
+use session_core::{Engine, Reply};
+use std::alloc::Global;
 use std::io::{Read, Write};
 
 // The text that is written out though more could be read without waiting.
@@ -75,7 +76,7 @@ fn next_line<R: Read, W: Write>(
 }
 
 // Shows a page, or that it isn't there.
-fn show_page(text: &mut Vec<u8>, engine: &Engine, number: u32) -> Result<(), AllocError>
+fn show_page(text: &mut Vec<u8>, engine: &Engine, number: u32) -> Result<(), Refused>
     ensures { OnOk result (text.new.items ≡ text.old.items ++ with_feed (shown_text number (shown_of engine.now number))) }
 {
     match (engine.page(number), engine.page_bits(number)) {
@@ -85,7 +86,7 @@ fn show_page(text: &mut Vec<u8>, engine: &Engine, number: u32) -> Result<(), All
 }
 
 // Shows the entries of an index, or that it isn't there.
-fn show_index(text: &mut Vec<u8>, engine: &Engine, number: u8) -> Result<(), AllocError>
+fn show_index(text: &mut Vec<u8>, engine: &Engine, number: u8) -> Result<(), Refused>
     ensures { OnOk result (text.new.items ≡ text.old.items ++ with_feed (index_text number (option_map (λ index. index.entries) (index_at engine.now number)))) }
 {
     match engine.index(number) {
@@ -102,7 +103,7 @@ fn do_line(
     reply: &mut Reply,
     text: &mut Vec<u8>,
     line: &[u8],
-) -> Result<bool, AllocError>
+) -> Result<bool, Refused>
     ensures done { IfOk result (λ b. OnTrue b (Does line.now engine.old engine.new text.old.items text.new.items)) }
     ensures bad { IfOk result (λ b. OnFalse b ((l : Line) → Fits l → line.now ≡ spelling l → ⊥)) }
     ensures same { IfOk result (λ b. OnFalse b (text.new.items ≡ text.old.items)) }
@@ -162,7 +163,7 @@ fn write_if_full<R, W: Write>(
 }
 
 // Does the lines behind the first, up to the end of the script or its first bad line. Lines have numbers of 64 bits: a script that
-// needs more of them ends as where a growth was refused.
+// needs more of them ends with a fault of its own.
 fn run_lines<R: Read, W: Write>(
     alloc: Global,
     watch: &mut Watch<R, W>,
@@ -189,14 +190,14 @@ fn run_lines<R: Read, W: Write>(
         match do_line(alloc, engine, &mut reply, text, &pending.as_slice()[..n]) {
             Ok(true) => {}
             Ok(false) => return close(watch, text, writer, Err(ShellFault::BadLine(number))),
-            Err(_) => return Err(watch.no_memory()),
+            Err(refused) => return Err(watch.no_memory(refused)),
         }
         pending.consume(n + 1);
         if let Err(fault) = write_if_full(watch, text, writer) {
             return Err(fault);
         }
     }
-    Err(watch.no_memory())
+    Err(ShellFault::TooManyLines)
 }
 
 // Makes the engine that the first line asks for, and uses that line.
@@ -226,15 +227,13 @@ fn first_line<R: Read, W: Write>(
     let Some(settings) = settings_at(&pending.as_slice()[..n]) else {
         return Err(ShellFault::BadLine(1));
     };
-    match Engine::new(alloc, settings) {
-        Ok(engine) => {
+    match new_engine(alloc, settings) {
+        Ok(Some(engine)) => {
             pending.consume(n + 1);
             Ok(engine)
         }
-        Err(fault) => match fault {
-            SettingsFault::NoMemory => Err(watch.no_memory()),
-            _ => Err(ShellFault::BadLine(1)),
-        },
+        Ok(None) => Err(ShellFault::BadLine(1)),
+        Err(refused) => Err(watch.no_memory(refused)),
     }
 }
 
@@ -251,7 +250,7 @@ fn run_watched<R: Read, W: Write>(
     let mut text = Vec::new(alloc);
     let mut pending = match Pending::new(alloc) {
         Ok(pending) => pending,
-        Err(_) => return Err(watch.no_memory()),
+        Err(refused) => return Err(watch.no_memory(refused)),
     };
     let mut engine = match first_line(alloc, watch, &mut pending, reader, &mut text, writer) {
         Ok(engine) => engine,
@@ -269,9 +268,9 @@ fn run_watched<R: Read, W: Write>(
 }
 
 /// Reads a script, and writes the answers to its lines. The watch, which is made here, says which call was refused: a fault of
-/// the reader is answered only where its last read answered an error, one of the writer only where its last write answered
-/// an error or took nothing of what there was, want of memory only where the shell noted that a growth was refused or the
-/// numbers of lines ran out.
+/// the reader is answered only where its last read answered an error that is no interruption, one of the writer only where its
+/// last write answered such an error or took nothing of what there was, or either where 2^64 - 1 calls in a row were interrupted,
+/// and want of memory only where a growth of the shell was refused.
 pub fn run_script<R: Read, W: Write>(
     alloc: Global,
     reader: &mut R,

@@ -4,7 +4,8 @@ ghost use Rattle.std.specs.Prelude.{◌≡◌, ◌<◌, ◌≤◌, ◌==◌, ◌
 ghost use Rattle.std.specs.Option.{option_map};
 ghost use Rattle.script.specs.Reading.{cut as cut_of, digits_on, number_of, number_then as number_then_of, column_of, column_then as column_then_of, bound_of, bound_then as bound_then_of, nibble_of, pairs_of, body_of};
 
-use std::alloc::{AllocError, Global};
+use crate::growth::{Refused, push, room_for_pairs};
+use std::alloc::Global;
 
 // The index of the first space.
 fn space(text: &[u8]) -> Option<usize>
@@ -166,13 +167,13 @@ fn nibble(c: u8) -> Option<u8>
 }
 
 #[tactic(auto, using(crate::proofs::ReadingLemmas::pair_lemmas))]
-fn pairs(alloc: Global, word: &[u8]) -> Result<Option<Vec<u8>>, AllocError>
+fn pairs(alloc: Global, word: &[u8]) -> Result<Option<Vec<u8>>, Refused>
     ensures { IfOk result (λ o. option_map (λ v. v.items) o ≡ pairs_of word.now) }
 {
     if word.len() % 2 != 0 {
         return Ok(None);
     }
-    let mut bytes = Vec::with_capacity(alloc, word.len() / 2)?;
+    let mut bytes = room_for_pairs(alloc, word)?;
     for i in 0..word.len() / 2 {
         let Some(high) = nibble(word[2 * i]) else {
             return Ok(None);
@@ -180,14 +181,14 @@ fn pairs(alloc: Global, word: &[u8]) -> Result<Option<Vec<u8>>, AllocError>
         let Some(low) = nibble(word[2 * i + 1]) else {
             return Ok(None);
         };
-        bytes.push(16 * high + low)?;
+        push(&mut bytes, 16 * high + low)?;
     }
     Ok(Some(bytes))
 }
 
 // The bytes of a body: two digits each, or a minus for none.
 #[tactic(auto, unfolding(crate::specs::Reading::body_of))]
-pub(crate) fn body(alloc: Global, word: &[u8]) -> Result<Option<Vec<u8>>, AllocError>
+pub(crate) fn body(alloc: Global, word: &[u8]) -> Result<Option<Vec<u8>>, Refused>
     ensures { IfOk result (λ o. option_map (λ v. v.items) o ≡ body_of word.now) }
 {
     match word {

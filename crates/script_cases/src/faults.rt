@@ -70,14 +70,15 @@ static RUN_FAULTS: [(RunFault, &str); 2] = [
     (RunFault::NoMemory, "there is no memory"),
 ];
 
-static SHELL_FAULTS: [(ShellFault, &str); 4] = [
+static SHELL_FAULTS: [(ShellFault, &str); 5] = [
     (ShellFault::BadLine(7), "bad line 7"),
     (ShellFault::Input, "input fault"),
     (ShellFault::Output, "output fault"),
     (ShellFault::NoMemory, "no memory"),
+    (ShellFault::TooManyLines, "too many lines"),
 ];
 
-static STATUSES: [u8; 4] = [1, 2, 2, 3];
+static STATUSES: [u8; 5] = [1, 2, 2, 3, 3];
 
 // The place of the first fault that has other words.
 fn first_wrong<T: Display>(

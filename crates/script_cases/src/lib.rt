@@ -16,4 +16,6 @@ mod headings;
 #[cfg(test)]
 mod lines;
 #[cfg(test)]
+mod prompts;
+#[cfg(test)]
 mod runs;

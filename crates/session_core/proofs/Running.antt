@@ -1,6 +1,6 @@
 -- A run of the engine goes on by one step.
-use Rattle.std.proofs.Common.{ℕ, ◌<◌, ◌≤◌, ◌+◌, List, [], ◌∷◌, ◌++◌, take, get_or, length, refl, sym, subst}
-use Rattle.std.proofs.lemmas.List.{take_more, take_all}
+use Rattle.std.proofs.Common.{ℕ, ◌<◌, ◌≤◌, ◌+◌, List, [], ◌∷◌, ◌++◌, take, drop, get_or, length, refl, sym, subst, ap, ◌∙◌, ◌≡◌, arith, add-one, drop-cons, zero, suc, false, true}
+use Rattle.std.proofs.lemmas.List.{take_more, take_all, take-append-drop}
 use Rattle.session_relation.specs.declared.settings.Settings.{Settings}
 use Rattle.session_relation.specs.declared.step.Step.{Step}
 use Rattle.session_relation.specs.declared.reply.Reply.{Reply}
@@ -10,6 +10,16 @@ use Rattle.session_core.specs.State.{State}
 use Rattle.session_core.specs.Agrees.{Agrees, Follows}
 use Rattle.session_core.specs.Exact.{Exact}
 use Rattle.session_core.specs.Runs.{IsNew, Leads, Ran}
+
+-- a list before, at and behind a place
+pub split_at : (steps : List Step) (i : ℕ) (x : Step) → i < length steps → x ≡ get_or steps i x → steps ≡ take i steps ++ x ∷ drop (i + 1) steps
+split_at steps i x within is =
+    let here : drop i steps ≡ get_or steps i x ∷ drop (i + 1) steps = rw (add-one, drop-cons steps i x) refl in
+    sym (take-append-drop i steps) ∙ ap (λ r. take i steps ++ r) here ∙ ap (λ y. take i steps ++ y ∷ drop (i + 1) steps) (sym is)
+
+pub positive : (n : ℕ) → (n ≡ 0 → false ≡ true) → 0 < n
+positive zero some = absurd (let e = some refl in cc)
+positive (suc n) some = omega arith
 
 Leads-push : (old : State) (steps : List Step) (replies : List Reply) (mid : State) (step : Step) (reply : Reply) (new : State) → Leads old steps replies mid
     → Follows mid step reply new → Exact mid step reply new → Leads old (steps ++ step ∷ []) (replies ++ reply ∷ []) new

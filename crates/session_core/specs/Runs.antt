@@ -1,5 +1,5 @@
 -- Runs of the engine.
-use Rattle.std.specs.Prelude.{List, [], ◌∷◌, ◌≡◌, ℕ}
+use Rattle.std.specs.Prelude.{List, [], ◌∷◌, ◌++◌, ◌≡◌, ◌<◌, ℕ, length}
 use Rattle.history.specs.World.{beginning}
 use Rattle.heap_write.specs.Indexes.{entries_at, new_entries}
 use Rattle.session_relation.specs.declared.settings.Settings.{Settings}
@@ -7,6 +7,7 @@ use Rattle.session_relation.specs.declared.settings.SettingsFault.TheVariants as
 use Rattle.session_relation.specs.declared.step.Step.{Step}
 use Rattle.session_relation.specs.declared.reply.Reply.{Reply}
 use Rattle.session_relation.specs.Words.{AreSettings, FirstFault}
+use Rattle.session_relation.specs.Writes.{HasBody}
 use Rattle.session_relation.specs.Allowed.{after}
 use Rattle.session_core.specs.declared.runs.RunFault.{RunFault}
 use Rattle.session_core.specs.declared.runs.RunFault.TheVariants as fault
@@ -38,7 +39,18 @@ pub record Ran (settings : Settings) (steps : List Step) (replies : List Reply) 
   pub leads : Leads first steps replies last
   pub agrees : Agrees last (after (beginning settings.indexed) steps replies)
 
+-- What had to grow, where memory was refused: the list of the replies, before the first step, or the copy of a step with a body,
+-- when those before it were done.
+pub data WantsMemory (old : State) (steps : List Step) (new : State) : Type 0 where
+  for_replies : 0 < length steps → old ≡ new → WantsMemory old steps new
+  for_copy : (done more : List Step) (step : Step) (replies : List Reply) → steps ≡ done ++ step ∷ more → Leads old done replies new → HasBody step → WantsMemory old steps new
+
+-- memory was refused to a new engine, or when there was one
+pub data WantsToRun (settings : Settings) (steps : List Step) : Type 0 where
+  for_engine : AreSettings settings → WantsToRun settings steps
+  for_steps : (first last : State) → IsNew settings first → AreSettings settings → WantsMemory first steps last → WantsToRun settings steps
+
 -- a setting is the first out of its range, or all are in theirs and memory was refused
-abbrev pub FirstRunFault : Settings → RunFault → Type 0
-FirstRunFault settings (fault.Settings f) = FirstFault settings f × (f ≡ setting.NoMemory → ⊥)
-FirstRunFault settings fault.NoMemory = AreSettings settings
+abbrev pub FirstRunFault : Settings → List Step → RunFault → Type 0
+FirstRunFault settings steps (fault.Settings f) = FirstFault settings f × (f ≡ setting.NoMemory → ⊥)
+FirstRunFault settings steps fault.NoMemory = WantsToRun settings steps

@@ -1,6 +1,6 @@
-use Rattle.std.proofs.Common.{refl}
+use Rattle.std.proofs.Common.{refl, arith}
 use Rattle.script.proofs.PiecesLemmas.{Gives-refl, Takes-refl, Keeps-refl}
-use Rattle.script.proofs.RunLemmas.{Progress-more, Progress-line, adv_fault, adv_close, refused_growth, bad_from_none, bad_from_line}
+use Rattle.script.proofs.RunLemmas.{Progress-more, Progress-line, adv_fault, adv_close, adv_over, refused_growth, bad_from_none, bad_from_line, caused_by, closed_caused}
 use Rattle.script.proofs.run.run_lines.Goals as goal
 
 pub returns-in-Err-clause-advances : goal.returns-in-Err-clause-advances
@@ -52,4 +52,19 @@ loop-number-preserved g c =
     rw c.consume.ensures (Progress-more _ _ _ _ _ _ _ _ _ _ _ _ _ _ _ k (Takes-refl _ _ _ (Keeps-refl _)) c.in_default.ensures.ok)
 
 pub returns-clause-advances : goal.returns-clause-advances
-returns-clause-advances g c = adv_fault _ _ _ _ _ _ _ _ _ _ _ _ _ _ c.loop-number.invariant (refused_growth _ c.no_memory-2.new.self c.no_memory-2.ensures.fault c.no_memory-2.ensures.memory) (_, Gives-refl _ _)
+returns-clause-advances g c = adv_over _ _ _ _ _ _ _ _ _ _ _ c.loop-number.invariant (omega (arith, c.loop-number-test.false, c.loop-number.auto.number-end))
+
+pub returns-in-Err-clause-caused : goal.returns-in-Err-clause-caused
+returns-in-Err-clause-caused g c = caused_by _ _ c.in-Err.ensures.fault
+
+pub returns-in-Bad-clause-caused : goal.returns-in-Bad-clause-caused
+returns-in-Bad-clause-caused g c = closed_caused _ _ _ c.close.ensures tt
+
+pub returns-in-End-clause-caused : goal.returns-in-End-clause-caused
+returns-in-End-clause-caused g c = closed_caused _ _ _ c.close-in-End.ensures tt
+
+pub returns-in-Ok-false-clause-caused : goal.returns-in-Ok-false-clause-caused
+returns-in-Ok-false-clause-caused g c = closed_caused _ _ _ c.close-in-Ok-false.ensures tt
+
+pub returns-in-Err-write_if_full-clause-caused : goal.returns-in-Err-write_if_full-clause-caused
+returns-in-Err-write_if_full-clause-caused g c = caused_by _ _ c.in-Err-write_if_full.ensures.fault

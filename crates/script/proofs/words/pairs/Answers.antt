@@ -4,7 +4,7 @@ use Rattle.script.proofs.words.pairs.Goals as goal
 
 pub loop-i-preserved : goal.loop-i-preserved
 loop-i-preserved c =
-    rw c.in_ok-push.ensures.items (
+    rw c.in_ok-push.ensures.added (
     sym (pairs_step c.args.word.now c.loop-i.bytes.items c.loop-i.i c.in-Some.high c.in-Some-nibble.low (omega arith) (sym c.in-Some.ensures.value) (sym c.in-Some-nibble.ensures.value))
     ∙ c.loop-i.invariant
     )

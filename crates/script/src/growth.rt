@@ -1,0 +1,80 @@
+//! All growths of the shell.
+//!
+//! Each function here asks for memory once, for no more than the bytes that it is given need, or for one buffer or engine. A
+//! [`Refused`] is made of the refusal of that request, and of nothing else: no other module can make one.
+
+ghost use Rattle.std.specs.Prelude.{◌≡◌, ◌∷◌, ◌++◌, ◌+◌, ◌/◌, ◌<◌, ◌≤◌, [], length, vec_len, vec_capacity, IfOk, OnOk, OnErr, MatchOption};
+ghost use Rattle.script.specs.Engine.{AreSettings, IsNew};
+
+use session_core::{Engine, Settings, SettingsFault};
+use std::alloc::Global;
+
+/// That a growth was refused.
+#[derive(Drop)]
+pub(crate) struct Refused {
+    _of_this_module: (),
+}
+
+const REFUSED: Refused = Refused {
+    _of_this_module: (),
+};
+
+/// Adds a byte.
+pub(crate) fn push(out: &mut Vec<u8>, byte: u8) -> Result<(), Refused>
+    ensures added { OnOk result (out.new.items ≡ out.old.items ++ byte ∷ []) }
+    ensures full { OnErr result (vec_capacity out.old ≤ vec_len out.old) }
+{
+    match out.push(byte) {
+        Ok(()) => Ok(()),
+        Err(_) => Err(REFUSED),
+    }
+}
+
+/// Adds bytes.
+pub(crate) fn extend(out: &mut Vec<u8>, bytes: &[u8]) -> Result<(), Refused>
+    ensures added { OnOk result (out.new.items ≡ out.old.items ++ bytes.now) }
+    ensures full { OnErr result (vec_capacity out.old < vec_len out.old + length bytes.now) }
+{
+    match out.extend_from_slice(bytes) {
+        Ok(()) => Ok(()),
+        Err(_) => Err(REFUSED),
+    }
+}
+
+/// An empty list with room for the bytes that a word spells, two digits each.
+pub(crate) fn room_for_pairs(alloc: Global, word: &[u8]) -> Result<Vec<u8>, Refused>
+    ensures empty { IfOk result (λ bytes. bytes.items ≡ []) }
+    ensures some { OnErr result (0 < length word.now / 2) }
+{
+    match Vec::with_capacity(alloc, word.len() / 2) {
+        Ok(bytes) => Ok(bytes),
+        Err(_) => Err(REFUSED),
+    }
+}
+
+/// How many bytes a buffer has.
+pub(crate) const CAPACITY: usize = 65536;
+
+/// A buffer of zeros.
+pub(crate) fn buffer(alloc: Global) -> Result<Vec<u8>, Refused>
+    ensures { IfOk result (λ bytes. length bytes.items ≡ 65536) }
+{
+    match vec![in alloc; 0; CAPACITY] {
+        Ok(bytes) => Ok(bytes),
+        Err(_) => Err(REFUSED),
+    }
+}
+
+/// A new engine of these settings, where they are in range.
+pub(crate) fn new_engine(alloc: Global, settings: Settings) -> Result<Option<Engine>, Refused>
+    ensures made { IfOk result (λ made. MatchOption made (AreSettings settings → ⊥) (λ e. IsNew settings e × AreSettings settings)) }
+    ensures valid { OnErr result (AreSettings settings) }
+{
+    match Engine::new(alloc, settings) {
+        Ok(engine) => Ok(Some(engine)),
+        Err(fault) => match fault {
+            SettingsFault::NoMemory => Err(REFUSED),
+            _ => Ok(None),
+        },
+    }
+}
