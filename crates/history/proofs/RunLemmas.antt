@@ -1,17 +1,19 @@
 -- What every run keeps.
 use Rattle.std.proofs.Common.{◌≡◌, ◌≢◌, ℕ, ◌<◌, ◌≤◌, List, [], ◌∷◌, ◌++◌, length, Bool, Option, Some, None, refl, sym, ap, ◌∙◌, subst, arith, ◌⊎◌, inl, inr, length-append, append_assoc}
-use Rattle.std.specs.Prelude.{IsSome}
+use Rattle.std.specs.Prelude.{IsSome, Contains}
 use Rattle.std.specs.Option.{option_map, option_or}
 use Rattle.std.proofs.lemmas.Bool.{cases_eq, cases_lt}
 use Rattle.std.proofs.lemmas.Option.{slice_get_within, same_Some, none-some}
 use Rattle.std.proofs.lemmas.List.{append-nil}
+use Rattle.std.proofs.lemmas.List.Elements.{Contains-push_cases, Contains-append_left}
+use Rattle.tuple_header.specs.declared.version.Row.{Row}
 use Rattle.history.specs.History.{Write, Transaction, written, IsLate}
 use Rattle.history.specs.World.{World, OpenSession, beginning, joined, own_write, view, Holds, MayWrite}
 use Rattle.history.specs.Moves.{put, change, add_write, with_write, as_failed, with_savepoint, empty_newest, to_savepoint, without_savepoint, without_cursor, aborted, transaction_of, appended, committed_by}
 use Rattle.history.specs.Events.{Happens, passes, begins, inserts, updates, deletes, conflicts, waits, deadlocks, saves, rolls_back_to, releases, commits, aborts, opens_index, opens_heap, opens_keys, takes, takes_keys, closes, Leads, stays, goes_on}
 use Rattle.history.specs.Laws.{FirstCommitterWins, HeldInTime, HeldOnce, Grows, KeepsView}
 use Rattle.history.proofs.Places.{slice_get-push_cases}
-use Rattle.history.proofs.HistoryLemmas.{at_same, at_other, said-other, written-append, written-push, joined-add_write, joined-join_newest, IsLate-push_cases, reading-append_history, IsSome-or_second}
+use Rattle.history.proofs.HistoryLemmas.{at_same, at_other, joined-add_write, joined-join_newest, IsLate-push_cases, reading-append_history, among-written, written-among, fewer-written}
 
 -- what holds after every step
 pub record Lawful (w : World) : Type 0 where
@@ -20,17 +22,17 @@ pub record Lawful (w : World) : Type 0 where
   pub once : HeldOnce w
   pub first : FirstCommitterWins w.history
 
--- the key may be in the levels of the session s, if it has this start
-pub record MayHold (w : World) (s start key : ℕ) : Type 0 where
-  pub in_time : ¬ IsLate w.history start key
-  pub unheld : (o : ℕ) → o ≢ s → ¬ Holds w o key
+-- the session s may be m: what it has written is in time, and no other holds it
+pub record MayBe (w : World) (s : ℕ) (m : OpenSession) : Type 0 where
+  pub in_time : (write : Write) → Contains (joined m.levels) write → ¬ IsLate w.history write.start write.key
+  pub unheld : (key o : ℕ) → IsSome (own_write m key) → o ≢ s → ¬ Holds w o key
 
 pub Lawful-beginning : (columns : List Bool) → Lawful (beginning columns)
 Lawful-beginning columns = record {
   began = λ s m at. cc;
-  in_time = λ s key m at wrote. cc;
+  in_time = λ s m write at among. absurd (none-some m at);
   once = λ s o key holds held. absurd (let at = holds.1 in cc);
-  first = λ m n key t u at. cc;
+  first = λ m n a b at. absurd (none-some at.0 at.1);
 }
 
 -- the sessions after one has become something else
@@ -43,23 +45,23 @@ session-put_cases w s new t m at = elim (cases_eq t s) [
 
 -- one session changes
 pub Lawful-put : (w : World) (s : ℕ) (m : OpenSession) → Lawful w → m.start ≤ length w.history
-    → ((key : ℕ) → IsSome (own_write m key) → MayHold w s m.start key) → Lawful (put w s (Some m))
+    → MayBe w s m → Lawful (put w s (Some m))
 Lawful-put w s m h began may = record {
   began = λ t n at. elim (cases_at t n at) [
     | inl other ↦ h.began t n other.1
     | inr same ↦ subst (λ (n : OpenSession). n.start ≤ length w.history) (sym same.1) began
   ];
-  in_time = λ t key n at wrote. elim (cases_at t n at) [
-    | inl other ↦ h.in_time t key n other.1 wrote
-    | inr same ↦ subst (λ (n : OpenSession). ¬ IsLate w.history n.start key) (sym same.1) (may key (subst (λ n. IsSome (own_write n key)) same.1 wrote)).in_time
+  in_time = λ t n write at among. elim (cases_at t n at) [
+    | inl other ↦ h.in_time t n write other.1 among
+    | inr same ↦ may.in_time write (subst (λ (n : OpenSession). Contains (joined n.levels) write) same.1 among)
   ];
   once = λ t o key holds held. elim (cases_at t holds.0 holds.1) [
     | inl other ↦ elim (cases_at o held.0 held.1) [
       | inl other' ↦ h.once t o key (holds.0, other.1, holds.2) (held.0, other'.1, held.2)
-      | inr same' ↦ absurd ((may key (subst (λ n. IsSome (own_write n key)) same'.1 held.2)).unheld t other.0 (holds.0, other.1, holds.2))
+      | inr same' ↦ absurd (may.unheld key t (subst (λ n. IsSome (own_write n key)) same'.1 held.2) other.0 (holds.0, other.1, holds.2))
     ]
     | inr same ↦ elim (cases_at o held.0 held.1) [
-      | inl other' ↦ absurd ((may key (subst (λ n. IsSome (own_write n key)) same.1 holds.2)).unheld o other'.0 (held.0, other'.1, held.2))
+      | inl other' ↦ absurd (may.unheld key o (subst (λ n. IsSome (own_write n key)) same.1 holds.2) other'.0 (held.0, other'.1, held.2))
       | inr same' ↦ same.0 ∙ sym same'.0
     ]
   ];
@@ -76,7 +78,7 @@ session-ended w s t m at = elim (session-put_cases w s None t m at) [ inl other 
 pub Lawful-idle : (w : World) (s : ℕ) → Lawful w → Lawful (put w s None)
 Lawful-idle w s h = record {
   began = λ t n at. h.began t n (session-ended w s t n at).1;
-  in_time = λ t key n at wrote. h.in_time t key n (session-ended w s t n at).1 wrote;
+  in_time = λ t n write at among. h.in_time t n write (session-ended w s t n at).1 among;
   once = λ t o key holds held. h.once t o key (holds.0, (session-ended w s t holds.0 holds.1).1, holds.2) (held.0, (session-ended w s o held.0 held.1).1, held.2);
   first = h.first;
 }
@@ -85,44 +87,60 @@ Lawful-idle w s h = record {
 pub Lawful-aborted : (w : World) (s : ℕ) → Lawful w → Lawful (aborted w s)
 Lawful-aborted w s h = let ended = Lawful-idle w s h in record { began = ended.began; in_time = ended.in_time; once = ended.once; first = ended.first }
 
--- a session may hold what it holds
-pub may_hold : (w : World) (s : ℕ) (m : OpenSession) (key : ℕ) → Lawful w → w.session s ≡ Some m → IsSome (own_write m key) → MayHold w s m.start key
-may_hold w s m key h at wrote = record {
-  in_time = h.in_time s key m at wrote;
-  unheld = λ o ne held. ne (h.once o s key held (m, at, wrote));
+-- a session may be what it is
+pub may_be : (w : World) (s : ℕ) (m : OpenSession) → Lawful w → w.session s ≡ Some m → MayBe w s m
+may_be w s m h at = record {
+  in_time = λ write among. h.in_time s m write at among;
+  unheld = λ key o wrote ne held. ne (h.once o s key held (m, at, wrote));
 }
 
--- a session changes, and holds no more than before
+-- a session changes, and has no more writes than before
 pub Lawful-change : (w : World) (s : ℕ) (f : OpenSession → OpenSession) (m : OpenSession) → Lawful w → w.session s ≡ Some m → (f m).start ≡ m.start
-    → ((key : ℕ) → IsSome (own_write (f m) key) → IsSome (own_write m key)) → Lawful (change w s f)
+    → ((write : Write) → Contains (joined (f m).levels) write → Contains (joined m.levels) write) → Lawful (change w s f)
 Lawful-change w s f m h at same fewer =
+    let may = may_be w s m h at in
     subst (λ n. Lawful (put w s n)) (sym (ap (option_map f) at))
-    (Lawful-put w s (f m) h (subst (λ n. n ≤ length w.history) (sym same) (h.began s m at))
-    (λ key wrote. subst (λ n. MayHold w s n key) (sym same) (may_hold w s m key h at (fewer key wrote))))
+    (Lawful-put w s (f m) h (subst (λ n. n ≤ length w.history) (sym same) (h.began s m at)) (record {
+      in_time = λ write among. may.in_time write (fewer write among);
+      unheld = λ key o wrote. may.unheld key o (fewer-written (joined (f m).levels) (joined m.levels) fewer key wrote);
+    }))
 
--- it holds one key more
-pub Lawful-write : (w : World) (s : ℕ) (write : Write) (m : OpenSession) → Lawful w → MayWrite w s write.key m
-    → Lawful (change w s (with_write write))
-Lawful-write w s write m h may =
-    subst (λ n. Lawful (put w s n)) (sym (ap (option_map (with_write write)) at))
-    (Lawful-put w s (with_write write m) h (h.began s m at) holds)
+-- it has one write more
+pub Lawful-write : (w : World) (s key : ℕ) (row : Option Row) (m : OpenSession) → Lawful w → MayWrite w s key m
+    → Lawful (change w s (with_write key row))
+Lawful-write w s key row m h may =
+    subst (λ n. Lawful (put w s n)) (sym (ap (option_map (with_write key row)) at))
+    (Lawful-put w s (with_write key row m) h (h.began s m at) (record { in_time = in_time; unheld = unheld }))
   where
     at : w.session s ≡ Some m
     at = may.writer.ready.there
 
-    holds : (key : ℕ) → IsSome (written (joined (add_write write m.levels)) key) → MayHold w s m.start key
-    holds key wrote = elim (cases_eq write.key key) [
-      | inl same ↦ subst (λ k. MayHold w s m.start k) same (record { in_time = may.in_time; unheld = may.unheld })
-      | inr ne ↦ may_hold w s m key h at (subst IsSome (ap (λ ws. written ws key) (joined-add_write write m.levels) ∙ (written-push (joined m.levels) write key ∙ ap (λ o. option_or o (own_write m key)) (said-other write key ne))) wrote)
+    new : Write
+    new = record { start = m.start; key = key; row = row }
+
+    cases : (write : Write) → Contains (joined (add_write new m.levels)) write → Contains (joined m.levels) write ⊎ (new ≡ write)
+    cases write among = Contains-push_cases (joined m.levels) new write (subst (λ ws. Contains ws write) (joined-add_write new m.levels) among)
+
+    in_time : (write : Write) → Contains (joined (add_write new m.levels)) write → ¬ IsLate w.history write.start write.key
+    in_time write among = elim (cases write among) [
+      | inl old ↦ h.in_time s m write at old
+      | inr is ↦ subst (λ (write : Write). ¬ IsLate w.history write.start write.key) is may.in_time
+    ]
+
+    unheld : (k o : ℕ) → IsSome (written (joined (add_write new m.levels)) k) → o ≢ s → ¬ Holds w o k
+    unheld k o wrote ne = let one = written-among (joined (add_write new m.levels)) k wrote in elim (cases one.0 one.1) [
+      | inl old ↦ (may_be w s m h at).unheld k o (subst (λ k. IsSome (own_write m k)) one.2 (among-written (joined m.levels) one.0 old)) ne
+      | inr is ↦ subst (λ k. ¬ Holds w o k) (ap (λ (write : Write). write.key) is ∙ one.2) (may.unheld o ne)
     ]
 
 -- the session's transaction joins the history
 pub Lawful-commit : (w : World) (s : ℕ) (m : OpenSession) → Lawful w → w.session s ≡ Some m → Lawful (committed_by w s)
 Lawful-commit w s m h at = subst (λ n. Lawful (record (aborted w s) { history = appended w.history n })) (sym at) (record {
   began = λ t n there. longer (ended.began t n there);
-  in_time = λ t key n there wrote late. elim (IsLate-push_cases w.history (transaction_of m) n.start key late) [
-    | inl old ↦ ended.in_time t key n there wrote old
-    | inr new ↦ (session-ended w s t n there).0 (h.once t s key (n, (session-ended w s t n there).1, wrote) (m, at, new))
+  in_time = λ t n write there among late. elim (IsLate-push_cases w.history (transaction_of m) write.start write.key late) [
+    | inl old ↦ ended.in_time t n write there among old
+    | inr new ↦ (session-ended w s t n there).0
+        (h.once t s write.key (n, (session-ended w s t n there).1, among-written (joined n.levels) write among) (m, at, new))
   ];
   once = ended.once;
   first = first;
@@ -135,54 +153,50 @@ Lawful-commit w s m h at = subst (λ n. Lawful (record (aborted w s) { history =
     longer {n} le = rw (length-append w.history (transaction_of m ∷ [])) (omega arith)
 
     first : FirstCommitterWins (w.history ++ transaction_of m ∷ [])
-    first a b key t u at_a at_b lt wrote_t wrote_u = elim (slice_get-push_cases w.history (transaction_of m) a t at_a) [
-      | inl old_a ↦ elim (slice_get-push_cases w.history (transaction_of m) b u at_b) [
-        | inl old_b ↦ h.first a b key t u old_a old_b lt wrote_t wrote_u
-        | inr new_b ↦ absurd (let in_list : a < length w.history = slice_get_within w.history a t old_a in let last : b ≡ length w.history = new_b.0 in omega arith)
+    first m' n a b at_a at_b same lt = elim (slice_get-push_cases w.history (transaction_of m) m' at_a.0 at_a.1) [
+      | inl old_a ↦ elim (slice_get-push_cases w.history (transaction_of m) n at_b.0 at_b.1) [
+        | inl old_b ↦ h.first m' n a b (at_a.0, old_a, at_a.2) (at_b.0, old_b, at_b.2) same lt
+        | inr new_b ↦ absurd (let in_list : m' < length w.history = slice_get_within w.history m' at_a.0 old_a in let last : n ≡ length w.history = new_b.0 in omega arith)
       ]
-      | inr new_a ↦ elim (slice_get-push_cases w.history (transaction_of m) b u at_b) [
-        | inl old_b ↦ elim (cases_lt b t.start) [
+      | inr new_a ↦ elim (slice_get-push_cases w.history (transaction_of m) n at_b.0 at_b.1) [
+        | inl old_b ↦ elim (cases_lt n a.start) [
           | inl early ↦ early
-          | inr late ↦ absurd (h.in_time s key m at (subst (λ (t : Transaction). IsSome (written t.writes key)) new_a.1 wrote_t)
-              (b, u, subst (λ (t : Transaction). t.start ≤ b) new_a.1 late, old_b, wrote_u))
+          | inr late ↦ absurd (h.in_time s m a at (subst (λ (t : Transaction). Contains t a) new_a.1 at_a.2)
+              (n, at_b.0, late, old_b, subst (λ k. IsSome (written at_b.0 k)) (sym same) (among-written at_b.0 b at_b.2)))
         ]
-        | inr new_b ↦ absurd (let last : a ≡ length w.history = new_a.0 in let last' : b ≡ length w.history = new_b.0 in omega arith)
+        | inr new_b ↦ absurd (let last : m' ≡ length w.history = new_a.0 in let last' : n ≡ length w.history = new_b.0 in omega arith)
       ]
     ]
 
--- a write in the newest level is a write in the levels
-holds_newest : (level : List Write) (older : List (List Write)) (key : ℕ) → IsSome (written (joined older) key) → IsSome (written (joined (level ∷ older)) key)
-holds_newest level older key wrote = subst IsSome (sym (written-append (joined older) level key)) (IsSome-or_second (written level key) (written (joined older) key) wrote)
-
--- and emptying the newest level writes nothing
-pub fewer-empty_newest : (levels : List (List Write)) (key : ℕ) → IsSome (written (joined (empty_newest levels)) key) → IsSome (written (joined levels) key)
-fewer-empty_newest [] key wrote = wrote
-fewer-empty_newest (level ∷ older) key wrote = holds_newest level older key (subst (λ ws. IsSome (written ws key)) (append-nil (joined older)) wrote)
+-- emptying the newest level leaves the writes of the others
+pub fewer-empty_newest : (levels : List (List Write)) (write : Write) → Contains (joined (empty_newest levels)) write → Contains (joined levels) write
+fewer-empty_newest [] write among = among
+fewer-empty_newest (level ∷ older) write among = Contains-append_left (joined older) level write (subst (λ ws. Contains ws write) (append-nil (joined older)) among)
 
 pub Lawful-step : {w : World} {s : ℕ} {after : World} → Happens w s after → Lawful w → Lawful after
 Lawful-step passes h = record { began = h.began; in_time = h.in_time; once = h.once; first = h.first }
-Lawful-step {w} {s} (begins within idle) h = Lawful-put w s _ h (omega arith) (λ key wrote. cc)
-Lawful-step {w} {s} (inserts row m may absent) h = Lawful-write w s _ m h may
-Lawful-step {w} {s} (updates row m may there) h = Lawful-write w s _ m h may
-Lawful-step {w} {s} (deletes key m may there) h = Lawful-write w s _ m h may
-Lawful-step {w} {s} (conflicts key m writer late) h = Lawful-change w s as_failed m h writer.ready.there refl (λ key wrote. wrote)
+Lawful-step {w} {s} (begins within idle) h = Lawful-put w s _ h (omega arith) (record { in_time = λ write among. absurd (let lt = among.1 in omega arith); unheld = λ key o wrote. cc })
+Lawful-step {w} {s} (inserts row m may absent) h = Lawful-write w s row.key (Some row) m h may
+Lawful-step {w} {s} (updates row m may there) h = Lawful-write w s row.key (Some row) m h may
+Lawful-step {w} {s} (deletes key m may there) h = Lawful-write w s key None m h may
+Lawful-step {w} {s} (conflicts key m writer late) h = Lawful-change w s as_failed m h writer.ready.there refl (λ write among. among)
 Lawful-step (waits key o m blocked free) h = record { began = h.began; in_time = h.in_time; once = h.once; first = h.first }
-Lawful-step {w} {s} (deadlocks key o m blocked ring) h = Lawful-change w s as_failed m h blocked.writer.ready.there refl (λ key wrote. wrote)
+Lawful-step {w} {s} (deadlocks key o m blocked ring) h = Lawful-change w s as_failed m h blocked.writer.ready.there refl (λ write among. among)
 Lawful-step {w} {s} (saves m writer room) h =
-    Lawful-change w s with_savepoint m h writer.ready.there refl (λ key wrote. subst (λ ws. IsSome (written ws key)) (append-nil (joined m.levels)) wrote)
+    Lawful-change w s with_savepoint m h writer.ready.there refl (λ write among. subst (λ ws. Contains ws write) (append-nil (joined m.levels)) among)
 Lawful-step {w} {s} (rolls_back_to m is_open bare saved) h =
     let back = Lawful-change w s to_savepoint m h is_open refl (fewer-empty_newest m.levels) in
     record { began = back.began; in_time = back.in_time; once = back.once; first = back.first }
 Lawful-step {w} {s} (releases m writer saved) h =
-    Lawful-change w s without_savepoint m h writer.ready.there refl (λ key wrote. subst (λ ws. IsSome (written ws key)) (joined-join_newest m.levels) wrote)
+    Lawful-change w s without_savepoint m h writer.ready.there refl (λ write among. subst (λ ws. Contains ws write) (joined-join_newest m.levels) among)
 Lawful-step {w} {s} (commits m ready) h = Lawful-commit w s m h ready.there
 Lawful-step {w} {s} (aborts m is_open) h = Lawful-aborted w s h
-Lawful-step {w} {s} (opens_index index low high m writer there order) h = Lawful-change w s _ m h writer.ready.there refl (λ key wrote. wrote)
-Lawful-step {w} {s} (opens_heap m writer) h = Lawful-change w s _ m h writer.ready.there refl (λ key wrote. wrote)
-Lawful-step {w} {s} (opens_keys low high m writer order) h = Lawful-change w s _ m h writer.ready.there refl (λ key wrote. wrote)
-Lawful-step {w} {s} (takes n rows m c ready there part) h = Lawful-change w s _ m h ready.there refl (λ key wrote. wrote)
-Lawful-step {w} {s} (takes_keys n keys m c ready there part) h = Lawful-change w s _ m h ready.there refl (λ key wrote. wrote)
-Lawful-step {w} {s} (closes m ready there) h = Lawful-change w s without_cursor m h ready.there refl (λ key wrote. wrote)
+Lawful-step {w} {s} (opens_index index low high m writer there order) h = Lawful-change w s _ m h writer.ready.there refl (λ write among. among)
+Lawful-step {w} {s} (opens_heap m writer) h = Lawful-change w s _ m h writer.ready.there refl (λ write among. among)
+Lawful-step {w} {s} (opens_keys low high m writer order) h = Lawful-change w s _ m h writer.ready.there refl (λ write among. among)
+Lawful-step {w} {s} (takes n rows m c ready there part) h = Lawful-change w s _ m h ready.there refl (λ write among. among)
+Lawful-step {w} {s} (takes_keys n keys m c ready there part) h = Lawful-change w s _ m h ready.there refl (λ write among. among)
+Lawful-step {w} {s} (closes m ready there) h = Lawful-change w s without_cursor m h ready.there refl (λ write among. among)
 
 -- every run keeps them
 pub Lawful-run : {from after : World} → Leads from after → Lawful from → Lawful after

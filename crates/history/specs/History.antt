@@ -4,16 +4,17 @@ use Rattle.std.specs.Prelude.{◌≡◌, ℕ, ◌≤◌, ◌==◌, if◌then◌e
 use Rattle.std.specs.Option.{option_or, option_flatten}
 use Rattle.tuple_header.specs.declared.version.Row.{Row}
 
--- a key with a row, or with nothing where the row is deleted
+-- a key with a row, or with nothing where the row is deleted, and how many transactions had committed when the snapshot was
+-- taken by which it was written
 pub record Write : Type 0 where
+  pub start : ℕ
   pub key : ℕ
   pub row : Option Row
 
--- a committed transaction: how many had committed when it began, and what it wrote, the oldest write first. A
--- history is the list of them in the order in which they committed
-pub record Transaction : Type 0 where
-  pub start : ℕ
-  pub writes : List Write
+-- a committed transaction: what it wrote, the oldest write first. A history is the list of them in the order in which they
+-- committed
+abbrev pub Transaction : Type 0
+Transaction = List Write
 
 -- what a write says of the key, if it is a write of that key
 abbrev pub said : Write → ℕ → Option (Option Row)
@@ -27,7 +28,7 @@ written (write ∷ later) key = option_or (written later key) (said write key)
 -- what the last transaction that wrote the key says of it
 abbrev pub latest : List Transaction → ℕ → Option (Option Row)
 latest [] key = None
-latest (transaction ∷ later) key = option_or (latest later key) (written transaction.writes key)
+latest (transaction ∷ later) key = option_or (latest later key) (written transaction key)
 
 -- the row of the key after the first n transactions, if it has one
 abbrev pub committed : List Transaction → ℕ → ℕ → Option Row
@@ -45,4 +46,4 @@ reading history start writes key = own_or (written writes key) (committed histor
 
 -- a transaction that committed since the start wrote the key
 abbrev pub IsLate : List Transaction → ℕ → ℕ → Type 0
-IsLate history start key = (n : ℕ) × (t : Transaction) × (start ≤ n) × (slice_get history n ≡ Some t) × IsSome (written t.writes key)
+IsLate history start key = (n : ℕ) × (t : Transaction) × (start ≤ n) × (slice_get history n ≡ Some t) × IsSome (written t key)

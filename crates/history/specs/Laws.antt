@@ -1,15 +1,20 @@
 -- Laws of every run.
-use Rattle.std.specs.Prelude.{◌≡◌, ℕ, ◌<◌, List, ◌++◌, Some, IsSome, slice_get}
-use Rattle.history.specs.History.{Transaction, written, IsLate}
-use Rattle.history.specs.World.{World, OpenSession, own_write, view, Holds}
+use Rattle.std.specs.Prelude.{◌≡◌, ℕ, ◌<◌, List, ◌++◌, Some, slice_get, Contains}
+use Rattle.history.specs.History.{Write, Transaction, IsLate}
+use Rattle.history.specs.World.{World, OpenSession, joined, view, Holds}
 
--- first committer wins: of two transactions that wrote one key, the second to commit began after the first had committed
+-- the transaction at this place of the history has the write
+abbrev pub Wrote : List Transaction → ℕ → Write → Type 0
+Wrote history n write = (t : Transaction) × (slice_get history n ≡ Some t) × Contains t write
+
+-- first committer wins: of two transactions that wrote one key, the second to commit wrote it by a snapshot that was taken after
+-- the first had committed
 abbrev pub FirstCommitterWins : List Transaction → Type 0
-FirstCommitterWins history = (m n key : ℕ) (t u : Transaction) → slice_get history m ≡ Some t → slice_get history n ≡ Some u → n < m → IsSome (written t.writes key) → IsSome (written u.writes key) → n < t.start
+FirstCommitterWins history = (m n : ℕ) (a b : Write) → Wrote history m a → Wrote history n b → a.key ≡ b.key → n < m → n < a.start
 
--- a key that an open session holds has not been written by anyone who committed since the session began
+-- what an open session has written, nobody has who committed since the snapshot was taken
 abbrev pub HeldInTime : World → Type 0
-HeldInTime w = (s key : ℕ) (m : OpenSession) → w.session s ≡ Some m → IsSome (own_write m key) → ¬ IsLate w.history m.start key
+HeldInTime w = (s : ℕ) (m : OpenSession) (write : Write) → w.session s ≡ Some m → Contains (joined m.levels) write → ¬ IsLate w.history write.start write.key
 
 -- no two open sessions hold one key
 abbrev pub HeldOnce : World → Type 0

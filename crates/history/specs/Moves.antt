@@ -27,19 +27,19 @@ awaited_no_more w s = record w { waits_for = λ t. kept_where (λ o. not (o == s
 abbrev pub begun : World → ℕ → World
 begun w s = put w s (Some (record { start = length w.history; levels = [] ∷ []; failed = false; cursor = None }))
 
--- the write joins the newest level
+-- a write joins the newest level
 abbrev pub add_write : Write → List (List Write) → List (List Write)
 add_write write [] = (write ∷ []) ∷ []
 add_write write (level ∷ older) = (level ++ write ∷ []) ∷ older
 
-abbrev pub with_write : Write → OpenSession → OpenSession
-with_write write m = record m { levels = add_write write m.levels }
+abbrev pub with_write : ℕ → Option Row → OpenSession → OpenSession
+with_write key row m = record m { levels = add_write (record { start = m.start; key = key; row = row }) m.levels }
 
 abbrev pub with_row : Row → OpenSession → OpenSession
-with_row row m = with_write (record { key = row.key; row = Some row }) m
+with_row row m = with_write row.key (Some row) m
 
 abbrev pub without_row : ℕ → OpenSession → OpenSession
-without_row key m = with_write (record { key = key; row = None }) m
+without_row key m = with_write key None m
 
 -- the session can only be rolled back
 abbrev pub as_failed : OpenSession → OpenSession
@@ -77,7 +77,7 @@ abbrev pub aborted : World → ℕ → World
 aborted w s = awaited_no_more (put w s None) s
 
 abbrev pub transaction_of : OpenSession → Transaction
-transaction_of m = record { start = m.start; writes = joined m.levels }
+transaction_of m = joined m.levels
 
 abbrev pub appended : List Transaction → Option OpenSession → List Transaction
 appended history None = history

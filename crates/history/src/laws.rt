@@ -6,13 +6,13 @@ ghost use Rattle.history.specs.World.{World, beginning};
 ghost use Rattle.history.specs.Events.{Happens, Leads};
 ghost use Rattle.history.specs.Laws.{FirstCommitterWins, Grows, HeldInTime, HeldOnce, KeepsView};
 
-/// The first committer wins: of two transactions that wrote one key, the second to commit began after the first had
-/// committed (Berenson et al. 1995, snapshot isolation).
+/// The first committer wins: of two transactions that wrote one key, the second to commit wrote it by a snapshot that was taken
+/// after the first had committed (Berenson et al. 1995, snapshot isolation).
 pub fn first_committer_wins()
     ensures { (columns : List Bool) (w : World) → Leads (beginning columns) w → FirstCommitterWins w.history }
 {}
 
-/// A key in an open session's levels has not been written by anyone who committed since the session began.
+/// What is in an open session's levels, nobody has written who committed since the snapshot of that write was taken.
 pub fn held_keys_are_in_time()
     ensures { (columns : List Bool) (w : World) → Leads (beginning columns) w → HeldInTime w }
 {}

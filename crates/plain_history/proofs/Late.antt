@@ -14,10 +14,10 @@ some_says o result answer of_it says =
 
 -- nobody before n, from the start on, wrote the key
 abbrev pub NoneBefore : List Transaction → ℕ → ℕ → ℕ → Type 0
-NoneBefore history start key n = (i : ℕ) (t : Transaction) → i < n → slice_get history i ≡ Some t → start ≤ i → IsSome (written t.writes key) → ⊥
+NoneBefore history start key n = (i : ℕ) (t : Transaction) → i < n → slice_get history i ≡ Some t → start ≤ i → IsSome (written t key) → ⊥
 
 abbrev pub NotHere : List Transaction → ℕ → ℕ → ℕ → Type 0
-NotHere history start key n = (t : Transaction) → slice_get history n ≡ Some t → start ≤ n → IsSome (written t.writes key) → ⊥
+NotHere history start key n = (t : Transaction) → slice_get history n ≡ Some t → start ≤ n → IsSome (written t key) → ⊥
 
 pub none_later : (history : List Transaction) (start key n : ℕ) → NoneBefore history start key n → NotHere history start key n → NoneBefore history start key (n + 1)
 none_later history start key n before here i t lt at le wrote = elim (cases_eq i n) [
@@ -29,10 +29,10 @@ pub none_early : (history : List Transaction) (start key n : ℕ) → n < start 
 none_early history start key n early t at le wrote = absurd (omega arith)
 
 pub none_here : (history : List Transaction) (start key n : ℕ) (x : Transaction) (answer : Bool) → n < length history → x ≡ get_or history n x → answer ≡ false
-    → (IsSome (written x.writes key) → IsTrue answer) → NotHere history start key n
+    → (IsSome (written x key) → IsTrue answer) → NotHere history start key n
 none_here history start key n x answer within is isnt says t at le wrote =
     let same : x ≡ t = same_Some x t (sym (slice_get_read history (length history) n x refl within is) ∙ at) in
-    let yes : answer ≡ true = says (subst (λ (u : Transaction). IsSome (written u.writes key)) (sym same) wrote) in
+    let yes : answer ≡ true = says (subst (λ (u : Transaction). IsSome (written u key)) (sym same) wrote) in
     absurd (let never : false ≡ true = sym isnt ∙ yes in cc)
 
 pub not_late : (history : List Transaction) (start key n : ℕ) → length history ≤ n → NoneBefore history start key n → IsTrue false ↔ IsLate history start key
@@ -41,7 +41,7 @@ not_late history start key n all before = (
   λ late. absurd (let within : late.0 < length history = slice_get_within history late.0 late.1 late.3 in before late.0 late.1 (omega arith) late.3 late.2 late.4),
 )
 
-pub late_here : (history : List Transaction) (start key n : ℕ) (x : Transaction) → n < length history → x ≡ get_or history n x → start ≤ n → IsSome (written x.writes key)
+pub late_here : (history : List Transaction) (start key n : ℕ) (x : Transaction) → n < length history → x ≡ get_or history n x → start ≤ n → IsSome (written x key)
     → IsTrue true ↔ IsLate history start key
 late_here history start key n x within is le wrote =
     (λ yes. (n, x, le, slice_get_read history (length history) n x refl within is, wrote), λ late. refl)

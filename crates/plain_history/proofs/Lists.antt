@@ -12,8 +12,8 @@ pub written-take : (writes : List Write) (i : ℕ) (x : Write) (key : ℕ) → i
 written-take writes i x key lt is = ap (λ ws. written ws key) (take_more writes i x lt) ∙ (written-push (take i writes) (get_or writes i x) key ∙ ap (λ y. option_or (said y key) (written (take i writes) key)) (sym is))
 
 pub latest-take : (history : List Transaction) (i : ℕ) (x : Transaction) (key : ℕ) → i < length history → x ≡ get_or history i x
-    → latest (take (i + 1) history) key ≡ option_or (written x.writes key) (latest (take i history) key)
-latest-take history i x key lt is = ap (λ ts. latest ts key) (take_more history i x lt) ∙ (latest-push (take i history) (get_or history i x) key ∙ ap (λ (y : Transaction). option_or (written y.writes key) (latest (take i history) key)) (sym is))
+    → latest (take (i + 1) history) key ≡ option_or (written x key) (latest (take i history) key)
+latest-take history i x key lt is = ap (λ ts. latest ts key) (take_more history i x lt) ∙ (latest-push (take i history) (get_or history i x) key ∙ ap (λ (y : Transaction). option_or (written y key) (latest (take i history) key)) (sym is))
 
 -- what the levels from place i on say: the newest of them, else the others
 pub joined-drop : (levels : List (List Write)) (i : ℕ) (x : List Write) (key : ℕ) → i < length levels → x ≡ get_or levels i x

@@ -177,17 +177,17 @@ levels-more keys new old levels i x lt is before here key e =
           (ap (λ ws. written ws key) (joined-take levels i x lt is) ∙ written-append x (joined (take i levels)) key) was.1 now.1,
     )
 
-pub history-more : (keys new old : List ℕ) (history : List Transaction) (i : ℕ) (x : Transaction) (writes : List Write) → i < length history → x ≡ get_or history i x → writes ≡ x.writes
+pub history-more : (keys new old : List ℕ) (history : List Transaction) (i : ℕ) (x : Transaction) → i < length history → x ≡ get_or history i x
     → ((key : ℕ) → has keys key ≡ false → (has old key ≡ false) × (latest (take i history) key ≡ None))
-    → ((key : ℕ) → has new key ≡ false → (has keys key ≡ false) × (written writes key ≡ None))
+    → ((key : ℕ) → has new key ≡ false → (has keys key ≡ false) × (written x key ≡ None))
     → (key : ℕ) → has new key ≡ false → (has old key ≡ false) × (latest (take (i + 1) history) key ≡ None)
-history-more keys new old history i x writes lt is same before here key e =
+history-more keys new old history i x lt is before here key e =
     let now = here key e in let was = before key now.0 in
-    (was.0, both_none (written x.writes key) (latest (take i history) key) (latest (take (i + 1) history) key) (latest-take history i x key lt is) (ap (λ ws. written ws key) (sym same) ∙ now.1) was.1)
+    (was.0, both_none (written x key) (latest (take i history) key) (latest (take (i + 1) history) key) (latest-take history i x key lt is) now.1 was.1)
 
 latest-append : (earlier later : List Transaction) (key : ℕ) → latest (earlier ++ later) key ≡ option_or (latest later key) (latest earlier key)
 latest-append [] later key = sym (option_or-none (latest later key))
-latest-append (t ∷ earlier) later key = ap (λ o. option_or o (written t.writes key)) (latest-append earlier later key) ∙ option_or_assoc (latest later key) (latest earlier key) (written t.writes key)
+latest-append (t ∷ earlier) later key = ap (λ o. option_or o (written t key)) (latest-append earlier later key) ∙ option_or_assoc (latest later key) (latest earlier key) (written t key)
 
 -- what nobody wrote isn't read
 pub view-none : (history : List Transaction) (m : OpenSession) (older newest : List Write) (key : ℕ) → joined m.levels ≡ older ++ newest

@@ -4,12 +4,13 @@ ghost use Rattle.history.specs.Cursors.{kept_where};
 ghost use Rattle.std.specs.Prelude.{◌==◌, map, not, ◌≡◌, OnOk, OnErr, Some, None};
 ghost use Rattle.std.specs.Option.{option_map};
 ghost use Rattle.history.specs.Moves.{stepped, put, change, as_failed, with_write, with_savepoint, to_savepoint, without_savepoint, blocked_by, awaited_no_more, without_cursor};
-ghost use Rattle.plain_history.specs.Plain.{open_of, world_of};
+ghost use Rattle.plain_history.specs.Plain.{IsOf, open_of, world_of};
 ghost use Rattle.plain_history.specs.Answers.{Becomes, Stays, with_transaction};
 
-use crate::plain::{PlainHistory, PlainLevel, PlainSession, PlainTransaction, PlainWrite};
+use crate::plain::{PlainHistory, PlainLevel, PlainSession, PlainWrite};
 use std::alloc::{AllocError, Global};
 use std::mem;
+use tuple_header::Row;
 
 fn fail(session: &mut Option<PlainSession>)
     ensures { Becomes session.old session.new as_failed }
@@ -19,12 +20,14 @@ fn fail(session: &mut Option<PlainSession>)
     }
 }
 
-fn write(session: &mut Option<PlainSession>, write: PlainWrite) -> Result<(), AllocError>
-    ensures ok { OnOk result (Becomes session.old session.new (with_write write)) }
+fn write(session: &mut Option<PlainSession>, key: u64, row: Option<Row>) -> Result<(), AllocError>
+    requires { IsOf key row }
+    ensures ok { OnOk result (Becomes session.old session.new (with_write key row)) }
     ensures err { OnErr result (Stays session.old session.new) }
 {
     if let Some(session) = session {
-        session.newest.push(write)?;
+        let start = session.start;
+        session.newest.push(PlainWrite { start, key, row })?;
     }
     Ok(())
 }
@@ -103,12 +106,13 @@ impl PlainHistory {
         fail(&mut self.sessions[s as usize]);
     }
 
-    pub(crate) fn write(&mut self, s: u8, new: PlainWrite) -> Result<(), AllocError>
-        ensures ok { OnOk result (world_of self.new ≡ change (world_of self.old) s (with_write new)) }
+    pub(crate) fn write(&mut self, s: u8, key: u64, row: Option<Row>) -> Result<(), AllocError>
+        requires { IsOf key row }
+        ensures ok { OnOk result (world_of self.new ≡ change (world_of self.old) s (with_write key row)) }
         ensures err { OnErr result (world_of self.new ≡ stepped (world_of self.old) s) }
     {
         self.waits[s as usize] = None;
-        write(&mut self.sessions[s as usize], new)
+        write(&mut self.sessions[s as usize], key, row)
     }
 
     pub(crate) fn save(&mut self, s: u8) -> Result<(), AllocError>
@@ -144,7 +148,7 @@ impl PlainHistory {
     }
 
     /// The transaction joins the history.
-    pub(crate) fn append(&mut self, transaction: PlainTransaction) -> Result<(), AllocError>
+    pub(crate) fn append(&mut self, transaction: PlainLevel) -> Result<(), AllocError>
         ensures ok { OnOk result (world_of self.new ≡ with_transaction (world_of self.old) transaction) }
         ensures err { OnErr result (world_of self.new ≡ world_of self.old) }
     {

@@ -8,7 +8,7 @@ ghost use Rattle.plain_history.specs.Plain.{open_of, cursor_of};
 ghost use Rattle.plain_history.specs.Order.{row_in, comes_before, placed, IsInOrder, has, is_wanted, wanted, Adds, Covers, index_of};
 ghost use Rattle.plain_history.specs.Answers.{Hands};
 
-use crate::plain::{PlainLevel, PlainSession, PlainTransaction, PlainWrite};
+use crate::plain::{PlainLevel, PlainSession, PlainWrite};
 use crate::refusal::Handed;
 use std::alloc::{AllocError, Global};
 use std::marker::Model;
@@ -132,7 +132,7 @@ fn has_key(rows: &[Row], key: u64) -> bool
 /// Adds the session's row of the key, if it is wanted and not there yet.
 fn add_row(
     rows: &mut Vec<Row>,
-    history: &[PlainTransaction],
+    history: &[PlainLevel],
     session: &PlainSession,
     key: u64,
     index: u8,
@@ -159,7 +159,7 @@ fn add_row(
 /// The session's rows that are wanted, in the order of the index.
 pub(crate) fn rows_of(
     alloc: Global,
-    history: &[PlainTransaction],
+    history: &[PlainLevel],
     session: &PlainSession,
     index: u8,
     bounds: Bounds,
@@ -173,7 +173,7 @@ pub(crate) fn rows_of(
 
 fn rows_with(
     alloc: Global,
-    history: &[PlainTransaction],
+    history: &[PlainLevel],
     session: &PlainSession,
     keys: &[u64],
     index: u8,
@@ -192,7 +192,7 @@ fn rows_with(
 /// All keys of which the session may read a row.
 fn keys_of(
     alloc: Global,
-    history: &[PlainTransaction],
+    history: &[PlainLevel],
     session: &PlainSession,
 ) -> Result<Vec<u64>, AllocError>
     ensures { IfOk result (λ keys. (key : ℕ) → has keys.items key ≡ false → view history.now (open_of session.now) key ≡ None) }
@@ -204,11 +204,11 @@ fn keys_of(
     Ok(keys)
 }
 
-fn add_history(keys: &mut Vec<u64>, history: &[PlainTransaction]) -> Result<(), AllocError>
+fn add_history(keys: &mut Vec<u64>, history: &[PlainLevel]) -> Result<(), AllocError>
     ensures { OnOk result ((key : ℕ) → has keys.new.items key ≡ false → (has keys.old.items key ≡ false) × (latest history.now key ≡ None)) }
 {
     for transaction in history {
-        add_keys(keys, &transaction.writes)?;
+        add_keys(keys, transaction)?;
     }
     Ok(())
 }

@@ -8,13 +8,13 @@ ghost use Rattle.plain_history.specs.Plain.{open_of, world_of};
 ghost use Rattle.plain_history.specs.Answers.{after_refusal, OrMemory, Becomes, Stays, RefusesWriter, RefusesBounds, RefusesIndex, RefusesNext, MayOpen, MayOpenWithin, MayOpenIndex, HasCursor, HandsFrom, HandsOn, HandsBy, HasLeft, MayHandOut, opens};
 
 use crate::cursor::{Bounds, PlainCursor, PlainOrder, rows_of};
-use crate::plain::{PlainHistory, PlainSession, PlainTransaction};
+use crate::plain::{PlainHistory, PlainLevel, PlainSession};
 use crate::refusal::{Handed, Refused};
 use std::alloc::{AllocError, Global};
 
 fn set_cursor(
     session: &mut Option<PlainSession>,
-    history: &[PlainTransaction],
+    history: &[PlainLevel],
     alloc: Global,
     order: PlainOrder,
     bounds: Bounds,

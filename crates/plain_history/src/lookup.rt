@@ -6,7 +6,7 @@ ghost use Rattle.history.specs.World.{joined, own_write, view, ClosesRing, OpenS
 ghost use Rattle.std.specs.Option.{option_map};
 ghost use Rattle.plain_history.specs.Plain.{IsOf, open_of, session_in, wait_in};
 
-use crate::plain::{PlainLevel, PlainSession, PlainTransaction, PlainWrite};
+use crate::plain::{PlainLevel, PlainSession, PlainWrite};
 use arrayvec::ArrayVec;
 use std::alloc::{AllocError, Global};
 use tuple_header::Row;
@@ -25,6 +25,7 @@ impl PlainWrite {
         ensures { result ≡ self.now }
     {
         PlainWrite {
+            start: self.start,
             key: self.key,
             row: copy_of(&self.row),
         }
@@ -43,21 +44,6 @@ impl PlainWrite {
     }
 }
 
-impl PlainTransaction {
-    fn written(&self, key: u64) -> Option<Option<Row>>
-        ensures value { result ≡ written self.now.writes key }
-        ensures keyed { IfSome result (λ row. IsOf key row) }
-    {
-        self.writes.written(key)
-    }
-
-    fn wrote(&self, key: u64) -> bool
-        ensures { IsTrue result ↔ IsSome (written self.now.writes key) }
-    {
-        self.written(key).is_some()
-    }
-}
-
 impl PlainLevel {
     /// What the last write to the key says.
     pub(crate) fn written(&self, key: u64) -> Option<Option<Row>>
@@ -65,6 +51,12 @@ impl PlainLevel {
         ensures keyed { IfSome result (λ row. IsOf key row) }
     {
         last_written(&self.writes, key)
+    }
+
+    fn wrote(&self, key: u64) -> bool
+        ensures { IsTrue result ↔ IsSome (written self.now key) }
+    {
+        self.written(key).is_some()
     }
 }
 
@@ -94,7 +86,7 @@ fn written_in(levels: &[PlainLevel], key: u64) -> Option<Option<Row>>
     None
 }
 
-fn latest_in(history: &[PlainTransaction], key: u64) -> Option<Option<Row>>
+fn latest_in(history: &[PlainLevel], key: u64) -> Option<Option<Row>>
     ensures value { result ≡ latest history.now key }
     ensures keyed { IfSome result (λ row. IsOf key row) }
 {
@@ -108,7 +100,7 @@ fn latest_in(history: &[PlainTransaction], key: u64) -> Option<Option<Row>>
 }
 
 /// The row of the key after the first n transactions.
-fn committed_in(history: &[PlainTransaction], n: usize, key: u64) -> Option<Row>
+fn committed_in(history: &[PlainLevel], n: usize, key: u64) -> Option<Row>
     ensures value { result ≡ committed history.now n key }
     ensures keyed { IsOf key result }
 {
@@ -144,7 +136,7 @@ impl PlainSession {
     }
 
     /// The row that the session reads.
-    pub(crate) fn view(&self, history: &[PlainTransaction], key: u64) -> Option<Row>
+    pub(crate) fn view(&self, history: &[PlainLevel], key: u64) -> Option<Row>
         ensures value { result ≡ view history.now (open_of self.now) key }
         ensures keyed { IsOf key result }
     {
@@ -188,7 +180,7 @@ fn joined_levels(alloc: Global, levels: &[PlainLevel]) -> Result<PlainLevel, All
 }
 
 /// Did a transaction that committed since the start write the key?
-pub(crate) fn is_late(history: &[PlainTransaction], start: usize, key: u64) -> bool
+pub(crate) fn is_late(history: &[PlainLevel], start: usize, key: u64) -> bool
     ensures { IsTrue result ↔ IsLate history.now start key }
 {
     for n in 0..history.len() {

@@ -10,9 +10,10 @@ use std::alloc::{AllocError, Global};
 use std::marker::Model;
 use tuple_header::Row;
 
-/// A key with a row, or with none.
+/// A key with a row, or with none, and the start of the session that wrote it.
 #[derive(Drop)]
 pub struct PlainWrite {
+    pub(crate) start: usize,
     pub(crate) key: u64,
     pub(crate) row: Option<Row>,
 }
@@ -22,14 +23,14 @@ impl Model for PlainWrite {
 
     ghost Value = { Write };
 
-    ghost view = { λ w. record { key = w.key; row = w.row } };
+    ghost view = { λ w. record { start = w.start; key = w.key; row = w.row } };
 
     ghost use Rattle.std.specs.Prelude.{◌≡◌, IfSome};
 
     ghost invariant = { λ w. IfSome w.row (λ row. row.key ≡ w.key) };
 }
 
-/// Writes, the oldest first.
+/// Writes, the oldest first: those of a level of an open session, or all those of a committed transaction.
 #[derive(Drop)]
 pub struct PlainLevel {
     pub(crate) writes: Vec<PlainWrite>,
@@ -42,21 +43,6 @@ impl Model for PlainLevel {
     ghost Value = { List Write };
 
     ghost view = { λ l. l.writes.items };
-}
-
-/// A committed transaction.
-#[derive(Drop)]
-pub struct PlainTransaction {
-    pub(crate) start: usize,
-    pub(crate) writes: PlainLevel,
-}
-
-impl Model for PlainTransaction {
-    ghost use Rattle.history.specs.History.{Transaction};
-
-    ghost Value = { Transaction };
-
-    ghost view = { λ t. record { start = t.start; writes = t.writes } };
 }
 
 /// An open session. The levels of the savepoints below the newest stand in `older`, the newest of them first.
@@ -73,7 +59,7 @@ pub struct PlainSession {
 #[derive(Drop)]
 pub struct PlainHistory {
     pub(crate) alloc: Global,
-    pub(crate) history: Vec<PlainTransaction>,
+    pub(crate) history: Vec<PlainLevel>,
     // A place for each number of a u8, of which 0 to 63 are ever taken.
     pub(crate) sessions: Vec<Option<PlainSession>>,
     pub(crate) waits: Vec<Option<u8>>,

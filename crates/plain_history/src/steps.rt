@@ -6,7 +6,7 @@ ghost use Rattle.history.specs.Moves.{begun, change, with_row, without_row, with
 ghost use Rattle.plain_history.specs.Plain.{world_of};
 ghost use Rattle.plain_history.specs.Answers.{after_refusal, OrMemory, RefusesBegin, RefusesOpen, RefusesReady, RefusesInsert, RefusesReplace, RefusesSave, RefusesRollBack, RefusesRelease, MayInsert, MayReplace, Reads, MaySave, MayRollBack, MayRelease, MayCommit, WouldCommit, Ends};
 
-use crate::plain::{PlainHistory, PlainLevel, PlainSession, PlainTransaction, PlainWrite};
+use crate::plain::{PlainHistory, PlainLevel, PlainSession};
 use crate::refusal::{Outcome, Refused};
 use tuple_header::Row;
 
@@ -117,11 +117,8 @@ impl PlainHistory {
         ensures ok { OnOk result (world_of self.new ≡ change (world_of self.old) s (with_row row)) }
         ensures err { IfErr result (λ why. (why ≡ Refused.NoMemory) × (world_of self.new ≡ stepped (world_of self.old) s)) }
     {
-        let new = PlainWrite {
-            key: row.key,
-            row: Some(row),
-        };
-        match self.write(s, new) {
+        let key = row.key;
+        match self.write(s, key, Some(row)) {
             Ok(()) => Ok(()),
             Err(_) => Err(Refused::NoMemory),
         }
@@ -133,7 +130,7 @@ impl PlainHistory {
         ensures refused { IfErr result (λ why. OrMemory why (MayReplace (world_of self.old) s key) (RefusesReplace (world_of self.old) s key why) × (world_of self.new ≡ after_refusal (world_of self.old) s why)) }
     {
         match self.check_replace(s, key) {
-            Ok(()) => match self.write(s, PlainWrite { key, row: None }) {
+            Ok(()) => match self.write(s, key, None) {
                 Ok(()) => Ok(()),
                 Err(_) => Err(Refused::NoMemory),
             },
@@ -312,16 +309,13 @@ impl PlainHistory {
     }
 
     /// The transaction that the session would commit.
-    fn transaction(&self, s: u8) -> Result<PlainTransaction, Refused>
+    fn transaction(&self, s: u8) -> Result<PlainLevel, Refused>
         ensures ok { IfOk result (λ t. WouldCommit (world_of self.now) s t) }
         ensures err { IfErr result (λ why. OrMemory why (MayCommit (world_of self.now) s) (RefusesReady (world_of self.now) s why)) }
     {
         match self.ready_session(s) {
             Ok(session) => match session.joined(self.alloc) {
-                Ok(writes) => Ok(PlainTransaction {
-                    start: session.start,
-                    writes,
-                }),
+                Ok(writes) => Ok(writes),
                 Err(_) => Err(Refused::NoMemory),
             },
             Err(why) => Err(why),

@@ -85,7 +85,7 @@ at-each st w n s start own (before ∷ saved) (since ∷ levels) agrees used act
 
 -- an open session
 levels-by-index : (st : State) (w : World) (n : ℕ) (s : ℕ) (e : Session) (m : OpenSession) → Agrees st w → IsInUse st.heap.indexes n
-    → relation.SessionAgrees (state_of st.heap.table) (seen st).version w.history (λ x. Sees e.snapshot st.heap.table x) (reader_of e) m → FindsLevels st.heap n w.history e m
+    → relation.SessionAgrees (state_of st.heap.table) (seen st).version w.history (λ x. Sees e.snapshot st.heap.table x) m.start (λ x. Sees e.snapshot st.heap.table x) (reader_of e) m → FindsLevels st.heap n w.history e m
 levels-by-index st w n s e m agrees used h = record {
   now = by-index st w n e.snapshot e.own.ids (view w.history m) agrees used active (Levels-top e.own.ids e.own.saved m.levels h.levels).rows;
   saved = at-each st w n e.snapshot m.start e.own.ids e.own.saved m.levels agrees used active h.levels;
@@ -100,6 +100,6 @@ views-by-index st w agrees n used = (
       let open_ = agrees.found.opened s (reader_of e) (reader-is st s e at) in
       let is : open_.0 ≡ m = same_Some open_.0 m (sym open_.1 ∙ there) in
       levels-by-index st w n s e m agrees used
-      (subst (λ (n : OpenSession). relation.SessionAgrees (state_of st.heap.table) (seen st).version w.history (λ x. Sees e.snapshot st.heap.table x) (reader_of e) n) is open_.2),
+      (subst (λ (n : OpenSession). relation.SessionAgrees (state_of st.heap.table) (seen st).version w.history (λ x. Sees e.snapshot st.heap.table x) n.start (λ x. Sees e.snapshot st.heap.table x) (reader_of e) n) is open_.2),
   by-index st w n (now_taken st) [] (committed w.history (length w.history)) agrees used (λ x mine. absurd (Contains-none x mine)) (fresh st w agrees),
 )

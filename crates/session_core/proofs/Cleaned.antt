@@ -141,15 +141,15 @@ pruned st h p w prunes agrees =
     let table : h.table ≡ st.heap.table = ap (λ (g : HeapView). g.table) prunes.is in
     let limit : h.max_pages ≡ st.heap.max_pages = ap (λ (g : HeapView). g.max_pages) prunes.is in
     agree agrees refl refl (subst (λ t. relation_agrees.Agrees (seen_in (slots_of h) t st.sessions) w) (sym table) f.1) (record {
-        count = agrees.sound.count;
-        max_pages = limit ∙ agrees.sound.max_pages;
-        stop_age = rw table agrees.sound.stop_age;
-        window = rw table agrees.sound.window;
-        sessions = rw table agrees.sound.sessions;
-        tops = rw table agrees.sound.tops;
-        indexes = still-in_use st.heap.indexes h.indexes st.settings.indexed stays.in_use agrees.sound.indexes;
-        cursors = λ s e span at is. (stays.in_use span.index).0 (agrees.sound.cursors s e span at is);
-        table = subst (λ t. SoundTable h (earliest (next_id t) (held_back st.sessions))) (sym table) stays.sound;
+      count = agrees.sound.count;
+      max_pages = limit ∙ agrees.sound.max_pages;
+      stop_age = rw table agrees.sound.stop_age;
+      window = rw table agrees.sound.window;
+      sessions = rw table agrees.sound.sessions;
+      tops = rw table agrees.sound.tops;
+      indexes = still-in_use st.heap.indexes h.indexes st.settings.indexed stays.in_use agrees.sound.indexes;
+      cursors = λ s e span at is. (stays.in_use span.index).0 (agrees.sound.cursors s e span at is);
+      table = subst (λ t. SoundTable h (earliest (next_id t) (held_back st.sessions))) (sym table) stays.sound;
     })
 
 pub Follows-prune : (st st' : State) (p : ℕ) → Cleans st st' p → Follows st (Prune p) Done st'

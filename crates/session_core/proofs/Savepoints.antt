@@ -74,9 +74,12 @@ Follows-savepoint st st' s e at sound bare room now is sets w agrees =
     let reader : reader_of now ≡ record (reader_of e) { saved = e.own.ids ∷ e.own.saved } = rw (sets.snapshot, sets.ids, sets.saved, sets.failed, sets.cursor) refl in
     let f = savepoints.Follows-savepoint (seen st) s (reader_of e) (seen (put_session st s (Some now))).session (only-becomes st s e now (record (reader_of e) { saved = e.own.ids ∷ e.own.saved }) at reader)
     (reader-is st s e at) sound (ap position_of bare) room w agrees.found in
-    subst (λ st'. Allows w (Savepoint s) Done × Agrees st' (next w (Savepoint s) Done) × StaysLed st st') (sym is)
-    (f.0, agree agrees refl refl f.1
-        (Sound-put st s e now at (same-holds e now sets.snapshot sets.ids) (keeps-saved st.heap.table e now sets (agrees.sound.sessions s e at)) (same-cursor st.sessions st.heap.indexes s e now at sets.cursor agrees.sound.cursors) agrees.sound), led-same st w agrees)
+    subst (λ st'. Allows w (Savepoint s) Done × Agrees st' (next w (Savepoint s) Done) × StaysLed st st') (sym is) (
+      f.0,
+      agree agrees refl refl f.1
+          (Sound-put st s e now at (same-holds e now sets.snapshot sets.ids) (keeps-saved st.heap.table e now sets (agrees.sound.sessions s e at)) (same-cursor st.sessions st.heap.indexes s e now at sets.cursor agrees.sound.cursors) agrees.sound),
+      led-same st w agrees,
+    )
 
 pub Follows-release : (st st' : State) (s : ℕ) (e : Session) (before : List ℕ) (saved : List (List ℕ)) → session_at st s ≡ Some e → e.failed ≡ false → e.cursor ≡ None → e.own.saved ≡ before ∷ saved → (now : Session)
     → st' ≡ put_session st s (Some now) → Releases e now → Follows st (Release s) Done st'
@@ -85,9 +88,12 @@ Follows-release st st' s e before saved at sound bare some now is releases w agr
     let reader : reader_of now ≡ record (reader_of e) { saved = saved } = rw (releases.snapshot, releases.ids, rest, releases.failed, releases.cursor) refl in
     let f = savepoints.Follows-release (seen st) s (reader_of e) before saved (seen (put_session st s (Some now))).session (only-becomes st s e now (record (reader_of e) { saved = saved }) at reader)
     (reader-is st s e at) sound (ap position_of bare) some w agrees.found in
-    subst (λ st'. Allows w (Release s) Done × Agrees st' (next w (Release s) Done) × StaysLed st st') (sym is)
-    (f.0, agree agrees refl refl f.1
-        (Sound-put st s e now at (same-holds e now releases.snapshot releases.ids) (keeps-released st.heap.table e now releases (agrees.sound.sessions s e at)) (same-cursor st.sessions st.heap.indexes s e now at releases.cursor agrees.sound.cursors) agrees.sound), led-same st w agrees)
+    subst (λ st'. Allows w (Release s) Done × Agrees st' (next w (Release s) Done) × StaysLed st st') (sym is) (
+      f.0,
+      agree agrees refl refl f.1
+          (Sound-put st s e now at (same-holds e now releases.snapshot releases.ids) (keeps-released st.heap.table e now releases (agrees.sound.sessions s e at)) (same-cursor st.sessions st.heap.indexes s e now at releases.cursor agrees.sound.cursors) agrees.sound),
+      led-same st w agrees,
+    )
 
 -- The ids since the newest savepoint are aborted.
 

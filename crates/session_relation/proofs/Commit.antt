@@ -51,7 +51,7 @@ committed-is w s m there = ap (λ history. world history) (ap (appended w.histor
 pub Agrees-commit : (h : Heap) (w : World) (s : ℕ) (e : Session) (m : OpenSession) (status' : ℕ → Option Status) (sees' : Snap → ℕ → Type 0) (session' : ℕ → Option Session)
     → OnlyIs h.session session' s None → h.session s ≡ Some e → w.session s ≡ Some m
     → Finishes h.status status' (λ x. Contains e.own x) Committed → SameSights h sees' → ((x : ℕ) → Sees (h.sees e.snapshot) x ⊎ (¬ Sees (h.sees e.snapshot) x))
-    → SessionAgrees h.status h.version w.history (h.sees e.snapshot) e m
+    → SessionAgrees h.status h.version w.history (h.sees e.snapshot) m.start (h.sees e.snapshot) e m
     → Agrees h w → Agrees (record h { status = status'; sees = sees'; session = session' }) (with_transaction w s m)
 Agrees-commit h w s e m status' sees' session' only at there finishes same decided mine agrees = record {
   opened = opened-change h h' w w' s agrees only.others models

@@ -27,7 +27,7 @@ use Rattle.session_relation.proofs.Steps.{waits-put, own_traced}
 pub Agrees-delete : (h : Heap) (w : World) (s : ℕ) (e : Session) (m : OpenSession) (x : ℕ) (place : Tid) (old new : Version) (store' : Tid → Option Version)
     → Alters h.version store' place old new → IsDeleted x old new → h.session s ≡ Some e → IsCurrent e x → w.session s ≡ Some m → m.cursor ≡ None
     → IsVisible h.status (h.sees e.snapshot) e.own old → ¬ IsLate w.history m.start old.row.key → ((o : ℕ) → o ≢ s → ¬ Holds w o old.row.key)
-    → SessionAgrees h.status h.version w.history (h.sees e.snapshot) e m
+    → SessionAgrees h.status h.version w.history (h.sees e.snapshot) m.start (h.sees e.snapshot) e m
     → Agrees h w → Agrees (record h { version = store' }) (put w s (Some (without_row old.row.key m)))
 Agrees-delete h w s e m x place old new store' alters deleted at current there bare seen in_time unheld mine agrees = record {
   opened = opened-change h h' w w' s agrees (λ o ne. refl) models
@@ -65,7 +65,7 @@ Agrees-delete h w s e m x place old new store' alters deleted at current there b
 }
   where
     write : Write
-    write = record { key = old.row.key; row = None }
+    write = record { start = m.start; key = old.row.key; row = None }
 
     h' : Heap
     h' = record h { version = store' }

@@ -46,7 +46,7 @@ ready h w s e at agrees sound = let open_ = agrees.opened s e at in record { the
 -- the cursor alone changes, on both sides
 SessionAgrees-cursor : {status : ℕ → Option Status} {store : Tid → Option Version} {history : List Transaction} {sees : ℕ → Type 0} {e : Session} {m : OpenSession} (position : Option Position) (c : Option Cursor)
     → CursorAgrees store (IsVisible status sees e.own) position c
-    → SessionAgrees status store history sees e m → SessionAgrees status store history sees (record e { cursor = position }) (record m { cursor = c })
+    → SessionAgrees status store history sees m.start sees e m → SessionAgrees status store history sees m.start sees (record e { cursor = position }) (record m { cursor = c })
 SessionAgrees-cursor {status} {store} {history} {sees} {e} {m} position c now mine = record {
   same_failed = mine.same_failed;
   cursor = now;
@@ -61,7 +61,7 @@ SessionAgrees-cursor {status} {store} {history} {sees} {e} {m} position c now mi
 
 Agrees-cursor : (h : Heap) (w : World) (s : ℕ) (e : Session) (position : Option Position) (f : OpenSession → Option Cursor) (session' : ℕ → Option Session)
     → OnlyIs h.session session' s (Some (record e { cursor = position })) → h.session s ≡ Some e
-    → ((m : OpenSession) → SessionAgrees h.status h.version w.history (h.sees e.snapshot) e m → CursorAgrees h.version (seen_by h e) position (f m))
+    → ((m : OpenSession) → SessionAgrees h.status h.version w.history (h.sees e.snapshot) m.start (h.sees e.snapshot) e m → CursorAgrees h.version (seen_by h e) position (f m))
     → Agrees h w → Agrees (record h { session = session' }) (change w s (λ m. record m { cursor = f m }))
 Agrees-cursor h w s e position f session' only at now agrees =
     Agrees-change h w s e (record e { cursor = position }) (λ m. record m { cursor = f m }) h.status h.sees session' only at (Finishes-none h.status e.own) (same_sights h) (λ m mine x ours. ours)

@@ -28,10 +28,10 @@ use Rattle.session_relation.proofs.Updating.{Agrees-update}
 use Rattle.session_relation.proofs.Hindrances.{allows_write}
 
 -- the session and its model in the engine as it is now
-agrees_now : (now : Heap) (w : World) (s : ℕ) (e : Session) (m : OpenSession) → Agrees now w → now.session s ≡ Some e → w.session s ≡ Some m → SessionAgrees now.status now.version w.history (now.sees e.snapshot) e m
+agrees_now : (now : Heap) (w : World) (s : ℕ) (e : Session) (m : OpenSession) → Agrees now w → now.session s ≡ Some e → w.session s ≡ Some m → SessionAgrees now.status now.version w.history (now.sees e.snapshot) m.start (now.sees e.snapshot) e m
 agrees_now now w s e m agrees at there =
     let open_ = agrees.opened s e at in
-    subst (λ (n : OpenSession). SessionAgrees now.status now.version w.history (now.sees e.snapshot) e n) (same_Some open_.0 m (sym open_.1 ∙ there)) open_.2
+    subst (λ (n : OpenSession). SessionAgrees now.status now.version w.history (now.sees e.snapshot) n.start (now.sees e.snapshot) e n) (same_Some open_.0 m (sym open_.1 ∙ there)) open_.2
 
 pub insert_done : (h now : Heap) (w : World) (s : ℕ) (e e' : Session) (row : RowText) (x : ℕ) (place : Tid) (new : Version) (store' : Tid → Option Version)
     → Free h s e row.key None → FitsRow row → Agrees h w → Agrees now w → now.session s ≡ Some e' → IsCurrent e' x

@@ -29,12 +29,12 @@ use Rattle.session_relation.proofs.Others.{same_reader, reads_before}
 
 -- what its newest savepoint had, the session has
 pub saved_within : {status : ℕ → Option Status} {store : Tid → Option Version} {history : List Transaction} {sees : ℕ → Type 0} {e : Session} {m : OpenSession} (before : List ℕ)
-    → SessionAgrees status store history sees e m → slice_get e.saved 0 ≡ Some before → (x : ℕ) → Contains before x → Contains e.own x
+    → SessionAgrees status store history sees m.start sees e m → slice_get e.saved 0 ≡ Some before → (x : ℕ) → Contains before x → Contains e.own x
 saved_within {status} {store} {history} {sees} {e} {m} before h is = Levels-within status store history sees m.start e.own e.saved m.levels before h.levels is
 
 -- it has one level more than it has savepoints
 pub levels_count : {status : ℕ → Option Status} {store : Tid → Option Version} {history : List Transaction} {sees : ℕ → Type 0} {e : Session} {m : OpenSession}
-    → SessionAgrees status store history sees e m → length m.levels ≡ suc (length e.saved)
+    → SessionAgrees status store history sees m.start sees e m → length m.levels ≡ suc (length e.saved)
 levels_count {status} {store} {history} {sees} {e} {m} h = Levels-count status store history sees m.start e.own e.saved m.levels h.levels
 
 -- the id is the session's, of its newest level
@@ -71,38 +71,38 @@ in_time-write history start new levels in_time before k wrote late = elim (cases
 
 pub SessionAgrees-insert : {status : ℕ → Option Status} {store store' : Tid → Option Version} {history : List Transaction} {sees : ℕ → Type 0} {e : Session} {m : OpenSession} (x : ℕ) (place : Tid) (new : Version)
     → Adds store store' place new → IsNew x new → IsCurrent e x → m.cursor ≡ None → reading history m.start (joined m.levels) new.row.key ≡ None → ¬ IsLate history m.start new.row.key
-    → SessionAgrees status store history sees e m → SessionAgrees status store' history sees e (with_row new.row m)
+    → SessionAgrees status store history sees m.start sees e m → SessionAgrees status store' history sees m.start sees e (with_row new.row m)
 SessionAgrees-insert {status} {store} {store'} {history} {sees} {e} {m} x place new adds is_new current bare none in_time h = record {
   same_failed = h.same_failed;
   cursor = CursorAgrees-bare bare h.cursor;
-  levels = levels_write (record { key = new.row.key; row = Some new.row }) e.own e.saved m.levels
+  levels = levels_write (record { start = m.start; key = new.row.key; row = Some new.row }) e.own e.saved m.levels
       (λ r. ReaderAgrees-insert x place new adds is_new current.mine none r)
       (λ before own' writes is subset among r. ReaderAgrees-add_other x place new adds is_new (h.own_active x current.mine) (λ mine. current.newest before is (among x mine)) r) h.levels;
-  level_traces = LevelTraces-write x (record { key = new.row.key; row = Some new.row }) e.own e.saved m.levels (nested_of status store history sees m.start e.own e.saved m.levels h.levels) (of_newest e.own e.saved x current.mine current.newest)
-      (λ P writes mine t. Traced-insert x place new adds is_new mine t) (λ P writes other within t. Traced-add_other x place new adds is_new other t) h.level_traces;
+  level_traces = LevelTraces-write x (record { start = m.start; key = new.row.key; row = Some new.row }) e.own e.saved m.levels (nested_of status store history sees m.start e.own e.saved m.levels h.levels) (of_newest e.own e.saved x current.mine current.newest)
+      (λ P writes mine t. Traced-insert m.start x place new adds is_new mine t) (λ P writes other within t. Traced-add_other x place new adds is_new other t) h.level_traces;
   traces = TracesAgree-add x place new adds is_new (h.own_active x current.mine) h.traces;
   began = h.began;
-  in_time = in_time-write history m.start (record { key = new.row.key; row = Some new.row }) m.levels in_time h.in_time;
+  in_time = in_time-write history m.start (record { start = m.start; key = new.row.key; row = Some new.row }) m.levels in_time h.in_time;
   active_unseen = h.active_unseen;
   own_active = h.own_active;
 }
 
 pub SessionAgrees-delete : {status : ℕ → Option Status} {store store' : Tid → Option Version} {history : List Transaction} {sees : ℕ → Type 0} {e : Session} {m : OpenSession} (x : ℕ) (place : Tid) (old new : Version)
     → Alters store store' place old new → IsDeleted x old new → IsCurrent e x → m.cursor ≡ None → IsVisible status sees e.own old → ¬ IsLate history m.start old.row.key → ((y : ℕ) → deleter old ≡ Some y → ¬ IsCommitted status y)
-    → SessionAgrees status store history sees e m → SessionAgrees status store' history sees e (without_row old.row.key m)
+    → SessionAgrees status store history sees m.start sees e m → SessionAgrees status store' history sees m.start sees e (without_row old.row.key m)
 SessionAgrees-delete {status} {store} {store'} {history} {sees} {e} {m} x place old new alters deleted current bare seen in_time dead h = record {
   same_failed = h.same_failed;
   cursor = CursorAgrees-bare bare h.cursor;
-  levels = levels_write (record { key = old.row.key; row = None }) e.own e.saved m.levels
+  levels = levels_write (record { start = m.start; key = old.row.key; row = None }) e.own e.saved m.levels
       (λ r. ReaderAgrees-delete x place old new alters deleted current.mine seen r)
       (λ before own' writes is subset among r. ReaderAgrees-delete_other x place old new alters deleted (h.own_active x current.mine) (λ mine. current.newest before is (among x mine))
       (record { uncommitted = dead; foreign = λ y is mine. seen.kept y is (by_itself (subset y (among y mine))) }) r) h.levels;
-  level_traces = LevelTraces-write x (record { key = old.row.key; row = None }) e.own e.saved m.levels (nested_of status store history sees m.start e.own e.saved m.levels h.levels) (of_newest e.own e.saved x current.mine current.newest)
-      (λ P writes mine t. Traced-delete x place old new alters deleted mine t)
+  level_traces = LevelTraces-write x (record { start = m.start; key = old.row.key; row = None }) e.own e.saved m.levels (nested_of status store history sees m.start e.own e.saved m.levels h.levels) (of_newest e.own e.saved x current.mine current.newest)
+      (λ P writes mine t. Traced-delete m.start x place old new alters deleted mine t)
       (λ P writes other within t. Traced-delete_other x place old new alters deleted other (λ y is p. seen.kept y is (by_itself (within y p))) t) h.level_traces;
   traces = TracesAgree-delete x place old new alters deleted (h.own_active x current.mine) dead h.traces;
   began = h.began;
-  in_time = in_time-write history m.start (record { key = old.row.key; row = None }) m.levels in_time h.in_time;
+  in_time = in_time-write history m.start (record { start = m.start; key = old.row.key; row = None }) m.levels in_time h.in_time;
   active_unseen = h.active_unseen;
   own_active = h.own_active;
 }
@@ -110,8 +110,8 @@ SessionAgrees-delete {status} {store} {store'} {history} {sees} {e} {m} x place 
 -- the session is given an id, of any of its levels
 pub SessionAgrees-give : {status status' : ℕ → Option Status} {store : Tid → Option Version} {history : List Transaction} {sees sees' : ℕ → Type 0} {e : Session} {m : OpenSession} (n x : ℕ)
     → Gives status status' x → SameSight status sees sees' → ¬ Sees sees' x → ((p : Tid) (y : ℕ) (v : Version) → At store p v → Touches y v → IsSome (status y))
-    → SessionAgrees status store history sees e m
-    → SessionAgrees status' store history sees' (with_id n x e) m
+    → SessionAgrees status store history sees m.start sees e m
+    → SessionAgrees status' store history sees' m.start sees' (with_id n x e) m
 SessionAgrees-give {status} {status'} {store} {history} {sees} {sees'} {e} {m} n x gives same unseen given h = record {
   same_failed = h.same_failed;
   cursor = CursorAgrees-keeps (KeepsSeen-same (λ p v at seen. VisibleBy-same (λ y touch. to e.own y) (λ y touch. back e.own p y v at touch) seen)
@@ -168,7 +168,7 @@ SessionAgrees-give {status} {status'} {store} {history} {sees} {sees'} {e} {m} n
 
 -- the session fails
 pub SessionAgrees-fail : {status : ℕ → Option Status} {store : Tid → Option Version} {history : List Transaction} {sees : ℕ → Type 0} {e : Session} {m : OpenSession}
-    → SessionAgrees status store history sees e m → SessionAgrees status store history sees (record e { failed = true }) (as_failed m)
+    → SessionAgrees status store history sees m.start sees e m → SessionAgrees status store history sees m.start sees (record e { failed = true }) (as_failed m)
 SessionAgrees-fail h = record {
   same_failed = refl;
   cursor = h.cursor;
@@ -192,7 +192,7 @@ pub SessionAgrees-begin : {status : ℕ → Option Status} {store : Tid → Opti
     → IsFresh status sees
     → Shows store (VisibleBy (IsCommitted status)) (committed w.history (length w.history))
     → ((p : Tid) (y : ℕ) (v : Version) → At store p v → deleter v ≡ Some y → IsCommitted status y → (x : ℕ) → maker v ≡ Some x → IsCommitted status x)
-    → SessionAgrees status store w.history sees (new_session snapshot) (fresh_model w)
+    → SessionAgrees status store w.history sees (length w.history) sees (new_session snapshot) (fresh_model w)
 SessionAgrees-begin {status} {store} {sees} snapshot w fresh current made = record {
   same_failed = refl;
   cursor = CursorAgrees-none refl refl;

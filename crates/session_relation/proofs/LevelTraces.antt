@@ -67,9 +67,9 @@ Traced-delete_other {store} {store'} {P} {writes} x place old new alters deleted
     was (y, deleted_by is, p) = absurd (foreign (subst P (same_Some y x (sym is ∙ deleted.by)) p))
 
 -- the level writes a row
-pub Traced-insert : {store store' : Tid → Option Version} {P : ℕ → Type 0} {writes : List Write} (x : ℕ) (place : Tid) (new : Version)
-    → Adds store store' place new → IsNew x new → P x → Traced store P writes → Traced store' P (writes ++ record { key = new.row.key; row = Some new.row } ∷ [])
-Traced-insert {store} {store'} {P} {writes} x place new adds is_new mine h = record {
+pub Traced-insert : {store store' : Tid → Option Version} {P : ℕ → Type 0} {writes : List Write} (start x : ℕ) (place : Tid) (new : Version)
+    → Adds store store' place new → IsNew x new → P x → Traced store P writes → Traced store' P (writes ++ record { start = start; key = new.row.key; row = Some new.row } ∷ [])
+Traced-insert {store} {store'} {P} {writes} start x place new adds is_new mine h = record {
   written_there = λ k wrote. elim (cases_eq k new.row.key) [
     | inl same ↦ (place, new, adds.here, sym same, (x, made_by is_new.made, mine))
     | inr ne ↦ SomeVersion-adds adds k (IsBy P) (h.written_there k (wrote_before writes write k ne wrote))
@@ -81,12 +81,12 @@ Traced-insert {store} {store'} {P} {writes} x place new adds is_new mine h = rec
 }
   where
     write : Write
-    write = record { key = new.row.key; row = Some new.row }
+    write = record { start = start; key = new.row.key; row = Some new.row }
 
 -- it deletes a version
-pub Traced-delete : {store store' : Tid → Option Version} {P : ℕ → Type 0} {writes : List Write} (x : ℕ) (place : Tid) (old new : Version)
-    → Alters store store' place old new → IsDeleted x old new → P x → Traced store P writes → Traced store' P (writes ++ record { key = old.row.key; row = None } ∷ [])
-Traced-delete {store} {store'} {P} {writes} x place old new alters deleted mine h = record {
+pub Traced-delete : {store store' : Tid → Option Version} {P : ℕ → Type 0} {writes : List Write} (start x : ℕ) (place : Tid) (old new : Version)
+    → Alters store store' place old new → IsDeleted x old new → P x → Traced store P writes → Traced store' P (writes ++ record { start = start; key = old.row.key; row = None } ∷ [])
+Traced-delete {store} {store'} {P} {writes} start x place old new alters deleted mine h = record {
   written_there = λ k wrote. elim (cases_eq k old.row.key) [
     | inl same ↦ (place, new, alters.here, same_key ∙ sym same, (x, deleted_by deleted.by, mine))
     | inr ne ↦ SomeVersion-alters alters k (IsBy P) (IsBy P) same_key (λ by. (x, deleted_by deleted.by, mine)) (λ p u bt by. by) (h.written_there k (wrote_before writes write k ne wrote))
@@ -98,7 +98,7 @@ Traced-delete {store} {store'} {P} {writes} x place old new alters deleted mine 
 }
   where
     write : Write
-    write = record { key = old.row.key; row = None }
+    write = record { start = start; key = old.row.key; row = None }
 
     same_key : new.row.key ≡ old.row.key
     same_key = ap (λ (r : Row). r.key) deleted.same_row

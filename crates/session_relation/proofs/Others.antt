@@ -21,7 +21,7 @@ use Rattle.session_relation.proofs.Traces.{TracesAgree-same, TracesAgree-add, Tr
 
 pub SessionAgrees-add_other : {status : ℕ → Option Status} {store store' : Tid → Option Version} {history : List Transaction} {sees : ℕ → Type 0} {e : Session} {m : OpenSession} (x : ℕ) (place : Tid) (new : Version)
     → Adds store store' place new → IsNew x new → IsActive status x → ¬ Contains e.own x
-    → SessionAgrees status store history sees e m → SessionAgrees status store' history sees e m
+    → SessionAgrees status store history sees m.start sees e m → SessionAgrees status store' history sees m.start sees e m
 SessionAgrees-add_other {status} {store} {store'} {history} {sees} {e} {m} x place new adds is_new active foreign h = record {
   same_failed = h.same_failed;
   cursor = CursorAgrees-keeps (KeepsSeen-add adds (λ seen. active_unread active foreign (seen.made x is_new.made))) h.cursor;
@@ -36,7 +36,7 @@ SessionAgrees-add_other {status} {store} {store'} {history} {sees} {e} {m} x pla
 
 pub SessionAgrees-delete_other : {status : ℕ → Option Status} {store store' : Tid → Option Version} {history : List Transaction} {sees : ℕ → Type 0} {e : Session} {m : OpenSession} (x : ℕ) (place : Tid) (old new : Version)
     → Alters store store' place old new → IsDeleted x old new → IsActive status x → ¬ Contains e.own x → IsIdle status e.own old
-    → SessionAgrees status store history sees e m → SessionAgrees status store' history sees e m
+    → SessionAgrees status store history sees m.start sees e m → SessionAgrees status store' history sees m.start sees e m
 SessionAgrees-delete_other {status} {store} {store'} {history} {sees} {e} {m} x place old new alters deleted active foreign idle h = record {
   same_failed = h.same_failed;
   cursor = CursorAgrees-keeps (KeepsSeen-alter alters deleted.same_row (seen_deleted deleted active foreign) (seen_undeleted deleted idle)) h.cursor;
@@ -78,7 +78,7 @@ same_seen {status} {status'} {store} {sees} {sees'} own to same back =
 -- another session is given an id
 pub SessionAgrees-give_other : {status status' : ℕ → Option Status} {store : Tid → Option Version} {history : List Transaction} {sees sees' : ℕ → Type 0} {e : Session} {m : OpenSession} (x : ℕ)
     → Gives status status' x → SameSight status sees sees' → ¬ Sees sees' x
-    → SessionAgrees status store history sees e m → SessionAgrees status' store history sees' e m
+    → SessionAgrees status store history sees m.start sees e m → SessionAgrees status' store history sees' m.start sees' e m
 SessionAgrees-give_other {status} {status'} {store} {history} {sees} {sees'} {e} {m} x gives same unseen h = record {
   same_failed = h.same_failed;
   cursor = CursorAgrees-keeps (same_seen e.own (λ y done. keeps-give gives y Committed done) same (reads_before e.own (λ y done. IsCommitted-give gives y done) same)) h.cursor;
@@ -97,7 +97,7 @@ SessionAgrees-give_other {status} {status'} {store} {history} {sees} {sees'} {e}
 -- ids of another session are rolled back
 pub SessionAgrees-abort_other : {status status' : ℕ → Option Status} {store : Tid → Option Version} {history : List Transaction} {sees sees' : ℕ → Type 0} {e : Session} {m : OpenSession} (P : ℕ → Type 0)
     → Finishes status status' P Aborted → SameSight status sees sees' → ((x : ℕ) → P x → ¬ Contains e.own x)
-    → SessionAgrees status store history sees e m → SessionAgrees status' store history sees' e m
+    → SessionAgrees status store history sees m.start sees e m → SessionAgrees status' store history sees' m.start sees' e m
 SessionAgrees-abort_other {status} {status'} {store} {history} {sees} {sees'} {e} {m} P finishes same foreign h = record {
   same_failed = h.same_failed;
   cursor = CursorAgrees-keeps (same_seen e.own (λ y done. IsCommitted-finish_old finishes y done) same (reads_before e.own (λ y done. IsCommitted-abort finishes y done) same)) h.cursor;
@@ -112,9 +112,9 @@ SessionAgrees-abort_other {status} {status'} {store} {history} {sees} {sees'} {e
 
 -- another session commits
 pub SessionAgrees-commit_other : {status status' : ℕ → Option Status} {store : Tid → Option Version} {history : List Transaction} {sees sees' : ℕ → Type 0} {e : Session} {m : OpenSession} (own : List ℕ) (t : Transaction)
-    → Finishes status status' (λ x. Contains own x) Committed → SameSight status sees sees' → ((x : ℕ) → Contains own x → ¬ Contains e.own x) → Traced store (λ x. Contains own x) t.writes
-    → ((k : ℕ) → IsSome (own_write m k) → IsSome (written t.writes k) → ⊥)
-    → SessionAgrees status store history sees e m → SessionAgrees status' store (history ++ t ∷ []) sees' e m
+    → Finishes status status' (λ x. Contains own x) Committed → SameSight status sees sees' → ((x : ℕ) → Contains own x → ¬ Contains e.own x) → Traced store (λ x. Contains own x) t
+    → ((k : ℕ) → IsSome (own_write m k) → IsSome (written t k) → ⊥)
+    → SessionAgrees status store history sees m.start sees e m → SessionAgrees status' store (history ++ t ∷ []) sees' m.start sees' e m
 SessionAgrees-commit_other {status} {status'} {store} {history} {sees} {sees'} {e} {m} own t finishes same foreign carries alone h = record {
   same_failed = h.same_failed;
   cursor = CursorAgrees-keeps (same_seen e.own (λ y done. IsCommitted-finish_old finishes y done) same (back e.own)) h.cursor;

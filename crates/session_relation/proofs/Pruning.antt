@@ -111,7 +111,7 @@ ReaderAgrees-prune removes reader made h = record {
 SessionAgrees-prune : {status : ℕ → Option Status} {store store' : Tid → Option Version} {history : List Transaction} {sees : Snap → ℕ → Type 0} {session : ℕ → Option Session} (s : ℕ) (e : Session) (m : OpenSession)
     → Removes store store' (IsPast status sees session) → session s ≡ Some e
     → ((p : Tid) (y : ℕ) (v : Version) → At store p v → deleter v ≡ Some y → IsCommitted status y → (x : ℕ) → maker v ≡ Some x → IsCommitted status x)
-    → SessionAgrees status store history (sees e.snapshot) e m → SessionAgrees status store' history (sees e.snapshot) e m
+    → SessionAgrees status store history (sees e.snapshot) m.start (sees e.snapshot) e m → SessionAgrees status store' history (sees e.snapshot) m.start (sees e.snapshot) e m
 SessionAgrees-prune {status} {store} {store'} {history} {sees} {session} s e m removes at made h = record {
   same_failed = h.same_failed;
   cursor = CursorAgrees-keeps (KeepsSeen-removes removes (λ p v bt past. past_unseen (reader e.own (λ x mine. mine)) v past)) h.cursor;

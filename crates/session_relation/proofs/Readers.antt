@@ -107,7 +107,7 @@ wrote_still writes new k wrote = elim (cases_eq k new.key) [ inl same ↦ wrote_
 -- the reader itself writes a row
 pub ReaderAgrees-insert : {status : ℕ → Option Status} {store store' : Tid → Option Version} {history : List Transaction} {sees : ℕ → Type 0} {start : ℕ} {own : List ℕ} {writes : List Write} (x : ℕ) (place : Tid) (new : Version)
     → Adds store store' place new → IsNew x new → Contains own x → reading history start writes new.row.key ≡ None
-    → ReaderAgrees status store history sees start own writes → ReaderAgrees status store' history sees start own (writes ++ record { key = new.row.key; row = Some new.row } ∷ [])
+    → ReaderAgrees status store history sees start own writes → ReaderAgrees status store' history sees start own (writes ++ record { start = start; key = new.row.key; row = Some new.row } ∷ [])
 ReaderAgrees-insert {status} {store} {store'} {history} {sees} {start} {own} {writes} x place new adds is_new mine none h = record {
   rows = Shows-add_seen adds (λ p v at seen. seen) (λ p v at seen. seen)
       (record { made = λ y is. by_itself (subst (λ z. Contains own z) (same_Some x y (sym is_new.made ∙ is)) mine); kept = λ y is. absurd (none-some y (sym is_new.kept ∙ is)) }) none
@@ -121,12 +121,12 @@ ReaderAgrees-insert {status} {store} {store'} {history} {sees} {start} {own} {wr
 }
   where
     write : Write
-    write = record { key = new.row.key; row = Some new.row }
+    write = record { start = start; key = new.row.key; row = Some new.row }
 
 -- the reader itself deletes a version that it sees
 pub ReaderAgrees-delete : {status : ℕ → Option Status} {store store' : Tid → Option Version} {history : List Transaction} {sees : ℕ → Type 0} {start : ℕ} {own : List ℕ} {writes : List Write} (x : ℕ) (place : Tid) (old new : Version)
     → Alters store store' place old new → IsDeleted x old new → Contains own x → IsVisible status sees own old
-    → ReaderAgrees status store history sees start own writes → ReaderAgrees status store' history sees start own (writes ++ record { key = old.row.key; row = None } ∷ [])
+    → ReaderAgrees status store history sees start own writes → ReaderAgrees status store' history sees start own (writes ++ record { start = start; key = old.row.key; row = None } ∷ [])
 ReaderAgrees-delete {status} {store} {store'} {history} {sees} {start} {own} {writes} x place old new alters deleted mine seen_old h = record {
   rows = Shows-alter_hidden alters seen_old (λ seen. seen.kept x deleted.by (by_itself mine))
       (ap (λ o. own_or o (committed history start old.row.key)) (written-push_same writes write))
@@ -139,7 +139,7 @@ ReaderAgrees-delete {status} {store} {store'} {history} {sees} {start} {own} {wr
 }
   where
     write : Write
-    write = record { key = old.row.key; row = None }
+    write = record { start = start; key = old.row.key; row = None }
 
 -- each reader of a session, one by one
 pub Levels-map : {status status' : ℕ → Option Status} {store store' : Tid → Option Version} {history history' : List Transaction} {sees sees' : ℕ → Type 0} {start : ℕ} (own : List ℕ) (saved : List (List ℕ)) (levels : List (List Write))

@@ -159,6 +159,6 @@ same_indexes w step reply allows = indexes-run (leads_on w w step reply stays al
 pub lawful : (columns : List Bool) (steps : List Step) (replies : List Reply) → IsRun (beginning columns) steps replies → IsLawful (after (beginning columns) steps replies)
 lawful columns steps replies run = let h = Lawful-run (leads (beginning columns) (beginning columns) steps replies stays run) (Lawful-beginning columns) in record {
   first_committer_wins = h.first;
-  held_in_time = λ s k m at wrote. h.in_time s k m at wrote;
+  held_in_time = λ s m write at among. h.in_time s m write at among;
   held_once = h.once;
 }

@@ -13,6 +13,7 @@ use Rattle.history.specs.World.{World, OpenSession, joined, own_write}
 use Rattle.history.specs.Moves.{put, change, awaited_no_more, with_savepoint, empty_newest, to_savepoint, rolled_back_to, join_newest, without_savepoint}
 use Rattle.history.specs.Cursors.{kept_where}
 use Rattle.history.proofs.HistoryLemmas.{joined-join_newest}
+use Rattle.history.proofs.HistoryLemmas.{fewer-written}
 use Rattle.history.proofs.RunLemmas.{fewer-empty_newest}
 use Rattle.session_relation.specs.Heap.{Session, Heap}
 use Rattle.session_relation.specs.Changes.{Finishes, SameSight}
@@ -26,13 +27,17 @@ use Rattle.session_relation.proofs.Others.{same_reader, reads_before}
 use Rattle.session_relation.proofs.Itself.{saved_within}
 use Rattle.session_relation.proofs.Steps.{OnlyIs, SameSights, same_sights, cases_Contains, Agrees-put}
 
+-- without the newest level no more keys are written
+fewer_keys : (levels : List (List Write)) (k : ℕ) → IsSome (written (joined (empty_newest levels)) k) → IsSome (written (joined levels) k)
+fewer_keys levels = fewer-written (joined (empty_newest levels)) (joined levels) (fewer-empty_newest levels)
+
 -- an empty level says nothing
 joined-empty : (levels : List (List Write)) → joined ([] ∷ levels) ≡ joined levels
 joined-empty levels = append-nil (joined levels)
 
 -- the session as it is could be returned to
 pub SessionAgrees-save : {status : ℕ → Option Status} {store : Tid → Option Version} {history : List Transaction} {sees : ℕ → Type 0} {e : Session} {m : OpenSession}
-    → SessionAgrees status store history sees e m → SessionAgrees status store history sees (record e { saved = e.own ∷ e.saved }) (with_savepoint m)
+    → SessionAgrees status store history sees m.start sees e m → SessionAgrees status store history sees m.start sees (record e { saved = e.own ∷ e.saved }) (with_savepoint m)
 SessionAgrees-save {status} {store} {history} {sees} {e} {m} h = record {
   same_failed = h.same_failed;
   cursor = h.cursor;
@@ -53,7 +58,7 @@ emptied _ own before older (ws ∷ levels) h = (Traced-none (λ x is. is.1 is.0)
 -- the ids since the newest savepoint are rolled back, and the writes since forgotten
 pub SessionAgrees-roll_back : {status status' : ℕ → Option Status} {store : Tid → Option Version} {history : List Transaction} {sees sees' : ℕ → Type 0} {e : Session} {m : OpenSession} (before : List ℕ) (older : List (List ℕ))
     → e.saved ≡ before ∷ older → e.cursor ≡ None → Finishes status status' (λ x. Contains e.own x × (¬ Contains before x)) Aborted → SameSight status sees sees'
-    → SessionAgrees status store history sees e m → SessionAgrees status' store history sees' (record e { own = before; failed = false }) (to_savepoint m)
+    → SessionAgrees status store history sees m.start sees e m → SessionAgrees status' store history sees' m.start sees' (record e { own = before; failed = false }) (to_savepoint m)
 SessionAgrees-roll_back {status} {status'} {store} {history} {sees} {sees'} {e} {m} before older is bare finishes same h = record {
   same_failed = refl;
   cursor = CursorAgrees-bare (h.cursor.closed bare) h.cursor;
@@ -62,7 +67,7 @@ SessionAgrees-roll_back {status} {status'} {store} {history} {sees} {sees'} {e} 
   level_traces = subst (λ saved. LevelTraces store before saved (empty_newest m.levels)) (sym is) (emptied store e.own before older m.levels (subst (λ saved. LevelTraces store e.own saved m.levels) is h.level_traces));
   traces = TracesAgree-same (λ y done. IsCommitted-finish_old finishes y done) (λ y done. IsCommitted-abort finishes y done) same h.traces;
   began = h.began;
-  in_time = λ k wrote. h.in_time k (fewer-empty_newest m.levels k wrote);
+  in_time = λ k wrote. h.in_time k (fewer_keys m.levels k wrote);
   active_unseen = λ y after. let old = (IsActive-finish (λ e. cc) finishes y after).0 in unseen_still same y InProgress old (h.active_unseen y old);
   own_active = λ y mine. IsActive-finish_other finishes y (λ p. p.1 mine) (h.own_active y (saved_within before h (ap (λ saved. slice_get saved 0) is) y mine));
 }
@@ -90,7 +95,7 @@ joined_traces _ own before (first ∷ older) (ws ∷ (vs ∷ levels)) nested h =
 
 -- the newest savepoint is forgotten, and its level joins the one below
 pub SessionAgrees-release : {status : ℕ → Option Status} {store : Tid → Option Version} {history : List Transaction} {sees : ℕ → Type 0} {e : Session} {m : OpenSession} (before : List ℕ) (older : List (List ℕ))
-    → e.saved ≡ before ∷ older → SessionAgrees status store history sees e m → SessionAgrees status store history sees (record e { saved = older }) (without_savepoint m)
+    → e.saved ≡ before ∷ older → SessionAgrees status store history sees m.start sees e m → SessionAgrees status store history sees m.start sees (record e { saved = older }) (without_savepoint m)
 SessionAgrees-release {status} {store} {history} {sees} {e} {m} before older is h = record {
   same_failed = h.same_failed;
   cursor = h.cursor;
@@ -117,9 +122,9 @@ SessionAgrees-release {status} {store} {history} {sees} {e} {m} before older is 
 -- one session alone changes, as the model's does
 pub Agrees-change : (h : Heap) (w : World) (s : ℕ) (e e' : Session) (f : OpenSession → OpenSession) (status' : ℕ → Option Status) (sees' : Snap → ℕ → Type 0) (session' : ℕ → Option Session)
     → OnlyIs h.session session' s (Some e') → h.session s ≡ Some e → Finishes h.status status' (λ x. Contains e.own x × (¬ Contains e'.own x)) Aborted → SameSights h sees'
-    → ((m : OpenSession) → SessionAgrees h.status h.version w.history (h.sees e.snapshot) e m → (x : ℕ) → Contains e'.own x → Contains e.own x)
+    → ((m : OpenSession) → SessionAgrees h.status h.version w.history (h.sees e.snapshot) m.start (h.sees e.snapshot) e m → (x : ℕ) → Contains e'.own x → Contains e.own x)
     → ((m : OpenSession) (k : ℕ) → IsSome (own_write (f m) k) → IsSome (own_write m k))
-    → ((m : OpenSession) → SessionAgrees h.status h.version w.history (h.sees e.snapshot) e m → SessionAgrees status' h.version w.history (sees' e'.snapshot) e' (f m))
+    → ((m : OpenSession) → SessionAgrees h.status h.version w.history (h.sees e.snapshot) m.start (h.sees e.snapshot) e m → SessionAgrees status' h.version w.history (sees' e'.snapshot) (f m).start (sees' e'.snapshot) e' (f m))
     → Agrees h w → Agrees (record h { status = status'; sees = sees'; session = session' }) (change w s f)
 Agrees-change h w s e e' f status' sees' session' only at finishes same fewer kept mine agrees =
     let open_ = agrees.opened s e at in
@@ -157,7 +162,7 @@ Agrees-roll_back h w s e before older status' sees' session' only at is bare fin
     Agrees-awaited_no_more (record h { status = status'; sees = sees'; session = session' }) (change w s to_savepoint) s
     (Agrees-change h w s e (record e { own = before; failed = false }) to_savepoint status' sees' session' only at finishes same
     (λ m mine. saved_within before mine (ap (λ saved. slice_get saved 0) is))
-    (λ m k wrote. fewer-empty_newest m.levels k wrote) (λ m mine. SessionAgrees-roll_back before older is bare finishes (same s e at) mine) agrees)
+    (λ m k wrote. fewer_keys m.levels k wrote) (λ m mine. SessionAgrees-roll_back before older is bare finishes (same s e at) mine) agrees)
 
 -- a session forgets its newest savepoint
 pub Agrees-release : (h : Heap) (w : World) (s : ℕ) (e : Session) (before : List ℕ) (older : List (List ℕ)) (session' : ℕ → Option Session)

@@ -17,7 +17,7 @@ use Rattle.session_relation.proofs.Others.{same_reader, same_seen, reads_before}
 use Rattle.session_relation.proofs.Steps.{SameSights}
 
 SessionAgrees-sights : {status : ℕ → Option Status} {store : Tid → Option Version} {history : List Transaction} {sees sees' : ℕ → Type 0} {e : Session} {m : OpenSession}
-    → SameSight status sees sees' → SessionAgrees status store history sees e m → SessionAgrees status store history sees' e m
+    → SameSight status sees sees' → SessionAgrees status store history sees m.start sees e m → SessionAgrees status store history sees' m.start sees' e m
 SessionAgrees-sights {status} {store} {history} {sees} {sees'} {e} {m} same h = record {
   same_failed = h.same_failed;
   cursor = CursorAgrees-keeps (same_seen e.own (λ y done. done) same (reads_before e.own (λ y done. done) same)) h.cursor;

@@ -71,7 +71,7 @@ levels_traced store own (before ∷ saved) (ws ∷ levels) nested h =
     h.0 (levels_traced store before saved levels nested.1 h.1)
 
 pub own_traced : {status : ℕ → Option Status} {store : Tid → Option Version} {history : List Transaction} {sees : ℕ → Type 0} {e : Session} {m : OpenSession}
-    → SessionAgrees status store history sees e m → Traced store (λ x. Contains e.own x) (joined m.levels)
+    → SessionAgrees status store history sees m.start sees e m → Traced store (λ x. Contains e.own x) (joined m.levels)
 own_traced {status} {store} {history} {sees} {e} {m} h =
     levels_traced store e.own e.saved m.levels (nested_of status store history sees m.start e.own e.saved m.levels h.levels) h.level_traces
 
@@ -108,7 +108,7 @@ pub Agrees-put : (h : Heap) (w : World) (s : ℕ) (e e' : Session) (m m' : OpenS
     → OnlyIs h.session session' s (Some e') → h.session s ≡ Some e → w.session s ≡ Some m
     → Finishes h.status status' (λ x. Contains e.own x × (¬ Contains e'.own x)) Aborted → SameSights h sees'
     → ((x : ℕ) → Contains e'.own x → Contains e.own x) → ((k : ℕ) → IsSome (own_write m' k) → IsSome (own_write m k))
-    → SessionAgrees status' h.version w.history (sees' e'.snapshot) e' m'
+    → SessionAgrees status' h.version w.history (sees' e'.snapshot) m'.start (sees' e'.snapshot) e' m'
     → Agrees h w → Agrees (record h { status = status'; sees = sees'; session = session' }) (put w s (Some m'))
 Agrees-put h w s e e' m m' status' sees' session' only at there finishes same fewer kept mine agrees = record {
   opened = opened-change h h' w w' s agrees only.others models
@@ -151,7 +151,7 @@ same_sights h o e at x status is = (λ sees. sees, λ sees. sees)
 -- the session fails
 pub Agrees-fail : (h : Heap) (w : World) (s : ℕ) (e : Session) (m : OpenSession) (session' : ℕ → Option Session)
     → OnlyIs h.session session' s (Some (record e { failed = true })) → h.session s ≡ Some e → w.session s ≡ Some m
-    → SessionAgrees h.status h.version w.history (h.sees e.snapshot) e m
+    → SessionAgrees h.status h.version w.history (h.sees e.snapshot) m.start (h.sees e.snapshot) e m
     → Agrees h w → Agrees (record h { session = session' }) (put w s (Some (as_failed m)))
 Agrees-fail h w s e m session' only at there mine agrees =
     Agrees-put h w s e (record e { failed = true }) m (as_failed m) h.status h.sees session' only at there (Finishes-none h.status e.own) (same_sights h) (λ x ours. ours) (λ k wrote. wrote) (SessionAgrees-fail mine) agrees
@@ -202,7 +202,7 @@ Agrees-give_below h w s e n x status' sees' session' only at gives same unseen a
 pub Agrees-insert : (h : Heap) (w : World) (s : ℕ) (e : Session) (m : OpenSession) (x : ℕ) (place : Tid) (new : Version) (store' : Tid → Option Version)
     → Adds h.version store' place new → IsNew x new → h.session s ≡ Some e → IsCurrent e x → w.session s ≡ Some m → m.cursor ≡ None
     → reading w.history m.start (joined m.levels) new.row.key ≡ None → ¬ IsLate w.history m.start new.row.key → ((o : ℕ) → o ≢ s → ¬ Holds w o new.row.key)
-    → SessionAgrees h.status h.version w.history (h.sees e.snapshot) e m
+    → SessionAgrees h.status h.version w.history (h.sees e.snapshot) m.start (h.sees e.snapshot) e m
     → Agrees h w → Agrees (record h { version = store' }) (put w s (Some (with_row new.row m)))
 Agrees-insert h w s e m x place new store' adds is_new at current there bare none in_time unheld mine agrees = record {
   opened = opened-change h h' w w' s agrees (λ o ne. refl) models
@@ -236,7 +236,7 @@ Agrees-insert h w s e m x place new store' adds is_new at current there bare non
 }
   where
     write : Write
-    write = record { key = new.row.key; row = Some new.row }
+    write = record { start = m.start; key = new.row.key; row = Some new.row }
 
     h' : Heap
     h' = record h { version = store' }

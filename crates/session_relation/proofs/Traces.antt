@@ -67,7 +67,7 @@ TracesAgree-delete {status} {store} {store'} {history} {sees} {start} x place ol
 
 -- what the ids made and deleted is what the transaction wrote
 pub TracesAgree-commit : {status status' : ℕ → Option Status} {store : Tid → Option Version} {history : List Transaction} {sees sees' : ℕ → Type 0} {start : ℕ} (own : List ℕ) (t : Transaction)
-    → Finishes status status' (λ x. Contains own x) Committed → SameSight status sees sees' → Traced store (λ x. Contains own x) t.writes → start ≤ length history → ((x : ℕ) → Contains own x → ¬ Sees sees x)
+    → Finishes status status' (λ x. Contains own x) Committed → SameSight status sees sees' → Traced store (λ x. Contains own x) t → start ≤ length history → ((x : ℕ) → Contains own x → ¬ Sees sees x)
     → TracesAgree status store history sees start → TracesAgree status' store (history ++ t ∷ []) sees' start
 TracesAgree-commit {status} {status'} {store} {history} {sees} {sees'} {start} own t finishes same carries began unseen h = record {
   late_missed = λ k late. elim (IsLate-push_cases history t start k late) [

@@ -9,7 +9,7 @@ use Rattle.tuple_header.specs.Version.{Version}
 use Rattle.commit_status.specs.declared.status.Status.{Status}
 use Rattle.history.specs.History.{Write, Transaction, committed, written, own_or, IsLate}
 use Rattle.history.specs.World.{World, OpenSession, joined, own_write, view, Holds}
-use Rattle.history.specs.Moves.{put, add_write, with_write, with_row, without_row}
+use Rattle.history.specs.Moves.{put, add_write, with_row, without_row}
 use Rattle.history.proofs.HistoryLemmas.{at_same, at_other, joined-add_write}
 use Rattle.session_relation.specs.Heap.{Session, Heap}
 use Rattle.session_relation.specs.Visible.{IsVisible, At}
@@ -57,8 +57,12 @@ traces_forget _ old new own [] (ws ∷ (vs ∷ levels)) same h = absurd h
 traces_forget _ old new own (before ∷ saved) [] same h = (level_forget old new [] same h.0, h.1)
 traces_forget _ old new own (before ∷ saved) (ws ∷ levels) same h = (level_forget old new ws same h.0, h.1)
 
+-- a session with one write more
+abbrev adding : Write → OpenSession → OpenSession
+adding write m = record m { levels = add_write write m.levels }
+
 SessionAgrees-forget : {status : ℕ → Option Status} {store : Tid → Option Version} {history : List Transaction} {sees : ℕ → Type 0} {e : Session} (old new : Write) (m : OpenSession) → new.key ≡ old.key
-    → SessionAgrees status store history sees e (with_write new (with_write old m)) → SessionAgrees status store history sees e (with_write new m)
+    → SessionAgrees status store history sees m.start sees e (adding new (adding old m)) → SessionAgrees status store history sees m.start sees e (adding new m)
 SessionAgrees-forget {status} {store} {history} {sees} {e} old new m same h = record {
   same_failed = h.same_failed;
   cursor = h.cursor;
@@ -73,20 +77,20 @@ SessionAgrees-forget {status} {store} {history} {sees} {e} old new m same h = re
 
 -- the engine cannot tell
 Agrees-forget : (h : Heap) (w w' : World) (s : ℕ) (old new : Write) (m : OpenSession) → new.key ≡ old.key → w'.history ≡ w.history → ((t : ℕ) → w'.waits_for t ≡ None)
-    → w.session s ≡ Some (with_write new (with_write old m)) → w'.session s ≡ Some (with_write new m) → ((o : ℕ) → o ≢ s → w'.session o ≡ w.session o)
+    → w.session s ≡ Some (adding new (adding old m)) → w'.session s ≡ Some (adding new m) → ((o : ℕ) → o ≢ s → w'.session o ≡ w.session o)
     → Agrees h w → Agrees h w'
 Agrees-forget h w w' s old new m same history waits there now others agrees = record {
   opened = λ o e at. let before = agrees.opened o e at in elim (cases_eq o s) [
-    | inl is ↦ (let model : before.0 ≡ with_write new (with_write old m) = same_Some before.0 (with_write new (with_write old m)) (sym before.1 ∙ (ap w.session is ∙ there)) in (
-      with_write new m,
+    | inl is ↦ (let model : before.0 ≡ adding new (adding old m) = same_Some before.0 (adding new (adding old m)) (sym before.1 ∙ (ap w.session is ∙ there)) in (
+      adding new m,
       ap w'.session is ∙ now,
-      subst (λ history. SessionAgrees h.status h.version history (h.sees e.snapshot) e (with_write new m)) (sym history)
-          (SessionAgrees-forget old new m same (subst (λ (n : OpenSession). SessionAgrees h.status h.version w.history (h.sees e.snapshot) e n) model before.2)),
+      subst (λ history. SessionAgrees h.status h.version history (h.sees e.snapshot) m.start (h.sees e.snapshot) e (adding new m)) (sym history)
+          (SessionAgrees-forget old new m same (subst (λ (n : OpenSession). SessionAgrees h.status h.version w.history (h.sees e.snapshot) n.start (h.sees e.snapshot) e n) model before.2)),
     ))
-    | inr ne ↦ (before.0, others o ne ∙ before.1, subst (λ history. SessionAgrees h.status h.version history (h.sees e.snapshot) e before.0) (sym history) before.2)
+    | inr ne ↦ (before.0, others o ne ∙ before.1, subst (λ history. SessionAgrees h.status h.version history (h.sees e.snapshot) before.0.start (h.sees e.snapshot) e before.0) (sym history) before.2)
   ];
   idle = λ o at. elim (cases_eq o s) [
-    | inl is ↦ absurd (none-some (with_write new (with_write old m)) (sym (agrees.idle o at) ∙ (ap w.session is ∙ there)))
+    | inl is ↦ absurd (none-some (adding new (adding old m)) (sym (agrees.idle o at) ∙ (ap w.session is ∙ there)))
     | inr ne ↦ others o ne ∙ agrees.idle o at
   ];
   waits = waits;
@@ -100,8 +104,8 @@ Agrees-forget h w w' s old new m same history waits there now others agrees = re
   where
     back : (o k : ℕ) → Holds w' o k → Holds w o k
     back o k p = elim (cases_eq o s) [
-      | inl is ↦ (let model : p.0 ≡ with_write new m = same_Some p.0 (with_write new m) (sym p.1 ∙ (ap w'.session is ∙ now)) in
-          (with_write new (with_write old m), ap w.session is ∙ there, subst (λ o. IsSome o) (alike old new m.levels same k) (subst (λ n. IsSome (own_write n k)) model p.2)))
+      | inl is ↦ (let model : p.0 ≡ adding new m = same_Some p.0 (adding new m) (sym p.1 ∙ (ap w'.session is ∙ now)) in
+          (adding new (adding old m), ap w.session is ∙ there, subst (λ o. IsSome o) (alike old new m.levels same k) (subst (λ n. IsSome (own_write n k)) model p.2)))
       | inr ne ↦ (p.0, sym (others o ne) ∙ p.1, p.2)
     ]
 
@@ -110,10 +114,10 @@ pub Agrees-replace : (h : Heap) (w : World) (s : ℕ) (e : Session) (m : OpenSes
     → Alters h.version between place old old' → IsDeleted x old old' → Adds between store' q new → IsNew x new → new.row.key ≡ old.row.key
     → h.session s ≡ Some e → IsCurrent e x → w.session s ≡ Some m → m.cursor ≡ None
     → IsVisible h.status (h.sees e.snapshot) e.own old → ¬ IsLate w.history m.start old.row.key → ((o : ℕ) → o ≢ s → ¬ Holds w o old.row.key)
-    → SessionAgrees h.status h.version w.history (h.sees e.snapshot) e m
+    → SessionAgrees h.status h.version w.history (h.sees e.snapshot) m.start (h.sees e.snapshot) e m
     → Agrees h w → Agrees (record h { version = store' }) (put w s (Some (with_row new.row m)))
 Agrees-replace h w s e m x place q old old' new between store' alters deleted adds is_new key at current there bare seen in_time unheld mine agrees =
-    Agrees-forget (record h { version = store' }) w₂ (put w s (Some (with_row new.row m))) s (record { key = old.row.key; row = None }) (record { key = new.row.key; row = Some new.row }) m key
+    Agrees-forget (record h { version = store' }) w₂ (put w s (Some (with_row new.row m))) s (record { start = m.start; key = old.row.key; row = None }) (record { start = m.start; key = new.row.key; row = Some new.row }) m key
     refl (waits-put w s agrees.waits) (at_same s (Some (with_row new.row m₁)) (w₁.session s)) (at_same s (Some (with_row new.row m)) (w.session s))
     (λ o ne. at_other o s (Some (with_row new.row m)) (w.session o) ne ∙ (sym (at_other o s (Some m₁) (w.session o) ne) ∙ sym (at_other o s (Some (with_row new.row m₁)) (w₁.session o) ne)))
     inserted
@@ -133,11 +137,11 @@ Agrees-replace h w s e m x place q old old' new between store' alters deleted ad
     there₁ : w₁.session s ≡ Some m₁
     there₁ = at_same s (Some m₁) (w.session s)
 
-    mine₁ : SessionAgrees h.status between w.history (h.sees e.snapshot) e m₁
-    mine₁ = let open_ = gone.opened s e at in subst (λ (n : OpenSession). SessionAgrees h.status between w.history (h.sees e.snapshot) e n) (same_Some open_.0 m₁ (sym open_.1 ∙ there₁)) open_.2
+    mine₁ : SessionAgrees h.status between w.history (h.sees e.snapshot) m₁.start (h.sees e.snapshot) e m₁
+    mine₁ = let open_ = gone.opened s e at in subst (λ (n : OpenSession). SessionAgrees h.status between w.history (h.sees e.snapshot) n.start (h.sees e.snapshot) e n) (same_Some open_.0 m₁ (sym open_.1 ∙ there₁)) open_.2
 
     deleted_now : own_write m₁ old.row.key ≡ Some None
-    deleted_now = ap (λ ws. written ws old.row.key) (joined-add_write (record { key = old.row.key; row = None }) m.levels) ∙ written-push_same (joined m.levels) (record { key = old.row.key; row = None })
+    deleted_now = ap (λ ws. written ws old.row.key) (joined-add_write (record { start = m.start; key = old.row.key; row = None }) m.levels) ∙ written-push_same (joined m.levels) (record { start = m.start; key = old.row.key; row = None })
 
     none : view w.history m₁ new.row.key ≡ None
     none = subst (λ k. view w.history m₁ k ≡ None) (sym key) (ap (λ o. own_or o (committed w.history m.start old.row.key)) deleted_now)
@@ -167,7 +171,7 @@ pub Agrees-update : (h : Heap) (w : World) (s : ℕ) (e : Session) (m : OpenSess
     → At h.version place old → Adds h.version added q new → IsNew x new → new.row.key ≡ old.row.key → Alters added altered place old old' → IsDeleted x old old'
     → h.session s ≡ Some e → IsCurrent e x → w.session s ≡ Some m → m.cursor ≡ None
     → IsVisible h.status (h.sees e.snapshot) e.own old → ¬ IsLate w.history m.start old.row.key → ((o : ℕ) → o ≢ s → ¬ Holds w o old.row.key)
-    → SessionAgrees h.status h.version w.history (h.sees e.snapshot) e m
+    → SessionAgrees h.status h.version w.history (h.sees e.snapshot) m.start (h.sees e.snapshot) e m
     → Agrees h w → Agrees (record h { version = altered }) (put w s (Some (with_row new.row m)))
 Agrees-update h w s e m x place q old old' new added altered stood adds is_new key alters deleted =
     Agrees-replace h w s e m x place q old old' new between altered alters' deleted adds' is_new key

@@ -50,26 +50,28 @@ pub record TracesAgree (status : ℕ → Option Status) (store : Tid → Option 
   pub late_missed : (k : ℕ) → IsLate history start k → SomeVersion store k (IsMissed status sees)
   pub missed_late : (p : Tid) (v : Version) → At store p v → IsMissed status sees v → IsLate history start v.row.key
 
--- an open session agrees with the model's
-pub record SessionAgrees (status : ℕ → Option Status) (store : Tid → Option Version) (history : List Transaction) (sees : ℕ → Type 0) (e : Session) (m : OpenSession) : Type 0 where
+-- an open session agrees with the model's: it reads by `sees`, as who began at `start`, and its cursor by `cursor_sees`
+pub record SessionAgrees (status : ℕ → Option Status) (store : Tid → Option Version) (history : List Transaction)
+    (sees : ℕ → Type 0) (start : ℕ) (cursor_sees : ℕ → Type 0) (e : Session) (m : OpenSession) : Type 0 where
   pub same_failed : e.failed ≡ m.failed
   -- what its cursor has still to hand out is what the model's has
-  pub cursor : CursorAgrees store (IsVisible status sees e.own) e.cursor m.cursor
+  pub cursor : CursorAgrees store (IsVisible status cursor_sees e.own) e.cursor m.cursor
   -- it reads its view, and could return to each savepoint
-  pub levels : LevelsAgree status store history sees m.start e.own e.saved m.levels
+  pub levels : LevelsAgree status store history sees start e.own e.saved m.levels
   -- what it has written at each level is what the ids of that level made and deleted
   pub level_traces : LevelTraces store e.own e.saved m.levels
-  pub traces : TracesAgree status store history sees m.start
-  pub began : m.start ≤ length history
+  pub traces : TracesAgree status store history sees start
+  pub began : start ≤ length history
   -- no key that it has written is late
-  pub in_time : (k : ℕ) → IsSome (own_write m k) → ¬ IsLate history m.start k
+  pub in_time : (k : ℕ) → IsSome (own_write m k) → ¬ IsLate history start k
   pub active_unseen : (x : ℕ) → IsActive status x → ¬ Sees sees x
   pub own_active : (x : ℕ) → Contains e.own x → IsActive status x
 
 -- the engine agrees with the model
 pub record Agrees (h : Heap) (w : World) : Type 0 where
   -- each session reads its view, and has exact traces
-  pub opened : (s : ℕ) (e : Session) → h.session s ≡ Some e → (m : OpenSession) × (w.session s ≡ Some m) × SessionAgrees h.status h.version w.history (h.sees e.snapshot) e m
+  pub opened : (s : ℕ) (e : Session) → h.session s ≡ Some e → (m : OpenSession) × (w.session s ≡ Some m)
+      × SessionAgrees h.status h.version w.history (h.sees e.snapshot) m.start (h.sees e.snapshot) e m
   -- same sessions
   pub idle : (s : ℕ) → h.session s ≡ None → w.session s ≡ None
   -- no wait is recorded yet

@@ -10,7 +10,7 @@ pub loop-transaction-preserved : goal.loop-transaction-preserved
 loop-transaction-preserved c =
     let more = latest-take c.args.history.now c.loop-transaction.transaction-index c.transaction-item.result c.args.key c.loop-transaction-test.true c.transaction-item.is in
     let before = latest (take c.loop-transaction.transaction-index c.args.history.now) c.args.key in
-    let here = written c.transaction-item.result.writes c.args.key in
+    let here = written c.transaction-item.result c.args.key in
     elim c.match-written.branch [
       | in-Some w ↦ record {
         value = newer c.written.result here before c.match-written.last w.in-Some.said w.in-Some.is c.written.ensures.value w.last-is ∙ sym more;

@@ -1,6 +1,0 @@
-use Rattle.history.specs.History.{written}
-use Rattle.plain_history.proofs.Late.{some_says}
-use Rattle.plain_history.proofs.plain.PlainTransaction.wrote.Goals as goal
-
-pub returns : goal.returns
-returns c = some_says (written c.args.self.now.writes c.args.key) c.written.result c.is_some.result c.written.ensures.value c.is_some.ensures
