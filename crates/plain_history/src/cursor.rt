@@ -292,10 +292,8 @@ fn first_keys(alloc: Global, rows: &[Row], n: usize) -> Result<Vec<u64>, AllocEr
     ensures { IfOk result (λ keys. keys.items ≡ keys_of (take n rows.now)) }
 {
     let mut keys = Vec::new(alloc);
-    for (i, row) in rows.iter().enumerate() {
-        if i < n {
-            keys.push(row.key)?;
-        }
+    for row in &rows[..n.min(rows.len())] {
+        keys.push(row.key)?;
     }
     Ok(keys)
 }

@@ -3,6 +3,7 @@
 use arrayvec::ArrayVec;
 use plain_history::{Handed, Outcome, PlainHistory, Refused};
 use std::alloc::Global;
+use std::test::Fail;
 use tuple_header::Row;
 
 /// A call by a session. A row is said by its key and its first column.
@@ -14,8 +15,12 @@ pub enum Call {
     Update(u8, u64, i64),
     Delete(u8, u64),
     Savepoint(u8),
+    /// So many, one above another.
+    Savepoints(u8, usize),
     RollBackTo(u8),
     Release(u8),
+    /// So many, one after another.
+    Releases(u8, usize),
     Commit(u8),
     Abort(u8),
     OpenIndex(u8, u8, i128, i128),
@@ -26,7 +31,7 @@ pub enum Call {
 }
 
 /// Its answer. Rows that are handed out, at most three, are said by their keys, and noughts after them.
-#[derive(Clone, Copy, Debug, PartialEq, Eq)]
+#[derive(Clone, Copy, PartialEq, Eq)]
 pub enum Answer {
     Done,
     NoRow,
@@ -97,8 +102,28 @@ fn handed(answered: Result<Handed, Refused>) -> Answer {
     }
 }
 
-/// What the call is answered.
-pub fn answer_to(history: &mut PlainHistory, call: Call) -> Answer {
+// The answer to the first of so many savepoints that is refused, if one is.
+fn savepoints(history: &mut PlainHistory, s: u8, count: usize) -> Answer {
+    for _ in 0..count {
+        if let Err(why) = history.savepoint(s) {
+            return Answer::Refused(why);
+        }
+    }
+    Answer::Done
+}
+
+// The same of releases.
+fn releases(history: &mut PlainHistory, s: u8, count: usize) -> Answer {
+    for _ in 0..count {
+        if let Err(why) = history.release(s) {
+            return Answer::Refused(why);
+        }
+    }
+    Answer::Done
+}
+
+// What the call is answered.
+fn answer_to(history: &mut PlainHistory, call: Call) -> Answer {
     match call {
         Call::Begin(s) => done(history.begin(s)),
         Call::Get(s, key) => found(history.get(s, key)),
@@ -106,8 +131,10 @@ pub fn answer_to(history: &mut PlainHistory, call: Call) -> Answer {
         Call::Update(s, key, value) => done(history.update(s, row(key, value))),
         Call::Delete(s, key) => done(history.delete(s, key)),
         Call::Savepoint(s) => done(history.savepoint(s)),
+        Call::Savepoints(s, count) => savepoints(history, s, count),
         Call::RollBackTo(s) => done(history.roll_back_to(s)),
         Call::Release(s) => done(history.release(s)),
+        Call::Releases(s, count) => releases(history, s, count),
         Call::Commit(s) => ended(history.commit(s)),
         Call::Abort(s) => done(history.abort(s)),
         Call::OpenIndex(s, index, low, high) => done(history.open_index(s, index, low, high)),
@@ -118,8 +145,8 @@ pub fn answer_to(history: &mut PlainHistory, call: Call) -> Answer {
     }
 }
 
-/// A history in which session 0 has committed these rows in one transaction, and in which column 0 alone is indexed.
-pub fn holding(alloc: Global, rows: &[(u64, i64)]) -> Result<PlainHistory, Refused> {
+// A history in which session 0 has committed these rows in one transaction, and in which column 0 alone is indexed.
+fn holding(alloc: Global, rows: &[(u64, i64)]) -> Result<PlainHistory, Refused> {
     let Ok(mut history) = PlainHistory::new(alloc, [true, false, false, false]) else {
         return Err(Refused::NoMemory);
     };
@@ -131,15 +158,35 @@ pub fn holding(alloc: Global, rows: &[(u64, i64)]) -> Result<PlainHistory, Refus
     Ok(history)
 }
 
-/// The place of the first call that is answered otherwise, where session 0 has committed these rows before.
-pub fn first_wrong(alloc: Global, rows: &[(u64, i64)], calls: &[(Call, Answer)]) -> Option<usize> {
-    let Ok(mut history) = holding(alloc, rows) else {
+/// Calls that follow one another, with their answers, where session 0 has committed some rows before.
+pub struct Story {
+    pub name: &'static str,
+    pub rows: &'static [(u64, i64)],
+    pub calls: &'static [(Call, Answer)],
+}
+
+// The place of the first call that is answered otherwise.
+fn first_wrong_call(alloc: Global, story: &Story) -> Option<usize> {
+    let Ok(mut history) = holding(alloc, story.rows) else {
         return Some(0);
     };
-    for (i, (call, wanted)) in calls.iter().enumerate() {
+    for (i, (call, wanted)) in story.calls.iter().enumerate() {
         if answer_to(&mut history, *call) != *wanted {
             return Some(i);
         }
     }
     None
+}
+
+/// Goes through the stories, and fails at the first call that is answered otherwise.
+pub fn go_through(alloc: Global, stories: &[Story]) -> Result<(), Fail> {
+    for story in stories {
+        if let Some(i) = first_wrong_call(alloc, story) {
+            return Err(Fail::new(format_args!(
+                "{}: call {i}, counted from 0, is answered otherwise",
+                story.name
+            )));
+        }
+    }
+    Ok(())
 }

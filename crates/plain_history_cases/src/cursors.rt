@@ -1,50 +1,51 @@
 //! What cursors hand out, and when they are refused.
 
-use crate::calls::{Answer, Call, first_wrong};
+use crate::calls::{Answer, Call, Story, go_through};
 use plain_history::{Outcome, Refused};
+use std::test::Fail;
+
+static STORIES: [Story; 2] = [
+    Story {
+        name: "an_index_cursor_keeps_what_it_was_opened_on",
+        rows: &[(1, 30), (2, 10), (3, 20)],
+        calls: &[
+            (Call::Begin(1), Answer::Done),
+            (Call::OpenIndex(1, 1, 0, 100), Answer::Done),
+            (Call::Next(1, 1), Answer::Rows([2, 0, 0])),
+            (Call::Begin(0), Answer::Done),
+            (Call::Delete(0, 1), Answer::Done),
+            (Call::Delete(0, 2), Answer::Done),
+            (Call::Delete(0, 3), Answer::Done),
+            (Call::Commit(0), Answer::Ended(Outcome::Committed)),
+            (Call::Insert(1, 9, 0), Answer::Refused(Refused::CursorOpen)),
+            (Call::Next(1, 5), Answer::Rows([3, 1, 0])),
+            (Call::Next(1, 5), Answer::End),
+        ],
+    },
+    Story {
+        name: "a_heap_cursor_and_a_cursor_over_keys",
+        rows: &[(1, 0), (2, 0), (3, 0)],
+        calls: &[
+            (Call::Begin(1), Answer::Done),
+            (Call::OpenHeap(1), Answer::Done),
+            (Call::Next(1, 3), Answer::Rows([1, 2, 3])),
+            (Call::Next(1, 1), Answer::End),
+            (Call::OpenHeap(1), Answer::Refused(Refused::CursorOpen)),
+            (Call::Close(1), Answer::Done),
+            (Call::Next(1, 1), Answer::Refused(Refused::NoCursor)),
+            (
+                Call::OpenIndex(1, 0, 5, 4),
+                Answer::Refused(Refused::BadBounds),
+            ),
+            (Call::OpenKeys(1, 2, 9), Answer::Done),
+            (Call::Next(1, 9), Answer::Keys([2, 3, 0])),
+        ],
+    },
+];
 
 #[test]
-fn an_index_cursor_keeps_what_it_was_opened_on(rt: HostRuntime) {
-    let calls = [
-        (Call::Begin(1), Answer::Done),
-        (Call::OpenIndex(1, 1, 0, 100), Answer::Done),
-        (Call::Next(1, 1), Answer::Rows([2, 0, 0])),
-        (Call::Begin(0), Answer::Done),
-        (Call::Delete(0, 1), Answer::Done),
-        (Call::Delete(0, 2), Answer::Done),
-        (Call::Delete(0, 3), Answer::Done),
-        (Call::Commit(0), Answer::Ended(Outcome::Committed)),
-        (Call::Insert(1, 9, 0), Answer::Refused(Refused::CursorOpen)),
-        (Call::Next(1, 5), Answer::Rows([3, 1, 0])),
-        (Call::Next(1, 5), Answer::End),
-    ];
-    assert_eq!(rt;
-        first_wrong(rt.alloc(), &[(1, 30), (2, 10), (3, 20)], &calls),
-        None
-    );
-}
-
-#[test]
-fn a_heap_cursor_and_a_cursor_over_keys(rt: HostRuntime) {
-    let calls = [
-        (Call::Begin(1), Answer::Done),
-        (Call::OpenHeap(1), Answer::Done),
-        (Call::Next(1, 3), Answer::Rows([1, 2, 3])),
-        (Call::Next(1, 1), Answer::End),
-        (Call::OpenHeap(1), Answer::Refused(Refused::CursorOpen)),
-        (Call::Close(1), Answer::Done),
-        (Call::Next(1, 1), Answer::Refused(Refused::NoCursor)),
-        (
-            Call::OpenIndex(1, 0, 5, 4),
-            Answer::Refused(Refused::BadBounds),
-        ),
-        (Call::OpenKeys(1, 2, 9), Answer::Done),
-        (Call::Next(1, 9), Answer::Keys([2, 3, 0])),
-    ];
-    assert_eq!(rt;
-        first_wrong(rt.alloc(), &[(1, 0), (2, 0), (3, 0)], &calls),
-        None
-    );
+fn cursors(rt: HostRuntime) -> Result<(), Fail> {
+    go_through(rt.alloc(), &STORIES)
 }
 
 #[test]

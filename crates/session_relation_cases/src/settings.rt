@@ -1,14 +1,8 @@
-//! Settings at the ends of their ranges, and copies of steps.
+//! Settings at the ends of their ranges, and the copy of a step.
 
 use session_relation::{RowIn, Settings, SettingsFault, Step};
-use std::alloc::Global;
-use std::fmt::Debug;
-use std::process::Abort;
-
-/// Asserts that the two are equal. It is a function, so that nothing is known of them afterwards.
-fn same<T: PartialEq + Debug + Drop>(rt: &impl Abort, left: T, right: T) {
-    assert_eq!(rt; left, right);
-}
+use std::alloc::{AllocError, Global};
+use std::test::Fail;
 
 const LEAST: Settings = Settings {
     max_pages: 1,
@@ -28,63 +22,65 @@ const MOST: Settings = Settings {
     indexed: [true; 4],
 };
 
-// One more than the most of each, and below the least.
-const OVER: [(Settings, SettingsFault); 9] = [
+// The least and the most of each, then one more than the most, and below the least.
+static RANGES: [(Settings, Option<SettingsFault>); 11] = [
+    (LEAST, None),
+    (MOST, None),
     (
         Settings {
             max_pages: 0,
             ..LEAST
         },
-        SettingsFault::MaxPages,
+        Some(SettingsFault::MaxPages),
     ),
     (
         Settings {
             max_pages: 65_537,
             ..MOST
         },
-        SettingsFault::MaxPages,
+        Some(SettingsFault::MaxPages),
     ),
     (
         Settings {
             stop_age: 0,
             ..LEAST
         },
-        SettingsFault::StopAge,
+        Some(SettingsFault::StopAge),
     ),
     (
         Settings {
             stop_age: 2_144_483_649,
             ..MOST
         },
-        SettingsFault::StopAge,
+        Some(SettingsFault::StopAge),
     ),
     (
         Settings {
             freeze_min_age: 1_000_000_001,
             ..MOST
         },
-        SettingsFault::FreezeMinAge,
+        Some(SettingsFault::FreezeMinAge),
     ),
     (
         Settings {
             first_xid: 2,
             ..LEAST
         },
-        SettingsFault::FirstXid,
+        Some(SettingsFault::FirstXid),
     ),
     (
         Settings {
             dead_limit: 0,
             ..LEAST
         },
-        SettingsFault::DeadLimit,
+        Some(SettingsFault::DeadLimit),
     ),
     (
         Settings {
             dead_limit: 4097,
             ..MOST
         },
-        SettingsFault::DeadLimit,
+        Some(SettingsFault::DeadLimit),
     ),
     // the first of two
     (
@@ -93,125 +89,51 @@ const OVER: [(Settings, SettingsFault); 9] = [
             dead_limit: 0,
             ..LEAST
         },
-        SettingsFault::StopAge,
+        Some(SettingsFault::StopAge),
     ),
 ];
 
-fn fault(settings: Settings) -> Option<SettingsFault> {
-    settings.fault()
+// The place of the first settings of which something else is said.
+fn first_wrong(ranges: &[(Settings, Option<SettingsFault>)]) -> Option<usize> {
+    for (at, (settings, wrong)) in ranges.iter().enumerate() {
+        if settings.fault() != *wrong {
+            return Some(at);
+        }
+    }
+    None
 }
 
 #[test]
 fn settings_at_the_ends(rt: HostRuntime) {
-    same(&rt, fault(LEAST), None);
-    same(&rt, fault(MOST), None);
-    for (settings, wrong) in OVER {
-        same(&rt, fault(settings), Some(wrong));
+    assert_eq!(rt; first_wrong(&RANGES), None);
+}
+
+fn insert_of(alloc: Global, key: u64, body: &[u8]) -> Result<Step, AllocError> {
+    let row = RowIn {
+        key,
+        cols: [1, -2, 3, -4],
+        body: Vec::from_slice(alloc, body)?,
+    };
+    Ok(Step::Insert(63, row))
+}
+
+fn is_insert_of(step: &Step, key: u64, body: &[u8]) -> bool {
+    match step {
+        Step::Insert(63, row) => {
+            row.key == key && row.cols == [1, -2, 3, -4] && row.body.as_slice() == body
+        }
+        _ => false,
     }
 }
 
-fn row_with(alloc: Global, key: u64, cols: [i64; 4], body: &[u8]) -> Option<RowIn> {
-    match Vec::from_slice(alloc, body) {
-        Ok(body) => Some(RowIn { key, cols, body }),
-        Err(_) => None,
-    }
-}
-
-fn is_row(row: &RowIn, key: u64, cols: [i64; 4], body: &[u8]) -> bool {
-    row.key == key && row.cols == cols && row.body.as_slice() == body
-}
-
-fn copy_of(alloc: Global, step: Step) -> Option<Step> {
-    step.copy(alloc).ok()
-}
-
-/// Whether a row with these is copied.
-fn is_copied(alloc: Global, key: u64, cols: [i64; 4], body: &[u8]) -> Option<bool> {
-    let row = row_with(alloc, key, cols, body)?;
-    let copy = row.copy(alloc).ok()?;
-    Some(is_row(&copy, key, cols, body))
-}
-
-/// Whether the copy of an insert of a row with these is one.
-fn insert_is_copied(alloc: Global, s: u8, key: u64, cols: [i64; 4], body: &[u8]) -> Option<bool> {
-    let row = row_with(alloc, key, cols, body)?;
-    match copy_of(alloc, Step::Insert(s, row))? {
-        Step::Insert(by, row) => Some(by == s && is_row(&row, key, cols, body)),
-        _ => None,
-    }
-}
-
-/// Whether the copy of an update to a row with these is one.
-fn update_is_copied(alloc: Global, s: u8, key: u64, cols: [i64; 4], body: &[u8]) -> Option<bool> {
-    let row = row_with(alloc, key, cols, body)?;
-    match copy_of(alloc, Step::Update(s, row))? {
-        Step::Update(by, row) => Some(by == s && is_row(&row, key, cols, body)),
-        _ => None,
-    }
+fn copy_of(alloc: Global, step: Step) -> Result<Step, AllocError> {
+    step.copy(alloc)
 }
 
 #[test]
-fn copies_with_rows_are_equal(rt: HostRuntime) {
-    let alloc = rt.alloc();
-    same(&rt, is_copied(alloc, 7, [1, -2, 3, -4], b"abc"), Some(true));
-    same(&rt, is_copied(alloc, 7, [1, -2, 3, -4], b""), Some(true));
-    same(
-        &rt,
-        insert_is_copied(alloc, 63, 7, [1, -2, 3, -4], b"abc"),
-        Some(true),
-    );
-    same(
-        &rt,
-        update_is_copied(alloc, 62, 8, [-5, 6, -7, 8], b"xy"),
-        Some(true),
-    );
-}
-
-#[test]
-fn copies_of_steps_with_a_key_are_equal(rt: HostRuntime) {
-    let alloc = rt.alloc();
-    assert!(rt; matches!(copy_of(alloc, Step::Get(5, 9)), Some(Step::Get(5, 9))));
-    assert!(rt;
-        matches!(
-            copy_of(alloc, Step::Delete(4, 11)),
-            Some(Step::Delete(4, 11))
-        )
-    );
-}
-
-#[test]
-fn copies_of_savepoint_steps_are_equal(rt: HostRuntime) {
-    let alloc = rt.alloc();
-    assert!(rt;
-        matches!(
-            copy_of(alloc, Step::Savepoint(61)),
-            Some(Step::Savepoint(61))
-        )
-    );
-    assert!(rt;
-        matches!(
-            copy_of(alloc, Step::RollbackTo(60)),
-            Some(Step::RollbackTo(60))
-        )
-    );
-    assert!(rt; matches!(copy_of(alloc, Step::Release(0)), Some(Step::Release(0))));
-}
-
-#[test]
-fn copies_of_cursor_steps_are_equal(rt: HostRuntime) {
-    let alloc = rt.alloc();
-    assert!(rt;
-        matches!(
-            copy_of(alloc, Step::OpenIndex(59, 4, i128::MIN, -1)),
-            Some(Step::OpenIndex(59, 4, i128::MIN, -1))
-        )
-    );
-    assert!(rt; matches!(copy_of(alloc, Step::OpenHeap(58)), Some(Step::OpenHeap(58))));
-    assert!(rt;
-        matches!(
-            copy_of(alloc, Step::Next(57, u16::MAX)),
-            Some(Step::Next(57, u16::MAX))
-        )
-    );
-    assert!(rt; matches!(copy_of(alloc, Step::Close(56)), Some(Step::Close(56))));
+fn a_step_with_a_row_is_copied(rt: HostRuntime) -> Result<(), Fail> {
+    let step = insert_of(rt.alloc(), 7, b"abc")?;
+    let copy = copy_of(rt.alloc(), step)?;
+    assert!(rt; is_insert_of(&copy, 7, b"abc"));
+    Ok(())
 }
