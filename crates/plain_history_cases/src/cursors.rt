@@ -4,7 +4,7 @@ use crate::calls::{Answer, Call, Story, go_through};
 use plain_history::{Outcome, Refused};
 use std::test::Fail;
 
-static STORIES: [Story; 2] = [
+static STORIES: [Story; 3] = [
     Story {
         name: "an_index_cursor_keeps_what_it_was_opened_on",
         rows: &[(1, 30), (2, 10), (3, 20)],
@@ -41,35 +41,34 @@ static STORIES: [Story; 2] = [
             (Call::Next(1, 9), Answer::Keys([2, 3, 0])),
         ],
     },
+    Story {
+        name: "an_index_is_there_before_its_bounds_are_bad",
+        rows: &[(1, 0), (2, 0)],
+        calls: &[
+            (Call::Begin(1), Answer::Done),
+            (
+                Call::OpenIndex(1, 2, 5, 4),
+                Answer::Refused(Refused::NoSuchIndex),
+            ),
+            (
+                Call::OpenIndex(1, 5, 0, 9),
+                Answer::Refused(Refused::NoSuchIndex),
+            ),
+            (
+                Call::OpenIndex(1, 1, 5, 4),
+                Answer::Refused(Refused::BadBounds),
+            ),
+            (Call::OpenIndex(1, 0, 2, 9), Answer::Done),
+            (
+                Call::OpenIndex(1, 2, 0, 9),
+                Answer::Refused(Refused::CursorOpen),
+            ),
+            (Call::Next(1, 9), Answer::Rows([2, 0, 0])),
+        ],
+    },
 ];
 
 #[test]
 fn cursors(rt: HostRuntime) -> Result<(), Fail> {
     go_through(rt.alloc(), &STORIES)
-}
-
-#[test]
-fn an_index_is_there_before_its_bounds_are_bad(rt: HostRuntime) {
-    let calls = [
-        (Call::Begin(1), Answer::Done),
-        (
-            Call::OpenIndex(1, 2, 5, 4),
-            Answer::Refused(Refused::NoSuchIndex),
-        ),
-        (
-            Call::OpenIndex(1, 5, 0, 9),
-            Answer::Refused(Refused::NoSuchIndex),
-        ),
-        (
-            Call::OpenIndex(1, 1, 5, 4),
-            Answer::Refused(Refused::BadBounds),
-        ),
-        (Call::OpenIndex(1, 0, 2, 9), Answer::Done),
-        (
-            Call::OpenIndex(1, 2, 0, 9),
-            Answer::Refused(Refused::CursorOpen),
-        ),
-        (Call::Next(1, 9), Answer::Rows([2, 0, 0])),
-    ];
-    assert_eq!(rt; first_wrong(rt.alloc(), &[(1, 0), (2, 0)], &calls), None);
 }
