@@ -54,7 +54,7 @@ fn prune_by_chains(page: &mut Page, table: &StatusTable, horizon: Xid)
     apply(page, &plan);
 }
 
-/// Prunes a page at this horizon, a normal id. Where no version is dead, which [`has_dead`](crate::has_dead) tells at less cost,
+/// Prunes a page at this horizon. Where no version is dead, which [`has_dead`](crate::has_dead) tells at less cost,
 /// nothing changes. It takes no memory.
 pub fn prune(page: &mut Page, table: &StatusTable, horizon: Xid)
     ensures by_plan { IsPrunedPage table.now horizon.0 page.old page.new }

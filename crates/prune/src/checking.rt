@@ -169,7 +169,7 @@ fn are_accounted(page: &Page, marks: &Marks, named: &Named, table: &StatusTable)
 }
 
 /// Whether a plan may be applied to a page, whoever made it, and when: it has the page's change number, its slots are
-/// strictly ascending and on the page, of each chain it cuts a front that pruning at this horizon, a normal id, would cut
+/// strictly ascending and on the page, of each chain it cuts a front that pruning at this horizon would cut
 /// too, and every other slot that it names holds an aborted heap-only version that no chain reaches. It takes no memory.
 pub fn check_plan(page: &Page, plan: &PrunePlan, table: &StatusTable, horizon: Xid) -> bool
     ensures exact { IsTrue result ↔ Checks table.now horizon.0 page.now plan.now.change plan.now.actions.items }

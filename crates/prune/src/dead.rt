@@ -77,7 +77,7 @@ fn unaborted_after(
     }
 }
 
-/// Whether any slot of a page holds a dead version at this horizon, a normal id. Where none does, pruning changes nothing, so no
+/// Whether any slot of a page holds a dead version at this horizon. Where none does, pruning changes nothing, so no
 /// chain has to be walked. It takes no memory.
 pub fn has_dead(page: &Page, table: &StatusTable, horizon: Xid) -> bool
     ensures { IsTrue result ↔ HasDead table.now horizon.0 page.now.slots }

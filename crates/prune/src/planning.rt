@@ -56,7 +56,7 @@ pub(crate) fn list_actions(actions: &mut Actions, page: &Page, table: &StatusTab
     }
 }
 
-/// The changes of pruning a page at this horizon, a normal id, in order of slots: of each chain the front up to and with
+/// The changes of pruning a page at this horizon in order of slots: of each chain the front up to and with
 /// the last dead version goes. Where no slot is in the chains of two roots or redirects, there is one such plan, and it
 /// checks. It takes no memory. (README.HOT, "Pruning")
 pub fn plan(page: &Page, table: &StatusTable, horizon: Xid) -> PrunePlan
