@@ -10,11 +10,13 @@ Wrote history n write = (t : Transaction) × (slice_get history n ≡ Some t) ×
 -- first committer wins: of two transactions that wrote one key, the second to commit wrote it by a snapshot that was taken after
 -- the first had committed
 abbrev pub FirstCommitterWins : List Transaction → Type 0
-FirstCommitterWins history = (m n : ℕ) (a b : Write) → Wrote history m a → Wrote history n b → a.key ≡ b.key → n < m → n < a.start
+FirstCommitterWins history = (m n : ℕ) (a b : Write) → Wrote history m a → Wrote history n b
+    → a.key ≡ b.key → n < m → n < a.start
 
 -- what an open session has written, nobody has who committed since the snapshot was taken
 abbrev pub HeldInTime : World → Type 0
-HeldInTime w = (s : ℕ) (m : OpenSession) (write : Write) → w.session s ≡ Some m → Contains (joined m.levels) write → ¬ IsLate w.history write.start write.key
+HeldInTime w = (s : ℕ) (m : OpenSession) (write : Write) → w.session s ≡ Some m
+    → Contains (joined m.levels) write → ¬ IsLate w.history write.start write.key
 
 -- no two open sessions hold one key
 abbrev pub HeldOnce : World → Type 0
