@@ -1,27 +1,30 @@
 //! The ids that the levels of a session take.
 
-use crate::steps::{BY_KEY, HeapStep, run_heap};
+use crate::steps::{BY_KEY, HeapStep, Line, NOBODY, run_heap};
 use heap_write::WriteFault;
 use std::test::Fail;
 use xid_circle::Xid;
 
 /// Each level has an id of its own. One that is begun again lacks one, and those below have theirs.
-static EACH_LEVEL: [HeapStep; 15] = [
-    HeapStep::Save(0),
-    HeapStep::Save(0),
-    HeapStep::Ids(0, &[], 3),
-    HeapStep::Insert(0, (1, [10, 0, 0, 0], 0), Ok(Xid(5))),
-    HeapStep::Insert(0, (2, [20, 0, 0, 0], 0), Ok(Xid(5))),
-    HeapStep::Ids(0, &[Xid(3), Xid(4), Xid(5)], 0),
-    HeapStep::Top(Xid(3), Xid(3)),
-    HeapStep::Top(Xid(4), Xid(3)),
-    HeapStep::Top(Xid(5), Xid(3)),
-    HeapStep::Save(0),
-    HeapStep::Ids(0, &[Xid(3), Xid(4), Xid(5)], 1),
-    HeapStep::Update(0, (0, 1), (1, [11, 0, 0, 0], 0), 3, Ok(Xid(6))),
-    HeapStep::Delete(0, (0, 2), Ok(Xid(6))),
-    HeapStep::Top(Xid(6), Xid(3)),
-    HeapStep::Next(Xid(7)),
+static EACH_LEVEL: [Line; 15] = [
+    (0, HeapStep::Save),
+    (0, HeapStep::Save),
+    (0, HeapStep::Ids(&[], 3)),
+    (0, HeapStep::Insert((1, [10, 0, 0, 0], 0), Ok(Xid(5)))),
+    (0, HeapStep::Insert((2, [20, 0, 0, 0], 0), Ok(Xid(5)))),
+    (0, HeapStep::Ids(&[Xid(3), Xid(4), Xid(5)], 0)),
+    (NOBODY, HeapStep::Top(Xid(3), Xid(3))),
+    (NOBODY, HeapStep::Top(Xid(4), Xid(3))),
+    (NOBODY, HeapStep::Top(Xid(5), Xid(3))),
+    (0, HeapStep::Save),
+    (0, HeapStep::Ids(&[Xid(3), Xid(4), Xid(5)], 1)),
+    (
+        0,
+        HeapStep::Update((0, 1), (1, [11, 0, 0, 0], 0), 3, Ok(Xid(6))),
+    ),
+    (0, HeapStep::Delete((0, 2), Ok(Xid(6)))),
+    (NOBODY, HeapStep::Top(Xid(6), Xid(3))),
+    (NOBODY, HeapStep::Next(Xid(7))),
 ];
 
 #[test]
@@ -30,17 +33,17 @@ fn each_level_has_an_id_of_its_own(rt: HostRuntime) -> Result<(), Fail> {
 }
 
 /// A released level's ids are those of the level below, which goes on under its own; the next level has an id of its own.
-static RELEASED: [HeapStep; 10] = [
-    HeapStep::Insert(0, (1, [10, 0, 0, 0], 0), Ok(Xid(3))),
-    HeapStep::Save(0),
-    HeapStep::Insert(0, (2, [20, 0, 0, 0], 0), Ok(Xid(4))),
-    HeapStep::Release(0),
-    HeapStep::Insert(0, (3, [30, 0, 0, 0], 0), Ok(Xid(3))),
-    HeapStep::Delete(0, (0, 2), Ok(Xid(3))),
-    HeapStep::Ids(0, &[Xid(3), Xid(4)], 0),
-    HeapStep::Save(0),
-    HeapStep::Delete(0, (0, 1), Ok(Xid(5))),
-    HeapStep::Top(Xid(5), Xid(3)),
+static RELEASED: [Line; 10] = [
+    (0, HeapStep::Insert((1, [10, 0, 0, 0], 0), Ok(Xid(3)))),
+    (0, HeapStep::Save),
+    (0, HeapStep::Insert((2, [20, 0, 0, 0], 0), Ok(Xid(4)))),
+    (0, HeapStep::Release),
+    (0, HeapStep::Insert((3, [30, 0, 0, 0], 0), Ok(Xid(3)))),
+    (0, HeapStep::Delete((0, 2), Ok(Xid(3)))),
+    (0, HeapStep::Ids(&[Xid(3), Xid(4)], 0)),
+    (0, HeapStep::Save),
+    (0, HeapStep::Delete((0, 1), Ok(Xid(5)))),
+    (NOBODY, HeapStep::Top(Xid(5), Xid(3))),
 ];
 
 #[test]
@@ -49,19 +52,22 @@ fn after_a_release_the_level_writes_under_its_own_id(rt: HostRuntime) -> Result<
 }
 
 /// Ids 3 to 7 can be given: two are left after the first session. One that lacks three takes none, and one that lacks two both.
-static ALL_OR_NONE: [HeapStep; 12] = [
-    HeapStep::Save(0),
-    HeapStep::Save(0),
-    HeapStep::Save(1),
-    HeapStep::Save(1),
-    HeapStep::Insert(0, (1, [10, 0, 0, 0], 0), Ok(Xid(5))),
-    HeapStep::Insert(1, (2, [20, 0, 0, 0], 0), Err(WriteFault::NeedsFreeze)),
-    HeapStep::Delete(1, (0, 1), Err(WriteFault::NeedsFreeze)),
-    HeapStep::Ids(1, &[], 3),
-    HeapStep::Next(Xid(6)),
-    HeapStep::Save(2),
-    HeapStep::Insert(2, (3, [30, 0, 0, 0], 0), Ok(Xid(7))),
-    HeapStep::Ids(2, &[Xid(6), Xid(7)], 0),
+static ALL_OR_NONE: [Line; 12] = [
+    (0, HeapStep::Save),
+    (0, HeapStep::Save),
+    (1, HeapStep::Save),
+    (1, HeapStep::Save),
+    (0, HeapStep::Insert((1, [10, 0, 0, 0], 0), Ok(Xid(5)))),
+    (
+        1,
+        HeapStep::Insert((2, [20, 0, 0, 0], 0), Err(WriteFault::NeedsFreeze)),
+    ),
+    (1, HeapStep::Delete((0, 1), Err(WriteFault::NeedsFreeze))),
+    (1, HeapStep::Ids(&[], 3)),
+    (NOBODY, HeapStep::Next(Xid(6))),
+    (2, HeapStep::Save),
+    (2, HeapStep::Insert((3, [30, 0, 0, 0], 0), Ok(Xid(7)))),
+    (2, HeapStep::Ids(&[Xid(6), Xid(7)], 0)),
 ];
 
 #[test]

@@ -1,8 +1,8 @@
 //! Tests of the table: its writes, the ids that they take, its indexes, and the walks along them.
 //!
-//! Each id, refusal, room and entry was reckoned by hand, and not taken from the program. A test is proved like any function, and
-//! what each call promises is carried to its end. So a test is a table of steps, each done to a heap or asked of it, beside what
-//! has to come of it; and what a step calls is told to nobody.
+//! Each id, refusal, room and entry was reckoned by hand, and not taken from the program. A test is proved like any function,
+//! and what each call promises is carried to its end. So a test is a table of steps, each done to a heap or asked of it, beside
+//! what has to come of it; and what a step calls is told to nobody.
 #![tactic(auto)]
 
 #[cfg(test)]

@@ -15,41 +15,42 @@ use xid_circle::Xid;
 /// What a write answers.
 type Written = Result<Xid, WriteFault>;
 
-/// The id that was next when a reader began, and the session whose ids are its own.
-pub type Reader = (u32, usize);
-
 /// A session that writes nothing.
 pub const NOBODY: usize = 3;
 
-/// What is done to a table, or asked of it. The first number of what a session does is the session's.
+/// A step, and the session, counted from 0, that does it or reads. What is done by none, or asked of the table, is
+/// [`NOBODY`]'s.
+pub type Line = (usize, HeapStep);
+
+/// What is done to a table, or asked of it. What is read is read by a snapshot that is taken when some id is the next.
 #[derive(Clone, Copy)]
 pub enum HeapStep {
     /// A row is inserted.
-    Insert(usize, Values, Written),
+    Insert(Values, Written),
     /// Keys 1 to 7 are inserted, with bodies of 1024 bytes: each takes 1096 bytes, and its pointer 4.
-    InsertSeven(usize),
+    InsertSeven,
     /// The version at a place is updated by this row, at a horizon.
-    Update(usize, Place, Values, u32, Written),
-    Delete(usize, Place, Written),
-    Save(usize),
-    Release(usize),
+    Update(Place, Values, u32, Written),
+    Delete(Place, Written),
+    Save,
+    Release,
     Finish(Xid, Status),
     /// A page is pruned at a horizon.
     Prune(u32, u32, Result<(), PruneFault>),
     /// The session's ids, and how many of its levels lack one.
-    Ids(usize, &'static [Xid], u32),
+    Ids(&'static [Xid], u32),
     /// The id that is given next.
     Next(Xid),
     /// The second is the topmost parent of the first.
     Top(Xid, Xid),
-    /// The place of the version of a key that a reader sees, a committed id that it misses, and one in progress.
-    Standing(u64, Reader, (Option<Place>, Option<Xid>, Option<Xid>)),
-    /// The first column of the row of a key.
-    First(u64, Reader, Option<i64>),
-    /// The key and the second column of the row at a place.
-    RowAt(Place, Reader, Option<(u64, i64)>),
-    /// A walk along part of an index finds these and no others.
-    Walk(Reader, Part, &'static [Met]),
+    /// Of a key, with the next id: the place of the version that is seen, a committed id that is missed, and one in progress.
+    Standing(u64, u32, (Option<Place>, Option<Xid>, Option<Xid>)),
+    /// The first column of the row of a key, with the next id.
+    First(u64, u32, Option<i64>),
+    /// The key and the second column of the row at a place, with the next id.
+    RowAt(Place, u32, Option<(u64, i64)>),
+    /// With this next id a walk along part of an index finds these and no others.
+    Walk(u32, Part, &'static [Met]),
     /// How many entries an index has.
     Count(u8, Option<u64>),
     /// What comes behind an entry in an index.
@@ -75,35 +76,21 @@ fn insert_seven(heap: &mut HeapState, own: &mut OwnIds) -> bool {
     true
 }
 
+fn is_dead(heap: &HeapState, slot: u16) -> bool {
+    match heap.page(0) {
+        Some(page) => page.is_dead(slot),
+        None => false,
+    }
+}
+
+fn is_unused(heap: &HeapState, slot: u16) -> bool {
+    match heap.page(0) {
+        Some(page) => matches!(page.slot(slot), Some(Slot::Unused)),
+        None => false,
+    }
+}
+
 impl HeapStep {
-    /// Which session does it.
-    fn session(self) -> Option<usize> {
-        match self {
-            HeapStep::Insert(s, _, _) | HeapStep::InsertSeven(s) => Some(s),
-            HeapStep::Update(s, _, _, _, _) | HeapStep::Delete(s, _, _) => Some(s),
-            HeapStep::Save(s) | HeapStep::Release(s) => Some(s),
-            _ => None,
-        }
-    }
-
-    /// What a session does.
-    fn is_done(self, heap: &mut HeapState, own: &mut OwnIds) -> bool {
-        match self {
-            HeapStep::Insert(_, values, told) => insert(heap, own, values) == told,
-            HeapStep::InsertSeven(_) => insert_seven(heap, own),
-            HeapStep::Update(_, place, values, horizon, told) => {
-                update(heap, own, place, values, horizon) == told
-            }
-            HeapStep::Delete(_, place, told) => delete(heap, own, place) == told,
-            HeapStep::Save(_) => own.save().is_ok(),
-            HeapStep::Release(_) => {
-                release(own);
-                true
-            }
-            _ => false,
-        }
-    }
-
     /// What of the pages and indexes is asked for.
     fn is_on_pages(self, heap: &HeapState) -> bool {
         match self {
@@ -113,81 +100,79 @@ impl HeapStep {
             HeapStep::PageCount(told) => heap.page_count() == told,
             HeapStep::Page(number, told) => page_at(heap, number) == told,
             HeapStep::Marks(slot, told) => marks_at(heap, slot) == told,
-            HeapStep::Dead(slot) => is_slot(heap, slot, true),
-            HeapStep::Unused(slot) => is_slot(heap, slot, false),
-            _ => false,
-        }
-    }
-
-    /// What a reader asks for.
-    fn reader(self) -> Option<Reader> {
-        match self {
-            HeapStep::Standing(_, reader, _) | HeapStep::First(_, reader, _) => Some(reader),
-            HeapStep::RowAt(_, reader, _) | HeapStep::Walk(reader, _, _) => Some(reader),
-            _ => None,
-        }
-    }
-
-    fn is_read(self, alloc: Global, heap: &HeapState, next: u32, own: &OwnIds) -> bool {
-        let snapshot = begun(alloc, next);
-        match self {
-            HeapStep::Standing(key, _, told) => standing(heap, key, &snapshot, own) == told,
-            HeapStep::First(key, _, told) => first(heap, key, &snapshot, own) == told,
-            HeapStep::RowAt(place, _, told) => row_at(heap, place, &snapshot, own) == told,
-            HeapStep::Walk(_, part, rows) => walks(heap, part, &snapshot, own, rows),
+            HeapStep::Dead(slot) => is_dead(heap, slot),
+            HeapStep::Unused(slot) => is_unused(heap, slot),
             _ => false,
         }
     }
 
     /// What is asked for of ids, and of pages.
-    fn is_seen(self, heap: &HeapState, sessions: &[OwnIds]) -> bool {
+    fn is_seen(self, heap: &HeapState, own: &OwnIds) -> bool {
         match self {
-            HeapStep::Ids(s, ids, lacking) => match sessions.get(s) {
-                Some(own) => own.as_slice() == ids && own.lacks() == lacking,
-                None => false,
-            },
+            HeapStep::Ids(ids, lacking) => own.as_slice() == ids && own.lacks() == lacking,
             HeapStep::Next(x) => heap.table().next() == x,
             HeapStep::Top(x, top) => heap.table().top_of(x) == top,
             _ => self.is_on_pages(heap),
         }
     }
 
-    fn is_asked(self, alloc: Global, heap: &HeapState, sessions: &[OwnIds]) -> bool {
-        match self.reader() {
-            Some((next, s)) => match sessions.get(s) {
-                Some(own) => self.is_read(alloc, heap, next, own),
-                None => false,
-            },
-            None => self.is_seen(heap, sessions),
+    /// What is read.
+    fn is_read(self, alloc: Global, heap: &HeapState, own: &OwnIds) -> bool {
+        match self {
+            HeapStep::Standing(key, next, told) => {
+                standing(heap, key, &begun(alloc, next), own) == told
+            }
+            HeapStep::First(key, next, told) => first(heap, key, &begun(alloc, next), own) == told,
+            HeapStep::RowAt(place, next, told) => {
+                row_at(heap, place, &begun(alloc, next), own) == told
+            }
+            HeapStep::Walk(next, part, rows) => {
+                walks(heap, part, &begun(alloc, next), own, rows)
+            }
+            _ => self.is_seen(heap, own),
         }
     }
 
-    fn is_so(self, alloc: Global, heap: &mut HeapState, sessions: &mut [OwnIds]) -> bool {
-        if let Some(s) = self.session() {
-            return match sessions.get_mut(s) {
-                Some(own) => self.is_done(heap, own),
-                None => false,
-            };
-        }
+    /// What is done to the table alone.
+    fn is_done(self, alloc: Global, heap: &mut HeapState, own: &OwnIds) -> bool {
         match self {
             HeapStep::Finish(x, status) => {
                 finish(heap, x, status);
                 true
             }
             HeapStep::Prune(page, horizon, told) => prune(heap, page, horizon) == told,
-            _ => self.is_asked(alloc, heap, sessions),
+            _ => self.is_read(alloc, heap, own),
+        }
+    }
+
+    /// What a session does.
+    fn is_so(self, alloc: Global, heap: &mut HeapState, own: &mut OwnIds) -> bool {
+        match self {
+            HeapStep::Insert(values, told) => insert(heap, own, values) == told,
+            HeapStep::InsertSeven => insert_seven(heap, own),
+            HeapStep::Update(place, values, horizon, told) => {
+                update(heap, own, place, values, horizon) == told
+            }
+            HeapStep::Delete(place, told) => delete(heap, own, place) == told,
+            HeapStep::Save => own.save().is_ok(),
+            HeapStep::Release => {
+                release(own);
+                true
+            }
+            _ => self.is_done(alloc, heap, own),
         }
     }
 }
 
-fn is_slot(heap: &HeapState, number: u16, is_dead: bool) -> bool {
-    let Some(page) = heap.page(0) else {
-        return false;
-    };
-    match page.slot(number) {
-        Some(Slot::Dead) => is_dead,
-        Some(Slot::Unused) => !is_dead,
-        _ => false,
+fn is_line(
+    alloc: Global,
+    heap: &mut HeapState,
+    sessions: &mut [OwnIds],
+    (number, step): Line,
+) -> bool {
+    match sessions.get_mut(number) {
+        Some(own) => step.is_so(alloc, heap, own),
+        None => false,
     }
 }
 
@@ -195,10 +180,10 @@ fn first_wrong(
     alloc: Global,
     heap: &mut HeapState,
     sessions: &mut [OwnIds],
-    steps: &[HeapStep],
+    lines: &[Line],
 ) -> Option<usize> {
-    for (at, step) in steps.iter().enumerate() {
-        if !step.is_so(alloc, heap, sessions) {
+    for (at, line) in lines.iter().enumerate() {
+        if !is_line(alloc, heap, sessions, *line) {
             return Some(at);
         }
     }
@@ -208,7 +193,7 @@ fn first_wrong(
 /// The stop age, the most pages, and which columns have an index.
 pub type Settings = (u16, u16, [bool; 4]);
 
-fn wrong_from_empty(alloc: Global, settings: Settings, steps: &[HeapStep]) -> Option<usize> {
+fn wrong_from_empty(alloc: Global, settings: Settings, lines: &[Line]) -> Option<usize> {
     let (stop_age, max_pages, indexed) = settings;
     let mut heap = empty(alloc, stop_age, max_pages, indexed);
     let mut sessions = [
@@ -217,15 +202,15 @@ fn wrong_from_empty(alloc: Global, settings: Settings, steps: &[HeapStep]) -> Op
         OwnIds::new(alloc),
         OwnIds::new(alloc),
     ];
-    first_wrong(alloc, &mut heap, &mut sessions, steps)
+    first_wrong(alloc, &mut heap, &mut sessions, lines)
 }
 
 /// Does all steps in turn on a table without rows, whose first id is 3, and fails at the first that comes out otherwise.
-pub fn run_heap(alloc: Global, settings: Settings, steps: &[HeapStep]) -> Result<(), Fail> {
-    match wrong_from_empty(alloc, settings, steps) {
+pub fn run_heap(alloc: Global, settings: Settings, lines: &[Line]) -> Result<(), Fail> {
+    match wrong_from_empty(alloc, settings, lines) {
         None => Ok(()),
         Some(at) => Err(Fail::new(format_args!(
-            "step {at} of the table, counted from 0, comes out otherwise"
+            "line {at} of the table, counted from 0, comes out otherwise"
         ))),
     }
 }

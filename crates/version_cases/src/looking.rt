@@ -23,21 +23,13 @@ use std::alloc::{AllocError, Global};
 use tuple_header::{Row, RowRef};
 use xid_circle::{Tid, Xid};
 
-/// Pages, an index by key, and what became of the ids: of 3 to 5 the first is committed, the second in progress, and the third
-/// aborted.
-#[derive(Drop)]
-struct Sight {
-    table: StatusTable,
-    pages: Pages,
-    index: RootIndex,
-}
-
 /// A key that is looked for; the id that was next when the snapshot was taken; and the reader's own id, if it is one.
 type Asked = (u64, u32, u32);
 
 /// The place and the first column of the row that is seen, a committed id that is missed, and one in progress.
 type Found = (Option<(u32, u16)>, Option<i64>, Option<Xid>, Option<Xid>);
 
+/// Of ids 3 to 5 the first is committed, the second in progress, and the third aborted.
 fn statuses(alloc: Global) -> StatusTable {
     let mut table = table_of(alloc, 3, 3);
     finish(&mut table, 3, Status::Committed);
@@ -84,31 +76,30 @@ fn add_page(pages: &mut Pages, page: Page) {
     }
 }
 
+static FIVE: [(u32, u64, i64); 1] = [(5, 7, 50)];
+
+static SEVEN_AND_EIGHT: [(u32, u64, i64); 2] = [(3, 7, 70), (3, 8, 80)];
+
 /// On page 0 id 5 inserted key 7. On page 1 id 3 inserted keys 7 and 8, and id 4 updated key 7.
 fn two_pages(alloc: Global) -> Pages {
     let mut pages = Pages::new(alloc);
-    add_page(&mut pages, page_of(alloc, 0, &[(5, 7, 50)]));
-    let mut second = page_of(alloc, 1, &[(3, 7, 70), (3, 8, 80)]);
+    add_page(&mut pages, page_of(alloc, 0, &FIVE));
+    let mut second = page_of(alloc, 1, &SEVEN_AND_EIGHT);
     let _ = update(&mut second, 1, 1, 4, &row(7, 71));
     add_page(&mut pages, second);
     pages
 }
 
+static NINE_TWICE: [(u32, u64, i64); 2] = [(4, 9, 90), (3, 9, 91)];
+
+static NINE_EIGHT_AND_TEN: [(u32, u64, i64); 3] = [(3, 9, 92), (3, 8, 80), (3, 10, 100)];
+
 /// No engine makes these: on page 0 id 4 inserted key 9, and then id 3. On page 1 id 3 inserted key 9 again, and keys 8 and 10.
 fn three_of_a_key(alloc: Global) -> Pages {
     let mut pages = Pages::new(alloc);
-    add_page(&mut pages, page_of(alloc, 0, &[(4, 9, 90), (3, 9, 91)]));
-    let second = [(3, 9, 92), (3, 8, 80), (3, 10, 100)];
-    add_page(&mut pages, page_of(alloc, 1, &second));
+    add_page(&mut pages, page_of(alloc, 0, &NINE_TWICE));
+    add_page(&mut pages, page_of(alloc, 1, &NINE_EIGHT_AND_TEN));
     pages
-}
-
-fn new_sight(alloc: Global, pages: Pages, of: &[(u64, u32, u16)]) -> Result<Sight, AllocError> {
-    Ok(Sight {
-        table: statuses(alloc),
-        pages,
-        index: entries(alloc, of)?,
-    })
 }
 
 /// The first entry of a key, if it has one.
@@ -136,16 +127,28 @@ fn pair(place: Option<Tid>) -> Option<(u32, u16)> {
 /// The place and the first column of the row of a key, and both from the first entry of the key.
 type Seen = (Option<(u32, u16)>, Option<i64>);
 
-fn seen(sight: &Sight, key: u64, snapshot: &Snapshot, own: &OwnIds) -> Seen {
+fn seen(
+    pages: &Pages,
+    index: &RootIndex,
+    key: u64,
+    snapshot: &Snapshot,
+    own: &OwnIds,
+    table: &StatusTable,
+) -> Seen {
     let value = i128::from(key);
-    let (pages, index, table) = (&sight.pages, &sight.index, &sight.table);
     let place = place_of(pages, index, value, key, snapshot, own, table);
     let row = row_of(pages, index, value, key, snapshot, own, table);
     (pair(place), column(row))
 }
 
-fn seen_from_first(sight: &Sight, key: u64, snapshot: &Snapshot, own: &OwnIds) -> Seen {
-    let (pages, index, table) = (&sight.pages, &sight.index, &sight.table);
+fn seen_from_first(
+    pages: &Pages,
+    index: &RootIndex,
+    key: u64,
+    snapshot: &Snapshot,
+    own: &OwnIds,
+    table: &StatusTable,
+) -> Seen {
     match first_of(index, key) {
         Some(first) => {
             let place = place_from(pages, index, first, snapshot, own, table);
@@ -157,33 +160,52 @@ fn seen_from_first(sight: &Sight, key: u64, snapshot: &Snapshot, own: &OwnIds) -
 }
 
 /// What a session has to know of a key before it writes it.
-fn standing(sight: &Sight, key: u64, snapshot: &Snapshot, own: &OwnIds) -> Standing {
+fn standing(
+    pages: &Pages,
+    index: &RootIndex,
+    key: u64,
+    snapshot: &Snapshot,
+    own: &OwnIds,
+    table: &StatusTable,
+) -> Standing {
     let value = i128::from(key);
-    let (pages, index, table) = (&sight.pages, &sight.index, &sight.table);
     standing_of(pages, index, value, key, snapshot, own, table)
 }
 
 /// Whether this is found of a key, however it is looked for.
-fn finds(alloc: Global, sight: &Sight, (key, next, own): Asked, found: Found) -> bool {
+fn finds(
+    alloc: Global,
+    pages: &Pages,
+    index: &RootIndex,
+    (key, next, own): Asked,
+    found: Found,
+) -> bool {
+    let table = statuses(alloc);
     let snapshot = begun(alloc, next);
     let own = owner(alloc, own);
     let (place, column, missed, holder) = found;
-    let standing = standing(sight, key, &snapshot, &own);
-    seen(sight, key, &snapshot, &own) == (place, column)
-        && seen_from_first(sight, key, &snapshot, &own) == (place, column)
+    let standing = standing(pages, index, key, &snapshot, &own, &table);
+    seen(pages, index, key, &snapshot, &own, &table) == (place, column)
+        && seen_from_first(pages, index, key, &snapshot, &own, &table) == (place, column)
         && pair(standing.place) == place
         && standing.missed == missed
         && standing.holder == holder
 }
 
-/// The first that is found otherwise.
-fn first_other(alloc: Global, sight: &Sight, rows: &[(Asked, Found)]) -> Option<Asked> {
+/// The first that is found otherwise on these pages, with such entries.
+fn first_other(
+    alloc: Global,
+    pages: &Pages,
+    of: &[(u64, u32, u16)],
+    rows: &[(Asked, Found)],
+) -> Result<Option<Asked>, AllocError> {
+    let index = entries(alloc, of)?;
     for (asked, found) in rows {
-        if !finds(alloc, sight, *asked, *found) {
-            return Some(*asked);
+        if !finds(alloc, pages, &index, *asked, *found) {
+            return Ok(Some(*asked));
         }
     }
-    None
+    Ok(None)
 }
 
 const NOTHING: Found = (None, None, None, None);
@@ -205,8 +227,8 @@ static TWO_PAGES: [(Asked, Found); 8] = [
 
 #[test]
 fn a_row_is_found_by_its_second_entry(rt: HostRuntime) -> Result<(), AllocError> {
-    let sight = new_sight(rt.alloc(), two_pages(rt.alloc()), &BY_KEY)?;
-    assert_eq!(rt; first_other(rt.alloc(), &sight, &TWO_PAGES), None);
+    let pages = two_pages(rt.alloc());
+    assert_eq!(rt; first_other(rt.alloc(), &pages, &BY_KEY, &TWO_PAGES)?, None);
     Ok(())
 }
 
@@ -232,8 +254,8 @@ static THREE_OF_A_KEY: [(Asked, Found); 7] = [
 #[test]
 fn the_first_entry_by_which_something_is_seen(rt: HostRuntime) -> Result<(), AllocError> {
     let pages = three_of_a_key(rt.alloc());
-    let sight = new_sight(rt.alloc(), pages, &OF_THREE_OF_A_KEY)?;
-    assert_eq!(rt; first_other(rt.alloc(), &sight, &THREE_OF_A_KEY), None);
+    let other = first_other(rt.alloc(), &pages, &OF_THREE_OF_A_KEY, &THREE_OF_A_KEY)?;
+    assert_eq!(rt; other, None);
     Ok(())
 }
 
@@ -241,8 +263,8 @@ static NO_PAGES: [(Asked, Found); 2] = [((7, 3, 0), NOTHING), ((7, 4, 4), NOTHIN
 
 #[test]
 fn an_entry_of_a_page_that_is_not_in_use_leads_nowhere(rt: HostRuntime) -> Result<(), AllocError> {
-    let sight = new_sight(rt.alloc(), Pages::new(rt.alloc()), &BY_KEY)?;
-    assert_eq!(rt; first_other(rt.alloc(), &sight, &NO_PAGES), None);
+    let pages = Pages::new(rt.alloc());
+    assert_eq!(rt; first_other(rt.alloc(), &pages, &BY_KEY, &NO_PAGES)?, None);
     Ok(())
 }
 

@@ -5,6 +5,7 @@ ghost use Rattle.page_slots.specs.Slots.{room_of};
 ghost use Rattle.tuple_header.specs.Version.{rounded_size_of};
 
 use crate::ids::{begun, finish, next_id, none_wrong, normal, owner, table_of};
+use crate::verdicts::{fate_at, hinted, reads_id, sees};
 use arrayvec::ArrayVec;
 use commit_status::{Status, StatusTable};
 use hot_chain::{chain, fetch, first_seen, is_root, list_chain, root_of};
@@ -14,6 +15,7 @@ use prune::{Action, PrunePlan, apply, check_plan, plan, prune};
 use std::alloc::Global;
 use std::test::Fail;
 use tuple_header::{Header, Row, Tuple, fault_of};
+use visibility::Fate;
 use xid_circle::{Tid, Xid};
 
 /// What is done to a page, or asked of it.
@@ -64,6 +66,14 @@ pub enum PageStep {
     Checks(u64, Actions, u32),
     /// It does not.
     Fails(u64, Actions, u32),
+    /// Whether the owner of id 5, and whether another reader, sees a version with this header, where both begin now.
+    Seen(Life, bool, bool),
+    /// The fate of such a version at a horizon.
+    Fate(Life, u32, Fate),
+    /// The mask of such a version once it has its hints.
+    Hinted(Life, u16),
+    /// Whether one who began when 6 was next reads an id.
+    Reads(u32, bool),
 }
 
 /// The maker and the deleter of a version, the slot of its ctid, and its marks: those in `mask2` beside the number of
@@ -79,7 +89,8 @@ struct Stage {
     page: Page,
 }
 
-fn header_of(page: u32, (xmin, xmax, slot, marks, mask): Life) -> Header {
+/// A header whose ctid is on the page of this number.
+pub fn header_of(page: u32, (xmin, xmax, slot, marks, mask): Life) -> Header {
     Header {
         xmin: Xid(xmin),
         xmax: Xid(xmax),
@@ -89,7 +100,8 @@ fn header_of(page: u32, (xmin, xmax, slot, marks, mask): Life) -> Header {
     }
 }
 
-fn row() -> Row {
+/// A row of key 1.
+pub fn row() -> Row {
     Row {
         key: 1,
         cols: [0; 4],
@@ -241,7 +253,7 @@ fn leads(page: &Page, number: u16, target: u16) -> bool {
 
 impl PageStep {
     /// What of a page is asked for.
-    fn is_seen(self, page: &Page) -> bool {
+    fn is_seen(self, alloc: Global, page: &Page, table: &StatusTable) -> bool {
         match self {
             PageStep::Slots(slots) => page.slots() == slots,
             PageStep::Change(change) => page.change() == change,
@@ -253,6 +265,20 @@ impl PageStep {
             PageStep::Unused(slot) => matches!(page.slot(slot), Some(Slot::Unused)),
             PageStep::Dead(slot) => matches!(page.slot(slot), Some(Slot::Dead)),
             PageStep::Redirect(slot, target) => leads(page, slot, target),
+            _ => self.is_judged(alloc, table),
+        }
+    }
+
+    /// What of single versions is asked for.
+    fn is_judged(self, alloc: Global, table: &StatusTable) -> bool {
+        match self {
+            PageStep::Seen(life, own, other) => {
+                sees(alloc, table, life, true) == Some(own)
+                    && sees(alloc, table, life, false) == Some(other)
+            }
+            PageStep::Fate(life, horizon, fate) => fate_at(table, life, horizon) == Some(fate),
+            PageStep::Hinted(life, mask) => hinted(table, life) == Some(mask),
+            PageStep::Reads(x, told) => reads_id(alloc, table, x) == told,
             _ => false,
         }
     }
@@ -274,7 +300,7 @@ impl PageStep {
             PageStep::Fails(change, named, horizon) => {
                 !checks(page, &plan_of(change, named), table, horizon)
             }
-            _ => self.is_seen(page),
+            _ => self.is_seen(alloc, page, table),
         }
     }
 
