@@ -47,17 +47,20 @@ impl Read for Asker<'_> {
             return Err(io::Error::from(ErrorKind::TimedOut));
         }
         self.interruptions.pass()?;
-        let mut n = 0;
-        while n < buf.len() && n < self.piece && self.at < self.script.len() {
-            buf[n] = self.script[self.at];
-            n += 1;
+        let most = buf.len().min(self.piece);
+        for i in 0..most {
+            if self.at >= self.script.len() {
+                return Ok(i);
+            }
+            let byte = self.script[self.at];
+            buf[i] = byte;
             self.at += 1;
-            if buf[n - 1] == b'\n' {
+            if byte == b'\n' {
                 self.given = self.given.saturating_add(1);
-                return Ok(n);
+                return Ok(i + 1);
             }
         }
-        Ok(n)
+        Ok(most)
     }
 }
 
