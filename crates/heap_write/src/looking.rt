@@ -1,8 +1,8 @@
 //! What a step looks for, through the index by key. None takes memory.
 
 ghost use Rattle.std.specs.Prelude.{pos};
-ghost use Rattle.visibility.specs.Visible.{IsVisible};
-ghost use Rattle.sound_entries.specs.Looking.{FirstFound, FirstPlace, IsMissed, IsForeign, IsIdOf};
+ghost use Rattle.visibility.specs.Visible.{IsVisible, IsForeignIn, IsMissedIn};
+ghost use Rattle.sound_entries.specs.Looking.{FirstFound, FirstPlace, IsIdOf};
 ghost use Rattle.heap_write.specs.Heap.{slots_of};
 ghost use Rattle.heap_write.specs.Indexes.{entries_in};
 
@@ -31,8 +31,8 @@ impl HeapState {
     /// How the versions of the key stand to a session that is about to write it.
     pub fn standing(&self, key: u64, snapshot: &Snapshot, own: &OwnIds) -> Standing
         ensures place { FirstPlace self.now.table (IsVisible self.now.table snapshot.now own.now.ids) (slots_of self.now) (entries_in self.now.indexes 0) (pos key) key result.place }
-        ensures missed { IsIdOf self.now.table (IsMissed self.now.table snapshot.now) (slots_of self.now) (entries_in self.now.indexes 0) (pos key) key result.missed }
-        ensures holder { IsIdOf self.now.table (IsForeign self.now.table own.now.ids) (slots_of self.now) (entries_in self.now.indexes 0) (pos key) key result.holder }
+        ensures missed { IsIdOf self.now.table (IsMissedIn self.now.table snapshot.now) (slots_of self.now) (entries_in self.now.indexes 0) (pos key) key result.missed }
+        ensures holder { IsIdOf self.now.table (IsForeignIn self.now.table own.now.ids) (slots_of self.now) (entries_in self.now.indexes 0) (pos key) key result.holder }
     {
         let value = i128::from(key);
         standing_of(

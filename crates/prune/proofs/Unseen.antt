@@ -6,7 +6,9 @@ use Rattle.page_slots.specs.declared.slot.Slot.{Slot}
 use Rattle.page_slots.specs.Slots.{version_at}
 use Rattle.tuple_header.specs.Version.{Version}
 use Rattle.commit_status.specs.Window.{Window, IsCommitted, IsAborted}
-use Rattle.visibility.specs.Visible.{IsFrozen, Reads, VisibleBy, IsDead}
+use Rattle.visibility.proofs.Makers.{made-of, kept-of}
+use Rattle.visibility.specs.Seeing.{VisibleBy}
+use Rattle.visibility.specs.Visible.{IsFrozen, ReadsIn, IsDead}
 use Rattle.hot_chain.specs.Chain.{has_aborted}
 use Rattle.sound_page.specs.Links.{link}
 use Rattle.prune.specs.Cutting.{IsCut, Removes}
@@ -67,13 +69,13 @@ cut-unseen w horizon slots R n t sound reader at seen cut = ⊎_elim never gone 
         let same : u.version ≡ t = same_Some u.version t (sym u.there ∙ at) in
         let thawed = subst (λ (v : Version). ¬ IsFrozen v.header) same u.thawed in
         let aborted = subst (λ (v : Version). IsAborted w v.header.xmin.0) same u.aborted in
-        ⊎_elim (λ f. thawed f) (λ r. reader.none_aborted t.header.xmin.0 aborted r) seen.made
+        ⊎_elim (λ f. thawed f) (λ r. reader.none_aborted t.header.xmin.0 aborted r) (made-of R t.header seen)
 
     gone : IsGone w slots R n → ⊥
     gone g =
         let same : g.version ≡ t = same_Some g.version t (sym g.there ∙ at) in
         let deleted = subst (λ (v : Version). IsCommitted w v.header.xmax.0) same g.deleted in
-        seen.kept (committed-some w t.header.xmax.0 deleted) (subst (λ (v : Version). R v.header.xmax.0) same g.counted)
+        kept-of R t.header seen (committed-some w t.header.xmax.0 deleted) (subst (λ (v : Version). R v.header.xmax.0) same g.counted)
 
 -- where all that goes would be cut, each reader finds what it found
 pub removed-found : (w : Window) (horizon : ℕ) (slots after : List Slot) (R : ℕ → Type 0) → SoundPage w horizon slots → Removes w horizon slots after
@@ -87,4 +89,4 @@ removed-found w horizon slots after R sound removes reader n t = (
 
 pub removed-keeps_found : (w : Window) (horizon : ℕ) (slots after : List Slot) → SoundPage w horizon slots → Removes w horizon slots after → KeepsFound w horizon slots after
 removed-keeps_found w horizon slots after sound removes s own r n t =
-    removed-found w horizon slots after (Reads w s own) sound removes (open-reader w horizon slots s own r) n t
+    removed-found w horizon slots after (ReadsIn w s own) sound removes (open-reader w horizon slots s own r) n t

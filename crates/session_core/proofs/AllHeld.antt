@@ -8,11 +8,11 @@ use Rattle.commit_status.proofs.Places.{at-from_place, some-from_is}
 use Rattle.commit_status.proofs.Ancestors.{top-before}
 use Rattle.snapshot.specs.Laws.{IsEarliest}
 use Rattle.snapshot.proofs.Takes.{first-in}
+use Rattle.visibility.proofs.Makers.{active-to}
 use Rattle.session_core.specs.declared.session.Session.{Session}
 use Rattle.session_core.specs.State.{session_at, reader_of, holds_back, held_back, horizon_of}
 use Rattle.session_core.specs.Keeps.{open_at}
 use Rattle.session_core.specs.Laws.{all_held, HorizonIsEarliest}
-use Rattle.session_core.proofs.Windows.{active-to}
 use Rattle.session_core.proofs.Owns.{reader-is}
 use Rattle.session_core.proofs.Horizons.{back-cases, below-xmin, first-back, held-in, horizon-least, horizon-low}
 

@@ -9,6 +9,7 @@ use Rattle.tuple_header.specs.Version.{Version}
 use Rattle.commit_status.specs.Window as window
 use Rattle.snapshot.specs.Snap.{Snap, Sees}
 use Rattle.visibility.specs.Visible as visibility
+use Rattle.visibility.proofs.Makers.{active-to}
 use Rattle.sound_entries.specs.Leading.{IsOnHeap}
 use Rattle.sound_entries.proofs.Leads.{visible-found}
 use Rattle.heap_write.specs.Heap.{slots_of}
@@ -17,34 +18,34 @@ use Rattle.sound_writes.proofs.InUse.{index-sound}
 use Rattle.history.specs.Cursors.{value_in}
 use Rattle.history.specs.History.{Write, committed, reading}
 use Rattle.history.specs.World.{World, OpenSession, joined, view}
-use Rattle.session_relation.specs.Visible.{IsCommitted, IsVisible, VisibleBy, by_itself, by_others}
+use Rattle.visibility.specs.Seeing.{IsCommitted, VisibleBy, by_itself, by_others}
+use Rattle.session_relation.specs.Visible.{IsVisible}
 use Rattle.session_relation.specs.Agrees as relation
 use Rattle.session_relation.proofs.Follows as theory
 use Rattle.session_relation.proofs.Readers.{Levels-top}
-use Rattle.session_core.specs.State.{State, seen, state_of, reader_of, horizon_of}
+use Rattle.visibility.specs.Visible.{state_of}
+use Rattle.session_core.specs.State.{State, seen, reader_of, horizon_of}
 use Rattle.session_core.specs.Agrees.{Agrees}
 use Rattle.session_core.specs.declared.session.Session.{Session}
 use Rattle.session_core.specs.Laws.{IsFound, FindsRows, FindsAtEach, FindsLevels, ViewsByIndex}
-use Rattle.session_core.proofs.Windows.{active-to}
 use Rattle.session_core.proofs.Owns.{reader-is, now_taken, taken-fresh}
-use Rattle.session_core.proofs.Searches.{visible-to, visible-from}
 
 -- a reader whose own ids are in progress, and what it finds on the heap
 by-index : (st : State) (w : World) (n : ℕ) (s : Snap) (own : List ℕ) (row : ℕ → Option Row) → Agrees st w → IsInUse st.heap.indexes n → ((x : ℕ) → Contains own x → window.IsActive st.heap.table x)
     → relation.Shows (seen st).version (IsVisible (state_of st.heap.table) (λ x. Sees s st.heap.table x) own) row → FindsRows st.heap s own n row
 by-index st w n s own row agrees used active shows = record {
   sound = λ value k p t found. let h = (on-heap value k p t).1 found in
-      (ap row (sym h.of_key) ∙ shows.sound p t h.there (visible-to st.heap.table s own t h.has), h.of_value);
+      (ap row (sym h.of_key) ∙ shows.sound p t h.there h.has, h.of_value);
   there = λ k r is.
       let some = shows.there k r is in
       let same : some.1.row ≡ r = same_Some some.1.row r (sym (shows.sound some.0 some.1 some.2 some.4) ∙ (ap row some.3 ∙ is)) in (
         some.0,
         some.1,
         (on-heap (value_in n r) k some.0 some.1).0
-            (record { there = some.2; of_value = ap (λ (r : Row). value_in n r) same; of_key = some.3; has = visible-from st.heap.table s own some.1 some.4 }),
+            (record { there = some.2; of_value = ap (λ (r : Row). value_in n r) same; of_key = some.3; has = some.4 }),
       );
   one = λ value other k p q t u found found'. let h = (on-heap value k p t).1 found in let h' = (on-heap other k q u).1 found' in
-      shows.one p q t u h.there h'.there (visible-to st.heap.table s own t h.has) (visible-to st.heap.table s own u h'.has) (h.of_key ∙ sym h'.of_key);
+      shows.one p q t u h.there h'.there h.has h'.has (h.of_key ∙ sym h'.of_key);
 }
   where
     on-heap : (value : ℤ) (k : ℕ) (p : Tid) (t : Version)
@@ -60,13 +61,13 @@ fresh st w agrees = record {
   one = λ p q v u at bt sees sees'. agrees.found.current.one p q v u at bt (to v sees) (to u sees');
 }
   where
-    to : (v : Version) → IsVisible (state_of st.heap.table) (λ x. Sees (now_taken st) st.heap.table x) [] v → VisibleBy (IsCommitted (state_of st.heap.table)) v
+    to : (v : Version) → IsVisible (state_of st.heap.table) (λ x. Sees (now_taken st) st.heap.table x) [] v → VisibleBy (IsCommitted (state_of st.heap.table)) v.header
     to v sees = record {
       made = λ x is. elim (sees.made x is) [ by_itself own ↦ absurd (Contains-none x own) | by_others seen' done ↦ done ];
       kept = λ x is done. sees.kept x is (by_others ((taken-fresh st w agrees).finished x done) done);
     }
 
-    from : (v : Version) → VisibleBy (IsCommitted (state_of st.heap.table)) v → IsVisible (state_of st.heap.table) (λ x. Sees (now_taken st) st.heap.table x) [] v
+    from : (v : Version) → VisibleBy (IsCommitted (state_of st.heap.table)) v.header → IsVisible (state_of st.heap.table) (λ x. Sees (now_taken st) st.heap.table x) [] v
     from v sees = record {
       made = λ x is. let done = sees.made x is in by_others ((taken-fresh st w agrees).finished x done) done;
       kept = λ x is reads. elim reads [ by_itself own ↦ Contains-none x own | by_others seen' done ↦ sees.kept x is done ];

@@ -1,4 +1,5 @@
 -- A page is pruned, and no session can tell.
+use Rattle.visibility.proofs.Makers.{is-maker, is-deleter, maker-is, deleter-is, state-is, state-some, committed-from, active-to}
 use Rattle.session_core.proofs.InUse.{still-in_use, agree}
 use Rattle.std.proofs.Common.{◌≡◌, ◌≢◌, ℕ, zero, suc, ◌≤◌, List, Option, Some, false, refl, sym, ap, ◌∙◌, subst, ◌⊎◌, inl, inr, arith}
 use Rattle.std.proofs.lemmas.Option.{same_Some}
@@ -33,7 +34,7 @@ use Rattle.session_relation.specs.declared.reply.Refusal.TheVariants.{NoSuchPage
 use Rattle.session_relation.specs.declared.settings.Settings.{Settings}
 use Rattle.session_relation.specs.Heap as relation
 use Rattle.session_relation.specs.Agrees as relation_agrees
-use Rattle.session_relation.specs.Visible as readers
+use Rattle.visibility.specs.Seeing as readers
 use Rattle.session_relation.specs.Changes as change
 use Rattle.session_relation.proofs.Readers.{Levels-top}
 use Rattle.session_relation.proofs.Follows as theory
@@ -41,10 +42,8 @@ use Rattle.session_core.specs.declared.session.Session.{Session}
 use Rattle.session_core.specs.State.{State, seen, seen_in, horizon_of, held_back}
 use Rattle.session_core.specs.Agrees.{Agrees, Follows}
 use Rattle.session_core.specs.Exact.{Cleans}
-use Rattle.session_core.proofs.Windows.{state-is, state-some, committed-from, active-to}
 use Rattle.session_core.proofs.Owns.{reader-at}
 use Rattle.session_core.proofs.Horizons.{upto-horizon, below-xmin}
-use Rattle.session_core.proofs.Searches.{is-maker, is-deleter, maker-is, deleter-is}
 use Rattle.session_core.proofs.Follows.{Follows-same}
 
 not-zero : (x : ℕ) → 3 ≤ x → x ≢ 0
@@ -54,16 +53,16 @@ abbrev IsPast : State → Version → Type 0
 IsPast st v = change.IsPast (seen st).status (seen st).sees (seen st).session v
 
 -- a committed deleter is one
-deleter-of : (st : State) (v : Version) → IsCommitted st.heap.table v.header.xmax.0 → readers.deleter v ≡ Some v.header.xmax.0
+deleter-of : (st : State) (v : Version) → IsCommitted st.heap.table v.header.xmax.0 → readers.deleter v.header ≡ Some v.header.xmax.0
 deleter-of st v done =
     let at = finished-place st.heap.table v.header.xmax.0 (λ active. let e : Committed ≡ InProgress = sym done ∙ active in absurd (cc)) in
-    is-deleter v v.header.xmax.0 (not-zero v.header.xmax.0 (upto-place st.heap.table v.header.xmax.0 at.0 at.1).normal) refl
+    is-deleter v.header v.header.xmax.0 (not-zero v.header.xmax.0 (upto-place st.heap.table v.header.xmax.0 at.0 at.1).normal) refl
 
 -- What is dead at the horizon, nobody reads.
 dead-past : (st : State) (w : World) (v : Version) → Agrees st w → IsDead st.heap.table (horizon_of st) v.header → IsPast st v
 dead-past st w v agrees (IsDead.never_was thawed gone) =
     let at = finished-place st.heap.table v.header.xmin.0 (λ active. let e : Aborted ≡ InProgress = sym gone ∙ active in absurd (cc)) in
-    change.IsPast.never_was v.header.xmin.0 (is-maker v v.header.xmin.0 thawed refl) (state-is st.heap.table v.header.xmin.0 Aborted (is-from_some (place st.heap.table v.header.xmin.0) at.0 at.1) gone)
+    change.IsPast.never_was v.header.xmin.0 (is-maker v.header v.header.xmin.0 thawed refl) (state-is st.heap.table v.header.xmin.0 Aborted (is-from_some (place st.heap.table v.header.xmin.0) at.0 at.1) gone)
 dead-past st w v agrees (IsDead.is_past done before) =
     let at = finished-place st.heap.table v.header.xmax.0 (λ active. let e : Committed ≡ InProgress = sym done ∙ active in absurd (cc)) in
     let upto = upto-place st.heap.table v.header.xmax.0 at.0 at.1 in
@@ -91,16 +90,16 @@ module _ (st : State) (w : World) (agrees : Agrees st w) (n : ℕ) where
       of : u.header.xmin.0 ≡ v.header.xmax.0 → has_aborted st.heap.table v.header.xmax.0 ≡ false → IsPast st u
           → (IsCommitted st.heap.table u.header.xmax.0 → IsFrozen u.header ⊎ IsCommitted st.heap.table u.header.xmin.0) → ¬ IsFrozen u.header → IsPast st v
       of made live (change.IsPast.never_was x is gone) committed thawed =
-          let m = maker-is u x is in
+          let m = maker-is u.header x is in
           let aborted : IsAborted st.heap.table v.header.xmax.0 = subst (λ y. IsAborted st.heap.table y) (sym m.1 ∙ made) (state-some st.heap.table x Aborted gone).1 in
           let has = aborted-has st.heap.table v.header.xmax.0 aborted in absurd (cc)
       of made live (change.IsPast.is_over y is done all) committed thawed =
-          let d = deleter-is u y is in
+          let d = deleter-is u.header y is in
           let over : IsCommitted st.heap.table u.header.xmax.0 = subst (λ z. IsCommitted st.heap.table z) (sym d.1) (state-some st.heap.table y Committed done).1 in
           let mine : IsCommitted st.heap.table v.header.xmax.0 = elim (committed over) [ inl frozen ↦ absurd (thawed frozen) | inr c ↦ subst (λ z. IsCommitted st.heap.table z) made c ] in
           change.IsPast.is_over v.header.xmax.0 (deleter-of st v mine) (committed-from st.heap.table v.header.xmax.0 mine)
           (λ s r at'. let open_ = agrees.found.opened s r at' in
-          let whole = (Levels-top r.own r.saved open_.0.levels open_.2.levels).whole (record { page = n; slot = k }) y u bt is (readers.by_others (all s r at') done) v.header.xmax.0 (is-maker u v.header.xmax.0 thawed made) in
+          let whole = (Levels-top r.own r.saved open_.0.levels open_.2.levels).whole (record { page = n; slot = k }) y u bt is (readers.by_others (all s r at') done) v.header.xmax.0 (is-maker u.header v.header.xmax.0 thawed made) in
           elim whole [
             | readers.by_itself own ↦ (let active = (active-to st.heap.table v.header.xmax.0 (open_.2.own_active v.header.xmax.0 own)).unfinished in
                 let e : Committed ≡ InProgress = sym mine ∙ active in absurd (cc))

@@ -17,6 +17,7 @@ use Rattle.commit_status.specs.Changes.{Finishes}
 use Rattle.commit_status.proofs.Finishing.{finishes-top, finishes-upto, finishes-next}
 use Rattle.forgetting.proofs.WellTopped.{finishes-well_topped}
 use Rattle.page_writes.specs.Laws.{DeletedWhatWasMade, AloneDeletedTheirs}
+use Rattle.visibility.proofs.Makers.{is-maker, is-deleter, active-to, committed-to, state-some}
 use Rattle.sound_entries.specs.Pages.{slots_on}
 use Rattle.heap_write.specs.Heap.{slots_of}
 use Rattle.sound_writes.specs.Table.{StaysSoundTable}
@@ -25,7 +26,8 @@ use Rattle.sound_writes.proofs.Keeping.{committed-stays, aborted-stays, later-st
 use Rattle.history.specs.History.{Write, Transaction}
 use Rattle.history.specs.World.{World, joined}
 use Rattle.session_relation.specs.Heap as relation
-use Rattle.session_relation.specs.Visible.{IsCommitted, IsActive, Reads, by_itself, by_others, deleted_by, At, maker, deleter}
+use Rattle.visibility.specs.Seeing.{IsCommitted, IsActive, Reads, by_itself, by_others, deleted_by, maker, deleter}
+use Rattle.session_relation.specs.Visible.{At}
 use Rattle.session_relation.specs.Agrees as theory
 use Rattle.session_relation.proofs.Readers.{Levels-top}
 use Rattle.snapshot.specs.Laws.{IsBounded, IsBetween, IsInWindow}
@@ -34,17 +36,16 @@ use Rattle.snapshot.specs.Own.{newest}
 use Rattle.snapshot.proofs.Levels.{distinct-after}
 use Rattle.snapshot.proofs.Takes.{first-in}
 use Rattle.session_core.specs.declared.session.Session.{Session}
-use Rattle.session_core.specs.State.{State, session_at, seen, state_of, reader_of, holds_back, horizon_of}
+use Rattle.visibility.specs.Visible.{state_of}
+use Rattle.session_core.specs.State.{State, session_at, seen, reader_of, holds_back, horizon_of}
 use Rattle.session_core.specs.Agrees.{Agrees, Sound, SessionKeeps, StaysLed}
 use Rattle.session_core.specs.Changes.{Closes, RollsBack}
 use Rattle.session_relation.specs.declared.settings.Settings.{Settings}
 use Rattle.session_core.proofs.InUse.{AreInUse, GoesAlong, still-in_use, same-cursor}
 use Rattle.session_core.proofs.OwnIdsLemmas.{open-within, open-set_cases}
-use Rattle.session_core.proofs.Windows.{active-to, committed-to, state-some}
 use Rattle.session_core.proofs.Owns.{reader-is, reader-at}
 use Rattle.session_core.proofs.Placing.{normal-active}
 use Rattle.session_core.proofs.Returning.{keeps-returned, fewer-back}
-use Rattle.session_core.proofs.Searches.{is-maker, is-deleter}
 use Rattle.session_core.proofs.Horizons.{IsHeldIn, held-in, horizon-above, horizon-next, horizon-low, horizon-upto, upto-horizon}
 
 bounded-finish : (w v : Window) (ids : List ℕ) (end : Status) (s : Snap) → Finishes w v ids end → IsBounded w s → IsBounded v s
@@ -102,7 +103,7 @@ module _ (st : State) (w : World) (agrees : Agrees st w) where
   read-by status sees own x (by_others seen done) = inr done
 
   -- an id of the session deleted the version: one of its own made it, or one that is committed
-  made-with : (s : ℕ) (e : Session) (p : Tid) (t : Version) (x y : ℕ) → session_at st s ≡ Some e → At (seen st).version p t → maker t ≡ Some x → deleter t ≡ Some y → Contains e.own.ids y
+  made-with : (s : ℕ) (e : Session) (p : Tid) (t : Version) (x y : ℕ) → session_at st s ≡ Some e → At (seen st).version p t → maker t.header ≡ Some x → deleter t.header ≡ Some y → Contains e.own.ids y
       → Contains e.own.ids x ⊎ IsCommitted (state_of st.heap.table) x
   made-with s e p t x y at there made gone mine =
       let m = agrees.found.opened s (reader_of e) (reader-is st s e at) in
@@ -110,11 +111,11 @@ module _ (st : State) (w : World) (agrees : Agrees st w) where
       ((Levels-top e.own.ids e.own.saved m.0.levels m.2.levels).whole p y t there gone (by_itself mine) x made)
 
   -- an id in progress of a session made the version: no deletion of it counts, or one of the session's ids made it
-  deleted-with : (s : ℕ) (e : Session) (p : Tid) (t : Version) (x : ℕ) → session_at st s ≡ Some e → At (seen st).version p t → maker t ≡ Some x → Contains e.own.ids x
+  deleted-with : (s : ℕ) (e : Session) (p : Tid) (t : Version) (x : ℕ) → session_at st s ≡ Some e → At (seen st).version p t → maker t.header ≡ Some x → Contains e.own.ids x
       → (t.header.xmax.0 ≡ 0) ⊎ (window.IsAborted st.heap.table t.header.xmax.0 ⊎ Contains e.own.ids t.header.xmax.0)
   deleted-with s e p t x at there made mine = elim (cases_eq t.header.xmax.0 0) [
     | inl none ↦ inl none
-    | inr some ↦ inr (let gone = is-deleter t t.header.xmax.0 some refl in by-status gone (status-cases (state_of st.heap.table t.header.xmax.0) (agrees.found.given p t.header.xmax.0 t there (deleted_by gone))))
+    | inr some ↦ inr (let gone = is-deleter t.header t.header.xmax.0 some refl in by-status gone (status-cases (state_of st.heap.table t.header.xmax.0) (agrees.found.given p t.header.xmax.0 t there (deleted_by gone))))
   ]
     where
       y : ℕ
@@ -127,7 +128,7 @@ module _ (st : State) (w : World) (agrees : Agrees st w) where
       unfinished done = cc going
 
       -- the session that has the deleter made it too, so it is this one
-      same-session : deleter t ≡ Some y → IsActive (state_of st.heap.table) y → Contains e.own.ids y
+      same-session : deleter t.header ≡ Some y → IsActive (state_of st.heap.table) y → Contains e.own.ids y
       same-session gone active =
           let by = agrees.found.owned y active in
           let f = reader-at st by.0 by.1 by.2 in
@@ -138,7 +139,7 @@ module _ (st : State) (w : World) (agrees : Agrees st w) where
             | inr done ↦ absurd (unfinished done)
           ]
 
-      by-status : deleter t ≡ Some y → (state_of st.heap.table y ≡ Some InProgress) ⊎ ((state_of st.heap.table y ≡ Some Committed) ⊎ (state_of st.heap.table y ≡ Some Aborted))
+      by-status : deleter t.header ≡ Some y → (state_of st.heap.table y ≡ Some InProgress) ⊎ ((state_of st.heap.table y ≡ Some Committed) ⊎ (state_of st.heap.table y ≡ Some Aborted))
           → window.IsAborted st.heap.table y ⊎ Contains e.own.ids y
       by-status gone (inl active) = inr (same-session gone active)
       by-status gone (inr (inl done)) = absurd (unfinished (agrees.found.made p y t there gone done x made))
@@ -150,15 +151,15 @@ module _ (st : State) (w : World) (agrees : Agrees st w) where
     | inl frozen ↦ inl frozen
     | inr thawed ↦ inr (
         let active = active-to st.heap.table t.header.xmax.0 ((agrees.found.opened s (reader_of e) (reader-is st s e at)).2.own_active t.header.xmax.0 mine) in
-        elim (made-with s e (record { page = n; slot = m }) t t.header.xmin.0 t.header.xmax.0 at there (is-maker t t.header.xmin.0 thawed refl)
-        (is-deleter t t.header.xmax.0 (normal-active st.heap.table t.header.xmax.0 active) refl) mine) [
+        elim (made-with s e (record { page = n; slot = m }) t t.header.xmin.0 t.header.xmax.0 at there (is-maker t.header t.header.xmin.0 thawed refl)
+        (is-deleter t.header t.header.xmax.0 (normal-active st.heap.table t.header.xmax.0 active) refl) mine) [
           | inl own ↦ inr own
           | inr done ↦ inl (committed-to st.heap.table t.header.xmin.0 done)
         ])
   ]
 
   alone-deleted : (s : ℕ) (e : Session) → session_at st s ≡ Some e → (n : ℕ) → AloneDeletedTheirs st.heap.table (slots_on (slots_of st.heap) n) e.own.ids
-  alone-deleted s e at n m t there thawed mine = deleted-with s e (record { page = n; slot = m }) t t.header.xmin.0 at there (is-maker t t.header.xmin.0 thawed refl) mine
+  alone-deleted s e at n m t there thawed mine = deleted-with s e (record { page = n; slot = m }) t t.header.xmin.0 at there (is-maker t.header t.header.xmin.0 thawed refl) mine
 
   -- those since its newest savepoint: what these made, no earlier id deletes, since who returns there reads no such making
   since-alone : (s : ℕ) (e : Session) (before since : List ℕ) (saved : List (List ℕ)) → session_at st s ≡ Some e → e.own.saved ≡ before ∷ saved → e.own.ids ≡ before ++ since
@@ -182,14 +183,14 @@ module _ (st : State) (w : World) (agrees : Agrees st w) where
       y : ℕ
       y = t.header.xmax.0
 
-      made : maker t ≡ Some x
-      made = is-maker t x thawed refl
+      made : maker t.header ≡ Some x
+      made = is-maker t.header x thawed refl
 
       too-early : Contains before y → ⊥
       too-early early =
           let o = agrees.found.opened s (reader_of e) (reader-is st s e at) in
           let active = active-to st.heap.table y (o.2.own_active y (subst (λ xs. Contains xs y) (sym ids) (Contains-append_left before since y early))) in
-          let gone = is-deleter t y (normal-active st.heap.table y active) refl in
+          let gone = is-deleter t.header y (normal-active st.heap.table y active) refl in
           elim (read-by (state_of st.heap.table) ((seen st).sees e.snapshot) before x
           ((newest-reader (state_of st.heap.table) (seen st).version w.history ((seen st).sees e.snapshot) o.0.start e.own.ids before saved e.own.saved o.0.levels is o.2.levels).1.whole p y t there gone (by_itself early) x made)) [
             | inl both ↦ distinct-after e.own.ids before since (agrees.sound.sessions s e at).distinct ids x mine both

@@ -10,6 +10,7 @@ use Rattle.page_slots.specs.declared.slot.Slot.TheVariants.{Unused, Normal, Redi
 use Rattle.commit_status.specs.Window.{IsUpToNext, next_id, turns}
 use Rattle.snapshot.specs.Own.{AreDistinct}
 use Rattle.heap_pages.specs.View.{PagesView}
+use Rattle.visibility.proofs.Makers.{active-to}
 use Rattle.sound_entries.specs.Pages.{version_in, slot_in}
 use Rattle.sound_entries.specs.Entries.{MayBeLed, same_version, led_on, died}
 use Rattle.sound_entries.specs.Entries as entries
@@ -40,7 +41,8 @@ use Rattle.session_relation.proofs.Steps.{OnlyIs, SameSights}
 use Rattle.session_relation.proofs.Follows as theory
 use Rattle.session_relation.proofs.Hindrances as hindrances
 use Rattle.session_core.specs.declared.session.Session.{Session}
-use Rattle.session_core.specs.State.{State, session_at, put_session, seen, state_of, position_of, reader_of, as_failed, holds_back, held_back, horizon_of}
+use Rattle.visibility.specs.Visible.{state_of}
+use Rattle.session_core.specs.State.{State, session_at, put_session, seen, position_of, reader_of, as_failed, holds_back, held_back, horizon_of}
 use Rattle.session_core.specs.Keeps.{open_at}
 use Rattle.session_core.specs.Agrees.{Agrees, Sound, Follows, SessionKeeps, StaysLed}
 use Rattle.session_core.specs.Refuses.{Refuses, RefusesReady, RefusesFree, RefusesBare}
@@ -51,7 +53,7 @@ use Rattle.session_relation.proofs.Runs.{same_indexes}
 use Rattle.session_core.proofs.InUse.{GoesAlong, used-still, no-cursor, cursors-put, agree}
 use Rattle.session_core.proofs.OwnIdsLemmas.{open-within, open-set_cases}
 use Rattle.session_core.proofs.StateLemmas.{only-set}
-use Rattle.session_core.proofs.Windows.{active-to, Finishes-from, SameSight-finish, decided}
+use Rattle.session_core.proofs.Windows.{Finishes-from, SameSight-finish, decided}
 use Rattle.session_core.proofs.Owns.{reader-is, now_taken, taken-fresh, taken-within}
 use Rattle.session_core.proofs.Horizons.{back-cases, held-in, horizon-above, horizon-next, horizon-low, horizon-upto, upto-horizon, taken-late}
 use Rattle.session_core.proofs.Ends.{commits-sound, aborts-sound}

@@ -18,6 +18,7 @@ use Rattle.snapshot.specs.Snap.{Snap, Sees}
 use Rattle.snapshot.specs.Laws.{IsInWindow}
 use Rattle.snapshot.proofs.Sights.{sees-top}
 use Rattle.snapshot.proofs.Levels.{level-among, level-mine, level-none, level-some, level-newest, lacks-given, fronts-given}
+use Rattle.visibility.proofs.Makers.{active-to}
 use Rattle.heap_write.specs.Heap.{HeapView, SameIds}
 use Rattle.heap_write.specs.Writes.{GivesUnder, TakesIds}
 use Rattle.forgetting.specs.Truncating.{IsWellTopped}
@@ -36,13 +37,14 @@ use Rattle.session_relation.proofs.GivenBelow.{AreUnseen, Agrees-give_each}
 use Rattle.session_relation.proofs.Follows.{Agrees-sessions}
 use Rattle.session_relation.proofs.Sights.{Agrees-sights}
 use Rattle.session_core.specs.declared.session.Session.{Session}
-use Rattle.session_core.specs.State.{State, session_at, seen, seen_in, state_of, reader_of, holds_back, horizon_of}
+use Rattle.visibility.specs.Visible.{state_of}
+use Rattle.session_core.specs.State.{State, session_at, seen, seen_in, reader_of, holds_back, horizon_of}
 use Rattle.session_core.specs.Keeps.{open_at, OwnIdsKeep, EngineKeeps}
 use Rattle.session_core.specs.Agrees.{Agrees, Sound, SessionKeeps}
 use Rattle.session_core.specs.Writes.{SameSession}
 use Rattle.session_core.proofs.OwnIdsLemmas.{open-within, open-set_same, open-set_other, open-set_cases, distinct-both, keep-same, keep-given}
 use Rattle.session_core.proofs.StateLemmas.{only-set}
-use Rattle.session_core.proofs.Windows.{GivesEach-from, SameSight-given, in-window-given, unseen-given, active-to}
+use Rattle.session_core.proofs.Windows.{GivesEach-from, SameSight-given, in-window-given, unseen-given}
 use Rattle.session_core.proofs.Owns.{reader-is, reader-at}
 use Rattle.session_core.proofs.Horizons.{IsHeldIn, contains-first, held-in, horizon-above, horizon-next, horizon-low, horizon-upto, upto-horizon}
 

@@ -49,9 +49,8 @@ busies : (st : State) (s o : ℕ) (e : Session) (write : WriteStep) → session_
 busies st s o e write at held begins w agrees =
     let b = begins w agrees in
     let f = held.other in
-    let active = (agrees.found.opened o (reader_of f) (reader-is st o f held.at)).2.own_active held.id held.owns in
     let g = hindrances.Follows-busy (seen st) s o (reader_of e) (reader_of f) held.id write b.0 b.1 b.2 (not-late st w e (key_of write) agrees held.timely)
-    (held-to st w e (key_of write) held.id agrees active held.held) (reader-is st o f held.at) held.owns w agrees.found in
+    (held-to st w e (key_of write) held.id agrees held.held) (reader-is st o f held.at) held.owns w agrees.found in
     stays-so st w (step_of s write) (Refused (Busy o)) agrees g
 
 -- what an insert reads is none of the key, and what an update or a deletion reads is a row of it

@@ -11,11 +11,11 @@ use Rattle.snapshot.specs.Snap.{Snap, earliest, listing, empty_at}
 use Rattle.snapshot.specs.Laws.{IsEarliest}
 use Rattle.snapshot.proofs.Earliest.{earliest-is, earlier-cases}
 use Rattle.history.specs.World.{World}
+use Rattle.visibility.proofs.Makers.{active-to}
 use Rattle.session_core.specs.declared.session.Session.{Session}
 use Rattle.session_core.specs.State.{State, session_at, reader_of, owns_of, holds_back, held_back, horizon_of}
 use Rattle.session_core.specs.Keeps.{open_at}
 use Rattle.session_core.specs.Agrees.{Agrees}
-use Rattle.session_core.proofs.Windows.{active-to}
 use Rattle.session_core.proofs.Owns.{reader-is, owns-cases, now_taken}
 
 held-some : (xs : List (Option Session)) (s : ℕ) (e : Session) (y : ℕ) → open_at xs s ≡ Some e → Contains (holds_back e) y → Contains (held_back xs) y

@@ -11,13 +11,14 @@ use Rattle.snapshot.proofs.Sights.{open-unseen}
 use Rattle.snapshot.proofs.Takes.{taken-in_window}
 use Rattle.forgetting.proofs.Fresh.{fresh-seen}
 use Rattle.history.specs.World.{World}
+use Rattle.visibility.proofs.Makers.{active-to, active-from, committed-to}
 use Rattle.session_relation.specs.Heap as relation
 use Rattle.session_relation.specs.Visible.{IsFresh}
 use Rattle.session_core.specs.declared.session.Session.{Session}
-use Rattle.session_core.specs.State.{State, session_at, seen, state_of, reader_of, owns_of}
+use Rattle.visibility.specs.Visible.{state_of}
+use Rattle.session_core.specs.State.{State, session_at, seen, reader_of, owns_of}
 use Rattle.session_core.specs.Agrees.{Agrees}
 use Rattle.session_core.specs.Keeps.{open_at}
-use Rattle.session_core.proofs.Windows.{active-to, active-from, committed-to}
 
 pub owns-some : (xs : List (Option Session)) (s : ℕ) (e : Session) → open_at xs s ≡ Some e → Contains (owns_of xs) e.own.ids
 owns-some [] s e at = cc

@@ -7,6 +7,7 @@ use Rattle.commit_status.specs.declared.status.Status.TheVariants.{Aborted}
 use Rattle.snapshot.specs.Own.{newest, older}
 use Rattle.snapshot.proofs.Levels.{distinct-after}
 use Rattle.heap_pages.specs.View.{PagesView}
+use Rattle.visibility.proofs.Makers.{active-to}
 use Rattle.sound_entries.specs.Pages.{version_in}
 use Rattle.sound_entries.specs.Looking as looking
 use Rattle.history.specs.World.{World}
@@ -21,13 +22,14 @@ use Rattle.session_relation.specs.Changes as change
 use Rattle.session_relation.proofs.Steps.{OnlyIs, SameSights}
 use Rattle.session_relation.proofs.FollowsSavepoints as savepoints
 use Rattle.session_core.specs.declared.session.Session.{Session}
-use Rattle.session_core.specs.State.{State, session_at, put_session, seen, state_of, position_of, reader_of}
+use Rattle.visibility.specs.Visible.{state_of}
+use Rattle.session_core.specs.State.{State, session_at, put_session, seen, position_of, reader_of}
 use Rattle.session_core.specs.Agrees.{Agrees, Follows, StaysLed}
 use Rattle.session_core.specs.Refuses.{Refuses, RefusesFree}
 use Rattle.session_core.specs.Changes.{SetsSavepoint, Releases, RollsBack}
 use Rattle.session_core.proofs.OwnIdsLemmas.{open-within}
 use Rattle.session_core.proofs.StateLemmas.{only-set}
-use Rattle.session_core.proofs.Windows.{active-to, Finishes-from, SameSight-finish}
+use Rattle.session_core.proofs.Windows.{Finishes-from, SameSight-finish}
 use Rattle.session_core.proofs.Owns.{reader-is}
 use Rattle.session_core.proofs.Returning.{same-holds, keeps-saved, keeps-released}
 use Rattle.session_core.proofs.Ends.{rolls-back-sound}

@@ -1,4 +1,5 @@
 -- What a search of the pages finds, as readers see it.
+use Rattle.visibility.proofs.Makers.{committed-to, committed-from, active-to, state-is}
 use Rattle.session_core.proofs.InUse.{by-key}
 use Rattle.heap_write.specs.Indexes.{entries_in}
 use Rattle.std.proofs.Common.{◌≡◌, ◌≢◌, ℕ, List, Option, Some, None, Bool, true, false, refl, sym, ap, ◌∙◌, subst, inl, inr, cond}
@@ -25,16 +26,17 @@ use Rattle.sound_entries.proofs.Among.{missed-on_heap, foreign-on_heap}
 use Rattle.heap_write.specs.Heap.{HeapView, slots_of, key_value}
 use Rattle.history.specs.World.{World}
 use Rattle.session_relation.specs.Heap as relation
-use Rattle.session_relation.specs.Visible.{maker, deleter, Reads, by_itself, by_others, IsVisible, Touches, made_by, deleted_by, IsActive}
+use Rattle.visibility.specs.Seeing.{maker, deleter, Reads, by_itself, by_others, Touches, made_by, deleted_by, IsActive}
+use Rattle.session_relation.specs.Visible.{IsVisible}
 use Rattle.session_relation.specs.Finds.{Finds, IsLateFor, IsHeldBy, Begins, Free}
 use Rattle.session_relation.specs.declared.reply.Refusal.{Refusal}
 use Rattle.session_relation.specs.declared.reply.Refusal.TheVariants.{NotOpen, AlreadyOpen, Failed, AlreadyThere, NotThere, Conflict, Busy, TooLarge, NoRoom, NeedsFreeze, NoMemory, NoSuchPage, NoSuchSession, TooDeep, NoSavepoint, CursorOpen, NoCursor, NoSuchIndex, BadBounds}
 use Rattle.session_core.specs.declared.session.Session.{Session}
-use Rattle.session_core.specs.State.{State, session_at, seen, state_of, position_of, reader_of, horizon_of}
+use Rattle.visibility.specs.Visible.{state_of}
+use Rattle.session_core.specs.State.{State, session_at, seen, position_of, reader_of, horizon_of}
 use Rattle.session_core.specs.Agrees.{Agrees}
 use Rattle.session_core.specs.Tests.{FindsPlace, IsLateBy, IsHeldUnder, IsNobodys, IsUnheld, by_none, by_nobody, IsFree, Delays, HindersInsert, HindersChange}
 use Rattle.session_core.specs.Tests as tests
-use Rattle.session_core.proofs.Windows.{committed-to, committed-from, active-to, state-is}
 use Rattle.session_core.proofs.Owns.{reader-is, reader-at}
 
 -- the answers of a search for an id
@@ -44,67 +46,6 @@ Misses h e key answer = MatchOption answer ((x : ℕ) → ¬ IsLateBy h e key x)
 
 abbrev pub Holds : HeapView → Session → ℕ → Option Xid → Type 0
 Holds h e key answer = MatchOption answer ((x : ℕ) → ¬ IsHeldUnder h e key x) (λ x. IsHeldUnder h e key x.0)
-
--- the maker and the deleter of a version
-
-pub maker-is : (v : Version) (x : ℕ) → maker v ≡ Some x → (¬ visibility.IsFrozen v.header) × (v.header.xmin.0 ≡ x)
-maker-is v x is = of (is_frozen v.header) refl is
-  where
-    of : (b : Bool) → is_frozen v.header ≡ b → cond b None (Some v.header.xmin.0) ≡ Some x → (¬ visibility.IsFrozen v.header) × (v.header.xmin.0 ≡ x)
-    of true frozen is = absurd (none-some x is)
-    of false unfrozen is = (λ frozen. cc, same_Some v.header.xmin.0 x is)
-
-pub is-maker : (v : Version) (x : ℕ) → ¬ visibility.IsFrozen v.header → v.header.xmin.0 ≡ x → maker v ≡ Some x
-is-maker v x unfrozen is = elim (cases_Bool (is_frozen v.header)) [
-  | inl frozen ↦ absurd (unfrozen frozen)
-  | inr thawed ↦ cond-false (is_frozen v.header) None (Some v.header.xmin.0) thawed ∙ ap Some is
-]
-
-pub deleter-is : (v : Version) (x : ℕ) → deleter v ≡ Some x → (v.header.xmax.0 ≢ 0) × (v.header.xmax.0 ≡ x)
-deleter-is v x is = of (v.header.xmax.0 == 0) refl is
-  where
-    of : (b : Bool) → (v.header.xmax.0 == 0) ≡ b → cond b None (Some v.header.xmax.0) ≡ Some x → (v.header.xmax.0 ≢ 0) × (v.header.xmax.0 ≡ x)
-    of true none is = absurd (none-some x is)
-    of false some is = (λ zero'. let yes' = eq-eqb v.header.xmax.0 0 zero' in cc, same_Some v.header.xmax.0 x is)
-
-pub is-deleter : (v : Version) (x : ℕ) → v.header.xmax.0 ≢ 0 → v.header.xmax.0 ≡ x → deleter v ≡ Some x
-is-deleter v x some is = cond-false (v.header.xmax.0 == 0) None (Some v.header.xmax.0) (ne_eqb v.header.xmax.0 0 some) ∙ ap Some is
-
-pub touches-to : (v : Version) (x : ℕ) → search.Touches v.header x → Touches x v
-touches-to v x (search.made unfrozen is) = made_by (is-maker v x unfrozen is)
-touches-to v x (search.deleted some is) = deleted_by (is-deleter v x some is)
-
-pub touches-from : (v : Version) (x : ℕ) → Touches x v → search.Touches v.header x
-touches-from v x (made_by is) = let h = maker-is v x is in search.made h.0 h.1
-touches-from v x (deleted_by is) = let h = deleter-is v x is in search.deleted h.0 h.1
-
--- what is read
-
-reads-to : (w : Window) (s : Snap) (own : List ℕ) (x : ℕ) → visibility.Reads w s own x → Reads (state_of w) (λ x. Sees s w x) own x
-reads-to w s own x (visibility.by_itself mine) = by_itself mine
-reads-to w s own x (visibility.by_others sees done) = by_others sees (committed-from w x done)
-
-reads-from : (w : Window) (s : Snap) (own : List ℕ) (x : ℕ) → Reads (state_of w) (λ x. Sees s w x) own x → visibility.Reads w s own x
-reads-from w s own x (by_itself mine) = visibility.by_itself mine
-reads-from w s own x (by_others sees done) = visibility.by_others sees (committed-to w x done)
-
-pub visible-to : (w : Window) (s : Snap) (own : List ℕ) (v : Version) → visibility.IsVisible w s own v.header → IsVisible (state_of w) (λ x. Sees s w x) own v
-visible-to w s own v h = record {
-  made = λ x is. let m = maker-is v x is in elim h.made [
-    | inl frozen ↦ absurd (m.0 frozen)
-    | inr read ↦ subst (λ y. Reads (state_of w) (λ x. Sees s w x) own y) m.1 (reads-to w s own v.header.xmin.0 read)
-  ];
-  kept = λ x is read. let d = deleter-is v x is in h.kept d.0 (reads-from w s own v.header.xmax.0 (subst (λ y. Reads (state_of w) (λ x. Sees s w x) own y) (sym d.1) read));
-}
-
-pub visible-from : (w : Window) (s : Snap) (own : List ℕ) (v : Version) → IsVisible (state_of w) (λ x. Sees s w x) own v → visibility.IsVisible w s own v.header
-visible-from w s own v h = record {
-  made = elim (cases_Bool (is_frozen v.header)) [
-    | inl frozen ↦ inl frozen
-    | inr thawed ↦ inr (reads-from w s own v.header.xmin.0 (h.made v.header.xmin.0 (cond-false (is_frozen v.header) None (Some v.header.xmin.0) thawed)))
-  ];
-  kept = λ some read. h.kept v.header.xmax.0 (is-deleter v v.header.xmax.0 some refl) (reads-to w s own v.header.xmax.0 read);
-}
 
 -- What the searches find. Where the entries are sound, it is what stands on the heap.
 
@@ -124,25 +65,25 @@ FoundIn st e key (Some p) = (t : Version) × IsTarget st e key p t
 pub place-to : (st : State) (w : World) (s : ℕ) (e : Session) (key : ℕ) (found : Option Tid) → Agrees st w → session_at st s ≡ Some e → FindsPlace st.heap e key found → FoundIn st e key found
 place-to st w s e key None agrees at finds = λ p v there seen is.
     place-on_heap key_value st.heap.table (horizon_of st) (slots_of st.heap) (entries_in st.heap.indexes 0) e.snapshot e.own.ids (by-key st agrees.sound) (own-active st w s e agrees at) (pos key) key None finds p v
-    (record { there = there; of_value = ap (λ n. pos n) is; of_key = is; has = visible-from st.heap.table e.snapshot e.own.ids v seen })
+    (record { there = there; of_value = ap (λ n. pos n) is; of_key = is; has = seen })
 place-to st w s e key (Some p) agrees at finds =
     let h = place-on_heap key_value st.heap.table (horizon_of st) (slots_of st.heap) (entries_in st.heap.indexes 0) e.snapshot e.own.ids (by-key st agrees.sound) (own-active st w s e agrees at) (pos key) key (Some p) finds in
-    (h.0, record { there = h.1.there; of_key = h.1.of_key; seen = visible-to st.heap.table e.snapshot e.own.ids h.0 h.1.has })
+    (h.0, record { there = h.1.there; of_key = h.1.of_key; seen = h.1.has })
 
 pub row-to : (st : State) (w : World) (s : ℕ) (e : Session) (key : ℕ) (found : Option Row) → Agrees st w → session_at st s ≡ Some e
     → FirstFound st.heap.table (visibility.IsVisible st.heap.table e.snapshot e.own.ids) (slots_of st.heap) (entries_in st.heap.indexes 0) (pos key) key found
     → Finds (seen st).version (IsVisible (state_of st.heap.table) (λ x. Sees e.snapshot st.heap.table x) e.own.ids) key found
 row-to st w s e key None agrees at finds = λ p v there seen is.
     found-on_heap key_value st.heap.table (horizon_of st) (slots_of st.heap) (entries_in st.heap.indexes 0) e.snapshot e.own.ids (by-key st agrees.sound) (own-active st w s e agrees at) (pos key) key None finds p v
-    (record { there = there; of_value = ap (λ n. pos n) is; of_key = is; has = visible-from st.heap.table e.snapshot e.own.ids v seen })
+    (record { there = there; of_value = ap (λ n. pos n) is; of_key = is; has = seen })
 row-to st w s e key (Some row) agrees at finds =
     let h = found-on_heap key_value st.heap.table (horizon_of st) (slots_of st.heap) (entries_in st.heap.indexes 0) e.snapshot e.own.ids (by-key st agrees.sound) (own-active st w s e agrees at) (pos key) key (Some row) finds in
-    (h.0, h.1, h.2.there, h.2.of_key, (visible-to st.heap.table e.snapshot e.own.ids h.1 h.2.has, h.3))
+    (h.0, h.1, h.2.there, h.2.of_key, (h.2.has, h.3))
 
 pub late-to : (st : State) (w : World) (e : Session) (key x : ℕ) → Agrees st w → IsLateBy st.heap e key x → IsLateFor (seen st) (reader_of e) key
 late-to st w e key x agrees late =
     let h = (missed-on_heap key_value st.heap.table (horizon_of st) (slots_of st.heap) (entries_in st.heap.indexes 0) e.snapshot x (by-key st agrees.sound) (pos key) key).0 late in
-    (h.0, h.1, h.2.there, h.2.of_key, (x, touches-to h.1 x h.2.has.touch, committed-from st.heap.table x h.2.has.done, h.2.has.unseen))
+    (h.0, h.1, h.2.there, h.2.of_key, (x, h.2.has))
 
 pub not-late : (st : State) (w : World) (e : Session) (key : ℕ) → Agrees st w → ((x : ℕ) → ¬ IsLateBy st.heap e key x) → ¬ IsLateFor (seen st) (reader_of e) key
 not-late st w e key agrees timely some =
@@ -154,14 +95,14 @@ not-late st w e key agrees timely some =
         there = some.2;
         of_value = ap (λ n. pos n) some.3;
         of_key = some.3;
-        has = record { touch = touches-from some.1 x some.4.1; done = committed-to st.heap.table x some.4.2; unseen = some.4.3 };
+        has = some.4.1;
       },
     ))
 
-pub held-to : (st : State) (w : World) (e : Session) (key x : ℕ) → Agrees st w → IsActive (state_of st.heap.table) x → IsHeldUnder st.heap e key x → IsHeldBy (seen st) (reader_of e) key x
-held-to st w e key x agrees active held =
+pub held-to : (st : State) (w : World) (e : Session) (key x : ℕ) → Agrees st w → IsHeldUnder st.heap e key x → IsHeldBy (seen st) (reader_of e) key x
+held-to st w e key x agrees held =
     let h = (foreign-on_heap key_value st.heap.table (horizon_of st) (slots_of st.heap) (entries_in st.heap.indexes 0) e.own.ids x (by-key st agrees.sound) (pos key) key).0 held in
-    (h.0, h.1, h.2.there, h.2.of_key, record { touch = touches-to h.1 x h.2.has.touch; active = active; foreign = h.2.has.foreign })
+    (h.0, h.1, h.2.there, h.2.of_key, h.2.has)
 
 held-from : (st : State) (w : World) (e : Session) (key x : ℕ) → Agrees st w → IsHeldBy (seen st) (reader_of e) key x → IsHeldUnder st.heap e key x
 held-from st w e key x agrees some =
@@ -172,20 +113,15 @@ held-from st w e key x agrees some =
         there = some.2;
         of_value = ap (λ n. pos n) some.3;
         of_key = some.3;
-        has = record { touch = touches-from some.1 x some.4.touch; active = (active-to st.heap.table x some.4.active).unfinished; foreign = some.4.foreign };
+        has = some.4;
       },
     )
-
-placed : (o : Option ℕ) (s : Status) → IsSome (option_map (λ _. s) o) → IsSome o
-placed None s known = cc
-placed (Some i) s known = refl
 
 -- an id in progress on a page is some session's
 not-nobodys : (st : State) (w : World) (e : Session) (key x : ℕ) → Agrees st w → IsHeldUnder st.heap e key x → IsNobodys st x → ⊥
 not-nobodys st w e key x agrees held nobody =
     let h = (foreign-on_heap key_value st.heap.table (horizon_of st) (slots_of st.heap) (entries_in st.heap.indexes 0) e.own.ids x (by-key st agrees.sound) (pos key) key).0 held in
-    let given = placed (place st.heap.table x) (status_of st.heap.table x) (agrees.found.given h.0 x h.1 h.2.there (touches-to h.1 x h.2.has.touch)) in
-    let by = agrees.found.owned x (state-is st.heap.table x InProgress given h.2.has.active) in
+    let by = agrees.found.owned x h.2.has.active in
     let f = reader-at st by.0 by.1 by.2 in
     nobody by.0 f.0 f.1 (subst (λ (r : relation.Session). Contains r.own x) (sym f.2) by.3)
 

@@ -18,7 +18,6 @@ use Rattle.session_core.specs.declared.session.Session.{Session}
 use Rattle.session_core.specs.declared.cursor.Cursor.TheVariants.{Heap}
 use Rattle.session_core.specs.State.{State, seen}
 use Rattle.session_core.specs.Takes.{seen_by, IsAtEnd, IsNotAtEnd, SomeStands, AreBare, TakesAll, TakesPage}
-use Rattle.session_core.proofs.Searches.{visible-to, visible-from}
 
 -- Where versions stand.
 
@@ -54,10 +53,10 @@ NoneIsSeen st e page slot = NoneSeen (visibility.IsVisible st.heap.table e.snaps
 
 pub seen-stands : (st : State) (e : Session) (page slot : ℕ) (row : Row) → IsSeen st e page slot row → StandsOn st e page slot row
 seen-stands st e page slot row is =
-    record { version = is.version; here = is.there; shown = visible-to st.heap.table e.snapshot e.own.ids is.version is.shown; same_row = sym is.is_row }
+    record { version = is.version; here = is.there; shown = is.shown; same_row = sym is.is_row }
 
 pub none-stands : (st : State) (e : Session) (page slot : ℕ) → NoneIsSeen st e page slot → (row : Row) → ¬ StandsOn st e page slot row
-none-stands st e page slot none row stands = none stands.version stands.here (visible-from st.heap.table e.snapshot e.own.ids stands.version stands.shown)
+none-stands st e page slot none row stands = none stands.version stands.here stands.shown
 
 -- A page.
 

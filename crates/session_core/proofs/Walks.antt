@@ -30,7 +30,7 @@ use Rattle.session_core.specs.declared.session.Session.{Session}
 use Rattle.session_core.specs.State.{State, session_at, seen, mark_of, horizon_of}
 use Rattle.session_core.specs.Agrees.{Agrees}
 use Rattle.session_core.specs.Takes.{seen_by}
-use Rattle.session_core.proofs.Searches.{own-active, visible-to, visible-from}
+use Rattle.session_core.proofs.Searches.{own-active}
 
 -- Places in the order of an index.
 
@@ -132,7 +132,7 @@ module _ (st : State) (w : World) (s : ℕ) (e : Session) (agrees : Agrees st w)
         place = h.0;
         version = h.1;
         here = h.2.there;
-        shown = visible-to st.heap.table e.snapshot e.own.ids h.1 h.2.has;
+        shown = h.2.has;
         same_row = sym h.3;
         of_value = ap (value_in index) h.3 ∙ h.2.of_value;
         of_key = ap (λ (r : Row). r.key) h.3 ∙ h.2.of_key;
@@ -145,13 +145,13 @@ module _ (st : State) (w : World) (s : ℕ) (e : Session) (agrees : Agrees st w)
         there = shows.here;
         of_value = ap (value_in index) shows.same_row ∙ shows.of_value;
         of_key = ap (λ (r : Row). r.key) shows.same_row ∙ shows.of_key;
-        has = visible-from st.heap.table e.snapshot e.own.ids shows.version shows.shown;
+        has = shows.shown;
       })
 
   has-entry : (p : Tid) (v : Version) → At (seen st).version p v → seen_by st e v → HasEntry st index v.row
   has-entry p v here shown =
       let i = (visible-found (value_in index) st.heap.table (horizon_of st) (slots_of st.heap) (entries_in st.heap.indexes index) sound-in e.snapshot e.own.ids (own-active st w s e agrees at) (value_in index v.row) v.row.key p v).0
-      (record { there = here; of_value = refl; of_key = refl; has = visible-from st.heap.table e.snapshot e.own.ids v shown }) in
+      (record { there = here; of_value = refl; of_key = refl; has = shown }) in
       record { entry = i.entry; there = i.leads.there; value = sym i.of.0; key = sym i.of.1 }
 
 module _ (st : State) (w : World) (s : ℕ) (e : Session) (agrees : Agrees st w) (at : session_at st s ≡ Some e) (span : Span) (used : IsInUse st.heap.indexes span.index) where

@@ -19,40 +19,13 @@ use Rattle.snapshot.specs.Snap.{Snap, Sees, SeesAlone, tested, is_before}
 use Rattle.snapshot.specs.Laws.{IsBounded, IsBetween, IsInWindow}
 use Rattle.snapshot.proofs.Sights.{sees-top}
 use Rattle.snapshot.proofs.Earliest.{before-precedes, precedes-before}
+use Rattle.visibility.specs.Visible.{state_of}
+use Rattle.visibility.proofs.Makers.{state-some, state-is, active-from}
 use Rattle.heap_write.specs.Writes.{GivesUnder}
 use Rattle.heap_write.proofs.GivenIds.{given-window, given-first, given-upto, given-top_old, next-turn}
-use Rattle.session_relation.specs.Visible.{IsCommitted, IsActive}
+use Rattle.visibility.specs.Seeing.{IsCommitted, IsActive}
 use Rattle.session_relation.specs.Changes.{Gives, GivesEach, Finishes, SameSight}
 use Rattle.session_relation.proofs.Steps.{cases_Contains}
-use Rattle.session_core.specs.State.{state_of}
-
--- the status of an id of the window
-
-mapped-some : (o : Option ℕ) (a b : Status) → option_map (λ _. a) o ≡ Some b → IsSome o × (a ≡ b)
-mapped-some None a b is = absurd (none-some b is)
-mapped-some (Some i) a b is = (refl, same_Some a b is)
-
-mapped-is : (o : Option ℕ) (a b : Status) → IsSome o → a ≡ b → option_map (λ _. a) o ≡ Some b
-mapped-is None a b some same = cc
-mapped-is (Some i) a b some same = ap Some same
-
-pub state-some : (w : Window) (x : ℕ) (s : Status) → state_of w x ≡ Some s → IsGiven w x × (status_of w x ≡ s)
-state-some w x s is = mapped-some (place w x) (status_of w x) s is
-
-pub state-is : (w : Window) (x : ℕ) (s : Status) → IsGiven w x → status_of w x ≡ s → state_of w x ≡ Some s
-state-is w x s given same = mapped-is (place w x) (status_of w x) s given same
-
-pub active-to : (w : Window) (x : ℕ) → IsActive (state_of w) x → window.IsActive w x
-active-to w x is = let h = state-some w x InProgress is in record { is_given = h.0; unfinished = h.1 }
-
-pub active-from : (w : Window) (x : ℕ) → window.IsActive w x → IsActive (state_of w) x
-active-from w x h = state-is w x InProgress h.is_given h.unfinished
-
-pub committed-to : (w : Window) (x : ℕ) → IsCommitted (state_of w) x → window.IsCommitted w x
-committed-to w x is = (state-some w x Committed is).1
-
-pub committed-from : (w : Window) (x : ℕ) → window.IsCommitted w x → IsCommitted (state_of w) x
-committed-from w x is = let at = finished-place w x (λ active. cc) in state-is w x Committed (is-from_some (place w x) at.0 at.1) is
 
 -- an id is given
 

@@ -7,6 +7,7 @@ use Rattle.tuple_header.specs.Version.{Version, rounded_size_of}
 use Rattle.commit_status.specs.Window.{Window, IsWindow, IsActive}
 use Rattle.snapshot.specs.Own.{Own}
 use Rattle.snapshot.specs.Snap.{Sees}
+use Rattle.visibility.proofs.Makers.{active-to}
 use Rattle.sound_entries.specs.Pages.{version_in}
 use Rattle.heap_write.specs.declared.heap.WriteFault.{WriteFault}
 use Rattle.heap_write.specs.declared.heap.WriteFault.TheVariants as fault
@@ -34,14 +35,14 @@ use Rattle.session_relation.proofs.Targets as targets
 use Rattle.session_relation.proofs.GivenBelow.{visible_given_each}
 use Rattle.session_relation.proofs.FollowsWrites.{insert_done, update_done, delete_done}
 use Rattle.session_core.specs.declared.session.Session.{Session}
-use Rattle.session_core.specs.State.{State, session_at, seen, seen_in, state_of, reader_of, horizon_of}
+use Rattle.visibility.specs.Visible.{state_of}
+use Rattle.session_core.specs.State.{State, session_at, seen, seen_in, reader_of, horizon_of}
 use Rattle.session_core.specs.Agrees.{Agrees, Follows, StaysLed}
 use Rattle.session_core.specs.Tests.{MayWrite}
 use Rattle.session_core.specs.Writes.{SameSession, TriesInsert, TriesUpdate, TriesDelete, reply_for}
 use Rattle.session_core.specs.Exact.{InsertTried, UpdateTried, DeleteTried}
 use Rattle.session_core.specs.Follows.{FollowsInsert, FollowsUpdate}
 use Rattle.session_core.proofs.InUse.{agree}
-use Rattle.session_core.proofs.Windows.{active-to}
 use Rattle.session_core.proofs.Owns.{reader-is}
 use Rattle.session_core.proofs.Searches.{IsTarget, begins-none, begins-some, target-of, free-with}
 use Rattle.session_core.proofs.Cleaned.{removes-past}

@@ -2,8 +2,8 @@
 use Rattle.std.specs.Prelude.{ℕ, true, List, [], ◌∷◌, ◌++◌, take, Option, Some, None, slice_get, slice_set}
 use Rattle.std.specs.Option.{option_map, option_flatten}
 use Rattle.snapshot.specs.Snap.{Sees, earliest}
-use Rattle.commit_status.specs.declared.status.Status.{Status}
-use Rattle.commit_status.specs.Window.{Window, place, status_of, next_id}
+use Rattle.commit_status.specs.Window.{Window, next_id}
+use Rattle.visibility.specs.Visible.{state_of}
 use Rattle.page_slots.specs.declared.slot.Slot.{Slot}
 use Rattle.root_index.specs.View.{IndexView}
 use Rattle.heap_write.specs.Indexes as indexes
@@ -29,10 +29,6 @@ session_at st s = option_flatten (slice_get st.sessions s)
 -- the index of this number, if there is one
 abbrev pub index_at : State → ℕ → Option IndexView
 index_at st number = indexes.index_at st.heap.indexes number
-
--- what became of an id of the window
-abbrev pub state_of : Window → ℕ → Option Status
-state_of w x = option_map (λ _. status_of w x) (place w x)
 
 -- how far the cursor has got, as the relation has it
 abbrev pub mark_of : Option Mark → Option relation.Mark

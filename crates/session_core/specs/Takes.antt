@@ -12,7 +12,8 @@ use Rattle.session_relation.specs.Cursors.{Comes, Meets, Stands, Gathers}
 use Rattle.session_core.specs.declared.session.Session.{Session}
 use Rattle.session_core.specs.declared.cursor.Cursor.{Cursor}
 use Rattle.session_core.specs.declared.cursor.Cursor.TheVariants.{Index, Heap}
-use Rattle.session_core.specs.State.{State, session_at, seen, state_of, mark_of, put_session, with_cursor}
+use Rattle.visibility.specs.Visible.{state_of}
+use Rattle.session_core.specs.State.{State, session_at, seen, mark_of, put_session, with_cursor}
 use Rattle.session_core.specs.Agrees.{Agrees}
 
 -- the versions that the session sees

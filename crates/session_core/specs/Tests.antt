@@ -2,8 +2,8 @@
 use Rattle.heap_write.specs.Indexes.{entries_in}
 use Rattle.std.specs.Prelude.{◌≡◌, ◌<◌, ℕ, pos, Option, Some, None, false, Contains}
 use Rattle.xid_circle.specs.declared.Tid.{Tid}
-use Rattle.visibility.specs.Visible.{IsVisible}
-use Rattle.sound_entries.specs.Looking.{FirstPlace, SomeOf, IsMissed, IsForeign}
+use Rattle.visibility.specs.Visible.{IsVisible, IsForeignIn, IsMissedIn}
+use Rattle.sound_entries.specs.Looking.{FirstPlace, SomeOf}
 use Rattle.heap_write.specs.Heap.{HeapView, slots_of}
 use Rattle.session_relation.specs.declared.reply.Refusal.{Refusal}
 use Rattle.session_relation.specs.declared.reply.Refusal.TheVariants.{AlreadyThere, NotThere, Conflict, Busy}
@@ -16,11 +16,11 @@ FindsPlace h e key found = FirstPlace h.table (IsVisible h.table e.snapshot e.ow
 
 -- a commit that the session does not see wrote the key, by this id
 abbrev pub IsLateBy : HeapView → Session → ℕ → ℕ → Type 0
-IsLateBy h e key x = SomeOf h.table (IsMissed h.table e.snapshot x) (slots_of h) (entries_in h.indexes 0) (pos key) key
+IsLateBy h e key x = SomeOf h.table (IsMissedIn h.table e.snapshot x) (slots_of h) (entries_in h.indexes 0) (pos key) key
 
 -- another session has written it, under this id
 abbrev pub IsHeldUnder : HeapView → Session → ℕ → ℕ → Type 0
-IsHeldUnder h e key x = SomeOf h.table (IsForeign h.table e.own.ids x) (slots_of h) (entries_in h.indexes 0) (pos key) key
+IsHeldUnder h e key x = SomeOf h.table (IsForeignIn h.table e.own.ids x) (slots_of h) (entries_in h.indexes 0) (pos key) key
 
 -- no open session has the id
 abbrev pub IsNobodys : State → ℕ → Type 0

@@ -15,12 +15,13 @@ use Rattle.history.specs.World.{World, OpenSession, joined, own_write}
 use Rattle.history.specs.Moves.{aborted, transaction_of, committed_by, appended}
 use Rattle.history.proofs.HistoryLemmas.{at_same, at_other, committed-push_all}
 use Rattle.session_relation.specs.Heap.{Session, Heap}
-use Rattle.session_relation.specs.Visible.{IsCommitted, Sees, Reads, by_itself, by_others, VisibleBy, IsVisible, Touches, At}
+use Rattle.visibility.specs.Seeing.{IsCommitted, Reads, by_itself, by_others, VisibleBy, Touches}
+use Rattle.session_relation.specs.Visible.{IsVisible, At}
 use Rattle.session_relation.specs.Changes.{Finishes}
 use Rattle.session_relation.specs.Agrees.{ReaderAgrees, Traced, SessionAgrees, Agrees}
 use Rattle.session_relation.proofs.ShowsLemmas.{Shows-by_key}
 use Rattle.session_relation.proofs.Statuses.{IsCommitted-finish_old, IsCommitted-commit_cases, IsCommitted-commit, IsActive-finish, given-finish}
-use Rattle.session_relation.proofs.Versions.{VisibleBy-same}
+use Rattle.visibility.proofs.Verdicts.{VisibleBy-same}
 use Rattle.session_relation.proofs.Readers.{Levels-top}
 use Rattle.session_relation.proofs.Others.{SessionAgrees-commit_other}
 use Rattle.session_relation.proofs.SessionsLemmas.{opened-change, idle-change, owned-change, apart-change, alone-change}
@@ -50,7 +51,7 @@ committed-is w s m there = ap (λ history. world history) (ap (appended w.histor
 
 pub Agrees-commit : (h : Heap) (w : World) (s : ℕ) (e : Session) (m : OpenSession) (status' : ℕ → Option Status) (sees' : Snap → ℕ → Type 0) (session' : ℕ → Option Session)
     → OnlyIs h.session session' s None → h.session s ≡ Some e → w.session s ≡ Some m
-    → Finishes h.status status' (λ x. Contains e.own x) Committed → SameSights h sees' → ((x : ℕ) → Sees (h.sees e.snapshot) x ⊎ (¬ Sees (h.sees e.snapshot) x))
+    → Finishes h.status status' (λ x. Contains e.own x) Committed → SameSights h sees' → ((x : ℕ) → h.sees e.snapshot x ⊎ (¬ h.sees e.snapshot x))
     → SessionAgrees h.status h.version w.history (h.sees e.snapshot) m.start (h.sees e.snapshot) e m
     → Agrees h w → Agrees (record h { status = status'; sees = sees'; session = session' }) (with_transaction w s m)
 Agrees-commit h w s e m status' sees' session' only at there finishes same decided mine agrees = record {
@@ -91,36 +92,36 @@ Agrees-commit h w s e m status' sees' session' only at there finishes same decid
     rows-after k = committed-push_all w.history (transaction_of m) k
 
     -- the versions of a key that the session wrote: a new session sees those that it saw itself
-    seen_by_it : (p : Tid) (y : ℕ) (v : Version) → At h.version p v → IsSome (own_write m v.row.key) → Touches y v → IsCommitted h.status y → Sees (h.sees e.snapshot) y
-    seen_by_it p y v at' ours touch done = seen_or_not (Sees (h.sees e.snapshot) y) (decided y) (λ unseen. mine.in_time v.row.key ours (mine.traces.missed_late p v at' (y, touch, done, unseen)))
+    seen_by_it : (p : Tid) (y : ℕ) (v : Version) → At h.version p v → IsSome (own_write m v.row.key) → Touches y v.header → IsCommitted h.status y → h.sees e.snapshot y
+    seen_by_it p y v at' ours touch done = seen_or_not (h.sees e.snapshot y) (decided y) (λ unseen. mine.in_time v.row.key ours (mine.traces.missed_late p v at' (y, (touch, done, unseen))))
 
     to : (y : ℕ) → Reads h.status (h.sees e.snapshot) e.own y → IsCommitted status' y
     to y (by_itself ours) = IsCommitted-commit finishes y ours
     to y (by_others seen done) = IsCommitted-finish_old finishes y done
 
-    back : (p : Tid) (y : ℕ) (v : Version) → At h.version p v → IsSome (own_write m v.row.key) → Touches y v → IsCommitted status' y → Reads h.status (h.sees e.snapshot) e.own y
+    back : (p : Tid) (y : ℕ) (v : Version) → At h.version p v → IsSome (own_write m v.row.key) → Touches y v.header → IsCommitted status' y → Reads h.status (h.sees e.snapshot) e.own y
     back p y v at' ours touch done = elim (IsCommitted-commit_cases finishes y done) [
       | inl own ↦ by_itself own
       | inr old ↦ by_others (seen_by_it p y v at' ours touch old) old
     ]
 
-    ours_to : (p : Tid) (v : Version) → At h.version p v → IsSome (own_write m v.row.key) → IsVisible h.status (h.sees e.snapshot) e.own v → VisibleBy (IsCommitted status') v
+    ours_to : (p : Tid) (v : Version) → At h.version p v → IsSome (own_write m v.row.key) → IsVisible h.status (h.sees e.snapshot) e.own v → VisibleBy (IsCommitted status') v.header
     ours_to p v at' ours seen = VisibleBy-same (λ y touch r. to y r) (λ y touch r. back p y v at' ours touch r) seen
 
-    ours_back : (p : Tid) (v : Version) → At h.version p v → IsSome (own_write m v.row.key) → VisibleBy (IsCommitted status') v → IsVisible h.status (h.sees e.snapshot) e.own v
+    ours_back : (p : Tid) (v : Version) → At h.version p v → IsSome (own_write m v.row.key) → VisibleBy (IsCommitted status') v.header → IsVisible h.status (h.sees e.snapshot) e.own v
     ours_back p v at' ours seen = VisibleBy-same (λ y touch r. back p y v at' ours touch r) (λ y touch r. to y r) seen
 
     -- of any other key: those that it saw before
-    untouched : (p : Tid) (y : ℕ) (v : Version) → At h.version p v → is_some (own_write m v.row.key) ≡ false → Touches y v → IsCommitted status' y → IsCommitted h.status y
+    untouched : (p : Tid) (y : ℕ) (v : Version) → At h.version p v → is_some (own_write m v.row.key) ≡ false → Touches y v.header → IsCommitted status' y → IsCommitted h.status y
     untouched p y v at' theirs touch done = elim (IsCommitted-commit_cases finishes y done) [
       | inl own ↦ absurd (both_ways (is_some (own_write m v.row.key)) theirs (carries.there_written p v at' (y, touch, own)))
       | inr old ↦ old
     ]
 
-    theirs_to : (p : Tid) (v : Version) → At h.version p v → is_some (own_write m v.row.key) ≡ false → VisibleBy (IsCommitted h.status) v → VisibleBy (IsCommitted status') v
+    theirs_to : (p : Tid) (v : Version) → At h.version p v → is_some (own_write m v.row.key) ≡ false → VisibleBy (IsCommitted h.status) v.header → VisibleBy (IsCommitted status') v.header
     theirs_to p v at' theirs seen = VisibleBy-same (λ y touch r. IsCommitted-finish_old finishes y r) (λ y touch r. untouched p y v at' theirs touch r) seen
 
-    theirs_back : (p : Tid) (v : Version) → At h.version p v → is_some (own_write m v.row.key) ≡ false → VisibleBy (IsCommitted status') v → VisibleBy (IsCommitted h.status) v
+    theirs_back : (p : Tid) (v : Version) → At h.version p v → is_some (own_write m v.row.key) ≡ false → VisibleBy (IsCommitted status') v.header → VisibleBy (IsCommitted h.status) v.header
     theirs_back p v at' theirs seen = VisibleBy-same (λ y touch r. untouched p y v at' theirs touch r) (λ y touch r. IsCommitted-finish_old finishes y r) seen
 
     models : (o : ℕ) → o ≢ s → w'.session o ≡ w.session o

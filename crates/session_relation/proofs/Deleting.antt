@@ -11,7 +11,8 @@ use Rattle.history.specs.World.{World, OpenSession, joined, own_write, Holds}
 use Rattle.history.specs.Moves.{put, without_row}
 use Rattle.history.proofs.HistoryLemmas.{at_same, at_other, joined-add_write}
 use Rattle.session_relation.specs.Heap.{Session, Heap}
-use Rattle.session_relation.specs.Visible.{IsCommitted, IsActive, by_others, VisibleBy, IsVisible, Touches, made_by, deleted_by, deleter}
+use Rattle.visibility.specs.Seeing.{IsCommitted, IsActive, by_others, VisibleBy, Touches, made_by, deleted_by, deleter}
+use Rattle.session_relation.specs.Visible.{IsVisible}
 use Rattle.session_relation.specs.Changes.{Alters}
 use Rattle.session_relation.specs.Agrees.{SessionAgrees, Agrees}
 use Rattle.session_relation.proofs.ShowsLemmas.{Shows-alter_same}
@@ -43,11 +44,11 @@ Agrees-delete h w s e m x place old new store' alters deleted at current there b
   waits = waits-put w s agrees.waits;
   current = Shows-alter_same alters deleted.same_row still before (λ p v bt seen. seen) (λ p v bt seen. seen) agrees.current;
   made = λ p y v bt is done. elim (Alters-cases alters p v bt) [
-    | inl same ↦ (let by : deleter v ≡ Some x = ap (λ (u : Version). deleter u) same.1 ∙ deleted.by in absurd (not_by y (sym is ∙ by) done))
+    | inl same ↦ (let by : deleter v.header ≡ Some x = ap (λ (u : Version). deleter u.header) same.1 ∙ deleted.by in absurd (not_by y (sym is ∙ by) done))
     | inr other ↦ agrees.made p y v other.1 is done
   ];
   given = λ p y v bt touch. elim (Alters-cases alters p v bt) [
-    | inl same ↦ known y (subst (λ (u : Version). Touches y u) same.1 touch)
+    | inl same ↦ known y (subst (λ (u : Version). Touches y u.header) same.1 touch)
     | inr other ↦ agrees.given p y v other.1 touch
   ];
   owned = agrees.owned;
@@ -80,18 +81,18 @@ Agrees-delete h w s e m x place old new store' alters deleted at current there b
     models o ne = at_other o s (Some (without_row old.row.key m)) (w.session o) ne
 
     -- what deleted it before, if anything did, was rolled back
-    dead : (y : ℕ) → deleter old ≡ Some y → ¬ IsCommitted h.status y
-    dead y is done = in_time (mine.traces.missed_late place old alters.before (y, deleted_by is, done, λ sees. seen.kept y is (by_others sees done)))
+    dead : (y : ℕ) → deleter old.header ≡ Some y → ¬ IsCommitted h.status y
+    dead y is done = in_time (mine.traces.missed_late place old alters.before (y, (deleted_by is, done, λ sees. seen.kept y is (by_others sees done))))
 
     not_by : (y : ℕ) → Some y ≡ Some x → ¬ IsCommitted h.status y
     not_by y is done = active_not_committed h.status x active (subst (λ z. IsCommitted h.status z) (same_Some y x is) done)
 
-    still : VisibleBy (IsCommitted h.status) old → VisibleBy (IsCommitted h.status) new
+    still : VisibleBy (IsCommitted h.status) old.header → VisibleBy (IsCommitted h.status) new.header
     still v = record { made = λ y is. v.made y (sym deleted.same_maker ∙ is); kept = λ y is done. not_by y (sym is ∙ deleted.by) done }
 
-    before : VisibleBy (IsCommitted h.status) new → VisibleBy (IsCommitted h.status) old
+    before : VisibleBy (IsCommitted h.status) new.header → VisibleBy (IsCommitted h.status) old.header
     before v = record { made = λ y is. v.made y (deleted.same_maker ∙ is); kept = dead }
 
-    known : (y : ℕ) → Touches y new → IsSome (h.status y)
+    known : (y : ℕ) → Touches y new.header → IsSome (h.status y)
     known y (made_by is) = agrees.given place y old alters.before (made_by (sym deleted.same_maker ∙ is))
     known y (deleted_by is) = subst (λ z. IsSome (h.status z)) (same_Some x y (sym deleted.by ∙ is)) (some_of InProgress (h.status x) active)

@@ -16,7 +16,7 @@ use Rattle.session_relation.specs.declared.reply.Refusal.{Refusal}
 use Rattle.session_relation.specs.declared.reply.Refusal.TheVariants.{NotOpen, AlreadyOpen, Failed, AlreadyThere, NotThere, Conflict, Busy, CursorOpen, NoCursor, TooDeep, NoSavepoint, TooLarge, NoRoom, NeedsFreeze, NoMemory, NoSuchPage, NoSuchIndex, NoSuchSession, BadBounds}
 use Rattle.session_relation.specs.Allowed.{AllowsClosed, AllowsUnready, AllowsBarred, AllowsBare, Allows}
 use Rattle.session_relation.specs.Heap.{Session, Heap}
-use Rattle.session_relation.specs.Visible.{IsFresh, IsVisible, Sees}
+use Rattle.session_relation.specs.Visible.{IsFresh, IsVisible}
 use Rattle.session_relation.specs.Changes.{Finishes, Removes, IsPast}
 use Rattle.session_relation.specs.Agrees.{Agrees, Shows}
 use Rattle.session_relation.specs.Finds.{Finds, Follows}
@@ -235,7 +235,7 @@ Follows-commit_failed h s e status' sees' session' only at failed finishes same 
     ((open_.0, open_.1, sym open_.2.same_failed ∙ failed), Agrees-abort h w s e status' sees' session' only at (finishes w agrees) same agrees)
 
 pub Follows-commit : (h : Heap) (s : ℕ) (e : Session) (status' : ℕ → Option Status) (sees' : Snap → ℕ → Type 0) (session' : ℕ → Option Session)
-    → OnlyIs h.session session' s None → h.session s ≡ Some e → e.failed ≡ false → ((w : World) → Agrees h w → Finishes h.status status' (λ x. Contains e.own x) Committed) → SameSights h sees' → ((x : ℕ) → Sees (h.sees e.snapshot) x ⊎ (¬ Sees (h.sees e.snapshot) x))
+    → OnlyIs h.session session' s None → h.session s ≡ Some e → e.failed ≡ false → ((w : World) → Agrees h w → Finishes h.status status' (λ x. Contains e.own x) Committed) → SameSights h sees' → ((x : ℕ) → h.sees e.snapshot x ⊎ (¬ h.sees e.snapshot x))
     → Follows h (Commit s) reply.Committed (record h { status = status'; sees = sees'; session = session' })
 Follows-commit h s e status' sees' session' only at sound finishes same decided w agrees = let open_ = agrees.opened s e at in (
   (open_.0, record { there = open_.1; sound = sym open_.2.same_failed ∙ sound }),

@@ -12,11 +12,11 @@ use Rattle.snapshot.specs.Snap.{Snap}
 use Rattle.history.specs.World.{World}
 use Rattle.history.proofs.HistoryLemmas.{at_same, at_other}
 use Rattle.session_relation.specs.Heap.{Session, Heap}
-use Rattle.session_relation.specs.Visible.{Sees, IsVisible, At}
+use Rattle.session_relation.specs.Visible.{IsVisible, At}
 use Rattle.session_relation.specs.Changes.{Gives, GivesEach, with_id, with_ids}
 use Rattle.session_relation.specs.Agrees.{Agrees}
 use Rattle.session_relation.proofs.Statuses.{Reads-status}
-use Rattle.session_relation.proofs.Versions.{VisibleBy-same}
+use Rattle.visibility.proofs.Verdicts.{VisibleBy-same}
 use Rattle.session_relation.proofs.Steps.{OnlyIs, SameSights, same_sights, Agrees-give_below}
 use Rattle.session_relation.proofs.Sights.{Agrees-sights}
 use Rattle.session_relation.proofs.Follows.{Agrees-sessions}
@@ -26,7 +26,7 @@ use Rattle.session_relation.proofs.Targets.{visible_given}
 
 -- no open session sees the ids
 abbrev pub AreUnseen : Heap → (Snap → ℕ → Type 0) → List ℕ → Type 0
-AreUnseen h sees' xs = (x : ℕ) → Contains xs x → (o : ℕ) (f : Session) → h.session o ≡ Some f → ¬ Sees (sees' f.snapshot) x
+AreUnseen h sees' xs = (x : ℕ) → Contains xs x → (o : ℕ) (f : Session) → h.session o ≡ Some f → ¬ sees' f.snapshot x
 
 -- the engine when the first of them has been given
 abbrev after_first : Heap → ℕ → Session → ℕ → List ℕ → (ℕ → Option Status) → (Snap → ℕ → Type 0) → Heap
@@ -47,7 +47,7 @@ module _ (h : Heap) (w : World) (s : ℕ) (e : Session) (x : ℕ) (xs : List ℕ
 
   unseen_first : AreUnseen (after_first h s e x xs between sees') sees' xs
   unseen_first y among o f bt = elim (cases_eq o s) [
-    | inl same ↦ subst (λ (f : Session). ¬ Sees (sees' f.snapshot) y) (same_Some (with_id (length xs) x e) f (sym at_first ∙ (ap (after_first h s e x xs between sees').session (sym same) ∙ bt))) (unseen y later s e at)
+    | inl same ↦ subst (λ (f : Session). ¬ sees' f.snapshot y) (same_Some (with_id (length xs) x e) f (sym at_first ∙ (ap (after_first h s e x xs between sees').session (sym same) ∙ bt))) (unseen y later s e at)
     | inr ne ↦ unseen y later o f (sym (others_first o ne) ∙ bt)
   ]
     where

@@ -14,13 +14,15 @@ use Rattle.history.specs.World.{World, OpenSession, joined}
 use Rattle.history.specs.Moves.{add_write, with_row, without_row, as_failed}
 use Rattle.history.proofs.HistoryLemmas.{IsLate-now, joined-add_write}
 use Rattle.session_relation.specs.Heap.{Session}
-use Rattle.session_relation.specs.Visible.{IsFresh, IsCommitted, IsActive, Sees, Reads, by_itself, by_others, VisibleBy, IsVisible, Touches, At, maker, deleter}
+use Rattle.visibility.specs.Seeing.{IsCommitted, IsActive, Reads, by_itself, by_others, VisibleBy, Touches, maker, deleter}
+use Rattle.session_relation.specs.Visible.{IsFresh, IsVisible, At}
 use Rattle.snapshot.specs.Own.{saved_with}
 use Rattle.session_relation.specs.Changes.{Adds, Alters, Gives, SameSight, with_id}
 use Rattle.session_relation.specs.Agrees.{Shows, ReaderAgrees, LevelsAgree, IsOfNewest, SessionAgrees}
 use Rattle.session_relation.proofs.ShowsLemmas.{Shows-same}
 use Rattle.session_relation.proofs.Statuses.{keeps-give, none_given, IsCommitted-give, IsActive-give_cases}
-use Rattle.session_relation.proofs.Versions.{VisibleBy-same, own-untouched}
+use Rattle.visibility.proofs.Verdicts.{VisibleBy-same}
+use Rattle.session_relation.proofs.Versions.{own-untouched}
 use Rattle.session_relation.proofs.CursorsLemmas.{CursorAgrees-keeps, CursorAgrees-bare, CursorAgrees-none, KeepsSeen-same}
 use Rattle.session_relation.proofs.Readers.{IsNew, IsDeleted, ReaderAgrees-same, ReaderAgrees-add_other, ReaderAgrees-delete_other, ReaderAgrees-insert, ReaderAgrees-delete, Levels-map, Levels-within, Levels-count, wrote_before}
 use Rattle.session_relation.proofs.LevelTraces.{Traced-none, Traced-add_other, Traced-delete_other, Traced-insert, Traced-delete, nested_of, LevelTraces-write, LevelTraces-give}
@@ -88,7 +90,7 @@ SessionAgrees-insert {status} {store} {store'} {history} {sees} {e} {m} x place 
 }
 
 pub SessionAgrees-delete : {status : ℕ → Option Status} {store store' : Tid → Option Version} {history : List Transaction} {sees : ℕ → Type 0} {e : Session} {m : OpenSession} (x : ℕ) (place : Tid) (old new : Version)
-    → Alters store store' place old new → IsDeleted x old new → IsCurrent e x → m.cursor ≡ None → IsVisible status sees e.own old → ¬ IsLate history m.start old.row.key → ((y : ℕ) → deleter old ≡ Some y → ¬ IsCommitted status y)
+    → Alters store store' place old new → IsDeleted x old new → IsCurrent e x → m.cursor ≡ None → IsVisible status sees e.own old → ¬ IsLate history m.start old.row.key → ((y : ℕ) → deleter old.header ≡ Some y → ¬ IsCommitted status y)
     → SessionAgrees status store history sees m.start sees e m → SessionAgrees status store' history sees m.start sees e (without_row old.row.key m)
 SessionAgrees-delete {status} {store} {store'} {history} {sees} {e} {m} x place old new alters deleted current bare seen in_time dead h = record {
   same_failed = h.same_failed;
@@ -109,7 +111,7 @@ SessionAgrees-delete {status} {store} {store'} {history} {sees} {e} {m} x place 
 
 -- the session is given an id, of any of its levels
 pub SessionAgrees-give : {status status' : ℕ → Option Status} {store : Tid → Option Version} {history : List Transaction} {sees sees' : ℕ → Type 0} {e : Session} {m : OpenSession} (n x : ℕ)
-    → Gives status status' x → SameSight status sees sees' → ¬ Sees sees' x → ((p : Tid) (y : ℕ) (v : Version) → At store p v → Touches y v → IsSome (status y))
+    → Gives status status' x → SameSight status sees sees' → ¬ sees' x → ((p : Tid) (y : ℕ) (v : Version) → At store p v → Touches y v.header → IsSome (status y))
     → SessionAgrees status store history sees m.start sees e m
     → SessionAgrees status' store history sees' m.start sees' (with_id n x e) m
 SessionAgrees-give {status} {status'} {store} {history} {sees} {sees'} {e} {m} n x gives same unseen given h = record {
@@ -123,7 +125,7 @@ SessionAgrees-give {status} {status'} {store} {history} {sees} {sees'} {e} {m} n
   in_time = h.in_time;
   active_unseen = λ y active. elim (IsActive-give_cases gives y active) [
     | inl old ↦ unseen_still same y InProgress old (h.active_unseen y old)
-    | inr now ↦ λ seen. unseen (subst (λ z. Sees sees' z) now seen)
+    | inr now ↦ λ seen. unseen (subst (λ z. sees' z) now seen)
   ];
   own_active = λ y mine. elim (Contains-push_cases e.own x y mine) [
     | inl old ↦ keeps-give gives y InProgress (h.own_active y old)
@@ -131,14 +133,14 @@ SessionAgrees-give {status} {status'} {store} {history} {sees} {sees'} {e} {m} n
   ];
 }
   where
-    old_own : (own : List ℕ) (p : Tid) (y : ℕ) (v : Version) → At store p v → Touches y v → Contains (own ++ x ∷ []) y → Contains own y
+    old_own : (own : List ℕ) (p : Tid) (y : ℕ) (v : Version) → At store p v → Touches y v.header → Contains (own ++ x ∷ []) y → Contains own y
     old_own own = own-untouched x own (λ p v at touch. none_given (status x) gives.fresh (given p x v at touch))
 
     to : (own : List ℕ) (y : ℕ) → Reads status sees own y → Reads status' sees' (own ++ x ∷ []) y
     to own y (by_itself mine) = by_itself (Contains-append_left own (x ∷ []) y mine)
     to own y (by_others seen done) = by_others ((same y Committed done).0 seen) (keeps-give gives y Committed done)
 
-    back : (own : List ℕ) (p : Tid) (y : ℕ) (v : Version) → At store p v → Touches y v → Reads status' sees' (own ++ x ∷ []) y → Reads status sees own y
+    back : (own : List ℕ) (p : Tid) (y : ℕ) (v : Version) → At store p v → Touches y v.header → Reads status' sees' (own ++ x ∷ []) y → Reads status sees own y
     back own p y v at touch (by_itself mine) = by_itself (old_own own p y v at touch mine)
     back own p y v at touch (by_others seen done) = (let was = IsCommitted-give gives y done in by_others ((same y Committed was).1 seen) was)
 
@@ -190,8 +192,8 @@ fresh_model w = record { start = length w.history; levels = [] ∷ []; failed = 
 
 pub SessionAgrees-begin : {status : ℕ → Option Status} {store : Tid → Option Version} {sees : ℕ → Type 0} (snapshot : Snap) (w : World)
     → IsFresh status sees
-    → Shows store (VisibleBy (IsCommitted status)) (committed w.history (length w.history))
-    → ((p : Tid) (y : ℕ) (v : Version) → At store p v → deleter v ≡ Some y → IsCommitted status y → (x : ℕ) → maker v ≡ Some x → IsCommitted status x)
+    → Shows store (λ v. VisibleBy (IsCommitted status) v.header) (committed w.history (length w.history))
+    → ((p : Tid) (y : ℕ) (v : Version) → At store p v → deleter v.header ≡ Some y → IsCommitted status y → (x : ℕ) → maker v.header ≡ Some x → IsCommitted status x)
     → SessionAgrees status store w.history sees (length w.history) sees (new_session snapshot) (fresh_model w)
 SessionAgrees-begin {status} {store} {sees} snapshot w fresh current made = record {
   same_failed = refl;
@@ -203,7 +205,7 @@ SessionAgrees-begin {status} {store} {sees} snapshot w fresh current made = reco
   level_traces = Traced-none Contains-none;
   traces = record {
     late_missed = λ k late. absurd (IsLate-now w.history k late);
-    missed_late = λ p v at missed. absurd (missed.3 (fresh.finished missed.0 missed.2));
+    missed_late = λ p v at missed. absurd (missed.1.2 (fresh.finished missed.0 missed.1.1));
   };
   began = omega arith;
   in_time = λ k wrote. cc;

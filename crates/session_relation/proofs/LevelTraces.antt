@@ -12,7 +12,8 @@ use Rattle.commit_status.specs.declared.status.Status.{Status}
 use Rattle.history.specs.History.{Write, Transaction, written}
 use Rattle.history.specs.Moves.{add_write}
 use Rattle.history.proofs.HistoryLemmas.{written-append, IsSome-or_second}
-use Rattle.session_relation.specs.Visible.{Touches, made_by, deleted_by, IsBy, At, deleter}
+use Rattle.visibility.specs.Seeing.{Touches, made_by, deleted_by, deleter}
+use Rattle.session_relation.specs.Visible.{IsBy, At}
 use Rattle.snapshot.specs.Own.{saved_with}
 use Rattle.session_relation.specs.Changes.{Adds, Alters}
 use Rattle.session_relation.specs.Agrees.{Traced, IsOfNewest, LevelTraces, LevelsAgree}
@@ -24,7 +25,7 @@ use Rattle.session_relation.proofs.Readers.{IsNew, IsDeleted, touches_new, wrote
 
 -- the ids that touch versions are as before, and so are the keys that are written
 pub Traced-same : {store : Tid → Option Version} {P Q : ℕ → Type 0} {writes writes' : List Write}
-    → ((p : Tid) (x : ℕ) (v : Version) → At store p v → Touches x v → P x → Q x) → ((p : Tid) (x : ℕ) (v : Version) → At store p v → Touches x v → Q x → P x)
+    → ((p : Tid) (x : ℕ) (v : Version) → At store p v → Touches x v.header → P x → Q x) → ((p : Tid) (x : ℕ) (v : Version) → At store p v → Touches x v.header → Q x → P x)
     → ((k : ℕ) → written writes' k ≡ written writes k) → Traced store P writes → Traced store Q writes'
 Traced-same to back alike h = record {
   written_there = λ k wrote. let some = h.written_there k (subst (λ o. IsSome o) (alike k) wrote) in (some.0, some.1, some.2, some.3, (some.4.0, some.4.1, to some.0 some.4.0 some.1 some.2 some.4.1 some.4.2));
@@ -41,12 +42,12 @@ Traced-add_other {store} {store'} {P} {writes} x place new adds is_new foreign h
   written_there = λ k wrote. SomeVersion-adds adds k (IsBy P) (h.written_there k wrote);
   there_written = λ p v at by. elim (Adds-cases adds p v at) [
     | inl old ↦ h.there_written p v old by
-    | inr now ↦ absurd (foreign (subst P (touches_new by.0 is_new (subst (λ (u : Version). Touches by.0 u) now.1 by.1)) by.2))
+    | inr now ↦ absurd (foreign (subst P (touches_new by.0 is_new (subst (λ (u : Version). Touches by.0 u.header) now.1 by.1)) by.2))
   ];
 }
 
 pub Traced-delete_other : {store store' : Tid → Option Version} {P : ℕ → Type 0} {writes : List Write} (x : ℕ) (place : Tid) (old new : Version)
-    → Alters store store' place old new → IsDeleted x old new → ¬ P x → ((y : ℕ) → deleter old ≡ Some y → ¬ P y) → Traced store P writes → Traced store' P writes
+    → Alters store store' place old new → IsDeleted x old new → ¬ P x → ((y : ℕ) → deleter old.header ≡ Some y → ¬ P y) → Traced store P writes → Traced store' P writes
 Traced-delete_other {store} {store'} {P} {writes} x place old new alters deleted foreign idle h = record {
   written_there = λ k wrote. SomeVersion-alters alters k (IsBy P) (IsBy P) same_key still (λ p u bt by. by) (h.written_there k wrote);
   there_written = λ p u bt by. elim (Alters-cases alters p u bt) [
@@ -165,7 +166,7 @@ LevelTraces-write x new own (before ∷ saved) (ws ∷ levels) nested mine here 
 )
 
 -- an id that touches nothing is given
-pub LevelTraces-give : {store : Tid → Option Version} (n x : ℕ) (own : List ℕ) (saved : List (List ℕ)) (levels : List (List Write)) → ((p : Tid) (v : Version) → At store p v → ¬ Touches x v)
+pub LevelTraces-give : {store : Tid → Option Version} (n x : ℕ) (own : List ℕ) (saved : List (List ℕ)) (levels : List (List Write)) → ((p : Tid) (v : Version) → At store p v → ¬ Touches x v.header)
     → LevelTraces store own saved levels → LevelTraces store (own ++ x ∷ []) (saved_with n x saved) levels
 LevelTraces-give {store} n x own saved levels untouched h = given n own saved levels h
   where

@@ -9,11 +9,13 @@ use Rattle.history.specs.History.{Write, Transaction, committed, written}
 use Rattle.history.specs.World.{OpenSession, own_write}
 use Rattle.history.proofs.HistoryLemmas.{committed-push_before, IsLate-push_cases}
 use Rattle.session_relation.specs.Heap.{Session}
-use Rattle.session_relation.specs.Visible.{IsCommitted, IsActive, Sees, Reads, by_itself, by_others, IsVisible}
+use Rattle.visibility.specs.Seeing.{IsCommitted, IsActive, Reads, by_itself, by_others}
+use Rattle.session_relation.specs.Visible.{IsVisible}
 use Rattle.session_relation.specs.Changes.{Adds, Alters, Gives, Finishes, SameSight}
 use Rattle.session_relation.specs.Agrees.{ReaderAgrees, Traced, SessionAgrees}
 use Rattle.session_relation.proofs.Statuses.{keeps-give, IsCommitted-give, IsActive-give_cases, IsCommitted-finish_old, IsCommitted-commit_cases, IsCommitted-abort, IsActive-finish, IsActive-finish_other, Reads-status}
-use Rattle.session_relation.proofs.Versions.{VisibleBy-same, active_unread}
+use Rattle.visibility.proofs.Verdicts.{VisibleBy-same}
+use Rattle.session_relation.proofs.Versions.{active_unread}
 use Rattle.session_relation.proofs.CursorsLemmas.{KeepsSeen, CursorAgrees-keeps, KeepsSeen-same, KeepsSeen-add, KeepsSeen-alter}
 use Rattle.session_relation.proofs.Readers.{IsNew, IsDeleted, IsIdle, seen_deleted, seen_undeleted, ReaderAgrees-same, ReaderAgrees-add_other, ReaderAgrees-delete_other, Levels-map}
 use Rattle.session_relation.proofs.LevelTraces.{Traced-add_other, Traced-delete_other, nested_of, LevelTraces-map}
@@ -77,7 +79,7 @@ same_seen {status} {status'} {store} {sees} {sees'} own to same back =
 
 -- another session is given an id
 pub SessionAgrees-give_other : {status status' : ℕ → Option Status} {store : Tid → Option Version} {history : List Transaction} {sees sees' : ℕ → Type 0} {e : Session} {m : OpenSession} (x : ℕ)
-    → Gives status status' x → SameSight status sees sees' → ¬ Sees sees' x
+    → Gives status status' x → SameSight status sees sees' → ¬ sees' x
     → SessionAgrees status store history sees m.start sees e m → SessionAgrees status' store history sees' m.start sees' e m
 SessionAgrees-give_other {status} {status'} {store} {history} {sees} {sees'} {e} {m} x gives same unseen h = record {
   same_failed = h.same_failed;
@@ -89,7 +91,7 @@ SessionAgrees-give_other {status} {status'} {store} {history} {sees} {sees'} {e}
   in_time = h.in_time;
   active_unseen = λ y active. elim (IsActive-give_cases gives y active) [
     | inl old ↦ unseen_still same y InProgress old (h.active_unseen y old)
-    | inr now ↦ λ seen. unseen (subst (λ z. Sees sees' z) now seen)
+    | inr now ↦ λ seen. unseen (subst (λ z. sees' z) now seen)
   ];
   own_active = λ y own. keeps-give gives y InProgress (h.own_active y own);
 }

@@ -10,7 +10,8 @@ use Rattle.snapshot.specs.Snap.{Snap}
 use Rattle.history.specs.History.{Write, Transaction}
 use Rattle.history.specs.World.{World, OpenSession}
 use Rattle.session_relation.specs.Heap.{Session, Heap}
-use Rattle.session_relation.specs.Visible.{IsCommitted, IsAborted, IsActive, Sees, Reads, by_itself, by_others, VisibleBy, IsVisible, made_by, deleted_by, IsMissed, IsOwn, IsBy, At, SomeVersion, maker, deleter}
+use Rattle.visibility.specs.Seeing.{IsCommitted, IsAborted, IsActive, Reads, by_itself, by_others, VisibleBy, made_by, deleted_by, maker, deleter}
+use Rattle.session_relation.specs.Visible.{IsVisible, HasMissed, IsOwn, IsBy, At, SomeVersion}
 use Rattle.session_relation.specs.Changes.{Removes, IsPast, never_was, is_over}
 use Rattle.session_relation.specs.Agrees.{Shows, ReaderAgrees, Traced, SessionAgrees, Agrees}
 use Rattle.session_relation.proofs.Versions.{active_not_committed}
@@ -62,8 +63,8 @@ aborted_unread {status} reader x aborted (by_itself mine) = aborted_not_active s
 aborted_unread {status} reader x aborted (by_others seen done) = aborted_not_committed status x aborted done
 
 sees_over : {status : ℕ → Option Status} {sees : Snap → ℕ → Type 0} {session : ℕ → Option Session} {snapshot : Snap} {own : List ℕ} → IsReaderOf status sees session snapshot own
-    → (y : ℕ) → ((s : ℕ) (e : Session) → session s ≡ Some e → Sees (sees e.snapshot) y) → Sees (sees snapshot) y
-sees_over {status} {sees} {session} {snapshot} {own} reader y all = subst (λ (s : Snap). Sees (sees s) y) reader.same (all reader.number reader.is reader.at)
+    → (y : ℕ) → ((s : ℕ) (e : Session) → session s ≡ Some e → sees e.snapshot y) → sees snapshot y
+sees_over {status} {sees} {session} {snapshot} {own} reader y all = subst (λ (s : Snap). sees s y) reader.same (all reader.number reader.is reader.at)
 
 pub past_unseen : {status : ℕ → Option Status} {sees : Snap → ℕ → Type 0} {session : ℕ → Option Session} {snapshot : Snap} {own : List ℕ} → IsReaderOf status sees session snapshot own
     → (v : Version) → IsPast status sees session v → ¬ IsVisible status (sees snapshot) own v
@@ -72,7 +73,7 @@ past_unseen reader v (is_over y by done all) seen = seen.kept y by (by_others (s
 
 -- by the reader's own ids none of these is touched
 past_foreign : {status : ℕ → Option Status} {store : Tid → Option Version} {history : List Transaction} {sees : Snap → ℕ → Type 0} {session : ℕ → Option Session} {snapshot : Snap} {start : ℕ} {own : List ℕ} {writes : List Write}
-    → IsReaderOf status sees session snapshot own → ((p : Tid) (y : ℕ) (v : Version) → At store p v → deleter v ≡ Some y → IsCommitted status y → (x : ℕ) → maker v ≡ Some x → IsCommitted status x)
+    → IsReaderOf status sees session snapshot own → ((p : Tid) (y : ℕ) (v : Version) → At store p v → deleter v.header ≡ Some y → IsCommitted status y → (x : ℕ) → maker v.header ≡ Some x → IsCommitted status x)
     → ReaderAgrees status store history (sees snapshot) start own writes → (p : Tid) (v : Version) → At store p v → IsPast status sees session v → ¬ IsOwn own v
 past_foreign {status} reader made h p v at (never_was x makes aborted) (z, made_by is, mine) =
     aborted_not_active status z (subst (λ z. IsAborted status z) (same_Some x z (sym makes ∙ is)) aborted) (reader.active z mine)
@@ -85,23 +86,23 @@ past_foreign {status} reader made h p v at (is_over y by done all) (z, deleted_b
 
 -- nor is any missed
 past_seen : {status : ℕ → Option Status} {store : Tid → Option Version} {history : List Transaction} {sees : Snap → ℕ → Type 0} {session : ℕ → Option Session} {snapshot : Snap} {start : ℕ} {own : List ℕ} {writes : List Write}
-    → IsReaderOf status sees session snapshot own → ((p : Tid) (y : ℕ) (v : Version) → At store p v → deleter v ≡ Some y → IsCommitted status y → (x : ℕ) → maker v ≡ Some x → IsCommitted status x)
-    → ReaderAgrees status store history (sees snapshot) start own writes → (p : Tid) (v : Version) → At store p v → IsPast status sees session v → ¬ IsMissed status (sees snapshot) v
-past_seen {status} reader made h p v at (never_was x makes aborted) (z, made_by is, done, unseen) =
+    → IsReaderOf status sees session snapshot own → ((p : Tid) (y : ℕ) (v : Version) → At store p v → deleter v.header ≡ Some y → IsCommitted status y → (x : ℕ) → maker v.header ≡ Some x → IsCommitted status x)
+    → ReaderAgrees status store history (sees snapshot) start own writes → (p : Tid) (v : Version) → At store p v → IsPast status sees session v → ¬ HasMissed status (sees snapshot) v
+past_seen {status} reader made h p v at (never_was x makes aborted) (z, (made_by is, done, unseen)) =
     aborted_not_committed status z (subst (λ z. IsAborted status z) (same_Some x z (sym makes ∙ is)) aborted) done
-past_seen {status} reader made h p v at (never_was x makes aborted) (z, deleted_by is, done, unseen) =
+past_seen {status} reader made h p v at (never_was x makes aborted) (z, (deleted_by is, done, unseen)) =
     aborted_not_committed status x aborted (made p z v at is done x makes)
-past_seen {status} {store} {history} {sees} {session} {snapshot} reader made h p v at (is_over y by done all) (z, made_by is, done', unseen) =
+past_seen {status} {store} {history} {sees} {session} {snapshot} reader made h p v at (is_over y by done all) (z, (made_by is, done', unseen)) =
     elim (h.whole p y v at by (by_others (sees_over reader y all) done) z is) [
       | by_itself mine ↦ active_not_committed status z (reader.active z mine) done'
       | by_others seen _ ↦ unseen seen
     ]
-past_seen {status} {store} {history} {sees} {session} {snapshot} reader made h p v at (is_over y by done all) (z, deleted_by is, done', unseen) =
-    unseen (subst (λ z. Sees (sees snapshot) z) (same_Some y z (sym by ∙ is)) (sees_over reader y all))
+past_seen {status} {store} {history} {sees} {session} {snapshot} reader made h p v at (is_over y by done all) (z, (deleted_by is, done', unseen)) =
+    unseen (subst (λ z. sees snapshot z) (same_Some y z (sym by ∙ is)) (sees_over reader y all))
 
 pub ReaderAgrees-prune : {status : ℕ → Option Status} {store store' : Tid → Option Version} {history : List Transaction} {sees : Snap → ℕ → Type 0} {session : ℕ → Option Session} {snapshot : Snap} {start : ℕ} {own : List ℕ} {writes : List Write}
     → Removes store store' (IsPast status sees session) → IsReaderOf status sees session snapshot own
-    → ((p : Tid) (y : ℕ) (v : Version) → At store p v → deleter v ≡ Some y → IsCommitted status y → (x : ℕ) → maker v ≡ Some x → IsCommitted status x)
+    → ((p : Tid) (y : ℕ) (v : Version) → At store p v → deleter v.header ≡ Some y → IsCommitted status y → (x : ℕ) → maker v.header ≡ Some x → IsCommitted status x)
     → ReaderAgrees status store history (sees snapshot) start own writes → ReaderAgrees status store' history (sees snapshot) start own writes
 ReaderAgrees-prune removes reader made h = record {
   rows = Shows-removes removes (λ p v at past. past_unseen reader v past) h.rows;
@@ -110,7 +111,7 @@ ReaderAgrees-prune removes reader made h = record {
 
 SessionAgrees-prune : {status : ℕ → Option Status} {store store' : Tid → Option Version} {history : List Transaction} {sees : Snap → ℕ → Type 0} {session : ℕ → Option Session} (s : ℕ) (e : Session) (m : OpenSession)
     → Removes store store' (IsPast status sees session) → session s ≡ Some e
-    → ((p : Tid) (y : ℕ) (v : Version) → At store p v → deleter v ≡ Some y → IsCommitted status y → (x : ℕ) → maker v ≡ Some x → IsCommitted status x)
+    → ((p : Tid) (y : ℕ) (v : Version) → At store p v → deleter v.header ≡ Some y → IsCommitted status y → (x : ℕ) → maker v.header ≡ Some x → IsCommitted status x)
     → SessionAgrees status store history (sees e.snapshot) m.start (sees e.snapshot) e m → SessionAgrees status store' history (sees e.snapshot) m.start (sees e.snapshot) e m
 SessionAgrees-prune {status} {store} {store'} {history} {sees} {session} s e m removes at made h = record {
   same_failed = h.same_failed;
@@ -146,6 +147,6 @@ Agrees-prune h w store' removes agrees = record {
   alone = agrees.alone;
 }
   where
-    unseen : (p : Tid) (v : Version) → At h.version p v → IsPast h.status h.sees h.session v → ¬ VisibleBy (IsCommitted h.status) v
+    unseen : (p : Tid) (v : Version) → At h.version p v → IsPast h.status h.sees h.session v → ¬ VisibleBy (IsCommitted h.status) v.header
     unseen p v at (never_was x made aborted) seen = aborted_not_committed h.status x aborted (seen.made x made)
     unseen p v at (is_over y by done all) seen = seen.kept y by done

@@ -10,16 +10,18 @@ use Rattle.history.specs.History.{Write, Transaction, committed, written, own_or
 use Rattle.history.specs.World.{joined}
 use Rattle.history.proofs.HistoryLemmas.{written-push, said-same, said-other}
 use Rattle.std.specs.Option.{option_or}
-use Rattle.session_relation.specs.Visible.{IsCommitted, IsActive, Reads, by_itself, by_others, IsVisible, Touches, made_by, deleted_by, At, maker, deleter}
+use Rattle.visibility.specs.Seeing.{IsCommitted, IsActive, Reads, by_itself, by_others, Touches, made_by, deleted_by, maker, deleter}
+use Rattle.session_relation.specs.Visible.{IsVisible, At}
 use Rattle.session_relation.specs.Changes.{Adds, Alters}
 use Rattle.session_relation.specs.Agrees.{ReaderAgrees, LevelsAgree}
 use Rattle.session_relation.proofs.ShowsLemmas.{Shows-same, Shows-add_unseen, Shows-add_seen, Shows-alter_same, Shows-alter_hidden}
-use Rattle.session_relation.proofs.Versions.{Adds-cases, Alters-cases, VisibleBy-same, active_unread}
+use Rattle.visibility.proofs.Verdicts.{VisibleBy-same}
+use Rattle.session_relation.proofs.Versions.{Adds-cases, Alters-cases, active_unread}
 
 -- the same is read and written
 pub ReaderAgrees-same : {status status' : ℕ → Option Status} {store : Tid → Option Version} {history history' : List Transaction} {sees sees' : ℕ → Type 0} {start : ℕ} {own own' : List ℕ} {writes writes' : List Write}
-    → ((p : Tid) (x : ℕ) (v : Version) → At store p v → Touches x v → Reads status sees own x → Reads status' sees' own' x)
-    → ((p : Tid) (x : ℕ) (v : Version) → At store p v → Touches x v → Reads status' sees' own' x → Reads status sees own x)
+    → ((p : Tid) (x : ℕ) (v : Version) → At store p v → Touches x v.header → Reads status sees own x → Reads status' sees' own' x)
+    → ((p : Tid) (x : ℕ) (v : Version) → At store p v → Touches x v.header → Reads status' sees' own' x → Reads status sees own x)
     → ((k : ℕ) → written writes' k ≡ written writes k) → ((k : ℕ) → committed history' start k ≡ committed history start k)
     → ReaderAgrees status store history sees start own writes → ReaderAgrees status' store history' sees' start own' writes'
 ReaderAgrees-same {status} {status'} {store} {history} {history'} {sees} {sees'} {start} {own} {own'} {writes} {writes'} to back alike before h = record {
@@ -30,10 +32,10 @@ ReaderAgrees-same {status} {status'} {store} {history} {history'} {sees} {sees'}
 
 -- a version that the id x made and nothing deletes
 pub record IsNew (x : ℕ) (v : Version) : Type 0 where
-  pub made : maker v ≡ Some x
-  pub kept : deleter v ≡ None
+  pub made : maker v.header ≡ Some x
+  pub kept : deleter v.header ≡ None
 
-pub touches_new : {x : ℕ} {v : Version} (y : ℕ) → IsNew x v → Touches y v → y ≡ x
+pub touches_new : {x : ℕ} {v : Version} (y : ℕ) → IsNew x v → Touches y v.header → y ≡ x
 touches_new {x} {v} y new (made_by is) = same_Some y x (sym is ∙ new.made)
 touches_new {x} {v} y new (deleted_by is) = absurd (none-some y (sym new.kept ∙ is))
 
@@ -45,20 +47,20 @@ ReaderAgrees-add_other {status} {store} {store'} {history} {sees} {start} {own} 
   rows = Shows-add_unseen adds (λ p v at seen. seen) (λ p v at seen. seen) (λ seen. active_unread active foreign (seen.made x is_new.made)) h.rows;
   whole = λ p y u at is reads. elim (Adds-cases adds p u at) [
     | inl old ↦ h.whole p y u old is reads
-    | inr now ↦ absurd (none-some y (sym is_new.kept ∙ (ap (λ (u : Version). deleter u) (sym now.1) ∙ is)))
+    | inr now ↦ absurd (none-some y (sym is_new.kept ∙ (ap (λ (u : Version). deleter u.header) (sym now.1) ∙ is)))
   ];
 }
 
 -- the version as it was but for its deleter, which is x
 pub record IsDeleted (x : ℕ) (v new : Version) : Type 0 where
   pub same_row : new.row ≡ v.row
-  pub same_maker : maker new ≡ maker v
-  pub by : deleter new ≡ Some x
+  pub same_maker : maker new.header ≡ maker v.header
+  pub by : deleter new.header ≡ Some x
 
 -- what deletes the version, if anything does, has no effect on the reader
 pub record IsIdle (status : ℕ → Option Status) (own : List ℕ) (v : Version) : Type 0 where
-  pub uncommitted : (y : ℕ) → deleter v ≡ Some y → ¬ IsCommitted status y
-  pub foreign : (y : ℕ) → deleter v ≡ Some y → ¬ Contains own y
+  pub uncommitted : (y : ℕ) → deleter v.header ≡ Some y → ¬ IsCommitted status y
+  pub foreign : (y : ℕ) → deleter v.header ≡ Some y → ¬ Contains own y
 
 -- and the reader sees the version as before
 
@@ -71,7 +73,7 @@ seen_deleted {status} {sees} {own} {x} {old} {new} deleted active foreign seen =
 pub seen_undeleted : {status : ℕ → Option Status} {sees : ℕ → Type 0} {own : List ℕ} {x : ℕ} {old new : Version} → IsDeleted x old new → IsIdle status own old → IsVisible status sees own new → IsVisible status sees own old
 seen_undeleted {status} {sees} {own} {x} {old} {new} deleted idle seen = record { made = λ y is. seen.made y (deleted.same_maker ∙ is); kept = unread }
   where
-    unread : (y : ℕ) → deleter old ≡ Some y → ¬ Reads status sees own y
+    unread : (y : ℕ) → deleter old.header ≡ Some y → ¬ Reads status sees own y
     unread y is (by_itself mine) = idle.foreign y is mine
     unread y is (by_others seen done) = idle.uncommitted y is done
 
@@ -82,7 +84,7 @@ pub ReaderAgrees-delete_other : {status : ℕ → Option Status} {store store' :
 ReaderAgrees-delete_other {status} {store} {store'} {history} {sees} {start} {own} {writes} x place old new alters deleted active foreign idle h = record {
   rows = Shows-alter_same alters deleted.same_row (seen_deleted deleted active foreign) (seen_undeleted deleted idle) (λ p u bt seen. seen) (λ p u bt seen. seen) h.rows;
   whole = λ p y u bt is reads. elim (Alters-cases alters p u bt) [
-    | inl same ↦ (let by : deleter u ≡ Some x = ap (λ (u : Version). deleter u) same.1 ∙ deleted.by in
+    | inl same ↦ (let by : deleter u.header ≡ Some x = ap (λ (u : Version). deleter u.header) same.1 ∙ deleted.by in
         absurd (active_unread active foreign (subst (λ z. Reads status sees own z) (same_Some y x (sym is ∙ by)) reads)))
     | inr other ↦ h.whole p y u other.1 is reads
   ];
@@ -116,7 +118,7 @@ ReaderAgrees-insert {status} {store} {store'} {history} {sees} {start} {own} {wr
       h.rows;
   whole = λ p y u at is reads. elim (Adds-cases adds p u at) [
     | inl old ↦ h.whole p y u old is reads
-    | inr now ↦ absurd (none-some y (sym is_new.kept ∙ (ap (λ (u : Version). deleter u) (sym now.1) ∙ is)))
+    | inr now ↦ absurd (none-some y (sym is_new.kept ∙ (ap (λ (u : Version). deleter u.header) (sym now.1) ∙ is)))
   ];
 }
   where
@@ -133,7 +135,7 @@ ReaderAgrees-delete {status} {store} {store'} {history} {sees} {start} {own} {wr
       (λ k ne. ap (λ o. own_or o (committed history start k)) (written-push_other writes write k ne))
       (λ p u bt seen. seen) (λ p u bt seen. seen) h.rows;
   whole = λ p y u bt is reads z made. elim (Alters-cases alters p u bt) [
-    | inl same ↦ seen_old.made z (sym deleted.same_maker ∙ (ap (λ (u : Version). maker u) (sym same.1) ∙ made))
+    | inl same ↦ seen_old.made z (sym deleted.same_maker ∙ (ap (λ (u : Version). maker u.header) (sym same.1) ∙ made))
     | inr other ↦ h.whole p y u other.1 is reads z made
   ];
 }

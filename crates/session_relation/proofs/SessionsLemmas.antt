@@ -5,7 +5,7 @@ use Rattle.std.proofs.lemmas.Bool.{cases_eq}
 use Rattle.std.proofs.lemmas.Option.{same_Some}
 use Rattle.history.specs.World.{World, OpenSession, Holds}
 use Rattle.session_relation.specs.Heap.{Session, Heap}
-use Rattle.session_relation.specs.Visible.{IsActive}
+use Rattle.visibility.specs.Seeing.{IsActive}
 use Rattle.session_relation.specs.Agrees.{SessionAgrees, Agrees}
 
 -- what holds of the one value

@@ -5,7 +5,7 @@ use Rattle.std.proofs.lemmas.Bool.{cases_eq}
 use Rattle.std.proofs.lemmas.Option.{none-some}
 use Rattle.commit_status.specs.declared.status.Status.{Status}
 use Rattle.commit_status.specs.declared.status.Status.TheVariants.{InProgress, Committed, Aborted}
-use Rattle.session_relation.specs.Visible.{IsCommitted, IsActive, Reads, by_itself, by_others}
+use Rattle.visibility.specs.Seeing.{IsCommitted, IsActive, Reads, by_itself, by_others}
 use Rattle.session_relation.specs.Changes.{Gives, Finishes}
 
 -- an id is given

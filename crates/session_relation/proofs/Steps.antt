@@ -17,12 +17,14 @@ use Rattle.history.specs.Cursors.{kept_where}
 use Rattle.std.specs.Prelude.{not, ◌==◌}
 use Rattle.history.proofs.HistoryLemmas.{at_same, at_other, joined-add_write}
 use Rattle.session_relation.specs.Heap.{Session, Heap}
-use Rattle.session_relation.specs.Visible.{IsFresh, IsCommitted, IsActive, Sees, Touches, deleter}
+use Rattle.visibility.specs.Seeing.{IsCommitted, IsActive, Touches, deleter}
+use Rattle.session_relation.specs.Visible.{IsFresh}
 use Rattle.session_relation.specs.Changes.{Adds, Gives, Finishes, SameSight, with_id}
 use Rattle.session_relation.specs.Agrees.{Traced, LevelTraces, SessionAgrees, Agrees}
 use Rattle.session_relation.proofs.ShowsLemmas.{Shows-same, Shows-add_unseen}
 use Rattle.session_relation.proofs.Statuses.{keeps-give, none_given, some_of, IsCommitted-give, IsActive-give_cases, IsCommitted-finish_old, IsCommitted-abort, IsActive-finish, given-finish, given-give, Finishes-none}
-use Rattle.session_relation.proofs.Versions.{VisibleBy-same, Adds-cases, active_not_committed}
+use Rattle.visibility.proofs.Verdicts.{VisibleBy-same}
+use Rattle.session_relation.proofs.Versions.{Adds-cases, active_not_committed}
 use Rattle.session_relation.proofs.Readers.{IsNew, touches_new, wrote_before}
 use Rattle.session_relation.proofs.LevelTraces.{Traced-join, Nested, nested_of}
 use Rattle.session_relation.proofs.Others.{SessionAgrees-add_other, SessionAgrees-give_other, SessionAgrees-abort_other}
@@ -159,7 +161,7 @@ Agrees-fail h w s e m session' only at there mine agrees =
 -- to be given an id, of any level, is no step of the model
 pub Agrees-give_below : (h : Heap) (w : World) (s : ℕ) (e : Session) (n x : ℕ) (status' : ℕ → Option Status) (sees' : Snap → ℕ → Type 0) (session' : ℕ → Option Session)
     → OnlyIs h.session session' s (Some (with_id n x e)) → h.session s ≡ Some e
-    → Gives h.status status' x → SameSights h sees' → ((o : ℕ) (f : Session) → h.session o ≡ Some f → ¬ Sees (sees' f.snapshot) x)
+    → Gives h.status status' x → SameSights h sees' → ((o : ℕ) (f : Session) → h.session o ≡ Some f → ¬ sees' f.snapshot x)
     → Agrees h w → Agrees (record h { status = status'; sees = sees'; session = session' }) w
 Agrees-give_below h w s e n x status' sees' session' only at gives same unseen agrees = record {
   opened = opened-change h h' w w s agrees only.others (λ o ne. refl) (λ o f m ne bt there old. SessionAgrees-give_other x gives (same o f bt) (unseen o f bt) old)
@@ -215,11 +217,11 @@ Agrees-insert h w s e m x place new store' adds is_new at current there bare non
   current = Shows-add_unseen adds (λ p v bt seen. seen) (λ p v bt seen. seen) (λ seen. active_not_committed h.status x active (seen.made x is_new.made)) agrees.current;
   made = λ p y u at' is done. elim (Adds-cases adds p u at') [
     | inl old ↦ agrees.made p y u old is done
-    | inr now ↦ absurd (none-some y (sym is_new.kept ∙ (ap (λ (u : Version). deleter u) (sym now.1) ∙ is)))
+    | inr now ↦ absurd (none-some y (sym is_new.kept ∙ (ap (λ (u : Version). deleter u.header) (sym now.1) ∙ is)))
   ];
   given = λ p y v at' touch. elim (Adds-cases adds p v at') [
     | inl old ↦ agrees.given p y v old touch
-    | inr now ↦ some_of InProgress (h.status y) (subst (λ z. IsActive h.status z) (sym (touches_new y is_new (subst (λ (u : Version). Touches y u) now.1 touch))) active)
+    | inr now ↦ some_of InProgress (h.status y) (subst (λ z. IsActive h.status z) (sym (touches_new y is_new (subst (λ (u : Version). Touches y u.header) now.1 touch))) active)
   ];
   owned = agrees.owned;
   apart = agrees.apart;

@@ -10,28 +10,29 @@ use Rattle.commit_status.specs.declared.status.Status.TheVariants.{InProgress, C
 use Rattle.snapshot.specs.Snap.{Snap}
 use Rattle.history.specs.World.{World}
 use Rattle.session_relation.specs.Heap.{Session, Heap}
-use Rattle.session_relation.specs.Visible.{IsCommitted, IsAborted, Reads, by_itself, by_others, IsVisible, Touches, deleted_by, At, maker, deleter}
+use Rattle.visibility.specs.Seeing.{IsCommitted, IsAborted, Reads, by_itself, by_others, Touches, deleted_by, maker, deleter}
+use Rattle.session_relation.specs.Visible.{IsVisible, At}
 use Rattle.session_relation.specs.Changes.{Gives, Removes, IsPast}
 use Rattle.session_relation.specs.Agrees.{Agrees}
 use Rattle.session_relation.specs.Finds.{Free}
 use Rattle.session_relation.proofs.Statuses.{keeps-give, none_given, IsCommitted-give}
-use Rattle.session_relation.proofs.Versions.{VisibleBy-same}
+use Rattle.visibility.proofs.Verdicts.{VisibleBy-same}
 use Rattle.session_relation.proofs.Pruning.{past_unseen}
 use Rattle.session_relation.proofs.Steps.{SameSights}
 
 -- who made it has committed, or is the session itself
-pub maker_of : (h : Heap) (e : Session) (old : Version) → IsVisible h.status (h.sees e.snapshot) e.own old → (y : ℕ) → maker old ≡ Some y → IsCommitted h.status y ⊎ Contains e.own y
+pub maker_of : (h : Heap) (e : Session) (old : Version) → IsVisible h.status (h.sees e.snapshot) e.own old → (y : ℕ) → maker old.header ≡ Some y → IsCommitted h.status y ⊎ Contains e.own y
 maker_of h e old seen y is = elim (seen.made y is) [ by_itself mine ↦ inr mine | by_others sees done ↦ inl done ]
 
 -- where nothing keeps the session from the key, who deleted the version before, if anyone did, was rolled back
 pub untaken_of : (h : Heap) (w : World) (s : ℕ) (e : Session) (k : ℕ) (found : Option Row) (place : Tid) (old : Version) → Free h s e k found → Agrees h w
-    → At h.version place old → old.row.key ≡ k → IsVisible h.status (h.sees e.snapshot) e.own old → (y : ℕ) → deleter old ≡ Some y → IsAborted h.status y
+    → At h.version place old → old.row.key ≡ k → IsVisible h.status (h.sees e.snapshot) e.own old → (y : ℕ) → deleter old.header ≡ Some y → IsAborted h.status y
 untaken_of h w s e k found place old free agrees at key seen y is = of (h.status y) refl (agrees.given place y old at (deleted_by is))
   where
     of : (o : Option Status) → h.status y ≡ o → IsSome (h.status y) → h.status y ≡ Some Aborted
     of None is' given = absurd (none_given (h.status y) is' given)
     of (Some Aborted) is' given = is'
-    of (Some Committed) is' given = absurd (free.timely (place, old, at, key, (y, deleted_by is, is', λ sees. seen.kept y is (by_others sees is'))))
+    of (Some Committed) is' given = absurd (free.timely (place, old, at, key, (y, (deleted_by is, is', λ sees. seen.kept y is (by_others sees is')))))
     of (Some InProgress) is' given = absurd (free.unheld y (place, old, at, key, record { touch = deleted_by is; active = is'; foreign = λ mine. seen.kept y is (by_itself mine) }))
 
 -- the session still sees it when it has been given an id
@@ -44,7 +45,7 @@ visible_given h w s e x place old status' sees' at gives sights agrees stood see
     to y (by_itself mine) = by_itself (Contains-append_left e.own (x ∷ []) y mine)
     to y (by_others sees done) = by_others ((sights s e at y Committed done).0 sees) (keeps-give gives y Committed done)
 
-    back : (y : ℕ) → Touches y old → Reads status' (sees' e.snapshot) (e.own ++ x ∷ []) y → Reads h.status (h.sees e.snapshot) e.own y
+    back : (y : ℕ) → Touches y old.header → Reads status' (sees' e.snapshot) (e.own ++ x ∷ []) y → Reads h.status (h.sees e.snapshot) e.own y
     back y touch (by_itself mine) = elim (Contains-push_cases e.own x y mine) [
       | inl old' ↦ by_itself old'
       | inr now ↦ absurd (none_given (h.status x) gives.fresh (subst (λ z. IsSome (h.status z)) (sym now) (agrees.given place y old stood touch)))

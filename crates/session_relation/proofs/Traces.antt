@@ -9,7 +9,8 @@ use Rattle.commit_status.specs.declared.status.Status.{Status}
 use Rattle.commit_status.specs.declared.status.Status.TheVariants.{InProgress, Committed}
 use Rattle.history.specs.History.{Transaction, IsLate}
 use Rattle.history.proofs.HistoryLemmas.{IsLate-push_old, IsLate-push_new, IsLate-push_cases}
-use Rattle.session_relation.specs.Visible.{IsCommitted, IsActive, Sees, Touches, made_by, deleted_by, IsMissed, IsOwn, deleter}
+use Rattle.visibility.specs.Seeing.{IsCommitted, IsActive, Touches, made_by, deleted_by, deleter}
+use Rattle.session_relation.specs.Visible.{HasMissed, IsOwn}
 use Rattle.session_relation.specs.Changes.{Adds, Alters, Finishes, SameSight}
 use Rattle.session_relation.specs.Agrees.{Traced, TracesAgree}
 use Rattle.session_relation.proofs.Statuses.{IsCommitted-finish_old, IsCommitted-commit_cases, IsCommitted-commit}
@@ -17,39 +18,39 @@ use Rattle.session_relation.proofs.Versions.{SomeVersion-weaker, SomeVersion-add
 use Rattle.session_relation.proofs.Readers.{IsNew, IsDeleted, touches_new}
 
 -- what is seen of an id that committed stays as it is
-pub unseen_still : {status : ℕ → Option Status} {sees sees' : ℕ → Type 0} → SameSight status sees sees' → (x : ℕ) (s : Status) → status x ≡ Some s → ¬ Sees sees x → ¬ Sees sees' x
+pub unseen_still : {status : ℕ → Option Status} {sees sees' : ℕ → Type 0} → SameSight status sees sees' → (x : ℕ) (s : Status) → status x ≡ Some s → ¬ sees x → ¬ sees' x
 unseen_still same x s is unseen seen = unseen ((same x s is).1 seen)
 
-pub unseen_before : {status : ℕ → Option Status} {sees sees' : ℕ → Type 0} → SameSight status sees sees' → (x : ℕ) (s : Status) → status x ≡ Some s → ¬ Sees sees' x → ¬ Sees sees x
+pub unseen_before : {status : ℕ → Option Status} {sees sees' : ℕ → Type 0} → SameSight status sees sees' → (x : ℕ) (s : Status) → status x ≡ Some s → ¬ sees' x → ¬ sees x
 unseen_before same x s is unseen seen = unseen ((same x s is).0 seen)
 
 pub TracesAgree-same : {status status' : ℕ → Option Status} {store : Tid → Option Version} {history : List Transaction} {sees sees' : ℕ → Type 0} {start : ℕ}
     → ((x : ℕ) → IsCommitted status x → IsCommitted status' x) → ((x : ℕ) → IsCommitted status' x → IsCommitted status x) → SameSight status sees sees'
     → TracesAgree status store history sees start → TracesAgree status' store history sees' start
 TracesAgree-same {status} {status'} {store} {history} {sees} {sees'} {start} to back same h = record {
-  late_missed = λ k late. SomeVersion-weaker store k (IsMissed status sees) (IsMissed status' sees') (λ p v at missed. (missed.0, missed.1, to missed.0 missed.2, unseen_still same missed.0 Committed missed.2 missed.3)) (h.late_missed k late);
-  missed_late = λ p v at missed. h.missed_late p v at (let done = back missed.0 missed.2 in (missed.0, missed.1, done, unseen_before same missed.0 Committed done missed.3));
+  late_missed = λ k late. SomeVersion-weaker store k (HasMissed status sees) (HasMissed status' sees') (λ p v at missed. (missed.0, (missed.1.0, to missed.0 missed.1.1, unseen_still same missed.0 Committed missed.1.1 missed.1.2))) (h.late_missed k late);
+  missed_late = λ p v at missed. h.missed_late p v at (let done = back missed.0 missed.1.1 in (missed.0, (missed.1.0, done, unseen_before same missed.0 Committed done missed.1.2)));
 }
 
 pub TracesAgree-add : {status : ℕ → Option Status} {store store' : Tid → Option Version} {history : List Transaction} {sees : ℕ → Type 0} {start : ℕ} (x : ℕ) (place : Tid) (new : Version)
     → Adds store store' place new → IsNew x new → IsActive status x
     → TracesAgree status store history sees start → TracesAgree status store' history sees start
 TracesAgree-add {status} {store} {store'} {history} {sees} {start} x place new adds is_new active h = record {
-  late_missed = λ k late. SomeVersion-adds adds k (IsMissed status sees) (h.late_missed k late);
+  late_missed = λ k late. SomeVersion-adds adds k (HasMissed status sees) (h.late_missed k late);
   missed_late = λ p v at missed. elim (Adds-cases adds p v at) [
     | inl old ↦ h.missed_late p v old missed
-    | inr now ↦ (let same : missed.0 ≡ x = touches_new missed.0 is_new (subst (λ (u : Version). Touches missed.0 u) now.1 missed.1) in
-        absurd (active_not_committed status x active (subst (λ y. IsCommitted status y) same missed.2)))
+    | inr now ↦ (let same : missed.0 ≡ x = touches_new missed.0 is_new (subst (λ (u : Version). Touches missed.0 u.header) now.1 missed.1.0) in
+        absurd (active_not_committed status x active (subst (λ y. IsCommitted status y) same missed.1.1)))
   ];
 }
 
 pub TracesAgree-delete : {status : ℕ → Option Status} {store store' : Tid → Option Version} {history : List Transaction} {sees : ℕ → Type 0} {start : ℕ} (x : ℕ) (place : Tid) (old new : Version)
-    → Alters store store' place old new → IsDeleted x old new → IsActive status x → ((y : ℕ) → deleter old ≡ Some y → ¬ IsCommitted status y)
+    → Alters store store' place old new → IsDeleted x old new → IsActive status x → ((y : ℕ) → deleter old.header ≡ Some y → ¬ IsCommitted status y)
     → TracesAgree status store history sees start → TracesAgree status store' history sees start
 TracesAgree-delete {status} {store} {store'} {history} {sees} {start} x place old new alters deleted active dead h = record {
-  late_missed = λ k late. SomeVersion-alters alters k (IsMissed status sees) (IsMissed status sees) same_key to (λ p u bt missed. missed) (h.late_missed k late);
+  late_missed = λ k late. SomeVersion-alters alters k (HasMissed status sees) (HasMissed status sees) same_key to (λ p u bt missed. missed) (h.late_missed k late);
   missed_late = λ p u bt missed. elim (Alters-cases alters p u bt) [
-    | inl same ↦ subst (λ k. IsLate history start k) (sym (ap (λ (u : Version). u.row.key) same.1 ∙ same_key)) (h.missed_late place old alters.before (back (subst (λ (u : Version). IsMissed status sees u) same.1 missed)))
+    | inl same ↦ subst (λ k. IsLate history start k) (sym (ap (λ (u : Version). u.row.key) same.1 ∙ same_key)) (h.missed_late place old alters.before (back (subst (λ (u : Version). HasMissed status sees u) same.1 missed)))
     | inr other ↦ h.missed_late p u other.1 missed
   ];
 }
@@ -57,27 +58,27 @@ TracesAgree-delete {status} {store} {store'} {history} {sees} {start} x place ol
     same_key : new.row.key ≡ old.row.key
     same_key = ap (λ (r : Row). r.key) deleted.same_row
 
-    to : IsMissed status sees old → IsMissed status sees new
-    to (y, made_by is, done, unseen) = (y, made_by (deleted.same_maker ∙ is), done, unseen)
-    to (y, deleted_by is, done, unseen) = absurd (dead y is done)
+    to : HasMissed status sees old → HasMissed status sees new
+    to (y, (made_by is, done, unseen)) = (y, (made_by (deleted.same_maker ∙ is), done, unseen))
+    to (y, (deleted_by is, done, unseen)) = absurd (dead y is done)
 
-    back : IsMissed status sees new → IsMissed status sees old
-    back (y, made_by is, done, unseen) = (y, made_by (sym deleted.same_maker ∙ is), done, unseen)
-    back (y, deleted_by is, done, unseen) = absurd (active_not_committed status x active (subst (λ z. IsCommitted status z) (same_Some y x (sym is ∙ deleted.by)) done))
+    back : HasMissed status sees new → HasMissed status sees old
+    back (y, (made_by is, done, unseen)) = (y, (made_by (sym deleted.same_maker ∙ is), done, unseen))
+    back (y, (deleted_by is, done, unseen)) = absurd (active_not_committed status x active (subst (λ z. IsCommitted status z) (same_Some y x (sym is ∙ deleted.by)) done))
 
 -- what the ids made and deleted is what the transaction wrote
 pub TracesAgree-commit : {status status' : ℕ → Option Status} {store : Tid → Option Version} {history : List Transaction} {sees sees' : ℕ → Type 0} {start : ℕ} (own : List ℕ) (t : Transaction)
-    → Finishes status status' (λ x. Contains own x) Committed → SameSight status sees sees' → Traced store (λ x. Contains own x) t → start ≤ length history → ((x : ℕ) → Contains own x → ¬ Sees sees x)
+    → Finishes status status' (λ x. Contains own x) Committed → SameSight status sees sees' → Traced store (λ x. Contains own x) t → start ≤ length history → ((x : ℕ) → Contains own x → ¬ sees x)
     → TracesAgree status store history sees start → TracesAgree status' store (history ++ t ∷ []) sees' start
 TracesAgree-commit {status} {status'} {store} {history} {sees} {sees'} {start} own t finishes same carries began unseen h = record {
   late_missed = λ k late. elim (IsLate-push_cases history t start k late) [
-    | inl old ↦ SomeVersion-weaker store k (IsMissed status sees) (IsMissed status' sees') (λ p u at missed. (missed.0, missed.1, IsCommitted-finish_old finishes missed.0 missed.2, unseen_still same missed.0 Committed missed.2 missed.3)) (h.late_missed k old)
-    | inr wrote ↦ SomeVersion-weaker store k (IsOwn own) (IsMissed status' sees')
-        (λ p u at mine. (mine.0, mine.1, IsCommitted-commit finishes mine.0 mine.2, unseen_still same mine.0 InProgress (finishes.active mine.0 mine.2) (unseen mine.0 mine.2)))
+    | inl old ↦ SomeVersion-weaker store k (HasMissed status sees) (HasMissed status' sees') (λ p u at missed. (missed.0, (missed.1.0, IsCommitted-finish_old finishes missed.0 missed.1.1, unseen_still same missed.0 Committed missed.1.1 missed.1.2))) (h.late_missed k old)
+    | inr wrote ↦ SomeVersion-weaker store k (IsOwn own) (HasMissed status' sees')
+        (λ p u at mine. (mine.0, (mine.1, IsCommitted-commit finishes mine.0 mine.2, unseen_still same mine.0 InProgress (finishes.active mine.0 mine.2) (unseen mine.0 mine.2))))
         (carries.written_there k wrote)
   ];
-  missed_late = λ p u at missed. elim (IsCommitted-commit_cases finishes missed.0 missed.2) [
-    | inl mine ↦ IsLate-push_new history t start u.row.key began (carries.there_written p u at (missed.0, missed.1, mine))
-    | inr old ↦ IsLate-push_old history t start u.row.key (h.missed_late p u at (missed.0, missed.1, old, unseen_before same missed.0 Committed old missed.3))
+  missed_late = λ p u at missed. elim (IsCommitted-commit_cases finishes missed.0 missed.1.1) [
+    | inl mine ↦ IsLate-push_new history t start u.row.key began (carries.there_written p u at (missed.0, missed.1.0, mine))
+    | inr old ↦ IsLate-push_old history t start u.row.key (h.missed_late p u at (missed.0, (missed.1.0, old, unseen_before same missed.0 Committed old missed.1.2)))
   ];
 }

@@ -7,15 +7,16 @@ use Rattle.xid_circle.specs.declared.Tid.{Tid}
 use Rattle.xid_circle.proofs.Tids.{cases-tid}
 use Rattle.tuple_header.specs.Version.{Version}
 use Rattle.commit_status.specs.declared.status.Status.{Status}
-use Rattle.session_relation.specs.Visible.{IsCommitted, IsActive, Reads, by_itself, by_others, VisibleBy, Touches, made_by, deleted_by, At, SomeVersion}
+use Rattle.visibility.specs.Seeing.{IsCommitted, IsActive, Reads, by_itself, by_others, VisibleBy, Touches, made_by, deleted_by}
+use Rattle.session_relation.specs.Visible.{At, SomeVersion}
 use Rattle.session_relation.specs.Changes.{Adds, Alters}
 
 -- an id that touches no version is as if it weren't owned
-pub own-untouched : {store : Tid → Option Version} (x : ℕ) (own : List ℕ) → ((p : Tid) (v : Version) → At store p v → ¬ Touches x v)
-    → (p : Tid) (y : ℕ) (v : Version) → At store p v → Touches y v → Contains (own ++ x ∷ []) y → Contains own y
+pub own-untouched : {store : Tid → Option Version} (x : ℕ) (own : List ℕ) → ((p : Tid) (v : Version) → At store p v → ¬ Touches x v.header)
+    → (p : Tid) (y : ℕ) (v : Version) → At store p v → Touches y v.header → Contains (own ++ x ∷ []) y → Contains own y
 own-untouched x own untouched p y v at touch mine = elim (Contains-push_cases own x y mine) [
   | inl was ↦ was
-  | inr now ↦ absurd (untouched p v at (subst (λ z. Touches z v) (sym now) touch))
+  | inr now ↦ absurd (untouched p v at (subst (λ z. Touches z v.header) (sym now) touch))
 ]
 
 pub SomeVersion-weaker : (store : Tid → Option Version) (k : ℕ) (P Q : Version → Type 0) → ((p : Tid) (v : Version) → At store p v → P v → Q v) → SomeVersion store k P → SomeVersion store k Q
@@ -46,13 +47,6 @@ active_not_committed status x active done = cc
 pub active_unread : {status : ℕ → Option Status} {sees : ℕ → Type 0} {own : List ℕ} {x : ℕ} → IsActive status x → ¬ Contains own x → ¬ Reads status sees own x
 active_unread active foreign (by_itself own) = foreign own
 active_unread {status} {sees} {own} {x} active foreign (by_others sees' done) = active_not_committed status x active done
-
--- a version whose ids are read as before is seen as before
-pub VisibleBy-same : {R R' : ℕ → Type 0} {v : Version} → ((x : ℕ) → Touches x v → R x → R' x) → ((x : ℕ) → Touches x v → R' x → R x) → VisibleBy R v → VisibleBy R' v
-VisibleBy-same {R} {R'} {v} to back seen = record {
-  made = λ x is. to x (made_by is) (seen.made x is);
-  kept = λ x is r. seen.kept x is (back x (deleted_by is) r);
-}
 
 -- the places after a version is altered
 

@@ -7,7 +7,8 @@ use Rattle.commit_status.specs.declared.status.Status.{Status}
 use Rattle.history.specs.History.{Write, Transaction, written, committed, reading, IsLate}
 use Rattle.history.specs.World.{World, OpenSession, joined, own_write, Holds}
 use Rattle.session_relation.specs.Heap.{Session, Heap}
-use Rattle.session_relation.specs.Visible.{IsCommitted, IsActive, Sees, Reads, IsVisible, VisibleBy, Touches, IsMissed, IsBy, At, SomeVersion, maker, deleter}
+use Rattle.visibility.specs.Seeing.{IsCommitted, IsActive, Reads, VisibleBy, Touches, maker, deleter}
+use Rattle.session_relation.specs.Visible.{IsVisible, HasMissed, IsBy, At, SomeVersion}
 use Rattle.session_relation.specs.Cursors.{CursorAgrees}
 
 -- the versions that are seen show exactly these rows, each by one version
@@ -20,7 +21,7 @@ pub record Shows (store : Tid → Option Version) (seen : Version → Type 0) (r
 pub record ReaderAgrees (status : ℕ → Option Status) (store : Tid → Option Version) (history : List Transaction) (sees : ℕ → Type 0) (start : ℕ) (own : List ℕ) (writes : List Write) : Type 0 where
   pub rows : Shows store (IsVisible status sees own) (reading history start writes)
   -- whoever reads the deletion reads the making
-  pub whole : (p : Tid) (y : ℕ) (v : Version) → At store p v → deleter v ≡ Some y → Reads status sees own y → (x : ℕ) → maker v ≡ Some x → Reads status sees own x
+  pub whole : (p : Tid) (y : ℕ) (v : Version) → At store p v → deleter v.header ≡ Some y → Reads status sees own y → (x : ℕ) → maker v.header ≡ Some x → Reads status sees own x
 
 -- the session as it is, and as it was at each savepoint, the newest first
 abbrev pub LevelsAgree : (ℕ → Option Status) → (Tid → Option Version) → List Transaction → (ℕ → Type 0) → ℕ → List ℕ → List (List ℕ) → List (List Write) → Type 0
@@ -47,8 +48,8 @@ LevelTraces _ _ _ _ = ⊥
 
 -- a key is late exactly where a version of it has a committed id that the snapshot does not see
 pub record TracesAgree (status : ℕ → Option Status) (store : Tid → Option Version) (history : List Transaction) (sees : ℕ → Type 0) (start : ℕ) : Type 0 where
-  pub late_missed : (k : ℕ) → IsLate history start k → SomeVersion store k (IsMissed status sees)
-  pub missed_late : (p : Tid) (v : Version) → At store p v → IsMissed status sees v → IsLate history start v.row.key
+  pub late_missed : (k : ℕ) → IsLate history start k → SomeVersion store k (HasMissed status sees)
+  pub missed_late : (p : Tid) (v : Version) → At store p v → HasMissed status sees v → IsLate history start v.row.key
 
 -- an open session agrees with the model's: it reads by `sees`, as who began at `start`, and its cursor by `cursor_sees`
 pub record SessionAgrees (status : ℕ → Option Status) (store : Tid → Option Version) (history : List Transaction)
@@ -64,7 +65,7 @@ pub record SessionAgrees (status : ℕ → Option Status) (store : Tid → Optio
   pub began : start ≤ length history
   -- no key that it has written is late
   pub in_time : (k : ℕ) → IsSome (own_write m k) → ¬ IsLate history start k
-  pub active_unseen : (x : ℕ) → IsActive status x → ¬ Sees sees x
+  pub active_unseen : (x : ℕ) → IsActive status x → ¬ sees x
   pub own_active : (x : ℕ) → Contains e.own x → IsActive status x
 
 -- the engine agrees with the model
@@ -77,11 +78,11 @@ pub record Agrees (h : Heap) (w : World) : Type 0 where
   -- no wait is recorded yet
   pub waits : (s : ℕ) → w.waits_for s ≡ None
   -- a new session would read what is committed
-  pub current : Shows h.version (VisibleBy (IsCommitted h.status)) (committed w.history (length w.history))
+  pub current : Shows h.version (λ v. VisibleBy (IsCommitted h.status) v.header) (committed w.history (length w.history))
   -- whose deletion is committed, its making is
-  pub made : (p : Tid) (y : ℕ) (v : Version) → At h.version p v → deleter v ≡ Some y → IsCommitted h.status y → (x : ℕ) → maker v ≡ Some x → IsCommitted h.status x
+  pub made : (p : Tid) (y : ℕ) (v : Version) → At h.version p v → deleter v.header ≡ Some y → IsCommitted h.status y → (x : ℕ) → maker v.header ≡ Some x → IsCommitted h.status x
   -- each id on a page lies in the window
-  pub given : (p : Tid) (x : ℕ) (v : Version) → At h.version p v → Touches x v → IsSome (h.status x)
+  pub given : (p : Tid) (x : ℕ) (v : Version) → At h.version p v → Touches x v.header → IsSome (h.status x)
   -- each id in progress is one open session's
   pub owned : (x : ℕ) → IsActive h.status x → (s : ℕ) × (e : Session) × (h.session s ≡ Some e) × Contains e.own x
   pub apart : (s o : ℕ) (e f : Session) (x : ℕ) → h.session s ≡ Some e → h.session o ≡ Some f → Contains e.own x → Contains f.own x → s ≡ o

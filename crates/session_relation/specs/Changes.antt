@@ -6,7 +6,8 @@ use Rattle.commit_status.specs.declared.status.Status.{Status}
 use Rattle.snapshot.specs.Snap.{Snap}
 use Rattle.snapshot.specs.Own.{saved_with}
 use Rattle.session_relation.specs.Heap.{Session}
-use Rattle.session_relation.specs.Visible.{At, IsActive, IsCommitted, IsAborted, Sees, maker, deleter}
+use Rattle.visibility.specs.Seeing.{IsActive, IsCommitted, IsAborted, maker, deleter}
+use Rattle.session_relation.specs.Visible.{At}
 
 -- the version is put into a place that had none
 pub record Adds (store store' : Tid → Option Version) (p : Tid) (new : Version) : Type 0 where
@@ -23,8 +24,8 @@ pub record Alters (store store' : Tid → Option Version) (p : Tid) (v new : Ver
 -- Nobody reads the version any more: who made it was rolled back, or who deleted it has committed and is seen by every
 -- open session. (The manual's "Routine Vacuuming": a version is removed once no transaction can see it.)
 pub data IsPast (status : ℕ → Option Status) (sees : Snap → ℕ → Type 0) (session : ℕ → Option Session) (v : Version) : Type 0 where
-  never_was : (x : ℕ) → maker v ≡ Some x → IsAborted status x → IsPast status sees session v
-  is_over : (y : ℕ) → deleter v ≡ Some y → IsCommitted status y → ((s : ℕ) (e : Session) → session s ≡ Some e → Sees (sees e.snapshot) y)
+  never_was : (x : ℕ) → maker v.header ≡ Some x → IsAborted status x → IsPast status sees session v
+  is_over : (y : ℕ) → deleter v.header ≡ Some y → IsCommitted status y → ((s : ℕ) (e : Session) → session s ≡ Some e → sees e.snapshot y)
       → IsPast status sees session v
 
 -- versions of P may go; no other does, and none comes or moves

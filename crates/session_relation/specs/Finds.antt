@@ -1,15 +1,15 @@
 -- What the tests of a step look for among the versions, and how a step follows the history.
-use Rattle.std.specs.Prelude.{◌≡◌, ◌≢◌, ℕ, false, List, Option, Some, None, Contains}
+use Rattle.std.specs.Prelude.{◌≡◌, ◌≢◌, ℕ, false, List, Option, Some, None}
 use Rattle.xid_circle.specs.declared.Tid.{Tid}
 use Rattle.tuple_header.specs.declared.version.Row.{Row}
 use Rattle.tuple_header.specs.Version.{Version}
-use Rattle.commit_status.specs.declared.status.Status.{Status}
 use Rattle.history.specs.World.{World}
 use Rattle.session_relation.specs.declared.step.Step.{Step}
 use Rattle.session_relation.specs.declared.reply.Reply.{Reply}
 use Rattle.session_relation.specs.Allowed.{Allows, next}
 use Rattle.session_relation.specs.Heap.{Session, Heap}
-use Rattle.session_relation.specs.Visible.{IsActive, IsVisible, IsMissed, Touches, At, SomeVersion}
+use Rattle.visibility.specs.Seeing.{IsForeign}
+use Rattle.session_relation.specs.Visible.{IsVisible, HasMissed, At, SomeVersion}
 use Rattle.session_relation.specs.Agrees.{Agrees}
 
 -- the reader finds this row of the key, or none
@@ -17,18 +17,12 @@ abbrev pub Finds : (Tid → Option Version) → (Version → Type 0) → ℕ →
 Finds store seen k None = (p : Tid) (v : Version) → At store p v → seen v → v.row.key ≢ k
 Finds store seen k (Some row) = SomeVersion store k (λ v. seen v × (row ≡ v.row))
 
--- an id in progress that is not the reader's own made or deleted the version
-pub record IsForeign (status : ℕ → Option Status) (own : List ℕ) (v : Version) (x : ℕ) : Type 0 where
-  pub touch : Touches x v
-  pub active : IsActive status x
-  pub foreign : ¬ Contains own x
-
 -- what keeps the session from writing the key: a commit that it does not see, or an id of another session
 abbrev pub IsLateFor : Heap → Session → ℕ → Type 0
-IsLateFor h e k = SomeVersion h.version k (IsMissed h.status (h.sees e.snapshot))
+IsLateFor h e k = SomeVersion h.version k (HasMissed h.status (h.sees e.snapshot))
 
 abbrev pub IsHeldBy : Heap → Session → ℕ → ℕ → Type 0
-IsHeldBy h e k x = SomeVersion h.version k (λ v. IsForeign h.status e.own v x)
+IsHeldBy h e k x = SomeVersion h.version k (λ v. IsForeign h.status e.own x v.header)
 
 -- the session is open, has not failed and has no cursor, and it finds this row of the key, or none
 pub record Begins (h : Heap) (s : ℕ) (e : Session) (k : ℕ) (found : Option Row) : Type 0 where

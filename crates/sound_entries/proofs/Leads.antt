@@ -12,7 +12,9 @@ use Rattle.page_slots.specs.Slots.{version_at}
 use Rattle.commit_status.specs.declared.status.Status.TheVariants.{InProgress, Committed, Aborted}
 use Rattle.commit_status.specs.Window.{Window, IsActive, IsAborted}
 use Rattle.snapshot.specs.Snap.{Snap}
-use Rattle.visibility.specs.Visible.{Reads, VisibleBy, IsVisible}
+use Rattle.visibility.proofs.Makers.{made-of, touch-cases, committed-to}
+use Rattle.visibility.specs.Seeing.{Reads, VisibleBy, Touches}
+use Rattle.visibility.specs.Visible.{ReadsIn, IsVisible}
 use Rattle.sound_page.specs.Sound.{IsIn, SoundPage, SomeRoot}
 use Rattle.sound_page.proofs.Links.{SomeVersion, member-version}
 use Rattle.sound_page.proofs.ChainPlaces.{place-of}
@@ -21,7 +23,7 @@ use Rattle.page_writes.proofs.Growth.{entry-normal}
 use Rattle.root_index.specs.declared.entry.Entry.{Entry}
 use Rattle.sound_entries.specs.Pages.{slots_on, version_in}
 use Rattle.sound_entries.specs.Entries.{IsSound}
-use Rattle.sound_entries.specs.Leading.{IsUndone, Touches, LedByOne, IsOnHeap, IsByIndex}
+use Rattle.sound_entries.specs.Leading.{IsUndone, LedByOne, IsOnHeap, IsByIndex}
 
 -- On one page.
 
@@ -41,13 +43,15 @@ root-of w horizon slots n t sound at done = ⊎_elim
 
 -- a version that an id touched which isn't aborted was made
 pub touched-made : (w : Window) (horizon : ℕ) (slots : List Slot) (n x : ℕ) (t : Version) → SoundPage w horizon slots → version_at slots n ≡ Some t → ¬ IsAborted w x
-    → Touches t.header x → ¬ IsUndone w t.header
-touched-made w horizon slots n x t sound at alive (Touches.made thawed is) undone = alive (subst (IsAborted w) is undone.aborted)
-touched-made w horizon slots n x t sound at alive (Touches.deleted some is) undone = alive (subst (IsAborted w) is (sound.undone n t at undone.thawed undone.aborted some))
+    → Touches x t.header → ¬ IsUndone w t.header
+touched-made w horizon slots n x t sound at alive touch undone = ⊎_elim
+    (λ made. alive (subst (IsAborted w) made.1 undone.aborted))
+    (λ gone. alive (subst (IsAborted w) gone.1 (sound.undone n t at undone.thawed undone.aborted gone.0)))
+    (touch-cases t.header x touch)
 
 -- a version that a reader sees was made, if the reader counts nothing that is aborted
 pub seen-made : (w : Window) (R : ℕ → Type 0) (t : Version) → ((x : ℕ) → IsAborted w x → ¬ R x) → VisibleBy R t.header → ¬ IsUndone w t.header
-seen-made w R t none seen undone = ⊎_elim (λ frozen. undone.thawed frozen) (λ counts. none t.header.xmin.0 undone.aborted counts) seen.made
+seen-made w R t none seen undone = ⊎_elim (λ frozen. undone.thawed frozen) (λ counts. none t.header.xmin.0 undone.aborted counts) (made-of R t.header seen)
 
 -- On all pages.
 
@@ -85,13 +89,13 @@ module _ (value_of : Row → ℤ) (w : Window) (horizon : ℕ) (pages : List (Li
   pub visible-found : (s : Snap) (own : List ℕ) → ((x : ℕ) → Contains own x → IsActive w x) → (value : ℤ) (key : ℕ) (p : Tid) (t : Version)
       → IsOnHeap value_of pages value key (λ t. IsVisible w s own t.header) p t ↔ IsByIndex w pages entries value key (λ t. IsVisible w s own t.header) p t
   visible-found s own active value key p t =
-      found (λ t. IsVisible w s own t.header) (λ q u at seen. seen-made w (Reads w s own) u (λ x gone. unread x gone) seen) value key p t
+      found (λ t. IsVisible w s own t.header) (λ q u at seen. seen-made w (ReadsIn w s own) u (λ x gone. unread x gone) seen) value key p t
     where
-      unread : (x : ℕ) → IsAborted w x → ¬ Reads w s own x
+      unread : (x : ℕ) → IsAborted w x → ¬ ReadsIn w s own x
       unread x gone (Reads.by_itself c) = let e : Aborted ≡ InProgress = sym gone ∙ (active x c).unfinished in absurd (cc)
-      unread x gone (Reads.by_others sees done) = let e : Aborted ≡ Committed = sym gone ∙ done in absurd (cc)
+      unread x gone (Reads.by_others sees done) = let e : Aborted ≡ Committed = sym gone ∙ committed-to w x done in absurd (cc)
 
   pub touched-found : (x : ℕ) → ¬ IsAborted w x → (value : ℤ) (key : ℕ) (p : Tid) (t : Version)
-      → IsOnHeap value_of pages value key (λ t. Touches t.header x) p t ↔ IsByIndex w pages entries value key (λ t. Touches t.header x) p t
+      → IsOnHeap value_of pages value key (λ t. Touches x t.header) p t ↔ IsByIndex w pages entries value key (λ t. Touches x t.header) p t
   touched-found x alive value key p t =
-      found (λ t. Touches t.header x) (λ q u at touch. touched-made w horizon (slots_on pages q.page) q.slot x u (sound.heap q.page) at alive touch) value key p t
+      found (λ t. Touches x t.header) (λ q u at touch. touched-made w horizon (slots_on pages q.page) q.slot x u (sound.heap q.page) at alive touch) value key p t

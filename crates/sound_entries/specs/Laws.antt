@@ -11,6 +11,7 @@ use Rattle.commit_status.specs.Window.{Window, IsWindow, IsActive, IsAborted, Is
 use Rattle.commit_status.specs.Changes.{Gives, Finishes}
 use Rattle.snapshot.specs.Snap.{Snap}
 use Rattle.visibility.specs.Visible.{IsVisible}
+use Rattle.visibility.specs.Seeing.{Touches}
 use Rattle.prune.specs.Pruning.{IsPruned}
 use Rattle.page_writes.specs.Writes.{with_replaced, with_root, with_updated}
 use Rattle.page_writes.specs.Keeps.{IsFree}
@@ -19,7 +20,7 @@ use Rattle.root_index.specs.declared.entry.Entry.{Entry}
 use Rattle.root_index.specs.Sets.{Adds, Loses}
 use Rattle.sound_entries.specs.Pages.{slots_on, slot_in, version_in, Puts}
 use Rattle.sound_entries.specs.Entries.{entry_for, SoundEntries, IsSound, StaysSound, KeepsLed}
-use Rattle.sound_entries.specs.Leading.{IsUndone, Touches, LedByOne, IsOnHeap, IsByIndex}
+use Rattle.sound_entries.specs.Leading.{IsUndone, LedByOne, IsOnHeap, IsByIndex}
 
 -- What is found.
 
@@ -38,7 +39,7 @@ FoundByIndex = (value_of : Row → ℤ) (w : Window) (horizon : ℕ) (pages : Li
 abbrev pub TouchedByIndex : Type 0
 TouchedByIndex = (value_of : Row → ℤ) (w : Window) (horizon : ℕ) (pages : List (List Slot)) (entries : List Entry) (x : ℕ) → IsSound value_of w horizon pages entries
     → ¬ IsAborted w x → (value : ℤ) (key : ℕ) (p : Tid) (t : Version)
-    → IsOnHeap value_of pages value key (λ t. Touches t.header x) p t ↔ IsByIndex w pages entries value key (λ t. Touches t.header x) p t
+    → IsOnHeap value_of pages value key (λ t. Touches x t.header) p t ↔ IsByIndex w pages entries value key (λ t. Touches x t.header) p t
 
 -- What steps keep.
 

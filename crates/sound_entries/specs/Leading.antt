@@ -1,5 +1,5 @@
 -- What is found through the entries of an index, and what on the pages themselves.
-use Rattle.std.specs.Prelude.{◌≡◌, ◌≢◌, ℕ, ℤ, List, Some, Contains}
+use Rattle.std.specs.Prelude.{◌≡◌, ℕ, ℤ, List, Some, Contains}
 use Rattle.xid_circle.specs.declared.Tid.{Tid}
 use Rattle.tuple_header.specs.Version.{Version}
 use Rattle.tuple_header.specs.declared.version.Header.{Header}
@@ -16,11 +16,6 @@ use Rattle.sound_entries.specs.Pages.{slots_on, version_in}
 pub record IsUndone (w : Window) (h : Header) : Type 0 where
   pub thawed : ¬ IsFrozen h
   pub aborted : IsAborted w h.xmin.0
-
--- an id made the version, which is not frozen, or deleted it
-pub data Touches (h : Header) (x : ℕ) : Type 0 where
-  made : ¬ IsFrozen h → h.xmin.0 ≡ x → Touches h x
-  deleted : h.xmax.0 ≢ 0 → h.xmax.0 ≡ x → Touches h x
 
 -- the place is in the chain that the entry leads to
 pub record Leads (w : Window) (pages : List (List Slot)) (entries : List Entry) (e : Entry) (p : Tid) : Type 0 where

@@ -9,7 +9,7 @@ use Rattle.page_slots.specs.declared.slot.Slot.{Slot}
 use Rattle.page_slots.specs.Slots.{version_at}
 use Rattle.commit_status.specs.Window.{Window, IsActive, IsCommitted, IsInProgress}
 use Rattle.snapshot.specs.Snap.{Snap, Sees}
-use Rattle.visibility.specs.Visible.{IsVisible}
+use Rattle.visibility.specs.Visible.{IsVisible, IsForeignIn, IsMissedIn}
 use Rattle.hot_chain.specs.Chain.{has_aborted, IsChain, IsSeenIn, Fetched}
 use Rattle.root_index.specs.declared.entry.Entry.{Entry}
 use Rattle.root_index.specs.Order.{Precedes}
@@ -17,7 +17,7 @@ use Rattle.root_index.specs.Sets.{IsLeast, IsAfter, IsOf}
 use Rattle.heap_pages.specs.View.{PagesView}
 use Rattle.sound_entries.specs.Pages.{slots_on}
 use Rattle.sound_entries.specs.Entries.{IsSound}
-use Rattle.sound_entries.specs.Leading.{Touches, IsOnHeap}
+use Rattle.sound_entries.specs.Leading.{IsOnHeap}
 
 abbrev pub slots_of : PagesView → List (List Slot)
 slots_of p = map (λ page. page.slots) p.pages
@@ -98,19 +98,7 @@ PlaceIsOnHeap = (value_of : Row → ℤ) (w : Window) (horizon : ℕ) (pages : L
     ((p : Tid) (t : Version) → ¬ IsOnHeap value_of pages value key (λ t. IsVisible w s own t.header) p t)
     (λ p. (t : Version) × IsOnHeap value_of pages value key (λ t. IsVisible w s own t.header) p t)
 
--- Ids that made or deleted a version.
-
--- a committed one that the snapshot does not see
-pub record IsMissed (w : Window) (s : Snap) (x : ℕ) (h : Header) : Type 0 where
-  pub touch : Touches h x
-  pub done : IsCommitted w x
-  pub unseen : ¬ Sees s w x
-
--- one in progress that is not the reader's own
-pub record IsForeign (w : Window) (own : List ℕ) (x : ℕ) (h : Header) : Type 0 where
-  pub touch : Touches h x
-  pub active : IsInProgress w x
-  pub foreign : ¬ Contains own x
+-- Versions that ids made or deleted.
 
 -- a version in one of these slots has P
 pub record SomeAmong (P : Header → Type 0) (slots : List Slot) (chain : List ℕ) : Type 0 where
@@ -153,8 +141,8 @@ SomeOnHeap value_of pages value key P = (p : Tid) × (t : Version) × IsOnHeap v
 -- Where the entries are sound, such ids are those of versions on the heap.
 abbrev pub MissedIsOnHeap : Type 0
 MissedIsOnHeap = (value_of : Row → ℤ) (w : Window) (horizon : ℕ) (pages : List (List Slot)) (entries : List Entry) (s : Snap) (x : ℕ) → IsSound value_of w horizon pages entries
-    → (value : ℤ) (key : ℕ) → SomeOf w (IsMissed w s x) pages entries value key ↔ SomeOnHeap value_of pages value key (IsMissed w s x)
+    → (value : ℤ) (key : ℕ) → SomeOf w (IsMissedIn w s x) pages entries value key ↔ SomeOnHeap value_of pages value key (IsMissedIn w s x)
 
 abbrev pub ForeignIsOnHeap : Type 0
 ForeignIsOnHeap = (value_of : Row → ℤ) (w : Window) (horizon : ℕ) (pages : List (List Slot)) (entries : List Entry) (own : List ℕ) (x : ℕ) → IsSound value_of w horizon pages entries
-    → (value : ℤ) (key : ℕ) → SomeOf w (IsForeign w own x) pages entries value key ↔ SomeOnHeap value_of pages value key (IsForeign w own x)
+    → (value : ℤ) (key : ℕ) → SomeOf w (IsForeignIn w own x) pages entries value key ↔ SomeOnHeap value_of pages value key (IsForeignIn w own x)

@@ -1,9 +1,9 @@
 //! What a session that is about to write a key has to know of its versions. Nothing here takes memory.
 
 ghost use Rattle.std.specs.Prelude.{◌≡◌, MatchOption, None, Some};
-ghost use Rattle.visibility.specs.Visible.{IsVisible};
+ghost use Rattle.visibility.specs.Visible.{IsVisible, IsForeignIn, IsMissedIn};
 ghost use Rattle.hot_chain.specs.Chain.{NoneSeen, IsSeenIn};
-ghost use Rattle.sound_entries.specs.Looking.{slots_of, SeenAt, FirstPlace, IsMissed, IsForeign, IsIdAmong, IsIdAt, IsIdOf};
+ghost use Rattle.sound_entries.specs.Looking.{slots_of, SeenAt, FirstPlace, IsIdAmong, IsIdAt, IsIdOf};
 
 use crate::looking::next_of;
 use crate::touched::{foreign_among, missed_among};
@@ -60,7 +60,7 @@ fn missed_or(
     snapshot: &Snapshot,
     table: &StatusTable,
 ) -> Option<Xid>
-    ensures { MatchOption before (IsIdAmong (IsMissed table.now snapshot.now) page.now.slots slots.now result) (λ x. result ≡ Some x) }
+    ensures { MatchOption before (IsIdAmong (IsMissedIn table.now snapshot.now) page.now.slots slots.now result) (λ x. result ≡ Some x) }
 {
     match before {
         Some(_) => before,
@@ -76,7 +76,7 @@ fn holder_or(
     own: &OwnIds,
     table: &StatusTable,
 ) -> Option<Xid>
-    ensures { MatchOption before (IsIdAmong (IsForeign table.now own.now.ids) page.now.slots slots.now result) (λ x. result ≡ Some x) }
+    ensures { MatchOption before (IsIdAmong (IsForeignIn table.now own.now.ids) page.now.slots slots.now result) (λ x. result ≡ Some x) }
 {
     match before {
         Some(_) => before,
@@ -95,8 +95,8 @@ fn standing_at(
     table: &StatusTable,
 ) -> Standing
     ensures place { MatchOption before.place (SeenAt table.now (IsVisible table.now snapshot.now own.now.ids) (slots_of pages.now) root result.place) (λ q. result.place ≡ Some q) }
-    ensures missed { MatchOption before.missed (IsIdAt table.now (IsMissed table.now snapshot.now) (slots_of pages.now) root result.missed) (λ x. result.missed ≡ Some x) }
-    ensures holder { MatchOption before.holder (IsIdAt table.now (IsForeign table.now own.now.ids) (slots_of pages.now) root result.holder) (λ x. result.holder ≡ Some x) }
+    ensures missed { MatchOption before.missed (IsIdAt table.now (IsMissedIn table.now snapshot.now) (slots_of pages.now) root result.missed) (λ x. result.missed ≡ Some x) }
+    ensures holder { MatchOption before.holder (IsIdAt table.now (IsForeignIn table.now own.now.ids) (slots_of pages.now) root result.holder) (λ x. result.holder ≡ Some x) }
 {
     let page = match pages.page(root.page) {
         Some(page) => page,
@@ -124,8 +124,8 @@ pub fn standing_of(
     table: &StatusTable,
 ) -> Standing
     ensures place { FirstPlace table.now (IsVisible table.now snapshot.now own.now.ids) (slots_of pages.now) index.now.entries value key result.place }
-    ensures missed { IsIdOf table.now (IsMissed table.now snapshot.now) (slots_of pages.now) index.now.entries value key result.missed }
-    ensures holder { IsIdOf table.now (IsForeign table.now own.now.ids) (slots_of pages.now) index.now.entries value key result.holder }
+    ensures missed { IsIdOf table.now (IsMissedIn table.now snapshot.now) (slots_of pages.now) index.now.entries value key result.missed }
+    ensures holder { IsIdOf table.now (IsForeignIn table.now own.now.ids) (slots_of pages.now) index.now.entries value key result.holder }
 {
     index.is_ascending();
     let mut standing = Standing {

@@ -3,9 +3,10 @@
 ghost use Rattle.std.specs.Prelude.{◌≡◌, ℕ, IsTrue, MatchOption, ◌↔◌, None, Contains};
 ghost use Rattle.xid_circle.specs.Circle.{IsNormal};
 ghost use Rattle.tuple_header.specs.Faults.{header_fault};
-ghost use Rattle.commit_status.specs.Window.{IsCommitted, IsInProgress};
 ghost use Rattle.snapshot.specs.Snap.{Sees};
-ghost use Rattle.sound_entries.specs.Looking.{IsMissed, IsForeign, SomeAmong};
+ghost use Rattle.visibility.specs.Seeing.{IsCommitted, IsActive};
+ghost use Rattle.visibility.specs.Visible.{state_of, IsForeignIn, IsMissedIn};
+ghost use Rattle.sound_entries.specs.Looking.{SomeAmong};
 
 use commit_status::{Status, StatusTable};
 use page_slots::Page;
@@ -16,7 +17,7 @@ use xid_circle::Xid;
 /// Whether the id is committed, and the snapshot does not see it.
 fn misses(x: Xid, snapshot: &Snapshot, table: &StatusTable) -> bool
     requires { IsNormal x.0 }
-    ensures { IsTrue result ↔ (IsCommitted table.now x.0 × (Sees snapshot.now table.now x.0 → ⊥)) }
+    ensures { IsTrue result ↔ (IsCommitted (state_of table.now) x.0 × (Sees snapshot.now table.now x.0 → ⊥)) }
 {
     match table.status(x) {
         Status::Committed => !snapshot.sees(x, table),
@@ -27,7 +28,7 @@ fn misses(x: Xid, snapshot: &Snapshot, table: &StatusTable) -> bool
 /// A committed id that made or deleted the version, and that the snapshot does not see.
 fn missed_in(header: &Header, snapshot: &Snapshot, table: &StatusTable) -> Option<Xid>
     requires { header_fault header.now ≡ None }
-    ensures { MatchOption result ((x : ℕ) → IsMissed table.now snapshot.now x header.now → ⊥) (λ x. IsMissed table.now snapshot.now x.0 header.now) }
+    ensures { MatchOption result ((x : ℕ) → IsMissedIn table.now snapshot.now x header.now → ⊥) (λ x. IsMissedIn table.now snapshot.now x.0 header.now) }
 {
     if !header.is_frozen() && misses(header.xmin, snapshot, table) {
         return Some(header.xmin);
@@ -38,13 +39,13 @@ fn missed_in(header: &Header, snapshot: &Snapshot, table: &StatusTable) -> Optio
     None
 }
 
-/// Whether the id is in progress, and none of these.
+/// Whether the id is in progress, and none of these. What the table has forgotten is over, whatever it says of it.
 fn is_foreign(x: Xid, own: &OwnIds, table: &StatusTable) -> bool
     requires { IsNormal x.0 }
-    ensures { IsTrue result ↔ (IsInProgress table.now x.0 × (Contains own.now.ids x.0 → ⊥)) }
+    ensures { IsTrue result ↔ (IsActive (state_of table.now) x.0 × (Contains own.now.ids x.0 → ⊥)) }
 {
     match table.status(x) {
-        Status::InProgress => !own.contains(x),
+        Status::InProgress => table.remembers(x) && !own.contains(x),
         _ => false,
     }
 }
@@ -52,7 +53,7 @@ fn is_foreign(x: Xid, own: &OwnIds, table: &StatusTable) -> bool
 /// An id in progress, none of these, that made or deleted the version.
 fn foreign_in(header: &Header, own: &OwnIds, table: &StatusTable) -> Option<Xid>
     requires { header_fault header.now ≡ None }
-    ensures { MatchOption result ((x : ℕ) → IsForeign table.now own.now.ids x header.now → ⊥) (λ x. IsForeign table.now own.now.ids x.0 header.now) }
+    ensures { MatchOption result ((x : ℕ) → IsForeignIn table.now own.now.ids x header.now → ⊥) (λ x. IsForeignIn table.now own.now.ids x.0 header.now) }
 {
     if !header.is_frozen() && is_foreign(header.xmin, own, table) {
         return Some(header.xmin);
@@ -70,8 +71,8 @@ pub(crate) fn missed_among(
     snapshot: &Snapshot,
     table: &StatusTable,
 ) -> Option<Xid>
-    ensures { MatchOption result ((x : ℕ) → SomeAmong (IsMissed table.now snapshot.now x) page.now.slots slots.now → ⊥)
-        (λ x. SomeAmong (IsMissed table.now snapshot.now x.0) page.now.slots slots.now) }
+    ensures { MatchOption result ((x : ℕ) → SomeAmong (IsMissedIn table.now snapshot.now x) page.now.slots slots.now → ⊥)
+        (λ x. SomeAmong (IsMissedIn table.now snapshot.now x.0) page.now.slots slots.now) }
 {
     for slot in slots {
         if let Some(header) = page.header(*slot) {
@@ -90,8 +91,8 @@ pub(crate) fn foreign_among(
     own: &OwnIds,
     table: &StatusTable,
 ) -> Option<Xid>
-    ensures { MatchOption result ((x : ℕ) → SomeAmong (IsForeign table.now own.now.ids x) page.now.slots slots.now → ⊥)
-        (λ x. SomeAmong (IsForeign table.now own.now.ids x.0) page.now.slots slots.now) }
+    ensures { MatchOption result ((x : ℕ) → SomeAmong (IsForeignIn table.now own.now.ids x) page.now.slots slots.now → ⊥)
+        (λ x. SomeAmong (IsForeignIn table.now own.now.ids x.0) page.now.slots slots.now) }
 {
     for slot in slots {
         if let Some(header) = page.header(*slot) {

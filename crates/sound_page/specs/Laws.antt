@@ -5,7 +5,7 @@ use Rattle.commit_status.specs.Window.{Window}
 use Rattle.hot_chain.specs.Chain.{has_aborted}
 use Rattle.sound_page.specs.Links.{NoSharedSlots}
 use Rattle.snapshot.specs.Snap.{Snap}
-use Rattle.visibility.specs.Visible.{Reads}
+use Rattle.visibility.specs.Visible.{ReadsIn}
 use Rattle.sound_page.specs.Sound.{SoundPage}
 use Rattle.sound_page.specs.Readers.{IsReader, IsOpenReader}
 
@@ -20,4 +20,4 @@ SoundIsUnshared = (w : Window) (horizon : ℕ) (slots : List Slot) → SoundPage
 -- who has a snapshot and own ids reads as is asked of a reader
 abbrev pub OpenReadersAreReaders : Type 0
 OpenReadersAreReaders = (w : Window) (horizon : ℕ) (slots : List Slot) (s : Snap) (own : List ℕ) → IsOpenReader w horizon slots s own
-    → IsReader w horizon slots (Reads w s own)
+    → IsReader w horizon slots (ReadsIn w s own)

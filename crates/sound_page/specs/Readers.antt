@@ -6,7 +6,8 @@ use Rattle.tuple_header.specs.Version.{Version}
 use Rattle.commit_status.specs.Window.{Window, IsWindow, IsActive, IsCommitted, IsAborted, IsUpToNext, turns}
 use Rattle.snapshot.specs.Snap.{Snap}
 use Rattle.snapshot.specs.Laws.{IsBounded}
-use Rattle.visibility.specs.Visible.{IsFrozen, Reads, VisibleBy}
+use Rattle.visibility.specs.Seeing.{VisibleBy}
+use Rattle.visibility.specs.Visible.{IsFrozen, ReadsIn}
 use Rattle.xid_circle.specs.Circle.{Precedes}
 
 -- a slot holds this version, and whoever counts the ids of R sees it
@@ -25,7 +26,7 @@ pub record IsReader (w : Window) (horizon : ℕ) (slots : List Slot) (R : ℕ �
       → IsFrozen t.header ⊎ R t.header.xmin.0
 
 abbrev pub Finds : Window → Snap → List ℕ → List Slot → ℕ → Version → Type 0
-Finds w s own slots n t = FindsBy (Reads w s own) slots n t
+Finds w s own slots n t = FindsBy (ReadsIn w s own) slots n t
 
 -- A snapshot and own ids, in a window: no snapshot that is open, or taken later, has an xmin before the horizon.
 pub record IsOpenReader (w : Window) (horizon : ℕ) (slots : List Slot) (s : Snap) (own : List ℕ) : Type 0 where
@@ -35,8 +36,8 @@ pub record IsOpenReader (w : Window) (horizon : ℕ) (slots : List Slot) (s : Sn
   pub low : turns w.first horizon ≤ turns w.first s.xmin
   pub active : (x : ℕ) → Contains own x → IsActive w x
   -- who reads a version's deletion reads its making
-  pub in_order : (n : ℕ) (t : Version) → version_at slots n ≡ Some t → IsCommitted w t.header.xmax.0 → Reads w s own t.header.xmax.0
-      → IsFrozen t.header ⊎ Reads w s own t.header.xmin.0
+  pub in_order : (n : ℕ) (t : Version) → version_at slots n ≡ Some t → IsCommitted w t.header.xmax.0 → ReadsIn w s own t.header.xmax.0
+      → IsFrozen t.header ⊎ ReadsIn w s own t.header.xmin.0
 
 -- each such reader finds in each slot the version that it found there, and no other
 abbrev pub KeepsFound : Window → ℕ → List Slot → List Slot → Type 0

@@ -10,7 +10,8 @@ use Rattle.page_slots.specs.Slots.{version_at}
 use Rattle.commit_status.specs.Window.{Window, IsAborted}
 use Rattle.snapshot.specs.Own.{Own}
 use Rattle.snapshot.specs.Snap.{Snap}
-use Rattle.visibility.specs.Visible.{Reads, IsVisible}
+use Rattle.visibility.specs.Seeing.{Reads}
+use Rattle.visibility.specs.Visible.{ReadsIn, IsVisible}
 use Rattle.visibility.proofs.Dead.{aborted-unread}
 use Rattle.prune.specs.Cutting.{IsCut}
 use Rattle.prune.proofs.Unseen.{cut-unseen}
@@ -24,7 +25,7 @@ use Rattle.sound_writes.specs.Laws.{IsWriter}
 use Rattle.sound_writes.specs.Readers.{FindsAt, Finds, IsReader, FindsTheSame, IsAuthor, FindsOneMore, Elsewhere}
 use Rattle.sound_writes.proofs.Standing.{RemovesOn, Replaced, taken_version, free_place, root_version, root-new, prunes-stand, readies-stand, inserts-stand, deletes-stand, updates-ready, updates-stand}
 use Rattle.sound_writes.proofs.Finding.{both, SameSight, adds-unseen, adds-seen, alters-same, alters-hidden}
-use Rattle.sound_writes.proofs.TakenIds.{takes-verdicts, takes-active, takes-mine}
+use Rattle.sound_writes.proofs.TakenIds.{takes-ids, takes-versions, takes-active, takes-mine}
 use Rattle.sound_writes.proofs.Sights.{active-unread, new-unseen, new-seen, taken-same, taken-unseen, author-sight}
 
 -- Nobody can tell.
@@ -36,7 +37,7 @@ removed-found : (h : HeapView) (store' : Tid → Option Version) (n horizon : �
 removed-found h store' n horizon s own sound reader removes p r = (
   (λ f. ⊎_elim
       (λ stays. record { version = f.version; there = stays; is_seen = f.is_seen; of_row = f.of_row })
-      (λ gone. absurd (cut-unseen h.table horizon slots (Reads h.table s own) p.slot f.version (sound.heap n) (open-reader h.table horizon slots s own (reader n))
+      (λ gone. absurd (cut-unseen h.table horizon slots (ReadsIn h.table s own) p.slot f.version (sound.heap n) (open-reader h.table horizon slots s own (reader n))
       (ap (λ m. version_at (slots_on (slots_of h) m) p.slot) (sym gone.0) ∙ f.there) f.is_seen gone.1))
       (removes.gone p f.version f.there)),
   (λ f. record { version = f.version; there = removes.kept p f.version f.there; is_seen = f.is_seen; of_row = f.of_row }),
@@ -54,14 +55,14 @@ pruning-unseen h h' number horizon s own sound prunes reader p r =
 module _ (h h' : HeapView) (horizon : ℕ) (own own' : Own) (x : ℕ) (s : Snap) (ids : List ℕ) (writer : IsWriter h h' own) (takes : TakesIds h.table h'.table own own' x)
     (reader : IsReader h horizon s ids) (foreign : ¬ Contains ids x) where
   other-sight : (t : Version) → IsVisible h.table s ids t.header ↔ IsVisible h'.table s ids t.header
-  other-sight t = let same = (takes-verdicts h.table h'.table own own' x writer.before writer.after takes s ids).versions t.header in (same.1, same.0)
+  other-sight t = let same = takes-versions h.table h'.table own own' x writer.before writer.after takes s ids t.header in (same.1, same.0)
 
-  unread : ¬ Reads h'.table s ids x
+  unread : ¬ ReadsIn h'.table s ids x
   unread = active-unread h'.table s ids x (takes-active h.table h'.table own own' x writer.before writer.after takes writer.active x (takes-mine h.table h'.table own own' x writer.before writer.after takes)) foreign
 
-  gone-unread : (y : ℕ) → IsAborted h.table y → ¬ Reads h'.table s ids y
+  gone-unread : (y : ℕ) → IsAborted h.table y → ¬ ReadsIn h'.table s ids y
   gone-unread y gone reads =
-      aborted-unread h.table s ids y (reader 0).active gone (((takes-verdicts h.table h'.table own own' x writer.before writer.after takes s ids).ids y).0 reads)
+      aborted-unread h.table s ids y (reader 0).active gone ((takes-ids h.table h'.table own own' x writer.before writer.after takes s ids y).0 reads)
 
 pub inserting-unseen : (h h' : HeapView) (horizon : ℕ) (own own' : Own) (row : Row) (x : ℕ) (s : Snap) (ids : List ℕ) → IsWriter h h' own → Inserts h h' own own' row x
     → IsReader h horizon s ids → ¬ Contains ids x → FindsTheSame h h' s ids
@@ -70,7 +71,7 @@ inserting-unseen h h' horizon own own' row x s ids writer i reader foreign =
     adds-unseen (version_in (slots_of h)) (version_in (slots_of h')) (IsVisible h.table s ids) (IsVisible h'.table s ids)
     (λ p t at. other-sight h h' horizon own own' x s ids writer i.takes_ids reader foreign t)
     (free_place h i.number) new (inserts-stand h h' own own' row x i)
-    (new-unseen (Reads h'.table s ids) x row new (root-new h false x row i.number) (unread h h' horizon own own' x s ids writer i.takes_ids reader foreign))
+    (new-unseen (ReadsIn h'.table s ids) x row new (root-new h false x row i.number) (unread h h' horizon own own' x s ids writer i.takes_ids reader foreign))
 
 pub deleting-unseen : (h h' : HeapView) (horizon : ℕ) (own own' : Own) (place : Tid) (t : Version) (x : ℕ) (s : Snap) (ids : List ℕ) → IsWriter h h' own → MayTake h place t
     → Deletes h h' own own' place x → IsReader h horizon s ids → ¬ Contains ids x → FindsTheSame h h' s ids
@@ -79,7 +80,7 @@ deleting-unseen h h' horizon own own' place t x s ids writer may d reader foreig
     (λ p u at. other-sight h h' horizon own own' x s ids writer d.takes_ids reader foreign u)
     place t (taken_version t x place false) (deletes-stand h h' own own' place x t d may.there) refl
     (both (other-sight h h' horizon own own' x s ids writer d.takes_ids reader foreign t)
-    (taken-same (Reads h'.table s ids) h.table t x place false (gone-unread h h' horizon own own' x s ids writer d.takes_ids reader foreign) may.untaken
+    (taken-same (ReadsIn h'.table s ids) h.table t x place false (gone-unread h h' horizon own own' x s ids writer d.takes_ids reader foreign) may.untaken
     (unread h h' horizon own own' x s ids writer d.takes_ids reader foreign)))
 
 pub updating-unseen : (h h' : HeapView) (horizon : ℕ) (own own' : Own) (place : Tid) (t : Version) (row : Row) (x : ℕ) (s : Snap) (ids : List ℕ) → SoundTable h horizon → IsWriter h h' own
@@ -92,9 +93,9 @@ updating-unseen h h' horizon own own' place t row x s ids sound writer may u rea
     both (removed-found h ready place.page horizon s ids sound reader (readies-stand h u.ready place.page horizon (rounded_size_of row) u.readies) p r)
     (both
     (adds-unseen ready m.added (IsVisible h.table s ids) seen (λ q v at. other-sight h h' horizon own own' x s ids writer u.takes_ids reader foreign v) m.to m.new m.adds
-    (new-unseen (Reads h'.table s ids) x row m.new m.is_new none) p r)
+    (new-unseen (ReadsIn h'.table s ids) x row m.new m.is_new none) p r)
     (alters-same m.added (version_in (slots_of h')) seen seen (λ q v at. (λ a. a, λ a. a)) place t (taken_version t x m.to m.hot) m.alters refl
-    (taken-same (Reads h'.table s ids) h.table t x m.to m.hot (gone-unread h h' horizon own own' x s ids writer u.takes_ids reader foreign) may.untaken none) p r))
+    (taken-same (ReadsIn h'.table s ids) h.table t x m.to m.hot (gone-unread h h' horizon own own' x s ids writer u.takes_ids reader foreign) may.untaken none) p r))
 
 -- Who writes finds what it has written.
 
@@ -103,7 +104,7 @@ module _ (h h' : HeapView) (horizon : ℕ) (own own' : Own) (x : ℕ) (s : Snap)
   own-sight : SameSight (version_in (slots_of h)) (IsVisible h.table s own.ids) (IsVisible h'.table s own'.ids)
   own-sight = author-sight h h'.table horizon own own' x s writer.before writer.after takes author
 
-  own-read : Reads h'.table s own'.ids x
+  own-read : ReadsIn h'.table s own'.ids x
   own-read = Reads.by_itself (takes-mine h.table h'.table own own' x writer.before writer.after takes)
 
   own-some : x ≢ 0
@@ -120,7 +121,7 @@ insert-found h h' horizon own own' row x s sound writer i author =
       fresh = λ r f. none-some f.version (sym adds.unused ∙ f.there);
       each = adds-seen (version_in (slots_of h)) (version_in (slots_of h')) (IsVisible h.table s own.ids) (IsVisible h'.table s own'.ids)
           (own-sight h h' horizon own own' x s writer i.takes_ids author) (free_place h i.number) new adds
-          (new-seen (Reads h'.table s own'.ids) x row new (root-new h false x row i.number) (own-read h h' horizon own own' x s writer i.takes_ids author));
+          (new-seen (ReadsIn h'.table s own'.ids) x row new (root-new h false x row i.number) (own-read h h' horizon own own' x s writer i.takes_ids author));
     }
 
 pub delete-found : (h h' : HeapView) (horizon : ℕ) (own own' : Own) (place : Tid) (t : Version) (x : ℕ) (s : Snap) → SoundTable h horizon → IsWriter h h' own
@@ -128,7 +129,7 @@ pub delete-found : (h h' : HeapView) (horizon : ℕ) (own own' : Own) (place : T
 delete-found h h' horizon own own' place t x s sound writer may d author =
     alters-hidden (version_in (slots_of h)) (version_in (slots_of h')) (IsVisible h.table s own.ids) (IsVisible h'.table s own'.ids)
     (own-sight h h' horizon own own' x s writer d.takes_ids author) place t (taken_version t x place false) (deletes-stand h h' own own' place x t d may.there)
-    (taken-unseen (Reads h'.table s own'.ids) t x place false (own-some h h' horizon own own' x s writer d.takes_ids author)
+    (taken-unseen (ReadsIn h'.table s own'.ids) t x place false (own-some h h' horizon own own' x s writer d.takes_ids author)
     (own-read h h' horizon own own' x s writer d.takes_ids author))
 
 pub update-found : (h h' : HeapView) (horizon : ℕ) (own own' : Own) (place : Tid) (t : Version) (row : Row) (x : ℕ) (s : Snap) → SoundTable h horizon → IsWriter h h' own
@@ -166,10 +167,10 @@ update-found h h' horizon own own' place t row x s sound writer may u author = r
     between : (p : Tid) (r : Row) → FindsAt (IsVisible h'.table s own'.ids) m.added p r ↔ (FindsAt (IsVisible h.table s own.ids) ready p r ⊎ ((p ≡ m.to) × (r ≡ m.new.row)))
     between = adds-seen ready m.added (IsVisible h.table s own.ids) (IsVisible h'.table s own'.ids)
         (λ p v at. own-sight h h' horizon own own' x s writer u.takes_ids author p v (removes.kept p v at)) m.to m.new m.adds
-        (new-seen (Reads h'.table s own'.ids) x row m.new m.is_new (own-read h h' horizon own own' x s writer u.takes_ids author))
+        (new-seen (ReadsIn h'.table s own'.ids) x row m.new m.is_new (own-read h h' horizon own own' x s writer u.takes_ids author))
 
     after : (p : Tid) (r : Row) → Finds h' s own'.ids p r ↔ (FindsAt (IsVisible h'.table s own'.ids) m.added p r × (p ≢ place))
     after = alters-hidden m.added (version_in (slots_of h')) (IsVisible h'.table s own'.ids) (IsVisible h'.table s own'.ids) (λ p v at. (λ a. a, λ a. a)) place t
         (taken_version t x m.to m.hot) m.alters
-        (taken-unseen (Reads h'.table s own'.ids) t x m.to m.hot (own-some h h' horizon own own' x s writer u.takes_ids author)
+        (taken-unseen (ReadsIn h'.table s own'.ids) t x m.to m.hot (own-some h h' horizon own own' x s writer u.takes_ids author)
         (own-read h h' horizon own own' x s writer u.takes_ids author))

@@ -11,21 +11,22 @@ use Rattle.commit_status.specs.declared.status.Status.TheVariants.{InProgress, C
 use Rattle.commit_status.specs.Window.{Window, IsWindow, IsActive, IsGiven, IsAborted}
 use Rattle.snapshot.specs.Own.{Own}
 use Rattle.snapshot.specs.Snap.{Snap}
-use Rattle.visibility.specs.Visible.{IsFrozen, Reads, VisibleBy, IsVisible}
-use Rattle.visibility.specs.Laws.{SameVerdicts}
+use Rattle.visibility.specs.Seeing.{Reads, VisibleBy}
+use Rattle.visibility.specs.Visible.{IsFrozen, ReadsIn, IsVisible}
+use Rattle.visibility.proofs.Makers.{visible-of, made-of, kept-of, committed-to}
 use Rattle.page_writes.specs.Keeps.{IsUntaken}
 use Rattle.page_writes.proofs.Bits.{replaced-frozen}
 use Rattle.sound_entries.specs.Pages.{version_in}
 use Rattle.heap_write.specs.Heap.{HeapView, slots_of}
 use Rattle.heap_write.specs.Writes.{TakesIds}
 use Rattle.sound_writes.specs.Readers.{IsAuthor}
-use Rattle.sound_writes.proofs.TakenIds.{takes-verdicts, takes-more, takes-old}
+use Rattle.sound_writes.proofs.TakenIds.{takes-ids, takes-more, takes-old}
 use Rattle.sound_writes.proofs.Standing.{IsNewBy, taken_version}
 
 -- Who does not own an id in progress doesn't read it.
-pub active-unread : (w : Window) (s : Snap) (own : List ℕ) (x : ℕ) → IsActive w x → ¬ Contains own x → ¬ Reads w s own x
+pub active-unread : (w : Window) (s : Snap) (own : List ℕ) (x : ℕ) → IsActive w x → ¬ Contains own x → ¬ ReadsIn w s own x
 active-unread w s own x active foreign (Reads.by_itself mine) = foreign mine
-active-unread w s own x active foreign (Reads.by_others sees done) = let e : InProgress ≡ Committed = sym active.unfinished ∙ done in absurd (cc)
+active-unread w s own x active foreign (Reads.by_others sees done) = let e : InProgress ≡ Committed = sym active.unfinished ∙ committed-to w x done in absurd (cc)
 
 -- One version.
 
@@ -34,34 +35,36 @@ pub new-unseen : (R : ℕ → Type 0) (x : ℕ) (row : Row) (v : Version) → Is
 new-unseen R x row v new unread seen = ⊎_elim
     (λ frozen. let e : true ≡ false = sym frozen ∙ new.thawed in absurd (cc))
     (λ reads. unread (subst R new.maker reads))
-    seen.made
+    (made-of R v.header seen)
 
 -- its maker is read, and it has no deleter
 pub new-seen : (R : ℕ → Type 0) (x : ℕ) (row : Row) (v : Version) → IsNewBy x row v → R x → VisibleBy R v.header
-new-seen R x row v new reads = record { made = inr (subst R (sym new.maker) reads); kept = λ some. absurd (some new.undeleted) }
+new-seen R x row v new reads = visible-of R v.header (inr (subst R (sym new.maker) reads)) (λ some. absurd (some new.undeleted))
 
 -- neither the deleter before nor the one now is read
 pub taken-same : (R : ℕ → Type 0) (w : Window) (t : Version) (x : ℕ) (to : Tid) (hot : Bool) → ((y : ℕ) → IsAborted w y → ¬ R y) → IsUntaken w t.header → ¬ R x
     → VisibleBy R t.header ↔ VisibleBy R (taken_version t x to hot).header
 taken-same R w t x to hot none free unread = (
-  (λ seen. record { made = ⊎_elim (λ f. inl (replaced-frozen t.header x to.page to.slot hot ∙ f)) (λ r. inr r) seen.made; kept = λ some. unread }),
-  (λ seen. record {
-    made = ⊎_elim (λ f. inl (sym (replaced-frozen t.header x to.page to.slot hot) ∙ f)) (λ r. inr r) seen.made;
-    kept = λ some r. ⊎_elim (λ zero. some zero) (λ gone. none t.header.xmax.0 gone r) free;
-  }),
+  (λ seen. visible-of R taken (⊎_elim (λ f. inl (replaced-frozen t.header x to.page to.slot hot ∙ f)) (λ r. inr r) (made-of R t.header seen)) (λ some. unread)),
+  (λ seen. visible-of R t.header
+      (⊎_elim (λ f. inl (sym (replaced-frozen t.header x to.page to.slot hot) ∙ f)) (λ r. inr r) (made-of R taken seen))
+      (λ some r. ⊎_elim (λ zero. some zero) (λ gone. none t.header.xmax.0 gone r) free)),
 )
+  where
+    taken : Header
+    taken = (taken_version t x to hot).header
 
 -- the deleter now is read
 pub taken-unseen : (R : ℕ → Type 0) (t : Version) (x : ℕ) (to : Tid) (hot : Bool) → x ≢ 0 → R x → ¬ VisibleBy R (taken_version t x to hot).header
-taken-unseen R t x to hot some reads seen = seen.kept some reads
+taken-unseen R t x to hot some reads seen = kept-of R (taken_version t x to hot).header seen some reads
 
 -- Who gets ids.
 
 -- the ids that a version names are read as before
 pub same-named : (R Q : ℕ → Type 0) (h : Header) → ((¬ IsFrozen h) → R h.xmin.0 ↔ Q h.xmin.0) → (h.xmax.0 ≢ 0 → R h.xmax.0 ↔ Q h.xmax.0) → VisibleBy R h ↔ VisibleBy Q h
 same-named R Q h maker deleter = (
-  (λ seen. record { made = made R Q (λ thawed. (maker thawed).0) seen.made; kept = λ some q. seen.kept some ((deleter some).1 q) }),
-  (λ seen. record { made = made Q R (λ thawed. (maker thawed).1) seen.made; kept = λ some r. seen.kept some ((deleter some).0 r) }),
+  (λ seen. visible-of Q h (made R Q (λ thawed. (maker thawed).0) (made-of R h seen)) (λ some q. kept-of R h seen some ((deleter some).1 q))),
+  (λ seen. visible-of R h (made Q R (λ thawed. (maker thawed).1) (made-of Q h seen)) (λ some r. kept-of Q h seen some ((deleter some).0 r))),
 )
   where
     made : (A B : ℕ → Type 0) → ((¬ IsFrozen h) → A h.xmin.0 → B h.xmin.0) → IsFrozen h ⊎ A h.xmin.0 → IsFrozen h ⊎ B h.xmin.0
@@ -71,18 +74,18 @@ same-named R Q h maker deleter = (
         (cases_Bool (is_frozen h))
 
 -- of what was given before, who has taken ids reads the same
-takes-reads : (w v : Window) (s : Snap) (own own' : Own) (x z : ℕ) → IsWindow w → IsWindow v → TakesIds w v own own' x → IsGiven w z → Reads w s own.ids z ↔ Reads v s own'.ids z
+takes-reads : (w v : Window) (s : Snap) (own own' : Own) (x z : ℕ) → IsWindow w → IsWindow v → TakesIds w v own own' x → IsGiven w z → ReadsIn w s own.ids z ↔ ReadsIn v s own'.ids z
 takes-reads w v s own own' x z before after takes there =
-    ((λ r. more ((verdicts.ids z).1 r)), (λ r. (verdicts.ids z).0 (less r)))
+    ((λ r. more (same.1 r)), (λ r. same.0 (less r)))
   where
-    verdicts : SameVerdicts w v s own.ids
-    verdicts = takes-verdicts w v own own' x before after takes s own.ids
+    same : ReadsIn v s own.ids z ↔ ReadsIn w s own.ids z
+    same = takes-ids w v own own' x before after takes s own.ids z
 
-    less : Reads v s own'.ids z → Reads v s own.ids z
+    less : ReadsIn v s own'.ids z → ReadsIn v s own.ids z
     less (Reads.by_itself mine) = Reads.by_itself (takes-old w v own own' x before after takes z there mine)
     less (Reads.by_others sees done) = Reads.by_others sees done
 
-    more : Reads v s own.ids z → Reads v s own'.ids z
+    more : ReadsIn v s own.ids z → ReadsIn v s own'.ids z
     more (Reads.by_itself mine) = Reads.by_itself (takes-more w v own own' x before after takes z mine)
     more (Reads.by_others sees done) = Reads.by_others sees done
 
@@ -90,6 +93,6 @@ takes-reads w v s own own' x z before after takes there =
 pub author-sight : (h : HeapView) (v : Window) (horizon : ℕ) (own own' : Own) (x : ℕ) (s : Snap) → IsWindow h.table → IsWindow v → TakesIds h.table v own own' x
     → IsAuthor h horizon s own.ids → (p : Tid) (t : Version) → version_in (slots_of h) p ≡ Some t → IsVisible h.table s own.ids t.header ↔ IsVisible v s own'.ids t.header
 author-sight h v horizon own own' x s before after takes author p t at =
-    same-named (Reads h.table s own.ids) (Reads v s own'.ids) t.header
+    same-named (ReadsIn h.table s own.ids) (ReadsIn v s own'.ids) t.header
     (λ thawed. takes-reads h.table v s own own' x t.header.xmin.0 before after takes (author.makers p t at thawed))
     (λ some. takes-reads h.table v s own own' x t.header.xmax.0 before after takes (author.deleters p t at some))

@@ -1,5 +1,5 @@
 -- What hints leave as it is, and that they are true.
-use Rattle.std.proofs.Common.{◌≡◌, ℕ, ◌↔◌, Bool, true, false, not, ◌&&◌, ◌||◌, nat_eq, List, None, bit_and, bit_or, arith, inl, inr, ⊎_elim, refl, sym, ap, ◌∙◌}
+use Rattle.std.proofs.Common.{◌≡◌, ℕ, ◌↔◌, Bool, true, false, not, ◌&&◌, ◌||◌, nat_eq, List, None, Some, if◌then◌else◌, bit_and, bit_or, arith, inl, inr, ⊎_elim, refl, sym, ap, ◌∙◌}
 use Rattle.std.proofs.lemmas.Nat.{and_or_apart, and_assoc, or_comm}
 use Rattle.std.specs.Int.Bits.{and_zero_r}
 use Rattle.std.proofs.lemmas.Bool.{or_parts, or_from, ne_eqb}
@@ -10,6 +10,7 @@ use Rattle.commit_status.specs.declared.status.Status.TheVariants.{InProgress, C
 use Rattle.commit_status.specs.Window.{Window, status_of}
 use Rattle.snapshot.specs.Snap.{Snap}
 use Rattle.tuple_header.specs.Marks.{is_frozen}
+use Rattle.visibility.specs.Seeing.{maker}
 use Rattle.visibility.specs.Visible.{IsVisible}
 use Rattle.visibility.specs.Hints.{maker_marks, deleter_marks, hinted, AreTrue}
 use Rattle.visibility.proofs.Headers.{no-fault, fault-no}
@@ -150,6 +151,9 @@ hinted-faultless w h e =
 -- hints change no verdict
 pub hints-nothing : (v w : Window) (s : Snap) (own : List ℕ) (h : Header) → IsVisible w s own (hinted v h) ↔ IsVisible w s own h
 hints-nothing v w s own h = (
-  λ a. record { made = ⊎_elim (λ f. inl (sym (hinted-frozen v h) ∙ f)) (λ r. inr r) a.made; kept = a.kept },
-  λ a. record { made = ⊎_elim (λ f. inl (hinted-frozen v h ∙ f)) (λ r. inr r) a.made; kept = a.kept },
+  λ a. record { made = λ x is. a.made x (same ∙ is); kept = a.kept },
+  λ a. record { made = λ x is. a.made x (sym same ∙ is); kept = a.kept },
 )
+  where
+    same : maker (hinted v h) ≡ maker h
+    same = ap (λ b. if b then None else Some h.xmin.0) (hinted-frozen v h)

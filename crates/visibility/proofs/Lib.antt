@@ -1,4 +1,5 @@
 pub mod Headers
+pub mod Makers
 pub mod Verdicts
 pub mod Parts
 pub mod HintLemmas

@@ -1,7 +1,9 @@
 -- Tests of two parts.
 use Rattle.std.proofs.Common.{◌≡◌, ◌≢◌, ◌⊎◌, ◌↔◌, ℕ, Bool, true, false, IsTrue, not, inr, ⊎_elim, refl}
 use Rattle.tuple_header.specs.declared.version.Header.{Header}
-use Rattle.visibility.specs.Visible.{VisibleBy, IsFrozen}
+use Rattle.visibility.specs.Seeing.{VisibleBy}
+use Rattle.visibility.specs.Visible.{IsFrozen}
+use Rattle.visibility.proofs.Makers.{visible-of, made-of, kept-of}
 
 -- the first part is not so
 pub second-part : (b : Bool) (F R : Type 0) → ¬ F → (IsTrue b ↔ R) → IsTrue b ↔ (F ⊎ R)
@@ -16,6 +18,11 @@ pub made-kept : (deleted : Bool) (R : ℕ → Type 0) (h : Header) → IsFrozen 
     → IsTrue (not deleted) ↔ VisibleBy R h
 made-kept true R h m d =
     let gone = d.0 refl in
-    (λ t. absurd (cc), λ v. absurd (v.kept gone.0 gone.1))
+    (λ t. absurd (cc), λ v. absurd (kept-of R h v gone.0 gone.1))
 made-kept false R h m d =
-    (λ t. record { made = m; kept = λ some r. absurd (let f : false ≡ true = d.1 (some, r) in cc) }, λ v. refl)
+    (λ t. visible-of R h m (λ some r. absurd (let f : false ≡ true = d.1 (some, r) in cc)), λ v. refl)
+
+-- not made
+pub not-made : (made : Bool) (R : ℕ → Type 0) (h : Header) → made ≡ false → (IsTrue made ↔ (IsFrozen h ⊎ R h.xmin.0)) → IsTrue made ↔ VisibleBy R h
+not-made true R h none m = absurd (cc)
+not-made false R h none m = (λ t. absurd (cc), λ v. m.1 (made-of R h v))

@@ -4,37 +4,54 @@ use Rattle.std.specs.List.{Contains}
 use Rattle.tuple_header.specs.declared.version.Header.{Header}
 use Rattle.commit_status.specs.declared.status.Status.{Status}
 use Rattle.commit_status.specs.declared.status.Status.TheVariants.{InProgress, Committed}
-use Rattle.commit_status.specs.Window.{Window, IsWindow, IsCommitted, status_of, top_of}
+use Rattle.commit_status.specs.Window.{Window, IsWindow, IsCommitted, place, status_of, top_of}
 use Rattle.commit_status.specs.Changes.{Gives, Finishes}
-use Rattle.commit_status.proofs.Finishing.{finishes-top}
-use Rattle.commit_status.proofs.Giving.{gives-status, gives-top_old, next-unfinished}
+use Rattle.commit_status.proofs.Finishing.{finishes-top, finishes-given}
+use Rattle.commit_status.proofs.Giving.{gives-place_old, gives-status, gives-top_old, next-unfinished}
+use Rattle.commit_status.proofs.Places.{some-from_is, is-from_some}
 use Rattle.snapshot.specs.Snap.{Snap, Sees}
 use Rattle.snapshot.proofs.Sights.{sees-top}
-use Rattle.visibility.specs.Visible.{Reads, VisibleBy}
-use Rattle.visibility.specs.Laws.{SameVerdicts}
+use Rattle.visibility.specs.Seeing.{Reads, VisibleBy, Touches}
+use Rattle.visibility.specs.Visible.{ReadsIn}
+use Rattle.visibility.specs.Laws.{StaysKnown, KeepsVerdicts}
+use Rattle.visibility.proofs.Makers.{committed-to, committed-from}
 
--- readers that count the same ids see the same versions
-pub visible-by : (R Q : ℕ → Type 0) (h : Header) → ((x : ℕ) → R x → Q x) → ((x : ℕ) → Q x → R x) → VisibleBy R h → VisibleBy Q h
-visible-by R Q h to back v = record { made = ⊎_elim (λ a. inl a) (λ b. inr (to h.xmin.0 b)) v.made; kept = λ some r. v.kept some (back h.xmax.0 r) }
+-- readers that count the same of the ids that a version names see it or not alike
+pub VisibleBy-same : {R R' : ℕ → Type 0} {h : Header} → ((x : ℕ) → Touches x h → R x → R' x) → ((x : ℕ) → Touches x h → R' x → R x) → VisibleBy R h → VisibleBy R' h
+VisibleBy-same {R} {R'} {h} to back seen = record {
+  made = λ x is. to x (Touches.made_by is) (seen.made x is);
+  kept = λ x is read. seen.kept x is (back x (Touches.deleted_by is) read);
+}
 
-reads-to : (v w : Window) (s : Snap) (own : List ℕ) (x : ℕ) → (Sees s w x → IsCommitted w x → Sees s v x × IsCommitted v x) → Reads w s own x → Reads v s own x
+gives-known : (w v : Window) (parent : Option ℕ) (x : ℕ) → Gives w v parent → StaysKnown w v x
+gives-known w v parent x g there =
+    let at = some-from_is (place w x) there in is-from_some (place v x) at.0 (gives-place_old w v parent x at.0 g at.1)
+
+reads-to : (v w : Window) (s : Snap) (own : List ℕ) (x : ℕ) → (Sees s w x → IsCommitted w x → Sees s v x × IsCommitted v x) → ReadsIn w s own x → ReadsIn v s own x
 reads-to v w s own x f (Reads.by_itself c) = Reads.by_itself c
-reads-to v w s own x f (Reads.by_others sees done) = let g = f sees done in Reads.by_others g.0 g.1
+reads-to v w s own x f (Reads.by_others sees done) = let g = f sees (committed-to w x done) in Reads.by_others g.0 (committed-from v x g.1)
 
-same-verdicts : (w v : Window) (s : Snap) (own : List ℕ) → ((x : ℕ) → Sees s w x → IsCommitted w x → Sees s v x × IsCommitted v x)
-    → ((x : ℕ) → Sees s v x → IsCommitted v x → Sees s w x × IsCommitted w x) → SameVerdicts w v s own
-same-verdicts w v s own to back =
-    let f : (x : ℕ) → Reads w s own x → Reads v s own x = λ x. reads-to v w s own x (to x) in
-    let g : (x : ℕ) → Reads v s own x → Reads w s own x = λ x. reads-to w v s own x (back x) in
-    record {
-      ids = λ x. (g x, f x);
-      versions = λ h. (visible-by (Reads v s own) (Reads w s own) h g f, visible-by (Reads w s own) (Reads v s own) h f g);
-    }
+same-verdicts : (w v : Window) (s : Snap) (own : List ℕ) → ((x : ℕ) → StaysKnown w v x) → ((x : ℕ) → Sees s w x → IsCommitted w x → Sees s v x × IsCommitted v x)
+    → ((x : ℕ) → Sees s v x → IsCommitted v x → Sees s w x × IsCommitted w x) → KeepsVerdicts w v s own
+same-verdicts w v s own known to back = (
+  known,
+  record {
+    ids = λ x there. (g x, f x);
+    versions = λ h there. (VisibleBy-same (λ x touch. g x) (λ x touch. f x), VisibleBy-same (λ x touch. f x) (λ x touch. g x));
+  },
+)
+  where
+    f : (x : ℕ) → ReadsIn w s own x → ReadsIn v s own x
+    f x = reads-to v w s own x (to x)
+
+    g : (x : ℕ) → ReadsIn v s own x → ReadsIn w s own x
+    g x = reads-to w v s own x (back x)
 
 pub finishing-unseen : (w v : Window) (ids : List ℕ) (status : Status) (s : Snap) (own : List ℕ) → Finishes w v ids status
-    → ((x : ℕ) → Contains ids x → ¬ Contains own x) → ((x : ℕ) → Contains ids x → ¬ Sees s w x) → SameVerdicts w v s own
+    → ((x : ℕ) → Contains ids x → ¬ Contains own x) → ((x : ℕ) → Contains ids x → ¬ Sees s w x) → KeepsVerdicts w v s own
 finishing-unseen w v ids status s own f apart unseen =
     same-verdicts w v s own
+    (λ x. finishes-given w v ids status x f)
     (λ x sees done. (
       sees-top s v w x (finishes-top w v ids status x f) sees,
       ⊎_elim (λ mine. absurd (unseen x mine.0 sees)) (λ other. other.1 ∙ done) (f.each x),
@@ -42,9 +59,10 @@ finishing-unseen w v ids status s own f apart unseen =
     (λ x sees done. let before = sees-top s w v x (sym (finishes-top w v ids status x f)) sees in
     (before, ⊎_elim (λ mine. absurd (unseen x mine.0 before)) (λ other. sym other.1 ∙ done) (f.each x)))
 
-pub giving-unseen : (w v : Window) (parent : Option ℕ) (s : Snap) (own : List ℕ) → IsWindow w → IsWindow v → Gives w v parent → SameVerdicts w v s own
+pub giving-unseen : (w v : Window) (parent : Option ℕ) (s : Snap) (own : List ℕ) → IsWindow w → IsWindow v → Gives w v parent → KeepsVerdicts w v s own
 giving-unseen w v parent s own before after g =
     same-verdicts w v s own
+    (λ x. gives-known w v parent x g)
     (λ x sees done. (sees-top s v w x (top x done) sees, gives-status w v parent x before after g ∙ done))
     (λ x sees done. let was : IsCommitted w x = sym (gives-status w v parent x before after g) ∙ done in
     (sees-top s w v x (sym (top x was)) sees, was))

@@ -1,3 +1,4 @@
+pub mod Seeing
 pub mod Visible
 pub mod Laws
 pub mod Hints

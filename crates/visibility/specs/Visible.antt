@@ -1,29 +1,37 @@
--- Which versions a reader sees. A reader is a snapshot and ids of its own. (The manual's "Transaction Isolation": a
--- query sees what was committed before it began, and its own transaction's changes.)
-use Rattle.std.specs.Prelude.{◌≡◌, ◌≢◌, ℕ, true, List, Contains, ◌⊎◌}
+-- Which versions a snapshot sees, with ids of its owner's own, by a table of ids; and which nobody sees any more.
+use Rattle.std.specs.Prelude.{◌≡◌, ℕ, true, List, Option}
+use Rattle.std.specs.Option.{option_map}
 use Rattle.xid_circle.specs.Circle.{Precedes}
 use Rattle.tuple_header.specs.declared.version.Header.{Header}
 use Rattle.tuple_header.specs.Marks.{is_frozen}
-use Rattle.commit_status.specs.Window.{Window, IsCommitted, IsAborted}
+use Rattle.commit_status.specs.declared.status.Status.{Status}
+use Rattle.commit_status.specs.Window.{Window, IsCommitted, IsAborted, place, status_of}
 use Rattle.snapshot.specs.Snap.{Snap, Sees}
+use Rattle.visibility.specs.Seeing.{Reads, VisibleBy, IsMissed, IsForeign}
 
 -- its marks say that everybody sees its maker
 abbrev pub IsFrozen : Header → Type 0
 IsFrozen h = is_frozen h ≡ true
 
--- the reader counts what an id did: it is its own, or seen and committed
-pub data Reads (w : Window) (s : Snap) (own : List ℕ) (x : ℕ) : Type 0 where
-  by_itself : Contains own x → Reads w s own x
-  by_others : Sees s w x → IsCommitted w x → Reads w s own x
+-- what became of an id of the window
+abbrev pub state_of : Window → ℕ → Option Status
+state_of w x = option_map (λ _. status_of w x) (place w x)
 
--- a version that an id of R made, or that is frozen, and that no id of R deleted
-pub record VisibleBy (R : ℕ → Type 0) (h : Header) : Type 0 where
-  pub made : IsFrozen h ⊎ R h.xmin.0
-  pub kept : h.xmax.0 ≢ 0 → ¬ R h.xmax.0
+-- the reader counts what an id did
+abbrev pub ReadsIn : Window → Snap → List ℕ → ℕ → Type 0
+ReadsIn w s own x = Reads (state_of w) (λ x. Sees s w x) own x
 
 -- the reader sees the version
 abbrev pub IsVisible : Window → Snap → List ℕ → Header → Type 0
-IsVisible w s own h = VisibleBy (Reads w s own) h
+IsVisible w s own h = VisibleBy (ReadsIn w s own) h
+
+-- a committed id that the snapshot does not see made or deleted it
+abbrev pub IsMissedIn : Window → Snap → ℕ → Header → Type 0
+IsMissedIn w s x h = IsMissed (state_of w) (λ x. Sees s w x) x h
+
+-- an id in progress that is none of these did
+abbrev pub IsForeignIn : Window → List ℕ → ℕ → Header → Type 0
+IsForeignIn w own x h = IsForeign (state_of w) own x h
 
 -- Nobody sees the version, now or later: it was rolled back, or its deleter committed before the horizon. (The
 -- manual's "Routine Vacuuming": a version is removed once no transaction can see it.)

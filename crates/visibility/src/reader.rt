@@ -2,7 +2,7 @@
 
 ghost use Rattle.std.specs.Prelude.{◌≡◌, ◌≢◌, ◌↔◌, ◌⊎◌, IsTrue, None};
 ghost use Rattle.tuple_header.specs.Faults.{header_fault};
-ghost use Rattle.visibility.specs.Visible.{IsFrozen, Reads, IsVisible};
+ghost use Rattle.visibility.specs.Visible.{IsFrozen, ReadsIn, IsVisible};
 
 use commit_status::{Status, StatusTable};
 use snapshot::{OwnIds, Snapshot};
@@ -11,7 +11,7 @@ use xid_circle::Xid;
 
 /// Whether a reader counts what an id did: it is its own, or seen and committed.
 pub fn reads(x: Xid, snapshot: &Snapshot, own: &OwnIds, table: &StatusTable) -> bool
-    ensures { IsTrue result ↔ Reads table.now snapshot.now own.now.ids x.0 }
+    ensures { IsTrue result ↔ ReadsIn table.now snapshot.now own.now.ids x.0 }
 {
     if own.contains(x) {
         return true;
@@ -25,7 +25,7 @@ pub fn reads(x: Xid, snapshot: &Snapshot, own: &OwnIds, table: &StatusTable) -> 
 /// Whether a reader counts the making of a version.
 fn is_made(header: &Header, snapshot: &Snapshot, own: &OwnIds, table: &StatusTable) -> bool
     requires { header_fault header.now ≡ None }
-    ensures { IsTrue result ↔ (IsFrozen header.now ⊎ Reads table.now snapshot.now own.now.ids header.now.xmin.0) }
+    ensures { IsTrue result ↔ (IsFrozen header.now ⊎ ReadsIn table.now snapshot.now own.now.ids header.now.xmin.0) }
 {
     header.is_frozen() || reads(header.xmin, snapshot, own, table)
 }
@@ -33,7 +33,7 @@ fn is_made(header: &Header, snapshot: &Snapshot, own: &OwnIds, table: &StatusTab
 /// Whether a reader counts the deletion of a version.
 fn is_deleted(header: &Header, snapshot: &Snapshot, own: &OwnIds, table: &StatusTable) -> bool
     requires { header_fault header.now ≡ None }
-    ensures { IsTrue result ↔ ((header.now.xmax.0 ≢ 0) × Reads table.now snapshot.now own.now.ids header.now.xmax.0) }
+    ensures { IsTrue result ↔ ((header.now.xmax.0 ≢ 0) × ReadsIn table.now snapshot.now own.now.ids header.now.xmax.0) }
 {
     header.xmax.0 != 0 && reads(header.xmax, snapshot, own, table)
 }

@@ -1,38 +1,38 @@
 use Rattle.std.proofs.Common.{◌≤◌, length, arith, inl, inr, to_z, of_z}
 use Rattle.std.specs.Int.{w128}
 use Rattle.std.proofs.lemmas.Int.{to_z-of_z}
-use Rattle.visibility.specs.Visible.{IsVisible}
-use Rattle.sound_entries.specs.Looking.{slots_of, IsMissed, IsForeign}
+use Rattle.visibility.specs.Visible.{IsVisible, IsForeignIn, IsMissedIn}
+use Rattle.sound_entries.specs.Looking.{slots_of}
 use Rattle.sound_entries.proofs.Searching.{standing-first, standing-next, standing-place, standing-missed, standing-holder}
 use Rattle.sound_entries.proofs.standing.standing_of.Goals as goal
 
 pub loop-init : goal.loop-init
 loop-init c =
-    standing-first c.args.table.now (IsVisible c.args.table.now c.args.snapshot.now c.args.own.now.ids) (IsMissed c.args.table.now c.args.snapshot.now) (IsForeign c.args.table.now c.args.own.now.ids)
+    standing-first c.args.table.now (IsVisible c.args.table.now c.args.snapshot.now c.args.own.now.ids) (IsMissedIn c.args.table.now c.args.snapshot.now) (IsForeignIn c.args.table.now c.args.own.now.ids)
     (slots_of c.args.pages.now) c.args.index.now.entries (to_z w128 (of_z w128 c.args.value)) c.args.key c.next_of-next.result c.next_of-next.ensures
 
 pub loop-preserved : goal.loop-preserved
 loop-preserved c =
     let found = c.standing_at-standing.ensures in
-    standing-next c.args.table.now (IsVisible c.args.table.now c.args.snapshot.now c.args.own.now.ids) (IsMissed c.args.table.now c.args.snapshot.now) (IsForeign c.args.table.now c.args.own.now.ids)
+    standing-next c.args.table.now (IsVisible c.args.table.now c.args.snapshot.now c.args.own.now.ids) (IsMissedIn c.args.table.now c.args.snapshot.now) (IsForeignIn c.args.table.now c.args.own.now.ids)
     (slots_of c.args.pages.now) c.args.index.now.entries (to_z w128 (of_z w128 c.args.value)) c.args.key c.loop.counter c.loop.next c.in-Some.entry c.next_of-next-in-Some.result c.loop.standing
     c.standing_at-standing.result c.is_ascending.ensures c.loop.invariant c.in-Some.is c.next_of-next-in-Some.ensures found.place found.missed found.holder
 
 pub returns-in-None-clause-place : goal.returns-in-None-clause-place
 returns-in-None-clause-place c =
-    standing-place c.args.table.now (IsVisible c.args.table.now c.args.snapshot.now c.args.own.now.ids) (IsMissed c.args.table.now c.args.snapshot.now) (IsForeign c.args.table.now c.args.own.now.ids)
+    standing-place c.args.table.now (IsVisible c.args.table.now c.args.snapshot.now c.args.own.now.ids) (IsMissedIn c.args.table.now c.args.snapshot.now) (IsForeignIn c.args.table.now c.args.own.now.ids)
     (slots_of c.args.pages.now) c.args.index.now.entries (to_z w128 (of_z w128 c.args.value)) c.args.value c.args.key c.loop.counter c.loop.next c.loop.standing (to_z-of_z w128 c.args.value c.ranges.value)
     c.loop.invariant (inr c.in-None.is)
 
 pub returns-in-None-clause-missed : goal.returns-in-None-clause-missed
 returns-in-None-clause-missed c =
-    standing-missed c.args.table.now (IsVisible c.args.table.now c.args.snapshot.now c.args.own.now.ids) (IsMissed c.args.table.now c.args.snapshot.now) (IsForeign c.args.table.now c.args.own.now.ids)
+    standing-missed c.args.table.now (IsVisible c.args.table.now c.args.snapshot.now c.args.own.now.ids) (IsMissedIn c.args.table.now c.args.snapshot.now) (IsForeignIn c.args.table.now c.args.own.now.ids)
     (slots_of c.args.pages.now) c.args.index.now.entries (to_z w128 (of_z w128 c.args.value)) c.args.value c.args.key c.loop.counter c.loop.next c.loop.standing (to_z-of_z w128 c.args.value c.ranges.value)
     c.loop.invariant (inr c.in-None.is)
 
 pub returns-in-None-clause-holder : goal.returns-in-None-clause-holder
 returns-in-None-clause-holder c =
-    standing-holder c.args.table.now (IsVisible c.args.table.now c.args.snapshot.now c.args.own.now.ids) (IsMissed c.args.table.now c.args.snapshot.now) (IsForeign c.args.table.now c.args.own.now.ids)
+    standing-holder c.args.table.now (IsVisible c.args.table.now c.args.snapshot.now c.args.own.now.ids) (IsMissedIn c.args.table.now c.args.snapshot.now) (IsForeignIn c.args.table.now c.args.own.now.ids)
     (slots_of c.args.pages.now) c.args.index.now.entries (to_z w128 (of_z w128 c.args.value)) c.args.value c.args.key c.loop.counter c.loop.next c.loop.standing (to_z-of_z w128 c.args.value c.ranges.value)
     c.loop.invariant (inr c.in-None.is)
 
@@ -41,7 +41,7 @@ returns-clause-place c =
     let count = c.len-end.ensures in
     let over = c.loop-test.false in
     let all : length c.args.index.now.entries ≤ c.loop.counter = omega arith in
-    standing-place c.args.table.now (IsVisible c.args.table.now c.args.snapshot.now c.args.own.now.ids) (IsMissed c.args.table.now c.args.snapshot.now) (IsForeign c.args.table.now c.args.own.now.ids)
+    standing-place c.args.table.now (IsVisible c.args.table.now c.args.snapshot.now c.args.own.now.ids) (IsMissedIn c.args.table.now c.args.snapshot.now) (IsForeignIn c.args.table.now c.args.own.now.ids)
     (slots_of c.args.pages.now) c.args.index.now.entries (to_z w128 (of_z w128 c.args.value)) c.args.value c.args.key c.loop.counter c.loop.next c.loop.standing (to_z-of_z w128 c.args.value c.ranges.value)
     c.loop.invariant (inl all)
 
@@ -50,7 +50,7 @@ returns-clause-missed c =
     let count = c.len-end.ensures in
     let over = c.loop-test.false in
     let all : length c.args.index.now.entries ≤ c.loop.counter = omega arith in
-    standing-missed c.args.table.now (IsVisible c.args.table.now c.args.snapshot.now c.args.own.now.ids) (IsMissed c.args.table.now c.args.snapshot.now) (IsForeign c.args.table.now c.args.own.now.ids)
+    standing-missed c.args.table.now (IsVisible c.args.table.now c.args.snapshot.now c.args.own.now.ids) (IsMissedIn c.args.table.now c.args.snapshot.now) (IsForeignIn c.args.table.now c.args.own.now.ids)
     (slots_of c.args.pages.now) c.args.index.now.entries (to_z w128 (of_z w128 c.args.value)) c.args.value c.args.key c.loop.counter c.loop.next c.loop.standing (to_z-of_z w128 c.args.value c.ranges.value)
     c.loop.invariant (inl all)
 
@@ -59,6 +59,6 @@ returns-clause-holder c =
     let count = c.len-end.ensures in
     let over = c.loop-test.false in
     let all : length c.args.index.now.entries ≤ c.loop.counter = omega arith in
-    standing-holder c.args.table.now (IsVisible c.args.table.now c.args.snapshot.now c.args.own.now.ids) (IsMissed c.args.table.now c.args.snapshot.now) (IsForeign c.args.table.now c.args.own.now.ids)
+    standing-holder c.args.table.now (IsVisible c.args.table.now c.args.snapshot.now c.args.own.now.ids) (IsMissedIn c.args.table.now c.args.snapshot.now) (IsForeignIn c.args.table.now c.args.own.now.ids)
     (slots_of c.args.pages.now) c.args.index.now.entries (to_z w128 (of_z w128 c.args.value)) c.args.value c.args.key c.loop.counter c.loop.next c.loop.standing (to_z-of_z w128 c.args.value c.ranges.value)
     c.loop.invariant (inl all)

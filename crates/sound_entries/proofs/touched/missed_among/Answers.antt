@@ -1,12 +1,12 @@
 use Rattle.std.proofs.Common.{get_or}
-use Rattle.sound_entries.specs.Looking.{IsMissed}
+use Rattle.visibility.specs.Visible.{IsMissedIn}
 use Rattle.sound_entries.proofs.Among.{none-more, none-here, none-other}
 use Rattle.sound_entries.proofs.touched.missed_among.Goals as goal
 use Rattle.sound_entries.proofs.touched.missed_among.Goals.{in-Some+in_default-missed_in, in_default}
 
 pub loop-slot-preserved : goal.loop-slot-preserved
 loop-slot-preserved c =
-    let P = IsMissed c.args.table.now c.args.snapshot.now in
+    let P = IsMissedIn c.args.table.now c.args.snapshot.now in
     let slots = c.args.page.now.slots in
     let n = get_or c.args.slots.now c.loop-slot.slot-index 0 in
     none-more P slots c.args.slots.now c.loop-slot.slot-index c.loop-slot.invariant

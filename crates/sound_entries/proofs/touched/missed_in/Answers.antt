@@ -1,6 +1,7 @@
 use Rattle.std.proofs.Common.{ℕ, sym, ◌∙◌, inl, inr}
 use Rattle.std.proofs.lemmas.Bool.{iff_false}
-use Rattle.commit_status.specs.Window.{IsCommitted}
+use Rattle.visibility.specs.Seeing.{IsCommitted}
+use Rattle.visibility.specs.Visible.{state_of}
 use Rattle.snapshot.specs.Snap.{Sees}
 use Rattle.sound_entries.proofs.Among.{none-touched}
 use Rattle.sound_entries.proofs.touched.missed_in.Goals as goal
@@ -8,7 +9,7 @@ use Rattle.sound_entries.proofs.touched.missed_in.Goals.{else-not-is_frozen-via-
 
 pub returns : goal.returns
 returns c =
-    let P : ℕ → Type 0 = λ x. IsCommitted c.args.table.now x × (Sees c.args.snapshot.now c.args.table.now x → ⊥) in
+    let P : ℕ → Type 0 = λ x. IsCommitted (state_of c.args.table.now) x × (Sees c.args.snapshot.now c.args.table.now x → ⊥) in
     λ x missed. none-touched c.args.header.now P
     (elim c.else-not-is_frozen.branch [
       | else-not-is_frozen-via-then-not-is_frozen+else-misses w ↦ inr (iff_false w.misses.ensures w.if-misses.false)
@@ -18,4 +19,4 @@ returns c =
       | else-header-ne0-via-then-header-ne0+else-misses-2 w ↦ inr (iff_false w.misses-then-header-ne0.ensures w.if-misses-2.false)
       | else-header-ne0-via-else-header-ne0 w ↦ inl w.if-header-ne0.false
     ])
-    x missed.touch (missed.done, missed.unseen)
+    x missed.0 (missed.1, missed.2)

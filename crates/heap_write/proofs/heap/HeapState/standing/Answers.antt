@@ -1,7 +1,7 @@
 use Rattle.std.proofs.Common.{List, ℤ, pos, subst}
 use Rattle.root_index.specs.declared.entry.Entry.{Entry}
-use Rattle.visibility.specs.Visible.{IsVisible}
-use Rattle.sound_entries.specs.Looking.{FirstPlace, IsIdOf, IsMissed, IsForeign}
+use Rattle.visibility.specs.Visible.{IsVisible, IsForeignIn, IsMissedIn}
+use Rattle.sound_entries.specs.Looking.{FirstPlace, IsIdOf}
 use Rattle.heap_write.specs.Heap.{HeapView, slots_of}
 use Rattle.heap_write.specs.Indexes.{entries_in}
 use Rattle.heap_write.specs.contracts.heap.HeapState.{the_view}
@@ -18,7 +18,7 @@ returns-clause-place c =
 
 pub returns-clause-missed : goal.returns-clause-missed
 returns-clause-missed c =
-    let P : HeapView → List Entry → ℤ → Type 0 = λ h entries value. IsIdOf h.table (IsMissed h.table c.args.snapshot.now) (slots_of h) entries value c.args.key c.standing_of.result.missed in
+    let P : HeapView → List Entry → ℤ → Type 0 = λ h entries value. IsIdOf h.table (IsMissedIn h.table c.args.snapshot.now) (slots_of h) entries value c.args.key c.standing_of.result.missed in
     let v = the_view c.self.inside in
     let at = read-back c.args.key c.from-value.result c.ranges.key.fits c.from-value.ensures in
     subst (λ h. P h (entries_in h.indexes 0) (pos c.args.key)) c.self.view_is
@@ -26,7 +26,7 @@ returns-clause-missed c =
 
 pub returns-clause-holder : goal.returns-clause-holder
 returns-clause-holder c =
-    let P : HeapView → List Entry → ℤ → Type 0 = λ h entries value. IsIdOf h.table (IsForeign h.table c.args.own.now.ids) (slots_of h) entries value c.args.key c.standing_of.result.holder in
+    let P : HeapView → List Entry → ℤ → Type 0 = λ h entries value. IsIdOf h.table (IsForeignIn h.table c.args.own.now.ids) (slots_of h) entries value c.args.key c.standing_of.result.holder in
     let v = the_view c.self.inside in
     let at = read-back c.args.key c.from-value.result c.ranges.key.fits c.from-value.ensures in
     subst (λ h. P h (entries_in h.indexes 0) (pos c.args.key)) c.self.view_is
