@@ -4,6 +4,7 @@ ghost use Rattle.std.specs.Prelude.{◌<◌, IfSome};
 
 use page_slots::{Page, Slot};
 use session_core::{Refusal, Reply};
+use side_by_side::Views;
 use std::io;
 use tuple_header::Tuple;
 
@@ -44,10 +45,11 @@ const NAMES: [&str; KINDS] = [
     "begun beside more than 64 children of one session",
 ];
 
-/// Counts of all kinds.
+/// Counts of all kinds, and of the views that were compared.
 #[derive(Drop)]
 pub(crate) struct Counts {
     counts: [u64; KINDS],
+    views: Views,
 }
 
 fn place_of_refusal(refusal: Refusal) -> Option<usize>
@@ -117,7 +119,20 @@ fn place_of_slot(slot: &Slot, page: u32) -> Option<usize>
 impl Counts {
     /// Nothing is counted yet.
     pub(crate) fn new() -> Counts {
-        Counts { counts: [0; KINDS] }
+        Counts {
+            counts: [0; KINDS],
+            views: Views { views: 0, rows: 0 },
+        }
+    }
+
+    /// Counts the views that were compared in a run.
+    pub(crate) fn add_views(&mut self, views: Views) {
+        self.views.add(views);
+    }
+
+    /// The views of all runs.
+    pub(crate) fn views(&self) -> Views {
+        self.views
     }
 
     fn add(&mut self, place: Option<usize>)

@@ -2,8 +2,8 @@
 
 ghost use Rattle.std.specs.Prelude.{◌⊎◌, ◌≤◌, Contains};
 
-use crate::ask::{Ask, Bodies, Written};
 use crate::generator::Generator;
+use side_by_side::{Ask, Bodies, Standing, Written};
 use std::alloc::{AllocError, Global};
 
 /// The keys: few, so that sessions meet.
@@ -21,15 +21,6 @@ pub(crate) const KEYS: [u64; 12] = [
     18_446_744_073_709_551_614,
     18_446_744_073_709_551_615,
 ];
-
-/// How a session stands, and whether it reads a row of the key that it is about to ask for.
-#[derive(Clone, Copy)]
-pub(crate) enum Standing {
-    Closed,
-    Failed,
-    Reads,
-    ReadsNone,
-}
 
 /// Bytes of which bodies are parts.
 pub(crate) fn draw_bodies(alloc: Global, generator: &mut Generator) -> Result<Bodies, AllocError> {

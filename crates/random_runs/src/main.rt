@@ -6,21 +6,16 @@
 //! ends with status 1, as it does where a kind of reply never came.
 #![tactic(auto)]
 
-mod ask;
-mod compare;
 mod counts;
-mod cursors;
 mod draw;
 mod generator;
-mod levels;
-mod pair;
-mod plain_side;
 mod run;
 
 use counts::Counts;
 use draw::draw_bodies;
 use generator::Generator;
 use run::{RUNS, do_run, steps_of};
+use side_by_side::Views;
 use std::alloc::Global;
 use std::io;
 use std::process::ExitCode;
@@ -28,6 +23,8 @@ use std::process::ExitCode;
 // Whether each kind came.
 fn report(rt: &impl Print, counts: &Counts, steps: u64) -> io::Result<bool> {
     println!(rt; "{steps} steps, each reply as the history has it")?;
+    let Views { views, rows } = counts.views();
+    println!(rt; "{views} views of sessions with {rows} rows, each as the history has it")?;
     counts.print(rt)?;
     if let Some(name) = counts.missing() {
         println!(rt; "never: {name}")?;

@@ -1,11 +1,10 @@
 //! Runs of steps on a new engine.
 
-use crate::ask::{Ask, Bodies};
 use crate::counts::Counts;
-use crate::draw::{draw_key, draw_key_of_few, draw_session, draw_step, draw_step_in_levels};
+use crate::draw::{KEYS, draw_key, draw_key_of_few, draw_session, draw_step, draw_step_in_levels};
 use crate::generator::Generator;
-use crate::pair::{Difference, Pair};
 use session_core::{Reply, Settings};
+use side_by_side::{Ask, Bodies, Difference, Pair};
 use std::alloc::Global;
 
 /// How many runs there are.
@@ -110,8 +109,23 @@ fn count_pages(pair: &Pair, pages: u32, counts: &mut Counts) {
     }
 }
 
+// Each run has sessions, so that a view was compared in each.
+fn count_views(pair: &Pair, step: u64, counts: &mut Counts) -> Result<(), Failure> {
+    match pair.views() {
+        Ok(views) => {
+            counts.add_views(views);
+            Ok(())
+        }
+        Err(difference) => Err(Failure {
+            step,
+            ask: None,
+            difference,
+        }),
+    }
+}
+
 fn new_pair(alloc: Global, settings: Settings) -> Result<Pair, Failure> {
-    match Pair::new(alloc, settings) {
+    match Pair::new(alloc, settings, &KEYS) {
         Ok(pair) => Ok(pair),
         Err(difference) => Err(Failure {
             step: 0,
@@ -149,5 +163,5 @@ pub(crate) fn do_run(
         }
     }
     count_pages(&pair, settings.max_pages, counts);
-    Ok(())
+    count_views(&pair, steps_of(run), counts)
 }

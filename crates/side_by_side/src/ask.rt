@@ -10,8 +10,9 @@ use tuple_header::Row;
 
 /// The bytes of which every body is a part.
 #[derive(Drop)]
-pub(crate) struct Bodies {
-    pub(crate) bytes: Vec<u8>,
+pub struct Bodies {
+    /// All of them.
+    pub bytes: Vec<u8>,
 }
 
 impl Bodies {
@@ -28,11 +29,11 @@ impl Bodies {
 
 /// A row to be written, whose body is so many bytes from a place on.
 #[derive(Clone, Copy, Debug)]
-pub(crate) struct Written {
-    pub(crate) key: u64,
-    pub(crate) cols: [i64; 4],
-    pub(crate) from: u16,
-    pub(crate) length: u16,
+pub struct Written {
+    pub key: u64,
+    pub cols: [i64; 4],
+    pub from: u16,
+    pub length: u16,
 }
 
 impl Written {
@@ -45,7 +46,7 @@ impl Written {
     }
 
     /// The row of the table. A body of more than 1024 bytes is left out.
-    pub(crate) fn row(self, bodies: &Bodies) -> Row {
+    pub fn row(self, bodies: &Bodies) -> Row {
         let cols = self.cols;
         let mut body = ArrayVec::new();
         let _ = body.try_extend_from_slice(bodies.part(self.from, self.length));
@@ -56,14 +57,15 @@ impl Written {
         }
     }
 
-    pub(crate) fn is_too_large(self) -> bool
+    /// Whether its body has more bytes than a row of the table may have.
+    pub fn is_too_large(self) -> bool
         ensures { IsTrue result ↔ (1024 < self.length) }
     {
         self.length > 1024
     }
 
     /// How many bytes a version of the row takes on a page: 66 and its body, rounded up to a multiple of 8.
-    pub(crate) fn size(self) -> usize
+    pub fn size(self) -> usize
         ensures { result ≡ next_multiple_of (66 + self.length) 8 }
     {
         (66 + self.length as usize).next_multiple_of(8)
@@ -72,7 +74,7 @@ impl Written {
 
 /// A step. The first number is that of the session, or of the page to be pruned.
 #[derive(Clone, Copy, Debug)]
-pub(crate) enum Ask {
+pub enum Ask {
     Begin(u8),
     Get(u8, u64),
     Insert(u8, Written),
@@ -92,7 +94,7 @@ pub(crate) enum Ask {
 
 impl Ask {
     /// The step of the engine.
-    pub(crate) fn step(self, alloc: Global, bodies: &Bodies) -> Result<Step, AllocError> {
+    pub fn step(self, alloc: Global, bodies: &Bodies) -> Result<Step, AllocError> {
         Ok(match self {
             Ask::Begin(s) => Step::Begin(s),
             Ask::Get(s, key) => Step::Get(s, key),
@@ -113,7 +115,7 @@ impl Ask {
     }
 
     /// The session whose step it is, if it is one's.
-    pub(crate) fn session(self) -> Option<u8> {
+    pub fn session(self) -> Option<u8> {
         match self {
             Ask::Begin(s)
             | Ask::Get(s, _)
@@ -132,7 +134,7 @@ impl Ask {
     }
 
     /// The session that would write, if it is a write.
-    pub(crate) fn writer(self) -> Option<u8> {
+    pub fn writer(self) -> Option<u8> {
         match self {
             Ask::Insert(s, _) | Ask::Update(s, _) | Ask::Delete(s, _) => Some(s),
             _ => None,
@@ -140,7 +142,7 @@ impl Ask {
     }
 
     /// The row that would be written, if it is a write of one.
-    pub(crate) fn written(self) -> Option<Written> {
+    pub fn written(self) -> Option<Written> {
         match self {
             Ask::Insert(_, written) | Ask::Update(_, written) => Some(written),
             _ => None,

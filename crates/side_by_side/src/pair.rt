@@ -1,41 +1,70 @@
 //! The engine and the plain program side by side.
 
-ghost use Rattle.std.specs.Prelude.{◌≤◌, ◌↔◌, IsTrue};
+ghost use Rattle.std.specs.Prelude.{◌≡◌, ◌<◌, ◌≤◌, ◌↔◌, IsTrue, IfOk};
 ghost use Rattle.std.specs.Prelude.{option_copied};
-ghost use Rattle.random_runs.specs.Rooms.{IsFull, AreFull};
+ghost use Rattle.side_by_side.specs.Rooms.{IsFull, AreFull};
 ghost use Rattle.xid_circle.specs.Circle.{IsNormal, distance_of};
 
 use crate::ask::{Ask, Bodies};
 use crate::compare::{same_found, same_reply};
 use crate::cursors::{Cursor, hand_out};
-use crate::draw::{KEYS, Standing};
 use crate::levels::Levels;
 use crate::plain_side::{all_rows, answer, answer_without_writing, refusal_of, refused_or};
 use page_slots::Page;
 use plain_history::{PlainHistory, Refused};
-use session_core::{Engine, Refusal, Reply, Settings};
+use session_core::{Engine, Refusal, Reply, Row, Settings};
 use std::alloc::{AllocError, Global};
 use xid_circle::{Xid, distance, next};
 
 /// What differed.
 #[derive(Debug, Drop)]
-pub(crate) enum Difference {
+pub enum Difference {
     /// The engine's reply, and the one that it has to give, if there is one.
     Reply(Reply, Option<Reply>),
     /// The engine's next id and the oldest remembered, and those that they have to be.
     Ids((Xid, Xid), (Xid, Xid)),
     /// What this session reads of this key.
     View(u8, u64),
+    /// No view of a session was compared.
+    NoView,
     /// There was no memory to make the comparison.
     NoMemory,
 }
 
+/// How a session stands, and whether it reads a row of a key.
+#[derive(Clone, Copy)]
+pub enum Standing {
+    Closed,
+    Failed,
+    Reads,
+    ReadsNone,
+}
+
+/// How many views of sessions were compared, and how many rows stand in them.
+#[derive(Clone, Copy)]
+pub struct Views {
+    pub views: u64,
+    pub rows: u64,
+}
+
+// What a session reads of a key, on both sides.
+enum Reading {
+    Differing,
+    // It is refused, or reads in a failed session, for which the plain program has no call.
+    Refused,
+    NoRow,
+    Row,
+}
+
 /// An engine, and the plain program that is asked the same.
 #[derive(Drop)]
-pub(crate) struct Pair {
+pub struct Pair {
     engine: Engine,
     plain: PlainHistory,
     settings: Settings,
+    // Those of which a view is read.
+    keys: &'static [u64],
+    views: Views,
     // Those of each session that is open.
     levels: Vec<Levels>,
     // That of each session.
@@ -99,14 +128,37 @@ fn is_full_page(page: Option<&Page>, size: usize) -> bool
     }
 }
 
+// What was read of a key on both sides.
+fn reading_of(row: &Option<Row>, expected: &Option<Row>) -> Reading {
+    if !same_found(row, expected) {
+        Reading::Differing
+    } else if row.is_some() {
+        Reading::Row
+    } else {
+        Reading::NoRow
+    }
+}
+
 // Whether the step was done. What is read changes nothing, and isn't asked for here.
 fn is_done(reply: &Reply) -> bool {
     matches!(reply, Reply::Done | Reply::Committed | Reply::RolledBack)
 }
 
+impl Views {
+    /// Adds those views and their rows.
+    pub fn add(&mut self, more: Views) {
+        self.views = self.views.saturating_add(more.views);
+        self.rows = self.rows.saturating_add(more.rows);
+    }
+}
+
 impl Pair {
-    /// Both new, with no rows.
-    pub(crate) fn new(alloc: Global, settings: Settings) -> Result<Pair, Difference> {
+    /// Both new, with no rows. Views will be compared at these keys.
+    pub fn new(
+        alloc: Global,
+        settings: Settings,
+        keys: &'static [u64],
+    ) -> Result<Pair, Difference> {
         let Ok(engine) = Engine::new(alloc, settings) else {
             return Err(Difference::NoMemory);
         };
@@ -120,18 +172,20 @@ impl Pair {
             engine,
             plain,
             settings,
+            keys,
+            views: Views { views: 0, rows: 0 },
             levels,
             cursors,
         })
     }
 
     /// The engine's page of this number, if it is in use.
-    pub(crate) fn page(&self, number: u32) -> Option<&Page> {
+    pub fn page(&self, number: u32) -> Option<&Page> {
         self.engine.page(number)
     }
 
     /// How the session stands, and whether it reads a row of the key.
-    pub(crate) fn standing(&mut self, s: u8, key: u64) -> Standing {
+    pub fn standing(&mut self, s: u8, key: u64) -> Standing {
         match self.plain.get(s, key) {
             Ok(Some(_)) => Standing::Reads,
             Ok(None) => Standing::ReadsNone,
@@ -145,17 +199,17 @@ impl Pair {
     }
 
     /// How many ids the session has below its first.
-    pub(crate) fn children(&self, s: u8) -> u32 {
+    pub fn children(&self, s: u8) -> u32 {
         self.levels(s).map_or(0, |levels| levels.children())
     }
 
     /// How many levels of the session have no id.
-    pub(crate) fn lacking(&self, s: u8) -> usize {
+    pub fn lacking(&self, s: u8) -> usize {
         self.levels(s).map_or(0, |levels| levels.lacking())
     }
 
     /// Whether the session has a cursor open.
-    pub(crate) fn has_cursor(&self, s: u8) -> bool {
+    pub fn has_cursor(&self, s: u8) -> bool {
         matches!(
             self.cursors.get(s as usize),
             Some(Cursor::Index | Cursor::Heap(_))
@@ -304,12 +358,7 @@ impl Pair {
     }
 
     /// Does the step on both sides, and gives the reply, where it is as it has to be.
-    pub(crate) fn step(
-        &mut self,
-        alloc: Global,
-        bodies: &Bodies,
-        ask: Ask,
-    ) -> Result<Reply, Difference> {
+    pub fn step(&mut self, alloc: Global, bodies: &Bodies, ask: Ask) -> Result<Reply, Difference> {
         let before = self.before(ask);
         let Ok(step) = ask.step(alloc, bodies) else {
             return Err(Difference::NoMemory);
@@ -334,34 +383,51 @@ impl Pair {
         Ok(reply)
     }
 
-    // Whether the session reads the same on both sides. The plain program has no call that reads in a failed session.
-    fn reads_alike(&mut self, s: u8, key: u64) -> bool {
+    // What the session reads of the key on both sides.
+    fn reading(&mut self, s: u8, key: u64) -> Reading {
         let read = self.engine.read(s, key);
         let expected = self.plain.get(s, key);
         match (&read, &expected) {
-            (Ok(row), Ok(expected)) => same_found(row, expected),
-            (Ok(_), Err(Refused::Failed)) => true,
-            (Err(refusal), Err(why)) => refusal_of(*why) == Some(*refusal),
-            _ => false,
+            (Ok(row), Ok(expected)) => reading_of(row, expected),
+            (Ok(_), Err(Refused::Failed)) => Reading::Refused,
+            (Err(refusal), Err(why)) if refusal_of(*why) == Some(*refusal) => Reading::Refused,
+            _ => Reading::Differing,
         }
     }
 
-    fn differing_key(&mut self, s: u8) -> Option<u64> {
-        for key in KEYS {
-            if !self.reads_alike(s, key) {
-                return Some(key);
+    // Compares what the session reads of each key, and counts that as a view where all were read.
+    fn compare_view(&mut self, s: u8) -> Result<(), Difference> {
+        let mut is_read = !self.keys.is_empty();
+        let mut rows: u64 = 0;
+        for key in self.keys {
+            match self.reading(s, *key) {
+                Reading::Differing => return Err(Difference::View(s, *key)),
+                Reading::Refused => is_read = false,
+                Reading::NoRow => {}
+                Reading::Row => rows = rows.saturating_add(1),
             }
         }
-        None
+        if is_read {
+            self.views.add(Views { views: 1, rows });
+        }
+        Ok(())
     }
 
     /// Compares what each of the sessions reads of each key.
-    pub(crate) fn compare_views(&mut self, sessions: &[u8]) -> Result<(), Difference> {
+    pub fn compare_views(&mut self, sessions: &[u8]) -> Result<(), Difference> {
         for s in sessions {
-            if let Some(key) = self.differing_key(*s) {
-                return Err(Difference::View(*s, key));
-            }
+            self.compare_view(*s)?;
         }
         Ok(())
+    }
+
+    /// The views that were compared so far, if there was any.
+    pub fn views(&self) -> Result<Views, Difference>
+        ensures { IfOk result (λ compared. compared ≡ self.now.views × (0 < compared.views)) }
+    {
+        if self.views.views == 0 {
+            return Err(Difference::NoView);
+        }
+        Ok(self.views)
     }
 }

@@ -1,7 +1,7 @@
 //! When two replies are the same.
 
 ghost use Rattle.std.specs.Prelude.{◌≡◌, ◌↔◌, IsTrue};
-ghost use Rattle.random_runs.specs.Replies.{AreSame};
+ghost use Rattle.side_by_side.specs.Replies.{AreSame};
 
 use session_core::{Refusal, Reply, Row};
 

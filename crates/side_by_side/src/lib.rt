@@ -1,0 +1,16 @@
+//! The engine beside the plain program of the history, asked the same, and what is taken for the same answer.
+//!
+//! That the history allows each reply of the engine is proved (`session_core`), and that each answer of the plain program is by
+//! the definitions of the history (`plain_history`). Here a pair of them is asked for the same steps, and every reply, every id that is given, and
+//! what sessions read is compared. What the history leaves to an engine is compared with the engine's pages and ids.
+#![tactic(auto)]
+
+mod ask;
+mod compare;
+mod cursors;
+mod levels;
+mod pair;
+mod plain_side;
+
+pub use ask::{Ask, Bodies, Written};
+pub use pair::{Difference, Pair, Standing, Views};
