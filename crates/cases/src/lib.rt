@@ -1,12 +1,10 @@
-//! Tests of the whole, from a script's bytes to its answers: worked scripts, and a script cut after each of its bytes.
+//! Tests of the whole, from a script's bytes to its answers: worked scripts.
 //!
 //! The answers were worked out from the rules of `docs/rules.md`, and not taken from the program.
 #![tactic(auto)]
 
 #[cfg(test)]
 mod cursors;
-#[cfg(test)]
-mod cuts;
 #[cfg(test)]
 mod savepoints;
 #[cfg(test)]

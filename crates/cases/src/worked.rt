@@ -66,42 +66,37 @@ fn ends_so(alloc: Global, case: &Case) -> Result<bool, AllocError> {
     )
 }
 
-// The name of the first script that does not end as it has to.
-fn first_wrong(alloc: Global, cases: &[Case]) -> Result<Option<&'static str>, AllocError> {
+/// Fails at the first script that does not end as it has to.
+fn run_all(alloc: Global, cases: &[Case]) -> Result<(), Fail> {
     for case in cases {
         if !ends_so(alloc, case)? {
-            return Ok(Some(case.name));
+            return Err(Fail::new(format_args!("{} ends otherwise", case.name)));
         }
     }
-    Ok(None)
+    Ok(())
 }
 
 #[test]
 fn worked_cases(rt: HostRuntime) -> Result<(), Fail> {
-    assert_eq!(rt; first_wrong(rt.alloc(), &CASES)?, None);
-    Ok(())
+    run_all(rt.alloc(), &CASES)
 }
 
 #[test]
 fn worked_chains(rt: HostRuntime) -> Result<(), Fail> {
-    assert_eq!(rt; first_wrong(rt.alloc(), &CHAINS)?, None);
-    Ok(())
+    run_all(rt.alloc(), &CHAINS)
 }
 
 #[test]
 fn worked_savepoints(rt: HostRuntime) -> Result<(), Fail> {
-    assert_eq!(rt; first_wrong(rt.alloc(), &SAVEPOINTS)?, None);
-    Ok(())
+    run_all(rt.alloc(), &SAVEPOINTS)
 }
 
 #[test]
 fn worked_cursors(rt: HostRuntime) -> Result<(), Fail> {
-    assert_eq!(rt; first_wrong(rt.alloc(), &CURSORS)?, None);
-    Ok(())
+    run_all(rt.alloc(), &CURSORS)
 }
 
 #[test]
 fn worked_pages(rt: HostRuntime) -> Result<(), Fail> {
-    assert_eq!(rt; first_wrong(rt.alloc(), &PAGES)?, None);
-    Ok(())
+    run_all(rt.alloc(), &PAGES)
 }

@@ -1,8 +1,10 @@
 //! What the words of the command line ask for.
 
+use crate::runs::none_wrong;
 use script::{Command, USAGE, command_of};
+use std::test::Fail;
 
-const COMMANDS: [(Option<&str>, Option<&str>, Command); 12] = [
+static COMMANDS: [(Option<&str>, Option<&str>, Command); 12] = [
     (Some("run"), None, Command::Run),
     (None, None, Command::Usage),
     (Some(""), None, Command::Usage),
@@ -17,10 +19,22 @@ const COMMANDS: [(Option<&str>, Option<&str>, Command); 12] = [
     (Some("inspect"), Some("run"), Command::Usage),
 ];
 
-#[test]
-fn commands(rt: HostRuntime) {
+// The place of the first words that ask for something else.
+fn first_wrong() -> Option<usize> {
     for (at, (first, second, wanted)) in COMMANDS.iter().enumerate() {
-        assert_eq!(rt; command_of(*first, *second), *wanted, "at {at}");
+        if command_of(*first, *second) != *wanted {
+            return Some(at);
+        }
     }
-    assert_eq!(rt; USAGE, "usage: heapsh run|threads|inspect");
+    None
+}
+
+#[test]
+fn commands() -> Result<(), Fail> {
+    none_wrong(first_wrong())
+}
+
+#[test]
+fn usage(rt: HostRuntime) {
+    assert!(rt; USAGE == "usage: heapsh run|threads|inspect");
 }

@@ -1,5 +1,6 @@
 //! The words of all faults, and the exit statuses of the shell's.
 
+use crate::runs::none_wrong;
 use commit_status::GiveFault;
 use heap_write::{PruneFault, WriteFault};
 use page_slots::AddFault;
@@ -95,51 +96,55 @@ fn first_wrong<T: Display>(
 
 #[test]
 fn why_bytes_are_no_version(rt: HostRuntime) -> Result<(), Fail> {
-    assert_eq!(rt; first_wrong(rt.alloc(), &TUPLE_FAULTS)?, None);
-    Ok(())
+    none_wrong(first_wrong(rt.alloc(), &TUPLE_FAULTS)?)
 }
 
 #[test]
 fn why_nothing_is_added_to_a_page(rt: HostRuntime) -> Result<(), Fail> {
-    assert_eq!(rt; first_wrong(rt.alloc(), &ADD_FAULTS)?, None);
-    Ok(())
+    none_wrong(first_wrong(rt.alloc(), &ADD_FAULTS)?)
 }
 
 #[test]
 fn why_no_id_is_given(rt: HostRuntime) -> Result<(), Fail> {
-    assert_eq!(rt; first_wrong(rt.alloc(), &GIVE_FAULTS)?, None);
-    Ok(())
+    none_wrong(first_wrong(rt.alloc(), &GIVE_FAULTS)?)
 }
 
 #[test]
 fn why_nothing_is_written(rt: HostRuntime) -> Result<(), Fail> {
-    assert_eq!(rt; first_wrong(rt.alloc(), &WRITE_FAULTS)?, None);
-    Ok(())
+    none_wrong(first_wrong(rt.alloc(), &WRITE_FAULTS)?)
 }
 
 #[test]
 fn why_nothing_is_pruned(rt: HostRuntime) -> Result<(), Fail> {
-    assert_eq!(rt; first_wrong(rt.alloc(), &PRUNE_FAULTS)?, None);
-    Ok(())
+    none_wrong(first_wrong(rt.alloc(), &PRUNE_FAULTS)?)
 }
 
 #[test]
 fn why_no_engine_is_made(rt: HostRuntime) -> Result<(), Fail> {
-    assert_eq!(rt; first_wrong(rt.alloc(), &SETTINGS_FAULTS)?, None);
-    Ok(())
+    none_wrong(first_wrong(rt.alloc(), &SETTINGS_FAULTS)?)
 }
 
 #[test]
 fn why_a_run_is_not_done(rt: HostRuntime) -> Result<(), Fail> {
-    assert_eq!(rt; first_wrong(rt.alloc(), &RUN_FAULTS)?, None);
-    Ok(())
+    none_wrong(first_wrong(rt.alloc(), &RUN_FAULTS)?)
 }
 
 #[test]
 fn why_the_shell_ends(rt: HostRuntime) -> Result<(), Fail> {
-    assert_eq!(rt; first_wrong(rt.alloc(), &SHELL_FAULTS)?, None);
-    for ((fault, _), status) in SHELL_FAULTS.iter().zip(STATUSES.iter()) {
-        assert_eq!(rt; fault.status(), *status);
+    none_wrong(first_wrong(rt.alloc(), &SHELL_FAULTS)?)
+}
+
+// The place of the first fault that has another status.
+fn first_wrong_status() -> Option<usize> {
+    for (at, ((fault, _), status)) in SHELL_FAULTS.iter().zip(STATUSES.iter()).enumerate() {
+        if fault.status() != *status {
+            return Some(at);
+        }
     }
-    Ok(())
+    None
+}
+
+#[test]
+fn statuses() -> Result<(), Fail> {
+    none_wrong(first_wrong_status())
 }

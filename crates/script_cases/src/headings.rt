@@ -1,10 +1,12 @@
 //! The first line of a script, at the ends of what is allowed and beyond.
 
-use crate::runs::ends_so;
+use crate::runs::{ends_so, none_wrong};
 use script::ShellFault;
+use std::alloc::Global;
+use std::test::Fail;
 
 // First lines, and whether they are allowed.
-const HEADINGS: [(&[u8], bool); 22] = [
+static HEADINGS: [(&[u8], bool); 22] = [
     (b"heap 1 1 0 3 1 0000\n", true),
     (
         b"heap 65536 2144483648 1000000000 4294967295 4096 1111\n",
@@ -32,14 +34,26 @@ const HEADINGS: [(&[u8], bool); 22] = [
     (b"begin 0\n", false),
 ];
 
-#[test]
-fn headings(rt: HostRuntime) {
-    for (script, allowed) in HEADINGS {
-        let result = if allowed {
-            Ok(())
-        } else {
-            Err(ShellFault::BadLine(1))
-        };
-        assert!(rt; ends_so(rt.alloc(), script, result, b""), "{script:?}");
+// What comes of a first line that is allowed, or is not.
+fn end_of(allowed: bool) -> Result<(), ShellFault> {
+    if allowed {
+        Ok(())
+    } else {
+        Err(ShellFault::BadLine(1))
     }
+}
+
+// The place of the first line of which something else comes.
+fn first_wrong(alloc: Global) -> Option<usize> {
+    for (at, (script, allowed)) in HEADINGS.iter().enumerate() {
+        if !ends_so(alloc, script, end_of(*allowed), b"") {
+            return Some(at);
+        }
+    }
+    None
+}
+
+#[test]
+fn headings(rt: HostRuntime) -> Result<(), Fail> {
+    none_wrong(first_wrong(rt.alloc()))
 }

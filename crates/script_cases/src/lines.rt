@@ -1,11 +1,11 @@
 //! Lines at the ends of what is allowed, and beyond.
 
-use crate::runs::run_whole;
+use crate::runs::{none_wrong, run_whole};
 use script::ShellFault;
 use std::alloc::{AllocError, Global};
 use std::test::Fail;
 
-const HEADING: &[u8] = b"heap 4 1000 0 3 64 0000\n";
+static HEADING: &[u8] = b"heap 4 1000 0 3 64 0000\n";
 
 // The heading, `begin 0`, and one more line.
 fn script_of(alloc: Global, line: &[u8]) -> Result<Vec<u8>, AllocError> {
@@ -121,11 +121,19 @@ static ALLOWED: [(&[u8], &[u8]); 46] = [
     ),
 ];
 
-#[test]
-fn allowed_lines(rt: HostRuntime) {
-    for (line, answers) in &ALLOWED {
-        assert!(rt; line_ends_so(rt.alloc(), line, Ok(()), answers), "{line:?}");
+// The place of the first line that is answered otherwise.
+fn first_wrong_answer(alloc: Global) -> Option<usize> {
+    for (at, (line, answers)) in ALLOWED.iter().enumerate() {
+        if !line_ends_so(alloc, line, Ok(()), answers) {
+            return Some(at);
+        }
     }
+    None
+}
+
+#[test]
+fn allowed_lines(rt: HostRuntime) -> Result<(), Fail> {
+    none_wrong(first_wrong_answer(rt.alloc()))
 }
 
 // Lines that are not allowed.
@@ -240,12 +248,19 @@ static BAD: [&[u8]; 108] = [
     b"entries 0 0",
 ];
 
-#[test]
-fn bad_lines(rt: HostRuntime) {
-    for line in &BAD {
-        let fault = Err(ShellFault::BadLine(3));
-        assert!(rt; line_ends_so(rt.alloc(), line, fault, b"ok\n"), "{line:?}");
+// The place of the first line that is not refused.
+fn first_not_refused(alloc: Global) -> Option<usize> {
+    for (at, line) in BAD.iter().enumerate() {
+        if !line_ends_so(alloc, line, Err(ShellFault::BadLine(3)), b"ok\n") {
+            return Some(at);
+        }
     }
+    None
+}
+
+#[test]
+fn bad_lines(rt: HostRuntime) -> Result<(), Fail> {
+    none_wrong(first_not_refused(rt.alloc()))
 }
 
 // An insert with a body of this many bytes, each 0xab.
@@ -258,42 +273,71 @@ fn long_insert(alloc: Global, head: &[u8], bytes: usize) -> Result<Vec<u8>, Allo
     Ok(line)
 }
 
-// How long the line is, whether it is refused, and whether these bytes are written.
-fn long_line(
-    alloc: Global,
-    head: &[u8],
+/// A long line, and what comes of it.
+struct LongLine {
+    head: &'static [u8],
+    /// The bytes of its body.
     bytes: usize,
-    answers: &[u8],
-) -> Result<(usize, bool, bool), AllocError> {
-    let line = long_insert(alloc, head, bytes)?;
-    let mut written = Vec::new(alloc);
-    let result = run_line(alloc, line.as_slice(), &mut written);
-    Ok((line.len(), result.is_err(), written.as_slice() == answers))
+    /// How long it is.
+    length: usize,
+    /// What it and the `begin 0` before it are answered. Nothing is answered to a bad line.
+    answers: &'static [u8],
 }
 
-// The body's bytes, the length of the line, and what is answered; nothing is answered to a bad line.
-const LONG: [(&[u8], usize, usize, &[u8]); 4] = [
-    (b"insert 0 1 5 0 0 0 ", 1024, 2067, b"ok\nok\n"),
-    (
-        b"insert 0 1 5 0 0 0 ",
-        1025,
-        2069,
-        b"ok\nerror 13 TooLarge\n",
-    ),
-    (
-        b"insert 0 10 5 0 0 0 ",
-        2038,
-        4096,
-        b"ok\nerror 13 TooLarge\n",
-    ),
-    (b"insert 0 100 5 0 0 0 ", 2038, 4097, b"ok\n"),
+static LONG: [LongLine; 4] = [
+    LongLine {
+        head: b"insert 0 1 5 0 0 0 ",
+        bytes: 1024,
+        length: 2067,
+        answers: b"ok\nok\n",
+    },
+    LongLine {
+        head: b"insert 0 1 5 0 0 0 ",
+        bytes: 1025,
+        length: 2069,
+        answers: b"ok\nerror 13 TooLarge\n",
+    },
+    LongLine {
+        head: b"insert 0 10 5 0 0 0 ",
+        bytes: 2038,
+        length: 4096,
+        answers: b"ok\nerror 13 TooLarge\n",
+    },
+    LongLine {
+        head: b"insert 0 100 5 0 0 0 ",
+        bytes: 2038,
+        length: 4097,
+        answers: b"ok\n",
+    },
 ];
+
+// A line of more than 4096 bytes is bad.
+fn end_of(length: usize) -> Result<(), ShellFault> {
+    if length > 4096 {
+        Err(ShellFault::BadLine(3))
+    } else {
+        Ok(())
+    }
+}
+
+// Whether the line is so long, and that comes of it.
+fn comes_so(alloc: Global, long: &LongLine) -> Result<bool, AllocError> {
+    let line = long_insert(alloc, long.head, long.bytes)?;
+    let ends_so = line_ends_so(alloc, line.as_slice(), end_of(long.length), long.answers);
+    Ok(line.len() == long.length && ends_so)
+}
+
+// The place of the first line of which something else comes.
+fn first_wrong_length(alloc: Global) -> Result<Option<usize>, AllocError> {
+    for (at, long) in LONG.iter().enumerate() {
+        if !comes_so(alloc, long)? {
+            return Ok(Some(at));
+        }
+    }
+    Ok(None)
+}
 
 #[test]
 fn long_lines(rt: HostRuntime) -> Result<(), Fail> {
-    for (head, bytes, length, answers) in LONG {
-        let came = long_line(rt.alloc(), head, bytes, answers)?;
-        assert_eq!(rt; came, (length, length > 4096, true), "{length}");
-    }
-    Ok(())
+    none_wrong(first_wrong_length(rt.alloc())?)
 }

@@ -7,6 +7,7 @@ use crate::fakes::small;
 use script::{ShellFault, run_script};
 use std::alloc::Global;
 use std::io::Read;
+use std::test::Fail;
 
 // Which of the reads, the writes and the growths were refused where a script ends like this.
 fn marks_of(ended: &Result<(), ShellFault>) -> [bool; 3] {
@@ -49,4 +50,12 @@ pub fn ends_so(
 ) -> bool {
     let mut written = Vec::new(alloc);
     run_whole(alloc, script, &mut written) == wanted && written.as_slice() == answers
+}
+
+/// Fails where something came otherwise, at the place in its table or the byte that is told.
+pub fn none_wrong(wrong: Option<usize>) -> Result<(), Fail> {
+    match wrong {
+        Some(at) => Err(Fail::new(format_args!("it comes otherwise at {at}"))),
+        None => Ok(()),
+    }
 }

@@ -15,7 +15,7 @@ const SETTINGS: Settings = Settings {
 };
 
 /// A version takes 66 bytes and its body, rounded up to a multiple of 8.
-const STEPS: [(Ask, Answer); 73] = [
+static STEPS: [(Ask, Answer); 73] = [
     (Ask::UpdateBody(0, 1, 0), Answer::Refused(Refusal::NotOpen)),
     (Ask::Delete(0, 1), Answer::Refused(Refusal::NotOpen)),
     (

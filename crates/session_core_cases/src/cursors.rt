@@ -28,7 +28,7 @@ const BY_KEY_AND_LAST_COLUMN: Settings = Settings {
     ..SETTINGS
 };
 
-const OVER_THE_HEAP: [(Ask, Answer); 16] = [
+static OVER_THE_HEAP: [(Ask, Answer); 16] = [
     (Ask::Begin(0), Answer::Done),
     (Ask::Insert(0, 1, 0), Answer::Done),
     (Ask::Insert(0, 2, 0), Answer::Done),
@@ -61,7 +61,7 @@ fn over_the_heap(rt: HostRuntime) -> Result<(), Fail> {
     ask_new(rt.alloc(), BY_KEY_ALONE, &OVER_THE_HEAP)
 }
 
-const IN_AN_INDEX_WHOSE_ROWS_ARE_DELETED: [(Ask, Answer); 22] = [
+static IN_AN_INDEX_WHOSE_ROWS_ARE_DELETED: [(Ask, Answer); 22] = [
     (Ask::Begin(0), Answer::Done),
     (Ask::Insert(0, 1, 30), Answer::Done),
     (Ask::Insert(0, 2, 10), Answer::Done),
@@ -92,7 +92,7 @@ fn in_an_index_whose_rows_are_deleted(rt: HostRuntime) -> Result<(), Fail> {
 }
 
 // Asking for none counts as asking for one.
-const BOTH_BOUNDS_ARE_INCLUDED: [(Ask, Answer); 24] = [
+static BOTH_BOUNDS_ARE_INCLUDED: [(Ask, Answer); 24] = [
     (Ask::Begin(0), Answer::Done),
     (Ask::Insert(0, 1, 50), Answer::Done),
     (Ask::Insert(0, 2, 40), Answer::Done),
@@ -128,7 +128,7 @@ fn both_bounds_are_included(rt: HostRuntime) -> Result<(), Fail> {
 }
 
 // Whoever began before the update commits is given the row at its old value, and not again at its new one.
-const A_ROW_MOVES_IN_ITS_INDEX: [(Ask, Answer); 28] = [
+static A_ROW_MOVES_IN_ITS_INDEX: [(Ask, Answer); 28] = [
     (Ask::Begin(0), Answer::Done),
     (Ask::Insert(0, 1, 10), Answer::Done),
     (Ask::Insert(0, 2, 20), Answer::Done),
@@ -164,7 +164,7 @@ fn a_row_moves_in_its_index(rt: HostRuntime) -> Result<(), Fail> {
     ask_new(rt.alloc(), SETTINGS, &A_ROW_MOVES_IN_ITS_INDEX)
 }
 
-const EQUAL_VALUES_COME_BY_THEIR_KEYS: [(Ask, Answer); 11] = [
+static EQUAL_VALUES_COME_BY_THEIR_KEYS: [(Ask, Answer); 11] = [
     (Ask::Begin(0), Answer::Done),
     (Ask::Insert(0, 9, 7), Answer::Done),
     (Ask::Insert(0, 3, 7), Answer::Done),
@@ -184,7 +184,7 @@ fn equal_values_come_by_their_keys(rt: HostRuntime) -> Result<(), Fail> {
 }
 
 // Rows come by the slots of the versions that are seen: those of keys 2 and 4 stand last.
-const OVER_THE_HEAP_ACROSS_A_COMMIT: [(Ask, Answer); 19] = [
+static OVER_THE_HEAP_ACROSS_A_COMMIT: [(Ask, Answer); 19] = [
     (Ask::Begin(0), Answer::Done),
     (Ask::Insert(0, 2, 20), Answer::Done),
     (Ask::Insert(0, 5, 50), Answer::Done),
@@ -212,7 +212,7 @@ fn over_the_heap_across_a_commit(rt: HostRuntime) -> Result<(), Fail> {
 }
 
 // A page has room for seven rows with the largest body: each takes 1096 bytes and a pointer of 4, of 8168.
-const OVER_THE_HEAP_PAGE_BY_PAGE: [(Ask, Answer); 25] = [
+static OVER_THE_HEAP_PAGE_BY_PAGE: [(Ask, Answer); 25] = [
     (Ask::Begin(0), Answer::Done),
     (Ask::InsertBody(0, 1, 1024), Answer::Done),
     (Ask::InsertBody(0, 2, 1024), Answer::Done),
@@ -245,7 +245,7 @@ fn over_the_heap_page_by_page(rt: HostRuntime) -> Result<(), Fail> {
     ask_new(rt.alloc(), TWO_PAGES, &OVER_THE_HEAP_PAGE_BY_PAGE)
 }
 
-const AN_END_CLOSES_THE_CURSOR: [(Ask, Answer); 15] = [
+static AN_END_CLOSES_THE_CURSOR: [(Ask, Answer); 15] = [
     (Ask::Begin(0), Answer::Done),
     (Ask::Next(0, 1), Answer::Refused(Refusal::NoCursor)),
     (Ask::Close(0), Answer::Refused(Refusal::NoCursor)),
@@ -269,7 +269,7 @@ fn an_end_closes_the_cursor(rt: HostRuntime) -> Result<(), Fail> {
 }
 
 // While its cursor is open, a session reads and ends, and does nothing else.
-const A_CURSOR_BARS_WRITES_AND_SAVEPOINTS: [(Ask, Answer); 18] = [
+static A_CURSOR_BARS_WRITES_AND_SAVEPOINTS: [(Ask, Answer); 18] = [
     (Ask::Begin(0), Answer::Done),
     (Ask::Savepoint(0), Answer::Done),
     (Ask::Insert(0, 7, 1), Answer::Done),
@@ -298,7 +298,7 @@ fn a_cursor_bars_writes_and_savepoints(rt: HostRuntime) -> Result<(), Fail> {
     ask_new(rt.alloc(), SETTINGS, &A_CURSOR_BARS_WRITES_AND_SAVEPOINTS)
 }
 
-const WHO_HAS_NO_CURSOR: [(Ask, Answer); 13] = [
+static WHO_HAS_NO_CURSOR: [(Ask, Answer); 13] = [
     (Ask::OpenHeap(64), Answer::Refused(Refusal::NoSuchSession)),
     (Ask::Next(64, 1), Answer::Refused(Refusal::NoSuchSession)),
     (Ask::Close(0), Answer::Refused(Refusal::NotOpen)),
@@ -323,7 +323,7 @@ fn who_has_no_cursor(rt: HostRuntime) -> Result<(), Fail> {
 }
 
 // Index c + 1 is that by column c.
-const THE_INDEXES_HAVE_THEIR_NUMBERS: [(Ask, Answer); 6] = [
+static THE_INDEXES_HAVE_THEIR_NUMBERS: [(Ask, Answer); 6] = [
     (Ask::Begin(0), Answer::Done),
     (
         Ask::OpenIndex(0, 3, 0, 0),

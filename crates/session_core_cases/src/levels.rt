@@ -14,7 +14,7 @@ const SETTINGS: Settings = Settings {
     indexed: [false; 4],
 };
 
-const STEPS: [(Ask, Answer); 72] = [
+static STEPS: [(Ask, Answer); 72] = [
     (Ask::Savepoint(0), Answer::Refused(Refusal::NotOpen)),
     (Ask::RollbackTo(0), Answer::Refused(Refusal::NotOpen)),
     (Ask::Release(0), Answer::Refused(Refusal::NotOpen)),
@@ -119,7 +119,7 @@ fn savepoints(rt: HostRuntime) -> Result<(), Fail> {
 }
 
 /// There may be 32 savepoints, and again as many after one was released.
-const DEEP: [(Ask, Answer); 41] = [
+static DEEP: [(Ask, Answer); 41] = [
     (Ask::Begin(0), Answer::Done),
     (Ask::Savepoint(0), Answer::Done),
     (Ask::Savepoint(0), Answer::Done),

@@ -14,7 +14,7 @@ const SETTINGS: Settings = Settings {
     indexed: [false; 4],
 };
 
-const STEPS: [(Ask, Answer); 82] = [
+static STEPS: [(Ask, Answer); 82] = [
     (
         Ask::OpenIndex(0, 0, 0, 1),
         Answer::Refused(Refusal::NotOpen),

@@ -13,7 +13,7 @@ const SETTINGS: Settings = Settings {
     indexed: [false; 4],
 };
 
-const FIRST_ROW: [(Ask, Answer); 8] = [
+static FIRST_ROW: [(Ask, Answer); 8] = [
     (Ask::Page(0), Answer::NoPage),
     (Ask::Begin(0), Answer::Done),
     (Ask::Begin(1), Answer::Done),
@@ -30,7 +30,7 @@ fn the_first_row_makes_a_page(rt: HostRuntime) -> Result<(), Fail> {
     ask_new(rt.alloc(), SETTINGS, &FIRST_ROW)
 }
 
-const FAILED: [(Ask, Answer); 13] = [
+static FAILED: [(Ask, Answer); 13] = [
     (Ask::Begin(0), Answer::Done),
     (Ask::Begin(1), Answer::Done),
     (Ask::InsertBody(0, 7, 0), Answer::Done),
@@ -51,7 +51,7 @@ fn a_failed_session_still_reads(rt: HostRuntime) -> Result<(), Fail> {
     ask_new(rt.alloc(), SETTINGS, &FAILED)
 }
 
-const ABORTED: [(Ask, Answer); 11] = [
+static ABORTED: [(Ask, Answer); 11] = [
     (Ask::Prune(0), Answer::Refused(Refusal::NoSuchPage)),
     (Ask::Begin(0), Answer::Done),
     (Ask::Begin(1), Answer::Done),
@@ -78,7 +78,7 @@ const FEW_IDS: Settings = Settings {
 };
 
 // The ids that a level's first write gives: one for each level below that has none, or none at all.
-const LEVELS: [(Ask, Answer); 40] = [
+static LEVELS: [(Ask, Answer); 40] = [
     (Ask::Begin(0), Answer::Done),
     (Ask::Savepoint(0), Answer::Done),
     (Ask::Savepoint(0), Answer::Done),
@@ -137,7 +137,7 @@ const FOUR_PAGES: Settings = Settings {
 };
 
 // The ids are 3, then 4, then 5 of the other session, then 6 of the released level.
-const RELEASED: [(Ask, Answer); 21] = [
+static RELEASED: [(Ask, Answer); 21] = [
     (Ask::Begin(0), Answer::Done),
     (Ask::InsertBody(0, 1, 0), Answer::Done),
     (Ask::Commit(0), Answer::Committed),
@@ -169,7 +169,7 @@ fn a_delete_after_a_release(rt: HostRuntime) -> Result<(), Fail> {
     ask_new(rt.alloc(), FOUR_PAGES, &RELEASED)
 }
 
-const UPDATED: [(Ask, Answer); 7] = [
+static UPDATED: [(Ask, Answer); 7] = [
     (Ask::Entries(1), Answer::NoIndex),
     (Ask::Entries(0), Answer::Entries(0)),
     (Ask::Begin(0), Answer::Done),

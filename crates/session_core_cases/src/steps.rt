@@ -14,7 +14,7 @@ const SETTINGS: Settings = Settings {
     indexed: [false; 4],
 };
 
-const STEPS: [(Ask, Answer); 63] = [
+static STEPS: [(Ask, Answer); 63] = [
     (Ask::Page(0), Answer::NoPage),
     (Ask::Get(0, 1), Answer::Refused(Refusal::NotOpen)),
     (Ask::InsertBody(0, 1, 0), Answer::Refused(Refusal::NotOpen)),
