@@ -2,10 +2,11 @@
 pub use Rattle.history.specs.World.{World, beginning}
 pub use Rattle.session_relation.specs.Words.{RowText, AreSettings, FirstFault}
 pub use Rattle.session_relation.specs.Allowed.{next, IsRun}
-pub use Rattle.session_core.specs.State.{State, index_at}
-pub use Rattle.session_core.specs.Agrees.{Agrees, Follows}
-pub use Rattle.session_core.specs.Exact.{Exact}
-pub use Rattle.session_core.specs.Runs.{IsNew}
+pub use Rattle.session_core.specs.View.{EngineView}
+pub use Rattle.session_steps.specs.State.{index_at}
+pub use Rattle.session_steps.specs.Agrees.{Agrees, Follows}
+pub use Rattle.session_steps.specs.Exact.{Exact}
+pub use Rattle.session_steps.specs.New.{IsNew}
 pub use Rattle.commit_status.specs.Window.{next_id}
 pub use Rattle.session_relation.specs.declared.settings.Settings.{Settings}
 pub use Rattle.session_relation.specs.declared.settings.SettingsFault.{SettingsFault}

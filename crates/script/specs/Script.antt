@@ -3,7 +3,7 @@ use Rattle.std.specs.Prelude.{◌≡◌, ℕ, ◌+◌, ◌<◌, ◌≤◌, ◌�
 use Rattle.std.specs.Option.{option_map}
 use Rattle.std.specs.List.{flat_map, AllByRecursion}
 use Rattle.std.specs.Io.KnownBytes.{Appends}
-use Rattle.script.specs.Engine.{Settings, AreSettings, State, Step, Reply, Entry, IsNew, Follows, Exact, beginning, index_at, next_id, IsRun}
+use Rattle.script.specs.Engine.{Settings, AreSettings, EngineView, Step, Reply, Entry, IsNew, Follows, Exact, beginning, index_at, next_id, IsRun}
 use Rattle.script.specs.Pieces.{Gives}
 use Rattle.script.specs.Grammar.{heading, spelling, with_feed, IsAllowed}
 use Rattle.script.specs.Answers.{reply_text, ids_text, Shown, shown_text, index_text}
@@ -54,20 +54,20 @@ abbrev pub answers_of : List Event → List ℕ
 answers_of events = flat_map (λ e. with_feed (answer_of e)) events
 
 -- what a page, if it is in use, is shown as: there is no visibility map yet
-abbrev pub shown_of : State → ℕ → Option Shown
-shown_of st p = option_map (λ page. record { change = page.change; visible = 0; slots = page.slots }) (slice_get st.heap.pages.pages p)
+abbrev pub shown_of : EngineView → ℕ → Option Shown
+shown_of st p = option_map (λ page. record { change = page.change; visible = 0; slots = page.slots }) (slice_get st.core.heap.pages.pages p)
 
 -- a step leads the engine on, as the history allows, and in what that leaves open exactly; a look shows what is there
-abbrev pub Moves : State → Event → State → Type 0
-Moves old (did step reply) new = Follows old step reply new × Exact old step reply new
-Moves old (showed_ids next frozen_below) new = (old ≡ new) × (next ≡ next_id old.heap.table) × (frozen_below ≡ old.heap.table.first)
+abbrev pub Moves : EngineView → Event → EngineView → Type 0
+Moves old (did step reply) new = Follows old.core step reply new.core × Exact old.core step reply new.core
+Moves old (showed_ids next frozen_below) new = (old ≡ new) × (next ≡ next_id old.core.heap.table) × (frozen_below ≡ old.core.heap.table.first)
 Moves old (showed_page p shown) new = (old ≡ new) × (shown ≡ shown_of old p)
-Moves old (showed_entries i entries) new = (old ≡ new) × (entries ≡ option_map (λ index. index.entries) (index_at old i))
+Moves old (showed_entries i entries) new = (old ≡ new) × (entries ≡ option_map (λ index. index.entries) (index_at old.core i))
 
 -- the engine's states from event to event
-abbrev pub Leads : State → List Event → State → Type 0
+abbrev pub Leads : EngineView → List Event → EngineView → Type 0
 Leads old [] new = old ≡ new
-Leads old (e ∷ events) new = (st : State) × Moves old e st × Leads st events new
+Leads old (e ∷ events) new = (st : EngineView) × Moves old e st × Leads st events new
 
 -- Allowed lines behind a first one with these settings. Their steps and replies are a run of the history from its beginning, and
 -- all that was answered comes from an engine that is made by the settings.
@@ -76,9 +76,9 @@ pub record IsScriptRun (settings : Settings) (events : List Event) : Type 0 wher
   pub columns : length settings.indexed ≡ 4
   pub allowed : AllByRecursion (λ e. IsAllowed (line_of e)) events
   pub run : IsRun (beginning settings.indexed) (steps_of events) (replies_of events)
-  pub first : State
-  pub new : IsNew settings first
-  pub last : State
+  pub first : EngineView
+  pub new : IsNew settings first.core
+  pub last : EngineView
   pub leads : Leads first events last
 
 abbrev pub script : Settings → List Event → List ℕ

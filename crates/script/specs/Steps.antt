@@ -2,14 +2,14 @@
 use Rattle.std.specs.Prelude.{◌≡◌, ℕ, ◌+◌, List, [], ◌++◌, length, Option, Ok, Err, Result, IfSome}
 use Rattle.std.specs.List.{AllByRecursion}
 use Rattle.std.specs.Io.KnownBytes.{Appends, Consumes}
-use Rattle.script.specs.Engine.{State}
+use Rattle.script.specs.Engine.{EngineView}
 use Rattle.script.specs.Grammar.{IsAllowed, Fits, spelling, with_feed}
 use Rattle.script.specs.Script.{Event, line_of, answer_of, lines_of, answers_of, Moves, Leads, IsBadLine, IsBadHeading, Begins}
 use Rattle.script.specs.declared.fault.ShellFault.{ShellFault}
 use Rattle.script.specs.declared.fault.ShellFault.TheVariants.{BadLine, TooManyLines}
 
 -- what a line asks for was done, and its answer is added
-abbrev pub Does : List ℕ → State → State → List ℕ → List ℕ → Type 0
+abbrev pub Does : List ℕ → EngineView → EngineView → List ℕ → List ℕ → Type 0
 Does text from to old new = (e : Event) × Fits (line_of e) × (text ≡ spelling (line_of e)) × Moves from e to × (new ≡ old ++ with_feed (answer_of e))
 
 -- how the lines end: all are read, the next is bad, or a fault comes
@@ -20,16 +20,16 @@ Ends (Err TooManyLines) lines left before after text = (lines + 2 ≡ 1844674407
 Ends (Err fault) lines left before after text = Begins before after text
 
 -- lines at the front of the input are run, and their answers written behind the text
-pub record Advance (from : State) (input : List ℕ) (before after : Option (List ℕ)) (text : List ℕ) (result : Result (Unit {0}) ShellFault) : Type 0 where
+pub record Advance (from : EngineView) (input : List ℕ) (before after : Option (List ℕ)) (text : List ℕ) (result : Result (Unit {0}) ShellFault) : Type 0 where
   pub events : List Event
   pub allowed : AllByRecursion (λ e. IsAllowed (line_of e)) events
-  pub last : State
+  pub last : EngineView
   pub leads : Leads from events last
   pub left : List ℕ
   pub lines : input ≡ lines_of events ++ left
   pub ends : Ends result (length events) left before after (text ++ answers_of events)
 
-abbrev pub Advances : State → Option (List ℕ) → Option (List ℕ) → Option (List ℕ) → List ℕ → List ℕ → Result (Unit {0}) ShellFault → Type 0
+abbrev pub Advances : EngineView → Option (List ℕ) → Option (List ℕ) → Option (List ℕ) → List ℕ → List ℕ → Result (Unit {0}) ShellFault → Type 0
 Advances from input before after pending text result =
     IfSome input (λ bytes. Advance from (pending ++ bytes) before after text result)
 

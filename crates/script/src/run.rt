@@ -87,7 +87,7 @@ fn show_page(text: &mut Vec<u8>, engine: &Engine, number: u32) -> Result<(), Ref
 
 // Shows the entries of an index, or that it isn't there.
 fn show_index(text: &mut Vec<u8>, engine: &Engine, number: u8) -> Result<(), Refused>
-    ensures { OnOk result (text.new.items ≡ text.old.items ++ with_feed (index_text number (option_map (λ index. index.entries) (index_at engine.now number)))) }
+    ensures { OnOk result (text.new.items ≡ text.old.items ++ with_feed (index_text number (option_map (λ index. index.entries) (index_at engine.now.core number)))) }
 {
     match engine.index(number) {
         Some(index) => tell_index(text, number, index),
@@ -210,7 +210,7 @@ fn first_line<R: Read, W: Write>(
     writer: &mut W,
 ) -> Result<Engine, ShellFault>
     requires { (pending.old ≡ []) × (text.old.items ≡ []) }
-    ensures begins { IfOk result (λ e. (s : Settings) × IsNew s e × AreSettings s × (length s.indexed ≡ 4)
+    ensures begins { IfOk result (λ e. (s : Settings) × IsNew s e.core × AreSettings s × (length s.indexed ≡ 4)
         × Uses (R.remaining reader.old) (R.remaining reader.new) [] (with_feed (heading s)) pending.new) }
     ensures quiet { Appends (W.contents writer.old) (W.contents writer.new) [] }
     ensures none { OnOk result (text.new.items ≡ []) }

@@ -6,10 +6,11 @@ use Rattle.session_relation.specs.declared.step.Step.{Step}
 use Rattle.session_relation.specs.declared.reply.Reply.{Reply}
 use Rattle.history.specs.World.{World, beginning}
 use Rattle.session_relation.specs.Allowed.{IsRun, next, after}
-use Rattle.session_core.specs.State.{State}
-use Rattle.session_core.specs.Agrees.{Agrees, Follows}
-use Rattle.session_core.specs.Exact.{Exact}
-use Rattle.session_core.specs.Runs.{IsNew, Leads, Ran}
+use Rattle.session_core.specs.View.{EngineView}
+use Rattle.session_steps.specs.Agrees.{Agrees, Follows}
+use Rattle.session_steps.specs.Exact.{Exact}
+use Rattle.session_steps.specs.New.{IsNew}
+use Rattle.session_core.specs.Runs.{Leads, Ran}
 
 -- a list before, at and behind a place
 pub split_at : (steps : List Step) (i : ℕ) (x : Step) → i < length steps → x ≡ get_or steps i x → steps ≡ take i steps ++ x ∷ drop (i + 1) steps
@@ -21,29 +22,29 @@ pub positive : (n : ℕ) → (n ≡ 0 → false ≡ true) → 0 < n
 positive zero some = absurd (let e = some refl in cc)
 positive (suc n) some = omega arith
 
-Leads-push : (old : State) (steps : List Step) (replies : List Reply) (mid : State) (step : Step) (reply : Reply) (new : State) → Leads old steps replies mid
-    → Follows mid step reply new → Exact mid step reply new → Leads old (steps ++ step ∷ []) (replies ++ reply ∷ []) new
+Leads-push : (old : EngineView) (steps : List Step) (replies : List Reply) (mid : EngineView) (step : Step) (reply : Reply) (new : EngineView) → Leads old steps replies mid
+    → Follows mid.core step reply new.core → Exact mid.core step reply new.core → Leads old (steps ++ step ∷ []) (replies ++ reply ∷ []) new
 Leads-push old [] [] mid step reply new led follows exact =
-    (new, subst (λ (st : State). Follows st step reply new) (sym led) follows, subst (λ (st : State). Exact st step reply new) (sym led) exact, refl)
+    (new, subst (λ (st : EngineView). Follows st.core step reply new.core) (sym led) follows, subst (λ (st : EngineView). Exact st.core step reply new.core) (sym led) exact, refl)
 Leads-push old [] (r ∷ rs) mid step reply new led follows exact = absurd led
 Leads-push old (s ∷ ss) [] mid step reply new led follows exact = absurd led
 Leads-push old (s ∷ ss) (r ∷ rs) mid step reply new led follows exact =
     (led.0, led.1, led.2, Leads-push led.0 ss rs mid step reply new led.3 follows exact)
 
-pub Leads-more : (old : State) (steps : List Step) (replies : List Reply) (st st' : State) (i : ℕ) (d : Step) (reply : Reply) → i < length steps
-    → Leads old (take i steps) replies st → Follows st (get_or steps i d) reply st' → Exact st (get_or steps i d) reply st'
+pub Leads-more : (old : EngineView) (steps : List Step) (replies : List Reply) (st st' : EngineView) (i : ℕ) (d : Step) (reply : Reply) → i < length steps
+    → Leads old (take i steps) replies st → Follows st.core (get_or steps i d) reply st'.core → Exact st.core (get_or steps i d) reply st'.core
     → Leads old (take (i + 1) steps) (replies ++ reply ∷ []) st'
 Leads-more old steps replies st st' i d reply within led follows exact =
     rw (take_more steps i d within) (Leads-push old (take i steps) replies st (get_or steps i d) reply st' led follows exact)
 
 -- after the last step
-pub Leads-all : (old : State) (steps : List Step) (replies : List Reply) (st : State) (i : ℕ) → length steps ≤ i → Leads old (take i steps) replies st → Leads old steps replies st
+pub Leads-all : (old : EngineView) (steps : List Step) (replies : List Reply) (st : EngineView) (i : ℕ) → length steps ≤ i → Leads old (take i steps) replies st → Leads old steps replies st
 Leads-all old steps replies st i all led = subst (λ (ss : List Step). Leads old ss replies st) (take_all i steps all) led
 
 -- the history allows what was replied, and the engine agrees with the world after it
-pub Leads-run : (w : World) (old : State) (steps : List Step) (replies : List Reply) (new : State) → Agrees old w → Leads old steps replies new
-    → IsRun w steps replies × Agrees new (after w steps replies)
-Leads-run w old [] [] new agrees led = (tt, subst (λ (st : State). Agrees st w) led agrees)
+pub Leads-run : (w : World) (old : EngineView) (steps : List Step) (replies : List Reply) (new : EngineView) → Agrees old.core w → Leads old steps replies new
+    → IsRun w steps replies × Agrees new.core (after w steps replies)
+Leads-run w old [] [] new agrees led = (tt, subst (λ (st : EngineView). Agrees st.core w) led agrees)
 Leads-run w old [] (r ∷ rs) new agrees led = absurd led
 Leads-run w old (s ∷ ss) [] new agrees led = absurd led
 Leads-run w old (s ∷ ss) (r ∷ rs) new agrees led =
@@ -51,6 +52,6 @@ Leads-run w old (s ∷ ss) (r ∷ rs) new agrees led =
     let more = Leads-run (next w s r) led.0 ss rs new now.1 led.3 in
     ((now.0, more.0), more.1)
 
-pub Leads-ran : (settings : Settings) (old : State) (steps : List Step) (replies : List Reply) (new : State) → IsNew settings old → Leads old steps replies new → Ran settings steps replies
+pub Leads-ran : (settings : Settings) (old : EngineView) (steps : List Step) (replies : List Reply) (new : EngineView) → IsNew settings old.core → Leads old steps replies new → Ran settings steps replies
 Leads-ran settings old steps replies new is led =
     record { first = old; new = is; last = new; leads = led; agrees = (Leads-run (beginning settings.indexed) old steps replies new is.agrees led).1 }

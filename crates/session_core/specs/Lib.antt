@@ -1,14 +1,2 @@
-pub mod Keeps
-pub mod State
-pub mod Sessions
-pub mod Agrees
-pub mod Refuses
-pub mod Tests
-pub mod Replies
-pub mod Changes
-pub mod Writes
-pub mod Takes
-pub mod Exact
-pub mod Follows
+pub mod View
 pub mod Runs
-pub mod Laws

@@ -1,7 +1,6 @@
 -- Runs of the engine.
 use Rattle.std.specs.Prelude.{List, [], ◌∷◌, ◌++◌, ◌≡◌, ◌<◌, ℕ, length}
 use Rattle.history.specs.World.{beginning}
-use Rattle.heap_write.specs.Indexes.{entries_at, new_entries}
 use Rattle.session_relation.specs.declared.settings.Settings.{Settings}
 use Rattle.session_relation.specs.declared.settings.SettingsFault.TheVariants as setting
 use Rattle.session_relation.specs.declared.step.Step.{Step}
@@ -11,44 +10,36 @@ use Rattle.session_relation.specs.Writes.{HasBody}
 use Rattle.session_relation.specs.Allowed.{after}
 use Rattle.session_core.specs.declared.runs.RunFault.{RunFault}
 use Rattle.session_core.specs.declared.runs.RunFault.TheVariants as fault
-use Rattle.session_core.specs.State.{State}
-use Rattle.session_core.specs.Agrees.{Agrees, Follows}
-use Rattle.session_core.specs.Exact.{Exact}
-
--- an engine of these settings on which nothing was done: no id is given, no page in use, and no index has an entry
-pub record IsNew (asked : Settings) (st : State) : Type 0 where
-  pub settings : st.settings ≡ asked
-  pub first : st.heap.table.first ≡ asked.first_xid
-  pub ids : st.heap.table.entries ≡ []
-  pub pages : st.heap.pages.pages ≡ []
-  pub indexes : (n : ℕ) → entries_at st.heap.indexes n ≡ new_entries asked.indexed n
-  pub agrees : Agrees st (beginning asked.indexed)
+use Rattle.session_core.specs.View.{EngineView}
+use Rattle.session_steps.specs.Agrees.{Agrees, Follows}
+use Rattle.session_steps.specs.Exact.{Exact}
+use Rattle.session_steps.specs.New.{IsNew}
 
 -- the engine's states one after another: by each step and its reply it follows the history, and does what the history leaves
 -- to it exactly
-abbrev pub Leads : State → List Step → List Reply → State → Type 0
+abbrev pub Leads : EngineView → List Step → List Reply → EngineView → Type 0
 Leads old [] [] new = old ≡ new
-Leads old (step ∷ steps) (reply ∷ replies) new = (st : State) × Follows old step reply st × Exact old step reply st × Leads st steps replies new
+Leads old (step ∷ steps) (reply ∷ replies) new = (e : EngineView) × Follows old.core step reply e.core × Exact old.core step reply e.core × Leads e steps replies new
 Leads old steps replies new = ⊥
 
 -- a new engine of these settings did the steps, and gave these replies
 pub record Ran (settings : Settings) (steps : List Step) (replies : List Reply) : Type 0 where
-  pub first : State
-  pub new : IsNew settings first
-  pub last : State
+  pub first : EngineView
+  pub new : IsNew settings first.core
+  pub last : EngineView
   pub leads : Leads first steps replies last
-  pub agrees : Agrees last (after (beginning settings.indexed) steps replies)
+  pub agrees : Agrees last.core (after (beginning settings.indexed) steps replies)
 
 -- What had to grow, where memory was refused: the list of the replies, before the first step, or the copy of a step with a body,
 -- when those before it were done.
-pub data WantsMemory (old : State) (steps : List Step) (new : State) : Type 0 where
+pub data WantsMemory (old : EngineView) (steps : List Step) (new : EngineView) : Type 0 where
   for_replies : 0 < length steps → old ≡ new → WantsMemory old steps new
   for_copy : (done more : List Step) (step : Step) (replies : List Reply) → steps ≡ done ++ step ∷ more → Leads old done replies new → HasBody step → WantsMemory old steps new
 
 -- memory was refused to a new engine, or when there was one
 pub data WantsToRun (settings : Settings) (steps : List Step) : Type 0 where
   for_engine : AreSettings settings → WantsToRun settings steps
-  for_steps : (first last : State) → IsNew settings first → AreSettings settings → WantsMemory first steps last → WantsToRun settings steps
+  for_steps : (first last : EngineView) → IsNew settings first.core → AreSettings settings → WantsMemory first steps last → WantsToRun settings steps
 
 -- a setting is the first out of its range, or all are in theirs and memory was refused
 abbrev pub FirstRunFault : Settings → List Step → RunFault → Type 0

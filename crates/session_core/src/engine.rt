@@ -1,24 +1,19 @@
-//! The engine and its sessions.
+//! The engine as its callers have it.
 
-ghost use Rattle.std.specs.Prelude.{◌≡◌, ◌<◌, ℕ, slice_get, option_copied, IfOk, IfErr, OnOk, MatchResult, Some, None, false, Contains};
+ghost use Rattle.std.specs.Prelude.{◌≡◌, slice_get, option_copied, IfOk, IfErr, OnOk, MatchResult, Some};
 ghost use Rattle.std.specs.Option.{option_map};
+ghost use Rattle.commit_status.specs.Window.{next_id};
+ghost use Rattle.history.specs.World.{World, OpenSession, view};
+ghost use Rattle.session_relation.specs.Allowed.{AllowsClosed};
 ghost use Rattle.session_relation.specs.Words.{AreSettings, FirstFault};
-ghost use Rattle.commit_status.specs.Window.{next_id, IsActive, IsWindow};
-ghost use Rattle.commit_status.specs.Changes.{Finishes};
-ghost use Rattle.session_core.specs.State.{session_at, index_at, put_session, as_failed};
-ghost use Rattle.session_core.specs.Changes.{Opens, Closes};
-ghost use Rattle.session_core.specs.Refuses.{Refuses, RefusesReady, RefusesFree, MayAct, RefusesBare};
-ghost use Rattle.session_core.specs.Runs.{IsNew};
+ghost use Rattle.session_steps.specs.State.{index_at};
+ghost use Rattle.session_steps.specs.Agrees.{Agrees, Follows};
+ghost use Rattle.session_steps.specs.Exact.{Exact};
+ghost use Rattle.session_steps.specs.New.{IsNew};
 
-use crate::cursor::Cursor;
-use crate::session::Session;
-use crate::sessions::Sessions;
-use commit_status::Status;
-use heap_write::HeapState;
 use page_slots::Page;
 use root_index::RootIndex;
-use session_relation::{Refusal, Settings, SettingsFault};
-use snapshot::{OwnIds, Snapshot};
+use session_relation::{Refusal, Reply, Row, Settings, SettingsFault, Step};
 use std::alloc::Global;
 use std::marker::Model;
 use xid_circle::Xid;
@@ -26,190 +21,88 @@ use xid_circle::Xid;
 /// A table with its sessions, of which there may be 64 open at a time.
 #[derive(Drop)]
 pub struct Engine {
-    pub(crate) alloc: Global,
-    pub(crate) settings: Settings,
-    pub(crate) heap: HeapState,
-    pub(crate) sessions: Sessions,
+    core: session_steps::Engine,
 }
 
 impl Model for Engine {
-    ghost use Rattle.session_core.specs.State.{State};
-    ghost use Rattle.session_core.specs.Keeps.{EngineKeeps};
+    ghost use Rattle.session_core.specs.View.{EngineView};
 
-    ghost Value = { State };
+    ghost Value = { EngineView };
 
-    ghost view = { λ e. record { settings = e.settings; heap = e.heap; sessions = e.sessions } };
-
-    ghost invariant = { λ e. EngineKeeps e.sessions e.heap.table };
-}
-
-fn fail(session: &mut Option<Session>)
-    ensures { session.new ≡ option_map as_failed session.old }
-{
-    if let Some(session) = session {
-        session.failed = true;
-    }
-}
-
-/// Ends the session, if there is one: its ids have the status from now on.
-fn end(heap: &mut HeapState, session: Option<Session>, status: Status)
-    requires { (e : _) (x : ℕ) → session ≡ Some e → Contains e.own.ids x → IsActive heap.old.table x }
-    ensures pages { heap.new.pages ≡ heap.old.pages }
-    ensures indexes { heap.new.indexes ≡ heap.old.indexes }
-    ensures max_pages { heap.new.max_pages ≡ heap.old.max_pages }
-    ensures finishes { (e : _) → session ≡ Some e → Finishes heap.old.table heap.new.table e.own.ids status }
-    ensures window { (e : _) → session ≡ Some e → IsWindow heap.new.table }
-    ensures none { session ≡ None → heap.new.table ≡ heap.old.table }
-{
-    if let Some(session) = &session {
-        heap.finish(session.own.as_slice(), status);
-    }
+    ghost view = { λ e. record { core = e.core } };
 }
 
 impl Engine {
     /// An engine of these settings, without sessions, pages or entries. The fault names the first setting that is out of its
     /// range, or memory.
     pub fn new(alloc: Global, settings: Settings) -> Result<Engine, SettingsFault>
-        ensures new { IfOk result (λ e. IsNew settings e) }
+        ensures new { IfOk result (λ e. IsNew settings e.core) }
         ensures fault { IfErr result (λ fault. FirstFault settings fault) }
         ensures valid { OnOk result (AreSettings settings) }
     {
-        if let Some(fault) = settings.fault() {
-            return Err(fault);
+        match session_steps::Engine::new(alloc, settings) {
+            Ok(core) => Ok(Engine { core }),
+            Err(fault) => Err(fault),
         }
-        let sessions = match Sessions::new(alloc) {
-            Ok(sessions) => sessions,
-            Err(_) => return Err(SettingsFault::NoMemory),
-        };
-        let first = Xid(settings.first_xid);
-        Ok(Engine {
-            alloc,
-            settings,
-            heap: HeapState::new(
-                alloc,
-                first,
-                settings.stop_age,
-                settings.max_pages,
-                settings.indexed,
-            ),
-            sessions,
-        })
+    }
+
+    /// Does one step, and gives its reply: whatever world of the history the engine agrees with, the history allows
+    /// the reply, and the engine agrees with the next world. A step that is refused names the first reason that holds, in the order
+    /// of the table in docs/rules.md, or NoMemory, as is said below that table.
+    pub fn step(&mut self, step: Step) -> Reply
+        ensures follows { Follows self.old.core step result self.new.core }
+        ensures exact { Exact self.old.core step result self.new.core }
+    {
+        self.core.step(step)
+    }
+
+    /// Does one step as [`Engine::step`] does, and puts its reply in the place of an earlier one. A reply has room for a row, over a
+    /// kilobyte; who does many steps needs one alone. The earlier one is dropped only when the new one is there, so the rows of two
+    /// answers of a cursor may be in memory at once.
+    pub fn step_into(&mut self, step: Step, reply: &mut Reply)
+        ensures follows { Follows self.old.core step reply.new self.new.core }
+        ensures exact { Exact self.old.core step reply.new self.new.core }
+    {
+        self.core.step_into(step, reply)
+    }
+
+    /// The row of the key that the session reads, also in a transaction that has failed. It is no step, and takes no
+    /// memory. Refusals in order: NoSuchSession, NotOpen.
+    pub fn read(&self, s: u8, key: u64) -> Result<Option<Row>, Refusal>
+        ensures { (w : World) → Agrees self.now.core w → MatchResult result
+            (λ row. (m : OpenSession) × (w.session s ≡ Some m) × (row ≡ view w.history m key))
+            (λ refusal. AllowsClosed w s refusal) }
+    {
+        self.core.read(s, key)
     }
 
     /// The next id to be given, and the oldest that is remembered.
     pub fn ids(&self) -> (Xid, Xid)
-        ensures next { result.0.0 ≡ next_id self.now.heap.table }
-        ensures first { result.1.0 ≡ self.now.heap.table.first }
+        ensures next { result.0.0 ≡ next_id self.now.core.heap.table }
+        ensures first { result.1.0 ≡ self.now.core.heap.table.first }
     {
-        let table = self.heap.table();
-        (table.next(), table.frozen_below())
+        self.core.ids()
     }
 
     /// The page of this number, counted from 0, if it is in use.
     pub fn page(&self, number: u32) -> Option<&Page>
-        ensures { option_copied result ≡ slice_get self.now.heap.pages.pages number }
+        ensures { option_copied result ≡ slice_get self.now.core.heap.pages.pages number }
     {
-        self.heap.page(number)
+        self.core.page(number)
     }
 
     /// The index of this number, if there is one: index 0 is the primary index, by key, and index `c + 1` is that of
     /// column `c`, where the settings ask for it.
     pub fn index(&self, number: u8) -> Option<&RootIndex>
-        ensures { option_copied result ≡ index_at self.now number }
+        ensures { option_copied result ≡ index_at self.now.core number }
     {
-        self.heap.index(number)
+        self.core.index(number)
     }
 
-    /// The visibility map's bits of the page, if it is in use: 0, since there is no visibility map yet.
+    /// The visibility map's bits of the page, if it is in use: 0, since no step sets one yet.
     pub fn page_bits(&self, number: u32) -> Option<u8>
-        ensures { result ≡ option_map (λ _. 0) (slice_get self.now.heap.pages.pages number) }
+        ensures { result ≡ option_map (λ _. 0) (slice_get self.now.core.heap.pages.pages number) }
     {
-        match self.page(number) {
-            Some(_) => Some(0),
-            None => None,
-        }
-    }
-
-    /// The session, if it is open.
-    pub(crate) fn opened(&self, s: u8) -> Result<&Session, Refusal>
-        ensures { MatchResult result (λ e. (s < 64) × (session_at self.now s ≡ Some e.now)) (λ refusal. Refuses self.now s refusal) }
-    {
-        if s >= 64 {
-            return Err(Refusal::NoSuchSession);
-        }
-        match self.sessions.place(s) {
-            Some(session) => Ok(session),
-            None => Err(Refusal::NotOpen),
-        }
-    }
-
-    /// The session, if it is open and has not failed.
-    pub(crate) fn ready(&self, s: u8) -> Result<&Session, Refusal>
-        ensures { MatchResult result (λ e. (s < 64) × (session_at self.now s ≡ Some e.now) × (e.now.failed ≡ false)) (λ refusal. RefusesReady self.now s refusal) }
-    {
-        let session = self.opened(s)?;
-        if session.failed {
-            return Err(Refusal::Failed);
-        }
-        Ok(session)
-    }
-
-    /// The session, if it is open, has not failed and has no cursor.
-    pub(crate) fn free(&self, s: u8) -> Result<&Session, Refusal>
-        ensures { MatchResult result (λ e. MayAct self.now s e.now) (λ refusal. RefusesFree self.now s refusal) }
-    {
-        let session = match self.ready(s) {
-            Ok(session) => session,
-            Err(refusal) => return Err(refusal),
-        };
-        match session.cursor {
-            None => Ok(session),
-            Some(_) => Err(Refusal::CursorOpen),
-        }
-    }
-
-    /// The session and its cursor, if it is open, has not failed and has one.
-    pub(crate) fn with_cursor(&self, s: u8) -> Result<(&Session, Cursor), Refusal>
-        ensures { MatchResult result (λ found. (s < 64) × (session_at self.now s ≡ Some found.0.now) × (found.0.now.failed ≡ false) × (found.0.now.cursor ≡ Some found.1)) (λ refusal. RefusesBare self.now s refusal) }
-    {
-        let session = match self.ready(s) {
-            Ok(session) => session,
-            Err(refusal) => return Err(refusal),
-        };
-        match session.cursor {
-            Some(cursor) => Ok((session, cursor)),
-            None => Err(Refusal::NoCursor),
-        }
-    }
-
-    /// Opens the session, which sees what its snapshot does.
-    pub(crate) fn open(&mut self, s: u8, snapshot: Snapshot)
-        requires within { s < 64 }
-        requires idle { session_at self.old s ≡ None }
-        ensures { Opens self.old self.new s snapshot }
-    {
-        *self.sessions.place_mut(s) = Some(Session {
-            snapshot,
-            own: OwnIds::new(self.alloc),
-            failed: false,
-            cursor: None,
-        });
-    }
-
-    /// Closes the session; its ids have the status from now on.
-    pub(crate) fn close(&mut self, s: u8, status: Status)
-        requires within { s < 64 }
-        ensures { Closes self.old self.new s status }
-    {
-        let session = self.sessions.place_mut(s).take();
-        end(&mut self.heap, session, status);
-    }
-
-    /// Notes that the session can only be rolled back.
-    pub(crate) fn fail(&mut self, s: u8)
-        requires { s < 64 }
-        ensures { self.new ≡ put_session self.old s (option_map as_failed (session_at self.old s)) }
-    {
-        fail(self.sessions.place_mut(s));
+        self.core.page_bits(number)
     }
 }

@@ -1,35 +1,16 @@
 //! The engine: sessions that read and write a table, step by step.
 //!
-//! Callers see an [`Engine`] as a `State` (`specs/State.antt`). `specs/Agrees.antt` says when it agrees with a world of
-//! the history, and [`Engine::step`] promises that for every world that it agrees with, the history allows the reply,
-//! the engine agrees with the next world, and no index entry leads to a slot that was given to another row. Beside that it
-//! says exactly what the step does to ids and pages (`specs/Exact.antt`). [`Engine::step_into`] does the same and puts its reply
-//! in the place of an earlier one, [`Engine::read`] reads outside of a step, and [`run`] does a list of steps
-//! (`specs/Runs.antt`). [`views_by_index`] says what an index leads to, and [`horizon_is_earliest`] what the horizon is.
+//! An [`Engine`] keeps the engine of `session_steps`, whose state its steps change, and is to keep beside it what steps only note:
+//! for whom each session waits, and a vacuum in progress. Callers see it as an `EngineView` (`specs/View.antt`). Its calls promise of
+//! the state within what those of `session_steps` promise: for every world of the history that it agrees with, [`Engine::step`] gives
+//! a reply that the history allows, and agrees with the next world (`Follows`), and does to ids and pages exactly what `Exact` says.
+//! [`run`] does a list of steps (`specs/Runs.antt`).
 #![tactic(auto)]
 
-mod begin;
-mod cleaning;
-mod commit;
-mod cursor;
-mod cursors;
-mod delete;
 mod engine;
-mod get;
-mod insert;
-mod laws;
-mod next;
-mod outcome;
 mod runs;
-mod savepoint;
-mod session;
-mod sessions;
-mod step;
-mod update;
-mod write;
 
 pub use engine::Engine;
-pub use laws::{horizon_is_earliest, views_by_index};
 pub use page_slots::Page;
 pub use runs::{RunFault, run};
 pub use session_relation::{Refusal, Reply, Row, RowIn, Settings, SettingsFault, Step};

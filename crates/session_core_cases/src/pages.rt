@@ -1,7 +1,8 @@
 //! What stands on the pages, in the index and among the ids after some steps, each reckoned by hand.
 
 use crate::asks::{Answer, Ask, ask_new};
-use session_core::{Refusal, Settings, horizon_is_earliest, views_by_index};
+use session_core::{Refusal, Settings};
+use session_steps::{horizon_is_earliest, views_by_index};
 use std::test::Fail;
 
 const SETTINGS: Settings = Settings {

@@ -1,9 +1,9 @@
-use Rattle.std.proofs.Common.{◌≡◌, ◌∙◌, ℕ, List, [], Option, None, replicate, refl, ap}
+use Rattle.std.proofs.Common.{◌≡◌, ◌∙◌, ℕ, Bool, List, [], Option, None, replicate, refl, ap}
 use Rattle.std.specs.Prelude.{zero, suc, slice_get}
 use mathlib.Core.Path.{fun_ext}
 use Rattle.std.specs.Option.{option_map, option_flatten}
 use Rattle.history.specs.History.{Transaction}
-use Rattle.history.specs.World.{OpenSession, World, empty}
+use Rattle.history.specs.World.{OpenSession, World, beginning, is_indexed}
 use Rattle.plain_history.specs.declared.plain.PlainSession.{PlainSession}
 use Rattle.plain_history.specs.Plain.{Plain, open_of, session_in, wait_in, world_of}
 use Rattle.plain_history.proofs.plain.PlainHistory.new.Goals as goal
@@ -21,15 +21,15 @@ nobody_waits zero (suc s) = refl
 nobody_waits (suc count) zero = refl
 nobody_waits (suc count) (suc s) = nobody_waits count s
 
-abbrev world : List Transaction → (ℕ → Option OpenSession) → (ℕ → Option ℕ) → World
-world history session waits = record { history = history; session = session; waits_for = waits }
+abbrev world : List Bool → List Transaction → (ℕ → Option OpenSession) → (ℕ → Option ℕ) → World
+world columns history session waits = record { history = history; session = session; waits_for = waits; has_index = is_indexed columns }
 
-is_empty : (p : Plain) (count others : ℕ) → p.history ≡ [] → p.sessions ≡ replicate count None → p.waits ≡ replicate others None → world_of p ≡ empty
-is_empty p count others none sessions waits =
-    ap (λ h. world h (session_in p.sessions) (wait_in p.waits)) none
-    ∙ (ap (λ f. world [] f (wait_in p.waits)) (fun_ext (λ s. ap (λ xs. session_in xs s) sessions ∙ ap (option_map open_of) (nobody_sits count s)))
-    ∙ ap (world [] (λ _. None)) (fun_ext (λ s. ap (λ xs. wait_in xs s) waits ∙ nobody_waits others s)))
+is_beginning : (p : Plain) (count others : ℕ) → p.history ≡ [] → p.sessions ≡ replicate count None → p.waits ≡ replicate others None → world_of p ≡ beginning p.indexed
+is_beginning p count others none sessions waits =
+    ap (λ h. world p.indexed h (session_in p.sessions) (wait_in p.waits)) none
+    ∙ (ap (λ f. world p.indexed [] f (wait_in p.waits)) (fun_ext (λ s. ap (λ xs. session_in xs s) sessions ∙ ap (option_map open_of) (nobody_sits count s)))
+    ∙ ap (world p.indexed [] (λ _. None)) (fun_ext (λ s. ap (λ xs. wait_in xs s) waits ∙ nobody_waits others s)))
 
 pub returns : goal.returns
-returns c = is_empty (record { history = c.new.result.items; sessions = c.loop.sessions.items; waits = c.loop-2.waits.items }) c.loop.counter c.loop-2.counter
+returns c = is_beginning (record { history = c.new.result.items; sessions = c.loop.sessions.items; waits = c.loop-2.waits.items; indexed = c.args.indexed }) c.loop.counter c.loop-2.counter
     c.new.ensures.items c.loop.invariant c.loop-2.invariant

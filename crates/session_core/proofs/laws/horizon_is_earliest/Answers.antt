@@ -1,5 +1,0 @@
-use Rattle.session_core.proofs.AllHeld.{horizon-is-earliest}
-use Rattle.session_core.proofs.laws.horizon_is_earliest.Goals as goal
-
-pub returns : goal.returns
-returns c = horizon-is-earliest

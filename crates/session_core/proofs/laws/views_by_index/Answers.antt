@@ -1,5 +1,0 @@
-use Rattle.session_core.proofs.ByIndex.{views-by-index}
-use Rattle.session_core.proofs.laws.views_by_index.Goals as goal
-
-pub returns : goal.returns
-returns c = views-by-index

@@ -1,0 +1,70 @@
+-- The horizon, which each session's first id is asked for alone, is the earliest of all that open sessions have.
+use Rattle.std.proofs.Common.{◌≡◌, ℕ, suc, ◌<◌, ◌≤◌, List, [], ◌∷◌, length, Option, Some, None, refl, subst, ◌⊎◌, inl, inr, arith}
+use Rattle.std.specs.Prelude.{Contains}
+use Rattle.std.proofs.lemmas.List.Elements.{Contains-append_left, Contains-append_right, Contains-append_cases}
+use Rattle.xid_circle.proofs.Members.{Contains-first, Contains-rest, Contains-cases}
+use Rattle.commit_status.specs.Window.{next_id, place, top_of, turns}
+use Rattle.commit_status.proofs.Places.{at-from_place, some-from_is}
+use Rattle.commit_status.proofs.Ancestors.{top-before}
+use Rattle.snapshot.specs.Laws.{IsEarliest}
+use Rattle.snapshot.proofs.Takes.{first-in}
+use Rattle.visibility.proofs.Makers.{active-to}
+use Rattle.session_steps.specs.declared.session.Session.{Session}
+use Rattle.session_steps.specs.State.{session_at, reader_of, holds_back, held_back, horizon_of}
+use Rattle.session_steps.specs.Keeps.{open_at}
+use Rattle.session_steps.specs.Laws.{all_held, HorizonIsEarliest}
+use Rattle.session_steps.proofs.Owns.{reader-is}
+use Rattle.session_steps.proofs.Horizons.{back-cases, below-xmin, first-back, held-in, horizon-least, horizon-low}
+
+-- what is held back is among all that sessions have
+held-all : (xs : List (Option Session)) (y : ℕ) → Contains (held_back xs) y → Contains (all_held xs) y
+held-all [] y among = among
+held-all (None ∷ xs) y among = held-all xs y among
+held-all (Some e ∷ xs) y among = elim (Contains-append_cases (holds_back e) (held_back xs) y among) [
+  | inl here ↦ Contains-append_left (e.snapshot.xmin ∷ e.own.ids) (all_held xs) y (has (back-cases e y here))
+  | inr there ↦ Contains-append_right (e.snapshot.xmin ∷ e.own.ids) (all_held xs) y (held-all xs y there)
+]
+  where
+    has : (e.snapshot.xmin ≡ y) ⊎ Contains e.own.ids y → Contains (e.snapshot.xmin ∷ e.own.ids) y
+    has (inl is) = subst (λ z. Contains (e.snapshot.xmin ∷ e.own.ids) z) is (Contains-first e.snapshot.xmin e.own.ids)
+    has (inr own) = Contains-rest e.snapshot.xmin y e.own.ids own
+
+all-cases : (xs : List (Option Session)) (y : ℕ) → Contains (all_held xs) y → (s : ℕ) × (e : Session) × (open_at xs s ≡ Some e) × Contains (e.snapshot.xmin ∷ e.own.ids) y
+all-cases [] y among = absurd (let below : among.0 < 0 = among.1 in omega arith)
+all-cases (None ∷ xs) y among = let some = all-cases xs y among in (suc some.0, some.1, some.2, some.3)
+all-cases (Some e ∷ xs) y among = elim (Contains-append_cases (e.snapshot.xmin ∷ e.own.ids) (all_held xs) y among) [
+  | inl here ↦ (0, e, refl, here)
+  | inr there ↦ (let some = all-cases xs y there in (suc some.0, some.1, some.2, some.3))
+]
+
+-- An open session's topmost id is given before its others.
+pub horizon-is-earliest : HorizonIsEarliest
+horizon-is-earliest st w agrees = record {
+  is_one = elim least.is_one [ inl is_next ↦ inl is_next | inr among ↦ inr (held-all st.sessions (horizon_of st) among) ];
+  first = least.first;
+  least = λ y among. let some = all-cases st.sessions y among in each some.0 some.1 y some.2 some.3;
+}
+  where
+    least : IsEarliest st.heap.table (next_id st.heap.table) (held_back st.sessions) (horizon_of st)
+    least = horizon-least st.heap.table st.sessions agrees.sound.window (held-in st w agrees)
+
+    given : (s : ℕ) (e : Session) (x : ℕ) → session_at st s ≡ Some e → Contains e.own.ids x → (i : ℕ) × (place st.heap.table x ≡ Some i)
+    given s e x at mine = some-from_is (place st.heap.table x) (active-to st.heap.table x ((agrees.found.opened s (reader_of e) (reader-is st s e at)).2.own_active x mine)).is_given
+
+    own : (s : ℕ) (e : Session) (x : ℕ) → session_at st s ≡ Some e → Contains e.own.ids x → turns st.heap.table.first (horizon_of st) ≤ turns st.heap.table.first x
+    own s e x at mine =
+        let first = (agrees.sound.sessions s e at).topmost x mine in
+        let top = top_of st.heap.table x in
+        let i = given s e x at mine in
+        let j = given s e top at (first-in e.own.ids top first) in
+        let low = horizon-low st.heap.table st.sessions s e top agrees.sound.window (held-in st w agrees) at (first-back e top first) in
+        let before = top-before st.heap.table x i.0 j.0 agrees.sound.window i.1 j.1 in
+        let turn_i = (at-from_place st.heap.table.first (length st.heap.table.entries) x i.0 i.1).turn in
+        let turn_j = (at-from_place st.heap.table.first (length st.heap.table.entries) top j.0 j.1).turn in
+        omega (arith, low, before, turn_i, turn_j)
+
+    each : (s : ℕ) (e : Session) (y : ℕ) → session_at st s ≡ Some e → Contains (e.snapshot.xmin ∷ e.own.ids) y → turns st.heap.table.first (horizon_of st) ≤ turns st.heap.table.first y
+    each s e y at among = elim (Contains-cases e.snapshot.xmin y e.own.ids among) [
+      | inl here ↦ subst (λ z. turns st.heap.table.first (horizon_of st) ≤ turns st.heap.table.first z) here (below-xmin st w agrees s e at)
+      | inr mine ↦ own s e y at mine
+    ]

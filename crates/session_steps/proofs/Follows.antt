@@ -1,0 +1,365 @@
+-- The reply to each step of the engine follows the history.
+use Rattle.std.proofs.Common.{◌≡◌, ℕ, zero, suc, ◌<◌, ◌≤◌, List, [], ◌∷◌, ◌++◌, length, set, Option, Some, None, true, false, refl, sym, ap, ◌∙◌, subst, inl, inr, arith}
+use Rattle.std.proofs.Math.ListN.{length-set}
+use Rattle.std.specs.Prelude.{Contains, IsSome}
+use Rattle.std.specs.Option.{option_map}
+use Rattle.std.proofs.lemmas.Option.{same_Some, none-some}
+use Rattle.xid_circle.proofs.Members.{Contains-none}
+use Rattle.page_slots.specs.declared.slot.Slot.{Slot}
+use Rattle.page_slots.specs.declared.slot.Slot.TheVariants.{Unused, Normal, Redirect, Dead}
+use Rattle.commit_status.specs.Window.{IsUpToNext, next_id, turns}
+use Rattle.snapshot.specs.Own.{AreDistinct}
+use Rattle.heap_pages.specs.View.{PagesView}
+use Rattle.visibility.proofs.Makers.{active-to}
+use Rattle.sound_entries.specs.Pages.{version_in, slot_in}
+use Rattle.sound_entries.specs.Entries.{MayBeLed, same_version, led_on, died}
+use Rattle.sound_entries.specs.Entries as entries
+use Rattle.sound_entries.specs.Looking as looking
+use Rattle.sound_writes.specs.Table.{SoundTable}
+use Rattle.sound_writes.proofs.InUse.{used-by}
+use Rattle.sound_writes.proofs.Keeping.{later-stays-sound}
+use Rattle.commit_status.specs.declared.status.Status.{Status}
+use Rattle.commit_status.specs.declared.status.Status.TheVariants.{Committed, Aborted}
+use Rattle.snapshot.specs.Snap.{Snap, earliest}
+use Rattle.heap_write.specs.Heap.{slots_of}
+use Rattle.history.specs.World.{World}
+use Rattle.session_relation.specs.declared.step.Step.{Step}
+use Rattle.session_relation.specs.declared.step.Step.TheVariants.{Begin, Get, Commit, Abort}
+use Rattle.session_relation.specs.declared.reply.Reply.{Reply}
+use Rattle.session_relation.specs.declared.reply.Reply.TheVariants.{Done, RolledBack, Refused}
+use Rattle.session_relation.specs.declared.reply.Reply.TheVariants as reply
+use Rattle.session_relation.specs.declared.reply.Refusal.{Refusal}
+use Rattle.session_relation.specs.declared.reply.Refusal.TheVariants.{NotOpen, AlreadyOpen, Failed, AlreadyThere, NotThere, Conflict, Busy, TooLarge, NoRoom, NeedsFreeze, NoMemory, NoSuchPage, NoSuchSession, TooDeep, NoSavepoint, CursorOpen, NoCursor, NoSuchIndex, BadBounds}
+use Rattle.session_relation.specs.Writes.{WriteStep, step_of}
+use Rattle.session_relation.specs.Heap as seen_heap
+use Rattle.session_relation.specs.Agrees as relation
+use Rattle.session_relation.specs.Allowed.{Allows, next}
+use Rattle.session_relation.specs.Finds as finds
+use Rattle.session_relation.specs.Changes as change
+use Rattle.session_relation.proofs.Itself.{new_session}
+use Rattle.session_relation.proofs.Steps.{OnlyIs, SameSights}
+use Rattle.session_relation.proofs.Follows as theory
+use Rattle.session_relation.proofs.Hindrances as hindrances
+use Rattle.session_steps.specs.declared.session.Session.{Session}
+use Rattle.visibility.specs.Visible.{state_of}
+use Rattle.session_steps.specs.State.{State, session_at, put_session, seen, position_of, reader_of, as_failed, holds_back, held_back, horizon_of}
+use Rattle.session_steps.specs.Keeps.{open_at}
+use Rattle.session_steps.specs.Agrees.{Agrees, Sound, Follows, SessionKeeps, StaysLed}
+use Rattle.session_steps.specs.Refuses.{Refuses, RefusesReady, RefusesFree, RefusesBare}
+use Rattle.session_steps.specs.declared.cursor.Cursor.{Cursor}
+use Rattle.session_steps.specs.declared.cursor.Cursor.TheVariants.{Index, Heap}
+use Rattle.session_steps.specs.Changes.{Opens, Closes}
+use Rattle.session_relation.proofs.Runs.{same_indexes}
+use Rattle.session_steps.proofs.InUse.{GoesAlong, used-still, no-cursor, cursors-put, agree}
+use Rattle.session_steps.proofs.OwnIdsLemmas.{open-within, open-set_cases}
+use Rattle.session_steps.proofs.StateLemmas.{only-set}
+use Rattle.session_steps.proofs.Windows.{Finishes-from, SameSight-finish, decided}
+use Rattle.session_steps.proofs.Owns.{reader-is, now_taken, taken-fresh, taken-within}
+use Rattle.session_steps.proofs.Horizons.{back-cases, held-in, horizon-above, horizon-next, horizon-low, horizon-upto, upto-horizon, taken-late}
+use Rattle.session_steps.proofs.Ends.{commits-sound, aborts-sound}
+
+-- the pages and the entries stay as they are
+stays-led : (o : Option Slot) → MayBeLed o → entries.StaysLed o o
+stays-led None may = elim may [ inl root ↦ absurd (let e : false ≡ true = root in cc) | inr dead ↦ died dead ]
+stays-led (Some Unused) may = elim may [ inl root ↦ absurd (let e : false ≡ true = root in cc) | inr dead ↦ died dead ]
+stays-led (Some (Normal t)) may = same_version t t refl refl refl refl
+stays-led (Some (Redirect k)) may = led_on k refl refl
+stays-led (Some Dead) may = died refl
+
+pub led-same : (st : State) (w : World) → Agrees st w → StaysLed st st
+led-same st w agrees n e there still = stays-led (slot_in (slots_of st.heap) e.tid) ((agrees.sound.table.indexes n (used-by st.heap.indexes n e there)).leads e there)
+
+-- a step that leaves the engine as it is
+pub stays-so : (st : State) (w : World) (step : Step) (r : Reply) → Agrees st w → Allows w step r × relation.Agrees (seen st) (next w step r) → Allows w step r × Agrees st (next w step r) × StaysLed st st
+stays-so st w step r agrees f = (f.0, agree agrees refl (same_indexes w step r f.0) f.1 agrees.sound, led-same st w agrees)
+
+pub Follows-same : (st : State) (step : Step) (r : Reply) → finds.Follows (seen st) step r (seen st) → Follows st step r st
+Follows-same st step r follows w agrees = stays-so st w step r agrees (follows w agrees.found)
+
+-- Refusals.
+
+pub closed_by : (st : State) (s : ℕ) (r : Refusal) → Refuses st s r → theory.IsClosed (seen st) s r
+closed_by st s NoSuchSession is = is
+closed_by st s NotOpen is = (is.0, ap (option_map reader_of) is.1)
+closed_by st s AlreadyOpen is = absurd is
+closed_by st s TooDeep is = absurd is
+closed_by st s CursorOpen is = absurd is
+closed_by st s NoCursor is = absurd is
+closed_by st s NoSuchIndex is = absurd is
+closed_by st s BadBounds is = absurd is
+closed_by st s NoSavepoint is = absurd is
+closed_by st s Failed is = absurd is
+closed_by st s AlreadyThere is = absurd is
+closed_by st s NotThere is = absurd is
+closed_by st s Conflict is = absurd is
+closed_by st s (Busy o) is = absurd is
+closed_by st s TooLarge is = absurd is
+closed_by st s NoRoom is = absurd is
+closed_by st s NeedsFreeze is = absurd is
+closed_by st s NoMemory is = absurd is
+closed_by st s NoSuchPage is = absurd is
+
+pub unready_by : (st : State) (s : ℕ) (r : Refusal) → RefusesReady st s r → theory.IsUnready (seen st) s r
+unready_by st s Failed is = (reader_of is.1, reader-is st s is.1 is.2, is.3)
+unready_by st s NoSuchSession is = is
+unready_by st s NotOpen is = (is.0, ap (option_map reader_of) is.1)
+unready_by st s AlreadyOpen is = absurd is
+unready_by st s TooDeep is = absurd is
+unready_by st s CursorOpen is = absurd is
+unready_by st s NoCursor is = absurd is
+unready_by st s NoSuchIndex is = absurd is
+unready_by st s BadBounds is = absurd is
+unready_by st s NoSavepoint is = absurd is
+unready_by st s AlreadyThere is = absurd is
+unready_by st s NotThere is = absurd is
+unready_by st s Conflict is = absurd is
+unready_by st s (Busy o) is = absurd is
+unready_by st s TooLarge is = absurd is
+unready_by st s NoRoom is = absurd is
+unready_by st s NeedsFreeze is = absurd is
+unready_by st s NoMemory is = absurd is
+unready_by st s NoSuchPage is = absurd is
+
+pub Follows-closed_commit : (st : State) (s : ℕ) (r : Refusal) → Refuses st s r → Follows st (Commit s) (Refused r) st
+Follows-closed_commit st s r is = Follows-same st (Commit s) (Refused r) (theory.Follows-closed_commit (seen st) s r (closed_by st s r is))
+
+pub Follows-closed_abort : (st : State) (s : ℕ) (r : Refusal) → Refuses st s r → Follows st (Abort s) (Refused r) st
+Follows-closed_abort st s r is = Follows-same st (Abort s) (Refused r) (theory.Follows-closed_abort (seen st) s r (closed_by st s r is))
+
+pub Follows-unready_get : (st : State) (s k : ℕ) (r : Refusal) → RefusesReady st s r → Follows st (Get s k) (Refused r) st
+Follows-unready_get st s k r is = Follows-same st (Get s k) (Refused r) (theory.Follows-unready_get (seen st) s k r (unready_by st s r is))
+
+pub Follows-already_open : (st : State) (s : ℕ) (e : Session) → session_at st s ≡ Some e → Follows st (Begin s) (Refused AlreadyOpen) st
+Follows-already_open st s e at = Follows-same st (Begin s) (Refused AlreadyOpen) (theory.Follows-already_open (seen st) s (reader_of e) (reader-is st s e at))
+
+pub Follows-begin_no_memory : (st : State) (s : ℕ) → s < 64 → session_at st s ≡ None → Follows st (Begin s) (Refused NoMemory) st
+Follows-begin_no_memory st s within idle =
+    Follows-same st (Begin s) (Refused NoMemory) (theory.Follows-begin_refused (seen st) s NoMemory (λ w agrees. (within, agrees.idle s (ap (option_map reader_of) idle))))
+
+pub Follows-no_such_session : (st : State) (s : ℕ) → 64 ≤ s → Follows st (Begin s) (Refused NoSuchSession) st
+Follows-no_such_session st s past = Follows-same st (Begin s) (Refused NoSuchSession) (theory.Follows-begin_refused (seen st) s NoSuchSession (λ w agrees. past))
+
+pub Follows-closed_begin : (st : State) (s : ℕ) (r : Refusal) → (r ≡ NotOpen → ⊥) → Refuses st s r → Follows st (Begin s) (Refused r) st
+Follows-closed_begin st s NoSuchSession ne is = Follows-no_such_session st s is
+Follows-closed_begin st s NotOpen ne is = absurd (ne refl)
+Follows-closed_begin st s AlreadyOpen ne is = absurd is
+Follows-closed_begin st s TooDeep ne is = absurd is
+Follows-closed_begin st s CursorOpen ne is = absurd is
+Follows-closed_begin st s NoCursor ne is = absurd is
+Follows-closed_begin st s NoSuchIndex ne is = absurd is
+Follows-closed_begin st s BadBounds ne is = absurd is
+Follows-closed_begin st s NoSavepoint ne is = absurd is
+Follows-closed_begin st s Failed ne is = absurd is
+Follows-closed_begin st s AlreadyThere ne is = absurd is
+Follows-closed_begin st s NotThere ne is = absurd is
+Follows-closed_begin st s Conflict ne is = absurd is
+Follows-closed_begin st s (Busy o) ne is = absurd is
+Follows-closed_begin st s TooLarge ne is = absurd is
+Follows-closed_begin st s NoRoom ne is = absurd is
+Follows-closed_begin st s NeedsFreeze ne is = absurd is
+Follows-closed_begin st s NoMemory ne is = absurd is
+Follows-closed_begin st s NoSuchPage ne is = absurd is
+
+-- a cursor as readers see it
+
+pub some-position : (o : Option Cursor) → IsSome o → IsSome (position_of o)
+some-position None some = absurd (let e : IsSome {T = Cursor} None = some in cc)
+some-position (Some (Index span)) some = refl
+some-position (Some (Heap page)) some = refl
+
+pub free_by : (st : State) (s : ℕ) (r : Refusal) → RefusesFree st s r → theory.IsBarred (seen st) s r
+free_by st s CursorOpen is = (reader_of is.1, ap (option_map reader_of) is.2, is.3, some-position is.1.cursor is.4)
+free_by st s NoSuchSession is = unready_by st s NoSuchSession is
+free_by st s NotOpen is = unready_by st s NotOpen is
+free_by st s Failed is = unready_by st s Failed is
+free_by st s AlreadyOpen is = absurd is
+free_by st s AlreadyThere is = absurd is
+free_by st s NotThere is = absurd is
+free_by st s Conflict is = absurd is
+free_by st s (Busy o) is = absurd is
+free_by st s TooDeep is = absurd is
+free_by st s NoSavepoint is = absurd is
+free_by st s NoCursor is = absurd is
+free_by st s NoSuchIndex is = absurd is
+free_by st s BadBounds is = absurd is
+free_by st s TooLarge is = absurd is
+free_by st s NoRoom is = absurd is
+free_by st s NeedsFreeze is = absurd is
+free_by st s NoMemory is = absurd is
+free_by st s NoSuchPage is = absurd is
+
+pub bare_by : (st : State) (s : ℕ) (r : Refusal) → RefusesBare st s r → theory.IsBare (seen st) s r
+bare_by st s NoCursor is = (reader_of is.1, ap (option_map reader_of) is.2, is.3, ap position_of is.4)
+bare_by st s NoSuchSession is = unready_by st s NoSuchSession is
+bare_by st s NotOpen is = unready_by st s NotOpen is
+bare_by st s Failed is = unready_by st s Failed is
+bare_by st s AlreadyOpen is = absurd is
+bare_by st s AlreadyThere is = absurd is
+bare_by st s NotThere is = absurd is
+bare_by st s Conflict is = absurd is
+bare_by st s (Busy o) is = absurd is
+bare_by st s TooDeep is = absurd is
+bare_by st s NoSavepoint is = absurd is
+bare_by st s CursorOpen is = absurd is
+bare_by st s NoSuchIndex is = absurd is
+bare_by st s BadBounds is = absurd is
+bare_by st s TooLarge is = absurd is
+bare_by st s NoRoom is = absurd is
+bare_by st s NeedsFreeze is = absurd is
+bare_by st s NoMemory is = absurd is
+bare_by st s NoSuchPage is = absurd is
+
+-- Begin.
+
+opened_reader : (e : Session) (snapshot : Snap) → e.snapshot ≡ snapshot → e.own.ids ≡ [] → e.own.saved ≡ [] → e.failed ≡ false → e.cursor ≡ None → reader_of e ≡ new_session snapshot
+opened_reader e snapshot a b c d f = rw (a, b, c, d, f) refl
+
+pub Sound-opens : (st : State) (w : World) (s : ℕ) (e : Session) → s < 64 → e.snapshot ≡ now_taken st → e.own.ids ≡ [] → e.own.saved ≡ [] → e.cursor ≡ None → Agrees st w → Sound (put_session st s (Some e))
+Sound-opens st w s e within snapshot ids saved bare agrees = record {
+  count = length-set st.sessions s (Some e) ∙ agrees.sound.count;
+  max_pages = agrees.sound.max_pages;
+  stop_age = agrees.sound.stop_age;
+  window = agrees.sound.window;
+  sessions = λ o f at. elim (open-set_cases st.sessions s o (Some e) f (let count = agrees.sound.count in omega arith) at) [
+    | inl same ↦ subst (λ f. SessionKeeps st.heap.table f) (same_Some e f same.1) mine
+    | inr other ↦ agrees.sound.sessions o f other.1
+  ];
+  tops = agrees.sound.tops;
+  indexes = agrees.sound.indexes;
+  cursors = cursors-put st.sessions st.heap.indexes st.heap.indexes s e within' (used-still st.heap.indexes) (no-cursor st.heap.indexes e.cursor bare) agrees.sound.cursors;
+  table = later-stays-sound st.heap (horizon_of st) (horizon_of (put_session st s (Some e))) agrees.sound.table agrees.sound.window (upto-horizon st w agrees)
+      (horizon-upto st.heap.table (set st.sessions s (Some e)) agrees.sound.window (held-then held-upto)) later-then;
+}
+  where
+    mine : SessionKeeps st.heap.table e
+    mine = record {
+      snapshot = rw snapshot (taken-within st w agrees);
+      topmost = λ x among. absurd (Contains-none x (subst (λ xs. Contains xs x) ids among));
+      fronts = rw saved tt;
+      distinct = subst AreDistinct (sym ids) tt;
+    }
+
+    within' : s < length st.sessions
+    within' = (let count = agrees.sound.count in omega arith)
+
+    -- what holds of what others hold back, and of the xmin of the new snapshot, holds of all that is held back then
+    held-then : {P : ℕ → Type 0} → ((o : ℕ) (f : Session) (y : ℕ) → session_at st o ≡ Some f → Contains (holds_back f) y → P y) × P (now_taken st).xmin
+        → (o : ℕ) (f : Session) (y : ℕ) → open_at (set st.sessions s (Some e)) o ≡ Some f → Contains (holds_back f) y → P y
+    held-then {P} h o f y bt among = elim (open-set_cases st.sessions s o (Some e) f within' bt) [
+      | inr other ↦ h.0 o f y other.1 among
+      | inl same ↦ (let is : f ≡ e = sym (same_Some e f same.1) in
+          elim (back-cases e y (subst (λ (g : Session). Contains (holds_back g) y) is among)) [
+            | inl here ↦ subst P (ap (λ (s : Snap). s.xmin) (sym snapshot) ∙ here) h.1
+            | inr own ↦ absurd (Contains-none y (subst (λ xs. Contains xs y) ids own))
+          ])
+    ]
+
+    held-upto : ((o : ℕ) (f : Session) (y : ℕ) → session_at st o ≡ Some f → Contains (holds_back f) y → IsUpToNext st.heap.table y) × IsUpToNext st.heap.table (now_taken st).xmin
+    held-upto = (held-in st w agrees, (taken-within st w agrees).bounds.xmin)
+
+    later-then : turns st.heap.table.first (horizon_of st) ≤ turns st.heap.table.first (horizon_of (put_session st s (Some e)))
+    later-then = horizon-above st.heap.table (set st.sessions s (Some e)) (turns st.heap.table.first (horizon_of st)) agrees.sound.window (held-then held-upto)
+        (horizon-next st.heap.table st.sessions agrees.sound.window (held-in st w agrees))
+        (held-then (
+          (λ o f y bt among. horizon-low st.heap.table st.sessions o f y agrees.sound.window (held-in st w agrees) bt among),
+          taken-late st w agrees,
+        ))
+
+pub Follows-begin : (st st' : State) (s : ℕ) (snapshot : Snap) → s < 64 → session_at st s ≡ None → snapshot ≡ now_taken st → Opens st st' s snapshot → Follows st (Begin s) Done st'
+Follows-begin st st' s snapshot within idle is opens w agrees =
+    let e = opens.session in
+    let count = agrees.sound.count in
+    let now : OnlyIs (seen st).session (seen (put_session st s (Some e))).session s (Some (new_session (now_taken st))) =
+    record {
+      others = (only-set st s (Some e) (omega arith)).others;
+      itself = (only-set st s (Some e) (omega arith)).itself ∙ ap Some (opened_reader e (now_taken st) (opens.with_snapshot ∙ is) opens.no_ids opens.unsaved opens.sound opens.bare);
+    } in
+    let f = theory.Follows-begin (seen st) s (now_taken st) (seen (put_session st s (Some e))).session now within (ap (option_map reader_of) idle) (λ w' found. taken-fresh st w agrees) w agrees.found in
+    subst (λ st'. Allows w (Begin s) Done × Agrees st' (next w (Begin s) Done) × StaysLed st st') (sym opens.is)
+    (f.0, agree agrees refl refl f.1 (Sound-opens st w s e within (opens.with_snapshot ∙ is) opens.no_ids opens.unsaved opens.bare agrees), led-same st w agrees)
+
+-- Commit and Abort.
+
+-- what readers see of other pages with the rest of the engine
+abbrev with_pages : State → PagesView → seen_heap.Heap
+with_pages st pages = record (seen st) { version = version_in (looking.slots_of pages) }
+
+module _ (st st' : State) (s : ℕ) (e : Session) (end : Status) (at : session_at st s ≡ Some e) (closes : Closes st st' s end) where
+  only-closes : OnlyIs (seen st).session (seen st').session s None
+  only-closes =
+      let only = only-set st s None (open-within st.sessions s e at) in
+      let P : List (Option Session) → Type 0 = λ xs. OnlyIs (seen st).session (λ o. option_map reader_of (session_at (record st { sessions = xs }) o)) s None in
+      subst P (sym closes.sessions) only
+
+  own-finishes : (w : World) → relation.Agrees (seen st) w → change.Finishes (state_of st.heap.table) (state_of st'.heap.table) (λ x. Contains e.own.ids x) end
+  own-finishes w found = Finishes-from st.heap.table st'.heap.table e.own.ids end
+      (λ x mine. active-to st.heap.table x ((found.opened s (reader_of e) (reader-is st s e at)).2.own_active x mine)) (closes.finishes e at)
+
+  same-sights : SameSights (seen st) (seen st').sees
+  same-sights o r bt = SameSight-finish r.snapshot st.heap.table st'.heap.table e.own.ids end (closes.finishes e at)
+
+  -- the pages stay
+  closed-with : (w' : World) → relation.Agrees (with_pages st' st.heap.pages) w' → relation.Agrees (seen st') w'
+  closed-with w' found = subst (λ pages. relation.Agrees (with_pages st' pages) w') (sym closes.pages) found
+
+pub Follows-abort : (st st' : State) (s : ℕ) (e : Session) → session_at st s ≡ Some e → Closes st st' s Aborted → Follows st (Abort s) RolledBack st'
+Follows-abort st st' s e at closes w agrees =
+    let f = theory.Follows-abort (seen st) s (reader_of e) (seen st').status (seen st').sees (seen st').session (only-closes st st' s e Aborted at closes) (reader-is st s e at)
+    (own-finishes st st' s e Aborted at closes) (same-sights st st' s e Aborted at closes) w agrees.found in
+    let sound' = aborts-sound st st' s e w at closes agrees in
+    (f.0, agree agrees closes.settings refl (closed-with st st' s e Aborted at closes (next w (Abort s) RolledBack) f.1) sound'.0, sound'.1)
+
+pub Follows-commit_failed : (st st' : State) (s : ℕ) (e : Session) → session_at st s ≡ Some e → e.failed ≡ true → Closes st st' s Aborted → Follows st (Commit s) RolledBack st'
+Follows-commit_failed st st' s e at failed closes w agrees =
+    let f = theory.Follows-commit_failed (seen st) s (reader_of e) (seen st').status (seen st').sees (seen st').session (only-closes st st' s e Aborted at closes) (reader-is st s e at) failed
+    (own-finishes st st' s e Aborted at closes) (same-sights st st' s e Aborted at closes) w agrees.found in
+    let sound' = aborts-sound st st' s e w at closes agrees in
+    (f.0, agree agrees closes.settings refl (closed-with st st' s e Aborted at closes (next w (Commit s) RolledBack) f.1) sound'.0, sound'.1)
+
+pub Follows-commit : (st st' : State) (s : ℕ) (e : Session) → session_at st s ≡ Some e → e.failed ≡ false → Closes st st' s Committed → Follows st (Commit s) reply.Committed st'
+Follows-commit st st' s e at sound closes w agrees =
+    let f = theory.Follows-commit (seen st) s (reader_of e) (seen st').status (seen st').sees (seen st').session (only-closes st st' s e Committed at closes) (reader-is st s e at) sound
+    (own-finishes st st' s e Committed at closes) (same-sights st st' s e Committed at closes) (λ x. decided e.snapshot st.heap.table x) w agrees.found in
+    let sound' = commits-sound st st' s e w at closes agrees in
+    (f.0, agree agrees closes.settings refl (closed-with st st' s e Committed at closes (next w (Commit s) reply.Committed) f.1) sound'.0, sound'.1)
+
+-- Writes that are refused before they are tried.
+
+pub Follows-barred_write : (st : State) (s : ℕ) (write : WriteStep) (r : Refusal) → RefusesFree st s r → Follows st (step_of s write) (Refused r) st
+Follows-barred_write st s write r is = Follows-same st (step_of s write) (Refused r) (hindrances.Follows-barred_write (seen st) s write r (free_by st s r is))
+
+pub Follows-too_large : (st : State) (s : ℕ) (e : Session) (write : WriteStep) → session_at st s ≡ Some e → e.failed ≡ false → e.cursor ≡ None → hindrances.IsTooLarge write
+    → Follows st (step_of s write) (Refused TooLarge) st
+Follows-too_large st s e write at sound bare large =
+    Follows-same st (step_of s write) (Refused TooLarge) (hindrances.Follows-too_large (seen st) s (reader_of e) write (reader-is st s e at) sound (ap position_of bare) large)
+
+-- a session that holds back what it held back
+same-back : (xs : List (Option Session)) (s : ℕ) (e now : Session) → open_at xs s ≡ Some e → holds_back now ≡ holds_back e → held_back (set xs s (Some now)) ≡ held_back xs
+same-back [] s e now at same = absurd (none-some e at)
+same-back (None ∷ xs) zero e now at same = absurd (none-some e at)
+same-back (Some f ∷ xs) zero e now at same = ap (λ back. back ++ held_back xs) (same ∙ ap holds_back (sym (same_Some f e at)))
+same-back (None ∷ xs) (suc s) e now at same = same-back xs s e now at same
+same-back (Some f ∷ xs) (suc s) e now at same = ap (λ ys. holds_back f ++ ys) (same-back xs s e now at same)
+
+-- a session becomes another, with the same snapshot and first id, whose cursor goes along an index in use
+pub Sound-put : (st : State) (s : ℕ) (e now : Session) → session_at st s ≡ Some e → holds_back now ≡ holds_back e → SessionKeeps st.heap.table now → GoesAlong st.heap.indexes now.cursor → Sound st → Sound (put_session st s (Some now))
+Sound-put st s e now at same keeps along sound = record {
+  count = length-set st.sessions s (Some now) ∙ sound.count;
+  max_pages = sound.max_pages;
+  stop_age = sound.stop_age;
+  window = sound.window;
+  sessions = λ o f bt. elim (open-set_cases st.sessions s o (Some now) f (open-within st.sessions s e at) bt) [
+    | inl is ↦ subst (λ f. SessionKeeps st.heap.table f) (same_Some now f is.1) keeps
+    | inr other ↦ sound.sessions o f other.1
+  ];
+  tops = sound.tops;
+  indexes = sound.indexes;
+  cursors = cursors-put st.sessions st.heap.indexes st.heap.indexes s now (open-within st.sessions s e at) (used-still st.heap.indexes) along sound.cursors;
+  table = subst (λ back. SoundTable st.heap (earliest (next_id st.heap.table) back)) (sym (same-back st.sessions s e now at same)) sound.table;
+}
+
+pub Sound-fails : (st : State) (s : ℕ) (e : Session) → session_at st s ≡ Some e → Sound st → Sound (put_session st s (option_map as_failed (session_at st s)))
+Sound-fails st s e at sound =
+    let h = sound.sessions s e at in
+    subst (λ o. Sound (put_session st s (option_map as_failed o))) (sym at)
+    (Sound-put st s e (as_failed e) at refl (record { snapshot = h.snapshot; topmost = h.topmost; fronts = h.fronts; distinct = h.distinct }) (λ span is. sound.cursors s e span at is) sound)

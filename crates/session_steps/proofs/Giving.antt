@@ -1,0 +1,364 @@
+-- A session writes under the id of its newest level, or under a new one: what that keeps, whatever it writes.
+use Rattle.std.proofs.Common.{◌≡◌, ℕ, ◌≤◌, List, [], ◌∷◌, ◌++◌, length, set, take, Option, Some, slice_get, refl, sym, ap, ◌∙◌, subst, ◌⊎◌, inl, inr, append_assoc, arith}
+use Rattle.std.proofs.Math.ListN.{length-set}
+use Rattle.std.specs.Prelude.{Contains}
+use Rattle.std.specs.Option.{option_map}
+use Rattle.std.proofs.lemmas.Bool.{cases_eq}
+use Rattle.std.proofs.lemmas.Option.{same_Some, none-some}
+use Rattle.std.proofs.lemmas.List.{append-nil}
+use Rattle.std.proofs.lemmas.List.Elements.{Contains-append_cases}
+use Rattle.xid_circle.proofs.Members.{Contains-first, Contains-rest, Contains-cases, Contains-none}
+use Rattle.page_slots.specs.declared.slot.Slot.{Slot}
+use Rattle.commit_status.specs.Window.{Window, IsWindow, IsActive, IsCommitted, IsGiven, IsGivenBefore, IsUpToNext, next_id, top_of, turns, place}
+use Rattle.commit_status.proofs.Places.{upto-given, place-lt, some-from_is, is-from_some}
+use Rattle.commit_status.proofs.Ancestors.{top-same}
+use Rattle.commit_status.proofs.Giving.{finished-place}
+use Rattle.snapshot.specs.Own.{Own, AreFronts, AreDistinct, lacks, level_id, saved_with_each}
+use Rattle.snapshot.specs.Snap.{Snap, Sees}
+use Rattle.snapshot.specs.Laws.{IsInWindow}
+use Rattle.snapshot.proofs.Sights.{sees-top}
+use Rattle.snapshot.proofs.Levels.{level-among, level-mine, level-none, level-some, level-newest, lacks-given, fronts-given}
+use Rattle.visibility.proofs.Makers.{active-to}
+use Rattle.heap_write.specs.Heap.{HeapView, SameIds}
+use Rattle.heap_write.specs.Writes.{GivesUnder, TakesIds}
+use Rattle.forgetting.specs.Truncating.{IsWellTopped}
+use Rattle.forgetting.proofs.WellTopped.{before-place}
+use Rattle.heap_write.proofs.GivenIds.{given-place, given-earlier, given-first, given-next, given-upto, given-status, given-top_old, given-active, given-new, given-distinct, given-top, given-top_first, given-late}
+use Rattle.sound_writes.specs.Table.{SoundTable, StaysSoundTable}
+use Rattle.session_steps.proofs.InUse.{still-in_use, cursors-put, same-cursor}
+use Rattle.sound_writes.proofs.Keeping.{later-stays-sound}
+use Rattle.history.specs.World.{World}
+use Rattle.session_relation.specs.Heap as relation
+use Rattle.session_relation.specs.Agrees as theory
+use Rattle.session_relation.specs.Changes.{GivesEach, with_id, with_ids}
+use Rattle.session_relation.proofs.Itself.{IsCurrent}
+use Rattle.session_relation.proofs.Steps.{OnlyIs, SameSights}
+use Rattle.session_relation.proofs.GivenBelow.{AreUnseen, Agrees-give_each}
+use Rattle.session_relation.proofs.Follows.{Agrees-sessions}
+use Rattle.session_relation.proofs.Sights.{Agrees-sights}
+use Rattle.session_steps.specs.declared.session.Session.{Session}
+use Rattle.visibility.specs.Visible.{state_of}
+use Rattle.session_steps.specs.State.{State, session_at, seen, seen_in, reader_of, holds_back, horizon_of}
+use Rattle.session_steps.specs.Keeps.{open_at, OwnIdsKeep, EngineKeeps}
+use Rattle.session_steps.specs.Agrees.{Agrees, Sound, SessionKeeps}
+use Rattle.session_steps.specs.Writes.{SameSession}
+use Rattle.session_steps.proofs.OwnIdsLemmas.{open-within, open-set_same, open-set_other, open-set_cases, distinct-both, keep-same, keep-given}
+use Rattle.session_steps.proofs.StateLemmas.{only-set}
+use Rattle.session_steps.proofs.Windows.{GivesEach-from, SameSight-given, in-window-given, unseen-given}
+use Rattle.session_steps.proofs.Owns.{reader-is, reader-at}
+use Rattle.session_steps.proofs.Horizons.{IsHeldIn, contains-first, held-in, horizon-above, horizon-next, horizon-low, horizon-upto, upto-horizon}
+
+-- the state after a write: another heap, and another session in its place
+abbrev pub with_write : State → HeapView → ℕ → Session → State
+with_write st h s e = record { settings = st.settings; heap = h; sessions = set st.sessions s (Some e) }
+
+-- A session that has as much memory or more, and is otherwise the same.
+
+reader-same : (e e' : Session) → SameSession e e' → reader_of e' ≡ reader_of e
+reader-same e e' same = rw (same.snapshot, same.own.ids, same.own.saved, same.failed, same.cursor) refl
+
+pub sessions-same : (xs : List (Option Session)) (s : ℕ) (e e' : Session) → open_at xs s ≡ Some e → SameSession e e' → (o : ℕ) → option_map reader_of (open_at (set xs s (Some e')) o) ≡ option_map reader_of (open_at xs o)
+sessions-same xs s e e' at same o = elim (cases_eq o s) [
+  | inl here ↦ ap (λ o. option_map reader_of (open_at (set xs s (Some e')) o)) here
+      ∙ (ap (option_map reader_of) (open-set_same xs s (Some e') (open-within xs s e at)) ∙ (ap Some (reader-same e e' same) ∙ (sym (ap (option_map reader_of) at) ∙ ap (λ o. option_map reader_of (open_at xs o)) (sym here))))
+  | inr ne ↦ ap (option_map reader_of) (open-set_other xs s o (Some e') ne)
+]
+
+-- The ids are as they were, though there may be more memory.
+
+abbrev spared : Window → ℕ → Window
+spared w k = record w { spare = k }
+
+spared-is : (w v : Window) → SameIds w v → v ≡ spared w v.spare
+spared-is w v same = rw (same.first, same.stop_age, same.entries) refl
+
+top-spared : (w : Window) (k x : ℕ) → top_of (spared w k) x ≡ top_of w x
+top-spared w k x = top-same (length w.entries) (spared w k) w x (λ y. refl)
+
+window-spared : (w : Window) (k : ℕ) → IsWindow w → IsWindow (spared w k)
+window-spared w k is = record { normal = is.normal; fits = is.fits; limit = is.limit; short = is.short; parents = is.parents }
+
+upto-spared : (w : Window) (k x : ℕ) → IsUpToNext w x → IsUpToNext (spared w k) x
+upto-spared w k x h = record { normal = h.normal; fits = h.fits; reached = h.reached }
+
+well-spared : (w : Window) (k x : ℕ) → IsWellTopped w x → IsWellTopped (spared w k) x
+well-spared w k x h = record {
+  finished = λ active. let a = subst (IsActive (spared w k)) (top-spared w k x) active in h.finished (record { is_given = a.is_given; unfinished = a.unfinished });
+  near = subst (λ t. (t ≡ x) ⊎ IsGivenBefore t x) (sym (top-spared w k x)) h.near;
+}
+
+in-window-spared : (w : Window) (k : ℕ) (s : Snap) → IsInWindow w s → IsInWindow (spared w k) s
+in-window-spared w k s h =
+    let b = h.bounds in
+    record {
+      bounds = record { xmin = upto-spared w k s.xmin b.xmin; xmax = upto-spared w k s.xmax b.xmax; ordered = b.ordered };
+      listed = λ x among. let l = h.listed x among in record { upto = upto-spared w k x l.upto; from_xmin = l.from_xmin; before_xmax = l.before_xmax };
+    }
+
+keeps-spared : (w : Window) (k : ℕ) (e e' : Session) → SameSession e e' → SessionKeeps w e → SessionKeeps (spared w k) e'
+keeps-spared w k e e' same h = record {
+  snapshot = rw same.snapshot (in-window-spared w k e.snapshot h.snapshot);
+  topmost = λ x mine. ap (λ ids. slice_get ids 0) same.own.ids ∙ h.topmost x (subst (λ ids. Contains ids x) same.own.ids mine) ∙ ap Some (sym (top-spared w k x));
+  fronts = rw (same.own.ids, same.own.saved) h.fronts;
+  distinct = subst AreDistinct (sym same.own.ids) h.distinct;
+}
+
+itself : (e : Session) → SameSession e e
+itself e = record { snapshot = refl; own = record { ids = refl; saved = refl }; failed = refl; cursor = refl }
+
+-- what readers see of the ids
+found-spared : (slots : List (List Slot)) (w v : Window) (xs : List (Option Session)) (m : World) → SameIds w v → theory.Agrees (seen_in slots w xs) m → theory.Agrees (seen_in slots v xs) m
+found-spared slots w v xs m same found = subst (λ t. theory.Agrees (seen_in slots t xs) m) (sym (spared-is w v same))
+    (Agrees-sights (seen_in slots w xs) m (λ s x. Sees s (spared w v.spare) x)
+    (λ s e at x status is. (λ sees. sees-top e.snapshot (spared w v.spare) w x (top-spared w v.spare x) sees, λ sees. sees-top e.snapshot w (spared w v.spare) x (sym (top-spared w v.spare x)) sees)) found)
+
+-- all that readers see is as it was
+pub found-kept : (slots : List (List Slot)) (w v : Window) (xs : List (Option Session)) (s : ℕ) (e e' : Session) (m : World) → open_at xs s ≡ Some e → SameSession e e' → SameIds w v
+    → theory.Agrees (seen_in slots w xs) m → theory.Agrees (seen_in slots v (set xs s (Some e'))) m
+found-kept slots w v xs s e e' m at same ids found =
+    Agrees-sessions (seen_in slots v xs) m (λ o. option_map reader_of (open_at (set xs s (Some e')) o)) (sessions-same xs s e e' at same) (found-spared slots w v xs m ids found)
+
+-- Ids are given.
+
+-- the session is another, with the ids that it took
+abbrev pub with_own : Session → Own → Session
+with_own e own = record e { own = own }
+
+-- the others keep theirs
+keeps-give : (xs : List ℕ) (w v : Window) (parent : Option ℕ) (e : Session) → IsWindow v → GivesUnder w parent xs v → ((x : ℕ) → Contains e.own.ids x → IsGiven w x) → SessionKeeps w e → SessionKeeps v e
+keeps-give xs w v parent e is gives there h = record {
+  snapshot = in-window-given xs w v parent e.snapshot gives h.snapshot;
+  topmost = λ x mine. h.topmost x mine ∙ ap Some (sym (given-top_old xs w v parent x gives is (there x mine)));
+  fronts = h.fronts;
+  distinct = h.distinct;
+}
+
+first-append : (ids xs : List ℕ) (top : ℕ) → slice_get ids 0 ≡ Some top → slice_get (ids ++ xs) 0 ≡ Some top
+first-append [] xs top at = absurd (none-some top at)
+first-append (y ∷ ids) xs top at = at
+
+-- each new id has the topmost parent of those that were there, or the first of the new ones
+new-topmost : (ids xs : List ℕ) (saved : List (List ℕ)) (w v : Window) (y : ℕ) → AreFronts ids saved → IsWindow v → GivesUnder w (level_id ids saved) xs v → ((x : ℕ) → Contains ids x → IsGiven w x)
+    → ((x : ℕ) → Contains ids x → slice_get ids 0 ≡ Some (top_of w x)) → Contains xs y → slice_get (ids ++ xs) 0 ≡ Some (top_of v y)
+new-topmost [] [] saved w v y fronts is gives there tops among = absurd (Contains-none y among)
+new-topmost [] (x ∷ xs) saved w v y fronts is gives there tops among =
+    ap Some (sym (given-top_first x xs w v y (subst (λ o. GivesUnder w o (x ∷ xs) v) (level-none saved fronts) gives) is among))
+new-topmost (z ∷ ids) xs saved w v y fronts is gives there tops among =
+    let level = level-some z ids saved fronts in
+    let mine = level-among (z ∷ ids) saved level.0 fronts level.1 in
+    tops level.0 mine ∙ ap Some (sym (given-top xs w v level.0 y (subst (λ o. GivesUnder w o xs v) level.1 gives) is (there level.0 mine) among))
+
+module _ (w v : Window) (e : Session) (own : Own) (x : ℕ) (is : IsWindow v) (takes : TakesIds w v e.own own x) (there : (x : ℕ) → Contains e.own.ids x → IsGiven w x) (h : SessionKeeps w e) where
+  fronts-taken : AreFronts own.ids own.saved
+  fronts-taken = rw (takes.ids, takes.saved) (fronts-given takes.given e.own.ids e.own.saved h.fronts takes.count)
+
+  lacks-taken : lacks own.ids own.saved ≡ 0
+  lacks-taken = rw (takes.ids, takes.saved) (lacks-given takes.given e.own.ids e.own.saved takes.count)
+
+  distinct-taken : AreDistinct own.ids
+  distinct-taken = subst AreDistinct (sym takes.ids) (distinct-both e.own.ids takes.given h.distinct (given-distinct takes.given w v (level_id e.own.ids e.own.saved) takes.gives is)
+      (λ y now old. given-new takes.given w v (level_id e.own.ids e.own.saved) y takes.gives is now (there y old)))
+
+  topmost-taken : (y : ℕ) → Contains own.ids y → slice_get own.ids 0 ≡ Some (top_of v y)
+  topmost-taken y mine = ap (λ ids. slice_get ids 0) takes.ids ∙ elim (Contains-append_cases e.own.ids takes.given y (subst (λ ids. Contains ids y) takes.ids mine)) [
+    | inl old ↦ first-append e.own.ids takes.given (top_of v y) (h.topmost y old ∙ ap Some (sym (given-top_old takes.given w v (level_id e.own.ids e.own.saved) y takes.gives is (there y old))))
+    | inr new ↦ new-topmost e.own.ids takes.given e.own.saved w v y h.fronts is takes.gives there h.topmost new
+  ]
+
+  -- the session that took them
+  keeps-taken : SessionKeeps v (with_own e own)
+  keeps-taken = record {
+    snapshot = in-window-given takes.given w v (level_id e.own.ids e.own.saved) e.snapshot takes.gives h.snapshot;
+    topmost = topmost-taken;
+    fronts = fronts-taken;
+    distinct = distinct-taken;
+  }
+
+  -- writes under the id of its newest level
+  current-taken : IsCurrent (reader_of (with_own e own)) x
+  current-taken = record {
+    mine = level-mine own.ids own.saved x lacks-taken takes.newest;
+    newest = λ before at. level-newest own.ids own.saved x fronts-taken distinct-taken lacks-taken takes.newest before at;
+  }
+
+-- a topmost parent that is in progress was before: it stands before its child, so it isn't one of the new ids
+tops-given : (xs : List ℕ) (w v : Window) (parent : Option ℕ) → IsWindow v → GivesUnder w parent xs v → ((x : ℕ) → IsCommitted w x → IsWellTopped w x) → (x : ℕ) → IsCommitted v x → IsWellTopped v x
+tops-given xs w v parent is gives tops x done =
+    let was : IsCommitted w x = sym (given-status xs w v parent x gives is) ∙ done in
+    let at = finished-place w x (λ going. cc) in
+    let top : top_of v x ≡ top_of w x = given-top_old xs w v parent x gives is (is-from_some (place w x) at.0 at.1) in
+    record {
+      finished = λ active. let active' = subst (IsActive v) top active in
+          let there = some-from_is (place v (top_of w x)) active'.is_given in
+          let before = before-place v (top_of w x) x at.0 there.0 is (given-place xs w v parent x at.0 gives at.1) there.1 (tops x was).near in
+          (tops x was).finished (record {
+            is_given = is-from_some (place w (top_of w x)) there.0 (given-earlier xs w v parent (top_of w x) there.0 gives there.1 (let within = place-lt w x at.0 at.1 in omega arith));
+            unfinished = sym (given-status xs w v parent (top_of w x) gives is) ∙ active'.unfinished;
+          });
+      near = subst (λ t. (t ≡ x) ⊎ IsGivenBefore t x) (sym top) (tops x was).near;
+    }
+
+-- the limit of ids stays
+given-stop_age : (xs : List ℕ) (w v : Window) (parent : Option ℕ) → GivesUnder w parent xs v → v.stop_age ≡ w.stop_age
+given-stop_age [] w v parent g = ap (λ (w : Window). w.stop_age) g
+given-stop_age (x ∷ xs) w v parent g = given-stop_age xs g.0 v (Some x) g.3 ∙ g.2.stop_age
+
+-- The engine after a write, or after one that failed.
+
+-- what holds of all that is held back, and of what the session holds back now, holds of all that is held back then
+held-then : {P : ℕ → Type 0} (xs : List (Option Session)) (s : ℕ) (e e' : Session) → open_at xs s ≡ Some e → ((o : ℕ) (f : Session) (y : ℕ) → open_at xs o ≡ Some f → Contains (holds_back f) y → P y)
+    → ((y : ℕ) → Contains (holds_back e') y → P y) → (o : ℕ) (f : Session) (y : ℕ) → open_at (set xs s (Some e')) o ≡ Some f → Contains (holds_back f) y → P y
+held-then xs s e e' at all mine o f y bt among = elim (open-set_cases xs s o (Some e') f (open-within xs s e at) bt) [
+  | inl same ↦ mine y (subst (λ (g : Session). Contains (holds_back g) y) (sym (same_Some e' f same.1)) among)
+  | inr other ↦ all o f y other.1 among
+]
+
+module _ (st : State) (w : World) (h : HeapView) (s : ℕ) (e e' : Session) (at : session_at st s ≡ Some e) (agrees : Agrees st w) where
+  -- whatever the session holds back now is in the window, and not before the horizon
+  later-sound : IsWindow h.table → h.table.first ≡ st.heap.table.first → turns st.heap.table.first (next_id st.heap.table) ≤ turns st.heap.table.first (next_id h.table)
+      → ((y : ℕ) → IsUpToNext st.heap.table y → IsUpToNext h.table y)
+      → ((y : ℕ) → Contains (holds_back e') y → IsUpToNext h.table y × (turns st.heap.table.first (horizon_of st) ≤ turns st.heap.table.first y))
+      → SoundTable h (horizon_of st) → SoundTable h (horizon_of (with_write st h s e'))
+  later-sound window first next upto mine sound =
+      later-stays-sound h (horizon_of st) (horizon_of (with_write st h s e')) sound window (upto (horizon_of st) (upto-horizon st w agrees))
+      (horizon-upto h.table (set st.sessions s (Some e')) window held) (horizon-above h.table (set st.sessions s (Some e')) (turns h.table.first (horizon_of st)) window held
+      (subst (λ first. turns first (horizon_of st) ≤ turns first (next_id h.table)) (sym first) (let low = horizon-next st.heap.table st.sessions agrees.sound.window (held-in st w agrees) in omega arith))
+      (subst (λ first. (o : ℕ) (f : Session) (y : ℕ) → open_at (set st.sessions s (Some e')) o ≡ Some f → Contains (holds_back f) y → turns first (horizon_of st) ≤ turns first y) (sym first)
+      (held-then {P = λ y. turns st.heap.table.first (horizon_of st) ≤ turns st.heap.table.first y} st.sessions s e e' at
+      (λ o f y bt among. horizon-low st.heap.table st.sessions o f y agrees.sound.window (held-in st w agrees) bt among) (λ y among. (mine y among).1))))
+    where
+      held : IsHeldIn h.table (set st.sessions s (Some e'))
+      held = held-then {P = λ y. IsUpToNext h.table y} st.sessions s e e' at (λ o f y bt among. upto y (held-in st w agrees o f y bt among)) (λ y among. (mine y among).0)
+
+  -- the session's ids stay
+  pub Sound-kept : SameSession e e' → SameIds st.heap.table h.table → h.max_pages ≡ st.heap.max_pages → StaysSoundTable st.heap h (horizon_of st) → Sound (with_write st h s e')
+  Sound-kept same ids limit stays =
+      let sound = stays.sound in
+      let is = spared-is st.heap.table h.table ids in
+      let k = h.table.spare in
+      let table = st.heap.table in
+      record {
+        count = length-set st.sessions s (Some e') ∙ agrees.sound.count;
+        max_pages = limit ∙ agrees.sound.max_pages;
+        stop_age = ids.stop_age ∙ agrees.sound.stop_age;
+        window = rw is (window-spared table k agrees.sound.window);
+        sessions = λ o f bt. rw is (elim (open-set_cases st.sessions s o (Some e') f (open-within st.sessions s e at) bt) [
+          | inl now ↦ subst (λ f. SessionKeeps (spared table k) f) (same_Some e' f now.1) (keeps-spared table k e e' same (agrees.sound.sessions s e at))
+          | inr other ↦ keeps-spared table k f f (itself f) (agrees.sound.sessions o f other.1)
+        ]);
+        indexes = still-in_use st.heap.indexes h.indexes st.settings.indexed stays.in_use agrees.sound.indexes;
+        cursors = cursors-put st.sessions st.heap.indexes h.indexes s e' (open-within st.sessions s e at) stays.in_use (same-cursor st.sessions st.heap.indexes s e e' at same.cursor agrees.sound.cursors) agrees.sound.cursors;
+        tops = rw is (λ x done. well-spared table k x (agrees.sound.tops x done));
+        table = later-sound (rw is (window-spared table k agrees.sound.window)) ids.first (subst (λ n. turns table.first (next_id table) ≤ turns table.first n) (sym (ap next_id is)) (omega arith))
+            (λ y upto. rw is (upto-spared table k y upto))
+            (λ y among. let mine = subst (λ (ids : List ℕ). Contains (e'.snapshot.xmin ∷ take 1 ids) y) same.own.ids among in
+            let back : Contains (holds_back e) y = subst (λ (sn : Snap). Contains (sn.xmin ∷ take 1 e.own.ids) y) same.snapshot mine in
+            (rw is (upto-spared table k y (held-in st w agrees s e y at back)), horizon-low table st.sessions s e y agrees.sound.window (held-in st w agrees) at back)) sound;
+      }
+
+  -- the session has taken ids
+  pub Sound-given : (own : Own) (x : ℕ) → TakesIds st.heap.table h.table e.own own x → e' ≡ with_own e own → IsWindow h.table → h.max_pages ≡ st.heap.max_pages → StaysSoundTable st.heap h (horizon_of st) → Sound (with_write st h s e')
+  Sound-given own x takes is window limit stays =
+      let sound = stays.sound in
+      let table = st.heap.table in
+      let parent = level_id e.own.ids e.own.saved in
+      let there : (o : ℕ) (f : Session) → session_at st o ≡ Some f → (y : ℕ) → Contains f.own.ids y → IsGiven table y =
+      λ o f bt y mine. (active-to table y ((agrees.found.opened o (reader_of f) (reader-is st o f bt)).2.own_active y mine)).is_given in
+      record {
+        count = length-set st.sessions s (Some e') ∙ agrees.sound.count;
+        max_pages = limit ∙ agrees.sound.max_pages;
+        stop_age = given-stop_age takes.given table h.table parent takes.gives ∙ agrees.sound.stop_age;
+        window = window;
+        sessions = λ o f bt. elim (open-set_cases st.sessions s o (Some e') f (open-within st.sessions s e at) bt) [
+          | inl now ↦ subst (λ f. SessionKeeps h.table f) (sym is ∙ same_Some e' f now.1) (keeps-taken table h.table e own x window takes (there s e at) (agrees.sound.sessions s e at))
+          | inr other ↦ keeps-give takes.given table h.table parent f window takes.gives (there o f other.1) (agrees.sound.sessions o f other.1)
+        ];
+        indexes = still-in_use st.heap.indexes h.indexes st.settings.indexed stays.in_use agrees.sound.indexes;
+        cursors = cursors-put st.sessions st.heap.indexes h.indexes s e' (open-within st.sessions s e at) stays.in_use (same-cursor st.sessions st.heap.indexes s e e' at (ap (λ (f : Session). f.cursor) is) agrees.sound.cursors) agrees.sound.cursors;
+        tops = tops-given takes.given table h.table parent window takes.gives agrees.sound.tops;
+        table = later-sound window (given-first takes.given table h.table parent takes.gives) (given-next takes.given table h.table parent takes.gives window)
+            (λ y upto. given-upto takes.given table h.table parent y takes.gives upto) (mine-then own x takes is window) sound;
+      }
+    where
+      -- the first of the ids is held back: it was there, or is new
+      first-cases : (ids xs : List ℕ) (y : ℕ) → Contains (take 1 (ids ++ xs)) y → Contains (take 1 ids) y ⊎ Contains xs y
+      first-cases [] xs y among = inr (contains-first xs y among)
+      first-cases (z ∷ ids) xs y among = inl among
+
+      old-then : (own : Own) (x y : ℕ) → TakesIds st.heap.table h.table e.own own x → Contains (holds_back e) y → IsUpToNext h.table y × (turns st.heap.table.first (horizon_of st) ≤ turns st.heap.table.first y)
+      old-then own x y takes back = (
+        given-upto takes.given st.heap.table h.table (level_id e.own.ids e.own.saved) y takes.gives (held-in st w agrees s e y at back),
+        horizon-low st.heap.table st.sessions s e y agrees.sound.window (held-in st w agrees) at back,
+      )
+
+      mine-then : (own : Own) (x : ℕ) → TakesIds st.heap.table h.table e.own own x → e' ≡ with_own e own → IsWindow h.table
+          → (y : ℕ) → Contains (holds_back e') y → IsUpToNext h.table y × (turns st.heap.table.first (horizon_of st) ≤ turns st.heap.table.first y)
+      mine-then own x takes is window y among =
+          let table = st.heap.table in
+          let parent = level_id e.own.ids e.own.saved in
+          let back : Contains (e.snapshot.xmin ∷ take 1 own.ids) y = subst (λ (f : Session). Contains (holds_back f) y) is among in
+          elim (Contains-cases e.snapshot.xmin y (take 1 own.ids) back) [
+            | inl here ↦ old-then own x y takes (subst (λ z. Contains (holds_back e) z) here (Contains-first e.snapshot.xmin (take 1 e.own.ids)))
+            | inr first ↦ elim (first-cases e.own.ids takes.given y (subst (λ ids. Contains (take 1 ids) y) takes.ids first)) [
+              | inl old ↦ old-then own x y takes (Contains-rest e.snapshot.xmin y (take 1 e.own.ids) old)
+              | inr new ↦ (
+                upto-given h.table y (given-active takes.given table h.table parent y takes.gives window new).is_given,
+                (let late = given-late takes.given table h.table parent y takes.gives window new in let next = horizon-next table st.sessions agrees.sound.window (held-in st w agrees) in omega arith),
+              )
+            ]
+          ]
+
+-- What readers see of a session that takes ids.
+
+with_ids-is : (xs : List ℕ) (r : relation.Session) → with_ids xs r ≡ record r { own = r.own ++ xs; saved = saved_with_each xs r.saved }
+with_ids-is [] r = rw (append-nil r.own) refl
+with_ids-is (x ∷ xs) r = with_ids-is xs (with_id (length xs) x r) ∙ ap (λ ids. record r { own = ids; saved = saved_with_each (x ∷ xs) r.saved }) (append_assoc r.own (x ∷ []) xs)
+
+module _ (st : State) (w : World) (v : Window) (s : ℕ) (e : Session) (own : Own) (x : ℕ) (at : session_at st s ≡ Some e) (takes : TakesIds st.heap.table v e.own own x) (window : IsWindow v) (agrees : Agrees st w) where
+  pub reader-taken : reader_of (with_own e own) ≡ with_ids takes.given (reader_of e)
+  reader-taken = rw (takes.ids, takes.saved) (sym (with_ids-is takes.given (reader_of e)))
+
+  only-taken : OnlyIs (seen st).session (λ o. option_map reader_of (open_at (set st.sessions s (Some (with_own e own))) o)) s (Some (with_ids takes.given (reader_of e)))
+  only-taken = let only = only-set st s (Some (with_own e own)) (open-within st.sessions s e at) in
+      record { others = only.others; itself = only.itself ∙ ap Some reader-taken }
+
+  pub gives-each : GivesEach (state_of st.heap.table) takes.given (state_of v)
+  gives-each = GivesEach-from takes.given st.heap.table v (level_id e.own.ids e.own.saved) takes.gives window
+
+  pub same-sights : SameSights (seen st) (λ sn y. Sees sn v y)
+  same-sights o r bt = SameSight-given r.snapshot takes.given st.heap.table v (level_id e.own.ids e.own.saved) takes.gives window
+
+  pub are-unseen : AreUnseen (seen st) (λ sn y. Sees sn v y) takes.given
+  are-unseen y among o r bt = let f = reader-at st o r bt in
+      subst (λ (r : relation.Session). ¬ Sees r.snapshot v y) f.2
+      (unseen-given takes.given st.heap.table v v (level_id e.own.ids e.own.saved) f.0.snapshot y takes.gives window (agrees.sound.sessions o f.0 f.1).snapshot.bounds among)
+
+  -- the pages may have been pruned before
+  pub found-given : (slots : List (List Slot)) → theory.Agrees (seen_in slots st.heap.table st.sessions) w → theory.Agrees (seen_in slots v (set st.sessions s (Some (with_own e own)))) w
+  found-given slots found = Agrees-give_each takes.given (seen_in slots st.heap.table st.sessions) w s (reader_of e) (state_of v) (λ sn y. Sees sn v y)
+      (λ o. option_map reader_of (open_at (set st.sessions s (Some (with_own e own))) o)) only-taken (reader-is st s e at) gives-each same-sights are-unseen found
+
+  -- its reader then, and the id is its newest
+  pub reader-now : option_map reader_of (open_at (set st.sessions s (Some (with_own e own))) s) ≡ Some (reader_of (with_own e own))
+  reader-now = ap (option_map reader_of) (open-set_same st.sessions s (Some (with_own e own)) (open-within st.sessions s e at))
+
+  pub current-now : IsCurrent (reader_of (with_own e own)) x
+  current-now = current-taken st.heap.table v e own x window takes
+      (λ y mine. (active-to st.heap.table y ((agrees.found.opened s (reader_of e) (reader-is st s e at)).2.own_active y mine)).is_given) (agrees.sound.sessions s e at)
+
+-- The engine keeps what its type keeps of own ids.
+
+pub keeps-wrote : (xs : List (Option Session)) (w v : Window) (s : ℕ) (e e' : Session) (x : ℕ) → open_at xs s ≡ Some e → TakesIds w v e.own e'.own x → IsWindow v → EngineKeeps xs w → EngineKeeps (set xs s (Some e')) v
+keeps-wrote xs w v s e e' x at takes window k = record {
+  count = length-set xs s (Some e') ∙ k.count;
+  own = keep-given xs w v s e e' takes.given (level_id e.own.ids e.own.saved) at takes.ids window takes.gives k.own;
+}
+
+pub keeps-kept : (xs : List (Option Session)) (w v : Window) (s : ℕ) (e e' : Session) → open_at xs s ≡ Some e → SameSession e e' → SameIds w v → EngineKeeps xs w → EngineKeeps (set xs s (Some e')) v
+keeps-kept xs w v s e e' at same ids k = record {
+  count = length-set xs s (Some e') ∙ k.count;
+  own = rw (spared-is w v ids) (spared-own (set xs s (Some e')) w v.spare (keep-same xs w s e e' at same.own.ids k.own));
+}
+  where
+    spared-own : (xs : List (Option Session)) (w : Window) (k : ℕ) → OwnIdsKeep xs w → OwnIdsKeep xs (spared w k)
+    spared-own xs w k h = record { active = λ s e x at own. let a = h.active s e x at own in record { is_given = a.is_given; unfinished = a.unfinished }; distinct = h.distinct; apart = h.apart }

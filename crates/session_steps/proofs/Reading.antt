@@ -1,0 +1,34 @@
+-- What a session reads.
+use Rattle.heap_write.specs.Indexes.{entries_in}
+use Rattle.std.proofs.Common.{◌≡◌, ℕ, Option, Some, false}
+use Rattle.std.specs.Prelude.{pos}
+use Rattle.tuple_header.specs.declared.version.Row.{Row}
+use Rattle.visibility.specs.Visible.{IsVisible}
+use Rattle.sound_entries.specs.Looking.{FirstFound}
+use Rattle.heap_write.specs.Heap.{slots_of}
+use Rattle.history.specs.World.{World, OpenSession, view}
+use Rattle.session_relation.specs.declared.step.Step.TheVariants.{Get}
+use Rattle.session_relation.specs.declared.reply.Reply.TheVariants.{Found}
+use Rattle.session_relation.proofs.Follows as theory
+use Rattle.session_steps.specs.declared.session.Session.{Session}
+use Rattle.session_steps.specs.State.{State, session_at, seen, reader_of}
+use Rattle.session_steps.specs.Agrees.{Agrees, Follows}
+use Rattle.session_steps.proofs.Searches.{row-to}
+use Rattle.session_steps.proofs.Owns.{reader-is}
+use Rattle.session_steps.proofs.Follows.{Follows-same}
+
+-- the row of the key that the index leads the session to
+abbrev RowOf : State → Session → ℕ → Option Row → Type 0
+RowOf st e k found = FirstFound st.heap.table (IsVisible st.heap.table e.snapshot e.own.ids) (slots_of st.heap) (entries_in st.heap.indexes 0) (pos k) k found
+
+pub Follows-get : (st : State) (s : ℕ) (e : Session) (k : ℕ) (found : Option Row) → session_at st s ≡ Some e → e.failed ≡ false → RowOf st e k found → Follows st (Get s k) (Found found) st
+Follows-get st s e k found at sound finds = λ w agrees.
+    Follows-same st (Get s k) (Found found) (theory.Follows-get (seen st) s (reader_of e) k found (reader-is st s e at) sound (row-to st w s e k found agrees at finds)) w agrees
+
+-- it is the session's view, also after it has failed
+pub reads-view : (st : State) (w : World) (s : ℕ) (e : Session) (k : ℕ) (found : Option Row) → Agrees st w → session_at st s ≡ Some e → RowOf st e k found
+    → (m : OpenSession) × (w.session s ≡ Some m) × (found ≡ view w.history m k)
+reads-view st w s e k found agrees at finds =
+    let there = reader-is st s e at in
+    let open_ = agrees.found.opened s (reader_of e) there in
+    (open_.0, open_.1, theory.found_is_view (seen st) w s (reader_of e) k found there agrees.found (row-to st w s e k found agrees at finds))

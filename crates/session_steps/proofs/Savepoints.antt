@@ -1,0 +1,142 @@
+-- Savepoints of the engine follow the history: the session sets one, returns to its newest, or releases it.
+use Rattle.std.proofs.Common.{None, ◌≡◌, ℕ, ◌<◌, List, [], ◌∷◌, ◌++◌, length, Some, false, refl, sym, ap, ◌∙◌, subst, inl, inr}
+use Rattle.std.specs.Prelude.{Contains, IsSome}
+use Rattle.std.specs.Option.{option_map}
+use Rattle.std.proofs.lemmas.List.Elements.{Contains-append_right, Contains-append_cases}
+use Rattle.commit_status.specs.declared.status.Status.TheVariants.{Aborted}
+use Rattle.snapshot.specs.Own.{newest, older}
+use Rattle.snapshot.proofs.Levels.{distinct-after}
+use Rattle.heap_pages.specs.View.{PagesView}
+use Rattle.visibility.proofs.Makers.{active-to}
+use Rattle.sound_entries.specs.Pages.{version_in}
+use Rattle.sound_entries.specs.Looking as looking
+use Rattle.history.specs.World.{World}
+use Rattle.session_relation.specs.declared.step.Step.TheVariants.{Savepoint, RollbackTo, Release}
+use Rattle.session_relation.specs.declared.reply.Reply.TheVariants.{Done, Refused}
+use Rattle.session_relation.specs.declared.reply.Refusal.{Refusal}
+use Rattle.session_relation.specs.declared.reply.Refusal.TheVariants.{NoSavepoint, TooDeep, NoMemory, CursorOpen}
+use Rattle.session_relation.specs.Heap as relation
+use Rattle.session_relation.specs.Allowed.{Allows, next}
+use Rattle.session_relation.specs.Agrees as theory
+use Rattle.session_relation.specs.Changes as change
+use Rattle.session_relation.proofs.Steps.{OnlyIs, SameSights}
+use Rattle.session_relation.proofs.FollowsSavepoints as savepoints
+use Rattle.session_steps.specs.declared.session.Session.{Session}
+use Rattle.visibility.specs.Visible.{state_of}
+use Rattle.session_steps.specs.State.{State, session_at, put_session, seen, position_of, reader_of}
+use Rattle.session_steps.specs.Agrees.{Agrees, Follows, StaysLed}
+use Rattle.session_steps.specs.Refuses.{Refuses, RefusesFree}
+use Rattle.session_steps.specs.Changes.{SetsSavepoint, Releases, RollsBack}
+use Rattle.session_steps.proofs.OwnIdsLemmas.{open-within}
+use Rattle.session_steps.proofs.StateLemmas.{only-set}
+use Rattle.session_steps.proofs.Windows.{Finishes-from, SameSight-finish}
+use Rattle.session_steps.proofs.Owns.{reader-is}
+use Rattle.session_steps.proofs.Returning.{same-holds, keeps-saved, keeps-released}
+use Rattle.session_steps.proofs.Ends.{rolls-back-sound}
+use Rattle.session_steps.proofs.InUse.{same-cursor, agree}
+use Rattle.session_steps.proofs.Follows.{Follows-same, closed_by, free_by, some-position, led-same, Sound-put}
+
+-- Refusals.
+
+pub Follows-too_deep : (st : State) (s : ℕ) (e : Session) → session_at st s ≡ Some e → e.failed ≡ false → e.cursor ≡ None → length e.own.saved ≡ 32 → Follows st (Savepoint s) (Refused TooDeep) st
+Follows-too_deep st s e at sound bare full = Follows-same st (Savepoint s) (Refused TooDeep) (savepoints.Follows-too_deep (seen st) s (reader_of e) (reader-is st s e at) sound (ap position_of bare) full)
+
+pub Follows-savepoint_no_memory : (st : State) (s : ℕ) (e : Session) → session_at st s ≡ Some e → e.failed ≡ false → e.cursor ≡ None → length e.own.saved < 32 → Follows st (Savepoint s) (Refused NoMemory) st
+Follows-savepoint_no_memory st s e at sound bare room =
+    Follows-same st (Savepoint s) (Refused NoMemory) (savepoints.Follows-savepoint_no_memory (seen st) s (reader_of e) (reader-is st s e at) sound (ap position_of bare) room)
+
+pub Follows-barred_savepoint : (st : State) (s : ℕ) (r : Refusal) → RefusesFree st s r → Follows st (Savepoint s) (Refused r) st
+Follows-barred_savepoint st s r is = Follows-same st (Savepoint s) (Refused r) (savepoints.Follows-barred_savepoint (seen st) s r (free_by st s r is))
+
+pub Follows-nowhere_to_return : (st : State) (s : ℕ) (e : Session) → session_at st s ≡ Some e → e.cursor ≡ None → e.own.saved ≡ [] → Follows st (RollbackTo s) (Refused NoSavepoint) st
+Follows-nowhere_to_return st s e at bare none = Follows-same st (RollbackTo s) (Refused NoSavepoint) (savepoints.Follows-nowhere_to_return (seen st) s (reader_of e) (reader-is st s e at) (ap position_of bare) none)
+
+pub Follows-closed_roll_back_to : (st : State) (s : ℕ) (r : Refusal) → Refuses st s r → Follows st (RollbackTo s) (Refused r) st
+Follows-closed_roll_back_to st s r is = Follows-same st (RollbackTo s) (Refused r) (savepoints.Follows-closed_roll_back_to (seen st) s r (closed_by st s r is))
+
+pub Follows-nothing_to_release : (st : State) (s : ℕ) (e : Session) → session_at st s ≡ Some e → e.failed ≡ false → e.cursor ≡ None → e.own.saved ≡ [] → Follows st (Release s) (Refused NoSavepoint) st
+Follows-nothing_to_release st s e at sound bare none =
+    Follows-same st (Release s) (Refused NoSavepoint) (savepoints.Follows-nothing_to_release (seen st) s (reader_of e) (reader-is st s e at) sound (ap position_of bare) none)
+
+pub Follows-barred_release : (st : State) (s : ℕ) (r : Refusal) → RefusesFree st s r → Follows st (Release s) (Refused r) st
+Follows-barred_release st s r is = Follows-same st (Release s) (Refused r) (savepoints.Follows-barred_release (seen st) s r (free_by st s r is))
+
+pub Follows-barred_roll_back_to : (st : State) (s : ℕ) (e : Session) → session_at st s ≡ Some e → IsSome e.cursor → Follows st (RollbackTo s) (Refused CursorOpen) st
+Follows-barred_roll_back_to st s e at some = Follows-same st (RollbackTo s) (Refused CursorOpen) (savepoints.Follows-barred_roll_back_to (seen st) s (reader_of e) (reader-is st s e at) (some-position e.cursor some))
+
+-- Nothing changes but the session.
+
+-- of the sessions that readers see, one becomes another
+only-becomes : (st : State) (s : ℕ) (e now : Session) (r : relation.Session) → session_at st s ≡ Some e → reader_of now ≡ r → OnlyIs (seen st).session (seen (put_session st s (Some now))).session s (Some r)
+only-becomes st s e now r at is = let only = only-set st s (Some now) (open-within st.sessions s e at) in record { others = only.others; itself = only.itself ∙ ap Some is }
+
+pub Follows-savepoint : (st st' : State) (s : ℕ) (e : Session) → session_at st s ≡ Some e → e.failed ≡ false → e.cursor ≡ None → length e.own.saved < 32 → (now : Session) → st' ≡ put_session st s (Some now) → SetsSavepoint e now
+    → Follows st (Savepoint s) Done st'
+Follows-savepoint st st' s e at sound bare room now is sets w agrees =
+    let reader : reader_of now ≡ record (reader_of e) { saved = e.own.ids ∷ e.own.saved } = rw (sets.snapshot, sets.ids, sets.saved, sets.failed, sets.cursor) refl in
+    let f = savepoints.Follows-savepoint (seen st) s (reader_of e) (seen (put_session st s (Some now))).session (only-becomes st s e now (record (reader_of e) { saved = e.own.ids ∷ e.own.saved }) at reader)
+    (reader-is st s e at) sound (ap position_of bare) room w agrees.found in
+    subst (λ st'. Allows w (Savepoint s) Done × Agrees st' (next w (Savepoint s) Done) × StaysLed st st') (sym is) (
+      f.0,
+      agree agrees refl refl f.1
+          (Sound-put st s e now at (same-holds e now sets.snapshot sets.ids) (keeps-saved st.heap.table e now sets (agrees.sound.sessions s e at)) (same-cursor st.sessions st.heap.indexes s e now at sets.cursor agrees.sound.cursors) agrees.sound),
+      led-same st w agrees,
+    )
+
+pub Follows-release : (st st' : State) (s : ℕ) (e : Session) (before : List ℕ) (saved : List (List ℕ)) → session_at st s ≡ Some e → e.failed ≡ false → e.cursor ≡ None → e.own.saved ≡ before ∷ saved → (now : Session)
+    → st' ≡ put_session st s (Some now) → Releases e now → Follows st (Release s) Done st'
+Follows-release st st' s e before saved at sound bare some now is releases w agrees =
+    let rest : now.own.saved ≡ saved = releases.saved ∙ ap older some in
+    let reader : reader_of now ≡ record (reader_of e) { saved = saved } = rw (releases.snapshot, releases.ids, rest, releases.failed, releases.cursor) refl in
+    let f = savepoints.Follows-release (seen st) s (reader_of e) before saved (seen (put_session st s (Some now))).session (only-becomes st s e now (record (reader_of e) { saved = saved }) at reader)
+    (reader-is st s e at) sound (ap position_of bare) some w agrees.found in
+    subst (λ st'. Allows w (Release s) Done × Agrees st' (next w (Release s) Done) × StaysLed st st') (sym is) (
+      f.0,
+      agree agrees refl refl f.1
+          (Sound-put st s e now at (same-holds e now releases.snapshot releases.ids) (keeps-released st.heap.table e now releases (agrees.sound.sessions s e at)) (same-cursor st.sessions st.heap.indexes s e now at releases.cursor agrees.sound.cursors) agrees.sound),
+      led-same st w agrees,
+    )
+
+-- The ids since the newest savepoint are aborted.
+
+abbrev with_pages : State → PagesView → relation.Heap
+with_pages st pages = record (seen st) { version = version_in (looking.slots_of pages) }
+
+module _ (st st' : State) (s : ℕ) (before : List ℕ) (saved : List (List ℕ)) (back : RollsBack st st' s) (is : back.session.own.saved ≡ before ∷ saved) where
+  were : back.session.own.ids ≡ before ++ back.back.since
+  were = back.back.ids ∙ ap (λ xs. xs ++ back.back.since) (back.back.returns.ids ∙ ap newest is)
+
+  only-returns : OnlyIs (seen st).session (seen st').session s (Some (record (reader_of back.session) { own = before; failed = false }))
+  only-returns =
+      let reader : reader_of back.now ≡ record (reader_of back.session) { own = before; failed = false } = rw (back.back.returns.snapshot, back.back.returns.ids, back.back.returns.saved, back.back.returns.sound, back.back.returns.cursor, ap newest is) refl in
+      let only = only-becomes st s back.session back.now (record (reader_of back.session) { own = before; failed = false }) back.at reader in
+      subst (λ xs. OnlyIs (seen st).session (λ o. option_map reader_of (session_at (record st { sessions = xs }) o)) s (Some (record (reader_of back.session) { own = before; failed = false }))) (sym back.sessions) only
+
+  -- those that it had not then
+  finishes-since : (w : World) → Agrees st w → change.Finishes (state_of st.heap.table) (state_of st'.heap.table) (λ x. Contains back.session.own.ids x × (¬ Contains before x)) Aborted
+  finishes-since w agrees =
+      let e = back.session in
+      let distinct = (agrees.sound.sessions s e back.at).distinct in
+      let mine : (x : ℕ) → Contains back.back.since x → Contains e.own.ids x = λ x late. subst (λ xs. Contains xs x) (sym were) (Contains-append_right before back.back.since x late) in
+      let f = Finishes-from st.heap.table st'.heap.table back.back.since Aborted
+      (λ x late. active-to st.heap.table x ((agrees.found.opened s (reader_of e) (reader-is st s e back.at)).2.own_active x (mine x late))) back.back.finishes in
+      record {
+        active = λ x is. f.active x (late-of x is.0 is.1);
+        each = λ x. elim (f.each x) [
+          | inl late ↦ inl ((mine x late.0, distinct-after e.own.ids before back.back.since distinct were x late.0), late.1)
+          | inr other ↦ inr (λ is. other.0 (late-of x is.0 is.1), other.1)
+        ];
+      }
+    where
+      late-of : (x : ℕ) → Contains back.session.own.ids x → ¬ Contains before x → Contains back.back.since x
+      late-of x own new = elim (Contains-append_cases before back.back.since x (subst (λ xs. Contains xs x) were own)) [ inl early ↦ absurd (new early) | inr late ↦ late ]
+
+  same-sights : SameSights (seen st) (seen st').sees
+  same-sights o r bt = SameSight-finish r.snapshot st.heap.table st'.heap.table back.back.since Aborted back.back.finishes
+
+pub Follows-roll_back_to : (st st' : State) (s : ℕ) (before : List ℕ) (saved : List (List ℕ)) (back : RollsBack st st' s) → back.session.cursor ≡ None → back.session.own.saved ≡ before ∷ saved → Follows st (RollbackTo s) Done st'
+Follows-roll_back_to st st' s before saved back bare is w agrees =
+    let f = savepoints.Follows-roll_back_to (seen st) s (reader_of back.session) before saved (seen st').status (seen st').sees (seen st').session (only-returns st st' s before saved back is)
+    (reader-is st s back.session back.at) (ap position_of bare) is (λ w' found. finishes-since st st' s before saved back is w agrees) (same-sights st st' s before saved back is) w agrees.found in
+    let sound' = rolls-back-sound st st' s before saved w back is agrees in
+    (f.0, agree agrees back.settings refl (subst (λ pages. theory.Agrees (with_pages st' pages) (next w (RollbackTo s) Done)) (sym back.back.pages) f.1) sound'.0, sound'.1)

@@ -1,0 +1,191 @@
+-- What a search of the pages finds, as readers see it.
+use Rattle.visibility.proofs.Makers.{committed-to, committed-from, active-to, state-is}
+use Rattle.session_steps.proofs.InUse.{by-key}
+use Rattle.heap_write.specs.Indexes.{entries_in}
+use Rattle.std.proofs.Common.{◌≡◌, ◌≢◌, ℕ, List, Option, Some, None, Bool, true, false, refl, sym, ap, ◌∙◌, subst, inl, inr, cond}
+use Rattle.std.specs.Prelude.{pos, Contains, IsSome, MatchOption, ◌==◌}
+use Rattle.std.specs.Option.{option_map}
+use Rattle.std.proofs.lemmas.Bool.{cases_Bool, cond-false, eq-eqb, ne_eqb}
+use Rattle.std.proofs.lemmas.Option.{same_Some, none-some}
+use Rattle.tuple_header.specs.declared.version.Row.{Row}
+use Rattle.tuple_header.specs.Version.{Version}
+use Rattle.tuple_header.specs.Marks.{is_frozen}
+use Rattle.xid_circle.specs.declared.Tid.{Tid}
+use Rattle.xid_circle.specs.declared.Xid.{Xid}
+use Rattle.commit_status.specs.declared.status.Status.{Status}
+use Rattle.commit_status.specs.declared.status.Status.TheVariants.{InProgress}
+use Rattle.commit_status.specs.Window.{Window, place, status_of}
+use Rattle.commit_status.specs.Window as window
+use Rattle.snapshot.specs.Snap.{Snap, Sees}
+use Rattle.visibility.specs.Visible as visibility
+use Rattle.sound_entries.specs.Pages.{version_in}
+use Rattle.sound_entries.specs.Leading as search
+use Rattle.sound_entries.specs.Looking.{FirstFound}
+use Rattle.sound_entries.proofs.Fetching.{found-on_heap, place-on_heap}
+use Rattle.sound_entries.proofs.Among.{missed-on_heap, foreign-on_heap}
+use Rattle.heap_write.specs.Heap.{HeapView, slots_of, key_value}
+use Rattle.history.specs.World.{World}
+use Rattle.session_relation.specs.Heap as relation
+use Rattle.visibility.specs.Seeing.{maker, deleter, Reads, by_itself, by_others, Touches, made_by, deleted_by, IsActive}
+use Rattle.session_relation.specs.Visible.{IsVisible}
+use Rattle.session_relation.specs.Finds.{Finds, IsLateFor, IsHeldBy, Begins, Free}
+use Rattle.session_relation.specs.declared.reply.Refusal.{Refusal}
+use Rattle.session_relation.specs.declared.reply.Refusal.TheVariants.{NotOpen, AlreadyOpen, Failed, AlreadyThere, NotThere, Conflict, Busy, TooLarge, NoRoom, NeedsFreeze, NoMemory, NoSuchPage, NoSuchSession, TooDeep, NoSavepoint, CursorOpen, NoCursor, NoSuchIndex, BadBounds}
+use Rattle.session_steps.specs.declared.session.Session.{Session}
+use Rattle.visibility.specs.Visible.{state_of}
+use Rattle.session_steps.specs.State.{State, session_at, seen, position_of, reader_of, horizon_of}
+use Rattle.session_steps.specs.Agrees.{Agrees}
+use Rattle.session_steps.specs.Tests.{FindsPlace, IsLateBy, IsHeldUnder, IsNobodys, IsUnheld, by_none, by_nobody, IsFree, Delays, HindersInsert, HindersChange}
+use Rattle.session_steps.specs.Tests as tests
+use Rattle.session_steps.proofs.Owns.{reader-is, reader-at}
+
+-- the answers of a search for an id
+
+abbrev pub Misses : HeapView → Session → ℕ → Option Xid → Type 0
+Misses h e key answer = MatchOption answer ((x : ℕ) → ¬ IsLateBy h e key x) (λ x. IsLateBy h e key x.0)
+
+abbrev pub Holds : HeapView → Session → ℕ → Option Xid → Type 0
+Holds h e key answer = MatchOption answer ((x : ℕ) → ¬ IsHeldUnder h e key x) (λ x. IsHeldUnder h e key x.0)
+
+-- What the searches find. Where the entries are sound, it is what stands on the heap.
+
+pub own-active : (st : State) (w : World) (s : ℕ) (e : Session) → Agrees st w → session_at st s ≡ Some e → (x : ℕ) → Contains e.own.ids x → window.IsActive st.heap.table x
+own-active st w s e agrees at x mine = active-to st.heap.table x ((agrees.found.opened s (reader_of e) (reader-is st s e at)).2.own_active x mine)
+
+-- the session reads the row of the key by this version
+pub record IsTarget (st : State) (e : Session) (key : ℕ) (p : Tid) (t : Version) : Type 0 where
+  pub there : version_in (slots_of st.heap) p ≡ Some t
+  pub of_key : t.row.key ≡ key
+  pub seen : IsVisible (state_of st.heap.table) (λ x. Sees e.snapshot st.heap.table x) e.own.ids t
+
+abbrev pub FoundIn : State → Session → ℕ → Option Tid → Type 0
+FoundIn st e key None = Finds (seen st).version (IsVisible (state_of st.heap.table) (λ x. Sees e.snapshot st.heap.table x) e.own.ids) key None
+FoundIn st e key (Some p) = (t : Version) × IsTarget st e key p t
+
+pub place-to : (st : State) (w : World) (s : ℕ) (e : Session) (key : ℕ) (found : Option Tid) → Agrees st w → session_at st s ≡ Some e → FindsPlace st.heap e key found → FoundIn st e key found
+place-to st w s e key None agrees at finds = λ p v there seen is.
+    place-on_heap key_value st.heap.table (horizon_of st) (slots_of st.heap) (entries_in st.heap.indexes 0) e.snapshot e.own.ids (by-key st agrees.sound) (own-active st w s e agrees at) (pos key) key None finds p v
+    (record { there = there; of_value = ap (λ n. pos n) is; of_key = is; has = seen })
+place-to st w s e key (Some p) agrees at finds =
+    let h = place-on_heap key_value st.heap.table (horizon_of st) (slots_of st.heap) (entries_in st.heap.indexes 0) e.snapshot e.own.ids (by-key st agrees.sound) (own-active st w s e agrees at) (pos key) key (Some p) finds in
+    (h.0, record { there = h.1.there; of_key = h.1.of_key; seen = h.1.has })
+
+pub row-to : (st : State) (w : World) (s : ℕ) (e : Session) (key : ℕ) (found : Option Row) → Agrees st w → session_at st s ≡ Some e
+    → FirstFound st.heap.table (visibility.IsVisible st.heap.table e.snapshot e.own.ids) (slots_of st.heap) (entries_in st.heap.indexes 0) (pos key) key found
+    → Finds (seen st).version (IsVisible (state_of st.heap.table) (λ x. Sees e.snapshot st.heap.table x) e.own.ids) key found
+row-to st w s e key None agrees at finds = λ p v there seen is.
+    found-on_heap key_value st.heap.table (horizon_of st) (slots_of st.heap) (entries_in st.heap.indexes 0) e.snapshot e.own.ids (by-key st agrees.sound) (own-active st w s e agrees at) (pos key) key None finds p v
+    (record { there = there; of_value = ap (λ n. pos n) is; of_key = is; has = seen })
+row-to st w s e key (Some row) agrees at finds =
+    let h = found-on_heap key_value st.heap.table (horizon_of st) (slots_of st.heap) (entries_in st.heap.indexes 0) e.snapshot e.own.ids (by-key st agrees.sound) (own-active st w s e agrees at) (pos key) key (Some row) finds in
+    (h.0, h.1, h.2.there, h.2.of_key, (h.2.has, h.3))
+
+pub late-to : (st : State) (w : World) (e : Session) (key x : ℕ) → Agrees st w → IsLateBy st.heap e key x → IsLateFor (seen st) (reader_of e) key
+late-to st w e key x agrees late =
+    let h = (missed-on_heap key_value st.heap.table (horizon_of st) (slots_of st.heap) (entries_in st.heap.indexes 0) e.snapshot x (by-key st agrees.sound) (pos key) key).0 late in
+    (h.0, h.1, h.2.there, h.2.of_key, (x, h.2.has))
+
+pub not-late : (st : State) (w : World) (e : Session) (key : ℕ) → Agrees st w → ((x : ℕ) → ¬ IsLateBy st.heap e key x) → ¬ IsLateFor (seen st) (reader_of e) key
+not-late st w e key agrees timely some =
+    let x = some.4.0 in
+    timely x ((missed-on_heap key_value st.heap.table (horizon_of st) (slots_of st.heap) (entries_in st.heap.indexes 0) e.snapshot x (by-key st agrees.sound) (pos key) key).1 (
+      some.0,
+      some.1,
+      record {
+        there = some.2;
+        of_value = ap (λ n. pos n) some.3;
+        of_key = some.3;
+        has = some.4.1;
+      },
+    ))
+
+pub held-to : (st : State) (w : World) (e : Session) (key x : ℕ) → Agrees st w → IsHeldUnder st.heap e key x → IsHeldBy (seen st) (reader_of e) key x
+held-to st w e key x agrees held =
+    let h = (foreign-on_heap key_value st.heap.table (horizon_of st) (slots_of st.heap) (entries_in st.heap.indexes 0) e.own.ids x (by-key st agrees.sound) (pos key) key).0 held in
+    (h.0, h.1, h.2.there, h.2.of_key, h.2.has)
+
+held-from : (st : State) (w : World) (e : Session) (key x : ℕ) → Agrees st w → IsHeldBy (seen st) (reader_of e) key x → IsHeldUnder st.heap e key x
+held-from st w e key x agrees some =
+    (foreign-on_heap key_value st.heap.table (horizon_of st) (slots_of st.heap) (entries_in st.heap.indexes 0) e.own.ids x (by-key st agrees.sound) (pos key) key).1 (
+      some.0,
+      some.1,
+      record {
+        there = some.2;
+        of_value = ap (λ n. pos n) some.3;
+        of_key = some.3;
+        has = some.4;
+      },
+    )
+
+-- an id in progress on a page is some session's
+not-nobodys : (st : State) (w : World) (e : Session) (key x : ℕ) → Agrees st w → IsHeldUnder st.heap e key x → IsNobodys st x → ⊥
+not-nobodys st w e key x agrees held nobody =
+    let h = (foreign-on_heap key_value st.heap.table (horizon_of st) (slots_of st.heap) (entries_in st.heap.indexes 0) e.own.ids x (by-key st agrees.sound) (pos key) key).0 held in
+    let by = agrees.found.owned x h.2.has.active in
+    let f = reader-at st by.0 by.1 by.2 in
+    nobody by.0 f.0 f.1 (subst (λ (r : relation.Session). Contains r.own x) (sym f.2) by.3)
+
+pub not-held : (st : State) (w : World) (e : Session) (key : ℕ) → Agrees st w → IsUnheld st e key → (x : ℕ) → ¬ IsHeldBy (seen st) (reader_of e) key x
+not-held st w e key agrees (by_none none) x held = none x (held-from st w e key x agrees held)
+not-held st w e key agrees (by_nobody y under nobody) x held = not-nobodys st w e key y agrees under nobody
+
+-- Tests that are passed, or not.
+
+pub begins-none : (st : State) (w : World) (s : ℕ) (e : Session) (key : ℕ) → Agrees st w → tests.Reads st s e key None → Begins (seen st) s (reader_of e) key None
+begins-none st w s e key agrees reads =
+    record { at = reader-is st s e reads.at; sound = reads.sound; bare = ap position_of reads.bare; finds = place-to st w s e key None agrees reads.at reads.finds }
+
+pub target-of : (st : State) (w : World) (s : ℕ) (e : Session) (key : ℕ) (p : Tid) → Agrees st w → tests.Reads st s e key (Some p) → (t : Version) × IsTarget st e key p t
+target-of st w s e key p agrees reads = place-to st w s e key (Some p) agrees reads.at reads.finds
+
+pub begins-some : (st : State) (s : ℕ) (e : Session) (key : ℕ) (p : Tid) (t : Version) → tests.Reads st s e key (Some p) → IsTarget st e key p t → Begins (seen st) s (reader_of e) key (Some t.row)
+begins-some st s e key p t reads target =
+    record { at = reader-is st s e reads.at; sound = reads.sound; bare = ap position_of reads.bare; finds = (p, t, target.there, target.of_key, (target.seen, refl)) }
+
+pub free-with : (st : State) (w : World) (s : ℕ) (e : Session) (key : ℕ) (found : Option Row) → Agrees st w → Begins (seen st) s (reader_of e) key found → IsFree st e key → Free (seen st) s (reader_of e) key found
+free-with st w s e key found agrees begins free =
+    record { begins = begins; timely = not-late st w e key agrees free.timely; unheld = not-held st w e key agrees free.unheld }
+
+-- what delays a session, delays it of what it reads
+
+pub delayed-insert : (st : State) (s key : ℕ) (e : Session) (r : Refusal) → tests.Reads st s e key None → Delays st e key r → HindersInsert st s key r
+delayed-insert st s key e Conflict reads delays = record { session = e; reads = reads; delays = delays }
+delayed-insert st s key e (Busy o) reads delays = record { session = e; reads = reads; delays = delays }
+delayed-insert st s key e NotOpen reads delays = absurd delays
+delayed-insert st s key e AlreadyOpen reads delays = absurd delays
+delayed-insert st s key e TooDeep reads delays = absurd delays
+delayed-insert st s key e CursorOpen reads delays = absurd delays
+delayed-insert st s key e NoCursor reads delays = absurd delays
+delayed-insert st s key e NoSuchIndex reads delays = absurd delays
+delayed-insert st s key e BadBounds reads delays = absurd delays
+delayed-insert st s key e NoSavepoint reads delays = absurd delays
+delayed-insert st s key e Failed reads delays = absurd delays
+delayed-insert st s key e AlreadyThere reads delays = absurd delays
+delayed-insert st s key e NotThere reads delays = absurd delays
+delayed-insert st s key e TooLarge reads delays = absurd delays
+delayed-insert st s key e NoRoom reads delays = absurd delays
+delayed-insert st s key e NeedsFreeze reads delays = absurd delays
+delayed-insert st s key e NoMemory reads delays = absurd delays
+delayed-insert st s key e NoSuchPage reads delays = absurd delays
+delayed-insert st s key e NoSuchSession reads delays = absurd delays
+
+pub delayed-change : (st : State) (s key : ℕ) (e : Session) (p : Tid) (r : Refusal) → tests.Reads st s e key (Some p) → Delays st e key r → HindersChange st s key r
+delayed-change st s key e p Conflict reads delays = (p, record { session = e; reads = reads; delays = delays })
+delayed-change st s key e p (Busy o) reads delays = (p, record { session = e; reads = reads; delays = delays })
+delayed-change st s key e p NotOpen reads delays = absurd delays
+delayed-change st s key e p AlreadyOpen reads delays = absurd delays
+delayed-change st s key e p TooDeep reads delays = absurd delays
+delayed-change st s key e p CursorOpen reads delays = absurd delays
+delayed-change st s key e p NoCursor reads delays = absurd delays
+delayed-change st s key e p NoSuchIndex reads delays = absurd delays
+delayed-change st s key e p BadBounds reads delays = absurd delays
+delayed-change st s key e p NoSavepoint reads delays = absurd delays
+delayed-change st s key e p Failed reads delays = absurd delays
+delayed-change st s key e p AlreadyThere reads delays = absurd delays
+delayed-change st s key e p NotThere reads delays = absurd delays
+delayed-change st s key e p TooLarge reads delays = absurd delays
+delayed-change st s key e p NoRoom reads delays = absurd delays
+delayed-change st s key e p NeedsFreeze reads delays = absurd delays
+delayed-change st s key e p NoMemory reads delays = absurd delays
+delayed-change st s key e p NoSuchPage reads delays = absurd delays
+delayed-change st s key e p NoSuchSession reads delays = absurd delays

@@ -1,0 +1,137 @@
+-- A write that a session tries: what it changes, or why it is not done.
+use Rattle.std.proofs.Common.{◌≡◌, ℕ, List, set, Option, Some, None, ap, ◌∙◌, subst, inl, inr}
+use Rattle.std.specs.Prelude.{Result, Ok, Err, Contains}
+use Rattle.xid_circle.specs.declared.Tid.{Tid}
+use Rattle.tuple_header.specs.declared.version.Row.{Row}
+use Rattle.tuple_header.specs.Version.{rounded_size_of}
+use Rattle.commit_status.specs.Window.{Window, IsWindow, IsGiven, IsActive}
+use Rattle.snapshot.specs.Own.{level_id, AreFronts}
+use Rattle.snapshot.proofs.Levels.{level-among}
+use Rattle.heap_write.specs.declared.heap.WriteFault.{WriteFault}
+use Rattle.heap_write.specs.declared.heap.WriteFault.TheVariants as fault
+use Rattle.heap_write.specs.Heap.{HeapView, SameIds, Keeps}
+use Rattle.heap_write.specs.Writes.{Readies}
+use Rattle.heap_write.specs.Refusals.{FailsUpdate, FailsDelete}
+use Rattle.session_steps.specs.declared.session.Session.{Session}
+use Rattle.session_steps.specs.State.{State, session_at, horizon_of}
+use Rattle.session_steps.specs.Keeps.{open_at, EngineKeeps}
+use Rattle.session_steps.specs.Tests.{MayWrite}
+use Rattle.session_steps.specs.Writes.{TriesInsert, TriesUpdate, TriesDelete, OnOpen, reply_for}
+use Rattle.session_steps.specs.Exact.{Tried, InsertTried, UpdateTried, DeleteTried, ExactInsert, ExactUpdate, ExactDelete}
+use Rattle.session_steps.proofs.Giving.{keeps-wrote, keeps-kept}
+
+-- the id of a level, whose ids are in progress, is in the window
+pub newest-given : (w : Window) (ids : List ℕ) (saved : List (List ℕ)) → AreFronts ids saved → ((x : ℕ) → Contains ids x → IsActive w x)
+    → (x : ℕ) → level_id ids saved ≡ Some x → IsGiven w x
+newest-given w ids saved fronts active x is = (active x (level-among ids saved x fronts is)).is_given
+
+-- The engine keeps what its type keeps, whatever became of a write.
+
+ready-ids : (h ready h' : HeapView) (n horizon size : ℕ) → Readies h ready n horizon size → Keeps ready h' → SameIds h.table h'.table
+ready-ids h ready h' n horizon size (Readies.has_room room is) keeps = subst (λ (g : HeapView). SameIds g.table h'.table) is keeps.table
+ready-ids h ready h' n horizon size (Readies.is_pruned full grown grows prunes) keeps =
+    let table : ready.table ≡ grown.table = ap (λ (g : HeapView). g.table) prunes.is in
+    let last : SameIds grown.table h'.table = subst (λ t. SameIds t h'.table) table keeps.table in
+    record { first = last.first ∙ grows.table.first; stop_age = last.stop_age ∙ grows.table.stop_age; entries = last.entries ∙ grows.table.entries }
+
+update-ids : (h h' : HeapView) (e : Session) (place : Tid) (row : Row) (horizon : ℕ) (f : WriteFault) → FailsUpdate h h' e.own place row horizon f → SameIds h.table h'.table
+update-ids h h' e place row horizon fault.NeedsFreeze fails = fails.2.table
+update-ids h h' e place row horizon fault.NoRoom fails = ready-ids h fails.ready h' place.page horizon (rounded_size_of row) fails.readies fails.keeps
+update-ids h h' e place row horizon fault.NoMemory fails = fails.3.table
+update-ids h h' e place row horizon fault.Gone fails = elim fails [
+  | inl gone ↦ gone.1.table
+  | inr went ↦ ready-ids h went.ready h' place.page horizon (rounded_size_of row) went.readies went.keeps
+]
+
+delete-ids : (h h' : HeapView) (e : Session) (place : Tid) (f : WriteFault) → FailsDelete h h' e.own place f → SameIds h.table h'.table
+delete-ids h h' e place fault.NeedsFreeze fails = fails.2.table
+delete-ids h h' e place fault.NoRoom fails = absurd fails
+delete-ids h h' e place fault.NoMemory fails = fails.3.table
+delete-ids h h' e place fault.Gone fails = fails.1.table
+
+keeps-inserted : (xs : List (Option Session)) (h h' : HeapView) (s : ℕ) (e e' : Session) (row : Row) (r : Result (Unit {0}) WriteFault) → open_at xs s ≡ Some e → TriesInsert h h' e e' row r → IsWindow h'.table
+    → EngineKeeps xs h.table → EngineKeeps (set xs s (Some e')) h'.table
+keeps-inserted xs h h' s e e' row (Ok u) at tries is k = keeps-wrote xs h.table h'.table s e e' tries.x at tries.change.takes_ids is k
+keeps-inserted xs h h' s e e' row (Err f) at tries is k = keeps-kept xs h.table h'.table s e e' at tries.same tries.fault.1.table k
+
+keeps-updated : (xs : List (Option Session)) (h h' : HeapView) (s : ℕ) (e e' : Session) (place : Tid) (row : Row) (horizon : ℕ) (r : Result (Unit {0}) WriteFault) → open_at xs s ≡ Some e → TriesUpdate h h' e e' place row horizon r
+    → IsWindow h'.table → EngineKeeps xs h.table → EngineKeeps (set xs s (Some e')) h'.table
+keeps-updated xs h h' s e e' place row horizon (Ok u) at tries is k = keeps-wrote xs h.table h'.table s e e' tries.x at tries.change.takes_ids is k
+keeps-updated xs h h' s e e' place row horizon (Err f) at tries is k = keeps-kept xs h.table h'.table s e e' at tries.same (update-ids h h' e place row horizon f tries.fault) k
+
+keeps-deleted : (xs : List (Option Session)) (h h' : HeapView) (s : ℕ) (e e' : Session) (place : Tid) (r : Result (Unit {0}) WriteFault) → open_at xs s ≡ Some e → TriesDelete h h' e e' place r
+    → IsWindow h'.table → EngineKeeps xs h.table → EngineKeeps (set xs s (Some e')) h'.table
+keeps-deleted xs h h' s e e' place (Ok u) at tries is k = keeps-wrote xs h.table h'.table s e e' tries.x at tries.change.takes_ids is k
+keeps-deleted xs h h' s e e' place (Err f) at tries is k = keeps-kept xs h.table h'.table s e e' at tries.same (delete-ids h h' e place f tries.fault) k
+
+-- of the session in a place
+keeps-on : (xs : List (Option Session)) (v : Window) (s : ℕ) (o now : Option Session) (tries : Session → Session → Type 0) → open_at xs s ≡ o → OnOpen o now tries
+    → ((e e' : Session) → open_at xs s ≡ Some e → tries e e' → EngineKeeps (set xs s (Some e')) v) → EngineKeeps (set xs s now) v
+keeps-on xs v s None now tries at tried each = absurd tried
+keeps-on xs v s (Some e) now tries at tried each = rw tried.1 (each e tried.0 at tried.2)
+
+pub keeps-insert : (xs : List (Option Session)) (h h' : HeapView) (s : ℕ) (o now : Option Session) (row : Row) (r : Result (Unit {0}) WriteFault) → open_at xs s ≡ o → OnOpen o now (λ e e'. TriesInsert h h' e e' row r)
+    → IsWindow h'.table → EngineKeeps xs h.table → EngineKeeps (set xs s now) h'.table
+keeps-insert xs h h' s o now row r at tried is k = keeps-on xs h'.table s o now (λ e e'. TriesInsert h h' e e' row r) at tried (λ e e' at' tries. keeps-inserted xs h h' s e e' row r at' tries is k)
+
+pub keeps-update : (xs : List (Option Session)) (h h' : HeapView) (s : ℕ) (o now : Option Session) (place : Tid) (row : Row) (horizon : ℕ) (r : Result (Unit {0}) WriteFault) → open_at xs s ≡ o
+    → OnOpen o now (λ e e'. TriesUpdate h h' e e' place row horizon r) → IsWindow h'.table → EngineKeeps xs h.table → EngineKeeps (set xs s now) h'.table
+keeps-update xs h h' s o now place row horizon r at tried is k =
+    keeps-on xs h'.table s o now (λ e e'. TriesUpdate h h' e e' place row horizon r) at tried (λ e e' at' tries. keeps-updated xs h h' s e e' place row horizon r at' tries is k)
+
+pub keeps-delete : (xs : List (Option Session)) (h h' : HeapView) (s : ℕ) (o now : Option Session) (place : Tid) (r : Result (Unit {0}) WriteFault) → open_at xs s ≡ o → OnOpen o now (λ e e'. TriesDelete h h' e e' place r)
+    → IsWindow h'.table → EngineKeeps xs h.table → EngineKeeps (set xs s now) h'.table
+keeps-delete xs h h' s o now place r at tried is k =
+    keeps-on xs h'.table s o now (λ e e'. TriesDelete h h' e e' place r) at tried (λ e e' at' tries. keeps-deleted xs h h' s e e' place r at' tries is k)
+
+-- The engine afterwards.
+
+abbrev pub with_session : State → HeapView → ℕ → Option Session → State
+with_session st h s now = record { settings = st.settings; heap = h; sessions = set st.sessions s now }
+
+tried-of : (st : State) (h : HeapView) (s : ℕ) (e : Session) (now : Option Session) (tries : HeapView → HeapView → Session → Session → Type 0) → session_at st s ≡ Some e
+    → OnOpen (session_at st s) now (λ e e'. tries st.heap h e e') → Tried st (with_session st h s now) s e tries
+tried-of st h s e now tries at tried =
+    let t = subst (λ o. OnOpen o now (λ e e'. tries st.heap h e e')) at tried in
+    record { now = t.0; is = ap (with_session st h s) t.1; tried = t.2 }
+
+pub insert-tried : (st : State) (h : HeapView) (s : ℕ) (now : Option Session) (row : Row) (r : Result (Unit {0}) WriteFault) → MayWrite st s row.key None
+    → OnOpen (session_at st s) now (λ e e'. TriesInsert st.heap h e e' row r) → InsertTried st (with_session st h s now) s row r
+insert-tried st h s now row r may tried = record { may = may; tried = tried-of st h s may.session now (λ h h' e e'. TriesInsert h h' e e' row r) may.reads.at tried }
+
+pub update-tried : (st : State) (h : HeapView) (s : ℕ) (now : Option Session) (place : Tid) (row : Row) (horizon : ℕ) (r : Result (Unit {0}) WriteFault) → MayWrite st s row.key (Some place)
+    → horizon ≡ horizon_of st → OnOpen (session_at st s) now (λ e e'. TriesUpdate st.heap h e e' place row horizon r) → UpdateTried st (with_session st h s now) s row r
+update-tried st h s now place row horizon r may is tried = record {
+  place = place;
+  may = may;
+  tried = tried-of st h s may.session now (λ h h' e e'. TriesUpdate h h' e e' place row (horizon_of st) r) may.reads.at
+      (subst (λ x. OnOpen (session_at st s) now (λ e e'. TriesUpdate st.heap h e e' place row x r)) is tried);
+}
+
+pub delete-tried : (st : State) (h : HeapView) (s key : ℕ) (now : Option Session) (place : Tid) (r : Result (Unit {0}) WriteFault) → MayWrite st s key (Some place)
+    → OnOpen (session_at st s) now (λ e e'. TriesDelete st.heap h e e' place r) → DeleteTried st (with_session st h s now) s key r
+delete-tried st h s key now place r may tried =
+    record { place = place; may = may; tried = tried-of st h s may.session now (λ h h' e e'. TriesDelete h h' e e' place r) may.reads.at tried }
+
+-- That is what the reply says of it.
+
+pub exact-inserted : (st st' : State) (s : ℕ) (row : Row) (r : Result (Unit {0}) WriteFault) → InsertTried st st' s row r → ExactInsert st s row (reply_for r) st'
+exact-inserted st st' s row (Ok u) tried = tried
+exact-inserted st st' s row (Err fault.NeedsFreeze) tried = tried
+exact-inserted st st' s row (Err fault.NoRoom) tried = tried
+exact-inserted st st' s row (Err fault.NoMemory) tried = tried
+exact-inserted st st' s row (Err fault.Gone) tried = absurd (tried.tried.tried.fault.0)
+
+pub exact-updated : (st st' : State) (s : ℕ) (row : Row) (r : Result (Unit {0}) WriteFault) → UpdateTried st st' s row r → ExactUpdate st s row (reply_for r) st'
+exact-updated st st' s row (Ok u) tried = tried
+exact-updated st st' s row (Err fault.NeedsFreeze) tried = tried
+exact-updated st st' s row (Err fault.NoRoom) tried = tried
+exact-updated st st' s row (Err fault.NoMemory) tried = tried
+exact-updated st st' s row (Err fault.Gone) tried = inr tried
+
+pub exact-deleted : (st st' : State) (s key : ℕ) (r : Result (Unit {0}) WriteFault) → DeleteTried st st' s key r → ExactDelete st s key (reply_for r) st'
+exact-deleted st st' s key (Ok u) tried = tried
+exact-deleted st st' s key (Err fault.NeedsFreeze) tried = tried
+exact-deleted st st' s key (Err fault.NoRoom) tried = absurd (tried.tried.tried.fault)
+exact-deleted st st' s key (Err fault.NoMemory) tried = tried
+exact-deleted st st' s key (Err fault.Gone) tried = inr tried

@@ -1,0 +1,63 @@
+-- When an engine agrees with a world of the history.
+use Rattle.std.specs.Prelude.{◌≡◌, ◌↔◌, ℕ, true, length, Some, IsSome, slice_get, Contains}
+use Rattle.history.specs.World.{World}
+use Rattle.snapshot.specs.Laws.{IsInWindow}
+use Rattle.snapshot.specs.Own.{AreFronts, AreDistinct}
+use Rattle.commit_status.specs.Window.{Window, IsWindow, IsCommitted, top_of}
+use Rattle.forgetting.specs.Truncating.{IsWellTopped}
+use Rattle.session_relation.specs.declared.step.Step.{Step}
+use Rattle.session_relation.specs.declared.reply.Reply.{Reply}
+use Rattle.session_relation.specs.Allowed.{Allows, next}
+use Rattle.session_relation.specs.Agrees as relation
+use Rattle.sound_entries.specs.Entries.{KeepsLed}
+use Rattle.heap_write.specs.Heap.{slots_of}
+use Rattle.heap_write.specs.Indexes.{entries_in, IsInUse, new_entries}
+use Rattle.heap_write.specs.declared.walking.Span.{Span}
+use Rattle.sound_writes.specs.Table.{SoundTable}
+use Rattle.session_steps.specs.declared.session.Session.{Session}
+use Rattle.session_steps.specs.declared.cursor.Cursor.TheVariants.{Index}
+use Rattle.session_steps.specs.State.{State, session_at, seen, horizon_of}
+
+-- what the ids of an open session keep
+pub record SessionKeeps (w : Window) (e : Session) : Type 0 where
+  -- the ids that its snapshot names are in the window, or the next one, and each that it lists is between xmin and xmax
+  pub snapshot : IsInWindow w e.snapshot
+  -- its first id is the topmost parent of each
+  pub topmost : (x : ℕ) → Contains e.own.ids x → slice_get e.own.ids 0 ≡ Some (top_of w x)
+  -- what it had at each savepoint is a front of what it had at the next
+  pub fronts : AreFronts e.own.ids e.own.saved
+  pub distinct : AreDistinct e.own.ids
+
+-- what the ids and the pages of an engine keep
+pub record Sound (st : State) : Type 0 where
+  pub count : length st.sessions ≡ 64
+  -- no more pages may be in use, and no id is given further from the first, than the settings say
+  pub max_pages : st.heap.max_pages ≡ st.settings.max_pages
+  pub stop_age : st.heap.table.stop_age ≡ st.settings.stop_age
+  -- the window is shorter than half the circle
+  pub window : IsWindow st.heap.table
+  pub sessions : (s : ℕ) (e : Session) → session_at st s ≡ Some e → SessionKeeps st.heap.table e
+  -- what is committed, its topmost parent is not in progress, and is itself or was given before it
+  pub tops : (x : ℕ) → IsCommitted st.heap.table x → IsWellTopped st.heap.table x
+  -- the indexes in use are the primary index and those of the columns that the settings name
+  pub indexes : (n : ℕ) → IsInUse st.heap.indexes n ↔ IsSome (new_entries st.settings.indexed n)
+  -- an open session's cursor goes along one of these
+  pub cursors : (s : ℕ) (e : Session) (span : Span) → session_at st s ≡ Some e → e.cursor ≡ Some (Index span) → IsInUse st.heap.indexes span.index
+  -- sound entries, on sound pages, at the present horizon
+  pub table : SoundTable st.heap (horizon_of st)
+
+pub record Agrees (st : State) (w : World) : Type 0 where
+  -- each session reads its view, a new one would read what is committed; same sessions; exact traces
+  pub found : relation.Agrees (seen st) w
+  -- the indexes in use are those that there are
+  pub indexes : (n : ℕ) → IsInUse st.heap.indexes n ↔ (w.has_index n ≡ true)
+  pub sound : Sound st
+
+-- what an entry of any index leads to before and after is the same version, a redirect to a later one of its row, or dead
+abbrev pub StaysLed : State → State → Type 0
+StaysLed old new = (n : ℕ) → KeepsLed (slots_of old.heap) (slots_of new.heap) (entries_in old.heap.indexes n) (entries_in new.heap.indexes n)
+
+-- whatever world the engine agreed with, the history allows the reply, and the engine agrees with the next world; and no index
+-- entry leads to a slot that was given to another row
+abbrev pub Follows : State → Step → Reply → State → Type 0
+Follows old step reply new = (w : World) → Agrees old w → Allows w step reply × Agrees new (next w step reply) × StaysLed old new

@@ -1,0 +1,132 @@
+-- What the history leaves to an engine: what a write does to its own ids and pages, when it finds no id, no room or no memory,
+-- and what a refusal leaves as it was.
+use Rattle.std.specs.Prelude.{◌≡◌, ◌⊎◌, ℕ, ◌<◌, ◌≤◌, length, Option, Some, None, IsSome, Result, Ok, Err, slice_set}
+use Rattle.std.specs.Option.{option_map}
+use Rattle.xid_circle.specs.declared.Tid.{Tid}
+use Rattle.tuple_header.specs.declared.version.Row.{Row}
+use Rattle.commit_status.specs.declared.status.Status.TheVariants as status
+use Rattle.commit_status.specs.Window.{next_id}
+use Rattle.snapshot.specs.Snap.{Snap, taken}
+use Rattle.heap_write.specs.Heap.{HeapView}
+use Rattle.heap_write.specs.Writes.{Prunes}
+use Rattle.heap_write.specs.declared.heap.WriteFault.{WriteFault}
+use Rattle.heap_write.specs.declared.heap.WriteFault.TheVariants as fault
+use Rattle.session_relation.specs.declared.step.Step.{Step}
+use Rattle.session_relation.specs.declared.step.Step.TheVariants.{Begin, Get, Insert, Update, Delete, Savepoint, RollbackTo, Release, OpenIndex, OpenHeap, Next, Close, Commit, Abort, Prune}
+use Rattle.session_relation.specs.declared.reply.Reply.{Reply}
+use Rattle.session_relation.specs.declared.reply.Reply.TheVariants.{Done, Rows, End, Committed, RolledBack, Refused}
+use Rattle.session_relation.specs.declared.reply.Refusal.TheVariants.{NotThere, Conflict, NoRoom, NeedsFreeze, NoMemory, NoSuchPage, NoSuchIndex, BadBounds}
+use Rattle.session_relation.specs.Words.{row_of}
+use Rattle.session_steps.specs.declared.session.Session.{Session}
+use Rattle.session_steps.specs.declared.cursor.Cursor.{Cursor}
+use Rattle.session_steps.specs.declared.cursor.Cursor.TheVariants.{Index, Heap}
+use Rattle.session_steps.specs.State.{State, session_at, index_at, put_session, map_session, with_cursor, as_failed, owns_of, horizon_of}
+use Rattle.session_steps.specs.Changes.{Opens, Closes, SetsSavepoint, Releases, Becomes, RollsBack}
+use Rattle.session_steps.specs.Takes.{HandsOut}
+use Rattle.session_steps.specs.Tests.{MayWrite}
+use Rattle.session_steps.specs.Writes.{TriesInsert, TriesUpdate, TriesDelete}
+
+-- the session tried to write: nothing but the heap and the session itself changes
+pub record Tried (old new : State) (s : ℕ) (session : Session) (tries : HeapView → HeapView → Session → Session → Type 0) : Type 0 where
+  pub now : Session
+  pub is : new ≡ record { settings = old.settings; heap = new.heap; sessions = slice_set old.sessions s (Some now) }
+  pub tried : tries old.heap new.heap session now
+
+-- it tried to insert the row, of whose key it reads none
+pub record InsertTried (old new : State) (s : ℕ) (row : Row) (outcome : Result (Unit {0}) WriteFault) : Type 0 where
+  pub may : MayWrite old s row.key None
+  pub tried : Tried old new s may.session (λ h h' e e'. TriesInsert h h' e e' row outcome)
+
+-- to update the version at the place at which it reads the key
+pub record UpdateTried (old new : State) (s : ℕ) (row : Row) (outcome : Result (Unit {0}) WriteFault) : Type 0 where
+  pub place : Tid
+  pub may : MayWrite old s row.key (Some place)
+  pub tried : Tried old new s may.session (λ h h' e e'. TriesUpdate h h' e e' place row (horizon_of old) outcome)
+
+-- or to delete it
+pub record DeleteTried (old new : State) (s key : ℕ) (outcome : Result (Unit {0}) WriteFault) : Type 0 where
+  pub place : Tid
+  pub may : MayWrite old s key (Some place)
+  pub tried : Tried old new s may.session (λ h h' e e'. TriesDelete h h' e e' place outcome)
+
+-- A conflict makes the session fail, and any refusal before the write is tried leaves all as it was.
+abbrev pub ExactInsert : State → ℕ → Row → Reply → State → Type 0
+ExactInsert old s row Done new = InsertTried old new s row (Ok tt)
+ExactInsert old s row (Refused NeedsFreeze) new = InsertTried old new s row (Err fault.NeedsFreeze)
+ExactInsert old s row (Refused NoRoom) new = InsertTried old new s row (Err fault.NoRoom)
+ExactInsert old s row (Refused NoMemory) new = InsertTried old new s row (Err fault.NoMemory)
+ExactInsert old s row (Refused Conflict) new = new ≡ put_session old s (option_map as_failed (session_at old s))
+ExactInsert old s row reply new = new ≡ old
+
+abbrev pub ExactUpdate : State → ℕ → Row → Reply → State → Type 0
+ExactUpdate old s row Done new = UpdateTried old new s row (Ok tt)
+ExactUpdate old s row (Refused NeedsFreeze) new = UpdateTried old new s row (Err fault.NeedsFreeze)
+ExactUpdate old s row (Refused NoRoom) new = UpdateTried old new s row (Err fault.NoRoom)
+ExactUpdate old s row (Refused NoMemory) new = UpdateTried old new s row (Err fault.NoMemory)
+ExactUpdate old s row (Refused NotThere) new = (new ≡ old) ⊎ UpdateTried old new s row (Err fault.Gone)
+ExactUpdate old s row (Refused Conflict) new = new ≡ put_session old s (option_map as_failed (session_at old s))
+ExactUpdate old s row reply new = new ≡ old
+
+abbrev pub ExactDelete : State → ℕ → ℕ → Reply → State → Type 0
+ExactDelete old s key Done new = DeleteTried old new s key (Ok tt)
+ExactDelete old s key (Refused NeedsFreeze) new = DeleteTried old new s key (Err fault.NeedsFreeze)
+ExactDelete old s key (Refused NoMemory) new = DeleteTried old new s key (Err fault.NoMemory)
+ExactDelete old s key (Refused NotThere) new = (new ≡ old) ⊎ DeleteTried old new s key (Err fault.Gone)
+ExactDelete old s key (Refused Conflict) new = new ≡ put_session old s (option_map as_failed (session_at old s))
+ExactDelete old s key reply new = new ≡ old
+
+-- one page is pruned at the horizon, and nothing else changes
+pub record Cleans (old new : State) (p : ℕ) : Type 0 where
+  pub settings : new.settings ≡ old.settings
+  pub sessions : new.sessions ≡ old.sessions
+  pub heap : Prunes old.heap new.heap p (horizon_of old)
+
+-- the snapshot that is taken now
+abbrev pub snapshot_of : State → Snap
+snapshot_of st = taken (next_id st.heap.table) (owns_of st.sessions)
+
+-- it lists more ids than it holds without memory
+abbrev pub MustList : State → Type 0
+MustList st = 8 < length (snapshot_of st).listed
+
+-- it has set four savepoints or more, and no further one can be set without memory
+abbrev pub MustNote : State → ℕ → Type 0
+MustNote st s = (e : Session) × (session_at st s ≡ Some e) × (4 ≤ length e.own.saved) × (e.own.spare_marks ≡ 0)
+
+-- the session has this cursor now, or none, and nothing else changes
+abbrev pub HasCursor : State → State → ℕ → Option Cursor → Type 0
+HasCursor old new s cursor = new ≡ put_session old s (map_session (with_cursor cursor) (session_at old s))
+
+-- Beside what the history says of a reply: a read and a refusal leave all as it was, but for a page that an update has pruned;
+-- a beginning takes the snapshot of that moment and no id, and an end gives its status to the session's ids, and no others; neither
+-- changes a page, nor do savepoints; a return to one aborts the ids that were given since, and no others; a step of a cursor
+-- changes that cursor alone; memory is refused only where something has to grow, and never to a prune or the opening of a cursor.
+-- (That no read, return, release, closing, commit or abort is refused memory is said by what the history allows.)
+abbrev pub Exact : State → Step → Reply → State → Type 0
+Exact old (Begin s) Done new = Opens old new s (snapshot_of old)
+Exact old (Begin s) (Refused NoMemory) new = MustList old × (new ≡ old)
+Exact old (Insert s row) reply new = ExactInsert old s (row_of row) reply new
+Exact old (Update s row) reply new = ExactUpdate old s (row_of row) reply new
+Exact old (Delete s key) reply new = ExactDelete old s key reply new
+Exact old (Get s key) reply new = new ≡ old
+Exact old (Savepoint s) Done new = Becomes old new s SetsSavepoint
+Exact old (Savepoint s) (Refused NoMemory) new = MustNote old s × (new ≡ old)
+Exact old (RollbackTo s) Done new = RollsBack old new s
+Exact old (Release s) Done new = Becomes old new s Releases
+Exact old (OpenIndex s index low high) Done new = HasCursor old new s (Some (Index (record { index = index; low = low; high = high; last = None })))
+Exact old (OpenIndex s index low high) (Refused NoSuchIndex) new = (index_at old index ≡ None) × (new ≡ old)
+Exact old (OpenIndex s index low high) (Refused BadBounds) new = IsSome (index_at old index) × (new ≡ old)
+Exact old (OpenIndex s index low high) (Refused NoMemory) new = ⊥
+Exact old (OpenHeap s) Done new = HasCursor old new s (Some (Heap 0))
+Exact old (OpenHeap s) (Refused NoMemory) new = ⊥
+Exact old (Next s n) (Rows rows) new = HandsOut old new s n rows.items
+Exact old (Next s n) End new = new ≡ old
+Exact old (Close s) Done new = HasCursor old new s None
+Exact old (Commit s) Committed new = Closes old new s status.Committed
+Exact old (Commit s) RolledBack new = Closes old new s status.Aborted
+Exact old (Abort s) RolledBack new = Closes old new s status.Aborted
+Exact old (Prune p) Done new = Cleans old new p
+Exact old (Prune p) (Refused NoSuchPage) new = (length old.heap.pages.pages ≤ p) × (new ≡ old)
+Exact old (Prune p) (Refused NoMemory) new = ⊥
+Exact old step (Refused refusal) new = new ≡ old
+Exact old step reply new = ⊥

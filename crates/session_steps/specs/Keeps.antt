@@ -1,0 +1,23 @@
+-- What the type of an engine keeps, whatever was done with it.
+use Rattle.std.specs.Prelude.{◌≡◌, ◌≤◌, ℕ, List, length, Option, Some, None, slice_get, Contains}
+use Rattle.std.specs.Option.{option_flatten}
+use Rattle.commit_status.specs.Window.{Window, IsActive}
+use Rattle.snapshot.specs.Own.{AreDistinct}
+use Rattle.session_steps.specs.declared.session.Session.{Session}
+
+abbrev pub open_at : List (Option Session) → ℕ → Option Session
+open_at sessions s = option_flatten (slice_get sessions s)
+
+-- nobody has a session in this place or a later one
+abbrev pub AreIdleFrom : ℕ → List (Option Session) → Type 0
+AreIdleFrom n sessions = (s : ℕ) → n ≤ s → open_at sessions s ≡ None
+
+-- each own id of an open session is in progress, there once, and no other session's
+pub record OwnIdsKeep (sessions : List (Option Session)) (w : Window) : Type 0 where
+  pub active : (s : ℕ) (e : Session) (x : ℕ) → open_at sessions s ≡ Some e → Contains e.own.ids x → IsActive w x
+  pub distinct : (s : ℕ) (e : Session) → open_at sessions s ≡ Some e → AreDistinct e.own.ids
+  pub apart : (s o : ℕ) (e f : Session) (x : ℕ) → open_at sessions s ≡ Some e → open_at sessions o ≡ Some f → Contains e.own.ids x → Contains f.own.ids x → s ≡ o
+
+pub record EngineKeeps (sessions : List (Option Session)) (w : Window) : Type 0 where
+  pub count : length sessions ≡ 64
+  pub own : OwnIdsKeep sessions w

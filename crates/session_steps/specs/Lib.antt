@@ -1,0 +1,14 @@
+pub mod Keeps
+pub mod State
+pub mod Sessions
+pub mod Agrees
+pub mod Refuses
+pub mod Tests
+pub mod Replies
+pub mod Changes
+pub mod Writes
+pub mod Takes
+pub mod Exact
+pub mod Follows
+pub mod New
+pub mod Laws

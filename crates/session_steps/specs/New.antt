@@ -1,0 +1,16 @@
+-- A new engine.
+use Rattle.std.specs.Prelude.{[], ◌≡◌, ℕ}
+use Rattle.history.specs.World.{beginning}
+use Rattle.heap_write.specs.Indexes.{entries_at, new_entries}
+use Rattle.session_relation.specs.declared.settings.Settings.{Settings}
+use Rattle.session_steps.specs.State.{State}
+use Rattle.session_steps.specs.Agrees.{Agrees}
+
+-- an engine of these settings on which nothing was done: no id is given, no page in use, and no index has an entry
+pub record IsNew (asked : Settings) (st : State) : Type 0 where
+  pub settings : st.settings ≡ asked
+  pub first : st.heap.table.first ≡ asked.first_xid
+  pub ids : st.heap.table.entries ≡ []
+  pub pages : st.heap.pages.pages ≡ []
+  pub indexes : (n : ℕ) → entries_at st.heap.indexes n ≡ new_entries asked.indexed n
+  pub agrees : Agrees st (beginning asked.indexed)

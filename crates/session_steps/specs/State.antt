@@ -1,0 +1,95 @@
+-- An engine as its callers see it, and what its readers see of it.
+use Rattle.std.specs.Prelude.{ℕ, true, List, [], ◌∷◌, ◌++◌, take, Option, Some, None, slice_get, slice_set}
+use Rattle.std.specs.Option.{option_map, option_flatten}
+use Rattle.snapshot.specs.Snap.{Sees, earliest}
+use Rattle.commit_status.specs.Window.{Window, next_id}
+use Rattle.visibility.specs.Visible.{state_of}
+use Rattle.page_slots.specs.declared.slot.Slot.{Slot}
+use Rattle.root_index.specs.View.{IndexView}
+use Rattle.heap_write.specs.Indexes as indexes
+use Rattle.sound_entries.specs.Pages.{version_in}
+use Rattle.heap_write.specs.Heap.{HeapView, slots_of}
+use Rattle.session_relation.specs.declared.settings.Settings.{Settings}
+use Rattle.session_relation.specs.declared.reply.Refusal.{Refusal}
+use Rattle.session_relation.specs.declared.reply.Refusal.TheVariants.{Conflict}
+use Rattle.session_relation.specs.Heap as relation
+use Rattle.session_steps.specs.declared.session.Session.{Session}
+use Rattle.heap_write.specs.declared.walking.Mark.{Mark}
+use Rattle.session_steps.specs.declared.cursor.Cursor.{Cursor}
+use Rattle.session_steps.specs.declared.cursor.Cursor.TheVariants.{Index, Heap}
+
+pub record State : Type 0 where
+  pub settings : Settings
+  pub heap : HeapView
+  pub sessions : List (Option Session)
+
+abbrev pub session_at : State → ℕ → Option Session
+session_at st s = option_flatten (slice_get st.sessions s)
+
+-- the index of this number, if there is one
+abbrev pub index_at : State → ℕ → Option IndexView
+index_at st number = indexes.index_at st.heap.indexes number
+
+-- how far the cursor has got, as the relation has it
+abbrev pub mark_of : Option Mark → Option relation.Mark
+mark_of None = None
+mark_of (Some m) = Some (record { value = m.value; key = m.key })
+
+abbrev pub position_of : Option Cursor → Option relation.Position
+position_of None = None
+position_of (Some (Index span)) = Some (relation.in_index span.index span.low span.high (mark_of span.last))
+position_of (Some (Heap page)) = Some (relation.in_heap page)
+
+abbrev pub reader_of : Session → relation.Session
+reader_of e = record { snapshot = e.snapshot; own = e.own.ids; saved = e.own.saved; failed = e.failed; cursor = position_of e.cursor }
+
+-- what readers see of these slots, ids and sessions
+abbrev pub seen_in : List (List Slot) → Window → List (Option Session) → relation.Heap
+seen_in slots table sessions = record {
+  version = version_in slots;
+  status = state_of table;
+  sees = λ snapshot x. Sees snapshot table x;
+  session = λ s. option_map reader_of (option_flatten (slice_get sessions s));
+}
+
+-- the engine as its readers see it
+abbrev pub seen : State → relation.Heap
+seen st = seen_in (slots_of st.heap) st.heap.table st.sessions
+
+-- the own ids of the open sessions
+abbrev pub owns_of : List (Option Session) → List (List ℕ)
+owns_of [] = []
+owns_of (None ∷ sessions) = owns_of sessions
+owns_of (Some e ∷ sessions) = e.own.ids ∷ owns_of sessions
+
+-- what an open session holds the horizon back to: its snapshot's xmin, and its first id
+abbrev pub holds_back : Session → List ℕ
+holds_back e = e.snapshot.xmin ∷ take 1 e.own.ids
+
+abbrev pub held_back : List (Option Session) → List ℕ
+held_back [] = []
+held_back (None ∷ sessions) = held_back sessions
+held_back (Some e ∷ sessions) = holds_back e ++ held_back sessions
+
+-- The horizon: the earliest of all that open sessions hold back, and the next id. No open snapshot, nor one that is taken
+-- later, misses what committed before it. (The manual's "Routine Vacuuming"; GetOldestNonRemovableTransactionId.)
+abbrev pub horizon_of : State → ℕ
+horizon_of st = earliest (next_id st.heap.table) (held_back st.sessions)
+
+-- another session, or none, in this place
+abbrev pub put_session : State → ℕ → Option Session → State
+put_session st s e = record st { sessions = slice_set st.sessions s e }
+
+abbrev pub map_session : (Session → Session) → Option Session → Option Session
+map_session f o = option_map f o
+
+abbrev pub with_cursor : Option Cursor → Session → Session
+with_cursor cursor e = record e { cursor = cursor }
+
+abbrev pub as_failed : Session → Session
+as_failed e = record e { failed = true }
+
+-- the engine after the refusal of a write: a conflict makes the session fail
+abbrev pub refused_state : State → ℕ → Refusal → State
+refused_state st s Conflict = put_session st s (option_map as_failed (session_at st s))
+refused_state st s refusal = st

@@ -1,0 +1,65 @@
+-- What a write changes, and why it is not done. It is said of the engine's own ids and pages.
+use Rattle.std.specs.Prelude.{◌≡◌, ℕ, Option, Some, None, Result, Ok, Err}
+use Rattle.xid_circle.specs.declared.Tid.{Tid}
+use Rattle.tuple_header.specs.declared.version.Row.{Row}
+use Rattle.heap_write.specs.Heap.{HeapView, Keeps}
+use Rattle.heap_write.specs.Writes.{SameOwn, Inserts, Updates, Deletes}
+use Rattle.heap_write.specs.Refusals.{LacksForInsert, FailsUpdate, FailsDelete}
+use Rattle.heap_write.specs.declared.heap.WriteFault.{WriteFault}
+use Rattle.heap_write.specs.declared.heap.WriteFault.TheVariants as fault
+use Rattle.session_relation.specs.declared.reply.Reply.{Reply}
+use Rattle.session_relation.specs.declared.reply.Reply.TheVariants as reply
+use Rattle.session_relation.specs.declared.reply.Refusal.{Refusal}
+use Rattle.session_relation.specs.declared.reply.Refusal.TheVariants as refusal
+use Rattle.session_steps.specs.declared.session.Session.{Session}
+
+-- the session is as it was, though there may be more memory
+pub record SameSession (e e' : Session) : Type 0 where
+  pub snapshot : e'.snapshot ≡ e.snapshot
+  pub own : SameOwn e.own e'.own
+  pub failed : e'.failed ≡ e.failed
+  pub cursor : e'.cursor ≡ e.cursor
+
+-- the session wrote, under x: nothing of it changes but its own ids
+pub record Done (e e' : Session) (changes : ℕ → Type 0) : Type 0 where
+  pub is : e' ≡ record e { own = e'.own }
+  pub x : ℕ
+  pub change : changes x
+
+-- or it did not write, for this reason
+pub record Refused (e e' : Session) (fails : Type 0) : Type 0 where
+  pub same : SameSession e e'
+  pub fault : fails
+
+-- What a write of a row, an update of the version at a place, or a deletion does to the heap and to the session's ids; or why it
+-- is not done, of the first reason in the order of the tests, and what that leaves. A fault of `Gone` comes only at a place
+-- without a version: where the session reads one, pruning leaves it.
+
+abbrev pub TriesInsert : HeapView → HeapView → Session → Session → Row → Result (Unit {0}) WriteFault → Type 0
+TriesInsert h h' e e' row (Ok u) = Done e e' (λ x. Inserts h h' e.own e'.own row x)
+TriesInsert h h' e e' row (Err f) = Refused e e' (LacksForInsert h e.own row f × Keeps h h')
+
+abbrev pub TriesUpdate : HeapView → HeapView → Session → Session → Tid → Row → ℕ → Result (Unit {0}) WriteFault → Type 0
+TriesUpdate h h' e e' place row horizon (Ok u) = Done e e' (λ x. Updates h h' e.own e'.own place row horizon x)
+TriesUpdate h h' e e' place row horizon (Err f) = Refused e e' (FailsUpdate h h' e.own place row horizon f)
+
+abbrev pub TriesDelete : HeapView → HeapView → Session → Session → Tid → Result (Unit {0}) WriteFault → Type 0
+TriesDelete h h' e e' place (Ok u) = Done e e' (λ x. Deletes h h' e.own e'.own place x)
+TriesDelete h h' e e' place (Err f) = Refused e e' (FailsDelete h h' e.own place f)
+
+-- an open session tried, and is still there
+abbrev pub OnOpen : Option Session → Option Session → (Session → Session → Type 0) → Type 0
+OnOpen None now tries = ⊥
+OnOpen (Some e) now tries = (e' : Session) × (now ≡ Some e') × tries e e'
+
+-- The reply. A version that is gone is no longer there.
+
+abbrev pub refusal_for : WriteFault → Refusal
+refusal_for fault.Gone = refusal.NotThere
+refusal_for fault.NeedsFreeze = refusal.NeedsFreeze
+refusal_for fault.NoRoom = refusal.NoRoom
+refusal_for fault.NoMemory = refusal.NoMemory
+
+abbrev pub reply_for : Result (Unit {0}) WriteFault → Reply
+reply_for (Ok u) = reply.Done
+reply_for (Err f) = reply.Refused (refusal_for f)

@@ -1,0 +1,71 @@
+//! A session begins.
+
+ghost use Rattle.std.specs.Prelude.{◌≡◌, ◌<◌, length, IfOk, OnErr};
+ghost use Rattle.snapshot.specs.Snap.{taken};
+ghost use Rattle.xid_circle.specs.Circle.{IsNormal};
+ghost use Rattle.commit_status.specs.Window.{next_id};
+ghost use Rattle.session_steps.specs.State.{owns_of};
+ghost use Rattle.session_relation.specs.declared.step.Step.{Step};
+ghost use Rattle.session_steps.specs.Agrees.{Follows};
+ghost use Rattle.session_steps.specs.Exact.{MustList, Exact};
+ghost use Rattle.session_steps.specs.Replies.{reply_to};
+
+use crate::engine::Engine;
+use crate::outcome::Outcome;
+use crate::session::Session;
+use session_relation::Refusal;
+use snapshot::Snapshot;
+use std::alloc::{AllocError, Global};
+use xid_circle::Xid;
+
+/// A snapshot of the ids as they are.
+fn take_snapshot(
+    alloc: Global,
+    next: Xid,
+    sessions: &[Option<Session>],
+) -> Result<Snapshot, AllocError>
+    requires { IsNormal next.0 }
+    ensures ok { IfOk result (λ s. s ≡ taken next.0 (owns_of sessions.now)) }
+    ensures err { OnErr result (8 < length (taken next.0 (owns_of sessions.now)).listed) }
+{
+    let mut snapshot = Snapshot::at(alloc, next);
+    for session in sessions {
+        if let Some(session) = session {
+            match snapshot.list(&session.own) {
+                Ok(()) => {}
+                Err(fault) => return Err(fault),
+            }
+        }
+    }
+    Ok(snapshot)
+}
+
+impl Engine {
+    fn snapshot(&self) -> Result<Snapshot, AllocError>
+        ensures ok { IfOk result (λ s. s ≡ taken (next_id self.now.heap.table) (owns_of self.now.sessions)) }
+        ensures err { OnErr result (MustList self.now) }
+    {
+        take_snapshot(self.alloc, self.heap.table().next(), self.sessions.used())
+    }
+
+    /// Opens the session: it reads what was committed by now. Refusals in order: NoSuchSession, AlreadyOpen, and NoMemory,
+    /// which comes only where its snapshot lists more than 8 ids.
+    pub(crate) fn begin(&mut self, s: u8) -> Outcome
+        ensures follows { Follows self.old (Step.Begin s) (reply_to result) self.new }
+        ensures exact { Exact self.old (Step.Begin s) (reply_to result) self.new }
+    {
+        match self.opened(s) {
+            Ok(_) => Outcome::Refused(Refusal::AlreadyOpen),
+            Err(refusal) => match refusal {
+                Refusal::NotOpen => match self.snapshot() {
+                    Ok(snapshot) => {
+                        self.open(s, snapshot);
+                        Outcome::Done
+                    }
+                    Err(_) => Outcome::Refused(Refusal::NoMemory),
+                },
+                _ => Outcome::Refused(refusal),
+            },
+        }
+    }
+}

@@ -1,0 +1,65 @@
+//! A session reads.
+
+ghost use Rattle.std.specs.Prelude.{◌≡◌};
+ghost use Rattle.session_relation.specs.declared.reply.Reply.TheVariants.{Found};
+ghost use Rattle.session_relation.specs.declared.step.Step.{Step};
+ghost use Rattle.session_steps.specs.Agrees.{Follows};
+ghost use Rattle.session_steps.specs.Exact.{Exact};
+
+use crate::engine::Engine;
+use arrayvec::ArrayVec;
+use session_relation::{Reply, Row};
+use tuple_header::RowRef;
+
+impl Engine {
+    /// The row of the key that the session reads. Refusals in order: NoSuchSession, NotOpen, Failed. It takes no
+    /// memory.
+    pub(crate) fn get(&self, s: u8, key: u64, reply: &mut Reply)
+        ensures follows { Follows self.now (Step.Get s key) reply.new self.now }
+        ensures exact { Exact self.now (Step.Get s key) reply.new self.now }
+    {
+        match self.ready(s) {
+            Ok(session) => {
+                let found = self.heap.row(key, &session.snapshot, &session.own);
+                put_found(found, reply);
+            }
+            Err(refusal) => *reply = Reply::Refused(refusal),
+        }
+    }
+}
+
+/// Puts what was found in the place of another reply. It takes no memory.
+fn put_found(found: Option<RowRef<'_>>, reply: &mut Reply)
+    ensures { reply.new ≡ Found found.entry }
+{
+    let Some(row) = found else {
+        *reply = Reply::Found(None);
+        return;
+    };
+    // where there is a row already, it is written over, and no other is made
+    if !matches!(reply, Reply::Found(Some(_))) {
+        *reply = Reply::Found(Some(no_row()));
+    }
+    if let Reply::Found(Some(place)) = reply {
+        row.copy_to(place);
+    }
+}
+
+/// A row with an empty body, to be written over.
+pub(crate) fn no_row() -> Row {
+    Row {
+        key: 0,
+        cols: [0; 4],
+        body: ArrayVec::new(),
+    }
+}
+
+/// A row that was found, by value. It takes no memory.
+pub(crate) fn copy_of(found: Option<RowRef<'_>>) -> Option<Row>
+    ensures { result ≡ found.entry }
+{
+    match found {
+        Some(row) => Some(row.copy()),
+        None => None,
+    }
+}

@@ -1,0 +1,16 @@
+//! Laws of an engine that agrees with a world: what is found through an index, and what the horizon is. The functions do
+//! nothing: their contracts are the laws.
+
+ghost use Rattle.session_steps.specs.Laws.{ViewsByIndex, HorizonIsEarliest};
+
+/// Whatever world the engine agrees with, each open session finds its view through each index in use, as it is and as it was
+/// at each savepoint, and one that would begin now finds what is committed.
+pub fn views_by_index()
+    ensures { ViewsByIndex }
+{}
+
+/// The horizon is the earliest of the next id, the xmin of each open snapshot and all open ids, though it is reckoned from the
+/// first id of each session alone. (GetOldestNonRemovableTransactionId in src/backend/storage/ipc/procarray.c.)
+pub fn horizon_is_earliest()
+    ensures { HorizonIsEarliest }
+{}

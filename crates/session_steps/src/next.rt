@@ -1,0 +1,163 @@
+//! A session asks its cursor for rows.
+
+ghost use Rattle.std.specs.Prelude.{◌≡◌, ◌≤◌, ◌++◌, ◌∷◌, [], length, IfOk, OnOk, OnErr};
+ghost use Rattle.sound_entries.specs.Pages.{slots_on};
+ghost use Rattle.heap_write.specs.Heap.{slots_of};
+ghost use Rattle.session_relation.specs.declared.step.Step.{Step};
+ghost use Rattle.session_steps.specs.declared.cursor.Cursor.TheVariants.{Index, Heap};
+ghost use Rattle.session_steps.specs.Agrees.{Follows};
+ghost use Rattle.session_steps.specs.Exact.{Exact};
+ghost use Rattle.session_steps.specs.Takes.{IsAt, IsNotAtEnd, TakesRows, SomeStands, TakesAll, TakesNextPage, TakesNext};
+
+use crate::cursor::Cursor;
+use crate::engine::Engine;
+use crate::get::no_row;
+use crate::session::Session;
+use heap_write::Span;
+use session_relation::{Refusal, Reply, Row};
+use std::alloc::AllocError;
+use tuple_header::RowRef;
+use xid_circle::Tid;
+
+/// For how many rows memory is asked for with the first, at most.
+const AT_ONCE: usize = 128;
+
+/// Adds a copy of a row to those that are handed out, of which there may be so many in all.
+fn add_row(rows: &mut Vec<Row>, row: &RowRef<'_>, most: u16) -> Result<(), AllocError>
+    ensures { OnOk result (rows.new.items ≡ rows.old.items ++ row.now ∷ []) }
+{
+    // a row has over a kilobyte, and is copied whenever the list grows
+    let more = if rows.is_empty() {
+        usize::from(most).clamp(1, AT_ONCE)
+    } else {
+        1
+    };
+    rows.try_reserve(more)?;
+    // and is written where it stays
+    let place = rows.as_slice().len();
+    rows.push_reserved(no_row());
+    row.copy_to(&mut rows[place]);
+    Ok(())
+}
+
+impl Engine {
+    /// Hands out rows of the session's cursor: of an index the next `n` in its order, where 0 counts as 1, or all that are
+    /// left; of the heap those of the next page on which the session sees any, by their slots. The answer is End exactly
+    /// where none is left, and leaves the cursor open. Refusals in order: NoSuchSession, NotOpen, Failed, NoCursor, and
+    /// NoMemory, which comes only where there is a row to hand out, and leaves the cursor where it was.
+    pub(crate) fn next(&mut self, s: u8, n: u16, reply: &mut Reply)
+        ensures follows { Follows self.old (Step.Next s n) reply.new self.new }
+        ensures exact { Exact self.old (Step.Next s n) reply.new self.new }
+    {
+        *reply = self.hand_out(s, n);
+    }
+
+    /// What [`Engine::next`] answers, by value.
+    fn hand_out(&mut self, s: u8, n: u16) -> Reply
+        ensures follows { Follows self.old (Step.Next s n) result self.new }
+        ensures exact { Exact self.old (Step.Next s n) result self.new }
+    {
+        let (session, cursor) = match self.with_cursor(s) {
+            Ok(found) => found,
+            Err(refusal) => return Reply::Refused(refusal),
+        };
+        match self.take(session, cursor, n) {
+            Ok(Some((rows, after))) => {
+                self.move_cursor(s, Some(after));
+                Reply::Rows(rows)
+            }
+            Ok(None) => Reply::End,
+            Err(_) => Reply::Refused(Refusal::NoMemory),
+        }
+    }
+
+    /// The next rows of the session's cursor, and where it is after them; none where nothing is left.
+    fn take(
+        &self,
+        session: &Session,
+        cursor: Cursor,
+        n: u16,
+    ) -> Result<Option<(Vec<Row>, Cursor)>, AllocError>
+        ensures taken { IfOk result (TakesNext self.now session.now cursor n) }
+        ensures refused { OnErr result (IsAt self.now session.now cursor → IsNotAtEnd self.now session.now cursor) }
+    {
+        match cursor {
+            Cursor::Index(span) => {
+                let (rows, left) = self.take_rows(session, span, n.max(1))?;
+                if rows.is_empty() {
+                    return Ok(None);
+                }
+                Ok(Some((rows, Cursor::Index(left))))
+            }
+            Cursor::Heap(from) => match self.take_page(session, from)? {
+                Some((rows, page)) => Ok(Some((rows, Cursor::Heap(page + 1)))),
+                None => Ok(None),
+            },
+        }
+    }
+
+    /// The first rows of the span that the session sees, up to a count, and what is left of the span.
+    fn take_rows(
+        &self,
+        session: &Session,
+        span: Span,
+        count: u16,
+    ) -> Result<(Vec<Row>, Span), AllocError>
+        ensures taken { IfOk result (λ taken. TakesRows self.now session.now span taken.1 count taken.0.items) }
+        ensures refused { OnErr result (IsAt self.now session.now (Index span) → IsNotAtEnd self.now session.now (Index span)) }
+    {
+        let mut rows = Vec::new(self.alloc);
+        let mut left = span;
+        for _ in 0..count {
+            match self.heap.next_row(&left, &session.snapshot, &session.own) {
+                Some((mark, row)) => {
+                    add_row(&mut rows, &row, count)?;
+                    left.last = Some(mark);
+                }
+                None => return Ok((rows, left)),
+            }
+        }
+        Ok((rows, left))
+    }
+
+    /// The rows of the first page from this number on, on which the session sees any, and that page's number, below 65536.
+    fn take_page(&self, session: &Session, from: u32) -> Result<Option<(Vec<Row>, u32)>, AllocError>
+        ensures taken { IfOk result (TakesNextPage self.now session.now from) }
+        ensures refused { OnErr result (IsNotAtEnd self.now session.now (Heap from)) }
+    {
+        for page in from..self.heap.page_count() {
+            let rows = self.rows_on(session, page)?;
+            if !rows.is_empty() {
+                return Ok(Some((rows, page)));
+            }
+        }
+        Ok(None)
+    }
+
+    /// How many slots the page of this number has, at most 291: none if it is not in use.
+    fn slots_on(&self, page: u32) -> u16
+        ensures count { result ≡ length (slots_on (slots_of self.now.heap) page) }
+        ensures limit { result ≤ 291 }
+    {
+        match self.heap.page(page) {
+            Some(page) => page.slots(),
+            None => 0,
+        }
+    }
+
+    /// The rows of a page that the session sees, by their slots.
+    fn rows_on(&self, session: &Session, page: u32) -> Result<Vec<Row>, AllocError>
+        ensures taken { IfOk result (λ rows. TakesAll self.now session.now page rows.items) }
+        ensures refused { OnErr result (SomeStands self.now session.now page) }
+    {
+        let mut rows = Vec::new(self.alloc);
+        let slots = self.slots_on(page);
+        for slot in 1..slots + 1 {
+            let place = Tid { page, slot };
+            if let Some(row) = self.heap.seen_row(place, &session.snapshot, &session.own) {
+                add_row(&mut rows, &row, slots)?;
+            }
+        }
+        Ok(rows)
+    }
+}

@@ -1,0 +1,70 @@
+//! The places of the sessions.
+
+ghost use Rattle.std.specs.Prelude.{◌≡◌, ◌<◌, length, replicate, None, Some, IfOk, slice_get};
+ghost use Rattle.std.specs.Borrow.{sem};
+ghost use Rattle.session_steps.specs.Keeps.{open_at};
+ghost use Rattle.session_steps.specs.Sessions.{LendsPlace, HoldsOpen};
+
+use crate::session::Session;
+use std::alloc::{AllocError, Global};
+use std::marker::Model;
+
+/// How many sessions may be open at a time.
+const PLACES: usize = 64;
+
+/// Places for 64 sessions. What looks at every open session looks at the places that were used so far, and no further.
+#[derive(Drop)]
+pub(crate) struct Sessions {
+    places: Vec<Option<Session>>,
+    used: usize,
+}
+
+impl Model for Sessions {
+    ghost use Rattle.std.specs.Prelude.{◌≤◌, List, Option, length};
+    ghost use Rattle.session_steps.specs.declared.session.Session.{Session};
+    ghost use Rattle.session_steps.specs.Keeps.{AreIdleFrom};
+
+    ghost Value = { List (Option Session) };
+
+    ghost view = { λ s. s.places.items };
+
+    ghost invariant = { λ s. (s.used ≤ length s.places.items) × AreIdleFrom s.used s.places.items };
+}
+
+impl Sessions {
+    /// Places that are all idle.
+    pub(crate) fn new(alloc: Global) -> Result<Sessions, AllocError>
+        ensures { IfOk result (λ sessions. sessions ≡ replicate 64 None) }
+    {
+        let mut places = Vec::with_capacity(alloc, PLACES)?;
+        for _ in 0..PLACES {
+            places.push(None)?;
+        }
+        Ok(Sessions { places, used: 0 })
+    }
+
+    /// The place of a session, which is idle or has it.
+    pub(crate) fn place(&self, s: u8) -> &Option<Session>
+        requires { s < length self.now }
+        ensures { slice_get self.now s ≡ Some result.now }
+    {
+        &self.places[s as usize]
+    }
+
+    /// The place of a session, to be changed.
+    pub(crate) fn place_mut(&mut self, s: u8) -> &mut Option<Session>
+        requires { s < length self.old }
+        ensures* writes_back { sem 𝓛 (LendsPlace self.entry s result) }
+        ensures value { open_at self.old s ≡ result.now }
+    {
+        self.used = self.used.max(s as usize + 1);
+        &mut self.places[s as usize]
+    }
+
+    /// The places that were used so far. Every open session has one of them.
+    pub(crate) fn used(&self) -> &[Option<Session>]
+        ensures { HoldsOpen result.now self.now }
+    {
+        &self.places[..self.used]
+    }
+}

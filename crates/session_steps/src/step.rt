@@ -1,0 +1,66 @@
+//! A step of the engine.
+
+ghost use Rattle.std.specs.Prelude.{◌≡◌, MatchResult, Some};
+ghost use Rattle.history.specs.World.{World, OpenSession, view};
+ghost use Rattle.session_relation.specs.Allowed.{AllowsClosed};
+ghost use Rattle.session_steps.specs.Agrees.{Agrees, Follows};
+ghost use Rattle.session_steps.specs.Exact.{Exact};
+
+use crate::engine::Engine;
+use crate::get::copy_of;
+use session_relation::{Refusal, Reply, Row, Step};
+
+impl Engine {
+    /// Does one step, and gives its reply: whatever world of the history the engine agrees with, the history allows
+    /// the reply, and the engine agrees with the next world. A step that is refused names the first reason that holds, in the order
+    /// of the table in docs/rules.md, or NoMemory, as is said below that table.
+    pub fn step(&mut self, step: Step) -> Reply
+        ensures follows { Follows self.old step result self.new }
+        ensures exact { Exact self.old step result self.new }
+    {
+        let mut reply = Reply::Done;
+        self.step_into(step, &mut reply);
+        reply
+    }
+
+    /// Does one step as [`Engine::step`] does, and puts its reply in the place of an earlier one. A reply has room for a row, over a
+    /// kilobyte; who does many steps needs one alone. The earlier one is dropped only when the new one is there, so the rows of two
+    /// answers of a cursor may stand in memory at once.
+    pub fn step_into(&mut self, step: Step, reply: &mut Reply)
+        ensures follows { Follows self.old step reply.new self.new }
+        ensures exact { Exact self.old step reply.new self.new }
+    {
+        step.has_bounds();
+        let outcome = match step {
+            Step::Get(s, key) => return self.get(s, key, reply),
+            Step::Next(s, n) => return self.next(s, n, reply),
+            Step::Begin(s) => self.begin(s),
+            Step::Insert(s, row) => self.insert(s, row),
+            Step::Update(s, row) => self.update(s, row),
+            Step::Delete(s, key) => self.delete(s, key),
+            Step::Savepoint(s) => self.savepoint(s),
+            Step::RollbackTo(s) => self.rollback_to(s),
+            Step::Release(s) => self.release(s),
+            Step::OpenIndex(s, index, low, high) => self.open_index(s, index, low, high),
+            Step::OpenHeap(s) => self.open_heap(s),
+            Step::Close(s) => self.close_cursor(s),
+            Step::Commit(s) => self.commit(s),
+            Step::Abort(s) => self.abort(s),
+            Step::Prune(page) => self.prune(page),
+        };
+        outcome.put_in(reply)
+    }
+
+    /// The row of the key that the session reads, also in a transaction that has failed. It is no step, and takes no
+    /// memory. Refusals in order: NoSuchSession, NotOpen.
+    pub fn read(&self, s: u8, key: u64) -> Result<Option<Row>, Refusal>
+        ensures { (w : World) → Agrees self.now w → MatchResult result
+            (λ row. (m : OpenSession) × (w.session s ≡ Some m) × (row ≡ view w.history m key))
+            (λ refusal. AllowsClosed w s refusal) }
+    {
+        match self.opened(s) {
+            Ok(session) => Ok(copy_of(self.heap.row(key, &session.snapshot, &session.own))),
+            Err(refusal) => Err(refusal),
+        }
+    }
+}
