@@ -1,8 +1,8 @@
 #!/usr/bin/env python3
-"""Counts the lines of definitions that contracts reach: tools/definitions.py [CRATE], or [CRATE.MODULE.NAME ..]
+"""Counts the lines of definitions that contracts reach: tools/definitions.py [CRATE ..], or [CRATE.MODULE.NAME ..]
 
-Run at the top of the repository. It begins with the definitions that the clauses of the crate's public functions name (those of
-session_core if nothing is named), or with the definitions that are named, goes on with those that these name, and prints for each
+Run at the top of the repository. It begins with the definitions that the clauses of the crates' public functions name (session_core
+and session_steps if nothing is named), or with the definitions that are named, goes on with those that these name, and prints for each
 crate how many lines they have, without comments, blank lines and imports, and the files that hold them. docs/trust.md has its
 tables. Types and constants of the code are not counted.
 """
@@ -104,9 +104,9 @@ def roots(known, crate):
 
 
 def main():
-    known, words = modules(), sys.argv[1:] or ["session_core"]
+    known, words = modules(), sys.argv[1:] or ["session_core", "session_steps"]
     named = [tuple(word.rsplit(".", 1)) for word in words if "." in word]
-    todo, reached = named or [it for it in roots(known, words[0]) if it], set()
+    todo, reached = named or [it for word in words for it in roots(known, word) if it], set()
     while todo:
         module, name = todo.pop()
         if (module, name) in reached:
