@@ -1,5 +1,5 @@
 -- What a sweep does: in a leaf, in a node among others, and to the set of all entries.
-use Rattle.std.proofs.Common.{◌≡◌, ◌∙◌, ℕ, zero, suc, ◌+◌, ◌-◌, ◌<◌, ◌≤◌, ◌⊎◌, inl, inr, ⊎_elim, ◌↔◌, List, [], ◌∷◌, ◌++◌, length, take, drop, map, get_or, Bool, true, false, Option, Some, None, slice_get, slice_set, IfSome, IfNone, ◌≢◌, sym, ap, refl, subst, arith, Contains}
+use Rattle.std.proofs.Common.{◌≡◌, ◌∙◌, ℕ, zero, suc, ◌+◌, ◌-◌, ◌<◌, ◌≤◌, ◌⊎◌, inl, inr, ⊎_elim, ◌↔◌, List, [], ◌∷◌, ◌++◌, length, take, drop, map, max, get_or, Bool, true, false, Option, Some, None, slice_get, slice_set, IfSome, IfNone, ◌≢◌, sym, ap, refl, subst, arith, Contains}
 use Rattle.std.specs.List.{filter, remove, All}
 use Rattle.std.proofs.lemmas.Bool.{cases_lt, cases_eq}
 use Rattle.std.proofs.lemmas.List.{append_assoc, append-nil, length-append, length-drop, length-take-le, take-append-drop, take_all, drop_all}
@@ -22,6 +22,7 @@ use Rattle.root_index.specs.Rows.{inner_is, some_with}
 use Rattle.root_index.specs.Sweeps.{IsSwept}
 use Rattle.root_index.specs.Trees.{IsSound}
 use Rattle.root_index.specs.Pieces.{RemovesPiece}
+use Rattle.root_index.specs.View.{free_places}
 use Rattle.root_index.proofs.OrderLemmas.{Precedes-not_back, not_before_itself, ascending-tail, ascending-head}
 use Rattle.root_index.proofs.RowEditLemmas.{get_front, get_behind}
 use Rattle.root_index.proofs.RowLemmas.{count_next, length-lists}
@@ -412,3 +413,25 @@ sound_swept entries IsNeat size nodes new room room' spare HasLeft count count' 
       below = sound.below;
       countable = omega arith;
     }
+
+-- fewer entries leave more places free, as long as there is one
+places_more : (m n : ℕ) → 0 < n → n ≤ m → free_places m ≤ free_places n
+places_more zero n some le = omega arith
+places_more (suc m) zero some le = absurd (omega (arith, some))
+places_more (suc m) (suc n) some le = omega arith
+
+some_left : (entries : List Entry) → entries ≢ [] → 0 < length entries
+some_left [] some = absurd (some refl)
+some_left (e ∷ entries) some = omega arith
+
+pub room_swept : (old new : List Entry) (rank : ℕ) (dead : List Tid) (swept : Swept) (promised : ℕ) → IsSwept old new rank dead swept → new ≢ []
+    → max promised (free_places (length old)) ≤ max promised (free_places (length new))
+room_swept old new rank dead swept promised is some =
+    let left = some_left new some in
+    let stay = filter (stays dead) is.piece in
+    let before : length old ≡ length is.front + (length is.piece + length is.back) =
+    ap length is.was ∙ length-append is.front (is.piece ++ is.back) ∙ ap (λ n. length is.front + n) (length-append is.piece is.back) in
+    let after : length new ≡ length is.front + (length stay + length is.back) =
+    ap length is.is ∙ length-append is.front (stay ++ is.back) ∙ ap (λ n. length is.front + n) (length-append stay is.back) in
+    let more = places_more (length old) (length new) left (omega (arith, before, after, is.removed)) in
+    omega (arith, more)

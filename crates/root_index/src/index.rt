@@ -1,6 +1,6 @@
 //! The index.
 
-ghost use Rattle.std.specs.Prelude.{◌≡◌, ◌<◌, ◌≤◌, ◌+◌, ◌^◌, [], length, OnOk, OnErr, Some, Contains, vec_len, vec_capacity};
+ghost use Rattle.std.specs.Prelude.{◌≡◌, ◌≢◌, ◌<◌, ◌≤◌, ◌+◌, ◌^◌, [], length, OnOk, OnErr, Some, Contains, vec_len, vec_capacity};
 ghost use Rattle.std.specs.Option.{option_map};
 ghost use Rattle.root_index.specs.Order.{IsAscending};
 ghost use Rattle.root_index.specs.Sets.{Adds, IsLeast, IsAfter, IsBelow};
@@ -177,10 +177,12 @@ impl RootIndex {
     }
 
     /// Goes over the entries after this one, or over all, as far as the leaf goes that holds the first of them, and removes those
-    /// to dead places. Says how far it came, so that the next call goes on from there. It takes no memory.
+    /// to dead places. Says how far it came, so that the next call goes on from there. It takes no memory, and room that was made
+    /// stays as long as an entry does.
     pub fn remove_where(&mut self, dead: &DeadSet, from: Option<Entry>) -> Progress
         ensures piece { RemovesPiece self.old.entries self.new.entries dead.now from result }
         ensures spare { self.old.spare ≤ self.new.spare }
+        ensures room { self.new.entries ≢ [] → room_in self.old ≤ room_in self.new }
     {
         let spot = look_ups::spot_after(&self.trees, from);
         match nodes::sweep_from(&mut self.trees, spot, dead) {

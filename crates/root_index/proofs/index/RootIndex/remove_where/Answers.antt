@@ -1,8 +1,8 @@
-use Rattle.std.proofs.Common.{ap, refl, subst, arith}
-use Rattle.root_index.specs.View.{IndexView}
+use Rattle.std.proofs.Common.{◌≤◌, max, length, ap, refl, subst, arith}
+use Rattle.root_index.specs.View.{IndexView, free_places, room_in}
 use Rattle.root_index.specs.Pieces.{RemovesPiece}
 use Rattle.root_index.proofs.SoundLemmas.{among}
-use Rattle.root_index.proofs.SweepLemmas.{start_there, removes_swept, removes_none, sound_swept}
+use Rattle.root_index.proofs.SweepLemmas.{start_there, removes_swept, removes_none, sound_swept, room_swept}
 use Rattle.root_index.proofs.index.RootIndex.remove_where.Goals as goal
 use Rattle.root_index.proofs.index.RootIndex.remove_where.Goals.{then-swept, else-swept}
 
@@ -20,6 +20,12 @@ returns-after-swept-clause-piece c =
     c.in-Some.ensures.swept
     (λ more. elim c.if-swept.branch [ then-swept w ↦ w.result-is | else-swept w ↦ absurd (cc (more, w.if-swept.false)) ])
     (λ none. elim c.if-swept.branch [ then-swept w ↦ absurd (cc (none, w.if-swept.true)) | else-swept w ↦ w.result-is ]))
+
+pub returns-after-swept-clause-room : goal.returns-after-swept-clause-room
+returns-after-swept-clause-room c = λ some.
+    let promised = c.self.inside.promised in
+    subst (λ (v : IndexView). room_in v ≤ max promised (free_places (length (among c.sweep_from.new.nodes.items)))) c.self.view_is
+    (room_swept (among c.self.inside.trees.items) (among c.sweep_from.new.nodes.items) _ c.args.dead.now c.in-Some.swept promised c.in-Some.ensures.swept some)
 
 pub returns-in-None-clause-piece : goal.returns-in-None-clause-piece
 returns-in-None-clause-piece c =
