@@ -1,4 +1,2 @@
 pub mod Choice
-pub mod FreeSpace
-pub mod Lending
 pub mod View

@@ -1,7 +1,13 @@
 -- The pages of a table as their callers see them.
-use Rattle.std.specs.Prelude.{ℕ, List, slice_set}
+use Rattle.std.specs.Prelude.{◌≡◌, ℕ, ◌≤◌, List, length, map, Some, slice_get, slice_set}
+use Rattle.std.specs.Borrow.{MutBor}
+use Rattle.std.specs.Fn.{Once, FnOnceReturnsAtMut}
 use Rattle.page_slots.specs.View.{PageView}
+use Rattle.page_slots.specs.Slots.{room_of}
+use Rattle.space_maps.specs.View.{MarksView}
+use Rattle.space_maps.specs.FreeSpace.{FreeView}
 use Rattle.space_maps.specs.declared.mark.Mark.{Mark}
+use Rattle.heap_pages.specs.Choice.{free_byte_of}
 
 pub record PagesView : Type 0 where
   pub pages : List PageView
@@ -10,6 +16,24 @@ pub record PagesView : Type 0 where
   -- how many pages can be added without memory
   pub spare : ℕ
 
+-- the byte of each page, as the free space map has it
+abbrev pub free_bytes : List PageView → List ℕ
+free_bytes pages = map (λ (page : PageView). free_byte_of (room_of page.slots)) pages
+
 -- with this page in the place of its number
 abbrev pub with_page : PagesView → ℕ → PageView → PagesView
 with_page p n page = record p { pages = slice_set p.pages n page }
+
+-- the page of this number was changed as the function does, and nothing else
+abbrev pub Edits : {F R : Type 0} → Once F (MutBor PageView × Unit {0}) (R × (MutBor PageView × Unit {0})) → F → PagesView → PagesView → ℕ → R → Type 0
+Edits g change old new number result =
+    (was : PageView) × (is : PageView) × (slice_get old.pages number ≡ Some was) × FnOnceReturnsAtMut g change was result is × (new ≡ with_page old number is)
+
+-- what is true of the pages of a table, their maps, and how many more each has memory for
+pub record IsTable (pages : List PageView) (free : FreeView) (marks : MarksView) (spare room : ℕ) : Type 0 where
+  pub few : length pages ≤ 65536
+  pub bytes : free.bytes ≡ free_bytes pages
+  pub pages_spare : spare ≤ room
+  pub free_spare : spare ≤ free.spare
+  pub marked : length marks.marks ≡ length pages
+  pub marks_spare : spare ≤ marks.spare

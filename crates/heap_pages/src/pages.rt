@@ -1,15 +1,14 @@
 //! The pages of a table.
 
 ghost use Rattle.std.specs.Prelude.{◌≡◌, ◌≤◌, ◌<◌, ◌+◌, [], ◌∷◌, ◌++◌, length, OnOk, OnErr, Some, slice_get, slice_set, option_copied};
-ghost use Rattle.std.specs.Borrow.{sem};
-ghost use Rattle.heap_pages.specs.Lending.{LendsPage};
+ghost use Rattle.std.specs.Fn.{FnOnceTakesAtMut};
+ghost use Rattle.page_slots.specs.View.{PageView};
+ghost use Rattle.heap_pages.specs.View.{free_bytes, Edits};
 ghost use Rattle.heap_pages.specs.Choice.{Promises, HasRoom, IsFirst, IsPlaceFor};
-ghost use Rattle.heap_pages.specs.FreeSpace.{Covers, IsSettled};
 
-use crate::choice::{first_promising, first_with_room, free_byte};
-use crate::free_space_map::FreeSpaceMap;
+use crate::choice::{first_with_room, free_byte};
 use page_slots::Page;
-use space_maps::{Mark, VisibilityMap};
+use space_maps::{FreeMap, Mark, VisibilityMap};
 use std::alloc::{AllocError, Global};
 use std::marker::Model;
 
@@ -30,30 +29,26 @@ pub enum Place {
 /// The pages of a table, numbered from 0.
 ///
 /// A page with room is found by a map of the pages' free-space bytes, as PostgreSQL finds one
-/// (src/backend/storage/freespace/README), and not by a look at each. Where [`Pages::page_mut`] lends a page, its byte becomes
-/// 255, and its free-space byte again when another page is lent. So all bytes but one are the pages' own, and only the page
-/// that was lent last may be looked at without having what its byte says.
+/// (src/backend/storage/freespace/README), and not by a look at each. A page is changed through [`Pages::edit`] alone, which
+/// notes its byte anew: so after every call each byte is that of its page.
 #[derive(Debug, Drop)]
 pub struct Pages {
     pages: Vec<Page>,
-    map: FreeSpaceMap,
+    free: FreeMap,
     marks: VisibilityMap,
-    // the page that was lent last, whose byte may be too high
-    lent: Option<u32>,
-    // how many pages can be added without memory, here and in the map
+    // how many pages can be added without memory, here and in the maps
     spare: usize,
 }
 
 impl Model for Pages {
     ghost use Rattle.std.specs.Prelude.{◌-◌, vec_len, vec_capacity};
-    ghost use Rattle.heap_pages.specs.View.{PagesView};
-    ghost use Rattle.heap_pages.specs.FreeSpace.{IsTable};
+    ghost use Rattle.heap_pages.specs.View.{PagesView, IsTable};
 
     ghost Value = { PagesView };
 
     ghost view = { λ p. record { pages = p.pages.items; marks = p.marks.marks; spare = p.spare } };
 
-    ghost invariant = { λ p. IsTable p.pages.items p.map p.marks p.lent p.spare (vec_capacity p.pages - vec_len p.pages) };
+    ghost invariant = { λ p. IsTable p.pages.items p.free p.marks p.spare (vec_capacity p.pages - vec_len p.pages) };
 }
 
 impl Pages {
@@ -64,9 +59,8 @@ impl Pages {
     {
         Pages {
             pages: Vec::new(alloc),
-            map: FreeSpaceMap::new(alloc),
+            free: FreeMap::new(alloc),
             marks: VisibilityMap::new(alloc),
-            lent: None,
             spare: 0,
         }
     }
@@ -86,16 +80,24 @@ impl Pages {
         self.pages.get(number as usize)
     }
 
-    /// The page of this number, which is in use, to be changed. Where another page was lent before, that one is given its byte.
-    pub fn page_mut(&mut self, number: u32) -> &mut Page
-        requires { number < length self.old.pages }
-        ensures* writes_back { sem 𝓛 (LendsPage self.entry number result) }
-        ensures value { slice_get self.old.pages number ≡ Some result.now }
+    /// The free-space byte of the page of this number, if it is in use: how many times its room holds 32 bytes, at most 255.
+    pub fn free_byte(&self, number: u32) -> Option<u8>
+        ensures { result ≡ slice_get (free_bytes self.now.pages) number }
     {
-        settle(&mut self.map, &self.pages, self.lent, number);
-        self.map.set_any(number);
-        self.lent = Some(number);
-        &mut self.pages[number as usize]
+        self.free.byte(number)
+    }
+
+    /// Changes the page of this number, which is in use, as `change` does, and answers what that answers. All other pages, and
+    /// what is noted of any, stay as they are. It takes no memory but what the change takes.
+    pub fn edit<R, F: FnOnce(&mut Page) -> R>(&mut self, number: u32, change: F) -> R
+        requires within { number < length self.old.pages }
+        requires ready { (page : PageView) → slice_get self.old.pages number ≡ Some page → FnOnceTakesAtMut F.FnOnce change page }
+        ensures edits { Edits F.FnOnce change self.old self.new number result }
+    {
+        let page = &mut self.pages[number as usize];
+        let result = change(page);
+        self.free.note(number, free_byte(page));
+        result
     }
 
     /// Makes room in memory for `count` more pages, so that the next `count` pages are added without asking for any. Where
@@ -108,7 +110,7 @@ impl Pages {
         ensures err { OnErr result (self.new ≡ self.old) }
     {
         self.pages.try_reserve(count)?;
-        self.map.make_room(count)?;
+        self.free.make_room(count)?;
         self.marks.make_room(count)?;
         self.spare = self.spare.max(count);
         Ok(())
@@ -122,7 +124,7 @@ impl Pages {
         ensures marks { self.new.marks ≡ self.old.marks ++ Mark.Nothing ∷ [] }
         ensures spare { self.old.spare ≡ self.new.spare + 1 }
     {
-        self.map.push(free_byte(&page));
+        self.free.add_page(free_byte(&page));
         self.marks.add_page();
         self.pages.push_reserved(page);
         self.spare -= 1;
@@ -145,12 +147,11 @@ impl Pages {
 
     /// The first page whose free-space byte promises room for a version of this size, if there is one; else a new page is
     /// needed, or a page whose exact room is enough. The size is in bytes, as [`tuple_header::row_size`] counts them. It
-    /// looks at the map's 256 groups at most and at the 256 bytes of each group that has such a byte, and looks at the page
-    /// found and the page lent last.
+    /// looks at the free space map alone: at its 256 groups at most, and at the 256 bytes of one.
     pub fn page_for(&self, size: usize) -> Option<u32>
         ensures { IsFirst self.now.pages (Promises size) result }
     {
-        first_promising(&self.pages, &self.map, size)
+        self.free.find(size)
     }
 
     /// The first page in which a version of this size fits, if there is one. The size is in bytes, as
@@ -158,7 +159,7 @@ impl Pages {
     pub fn page_with_room(&self, size: usize) -> Option<u32>
         ensures { IsFirst self.now.pages (HasRoom size) result }
     {
-        first_with_room(&self.pages, &self.map, size)
+        first_with_room(&self.pages, &self.free, size)
     }
 
     /// Where a new version of this size goes, where at most `limit` pages may be in use: to the first page whose free-space
@@ -178,22 +179,4 @@ impl Pages {
             None => Place::Nowhere,
         }
     }
-}
-
-/// Gives the page that was lent its own byte again, unless it is lent once more.
-fn settle(map: &mut FreeSpaceMap, pages: &[Page], lent: Option<u32>, next: u32)
-    requires covers { Covers map.old.bytes pages.now }
-    requires settled { IsSettled map.old.bytes pages.now lent }
-    ensures covers { Covers map.new.bytes pages.now }
-    ensures settled { IsSettled map.new.bytes pages.now (Some next) }
-    ensures spare { map.new.spare ≡ map.old.spare }
-{
-    if lent == Some(next) {
-        return;
-    }
-    let Some(number) = lent else { return };
-    let Some(page) = pages.get(number as usize) else {
-        return
-    };
-    map.set(number, free_byte(page));
 }

@@ -45,14 +45,15 @@ grows pages n before after at same has_slot = record {
   has_slot = has_slot;
 }
 
-pub ready-grown : (pages : PagesView) (limit size n : ℕ) (after : PageView) → IsPlaceFor pages.pages limit size (to.Page n) → SamePage (page_in pages.pages n) after → HasSlot after
-    → IsReady (with_page pages n after) size (Page n)
-ready-grown pages limit size n after chosen same has_slot =
+pub ready-grows : (pages pages' : PagesView) (limit size n : ℕ) → IsPlaceFor pages.pages limit size (to.Page n) → GrowsPage pages pages' n → IsReady pages' size (Page n)
+ready-grows pages pages' limit size n chosen grown =
+    let after = grown.page in
     let at = page-place pages.pages limit size n chosen in
-    let is = sym (page-set pages.pages n after at.0) in (
+    let is = sym (page-set pages.pages n after at.0) in
+    subst (λ p. IsReady p size (Page n)) (sym grown.pages_are) (
       subst (λ count. n < count) (sym (length-set pages.pages n after)) at.0,
-      subst (λ (p : PageView). size ≤ room_of p.slots) is (subst (λ slots. size ≤ room_of slots) (sym same.slots) at.1),
-      subst (λ p. HasSlot p) is has_slot,
+      subst (λ (p : PageView). size ≤ room_of p.slots) is (subst (λ slots. size ≤ room_of slots) (sym grown.same.slots) at.1),
+      subst (λ p. HasSlot p) is grown.has_slot,
     )
 
 -- Why memory was needed.

@@ -39,7 +39,7 @@ impl HeapState {
         Ok(())
     }
 
-    /// Whether a version on the page of this number is dead. Where none is, pruning leaves the page as it is, and it is not lent.
+    /// Whether a version on the page of this number is dead. Where none is, pruning leaves the page as it is.
     pub(crate) fn has_dead(&self, number: u32, horizon: Xid) -> bool
         requires { IsNormal horizon.0 }
         ensures { IsFalse result → HasNoneDead self.now number horizon.0 }
@@ -61,6 +61,7 @@ impl HeapState {
         ensures spare { (page_on self.new number).spare ≡ (page_on self.old number).spare }
         ensures table { self.new.table ≡ self.old.table }
     {
-        prune(self.pages.page_mut(number), &self.table, horizon);
+        let table = &self.table;
+        self.pages.edit(number, |page| prune(page, table, horizon));
     }
 }

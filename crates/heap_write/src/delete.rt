@@ -39,7 +39,7 @@ impl HeapState {
             return Err(WriteFault::NoMemory);
         }
         let x = take_ids(&mut self.table, own);
-        delete_version(self.pages.page_mut(place.page), place.page, place.slot, x);
+        self.pages.edit(place.page, |page| delete_version(page, place.page, place.slot, x));
         Ok(x)
     }
 

@@ -1,12 +1,12 @@
 //! Where a new root goes, with the memory that it takes.
 
-ghost use Rattle.std.specs.Prelude.{◌≡◌, ◌≤◌, IfOk, IfSome, OnOk, OnErr};
+ghost use Rattle.std.specs.Prelude.{◌≡◌, ◌≤◌, ◌<◌, length, IfOk, IfSome, OnOk, OnErr};
 ghost use Rattle.xid_circle.specs.Circle.{IsNormal};
 ghost use Rattle.page_slots.specs.Slots.{room_of, free_number, next_change};
 ghost use Rattle.page_writes.specs.Writes.{with_root};
 ghost use Rattle.tuple_header.specs.Version.{rounded_size_of};
 ghost use Rattle.heap_write.specs.Refusals.{NeedsSlot};
-ghost use Rattle.heap_write.specs.Growth.{HasSlot, SamePage, SamePages, page_in, IsFresh, IsReady, Reserves, PlaceNeedsMemory, target_number, PutsVersion};
+ghost use Rattle.heap_write.specs.Growth.{HasSlot, SamePage, SamePages, GrowsPage, page_in, IsFresh, IsReady, Reserves, PlaceNeedsMemory, target_number, PutsVersion};
 
 use heap_pages::{Pages, Place};
 use page_slots::Page;
@@ -25,7 +25,7 @@ pub(crate) enum Target {
 }
 
 /// Makes room in memory for one more slot where none is unused, and there may be one more.
-pub(crate) fn reserve_slot(page: &mut Page) -> Result<(), AllocError>
+fn make_slot(page: &mut Page) -> Result<(), AllocError>
     ensures same { SamePage page.old page.new }
     ensures room { OnOk result (HasSlot page.new) }
     ensures needs { OnErr result (NeedsSlot page.old) }
@@ -34,6 +34,16 @@ pub(crate) fn reserve_slot(page: &mut Page) -> Result<(), AllocError>
         return Ok(());
     }
     page.make_room(1)
+}
+
+/// Makes room in memory for one more slot on the page of this number, which is in use.
+pub(crate) fn reserve_slot(pages: &mut Pages, number: u32) -> Result<(), AllocError>
+    requires { number < length pages.old.pages }
+    ensures same { SamePages pages.old.pages pages.new.pages }
+    ensures grows { OnOk result (GrowsPage pages.old pages.new number) }
+    ensures needs { OnErr result (NeedsSlot (page_in pages.old.pages number)) }
+{
+    pages.edit(number, |page| make_slot(page))
 }
 
 /// A page that was never used, with room in memory for a slot.
@@ -63,7 +73,7 @@ pub(crate) fn reserve_place(
     ensures needs { OnErr result (PlaceNeedsMemory pages.old.pages limit size) }
 {
     match pages.place_for(size, limit) {
-        Place::Page(number) => match reserve_slot(pages.page_mut(number)) {
+        Place::Page(number) => match reserve_slot(pages, number) {
             Ok(()) => Ok(Some(Target::Page(number))),
             Err(fault) => Err(fault),
         },
@@ -113,7 +123,7 @@ pub(crate) fn put_version(
 {
     match target {
         Target::Page(number) => {
-            let slot = add_root(pages.page_mut(number), number, updated, x, row);
+            let slot = pages.edit(number, |page| add_root(page, number, updated, x, row));
             Tid { page: number, slot }
         }
         Target::New(mut page) => {

@@ -128,7 +128,7 @@ impl HeapState {
     {
         reserve_ids(&mut self.table, own)?;
         self.indexes.make_room_for(heap_only)?;
-        reserve_slot(self.pages.page_mut(number))
+        reserve_slot(&mut self.pages, number)
     }
 
     /// Updates a version whose page has no room for the row. Where no version on the page is dead, pruning would leave it as it
@@ -247,7 +247,7 @@ impl HeapState {
         ensures grows { OnOk result (GrowsPage self.old.pages self.new.pages number) }
         ensures needs { OnErr result (NeedsSlot (page_on self.old number)) }
     {
-        reserve_slot(self.pages.page_mut(number))
+        reserve_slot(&mut self.pages, number)
     }
 
     /// Updates a version, if it is still there, on its page where that has room for the row now, else where a new root goes,
@@ -358,8 +358,9 @@ impl HeapState {
         ensures normal { IsNormal result.0 }
     {
         let x = take_ids(&mut self.table, own);
-        let page = self.pages.page_mut(place.page);
-        let _slot = update_here(page, place.page, place.slot, x, row);
+        let _slot = self.pages.edit(place.page, |page| {
+            update_here(page, place.page, place.slot, x, row)
+        });
         x
     }
 
@@ -379,7 +380,7 @@ impl HeapState {
     {
         let x = take_ids(&mut self.table, own);
         let successor = self.put_root(target, true, x, row);
-        move_away(self.pages.page_mut(place.page), place.slot, x, successor);
+        self.pages.edit(place.page, |page| move_away(page, place.slot, x, successor));
         x
     }
 }

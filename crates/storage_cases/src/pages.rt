@@ -78,28 +78,29 @@ fn add(alloc: Global, pages: &mut Pages, count: u16, versions: u8) -> Result<(),
 
 fn empty(pages: &mut Pages, number: u32) {
     if number < pages.len() {
-        let page = pages.page_mut(number);
-        if page.slots() > 0 {
-            page.set_unused(1);
-        }
+        pages.edit(number, |page| {
+            if page.slots() > 0 {
+                page.set_unused(1);
+            }
+        });
     }
 }
 
 fn fill(pages: &mut Pages, number: u32) {
     if number < pages.len() {
-        let _ = pages.page_mut(number).add(version_of(LARGEST));
+        let _ = pages.edit(number, |page| page.add(version_of(LARGEST)));
     }
 }
 
 fn set_flag(pages: &mut Pages, number: u32) {
     if number < pages.len() {
-        pages.page_mut(number).set_flag(true);
+        pages.edit(number, |page| page.set_flag(true));
     }
 }
 
 fn page_at(pages: &Pages, number: u32) -> Option<(bool, u8)> {
     let page = pages.page(number)?;
-    Some((page.flag(), free_byte(page)))
+    Some((page.flag(), pages.free_byte(number)?))
 }
 
 impl PagesStep {

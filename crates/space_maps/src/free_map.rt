@@ -1,10 +1,14 @@
 //! The free space map: a byte for each page, and the greatest of each group of 256.
 
-ghost use Rattle.std.specs.Prelude.{◌≡◌, ℕ, ◌+◌, ◌*◌, ◌<◌, ◌≤◌, [], ◌∷◌, ◌++◌, length, max, min, slice_set, slice_index, OnOk, OnErr};
-ghost use Rattle.heap_pages.specs.FreeSpace.{IsNext, NoByte};
+ghost use Rattle.std.specs.Prelude.{◌≡◌, ℕ, ◌+◌, ◌*◌, ◌<◌, ◌≤◌, [], ◌∷◌, ◌++◌, length, max, min, slice_get, slice_set, slice_index, OnOk, OnErr};
+ghost use Rattle.space_maps.specs.FreeSpace.{IsNext, NoByte, FindsRoom};
 
 use std::alloc::{AllocError, Global};
 use std::marker::Model;
+
+// A free-space byte counts so many bytes of room, and no more than that many times.
+const UNIT: usize = 32;
+const MOST: usize = 255;
 
 // So many bytes make a group.
 const GROUP: usize = 256;
@@ -16,36 +20,36 @@ const RUN: usize = 16;
 /// the bytes of that in which it begins and of that which has it, in runs. PostgreSQL keeps a tree of such bytes
 /// (src/backend/storage/freespace/README); this one has two levels, as many as 65536 pages need.
 #[derive(Debug, Drop)]
-pub(crate) struct FreeSpaceMap {
+pub struct FreeMap {
     bytes: Vec<u8>,
     // the greatest byte of each group, 0 where it has none
     tops: [u8; 256],
 }
 
-impl Model for FreeSpaceMap {
+impl Model for FreeMap {
     ghost use Rattle.std.specs.Prelude.{◌-◌, vec_len, vec_capacity};
-    ghost use Rattle.heap_pages.specs.FreeSpace.{MapView, IsMap};
+    ghost use Rattle.space_maps.specs.FreeSpace.{FreeView, IsMap};
 
-    ghost Value = { MapView };
+    ghost Value = { FreeView };
 
     ghost view = { λ m. record { bytes = m.bytes.items; spare = vec_capacity m.bytes - vec_len m.bytes } };
 
     ghost invariant = { λ m. IsMap m.tops m.bytes.items };
 }
 
-impl FreeSpaceMap {
+impl FreeMap {
     /// A map of no page.
-    pub(crate) fn new(alloc: Global) -> Self
+    pub fn new(alloc: Global) -> Self
         ensures { result.bytes ≡ [] }
     {
-        FreeSpaceMap {
+        FreeMap {
             bytes: Vec::new(alloc),
             tops: [0; 256],
         }
     }
 
-    /// Makes room in memory for the bytes of `count` more pages.
-    pub(crate) fn make_room(&mut self, count: usize) -> Result<(), AllocError>
+    /// Makes room in memory for the bytes of `count` more pages. No byte changes, also where memory is refused.
+    pub fn make_room(&mut self, count: usize) -> Result<(), AllocError>
         ensures room { OnOk result (count ≤ self.new.spare) }
         ensures refused { OnErr result (self.old.spare < count) }
         ensures spare { self.old.spare ≤ self.new.spare }
@@ -54,8 +58,8 @@ impl FreeSpaceMap {
         self.bytes.try_reserve(count)
     }
 
-    /// Adds the byte of a new last page.
-    pub(crate) fn push(&mut self, byte: u8)
+    /// Adds a new last page, of this byte. There is room for it in memory, and there are fewer than 65536 pages.
+    pub fn add_page(&mut self, byte: u8)
         requires room { 0 < self.old.spare }
         requires few { length self.old.bytes < 65536 }
         ensures bytes { self.new.bytes ≡ self.old.bytes ++ byte ∷ [] }
@@ -66,8 +70,15 @@ impl FreeSpaceMap {
         self.tops[group] = self.tops[group].max(byte);
     }
 
-    /// Gives the page of this number its byte.
-    pub(crate) fn set(&mut self, number: u32, byte: u8)
+    /// The byte of the page of this number, if it is in use.
+    pub fn byte(&self, number: u32) -> Option<u8>
+        ensures { result ≡ slice_get self.now.bytes number }
+    {
+        self.bytes.get(number as usize).copied()
+    }
+
+    /// Notes this byte of the page of this number, which is in use.
+    pub fn note(&mut self, number: u32, byte: u8)
         requires { number < length self.old.bytes }
         ensures bytes { self.new.bytes ≡ slice_set self.old.bytes number byte }
         ensures spare { self.new.spare ≡ self.old.spare }
@@ -79,19 +90,21 @@ impl FreeSpaceMap {
         self.tops[group] = greatest(&self.bytes, GROUP * group, end);
     }
 
-    /// Gives the page of this number the greatest byte there is: it may come to have any room.
-    pub(crate) fn set_any(&mut self, number: u32)
-        requires { number < length self.old.bytes }
-        ensures bytes { self.new.bytes ≡ slice_set self.old.bytes number 255 }
-        ensures spare { self.new.spare ≡ self.old.spare }
+    /// The first page whose byte promises room for a version of this size in bytes: that it holds 32 bytes as often as the size
+    /// needs.
+    pub fn find(&self, size: usize) -> Option<u32>
+        ensures { FindsRoom self.now.bytes size result }
     {
-        let index = number as usize;
-        self.bytes[index] = 255;
-        self.tops[index / GROUP] = 255;
+        let _bytes = self.bytes.len();
+        let least = size.div_ceil(UNIT);
+        if least > MOST {
+            return None;
+        }
+        self.next(0, least as u8)
     }
 
     /// The first page from this number on whose byte is `least` or more, if there is one.
-    pub(crate) fn next(&self, from: u32, least: u8) -> Option<u32>
+    pub fn next(&self, from: u32, least: u8) -> Option<u32>
         ensures { IsNext self.now.bytes from (length self.now.bytes) least result }
     {
         for group in from as usize / GROUP..self.bytes.len().div_ceil(GROUP) {

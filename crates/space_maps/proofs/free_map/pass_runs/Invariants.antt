@@ -1,6 +1,6 @@
 use Rattle.std.proofs.Common.{◌-◌, ◌≤◌}
-use Rattle.heap_pages.specs.FreeSpace.{NoByte}
-use Rattle.heap_pages.proofs.free_space_map.pass_runs.Given as goal
+use Rattle.space_maps.specs.FreeSpace.{NoByte}
+use Rattle.space_maps.proofs.free_map.pass_runs.Given as goal
 
 abbrev pub invariant-loop-start : goal.invariant-loop-start
 invariant-loop-start l = (l.fn.from ≤ l.start) × NoByte l.bytes l.fn.from l.start l.least

@@ -1,5 +1,5 @@
-use Rattle.heap_pages.proofs.FreeSpaceLemmas.{NoByte-group}
-use Rattle.heap_pages.proofs.free_space_map.FreeSpaceMap.next.Goals as goal
+use Rattle.space_maps.proofs.FreeSpaceLemmas.{NoByte-group}
+use Rattle.space_maps.proofs.free_map.FreeMap.next.Goals as goal
 
 pub loop-group-preserved : goal.loop-group-preserved
 loop-group-preserved c =
