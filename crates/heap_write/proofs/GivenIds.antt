@@ -1,15 +1,15 @@
 -- What giving ids one after another does: those that were there are as they were, and each new one is in progress, and has the
 -- topmost parent of the first.
-use Rattle.std.proofs.Common.{◌≡◌, ◌≢◌, ℕ, zero, suc, ◌^◌, ◌<◌, ◌≤◌, List, [], ◌∷◌, ◌++◌, length, Option, Some, None, refl, sym, ap, ◌∙◌, subst, inl, inr, arith}
+use Rattle.std.proofs.Common.{◌≡◌, ◌≢◌, ℕ, zero, suc, ◌^◌, ◌<◌, ◌≤◌, List, [], ◌∷◌, ◌++◌, length, Option, Some, None, refl, sym, ap, ◌∙◌, subst, ◌⊎◌, inl, inr, arith}
 use Rattle.std.specs.Prelude.{Contains}
 use Rattle.std.proofs.lemmas.Option.{none-some}
 use Rattle.xid_circle.specs.Circle.{IsNormal, given}
-use Rattle.xid_circle.proofs.Members.{Contains-cases, Contains-none}
+use Rattle.xid_circle.proofs.Members.{Contains-cases, Contains-first, Contains-none, Contains-rest}
 use Rattle.commit_status.specs.Window.{Entry, Window, IsWindow, IsGiven, IsGivenBefore, IsActive, IsUpToNext, turns, place, parent_at, status_of, top_of, next_id}
 use Rattle.commit_status.specs.Changes.{Gives}
 use Rattle.commit_status.proofs.Turns.{turns-given}
 use Rattle.commit_status.proofs.Places.{IsAt, at-from_place, place-from_at, next-none, none-unless, is-from_some, some-from_is}
-use Rattle.commit_status.proofs.Giving.{gives-length, gives-place_old, gives-status, gives-top_old, gives-top_next, gives-top_alone, gives-active_next, gives-upto}
+use Rattle.commit_status.proofs.Giving.{gives-length, gives-place_cases, gives-place_old, gives-status, gives-top_old, gives-top_next, gives-top_alone, gives-active_next, gives-upto}
 use Rattle.snapshot.specs.Own.{AreDistinct}
 use Rattle.heap_write.specs.Writes.{GivesUnder}
 
@@ -160,3 +160,20 @@ given-late (x ∷ xs) w v parent y g is among =
           let rest : turns w.first (next_id g.0) ≤ turns w.first y = subst (λ f. turns f (next_id g.0) ≤ turns f y) g.2.first (given-late xs g.0 v (Some x) y g.3 is later) in
           omega arith)
     ]
+
+-- what is in progress afterwards is new, or was in progress before
+pub given-active_cases : (xs : List ℕ) (w v : Window) (parent : Option ℕ) (y : ℕ) → GivesUnder w parent xs v → IsWindow v → IsActive v y → Contains xs y ⊎ IsActive w y
+given-active_cases [] w v parent y g is active = inr (subst (λ w. IsActive w y) g active)
+given-active_cases (x ∷ xs) w v parent y g is active = elim (given-active_cases xs g.0 v (Some x) y g.3 is active) [
+  | inl later ↦ inl (Contains-rest x y xs later)
+  | inr between ↦
+      let is_between = given-window xs g.0 v (Some x) g.3 is in
+      let at = some-from_is (place g.0 y) between.is_given in
+      elim (gives-place_cases w g.0 parent y at.0 is_between g.2 at.1) [
+        | inl old ↦ inr (record {
+          is_given = is-from_some (place w y) at.0 old;
+          unfinished = sym (gives-status w g.0 parent y (before-window w g.0 parent g.2 is_between) is_between g.2) ∙ between.unfinished;
+        })
+        | inr next ↦ inl (subst (λ z. Contains (x ∷ xs) z) (g.1 ∙ sym next.0) (Contains-first x xs))
+      ]
+]

@@ -361,4 +361,4 @@ keeps-kept xs w v s e e' at same ids k = record {
 }
   where
     spared-own : (xs : List (Option Session)) (w : Window) (k : ℕ) → OwnIdsKeep xs w → OwnIdsKeep xs (spared w k)
-    spared-own xs w k h = record { active = λ s e x at own. let a = h.active s e x at own in record { is_given = a.is_given; unfinished = a.unfinished }; distinct = h.distinct; apart = h.apart }
+    spared-own xs w k h = record { active = λ s e x at own. let a = h.active s e x at own in record { is_given = a.is_given; unfinished = a.unfinished }; distinct = h.distinct; apart = h.apart; owned = λ x active. h.owned x (record { is_given = active.is_given; unfinished = active.unfinished }) }

@@ -3,6 +3,7 @@ use Rattle.std.proofs.Common.{◌≡◌, ◌≢◌, ℕ, ◌<◌, List, [], ◌�
 use Rattle.std.proofs.Math.ListN.{length-set}
 use Rattle.std.specs.Prelude.{Result, Ok, Err, OnOk, OnErr}
 use Rattle.std.proofs.lemmas.Option.{same_Some}
+use Rattle.commit_status.specs.declared.status.Status.TheVariants.{InProgress, Aborted}
 use Rattle.commit_status.specs.Window.{Window}
 use Rattle.session_relation.specs.declared.step.Step.TheVariants.{Savepoint, RollbackTo, Release}
 use Rattle.session_relation.specs.declared.reply.Reply.TheVariants.{Done}
@@ -43,11 +44,14 @@ keeps-noted (Err b) xs w s o now some at ok err k = let e = there o some in rw (
 pub keeps-forgotten : (xs : List (Option Session)) (w : Window) (s : ℕ) (o now : Option Session) → open_at xs s ≡ o → OnOpen o now (λ e e'. Releases e e') → EngineKeeps xs w → EngineKeeps (set xs s now) w
 keeps-forgotten xs w s o now at becomes k = keeps-open xs w s o now (λ e e'. Releases e e') (λ e e' releases. releases.ids) at becomes k
 
+unfinished : Aborted ≢ InProgress
+unfinished is = cc
+
 pub keeps-returned : (xs : List (Option Session)) (h h' : HeapView) (s : ℕ) (o now : Option Session) → open_at xs s ≡ o → OnOpen o now (λ e e'. RollsBackOn h h' e e') → EngineKeeps xs h.table → EngineKeeps (set xs s now) h'.table
 keeps-returned xs h h' s None now at back k = absurd back
 keeps-returned xs h h' s (Some e) now at back k = rw back.1 (record {
   count = length-set xs s (Some back.0) ∙ k.count;
-  own = keep-dropped xs h.table h'.table s e back.0 back.2.since _ at back.2.ids back.2.finishes k.own;
+  own = keep-dropped xs h.table h'.table s e back.0 back.2.since Aborted at back.2.ids unfinished back.2.finishes k.own;
 })
 
 -- What the engine's state becomes.

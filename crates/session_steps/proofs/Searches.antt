@@ -35,7 +35,7 @@ use Rattle.session_steps.specs.declared.session.Session.{Session}
 use Rattle.visibility.specs.Visible.{state_of}
 use Rattle.session_steps.specs.State.{State, session_at, seen, position_of, reader_of, horizon_of}
 use Rattle.session_steps.specs.Agrees.{Agrees}
-use Rattle.session_steps.specs.Tests.{FindsPlace, IsLateBy, IsHeldUnder, IsNobodys, IsUnheld, by_none, by_nobody, IsFree, Delays, HindersInsert, HindersChange}
+use Rattle.session_steps.specs.Tests.{FindsPlace, IsLateBy, IsHeldUnder, IsFree, Delays, HindersInsert, HindersChange}
 use Rattle.session_steps.specs.Tests as tests
 use Rattle.session_steps.proofs.Owns.{reader-is, reader-at}
 
@@ -99,6 +99,10 @@ not-late st w e key agrees timely some =
       },
     ))
 
+-- what holds a key is in progress
+pub held-active : (h : HeapView) (e : Session) (key x : ℕ) → IsHeldUnder h e key x → window.IsActive h.table x
+held-active h e key x held = active-to h.table x held.at.some.has.active
+
 pub held-to : (st : State) (w : World) (e : Session) (key x : ℕ) → Agrees st w → IsHeldUnder st.heap e key x → IsHeldBy (seen st) (reader_of e) key x
 held-to st w e key x agrees held =
     let h = (foreign-on_heap key_value st.heap.table (horizon_of st) (slots_of st.heap) (entries_in st.heap.indexes 0) e.own.ids x (by-key st agrees.sound) (pos key) key).0 held in
@@ -117,18 +121,6 @@ held-from st w e key x agrees some =
       },
     )
 
--- an id in progress on a page is some session's
-not-nobodys : (st : State) (w : World) (e : Session) (key x : ℕ) → Agrees st w → IsHeldUnder st.heap e key x → IsNobodys st x → ⊥
-not-nobodys st w e key x agrees held nobody =
-    let h = (foreign-on_heap key_value st.heap.table (horizon_of st) (slots_of st.heap) (entries_in st.heap.indexes 0) e.own.ids x (by-key st agrees.sound) (pos key) key).0 held in
-    let by = agrees.found.owned x h.2.has.active in
-    let f = reader-at st by.0 by.1 by.2 in
-    nobody by.0 f.0 f.1 (subst (λ (r : relation.Session). Contains r.own x) (sym f.2) by.3)
-
-pub not-held : (st : State) (w : World) (e : Session) (key : ℕ) → Agrees st w → IsUnheld st e key → (x : ℕ) → ¬ IsHeldBy (seen st) (reader_of e) key x
-not-held st w e key agrees (by_none none) x held = none x (held-from st w e key x agrees held)
-not-held st w e key agrees (by_nobody y under nobody) x held = not-nobodys st w e key y agrees under nobody
-
 -- Tests that are passed, or not.
 
 pub begins-none : (st : State) (w : World) (s : ℕ) (e : Session) (key : ℕ) → Agrees st w → tests.Reads st s e key None → Begins (seen st) s (reader_of e) key None
@@ -144,7 +136,7 @@ begins-some st s e key p t reads target =
 
 pub free-with : (st : State) (w : World) (s : ℕ) (e : Session) (key : ℕ) (found : Option Row) → Agrees st w → Begins (seen st) s (reader_of e) key found → IsFree st e key → Free (seen st) s (reader_of e) key found
 free-with st w s e key found agrees begins free =
-    record { begins = begins; timely = not-late st w e key agrees free.timely; unheld = not-held st w e key agrees free.unheld }
+    record { begins = begins; timely = not-late st w e key agrees free.timely; unheld = λ x held. free.unheld x (held-from st w e key x agrees held) }
 
 -- what delays a session, delays it of what it reads
 

@@ -1,10 +1,12 @@
 -- The state of an engine as its own changes leave it.
-use Rattle.std.proofs.Common.{◌≡◌, ℕ, ◌<◌, List, [], length, set, replicate, zero, suc, Option, Some, None, refl, sym, ap, ◌∙◌}
+use Rattle.std.proofs.Common.{◌≡◌, ◌≢◌, ℕ, ◌<◌, List, [], length, set, replicate, zero, suc, Option, Some, None, refl, sym, ap, ◌∙◌, arith}
 use Rattle.std.proofs.Math.ListN.{length-set}
 use Rattle.std.specs.Option.{option_map}
 use Rattle.std.proofs.lemmas.Option.{none-some}
 use Rattle.commit_status.specs.declared.status.Status.{Status}
-use Rattle.commit_status.specs.Window.{Window}
+use Rattle.commit_status.specs.declared.status.Status.TheVariants.{InProgress}
+use Rattle.commit_status.specs.Window.{Window, place}
+use Rattle.commit_status.proofs.Places.{place-lt, some-from_is}
 use Rattle.commit_status.specs.Changes.{Finishes}
 use Rattle.session_relation.proofs.Steps.{OnlyIs}
 use Rattle.session_steps.specs.declared.session.Session.{Session}
@@ -18,31 +20,33 @@ none-open zero s = refl
 none-open (suc n) zero = refl
 none-open (suc n) (suc s) = none-open n s
 
-pub keeps-idle : (xs : List (Option Session)) (w : Window) → xs ≡ replicate 64 None → length xs ≡ 64 → EngineKeeps xs w
-keeps-idle xs w is count = record {
+pub keeps-idle : (xs : List (Option Session)) (w : Window) → w.entries ≡ [] → xs ≡ replicate 64 None → length xs ≡ 64 → EngineKeeps xs w
+keeps-idle xs w no_ids is count = record {
   count = count;
   own = record {
     active = λ s e x at own. absurd (none-some e (sym (closed s) ∙ at));
     distinct = λ s e at. absurd (none-some e (sym (closed s) ∙ at));
     apart = λ s o e f x at bt own own'. absurd (none-some e (sym (closed s) ∙ at));
+    owned = λ x active. absurd (let at = some-from_is (place w x) active.is_given in omega (arith, place-lt w x at.0 at.1, ap length no_ids));
   };
 }
   where
     closed : (s : ℕ) → open_at xs s ≡ None
     closed s = ap (λ xs. open_at xs s) is ∙ none-open 64 s
 
-pub keeps-open : (xs : List (Option Session)) (w : Window) (s : ℕ) (e : Session) → s < length xs → e.own.ids ≡ [] → EngineKeeps xs w → EngineKeeps (set xs s (Some e)) w
-keeps-open xs w s e within none h = record { count = length-set xs s (Some e) ∙ h.count; own = keep-open xs w s e within none h.own }
+pub keeps-open : (xs : List (Option Session)) (w : Window) (s : ℕ) (e : Session) → s < length xs → open_at xs s ≡ None → e.own.ids ≡ [] → EngineKeeps xs w → EngineKeeps (set xs s (Some e)) w
+keeps-open xs w s e within idle none h = record { count = length-set xs s (Some e) ∙ h.count; own = keep-open xs w s e within idle none h.own }
 
-pub keeps-close : (xs : List (Option Session)) (w v : Window) (s : ℕ) (e : Session) (status : Status) → open_at xs s ≡ Some e → Finishes w v e.own.ids status → EngineKeeps xs w → EngineKeeps (set xs s None) v
-keeps-close xs w v s e status at finishes h = record { count = length-set xs s None ∙ h.count; own = keep-close xs w v s e status at finishes h.own }
+pub keeps-close : (xs : List (Option Session)) (w v : Window) (s : ℕ) (e : Session) (status : Status) → open_at xs s ≡ Some e → status ≢ InProgress
+    → Finishes w v e.own.ids status → EngineKeeps xs w → EngineKeeps (set xs s None) v
+keeps-close xs w v s e status at final finishes h = record { count = length-set xs s None ∙ h.count; own = keep-close xs w v s e status at final finishes h.own }
 
-pub keeps-shut : (xs : List (Option Session)) (w : Window) (s : ℕ) → s < length xs → EngineKeeps xs w → EngineKeeps (set xs s None) w
-keeps-shut xs w s within h = record { count = length-set xs s None ∙ h.count; own = keep-idle xs w s within h.own }
+pub keeps-shut : (xs : List (Option Session)) (w : Window) (s : ℕ) → s < length xs → open_at xs s ≡ None → EngineKeeps xs w → EngineKeeps (set xs s None) w
+keeps-shut xs w s within idle h = record { count = length-set xs s None ∙ h.count; own = keep-idle xs w s within idle h.own }
 
 -- a session that fails keeps its ids
 pub keeps-fail : (xs : List (Option Session)) (w : Window) (s : ℕ) (o : Option Session) → s < length xs → open_at xs s ≡ o → EngineKeeps xs w → EngineKeeps (set xs s (option_map as_failed o)) w
-keeps-fail xs w s None within read h = keeps-shut xs w s within h
+keeps-fail xs w s None within read h = keeps-shut xs w s within read h
 keeps-fail xs w s (Some e) within read h = record {
   count = length-set xs s (Some (as_failed e)) ∙ h.count;
   own = keep-same xs w s e (as_failed e) read refl h.own;
@@ -51,7 +55,7 @@ keeps-fail xs w s (Some e) within read h = record {
 -- so does one of which nothing else changes
 pub keeps-mapped : (xs : List (Option Session)) (w : Window) (s : ℕ) (o : Option Session) (f : Session → Session) → ((e : Session) → (f e).own ≡ e.own) → s < length xs → open_at xs s ≡ o → EngineKeeps xs w
     → EngineKeeps (set xs s (option_map f o)) w
-keeps-mapped xs w s None f same within read h = keeps-shut xs w s within h
+keeps-mapped xs w s None f same within read h = keeps-shut xs w s within read h
 keeps-mapped xs w s (Some e) f same within read h = record {
   count = length-set xs s (Some (f e)) ∙ h.count;
   own = keep-same xs w s e (f e) read (ap (λ own. own.ids) (same e)) h.own;

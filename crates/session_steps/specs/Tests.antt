@@ -22,15 +22,6 @@ IsLateBy h e key x = SomeOf h.table (IsMissedIn h.table e.snapshot x) (slots_of 
 abbrev pub IsHeldUnder : HeapView → Session → ℕ → ℕ → Type 0
 IsHeldUnder h e key x = SomeOf h.table (IsForeignIn h.table e.own.ids x) (slots_of h) (entries_in h.indexes 0) (pos key) key
 
--- no open session has the id
-abbrev pub IsNobodys : State → ℕ → Type 0
-IsNobodys st x = (s : ℕ) (e : Session) → session_at st s ≡ Some e → ¬ Contains e.own.ids x
-
--- No other session has written the key. The second case never comes, since each id in progress is an open session's.
-pub data IsUnheld (st : State) (e : Session) (key : ℕ) : Type 0 where
-  by_none : ((x : ℕ) → ¬ IsHeldUnder st.heap e key x) → IsUnheld st e key
-  by_nobody : (x : ℕ) → IsHeldUnder st.heap e key x → IsNobodys st x → IsUnheld st e key
-
 -- the session is open, has not failed and has no cursor, and reads the version at this place, or none of the key
 pub record Reads (st : State) (s : ℕ) (e : Session) (key : ℕ) (found : Option Tid) : Type 0 where
   pub within : s < 64
@@ -42,7 +33,7 @@ pub record Reads (st : State) (s : ℕ) (e : Session) (key : ℕ) (found : Optio
 -- nothing keeps the session from writing the key: no later commit, and no other session
 pub record IsFree (st : State) (e : Session) (key : ℕ) : Type 0 where
   pub timely : (x : ℕ) → ¬ IsLateBy st.heap e key x
-  pub unheld : IsUnheld st e key
+  pub unheld : (x : ℕ) → ¬ IsHeldUnder st.heap e key x
 
 -- or a later commit does
 pub record IsLate (st : State) (e : Session) (key : ℕ) : Type 0 where

@@ -1,6 +1,6 @@
 //! The engine and its sessions.
 
-ghost use Rattle.std.specs.Prelude.{◌≡◌, ◌<◌, ℕ, slice_get, option_copied, IfOk, IfErr, OnOk, MatchResult, Some, None, false, Contains};
+ghost use Rattle.std.specs.Prelude.{◌≡◌, ◌≢◌, ◌<◌, ℕ, slice_get, option_copied, IfOk, IfErr, OnOk, MatchResult, Some, None, false, Contains};
 ghost use Rattle.std.specs.Option.{option_map};
 ghost use Rattle.session_relation.specs.Words.{AreSettings, FirstFault};
 ghost use Rattle.commit_status.specs.Window.{next_id, IsActive, IsWindow};
@@ -196,9 +196,10 @@ impl Engine {
         });
     }
 
-    /// Closes the session; its ids have the status from now on.
+    /// Closes the session; its ids have the status, which is final, from now on.
     pub(crate) fn close(&mut self, s: u8, status: Status)
         requires within { s < 64 }
+        requires finishes { status ≢ Status.InProgress }
         ensures { Closes self.old self.new s status }
     {
         let session = self.sessions.place_mut(s).take();

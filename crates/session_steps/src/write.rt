@@ -85,7 +85,8 @@ impl Engine {
         match standing.holder {
             Some(x) => match owner(self.sessions.used(), x) {
                 Some(o) => (standing.place, Some(Refusal::Busy(o))),
-                None => (standing.place, None),
+                // each id in progress is an open session's
+                None => unreachable!(),
             },
             None => (standing.place, None),
         }

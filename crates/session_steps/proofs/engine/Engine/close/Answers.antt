@@ -1,5 +1,6 @@
-use Rattle.std.proofs.Common.{◌≡◌, ℕ, ◌<◌, length, List, Option, Some, None, set, sym, ap, ◌∙◌, subst, refl, arith}
+use Rattle.std.proofs.Common.{◌≡◌, ◌≢◌, ℕ, ◌<◌, length, List, Option, Some, None, set, sym, ap, ◌∙◌, subst, refl, arith}
 use Rattle.commit_status.specs.declared.status.Status.{Status}
+use Rattle.commit_status.specs.declared.status.Status.TheVariants.{InProgress}
 use Rattle.commit_status.specs.Window.{Window}
 use Rattle.commit_status.specs.Changes.{Finishes}
 use Rattle.session_steps.specs.declared.session.Session.{Session}
@@ -10,10 +11,10 @@ use Rattle.session_steps.proofs.StateLemmas.{keeps-close, keeps-shut}
 use Rattle.session_steps.proofs.engine.Engine.close.Goals as goal
 
 -- the sessions keep their ids, whether or not one was there
-ended : (xs : List (Option Session)) (w v : Window) (s : ℕ) (o : Option Session) (status : Status) → s < length xs → open_at xs s ≡ o
+ended : (xs : List (Option Session)) (w v : Window) (s : ℕ) (o : Option Session) (status : Status) → s < length xs → open_at xs s ≡ o → status ≢ InProgress
     → ((e : Session) → o ≡ Some e → Finishes w v e.own.ids status) → (o ≡ None → v ≡ w) → EngineKeeps xs w → EngineKeeps (set xs s None) v
-ended xs w v s None status within at finishes same h = subst (λ v. EngineKeeps (set xs s None) v) (sym (same refl)) (keeps-shut xs w s within h)
-ended xs w v s (Some e) status within at finishes same h = keeps-close xs w v s e status at (finishes e refl) h
+ended xs w v s None status within at final finishes same h = subst (λ v. EngineKeeps (set xs s None) v) (sym (same refl)) (keeps-shut xs w s within at h)
+ended xs w v s (Some e) status within at final finishes same h = keeps-close xs w v s e status at final (finishes e refl) h
 
 pub end-requires : goal.end-requires
 end-requires c =
@@ -27,7 +28,7 @@ invariant_of-self c =
     let count = c.self.invariant.count in
     let within : c.args.s < length c.self.inside.sessions = omega (arith, c.requires.within) in
     let read = c.place_mut.ensures.value in
-    rw c.take-session.ensures.after (ended c.self.inside.sessions c.self.inside.heap.table _ c.args.s c.take-session.result c.args.status within (read ∙ sym c.take-session.ensures.value) c.end.ensures.finishes c.end.ensures.none c.self.invariant)
+    rw c.take-session.ensures.after (ended c.self.inside.sessions c.self.inside.heap.table _ c.args.s c.take-session.result c.args.status within (read ∙ sym c.take-session.ensures.value) c.requires.finishes c.end.ensures.finishes c.end.ensures.none c.self.invariant)
 
 pub returns : goal.returns
 returns c =

@@ -3,8 +3,8 @@ use Rattle.xid_circle.specs.declared.Xid.{Xid}
 use Rattle.session_steps.specs.declared.session.Session.{Session}
 use Rattle.session_steps.specs.Keeps.{open_at}
 use Rattle.session_steps.specs.State.{State}
-use Rattle.session_steps.specs.Tests.{FindsPlace, by_none, by_nobody}
-use Rattle.session_steps.proofs.Searches.{Misses, Holds}
+use Rattle.session_steps.specs.Tests.{FindsPlace}
+use Rattle.session_steps.proofs.Searches.{Misses, Holds, held-active}
 use Rattle.session_steps.proofs.engine.Engine.delay.Goals as goal
 
 pub returns-in-Some-clause-place : goal.returns-in-Some-clause-place
@@ -12,9 +12,6 @@ returns-in-Some-clause-place c = subst (λ (st : State). FindsPlace st.heap c.ar
 
 pub returns-in-Some-owner-clause-place : goal.returns-in-Some-owner-clause-place
 returns-in-Some-owner-clause-place c = subst (λ (st : State). FindsPlace st.heap c.args.session.now c.args.key c.standing-standing.result.place) c.self.view_is c.standing-standing.ensures.place
-
-pub returns-in-None-owner-clause-place : goal.returns-in-None-owner-clause-place
-returns-in-None-owner-clause-place c = subst (λ (st : State). FindsPlace st.heap c.args.session.now c.args.key c.standing-standing.result.place) c.self.view_is c.standing-standing.ensures.place
 
 pub returns-in-None-clause-place : goal.returns-in-None-clause-place
 returns-in-None-clause-place c = subst (λ (st : State). FindsPlace st.heap c.args.session.now c.args.key c.standing-standing.result.place) c.self.view_is c.standing-standing.ensures.place
@@ -34,21 +31,17 @@ returns-in-None-clause-delay c =
     let held = subst (λ (st : State). Holds st.heap e c.args.key c.standing-standing.result.holder) c.self.view_is c.standing-standing.ensures.holder in
     record {
       timely = subst (λ (o : Option Xid). Misses h e c.args.key o) c.in_default.is missed;
-      unheld = by_none (subst (λ (o : Option Xid). Holds h e c.args.key o) c.in-None.is held);
+      unheld = subst (λ (o : Option Xid). Holds h e c.args.key o) c.in-None.is held;
     }
 
-pub returns-in-None-owner-clause-delay : goal.returns-in-None-owner-clause-delay
-returns-in-None-owner-clause-delay c =
+-- each id in progress is an open session's
+pub unreachable-requires : goal.unreachable-requires
+unreachable-requires c =
     let e = c.args.session.now in
-    let h = c.args.self.now.heap in
-    let missed = subst (λ (st : State). Misses st.heap e c.args.key c.standing-standing.result.missed) c.self.view_is c.standing-standing.ensures.missed in
-    let held = subst (λ (st : State). Holds st.heap e c.args.key c.standing-standing.result.holder) c.self.view_is c.standing-standing.ensures.holder in
-    let sessions_are = ap (λ (st : State). st.sessions) c.self.view_is in
-    record {
-      timely = subst (λ (o : Option Xid). Misses h e c.args.key o) c.in_default.is missed;
-      unheld = by_nobody c.in-Some-holder.x.0 (subst (λ (o : Option Xid). Holds h e c.args.key o) c.in-Some-holder.is held)
-          (λ o f at among. c.in-None-owner.ensures o f (c.used.ensures.each o ∙ (ap (λ xs. open_at xs o) sessions_are ∙ at)) among);
-    }
+    let x = c.in-Some-holder.x.0 in
+    let held = subst (λ (o : Option Xid). Holds c.self.inside.heap e c.args.key o) c.in-Some-holder.is c.standing-standing.ensures.holder in
+    let owned = c.self.invariant.own.owned x (held-active c.self.inside.heap e c.args.key x held) in
+    c.in-None-owner.ensures owned.0 owned.1 (c.used.ensures.each owned.0 ∙ owned.2) owned.3
 
 pub returns-in-Some-owner-clause-delay : goal.returns-in-Some-owner-clause-delay
 returns-in-Some-owner-clause-delay c =

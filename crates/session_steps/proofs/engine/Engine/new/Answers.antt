@@ -7,7 +7,7 @@ use Rattle.session_steps.proofs.engine.Engine.new.Goals as goal
 
 pub invariant_of-result : goal.invariant_of-result
 invariant_of-result c =
-    keeps-idle c.in-Ok.sessions c.new-2.result.table c.in-Ok.ensures (ap length c.in-Ok.ensures ∙ length-replicate {A = Option Session} 64 None)
+    keeps-idle c.in-Ok.sessions c.new-2.result.table c.new-2.ensures.entries c.in-Ok.ensures (ap length c.in-Ok.ensures ∙ length-replicate {A = Option Session} 64 None)
 
 pub returns-clause-new : goal.returns-clause-new
 returns-clause-new c = record {
