@@ -2,7 +2,7 @@
 """Says where the code builds an error of the allocator by hand, or answers NoMemory where no call was refused memory.
 
 A contract can say that more was asked for than there was room for, but not that memory was really lacking: the allocator alone
-knows. So such an error has to come from a call. This reads crates/*/src/*.rt, but for the crates of tests (*_cases), the modules
+knows. So such an error has to come from a call. This reads crates/*/src/*.rt, but for the crates of tests (test_*), the modules
 under #[cfg(test)], comments, and ghost and contract lines. It refuses
 
 - `AllocError` as an expression, as in `Err(AllocError)`, `=> AllocError` or `return AllocError`: pass on what the call answered,
@@ -72,7 +72,7 @@ def main():
     top = pathlib.Path(__file__).resolve().parent.parent
     wrong = []
     for path in sorted(top.glob("crates/*/src/**/*.rt")):
-        if path.relative_to(top).parts[1].endswith("_cases"):
+        if path.relative_to(top).parts[1].startswith("test_"):
             continue
         for number, line, heads in with_heads(bare(path.read_text(encoding="utf-8"))):
             if is_wrong(line, heads):

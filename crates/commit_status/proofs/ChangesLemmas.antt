@@ -8,17 +8,17 @@ use Rattle.std.proofs.lemmas.List.{map_more, get_or-map, length-map}
 use Rattle.xid_circle.specs.declared.Xid.{Xid}
 use Rattle.xid_circle.proofs.Members.{Contains-first, Contains-one}
 use Rattle.commit_status.specs.declared.status.Status.{Status}
-use Rattle.commit_status.specs.Window.{Entry, Window, IsWindow, place, place_in, entry_of, status_in, parent_in}
+use Rattle.commit_status.specs.Window.{IdEntry, Window, IsWindow, place, place_in, entry_of, status_in, parent_in}
 use Rattle.commit_status.specs.Changes.{numbers, Finishes}
 use Rattle.commit_status.proofs.Places.{place-lt, place-one, is-from_some}
 use Rattle.commit_status.proofs.Tables.{window_of}
 
-slice_get-set_same : (xs : List Entry) (i : ℕ) (y : Entry) → i < length xs → slice_get (set xs i y) i ≡ Some y
+slice_get-set_same : (xs : List IdEntry) (i : ℕ) (y : IdEntry) → i < length xs → slice_get (set xs i y) i ≡ Some y
 slice_get-set_same [] i y h = absurd (omega arith)
 slice_get-set_same (x ∷ xs) zero y h = refl
 slice_get-set_same (x ∷ xs) (suc i) y h = slice_get-set_same xs i y (omega arith)
 
-slice_get-set_other : (xs : List Entry) (i j : ℕ) (y : Entry) → j ≢ i → slice_get (set xs i y) j ≡ slice_get xs j
+slice_get-set_other : (xs : List IdEntry) (i j : ℕ) (y : IdEntry) → j ≢ i → slice_get (set xs i y) j ≡ slice_get xs j
 slice_get-set_other [] i j y ne = refl
 slice_get-set_other (x ∷ xs) zero zero y ne = absurd (ne refl)
 slice_get-set_other (x ∷ xs) zero (suc j) y ne = refl
@@ -33,7 +33,7 @@ pub entry-none : (w : Window) (x : ℕ) → place w x ≡ None → entry_of w x 
 entry-none w x e = ap (option_and_then (slice_get w.entries)) e
 
 -- an id takes another status, and keeps its parent
-pub finishes-set : (f s : ℕ) (e : List Entry) (p : ℕ) (w : Window) (x i : ℕ) (old : Entry) (status : Status)
+pub finishes-set : (f s : ℕ) (e : List IdEntry) (p : ℕ) (w : Window) (x i : ℕ) (old : IdEntry) (status : Status)
     → window_of f s e p ≡ w → IsWindow (window_of f s e p) → place_in f (length e) x ≡ Some i → slice_get e i ≡ Some old
     → Finishes w (window_of f s (set e i (record { status = status; parent = old.parent })) p) (x ∷ []) status
 finishes-set f s e p w x i old status same is at there =
@@ -48,7 +48,7 @@ finishes-set f s e p w x i old status same is at there =
       parents = λ y. ⊎_elim (λ a. ap parent_in (entry-here y a) ∙ sym (ap parent_in (entry-was y a))) (λ b. ap parent_in (entry-other y b)) (cases_eq x y);
     })
   where
-    new : Entry
+    new : IdEntry
     new = record { status = status; parent = old.parent }
 
     before : Window

@@ -3,18 +3,18 @@ use Rattle.std.proofs.Common.{◌≡◌, ◌≢◌, ℕ, zero, suc, ◌+◌, ◌
 use Rattle.std.proofs.lemmas.Bool.{cases_eq, cases_lt}
 use Rattle.xid_circle.specs.Circle.{given}
 use Rattle.commit_status.specs.declared.status.Status.TheVariants.{InProgress}
-use Rattle.commit_status.specs.Window.{Entry, Window, IsWindow, IsGiven, IsActive, IsUpToNext, turns, place, entry_of, status_in, parent_in, status_of, parent_of, ancestor_in, top_of, next_id}
+use Rattle.commit_status.specs.Window.{IdEntry, Window, IsWindow, IsGiven, IsActive, IsUpToNext, turns, place, entry_of, status_in, parent_in, status_of, parent_of, ancestor_in, top_of, next_id}
 use Rattle.commit_status.specs.Changes.{Gives}
 use Rattle.commit_status.proofs.Places.{IsAt, at-from_place, place-from_at, given-place, place-given, place-lt, none-unless, next-none, is-from_some, some-from_is}
 use Rattle.commit_status.proofs.Ancestors.{parent-place, parent-not_next, height-le, ancestor-none, ancestor-some, ancestor-enough, parent-cases, top-none, top-parent}
 use Rattle.commit_status.proofs.ChangesLemmas.{entry-at, entry-none}
 
-slice_get-push_old : (xs : List Entry) (y : Entry) (i : ℕ) → i < length xs → slice_get (xs ++ y ∷ []) i ≡ slice_get xs i
+slice_get-push_old : (xs : List IdEntry) (y : IdEntry) (i : ℕ) → i < length xs → slice_get (xs ++ y ∷ []) i ≡ slice_get xs i
 slice_get-push_old [] y i h = absurd (omega arith)
 slice_get-push_old (x ∷ xs) y zero h = refl
 slice_get-push_old (x ∷ xs) y (suc i) h = slice_get-push_old xs y i (omega arith)
 
-slice_get-push_new : (xs : List Entry) (y : Entry) → slice_get (xs ++ y ∷ []) (length xs) ≡ Some y
+slice_get-push_new : (xs : List IdEntry) (y : IdEntry) → slice_get (xs ++ y ∷ []) (length xs) ≡ Some y
 slice_get-push_new [] y = refl
 slice_get-push_new (x ∷ xs) y = slice_get-push_new xs y
 

@@ -4,31 +4,31 @@ use Rattle.std.specs.Option.{option_map}
 use Rattle.xid_circle.specs.declared.Xid.{Xid}
 use Rattle.std.proofs.lemmas.Bool.{cases_lt}
 use Rattle.xid_circle.specs.Circle.{IsNormal, distance_of, next_of, given}
-use Rattle.commit_status.specs.Window.{Entry, Window, IsWindow, IsGivenBefore, IsUpToNext, IsGiven, turns, place, parent_in, parent_at, next_id}
-use Rattle.commit_status.specs.Table.{IsTable}
+use Rattle.commit_status.specs.Window.{IdEntry, Window, IsWindow, IsGivenBefore, IsUpToNext, IsGiven, turns, place, parent_in, parent_at, next_id}
+use Rattle.commit_status.specs.Table.{IsStatusTable}
 use Rattle.commit_status.proofs.Turns.{turns-given, given-turns, given-given, age-at}
 use Rattle.commit_status.proofs.Places.{at-from_place, given-place, some-from_is}
 
-abbrev pub window_of : ℕ → ℕ → List Entry → ℕ → Window
+abbrev pub window_of : ℕ → ℕ → List IdEntry → ℕ → Window
 window_of first stop_age entries spare = record { first = first; stop_age = stop_age; entries = entries; spare = spare }
 
 -- room does not matter
-pub table-kept : (f s : ℕ) (e e' : List Entry) (p p' n : ℕ) → e' ≡ e → IsTable (window_of f s e p) n → IsTable (window_of f s e' p') n
+pub table-kept : (f s : ℕ) (e e' : List IdEntry) (p p' n : ℕ) → e' ≡ e → IsStatusTable (window_of f s e p) n → IsStatusTable (window_of f s e' p') n
 table-kept f s e e' p p' n same t =
-    let P : List Entry → Type 0 = λ es. IsTable (window_of f s es p') n in
+    let P : List IdEntry → Type 0 = λ es. IsStatusTable (window_of f s es p') n in
     subst P (sym same) (record {
       window = record { normal = t.window.normal; fits = t.window.fits; limit = t.window.limit; short = t.window.short; parents = t.window.parents };
       normal = t.normal;
       next_is = t.next_is;
     })
 
-pub parent_at-push : (e : List Entry) (x : Entry) (i q : ℕ) → parent_at (e ++ x ∷ []) i ≡ Some q → (parent_at e i ≡ Some q) ⊎ ((i ≡ length e) × (x.parent ≡ Some q))
+pub parent_at-push : (e : List IdEntry) (x : IdEntry) (i q : ℕ) → parent_at (e ++ x ∷ []) i ≡ Some q → (parent_at e i ≡ Some q) ⊎ ((i ≡ length e) × (x.parent ≡ Some q))
 parent_at-push [] x zero q h = inr (refl, h)
 parent_at-push [] x (suc i) q h = absurd (cc)
 parent_at-push (y ∷ e) x zero q h = inl h
 parent_at-push (y ∷ e) x (suc i) q h = ⊎_elim (λ a. inl a) (λ b. inr (ap suc b.0, b.1)) (parent_at-push e x i q h)
 
-parent_at-drop : (k : ℕ) (e : List Entry) (i : ℕ) → parent_at (drop k e) i ≡ parent_at e (k + i)
+parent_at-drop : (k : ℕ) (e : List IdEntry) (i : ℕ) → parent_at (drop k e) i ≡ parent_at e (k + i)
 parent_at-drop zero e i = let s : i ≡ zero + i = omega arith in ap (parent_at e) s
 parent_at-drop (suc k) [] i = refl
 parent_at-drop (suc k) (x ∷ e) i =
@@ -48,9 +48,9 @@ given_before-next w q j is e =
     let turn : turns q (next_id w) ≡ length w.entries - j = sym (ap (turns q) goes) ∙ turns-given q (length w.entries - j) at.normal at.fits (omega arith) in
     record { normal = at.normal; fits = at.fits; before = omega arith; near = omega arith }
 
-pub table-pushed : (f s : ℕ) (e e' : List Entry) (p p' n m : ℕ) (x : Entry) → IsTable (window_of f s e p) n → distance_of f n < s
+pub table-pushed : (f s : ℕ) (e e' : List IdEntry) (p p' n m : ℕ) (x : IdEntry) → IsStatusTable (window_of f s e p) n → distance_of f n < s
     → ((q : ℕ) → x.parent ≡ Some q → (j : ℕ) × (place (window_of f s e p) q ≡ Some j))
-    → e' ≡ e ++ x ∷ [] → m ≡ next_of n → IsNormal m → IsTable (window_of f s e' p') m
+    → e' ≡ e ++ x ∷ [] → m ≡ next_of n → IsNormal m → IsStatusTable (window_of f s e' p') m
 table-pushed f s e e' p p' n m x t near under same goes normal =
     let is = t.window in
     let limit = is.limit in
@@ -58,7 +58,7 @@ table-pushed f s e e' p p' n m x t near under same goes normal =
     let long : length (e ++ x ∷ []) ≡ suc (length e) = length-append e (x ∷ []) ∙ (omega arith) in
     let close : distance_of f (given f (length e)) < s = subst (λ v. distance_of f v < s) t.next_is near in
     let room : suc (length e) ≤ s = ⊎_elim (λ a. let d = a.1 in omega arith) (λ b. let d = b.1 in omega arith) (age-at f (length e) is.normal is.fits (omega arith)) in
-    let P : List Entry → Type 0 = λ es. IsTable (window_of f s es p') m in
+    let P : List IdEntry → Type 0 = λ es. IsStatusTable (window_of f s es p') m in
     subst P (sym same) (record {
       window = record {
         normal = is.normal;
@@ -74,8 +74,8 @@ table-pushed f s e e' p p' n m x t near under same goes normal =
       next_is = goes ∙ ap next_of t.next_is ∙ ap (given f) (sym long);
     })
 
-pub table-dropped : (f s : ℕ) (e e' : List Entry) (p p' n x k : ℕ) → IsTable (window_of f s e p) n → IsUpToNext (window_of f s e p) x
-    → k ≡ turns f x → e' ≡ drop k e → IsTable (window_of x s e' p') n
+pub table-dropped : (f s : ℕ) (e e' : List IdEntry) (p p' n x k : ℕ) → IsStatusTable (window_of f s e p) n → IsUpToNext (window_of f s e p) x
+    → k ≡ turns f x → e' ≡ drop k e → IsStatusTable (window_of x s e' p') n
 table-dropped f s e e' p p' n x k t up turn same =
     let is = t.window in
     let limit = is.limit in
@@ -84,7 +84,7 @@ table-dropped f s e e' p p' n x k t up turn same =
     let there : given f k ≡ x = ap (given f) turn ∙ given-turns f x is.normal is.fits up.normal up.fits in
     let long : length (drop k e) ≡ length e - k = length-drop k e in
     let sum : k + (length e - k) ≡ length e = omega arith in
-    let P : List Entry → Type 0 = λ es. IsTable (window_of x s es p') n in
+    let P : List IdEntry → Type 0 = λ es. IsStatusTable (window_of x s es p') n in
     subst P (sym same) (record {
       window = record {
         normal = up.normal;
@@ -138,20 +138,20 @@ give-can f s count n last age normal fits limit short some total before over all
         let d' : distance_of f (given f s) < s = subst (λ k. distance_of f (given f k) < s) e d in
         ⊎_elim (λ a. let x = a.1 in absurd (omega arith)) (λ b. let x = b.1 in absurd (omega arith)) (age-at f s normal fits (omega arith))
 
-pub parent_at-set : (e : List Entry) (i : ℕ) (old x : Entry) (k : ℕ) → slice_get e i ≡ Some old → x.parent ≡ old.parent → parent_at (set e i x) k ≡ parent_at e k
+pub parent_at-set : (e : List IdEntry) (i : ℕ) (old x : IdEntry) (k : ℕ) → slice_get e i ≡ Some old → x.parent ≡ old.parent → parent_at (set e i x) k ≡ parent_at e k
 parent_at-set [] i old x k at same = refl
 parent_at-set (y ∷ e) zero old x zero at same = same ∙ ap (λ o. parent_in o) (sym at)
 parent_at-set (y ∷ e) zero old x (suc k) at same = refl
 parent_at-set (y ∷ e) (suc i) old x zero at same = refl
 parent_at-set (y ∷ e) (suc i) old x (suc k) at same = parent_at-set e i old x k at same
 
-pub table-set : (f s : ℕ) (e e' : List Entry) (p p' n i : ℕ) (old x : Entry) → IsTable (window_of f s e p) n → slice_get e i ≡ Some old → x.parent ≡ old.parent
-    → e' ≡ set e i x → IsTable (window_of f s e' p') n
+pub table-set : (f s : ℕ) (e e' : List IdEntry) (p p' n i : ℕ) (old x : IdEntry) → IsStatusTable (window_of f s e p) n → slice_get e i ≡ Some old → x.parent ≡ old.parent
+    → e' ≡ set e i x → IsStatusTable (window_of f s e' p') n
 table-set f s e e' p p' n i old x t at kept same =
     let is = t.window in
     let short = is.short in
     let long : length (set e i x) ≡ length e = length-set e i x in
-    let P : List Entry → Type 0 = λ es. IsTable (window_of f s es p') n in
+    let P : List IdEntry → Type 0 = λ es. IsStatusTable (window_of f s es p') n in
     subst P (sym same) (record {
       window = record {
         normal = is.normal;

@@ -4,20 +4,20 @@ use Rattle.xid_circle.specs.Circle.{distance_of, given}
 use Rattle.xid_circle.specs.declared.Xid.{Xid}
 use Rattle.commit_status.specs.declared.status.Status.{Status}
 use Rattle.commit_status.specs.declared.status.Status.TheVariants.{InProgress}
-use Rattle.commit_status.specs.Window.{Entry, Window, IsGiven, status_of, parent_of, turns}
+use Rattle.commit_status.specs.Window.{IdEntry, Window, IsGiven, status_of, parent_of, turns}
 
 abbrev pub numbers : List Xid → List ℕ
 numbers ids = map (λ (x : Xid). x.0) ids
 
 -- an id that was just given
-abbrev pub begun : Option ℕ → Entry
-begun parent = record { status = InProgress; parent = parent }
+abbrev pub given_entry : Option ℕ → IdEntry
+given_entry parent = record { status = InProgress; parent = parent }
 
 -- the next id is given, under this parent
 pub record Gives (old new : Window) (parent : Option ℕ) : Type 0 where
   pub first : new.first ≡ old.first
   pub stop_age : new.stop_age ≡ old.stop_age
-  pub entries : new.entries ≡ old.entries ++ begun parent ∷ []
+  pub entries : new.entries ≡ old.entries ++ given_entry parent ∷ []
 
 -- none of the next n ids is too far from the first
 abbrev pub CanGive : Window → ℕ → Type 0

@@ -3,7 +3,7 @@ use Rattle.std.specs.Prelude.{◌≡◌, ℕ, ◌==◌, if◌then◌else◌, Opt
 use Rattle.xid_circle.specs.Circle.{IsNormal}
 use Rattle.commit_status.specs.Window.{Window, IsWindow, next_id}
 
-pub record IsTable (w : Window) (next : ℕ) : Type 0 where
+pub record IsStatusTable (w : Window) (next : ℕ) : Type 0 where
   pub window : IsWindow w
   pub normal : IsNormal next
   pub next_is : next ≡ next_id w

@@ -7,7 +7,7 @@ use Rattle.commit_status.specs.declared.status.Status.{Status}
 use Rattle.commit_status.specs.declared.status.Status.TheVariants.{InProgress, Committed, Aborted}
 
 -- what is known of an id: what became of it, and the id under which it was begun
-pub record Entry : Type 0 where
+pub record IdEntry : Type 0 where
   pub status : Status
   pub parent : Option ℕ
 
@@ -17,7 +17,7 @@ pub record Window : Type 0 where
   -- no id is given this far from the first, or further
   pub stop_age : ℕ
   -- what is known of each id, in order of giving
-  pub entries : List Entry
+  pub entries : List IdEntry
   -- how many ids can be given without memory
   pub spare : ℕ
 
@@ -40,15 +40,15 @@ place_in first count x = if is_id x && nat_lt (turns first x) count then Some (t
 abbrev pub place : Window → ℕ → Option ℕ
 place w x = place_in w.first (length w.entries) x
 
-abbrev pub entry_of : Window → ℕ → Option Entry
+abbrev pub entry_of : Window → ℕ → Option IdEntry
 entry_of w x = option_and_then (slice_get w.entries) (place w x)
 
 -- an id outside the window counts as in progress, without a parent
-abbrev pub status_in : Option Entry → Status
+abbrev pub status_in : Option IdEntry → Status
 status_in (Some e) = e.status
 status_in None = InProgress
 
-abbrev pub parent_in : Option Entry → Option ℕ
+abbrev pub parent_in : Option IdEntry → Option ℕ
 parent_in (Some e) = e.parent
 parent_in None = None
 
@@ -99,7 +99,7 @@ pub record IsGivenBefore (p x : ℕ) : Type 0 where
   pub before : 0 < turns p x
   pub near : turns p x ≤ 2144483648
 
-abbrev pub parent_at : List Entry → ℕ → Option ℕ
+abbrev pub parent_at : List IdEntry → ℕ → Option ℕ
 parent_at entries i = parent_in (slice_get entries i)
 
 -- what is so of every table: the window is shorter than half the circle, and parents are given before their children

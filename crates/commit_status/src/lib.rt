@@ -6,10 +6,9 @@
 //! that is not remembered counts as in progress.
 #![tactic(auto)]
 
-mod laws;
+pub mod laws;
 mod status;
 mod table;
 
-pub use laws::{places_are_turns, tops_are_topmost};
 pub use status::{GiveFault, Status};
 pub use table::StatusTable;

@@ -4,7 +4,7 @@ ghost use Rattle.std.specs.Prelude.{◌≡◌, ℕ, ◌+◌, ◌^◌, ◌∷◌,
 ghost use Rattle.std.specs.Option.{option_map};
 ghost use Rattle.xid_circle.specs.Circle.{IsNormal, distance_of, given};
 ghost use Rattle.commit_status.specs.Window.{next_id, turns, place_in, entry_of, status_of, parent_of, top_of, IsGiven, IsActive, IsUpToNext, IsWindow};
-ghost use Rattle.commit_status.specs.Changes.{numbers, begun, Gives, CanGive, Finishes, Truncates};
+ghost use Rattle.commit_status.specs.Changes.{numbers, given_entry, Gives, CanGive, Finishes, Truncates};
 
 use crate::status::{GiveFault, Status};
 use std::alloc::{AllocError, Global};
@@ -14,34 +14,34 @@ use xid_circle::{Xid, distance, next};
 
 /// What is known of an id, in eight bytes.
 #[derive(Debug, Drop)]
-struct Known {
+struct StatusEntry {
     status: Status,
     // the number of the id under which it was begun, or 0
     parent: u32,
 }
 
-const _: () = prove!(size_of::<Known>() == 8);
+const _: () = prove!(size_of::<StatusEntry>() == 8);
 
-impl Model for Known {
-    ghost use Rattle.commit_status.specs.Window.{Entry};
+impl Model for StatusEntry {
+    ghost use Rattle.commit_status.specs.Window.{IdEntry};
     ghost use Rattle.commit_status.specs.Table.{parent_from};
 
-    ghost Value = { Entry };
+    ghost Value = { IdEntry };
 
     ghost view = { λ k. record { status = k.status; parent = parent_from k.parent } };
 }
 
-impl Known {
+impl StatusEntry {
     /// An id that was just given.
-    fn begun(parent: Option<Xid>) -> Known
+    fn begun(parent: Option<Xid>) -> StatusEntry
         requires { IfSome parent (λ p. IsNormal p.0) }
-        ensures { result ≡ begun (option_map (λ p. p.0) parent) }
+        ensures { result ≡ given_entry (option_map (λ p. p.0) parent) }
     {
         let parent = match parent {
             Some(x) => x.0,
             None => 0,
         };
-        Known {
+        StatusEntry {
             status: Status::InProgress,
             parent,
         }
@@ -70,14 +70,14 @@ pub struct StatusTable {
     first: Xid,
     next: Xid,
     stop_age: u32,
-    entries: Vec<Known>,
+    entries: Vec<StatusEntry>,
 }
 
 impl Model for StatusTable {
     ghost use Rattle.std.specs.Prelude.{◌≡◌, ◌-◌, vec_len, vec_capacity};
     ghost use Rattle.xid_circle.specs.Circle.{given};
     ghost use Rattle.commit_status.specs.Window.{Window, IsWindow};
-    ghost use Rattle.commit_status.specs.Table.{IsTable};
+    ghost use Rattle.commit_status.specs.Table.{IsStatusTable};
 
     ghost Value = { Window };
 
@@ -88,7 +88,7 @@ impl Model for StatusTable {
       spare = vec_capacity t.entries - vec_len t.entries;
     } };
 
-    ghost invariant = { λ t. IsTable (record {
+    ghost invariant = { λ t. IsStatusTable (record {
       first = t.first.0;
       stop_age = t.stop_age;
       entries = t.entries.items;
@@ -135,10 +135,11 @@ fn place_in(first: Xid, count: usize, x: Xid) -> Option<usize>
 }
 
 /// Forgets the first `count` entries.
-fn forget(entries: &mut Vec<Known>, count: usize)
+fn forget(entries: &mut Vec<StatusEntry>, count: usize)
     requires { count ≤ vec_len entries.old }
     ensures items { entries.new.items ≡ drop count entries.old.items }
-    ensures room { vec_capacity entries.old - vec_len entries.old ≤ vec_capacity entries.new - vec_len entries.new }
+    ensures room { vec_capacity entries.old - vec_len entries.old
+        ≤ vec_capacity entries.new - vec_len entries.new }
 {
     let rest = entries.len() - count;
     entries.rotate_left(count);
@@ -207,14 +208,15 @@ impl StatusTable {
         ensures normal { IfOk result (λ x. IsNormal x.0) }
         ensures gives { OnOk result (Gives self.old self.new (option_map (λ p. p.0) parent)) }
         ensures spare { OnOk result (self.old.spare ≤ self.new.spare + 1) }
-        ensures needs_freeze { (result ≡ Err GiveFault.NeedsFreeze) ↔ (self.old.stop_age ≤ distance_of self.old.first (next_id self.old)) }
+        ensures needs_freeze { (result ≡ Err GiveFault.NeedsFreeze)
+            ↔ (self.old.stop_age ≤ distance_of self.old.first (next_id self.old)) }
         ensures no_memory { result ≡ Err GiveFault.NoMemory → self.old.spare ≡ 0 }
         ensures refused { OnErr result (self.new ≡ self.old) }
     {
         if distance(self.first, self.next) >= self.stop_age {
             return Err(GiveFault::NeedsFreeze);
         }
-        let entry = Known::begun(parent);
+        let entry = StatusEntry::begun(parent);
         if self.entries.reserve(1).is_err() {
             return Err(GiveFault::NoMemory);
         }
@@ -243,7 +245,7 @@ impl StatusTable {
         place_in(self.first, self.entries.len(), x).is_some()
     }
 
-    fn entry(&self, x: Xid) -> Option<&Known>
+    fn entry(&self, x: Xid) -> Option<&StatusEntry>
         ensures { option_copied result ≡ entry_of self.now x.0 }
     {
         match place_in(self.first, self.entries.len(), x) {

@@ -7,23 +7,23 @@ use Rattle.std.proofs.lemmas.Option.{slice_get_cases, slice_get-map, slice_get_w
 use Rattle.page_slots.specs.View.{PageView}
 use Rattle.page_slots.specs.Slots.{room_of}
 use Rattle.space_maps.specs.FreeSpace.{NoByte, FindsRoom}
-use Rattle.heap_pages.specs.View.{free_bytes}
-use Rattle.heap_pages.specs.Choice.{free_byte_of, Promises, HasRoom, IsFirst}
+use Rattle.heap_pages.specs.View.{free_space_bytes}
+use Rattle.heap_pages.specs.Choice.{free_byte_of, Promises, HasRoom, FindsFirstPage}
 use Rattle.heap_pages.proofs.FirstLemmas.{NoneBefore}
 
 -- the byte of a page, which the map has
-pub byte-of : (bytes : List ℕ) (pages : List PageView) (n : ℕ) (page : PageView) → bytes ≡ free_bytes pages → slice_get pages n ≡ Some page
+pub byte-of : (bytes : List ℕ) (pages : List PageView) (n : ℕ) (page : PageView) → bytes ≡ free_space_bytes pages → slice_get pages n ≡ Some page
     → get_or bytes n 0 ≡ free_byte_of (room_of page.slots)
 byte-of bytes pages n page is at =
     let byte : PageView → ℕ = λ page. free_byte_of (room_of page.slots) in
-    let there : slice_get (free_bytes pages) n ≡ Some (byte page) = slice_get-map byte pages n ∙ ap (option_map byte) at in
+    let there : slice_get (free_space_bytes pages) n ≡ Some (byte page) = slice_get-map byte pages n ∙ ap (option_map byte) at in
     get_or_from_slice_get bytes n (byte page) 0 (ap (λ bytes. slice_get bytes n) is ∙ there)
 
-pub count-of : (bytes : List ℕ) (pages : List PageView) → bytes ≡ free_bytes pages → length bytes ≡ length pages
+pub count-of : (bytes : List ℕ) (pages : List PageView) → bytes ≡ free_space_bytes pages → length bytes ≡ length pages
 count-of bytes pages is = ap length is ∙ length-map pages (λ page. free_byte_of (room_of page.slots))
 
 -- the first page whose byte promises the room
-pub first-found : (bytes : List ℕ) (pages : List PageView) (size : ℕ) (found : Option ℕ) → bytes ≡ free_bytes pages → FindsRoom bytes size found → IsFirst pages (Promises size) found
+pub first-found : (bytes : List ℕ) (pages : List PageView) (size : ℕ) (found : Option ℕ) → bytes ≡ free_space_bytes pages → FindsRoom bytes size found → FindsFirstPage pages (Promises size) found
 first-found bytes pages size None is none = λ n page at promises.
     none n (omega (arith, slice_get_within pages n page at, count-of bytes pages is)) (omega (arith, promises, byte-of bytes pages n page is at))
 first-found bytes pages size (Some n) is first = elim (slice_get_cases pages n).1 [
@@ -41,7 +41,7 @@ room_needs : (size room : ℕ) → min (room / 32) 255 < min (size / 32) 255 →
 room_needs size room low fits = absurd (omega arith)
 
 -- the pages that the map lets a search pass
-pub none-passed : (pages : List PageView) (bytes : List ℕ) (size from n least : ℕ) → bytes ≡ free_bytes pages → least ≡ min (size / 32) 255
+pub none-passed : (pages : List PageView) (bytes : List ℕ) (size from n least : ℕ) → bytes ≡ free_space_bytes pages → least ≡ min (size / 32) 255
     → NoneBefore pages (HasRoom size) from → NoByte bytes from n least → NoneBefore pages (HasRoom size) n
 none-passed pages bytes size from n least is low_is none low k page lt at has =
     elim (cases_lt k from) [
@@ -51,12 +51,12 @@ none-passed pages bytes size from n least is low_is none low k page lt at has =
 
 -- the bytes once a page is added, and once one is changed
 
-pub pushed : (bytes : List ℕ) (pages : List PageView) (byte : ℕ) (page : PageView) → bytes ≡ free_bytes pages → byte ≡ free_byte_of (room_of page.slots)
-    → bytes ++ byte ∷ [] ≡ free_bytes (pages ++ page ∷ [])
+pub pushed : (bytes : List ℕ) (pages : List PageView) (byte : ℕ) (page : PageView) → bytes ≡ free_space_bytes pages → byte ≡ free_byte_of (room_of page.slots)
+    → bytes ++ byte ∷ [] ≡ free_space_bytes (pages ++ page ∷ [])
 pushed bytes pages byte page is byte_is =
-    ap (λ bytes. bytes ++ byte ∷ []) is ∙ ap (λ byte. free_bytes pages ++ byte ∷ []) byte_is ∙ sym (map-append (λ (page : PageView). free_byte_of (room_of page.slots)) pages (page ∷ []))
+    ap (λ bytes. bytes ++ byte ∷ []) is ∙ ap (λ byte. free_space_bytes pages ++ byte ∷ []) byte_is ∙ sym (map-append (λ (page : PageView). free_byte_of (room_of page.slots)) pages (page ∷ []))
 
-pub noted : (bytes : List ℕ) (pages : List PageView) (n byte : ℕ) (page : PageView) → bytes ≡ free_bytes pages → byte ≡ free_byte_of (room_of page.slots)
-    → set bytes n byte ≡ free_bytes (set pages n page)
+pub noted : (bytes : List ℕ) (pages : List PageView) (n byte : ℕ) (page : PageView) → bytes ≡ free_space_bytes pages → byte ≡ free_byte_of (room_of page.slots)
+    → set bytes n byte ≡ free_space_bytes (set pages n page)
 noted bytes pages n byte page is byte_is =
-    ap (λ bytes. set bytes n byte) is ∙ ap (λ byte. set (free_bytes pages) n byte) byte_is ∙ sym (map-set (λ (page : PageView). free_byte_of (room_of page.slots)) pages n page)
+    ap (λ bytes. set bytes n byte) is ∙ ap (λ byte. set (free_space_bytes pages) n byte) byte_is ∙ sym (map-set (λ (page : PageView). free_byte_of (room_of page.slots)) pages n page)

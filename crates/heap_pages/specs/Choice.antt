@@ -3,8 +3,8 @@
 use Rattle.std.specs.Prelude.{◌≡◌, ℕ, ◌*◌, ◌/◌, ◌<◌, ◌≤◌, min, List, length, Option, Some, None, slice_get}
 use Rattle.page_slots.specs.View.{PageView}
 use Rattle.page_slots.specs.Slots.{room_of}
-use Rattle.heap_pages.specs.declared.pages.Place.{Place}
-use Rattle.heap_pages.specs.declared.pages.Place.TheVariants.{Page, NewPage, Nowhere}
+use Rattle.heap_pages.specs.declared.pages.Placement.{Placement}
+use Rattle.heap_pages.specs.declared.pages.Placement.TheVariants.{Page, NewPage, Nowhere}
 
 -- the free-space byte: how many times the room holds 32 bytes, at most 255
 abbrev pub free_byte_of : ℕ → ℕ
@@ -28,13 +28,13 @@ pub record IsFirstPage (pages : List PageView) (P : PageView → Type 0) (n : �
   pub has : P page
   pub before : (k : ℕ) (earlier : PageView) → k < n → slice_get pages k ≡ Some earlier → ¬ P earlier
 
-abbrev pub IsFirst : List PageView → (PageView → Type 0) → Option ℕ → Type 0
-IsFirst pages P None = NoPage pages P
-IsFirst pages P (Some n) = IsFirstPage pages P n
+abbrev pub FindsFirstPage : List PageView → (PageView → Type 0) → Option ℕ → Type 0
+FindsFirstPage pages P None = NoPage pages P
+FindsFirstPage pages P (Some n) = IsFirstPage pages P n
 
 -- A version of this size goes to the first page whose byte promises the room; else to a new page, while fewer than limit are
 -- in use; else to the first page whose exact room is enough; else nowhere.
-pub data IsPlaceFor (pages : List PageView) (limit size : ℕ) (place : Place) : Type 0 where
+pub data IsPlaceFor (pages : List PageView) (limit size : ℕ) (place : Placement) : Type 0 where
   by_byte : (n : ℕ) → IsFirstPage pages (Promises size) n → place ≡ Page n → IsPlaceFor pages limit size place
   on_new_page : NoPage pages (Promises size) → length pages < limit → place ≡ NewPage → IsPlaceFor pages limit size place
   by_room : (n : ℕ) → NoPage pages (Promises size) → limit ≤ length pages → IsFirstPage pages (HasRoom size) n → place ≡ Page n → IsPlaceFor pages limit size place

@@ -17,8 +17,8 @@ pub record PagesView : Type 0 where
   pub spare : ℕ
 
 -- the byte of each page, as the free space map has it
-abbrev pub free_bytes : List PageView → List ℕ
-free_bytes pages = map (λ (page : PageView). free_byte_of (room_of page.slots)) pages
+abbrev pub free_space_bytes : List PageView → List ℕ
+free_space_bytes pages = map (λ (page : PageView). free_byte_of (room_of page.slots)) pages
 
 -- with this page in the place of its number
 abbrev pub with_page : PagesView → ℕ → PageView → PagesView
@@ -30,9 +30,9 @@ Edits g change old new number result =
     (was : PageView) × (is : PageView) × (slice_get old.pages number ≡ Some was) × FnOnceReturnsAtMut g change was result is × (new ≡ with_page old number is)
 
 -- what is true of the pages of a table, their maps, and how many more each has memory for
-pub record IsTable (pages : List PageView) (free : FreeView) (marks : MarksView) (spare room : ℕ) : Type 0 where
+pub record IsPageTable (pages : List PageView) (free : FreeView) (marks : MarksView) (spare room : ℕ) : Type 0 where
   pub few : length pages ≤ 65536
-  pub bytes : free.bytes ≡ free_bytes pages
+  pub bytes : free.bytes ≡ free_space_bytes pages
   pub pages_spare : spare ≤ room
   pub free_spare : spare ≤ free.spare
   pub marked : length marks.marks ≡ length pages

@@ -2,8 +2,8 @@
 
 ghost use Rattle.std.specs.Prelude.{◌≡◌, ◌≤◌, IsTrue, ◌↔◌, length};
 ghost use Rattle.page_slots.specs.Slots.{room_of};
-ghost use Rattle.heap_pages.specs.Choice.{free_byte_of, HasRoom, IsFirst};
-ghost use Rattle.heap_pages.specs.View.{free_bytes};
+ghost use Rattle.heap_pages.specs.Choice.{free_byte_of, HasRoom, FindsFirstPage};
+ghost use Rattle.heap_pages.specs.View.{free_space_bytes};
 
 use page_slots::Page;
 use space_maps::FreeMap;
@@ -26,8 +26,8 @@ fn has_room(page: &Page, size: usize) -> bool
 /// is large enough.
 pub(crate) fn first_with_room(pages: &[Page], map: &FreeMap, size: usize) -> Option<u32>
     requires few { length pages.now ≤ 65536 }
-    requires bytes { map.now.bytes ≡ free_bytes pages.now }
-    ensures { IsFirst pages.now (HasRoom size) result }
+    requires bytes { map.now.bytes ≡ free_space_bytes pages.now }
+    ensures { FindsFirstPage pages.now (HasRoom size) result }
 {
     let least = (size / 32).min(255) as u8;
     let mut from = 0;

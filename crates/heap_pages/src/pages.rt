@@ -3,8 +3,8 @@
 ghost use Rattle.std.specs.Prelude.{◌≡◌, ◌≤◌, ◌<◌, ◌+◌, [], ◌∷◌, ◌++◌, length, OnOk, OnErr, Some, slice_get, slice_set, option_copied};
 ghost use Rattle.std.specs.Fn.{FnOnceTakesAtMut};
 ghost use Rattle.page_slots.specs.View.{PageView};
-ghost use Rattle.heap_pages.specs.View.{free_bytes, Edits};
-ghost use Rattle.heap_pages.specs.Choice.{Promises, HasRoom, IsFirst, IsPlaceFor};
+ghost use Rattle.heap_pages.specs.View.{free_space_bytes, Edits};
+ghost use Rattle.heap_pages.specs.Choice.{Promises, HasRoom, FindsFirstPage, IsPlaceFor};
 
 use crate::choice::{first_with_room, free_byte};
 use page_slots::Page;
@@ -17,7 +17,7 @@ pub const MAX_PAGES: u32 = 65536;
 
 /// Where a new version goes.
 #[derive(Clone, Copy, Debug, PartialEq, Eq)]
-pub enum Place {
+pub enum Placement {
     /// On the page of this number.
     Page(u32),
     /// On a new page, after all others.
@@ -42,13 +42,13 @@ pub struct Pages {
 
 impl Model for Pages {
     ghost use Rattle.std.specs.Prelude.{◌-◌, vec_len, vec_capacity};
-    ghost use Rattle.heap_pages.specs.View.{PagesView, IsTable};
+    ghost use Rattle.heap_pages.specs.View.{PagesView, IsPageTable};
 
     ghost Value = { PagesView };
 
     ghost view = { λ p. record { pages = p.pages.items; marks = p.marks.marks; spare = p.spare } };
 
-    ghost invariant = { λ p. IsTable p.pages.items p.free p.marks p.spare (vec_capacity p.pages - vec_len p.pages) };
+    ghost invariant = { λ p. IsPageTable p.pages.items p.free p.marks p.spare (vec_capacity p.pages - vec_len p.pages) };
 }
 
 impl Pages {
@@ -82,7 +82,7 @@ impl Pages {
 
     /// The free-space byte of the page of this number, if it is in use: how many times its room holds 32 bytes, at most 255.
     pub fn free_byte(&self, number: u32) -> Option<u8>
-        ensures { result ≡ slice_get (free_bytes self.now.pages) number }
+        ensures { result ≡ slice_get (free_space_bytes self.now.pages) number }
     {
         self.free.byte(number)
     }
@@ -91,7 +91,8 @@ impl Pages {
     /// what is noted of any, stay as they are. It takes no memory but what the change takes.
     pub fn edit<R, F: FnOnce(&mut Page) -> R>(&mut self, number: u32, change: F) -> R
         requires within { number < length self.old.pages }
-        requires ready { (page : PageView) → slice_get self.old.pages number ≡ Some page → FnOnceTakesAtMut F.FnOnce change page }
+        requires ready { (page : PageView) → slice_get self.old.pages number ≡ Some page
+            → FnOnceTakesAtMut F.FnOnce change page }
         ensures edits { Edits F.FnOnce change self.old self.new number result }
     {
         let page = &mut self.pages[number as usize];
@@ -149,7 +150,7 @@ impl Pages {
     /// needed, or a page whose exact room is enough. The size is in bytes, as [`tuple_header::row_size`] counts them. It
     /// looks at the free space map alone: at its 256 groups at most, and at the 256 bytes of one.
     pub fn page_for(&self, size: usize) -> Option<u32>
-        ensures { IsFirst self.now.pages (Promises size) result }
+        ensures { FindsFirstPage self.now.pages (Promises size) result }
     {
         self.free.find(size)
     }
@@ -157,7 +158,7 @@ impl Pages {
     /// The first page in which a version of this size fits, if there is one. The size is in bytes, as
     /// [`tuple_header::row_size`] counts them. It looks at each page before it whose byte leaves open whether it fits.
     pub fn page_with_room(&self, size: usize) -> Option<u32>
-        ensures { IsFirst self.now.pages (HasRoom size) result }
+        ensures { FindsFirstPage self.now.pages (HasRoom size) result }
     {
         first_with_room(&self.pages, &self.free, size)
     }
@@ -165,18 +166,18 @@ impl Pages {
     /// Where a new version of this size goes, where at most `limit` pages may be in use: to the first page whose free-space
     /// byte promises the room; else to a new page; else, where there may be none, to the first page in which it fits. The
     /// size is in bytes, as [`tuple_header::row_size`] counts them.
-    pub fn place_for(&self, size: usize, limit: u32) -> Place
+    pub fn place_for(&self, size: usize, limit: u32) -> Placement
         ensures { IsPlaceFor self.now.pages limit size result }
     {
         if let Some(number) = self.page_for(size) {
-            return Place::Page(number);
+            return Placement::Page(number);
         }
         if self.len() < limit {
-            return Place::NewPage;
+            return Placement::NewPage;
         }
         match self.page_with_room(size) {
-            Some(number) => Place::Page(number),
-            None => Place::Nowhere,
+            Some(number) => Placement::Page(number),
+            None => Placement::Nowhere,
         }
     }
 }

@@ -5,10 +5,10 @@ use Rattle.std.proofs.lemmas.Bool.{cases_lt, cases_eq, true≢false}
 use Rattle.std.proofs.lemmas.List.{get_or_default, get_or_past, get_or-set_same, get_or-set_other, length-set}
 use Rattle.xid_circle.specs.declared.Tid.{Tid}
 use Rattle.tuple_header.specs.declared.version.Row.{Row}
-use Rattle.root_index.specs.Sets.{Adds}
+use Rattle.root_index.specs.Sets.{AddsEntry}
 use Rattle.root_index.specs.View.{IndexView, room_in}
 use Rattle.history.specs.Cursors.{value_in}
-use Rattle.heap_write.specs.Indexes.{index_at, entries_of, entries_at, IsInUse, SameValues, entry_in, SameEntries, AddsAny, Enters, HasEntry, HasEntries}
+use Rattle.heap_write.specs.Indexes.{index_at, entries_of, entries_at, IsInUse, SameValues, index_entry_of, SameEntries, AddsAny, Enters, HasEntry, HasEntries}
 
 -- the indexes up to a number were changed so, and the others are as they were
 pub record Changed (P : ℕ → Option IndexView → Option IndexView → Type 0) (before after : List (Option IndexView)) (i : ℕ) : Type 0 where
@@ -86,13 +86,13 @@ reserved-column before cols key x index c within reserved room same =
 -- Entries.
 
 abbrev pub Entered : Row → Tid → List (Option IndexView) → List (Option IndexView) → ℕ → Type 0
-Entered row place before after i = Changed (λ n old new. AddsAny (entries_of old) (entries_of new) (entry_in n row place)) before after i
+Entered row place before after i = Changed (λ n old new. AddsAny (entries_of old) (entries_of new) (index_entry_of n row place)) before after i
 
 pub entered-key : (row : Row) (place : Tid) (before cols : List (Option IndexView)) (key key' : IndexView) (value read : ℤ) → Some key ∷ cols ≡ before → length cols ≡ 4
-    → value ≡ value_in 0 row → read ≡ value → Adds key.entries key'.entries (record { value = read; key = row.key; tid = place }) → Entered row place before (Some key' ∷ cols) (0 + 1)
+    → value ≡ value_in 0 row → read ≡ value → AddsEntry key.entries key'.entries (record { value = read; key = row.key; tid = place }) → Entered row place before (Some key' ∷ cols) (0 + 1)
 entered-key row place before cols key key' value read view_is size is same adds =
-    changed-key (λ n old new. AddsAny (entries_of old) (entries_of new) (entry_in n row place)) before cols (Some key) (Some key') view_is size
-    (subst (λ v. Adds key.entries key'.entries (record { value = v; key = row.key; tid = place })) (same ∙ is) adds)
+    changed-key (λ n old new. AddsAny (entries_of old) (entries_of new) (index_entry_of n row place)) before cols (Some key) (Some key') view_is size
+    (subst (λ v. AddsEntry key.entries key'.entries (record { value = v; key = row.key; tid = place })) (same ∙ is) adds)
 
 pub entered-column : (row : Row) (place : Tid) (before cols : List (Option IndexView)) (key x index : Option IndexView) (value read : ℤ) (c : ℕ) → c < 4
     → Entered row place before (key ∷ cols) (c + 1) → value ≡ value_in (c + 1) row → read ≡ value
@@ -100,7 +100,7 @@ pub entered-column : (row : Row) (place : Tid) (before cols : List (Option Index
     → Entered row place before (key ∷ set cols c index) (c + 1 + 1)
 entered-column row place before cols key x index value read c within entered is same adds =
     let one : c + 1 ≡ suc c = omega arith in
-    let P : ℕ → Option IndexView → Option IndexView → Type 0 = λ n old new. AddsAny (entries_of old) (entries_of new) (entry_in n row place) in
+    let P : ℕ → Option IndexView → Option IndexView → Type 0 = λ n old new. AddsAny (entries_of old) (entries_of new) (index_entry_of n row place) in
     changed-column P before cols key index c within entered
     (subst (λ o. P (suc c) o index) (column-at cols c x within (size-after key cols entered.size))
     (subst (λ n. P n (get_or cols c x) index) one
@@ -120,7 +120,7 @@ pub entries-then : (a b c : List (Option IndexView)) → SameEntries a b → Sam
 entries-then a b c first second n = second n ∙ first n
 
 pub enters-grown : (a b c : List (Option IndexView)) (row : Row) (place : Tid) → SameEntries a b → Enters b c row place → Enters a c row place
-enters-grown a b c row place same enters n = subst (λ o. AddsAny o (entries_at c n) (entry_in n row place)) (same n) (enters n)
+enters-grown a b c row place same enters n = subst (λ o. AddsAny o (entries_at c n) (index_entry_of n row place)) (same n) (enters n)
 
 pub values-grown : (a b : List (Option IndexView)) (old new : Row) → SameEntries a b → SameValues a old new → SameValues b old new
 values-grown a b old new same values n in_use = values n (subst IsSome (same n) in_use)

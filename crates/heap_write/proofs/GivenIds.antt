@@ -5,7 +5,7 @@ use Rattle.std.specs.Prelude.{Contains}
 use Rattle.std.proofs.lemmas.Option.{none-some}
 use Rattle.xid_circle.specs.Circle.{IsNormal, given}
 use Rattle.xid_circle.proofs.Members.{Contains-cases, Contains-first, Contains-none, Contains-rest}
-use Rattle.commit_status.specs.Window.{Entry, Window, IsWindow, IsGiven, IsGivenBefore, IsActive, IsUpToNext, turns, place, parent_at, status_of, top_of, next_id}
+use Rattle.commit_status.specs.Window.{IdEntry, Window, IsWindow, IsGiven, IsGivenBefore, IsActive, IsUpToNext, turns, place, parent_at, status_of, top_of, next_id}
 use Rattle.commit_status.specs.Changes.{Gives}
 use Rattle.commit_status.proofs.Turns.{turns-given}
 use Rattle.commit_status.proofs.Places.{IsAt, at-from_place, place-from_at, next-none, none-unless, is-from_some, some-from_is}
@@ -16,7 +16,7 @@ use Rattle.heap_write.specs.Writes.{GivesUnder}
 -- One id.
 
 -- what was a parent is one still
-still : (xs : List Entry) (y : Entry) (i p : ℕ) → parent_at xs i ≡ Some p → parent_at (xs ++ y ∷ []) i ≡ Some p
+still : (xs : List IdEntry) (y : IdEntry) (i p : ℕ) → parent_at xs i ≡ Some p → parent_at (xs ++ y ∷ []) i ≡ Some p
 still [] y i p at = absurd (none-some p at)
 still (x ∷ xs) y zero p at = at
 still (x ∷ xs) y (suc i) p at = still xs y i p at

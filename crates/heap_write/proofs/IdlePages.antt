@@ -16,7 +16,7 @@ use Rattle.prune.proofs.Planned.{plan-pruned}
 use Rattle.prune.proofs.Removing.{pruned-removes}
 use Rattle.heap_write.specs.Heap.{HeapView, unused_page, page_on, SameIds, Keeps}
 use Rattle.heap_write.specs.Writes.{Prunes}
-use Rattle.heap_write.specs.Refusals.{IsThere}
+use Rattle.heap_write.specs.Refusals.{VersionIsThere}
 use Rattle.heap_write.specs.Steps.{HasNoneDead}
 use Rattle.heap_write.proofs.PageLemmas.{page-at, page-none, page-back, there-within}
 use Rattle.heap_write.proofs.IdLemmas.{same-status}
@@ -56,10 +56,10 @@ idle-kept h h1 n horizon keeps idle =
       none = λ some. idle.none (has_dead-back h.table h1.table horizon (page_on h n).slots keeps.table (subst (λ (s : List Slot). HasDead h1.table horizon s) slots some));
     }
 
-pub kept-there : (h h1 : HeapView) (place : Tid) → Keeps h h1 → IsThere h place → IsThere h1 place
+pub kept-there : (h h1 : HeapView) (place : Tid) → Keeps h h1 → VersionIsThere h place → VersionIsThere h1 place
 kept-there h h1 place keeps there = subst (λ (l : List Slot). IsNormalAt l place.slot) (sym (kept-slots h h1 place.page keeps)) there
 
-pub kept-prunes : (h h1 : HeapView) (place : Tid) (horizon : ℕ) → Keeps h h1 → IsThere h place → HasNoneDead h place.page horizon → Prunes h1 h1 place.page horizon
+pub kept-prunes : (h h1 : HeapView) (place : Tid) (horizon : ℕ) → Keeps h h1 → VersionIsThere h place → HasNoneDead h place.page horizon → Prunes h1 h1 place.page horizon
 kept-prunes h h1 place horizon keeps there idle =
     idle-prunes h1 place.page horizon (there-within h1 place (kept-there h h1 place keeps there)) (idle-kept h h1 place.page horizon keeps idle)
 

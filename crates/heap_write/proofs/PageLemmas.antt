@@ -13,7 +13,7 @@ use Rattle.heap_write.specs.Heap.PutsPage.{in_use, after_all}
 use Rattle.heap_write.specs.Indexes.{SameEntries}
 use Rattle.tuple_header.specs.declared.version.Row.{Row}
 use Rattle.heap_write.specs.Writes.{KeepsValues}
-use Rattle.heap_write.specs.Refusals.{IsThere}
+use Rattle.heap_write.specs.Refusals.{VersionIsThere}
 use Rattle.heap_write.specs.Growth.{page_in, SamePage, SamePages}
 
 -- The page of a number.
@@ -35,7 +35,7 @@ nothing-at : (slot : ℕ) → ¬ IsNormalAt [] slot
 nothing-at zero h = true≢false (sym h)
 nothing-at (suc i) h = true≢false (sym h)
 
-pub nothing-there : (h : HeapView) (place : Tid) → slice_get h.pages.pages place.page ≡ None → ¬ IsThere h place
+pub nothing-there : (h : HeapView) (place : Tid) → slice_get h.pages.pages place.page ≡ None → ¬ VersionIsThere h place
 nothing-there h place none there =
     nothing-at place.slot (subst (λ (p : PageView). IsNormalAt p.slots place.slot) (page-none h.pages.pages place.page none) there)
 
@@ -47,14 +47,14 @@ pub keeps-nothing : (h : HeapView) (place : Tid) (row : Row) → slice_get h.pag
 keeps-nothing h place row none old at =
     absurd (no-row place.slot old (ap (λ (p : PageView). row_at p.slots place.slot) (sym (page-none h.pages.pages place.page none)) ∙ at))
 
-pub there-within : (h : HeapView) (place : Tid) → IsThere h place → place.page < length h.pages.pages
+pub there-within : (h : HeapView) (place : Tid) → VersionIsThere h place → place.page < length h.pages.pages
 there-within h place there =
     elim (cases_lt place.page (length h.pages.pages)) [
       | inl within ↦ within
       | inr past ↦ absurd (nothing-at place.slot (subst (λ (p : PageView). IsNormalAt p.slots place.slot) (get_or_past h.pages.pages place.page unused_page past) there))
     ]
 
-pub there-at : (h : HeapView) (place : Tid) (page : PageView) → IsThere h place → slice_get h.pages.pages place.page ≡ Some page → IsNormalAt page.slots place.slot
+pub there-at : (h : HeapView) (place : Tid) (page : PageView) → VersionIsThere h place → slice_get h.pages.pages place.page ≡ Some page → IsNormalAt page.slots place.slot
 there-at h place page there at = subst (λ (p : PageView). IsNormalAt p.slots place.slot) (page-at h.pages.pages place.page page at) there
 
 pub room-none : (pages : List PageView) (n : ℕ) → slice_get pages n ≡ None → room_of (page_in pages n).slots ≡ 8164

@@ -8,8 +8,8 @@ use Rattle.page_slots.specs.View.{PageView}
 use Rattle.page_slots.specs.Slots.{room_of}
 use Rattle.heap_pages.specs.Choice.{free_byte_of, Promises, HasRoom, NoPage, IsFirstPage, IsPlaceFor}
 use Rattle.heap_pages.specs.Choice.IsPlaceFor.{by_byte, on_new_page, by_room, nowhere}
-use Rattle.heap_pages.specs.declared.pages.Place.{Place}
-use Rattle.heap_pages.specs.declared.pages.Place.TheVariants.{Page, NewPage, Nowhere}
+use Rattle.heap_pages.specs.declared.pages.Placement.{Placement}
+use Rattle.heap_pages.specs.declared.pages.Placement.TheVariants.{Page, NewPage, Nowhere}
 use Rattle.heap_pages.specs.View.{PagesView}
 use Rattle.heap_pages.proofs.PageLemmas.{page-with_page, page-with_page_other}
 use Rattle.heap_write.specs.Heap.{unused_page}
@@ -89,7 +89,7 @@ first-set pages P m n q within same f =
     ]
 
 -- where a page is changed to one that is alike to a version, the version goes to the same place
-pub place-set : (pages : List PageView) (limit size m : ℕ) (q : PageView) (place : Place) → m < length pages → Alike size (page_in pages m) q
+pub place-set : (pages : List PageView) (limit size m : ℕ) (q : PageView) (place : Placement) → m < length pages → Alike size (page_in pages m) q
     → IsPlaceFor pages limit size place → IsPlaceFor (set pages m q) limit size place
 place-set pages limit size m q place within same (by_byte n first is) = by_byte n (first-set pages (Promises size) m n q within same.byte first) is
 place-set pages limit size m q place within same (on_new_page none few is) =
@@ -102,7 +102,7 @@ place-set pages limit size m q place within same (nowhere none over full is) =
     (none-set pages (HasRoom size) m q within same.room.1 full) is
 
 -- a page has grown in memory alone, and the version goes where it went
-pub place-back : (pages : List PageView) (limit size m : ℕ) (grown : PageView) (place : Place) → m < length pages → grown.slots ≡ (page_in pages m).slots
+pub place-back : (pages : List PageView) (limit size m : ℕ) (grown : PageView) (place : Placement) → m < length pages → grown.slots ≡ (page_in pages m).slots
     → IsPlaceFor (set pages m grown) limit size place → IsPlaceFor pages limit size place
 place-back pages limit size m grown place within same goes =
     let before = page_in pages m in

@@ -8,21 +8,21 @@ use Rattle.xid_circle.specs.declared.Xid.{Xid}
 use Rattle.tuple_header.specs.declared.version.Row.{Row}
 use Rattle.tuple_header.specs.Version.{rounded_size_of}
 use Rattle.commit_status.specs.Window.{Window}
-use Rattle.snapshot.specs.Own.{Own, lacks}
+use Rattle.snapshot.specs.Own.{Own, unassigned_levels}
 use Rattle.page_slots.specs.View.{PageView}
 use Rattle.page_slots.specs.Slots.{room_of}
 use Rattle.heap_pages.specs.View.{PagesView, with_page}
 use Rattle.heap_pages.specs.Choice.{HasRoom, IsPlaceFor}
-use Rattle.heap_pages.specs.declared.pages.Place.{Place}
-use Rattle.heap_pages.specs.declared.pages.Place.TheVariants as to
+use Rattle.heap_pages.specs.declared.pages.Placement.{Placement}
+use Rattle.heap_pages.specs.declared.pages.Placement.TheVariants as to
 use Rattle.heap_write.specs.declared.target.Target.{Target}
 use Rattle.heap_write.specs.declared.target.Target.TheVariants.{Page, New}
 use Rattle.heap_write.specs.Heap.{HeapView, unused_page, page_on}
 use Rattle.heap_write.specs.declared.heap.WriteFault.{WriteFault}
 use Rattle.heap_write.specs.declared.heap.WriteFault.TheVariants.{NoMemory}
-use Rattle.heap_write.specs.Writes.{NeedsFreeze, IsFull}
+use Rattle.heap_write.specs.Writes.{NeedsFreeze, TableIsFull}
 use Rattle.heap_write.specs.Refusals.{NeedsSlot, NeedsIds, RootNeedsMemory, LacksForInsert}
-use Rattle.heap_write.specs.Growth.{page_in, HasSlot, SamePage, GrowsPage, place_of_target, IsReady, Reserves, PlaceNeedsMemory}
+use Rattle.heap_write.specs.Growth.{page_in, HasSlot, SamePage, GrowsPage, place_of_target, IsReserved, Reserves, PlaceNeedsMemory}
 use Rattle.heap_write.specs.Indexes.{NeedsEntry}
 use Rattle.heap_write.specs.Steps.{IsChosen}
 use Rattle.heap_write.proofs.PageLemmas.{page-at, page-set, page-set_other}
@@ -45,12 +45,12 @@ grows pages n before after at same has_slot = record {
   has_slot = has_slot;
 }
 
-pub ready-grows : (pages pages' : PagesView) (limit size n : ℕ) → IsPlaceFor pages.pages limit size (to.Page n) → GrowsPage pages pages' n → IsReady pages' size (Page n)
+pub ready-grows : (pages pages' : PagesView) (limit size n : ℕ) → IsPlaceFor pages.pages limit size (to.Page n) → GrowsPage pages pages' n → IsReserved pages' size (Page n)
 ready-grows pages pages' limit size n chosen grown =
     let after = grown.page in
     let at = page-place pages.pages limit size n chosen in
     let is = sym (page-set pages.pages n after at.0) in
-    subst (λ p. IsReady p size (Page n)) (sym grown.pages_are) (
+    subst (λ p. IsReserved p size (Page n)) (sym grown.pages_are) (
       subst (λ count. n < count) (sym (length-set pages.pages n after)) at.0,
       subst (λ (p : PageView). size ≤ room_of p.slots) is (subst (λ slots. size ≤ room_of slots) (sym grown.same.slots) at.1),
       subst (λ p. HasSlot p) is grown.has_slot,
@@ -58,7 +58,7 @@ ready-grows pages pages' limit size n chosen grown =
 
 -- Why memory was needed.
 
-pub needs-memory : (h : HeapView) (own : Own) (size : ℕ) → PlaceNeedsMemory h.pages.pages h.max_pages size → (¬ IsFull h size) × RootNeedsMemory h own size
+pub needs-memory : (h : HeapView) (own : Own) (size : ℕ) → PlaceNeedsMemory h.pages.pages h.max_pages size → (¬ TableIsFull h size) × RootNeedsMemory h own size
 needs-memory h own size (PlaceNeedsMemory.for_page chosen) = (
   λ full. let few = new-place h.pages.pages h.max_pages size chosen in let over = full.all_used in let no : 1 ≤ 0 = omega (arith, few, over) in omega (arith, no),
   RootNeedsMemory.for_page chosen,
@@ -67,7 +67,7 @@ needs-memory h own size (PlaceNeedsMemory.for_slot n chosen slot) =
     let at = page-place h.pages.pages h.max_pages size n chosen in
     (λ full. full.no_room n (page_on h n) (slice_get-get_or h.pages.pages n unused_page at.0) at.1, RootNeedsMemory.for_slot n chosen slot)
 
-pub room-left : (h : HeapView) (size : ℕ) (target : Target) → IsChosen h size (Some target) → ¬ IsFull h size
+pub room-left : (h : HeapView) (size : ℕ) (target : Target) → IsChosen h size (Some target) → ¬ TableIsFull h size
 room-left h size (Page n) chosen full =
     let at = page-place h.pages.pages h.max_pages size n chosen in
     full.no_room n (page_on h n) (slice_get-get_or h.pages.pages n unused_page at.0) at.1
@@ -75,7 +75,7 @@ room-left h size (New page) chosen full =
     let few = new-place h.pages.pages h.max_pages size chosen in let over = full.all_used in let no : 1 ≤ 0 = omega (arith, few, over) in omega (arith, no)
 
 -- an insert for which there is room
-pub insert-refused : (h : HeapView) (own : Own) (row : Row) (r : Result Xid WriteFault) → ¬ NeedsFreeze h.table own → ¬ IsFull h (rounded_size_of row)
+pub insert-refused : (h : HeapView) (own : Own) (row : Row) (r : Result Xid WriteFault) → ¬ NeedsFreeze h.table own → ¬ TableIsFull h (rounded_size_of row)
     → IfErr r (λ fault. fault ≡ NoMemory) → OnErr r (NeedsEntry h.indexes ⊎ NeedsIds h own) → IfErr r (λ fault. LacksForInsert h own row fault)
 insert-refused h own row (Ok x) free room no_memory needs = no_memory
 insert-refused h own row (Err fault) free room no_memory needs =
@@ -97,7 +97,7 @@ needs-before h own size m grown within same full (PlaceNeedsMemory.for_slot n ch
     let other : n ≢ m = λ e. not-chosen pages h.max_pages size n m before full (sym e) in
     RootNeedsMemory.for_slot n before (subst (λ p. NeedsSlot p) (page-set_other pages m n grown other) needs)
 
-chosen-before : (h h1 : HeapView) (size m : ℕ) (grown : GrowsPage h.pages h1.pages m) → h1.max_pages ≡ h.max_pages → (place : Place) → IsPlaceFor h1.pages.pages h1.max_pages size place
+chosen-before : (h h1 : HeapView) (size m : ℕ) (grown : GrowsPage h.pages h1.pages m) → h1.max_pages ≡ h.max_pages → (place : Placement) → IsPlaceFor h1.pages.pages h1.max_pages size place
     → IsPlaceFor (set h.pages.pages m grown.page) h.max_pages size place
 chosen-before h h1 size m grown max_pages place chosen =
     subst (λ (p : PagesView). IsPlaceFor p.pages h.max_pages size place) grown.pages_are (subst (λ limit. IsPlaceFor h1.pages.pages limit size place) max_pages chosen)
@@ -106,7 +106,7 @@ chosen-before h h1 size m grown max_pages place chosen =
 pub root-before : (h h1 : HeapView) (own : Own) (size m : ℕ) → m < length h.pages.pages → GrowsPage h.pages h1.pages m → h1.table ≡ h.table → h1.indexes ≡ h.indexes
     → h1.max_pages ≡ h.max_pages → ¬ HasRoom size (page_on h m) → RootNeedsMemory h1 own size → RootNeedsMemory h own size
 root-before h h1 own size m within grown table indexes max_pages full (RootNeedsMemory.for_ids needs) =
-    RootNeedsMemory.for_ids (subst (λ (w : Window). (w.spare < lacks own.ids own.saved) ⊎ (own.spare < lacks own.ids own.saved)) table needs)
+    RootNeedsMemory.for_ids (subst (λ (w : Window). (w.spare < unassigned_levels own.ids own.saved) ⊎ (own.spare < unassigned_levels own.ids own.saved)) table needs)
 root-before h h1 own size m within grown table indexes max_pages full (RootNeedsMemory.for_entry needs) = RootNeedsMemory.for_entry (subst (λ xs. NeedsEntry xs) indexes needs)
 root-before h h1 own size m within grown table indexes max_pages full (RootNeedsMemory.for_page chosen) =
     needs-before h own size m grown.page within grown.same.slots full (PlaceNeedsMemory.for_page (chosen-before h h1 size m grown max_pages to.NewPage chosen))
@@ -138,7 +138,7 @@ chosen-set h h' size m after found within is max_pages full still chosen =
     rw (is, max_pages) (place-set h.pages.pages h.max_pages size m after (place_of_target found) within (alike-full size (page_on h m) after full still) chosen)
 
 pub ready-set : (pages pages' : PagesView) (size m : ℕ) (after : PageView) (target : Target) → pages'.pages ≡ set pages.pages m after → pages'.spare ≡ pages.spare
-    → ¬ HasRoom size (page_in pages.pages m) → IsReady pages size target → IsReady pages' size target
+    → ¬ HasRoom size (page_in pages.pages m) → IsReserved pages size target → IsReserved pages' size target
 ready-set pages pages' size m after (Page n) is spare full (within, room, has_slot) =
     let other : n ≢ m = λ same. full (subst (λ k. size ≤ room_of (page_in pages.pages k).slots) same room) in
     let kept = sym (ap (λ ps. page_in ps n) is ∙ page-set_other pages.pages m n after other) in

@@ -11,7 +11,7 @@ use Rattle.page_slots.specs.View.{PageView}
 use Rattle.page_slots.proofs.SlotLemmas.{version-from_header}
 use Rattle.sound_entries.specs.Pages.{version_in}
 use Rattle.sound_entries.proofs.Fetching.{slots-there, row-nowhere}
-use Rattle.heap_write.specs.Walking.{NoneSeen, SeenRow}
+use Rattle.heap_write.specs.Walking.{NoneSeenFrom, SeenRow}
 
 version-there : (pages : List PageView) (place : Tid) (page : PageView) → slice_get pages place.page ≡ Some page
     → version_at page.slots place.slot ≡ version_in (map (λ (p : PageView). p.slots) pages) place
@@ -21,7 +21,7 @@ none-there : (o : Option Version) (t : Version) → None ≡ option_map (λ (t :
 none-there None t e is = absurd (cc)
 none-there (Some u) t e is = absurd (cc)
 
-pub none-nowhere : (seen : Header → Type 0) (pages : List PageView) (place : Tid) → slice_get pages place.page ≡ None → NoneSeen seen (map (λ (p : PageView). p.slots) pages) place
+pub none-nowhere : (seen : Header → Type 0) (pages : List PageView) (place : Tid) → slice_get pages place.page ≡ None → NoneSeenFrom seen (map (λ (p : PageView). p.slots) pages) place
 none-nowhere seen pages place none t is has = none-there (version_in (map (λ (p : PageView). p.slots) pages) place) t (row-nowhere pages place none) is
 
 headless : (o : Option Version) (t : Version) → option_map (λ (t : Version). t.header) o ≡ None → o ≡ Some t → ⊥
@@ -29,7 +29,7 @@ headless None t e is = absurd (cc)
 headless (Some u) t e is = absurd (cc)
 
 pub none-headless : (seen : Header → Type 0) (pages : List PageView) (place : Tid) (page : PageView) (r : Option Header) → slice_get pages place.page ≡ Some page
-    → r ≡ header_at page.slots place.slot → r ≡ None → NoneSeen seen (map (λ (p : PageView). p.slots) pages) place
+    → r ≡ header_at page.slots place.slot → r ≡ None → NoneSeenFrom seen (map (λ (p : PageView). p.slots) pages) place
 none-headless seen pages place page r at value none t is has =
     headless (version_at page.slots place.slot) t (sym value ∙ none) (version-there pages place page at ∙ is)
 
@@ -38,7 +38,7 @@ header-of None h t e is = absurd (cc)
 header-of (Some u) h t e is = sym (same_Some u.header h e) ∙ ap (λ (v : Version). v.header) (same_Some u t is)
 
 pub none-unseen : (seen : Header → Type 0) (pages : List PageView) (place : Tid) (page : PageView) (r : Option Header) (h : Header) → slice_get pages place.page ≡ Some page
-    → r ≡ header_at page.slots place.slot → r ≡ Some h → ¬ seen h → NoneSeen seen (map (λ (p : PageView). p.slots) pages) place
+    → r ≡ header_at page.slots place.slot → r ≡ Some h → ¬ seen h → NoneSeenFrom seen (map (λ (p : PageView). p.slots) pages) place
 none-unseen seen pages place page r h at value is not t there has =
     not (subst seen (sym (header-of (version_at page.slots place.slot) h t (sym value ∙ is) (version-there pages place page at ∙ there))) has)
 

@@ -16,7 +16,7 @@ use Rattle.hot_chain.specs.Chain.{is_root_in}
 use Rattle.prune.specs.declared.action.Action.{Action}
 use Rattle.prune.specs.declared.action.Action.TheVariants as action
 use Rattle.prune.specs.Actions.{acted}
-use Rattle.prune.specs.Pruning.{root_action, loose_in, Does, by_root, by_none, IsPruned}
+use Rattle.prune.specs.Pruning.{root_action, loose_in, PrunesSlot, by_root, by_none, IsPruned}
 use Rattle.heap_write.specs.Heap.{HeapView, page_on}
 use Rattle.heap_write.specs.Writes.{Prunes}
 use Rattle.heap_write.specs.Growth.{HasSlot, GrowsPage, page_in}
@@ -49,7 +49,7 @@ either-same : (here gone : Bool) (o : Option Action) → here ≢ true → acted
 either-same true gone o other = absurd (other refl)
 either-same false gone o other = unuse-same gone
 
-does-same : (w : Window) (horizon : ℕ) (slots : List Slot) (n : ℕ) (answer : Option Action) → slot_at slots n ≡ Some Unused → Does w horizon slots n answer
+does-same : (w : Window) (horizon : ℕ) (slots : List Slot) (n : ℕ) (answer : Option Action) → slot_at slots n ≡ Some Unused → PrunesSlot w horizon slots n answer
     → acted (Some Unused) answer ≡ Some Unused
 does-same w horizon slots n answer at (by_root root chain cut o c e) =
     let no_root : (n == root) ≢ true = λ here. true≢false (sym o.starts ∙ ap (λ k. is_root_in (slot_at slots k)) (sym (eqb-true n root here)) ∙ ap is_root_in at) in

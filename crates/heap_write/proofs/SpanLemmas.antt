@@ -7,11 +7,11 @@ use Rattle.std.specs.declared.cmp.Ordering.TheVariants.{Less, Equal, Greater}
 use Rattle.std.proofs.lemmas.Cmp.{ranked, int_ranked}
 use Rattle.std.proofs.lemmas.Int.{ints}
 use Rattle.root_index.specs.declared.entry.Entry.{Entry}
-use Rattle.root_index.specs.Order.{Precedes}
+use Rattle.root_index.specs.Order.{EntryPrecedes}
 use Rattle.root_index.specs.Sets.{IsLeast, IsBelow, IsOf}
 use Rattle.sound_entries.specs.Looking.{IsFirstOf}
-use Rattle.heap_write.specs.declared.walking.Mark.{Mark}
-use Rattle.heap_write.specs.declared.walking.Span.{Span}
+use Rattle.heap_write.specs.declared.index_scan.IndexPosition.{IndexPosition}
+use Rattle.heap_write.specs.declared.index_scan.IndexRange.{IndexRange}
 use Rattle.heap_write.specs.Walking.{ComesAfter, StartsIn, LiesIn}
 
 -- The order by value and key alone.
@@ -20,7 +20,7 @@ use Rattle.heap_write.specs.Walking.{ComesAfter, StartsIn, LiesIn}
 abbrev pub IsLower : Entry → Entry → Type 0
 IsLower a b = (a.value <ℤ b.value) ⊎ ((a.value ≡ b.value) × (a.key < b.key))
 
-pub lower-precedes : (a b : Entry) → IsLower a b → Precedes a b
+pub lower-precedes : (a b : Entry) → IsLower a b → EntryPrecedes a b
 lower-precedes a b (inl low) = rw (sym (int_cmp_is a.value b.value Less low)) refl
 lower-precedes a b (inr (same, low)) = rw (same, sym (int_cmp_is b.value b.value Equal refl), sym (nat_cmp_is a.key b.key Less low)) refl
 
@@ -43,14 +43,14 @@ above x y h = grind (arith, ints)
 -- Places of the order, and entries that are there.
 
 -- the place of this entry's value and key
-abbrev pub IsPlaceOf : Entry → Mark → Type 0
+abbrev pub IsPlaceOf : Entry → IndexPosition → Type 0
 IsPlaceOf f mark = (mark.value ≡ f.value) × (mark.key ≡ f.key)
 
-pub lower-from_after : (f e : Entry) (mark : Mark) → IsPlaceOf f mark → ComesAfter e (Some mark) → IsLower f e
+pub lower-from_after : (f e : Entry) (mark : IndexPosition) → IsPlaceOf f mark → ComesAfter e (Some mark) → IsLower f e
 lower-from_after f e mark is (inl lt) = inl (subst (λ v. v <ℤ e.value) is.0 lt)
 lower-from_after f e mark is (inr (same, lt)) = inr (sym is.0 ∙ same, subst (λ k. k < e.key) is.1 lt)
 
-pub after-from_lower : (f e : Entry) (mark : Mark) → IsPlaceOf f mark → IsLower f e → ComesAfter e (Some mark)
+pub after-from_lower : (f e : Entry) (mark : IndexPosition) → IsPlaceOf f mark → IsLower f e → ComesAfter e (Some mark)
 after-from_lower f e mark is (inl lt) = inl (subst (λ v. v <ℤ e.value) (sym is.0) lt)
 after-from_lower f e mark is (inr (same, lt)) = inr (is.0 ∙ same, subst (λ k. k < e.key) (sym is.1) lt)
 
@@ -60,11 +60,11 @@ least-same : (entries : List Entry) (P Q : Entry → Type 0) (r : Option Entry) 
 least-same entries P Q None same least = λ e there q. least e there ((same e).1 q)
 least-same entries P Q (Some f) same least = (least.0, (same f).0 least.1, λ e there q. least.2 e there ((same e).1 q))
 
-from-after : (low : ℤ) (mark : Mark) (e : Entry) → low ≤ℤ mark.value → ComesAfter e (Some mark) → low ≤ℤ e.value
+from-after : (low : ℤ) (mark : IndexPosition) (e : Entry) → low ≤ℤ mark.value → ComesAfter e (Some mark) → low ≤ℤ e.value
 from-after low mark e le (inl lt) = omega (arith, ints, le, lt)
 from-after low mark e le (inr (same, lt)) = omega (arith, ints, le, same)
 
-pub starts-after : (entries : List Entry) (span : Span) (last : Mark) (r : Option Entry) → span.last ≡ Some last → span.low ≤ℤ last.value → IsLeast entries (λ e. ComesAfter e (Some last)) r
+pub starts-after : (entries : List Entry) (span : IndexRange) (last : IndexPosition) (r : Option Entry) → span.last ≡ Some last → span.low ≤ℤ last.value → IsLeast entries (λ e. ComesAfter e (Some last)) r
     → IsLeast entries (StartsIn span) r
 starts-after entries span last r is le least = least-same entries (λ e. ComesAfter e (Some last)) (StartsIn span) r (λ e. (
   λ after. record { from = from-after span.low last e le after; after = subst (ComesAfter e) (sym is) after },
@@ -72,13 +72,13 @@ starts-after entries span last r is le least = least-same entries (λ e. ComesAf
 )) least
 
 -- what is not below the low value comes after the last place
-abbrev pub AllAfter : Span → Type 0
+abbrev pub AllAfter : IndexRange → Type 0
 AllAfter span = (e : Entry) → span.low ≤ℤ e.value → ComesAfter e span.last
 
-pub all-after_none : (span : Span) → span.last ≡ None → AllAfter span
+pub all-after_none : (span : IndexRange) → span.last ≡ None → AllAfter span
 all-after_none span is e le = subst (ComesAfter e) (sym is) tt
 
-pub all-after_lower : (span : Span) (last : Mark) → span.last ≡ Some last → ¬ (span.low ≤ℤ last.value) → AllAfter span
+pub all-after_lower : (span : IndexRange) (last : IndexPosition) → span.last ≡ Some last → ¬ (span.low ≤ℤ last.value) → AllAfter span
 all-after_lower span last is over e le = subst (ComesAfter e) (sym is) (inl (let lt = above span.low last.value over in omega (arith, ints, lt, le)))
 
 not_below : (low : ℤ) (e : Entry) → low ≤ℤ e.value → ¬ IsBelow low 0 e
@@ -88,7 +88,7 @@ not_below low e le (inr (same, lt)) = omega (arith, lt)
 from-not_below : (low : ℤ) (e : Entry) → ¬ IsBelow low 0 e → low ≤ℤ e.value
 from-not_below low e h = let no : ¬ (e.value <ℤ low) = λ lt. h (inl lt) in grind (arith, ints)
 
-pub starts-from : (entries : List Entry) (span : Span) (r : Option Entry) → AllAfter span → IsLeast entries (λ e. ¬ IsBelow span.low 0 e) r → IsLeast entries (StartsIn span) r
+pub starts-from : (entries : List Entry) (span : IndexRange) (r : Option Entry) → AllAfter span → IsLeast entries (λ e. ¬ IsBelow span.low 0 e) r → IsLeast entries (StartsIn span) r
 starts-from entries span r all least = least-same entries (λ e. ¬ IsBelow span.low 0 e) (StartsIn span) r (λ e. (
   λ h. let le = from-not_below span.low e h in record { from = le; after = all e le },
   λ starts. not_below span.low e starts.from,
@@ -96,12 +96,12 @@ starts-from entries span r all least = least-same entries (λ e. ¬ IsBelow span
 
 -- Whether an entry lies in a span goes by its value and its key alone.
 
-after-alike : (f e : Entry) (o : Option Mark) → IsOf f.value f.key e → ComesAfter f o → ComesAfter e o
+after-alike : (f e : Entry) (o : Option IndexPosition) → IsOf f.value f.key e → ComesAfter f o → ComesAfter e o
 after-alike f e None of after = tt
 after-alike f e (Some m) of (inl lt) = inl (subst (λ v. m.value <ℤ v) (sym of.0) lt)
 after-alike f e (Some m) of (inr (same, lt)) = inr (same ∙ sym of.0, subst (λ k. m.key < k) (sym of.1) lt)
 
-lies-alike : (span : Span) (f e : Entry) → IsOf f.value f.key e → LiesIn span f → LiesIn span e
+lies-alike : (span : IndexRange) (f e : Entry) → IsOf f.value f.key e → LiesIn span f → LiesIn span e
 lies-alike span f e of lies = record {
   from = subst (λ v. span.low ≤ℤ v) (sym of.0) lies.from;
   to = subst (λ v. v ≤ℤ span.high) (sym of.0) lies.to;
@@ -109,5 +109,5 @@ lies-alike span f e of lies = record {
 }
 
 -- so the first entry of a span is the first of its value and its key
-pub first-in_span : (entries : List Entry) (span : Span) (f : Entry) → IsLeast entries (LiesIn span) (Some f) → IsFirstOf entries f
+pub first-in_span : (entries : List Entry) (span : IndexRange) (f : Entry) → IsLeast entries (LiesIn span) (Some f) → IsFirstOf entries f
 first-in_span entries span f least = (least.0, ((refl, refl), tt), λ e there is. least.2 e there (lies-alike span f e is.0 least.1))

@@ -12,17 +12,17 @@ use Rattle.page_slots.specs.declared.slot.Slot.{Slot}
 use Rattle.page_slots.specs.Slots.{room_of}
 use Rattle.heap_pages.specs.Choice.{HasRoom}
 use Rattle.commit_status.specs.Window.{Window}
-use Rattle.snapshot.specs.Own.{Own, lacks}
+use Rattle.snapshot.specs.Own.{Own, unassigned_levels}
 use Rattle.heap_write.specs.declared.target.Target.{Target}
 use Rattle.heap_write.specs.declared.heap.WriteFault.{WriteFault}
 use Rattle.heap_write.specs.declared.heap.WriteFault.TheVariants.{Gone, NeedsFreeze as needs_freeze, NoRoom, NoMemory}
 use Rattle.heap_write.specs.Heap.{HeapView, unused_page, page_on, Keeps}
-use Rattle.heap_write.specs.Writes.{NeedsFreeze, TakesIds, SameOwn, Prunes, ReplacesOnPage, Replaces, Updates}
-use Rattle.heap_write.specs.Writes.Readies.{has_room, is_pruned}
+use Rattle.heap_write.specs.Writes.{NeedsFreeze, TakesIds, SameOwn, Prunes, UpdatesOnPage, Replaces, Updates}
+use Rattle.heap_write.specs.Writes.PrunesIfFull.{has_room, is_pruned}
 use Rattle.heap_write.specs.Writes.Replaces.{on_page}
-use Rattle.heap_write.specs.Refusals.{IsThere, UpdateNeedsMemory, WhenReady, FailsUpdate}
-use Rattle.heap_write.specs.Growth.{page_in, IsReady}
-use Rattle.heap_write.specs.Steps.{IsChosen, FailsReady}
+use Rattle.heap_write.specs.Refusals.{VersionIsThere, UpdateNeedsMemory, AfterPruning, FailsUpdate}
+use Rattle.heap_write.specs.Growth.{page_in, IsReserved}
+use Rattle.heap_write.specs.Steps.{IsChosen, FailsAfterPruning}
 use Rattle.heap_write.proofs.PageLemmas.{page-set, keeps-all}
 use Rattle.heap_write.proofs.IdLemmas.{takes-grown}
 use Rattle.heap_write.proofs.Reserving.{chosen-set, ready-set}
@@ -60,15 +60,15 @@ pruned-chosen h ready n horizon size found p full chosen still =
     (no-room size (room_of p.after.slots) (subst (λ (q : PageView). room_of q.slots < size) after still)) chosen
 
 pub pruned-ready : (h ready : HeapView) (n horizon size : ℕ) (target : Target) → Prunes h ready n horizon → ¬ HasRoom size (page_on h n)
-    → IsReady h.pages size target → IsReady ready.pages size target
+    → IsReserved h.pages size target → IsReserved ready.pages size target
 pruned-ready h ready n horizon size target p full is_ready =
     ready-set h.pages ready.pages size n p.after target (ap (λ (v : HeapView). v.pages.pages) p.is) (ap (λ (v : HeapView). v.pages.spare) p.is) full is_ready
 
 -- The update of a version whose page has room.
 
-pub updates-here : (h h' : HeapView) (own own' : Own) (place : Tid) (row : Row) (horizon : ℕ) (r : Result Xid WriteFault) → ¬ NeedsFreeze h.table own → IsThere h place
+pub updates-here : (h h' : HeapView) (own own' : Own) (place : Tid) (row : Row) (horizon : ℕ) (r : Result Xid WriteFault) → ¬ NeedsFreeze h.table own → VersionIsThere h place
     → rounded_size_of row ≤ room_of (page_on h place.page).slots → h'.max_pages ≡ h.max_pages
-    → IfOk r (λ x. TakesIds h.table h'.table own own' x.0) → IfOk r (λ x. ReplacesOnPage h h' place x.0 row) → IfOk r (λ x. Updates h h' own own' place row horizon x.0)
+    → IfOk r (λ x. TakesIds h.table h'.table own own' x.0) → IfOk r (λ x. UpdatesOnPage h h' place x.0 row) → IfOk r (λ x. Updates h h' own own' place row horizon x.0)
 updates-here h h' own own' place row horizon (Ok x) free there room max_pages takes replaces = record {
   free = free;
   takes_ids = takes;
@@ -80,7 +80,7 @@ updates-here h h' own own' place row horizon (Ok x) free there room max_pages ta
 }
 updates-here h h' own own' place row horizon (Err fault) free there room max_pages takes replaces = takes
 
-pub here-fails : (h h' : HeapView) (own : Own) (place : Tid) (row : Row) (horizon : ℕ) (r : Result Xid WriteFault) → IsThere h place → ¬ NeedsFreeze h.table own
+pub here-fails : (h h' : HeapView) (own : Own) (place : Tid) (row : Row) (horizon : ℕ) (r : Result Xid WriteFault) → VersionIsThere h place → ¬ NeedsFreeze h.table own
     → IfErr r (λ fault. fault ≡ NoMemory) → OnErr r (UpdateNeedsMemory h own place row) → OnErr r (Keeps h h')
     → IfErr r (λ fault. FailsUpdate h h' own place row horizon fault)
 here-fails h h' own place row horizon (Ok x) there free no_memory needs keeps = no_memory
@@ -90,8 +90,8 @@ here-fails h h' own place row horizon (Err fault) there free no_memory needs kee
 -- The update after the page was pruned.
 
 pub updates : (h grown ready h' : HeapView) (own grown_own own' : Own) (place : Tid) (row : Row) (horizon x : ℕ) → ¬ NeedsFreeze h.table own
-    → room_of (page_on h place.page).slots < rounded_size_of row → Keeps h grown → SameOwn own grown_own → (lacks own.ids own.saved ≡ 0 → grown.table ≡ h.table) → Prunes grown ready place.page horizon
-    → TakesIds ready.table h'.table grown_own own' x → IsThere ready place → Replaces ready h' place x row → h'.max_pages ≡ ready.max_pages → Updates h h' own own' place row horizon x
+    → room_of (page_on h place.page).slots < rounded_size_of row → Keeps h grown → SameOwn own grown_own → (unassigned_levels own.ids own.saved ≡ 0 → grown.table ≡ h.table) → Prunes grown ready place.page horizon
+    → TakesIds ready.table h'.table grown_own own' x → VersionIsThere ready place → Replaces ready h' place x row → h'.max_pages ≡ ready.max_pages → Updates h h' own own' place row horizon x
 updates h grown ready h' own grown_own own' place row horizon x free full keeps same none prunes takes there replaces max_pages = record {
   free = free;
   takes_ids = takes-grown h.table grown.table h'.table own grown_own own' x keeps.table same none (subst (λ (w : Window). TakesIds w h'.table grown_own own' x) (ap (λ (v : HeapView). v.table) prunes.is) takes);
@@ -102,12 +102,12 @@ updates h grown ready h' own grown_own own' place row horizon x free full keeps 
   max_pages = max_pages ∙ ap (λ (v : HeapView). v.max_pages) prunes.is ∙ keeps.max_pages;
 }
 
-pub fails : (h grown ready h' : HeapView) (own : Own) (place : Tid) (row : Row) (horizon : ℕ) (fault : WriteFault) → IsThere h place → ¬ NeedsFreeze h.table own
+pub fails : (h grown ready h' : HeapView) (own : Own) (place : Tid) (row : Row) (horizon : ℕ) (fault : WriteFault) → VersionIsThere h place → ¬ NeedsFreeze h.table own
     → room_of (page_on h place.page).slots < rounded_size_of row → Keeps h grown → Prunes grown ready place.page horizon → h' ≡ ready
-    → FailsReady ready place (rounded_size_of row) fault → FailsUpdate h h' own place row horizon fault
+    → FailsAfterPruning ready place (rounded_size_of row) fault → FailsUpdate h h' own place row horizon fault
 fails h grown ready h' own place row horizon fault there free full keeps prunes same failed = by fault failed
   where
-    when : (P : HeapView → Type 0) → P ready → WhenReady h h' own place horizon (rounded_size_of row) P
+    when : (P : HeapView → Type 0) → P ready → AfterPruning h h' own place horizon (rounded_size_of row) P
     when P has = record {
       there = there;
       free = free;
@@ -117,7 +117,7 @@ fails h grown ready h' own place row horizon fault there free full keeps prunes 
       keeps = subst (λ v. Keeps ready v) (sym same) (keeps-all ready);
     }
 
-    by : (fault : WriteFault) → FailsReady ready place (rounded_size_of row) fault → FailsUpdate h h' own place row horizon fault
+    by : (fault : WriteFault) → FailsAfterPruning ready place (rounded_size_of row) fault → FailsUpdate h h' own place row horizon fault
     by Gone gone = inr (when _ gone)
     by needs_freeze never = absurd never
     by NoRoom has = when _ has

@@ -12,33 +12,33 @@ use Rattle.root_index.specs.Order.{IsAscending}
 use Rattle.root_index.specs.Sets.{IsLeast}
 use Rattle.root_index.proofs.SetLemmas.{place_of, start_after}
 use Rattle.sound_entries.specs.Looking.{FirstFound}
-use Rattle.heap_write.specs.declared.walking.Mark.{Mark}
-use Rattle.heap_write.specs.declared.walking.Span.{Span}
-use Rattle.heap_write.specs.Walking.{ComesBefore, ComesAfter, LiesIn, IsNextRow}
+use Rattle.heap_write.specs.declared.index_scan.IndexPosition.{IndexPosition}
+use Rattle.heap_write.specs.declared.index_scan.IndexRange.{IndexRange}
+use Rattle.heap_write.specs.Walking.{IsBeforePosition, ComesAfter, LiesIn, IsNextRow}
 use Rattle.heap_write.proofs.SpanLemmas.{IsLower, lower-precedes, lower-cases, IsPlaceOf, lower-from_after, after-from_lower}
 
 -- After some turns this part of the span is left.
-pub record Walked (entries : List Entry) (HasNone : ℤ → ℕ → Type 0) (span left : Span) (turn : ℕ) : Type 0 where
+pub record Walked (entries : List Entry) (HasNone : ℤ → ℕ → Type 0) (span left : IndexRange) (turn : ℕ) : Type 0 where
   pub of : (e : Entry) → LiesIn left e → LiesIn span e
   pub rest : (e : Entry) → Contains entries e → LiesIn span e → LiesIn left e ⊎ HasNone e.value e.key
   -- each turn leaves an entry behind
   pub behind : (k : ℕ) (e : Entry) → k < turn → slice_get entries k ≡ Some e → ¬ LiesIn left e
 
 -- what is left of a span after this place
-abbrev pub past : Span → Mark → Span
+abbrev pub past : IndexRange → IndexPosition → IndexRange
 past left mark = record left { last = Some mark }
 
-after-then : (e f : Entry) (o : Option Mark) → ComesAfter f o → IsLower f e → ComesAfter e o
+after-then : (e f : Entry) (o : Option IndexPosition) → ComesAfter f o → IsLower f e → ComesAfter e o
 after-then e f None after later = tt
 after-then e f (Some m) (inl lt) (inl lt') = inl (omega (arith, ints, lt, lt'))
 after-then e f (Some m) (inl lt) (inr (same, lt')) = inl (omega (arith, ints, lt, same))
 after-then e f (Some m) (inr (same, lt)) (inl lt') = inl (omega (arith, ints, same, lt'))
 after-then e f (Some m) (inr (same, lt)) (inr (same', lt')) = inr (same ∙ same', omega (arith, lt, lt'))
 
-past-of : (left : Span) (f e : Entry) (mark : Mark) → IsPlaceOf f mark → LiesIn left f → LiesIn (past left mark) e → LiesIn left e
+past-of : (left : IndexRange) (f e : Entry) (mark : IndexPosition) → IsPlaceOf f mark → LiesIn left f → LiesIn (past left mark) e → LiesIn left e
 past-of left f e mark is first lies = record { from = lies.from; to = lies.to; after = after-then e f left.last first.after (lower-from_after f e mark is lies.after) }
 
-past-rest : (entries : List Entry) (HasNone : ℤ → ℕ → Type 0) (left : Span) (f e : Entry) (mark : Mark) → IsPlaceOf f mark → IsLeast entries (LiesIn left) (Some f) → HasNone f.value f.key
+past-rest : (entries : List Entry) (HasNone : ℤ → ℕ → Type 0) (left : IndexRange) (f e : Entry) (mark : IndexPosition) → IsPlaceOf f mark → IsLeast entries (LiesIn left) (Some f) → HasNone f.value f.key
     → Contains entries e → LiesIn left e → LiesIn (past left mark) e ⊎ HasNone e.value e.key
 past-rest entries HasNone left f e mark is least none there lies = elim (lower-cases e f) [
   | inl lower ↦ absurd (least.2 e there lies (lower-precedes e f lower))
@@ -48,13 +48,13 @@ past-rest entries HasNone left f e mark is least none there lies = elim (lower-c
   ]
 ]
 
-reached : (entries : List Entry) (HasNone : ℤ → ℕ → Type 0) (span left : Span) (turn i : ℕ) (f : Entry) → Walked entries HasNone span left turn → slice_get entries i ≡ Some f → LiesIn left f → turn ≤ i
+reached : (entries : List Entry) (HasNone : ℤ → ℕ → Type 0) (span left : IndexRange) (turn i : ℕ) (f : Entry) → Walked entries HasNone span left turn → slice_get entries i ≡ Some f → LiesIn left f → turn ≤ i
 reached entries HasNone span left turn i f l at lies = elim (cases_lt i turn) [
   | inl lt ↦ absurd (l.behind i f lt at lies)
   | inr le ↦ le
 ]
 
-pub walked-on : (entries : List Entry) (HasNone : ℤ → ℕ → Type 0) (span left : Span) (turn : ℕ) (f : Entry) (mark : Mark) → IsAscending entries → Walked entries HasNone span left turn
+pub walked-on : (entries : List Entry) (HasNone : ℤ → ℕ → Type 0) (span left : IndexRange) (turn : ℕ) (f : Entry) (mark : IndexPosition) → IsAscending entries → Walked entries HasNone span left turn
     → IsLeast entries (LiesIn left) (Some f) → IsPlaceOf f mark → HasNone f.value f.key → Walked entries HasNone span (past left mark) (turn + 1)
 walked-on entries HasNone span left turn f mark up l least is none = record {
   of = λ e lies. l.of e (past-of left f e mark is least.1 lies);
@@ -67,7 +67,7 @@ walked-on entries HasNone span left turn f mark up l least is none = record {
 
 -- The end, of one kind or the other.
 
-pub walked-end : (entries : List Entry) (HasNone : ℤ → ℕ → Type 0) (span left : Span) (turn : ℕ) → Walked entries HasNone span left turn → length entries ≤ turn
+pub walked-end : (entries : List Entry) (HasNone : ℤ → ℕ → Type 0) (span left : IndexRange) (turn : ℕ) → Walked entries HasNone span left turn → length entries ≤ turn
     → (e : Entry) → Contains entries e → LiesIn span e → HasNone e.value e.key
 walked-end entries HasNone span left turn l all e there lies = ⊎_elim
     (λ in_left.
@@ -77,11 +77,11 @@ walked-end entries HasNone span left turn l all e there lies = ⊎_elim
     (λ has. has)
     (l.rest e there lies)
 
-before-lower : (f e : Entry) (mark : Mark) → IsPlaceOf f mark → ComesBefore e mark → IsLower e f
+before-lower : (f e : Entry) (mark : IndexPosition) → IsPlaceOf f mark → IsBeforePosition e mark → IsLower e f
 before-lower f e mark is (inl lt) = inl (subst (λ v. e.value <ℤ v) is.0 lt)
 before-lower f e mark is (inr (same, lt)) = inr (same ∙ is.0, subst (λ k. e.key < k) is.1 lt)
 
-pub walked-row : (w : Window) (seen : Header → Type 0) (pages : List (List Slot)) (entries : List Entry) (span left : Span) (turn : ℕ) (f : Entry) (mark : Mark) (row : Row)
+pub walked-row : (w : Window) (seen : Header → Type 0) (pages : List (List Slot)) (entries : List Entry) (span left : IndexRange) (turn : ℕ) (f : Entry) (mark : IndexPosition) (row : Row)
     → Walked entries (λ value key. FirstFound w seen pages entries value key None) span left turn → IsLeast entries (LiesIn left) (Some f) → IsPlaceOf f mark
     → FirstFound w seen pages entries f.value f.key (Some row) → IsNextRow w seen pages entries span mark row
 walked-row w seen pages entries span left turn f mark row l least is found = record {

@@ -9,24 +9,24 @@ use Rattle.page_slots.specs.View.{PageView}
 use Rattle.page_slots.specs.Slots.{room_of, free_number, next_change, row_at, IsNormalAt}
 use Rattle.snapshot.specs.Own.{Own}
 use Rattle.std.proofs.lemmas.Option.{slice_get_within}
-use Rattle.page_writes.specs.Writes.{with_root, with_replaced, with_updated, replaced_change}
+use Rattle.tuple_writes.specs.Writes.{with_root, with_replaced, with_updated, replaced_change}
 use Rattle.heap_pages.specs.View.{PagesView}
-use Rattle.heap_pages.specs.declared.pages.Place.TheVariants as to
+use Rattle.heap_pages.specs.declared.pages.Placement.TheVariants as to
 use Rattle.heap_write.specs.declared.target.Target.{Target}
 use Rattle.heap_write.specs.declared.target.Target.TheVariants.{Page, New}
 use Rattle.heap_write.specs.Heap.{HeapView, unused_page, page_on, PutsPage}
 use Rattle.heap_write.specs.Heap.PutsPage.{in_use, after_all}
 use Rattle.heap_write.specs.Indexes.{entries_at, SameEntries, Enters}
-use Rattle.heap_write.specs.Writes.{NeedsFreeze, TakesIds, GoesTo, PutsRoot, TakesAway, ReplacesHere, ReplacesByRoot, KeepsValues, ReplacesOnPage, Inserts, Deletes, Replaces}
-use Rattle.heap_write.specs.Writes.ReplacesOnPage.{heap_only, as_root}
+use Rattle.heap_write.specs.Writes.{NeedsFreeze, TakesIds, GoesTo, PutsRoot, SetsXmax, HotUpdates, ColdUpdates, KeepsValues, UpdatesOnPage, Inserts, Deletes, Replaces}
+use Rattle.heap_write.specs.Writes.UpdatesOnPage.{heap_only, as_root}
 use Rattle.heap_write.specs.Writes.Replaces.{elsewhere}
-use Rattle.heap_write.specs.Refusals.{IsThere}
+use Rattle.heap_write.specs.Refusals.{VersionIsThere}
 use Rattle.heap_write.specs.Growth.{page_in, SamePage, GrowsPage, Reserves, target_number}
 use Rattle.heap_write.specs.Steps.{IsChosen}
 use Rattle.heap_write.proofs.PageLemmas.{page-at, puts-grown, page-set, page-set_other, there-within}
 use Rattle.heap_write.proofs.PlaceLemmas.{page-place}
 use Rattle.heap_write.proofs.Columns.{entries-then, enters-grown, values-grown}
-use Rattle.page_writes.proofs.Altered.{normal-added}
+use Rattle.tuple_writes.proofs.Altered.{normal-added}
 use Rattle.std.proofs.lemmas.Bool.{cases_eq}
 
 -- what is so of both, where two things are said of what is done
@@ -70,7 +70,7 @@ root-grown h h1 h' updated x row n grown root =
       entries = subst (λ slots. E (free_number slots)) grown.same.slots (enters-grown h.indexes h1.indexes h'.indexes row _ grown.entries root.entries);
     }
 
-pub here-grown : (h h1 h' : HeapView) (place : Tid) (x : ℕ) (row : Row) → Grown h h1 place.page → ReplacesHere h1 h' place x row → ReplacesHere h h' place x row
+pub here-grown : (h h1 h' : HeapView) (place : Tid) (x : ℕ) (row : Row) → Grown h h1 place.page → HotUpdates h1 h' place x row → HotUpdates h h' place x row
 here-grown h h1 h' place x row grown here = record {
   page = here.page;
   puts = grown.puts h'.pages.pages here.page here.puts;
@@ -135,7 +135,7 @@ puts-same pages pages' n page within (in_use lt is) = ap (λ ps. page_in ps n) i
 puts-same pages pages' n page within (after_all over is) = absurd (let no : 1 ≤ 0 = omega (arith, within, over) in omega (arith, no))
 
 -- a version goes to another page than one that has no room for it
-pub goes-elsewhere : (h : HeapView) (place : Tid) (size : ℕ) (target : Target) → IsThere h place → room_of (page_on h place.page).slots < size
+pub goes-elsewhere : (h : HeapView) (place : Tid) (size : ℕ) (target : Target) → VersionIsThere h place → room_of (page_on h place.page).slots < size
     → IsChosen h size (Some target) → (target_number h.pages.pages target ≢ place.page) × GoesTo h size (target_number h.pages.pages target)
 goes-elsewhere h place size (Page n) there full chosen = (
   λ same. let room = (page-place h.pages.pages h.max_pages size n chosen).1 in
@@ -148,14 +148,14 @@ goes-elsewhere h place size (New page) there full chosen = (
 )
 
 -- the update of a version whose page has no room for the row
-pub replaces-elsewhere : (h h' : HeapView) (place : Tid) (x : ℕ) (row : Row) (target : Target) → IsThere h place → room_of (page_on h place.page).slots < rounded_size_of row
-    → IsChosen h (rounded_size_of row) (Some target) → ReplacesByRoot h h' place x row (target_number h.pages.pages target) → Replaces h h' place x row
+pub replaces-elsewhere : (h h' : HeapView) (place : Tid) (x : ℕ) (row : Row) (target : Target) → VersionIsThere h place → room_of (page_on h place.page).slots < rounded_size_of row
+    → IsChosen h (rounded_size_of row) (Some target) → ColdUpdates h h' place x row (target_number h.pages.pages target) → Replaces h h' place x row
 replaces-elsewhere h h' place x row target there full chosen replaces =
     let goes = goes-elsewhere h place (rounded_size_of row) target there full chosen in
     elsewhere full (target_number h.pages.pages target) goes.0 goes.1 replaces
 
 -- what was done to the page of the old version
-pub record MovesAway (before after : PageView) (place successor : Tid) (x : ℕ) : Type 0 where
+pub record MarksColdUpdated (before after : PageView) (place successor : Tid) (x : ℕ) : Type 0 where
   pub slots : after.slots ≡ with_replaced before.slots place.slot x successor.page successor.slot false
   pub change : after.change ≡ replaced_change before.slots place.slot x successor.page successor.slot false before.change
   pub flag : after.flag ≡ before.flag
@@ -163,18 +163,18 @@ pub record MovesAway (before after : PageView) (place successor : Tid) (x : ℕ)
 pub moves : (h h1 middle h' : HeapView) (place successor : Tid) (x : ℕ) (row : Row) (target : Target) (before after : PageView)
     → h1.pages ≡ h.pages → h1.indexes ≡ h.indexes → PutsRoot h1 middle true x row successor.page
     → successor.page ≡ target_number h1.pages.pages target → successor.slot ≡ free_number (page_on h1 successor.page).slots
-    → slice_get middle.pages.pages place.page ≡ Some before → MovesAway before after place successor x
-    → h'.pages.pages ≡ set middle.pages.pages place.page after → h'.indexes ≡ middle.indexes → ReplacesByRoot h h' place x row (target_number h.pages.pages target)
+    → slice_get middle.pages.pages place.page ≡ Some before → MarksColdUpdated before after place successor x
+    → h'.pages.pages ≡ set middle.pages.pages place.page after → h'.indexes ≡ middle.indexes → ColdUpdates h h' place x row (target_number h.pages.pages target)
 moves h h1 middle h' place successor x row target before after same_pages same_indexes root page slot at away pages indexes =
     let same = ap (λ (p : PagesView). p.pages) same_pages in
     let number : successor.page ≡ target_number h.pages.pages target = page ∙ ap (λ ps. target_number ps target) same in
     let free : successor.slot ≡ free_number (page_on h successor.page).slots = slot ∙ ap (λ (p : PagesView). free_number (page_in p.pages successor.page).slots) same_pages in
     let grown = grown-none h h1 successor.page same (λ n. ap (λ is. entries_at is n) same_indexes) in
     let is = page-at middle.pages.pages place.page before at in
-    let T : PageView → Tid → Type 0 = λ page to. MovesAway page after place to x in
+    let T : PageView → Tid → Type 0 = λ page to. MarksColdUpdated page after place to x in
     let moved : T (page_on middle place.page) (record { page = successor.page; slot = free_number (page_on h successor.page).slots }) =
     subst (λ page. T page (record { page = successor.page; slot = free_number (page_on h successor.page).slots })) (sym is) (subst (λ n. T before (record { page = successor.page; slot = n })) free away) in
-    subst (λ n. ReplacesByRoot h h' place x row n) number (record {
+    subst (λ n. ColdUpdates h h' place x row n) number (record {
       middle = middle;
       root = root-grown h h1 middle true x row successor.page grown root;
       away = record {
@@ -193,9 +193,9 @@ puts-within pages pages' n m page within (after_all over is) = let long = ap len
 
 -- the old version is still there when the new one has come
 pub stays-there : (h h1 middle : HeapView) (place : Tid) (x : ℕ) (row : Row) (n : ℕ) (before : PageView)
-    → h1.pages ≡ h.pages → IsThere h place → PutsRoot h1 middle true x row n → slice_get middle.pages.pages place.page ≡ Some before → IsNormalAt before.slots place.slot
+    → h1.pages ≡ h.pages → VersionIsThere h place → PutsRoot h1 middle true x row n → slice_get middle.pages.pages place.page ≡ Some before → IsNormalAt before.slots place.slot
 stays-there h h1 middle place x row n before same_pages there root at =
-    let there_1 : IsThere h1 place = subst (λ (p : PagesView). IsNormalAt (page_in p.pages place.page).slots place.slot) (sym same_pages) there in
+    let there_1 : VersionIsThere h1 place = subst (λ (p : PagesView). IsNormalAt (page_in p.pages place.page).slots place.slot) (sym same_pages) there in
     let within = there-within h1 place there_1 in
     let is : page_on middle place.page ≡ before = page-at middle.pages.pages place.page before at in
     elim (cases_eq place.page n) [
@@ -216,13 +216,13 @@ grown-page h h1 n within grows same = grown-set h h1 n grows.page within (ap (λ
 
 -- An update on the page, said of the table before the page grew.
 
-pub on_page-grown : (h h1 h' : HeapView) (place : Tid) (x : ℕ) (row : Row) → Grown h h1 place.page → ReplacesOnPage h1 h' place x row → ReplacesOnPage h h' place x row
+pub on_page-grown : (h h1 h' : HeapView) (place : Tid) (x : ℕ) (row : Row) → Grown h h1 place.page → UpdatesOnPage h1 h' place x row → UpdatesOnPage h h' place x row
 on_page-grown h h1 h' place x row grown (heap_only keeps here) = heap_only (values-back h h1 place row grown.same.slots grown.entries keeps) (here-grown h h1 h' place x row grown here)
 on_page-grown h h1 h' place x row grown (as_root changes replaces) =
     as_root (λ keeps. changes (values-kept h h1 place row grown.same.slots grown.entries keeps)) (record {
       middle = replaces.middle;
       root = root-grown h h1 replaces.middle true x row place.page grown replaces.root;
-      away = subst (λ slots. TakesAway replaces.middle h' place x (record { page = place.page; slot = free_number slots })) grown.same.slots replaces.away;
+      away = subst (λ slots. SetsXmax replaces.middle h' place x (record { page = place.page; slot = free_number slots })) grown.same.slots replaces.away;
     })
 
 -- An update on the page.
@@ -231,7 +231,7 @@ pub replaces-here : (h h' : HeapView) (place : Tid) (x : ℕ) (row : Row) (befor
     → after.slots ≡ with_updated before.slots place.slot x place.page row
     → after.change ≡ replaced_change before.slots place.slot x place.page (free_number before.slots) true (next_change before.change)
     → after.flag ≡ before.flag → free_number before.slots ≤ 291
-    → h'.pages.pages ≡ set h.pages.pages place.page after → SameEntries h.indexes h'.indexes → ReplacesHere h h' place x row
+    → h'.pages.pages ≡ set h.pages.pages place.page after → SameEntries h.indexes h'.indexes → HotUpdates h h' place x row
 replaces-here h h' place x row before after at slots change flag within pages entries =
     let same : before ≡ page_on h place.page = sym (page-at h.pages.pages place.page before at) in
     record {
@@ -247,10 +247,10 @@ replaces-here h h' place x row before after at slots change flag within pages en
 -- A delete.
 
 pub deletes : (h h' : HeapView) (own own' : Own) (place : Tid) (x : ℕ) (before after : PageView) → ¬ NeedsFreeze h.table own → TakesIds h.table h'.table own own' x
-    → IsThere h place → slice_get h.pages.pages place.page ≡ Some before → MovesAway before after place place x
+    → VersionIsThere h place → slice_get h.pages.pages place.page ≡ Some before → MarksColdUpdated before after place place x
     → h'.pages.pages ≡ set h.pages.pages place.page after → SameEntries h.indexes h'.indexes → h'.max_pages ≡ h.max_pages → Deletes h h' own own' place x
 deletes h h' own own' place x before after free takes there at away pages entries max_pages =
-    let moved : MovesAway (page_on h place.page) after place place x = subst (λ page. MovesAway page after place place x) (sym (page-at h.pages.pages place.page before at)) away in
+    let moved : MarksColdUpdated (page_on h place.page) after place place x = subst (λ page. MarksColdUpdated page after place place x) (sym (page-at h.pages.pages place.page before at)) away in
     record {
       free = free;
       takes_ids = takes;

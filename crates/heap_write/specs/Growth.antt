@@ -4,12 +4,12 @@ use Rattle.tuple_header.specs.declared.version.Row.{Row}
 use Rattle.page_slots.specs.View.{PageView}
 use Rattle.page_slots.specs.Slots.{room_of, has_unused, free_number, next_change}
 use Rattle.commit_status.specs.Window.{Window}
-use Rattle.snapshot.specs.Own.{Own, lacks}
-use Rattle.page_writes.specs.Writes.{with_root}
+use Rattle.snapshot.specs.Own.{Own, unassigned_levels}
+use Rattle.tuple_writes.specs.Writes.{with_root}
 use Rattle.heap_pages.specs.Choice.{IsPlaceFor}
 use Rattle.heap_pages.specs.View.{PagesView, with_page}
-use Rattle.heap_pages.specs.declared.pages.Place.{Place}
-use Rattle.heap_pages.specs.declared.pages.Place.TheVariants as place
+use Rattle.heap_pages.specs.declared.pages.Placement.{Placement}
+use Rattle.heap_pages.specs.declared.pages.Placement.TheVariants as place
 use Rattle.heap_write.specs.declared.target.Target.{Target}
 use Rattle.heap_write.specs.declared.target.Target.TheVariants.{Page, New}
 use Rattle.heap_write.specs.Heap.{unused_page, PutsPage}
@@ -19,8 +19,8 @@ use Rattle.heap_write.specs.Refusals.{NeedsSlot}
 
 -- the table and the session's own list can note the ids that its levels lack
 pub record HasIds (w : Window) (own : Own) : Type 0 where
-  pub in_table : lacks own.ids own.saved ≤ w.spare
-  pub in_own : lacks own.ids own.saved ≤ own.spare
+  pub in_table : unassigned_levels own.ids own.saved ≤ w.spare
+  pub in_own : unassigned_levels own.ids own.saved ≤ own.spare
 
 -- Slots and pages.
 
@@ -54,7 +54,7 @@ pub record GrowsPage (pages pages' : PagesView) (n : ℕ) : Type 0 where
 -- Where a root is to go.
 
 -- a page that was never used, with memory for a slot
-pub record IsFresh (page : PageView) : Type 0 where
+pub record IsFreshPage (page : PageView) : Type 0 where
   pub slots : page.slots ≡ []
   pub change : page.change ≡ 0
   pub flag : page.flag ≡ false
@@ -65,12 +65,12 @@ target_number pages (Page n) = n
 target_number pages (New page) = length pages
 
 -- a version of this size can be put there without memory
-abbrev pub IsReady : PagesView → ℕ → Target → Type 0
-IsReady pages size (Page n) = (n < length pages.pages) × (size ≤ room_of (page_in pages.pages n).slots) × HasSlot (page_in pages.pages n)
-IsReady pages size (New page) = IsFresh page × (size ≤ room_of page.slots) × (0 < pages.spare) × (length pages.pages < 65536)
+abbrev pub IsReserved : PagesView → ℕ → Target → Type 0
+IsReserved pages size (Page n) = (n < length pages.pages) × (size ≤ room_of (page_in pages.pages n).slots) × HasSlot (page_in pages.pages n)
+IsReserved pages size (New page) = IsFreshPage page × (size ≤ room_of page.slots) × (0 < pages.spare) × (length pages.pages < 65536)
 
 -- the place that was chosen where a root is to go there, or nowhere
-abbrev pub place_of_target : Option Target → Place
+abbrev pub place_of_target : Option Target → Placement
 place_of_target None = place.Nowhere
 place_of_target (Some (Page n)) = place.Page n
 place_of_target (Some (New page)) = place.NewPage

@@ -18,7 +18,7 @@ pub record HeapView : Type 0 where
   pub max_pages : ℕ
 
 abbrev pub slots_of : HeapView → List (List Slot)
-slots_of h = looking.slots_of h.pages
+slots_of h = looking.page_slots_of h.pages
 
 -- the value of a row in the index by key
 abbrev pub key_value : Row → ℤ

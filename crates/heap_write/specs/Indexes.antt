@@ -4,7 +4,7 @@ use Rattle.std.specs.Prelude.{◌≡◌, ℕ, zero, suc, ◌<◌, Bool, false, i
 use Rattle.xid_circle.specs.declared.Tid.{Tid}
 use Rattle.tuple_header.specs.declared.version.Row.{Row}
 use Rattle.root_index.specs.declared.entry.Entry.{Entry}
-use Rattle.root_index.specs.Sets.{Adds}
+use Rattle.root_index.specs.Sets.{AddsEntry}
 use Rattle.root_index.specs.View.{IndexView, room_in}
 use Rattle.history.specs.Cursors.{value_in}
 use Rattle.sound_entries.specs.Entries.{entry_for}
@@ -43,8 +43,8 @@ abbrev pub without_body : ℕ → List ℤ → Row
 without_body key cols = record { key = key; cols = cols; body = record { items = [] } }
 
 -- the entry of a row's version at a place, in the index of this number
-abbrev pub entry_in : ℕ → Row → Tid → Entry
-entry_in n row place = entry_for (value_in n) row place.page place.slot
+abbrev pub index_entry_of : ℕ → Row → Tid → Entry
+index_entry_of n row place = entry_for (value_in n) row place.page place.slot
 
 -- Changes.
 
@@ -56,11 +56,11 @@ SameEntries indexes indexes' = (n : ℕ) → entries_at indexes' n ≡ entries_a
 abbrev pub AddsAny : Option (List Entry) → Option (List Entry) → Entry → Type 0
 AddsAny None after entry = after ≡ None
 AddsAny (Some entries) None entry = ⊥
-AddsAny (Some entries) (Some entries') entry = Adds entries entries' entry
+AddsAny (Some entries) (Some entries') entry = AddsEntry entries entries' entry
 
 -- each index in use has an entry besides, for a row's version at a place
 abbrev pub Enters : List (Option IndexView) → List (Option IndexView) → Row → Tid → Type 0
-Enters indexes indexes' row place = (n : ℕ) → AddsAny (entries_at indexes n) (entries_at indexes' n) (entry_in n row place)
+Enters indexes indexes' row place = (n : ℕ) → AddsAny (entries_at indexes n) (entries_at indexes' n) (index_entry_of n row place)
 
 -- Memory.
 

@@ -5,16 +5,16 @@ use Rattle.xid_circle.specs.declared.Tid.{Tid}
 use Rattle.tuple_header.specs.declared.version.Row.{Row}
 use Rattle.tuple_header.specs.Version.{rounded_size_of}
 use Rattle.page_slots.specs.View.{PageView}
-use Rattle.snapshot.specs.Own.{Own, lacks}
+use Rattle.snapshot.specs.Own.{Own, unassigned_levels}
 use Rattle.page_slots.specs.Slots.{room_of, IsNormalAt}
 use Rattle.heap_pages.specs.Choice.{IsPlaceFor}
-use Rattle.heap_pages.specs.declared.pages.Place.TheVariants.{Page, NewPage}
-use Rattle.heap_write.specs.declared.cleaning.PruneFault.{PruneFault}
-use Rattle.heap_write.specs.declared.cleaning.PruneFault.TheVariants as prune_fault
+use Rattle.heap_pages.specs.declared.pages.Placement.TheVariants.{Page, NewPage}
+use Rattle.heap_write.specs.declared.pruning.PruneFault.{PruneFault}
+use Rattle.heap_write.specs.declared.pruning.PruneFault.TheVariants as prune_fault
 use Rattle.heap_write.specs.declared.heap.WriteFault.{WriteFault}
 use Rattle.heap_write.specs.declared.heap.WriteFault.TheVariants as fault
 use Rattle.heap_write.specs.Heap.{HeapView, page_on, Keeps}
-use Rattle.heap_write.specs.Writes.{NeedsFreeze, IsFull, Readies, KeepsValues}
+use Rattle.heap_write.specs.Writes.{NeedsFreeze, TableIsFull, PrunesIfFull, KeepsValues}
 use Rattle.heap_write.specs.Indexes.{NeedsEntry}
 
 -- the first slot of a page takes memory: with it comes memory for all that the page may have
@@ -24,7 +24,7 @@ pub record NeedsSlot (page : PageView) : Type 0 where
 
 -- the new ids take memory: the table of ids has to grow for them, or the session's own list
 abbrev pub NeedsIds : HeapView → Own → Type 0
-NeedsIds h own = (h.table.spare < lacks own.ids own.saved) ⊎ (own.spare < lacks own.ids own.saved)
+NeedsIds h own = (h.table.spare < unassigned_levels own.ids own.saved) ⊎ (own.spare < unassigned_levels own.ids own.saved)
 
 -- something has to grow for a new root: the ids, the list of pages, a page's list of slots, or an index
 pub data RootNeedsMemory (h : HeapView) (own : Own) (size : ℕ) : Type 0 where
@@ -35,13 +35,13 @@ pub data RootNeedsMemory (h : HeapView) (own : Own) (size : ℕ) : Type 0 where
 
 abbrev pub LacksForInsert : HeapView → Own → Row → WriteFault → Type 0
 LacksForInsert h own row fault.NeedsFreeze = NeedsFreeze h.table own
-LacksForInsert h own row fault.NoRoom = (¬ NeedsFreeze h.table own) × IsFull h (rounded_size_of row)
-LacksForInsert h own row fault.NoMemory = (¬ NeedsFreeze h.table own) × (¬ IsFull h (rounded_size_of row)) × RootNeedsMemory h own (rounded_size_of row)
+LacksForInsert h own row fault.NoRoom = (¬ NeedsFreeze h.table own) × TableIsFull h (rounded_size_of row)
+LacksForInsert h own row fault.NoMemory = (¬ NeedsFreeze h.table own) × (¬ TableIsFull h (rounded_size_of row)) × RootNeedsMemory h own (rounded_size_of row)
 LacksForInsert h own row fault.Gone = ⊥
 
 -- a version is at the place
-abbrev pub IsThere : HeapView → Tid → Type 0
-IsThere h place = IsNormalAt (page_on h place.page).slots place.slot
+abbrev pub VersionIsThere : HeapView → Tid → Type 0
+VersionIsThere h place = IsNormalAt (page_on h place.page).slots place.slot
 
 -- Something has to grow for an update: the ids, the page's list of slots, or an index where a value in one changes. Where the
 -- row has no room on the page, pruning may make it there or not, so both are made ready before: a slot on the page, and
@@ -54,28 +54,28 @@ pub data UpdateNeedsMemory (h : HeapView) (own : Own) (place : Tid) (row : Row) 
       → NeedsSlot (page_on h place.page) ⊎ RootNeedsMemory h own (rounded_size_of row) → UpdateNeedsMemory h own place row
 
 -- the page of the old version was made ready, and this is so then
-pub record WhenReady (h h' : HeapView) (own : Own) (place : Tid) (horizon size : ℕ) (P : HeapView → Type 0) : Type 0 where
-  pub there : IsThere h place
+pub record AfterPruning (h h' : HeapView) (own : Own) (place : Tid) (horizon size : ℕ) (P : HeapView → Type 0) : Type 0 where
+  pub there : VersionIsThere h place
   pub free : ¬ NeedsFreeze h.table own
   pub ready : HeapView
-  pub readies : Readies h ready place.page horizon size
+  pub readies : PrunesIfFull h ready place.page horizon size
   pub has : P ready
   pub keeps : Keeps ready h'
 
 abbrev pub FailsUpdate : HeapView → HeapView → Own → Tid → Row → ℕ → WriteFault → Type 0
-FailsUpdate h h' own place row horizon fault.NeedsFreeze = IsThere h place × NeedsFreeze h.table own × Keeps h h'
+FailsUpdate h h' own place row horizon fault.NeedsFreeze = VersionIsThere h place × NeedsFreeze h.table own × Keeps h h'
 FailsUpdate h h' own place row horizon fault.NoRoom =
-    WhenReady h h' own place horizon (rounded_size_of row) (λ ready. IsThere ready place × IsFull ready (rounded_size_of row))
+    AfterPruning h h' own place horizon (rounded_size_of row) (λ ready. VersionIsThere ready place × TableIsFull ready (rounded_size_of row))
 FailsUpdate h h' own place row horizon fault.NoMemory =
-    IsThere h place × (¬ NeedsFreeze h.table own) × UpdateNeedsMemory h own place row × Keeps h h'
+    VersionIsThere h place × (¬ NeedsFreeze h.table own) × UpdateNeedsMemory h own place row × Keeps h h'
 FailsUpdate h h' own place row horizon fault.Gone =
-    ((¬ IsThere h place) × Keeps h h') ⊎ WhenReady h h' own place horizon (rounded_size_of row) (λ ready. ¬ IsThere ready place)
+    ((¬ VersionIsThere h place) × Keeps h h') ⊎ AfterPruning h h' own place horizon (rounded_size_of row) (λ ready. ¬ VersionIsThere ready place)
 
 abbrev pub FailsDelete : HeapView → HeapView → Own → Tid → WriteFault → Type 0
-FailsDelete h h' own place fault.NeedsFreeze = IsThere h place × NeedsFreeze h.table own × Keeps h h'
+FailsDelete h h' own place fault.NeedsFreeze = VersionIsThere h place × NeedsFreeze h.table own × Keeps h h'
 FailsDelete h h' own place fault.NoRoom = ⊥
-FailsDelete h h' own place fault.NoMemory = IsThere h place × (¬ NeedsFreeze h.table own) × NeedsIds h own × Keeps h h'
-FailsDelete h h' own place fault.Gone = (¬ IsThere h place) × Keeps h h'
+FailsDelete h h' own place fault.NoMemory = VersionIsThere h place × (¬ NeedsFreeze h.table own) × NeedsIds h own × Keeps h h'
+FailsDelete h h' own place fault.Gone = (¬ VersionIsThere h place) × Keeps h h'
 
 -- why a page is not pruned: it is not in use
 abbrev pub Unpruned : HeapView → ℕ → PruneFault → Type 0

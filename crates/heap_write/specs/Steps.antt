@@ -8,19 +8,19 @@ use Rattle.heap_write.specs.declared.target.Target.{Target}
 use Rattle.sound_page.specs.Dead.{HasDead}
 use Rattle.heap_write.specs.Heap.{HeapView, page_on}
 use Rattle.heap_write.specs.Growth.{place_of_target}
-use Rattle.heap_write.specs.Writes.{IsFull}
-use Rattle.heap_write.specs.Refusals.{IsThere}
+use Rattle.heap_write.specs.Writes.{TableIsFull}
+use Rattle.heap_write.specs.Refusals.{VersionIsThere}
 
 -- a new version of this size goes there, or nowhere
 abbrev pub IsChosen : HeapView → ℕ → Option Target → Type 0
 IsChosen h size found = IsPlaceFor h.pages.pages h.max_pages size (place_of_target found)
 
 -- why an update is not done after the old version's page was pruned
-abbrev pub FailsReady : HeapView → Tid → ℕ → WriteFault → Type 0
-FailsReady h place size fault.Gone = ¬ IsThere h place
-FailsReady h place size fault.NoRoom = IsThere h place × IsFull h size
-FailsReady h place size fault.NeedsFreeze = ⊥
-FailsReady h place size fault.NoMemory = ⊥
+abbrev pub FailsAfterPruning : HeapView → Tid → ℕ → WriteFault → Type 0
+FailsAfterPruning h place size fault.Gone = ¬ VersionIsThere h place
+FailsAfterPruning h place size fault.NoRoom = VersionIsThere h place × TableIsFull h size
+FailsAfterPruning h place size fault.NeedsFreeze = ⊥
+FailsAfterPruning h place size fault.NoMemory = ⊥
 
 -- no version on the page of this number is dead, so that pruning leaves it as it is
 pub record HasNoneDead (h : HeapView) (number horizon : ℕ) : Type 0 where

@@ -9,49 +9,49 @@ use Rattle.commit_status.specs.Window.{Window}
 use Rattle.root_index.specs.declared.entry.Entry.{Entry}
 use Rattle.sound_entries.specs.Pages.{version_in}
 use Rattle.sound_entries.specs.Looking.{FirstFound}
-use Rattle.heap_write.specs.declared.walking.Mark.{Mark}
-use Rattle.heap_write.specs.declared.walking.Span.{Span}
+use Rattle.heap_write.specs.declared.index_scan.IndexPosition.{IndexPosition}
+use Rattle.heap_write.specs.declared.index_scan.IndexRange.{IndexRange}
 
 -- Along an index, in the order of value and key.
 
 -- the entry comes before this place of the order
-abbrev pub ComesBefore : Entry → Mark → Type 0
-ComesBefore e mark = (e.value <ℤ mark.value) ⊎ ((e.value ≡ mark.value) × (e.key < mark.key))
+abbrev pub IsBeforePosition : Entry → IndexPosition → Type 0
+IsBeforePosition e mark = (e.value <ℤ mark.value) ⊎ ((e.value ≡ mark.value) × (e.key < mark.key))
 
 -- it comes after the place, if there is one
-abbrev pub ComesAfter : Entry → Option Mark → Type 0
+abbrev pub ComesAfter : Entry → Option IndexPosition → Type 0
 ComesAfter e None = Unit {0}
 ComesAfter e (Some mark) = (mark.value <ℤ e.value) ⊎ ((mark.value ≡ e.value) × (mark.key < e.key))
 
 -- it is not below the span's low value, and comes after its last place
-pub record StartsIn (span : Span) (e : Entry) : Type 0 where
+pub record StartsIn (span : IndexRange) (e : Entry) : Type 0 where
   pub from : span.low ≤ℤ e.value
   pub after : ComesAfter e span.last
 
 -- no entry of its value and its key comes after this one
-abbrev pub last_at : Mark → Entry
+abbrev pub last_at : IndexPosition → Entry
 last_at mark = record { value = mark.value; key = mark.key; tid = record { page = 4294967295; slot = 65535 } }
 
-pub record LiesIn (span : Span) (e : Entry) : Type 0 where
+pub record LiesIn (span : IndexRange) (e : Entry) : Type 0 where
   pub from : span.low ≤ℤ e.value
   pub to : e.value ≤ℤ span.high
   pub after : ComesAfter e span.last
 
 -- an entry of the span stands at this place, by whose value and key the row is found; before it none is found
-pub record IsNextRow (w : Window) (seen : Header → Type 0) (pages : List (List Slot)) (entries : List Entry) (span : Span) (mark : Mark) (row : Row) : Type 0 where
+pub record IsNextRow (w : Window) (seen : Header → Type 0) (pages : List (List Slot)) (entries : List Entry) (span : IndexRange) (mark : IndexPosition) (row : Row) : Type 0 where
   pub entry : Entry
   pub there : Contains entries entry
   pub lies : LiesIn span entry
   pub value : mark.value ≡ entry.value
   pub key : mark.key ≡ entry.key
   pub found : FirstFound w seen pages entries mark.value mark.key (Some row)
-  pub none_before : (e : Entry) → Contains entries e → LiesIn span e → ComesBefore e mark → FirstFound w seen pages entries e.value e.key None
+  pub none_before : (e : Entry) → Contains entries e → LiesIn span e → IsBeforePosition e mark → FirstFound w seen pages entries e.value e.key None
 
 -- by the value and key of no entry of the span a row is found
-abbrev pub NoneLeft : Window → (Header → Type 0) → List (List Slot) → List Entry → Span → Type 0
+abbrev pub NoneLeft : Window → (Header → Type 0) → List (List Slot) → List Entry → IndexRange → Type 0
 NoneLeft w seen pages entries span = (e : Entry) → Contains entries e → LiesIn span e → FirstFound w seen pages entries e.value e.key None
 
-abbrev pub NextRow : Window → (Header → Type 0) → List (List Slot) → List Entry → Span → Option (Mark × Row) → Type 0
+abbrev pub NextRow : Window → (Header → Type 0) → List (List Slot) → List Entry → IndexRange → Option (IndexPosition × Row) → Type 0
 NextRow w seen pages entries span answer = MatchOption answer (NoneLeft w seen pages entries span) (λ found. IsNextRow w seen pages entries span found.0 found.1)
 
 -- On a page.
@@ -63,8 +63,8 @@ pub record IsSeenRow (seen : Header → Type 0) (pages : List (List Slot)) (plac
   pub shown : seen version.header
   pub is_row : row ≡ version.row
 
-abbrev pub NoneSeen : (Header → Type 0) → List (List Slot) → Tid → Type 0
-NoneSeen seen pages place = (t : Version) → version_in pages place ≡ Some t → ¬ seen t.header
+abbrev pub NoneSeenFrom : (Header → Type 0) → List (List Slot) → Tid → Type 0
+NoneSeenFrom seen pages place = (t : Version) → version_in pages place ≡ Some t → ¬ seen t.header
 
 abbrev pub SeenRow : (Header → Type 0) → List (List Slot) → Tid → Option Row → Type 0
-SeenRow seen pages place answer = MatchOption answer (NoneSeen seen pages place) (IsSeenRow seen pages place)
+SeenRow seen pages place answer = MatchOption answer (NoneSeenFrom seen pages place) (IsSeenRow seen pages place)

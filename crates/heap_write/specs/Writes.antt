@@ -9,14 +9,14 @@ use Rattle.page_slots.specs.View.{PageView}
 use Rattle.page_slots.specs.Slots.{room_of, free_number, next_change, row_at, IsNormalAt}
 use Rattle.commit_status.specs.Window.{Window, next_id}
 use Rattle.commit_status.specs.Changes.{Gives, CanGive}
-use Rattle.snapshot.specs.Own.{Own, lacks, level_id, saved_with_each}
+use Rattle.snapshot.specs.Own.{Own, unassigned_levels, current_xid, saved_with_each}
 use Rattle.prune.specs.Actions.{applied}
-use Rattle.prune.specs.Cutting.{Removes}
+use Rattle.prune.specs.Cutting.{RemovesVersions}
 use Rattle.prune.specs.Pruning.{IsPruned, IsPlan}
-use Rattle.page_writes.specs.Writes.{with_root, with_replaced, with_updated, replaced_change}
+use Rattle.tuple_writes.specs.Writes.{with_root, with_replaced, with_updated, replaced_change}
 use Rattle.heap_pages.specs.Choice.{IsPlaceFor, HasRoom, NoPage}
-use Rattle.heap_pages.specs.declared.pages.Place.{Place}
-use Rattle.heap_pages.specs.declared.pages.Place.TheVariants.{Page, NewPage, Nowhere}
+use Rattle.heap_pages.specs.declared.pages.Placement.{Placement}
+use Rattle.heap_pages.specs.declared.pages.Placement.TheVariants.{Page, NewPage, Nowhere}
 use Rattle.heap_write.specs.Heap.{HeapView, page_on, Keeps, PutsPage}
 use Rattle.heap_write.specs.Indexes.{SameValues, SameEntries, Enters}
 
@@ -28,7 +28,7 @@ use Rattle.heap_write.specs.Indexes.{SameValues, SameEntries, Enters}
 
 -- the levels need more ids than can be given
 abbrev pub NeedsFreeze : Window → Own → Type 0
-NeedsFreeze w own = ¬ CanGive w (lacks own.ids own.saved)
+NeedsFreeze w own = ¬ CanGive w (unassigned_levels own.ids own.saved)
 
 -- the ids are given one after another, the first under this parent, and each other under the one before it
 abbrev pub GivesUnder : Window → Option ℕ → List ℕ → Window → Type 0
@@ -38,11 +38,11 @@ GivesUnder w parent (x ∷ xs) w' = (between : Window) × (x ≡ next_id w) × G
 -- each level that lacked an id has one now, and x is the newest level's
 pub record TakesIds (w w' : Window) (own own' : Own) (x : ℕ) : Type 0 where
   pub given : List ℕ
-  pub count : length given ≡ lacks own.ids own.saved
-  pub gives : GivesUnder w (level_id own.ids own.saved) given w'
+  pub count : length given ≡ unassigned_levels own.ids own.saved
+  pub gives : GivesUnder w (current_xid own.ids own.saved) given w'
   pub ids : own'.ids ≡ own.ids ++ given
   pub saved : own'.saved ≡ saved_with_each given own.saved
-  pub newest : level_id own'.ids own'.saved ≡ Some x
+  pub newest : current_xid own'.ids own'.saved ≡ Some x
 
 -- the session's ids are as they were, though there may be more memory
 pub record SameOwn (own own' : Own) : Type 0 where
@@ -52,18 +52,18 @@ pub record SameOwn (own own' : Own) : Type 0 where
 -- Places.
 
 -- all pages that there may be are in use, and none has room
-pub record IsFull (h : HeapView) (size : ℕ) : Type 0 where
+pub record TableIsFull (h : HeapView) (size : ℕ) : Type 0 where
   pub all_used : h.max_pages ≤ length h.pages.pages
   pub no_room : NoPage h.pages.pages (HasRoom size)
 
-abbrev pub number_of : ℕ → Place → Option ℕ
+abbrev pub number_of : ℕ → Placement → Option ℕ
 number_of count (Page n) = Some n
 number_of count NewPage = Some count
 number_of count Nowhere = None
 
 -- a new version of this size goes to the page of this number
 pub record GoesTo (h : HeapView) (size n : ℕ) : Type 0 where
-  pub place : Place
+  pub place : Placement
   pub chosen : IsPlaceFor h.pages.pages h.max_pages size place
   pub number : number_of (length h.pages.pages) place ≡ Some n
 
@@ -80,7 +80,7 @@ pub record PutsRoot (h h' : HeapView) (updated : Bool) (x : ℕ) (row : Row) (n 
   pub entries : Enters h.indexes h'.indexes row (record { page = n; slot = free_number (page_on h n).slots })
 
 -- x takes the version at a place away, and its successor is at another, or at its own where it has none; no entry changes
-pub record TakesAway (h h' : HeapView) (place : Tid) (x : ℕ) (successor : Tid) : Type 0 where
+pub record SetsXmax (h h' : HeapView) (place : Tid) (x : ℕ) (successor : Tid) : Type 0 where
   pub page : PageView
   pub puts : PutsPage h.pages.pages h'.pages.pages place.page page
   pub slots : page.slots ≡ with_replaced (page_on h place.page).slots place.slot x successor.page successor.slot false
@@ -89,7 +89,7 @@ pub record TakesAway (h h' : HeapView) (place : Tid) (x : ℕ) (successor : Tid)
   pub entries : SameEntries h.indexes h'.indexes
 
 -- x replaces the version at a place by a heap-only one of this row on the same page; no entry changes
-pub record ReplacesHere (h h' : HeapView) (place : Tid) (x : ℕ) (row : Row) : Type 0 where
+pub record HotUpdates (h h' : HeapView) (place : Tid) (x : ℕ) (row : Row) : Type 0 where
   pub page : PageView
   pub puts : PutsPage h.pages.pages h'.pages.pages place.page page
   pub slots : page.slots ≡ with_updated (page_on h place.page).slots place.slot x place.page row
@@ -99,10 +99,10 @@ pub record ReplacesHere (h h' : HeapView) (place : Tid) (x : ℕ) (row : Row) : 
   pub entries : SameEntries h.indexes h'.indexes
 
 -- x replaces the version at a place by a root of this row on page n, which is its successor
-pub record ReplacesByRoot (h h' : HeapView) (place : Tid) (x : ℕ) (row : Row) (n : ℕ) : Type 0 where
+pub record ColdUpdates (h h' : HeapView) (place : Tid) (x : ℕ) (row : Row) (n : ℕ) : Type 0 where
   pub middle : HeapView
   pub root : PutsRoot h middle true x row n
-  pub away : TakesAway middle h' place x (record { page = n; slot = free_number (page_on h n).slots })
+  pub away : SetsXmax middle h' place x (record { page = n; slot = free_number (page_on h n).slots })
 
 -- one page is pruned at a horizon: what goes from it is cut, and its slots are what pruning makes of them
 pub record Prunes (h h' : HeapView) (number horizon : ℕ) : Type 0 where
@@ -113,7 +113,7 @@ pub record Prunes (h h' : HeapView) (number horizon : ℕ) : Type 0 where
   pub flag : after.flag ≡ before.flag
   pub change : (actions : _) × IsPlan h.table horizon before.slots actions × (after.change ≡ (applied actions before).change)
   pub pruned : IsPruned h.table horizon before.slots after.slots
-  pub removes : Removes h.table horizon before.slots after.slots
+  pub removes : RemovesVersions h.table horizon before.slots after.slots
 
 -- Writes.
 
@@ -127,31 +127,31 @@ pub record Inserts (h h' : HeapView) (own own' : Own) (row : Row) (x : ℕ) : Ty
   pub max_pages : h'.max_pages ≡ h.max_pages
 
 -- the page of the old version is pruned where the row has no room on it, when there may be more memory
-pub data Readies (h h' : HeapView) (number horizon size : ℕ) : Type 0 where
-  has_room : size ≤ room_of (page_on h number).slots → h' ≡ h → Readies h h' number horizon size
-  is_pruned : room_of (page_on h number).slots < size → (grown : HeapView) → Keeps h grown → Prunes grown h' number horizon → Readies h h' number horizon size
+pub data PrunesIfFull (h h' : HeapView) (number horizon size : ℕ) : Type 0 where
+  has_room : size ≤ room_of (page_on h number).slots → h' ≡ h → PrunesIfFull h h' number horizon size
+  is_pruned : room_of (page_on h number).slots < size → (grown : HeapView) → Keeps h grown → Prunes grown h' number horizon → PrunesIfFull h h' number horizon size
 
 -- in each index in use the row has the value that the version at a place has
 abbrev pub KeepsValues : HeapView → Tid → Row → Type 0
 KeepsValues h place row = (old : Row) → row_at (page_on h place.page).slots place.slot ≡ Some old → SameValues h.indexes old row
 
 -- x replaces the version at a place by one of this row on the same page: heap-only where no value in an index changes, else a root
-pub data ReplacesOnPage (h h' : HeapView) (place : Tid) (x : ℕ) (row : Row) : Type 0 where
-  heap_only : KeepsValues h place row → ReplacesHere h h' place x row → ReplacesOnPage h h' place x row
-  as_root : ¬ KeepsValues h place row → ReplacesByRoot h h' place x row place.page → ReplacesOnPage h h' place x row
+pub data UpdatesOnPage (h h' : HeapView) (place : Tid) (x : ℕ) (row : Row) : Type 0 where
+  heap_only : KeepsValues h place row → HotUpdates h h' place x row → UpdatesOnPage h h' place x row
+  as_root : ¬ KeepsValues h place row → ColdUpdates h h' place x row place.page → UpdatesOnPage h h' place x row
 
 -- x replaces the version at a place by one of this row: on the same page where it has room there, else as a root elsewhere
 pub data Replaces (h h' : HeapView) (place : Tid) (x : ℕ) (row : Row) : Type 0 where
-  on_page : rounded_size_of row ≤ room_of (page_on h place.page).slots → ReplacesOnPage h h' place x row → Replaces h h' place x row
+  on_page : rounded_size_of row ≤ room_of (page_on h place.page).slots → UpdatesOnPage h h' place x row → Replaces h h' place x row
   elsewhere : room_of (page_on h place.page).slots < rounded_size_of row → (number : ℕ) → number ≢ place.page → GoesTo h (rounded_size_of row) number
-      → ReplacesByRoot h h' place x row number → Replaces h h' place x row
+      → ColdUpdates h h' place x row number → Replaces h h' place x row
 
 -- the version at a place is updated to this row
 pub record Updates (h h' : HeapView) (own own' : Own) (place : Tid) (row : Row) (horizon x : ℕ) : Type 0 where
   pub free : ¬ NeedsFreeze h.table own
   pub takes_ids : TakesIds h.table h'.table own own' x
   pub ready : HeapView
-  pub readies : Readies h ready place.page horizon (rounded_size_of row)
+  pub readies : PrunesIfFull h ready place.page horizon (rounded_size_of row)
   pub there : IsNormalAt (page_on ready place.page).slots place.slot
   pub replaces : Replaces ready h' place x row
   pub max_pages : h'.max_pages ≡ h.max_pages
@@ -161,5 +161,5 @@ pub record Deletes (h h' : HeapView) (own own' : Own) (place : Tid) (x : ℕ) : 
   pub free : ¬ NeedsFreeze h.table own
   pub takes_ids : TakesIds h.table h'.table own own' x
   pub there : IsNormalAt (page_on h place.page).slots place.slot
-  pub away : TakesAway h h' place x place
+  pub away : SetsXmax h h' place x place
   pub max_pages : h'.max_pages ≡ h.max_pages

@@ -3,14 +3,14 @@
 ghost use Rattle.std.specs.Prelude.{◌≡◌, ℕ, Some, IfErr, IfOk, IsTrue, OnErr, ◌↔◌};
 ghost use Rattle.xid_circle.specs.Circle.{IsNormal};
 ghost use Rattle.commit_status.specs.Window.{IsWindow, IsGiven};
-ghost use Rattle.snapshot.specs.Own.{level_id};
+ghost use Rattle.snapshot.specs.Own.{current_xid};
 ghost use Rattle.heap_write.specs.Writes.{SameOwn, Deletes};
-ghost use Rattle.heap_write.specs.Refusals.{FailsDelete, IsThere};
+ghost use Rattle.heap_write.specs.Refusals.{FailsDelete, VersionIsThere};
 
 use crate::heap::{HeapState, WriteFault};
 use crate::ids::{needs_freeze, reserve_ids, take_ids};
-use page_writes::delete_version;
 use snapshot::OwnIds;
+use tuple_writes::delete_version;
 use xid_circle::{Tid, Xid};
 
 impl HeapState {
@@ -20,7 +20,8 @@ impl HeapState {
     /// where the table of ids or the session's own list has to grow. A refused delete changes nothing and gives no id.
     /// (PostgreSQL, `heap_delete` in src/backend/access/heap/heapam.c.)
     pub fn delete(&mut self, own: &mut OwnIds, place: Tid) -> Result<Xid, WriteFault>
-        requires newest { (x : ℕ) → level_id own.old.ids own.old.saved ≡ Some x → IsGiven self.old.table x }
+        requires newest { (x : ℕ) → current_xid own.old.ids own.old.saved ≡ Some x
+            → IsGiven self.old.table x }
         ensures ok { IfOk result (λ x. Deletes self.old self.new own.old own.new place x.0) }
         ensures fault { IfErr result (λ fault. FailsDelete self.old self.new own.old place fault) }
         ensures own { OnErr result (SameOwn own.old own.new) }
@@ -39,13 +40,16 @@ impl HeapState {
             return Err(WriteFault::NoMemory);
         }
         let x = take_ids(&mut self.table, own);
-        self.pages.edit(place.page, |page| delete_version(page, place.page, place.slot, x));
+        self.pages.edit(
+            place.page,
+            |page| delete_version(page, place.page, place.slot, x),
+        );
         Ok(x)
     }
 
     /// Whether a version is at the place.
     pub(crate) fn is_there(&self, place: Tid) -> bool
-        ensures { IsTrue result ↔ IsThere self.now place }
+        ensures { IsTrue result ↔ VersionIsThere self.now place }
     {
         match self.pages.page(place.page) {
             Some(page) => page.header(place.slot).is_some(),

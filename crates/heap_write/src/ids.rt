@@ -4,7 +4,7 @@ ghost use Rattle.std.specs.Prelude.{◌≡◌, ℕ, ◌+◌, ◌-◌, ◌<◌, �
 ghost use Rattle.xid_circle.specs.Circle.{IsNormal, distance_of};
 ghost use Rattle.commit_status.specs.Window.{IsWindow, IsGiven, next_id};
 ghost use Rattle.commit_status.specs.Changes.{Gives};
-ghost use Rattle.snapshot.specs.Own.{lacks, level_id, saved_with};
+ghost use Rattle.snapshot.specs.Own.{unassigned_levels, current_xid, saved_with};
 ghost use Rattle.heap_write.specs.Heap.{SameIds};
 ghost use Rattle.heap_write.specs.Writes.{NeedsFreeze, TakesIds, SameOwn};
 ghost use Rattle.heap_write.specs.Growth.{HasIds};
@@ -18,18 +18,20 @@ use xid_circle::Xid;
 pub(crate) fn needs_freeze(table: &StatusTable, own: &OwnIds) -> bool
     ensures { IsTrue result ↔ NeedsFreeze table.now own.now }
 {
-    !table.can_give(own.lacks())
+    !table.can_give(own.unassigned_levels())
 }
 
 /// Makes room in memory for the ids that the levels lack.
 pub(crate) fn reserve_ids(table: &mut StatusTable, own: &mut OwnIds) -> Result<(), AllocError>
     ensures room { OnOk result (HasIds table.new own.new) }
-    ensures refused { OnErr result ((table.old.spare < lacks own.old.ids own.old.saved) ⊎ (own.old.spare < lacks own.old.ids own.old.saved)) }
+    ensures refused { OnErr result
+        ((table.old.spare < unassigned_levels own.old.ids own.old.saved)
+        ⊎ (own.old.spare < unassigned_levels own.old.ids own.old.saved)) }
     ensures ids { SameIds table.old table.new }
     ensures own { SameOwn own.old own.new }
-    ensures none { lacks own.old.ids own.old.saved ≡ 0 → table.new ≡ table.old }
+    ensures none { unassigned_levels own.old.ids own.old.saved ≡ 0 → table.new ≡ table.old }
 {
-    let count = own.lacks() as usize;
+    let count = own.unassigned_levels() as usize;
     if count == 0 {
         return Ok(());
     }
@@ -39,19 +41,22 @@ pub(crate) fn reserve_ids(table: &mut StatusTable, own: &mut OwnIds) -> Result<(
 
 /// Gives the next id to the lowest of the newest levels that have none, under the id of the level below it.
 fn give_id(table: &mut StatusTable, own: &mut OwnIds)
-    requires lacking { 0 < lacks own.old.ids own.old.saved }
+    requires lacking { 0 < unassigned_levels own.old.ids own.old.saved }
     requires near { distance_of table.old.first (next_id table.old) < table.old.stop_age }
     requires in_table { 0 < table.old.spare }
     requires in_own { 0 < own.old.spare }
-    requires newest { (x : ℕ) → level_id own.old.ids own.old.saved ≡ Some x → IsGiven table.old x }
-    ensures gives { Gives table.old table.new (level_id own.old.ids own.old.saved) }
+    requires newest { (x : ℕ) → current_xid own.old.ids own.old.saved ≡ Some x
+        → IsGiven table.old x }
+    ensures gives { Gives table.old table.new (current_xid own.old.ids own.old.saved) }
     ensures ids { own.new.ids ≡ own.old.ids ++ next_id table.old ∷ [] }
-    ensures saved { own.new.saved ≡ saved_with (lacks own.old.ids own.old.saved - 1) (next_id table.old) own.old.saved }
+    ensures saved { own.new.saved
+        ≡ saved_with (unassigned_levels own.old.ids own.old.saved - 1)
+        (next_id table.old) own.old.saved }
     ensures spare { table.old.spare ≤ table.new.spare + 1 }
     ensures own_spare { own.old.spare ≡ own.new.spare + 1 }
     ensures window { IsWindow table.new }
 {
-    match table.give(own.level_id()) {
+    match table.give(own.current_xid()) {
         Ok(x) => own.add(x),
         Err(_) => unreachable!(),
     }
@@ -62,17 +67,18 @@ fn give_id(table: &mut StatusTable, own: &mut OwnIds)
 pub(crate) fn take_ids(table: &mut StatusTable, own: &mut OwnIds) -> Xid
     requires free { ¬ NeedsFreeze table.old own.old }
     requires room { HasIds table.old own.old }
-    requires newest { (x : ℕ) → level_id own.old.ids own.old.saved ≡ Some x → IsGiven table.old x }
+    requires newest { (x : ℕ) → current_xid own.old.ids own.old.saved ≡ Some x
+        → IsGiven table.old x }
     ensures takes { TakesIds table.old table.new own.old own.new result.0 }
     ensures normal { IsNormal result.0 }
     ensures window { IsWindow table.new }
 {
     table.is_window();
-    own.are_fronts();
-    for _ in 0..own.lacks() {
+    own.are_prefixes();
+    for _ in 0..own.unassigned_levels() {
         give_id(table, own);
     }
-    match own.level_id() {
+    match own.current_xid() {
         Some(x) => x,
         None => unreachable!(),
     }

@@ -2,7 +2,7 @@
 
 ghost use Rattle.std.specs.Prelude.{◌≡◌, ℕ, ◌↔◌, ◌<◌, [], Some, None, IsFalse, IsTrue, OnOk, OnErr, if◌then◌else◌, option_copied, FitsSigned};
 ghost use Rattle.std.specs.Int.{w128};
-ghost use Rattle.root_index.specs.Sets.{Adds};
+ghost use Rattle.root_index.specs.Sets.{AddsEntry};
 ghost use Rattle.root_index.specs.View.{room_in};
 ghost use Rattle.history.specs.Cursors.{value_in};
 ghost use Rattle.heap_write.specs.Indexes.{index_at, entries_of, entries_at, entries_in, new_entries, without_body, SameValues, SameEntries, AddsAny, Enters, HasEntry, HasEntries, LacksEntry, NeedsEntry};
@@ -163,7 +163,8 @@ fn reserve_entry(index: &mut Option<RootIndex>) -> Result<(), AllocError>
 /// Adds an entry to an index, if it is in use. There is memory for it.
 fn enter_in(index: &mut Option<RootIndex>, value: i128, key: u64, tid: Tid)
     requires { HasEntry index.old }
-    ensures { AddsAny (entries_of index.old) (entries_of index.new) (record { value = value; key = key; tid = tid }) }
+    ensures { AddsAny (entries_of index.old) (entries_of index.new)
+        (record { value = value; key = key; tid = tid }) }
 {
     if let Some(index) = index {
         add_entry(index, value, key, tid);
@@ -173,7 +174,8 @@ fn enter_in(index: &mut Option<RootIndex>, value: i128, key: u64, tid: Tid)
 /// Adds an entry to an index, which has memory for it.
 fn add_entry(index: &mut RootIndex, value: i128, key: u64, tid: Tid)
     requires { 0 < room_in index.old }
-    ensures { Adds index.old.entries index.new.entries (record { value = value; key = key; tid = tid }) }
+    ensures { AddsEntry index.old.entries index.new.entries
+        (record { value = value; key = key; tid = tid }) }
 {
     match index.insert(Entry { value, key, tid }) {
         Ok(()) => {}

@@ -5,12 +5,12 @@ ghost use Rattle.xid_circle.specs.Circle.{IsNormal};
 ghost use Rattle.page_slots.specs.Slots.{free_number};
 ghost use Rattle.tuple_header.specs.Version.{rounded_size_of};
 ghost use Rattle.commit_status.specs.Window.{IsWindow, IsGiven};
-ghost use Rattle.snapshot.specs.Own.{level_id};
+ghost use Rattle.snapshot.specs.Own.{current_xid};
 ghost use Rattle.heap_write.specs.Heap.{page_on, Keeps};
 ghost use Rattle.heap_write.specs.Indexes.{HasEntries, NeedsEntry};
 ghost use Rattle.heap_write.specs.Writes.{NeedsFreeze, TakesIds, SameOwn, PutsRoot, Inserts};
 ghost use Rattle.heap_write.specs.Refusals.{LacksForInsert, NeedsIds};
-ghost use Rattle.heap_write.specs.Growth.{IsReady, target_number};
+ghost use Rattle.heap_write.specs.Growth.{IsReserved, target_number};
 
 use crate::heap::{HeapState, WriteFault};
 use crate::ids::{needs_freeze, reserve_ids, take_ids};
@@ -26,7 +26,8 @@ impl HeapState {
     /// NoMemory only where something has to grow. A refused insert changes nothing and gives no id. (PostgreSQL,
     /// `heap_insert` in src/backend/access/heap/heapam.c.)
     pub fn insert(&mut self, own: &mut OwnIds, row: &Row) -> Result<Xid, WriteFault>
-        requires newest { (x : ℕ) → level_id own.old.ids own.old.saved ≡ Some x → IsGiven self.old.table x }
+        requires newest { (x : ℕ) → current_xid own.old.ids own.old.saved ≡ Some x
+            → IsGiven self.old.table x }
         ensures ok { IfOk result (λ x. Inserts self.old self.new own.old own.new row.now x.0) }
         ensures fault { IfErr result (λ fault. LacksForInsert self.old own.old row.now fault) }
         ensures err { OnErr result (Keeps self.old self.new) }
@@ -48,10 +49,14 @@ impl HeapState {
     /// Inserts a version of the row where it goes, unless an index or a list of ids has to grow and cannot.
     fn insert_at(&mut self, target: Target, own: &mut OwnIds, row: &Row) -> Result<Xid, WriteFault>
         requires free { ¬ NeedsFreeze self.old.table own.old }
-        requires newest { (x : ℕ) → level_id own.old.ids own.old.saved ≡ Some x → IsGiven self.old.table x }
-        requires ready { IsReady self.old.pages (rounded_size_of row.now) target }
-        ensures takes { IfOk result (λ x. TakesIds self.old.table self.new.table own.old own.new x.0) }
-        ensures root { IfOk result (λ x. PutsRoot self.old self.new false x.0 row.now (target_number self.old.pages.pages target)) }
+        requires newest { (x : ℕ) → current_xid own.old.ids own.old.saved ≡ Some x
+            → IsGiven self.old.table x }
+        requires ready { IsReserved self.old.pages (rounded_size_of row.now) target }
+        ensures takes { IfOk result
+            (λ x. TakesIds self.old.table self.new.table own.old own.new x.0) }
+        ensures root { IfOk result
+            (λ x. PutsRoot self.old self.new false x.0 row.now
+            (target_number self.old.pages.pages target)) }
         ensures max_pages { self.new.max_pages ≡ self.old.max_pages }
         ensures needs { OnErr result (NeedsEntry self.old.indexes ⊎ NeedsIds self.old own.old) }
         ensures fault { IfErr result (λ fault. fault ≡ WriteFault.NoMemory) }
@@ -72,7 +77,7 @@ impl HeapState {
     /// Makes a version of the row as a root where one goes, with an entry for it in each index, and answers its place.
     pub(crate) fn put_root(&mut self, target: Target, updated: bool, x: Xid, row: &Row) -> Tid
         requires normal { IsNormal x.0 }
-        requires ready { IsReady self.old.pages (rounded_size_of row.now) target }
+        requires ready { IsReserved self.old.pages (rounded_size_of row.now) target }
         requires entries { HasEntries self.old.indexes }
         ensures root { PutsRoot self.old self.new updated x.0 row.now result.page }
         ensures page { result.page ≡ target_number self.old.pages.pages target }

@@ -7,17 +7,17 @@
 //! (`specs/Growth.antt`). What a step looks for by key is found through the index by key; a cursor goes along any.
 #![tactic(auto)]
 
-mod cleaning;
 mod delete;
 mod heap;
 mod ids;
+mod index_scan;
 mod indexes;
 mod insert;
-mod looking;
+mod lookup;
+mod pruning;
 mod target;
 mod update;
-mod walking;
 
-pub use cleaning::PruneFault;
 pub use heap::{HeapState, WriteFault};
-pub use walking::{Mark, Span};
+pub use index_scan::{IndexPosition, IndexRange};
+pub use pruning::PruneFault;

@@ -3,16 +3,16 @@
 ghost use Rattle.std.specs.Prelude.{◌≡◌, ◌≤◌, ◌<◌, length, IfOk, IfSome, OnOk, OnErr};
 ghost use Rattle.xid_circle.specs.Circle.{IsNormal};
 ghost use Rattle.page_slots.specs.Slots.{room_of, free_number, next_change};
-ghost use Rattle.page_writes.specs.Writes.{with_root};
+ghost use Rattle.tuple_writes.specs.Writes.{with_root};
 ghost use Rattle.tuple_header.specs.Version.{rounded_size_of};
 ghost use Rattle.heap_write.specs.Refusals.{NeedsSlot};
-ghost use Rattle.heap_write.specs.Growth.{HasSlot, SamePage, SamePages, GrowsPage, page_in, IsFresh, IsReady, Reserves, PlaceNeedsMemory, target_number, PutsVersion};
+ghost use Rattle.heap_write.specs.Growth.{HasSlot, SamePage, SamePages, GrowsPage, page_in, IsFreshPage, IsReserved, Reserves, PlaceNeedsMemory, target_number, PutsVersion};
 
-use heap_pages::{Pages, Place};
+use heap_pages::{Pages, Placement};
 use page_slots::Page;
-use page_writes::{insert_version, move_in};
 use std::alloc::{AllocError, Global};
 use tuple_header::{MOST_SLOTS, Row};
+use tuple_writes::{add_cold_version, insert_version};
 use xid_circle::{Tid, Xid};
 
 /// Where a new root goes.
@@ -48,7 +48,7 @@ pub(crate) fn reserve_slot(pages: &mut Pages, number: u32) -> Result<(), AllocEr
 
 /// A page that was never used, with room in memory for a slot.
 fn fresh_page(alloc: Global) -> Result<Page, AllocError>
-    ensures { IfOk result (λ page. IsFresh page) }
+    ensures { IfOk result (λ page. IsFreshPage page) }
 {
     let mut page = Page::new(alloc);
     match page.make_room(1) {
@@ -69,22 +69,23 @@ pub(crate) fn reserve_place(
     requires few { limit ≤ 65536 }
     ensures same { SamePages pages.old.pages pages.new.pages }
     ensures reserves { IfOk result (λ found. Reserves pages.old pages.new limit size found) }
-    ensures ready { IfOk result (λ found. IfSome found (λ target. IsReady pages.new size target)) }
+    ensures ready { IfOk result
+        (λ found. IfSome found (λ target. IsReserved pages.new size target)) }
     ensures needs { OnErr result (PlaceNeedsMemory pages.old.pages limit size) }
 {
     match pages.place_for(size, limit) {
-        Place::Page(number) => match reserve_slot(pages, number) {
+        Placement::Page(number) => match reserve_slot(pages, number) {
             Ok(()) => Ok(Some(Target::Page(number))),
             Err(fault) => Err(fault),
         },
-        Place::NewPage => match pages.make_room(1) {
+        Placement::NewPage => match pages.make_room(1) {
             Ok(()) => match fresh_page(alloc) {
                 Ok(page) => Ok(Some(Target::New(page))),
                 Err(fault) => Err(fault),
             },
             Err(fault) => Err(fault),
         },
-        Place::Nowhere => Ok(None),
+        Placement::Nowhere => Ok(None),
     }
 }
 
@@ -100,7 +101,7 @@ fn add_root(page: &mut Page, number: u32, updated: bool, x: Xid, row: &Row) -> u
     ensures flag { page.new.flag ≡ page.old.flag }
 {
     if updated {
-        move_in(page, number, x, row)
+        add_cold_version(page, number, x, row)
     } else {
         insert_version(page, number, x, row)
     }
@@ -115,7 +116,7 @@ pub(crate) fn put_version(
     row: &Row,
 ) -> Tid
     requires normal { IsNormal x.0 }
-    requires ready { IsReady pages.old (rounded_size_of row.now) target }
+    requires ready { IsReserved pages.old (rounded_size_of row.now) target }
     ensures page { result.page ≡ target_number pages.old.pages target }
     ensures slot { result.slot ≡ free_number (page_in pages.old.pages result.page).slots }
     ensures limit { result.slot ≤ 291 }

@@ -3,23 +3,23 @@
 ghost use Rattle.std.specs.Prelude.{◌≡◌, ℕ, ◌≤◌, ◌<◌, length, IfErr, IfOk, IfSome, IsFalse, IsTrue, OnErr, OnOk, Some, ◌↔◌, ◌⊎◌};
 ghost use Rattle.xid_circle.specs.Circle.{IsNormal};
 ghost use Rattle.commit_status.specs.Window.{IsWindow, IsGiven};
-ghost use Rattle.snapshot.specs.Own.{lacks, level_id};
+ghost use Rattle.snapshot.specs.Own.{unassigned_levels, current_xid};
 ghost use Rattle.page_slots.specs.Slots.{room_of};
 ghost use Rattle.tuple_header.specs.Version.{rounded_size_of};
 ghost use Rattle.heap_write.specs.Heap.{page_on, Keeps};
 ghost use Rattle.heap_write.specs.Indexes.{HasEntries, NeedsEntry};
-ghost use Rattle.heap_write.specs.Writes.{NeedsFreeze, TakesIds, SameOwn, KeepsValues, ReplacesHere, ReplacesByRoot, ReplacesOnPage, Replaces, Updates};
-ghost use Rattle.heap_write.specs.Refusals.{FailsUpdate, RootNeedsMemory, UpdateNeedsMemory, IsThere, NeedsIds, NeedsSlot};
-ghost use Rattle.heap_write.specs.Growth.{HasIds, HasSlot, GrowsPage, IsReady, target_number};
-ghost use Rattle.heap_write.specs.Steps.{IsChosen, FailsReady};
+ghost use Rattle.heap_write.specs.Writes.{NeedsFreeze, TakesIds, SameOwn, KeepsValues, HotUpdates, ColdUpdates, UpdatesOnPage, Replaces, Updates};
+ghost use Rattle.heap_write.specs.Refusals.{FailsUpdate, RootNeedsMemory, UpdateNeedsMemory, VersionIsThere, NeedsIds, NeedsSlot};
+ghost use Rattle.heap_write.specs.Growth.{HasIds, HasSlot, GrowsPage, IsReserved, target_number};
+ghost use Rattle.heap_write.specs.Steps.{IsChosen, FailsAfterPruning};
 
 use crate::heap::{HeapState, WriteFault};
 use crate::ids::{needs_freeze, reserve_ids, take_ids};
 use crate::target::{Target, reserve_place, reserve_slot};
-use page_writes::{move_away, update_here};
 use snapshot::OwnIds;
 use std::alloc::AllocError;
 use tuple_header::{Row, row_size};
+use tuple_writes::{hot_update, mark_cold_updated};
 use xid_circle::{Tid, Xid};
 
 impl HeapState {
@@ -39,10 +39,13 @@ impl HeapState {
         row: &Row,
         horizon: Xid,
     ) -> Result<Xid, WriteFault>
-        requires newest { (x : ℕ) → level_id own.old.ids own.old.saved ≡ Some x → IsGiven self.old.table x }
+        requires newest { (x : ℕ) → current_xid own.old.ids own.old.saved ≡ Some x
+            → IsGiven self.old.table x }
         requires horizon { IsNormal horizon.0 }
-        ensures ok { IfOk result (λ x. Updates self.old self.new own.old own.new place row.now horizon.0 x.0) }
-        ensures fault { IfErr result (λ fault. FailsUpdate self.old self.new own.old place row.now horizon.0 fault) }
+        ensures ok { IfOk result
+            (λ x. Updates self.old self.new own.old own.new place row.now horizon.0 x.0) }
+        ensures fault { IfErr result
+            (λ fault. FailsUpdate self.old self.new own.old place row.now horizon.0 fault) }
         ensures own { OnErr result (SameOwn own.old own.new) }
         ensures window { IsWindow self.new.table }
         ensures normal { IfOk result (λ x. IsNormal x.0) }
@@ -63,7 +66,8 @@ impl HeapState {
 
     /// Whether the row has room on the page of this number. A page that is not in use has room for any row.
     fn has_room(&self, number: u32, row: &Row) -> bool
-        ensures { IsTrue result ↔ (rounded_size_of row.now ≤ room_of (page_on self.now number).slots) }
+        ensures { IsTrue result
+            ↔ (rounded_size_of row.now ≤ room_of (page_on self.now number).slots) }
     {
         let size = row_size(row);
         match self.pages.page(number) {
@@ -87,12 +91,14 @@ impl HeapState {
 
     /// Updates a version whose page has room for the row.
     fn update_at_once(&mut self, own: &mut OwnIds, place: Tid, row: &Row) -> Result<Xid, WriteFault>
-        requires newest { (x : ℕ) → level_id own.old.ids own.old.saved ≡ Some x → IsGiven self.old.table x }
+        requires newest { (x : ℕ) → current_xid own.old.ids own.old.saved ≡ Some x
+            → IsGiven self.old.table x }
         requires free { ¬ NeedsFreeze self.old.table own.old }
-        requires there { IsThere self.old place }
+        requires there { VersionIsThere self.old place }
         requires room { rounded_size_of row.now ≤ room_of (page_on self.old place.page).slots }
-        ensures takes { IfOk result (λ x. TakesIds self.old.table self.new.table own.old own.new x.0) }
-        ensures replaces { IfOk result (λ x. ReplacesOnPage self.old self.new place x.0 row.now) }
+        ensures takes { IfOk result
+            (λ x. TakesIds self.old.table self.new.table own.old own.new x.0) }
+        ensures replaces { IfOk result (λ x. UpdatesOnPage self.old self.new place x.0 row.now) }
         ensures max_pages { self.new.max_pages ≡ self.old.max_pages }
         ensures fault { IfErr result (λ fault. fault ≡ WriteFault.NoMemory) }
         ensures needs { OnErr result (UpdateNeedsMemory self.old own.old place row.now) }
@@ -105,7 +111,7 @@ impl HeapState {
         let reserved = self.reserve_on_page(own, place.page, heap_only);
         self.table.is_window();
         match reserved {
-            Ok(()) => Ok(self.replace_on_page(own, place, row, heap_only)),
+            Ok(()) => Ok(self.update_on_page(own, place, row, heap_only)),
             Err(_) => Err(WriteFault::NoMemory),
         }
     }
@@ -119,12 +125,15 @@ impl HeapState {
     ) -> Result<(), AllocError>
         requires { number < length self.old.pages.pages }
         ensures keeps { Keeps self.old self.new }
-        ensures none { lacks own.old.ids own.old.saved ≡ 0 → self.new.table ≡ self.old.table }
+        ensures none { unassigned_levels own.old.ids own.old.saved ≡ 0
+            → self.new.table ≡ self.old.table }
         ensures own { SameOwn own.old own.new }
         ensures has_ids { OnOk result (HasIds self.new.table own.new) }
         ensures grows { OnOk result (GrowsPage self.old.pages self.new.pages number) }
         ensures has_entries { OnOk result (IsFalse heap_only → HasEntries self.new.indexes) }
-        ensures needs { OnErr result (NeedsIds self.old own.old ⊎ NeedsSlot (page_on self.old number) ⊎ IsFalse heap_only × NeedsEntry self.old.indexes) }
+        ensures needs { OnErr result
+            (NeedsIds self.old own.old ⊎ NeedsSlot (page_on self.old number)
+            ⊎ IsFalse heap_only × NeedsEntry self.old.indexes) }
     {
         reserve_ids(&mut self.table, own)?;
         self.indexes.make_room_for(heap_only)?;
@@ -140,13 +149,16 @@ impl HeapState {
         row: &Row,
         horizon: Xid,
     ) -> Result<Xid, WriteFault>
-        requires newest { (x : ℕ) → level_id own.old.ids own.old.saved ≡ Some x → IsGiven self.old.table x }
+        requires newest { (x : ℕ) → current_xid own.old.ids own.old.saved ≡ Some x
+            → IsGiven self.old.table x }
         requires horizon { IsNormal horizon.0 }
         requires free { ¬ NeedsFreeze self.old.table own.old }
-        requires there { IsThere self.old place }
+        requires there { VersionIsThere self.old place }
         requires room { room_of (page_on self.old place.page).slots < rounded_size_of row.now }
-        ensures ok { IfOk result (λ x. Updates self.old self.new own.old own.new place row.now horizon.0 x.0) }
-        ensures fault { IfErr result (λ fault. FailsUpdate self.old self.new own.old place row.now horizon.0 fault) }
+        ensures ok { IfOk result
+            (λ x. Updates self.old self.new own.old own.new place row.now horizon.0 x.0) }
+        ensures fault { IfErr result
+            (λ fault. FailsUpdate self.old self.new own.old place row.now horizon.0 fault) }
         ensures own { OnErr result (SameOwn own.old own.new) }
         ensures window { IsWindow self.new.table }
         ensures normal { IfOk result (λ x. IsNormal x.0) }
@@ -162,18 +174,22 @@ impl HeapState {
         }
     }
 
-    /// Makes room in memory for a new root of this size, with its entries and an id for each level that lacks one, and answers where it
+    /// Makes room in memory for a new root of this size, with its entries and an id for each level that unassigned_levels one, and answers where it
     /// goes, if anywhere.
     fn reserve_root(&mut self, own: &mut OwnIds, size: usize) -> Result<Option<Target>, AllocError>
         requires { size ≤ 8164 }
         ensures keeps { Keeps self.old self.new }
-        ensures none { lacks own.old.ids own.old.saved ≡ 0 → self.new.table ≡ self.old.table }
+        ensures none { unassigned_levels own.old.ids own.old.saved ≡ 0
+            → self.new.table ≡ self.old.table }
         ensures own { SameOwn own.old own.new }
         ensures has_ids { OnOk result (HasIds self.new.table own.new) }
         ensures has_entries { OnOk result (HasEntries self.new.indexes) }
         ensures chosen { IfOk result (λ found. IsChosen self.new size found) }
-        ensures ready { IfOk result (λ found. IfSome found (λ target. IsReady self.new.pages size target)) }
-        ensures unchosen { OnOk result ((n : ℕ) → room_of (page_on self.old n).slots < size → page_on self.new n ≡ page_on self.old n) }
+        ensures ready { IfOk result
+            (λ found. IfSome found (λ target. IsReserved self.new.pages size target)) }
+        ensures unchosen { OnOk result
+            ((n : ℕ) → room_of (page_on self.old n).slots < size
+            → page_on self.new n ≡ page_on self.old n) }
         ensures needs { OnErr result (RootNeedsMemory self.old own.old size) }
     {
         reserve_ids(&mut self.table, own)?;
@@ -189,13 +205,16 @@ impl HeapState {
         row: &Row,
         horizon: Xid,
     ) -> Result<Xid, WriteFault>
-        requires newest { (x : ℕ) → level_id own.old.ids own.old.saved ≡ Some x → IsGiven self.old.table x }
+        requires newest { (x : ℕ) → current_xid own.old.ids own.old.saved ≡ Some x
+            → IsGiven self.old.table x }
         requires horizon { IsNormal horizon.0 }
         requires free { ¬ NeedsFreeze self.old.table own.old }
-        requires there { IsThere self.old place }
+        requires there { VersionIsThere self.old place }
         requires room { room_of (page_on self.old place.page).slots < rounded_size_of row.now }
-        ensures ok { IfOk result (λ x. Updates self.old self.new own.old own.new place row.now horizon.0 x.0) }
-        ensures fault { IfErr result (λ fault. FailsUpdate self.old self.new own.old place row.now horizon.0 fault) }
+        ensures ok { IfOk result
+            (λ x. Updates self.old self.new own.old own.new place row.now horizon.0 x.0) }
+        ensures fault { IfErr result
+            (λ fault. FailsUpdate self.old self.new own.old place row.now horizon.0 fault) }
         ensures own { OnErr result (SameOwn own.old own.new) }
         ensures window { IsWindow self.new.table }
         ensures normal { IfOk result (λ x. IsNormal x.0) }
@@ -205,7 +224,7 @@ impl HeapState {
         match reserved {
             Ok(target) => {
                 self.prune_page(place.page, horizon);
-                self.update_ready(own, place, row, target)
+                self.update_after_pruning(own, place, row, target)
             }
             Err(_) => Err(WriteFault::NoMemory),
         }
@@ -222,14 +241,17 @@ impl HeapState {
         requires fits { size ≤ 8164 }
         requires room { room_of (page_on self.old number).slots < size }
         ensures keeps { Keeps self.old self.new }
-        ensures none { lacks own.old.ids own.old.saved ≡ 0 → self.new.table ≡ self.old.table }
+        ensures none { unassigned_levels own.old.ids own.old.saved ≡ 0
+            → self.new.table ≡ self.old.table }
         ensures own { SameOwn own.old own.new }
         ensures has_ids { OnOk result (HasIds self.new.table own.new) }
         ensures has_slot { OnOk result (HasSlot (page_on self.new number)) }
         ensures has_entries { OnOk result (HasEntries self.new.indexes) }
         ensures chosen { IfOk result (λ found. IsChosen self.new size found) }
-        ensures ready { IfOk result (λ found. IfSome found (λ target. IsReady self.new.pages size target)) }
-        ensures needs { OnErr result (NeedsSlot (page_on self.old number) ⊎ RootNeedsMemory self.old own.old size) }
+        ensures ready { IfOk result
+            (λ found. IfSome found (λ target. IsReserved self.new.pages size target)) }
+        ensures needs { OnErr result
+            (NeedsSlot (page_on self.old number) ⊎ RootNeedsMemory self.old own.old size) }
     {
         match self.reserve_slot_on(number) {
             Ok(()) => self.reserve_root(own, size),
@@ -252,25 +274,30 @@ impl HeapState {
 
     /// Updates a version, if it is still there, on its page where that has room for the row now, else where a new root goes,
     /// if that is anywhere.
-    fn update_ready(
+    fn update_after_pruning(
         &mut self,
         own: &mut OwnIds,
         place: Tid,
         row: &Row,
         target: Option<Target>,
     ) -> Result<Xid, WriteFault>
-        requires newest { (x : ℕ) → level_id own.old.ids own.old.saved ≡ Some x → IsGiven self.old.table x }
+        requires newest { (x : ℕ) → current_xid own.old.ids own.old.saved ≡ Some x
+            → IsGiven self.old.table x }
         requires free { ¬ NeedsFreeze self.old.table own.old }
         requires has_ids { HasIds self.old.table own.old }
         requires has_slot { HasSlot (page_on self.old place.page) }
         requires has_entries { HasEntries self.old.indexes }
-        requires chosen { room_of (page_on self.old place.page).slots < rounded_size_of row.now → IsChosen self.old (rounded_size_of row.now) target }
-        requires ready { IfSome target (λ t. IsReady self.old.pages (rounded_size_of row.now) t) }
-        ensures takes { IfOk result (λ x. TakesIds self.old.table self.new.table own.old own.new x.0) }
-        ensures there { IfOk result (λ x. IsThere self.old place) }
+        requires chosen { room_of (page_on self.old place.page).slots < rounded_size_of row.now
+            → IsChosen self.old (rounded_size_of row.now) target }
+        requires ready { IfSome target
+            (λ t. IsReserved self.old.pages (rounded_size_of row.now) t) }
+        ensures takes { IfOk result
+            (λ x. TakesIds self.old.table self.new.table own.old own.new x.0) }
+        ensures there { IfOk result (λ x. VersionIsThere self.old place) }
         ensures replaces { IfOk result (λ x. Replaces self.old self.new place x.0 row.now) }
         ensures max_pages { self.new.max_pages ≡ self.old.max_pages }
-        ensures fault { IfErr result (λ fault. FailsReady self.old place (rounded_size_of row.now) fault) }
+        ensures fault { IfErr result
+            (λ fault. FailsAfterPruning self.old place (rounded_size_of row.now) fault) }
         ensures err { OnErr result (self.new ≡ self.old) }
         ensures own { OnErr result (SameOwn own.old own.new) }
         ensures window { IsWindow self.new.table }
@@ -282,7 +309,7 @@ impl HeapState {
         }
         if self.has_room(place.page, row) {
             let heap_only = self.keeps_values(place, row);
-            return Ok(self.replace_on_page(own, place, row, heap_only));
+            return Ok(self.update_on_page(own, place, row, heap_only));
         }
         self.update_elsewhere(own, place, row, target)
     }
@@ -295,19 +322,23 @@ impl HeapState {
         row: &Row,
         target: Option<Target>,
     ) -> Result<Xid, WriteFault>
-        requires newest { (x : ℕ) → level_id own.old.ids own.old.saved ≡ Some x → IsGiven self.old.table x }
+        requires newest { (x : ℕ) → current_xid own.old.ids own.old.saved ≡ Some x
+            → IsGiven self.old.table x }
         requires free { ¬ NeedsFreeze self.old.table own.old }
         requires has_ids { HasIds self.old.table own.old }
         requires has_entries { HasEntries self.old.indexes }
-        requires there { IsThere self.old place }
+        requires there { VersionIsThere self.old place }
         requires room { room_of (page_on self.old place.page).slots < rounded_size_of row.now }
         requires chosen { IsChosen self.old (rounded_size_of row.now) target }
-        requires ready { IfSome target (λ t. IsReady self.old.pages (rounded_size_of row.now) t) }
-        ensures takes { IfOk result (λ x. TakesIds self.old.table self.new.table own.old own.new x.0) }
-        ensures there { IfOk result (λ x. IsThere self.old place) }
+        requires ready { IfSome target
+            (λ t. IsReserved self.old.pages (rounded_size_of row.now) t) }
+        ensures takes { IfOk result
+            (λ x. TakesIds self.old.table self.new.table own.old own.new x.0) }
+        ensures there { IfOk result (λ x. VersionIsThere self.old place) }
         ensures replaces { IfOk result (λ x. Replaces self.old self.new place x.0 row.now) }
         ensures max_pages { self.new.max_pages ≡ self.old.max_pages }
-        ensures fault { IfErr result (λ fault. FailsReady self.old place (rounded_size_of row.now) fault) }
+        ensures fault { IfErr result
+            (λ fault. FailsAfterPruning self.old place (rounded_size_of row.now) fault) }
         ensures err { OnErr result (self.new ≡ self.old) }
         ensures own { OnErr result (SameOwn own.old own.new) }
         ensures window { IsWindow self.new.table }
@@ -315,72 +346,79 @@ impl HeapState {
     {
         self.table.is_window();
         match target {
-            Some(target) => Ok(self.replace_by_root(own, place, row, target)),
+            Some(target) => Ok(self.cold_update(own, place, row, target)),
             None => Err(WriteFault::NoRoom),
         }
     }
 
     /// Replaces a version by one on its page, which has room and memory for it: a heap-only one, or a root.
-    fn replace_on_page(&mut self, own: &mut OwnIds, place: Tid, row: &Row, heap_only: bool) -> Xid
-        requires newest { (x : ℕ) → level_id own.old.ids own.old.saved ≡ Some x → IsGiven self.old.table x }
+    fn update_on_page(&mut self, own: &mut OwnIds, place: Tid, row: &Row, heap_only: bool) -> Xid
+        requires newest { (x : ℕ) → current_xid own.old.ids own.old.saved ≡ Some x
+            → IsGiven self.old.table x }
         requires free { ¬ NeedsFreeze self.old.table own.old }
         requires has_ids { HasIds self.old.table own.old }
-        requires there { IsThere self.old place }
+        requires there { VersionIsThere self.old place }
         requires room { rounded_size_of row.now ≤ room_of (page_on self.old place.page).slots }
         requires has_slot { HasSlot (page_on self.old place.page) }
         requires heap_only { IsTrue heap_only ↔ KeepsValues self.old place row.now }
         requires has_entries { IsFalse heap_only → HasEntries self.old.indexes }
         ensures takes { TakesIds self.old.table self.new.table own.old own.new result.0 }
-        ensures replaces { ReplacesOnPage self.old self.new place result.0 row.now }
+        ensures replaces { UpdatesOnPage self.old self.new place result.0 row.now }
         ensures max_pages { self.new.max_pages ≡ self.old.max_pages }
         ensures window { IsWindow self.new.table }
         ensures normal { IsNormal result.0 }
     {
         if heap_only {
-            self.replace_here(own, place, row)
+            self.hot_update(own, place, row)
         } else {
-            self.replace_by_root(own, place, row, Target::Page(place.page))
+            self.cold_update(own, place, row, Target::Page(place.page))
         }
     }
 
     /// Replaces a version by a heap-only one on its page, which has room and memory for it.
-    fn replace_here(&mut self, own: &mut OwnIds, place: Tid, row: &Row) -> Xid
-        requires newest { (x : ℕ) → level_id own.old.ids own.old.saved ≡ Some x → IsGiven self.old.table x }
+    fn hot_update(&mut self, own: &mut OwnIds, place: Tid, row: &Row) -> Xid
+        requires newest { (x : ℕ) → current_xid own.old.ids own.old.saved ≡ Some x
+            → IsGiven self.old.table x }
         requires free { ¬ NeedsFreeze self.old.table own.old }
         requires has_ids { HasIds self.old.table own.old }
-        requires there { IsThere self.old place }
+        requires there { VersionIsThere self.old place }
         requires room { rounded_size_of row.now ≤ room_of (page_on self.old place.page).slots }
         requires has_slot { HasSlot (page_on self.old place.page) }
         ensures takes { TakesIds self.old.table self.new.table own.old own.new result.0 }
-        ensures replaces { ReplacesHere self.old self.new place result.0 row.now }
+        ensures replaces { HotUpdates self.old self.new place result.0 row.now }
         ensures max_pages { self.new.max_pages ≡ self.old.max_pages }
         ensures window { IsWindow self.new.table }
         ensures normal { IsNormal result.0 }
     {
         let x = take_ids(&mut self.table, own);
         let _slot = self.pages.edit(place.page, |page| {
-            update_here(page, place.page, place.slot, x, row)
+            hot_update(page, place.page, place.slot, x, row)
         });
         x
     }
 
     /// Replaces a version by a root where one goes, with room and memory for it and its entries.
-    fn replace_by_root(&mut self, own: &mut OwnIds, place: Tid, row: &Row, target: Target) -> Xid
-        requires newest { (x : ℕ) → level_id own.old.ids own.old.saved ≡ Some x → IsGiven self.old.table x }
+    fn cold_update(&mut self, own: &mut OwnIds, place: Tid, row: &Row, target: Target) -> Xid
+        requires newest { (x : ℕ) → current_xid own.old.ids own.old.saved ≡ Some x
+            → IsGiven self.old.table x }
         requires free { ¬ NeedsFreeze self.old.table own.old }
         requires has_ids { HasIds self.old.table own.old }
-        requires there { IsThere self.old place }
+        requires there { VersionIsThere self.old place }
         requires has_entries { HasEntries self.old.indexes }
-        requires ready { IsReady self.old.pages (rounded_size_of row.now) target }
+        requires ready { IsReserved self.old.pages (rounded_size_of row.now) target }
         ensures takes { TakesIds self.old.table self.new.table own.old own.new result.0 }
-        ensures replaces { ReplacesByRoot self.old self.new place result.0 row.now (target_number self.old.pages.pages target) }
+        ensures replaces { ColdUpdates self.old self.new place result.0 row.now
+            (target_number self.old.pages.pages target) }
         ensures max_pages { self.new.max_pages ≡ self.old.max_pages }
         ensures window { IsWindow self.new.table }
         ensures normal { IsNormal result.0 }
     {
         let x = take_ids(&mut self.table, own);
         let successor = self.put_root(target, true, x, row);
-        self.pages.edit(place.page, |page| move_away(page, place.slot, x, successor));
+        self.pages.edit(
+            place.page,
+            |page| mark_cold_updated(page, place.slot, x, successor),
+        );
         x
     }
 }

@@ -10,7 +10,7 @@ use Rattle.tuple_header.specs.declared.version.Row.{Row}
 use Rattle.history.specs.History.{Write, Transaction, written, IsLate}
 use Rattle.history.specs.World.{World, OpenSession, beginning, joined, own_write, view, Holds, MayWrite}
 use Rattle.history.specs.Moves.{put, change, add_write, with_write, as_failed, with_savepoint, empty_newest, to_savepoint, without_savepoint, without_cursor, aborted, transaction_of, appended, committed_by}
-use Rattle.history.specs.Events.{Happens, passes, begins, inserts, updates, deletes, conflicts, waits, deadlocks, saves, rolls_back_to, releases, commits, aborts, opens_index, opens_heap, opens_keys, takes, takes_keys, closes, Leads, stays, goes_on}
+use Rattle.history.specs.Events.{Happens, passes, begins, inserts, updates, deletes, conflicts, waits, deadlocks, saves, rolls_back_to, releases, commits, aborts, opens_index, opens_heap, opens_keys, takes, takes_keys, closes, StepsReach, stays, goes_on}
 use Rattle.history.specs.Laws.{FirstCommitterWins, HeldInTime, HeldOnce, Grows, KeepsView}
 use Rattle.history.proofs.Places.{slice_get-push_cases}
 use Rattle.history.proofs.HistoryLemmas.{at_same, at_other, joined-add_write, joined-join_newest, IsLate-push_cases, reading-append_history, among-written, written-among, fewer-written}
@@ -199,7 +199,7 @@ Lawful-step {w} {s} (takes_keys n keys m c ready there part) h = Lawful-change w
 Lawful-step {w} {s} (closes m ready there) h = Lawful-change w s without_cursor m h ready.there refl (λ write among. among)
 
 -- every run keeps them
-pub Lawful-run : {from after : World} → Leads from after → Lawful from → Lawful after
+pub Lawful-run : {from after : World} → StepsReach from after → Lawful from → Lawful after
 Lawful-run stays h = h
 Lawful-run (goes_on before after s run step) h = Lawful-step step (Lawful-run run h)
 
@@ -208,7 +208,7 @@ indexes-step : {w : World} {s : ℕ} {after : World} → Happens w s after → a
 indexes-step passes = refl
 indexes-step {w} _ = refl
 
-pub indexes-run : {from after : World} → Leads from after → after.has_index ≡ from.has_index
+pub indexes-run : {from after : World} → StepsReach from after → after.has_index ≡ from.has_index
 indexes-run stays = refl
 indexes-run (goes_on before after s run step) = indexes-step step ∙ indexes-run run
 
@@ -217,7 +217,7 @@ pub Grows-step : {w : World} {s : ℕ} {after : World} → Happens w s after →
 Grows-step {w} (commits m ready) = (transaction_of m ∷ [], ap (appended w.history) ready.there)
 Grows-step {w} _ = ([], sym (append-nil w.history))
 
-pub Grows-run : {from after : World} → Leads from after → Grows from after
+pub Grows-run : {from after : World} → StepsReach from after → Grows from after
 Grows-run {from} stays = ([], sym (append-nil from.history))
 Grows-run {from} (goes_on before after s run step) =
     let first = Grows-run run in let then_ = Grows-step step in

@@ -46,10 +46,10 @@ pub record AreNext (index n : ℕ) (rest : ℕ → Option Row) (rows : List Row)
   pub all_left : length rows < max 1 n → IsOver (without (keys_of rows) rest)
 
 -- the rows that a cursor may hand out when the next n are asked for. A heap cursor chooses its part
-abbrev pub HandsOut : Order → ℕ → (ℕ → Option Row) → List Row → Type 0
-HandsOut (by_index index) n rest rows = AreNext index n rest rows
-HandsOut by_heap n rest rows = ArePart rest rows
-HandsOut by_keys n rest rows = ⊥
+abbrev pub HandsOutPart : Order → ℕ → (ℕ → Option Row) → List Row → Type 0
+HandsOutPart (by_index index) n rest rows = AreNext index n rest rows
+HandsOutPart by_heap n rest rows = ArePart rest rows
+HandsOutPart by_keys n rest rows = ⊥
 
 -- the keys that it may
 abbrev pub HandsOutKeys : Order → ℕ → (ℕ → Option Row) → List ℕ → Type 0

@@ -3,7 +3,7 @@ use Rattle.std.specs.Prelude.{◌≡◌, ℕ, ◌<◌, ◌≤◌, List, length, 
 use Rattle.tuple_header.specs.declared.version.Row.{Row}
 use Rattle.history.specs.History.{IsLate}
 use Rattle.history.specs.World.{World, OpenSession, Cursor, view, ClosesRing, IsReady, IsWriter, MayWrite, IsBlocked}
-use Rattle.history.specs.Cursors.{HandsOut, HandsOutKeys, keys_of}
+use Rattle.history.specs.Cursors.{HandsOutPart, HandsOutKeys, keys_of}
 use Rattle.history.specs.Moves.{stepped, change, begun, with_row, without_row, as_failed, blocked_by, with_savepoint, rolled_back_to, without_savepoint, aborted, committed_by, with_index_cursor, with_heap_cursor, with_keys_cursor, with_taken, without_cursor}
 
 -- a step of the session s leads from the world w to another. A step that reads, or that is refused and leaves the
@@ -25,11 +25,11 @@ pub data Happens (w : World) (s : ℕ) : World → Type 0 where
   opens_index : (index : ℕ) (low high : ℤ) (m : OpenSession) → IsWriter w s m → w.has_index index ≡ true → low ≤ℤ high → Happens w s (change w s (with_index_cursor w.history index low high))
   opens_heap : (m : OpenSession) → IsWriter w s m → Happens w s (change w s (with_heap_cursor w.history))
   opens_keys : (low high : ℤ) (m : OpenSession) → IsWriter w s m → low ≤ℤ high → Happens w s (change w s (with_keys_cursor w.history low high))
-  takes : (n : ℕ) (rows : List Row) (m : OpenSession) (c : Cursor) → IsReady w s m → m.cursor ≡ Some c → HandsOut c.order n c.rest rows → Happens w s (change w s (with_taken (keys_of rows)))
+  takes : (n : ℕ) (rows : List Row) (m : OpenSession) (c : Cursor) → IsReady w s m → m.cursor ≡ Some c → HandsOutPart c.order n c.rest rows → Happens w s (change w s (with_taken (keys_of rows)))
   takes_keys : (n : ℕ) (keys : List ℕ) (m : OpenSession) (c : Cursor) → IsReady w s m → m.cursor ≡ Some c → HandsOutKeys c.order n c.rest keys → Happens w s (change w s (with_taken keys))
   closes : (m : OpenSession) → IsReady w s m → IsSome m.cursor → Happens w s (change w s without_cursor)
 
 -- steps of any sessions, one after another, lead from the one world to the other
-pub data Leads (from : World) : World → Type 0 where
-  stays : Leads from from
-  goes_on : (before after : World) (s : ℕ) → Leads from before → Happens before s after → Leads from after
+pub data StepsReach (from : World) : World → Type 0 where
+  stays : StepsReach from from
+  goes_on : (before after : World) (s : ℕ) → StepsReach from before → Happens before s after → StepsReach from after

@@ -3,31 +3,35 @@
 
 ghost use Rattle.std.specs.Prelude.{ℕ, ◌≢◌, List, Bool};
 ghost use Rattle.history.specs.World.{World, beginning};
-ghost use Rattle.history.specs.Events.{Happens, Leads};
+ghost use Rattle.history.specs.Events.{Happens, StepsReach};
 ghost use Rattle.history.specs.Laws.{FirstCommitterWins, Grows, HeldInTime, HeldOnce, KeepsView};
 
 /// The first committer wins: of two transactions that wrote one key, the second to commit wrote it by a snapshot that was taken
 /// after the first had committed (Berenson et al. 1995, snapshot isolation).
 pub fn first_committer_wins()
-    ensures { (columns : List Bool) (w : World) → Leads (beginning columns) w → FirstCommitterWins w.history }
+    ensures { (columns : List Bool) (w : World) → StepsReach (beginning columns) w
+        → FirstCommitterWins w.history }
 {}
 
 /// What is in an open session's levels, nobody has written who committed since the snapshot of that write was taken.
 pub fn held_keys_are_in_time()
-    ensures { (columns : List Bool) (w : World) → Leads (beginning columns) w → HeldInTime w }
+    ensures { (columns : List Bool) (w : World) → StepsReach (beginning columns) w → HeldInTime w }
 {}
 
 /// No two open sessions hold one key.
 pub fn keys_are_held_once()
-    ensures { (columns : List Bool) (w : World) → Leads (beginning columns) w → HeldOnce w }
+    ensures { (columns : List Bool) (w : World) → StepsReach (beginning columns) w → HeldOnce w }
 {}
 
 /// The history only grows.
 pub fn history_only_grows()
-    ensures { (columns : List Bool) (w : World) (after : World) → Leads (beginning columns) w → Leads w after → Grows w after }
+    ensures { (columns : List Bool) (w : World) (after : World) → StepsReach (beginning columns) w
+        → StepsReach w after → Grows w after }
 {}
 
 /// What a session reads, and all else that is its own, never changes but by its own steps. For whom it waits is kept apart.
 pub fn views_stay()
-    ensures { (columns : List Bool) (w : World) (after : World) (s : ℕ) (other : ℕ) → Leads (beginning columns) w → Happens w other after → s ≢ other → KeepsView s w after }
+    ensures { (columns : List Bool) (w : World) (after : World) (s : ℕ) (other : ℕ)
+        → StepsReach (beginning columns) w → Happens w other after → s ≢ other
+        → KeepsView s w after }
 {}

@@ -2,8 +2,4 @@
 //! every run. The definitions are in specs/; docs/history.md tells them in prose. The crate `plain_history` computes them.
 #![tactic(auto)]
 
-mod laws;
-
-pub use laws::{
-    first_committer_wins, held_keys_are_in_time, history_only_grows, keys_are_held_once, views_stay,
-};
+pub mod laws;

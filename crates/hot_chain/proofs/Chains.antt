@@ -6,7 +6,7 @@ use Rattle.std.proofs.lemmas.Map.Keys.{apart_from_distinct}
 use Rattle.std.proofs.lemmas.Option.{slice_get-get_or, slice_get_past}
 use Rattle.std.specs.List.{IsDistinct, list_any, Contains}
 use Rattle.page_slots.specs.declared.slot.Slot.{Slot}
-use Rattle.hot_chain.specs.Chain.{next_of, IsEnd, IsChain, is_root, is_root_in, LeadsTo}
+use Rattle.hot_chain.specs.Chain.{next_in_chain, IsEnd, IsChain, is_root, is_root_in, LeadsTo}
 
 by-test : {P : Type 0} (b : Bool) → (b ≡ true → P) → (b ≡ false → P) → P
 by-test true f g = f refl
@@ -56,7 +56,7 @@ chains-agree aborted slots n c d ic id (suc k) hc hd =
     let next : k + 1 ≡ suc k = omega arith in
     let a = ic.linked k (omega arith) in
     let b = id.linked k (omega arith) in
-    let s : Some (get_or c (k + 1) 0) ≡ Some (get_or d (k + 1) 0) = sym a ∙ ap (next_of aborted slots) before ∙ b in
+    let s : Some (get_or c (k + 1) 0) ≡ Some (get_or d (k + 1) 0) = sym a ∙ ap (next_in_chain aborted slots) before ∙ b in
     let t : get_or c (k + 1) 0 ≡ get_or d (k + 1) 0 = cc in
     ap (λ i. get_or c i 0) (sym next) ∙ t ∙ ap (λ i. get_or d i 0) next
 
@@ -74,7 +74,7 @@ not-longer aborted slots n c d ic id longer = ⊎_elim at-start goes-on (cases_l
     at-start some =
         let last = length c - 1 in
         let same = chains-agree aborted slots n c d ic id last (omega arith) (omega arith) in
-        let link = ap (next_of aborted slots) same ∙ id.linked last (omega arith) in
+        let link = ap (next_in_chain aborted slots) same ∙ id.linked last (omega arith) in
         let ends : list_any (nat_eq (get_or d (last + 1) 0)) c ≡ true = subst (IsEnd c) link (ic.end some) in
         let found = any-place (get_or d (last + 1) 0) c ends in
         let within = found.1 in

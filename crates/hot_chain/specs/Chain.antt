@@ -44,8 +44,8 @@ abbrev pub successor : (ℕ → Bool) → List Slot → Header → Option ℕ
 successor aborted slots h =
     if is_replaced aborted h && is_made_by h.xmax.0 (header_at slots h.ctid.slot) then Some h.ctid.slot else None
 
-abbrev pub next_of : (ℕ → Bool) → List Slot → ℕ → Option ℕ
-next_of aborted slots n = option_and_then (successor aborted slots) (header_at slots n)
+abbrev pub next_in_chain : (ℕ → Bool) → List Slot → ℕ → Option ℕ
+next_in_chain aborted slots n = option_and_then (successor aborted slots) (header_at slots n)
 
 -- nothing comes next, or only what was visited
 abbrev pub IsEnd : List ℕ → Option ℕ → Type 0
@@ -55,9 +55,9 @@ IsEnd visited (Some n) = list_any (nat_eq n) visited ≡ true
 -- the slots, in order: from the first, each the next of the one before, no two the same, as far as it goes
 pub record IsChain (aborted : ℕ → Bool) (slots : List Slot) (n : ℕ) (chain : List ℕ) : Type 0 where
   pub start : slice_get chain 0 ≡ first_of slots n
-  pub linked : (i : ℕ) → i + 1 < length chain → next_of aborted slots (slice_index chain i) ≡ Some (slice_index chain (i + 1))
+  pub linked : (i : ℕ) → i + 1 < length chain → next_in_chain aborted slots (slice_index chain i) ≡ Some (slice_index chain (i + 1))
   pub distinct : IsDistinct nat_eq chain
-  pub end : 0 < length chain → IsEnd chain (next_of aborted slots (slice_index chain (length chain - 1)))
+  pub end : 0 < length chain → IsEnd chain (next_in_chain aborted slots (slice_index chain (length chain - 1)))
 
 -- the version at a place of a chain is seen, and none before it is
 pub record IsFirstSeen (seen : Header → Type 0) (slots : List Slot) (chain : List ℕ) (i : ℕ) (t : Version) : Type 0 where

@@ -30,7 +30,8 @@ pub fn first_seen(
     own: &OwnIds,
     table: &StatusTable,
 ) -> Option<u16>
-    ensures { FirstSeenIn (IsVisible table.now snapshot.now own.now.ids) page.now.slots slots.now result }
+    ensures { FirstSeenIn
+        (IsVisible table.now snapshot.now own.now.ids) page.now.slots slots.now result }
 {
     for slot in slots {
         if let Some(header) = page.header(*slot) {
@@ -50,7 +51,8 @@ pub fn fetch(
     own: &OwnIds,
     table: &StatusTable,
 ) -> Option<Tuple>
-    ensures { Fetched (has_aborted table.now) (IsVisible table.now snapshot.now own.now.ids) page.now.slots number result }
+    ensures { Fetched (has_aborted table.now)
+        (IsVisible table.now snapshot.now own.now.ids) page.now.slots number result }
 {
     let slots = chain(page, number, table);
     match first_seen(page, slots.as_slice(), snapshot, own, table) {

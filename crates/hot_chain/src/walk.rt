@@ -1,8 +1,8 @@
 //! The walk along a chain. It trusts nothing that it reads: it returns on any page, and visits no slot twice.
 
 ghost use Rattle.std.specs.Prelude.{◌≡◌, IfSome};
-ghost use Rattle.page_slots.specs.Slots.{IsThere};
-ghost use Rattle.hot_chain.specs.Chain.{has_aborted, first_of, is_replaced, next_of, IsChain};
+ghost use Rattle.page_slots.specs.Slots.{SlotIsThere};
+ghost use Rattle.hot_chain.specs.Chain.{has_aborted, first_of, is_replaced, next_in_chain, IsChain};
 ghost use Rattle.hot_chain.specs.Laws.{ChainIsOne};
 
 use arrayvec::ArrayVec;
@@ -20,7 +20,7 @@ fn has_aborted(x: Xid, table: &StatusTable) -> bool
 /// Where the chain of a slot starts.
 fn first(page: &Page, number: u16) -> Option<u16>
     ensures value { result ≡ first_of page.now.slots number }
-    ensures there { IfSome result (λ n. IsThere page.now.slots n) }
+    ensures there { IfSome result (λ n. SlotIsThere page.now.slots n) }
 {
     let to = page.redirect(number).unwrap_or(number);
     match page.header(to) {
@@ -38,8 +38,8 @@ fn is_replaced(header: &Header, table: &StatusTable) -> bool
 
 /// Where the chain goes on from a version: to the heap-only version in the slot of its ctid that its deleter made.
 fn next(page: &Page, number: u16, table: &StatusTable) -> Option<u16>
-    ensures value { result ≡ next_of (has_aborted table.now) page.now.slots number }
-    ensures there { IfSome result (λ n. IsThere page.now.slots n) }
+    ensures value { result ≡ next_in_chain (has_aborted table.now) page.now.slots number }
+    ensures there { IfSome result (λ n. SlotIsThere page.now.slots n) }
 {
     let header = page.header(number)?;
     if !is_replaced(&header, table) {

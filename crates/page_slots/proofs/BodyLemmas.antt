@@ -12,8 +12,8 @@ use Rattle.page_slots.specs.declared.slot.Slot.{Slot}
 use Rattle.page_slots.specs.Stored.{StoredView}
 use Rattle.tuple_header.specs.declared.version.Header.{Header}
 use Rattle.page_slots.specs.Slots as Slots
-use Rattle.page_slots.specs.Slots.{taken}
-use Rattle.page_slots.specs.Store.{body_in, body_of, slot_in, slots_in, fits, AreWithin, is_bare, with_header}
+use Rattle.page_slots.specs.Slots.{bytes_taken}
+use Rattle.page_slots.specs.Store.{body_in, body_of, stored_slot, slots_in, fits, AreWithin, is_bare, stored_with_header}
 use Rattle.page_slots.proofs.SlotLemmas.{same_or_other}
 
 -- A body in longer bytes.
@@ -23,7 +23,7 @@ body_in-more bytes more s within =
     let long = length-drop s.from bytes in
     rw (drop-append-le s.from bytes more (omega arith)) (take-append-le s.len (drop s.from bytes) more (omega arith))
 
-pub slot_in-more : (bytes more : List ℕ) (x : Item) → fits (length bytes) x ≡ true → slot_in (bytes ++ more) x ≡ slot_in bytes x
+pub slot_in-more : (bytes more : List ℕ) (x : Item) → fits (length bytes) x ≡ true → stored_slot (bytes ++ more) x ≡ stored_slot bytes x
 slot_in-more bytes more Item.Unused within = refl
 slot_in-more bytes more (Item.Normal s) within = rw (body_in-more bytes more s (leb-true (s.from + s.len) (length bytes) within)) refl
 slot_in-more bytes more (Item.Redirect target) within = refl
@@ -36,7 +36,7 @@ fits-more n m (Item.Redirect target) more within = refl
 fits-more n m Item.Dead more within = refl
 
 -- a body takes no more than its version
-pub body-le-taken : (bytes : List ℕ) (x : Item) → length (body_of bytes x) ≤ taken (slot_in bytes x)
+pub body-le-taken : (bytes : List ℕ) (x : Item) → length (body_of bytes x) ≤ bytes_taken (stored_slot bytes x)
 body-le-taken bytes Item.Unused = omega arith
 body-le-taken bytes (Item.Normal s) = omega arith
 body-le-taken bytes (Item.Redirect target) = omega arith
@@ -49,10 +49,10 @@ below_or_past j n = ⊎_elim (λ e. inl (ltb-true j n e)) (λ e. inr (ltb-false 
 
 pub record IsPacked (bytes : List ℕ) (old items : List Item) (packed : List ℕ) (i : ℕ) : Type 0 where
   pub count : length items ≡ length old
-  pub done : (j : ℕ) → j < i → slot_in packed (get_or items j Item.Unused) ≡ slot_in bytes (get_or old j Item.Unused)
+  pub done : (j : ℕ) → j < i → stored_slot packed (get_or items j Item.Unused) ≡ stored_slot bytes (get_or old j Item.Unused)
   pub within : (j : ℕ) → j < i → fits (length packed) (get_or items j Item.Unused) ≡ true
   pub rest : (j : ℕ) → i ≤ j → get_or items j Item.Unused ≡ get_or old j Item.Unused
-  pub limit : length packed ≤ sum_by taken (take i (slots_in bytes old))
+  pub limit : length packed ≤ sum_by bytes_taken (take i (slots_in bytes old))
 
 -- the slot that is read is the old one
 pub packed-here : (bytes : List ℕ) (old items : List Item) (packed : List ℕ) (i : ℕ) (x : Item) → IsPacked bytes old items packed i → i < length old
@@ -63,28 +63,28 @@ packed-here bytes old items packed i x done within =
 
 -- the next body finds room
 pub packed-room : (bytes : List ℕ) (old items : List Item) (packed : List ℕ) (i : ℕ) → IsPacked bytes old items packed i → i < length old
-    → sum_by taken (slots_in bytes old) ≤ 8168 → length packed + length (body_of bytes (get_or old i Item.Unused)) ≤ 8168
+    → sum_by bytes_taken (slots_in bytes old) ≤ 8168 → length packed + length (body_of bytes (get_or old i Item.Unused)) ≤ 8168
 packed-room bytes old items packed i done within room =
-    let long = length-map old (slot_in bytes) in
-    let sum = sum_by_more_le taken (slots_in bytes old) i Slot.Unused (omega arith) in
-    let here : get_or (slots_in bytes old) i Slot.Unused ≡ slot_in bytes (get_or old i Item.Unused) = get_or-map (slot_in bytes) old i Item.Unused Slot.Unused within in
-    let size : taken (get_or (slots_in bytes old) i Slot.Unused) ≡ taken (slot_in bytes (get_or old i Item.Unused)) = ap taken here in
+    let long = length-map old (stored_slot bytes) in
+    let sum = sum_by_more_le bytes_taken (slots_in bytes old) i Slot.Unused (omega arith) in
+    let here : get_or (slots_in bytes old) i Slot.Unused ≡ stored_slot bytes (get_or old i Item.Unused) = get_or-map (stored_slot bytes) old i Item.Unused Slot.Unused within in
+    let size : bytes_taken (get_or (slots_in bytes old) i Slot.Unused) ≡ bytes_taken (stored_slot bytes (get_or old i Item.Unused)) = ap bytes_taken here in
     let least = body-le-taken bytes (get_or old i Item.Unused) in
     let limit = done.limit in
     omega arith
 
 pub packed-more : (bytes : List ℕ) (old items : List Item) (packed more : List ℕ) (i : ℕ) (x : Item) → IsPacked bytes old items packed i → i < length old
-    → slot_in more x ≡ slot_in bytes (get_or old i Item.Unused) → fits (length more) x ≡ true → more ≡ packed ++ body_of bytes (get_or old i Item.Unused)
+    → stored_slot more x ≡ stored_slot bytes (get_or old i Item.Unused) → fits (length more) x ≡ true → more ≡ packed ++ body_of bytes (get_or old i Item.Unused)
     → IsPacked bytes old (set items i x) more (i + 1)
 packed-more bytes old items packed more i x done within same fit grown =
-    let long = length-map old (slot_in bytes) in
+    let long = length-map old (stored_slot bytes) in
     let count = done.count in
     let limit = done.limit in
     let body = body_of bytes (get_or old i Item.Unused) in
     let more-long : length more ≡ length packed + length body = ap length grown ∙ length-append packed body in
-    let sum = sum_by_more taken (slots_in bytes old) i Slot.Unused (omega arith) in
-    let here : get_or (slots_in bytes old) i Slot.Unused ≡ slot_in bytes (get_or old i Item.Unused) = get_or-map (slot_in bytes) old i Item.Unused Slot.Unused within in
-    let size : taken (get_or (slots_in bytes old) i Slot.Unused) ≡ taken (slot_in bytes (get_or old i Item.Unused)) = ap taken here in
+    let sum = sum_by_more bytes_taken (slots_in bytes old) i Slot.Unused (omega arith) in
+    let here : get_or (slots_in bytes old) i Slot.Unused ≡ stored_slot bytes (get_or old i Item.Unused) = get_or-map (stored_slot bytes) old i Item.Unused Slot.Unused within in
+    let size : bytes_taken (get_or (slots_in bytes old) i Slot.Unused) ≡ bytes_taken (stored_slot bytes (get_or old i Item.Unused)) = ap bytes_taken here in
     let least = body-le-taken bytes (get_or old i Item.Unused) in
     let there : (j : ℕ) → j ≡ i → get_or (set items i x) j Item.Unused ≡ x = λ j e. get_or-set_at items i j x Item.Unused e (omega arith) in
     let longer : length packed ≤ length more = omega arith in
@@ -92,7 +92,7 @@ packed-more bytes old items packed more i x done within same fit grown =
     record {
       count = length-set items i x ∙ count;
       done = λ j below. ⊎_elim
-          (λ e. ap (slot_in more) (there j e) ∙ same ∙ sym (ap (λ k. slot_in bytes (get_or old k Item.Unused)) e))
+          (λ e. ap (stored_slot more) (there j e) ∙ same ∙ sym (ap (λ k. stored_slot bytes (get_or old k Item.Unused)) e))
           (λ apart. let before : j < i = omega (arith, below, apart) in
           rw (other j apart, grown, slot_in-more packed body (get_or items j Item.Unused) (done.within j before)) (done.done j before))
           (same_or_other j i);
@@ -108,26 +108,26 @@ packed-more bytes old items packed more i x done within same fit grown =
 pub packed-slots : (bytes : List ℕ) (old items : List Item) (packed : List ℕ) (i : ℕ) → IsPacked bytes old items packed i → length old ≤ i
     → slots_in packed items ≡ slots_in bytes old
 packed-slots bytes old items packed i done all =
-    let long-old = length-map old (slot_in bytes) in
-    let long = length-map items (slot_in packed) in
+    let long-old = length-map old (stored_slot bytes) in
+    let long = length-map items (stored_slot packed) in
     let count = done.count in
     ext_get_or Slot.Unused (slots_in packed items) (slots_in bytes old) (omega arith)
     (λ j below. let within : j < length items = omega (arith, below) in
-    get_or-map (slot_in packed) items j Item.Unused Slot.Unused within
+    get_or-map (stored_slot packed) items j Item.Unused Slot.Unused within
     ∙ done.done j (omega arith)
-    ∙ sym (get_or-map (slot_in bytes) old j Item.Unused Slot.Unused (omega arith)))
+    ∙ sym (get_or-map (stored_slot bytes) old j Item.Unused Slot.Unused (omega arith)))
 
 -- More bytes behind the bodies.
 
 pub slots_stay : (bytes more : List ℕ) (items : List Item) → AreWithin (length bytes) items → slots_in (bytes ++ more) items ≡ slots_in bytes items
 slots_stay bytes more items within =
-    let long-more = length-map items (slot_in (bytes ++ more)) in
-    let long = length-map items (slot_in bytes) in
+    let long-more = length-map items (stored_slot (bytes ++ more)) in
+    let long = length-map items (stored_slot bytes) in
     ext_get_or Slot.Unused (slots_in (bytes ++ more) items) (slots_in bytes items) (omega arith)
     (λ j below. let here : j < length items = omega (arith, below) in
-    get_or-map (slot_in (bytes ++ more)) items j Item.Unused Slot.Unused here
+    get_or-map (stored_slot (bytes ++ more)) items j Item.Unused Slot.Unused here
     ∙ slot_in-more bytes more (get_or items j Item.Unused) (within j)
-    ∙ sym (get_or-map (slot_in bytes) items j Item.Unused Slot.Unused here))
+    ∙ sym (get_or-map (stored_slot bytes) items j Item.Unused Slot.Unused here))
 
 pub slots-stay_or_not : (added : Bool) (bytes more : List ℕ) (items : List Item) → AreWithin (length bytes) items
     → slots_in (if added then bytes ++ more else bytes) items ≡ slots_in bytes items
@@ -137,25 +137,25 @@ slots-stay_or_not false bytes more items within = refl
 -- One slot in the place of another.
 
 -- what holds no version is the same slot beside any bytes
-pub bare-anywhere : (bytes : List ℕ) (x : Item) → is_bare x ≡ true → slot_in bytes x ≡ slot_in [] x
+pub bare-anywhere : (bytes : List ℕ) (x : Item) → is_bare x ≡ true → stored_slot bytes x ≡ stored_slot [] x
 bare-anywhere bytes Item.Unused bare = refl
 bare-anywhere bytes (Item.Normal s) bare = absurd (cc bare)
 bare-anywhere bytes (Item.Redirect target) bare = refl
 bare-anywhere bytes Item.Dead bare = refl
 
-pub header-same_body : (bytes : List ℕ) (x : Item) (h : Header) → slot_in bytes (with_header x h) ≡ Slots.with_header (slot_in bytes x) h
+pub header-same_body : (bytes : List ℕ) (x : Item) (h : Header) → stored_slot bytes (stored_with_header x h) ≡ Slots.with_header (stored_slot bytes x) h
 header-same_body bytes Item.Unused h = refl
 header-same_body bytes (Item.Normal s) h = refl
 header-same_body bytes (Item.Redirect target) h = refl
 header-same_body bytes Item.Dead h = refl
 
-pub header-set : (bytes : List ℕ) (items : List Item) (i : ℕ) (old x : Item) (h : Header) → i < length items → old ≡ get_or items i old → x ≡ with_header old h
+pub header-set : (bytes : List ℕ) (items : List Item) (i : ℕ) (old x : Item) (h : Header) → i < length items → old ≡ get_or items i old → x ≡ stored_with_header old h
     → slots_in bytes (set items i x) ≡ set (slots_in bytes items) i (Slots.with_header (get_or (slots_in bytes items) i Slot.Unused) h)
 header-set bytes items i old x h within read is =
     let here : get_or items i Item.Unused ≡ old = get_or_default items i Item.Unused old within ∙ sym read in
-    let slot : get_or (slots_in bytes items) i Slot.Unused ≡ slot_in bytes old = get_or-map (slot_in bytes) items i Item.Unused Slot.Unused within ∙ ap (slot_in bytes) here in
-    map-set (slot_in bytes) items i x
-    ∙ ap (set (slots_in bytes items) i) (ap (slot_in bytes) is ∙ header-same_body bytes old h ∙ ap (λ s. Slots.with_header s h) (sym slot))
+    let slot : get_or (slots_in bytes items) i Slot.Unused ≡ stored_slot bytes old = get_or-map (stored_slot bytes) items i Item.Unused Slot.Unused within ∙ ap (stored_slot bytes) here in
+    map-set (stored_slot bytes) items i x
+    ∙ ap (set (slots_in bytes items) i) (ap (stored_slot bytes) is ∙ header-same_body bytes old h ∙ ap (λ s. Slots.with_header s h) (sym slot))
 
 -- Slots whose bodies were moved, as the list keeps them.
 
@@ -173,6 +173,6 @@ within-push n items x fit within = λ j. ⊎_elim
 
 -- a version in the place of a slot
 pub version-set : (bytes more : List ℕ) (items moved : List Item) (n i : ℕ) (x : Item) (t : Version) → length moved ≡ n → slots_in more moved ≡ slots_in bytes items
-    → slot_in more x ≡ Slot.Normal t → slots_in more (set (take n (moved ++ drop (length moved) items)) i x) ≡ set (slots_in bytes items) i (Slot.Normal t)
+    → stored_slot more x ≡ Slot.Normal t → slots_in more (set (take n (moved ++ drop (length moved) items)) i x) ≡ set (slots_in bytes items) i (Slot.Normal t)
 version-set bytes more items moved n i x t long same is =
-    rw (refilled n items moved long) (map-set (slot_in more) moved i x ∙ ap (λ (l : List Slot). set l i (slot_in more x)) same ∙ ap (set (slots_in bytes items) i) is)
+    rw (refilled n items moved long) (map-set (stored_slot more) moved i x ∙ ap (λ (l : List Slot). set l i (stored_slot more x)) same ∙ ap (set (slots_in bytes items) i) is)

@@ -7,7 +7,7 @@ use Rattle.std.proofs.lemmas.List.Folds.{position_or_len_push}
 use Rattle.std.specs.List.{position_or_len}
 use Rattle.page_slots.specs.declared.slot.Slot.{Slot}
 use Rattle.page_slots.specs.declared.slot.Slot.TheVariants.{Unused, Normal, Redirect, Dead}
-use Rattle.page_slots.specs.Slots.{is_unused, taken, has_unused, with_added}
+use Rattle.page_slots.specs.Slots.{is_unused, bytes_taken, has_unused, with_added}
 use Rattle.page_slots.proofs.SlotLemmas.{first_within, same_or_other}
 
 -- The search.
@@ -64,7 +64,7 @@ first-after_set slots i s from before first =
 
 -- A new slot.
 
-unused-takes_none : (s : Slot) → is_unused s ≡ true → taken s ≡ 0
+unused-takes_none : (s : Slot) → is_unused s ≡ true → bytes_taken s ≡ 0
 unused-takes_none Unused e = refl
 unused-takes_none (Normal t) e = absurd (cc e)
 unused-takes_none (Redirect target) e = refl
@@ -86,11 +86,11 @@ first-after_added slots s used =
     (cases_Bool (has_unused slots))
 
 -- and the versions take its bytes more
-pub taken-after_added : (slots : List Slot) (s : Slot) → sum_by taken (with_added slots s) ≡ sum_by taken slots + taken s
+pub taken-after_added : (slots : List Slot) (s : Slot) → sum_by bytes_taken (with_added slots s) ≡ sum_by bytes_taken slots + bytes_taken s
 taken-after_added slots s =
     ⊎_elim (λ some. let within = ltb-true (position_or_len is_unused slots) (length slots) some in
-    let sum = sum_by-set taken slots (position_or_len is_unused slots) s Unused within in
+    let sum = sum_by-set bytes_taken slots (position_or_len is_unused slots) s Unused within in
     let old = unused-takes_none (get_or slots (position_or_len is_unused slots) Unused) (passes_at_first is_unused slots Unused within) in
     rw some (omega arith))
-    (λ none. rw none (sum_by_push taken slots s))
+    (λ none. rw none (sum_by_push bytes_taken slots s))
     (cases_Bool (has_unused slots))

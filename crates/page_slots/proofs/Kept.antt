@@ -12,42 +12,42 @@ use Rattle.page_slots.specs.declared.slot.Slot.{Slot}
 use Rattle.page_slots.specs.declared.slot.Slot.TheVariants.{Unused, Normal, Redirect, Dead}
 use Rattle.page_slots.specs.Hints.{same_but_hints}
 use Rattle.tuple_header.specs.declared.version.Header.{Header}
-use Rattle.page_slots.specs.Slots.{is_unused, taken, version_of, with_header, has_unused, free_number, with_added, free_bytes, room_of, differs_in_hints_alone}
+use Rattle.page_slots.specs.Slots.{is_unused, bytes_taken, version_of, with_header, has_unused, free_number, with_added, free_bytes, room_of, differs_in_hints_alone}
 use Rattle.page_slots.proofs.SlotLemmas.{free_number-new, length-with_added}
 use Rattle.page_slots.proofs.FreeLemmas.{taken-after_added}
 
 -- what a page keeps of its slots, of the index of the first unused one and of the bytes that they take
 abbrev pub IsKept : List Slot → ℕ → ℕ → Type 0
 IsKept slots free bytes =
-    (length slots ≤ 291) × (4 * length slots + sum_by taken slots ≤ 8168) × (free ≡ position_or_len is_unused slots) × (bytes ≡ sum_by taken slots)
+    (length slots ≤ 291) × (4 * length slots + sum_by bytes_taken slots ≤ 8168) × (free ≡ position_or_len is_unused slots) × (bytes ≡ sum_by bytes_taken slots)
 
 -- a slot that takes as many bytes as the one that was there, and is unused where that was
 pub kept_as_before : (slots : List Slot) (free bytes i : ℕ) (old new : Slot) → i < length slots → get_or slots i Unused ≡ old
-    → taken new ≡ taken old → is_unused new ≡ is_unused old → IsKept slots free bytes → IsKept (set slots i new) free bytes
+    → bytes_taken new ≡ bytes_taken old → is_unused new ≡ is_unused old → IsKept slots free bytes → IsKept (set slots i new) free bytes
 kept_as_before slots free bytes i old new within there same kind kept =
-    let sum = sum_by-set taken slots i new Unused within in
-    let size : taken (get_or slots i Unused) ≡ taken old = ap taken there in
+    let sum = sum_by-set bytes_taken slots i new Unused within in
+    let size : bytes_taken (get_or slots i Unused) ≡ bytes_taken old = ap bytes_taken there in
     let long = length-set slots i new in
     let first = position_or_len-set is_unused slots i new Unused (kind ∙ sym (ap is_unused there)) in
     (omega arith, omega arith, kept.2 ∙ sym first, omega arith)
 
 -- a slot at the free number, that takes some bytes and for which there is room
-pub kept_added : (slots : List Slot) (free bytes next : ℕ) (s : Slot) → 0 < taken s → taken s ≤ room_of slots → free_number slots ≤ 291
-    → next ≡ position_or_len is_unused (with_added slots s) → IsKept slots free bytes → IsKept (with_added slots s) next (bytes + taken s)
+pub kept_added : (slots : List Slot) (free bytes next : ℕ) (s : Slot) → 0 < bytes_taken s → bytes_taken s ≤ room_of slots → free_number slots ≤ 291
+    → next ≡ position_or_len is_unused (with_added slots s) → IsKept slots free bytes → IsKept (with_added slots s) next (bytes + bytes_taken s)
 kept_added slots free bytes next s some fits place first kept =
     let long = length-with_added slots s in
     let sum = taken-after_added slots s in
     ⊎_elim (λ reused. let same = long ∙ ap (λ b. if b then length slots else length slots + 1) reused in
-    let room : taken s ≤ free_bytes slots = rw reused at fits in
+    let room : bytes_taken s ≤ free_bytes slots = rw reused at fits in
     (omega arith, omega arith, first, omega arith))
     (λ new. let more = long ∙ ap (λ b. if b then length slots else length slots + 1) new in
     let last = free_number-new slots new in
     let below : nat_lt (length slots) 291 ≡ true = lt-ltb (length slots) 291 (omega arith) in
-    let room : taken s ≤ free_bytes slots - 4 = rw (new, below) at fits in
+    let room : bytes_taken s ≤ free_bytes slots - 4 = rw (new, below) at fits in
     (omega arith, omega arith, first, omega arith))
     (cases_Bool (has_unused slots))
 
-header-same_size : (s : Slot) (h : Header) → taken (with_header s h) ≡ taken s
+header-same_size : (s : Slot) (h : Header) → bytes_taken (with_header s h) ≡ bytes_taken s
 header-same_size Unused h = refl
 header-same_size (Normal t) h = refl
 header-same_size (Redirect target) h = refl

@@ -12,7 +12,7 @@ use Rattle.page_slots.specs.declared.slot.Slot.{Slot}
 use Rattle.page_slots.specs.declared.slot.Slot.TheVariants.{Unused, Normal, Redirect, Dead}
 use Rattle.tuple_header.specs.Version.{Version}
 use Rattle.tuple_header.specs.declared.version.Header.{Header}
-use Rattle.page_slots.specs.Slots.{is_unused, slot_at, version_at, version_of, IsThere, IsNormalAt, the_slot, with_slot, has_unused, free_number, with_added, header_at}
+use Rattle.page_slots.specs.Slots.{is_unused, slot_at, version_at, version_of, SlotIsThere, IsNormalAt, the_slot, with_slot, has_unused, free_number, with_added, header_at}
 
 -- a place that is another's holds what it held
 slice_get-set_other : (slots : List Slot) (i j : ℕ) (s : Slot) → j ≢ i → slice_get (set slots i s) j ≡ slice_get slots j
@@ -32,12 +32,12 @@ pub slot_at-past : (slots : List Slot) (n : ℕ) → length slots < n → slot_a
 slot_at-past slots zero h = refl
 slot_at-past slots (suc i) h = slice_get_past slots i (omega arith)
 
-pub there-from_slot_at : (slots : List Slot) (n : ℕ) (s : Slot) → slot_at slots n ≡ Some s → IsThere slots n
+pub there-from_slot_at : (slots : List Slot) (n : ℕ) (s : Slot) → slot_at slots n ≡ Some s → SlotIsThere slots n
 there-from_slot_at slots zero s e = absurd (cc e)
 there-from_slot_at slots (suc i) s e = let within = slice_get_within slots i s e in (omega arith, omega arith)
 
 -- a slot that is there is the slot of its number
-pub slot_at-there : (slots : List Slot) (n : ℕ) → IsThere slots n → slot_at slots n ≡ Some (the_slot slots n)
+pub slot_at-there : (slots : List Slot) (n : ℕ) → SlotIsThere slots n → slot_at slots n ≡ Some (the_slot slots n)
 slot_at-there slots n there = slot_at-place slots n there.0 ∙ slice_get-get_or slots (n - 1) Unused (omega (arith, there.0, there.1))
 
 pub the_slot-from_slot_at : (slots : List Slot) (n : ℕ) (s : Slot) → slot_at slots n ≡ Some s → the_slot slots n ≡ s
@@ -82,7 +82,7 @@ pub normal_at : (slots : List Slot) (n : ℕ) → IsNormalAt slots n → (t : Ve
 normal_at slots n normal =
     let t = some_inside (version_at slots n) normal in (t.0, slot_at-from_version_at slots n t.0 t.1)
 
-pub there-from_normal : (slots : List Slot) (n : ℕ) → IsNormalAt slots n → IsThere slots n
+pub there-from_normal : (slots : List Slot) (n : ℕ) → IsNormalAt slots n → SlotIsThere slots n
 there-from_normal slots n normal = let t = normal_at slots n normal in there-from_slot_at slots n (Normal t.0) t.1
 
 pub same_or_other : (m n : ℕ) → (m ≡ n) ⊎ (m ≢ n)
@@ -116,7 +116,7 @@ others_pushed slots (suc i) s other =
 pub length-with_slot : (slots : List Slot) (n : ℕ) (s : Slot) → length (with_slot slots n s) ≡ length slots
 length-with_slot slots n s = length-set slots (n - 1) s
 
-pub slot_at-with_slot : (slots : List Slot) (n : ℕ) (s : Slot) → IsThere slots n → slot_at (with_slot slots n s) n ≡ Some s
+pub slot_at-with_slot : (slots : List Slot) (n : ℕ) (s : Slot) → SlotIsThere slots n → slot_at (with_slot slots n s) n ≡ Some s
 slot_at-with_slot slots n s there =
     let long = length-set slots (n - 1) s in
     let within : n - 1 < length slots = omega (arith, there.0, there.1) in
@@ -141,7 +141,7 @@ first_within slots = prefix_len-le-length (λ s. not (is_unused s)) slots
 pub free_number-unused : (slots : List Slot) → has_unused slots ≡ true → slot_at slots (free_number slots) ≡ Some Unused
 free_number-unused slots some =
     let within = ltb-true (position_or_len is_unused slots) (length slots) some in
-    let there : IsThere slots (free_number slots) = (omega arith, omega arith) in
+    let there : SlotIsThere slots (free_number slots) = (omega arith, omega arith) in
     let passes = passes_at_first is_unused slots Unused within in
     slot_at-there slots (free_number slots) there ∙ ap Some (ap (λ i. get_or slots i Unused) (reused_place slots) ∙ unused_is (get_or slots (position_or_len is_unused slots) Unused) passes)
 

@@ -1,10 +1,10 @@
 -- The marks of a header that are hints. They only save a look at the status of a transaction, and may be set at any time:
--- that the maker is committed or aborted, each alone, and that a deleter is (src/include/access/htup_details.h).
+-- that the inserter is committed or aborted, each alone, and that a deleter is (src/include/access/htup_details.h).
 use Rattle.std.specs.Prelude.{ℕ, Bool, ◌==◌, ◌&&◌, if◌then◌else◌, bit_and, bit_or}
 use Rattle.tuple_header.specs.declared.version.Header.{Header}
 use Rattle.tuple_header.specs.Marks.{is_frozen}
 
--- the others: made by an update; both marks of the maker together, frozen; and, where there is no deleter, that of none
+-- the others: made by an update; both marks of the inserter together, frozen; and, where there is no deleter, that of none
 abbrev pub lasting_marks : Header → ℕ
 lasting_marks h =
     bit_or (bit_or (bit_and h.mask 0x2000) (if is_frozen h then 0x0300 else 0))

@@ -69,8 +69,8 @@ abbrev pub redirect_at : List Slot → ℕ → Option ℕ
 redirect_at slots n = option_and_then target_of (slot_at slots n)
 
 -- whether there is a slot of this number
-abbrev pub IsThere : List Slot → ℕ → Type 0
-IsThere slots n = (1 ≤ n) × (n ≤ length slots)
+abbrev pub SlotIsThere : List Slot → ℕ → Type 0
+SlotIsThere slots n = (1 ≤ n) × (n ≤ length slots)
 
 -- whether it is there and normal
 abbrev pub IsNormalAt : List Slot → ℕ → Type 0
@@ -113,15 +113,15 @@ with_added slots slot =
 -- Room, in bytes (PostgreSQL manual, Database Page Layout: a page of 8192 has a header of 24 and 4 for each pointer).
 
 -- the bytes that a slot's version takes
-abbrev pub taken : Slot → ℕ
-taken Unused = 0
-taken (Normal t) = rounded_size_of t.row
-taken (Redirect target) = 0
-taken Dead = 0
+abbrev pub bytes_taken : Slot → ℕ
+bytes_taken Unused = 0
+bytes_taken (Normal t) = rounded_size_of t.row
+bytes_taken (Redirect target) = 0
+bytes_taken Dead = 0
 
 -- what neither pointers nor versions take
 abbrev pub free_bytes : List Slot → ℕ
-free_bytes slots = 8168 - (4 * length slots + sum_by taken slots)
+free_bytes slots = 8168 - (4 * length slots + sum_by bytes_taken slots)
 
 -- the largest size of a version that fits: a new slot takes a pointer, and there are at most 291
 abbrev pub room_of : List Slot → ℕ

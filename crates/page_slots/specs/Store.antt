@@ -9,17 +9,17 @@ use Rattle.page_slots.specs.declared.slot.Slot.{Slot}
 abbrev pub body_in : List ℕ → StoredView → List ℕ
 body_in bytes s = take s.len (drop s.from bytes)
 
-abbrev pub version_in : List ℕ → StoredView → Version
-version_in bytes s = record { header = s.header; row = record { key = s.key; cols = s.cols; body = record { items = body_in bytes s } } }
+abbrev pub stored_version : List ℕ → StoredView → Version
+stored_version bytes s = record { header = s.header; row = record { key = s.key; cols = s.cols; body = record { items = body_in bytes s } } }
 
-abbrev pub slot_in : List ℕ → Item → Slot
-slot_in bytes Item.Unused = Slot.Unused
-slot_in bytes (Item.Normal s) = Slot.Normal (version_in bytes s)
-slot_in bytes (Item.Redirect target) = Slot.Redirect target
-slot_in bytes Item.Dead = Slot.Dead
+abbrev pub stored_slot : List ℕ → Item → Slot
+stored_slot bytes Item.Unused = Slot.Unused
+stored_slot bytes (Item.Normal s) = Slot.Normal (stored_version bytes s)
+stored_slot bytes (Item.Redirect target) = Slot.Redirect target
+stored_slot bytes Item.Dead = Slot.Dead
 
 abbrev pub slots_in : List ℕ → List Item → List Slot
-slots_in bytes items = map (slot_in bytes) items
+slots_in bytes items = map (stored_slot bytes) items
 
 -- the body of a slot's version, if it is normal
 abbrev pub body_of : List ℕ → Item → List ℕ
@@ -46,8 +46,8 @@ is_bare (Item.Redirect target) = true
 is_bare Item.Dead = true
 
 -- with another header
-abbrev pub with_header : Item → Header → Item
-with_header Item.Unused h = Item.Unused
-with_header (Item.Normal s) h = Item.Normal (record s { header = h })
-with_header (Item.Redirect target) h = Item.Redirect target
-with_header Item.Dead h = Item.Dead
+abbrev pub stored_with_header : Item → Header → Item
+stored_with_header Item.Unused h = Item.Unused
+stored_with_header (Item.Normal s) h = Item.Normal (record s { header = h })
+stored_with_header (Item.Redirect target) h = Item.Redirect target
+stored_with_header Item.Dead h = Item.Dead

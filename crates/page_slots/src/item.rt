@@ -3,8 +3,8 @@
 ghost use Rattle.std.specs.Prelude.{◌≡◌, ◌≤◌, ◌+◌, ℕ, List, IfSome, None, true, length, take, drop};
 ghost use Rattle.std.specs.Option.{option_map};
 ghost use Rattle.tuple_header.specs.Faults.{header_fault};
-ghost use Rattle.page_slots.specs.Slots.{is_unused, is_dead, leads_to, version_of, target_of, taken};
-ghost use Rattle.page_slots.specs.Store.{slot_in, version_in, with_header, fits};
+ghost use Rattle.page_slots.specs.Slots.{is_unused, is_dead, leads_to, version_of, target_of, bytes_taken};
+ghost use Rattle.page_slots.specs.Store.{stored_slot, stored_version, stored_with_header, fits};
 
 use crate::slot::Slot;
 use std::marker::Model;
@@ -55,7 +55,7 @@ impl Stored {
     /// The version, by value.
     fn version(&self, bytes: &[u8]) -> Tuple
         requires { self.now.from + self.now.len ≤ length bytes.now }
-        ensures { result ≡ version_in bytes.now self.now }
+        ensures { result ≡ stored_version bytes.now self.now }
     {
         Tuple {
             header: self.header,
@@ -67,21 +67,21 @@ impl Stored {
 impl Item {
     /// Whether it is unused.
     pub(crate) fn is_unused(&self) -> bool
-        ensures { (bytes : List ℕ) → result ≡ is_unused (slot_in bytes self.now) }
+        ensures { (bytes : List ℕ) → result ≡ is_unused (stored_slot bytes self.now) }
     {
         matches!(self, Item::Unused)
     }
 
     /// Whether it is dead.
     pub(crate) fn is_dead(&self) -> bool
-        ensures { (bytes : List ℕ) → result ≡ is_dead (slot_in bytes self.now) }
+        ensures { (bytes : List ℕ) → result ≡ is_dead (stored_slot bytes self.now) }
     {
         matches!(self, Item::Dead)
     }
 
     /// Whether it is a redirect to the slot of this number.
     pub(crate) fn leads_to(&self, number: u16) -> bool
-        ensures { (bytes : List ℕ) → result ≡ leads_to number (slot_in bytes self.now) }
+        ensures { (bytes : List ℕ) → result ≡ leads_to number (stored_slot bytes self.now) }
     {
         match self {
             Item::Redirect(target) => *target == number,
@@ -91,7 +91,7 @@ impl Item {
 
     /// Where it leads, if it is a redirect.
     pub(crate) fn redirect(&self) -> Option<u16>
-        ensures { (bytes : List ℕ) → result ≡ target_of (slot_in bytes self.now) }
+        ensures { (bytes : List ℕ) → result ≡ target_of (stored_slot bytes self.now) }
     {
         match self {
             Item::Redirect(target) => Some(*target),
@@ -101,7 +101,8 @@ impl Item {
 
     /// The header of its version, if it is normal.
     pub(crate) fn header(&self) -> Option<Header>
-        ensures value { (bytes : List ℕ) → result ≡ option_map (λ t. t.header) (version_of (slot_in bytes self.now)) }
+        ensures value { (bytes : List ℕ)
+            → result ≡ option_map (λ t. t.header) (version_of (stored_slot bytes self.now)) }
         ensures faultless { IfSome result (λ header. header_fault header ≡ None) }
     {
         match self {
@@ -112,7 +113,8 @@ impl Item {
 
     /// The key of its version, if it is normal.
     pub(crate) fn key(&self) -> Option<u64>
-        ensures { (bytes : List ℕ) → result ≡ option_map (λ t. t.row.key) (version_of (slot_in bytes self.now)) }
+        ensures { (bytes : List ℕ)
+            → result ≡ option_map (λ t. t.row.key) (version_of (stored_slot bytes self.now)) }
     {
         match self {
             Item::Normal(stored) => Some(stored.key),
@@ -122,7 +124,8 @@ impl Item {
 
     /// How many bytes its version takes on the page: 66 and its body, rounded up to a multiple of 8.
     pub(crate) fn taken(&self) -> usize
-        ensures { (bytes : List ℕ) → fits (length bytes) self.now ≡ true → result ≡ taken (slot_in bytes self.now) }
+        ensures { (bytes : List ℕ) → fits (length bytes) self.now ≡ true
+            → result ≡ bytes_taken (stored_slot bytes self.now) }
     {
         match self {
             Item::Normal(stored) => (66 + usize::from(stored.len)).next_multiple_of(8),
@@ -133,7 +136,7 @@ impl Item {
     /// The row of its version, where it stands, if it is normal.
     pub(crate) fn row<'a>(&self, bytes: &'a [u8]) -> Option<RowRef<'a>>
         requires { fits (length bytes.now) self.now ≡ true }
-        ensures { result ≡ option_map (λ t. t.row) (version_of (slot_in bytes.now self.now)) }
+        ensures { result ≡ option_map (λ t. t.row) (version_of (stored_slot bytes.now self.now)) }
     {
         match self {
             Item::Normal(stored) => Some(RowRef::new(stored.key, stored.cols, stored.body(bytes))),
@@ -144,7 +147,7 @@ impl Item {
     /// The slot, by value.
     pub(crate) fn slot(&self, bytes: &[u8]) -> Slot
         requires { fits (length bytes.now) self.now ≡ true }
-        ensures { result ≡ slot_in bytes.now self.now }
+        ensures { result ≡ stored_slot bytes.now self.now }
     {
         match self {
             Item::Unused => Slot::Unused,
@@ -157,7 +160,7 @@ impl Item {
     /// Gives its version, if it is normal, another header.
     pub(crate) fn set_header(&mut self, header: Header)
         requires { header_fault header ≡ None }
-        ensures { self.new ≡ with_header self.old header }
+        ensures { self.new ≡ stored_with_header self.old header }
     {
         if let Item::Normal(stored) = self {
             stored.header = header;

@@ -3,8 +3,8 @@
 ghost use Rattle.std.specs.Prelude.{◌≡◌, ◌≤◌, ◌+◌, ◌++◌, None, true, length, sum_by, vec_capacity, take, drop};
 ghost use Rattle.tuple_header.specs.Faults.{header_fault};
 ghost use Rattle.page_slots.specs.declared.slot.Slot.{Slot};
-ghost use Rattle.page_slots.specs.Slots.{taken};
-ghost use Rattle.page_slots.specs.Store.{slot_in, slots_in, body_of, fits, AreWithin};
+ghost use Rattle.page_slots.specs.Slots.{bytes_taken};
+ghost use Rattle.page_slots.specs.Store.{stored_slot, slots_in, body_of, fits, AreWithin};
 
 use crate::item::{Item, Stored};
 use arrayvec::ArrayVec;
@@ -17,7 +17,7 @@ pub(crate) const MOST_BYTES: usize = 8168;
 fn move_body(item: &mut Item, bytes: &[u8], packed: &mut ArrayVec<u8, 8168>)
     requires within { fits (length bytes.now) item.old ≡ true }
     requires room { length packed.old.items + length (body_of bytes.now item.old) ≤ 8168 }
-    ensures slot { slot_in packed.new.items item.new ≡ slot_in bytes.now item.old }
+    ensures slot { stored_slot packed.new.items item.new ≡ stored_slot bytes.now item.old }
     ensures fits { fits (length packed.new.items) item.new ≡ true }
     ensures items { packed.new.items ≡ packed.old.items ++ body_of bytes.now item.old }
 {
@@ -31,10 +31,10 @@ fn move_body(item: &mut Item, bytes: &[u8], packed: &mut ArrayVec<u8, 8168>)
 /// The bodies of these slots, one behind the other, in the order of the slots, which keep them there from now on.
 fn pack(items: &mut [Item], bytes: &[u8]) -> ArrayVec<u8, 8168>
     requires within { AreWithin (length bytes.now) items.old }
-    requires room { sum_by taken (slots_in bytes.now items.old) ≤ 8168 }
+    requires room { sum_by bytes_taken (slots_in bytes.now items.old) ≤ 8168 }
     ensures slots { slots_in result.items items.new ≡ slots_in bytes.now items.old }
     ensures within { AreWithin (length result.items) items.new }
-    ensures limit { length result.items ≤ sum_by taken (slots_in bytes.now items.old) }
+    ensures limit { length result.items ≤ sum_by bytes_taken (slots_in bytes.now items.old) }
 {
     let mut packed: ArrayVec<u8, 8168> = ArrayVec::new();
     for i in 0..items.len() {
@@ -43,14 +43,15 @@ fn pack(items: &mut [Item], bytes: &[u8]) -> ArrayVec<u8, 8168>
     packed
 }
 
-/// Moves the bodies of these slots together at the front of the bytes.
+/// Moves the bodies of these slots together at the prefix of the bytes.
 fn compact(items: &mut [Item], bytes: &mut Vec<u8>)
     requires within { AreWithin (length bytes.old.items) items.old }
-    requires room { sum_by taken (slots_in bytes.old.items items.old) ≤ 8168 }
+    requires room { sum_by bytes_taken (slots_in bytes.old.items items.old) ≤ 8168 }
     requires memory { 8168 ≤ vec_capacity bytes.old }
     ensures slots { slots_in bytes.new.items items.new ≡ slots_in bytes.old.items items.old }
     ensures within { AreWithin (length bytes.new.items) items.new }
-    ensures limit { length bytes.new.items ≤ sum_by taken (slots_in bytes.old.items items.old) }
+    ensures limit { length bytes.new.items
+        ≤ sum_by bytes_taken (slots_in bytes.old.items items.old) }
     ensures memory { 8168 ≤ vec_capacity bytes.new }
 {
     let packed = pack(items, bytes.as_slice());
@@ -62,7 +63,7 @@ fn compact(items: &mut [Item], bytes: &mut Vec<u8>)
 /// none.
 fn make_way(items: &mut [Item], bytes: &mut Vec<u8>, count: usize)
     requires within { AreWithin (length bytes.old.items) items.old }
-    requires room { sum_by taken (slots_in bytes.old.items items.old) + count ≤ 8168 }
+    requires room { sum_by bytes_taken (slots_in bytes.old.items items.old) + count ≤ 8168 }
     requires memory { 8168 ≤ vec_capacity bytes.old }
     ensures slots { slots_in bytes.new.items items.new ≡ slots_in bytes.old.items items.old }
     ensures within { AreWithin (length bytes.new.items) items.new }
@@ -77,7 +78,8 @@ fn make_way(items: &mut [Item], bytes: &mut Vec<u8>, count: usize)
 /// Keeps a body behind those of these slots, and answers where it begins.
 pub(crate) fn keep_body(items: &mut [Item], bytes: &mut Vec<u8>, body: &[u8]) -> u16
     requires within { AreWithin (length bytes.old.items) items.old }
-    requires room { sum_by taken (slots_in bytes.old.items items.old) + length body.now ≤ 8168 }
+    requires room { sum_by bytes_taken (slots_in bytes.old.items items.old) + length body.now
+        ≤ 8168 }
     requires memory { 8168 ≤ vec_capacity bytes.old }
     ensures slots { slots_in bytes.new.items items.new ≡ slots_in bytes.old.items items.old }
     ensures within { AreWithin (length bytes.new.items) items.new }
@@ -100,12 +102,14 @@ pub(crate) fn keep_version(
     row: &Row,
 ) -> Item
     requires within { AreWithin (length bytes.old.items) items.old }
-    requires room { sum_by taken (slots_in bytes.old.items items.old) + length row.now.body.items ≤ 8168 }
+    requires room { sum_by bytes_taken (slots_in bytes.old.items items.old)
+        + length row.now.body.items ≤ 8168 }
     requires memory { 8168 ≤ vec_capacity bytes.old }
     requires faultless { header_fault header ≡ None }
     ensures slots { slots_in bytes.new.items items.new ≡ slots_in bytes.old.items items.old }
     ensures within { AreWithin (length bytes.new.items) items.new }
-    ensures version { slot_in bytes.new.items result ≡ Slot.Normal (record { header = header; row = row.now }) }
+    ensures version { stored_slot bytes.new.items result
+        ≡ Slot.Normal (record { header = header; row = row.now }) }
     ensures fits { fits (length bytes.new.items) result ≡ true }
     ensures limit { length bytes.new.items ≤ 8168 }
     ensures memory { 8168 ≤ vec_capacity bytes.new }

@@ -3,8 +3,8 @@
 ghost use Rattle.std.specs.Prelude.{◌≡◌, ◌⊎◌, ◌≤◌, ◌<◌, ◌+◌, [], true, false, length, OnOk, OnErr, IfOk, IfSome, IsSome, IsTrue, ◌↔◌, Some, None, MatchOption};
 ghost use Rattle.tuple_header.specs.Version.{rounded_size_of};
 ghost use Rattle.tuple_header.specs.Faults.{header_fault};
-ghost use Rattle.page_slots.specs.Store.{slot_in, is_bare};
-ghost use Rattle.page_slots.specs.Slots.{is_unused, is_dead, leads_to, slot_at, header_at, row_at, key_at, redirect_at, IsThere, IsNormalAt, the_slot, with_slot, with_header_at, has_unused, free_number, with_added, room_of, next_change, change_unless, differs_in_hints_alone};
+ghost use Rattle.page_slots.specs.Store.{stored_slot, is_bare};
+ghost use Rattle.page_slots.specs.Slots.{is_unused, is_dead, leads_to, slot_at, header_at, row_at, key_at, redirect_at, SlotIsThere, IsNormalAt, the_slot, with_slot, with_header_at, has_unused, free_number, with_added, room_of, next_change, change_unless, differs_in_hints_alone};
 
 use crate::hints::differ_in_hints_alone;
 use crate::item::Item;
@@ -47,12 +47,12 @@ impl Model for Page {
 
     ghost use Rattle.std.specs.Prelude.{◌≡◌};
     ghost use Rattle.std.specs.List.{position_or_len};
-    ghost use Rattle.page_slots.specs.Slots.{is_unused, taken};
+    ghost use Rattle.page_slots.specs.Slots.{is_unused, bytes_taken};
 
     ghost view = { λ p. record { slots = p.slots.slots; change = p.change; flag = p.flag; spare = p.slots.spare } };
 
-    ghost invariant = { λ p. (length p.slots.slots ≤ 291) × (4 * length p.slots.slots + sum_by taken p.slots.slots ≤ 8168)
-        × (p.free ≡ position_or_len is_unused p.slots.slots) × (p.taken_bytes ≡ sum_by taken p.slots.slots) };
+    ghost invariant = { λ p. (length p.slots.slots ≤ 291) × (4 * length p.slots.slots + sum_by bytes_taken p.slots.slots ≤ 8168)
+        × (p.free ≡ position_or_len is_unused p.slots.slots) × (p.taken_bytes ≡ sum_by bytes_taken p.slots.slots) };
 }
 
 impl Page {
@@ -103,7 +103,7 @@ impl Page {
     /// The slot of this number, by value, if there is one. It takes no memory.
     pub fn slot(&self, number: u16) -> Option<Slot>
         ensures value { result ≡ slot_at self.now.slots number }
-        ensures there { IsSome result ↔ IsThere self.now.slots number }
+        ensures there { IsSome result ↔ SlotIsThere self.now.slots number }
     {
         self.slots.slot(index_of(number)?)
     }
@@ -111,7 +111,7 @@ impl Page {
     /// The header of the version in the slot of this number, if that is there and normal.
     pub fn header(&self, number: u16) -> Option<Header>
         ensures value { result ≡ header_at self.now.slots number }
-        ensures there { IsSome result → IsThere self.now.slots number }
+        ensures there { IsSome result → SlotIsThere self.now.slots number }
         ensures normal { IsSome result ↔ IsNormalAt self.now.slots number }
         ensures faultless { IfSome result (λ header. header_fault header ≡ None) }
     {
@@ -121,7 +121,7 @@ impl Page {
     /// The key of the version in the slot of this number, if that is there and normal.
     pub fn key(&self, number: u16) -> Option<u64>
         ensures value { result ≡ key_at self.now.slots number }
-        ensures there { IsSome result → IsThere self.now.slots number }
+        ensures there { IsSome result → SlotIsThere self.now.slots number }
         ensures normal { IsSome result ↔ IsNormalAt self.now.slots number }
     {
         self.slots.key(index_of(number)?)
@@ -130,7 +130,7 @@ impl Page {
     /// The row of the version in the slot of this number, where it stands, if that is there and normal.
     pub fn row(&self, number: u16) -> Option<RowRef<'_>>
         ensures value { result ≡ row_at self.now.slots number }
-        ensures there { IsSome result → IsThere self.now.slots number }
+        ensures there { IsSome result → SlotIsThere self.now.slots number }
         ensures normal { IsSome result ↔ IsNormalAt self.now.slots number }
     {
         self.slots.row(index_of(number)?)
@@ -139,7 +139,7 @@ impl Page {
     /// Where the slot of this number leads, if that is there and a redirect.
     pub fn redirect(&self, number: u16) -> Option<u16>
         ensures value { result ≡ redirect_at self.now.slots number }
-        ensures there { IsSome result → IsThere self.now.slots number }
+        ensures there { IsSome result → SlotIsThere self.now.slots number }
     {
         self.slots.redirect(index_of(number)?)
     }
@@ -203,13 +203,16 @@ impl Page {
     /// exactly where the version's size is over the room, and NoMemory only where the page has no slot and no room was made for
     /// one: with the first slot a page gets memory for all that it may have. Both change no slot.
     pub fn add(&mut self, version: Tuple) -> Result<u16, AddFault>
-        ensures full { (result ≡ Err AddFault.Full) ↔ (room_of self.old.slots < rounded_size_of version.row) }
+        ensures full { (result ≡ Err AddFault.Full)
+            ↔ (room_of self.old.slots < rounded_size_of version.row) }
         ensures memory { result ≡ Err AddFault.NoMemory → self.old.spare ≡ 0 }
-        ensures memory_only_to_grow { result ≡ Err AddFault.NoMemory → has_unused self.old.slots ≡ false }
+        ensures memory_only_to_grow { result ≡ Err AddFault.NoMemory
+            → has_unused self.old.slots ≡ false }
         ensures memory_for_the_first { result ≡ Err AddFault.NoMemory → length self.old.slots ≡ 0 }
         ensures number { IfOk result (λ n. n ≡ free_number self.old.slots) }
         ensures limit { IfOk result (λ n. n ≤ 291) }
-        ensures slots { OnOk result (self.new.slots ≡ with_added self.old.slots (Slot.Normal version)) }
+        ensures slots { OnOk result
+            (self.new.slots ≡ with_added self.old.slots (Slot.Normal version)) }
         ensures change { OnOk result (self.new.change ≡ next_change self.old.change) }
         ensures spare { OnOk result (self.old.spare ≤ self.new.spare + 1) }
         ensures spare_kept { has_unused self.old.slots ≡ true → self.old.spare ≤ self.new.spare }
@@ -226,13 +229,17 @@ impl Page {
     /// [`Page::add`] does, and both change no slot.
     pub fn add_row(&mut self, header: Header, row: &Row) -> Result<u16, AddFault>
         requires faultless { header_fault header ≡ None }
-        ensures full { (result ≡ Err AddFault.Full) ↔ (room_of self.old.slots < rounded_size_of row.now) }
+        ensures full { (result ≡ Err AddFault.Full)
+            ↔ (room_of self.old.slots < rounded_size_of row.now) }
         ensures memory { result ≡ Err AddFault.NoMemory → self.old.spare ≡ 0 }
-        ensures memory_only_to_grow { result ≡ Err AddFault.NoMemory → has_unused self.old.slots ≡ false }
+        ensures memory_only_to_grow { result ≡ Err AddFault.NoMemory
+            → has_unused self.old.slots ≡ false }
         ensures memory_for_the_first { result ≡ Err AddFault.NoMemory → length self.old.slots ≡ 0 }
         ensures number { IfOk result (λ n. n ≡ free_number self.old.slots) }
         ensures limit { IfOk result (λ n. n ≤ 291) }
-        ensures slots { OnOk result (self.new.slots ≡ with_added self.old.slots (Slot.Normal (record { header = header; row = row.now }))) }
+        ensures slots { OnOk result
+            (self.new.slots
+            ≡ with_added self.old.slots (Slot.Normal (record { header = header; row = row.now }))) }
         ensures change { OnOk result (self.new.change ≡ next_change self.old.change) }
         ensures spare { OnOk result (self.old.spare ≤ self.new.spare + 1) }
         ensures spare_kept { has_unused self.old.slots ≡ true → self.old.spare ≤ self.new.spare }
@@ -265,7 +272,8 @@ impl Page {
     pub fn make_room(&mut self, count: usize) -> Result<(), AllocError>
         ensures room { OnOk result (count ≤ self.new.spare) }
         ensures refused { OnErr result (self.old.spare < count) }
-        ensures grows { OnErr result ((length self.old.slots ≡ 0) ⊎ (291 < length self.old.slots + count)) }
+        ensures grows { OnErr result
+            ((length self.old.slots ≡ 0) ⊎ (291 < length self.old.slots + count)) }
         ensures spare { self.old.spare ≤ self.new.spare }
         ensures slots { self.new.slots ≡ self.old.slots }
         ensures change { self.new.change ≡ self.old.change }
@@ -280,7 +288,9 @@ impl Page {
         requires normal { IsNormalAt self.old.slots number }
         requires faultless { header_fault header ≡ None }
         ensures slots { self.new.slots ≡ with_header_at self.old.slots number header }
-        ensures change { self.new.change ≡ change_unless (differs_in_hints_alone (the_slot self.old.slots number) header) self.old.change }
+        ensures change { self.new.change
+            ≡ change_unless
+            (differs_in_hints_alone (the_slot self.old.slots number) header) self.old.change }
         ensures flag { self.new.flag ≡ self.old.flag }
         ensures spare { self.new.spare ≡ self.old.spare }
     {
@@ -297,7 +307,7 @@ impl Page {
 
     /// Makes the slot of this number, which is there, unused. The change number is raised where it was not unused.
     pub fn set_unused(&mut self, number: u16)
-        requires { IsThere self.old.slots number }
+        requires { SlotIsThere self.old.slots number }
         ensures { self.new ≡ record self.old {
           slots = with_slot self.old.slots number Slot.Unused;
           change = change_unless (is_unused (the_slot self.old.slots number)) self.old.change;
@@ -309,7 +319,7 @@ impl Page {
 
     /// Makes the slot of this number, which is there, dead. The change number is raised where it was not dead.
     pub fn set_dead(&mut self, number: u16)
-        requires { IsThere self.old.slots number }
+        requires { SlotIsThere self.old.slots number }
         ensures { self.new ≡ record self.old {
           slots = with_slot self.old.slots number Slot.Dead;
           change = change_unless (is_dead (the_slot self.old.slots number)) self.old.change;
@@ -322,8 +332,8 @@ impl Page {
     /// Makes the slot of this number lead to the slot `target`. Both are there. The change number is raised where it did not
     /// lead there.
     pub fn set_redirect(&mut self, number: u16, target: u16)
-        requires there { IsThere self.old.slots number }
-        requires target_there { IsThere self.old.slots target }
+        requires there { SlotIsThere self.old.slots number }
+        requires target_there { SlotIsThere self.old.slots target }
         ensures { self.new ≡ record self.old {
           slots = with_slot self.old.slots number (Slot.Redirect target);
           change = change_unless (leads_to target (the_slot self.old.slots number)) self.old.change;
@@ -335,10 +345,10 @@ impl Page {
 
     // Puts a slot without a version in the place of its number.
     fn put(&mut self, number: u16, item: Item, same: bool)
-        requires there { IsThere self.old.slots number }
+        requires there { SlotIsThere self.old.slots number }
         requires bare { is_bare item ≡ true }
         ensures { self.new ≡ record self.old {
-          slots = with_slot self.old.slots number (slot_in [] item);
+          slots = with_slot self.old.slots number (stored_slot [] item);
           change = change_unless same self.old.change;
         } }
     {

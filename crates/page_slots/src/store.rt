@@ -4,8 +4,8 @@ ghost use Rattle.std.specs.Prelude.{◌≡◌, ◌≤◌, ◌<◌, ◌+◌, ◌+
 ghost use Rattle.std.specs.Option.{option_map, option_and_then};
 ghost use Rattle.std.specs.List.{position_or_len};
 ghost use Rattle.tuple_header.specs.Faults.{header_fault};
-ghost use Rattle.page_slots.specs.Slots.{is_unused, is_dead, leads_to, version_of, target_of, with_header, taken};
-ghost use Rattle.page_slots.specs.Store.{slot_in, is_bare};
+ghost use Rattle.page_slots.specs.Slots.{is_unused, is_dead, leads_to, version_of, target_of, with_header, bytes_taken};
+ghost use Rattle.page_slots.specs.Store.{stored_slot, is_bare};
 
 use crate::item::Item;
 use crate::packing::{MOST_BYTES, keep_version};
@@ -68,7 +68,9 @@ impl Store {
 
     /// The header of the version at an index, if there is one.
     pub(crate) fn header(&self, index: usize) -> Option<Header>
-        ensures value { result ≡ option_map (λ t. t.header) (option_and_then version_of (slice_get self.now.slots index)) }
+        ensures value { result
+            ≡ option_map (λ t. t.header)
+            (option_and_then version_of (slice_get self.now.slots index)) }
         ensures faultless { IfSome result (λ header. header_fault header ≡ None) }
     {
         match self.items.get(index) {
@@ -79,7 +81,9 @@ impl Store {
 
     /// The key of the version at an index, if there is one.
     pub(crate) fn key(&self, index: usize) -> Option<u64>
-        ensures { result ≡ option_map (λ t. t.row.key) (option_and_then version_of (slice_get self.now.slots index)) }
+        ensures { result
+            ≡ option_map (λ t. t.row.key)
+            (option_and_then version_of (slice_get self.now.slots index)) }
     {
         match self.items.get(index) {
             Some(item) => item.key(),
@@ -89,7 +93,9 @@ impl Store {
 
     /// The row of the version at an index, where it stands, if there is one.
     pub(crate) fn row(&self, index: usize) -> Option<RowRef<'_>>
-        ensures { result ≡ option_map (λ t. t.row) (option_and_then version_of (slice_get self.now.slots index)) }
+        ensures { result
+            ≡ option_map (λ t. t.row)
+            (option_and_then version_of (slice_get self.now.slots index)) }
     {
         match self.items.get(index) {
             Some(item) => item.row(&self.bytes),
@@ -134,7 +140,7 @@ impl Store {
     /// How many bytes the version at an index takes on the page.
     pub(crate) fn taken(&self, index: usize) -> usize
         requires { index < length self.now.slots }
-        ensures { result ≡ taken (slice_index_or self.now.slots index Slot.Unused) }
+        ensures { result ≡ bytes_taken (slice_index_or self.now.slots index Slot.Unused) }
     {
         self.items[index].taken()
     }
@@ -158,7 +164,8 @@ impl Store {
     pub(crate) fn make_room(&mut self, count: usize) -> Result<(), AllocError>
         ensures room { OnOk result (count ≤ self.new.spare) }
         ensures refused { OnErr result (self.old.spare < count) }
-        ensures grows { OnErr result ((length self.old.slots ≡ 0) ⊎ (291 < length self.old.slots + count)) }
+        ensures grows { OnErr result
+            ((length self.old.slots ≡ 0) ⊎ (291 < length self.old.slots + count)) }
         ensures spare { self.old.spare ≤ self.new.spare }
         ensures slots { self.new.slots ≡ self.old.slots }
     {
@@ -177,7 +184,8 @@ impl Store {
     pub(crate) fn put(&mut self, index: usize, item: Item)
         requires there { index < length self.old.slots }
         requires bare { is_bare item ≡ true }
-        ensures { self.new ≡ record self.old { slots = slice_set self.old.slots index (slot_in [] item) } }
+        ensures { self.new
+            ≡ record self.old { slots = slice_set self.old.slots index (stored_slot [] item) } }
     {
         self.items[index] = item;
     }
@@ -186,7 +194,11 @@ impl Store {
     pub(crate) fn set_header(&mut self, index: usize, header: Header)
         requires there { index < length self.old.slots }
         requires faultless { header_fault header ≡ None }
-        ensures { self.new ≡ record self.old { slots = slice_set self.old.slots index (with_header (slice_index_or self.old.slots index Slot.Unused) header) } }
+        ensures { self.new
+            ≡ record self.old {
+              slots = slice_set self.old.slots index
+                  (with_header (slice_index_or self.old.slots index Slot.Unused) header);
+            } }
     {
         self.items[index].set_header(header);
     }
@@ -195,8 +207,12 @@ impl Store {
     pub(crate) fn put_version(&mut self, index: usize, header: Header, row: &Row)
         requires there { index < length self.old.slots }
         requires faultless { header_fault header ≡ None }
-        requires room { sum_by taken self.old.slots + length row.now.body.items ≤ 8168 }
-        ensures { self.new ≡ record self.old { slots = slice_set self.old.slots index (Slot.Normal (record { header = header; row = row.now })) } }
+        requires room { sum_by bytes_taken self.old.slots + length row.now.body.items ≤ 8168 }
+        ensures { self.new
+            ≡ record self.old {
+              slots = slice_set self.old.slots index
+                  (Slot.Normal (record { header = header; row = row.now }));
+            } }
     {
         let item = keep_version(&mut self.items, &mut self.bytes, header, row);
         self.items[index] = item;
@@ -206,8 +222,9 @@ impl Store {
     fn push_ready(&mut self, header: Header, row: &Row)
         requires memory { 0 < self.old.spare }
         requires faultless { header_fault header ≡ None }
-        requires room { sum_by taken self.old.slots + length row.now.body.items ≤ 8168 }
-        ensures slots { self.new.slots ≡ self.old.slots ++ Slot.Normal (record { header = header; row = row.now }) ∷ [] }
+        requires room { sum_by bytes_taken self.old.slots + length row.now.body.items ≤ 8168 }
+        ensures slots { self.new.slots
+            ≡ self.old.slots ++ Slot.Normal (record { header = header; row = row.now }) ∷ [] }
         ensures spare { self.old.spare ≤ self.new.spare + 1 }
     {
         let item = keep_version(&mut self.items, &mut self.bytes, header, row);
@@ -217,8 +234,10 @@ impl Store {
     /// Adds a version behind all slots.
     pub(crate) fn push_version(&mut self, header: Header, row: &Row) -> Result<(), AllocError>
         requires faultless { header_fault header ≡ None }
-        requires room { sum_by taken self.old.slots + length row.now.body.items ≤ 8168 }
-        ensures slots { OnOk result (self.new.slots ≡ self.old.slots ++ Slot.Normal (record { header = header; row = row.now }) ∷ []) }
+        requires room { sum_by bytes_taken self.old.slots + length row.now.body.items ≤ 8168 }
+        ensures slots { OnOk result
+            (self.new.slots
+            ≡ self.old.slots ++ Slot.Normal (record { header = header; row = row.now }) ∷ []) }
         ensures spare { OnOk result (self.old.spare ≤ self.new.spare + 1) }
         ensures refused { OnErr result (self.old.spare ≡ 0) }
         ensures grows { OnErr result ((length self.old.slots ≡ 0) ⊎ (291 ≤ length self.old.slots)) }

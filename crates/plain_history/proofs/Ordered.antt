@@ -16,7 +16,7 @@ use Rattle.history.specs.World.{OpenSession, joined, own_write, view}
 use Rattle.history.proofs.HistoryLemmas.{written-append, said-other, option_or-none, option_or_assoc}
 use Rattle.plain_history.proofs.Lists.{written-take, latest-take, joined-take}
 use Rattle.history.specs.Cursors.{value_in, ComesBefore, kept_where, keys_of, without, AreNext}
-use Rattle.plain_history.specs.Order.{row_in, comes_before, ComesBeforeAll, IsInOrder, placed, has, Adds}
+use Rattle.plain_history.specs.Order.{row_in, comes_before, ComesBeforeAll, IsInOrder, placed, has, AddsRow}
 
 -- the order of two values with their keys
 abbrev Comes : ℤ → ℤ → ℕ → ℕ → Type 0
@@ -117,7 +117,7 @@ placed-in_order index row (other ∷ rows) none order = elim (cases_Bool (comes_
 -- One key more.
 
 pub adds-placed : (rows : ℕ → Option Row) (index key : ℕ) (row : Row) (old new : List Row) → row_in old key ≡ None → rows key ≡ Some row → row.key ≡ key
-    → new ≡ placed index row old → Adds rows key old new
+    → new ≡ placed index row old → AddsRow rows key old new
 adds-placed rows index key row old new none is keyed placed_is = (
   ap (λ l. row_in l key) placed_is ∙ (subst (λ k. row_in (placed index row old) k ≡ option_or (row_in old k) (rows key)) keyed
       (placed-same index row old none' ∙ (sym is ∙ ap (λ o. option_or o (rows key)) (sym none')))),
@@ -205,7 +205,7 @@ view-none history m older newest key all none none' none'' =
     right_none None p e = e
     right_none (Some x) p e = absurd (cc)
 
--- The front of the rows, and what is left.
+-- The prefix of the rows, and what is left.
 
 pub in_order-drop : (index n : ℕ) (rows : List Row) → IsInOrder index rows → IsInOrder index (drop n rows)
 in_order-drop index zero rows order = order

@@ -14,13 +14,13 @@ use Rattle.plain_history.specs.declared.cursor.PlainOrder.{PlainOrder}
 use Rattle.plain_history.specs.declared.cursor.Bounds.{Bounds}
 use Rattle.plain_history.specs.declared.refusal.Handed.{Handed}
 use Rattle.plain_history.specs.declared.refusal.Handed.TheVariants.{Rows, Keys, End}
-use Rattle.history.specs.Cursors.{HandsOut, HandsOutKeys, IsOver, keys_of}
+use Rattle.history.specs.Cursors.{HandsOutPart, HandsOutKeys, IsOver, keys_of}
 use Rattle.plain_history.specs.Order.{index_of, wanted}
-use Rattle.plain_history.specs.Plain.{open_of, order_of}
+use Rattle.plain_history.specs.Plain.{open_of, plain_order_of}
 
 -- the session, or nobody, changes as f says
-abbrev pub Becomes : Option PlainSession → Option PlainSession → (OpenSession → OpenSession) → Type 0
-Becomes before after f = option_map open_of after ≡ option_map f (option_map open_of before)
+abbrev pub PlainBecomes : Option PlainSession → Option PlainSession → (OpenSession → OpenSession) → Type 0
+PlainBecomes before after f = option_map open_of after ≡ option_map f (option_map open_of before)
 
 abbrev pub Stays : Option PlainSession → Option PlainSession → Type 0
 Stays before after = option_map open_of after ≡ option_map open_of before
@@ -42,20 +42,20 @@ RefusesOpen w s NoSuchSession = 64 ≤ s
 RefusesOpen w s NotOpen = (s < 64) × (w.session s ≡ None)
 RefusesOpen w s why = ⊥
 
-abbrev pub RefusesReady : World → ℕ → Refused → Type 0
-RefusesReady w s Failed = (m : OpenSession) × (w.session s ≡ Some m) × (m.failed ≡ true)
-RefusesReady w s why = RefusesOpen w s why
+abbrev pub PlainRefusesReady : World → ℕ → Refused → Type 0
+PlainRefusesReady w s Failed = (m : OpenSession) × (w.session s ≡ Some m) × (m.failed ≡ true)
+PlainRefusesReady w s why = RefusesOpen w s why
 
 abbrev pub RefusesWriter : World → ℕ → Refused → Type 0
 RefusesWriter w s CursorOpen = (m : OpenSession) × IsReady w s m × IsSome m.cursor
-RefusesWriter w s why = RefusesReady w s why
+RefusesWriter w s why = PlainRefusesReady w s why
 
 -- the write of a key by a session that may write meets another
-abbrev pub Meets : World → ℕ → ℕ → OpenSession → Refused → Type 0
-Meets w s key m Conflict = IsLate w.history m.start key
-Meets w s key m (Busy o) = IsBlocked w s key o m × ¬ ClosesRing w.waits_for s o
-Meets w s key m Deadlock = (o : ℕ) × IsBlocked w s key o m × ClosesRing w.waits_for s o
-Meets w s key m why = ⊥
+abbrev pub MeetsWrite : World → ℕ → ℕ → OpenSession → Refused → Type 0
+MeetsWrite w s key m Conflict = IsLate w.history m.start key
+MeetsWrite w s key m (Busy o) = IsBlocked w s key o m × ¬ ClosesRing w.waits_for s o
+MeetsWrite w s key m Deadlock = (o : ℕ) × IsBlocked w s key o m × ClosesRing w.waits_for s o
+MeetsWrite w s key m why = ⊥
 
 abbrev pub MayInsert : World → ℕ → ℕ → Type 0
 MayInsert w s key = (m : OpenSession) × MayWrite w s key m × (view w.history m key ≡ None)
@@ -65,16 +65,16 @@ MayReplace w s key = (m : OpenSession) × MayWrite w s key m × IsSome (view w.h
 
 abbrev pub RefusesInsert : World → ℕ → ℕ → Refused → Type 0
 RefusesInsert w s key AlreadyThere = (m : OpenSession) × IsWriter w s m × IsSome (view w.history m key)
-RefusesInsert w s key Conflict = (m : OpenSession) × IsWriter w s m × (view w.history m key ≡ None) × Meets w s key m Conflict
-RefusesInsert w s key (Busy o) = (m : OpenSession) × IsWriter w s m × (view w.history m key ≡ None) × Meets w s key m (Busy o)
-RefusesInsert w s key Deadlock = (m : OpenSession) × IsWriter w s m × (view w.history m key ≡ None) × Meets w s key m Deadlock
+RefusesInsert w s key Conflict = (m : OpenSession) × IsWriter w s m × (view w.history m key ≡ None) × MeetsWrite w s key m Conflict
+RefusesInsert w s key (Busy o) = (m : OpenSession) × IsWriter w s m × (view w.history m key ≡ None) × MeetsWrite w s key m (Busy o)
+RefusesInsert w s key Deadlock = (m : OpenSession) × IsWriter w s m × (view w.history m key ≡ None) × MeetsWrite w s key m Deadlock
 RefusesInsert w s key why = RefusesWriter w s why
 
 abbrev pub RefusesReplace : World → ℕ → ℕ → Refused → Type 0
 RefusesReplace w s key NotThere = (m : OpenSession) × IsWriter w s m × (view w.history m key ≡ None)
-RefusesReplace w s key Conflict = (m : OpenSession) × IsWriter w s m × IsSome (view w.history m key) × Meets w s key m Conflict
-RefusesReplace w s key (Busy o) = (m : OpenSession) × IsWriter w s m × IsSome (view w.history m key) × Meets w s key m (Busy o)
-RefusesReplace w s key Deadlock = (m : OpenSession) × IsWriter w s m × IsSome (view w.history m key) × Meets w s key m Deadlock
+RefusesReplace w s key Conflict = (m : OpenSession) × IsWriter w s m × IsSome (view w.history m key) × MeetsWrite w s key m Conflict
+RefusesReplace w s key (Busy o) = (m : OpenSession) × IsWriter w s m × IsSome (view w.history m key) × MeetsWrite w s key m (Busy o)
+RefusesReplace w s key Deadlock = (m : OpenSession) × IsWriter w s m × IsSome (view w.history m key) × MeetsWrite w s key m Deadlock
 RefusesReplace w s key why = RefusesWriter w s why
 
 abbrev pub RefusesSave : World → ℕ → Refused → Type 0
@@ -102,7 +102,7 @@ RefusesIndex w s index low high why = RefusesWriter w s why
 
 abbrev pub RefusesNext : World → ℕ → Refused → Type 0
 RefusesNext w s NoCursor = (m : OpenSession) × IsReady w s m × (m.cursor ≡ None)
-RefusesNext w s why = RefusesReady w s why
+RefusesNext w s why = PlainRefusesReady w s why
 
 abbrev pub RefusesBegin : World → ℕ → Refused → Type 0
 RefusesBegin w s NoSuchSession = 64 ≤ s
@@ -111,8 +111,8 @@ RefusesBegin w s why = ⊥
 
 -- and where it is taken
 
-abbrev pub Reads : World → ℕ → ℕ → Option Row → Type 0
-Reads w s key row = (m : OpenSession) × IsReady w s m × (row ≡ view w.history m key)
+abbrev pub PlainReads : World → ℕ → ℕ → Option Row → Type 0
+PlainReads w s key row = (m : OpenSession) × IsReady w s m × (row ≡ view w.history m key)
 
 abbrev pub MaySave : World → ℕ → Type 0
 MaySave w s = (m : OpenSession) × IsWriter w s m × (length m.levels ≤ 32)
@@ -130,9 +130,9 @@ abbrev pub WouldCommit : World → ℕ → Transaction → Type 0
 WouldCommit w s t = (m : OpenSession) × IsReady w s m × (t ≡ transaction_of m)
 
 -- how a transaction ends
-abbrev pub Ends : World → ℕ → Outcome → World → Type 0
-Ends w s Committed after = (m : OpenSession) × IsReady w s m × (after ≡ committed_by w s)
-Ends w s RolledBack after = (m : OpenSession) × (w.session s ≡ Some m) × (m.failed ≡ true) × (after ≡ aborted w s)
+abbrev pub EndsTransaction : World → ℕ → Outcome → World → Type 0
+EndsTransaction w s Committed after = (m : OpenSession) × IsReady w s m × (after ≡ committed_by w s)
+EndsTransaction w s RolledBack after = (m : OpenSession) × (w.session s ≡ Some m) × (m.failed ≡ true) × (after ≡ aborted w s)
 
 -- a step that all tests let pass may end for want of memory, which leaves all but the session's wait as it is
 abbrev pub OrMemory : Refused → Type 0 → Type 0 → Type 0
@@ -150,29 +150,29 @@ MayOpenWithin w s low high = (m : OpenSession) × IsWriter w s m × (low ≤ℤ 
 abbrev pub MayOpenIndex : World → ℕ → ℕ → ℤ → ℤ → Type 0
 MayOpenIndex w s index low high = (m : OpenSession) × IsWriter w s m × (w.has_index index ≡ true) × (low ≤ℤ high)
 
-abbrev pub HasCursor : World → ℕ → Type 0
-HasCursor w s = (m : OpenSession) × IsReady w s m × IsSome m.cursor
+abbrev pub HasPlainCursor : World → ℕ → Type 0
+HasPlainCursor w s = (m : OpenSession) × IsReady w s m × IsSome m.cursor
 
 abbrev pub opens : List Transaction → PlainOrder → Bounds → OpenSession → OpenSession
-opens history order bounds m = opened (order_of order) (wanted bounds (index_of order) (view history m)) m
+opens history order bounds m = opened (plain_order_of order) (wanted bounds (index_of order) (view history m)) m
 
 -- what the cursor hands out for n, and the cursor then
 abbrev pub Hands : Cursor → ℕ → Handed → Cursor → Type 0
-Hands c n (Rows rows) after = HandsOut c.order n c.rest rows.items × (after ≡ past (keys_of rows.items) c)
+Hands c n (Rows rows) after = HandsOutPart c.order n c.rest rows.items × (after ≡ past (keys_of rows.items) c)
 Hands c n (Keys keys) after = HandsOutKeys c.order n c.rest keys.items × (after ≡ past keys.items c)
 Hands c n End after = IsOver c.rest × (after ≡ c)
 
 -- what the session's cursor hands out, and the session then
 abbrev pub HandsFrom : ℕ → Handed → Option OpenSession → Option OpenSession → Type 0
 HandsFrom n (Rows rows) before after =
-    ((m : OpenSession) (c : Cursor) → before ≡ Some m → m.cursor ≡ Some c → HandsOut c.order n c.rest rows.items) × (after ≡ option_map (with_taken (keys_of rows.items)) before)
+    ((m : OpenSession) (c : Cursor) → before ≡ Some m → m.cursor ≡ Some c → HandsOutPart c.order n c.rest rows.items) × (after ≡ option_map (with_taken (keys_of rows.items)) before)
 HandsFrom n (Keys keys) before after =
     ((m : OpenSession) (c : Cursor) → before ≡ Some m → m.cursor ≡ Some c → HandsOutKeys c.order n c.rest keys.items) × (after ≡ option_map (with_taken keys.items) before)
 HandsFrom n End before after = ((m : OpenSession) (c : Cursor) → before ≡ Some m → m.cursor ≡ Some c → IsOver c.rest) × (after ≡ before)
 
 -- what the open session m is handed, and the world then
 abbrev pub HandsOn : World → ℕ → ℕ → OpenSession → Handed → World → Type 0
-HandsOn w s n m (Rows rows) after = ((c : Cursor) → m.cursor ≡ Some c → HandsOut c.order n c.rest rows.items) × (after ≡ change w s (with_taken (keys_of rows.items)))
+HandsOn w s n m (Rows rows) after = ((c : Cursor) → m.cursor ≡ Some c → HandsOutPart c.order n c.rest rows.items) × (after ≡ change w s (with_taken (keys_of rows.items)))
 HandsOn w s n m (Keys keys) after = ((c : Cursor) → m.cursor ≡ Some c → HandsOutKeys c.order n c.rest keys.items) × (after ≡ change w s (with_taken keys.items))
 HandsOn w s n m End after = ((c : Cursor) → m.cursor ≡ Some c → IsOver c.rest) × (after ≡ stepped w s)
 

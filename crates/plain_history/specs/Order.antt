@@ -53,8 +53,8 @@ abbrev pub has : List ℕ → ℕ → Bool
 has keys key = list_any (λ k. k == key) keys
 
 -- the row of the key is there too
-abbrev pub Adds : (ℕ → Option Row) → ℕ → List Row → List Row → Type 0
-Adds rows key old new = (row_in new key ≡ option_or (row_in old key) (rows key)) × ((k : ℕ) → k ≢ key → row_in new k ≡ row_in old k)
+abbrev pub AddsRow : (ℕ → Option Row) → ℕ → List Row → List Row → Type 0
+AddsRow rows key old new = (row_in new key ≡ option_or (row_in old key) (rows key)) × ((k : ℕ) → k ≢ key → row_in new k ≡ row_in old k)
 
 -- of these keys, and of no other, the list has the rows
 abbrev pub Covers : (ℕ → Option Row) → List Row → List ℕ → Type 0

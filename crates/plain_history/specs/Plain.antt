@@ -15,17 +15,17 @@ pub record Plain : Type 0 where
   pub waits : List (Option ℕ)
   pub indexed : List Bool
 
-abbrev pub order_of : PlainOrder → Order
-order_of (Index index) = by_index index
-order_of Heap = by_heap
-order_of Keys = by_keys
+abbrev pub plain_order_of : PlainOrder → Order
+plain_order_of (Index index) = by_index index
+plain_order_of Heap = by_heap
+plain_order_of Keys = by_keys
 
 -- the row, if there is one, is of the key
-abbrev pub IsOf : ℕ → Option Row → Type 0
-IsOf key row = IfSome row (λ r. r.key ≡ key)
+abbrev pub IsRowOf : ℕ → Option Row → Type 0
+IsRowOf key row = IfSome row (λ r. r.key ≡ key)
 
 abbrev pub cursor_of : KeptCursor → Cursor
-cursor_of c = record { order = order_of c.order; rest = row_in c.rest }
+cursor_of c = record { order = plain_order_of c.order; rest = row_in c.rest }
 
 abbrev pub open_of : PlainSession → OpenSession
 open_of m = record {

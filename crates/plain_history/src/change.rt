@@ -4,8 +4,8 @@ ghost use Rattle.history.specs.Cursors.{kept_where};
 ghost use Rattle.std.specs.Prelude.{◌==◌, map, not, ◌≡◌, OnOk, OnErr, Some, None};
 ghost use Rattle.std.specs.Option.{option_map};
 ghost use Rattle.history.specs.Moves.{stepped, put, change, as_failed, with_write, with_savepoint, to_savepoint, without_savepoint, blocked_by, awaited_no_more, without_cursor};
-ghost use Rattle.plain_history.specs.Plain.{IsOf, open_of, world_of};
-ghost use Rattle.plain_history.specs.Answers.{Becomes, Stays, with_transaction};
+ghost use Rattle.plain_history.specs.Plain.{IsRowOf, open_of, world_of};
+ghost use Rattle.plain_history.specs.Answers.{PlainBecomes, Stays, with_transaction};
 
 use crate::plain::{PlainHistory, PlainLevel, PlainSession, PlainWrite};
 use std::alloc::{AllocError, Global};
@@ -13,7 +13,7 @@ use std::mem;
 use tuple_header::Row;
 
 fn fail(session: &mut Option<PlainSession>)
-    ensures { Becomes session.old session.new as_failed }
+    ensures { PlainBecomes session.old session.new as_failed }
 {
     if let Some(session) = session {
         session.failed = true;
@@ -21,8 +21,8 @@ fn fail(session: &mut Option<PlainSession>)
 }
 
 fn write(session: &mut Option<PlainSession>, key: u64, row: Option<Row>) -> Result<(), AllocError>
-    requires { IsOf key row }
-    ensures ok { OnOk result (Becomes session.old session.new (with_write key row)) }
+    requires { IsRowOf key row }
+    ensures ok { OnOk result (PlainBecomes session.old session.new (with_write key row)) }
     ensures err { OnErr result (Stays session.old session.new) }
 {
     if let Some(session) = session {
@@ -33,7 +33,7 @@ fn write(session: &mut Option<PlainSession>, key: u64, row: Option<Row>) -> Resu
 }
 
 fn save(session: &mut Option<PlainSession>, alloc: Global) -> Result<(), AllocError>
-    ensures ok { OnOk result (Becomes session.old session.new with_savepoint) }
+    ensures ok { OnOk result (PlainBecomes session.old session.new with_savepoint) }
     ensures err { OnErr result (Stays session.old session.new) }
 {
     if let Some(session) = session {
@@ -45,7 +45,7 @@ fn save(session: &mut Option<PlainSession>, alloc: Global) -> Result<(), AllocEr
 }
 
 fn roll_back(session: &mut Option<PlainSession>)
-    ensures { Becomes session.old session.new to_savepoint }
+    ensures { PlainBecomes session.old session.new to_savepoint }
 {
     if let Some(session) = session {
         session.newest.clear();
@@ -54,7 +54,7 @@ fn roll_back(session: &mut Option<PlainSession>)
 }
 
 fn release(session: &mut Option<PlainSession>) -> Result<(), AllocError>
-    ensures ok { OnOk result (Becomes session.old session.new without_savepoint) }
+    ensures ok { OnOk result (PlainBecomes session.old session.new without_savepoint) }
     ensures err { OnErr result (Stays session.old session.new) }
 {
     if let Some(session) = session {
@@ -64,7 +64,7 @@ fn release(session: &mut Option<PlainSession>) -> Result<(), AllocError>
 }
 
 fn close(session: &mut Option<PlainSession>)
-    ensures { Becomes session.old session.new without_cursor }
+    ensures { PlainBecomes session.old session.new without_cursor }
 {
     if let Some(session) = session {
         session.cursor = None;
@@ -107,8 +107,9 @@ impl PlainHistory {
     }
 
     pub(crate) fn write(&mut self, s: u8, key: u64, row: Option<Row>) -> Result<(), AllocError>
-        requires { IsOf key row }
-        ensures ok { OnOk result (world_of self.new ≡ change (world_of self.old) s (with_write key row)) }
+        requires { IsRowOf key row }
+        ensures ok { OnOk result
+            (world_of self.new ≡ change (world_of self.old) s (with_write key row)) }
         ensures err { OnErr result (world_of self.new ≡ stepped (world_of self.old) s) }
     {
         self.waits[s as usize] = None;
@@ -132,7 +133,8 @@ impl PlainHistory {
     }
 
     pub(crate) fn join(&mut self, s: u8) -> Result<(), AllocError>
-        ensures ok { OnOk result (world_of self.new ≡ change (world_of self.old) s without_savepoint) }
+        ensures ok { OnOk result
+            (world_of self.new ≡ change (world_of self.old) s without_savepoint) }
         ensures err { OnErr result (world_of self.new ≡ stepped (world_of self.old) s) }
     {
         self.waits[s as usize] = None;
@@ -149,7 +151,8 @@ impl PlainHistory {
 
     /// The transaction joins the history.
     pub(crate) fn append(&mut self, transaction: PlainLevel) -> Result<(), AllocError>
-        ensures ok { OnOk result (world_of self.new ≡ with_transaction (world_of self.old) transaction) }
+        ensures ok { OnOk result
+            (world_of self.new ≡ with_transaction (world_of self.old) transaction) }
         ensures err { OnErr result (world_of self.new ≡ world_of self.old) }
     {
         self.history.push(transaction)?;

@@ -3,7 +3,7 @@
 ghost use Rattle.std.specs.Prelude.{◌≡◌, ◌<◌, OnOk, IfErr, IfOk, Some, None};
 ghost use Rattle.history.specs.World.{IsReady, IsWriter, MayWrite};
 ghost use Rattle.plain_history.specs.Plain.{open_of, world_of};
-ghost use Rattle.plain_history.specs.Answers.{RefusesOpen, RefusesReady, RefusesWriter, RefusesInsert, RefusesReplace, Meets, MayInsert, MayReplace};
+ghost use Rattle.plain_history.specs.Answers.{RefusesOpen, PlainRefusesReady, RefusesWriter, RefusesInsert, RefusesReplace, MeetsWrite, MayInsert, MayReplace};
 
 use crate::lookup::{closes_ring, holder, is_late};
 use crate::plain::{PlainHistory, PlainSession};
@@ -28,7 +28,7 @@ impl PlainHistory {
     /// The session, which has not failed.
     pub(crate) fn ready_session(&self, s: u8) -> Result<&PlainSession, Refused>
         ensures ok { IfOk result (λ m. IsReady (world_of self.now) s (open_of m.now)) }
-        ensures err { IfErr result (λ why. RefusesReady (world_of self.now) s why) }
+        ensures err { IfErr result (λ why. PlainRefusesReady (world_of self.now) s why) }
     {
         match self.open_session(s) {
             Ok(session) => {
@@ -60,7 +60,8 @@ impl PlainHistory {
     fn check_conflicts(&self, s: u8, session: &PlainSession, key: u64) -> Result<(), Refused>
         requires { IsWriter (world_of self.now) s (open_of session.now) }
         ensures ok { OnOk result (MayWrite (world_of self.now) s key (open_of session.now)) }
-        ensures err { IfErr result (λ why. Meets (world_of self.now) s key (open_of session.now) why) }
+        ensures err { IfErr result
+            (λ why. MeetsWrite (world_of self.now) s key (open_of session.now) why) }
     {
         if is_late(&self.history, session.start, key) {
             return Err(Refused::Conflict);

@@ -5,7 +5,7 @@ ghost use Rattle.history.specs.History.{written, latest};
 ghost use Rattle.history.specs.World.{joined, view};
 ghost use Rattle.history.specs.Cursors.{value_in, keys_of, IsOver};
 ghost use Rattle.plain_history.specs.Plain.{open_of, cursor_of};
-ghost use Rattle.plain_history.specs.Order.{row_in, comes_before, placed, IsInOrder, has, is_wanted, wanted, Adds, Covers, index_of};
+ghost use Rattle.plain_history.specs.Order.{row_in, comes_before, placed, IsInOrder, has, is_wanted, wanted, AddsRow, Covers, index_of};
 ghost use Rattle.plain_history.specs.Answers.{Hands};
 
 use crate::plain::{PlainLevel, PlainSession, PlainWrite};
@@ -108,7 +108,8 @@ fn place(rows: &mut Vec<Row>, index: u8, row: Row) -> Result<(), AllocError>
 
 fn place_of(rows: &[Row], index: u8, row: &Row) -> usize
     ensures within { result ≤ length rows.now }
-    ensures placed { take result rows.now ++ row.now ∷ drop result rows.now ≡ placed index row.now rows.now }
+    ensures placed { take result rows.now ++ row.now ∷ drop result rows.now
+        ≡ placed index row.now rows.now }
 {
     for (i, other) in rows.iter().enumerate() {
         if comes_before(index, row, other) {
@@ -140,7 +141,10 @@ fn add_row(
 ) -> Result<(), AllocError>
     requires { IsInOrder index rows.old.items }
     ensures order { OnOk result (IsInOrder index rows.new.items) }
-    ensures added { OnOk result (Adds (wanted bounds index (view history.now (open_of session.now))) key rows.old.items rows.new.items) }
+    ensures added { OnOk result
+        (AddsRow
+        (wanted bounds index (view history.now (open_of session.now))) key rows.old.items
+        rows.new.items) }
 {
     if has_key(rows, key) {
         return Ok(());
@@ -165,7 +169,10 @@ pub(crate) fn rows_of(
     bounds: Bounds,
 ) -> Result<Vec<Row>, AllocError>
     ensures order { IfOk result (λ rows. IsInOrder index rows.items) }
-    ensures rows { IfOk result (λ rows. (key : ℕ) → row_in rows.items key ≡ wanted bounds index (view history.now (open_of session.now)) key) }
+    ensures rows { IfOk result
+        (λ rows. (key : ℕ)
+        → row_in rows.items key
+        ≡ wanted bounds index (view history.now (open_of session.now)) key) }
 {
     let keys = keys_of(alloc, history, session)?;
     rows_with(alloc, history, session, &keys, index, bounds)
@@ -180,7 +187,9 @@ fn rows_with(
     bounds: Bounds,
 ) -> Result<Vec<Row>, AllocError>
     ensures order { IfOk result (λ rows. IsInOrder index rows.items) }
-    ensures rows { IfOk result (λ rows. Covers (wanted bounds index (view history.now (open_of session.now))) rows.items keys.now) }
+    ensures rows { IfOk result
+        (λ rows. Covers
+        (wanted bounds index (view history.now (open_of session.now))) rows.items keys.now) }
 {
     let mut rows = Vec::new(alloc);
     for key in keys {
@@ -195,7 +204,9 @@ fn keys_of(
     history: &[PlainLevel],
     session: &PlainSession,
 ) -> Result<Vec<u64>, AllocError>
-    ensures { IfOk result (λ keys. (key : ℕ) → has keys.items key ≡ false → view history.now (open_of session.now) key ≡ None) }
+    ensures { IfOk result
+        (λ keys. (key : ℕ) → has keys.items key ≡ false
+        → view history.now (open_of session.now) key ≡ None) }
 {
     let mut keys = Vec::new(alloc);
     add_history(&mut keys, history)?;
@@ -205,7 +216,9 @@ fn keys_of(
 }
 
 fn add_history(keys: &mut Vec<u64>, history: &[PlainLevel]) -> Result<(), AllocError>
-    ensures { OnOk result ((key : ℕ) → has keys.new.items key ≡ false → (has keys.old.items key ≡ false) × (latest history.now key ≡ None)) }
+    ensures { OnOk result
+        ((key : ℕ) → has keys.new.items key ≡ false
+        → (has keys.old.items key ≡ false) × (latest history.now key ≡ None)) }
 {
     for transaction in history {
         add_keys(keys, transaction)?;
@@ -214,7 +227,9 @@ fn add_history(keys: &mut Vec<u64>, history: &[PlainLevel]) -> Result<(), AllocE
 }
 
 fn add_levels(keys: &mut Vec<u64>, levels: &[PlainLevel]) -> Result<(), AllocError>
-    ensures { OnOk result ((key : ℕ) → has keys.new.items key ≡ false → (has keys.old.items key ≡ false) × (written (joined levels.now) key ≡ None)) }
+    ensures { OnOk result
+        ((key : ℕ) → has keys.new.items key ≡ false
+        → (has keys.old.items key ≡ false) × (written (joined levels.now) key ≡ None)) }
 {
     for level in levels {
         add_keys(keys, level)?;
@@ -223,13 +238,17 @@ fn add_levels(keys: &mut Vec<u64>, levels: &[PlainLevel]) -> Result<(), AllocErr
 }
 
 fn add_keys(keys: &mut Vec<u64>, level: &PlainLevel) -> Result<(), AllocError>
-    ensures { OnOk result ((key : ℕ) → has keys.new.items key ≡ false → (has keys.old.items key ≡ false) × (written level.now key ≡ None)) }
+    ensures { OnOk result
+        ((key : ℕ) → has keys.new.items key ≡ false
+        → (has keys.old.items key ≡ false) × (written level.now key ≡ None)) }
 {
     add_writes(keys, &level.writes)
 }
 
 fn add_writes(keys: &mut Vec<u64>, writes: &[PlainWrite]) -> Result<(), AllocError>
-    ensures { OnOk result ((key : ℕ) → has keys.new.items key ≡ false → (has keys.old.items key ≡ false) × (written writes.now key ≡ None)) }
+    ensures { OnOk result
+        ((key : ℕ) → has keys.new.items key ≡ false
+        → (has keys.old.items key ≡ false) × (written writes.now key ≡ None)) }
 {
     for write in writes {
         keys.push(write.key)?;
@@ -241,7 +260,8 @@ impl PlainCursor {
     /// Takes the next n rows, or all that are left.
     fn take(&mut self, alloc: Global, n: usize) -> Result<Vec<Row>, AllocError>
         ensures rows { IfOk result (λ rows. rows.items ≡ take n self.old.rest) }
-        ensures rest { OnOk result ((self.new.order ≡ self.old.order) × (self.new.rest ≡ drop n self.old.rest)) }
+        ensures rest { OnOk result
+            ((self.new.order ≡ self.old.order) × (self.new.rest ≡ drop n self.old.rest)) }
         ensures err { OnErr result (self.new ≡ self.old) }
     {
         if n >= self.rest.len() {
@@ -266,7 +286,8 @@ impl PlainCursor {
 
     /// Hands out the next n rows, or their keys.
     pub(crate) fn hand_out(&mut self, alloc: Global, n: u16) -> Result<Handed, AllocError>
-        ensures ok { IfOk result (λ handed. Hands (cursor_of self.old) n handed (cursor_of self.new)) }
+        ensures ok { IfOk result
+            (λ handed. Hands (cursor_of self.old) n handed (cursor_of self.new)) }
         ensures err { OnErr result (self.new ≡ self.old) }
         ensures left { OnErr result (¬ IsOver (cursor_of self.old).rest) }
     {

@@ -5,7 +5,7 @@ ghost use Rattle.std.specs.Option.{option_map};
 ghost use Rattle.history.specs.World.{OpenSession};
 ghost use Rattle.history.specs.Moves.{change, stepped, with_index_cursor, with_heap_cursor, with_keys_cursor, without_cursor};
 ghost use Rattle.plain_history.specs.Plain.{open_of, world_of};
-ghost use Rattle.plain_history.specs.Answers.{after_refusal, OrMemory, Becomes, Stays, RefusesWriter, RefusesBounds, RefusesIndex, RefusesNext, MayOpen, MayOpenWithin, MayOpenIndex, HasCursor, HandsFrom, HandsOn, HandsBy, HasLeft, MayHandOut, opens};
+ghost use Rattle.plain_history.specs.Answers.{after_refusal, OrMemory, PlainBecomes, Stays, RefusesWriter, RefusesBounds, RefusesIndex, RefusesNext, MayOpen, MayOpenWithin, MayOpenIndex, HasPlainCursor, HandsFrom, HandsOn, HandsBy, HasLeft, MayHandOut, opens};
 
 use crate::cursor::{Bounds, PlainCursor, PlainOrder, rows_of};
 use crate::plain::{PlainHistory, PlainLevel, PlainSession};
@@ -19,7 +19,8 @@ fn set_cursor(
     order: PlainOrder,
     bounds: Bounds,
 ) -> Result<(), AllocError>
-    ensures ok { OnOk result (Becomes session.old session.new (opens history.now order bounds)) }
+    ensures ok { OnOk result
+        (PlainBecomes session.old session.new (opens history.now order bounds)) }
     ensures err { OnErr result (Stays session.old session.new) }
 {
     if let Some(session) = session {
@@ -30,7 +31,9 @@ fn set_cursor(
 }
 
 fn hand_out(session: &mut Option<PlainSession>, alloc: Global, n: u16) -> Result<Handed, AllocError>
-    ensures ok { IfOk result (λ handed. HandsFrom n handed (option_map open_of session.old) (option_map open_of session.new)) }
+    ensures ok { IfOk result
+        (λ handed. HandsFrom n handed (option_map open_of session.old)
+        (option_map open_of session.new)) }
     ensures err { OnErr result (Stays session.old session.new) }
     ensures left { OnErr result (HasLeft (option_map open_of session.old)) }
 {
@@ -88,7 +91,7 @@ impl PlainHistory {
     }
 
     fn check_cursor(&self, s: u8) -> Result<(), Refused>
-        ensures ok { OnOk result (HasCursor (world_of self.now) s) }
+        ensures ok { OnOk result (HasPlainCursor (world_of self.now) s) }
         ensures err { IfErr result (λ why. RefusesNext (world_of self.now) s why) }
     {
         match self.ready_session(s) {
@@ -101,7 +104,9 @@ impl PlainHistory {
     }
 
     fn open(&mut self, s: u8, order: PlainOrder, bounds: Bounds) -> Result<(), AllocError>
-        ensures ok { OnOk result (world_of self.new ≡ change (world_of self.old) s (opens self.old.history order bounds)) }
+        ensures ok { OnOk result
+            (world_of self.new
+            ≡ change (world_of self.old) s (opens self.old.history order bounds)) }
         ensures err { OnErr result (world_of self.new ≡ stepped (world_of self.old) s) }
     {
         self.waits[s as usize] = None;
@@ -118,8 +123,14 @@ impl PlainHistory {
     /// orders by the key, index c + 1 by column c. Refusals in order: NoSuchSession, NotOpen, Failed, CursorOpen, NoSuchIndex,
     /// BadBounds, NoMemory.
     pub fn open_index(&mut self, s: u8, index: u8, low: i128, high: i128) -> Result<(), Refused>
-        ensures done { OnOk result (MayOpenIndex (world_of self.old) s index low high × (world_of self.new ≡ change (world_of self.old) s (with_index_cursor self.old.history index low high))) }
-        ensures refused { IfErr result (λ why. OrMemory why (MayOpenIndex (world_of self.old) s index low high) (RefusesIndex (world_of self.old) s index low high why) × (world_of self.new ≡ after_refusal (world_of self.old) s why)) }
+        ensures done { OnOk result
+            (MayOpenIndex (world_of self.old) s index low high
+            × (world_of self.new
+            ≡ change (world_of self.old) s (with_index_cursor self.old.history index low high))) }
+        ensures refused { IfErr result
+            (λ why. OrMemory why (MayOpenIndex (world_of self.old) s index low high)
+            (RefusesIndex (world_of self.old) s index low high why)
+            × (world_of self.new ≡ after_refusal (world_of self.old) s why)) }
     {
         match self.check_index(s, index, low, high) {
             Ok(()) => match self.open(s, PlainOrder::Index(index), Bounds::Within(low, high)) {
@@ -136,8 +147,14 @@ impl PlainHistory {
     /// Opens a cursor over all rows that the session reads. Refusals in order: NoSuchSession, NotOpen, Failed, CursorOpen,
     /// NoMemory.
     pub fn open_heap(&mut self, s: u8) -> Result<(), Refused>
-        ensures done { OnOk result (MayOpen (world_of self.old) s × (world_of self.new ≡ change (world_of self.old) s (with_heap_cursor self.old.history))) }
-        ensures refused { IfErr result (λ why. OrMemory why (MayOpen (world_of self.old) s) (RefusesWriter (world_of self.old) s why) × (world_of self.new ≡ after_refusal (world_of self.old) s why)) }
+        ensures done { OnOk result
+            (MayOpen (world_of self.old) s
+            × (world_of self.new
+            ≡ change (world_of self.old) s (with_heap_cursor self.old.history))) }
+        ensures refused { IfErr result
+            (λ why. OrMemory why (MayOpen (world_of self.old) s)
+            (RefusesWriter (world_of self.old) s why)
+            × (world_of self.new ≡ after_refusal (world_of self.old) s why)) }
     {
         match self.check_writer(s) {
             Ok(()) => match self.open(s, PlainOrder::Heap, Bounds::All) {
@@ -154,8 +171,14 @@ impl PlainHistory {
     /// Opens a cursor over the keys from low to high. Refusals in order: NoSuchSession, NotOpen, Failed, CursorOpen, BadBounds,
     /// NoMemory.
     pub fn open_keys(&mut self, s: u8, low: i128, high: i128) -> Result<(), Refused>
-        ensures done { OnOk result (MayOpenWithin (world_of self.old) s low high × (world_of self.new ≡ change (world_of self.old) s (with_keys_cursor self.old.history low high))) }
-        ensures refused { IfErr result (λ why. OrMemory why (MayOpenWithin (world_of self.old) s low high) (RefusesBounds (world_of self.old) s low high why) × (world_of self.new ≡ after_refusal (world_of self.old) s why)) }
+        ensures done { OnOk result
+            (MayOpenWithin (world_of self.old) s low high
+            × (world_of self.new
+            ≡ change (world_of self.old) s (with_keys_cursor self.old.history low high))) }
+        ensures refused { IfErr result
+            (λ why. OrMemory why (MayOpenWithin (world_of self.old) s low high)
+            (RefusesBounds (world_of self.old) s low high why)
+            × (world_of self.new ≡ after_refusal (world_of self.old) s why)) }
     {
         match self.check_bounds(s, low, high) {
             Ok(()) => match self.open(s, PlainOrder::Keys, Bounds::Within(low, high)) {
@@ -170,7 +193,9 @@ impl PlainHistory {
     }
 
     fn fetch(&mut self, s: u8, n: u16) -> Result<Handed, AllocError>
-        ensures ok { IfOk result (λ handed. (m : OpenSession) → (world_of self.old).session s ≡ Some m → HandsOn (world_of self.old) s n m handed (world_of self.new)) }
+        ensures ok { IfOk result
+            (λ handed. (m : OpenSession) → (world_of self.old).session s ≡ Some m
+            → HandsOn (world_of self.old) s n m handed (world_of self.new)) }
         ensures err { OnErr result (world_of self.new ≡ stepped (world_of self.old) s) }
         ensures left { OnErr result (HasLeft ((world_of self.old).session s)) }
     {
@@ -181,8 +206,12 @@ impl PlainHistory {
     /// The next n rows of the cursor, or all that are left; 0 counts as 1. A heap cursor hands out as many. Refusals in order:
     /// NoSuchSession, NotOpen, Failed, NoCursor, NoMemory, which comes only where a row or a key is left.
     pub fn next(&mut self, s: u8, n: u16) -> Result<Handed, Refused>
-        ensures handed { IfOk result (λ handed. HandsBy (world_of self.old) s n handed (world_of self.new)) }
-        ensures refused { IfErr result (λ why. OrMemory why (MayHandOut (world_of self.old) s) (RefusesNext (world_of self.old) s why) × (world_of self.new ≡ after_refusal (world_of self.old) s why)) }
+        ensures handed { IfOk result
+            (λ handed. HandsBy (world_of self.old) s n handed (world_of self.new)) }
+        ensures refused { IfErr result
+            (λ why. OrMemory why (MayHandOut (world_of self.old) s)
+            (RefusesNext (world_of self.old) s why)
+            × (world_of self.new ≡ after_refusal (world_of self.old) s why)) }
     {
         match self.check_cursor(s) {
             Ok(()) => match self.fetch(s, n) {
@@ -198,8 +227,12 @@ impl PlainHistory {
 
     /// Closes the cursor. Refusals in order: NoSuchSession, NotOpen, Failed, NoCursor.
     pub fn close(&mut self, s: u8) -> Result<(), Refused>
-        ensures done { OnOk result (HasCursor (world_of self.old) s × (world_of self.new ≡ change (world_of self.old) s without_cursor)) }
-        ensures refused { IfErr result (λ why. RefusesNext (world_of self.old) s why × (world_of self.new ≡ after_refusal (world_of self.old) s why)) }
+        ensures done { OnOk result
+            (HasPlainCursor (world_of self.old) s
+            × (world_of self.new ≡ change (world_of self.old) s without_cursor)) }
+        ensures refused { IfErr result
+            (λ why. RefusesNext (world_of self.old) s why
+            × (world_of self.new ≡ after_refusal (world_of self.old) s why)) }
     {
         match self.check_cursor(s) {
             Ok(()) => {

@@ -4,7 +4,7 @@ ghost use Rattle.std.specs.Prelude.{◌≡◌, ◌≢◌, ℕ, ◌≤◌, ◌<�
 ghost use Rattle.history.specs.History.{said, written, latest, committed, IsLate};
 ghost use Rattle.history.specs.World.{joined, own_write, view, ClosesRing, OpenSession};
 ghost use Rattle.std.specs.Option.{option_map};
-ghost use Rattle.plain_history.specs.Plain.{IsOf, open_of, session_in, wait_in};
+ghost use Rattle.plain_history.specs.Plain.{IsRowOf, open_of, session_in, wait_in};
 
 use crate::plain::{PlainLevel, PlainSession, PlainWrite};
 use arrayvec::ArrayVec;
@@ -34,7 +34,7 @@ impl PlainWrite {
     /// What the write says of the key, if it is of that key.
     fn said(&self, key: u64) -> Option<Option<Row>>
         ensures value { result ≡ said self.now key }
-        ensures keyed { IfSome result (λ row. IsOf key row) }
+        ensures keyed { IfSome result (λ row. IsRowOf key row) }
     {
         if self.key == key {
             Some(copy_of(&self.row))
@@ -48,7 +48,7 @@ impl PlainLevel {
     /// What the last write to the key says.
     pub(crate) fn written(&self, key: u64) -> Option<Option<Row>>
         ensures value { result ≡ written self.now key }
-        ensures keyed { IfSome result (λ row. IsOf key row) }
+        ensures keyed { IfSome result (λ row. IsRowOf key row) }
     {
         last_written(&self.writes, key)
     }
@@ -62,7 +62,7 @@ impl PlainLevel {
 
 fn last_written(writes: &[PlainWrite], key: u64) -> Option<Option<Row>>
     ensures value { result ≡ written writes.now key }
-    ensures keyed { IfSome result (λ row. IsOf key row) }
+    ensures keyed { IfSome result (λ row. IsRowOf key row) }
 {
     let mut last = None;
     for write in writes {
@@ -76,7 +76,7 @@ fn last_written(writes: &[PlainWrite], key: u64) -> Option<Option<Row>>
 /// What the newest level that wrote the key says of it.
 fn written_in(levels: &[PlainLevel], key: u64) -> Option<Option<Row>>
     ensures value { result ≡ written (joined levels.now) key }
-    ensures keyed { IfSome result (λ row. IsOf key row) }
+    ensures keyed { IfSome result (λ row. IsRowOf key row) }
 {
     for level in levels {
         if let Some(said) = level.written(key) {
@@ -88,7 +88,7 @@ fn written_in(levels: &[PlainLevel], key: u64) -> Option<Option<Row>>
 
 fn latest_in(history: &[PlainLevel], key: u64) -> Option<Option<Row>>
     ensures value { result ≡ latest history.now key }
-    ensures keyed { IfSome result (λ row. IsOf key row) }
+    ensures keyed { IfSome result (λ row. IsRowOf key row) }
 {
     let mut last = None;
     for transaction in history {
@@ -102,7 +102,7 @@ fn latest_in(history: &[PlainLevel], key: u64) -> Option<Option<Row>>
 /// The row of the key after the first n transactions.
 fn committed_in(history: &[PlainLevel], n: usize, key: u64) -> Option<Row>
     ensures value { result ≡ committed history.now n key }
-    ensures keyed { IsOf key result }
+    ensures keyed { IsRowOf key result }
 {
     let said = if n < history.len() {
         latest_in(&history[..n], key)
@@ -118,7 +118,7 @@ fn committed_in(history: &[PlainLevel], n: usize, key: u64) -> Option<Row>
 impl PlainSession {
     pub(crate) fn own_write(&self, key: u64) -> Option<Option<Row>>
         ensures value { result ≡ own_write (open_of self.now) key }
-        ensures keyed { IfSome result (λ row. IsOf key row) }
+        ensures keyed { IfSome result (λ row. IsRowOf key row) }
     {
         match self.newest.written(key) {
             Some(said) => Some(said),
@@ -138,7 +138,7 @@ impl PlainSession {
     /// The row that the session reads.
     pub(crate) fn view(&self, history: &[PlainLevel], key: u64) -> Option<Row>
         ensures value { result ≡ view history.now (open_of self.now) key }
-        ensures keyed { IsOf key result }
+        ensures keyed { IsRowOf key result }
     {
         match self.own_write(key) {
             Some(row) => row,
@@ -195,8 +195,10 @@ pub(crate) fn is_late(history: &[PlainLevel], start: usize, key: u64) -> bool
 pub(crate) fn holder(sessions: &[Option<PlainSession>], s: u8, key: u64) -> Option<u8>
     requires { length sessions.now ≤ 256 }
     ensures { MatchOption result
-        ((o : ℕ) (m : OpenSession) → o ≢ s → session_in sessions.now o ≡ Some m → IsSome (own_write m key) → ⊥)
-        (λ o. (o ≢ s) × ((m : OpenSession) × (session_in sessions.now o ≡ Some m) × IsSome (own_write m key))) }
+        ((o : ℕ) (m : OpenSession) → o ≢ s → session_in sessions.now o ≡ Some m
+        → IsSome (own_write m key) → ⊥)
+        (λ o. (o ≢ s)
+        × ((m : OpenSession) × (session_in sessions.now o ≡ Some m) × IsSome (own_write m key))) }
 {
     for o in 0..sessions.len() {
         if o != s as usize && holds(&sessions[o], key) {
@@ -208,7 +210,9 @@ pub(crate) fn holder(sessions: &[Option<PlainSession>], s: u8, key: u64) -> Opti
 
 /// Is the session open, with the key in its levels?
 fn holds(session: &Option<PlainSession>, key: u64) -> bool
-    ensures { IsTrue result ↔ ((m : OpenSession) × (option_map open_of session.now ≡ Some m) × IsSome (own_write m key)) }
+    ensures { IsTrue result
+        ↔
+        ((m : OpenSession) × (option_map open_of session.now ≡ Some m) × IsSome (own_write m key)) }
 {
     match session {
         Some(session) => session.own_write(key).is_some(),

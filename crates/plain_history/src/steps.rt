@@ -4,7 +4,7 @@
 ghost use Rattle.std.specs.Prelude.{◌≡◌, ◌<◌, OnOk, IfErr, IfOk, IsSome, Some, None};
 ghost use Rattle.history.specs.Moves.{begun, change, with_row, without_row, with_savepoint, rolled_back_to, without_savepoint, aborted, stepped};
 ghost use Rattle.plain_history.specs.Plain.{world_of};
-ghost use Rattle.plain_history.specs.Answers.{after_refusal, OrMemory, RefusesBegin, RefusesOpen, RefusesReady, RefusesInsert, RefusesReplace, RefusesSave, RefusesRollBack, RefusesRelease, MayInsert, MayReplace, Reads, MaySave, MayRollBack, MayRelease, MayCommit, WouldCommit, Ends};
+ghost use Rattle.plain_history.specs.Answers.{after_refusal, OrMemory, RefusesBegin, RefusesOpen, PlainRefusesReady, RefusesInsert, RefusesReplace, RefusesSave, RefusesRollBack, RefusesRelease, MayInsert, MayReplace, PlainReads, MaySave, MayRollBack, MayRelease, MayCommit, WouldCommit, EndsTransaction};
 
 use crate::plain::{PlainHistory, PlainLevel, PlainSession};
 use crate::refusal::{Outcome, Refused};
@@ -36,8 +36,12 @@ impl PlainHistory {
 
     /// Opens an idle session on what has committed. Refusals: NoSuchSession, AlreadyOpen.
     pub fn begin(&mut self, s: u8) -> Result<(), Refused>
-        ensures done { OnOk result ((s < 64) × ((world_of self.old).session s ≡ None) × (world_of self.new ≡ begun (world_of self.old) s)) }
-        ensures refused { IfErr result (λ why. RefusesBegin (world_of self.old) s why × (world_of self.new ≡ after_refusal (world_of self.old) s why)) }
+        ensures done { OnOk result
+            ((s < 64) × ((world_of self.old).session s ≡ None)
+            × (world_of self.new ≡ begun (world_of self.old) s)) }
+        ensures refused { IfErr result
+            (λ why. RefusesBegin (world_of self.old) s why
+            × (world_of self.new ≡ after_refusal (world_of self.old) s why)) }
     {
         match self.check_begin(s) {
             Ok(()) => {
@@ -65,8 +69,8 @@ impl PlainHistory {
     }
 
     fn check_get(&self, s: u8, key: u64) -> Result<Option<Row>, Refused>
-        ensures ok { IfOk result (λ row. Reads (world_of self.now) s key row) }
-        ensures err { IfErr result (λ why. RefusesReady (world_of self.now) s why) }
+        ensures ok { IfOk result (λ row. PlainReads (world_of self.now) s key row) }
+        ensures err { IfErr result (λ why. PlainRefusesReady (world_of self.now) s why) }
     {
         match self.ready_session(s) {
             Ok(session) => Ok(session.view(&self.history, key)),
@@ -76,8 +80,8 @@ impl PlainHistory {
 
     /// The row that the session reads. Refusals in order: NoSuchSession, NotOpen, Failed.
     pub fn get(&mut self, s: u8, key: u64) -> Result<Option<Row>, Refused>
-        ensures found { IfOk result (λ row. Reads (world_of self.old) s key row) }
-        ensures refused { IfErr result (λ why. RefusesReady (world_of self.old) s why) }
+        ensures found { IfOk result (λ row. PlainReads (world_of self.old) s key row) }
+        ensures refused { IfErr result (λ why. PlainRefusesReady (world_of self.old) s why) }
         ensures next { world_of self.new ≡ stepped (world_of self.old) s }
     {
         let answer = self.check_get(s, key);
@@ -87,8 +91,13 @@ impl PlainHistory {
 
     /// Inserts a row whose key the session doesn't see. Refusals in order: those of [`PlainHistory::check_insert`], NoMemory.
     pub fn insert(&mut self, s: u8, row: Row) -> Result<(), Refused>
-        ensures done { OnOk result (MayInsert (world_of self.old) s row.key × (world_of self.new ≡ change (world_of self.old) s (with_row row))) }
-        ensures refused { IfErr result (λ why. OrMemory why (MayInsert (world_of self.old) s row.key) (RefusesInsert (world_of self.old) s row.key why) × (world_of self.new ≡ after_refusal (world_of self.old) s why)) }
+        ensures done { OnOk result
+            (MayInsert (world_of self.old) s row.key
+            × (world_of self.new ≡ change (world_of self.old) s (with_row row))) }
+        ensures refused { IfErr result
+            (λ why. OrMemory why (MayInsert (world_of self.old) s row.key)
+            (RefusesInsert (world_of self.old) s row.key why)
+            × (world_of self.new ≡ after_refusal (world_of self.old) s why)) }
     {
         match self.check_insert(s, row.key) {
             Ok(()) => self.write_row(s, row),
@@ -101,8 +110,13 @@ impl PlainHistory {
 
     /// Gives the session's row of the key another value. Refusals in order: those of [`PlainHistory::check_replace`], NoMemory.
     pub fn update(&mut self, s: u8, row: Row) -> Result<(), Refused>
-        ensures done { OnOk result (MayReplace (world_of self.old) s row.key × (world_of self.new ≡ change (world_of self.old) s (with_row row))) }
-        ensures refused { IfErr result (λ why. OrMemory why (MayReplace (world_of self.old) s row.key) (RefusesReplace (world_of self.old) s row.key why) × (world_of self.new ≡ after_refusal (world_of self.old) s why)) }
+        ensures done { OnOk result
+            (MayReplace (world_of self.old) s row.key
+            × (world_of self.new ≡ change (world_of self.old) s (with_row row))) }
+        ensures refused { IfErr result
+            (λ why. OrMemory why (MayReplace (world_of self.old) s row.key)
+            (RefusesReplace (world_of self.old) s row.key why)
+            × (world_of self.new ≡ after_refusal (world_of self.old) s why)) }
     {
         match self.check_replace(s, row.key) {
             Ok(()) => self.write_row(s, row),
@@ -115,7 +129,9 @@ impl PlainHistory {
 
     fn write_row(&mut self, s: u8, row: Row) -> Result<(), Refused>
         ensures ok { OnOk result (world_of self.new ≡ change (world_of self.old) s (with_row row)) }
-        ensures err { IfErr result (λ why. (why ≡ Refused.NoMemory) × (world_of self.new ≡ stepped (world_of self.old) s)) }
+        ensures err { IfErr result
+            (λ why. (why ≡ Refused.NoMemory)
+            × (world_of self.new ≡ stepped (world_of self.old) s)) }
     {
         let key = row.key;
         match self.write(s, key, Some(row)) {
@@ -126,8 +142,13 @@ impl PlainHistory {
 
     /// Deletes the session's row of the key. Refusals in order: those of [`PlainHistory::check_replace`], NoMemory.
     pub fn delete(&mut self, s: u8, key: u64) -> Result<(), Refused>
-        ensures done { OnOk result (MayReplace (world_of self.old) s key × (world_of self.new ≡ change (world_of self.old) s (without_row key))) }
-        ensures refused { IfErr result (λ why. OrMemory why (MayReplace (world_of self.old) s key) (RefusesReplace (world_of self.old) s key why) × (world_of self.new ≡ after_refusal (world_of self.old) s why)) }
+        ensures done { OnOk result
+            (MayReplace (world_of self.old) s key
+            × (world_of self.new ≡ change (world_of self.old) s (without_row key))) }
+        ensures refused { IfErr result
+            (λ why. OrMemory why (MayReplace (world_of self.old) s key)
+            (RefusesReplace (world_of self.old) s key why)
+            × (world_of self.new ≡ after_refusal (world_of self.old) s why)) }
     {
         match self.check_replace(s, key) {
             Ok(()) => match self.write(s, key, None) {
@@ -160,8 +181,13 @@ impl PlainHistory {
     /// Makes a savepoint, of which a session has at most 32. Refusals in order: NoSuchSession, NotOpen, Failed, CursorOpen,
     /// TooDeep, NoMemory.
     pub fn savepoint(&mut self, s: u8) -> Result<(), Refused>
-        ensures done { OnOk result (MaySave (world_of self.old) s × (world_of self.new ≡ change (world_of self.old) s with_savepoint)) }
-        ensures refused { IfErr result (λ why. OrMemory why (MaySave (world_of self.old) s) (RefusesSave (world_of self.old) s why) × (world_of self.new ≡ after_refusal (world_of self.old) s why)) }
+        ensures done { OnOk result
+            (MaySave (world_of self.old) s
+            × (world_of self.new ≡ change (world_of self.old) s with_savepoint)) }
+        ensures refused { IfErr result
+            (λ why. OrMemory why (MaySave (world_of self.old) s)
+            (RefusesSave (world_of self.old) s why)
+            × (world_of self.new ≡ after_refusal (world_of self.old) s why)) }
     {
         match self.check_save(s) {
             Ok(()) => match self.save(s) {
@@ -196,8 +222,12 @@ impl PlainHistory {
     /// Takes back what was written since the newest savepoint, which stays. A failed session is usable again. Refusals in order:
     /// NoSuchSession, NotOpen, CursorOpen, NoSavepoint.
     pub fn roll_back_to(&mut self, s: u8) -> Result<(), Refused>
-        ensures done { OnOk result (MayRollBack (world_of self.old) s × (world_of self.new ≡ rolled_back_to (world_of self.old) s)) }
-        ensures refused { IfErr result (λ why. RefusesRollBack (world_of self.old) s why × (world_of self.new ≡ after_refusal (world_of self.old) s why)) }
+        ensures done { OnOk result
+            (MayRollBack (world_of self.old) s
+            × (world_of self.new ≡ rolled_back_to (world_of self.old) s)) }
+        ensures refused { IfErr result
+            (λ why. RefusesRollBack (world_of self.old) s why
+            × (world_of self.new ≡ after_refusal (world_of self.old) s why)) }
     {
         match self.check_roll_back(s) {
             Ok(()) => {
@@ -231,8 +261,13 @@ impl PlainHistory {
     /// Forgets the newest savepoint; what was written since joins the level below. Refusals in order: NoSuchSession, NotOpen,
     /// Failed, CursorOpen, NoSavepoint, NoMemory.
     pub fn release(&mut self, s: u8) -> Result<(), Refused>
-        ensures done { OnOk result (MayRelease (world_of self.old) s × (world_of self.new ≡ change (world_of self.old) s without_savepoint)) }
-        ensures refused { IfErr result (λ why. OrMemory why (MayRelease (world_of self.old) s) (RefusesRelease (world_of self.old) s why) × (world_of self.new ≡ after_refusal (world_of self.old) s why)) }
+        ensures done { OnOk result
+            (MayRelease (world_of self.old) s
+            × (world_of self.new ≡ change (world_of self.old) s without_savepoint)) }
+        ensures refused { IfErr result
+            (λ why. OrMemory why (MayRelease (world_of self.old) s)
+            (RefusesRelease (world_of self.old) s why)
+            × (world_of self.new ≡ after_refusal (world_of self.old) s why)) }
     {
         match self.check_release(s) {
             Ok(()) => match self.join(s) {
@@ -249,8 +284,12 @@ impl PlainHistory {
     /// Ends the session. What it wrote joins the history, unless it has failed. Refusals in order: NoSuchSession, NotOpen,
     /// NoMemory, which leaves the session open and is never answered to one that has failed.
     pub fn commit(&mut self, s: u8) -> Result<Outcome, Refused>
-        ensures done { IfOk result (λ outcome. Ends (world_of self.old) s outcome (world_of self.new)) }
-        ensures refused { IfErr result (λ why. OrMemory why (MayCommit (world_of self.old) s) (RefusesOpen (world_of self.old) s why) × (world_of self.new ≡ after_refusal (world_of self.old) s why)) }
+        ensures done { IfOk result
+            (λ outcome. EndsTransaction (world_of self.old) s outcome (world_of self.new)) }
+        ensures refused { IfErr result
+            (λ why. OrMemory why (MayCommit (world_of self.old) s)
+            (RefusesOpen (world_of self.old) s why)
+            × (world_of self.new ≡ after_refusal (world_of self.old) s why)) }
     {
         match self.transaction(s) {
             Ok(transaction) => match self.append(transaction) {
@@ -276,8 +315,12 @@ impl PlainHistory {
 
     /// Ends the session, and drops what it wrote. Refusals in order: NoSuchSession, NotOpen.
     pub fn abort(&mut self, s: u8) -> Result<(), Refused>
-        ensures done { OnOk result (IsSome ((world_of self.old).session s) × (world_of self.new ≡ aborted (world_of self.old) s)) }
-        ensures refused { IfErr result (λ why. RefusesOpen (world_of self.old) s why × (world_of self.new ≡ after_refusal (world_of self.old) s why)) }
+        ensures done { OnOk result
+            (IsSome ((world_of self.old).session s)
+            × (world_of self.new ≡ aborted (world_of self.old) s)) }
+        ensures refused { IfErr result
+            (λ why. RefusesOpen (world_of self.old) s why
+            × (world_of self.new ≡ after_refusal (world_of self.old) s why)) }
     {
         match self.check_open(s) {
             Ok(()) => {
@@ -311,7 +354,9 @@ impl PlainHistory {
     /// The transaction that the session would commit.
     fn transaction(&self, s: u8) -> Result<PlainLevel, Refused>
         ensures ok { IfOk result (λ t. WouldCommit (world_of self.now) s t) }
-        ensures err { IfErr result (λ why. OrMemory why (MayCommit (world_of self.now) s) (RefusesReady (world_of self.now) s why)) }
+        ensures err { IfErr result
+            (λ why. OrMemory why (MayCommit (world_of self.now) s)
+            (PlainRefusesReady (world_of self.now) s why)) }
     {
         match self.ready_session(s) {
             Ok(session) => match session.joined(self.alloc) {

@@ -5,19 +5,19 @@ use Rattle.std.proofs.lemmas.Bool.{cases_Bool, eq-eqb, ne_eqb, cond-true, cond-f
 use Rattle.std.proofs.lemmas.Option.{slice_get_within, get_or_from_slice_get, same_Some}
 use Rattle.page_slots.specs.declared.slot.Slot.{Slot}
 use Rattle.page_slots.specs.View.{PageView}
-use Rattle.page_slots.specs.Slots.{slot_at, version_at, version_of, IsThere}
+use Rattle.page_slots.specs.Slots.{slot_at, version_at, version_of, SlotIsThere}
 use Rattle.tuple_header.specs.Version.{Version}
 use Rattle.tuple_header.specs.Marks.{is_heap_only}
 use Rattle.commit_status.specs.Window.{Window}
 use Rattle.hot_chain.specs.Chain.{has_aborted, is_root, first_of, IsChain}
 use Rattle.prune.specs.declared.action.Action.{Action}
 use Rattle.prune.specs.declared.action.Action.TheVariants as action
-use Rattle.prune.specs.declared.marks.Mark.{Mark}
-use Rattle.prune.specs.declared.marks.Mark.TheVariants.{Loose}
-use Rattle.prune.specs.Cutting.{IsCut, Removes}
+use Rattle.prune.specs.declared.marks.PruneVerdict.{PruneVerdict}
+use Rattle.prune.specs.declared.marks.PruneVerdict.TheVariants.{Orphan}
+use Rattle.prune.specs.Cutting.{IsCut, RemovesVersions}
 use Rattle.prune.specs.Actions.{AreInOrder, HasTarget, CanApply, action_of, applied, acted}
-use Rattle.prune.specs.Pruning.{root_action, loose_action}
-use Rattle.prune.specs.Marks.{mark_at, IsMark}
+use Rattle.prune.specs.Pruning.{root_action, orphan_action}
+use Rattle.prune.specs.Marks.{mark_at, IsVerdict}
 use Rattle.prune.specs.Checks.{IsFront, HasFront, IsAccounted, Checks}
 use Rattle.prune.specs.Named.{named_at, IsLooseRight}
 use Rattle.prune.proofs.Marking.{held-not_loose}
@@ -35,27 +35,27 @@ order-more a b low (x ∷ rest) h o = (o.0, (let le = o.1 in omega arith), order
 same-names : (f g : ℕ → Option Action) → ((n : ℕ) → f n ≡ g n) → f ≡ g
 same-names f g e = λ i n. e n i
 
-accounted : (w : Window) (horizon : ℕ) (slots : List Slot) (n : ℕ) (a : Action) (mark : Mark) → IsMark w horizon slots n mark
-    → (mark ≡ Loose → loose_action w slots n ≡ Some a) → IsAccounted w slots n a
-accounted w horizon slots n a mark (IsMark.held root chain cut o c e) right = IsAccounted.of_root root chain o
-accounted w horizon slots n a mark (IsMark.loose l e) right = IsAccounted.lost l (right e)
+accounted : (w : Window) (horizon : ℕ) (slots : List Slot) (n : ℕ) (a : Action) (mark : PruneVerdict) → IsVerdict w horizon slots n mark
+    → (mark ≡ Orphan → orphan_action w slots n ≡ Some a) → IsAccounted w slots n a
+accounted w horizon slots n a mark (IsVerdict.held root chain cut o c e) right = IsAccounted.of_root root chain o
+accounted w horizon slots n a mark (IsVerdict.loose l e) right = IsAccounted.lost l (right e)
 
-loose-right : (w : Window) (horizon : ℕ) (slots : List Slot) (n : ℕ) (a : Action) (mark : Mark) → IsMark w horizon slots n mark → mark ≡ Loose → IsAccounted w slots n a
-    → loose_action w slots n ≡ Some a
+loose-right : (w : Window) (horizon : ℕ) (slots : List Slot) (n : ℕ) (a : Action) (mark : PruneVerdict) → IsVerdict w horizon slots n mark → mark ≡ Orphan → IsAccounted w slots n a
+    → orphan_action w slots n ≡ Some a
 loose-right w horizon slots n a mark m is (IsAccounted.lost l e) = e
-loose-right w horizon slots n a mark (IsMark.held r c cut o d e) is (IsAccounted.of_root root chain i) = absurd (held-not_loose _ (sym e ∙ is))
-loose-right w horizon slots n a mark (IsMark.loose l e) is (IsAccounted.of_root root chain i) = absurd (of-not_loose (has_aborted w) slots root n chain i l)
+loose-right w horizon slots n a mark (IsVerdict.held r c cut o d e) is (IsAccounted.of_root root chain i) = absurd (held-not_loose _ (sym e ∙ is))
+loose-right w horizon slots n a mark (IsVerdict.loose l e) is (IsAccounted.of_root root chain i) = absurd (of-not_loose (has_aborted w) slots root n chain i l)
 
-pub checked : (w : Window) (horizon : ℕ) (page : PageView) (change : ℕ) (actions : List (ℕ × Action)) (named : List (Option Action)) (marks : List Mark) (b : Bool)
+pub checked : (w : Window) (horizon : ℕ) (page : PageView) (change : ℕ) (actions : List (ℕ × Action)) (named : List (Option Action)) (marks : List PruneVerdict) (b : Bool)
     → change ≡ page.change → AreInOrder (length page.slots) 0 actions → ((n : ℕ) → named_at named n ≡ action_of actions n)
-    → ((n : ℕ) → IsMark w horizon page.slots n (mark_at marks n))
+    → ((n : ℕ) → IsVerdict w horizon page.slots n (mark_at marks n))
     → ((root : ℕ) → is_root page.slots root ≡ true → HasFront w horizon page.slots (named_at named) root)
     → (IsTrue b ↔ ((n : ℕ) → 1 ≤ n → n ≤ length page.slots → IsLooseRight w page.slots marks named n)) → IsTrue b ↔ Checks w horizon page change actions
-checked w horizon page change actions named marks b same order names marked fronts t = (
+checked w horizon page change actions named marks b same order names marked prefixes t = (
   λ yes. record {
     same_change = same;
     in_order = order;
-    fronts = λ root starts. subst (λ f. HasFront w horizon page.slots f root) (same-names (named_at named) (action_of actions) names) (fronts root starts);
+    prefixes = λ root starts. subst (λ f. HasFront w horizon page.slots f root) (same-names (named_at named) (action_of actions) names) (prefixes root starts);
     others = λ n a e.
         let there = named-there (length page.slots) 0 n actions a order e in
         accounted w horizon page.slots n a (mark_at marks n) (marked n)
@@ -77,14 +77,14 @@ can-from_order count low (x ∷ rest) o t =
           t n a (cond-false (x.0 == n) (Some x.1) (action_of rest n) (ne_eqb x.0 n (λ f. omega arith)) ∙ e)),
     )
 
-root-target : (aborted : ℕ → Bool) (slots : List Slot) (root : ℕ) (chain : List ℕ) (front : ℕ) (o : Option ℕ) (a : Action) → IsChain aborted slots root chain
-    → slice_get chain front ≡ o → root_action front o ≡ Some a → HasTarget (length slots) a
+root-target : (aborted : ℕ → Bool) (slots : List Slot) (root : ℕ) (chain : List ℕ) (prefix : ℕ) (o : Option ℕ) (a : Action) → IsChain aborted slots root chain
+    → slice_get chain prefix ≡ o → root_action prefix o ≡ Some a → HasTarget (length slots) a
 root-target aborted slots root chain zero o a c at e = absurd (cc)
-root-target aborted slots root chain (suc front) None a c at e = subst (HasTarget (length slots)) (same_Some action.Kill a e) tt
-root-target aborted slots root chain (suc front) (Some k) a c at e =
-    let within = slice_get_within chain (suc front) k at in
+root-target aborted slots root chain (suc prefix) None a c at e = subst (HasTarget (length slots)) (same_Some action.Kill a e) tt
+root-target aborted slots root chain (suc prefix) (Some k) a c at e =
+    let within = slice_get_within chain (suc prefix) k at in
     subst (HasTarget (length slots)) (same_Some (action.Redirect k) a e)
-    (subst (IsThere slots) (get_or_from_slice_get chain (suc front) k 0 at) (member-there aborted slots root chain (suc front) c within))
+    (subst (SlotIsThere slots) (get_or_from_slice_get chain (suc prefix) k 0 at) (member-there aborted slots root chain (suc prefix) c within))
 
 unused-target : (count : ℕ) (a : Action) → a ≡ action.Unuse → HasTarget count a
 unused-target count a e = subst (HasTarget count) (sym e) tt
@@ -95,7 +95,7 @@ checks-target w horizon page change actions c n a e = by (c.others n a e)
   where
     at-root : (root : ℕ) (chain : List ℕ) → is_root page.slots root ≡ true → IsChain (has_aborted w) page.slots root chain → n ≡ root → HasTarget (length page.slots) a
     at-root root chain starts is same =
-        let f = c.fronts root starts chain is in
+        let f = c.prefixes root starts chain is in
         root-target (has_aborted w) page.slots root chain f.0 (slice_get chain f.0) a is refl (sym f.1.leads ∙ ap (action_of actions) (sym same) ∙ e)
 
     by : IsAccounted w page.slots n a → HasTarget (length page.slots) a
@@ -107,7 +107,7 @@ checks-target w horizon page change actions c n a e = by (c.others n a e)
         let at : version_at page.slots n ≡ Some v.version = ap (version_at page.slots) (sym p.2) ∙ v.there in
         ⊎_elim
         (λ heap_only.
-        let f = c.fronts root o.starts chain o.is_chain in
+        let f = c.prefixes root o.starts chain o.is_chain in
         let named : IsSome (action_of actions (get_or chain p.0 0)) = subst (λ k. IsSome (action_of actions k)) (sym p.2) (subst IsSome (sym e) refl) in
         let unused = f.1.unused p.0 v.version.header ((f.1.removed p.0 p.1).0 named) (ap (option_map (λ t. t.header)) v.there) heap_only in
         unused-target (length page.slots) a (same_Some a action.Unuse (sym e ∙ ap (action_of actions) (sym p.2) ∙ unused)))
@@ -122,9 +122,9 @@ checks-can_apply w horizon page change actions c = can-from_order (length page.s
 
 -- What it removes would be cut.
 
-front-cut : (w : Window) (horizon : ℕ) (slots : List Slot) (named : ℕ → Option Action) (root front i : ℕ) (chain : List ℕ) → IsChain (has_aborted w) slots root chain
-    → IsFront w horizon slots named root chain front → i < front → IsCut w horizon slots (get_or chain i 0)
-front-cut w horizon slots named root front i chain c f h =
+prefix-cut : (w : Window) (horizon : ℕ) (slots : List Slot) (named : ℕ → Option Action) (root prefix i : ℕ) (chain : List ℕ) → IsChain (has_aborted w) slots root chain
+    → IsFront w horizon slots named root chain prefix → i < prefix → IsCut w horizon slots (get_or chain i 0)
+prefix-cut w horizon slots named root prefix i chain c f h =
     let d = f.cut i h in
     record { last = get_or chain d.0 0; later = reaches-places w slots root chain i d.0 c d.1 d.2; dead = d.3 }
 
@@ -135,20 +135,20 @@ named-cut w horizon page change actions c n t a at e = by (c.others n a e)
     by : IsAccounted w page.slots n a → IsCut w horizon page.slots n
     by (IsAccounted.lost l f) = lost-cut w horizon page.slots n (lost-from w page.slots n a f).1
     by (IsAccounted.of_root root chain o) =
-        let f = c.fronts root o.starts chain o.is_chain in
+        let f = c.prefixes root o.starts chain o.is_chain in
         ⊎_elim
         (λ same.
         let first = chain-first (has_aborted w) page.slots root n chain o.is_chain (ap (first_of page.slots) (sym same) ∙ first-normal page.slots n t at) in
-        subst (IsCut w horizon page.slots) first.1 (front-cut w horizon page.slots (action_of actions) root f.0 0 chain o.is_chain f.1
+        subst (IsCut w horizon page.slots) first.1 (prefix-cut w horizon page.slots (action_of actions) root f.0 0 chain o.is_chain f.1
         (root-cut f.0 (slice_get chain f.0) a (sym f.1.leads ∙ ap (action_of actions) (sym same) ∙ e))))
         (λ holds.
         let p = place-of n chain holds in
         let named : IsSome (action_of actions (get_or chain p.0 0)) = subst (λ k. IsSome (action_of actions k)) (sym p.2) (subst IsSome (sym e) refl) in
-        subst (IsCut w horizon page.slots) p.2 (front-cut w horizon page.slots (action_of actions) root f.0 p.0 chain o.is_chain f.1 ((f.1.removed p.0 p.1).0 named)))
+        subst (IsCut w horizon page.slots) p.2 (prefix-cut w horizon page.slots (action_of actions) root f.0 p.0 chain o.is_chain f.1 ((f.1.removed p.0 p.1).0 named)))
         o.holds
 
 pub checks-removes : (w : Window) (horizon : ℕ) (page : PageView) (change : ℕ) (actions : List (ℕ × Action)) → Checks w horizon page change actions
-    → Removes w horizon page.slots (applied actions page).slots
+    → RemovesVersions w horizon page.slots (applied actions page).slots
 checks-removes w horizon page change actions c = record {
   kept = λ n t at. (acted-version (slot_at page.slots n) (slot_at (applied actions page).slots n) (action_of actions n) t (applied-slot 0 actions page c.in_order n) at).1;
   gone = λ n t at. by-answer (action_of actions n)

@@ -13,11 +13,11 @@ use Rattle.commit_status.specs.Window.{Window, IsAborted, IsCommitted}
 use Rattle.visibility.specs.Visible.{IsFrozen, IsDead}
 use Rattle.sound_page.specs.Dead.{IsDeadAt}
 
--- of the first `front` of a chain
-pub record IsCutFront (w : Window) (horizon : ℕ) (slots : List Slot) (chain : List ℕ) (front cut : ℕ) : Type 0 where
-  pub within : cut ≤ front
+-- of the first `prefix` of a chain
+pub record IsCutFront (w : Window) (horizon : ℕ) (slots : List Slot) (chain : List ℕ) (prefix cut : ℕ) : Type 0 where
+  pub within : cut ≤ prefix
   pub dead : 0 < cut → IsDeadAt w horizon slots (get_or chain (cut - 1) 0)
-  pub none_after : (j : ℕ) → cut ≤ j → j < front → ¬ IsDeadAt w horizon slots (get_or chain j 0)
+  pub none_after : (j : ℕ) → cut ≤ j → j < prefix → ¬ IsDeadAt w horizon slots (get_or chain j 0)
 
 pub some-version : (o : Option Version) (h : Header) → option_map (λ t. t.header) o ≡ Some h → (t : Version) × (o ≡ Some t) × (t.header ≡ h)
 some-version None h e = absurd (cc)
@@ -45,7 +45,7 @@ not-dead : (w : Window) (horizon : ℕ) (slots : List Slot) (n : ℕ) (h : Heade
     → ¬ (IsCommitted w h.xmax.0 × Precedes h.xmax.0 horizon) → ¬ IsDeadAt w horizon slots n
 not-dead w horizon slots n h at made kept dead = alive w horizon h made kept (dead-here w horizon slots n h at dead)
 
--- what is found out of its maker, where its deleter does not make it dead
+-- what is found out of its inserter, where its deleter does not make it dead
 pub made-known : (w : Window) (horizon : ℕ) (slots : List Slot) (n : ℕ) (h : Header) (o : Option Xid) → header_at slots n ≡ Some h
     → ¬ (IsCommitted w h.xmax.0 × Precedes h.xmax.0 horizon)
     → MatchOption o (¬ IsFrozen h × IsAborted w h.xmin.0) (λ x. (IsFrozen h ⊎ ¬ IsAborted w h.xmin.0) × ¬ IsAborted w x.0)

@@ -1,4 +1,4 @@
--- The front of a chain that a plan names.
+-- The prefix of a chain that a plan names.
 use Rattle.std.proofs.Common.{◌≡◌, ◌↔◌, ℕ, ◌+◌, ◌-◌, ◌<◌, ◌≤◌, Bool, true, false, IsTrue, List, length, get_or, take, drop, Option, Some, None, IsSome, arith, ⊎_elim, sym, ap, ◌∙◌, refl, subst, slice_get}
 use Rattle.std.proofs.lemmas.Bool.{cases_lt}
 use Rattle.std.proofs.lemmas.List.{length-take-le, get_or-take, length-drop, get_or-drop}
@@ -38,51 +38,51 @@ pub record IsRest (xs rest : List ℕ) (from : ℕ) : Type 0 where
   pub size : length rest ≡ length xs - from
   pub each : (i : ℕ) → i < length rest → get_or rest i 0 ≡ get_or xs (from + i) 0
 
-front-same : (w : Window) (horizon : ℕ) (slots : List Slot) (named : List (Option Action)) (root : ℕ) (chain : List ℕ) (a b : ℕ) → IsNamedFront named chain a
+prefix-same : (w : Window) (horizon : ℕ) (slots : List Slot) (named : List (Option Action)) (root : ℕ) (chain : List ℕ) (a b : ℕ) → IsNamedFront named chain a
     → IsFront w horizon slots (named_at named) root chain b → b ≡ a
-front-same w horizon slots named root chain a b n f = ⊎_elim
+prefix-same w horizon slots named root chain a b n f = ⊎_elim
     (λ lt. absurd (some-not_none (named_at named (get_or chain a 0)) ((f.removed a (let h = f.within in omega arith)).1 lt) (n.next (let h = f.within in omega arith))))
     (λ ge. ⊎_elim (λ gt. absurd (let h = (f.removed b (let l = n.within in omega arith)).0 (n.all b gt) in omega arith)) (λ le. omega arith) (cases_lt b a))
     (cases_lt a b)
 
-pub front-within_cut : (w : Window) (horizon : ℕ) (slots : List Slot) (named : List (Option Action)) (root : ℕ) (chain : List ℕ) (front cut : ℕ)
-    → IsChain (has_aborted w) slots root chain → IsNamedFront named chain front → IsCutCount w horizon slots chain cut → cut < front → ¬ HasFront w horizon slots (named_at named) root
-front-within_cut w horizon slots named root chain front cut c n count lt has =
+pub prefix-within_cut : (w : Window) (horizon : ℕ) (slots : List Slot) (named : List (Option Action)) (root : ℕ) (chain : List ℕ) (prefix cut : ℕ)
+    → IsChain (has_aborted w) slots root chain → IsNamedFront named chain prefix → IsCutCount w horizon slots chain cut → cut < prefix → ¬ HasFront w horizon slots (named_at named) root
+prefix-within_cut w horizon slots named root chain prefix cut c n count lt has =
     let f = has chain c in
-    let same = front-same w horizon slots named root chain front f.0 n f.1 in
-    let d = f.1.cut (front - 1) (omega arith) in
+    let same = prefix-same w horizon slots named root chain prefix f.0 n f.1 in
+    let d = f.1.cut (prefix - 1) (omega arith) in
     count.none_after d.0 (let le = d.1 in omega arith) d.2 d.3
 
-pub front-right : (w : Window) (horizon : ℕ) (slots : List Slot) (named : List (Option Action)) (root : ℕ) (chain rest : List ℕ) (front cut : ℕ) (b : Bool)
-    → IsChain (has_aborted w) slots root chain → IsNamedFront named chain front → IsRest chain rest front → IsCutCount w horizon slots chain cut → front ≤ cut
+pub prefix-right : (w : Window) (horizon : ℕ) (slots : List Slot) (named : List (Option Action)) (root : ℕ) (chain rest : List ℕ) (prefix cut : ℕ) (b : Bool)
+    → IsChain (has_aborted w) slots root chain → IsNamedFront named chain prefix → IsRest chain rest prefix → IsCutCount w horizon slots chain cut → prefix ≤ cut
     → ((i : ℕ) → i < length rest → named_at named (get_or rest i 0) ≡ None)
-    → ((i : ℕ) → i < length (take front chain) → BecomesUnused slots named (get_or (take front chain) i 0))
-    → (IsTrue b ↔ (named_at named root ≡ root_action front (slice_get chain front))) → IsTrue b ↔ HasFront w horizon slots (named_at named) root
-front-right w horizon slots named root chain rest front cut b c n r count le unnamed unused same = (
+    → ((i : ℕ) → i < length (take prefix chain) → BecomesUnused slots named (get_or (take prefix chain) i 0))
+    → (IsTrue b ↔ (named_at named root ≡ root_action prefix (slice_get chain prefix))) → IsTrue b ↔ HasFront w horizon slots (named_at named) root
+prefix-right w horizon slots named root chain rest prefix cut b c n r count le unnamed unused same = (
   λ t d other. subst (λ l. (f : ℕ) × IsFront w horizon slots (named_at named) root l f) (chain-one (has_aborted w) slots root chain d c other) (
-    front,
+    prefix,
     record {
       within = n.within;
       removed = λ i h. (
         λ some. ⊎_elim (λ lt. lt) (λ ge.
             let size = r.size in
-            let at : front + (i - front) ≡ i = omega arith in
-            let e = sym (r.each (i - front) (omega arith)) in
+            let at : prefix + (i - prefix) ≡ i = omega arith in
+            let e = sym (r.each (i - prefix) (omega arith)) in
             absurd (some-not_none (named_at named (get_or chain i 0)) some
-            (ap (λ k. named_at named (get_or chain k 0)) (sym at) ∙ ap (named_at named) e ∙ unnamed (i - front) (omega arith)))) (cases_lt i front),
+            (ap (λ k. named_at named (get_or chain k 0)) (sym at) ∙ ap (named_at named) e ∙ unnamed (i - prefix) (omega arith)))) (cases_lt i prefix),
         λ lt. n.all i lt,
       );
       cut = λ i h. (cut - 1, (omega arith), (let l = count.within in omega arith), count.dead (omega arith));
       unused = λ i header h at heap_only.
-          let long = length-take-le front chain n.within in
-          let e = get_or-take front chain i 0 h in
+          let long = length-take-le prefix chain n.within in
+          let e = get_or-take prefix chain i 0 h in
           ap (named_at named) (sym e) ∙ unused i (omega arith) header (ap (header_at slots) e ∙ at) heap_only;
       leads = same.0 t;
     },
   ),
   λ has.
       let f = has chain c in
-      let is = front-same w horizon slots named root chain front f.0 n f.1 in
+      let is = prefix-same w horizon slots named root chain prefix f.0 n f.1 in
       same.1 (f.1.leads ∙ ap (λ k. root_action k (slice_get chain k)) is),
 )
 

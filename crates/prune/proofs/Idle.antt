@@ -11,7 +11,7 @@ use Rattle.hot_chain.proofs.Chains.{leads-by, root-there}
 use Rattle.prune.specs.declared.action.Action.TheVariants as action
 use Rattle.sound_page.specs.Dead.{HasDead}
 use Rattle.prune.specs.Cutting.{IsCutCount}
-use Rattle.prune.specs.Pruning.{loose_action, chain_action, Does, by_root, by_none, IsPlan}
+use Rattle.prune.specs.Pruning.{orphan_action, chain_action, PrunesSlot, by_root, by_none, IsPlan}
 use Rattle.prune.specs.Laws.{IsPrunedPage}
 use Rattle.prune.proofs.Removing.{by-answer, lost-from}
 use Rattle.sound_page.proofs.SoundChains.{chain-exists}
@@ -58,12 +58,12 @@ nothing-done root chain n = by (n == root)
     by true = refl
     by false = refl
 
-nothing-lost : (w : Window) (horizon : ℕ) (slots : List Slot) (n : ℕ) → (HasDead w horizon slots → ⊥) → None ≡ loose_action w slots n
-nothing-lost w horizon slots n none = by-answer (loose_action w slots n) (λ is. sym is)
+nothing-lost : (w : Window) (horizon : ℕ) (slots : List Slot) (n : ℕ) → (HasDead w horizon slots → ⊥) → None ≡ orphan_action w slots n
+nothing-lost w horizon slots n none = by-answer (orphan_action w slots n) (λ is. sym is)
     (λ a is. let lost = (lost-from w slots n a is).1 in
     absurd (none (record { number = n; dead = record { version = lost.version; there = lost.there; dead = IsDead.never_was lost.thawed lost.aborted } })))
 
-idle-does : (w : Window) (horizon : ℕ) (slots : List Slot) (n : ℕ) → length slots ≤ 291 → (HasDead w horizon slots → ⊥) → Does w horizon slots n None
+idle-does : (w : Window) (horizon : ℕ) (slots : List Slot) (n : ℕ) → length slots ≤ 291 → (HasDead w horizon slots → ⊥) → PrunesSlot w horizon slots n None
 idle-does w horizon slots n few none = ⊎_elim
     (λ starts.
     let some = chain-exists (has_aborted w) slots n few in

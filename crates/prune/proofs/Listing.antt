@@ -134,5 +134,5 @@ pub record IsApplying (plan : List (ℕ × Action)) (before page : PageView) (i 
   pub left : applied (drop i plan) page ≡ applied plan before
   pub can : CanApply (length page.slots) (drop i plan)
 
-pub front-of : (plan : List (ℕ × Action)) (i : ℕ) (d : ℕ × Action) → i < length plan → drop i plan ≡ get_or plan i d ∷ drop (i + 1) plan
-front-of plan i d within = rw add-one (drop-cons plan i d within)
+pub prefix-of : (plan : List (ℕ × Action)) (i : ℕ) (d : ℕ × Action) → i < length plan → drop i plan ≡ get_or plan i d ∷ drop (i + 1) plan
+prefix-of plan i d within = rw add-one (drop-cons plan i d within)

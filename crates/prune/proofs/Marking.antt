@@ -4,22 +4,22 @@ use Rattle.std.specs.List.{list_any}
 use Rattle.std.proofs.lemmas.Bool.{cases_Bool, eqb-true, eqb-false}
 use Rattle.std.proofs.lemmas.List.{get_or-set_same}
 use Rattle.prune.specs.declared.action.Action.{Action}
-use Rattle.prune.specs.declared.marks.Mark.{Mark}
-use Rattle.prune.specs.declared.marks.Mark.TheVariants.{Loose}
+use Rattle.prune.specs.declared.marks.PruneVerdict.{PruneVerdict}
+use Rattle.prune.specs.declared.marks.PruneVerdict.TheVariants.{Orphan}
 use Rattle.prune.specs.declared.action.Action.TheVariants as action
 use Rattle.prune.specs.Pruning.{root_action}
-use Rattle.prune.specs.Marks.{mark_of, mark_at, marked}
+use Rattle.prune.specs.Marks.{verdict_of, mark_at, marked}
 
-pub held-not_loose : (o : Option Action) → mark_of o ≡ Loose → ⊥
+pub held-not_loose : (o : Option Action) → verdict_of o ≡ Orphan → ⊥
 held-not_loose None e = absurd (cc)
 held-not_loose (Some a) e = absurd (cc)
 
 -- the first `i` of the numbers are marked
-pub record IsMarking (before : List Mark) (numbers : List ℕ) (action : Option Action) (marks : List Mark) (i : ℕ) : Type 0 where
+pub record IsMarking (before : List PruneVerdict) (numbers : List ℕ) (action : Option Action) (marks : List PruneVerdict) (i : ℕ) : Type 0 where
   pub size : length marks ≡ 292
-  pub each : (n : ℕ) → mark_at marks n ≡ (if list_any (nat_eq n) (take i numbers) then mark_of action else mark_at before n)
+  pub each : (n : ℕ) → mark_at marks n ≡ (if list_any (nat_eq n) (take i numbers) then verdict_of action else mark_at before n)
 
-pub get_or-else : (xs : List Mark) (i n : ℕ) (y : Mark) → n ≢ i → get_or (set xs i y) n Loose ≡ get_or xs n Loose
+pub get_or-else : (xs : List PruneVerdict) (i n : ℕ) (y : PruneVerdict) → n ≢ i → get_or (set xs i y) n Orphan ≡ get_or xs n Orphan
 get_or-else [] i n y ne = refl
 get_or-else (x ∷ xs) zero zero y ne = absurd (ne refl)
 get_or-else (x ∷ xs) zero (suc n) y ne = refl
@@ -36,33 +36,33 @@ any-take n (suc cut) (x ∷ xs) e = by (nat_eq n x) (list_any (nat_eq n) (take c
     by false b c f e = f e
 
 -- the marks after the walk along a chain
-pub chain-marked : (root : ℕ) (chain : List ℕ) (cut : ℕ) (before kept gone after : List Mark)
-    → ((n : ℕ) → mark_at kept n ≡ (if list_any (nat_eq n) chain then mark_of None else mark_at before n))
-    → ((n : ℕ) → mark_at gone n ≡ (if list_any (nat_eq n) (take cut chain) then mark_of (Some action.Unuse) else mark_at kept n))
-    → after ≡ set gone root (mark_of (root_action cut (slice_get chain cut))) → root < length gone
+pub chain-marked : (root : ℕ) (chain : List ℕ) (cut : ℕ) (before kept gone after : List PruneVerdict)
+    → ((n : ℕ) → mark_at kept n ≡ (if list_any (nat_eq n) chain then verdict_of None else mark_at before n))
+    → ((n : ℕ) → mark_at gone n ≡ (if list_any (nat_eq n) (take cut chain) then verdict_of (Some action.Unuse) else mark_at kept n))
+    → after ≡ set gone root (verdict_of (root_action cut (slice_get chain cut))) → root < length gone
     → (n : ℕ) → mark_at after n ≡ marked root chain cut n (mark_at before n)
 chain-marked root chain cut before kept gone after k g e small n =
-    ap (λ xs. get_or xs n Loose) e ∙ ⊎_elim at-root elsewhere (cases_Bool (nat_eq n root))
+    ap (λ xs. get_or xs n Orphan) e ∙ ⊎_elim at-root elsewhere (cases_Bool (nat_eq n root))
   where
-    what : Mark
-    what = mark_of (root_action cut (slice_get chain cut))
+    what : PruneVerdict
+    what = verdict_of (root_action cut (slice_get chain cut))
 
-    at-root : nat_eq n root ≡ true → get_or (set gone root what) n Loose ≡ marked root chain cut n (mark_at before n)
+    at-root : nat_eq n root ≡ true → get_or (set gone root what) n Orphan ≡ marked root chain cut n (mark_at before n)
     at-root here =
-        ap (λ i. get_or (set gone root what) i Loose) (eqb-true n root here) ∙ get_or-set_same gone root what Loose small
+        ap (λ i. get_or (set gone root what) i Orphan) (eqb-true n root here) ∙ get_or-set_same gone root what Orphan small
         ∙ sym (by-root (nat_eq n root) (list_any (nat_eq n) chain) (root_action cut (slice_get chain cut)) (if list_any (nat_eq n) (take cut chain) then Some action.Unuse else None) (mark_at before n) here)
       where
-        by-root : (b c : Bool) (o p : Option Action) (m : Mark) → b ≡ true → (if b || c then mark_of (if b then o else p) else m) ≡ mark_of o
+        by-root : (b c : Bool) (o p : Option Action) (m : PruneVerdict) → b ≡ true → (if b || c then verdict_of (if b then o else p) else m) ≡ verdict_of o
         by-root true c o p m e = refl
         by-root false c o p m e = absurd (cc)
 
-    elsewhere : nat_eq n root ≡ false → get_or (set gone root what) n Loose ≡ marked root chain cut n (mark_at before n)
+    elsewhere : nat_eq n root ≡ false → get_or (set gone root what) n Orphan ≡ marked root chain cut n (mark_at before n)
     elsewhere off =
         get_or-else gone root n what (eqb-false n root off) ∙ g n
         ∙ by-take (nat_eq n root) (list_any (nat_eq n) (take cut chain)) (list_any (nat_eq n) chain) (root_action cut (slice_get chain cut)) (mark_at kept n) (mark_at before n) off (any-take n cut chain) (k n)
       where
-        by-take : (b t c : Bool) (o : Option Action) (m d : Mark) → b ≡ false → (t ≡ true → c ≡ true) → m ≡ (if c then mark_of None else d)
-            → (if t then mark_of (Some action.Unuse) else m) ≡ (if b || c then mark_of (if b then o else (if t then Some action.Unuse else None)) else d)
+        by-take : (b t c : Bool) (o : Option Action) (m d : PruneVerdict) → b ≡ false → (t ≡ true → c ≡ true) → m ≡ (if c then verdict_of None else d)
+            → (if t then verdict_of (Some action.Unuse) else m) ≡ (if b || c then verdict_of (if b then o else (if t then Some action.Unuse else None)) else d)
         by-take true t c o m d off f e = absurd (cc)
         by-take false true true o m d off f e = refl
         by-take false true false o m d off f e = absurd (let x = f refl in cc)

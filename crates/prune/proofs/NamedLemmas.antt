@@ -50,8 +50,8 @@ named-else (x ∷ xs) (suc i) (suc n) y ne = named-else xs i n y (λ e. ne (ap s
 
 pub naming-step : (actions : List (ℕ × Action)) (named : List (Option Action)) (i : ℕ) (a : ℕ × Action) → IsNaming actions named i → drop i actions ≡ a ∷ drop (i + 1) actions
     → IsNaming actions (set named a.0 (Some a.1)) (i + 1)
-naming-step actions named i a s front =
-    let rest : AreInOrder 291 s.last (a ∷ drop (i + 1) actions) = subst (AreInOrder 291 s.last) front s.in_order in
+naming-step actions named i a s prefix =
+    let rest : AreInOrder 291 s.last (a ∷ drop (i + 1) actions) = subst (AreInOrder 291 s.last) prefix s.in_order in
     let le = rest.1 in
     let long = length-set named a.0 (Some a.1) in
     let size = s.size in
@@ -64,9 +64,9 @@ naming-step actions named i a s front =
           (λ t. let at = eqb-true a.0 n t in
           ap (λ o. over o (named_at (set named a.0 (Some a.1)) n)) (order-none 291 a.0 n (drop (i + 1) actions) rest.2 (omega arith))
           ∙ ap (λ k. named_at (set named a.0 (Some a.1)) k) (sym at) ∙ get_or-set_same named a.0 (Some a.1) None small
-          ∙ sym (ap (λ o. over o (named_at named n)) (ap (λ l. action_of l n) front ∙ cond-true (a.0 == n) (Some a.1) (action_of (drop (i + 1) actions) n) t)) ∙ s.each n)
+          ∙ sym (ap (λ o. over o (named_at named n)) (ap (λ l. action_of l n) prefix ∙ cond-true (a.0 == n) (Some a.1) (action_of (drop (i + 1) actions) n) t)) ∙ s.each n)
           (λ f. ap (over (action_of (drop (i + 1) actions) n)) (named-else named a.0 n (Some a.1) (λ e. let t = eq-eqb a.0 n (sym e) in cc))
-          ∙ sym (ap (λ o. over o (named_at named n)) (ap (λ l. action_of l n) front ∙ cond-false (a.0 == n) (Some a.1) (action_of (drop (i + 1) actions) n) f)) ∙ s.each n)
+          ∙ sym (ap (λ o. over o (named_at named n)) (ap (λ l. action_of l n) prefix ∙ cond-false (a.0 == n) (Some a.1) (action_of (drop (i + 1) actions) n) f)) ∙ s.each n)
           (cases_Bool (a.0 == n));
     }
 

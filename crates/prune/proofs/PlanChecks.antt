@@ -7,7 +7,7 @@ use Rattle.std.proofs.lemmas.Option.{slice_get_within, get_or_from_slice_get, sl
 use Rattle.page_slots.specs.declared.slot.Slot.{Slot}
 use Rattle.page_slots.specs.declared.slot.Slot.TheVariants.{Normal, Redirect}
 use Rattle.page_slots.specs.View.{PageView}
-use Rattle.page_slots.specs.Slots.{slot_at, version_at, header_at, IsThere}
+use Rattle.page_slots.specs.Slots.{slot_at, version_at, header_at, SlotIsThere}
 use Rattle.page_slots.proofs.SlotLemmas.{slot_at-from_version_at}
 use Rattle.tuple_header.specs.declared.version.Header.{Header}
 use Rattle.tuple_header.specs.Marks.{is_heap_only}
@@ -19,7 +19,7 @@ use Rattle.prune.specs.declared.action.Action.TheVariants as action
 use Rattle.prune.specs.Cutting.{IsCutCount}
 use Rattle.sound_page.specs.Links.{NoSharedSlots}
 use Rattle.prune.specs.Actions.{action_of}
-use Rattle.prune.specs.Pruning.{root_action, chain_action, IsOf, Does, by_root, by_none, IsPlan}
+use Rattle.prune.specs.Pruning.{root_action, chain_action, IsInChainOf, PrunesSlot, by_root, by_none, IsPlan}
 use Rattle.prune.specs.Checks.{IsFront, IsAccounted, Checks}
 use Rattle.sound_page.proofs.Links.{member-there, member-version}
 use Rattle.prune.proofs.Listing.{named-there}
@@ -66,19 +66,19 @@ record SomeCount (w : Window) (horizon : ℕ) (slots : List Slot) (chain : List 
   cut : ℕ
   is : IsCutCount w horizon slots chain cut
 
-root-count : (w : Window) (horizon : ℕ) (slots : List Slot) (root : ℕ) (chain : List ℕ) (o : Option Action) → NoSharedSlots (has_aborted w) slots → IsOf (has_aborted w) slots root chain root
-    → Does w horizon slots root o → SomeCount w horizon slots chain
+root-count : (w : Window) (horizon : ℕ) (slots : List Slot) (root : ℕ) (chain : List ℕ) (o : Option Action) → NoSharedSlots (has_aborted w) slots → IsInChainOf (has_aborted w) slots root chain root
+    → PrunesSlot w horizon slots root o → SomeCount w horizon slots chain
 root-count w horizon slots root chain o unshared i (by_root other others_chain cut j d e) =
     let one : other ≡ root = of-one (has_aborted w) slots other root root others_chain chain unshared j i in
     let chains : others_chain ≡ chain = chain-one (has_aborted w) slots root others_chain chain (subst (λ r. IsChain (has_aborted w) slots r others_chain) one j.is_chain) i.is_chain in
     record { cut = cut; is = subst (λ l. IsCutCount w horizon slots l cut) chains d }
 root-count w horizon slots root chain o unshared i (by_none l e) = absurd (of-not_loose (has_aborted w) slots root root chain i l)
 
--- what pruning does to a root and its chain is a front
-plan-front : (w : Window) (horizon : ℕ) (slots : List Slot) (named : ℕ → Option Action) (root cut : ℕ) (chain : List ℕ) → is_root slots root ≡ true → IsChain (has_aborted w) slots root chain
-    → IsCutCount w horizon slots chain cut → ((n : ℕ) → IsOf (has_aborted w) slots root chain n → IsThere slots n → named n ≡ chain_action root chain cut n)
+-- what pruning does to a root and its chain is a prefix
+plan-prefix : (w : Window) (horizon : ℕ) (slots : List Slot) (named : ℕ → Option Action) (root cut : ℕ) (chain : List ℕ) → is_root slots root ≡ true → IsChain (has_aborted w) slots root chain
+    → IsCutCount w horizon slots chain cut → ((n : ℕ) → IsInChainOf (has_aborted w) slots root chain n → SlotIsThere slots n → named n ≡ chain_action root chain cut n)
     → IsFront w horizon slots named root chain cut
-plan-front w horizon slots named root cut chain starts is count does = record {
+plan-prefix w horizon slots named root cut chain starts is count does = record {
   within = count.within;
   removed = λ i h. let e = of-place i h in
       let s = chain-some root cut i chain is.distinct count.within h (first i h) in
@@ -117,11 +117,11 @@ pub plan-checks : (w : Window) (horizon : ℕ) (page : PageView) (actions : List
 plan-checks w horizon page actions unshared p = record {
   same_change = refl;
   in_order = p.in_order;
-  fronts = λ root starts chain is.
-      let of : IsOf (has_aborted w) page.slots root chain root = record { starts = starts; is_chain = is; holds = inl refl } in
+  prefixes = λ root starts chain is.
+      let of : IsInChainOf (has_aborted w) page.slots root chain root = record { starts = starts; is_chain = is; holds = inl refl } in
       let c = root-count w horizon page.slots root chain (action_of actions root) unshared of (p.exact root (root-there page.slots root starts)) in (
         c.cut,
-        plan-front w horizon page.slots (action_of actions) root c.cut chain starts is c.is
+        plan-prefix w horizon page.slots (action_of actions) root c.cut chain starts is c.is
             (λ n o there. does-by w horizon page.slots n root c.cut chain (action_of actions n) unshared o c.is (p.exact n there)),
       );
   others = λ n a e.
@@ -129,7 +129,7 @@ plan-checks w horizon page actions unshared p = record {
       accounted n a (action_of actions n) (p.exact n there) e;
 }
   where
-    accounted : (n : ℕ) (a : Action) (o : Option Action) → Does w horizon page.slots n o → o ≡ Some a → IsAccounted w page.slots n a
+    accounted : (n : ℕ) (a : Action) (o : Option Action) → PrunesSlot w horizon page.slots n o → o ≡ Some a → IsAccounted w page.slots n a
     accounted n a o (by_root root chain cut i c e) is = IsAccounted.of_root root chain i
     accounted n a o (by_none l e) is = IsAccounted.lost l (sym e ∙ is)
 
@@ -138,7 +138,7 @@ pub empty-checks : (w : Window) (horizon : ℕ) (page : PageView) → Checks w h
 empty-checks w horizon page = record {
   same_change = refl;
   in_order = tt;
-  fronts = λ root starts chain is. (
+  prefixes = λ root starts chain is. (
     0,
     record {
       within = omega arith;
@@ -151,16 +151,16 @@ empty-checks w horizon page = record {
   others = λ n a e. absurd (cc);
 }
 
-pub front-target : (root front k first : ℕ) (chain : List ℕ) (o : Option ℕ) → IsDistinct nat_eq chain → slice_get chain 0 ≡ Some first → slice_get chain front ≡ o
-    → root_action front o ≡ Some (action.Redirect k) → k ≢ first
-front-target root zero k first chain o d start at e = absurd (cc)
-front-target root (suc front) k first chain None d start at e = absurd (cc)
-front-target root (suc front) k first chain (Some j) d start at e = λ same.
+pub prefix-target : (root prefix k first : ℕ) (chain : List ℕ) (o : Option ℕ) → IsDistinct nat_eq chain → slice_get chain 0 ≡ Some first → slice_get chain prefix ≡ o
+    → root_action prefix o ≡ Some (action.Redirect k) → k ≢ first
+prefix-target root zero k first chain o d start at e = absurd (cc)
+prefix-target root (suc prefix) k first chain None d start at e = absurd (cc)
+prefix-target root (suc prefix) k first chain (Some j) d start at e = λ same.
     let f : action.Redirect j ≡ action.Redirect k = same_Some (action.Redirect j) (action.Redirect k) e in
     let jk : j ≡ k = cc in
-    let within = slice_get_within chain (suc front) j at in
-    absurd (distinct-places chain 0 (suc front) d (omega arith) within
-    (get_or_from_slice_get chain 0 first 0 start ∙ sym same ∙ sym jk ∙ sym (get_or_from_slice_get chain (suc front) j 0 at)))
+    let within = slice_get_within chain (suc prefix) j at in
+    absurd (distinct-places chain 0 (suc prefix) d (omega arith) within
+    (get_or_from_slice_get chain 0 first 0 start ∙ sym same ∙ sym jk ∙ sym (get_or_from_slice_get chain (suc prefix) j 0 at)))
 
 redirect-first : (slots : List Slot) (root k first : ℕ) → slot_at slots root ≡ Some (Redirect k) → first_of slots root ≡ Some first → first ≡ k
 redirect-first slots root k first at e = by (is_some (version_at slots k)) (sym (ap (option_and_then (start_in slots root)) at) ∙ e)
@@ -169,10 +169,10 @@ redirect-first slots root k first at e = by (is_some (version_at slots k)) (sym 
     by true f = sym (same_Some k first f)
     by false f = absurd (cc)
 
-leads-within : (front k : ℕ) (chain : List ℕ) (o : Option ℕ) → slice_get chain front ≡ o → root_action front o ≡ Some (action.Redirect k) → front < length chain
+leads-within : (prefix k : ℕ) (chain : List ℕ) (o : Option ℕ) → slice_get chain prefix ≡ o → root_action prefix o ≡ Some (action.Redirect k) → prefix < length chain
 leads-within zero k chain o at e = absurd (cc)
-leads-within (suc front) k chain None at e = absurd (cc)
-leads-within (suc front) k chain (Some j) at e = slice_get_within chain (suc front) j at
+leads-within (suc prefix) k chain None at e = absurd (cc)
+leads-within (suc prefix) k chain (Some j) at e = slice_get_within chain (suc prefix) j at
 
 -- no plan checks that names a redirect with the target that it has
 pub own-target : (w : Window) (horizon : ℕ) (page : PageView) (change : ℕ) (actions : List (ℕ × Action)) (n k : ℕ) → Checks w horizon page change actions
@@ -183,12 +183,12 @@ own-target w horizon page change actions n k c at e = by (c.others n (action.Red
     by (IsAccounted.lost l f) = let u = (lost-from w page.slots n (action.Redirect k) f).0 in absurd (cc)
     by (IsAccounted.of_root root chain o) = ⊎_elim
         (λ same.
-        let f = c.fronts root o.starts chain o.is_chain in
+        let f = c.prefixes root o.starts chain o.is_chain in
         let leads = sym f.1.leads ∙ ap (action_of actions) (sym same) ∙ e in
         let within = leads-within f.0 k chain (slice_get chain f.0) refl leads in
         let start = slice_get-get_or chain 0 0 (omega arith) in
         let first = redirect-first page.slots root k (get_or chain 0 0) (ap (slot_at page.slots) (sym same) ∙ at) (sym o.is_chain.start ∙ start) in
-        front-target root f.0 k (get_or chain 0 0) chain (slice_get chain f.0) o.is_chain.distinct start refl leads (sym first))
+        prefix-target root f.0 k (get_or chain 0 0) chain (slice_get chain f.0) o.is_chain.distinct start refl leads (sym first))
         (λ holds.
         let p = place-of n chain holds in
         let v = member-version (has_aborted w) page.slots root chain p.0 o.is_chain p.1 in

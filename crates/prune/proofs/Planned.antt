@@ -4,27 +4,27 @@ use Rattle.std.specs.List.{list_any}
 use Rattle.std.proofs.lemmas.Option.{slice_get_within, get_or_from_slice_get}
 use Rattle.page_slots.specs.declared.slot.Slot.{Slot}
 use Rattle.page_slots.specs.View.{PageView}
-use Rattle.page_slots.specs.Slots.{IsThere, slot_at, header_at}
+use Rattle.page_slots.specs.Slots.{SlotIsThere, slot_at, header_at}
 use Rattle.tuple_header.specs.declared.version.Header.{Header}
 use Rattle.commit_status.specs.Window.{Window}
 use Rattle.hot_chain.specs.Chain.{has_aborted, IsChain}
 use Rattle.prune.specs.declared.action.Action.{Action}
 use Rattle.prune.specs.declared.action.Action.TheVariants as action
-use Rattle.prune.specs.declared.marks.Mark.{Mark}
+use Rattle.prune.specs.declared.marks.PruneVerdict.{PruneVerdict}
 use Rattle.prune.specs.Actions.{HasTarget, action_of}
-use Rattle.prune.specs.Pruning.{root_action, loose_in, Does, by_root, by_none, IsPlan, IsPruned}
-use Rattle.prune.specs.Marks.{mark_of, mark_at, IsMark, planned}
+use Rattle.prune.specs.Pruning.{root_action, loose_in, PrunesSlot, by_root, by_none, IsPlan, IsPruned}
+use Rattle.prune.specs.Marks.{verdict_of, mark_at, IsVerdict, planned}
 use Rattle.prune.specs.Laws.{IsPrunedPage}
 use Rattle.sound_page.proofs.Links.{member-there}
 use Rattle.prune.proofs.Listing.{AreListed, applied-slot, applied-count}
 
-planned-held : (w : Window) (slots : List Slot) (n : ℕ) (o : Option Action) → planned w slots n (mark_of o) ≡ o
+planned-held : (w : Window) (slots : List Slot) (n : ℕ) (o : Option Action) → planned w slots n (verdict_of o) ≡ o
 planned-held w slots n None = refl
 planned-held w slots n (Some a) = refl
 
-pub marked-does : (w : Window) (horizon : ℕ) (slots : List Slot) (n : ℕ) (mark : Mark) → IsMark w horizon slots n mark → Does w horizon slots n (planned w slots n mark)
-marked-does w horizon slots n mark (IsMark.held root chain cut o c e) = by_root root chain cut o c (ap (planned w slots n) e ∙ planned-held w slots n _)
-marked-does w horizon slots n mark (IsMark.loose l e) = by_none l (ap (planned w slots n) e)
+pub marked-does : (w : Window) (horizon : ℕ) (slots : List Slot) (n : ℕ) (mark : PruneVerdict) → IsVerdict w horizon slots n mark → PrunesSlot w horizon slots n (planned w slots n mark)
+marked-does w horizon slots n mark (IsVerdict.held root chain cut o c e) = by_root root chain cut o c (ap (planned w slots n) e ∙ planned-held w slots n _)
+marked-does w horizon slots n mark (IsVerdict.loose l e) = by_none l (ap (planned w slots n) e)
 
 abbrev Target : ℕ → Option Action → Type 0
 Target count None = Unit {0}
@@ -36,7 +36,7 @@ root-target aborted slots root chain zero o c e = tt
 root-target aborted slots root chain (suc cut) None c e = tt
 root-target aborted slots root chain (suc cut) (Some k) c e =
     let within = slice_get_within chain (suc cut) k e in
-    subst (IsThere slots) (get_or_from_slice_get chain (suc cut) k 0 e) (member-there aborted slots root chain (suc cut) c within)
+    subst (SlotIsThere slots) (get_or_from_slice_get chain (suc cut) k 0 e) (member-there aborted slots root chain (suc cut) c within)
 
 unuse-target : (count : ℕ) (b : Bool) → Target count (if b then Some action.Unuse else None)
 unuse-target count true = tt
@@ -50,21 +50,21 @@ loose-target : (count : ℕ) (w : Window) (o : Option Header) → Target count (
 loose-target count w None = tt
 loose-target count w (Some h) = unuse-target count _
 
-does-target : (w : Window) (horizon : ℕ) (slots : List Slot) (n : ℕ) (o : Option Action) → Does w horizon slots n o → Target (length slots) o
+does-target : (w : Window) (horizon : ℕ) (slots : List Slot) (n : ℕ) (o : Option Action) → PrunesSlot w horizon slots n o → Target (length slots) o
 does-target w horizon slots n o (by_root root chain cut i c e) =
     subst (Target (length slots)) (sym e) (either-target (length slots) (n == root) _ _
     (root-target (has_aborted w) slots root chain cut (slice_get chain cut) i.is_chain refl) (unuse-target (length slots) (list_any (nat_eq n) (take cut chain))))
 does-target w horizon slots n o (by_none l e) = subst (Target (length slots)) (sym e) (loose-target (length slots) w (header_at slots n))
 
-pub does-has_target : (w : Window) (horizon : ℕ) (slots : List Slot) (n : ℕ) (o : Option Action) (a : Action) → Does w horizon slots n o → o ≡ Some a → HasTarget (length slots) a
+pub does-has_target : (w : Window) (horizon : ℕ) (slots : List Slot) (n : ℕ) (o : Option Action) (a : Action) → PrunesSlot w horizon slots n o → o ≡ Some a → HasTarget (length slots) a
 does-has_target w horizon slots n o a d e = subst (Target (length slots)) e (does-target w horizon slots n o d)
 
-pub listed-plan : (w : Window) (horizon : ℕ) (slots : List Slot) (marks : List Mark) (acts : List (ℕ × Action)) (bound : ℕ) → ((n : ℕ) → IsMark w horizon slots n (mark_at marks n))
+pub listed-plan : (w : Window) (horizon : ℕ) (slots : List Slot) (marks : List PruneVerdict) (acts : List (ℕ × Action)) (bound : ℕ) → ((n : ℕ) → IsVerdict w horizon slots n (mark_at marks n))
     → AreListed (length slots) (λ n. planned w slots n (mark_at marks n)) acts bound → length slots < bound → IsPlan w horizon slots acts
 listed-plan w horizon slots marks acts bound marked l all = record {
   in_order = l.in_order;
   exact = λ n there. let high = there.1 in
-      subst (Does w horizon slots n) (sym (l.each n there.0 (omega arith))) (marked-does w horizon slots n (mark_at marks n) (marked n));
+      subst (PrunesSlot w horizon slots n) (sym (l.each n there.0 (omega arith))) (marked-does w horizon slots n (mark_at marks n) (marked n));
 }
 
 pub plan-pruned : (w : Window) (horizon : ℕ) (old new : PageView) → IsPrunedPage w horizon old new → IsPruned w horizon old.slots new.slots

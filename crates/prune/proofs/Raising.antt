@@ -4,7 +4,7 @@ use Rattle.std.proofs.lemmas.Bool.{eq-eqb, ne_eqb, cond-true, cond-false}
 use Rattle.page_slots.specs.declared.slot.Slot.{Slot}
 use Rattle.page_slots.specs.declared.slot.Slot.TheVariants.{Unused, Normal, Redirect, Dead}
 use Rattle.page_slots.specs.View.{PageView}
-use Rattle.page_slots.specs.Slots.{slot_at, version_at, the_slot, next_change, change_unless, IsThere}
+use Rattle.page_slots.specs.Slots.{slot_at, version_at, the_slot, next_change, change_unless, SlotIsThere}
 use Rattle.page_slots.proofs.SlotLemmas.{slot_at-there, the_slot-from_slot_at, slot_at-from_version_at, slot_at-with_slot_other, length-with_slot}
 use Rattle.tuple_header.specs.Version.{Version}
 use Rattle.commit_status.specs.Window.{Window}
@@ -68,7 +68,7 @@ all-new low (x ∷ rest) page o new =
     all-new x.0 rest after order (λ n a e.
     let there = named-there (length page.slots) x.0 n rest a o.2 e in
     let more = there.0 in
-    let is_there : IsThere page.slots n = ((omega arith), there.1) in
+    let is_there : SlotIsThere page.slots n = ((omega arith), there.1) in
     let same : the_slot after.slots n ≡ the_slot page.slots n = the_slot-from_slot_at after.slots n (the_slot page.slots n)
     (slot_at-with_slot_other page.slots x.0 n (made_by x.1) (omega arith) (λ f. omega arith) ∙ slot_at-there page.slots n is_there) in
     ap (is_done a) same ∙ new n a (cond-false (x.0 == n) (Some x.1) (action_of rest n) (ne_eqb x.0 n (λ f. omega arith)) ∙ e))

@@ -14,14 +14,14 @@ use Rattle.hot_chain.specs.Chain.{has_aborted, first_of}
 use Rattle.hot_chain.proofs.Chains.{root-there}
 use Rattle.prune.specs.declared.action.Action.{Action}
 use Rattle.prune.specs.declared.action.Action.TheVariants as action
-use Rattle.prune.specs.Cutting.{IsCut, Removes}
+use Rattle.prune.specs.Cutting.{IsCut, RemovesVersions}
 use Rattle.sound_page.specs.Links.{NoSharedSlots}
 use Rattle.prune.specs.Actions.{made_by, acted}
-use Rattle.prune.specs.Pruning.{root_action, chain_action, loose_in, loose_action, Does, by_root, by_none, IsPruned}
+use Rattle.prune.specs.Pruning.{root_action, chain_action, loose_in, orphan_action, PrunesSlot, by_root, by_none, IsPruned}
 use Rattle.sound_page.specs.Sound.{lead, KeepsRoots}
 use Rattle.sound_page.proofs.Links.{version-there}
 use Rattle.sound_page.proofs.ChainPlaces.{place-in_front, first-normal, chain-first, root-leads, at-place}
-use Rattle.prune.proofs.CutPlaces.{front-cut}
+use Rattle.prune.proofs.CutPlaces.{prefix-cut}
 use Rattle.sound_page.proofs.Undone.{has-aborted}
 
 -- by whether something is done to a slot
@@ -54,7 +54,7 @@ root-lead zero o a e = absurd (cc)
 root-lead (suc cut) None a e = let f = same_Some action.Kill a e in ap made_by (sym f)
 root-lead (suc cut) (Some k) a e = let f = same_Some (action.Redirect k) a e in ap made_by (sym f)
 
--- a loose slot that goes holds a heap-only version whose maker is aborted
+-- a loose slot that goes holds a heap-only version whose inserter is aborted
 pub record IsLost (w : Window) (slots : List Slot) (n : ℕ) : Type 0 where
   pub version : Version
   pub there : version_at slots n ≡ Some version
@@ -74,7 +74,7 @@ loose-lost w slots n (Some t) a at e =
       record { version = t; there = at; heap_only = outer.0; thawed = λ f. absurd (let g : true ≡ false = sym f ∙ thawed in cc); aborted = has-aborted w t.header.xmin.0 inner.1 },
     )
 
-pub lost-from : (w : Window) (slots : List Slot) (n : ℕ) (a : Action) → loose_action w slots n ≡ Some a → (a ≡ action.Unuse) × IsLost w slots n
+pub lost-from : (w : Window) (slots : List Slot) (n : ℕ) (a : Action) → orphan_action w slots n ≡ Some a → (a ≡ action.Unuse) × IsLost w slots n
 lost-from w slots n a e = loose-lost w slots n (version_at slots n) a refl e
 
 pub lost-cut : (w : Window) (horizon : ℕ) (slots : List Slot) (n : ℕ) → IsLost w slots n → IsCut w horizon slots n
@@ -85,14 +85,14 @@ lost-cut w horizon slots n l = record {
 }
 
 -- a version to whose slot something is done is cut
-pub done-cut : (w : Window) (horizon : ℕ) (slots : List Slot) (n : ℕ) (t : Version) (o : Option Action) (a : Action) → version_at slots n ≡ Some t → Does w horizon slots n o
+pub done-cut : (w : Window) (horizon : ℕ) (slots : List Slot) (n : ℕ) (t : Version) (o : Option Action) (a : Action) → version_at slots n ≡ Some t → PrunesSlot w horizon slots n o
     → o ≡ Some a → IsCut w horizon slots n
 done-cut w horizon slots n t o a at (by_root root chain cut i c e) is =
     chain-cases root cut n chain a (sym e ∙ is)
     (λ same act. let first = chain-first (has_aborted w) slots root n chain i.is_chain (ap (first_of slots) (sym same) ∙ first-normal slots n t at) in
-    subst (IsCut w horizon slots) first.1 (front-cut w horizon slots root chain cut 0 i.is_chain c (root-cut cut (slice_get chain cut) a act)))
-    (λ other front _. let p = place-in_front n cut chain c.within front in
-    subst (IsCut w horizon slots) p.2 (front-cut w horizon slots root chain cut p.0 i.is_chain c p.1))
+    subst (IsCut w horizon slots) first.1 (prefix-cut w horizon slots root chain cut 0 i.is_chain c (root-cut cut (slice_get chain cut) a act)))
+    (λ other prefix _. let p = place-in_front n cut chain c.within prefix in
+    subst (IsCut w horizon slots) p.2 (prefix-cut w horizon slots root chain cut p.0 i.is_chain c p.1))
 done-cut w horizon slots n t o a at (by_none l e) is = lost-cut w horizon slots n (lost-from w slots n a (sym e ∙ is)).1
 
 pub acted-version : (old after : Option Slot) (o : Option Action) (t : Version) → after ≡ acted old o → option_and_then version_of after ≡ Some t
@@ -103,7 +103,7 @@ acted-version old after (Some action.Kill) t e at = absurd (let f = ap (option_a
 acted-version old after (Some (action.Redirect k)) t e at = absurd (let f = ap (option_and_then version_of) e in cc)
 
 -- whatever pruning removes is cut
-pub pruned-removes : (w : Window) (horizon : ℕ) (slots after : List Slot) → IsPruned w horizon slots after → Removes w horizon slots after
+pub pruned-removes : (w : Window) (horizon : ℕ) (slots after : List Slot) → IsPruned w horizon slots after → RemovesVersions w horizon slots after
 pruned-removes w horizon slots after p = record {
   kept = λ n t at.
       let there = version-there after n t at in
@@ -125,12 +125,12 @@ pruned-keeps_roots w horizon slots after apart p n starts =
     (λ none. inl (each.is ∙ ap (acted (slot_at slots n)) none))
     (λ a some. inr (led a each.answer each.does some (each.is ∙ ap (acted (slot_at slots n)) some)))
   where
-    led : (a : Action) (o : Option Action) → Does w horizon slots n o → o ≡ Some a → slot_at after n ≡ Some (made_by a) → (kept : Option ℕ) × (slot_at after n ≡ Some (lead kept))
+    led : (a : Action) (o : Option Action) → PrunesSlot w horizon slots n o → o ≡ Some a → slot_at after n ≡ Some (made_by a) → (kept : Option ℕ) × (slot_at after n ≡ Some (lead kept))
     led a o (by_root root chain cut i c e) is at =
         chain-cases root cut n chain a (sym e ∙ is)
         (λ same act. (slice_get chain cut, at ∙ ap Some (root-lead cut (slice_get chain cut) a act)))
-        (λ other front _.
-        let p = place-in_front n cut chain c.within front in
+        (λ other prefix _.
+        let p = place-in_front n cut chain c.within prefix in
         let holds = at-place n chain p.0 (let h = p.1 in let l = c.within in omega arith) p.2 in
         let itself = root-leads (has_aborted w) slots root n chain i.is_chain starts holds in
         absurd (other (apart n root n itself (record { starts = i.starts; chain = chain; is_chain = i.is_chain; holds = holds }))))

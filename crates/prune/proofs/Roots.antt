@@ -6,26 +6,26 @@ use Rattle.page_slots.specs.declared.slot.Slot.{Slot}
 use Rattle.commit_status.specs.Window.{Window}
 use Rattle.hot_chain.specs.Chain.{has_aborted, is_root, LeadsTo}
 use Rattle.hot_chain.proofs.Chains.{chain-one, any-contains, contains-any, root-there}
-use Rattle.prune.specs.declared.marks.Mark.{Mark}
-use Rattle.prune.specs.declared.marks.Mark.TheVariants.{Loose}
+use Rattle.prune.specs.declared.marks.PruneVerdict.{PruneVerdict}
+use Rattle.prune.specs.declared.marks.PruneVerdict.TheVariants.{Orphan}
 use Rattle.prune.specs.Cutting.{IsCutCount}
-use Rattle.prune.specs.Pruning.{IsOf, chain_action}
-use Rattle.prune.specs.Marks.{mark_of, mark_at, MarksChain, IsMark, held, loose}
+use Rattle.prune.specs.Pruning.{IsInChainOf, chain_action}
+use Rattle.prune.specs.Marks.{verdict_of, mark_at, MarksChain, IsVerdict, held, loose}
 
-pub data IsMarkSoFar (w : Window) (horizon : ℕ) (slots : List Slot) (bound n : ℕ) (mark : Mark) : Type 0 where
-  by_chain : (root : ℕ) (chain : List ℕ) (cut : ℕ) → IsOf (has_aborted w) slots root chain n → IsCutCount w horizon slots chain cut
-      → mark ≡ mark_of (chain_action root chain cut n) → IsMarkSoFar w horizon slots bound n mark
+pub data IsMarkSoFar (w : Window) (horizon : ℕ) (slots : List Slot) (bound n : ℕ) (mark : PruneVerdict) : Type 0 where
+  by_chain : (root : ℕ) (chain : List ℕ) (cut : ℕ) → IsInChainOf (has_aborted w) slots root chain n → IsCutCount w horizon slots chain cut
+      → mark ≡ verdict_of (chain_action root chain cut n) → IsMarkSoFar w horizon slots bound n mark
   by_none : ((root : ℕ) → root < bound → is_root slots root ≡ true → n ≢ root) → ((root : ℕ) → root < bound → ¬ LeadsTo (has_aborted w) slots root n)
-      → mark ≡ Loose → IsMarkSoFar w horizon slots bound n mark
+      → mark ≡ Orphan → IsMarkSoFar w horizon slots bound n mark
 
 no-zero : (slots : List Slot) (root : ℕ) → root < 1 → is_root slots root ≡ true → ⊥
 no-zero slots root h starts = let there = (root-there slots root starts).0 in absurd (omega arith)
 
-pub so_far-none : (w : Window) (horizon : ℕ) (slots : List Slot) (n : ℕ) (mark : Mark) → mark ≡ Loose → IsMarkSoFar w horizon slots 1 n mark
+pub so_far-none : (w : Window) (horizon : ℕ) (slots : List Slot) (n : ℕ) (mark : PruneVerdict) → mark ≡ Orphan → IsMarkSoFar w horizon slots 1 n mark
 so_far-none w horizon slots n mark e =
     IsMarkSoFar.by_none (λ root h starts. absurd (no-zero slots root h starts)) (λ root h l. no-zero slots root h l.starts) e
 
-pub so_far-skip : (w : Window) (horizon : ℕ) (slots : List Slot) (bound n : ℕ) (mark : Mark) → is_root slots bound ≡ false
+pub so_far-skip : (w : Window) (horizon : ℕ) (slots : List Slot) (bound n : ℕ) (mark : PruneVerdict) → is_root slots bound ≡ false
     → IsMarkSoFar w horizon slots bound n mark → IsMarkSoFar w horizon slots (bound + 1) n mark
 so_far-skip w horizon slots bound n mark none (IsMarkSoFar.by_chain root chain cut o c e) = IsMarkSoFar.by_chain root chain cut o c e
 so_far-skip w horizon slots bound n mark none (IsMarkSoFar.by_none f g e) = IsMarkSoFar.by_none
@@ -35,13 +35,13 @@ so_far-skip w horizon slots bound n mark none (IsMarkSoFar.by_none f g e) = IsMa
     not-root : (root : ℕ) → root ≡ bound → is_root slots root ≡ true → ⊥
     not-root root same starts = let at = ap (is_root slots) same in absurd (cc)
 
-pub so_far-chain : (w : Window) (horizon : ℕ) (slots : List Slot) (root n : ℕ) (before after : List Mark) → MarksChain w horizon slots root before after
+pub so_far-chain : (w : Window) (horizon : ℕ) (slots : List Slot) (root n : ℕ) (before after : List PruneVerdict) → MarksChain w horizon slots root before after
     → is_root slots root ≡ true → IsMarkSoFar w horizon slots root n (mark_at before n) → IsMarkSoFar w horizon slots (root + 1) n (mark_at after n)
 so_far-chain w horizon slots root n before after m starts old = ⊎_elim in-chain elsewhere (cases_Bool (nat_eq n root || list_any (nat_eq n) m.chain))
   where
     chosen : (b : Bool) → nat_eq n root || list_any (nat_eq n) m.chain ≡ b
-        → mark_at after n ≡ (if b then mark_of (chain_action root m.chain m.cut n) else mark_at before n)
-    chosen b e = m.each n ∙ ap (λ (x : Bool). if x then mark_of (chain_action root m.chain m.cut n) else mark_at before n) e
+        → mark_at after n ≡ (if b then verdict_of (chain_action root m.chain m.cut n) else mark_at before n)
+    chosen b e = m.each n ∙ ap (λ (x : Bool). if x then verdict_of (chain_action root m.chain m.cut n) else mark_at before n) e
 
     in-chain : nat_eq n root || list_any (nat_eq n) m.chain ≡ true → IsMarkSoFar w horizon slots (root + 1) n (mark_at after n)
     in-chain here = IsMarkSoFar.by_chain root m.chain m.cut (record {
@@ -68,8 +68,8 @@ so_far-chain w horizon slots root n before after m starts old = ⊎_elim in-chai
     elsewhere : nat_eq n root || list_any (nat_eq n) m.chain ≡ false → IsMarkSoFar w horizon slots (root + 1) n (mark_at after n)
     elsewhere off = same off old
 
-pub so_far-all : (w : Window) (horizon : ℕ) (slots : List Slot) (bound n : ℕ) (mark : Mark) → length slots < bound
-    → IsMarkSoFar w horizon slots bound n mark → IsMark w horizon slots n mark
+pub so_far-all : (w : Window) (horizon : ℕ) (slots : List Slot) (bound n : ℕ) (mark : PruneVerdict) → length slots < bound
+    → IsMarkSoFar w horizon slots bound n mark → IsVerdict w horizon slots n mark
 so_far-all w horizon slots bound n mark all (IsMarkSoFar.by_chain root chain cut o c e) = held root chain cut o c e
 so_far-all w horizon slots bound n mark all (IsMarkSoFar.by_none f g e) = loose (record {
   no_root = ⊎_elim (λ starts. absurd (f n (below n starts) starts refl)) (λ off. off) (cases_Bool (is_root slots n));
@@ -79,7 +79,7 @@ so_far-all w horizon slots bound n mark all (IsMarkSoFar.by_none f g e) = loose 
     below : (root : ℕ) → is_root slots root ≡ true → root < bound
     below root starts = let there = (root-there slots root starts).1 in omega arith
 
-pub loose-everywhere : (count n : ℕ) → get_or (replicate count Loose) n Loose ≡ Loose
+pub loose-everywhere : (count n : ℕ) → get_or (replicate count Orphan) n Orphan ≡ Orphan
 loose-everywhere zero n = refl
 loose-everywhere (suc count) zero = refl
 loose-everywhere (suc count) (suc n) = loose-everywhere count n

@@ -22,12 +22,12 @@ use Rattle.sound_page.specs.Dead.{IsDeadAt}
 use Rattle.prune.specs.Cutting.{IsCutCount, IsCut}
 use Rattle.sound_page.specs.Links.{Reaches, link}
 use Rattle.prune.specs.Actions.{acted, made_by}
-use Rattle.prune.specs.Pruning.{root_action, chain_action, IsOf, Does, by_root, by_none, IsPruned}
-use Rattle.sound_page.specs.Sound.{entry_in, entry_of, IsIn, IsTarget, SoundPage, KeepsChains}
+use Rattle.prune.specs.Pruning.{root_action, chain_action, IsInChainOf, PrunesSlot, by_root, by_none, IsPruned}
+use Rattle.sound_page.specs.Sound.{chain_start_in, chain_start_of, IsIn, IsTarget, SoundPage, KeepsChains}
 use Rattle.sound_page.proofs.Links.{link-of}
-use Rattle.prune.proofs.PlanChecks.{front-target}
+use Rattle.prune.proofs.PlanChecks.{prefix-target}
 use Rattle.sound_page.proofs.ChainPlaces.{chain-first, reaches-places}
-use Rattle.prune.proofs.CutPlaces.{of-one, of-not_loose, front-cut}
+use Rattle.prune.proofs.CutPlaces.{of-one, of-not_loose, prefix-cut}
 use Rattle.prune.proofs.Unshared.{same-by_slots}
 use Rattle.sound_page.proofs.Undone.{aborted-has}
 use Rattle.prune.proofs.Removing.{by-answer, chain-cases, lost-from, pruned-removes, pruned-keeps_roots}
@@ -117,7 +117,7 @@ through next (suc i) n p k along r =
 
 -- Roots.
 
--- what a redirect after pruning was: one already, or a root of whose chain a front was cut
+-- what a redirect after pruning was: one already, or a root of whose chain a prefix was cut
 data Led (w : Window) (horizon : ℕ) (slots : List Slot) (n k : ℕ) : Type 0 where
   before : slot_at slots n ≡ Some (Redirect k) → Led w horizon slots n k
   now : (chain : List ℕ) (cut : ℕ) → is_root slots n ≡ true → IsChain (has_aborted w) slots n chain → IsCutCount w horizon slots chain cut → 0 < cut → cut < length chain
@@ -148,25 +148,25 @@ led-by w horizon slots after n k p at =
     let made : made_by a ≡ Redirect k = same_Some (made_by a) (Redirect k) (sym (each.is ∙ ap (acted (slot_at slots n)) some) ∙ at) in
     does each.answer a each.does some (made-redirect a k made))
   where
-    does : (o : Option Action) (a : Action) → Does w horizon slots n o → o ≡ Some a → a ≡ action.Redirect k → Led w horizon slots n k
+    does : (o : Option Action) (a : Action) → PrunesSlot w horizon slots n o → o ≡ Some a → a ≡ action.Redirect k → Led w horizon slots n k
     does o a (by_root root chain cut i c e) is to =
         chain-cases root cut n chain a (sym e ∙ is)
         (λ same act. leads-now w horizon slots n k cut chain (slice_get chain cut) (ap (is_root slots) same ∙ i.starts)
         (subst (λ r. IsChain (has_aborted w) slots r chain) (sym same) i.is_chain) c refl (act ∙ ap Some to))
-        (λ other front unuse. absurd (let f : action.Unuse ≡ action.Redirect k = sym unuse ∙ to in cc))
+        (λ other prefix unuse. absurd (let f : action.Unuse ≡ action.Redirect k = sym unuse ∙ to in cc))
     does o a (by_none l e) is to = absurd (let f : action.Unuse ≡ action.Redirect k = sym (lost-from w slots n a (sym e ∙ is)).0 ∙ to in cc)
 
 -- what an entry led to before
 record Entered (w : Window) (slots : List Slot) (root entry : ℕ) : Type 0 where
   first : ℕ
-  leads : entry_of slots root ≡ Some first
+  leads : chain_start_of slots root ≡ Some first
   later : Reaches (link w slots) first entry
 
-entered : (w : Window) (horizon : ℕ) (slots after : List Slot) (root e : ℕ) → SoundPage w horizon slots → IsPruned w horizon slots after → entry_of after root ≡ Some e → Entered w slots root e
+entered : (w : Window) (horizon : ℕ) (slots after : List Slot) (root e : ℕ) → SoundPage w horizon slots → IsPruned w horizon slots after → chain_start_of after root ≡ Some e → Entered w slots root e
 entered w horizon slots after root e sound p leads = by (slot_at after root) refl leads
   where
     led : (k : ℕ) → Led w horizon slots root k → Entered w slots root k
-    led k (Led.before at) = record { first = k; leads = ap (entry_in root) at; later = record { turns = 0; along = refl } }
+    led k (Led.before at) = record { first = k; leads = ap (chain_start_in root) at; later = record { turns = 0; along = refl } }
     led k (Led.now chain cut starts c count some within is) =
         let h : 0 < length chain = omega arith in
         let first = sym c.start ∙ slice_get-get_or chain 0 0 h in
@@ -176,12 +176,12 @@ entered w horizon slots after root e sound p leads = by (slot_at after root) ref
           later = subst (λ x. Reaches (link w slots) (get_or chain 0 0) x) is (reaches-places w slots root chain 0 cut c (omega arith) within);
         }
 
-    by : (o : Option Slot) → slot_at after root ≡ o → entry_in root o ≡ Some e → Entered w slots root e
+    by : (o : Option Slot) → slot_at after root ≡ o → chain_start_in root o ≡ Some e → Entered w slots root e
     by None at f = absurd (cc)
     by (Some Unused) at f = absurd (cc)
     by (Some (Normal t)) at f =
         let kept = version-kept w horizon slots after root t sound p (version_at-from_slot_at after root t at) in
-        record { first = e; leads = ap (entry_in root) (slot_at-from_version_at slots root t kept.0) ∙ f; later = record { turns = 0; along = refl } }
+        record { first = e; leads = ap (chain_start_in root) (slot_at-from_version_at slots root t kept.0) ∙ f; later = record { turns = 0; along = refl } }
     by (Some (Redirect k)) at f = subst (Entered w slots root) (same_Some k e f) (led k (led-by w horizon slots after root k p at))
     by (Some Dead) at f = absurd (cc)
 
@@ -207,10 +207,10 @@ rooted : (w : Window) (horizon : ℕ) (slots after : List Slot) (root : ℕ) →
 rooted w horizon slots after root sound p starts =
     let each = p.each root (root-there slots root starts) in
     let own = chain-exists (has_aborted w) slots root sound.few in
-    let of : IsOf (has_aborted w) slots root own.chain root = record { starts = starts; is_chain = own.is; holds = inl refl } in
+    let of : IsInChainOf (has_aborted w) slots root own.chain root = record { starts = starts; is_chain = own.is; holds = inl refl } in
     by own.chain of each.answer each.does each.is
   where
-    by : (own : List ℕ) → IsOf (has_aborted w) slots root own root → (o : Option Action) → Does w horizon slots root o → slot_at after root ≡ acted (slot_at slots root) o → Rooted w horizon slots after root
+    by : (own : List ℕ) → IsInChainOf (has_aborted w) slots root own root → (o : Option Action) → PrunesSlot w horizon slots root o → slot_at after root ≡ acted (slot_at slots root) o → Rooted w horizon slots after root
     by own of o (by_none l e) is = absurd (of-not_loose (has_aborted w) slots root root own of l)
     by own of o (by_root other chain cut i c e) is =
         let one : other ≡ root = of-one (has_aborted w) slots other root root chain own (sound-unshared w horizon slots sound) i of in
@@ -224,11 +224,11 @@ rooted w horizon slots after root sound p starts =
         }
 
 entry-after : (w : Window) (horizon : ℕ) (slots after : List Slot) (root cut : ℕ) (chain : List ℕ) → is_root slots root ≡ true → IsChain (has_aborted w) slots root chain
-    → cut < length chain → slot_at after root ≡ acted (slot_at slots root) (root_action cut (slice_get chain cut)) → entry_of after root ≡ Some (get_or chain cut 0)
+    → cut < length chain → slot_at after root ≡ acted (slot_at slots root) (root_action cut (slice_get chain cut)) → chain_start_of after root ≡ Some (get_or chain cut 0)
 entry-after w horizon slots after root zero chain starts c within is =
-    ap (entry_in root) is ∙ first-entry slots root (get_or chain 0 0) starts (sym c.start ∙ slice_get-get_or chain 0 0 within)
+    ap (chain_start_in root) is ∙ first-entry slots root (get_or chain 0 0) starts (sym c.start ∙ slice_get-get_or chain 0 0 within)
 entry-after w horizon slots after root (suc cut) chain starts c within is =
-    ap (entry_in root) (is ∙ ap (λ (o : Option ℕ). acted (slot_at slots root) (root_action (suc cut) o)) (slice_get-get_or chain (suc cut) 0 within))
+    ap (chain_start_in root) (is ∙ ap (λ (o : Option ℕ). acted (slot_at slots root) (root_action (suc cut) o)) (slice_get-get_or chain (suc cut) 0 within))
 
 -- what is kept of a chain stays in the chain of the same root
 in-after : (w : Window) (horizon : ℕ) (slots after : List Slot) (root n : ℕ) → SoundPage w horizon slots → IsPruned w horizon slots after → IsIn w slots root n
@@ -240,7 +240,7 @@ in-after w horizon slots after root n sound p i uncut =
     let later = exact w horizon slots root r.chain 0 i.later.turns n sound r.is_chain first.0 (subst (λ k. ReachesIn (link w slots) i.later.turns k n) (sym first.1) i.later.along) in
     let place : ℕ = 0 + i.later.turns in
     let le : r.cut ≤ place = ⊎_elim
-    (λ lt. absurd (uncut (subst (IsCut w horizon slots) (sym later.is) (front-cut w horizon slots root r.chain r.cut place r.is_chain r.count lt))))
+    (λ lt. absurd (uncut (subst (IsCut w horizon slots) (sym later.is) (prefix-cut w horizon slots root r.chain r.cut place r.is_chain r.count lt))))
     (λ ge. ge) (cases_lt place r.cut) in
     let within : place < length r.chain = later.within in
     let below : r.cut < length r.chain = omega arith in
@@ -287,7 +287,7 @@ target-kept : (w : Window) (horizon : ℕ) (slots after : List Slot) (n k : ℕ)
     → slot_at slots n ≡ Some (Redirect k) → slot_at after n ≡ Some (Redirect k) → IsTarget w horizon after k
 target-kept w horizon slots after n k sound p at still =
     let old = sound.redirects n k at in
-    let e : entry_of slots n ≡ Some k = ap (entry_in n) at in
+    let e : chain_start_of slots n ≡ Some k = ap (chain_start_in n) at in
     let starts = entry-root slots n k e in
     let r = rooted w horizon slots after n sound p starts in
     let first = chain-first (has_aborted w) slots n k r.chain r.is_chain (entry-first w horizon slots n k sound e) in
@@ -306,13 +306,13 @@ target-kept w horizon slots after n k sound p at still =
         (λ ge. uncut-place w horizon slots n chain cut 0 sound c count ge some)
         (cases_lt 0 cut)
       where
-        elsewhere : (front : ℕ) (o : Option ℕ) → 0 < front → slice_get chain front ≡ o → acted (slot_at slots n) (root_action front o) ≡ Some (Redirect k) → ⊥
+        elsewhere : (prefix : ℕ) (o : Option ℕ) → 0 < prefix → slice_get chain prefix ≡ o → acted (slot_at slots n) (root_action prefix o) ≡ Some (Redirect k) → ⊥
         elsewhere zero o lt at_front e = absurd (omega arith)
-        elsewhere (suc front) None lt at_front e = absurd (let f : Some Dead ≡ Some (Redirect k) = e in cc)
-        elsewhere (suc front) (Some j) lt at_front e =
+        elsewhere (suc prefix) None lt at_front e = absurd (let f : Some Dead ≡ Some (Redirect k) = e in cc)
+        elsewhere (suc prefix) (Some j) lt at_front e =
             let f : Some (Redirect j) ≡ Some (Redirect k) = e in
             let same : j ≡ k = cc in
-            front-target n (suc front) k k chain (Some j) c.distinct (slice_get-get_or chain 0 0 some ∙ ap Some first) at_front
+            prefix-target n (suc prefix) k k chain (Some j) c.distinct (slice_get-get_or chain 0 0 some ∙ ap Some first) at_front
             (ap (λ x. Some (action.Redirect x)) same) refl
 
 target-after : (w : Window) (horizon : ℕ) (slots after : List Slot) (n k : ℕ) → SoundPage w horizon slots → IsPruned w horizon slots after
@@ -365,7 +365,7 @@ either : (b : Bool) (o p : Option Action) → o ≡ None → p ≡ None → (if 
 either true o p e f = e
 either false o p e f = f
 
-pub idle : (w : Window) (horizon : ℕ) (slots : List Slot) (n : ℕ) (o : Option Action) → ((k : ℕ) → ¬ IsDeadAt w horizon slots k) → Does w horizon slots n o → o ≡ None
+pub idle : (w : Window) (horizon : ℕ) (slots : List Slot) (n : ℕ) (o : Option Action) → ((k : ℕ) → ¬ IsDeadAt w horizon slots k) → PrunesSlot w horizon slots n o → o ≡ None
 idle w horizon slots n o none (by_root root chain cut i c e) =
     let zero_is : cut ≡ 0 = ⊎_elim (λ lt. absurd (none (get_or chain (cut - 1) 0) (c.dead lt))) (λ ge. omega arith) (cases_lt 0 cut) in
     e ∙ either (n == root) (root_action cut (slice_get chain cut)) (if list_any (nat_eq n) (take cut chain) then Some action.Unuse else None) (root-kept cut (slice_get chain cut) zero_is) (take-none cut n chain zero_is)

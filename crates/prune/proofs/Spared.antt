@@ -15,7 +15,7 @@ use Rattle.prune.specs.declared.action.Action.{Action}
 use Rattle.prune.specs.declared.action.Action.TheVariants as action
 use Rattle.sound_page.specs.Dead.{IsDeadAt}
 use Rattle.prune.specs.Cutting.{IsCutCount, IsCut}
-use Rattle.prune.specs.Pruning.{root_action, chain_action, loose_in, loose_action, IsOf, Does, by_root, by_none, IsPruned}
+use Rattle.prune.specs.Pruning.{root_action, chain_action, loose_in, orphan_action, IsInChainOf, PrunesSlot, by_root, by_none, IsPruned}
 use Rattle.sound_page.specs.Sound.{SoundPage}
 use Rattle.sound_page.proofs.Links.{version-there}
 use Rattle.sound_page.proofs.ChainPlaces.{place-of, in_front-place, first-normal, chain-first}
@@ -44,7 +44,7 @@ pub record IsPlace (chain : List ℕ) (cut n : ℕ) : Type 0 where
   pub is : get_or chain place 0 ≡ n
 
 -- a version to which nothing is done comes after what is cut
-spared-place : (aborted : ℕ → Bool) (slots : List Slot) (root cut n : ℕ) (chain : List ℕ) (t : Version) → version_at slots n ≡ Some t → IsOf aborted slots root chain n → cut ≤ length chain
+spared-place : (aborted : ℕ → Bool) (slots : List Slot) (root cut n : ℕ) (chain : List ℕ) (t : Version) → version_at slots n ≡ Some t → IsInChainOf aborted slots root chain n → cut ≤ length chain
     → chain_action root chain cut n ≡ None → IsPlace chain cut n
 spared-place aborted slots root cut n chain t at o within none = ⊎_elim
     (λ yes_root.
@@ -58,8 +58,8 @@ spared-place aborted slots root cut n chain t at o within none = ⊎_elim
     let p = place-of n chain holds in
     ⊎_elim
     (λ lt.
-    let front = in_front-place n cut p.0 chain within lt p.2 in
-    let e = sym (cond-true (list_any (nat_eq n) (take cut chain)) (Some action.Unuse) None front)
+    let prefix = in_front-place n cut p.0 chain within lt p.2 in
+    let e = sym (cond-true (list_any (nat_eq n) (take cut chain)) (Some action.Unuse) None prefix)
     ∙ sym (cond-false (n == root) (root_action cut (slice_get chain cut)) (if list_any (nat_eq n) (take cut chain) then Some action.Unuse else None) other) ∙ none in
     absurd (cc))
     (λ ge. record { place = p.0; after = ge; within = p.1; is = p.2 })
@@ -71,7 +71,7 @@ thaw : (h : Header) → ¬ IsFrozen h → is_frozen h ≡ false
 thaw h never = ⊎_elim (λ t. absurd (never t)) (λ f. f) (cases_Bool (is_frozen h))
 
 lost-some : (w : Window) (slots : List Slot) (n : ℕ) (t : Version) → version_at slots n ≡ Some t → is_heap_only t.header ≡ true → ¬ IsFrozen t.header → IsAborted w t.header.xmin.0
-    → loose_action w slots n ≡ Some action.Unuse
+    → orphan_action w slots n ≡ Some action.Unuse
 lost-some w slots n t at heap_only thawed aborted =
     ap (loose_in w) (ap (option_map (λ v. v.header)) at) ∙ three (is_heap_only t.header) (is_frozen t.header) (has_aborted w t.header.xmin.0) heap_only (thaw t.header thawed) (aborted-has w t.header.xmin.0 aborted)
   where
@@ -89,7 +89,7 @@ version-kept w horizon slots after n t sound p at =
     let none = (acted-version (slot_at slots n) (slot_at after n) each.answer t each.is at).0 in
     (old, by each.answer old each.does none)
   where
-    by : (o : Option Action) → version_at slots n ≡ Some t → Does w horizon slots n o → o ≡ None → ¬ IsCut w horizon slots n
+    by : (o : Option Action) → version_at slots n ≡ Some t → PrunesSlot w horizon slots n o → o ≡ None → ¬ IsCut w horizon slots n
     by o old (by_root root chain cut i c e) none =
         let s = spared-place (has_aborted w) slots root cut n chain t old i c.within (sym e ∙ none) in
         subst (λ k. ¬ IsCut w horizon slots k) s.is (uncut-place w horizon slots root chain cut s.place sound i.is_chain c s.after s.within)

@@ -3,7 +3,7 @@ use Rattle.std.proofs.Common.{◌≡◌, ℕ, suc, ◌-◌, ◌<◌, List, [], �
 use Rattle.std.proofs.lemmas.Bool.{cases_lt}
 use Rattle.std.proofs.lemmas.Option.{slice_get_past, same_Some}
 use Rattle.page_slots.specs.declared.slot.Slot.{Slot}
-use Rattle.page_slots.specs.Slots.{slot_at, IsThere}
+use Rattle.page_slots.specs.Slots.{slot_at, SlotIsThere}
 use Rattle.commit_status.specs.Window.{Window}
 use Rattle.hot_chain.specs.Chain.{has_aborted, IsChain}
 use Rattle.hot_chain.proofs.Chains.{chain-one}
@@ -11,7 +11,7 @@ use Rattle.prune.specs.declared.action.Action.{Action}
 use Rattle.prune.specs.Cutting.{IsCutCount}
 use Rattle.sound_page.specs.Links.{NoSharedSlots}
 use Rattle.prune.specs.Actions.{acted}
-use Rattle.prune.specs.Pruning.{chain_action, IsOf, Does, by_root, by_none, IsPruned}
+use Rattle.prune.specs.Pruning.{chain_action, IsInChainOf, PrunesSlot, by_root, by_none, IsPruned}
 use Rattle.prune.proofs.CutPlaces.{of-one, of-not_loose}
 
 not-more : (w : Window) (horizon : ℕ) (slots : List Slot) (chain : List ℕ) (a b : ℕ) → IsCutCount w horizon slots chain a → IsCutCount w horizon slots chain b → ¬ (a < b)
@@ -24,7 +24,7 @@ count-one w horizon slots chain a b x y = ⊎_elim (λ lt. absurd (not-more w ho
 
 -- a root of the slot, its chain and what is cut of it say what becomes of it
 pub does-by : (w : Window) (horizon : ℕ) (slots : List Slot) (n root cut : ℕ) (chain : List ℕ) (o : Option Action) → NoSharedSlots (has_aborted w) slots
-    → IsOf (has_aborted w) slots root chain n → IsCutCount w horizon slots chain cut → Does w horizon slots n o → o ≡ chain_action root chain cut n
+    → IsInChainOf (has_aborted w) slots root chain n → IsCutCount w horizon slots chain cut → PrunesSlot w horizon slots n o → o ≡ chain_action root chain cut n
 does-by w horizon slots n root cut chain o apart i c (by_root other others_chain others_cut j d e) =
     let one : other ≡ root = of-one (has_aborted w) slots other root n others_chain chain apart j i in
     let chains : others_chain ≡ chain = chain-one (has_aborted w) slots root others_chain chain (subst (λ r. IsChain (has_aborted w) slots r others_chain) one j.is_chain) i.is_chain in
@@ -33,7 +33,7 @@ does-by w horizon slots n root cut chain o apart i c (by_root other others_chain
 does-by w horizon slots n root cut chain o apart i c (by_none l e) = absurd (of-not_loose (has_aborted w) slots root n chain i l)
 
 pub does-one : (w : Window) (horizon : ℕ) (slots : List Slot) (n : ℕ) (a b : Option Action) → NoSharedSlots (has_aborted w) slots
-    → Does w horizon slots n a → Does w horizon slots n b → a ≡ b
+    → PrunesSlot w horizon slots n a → PrunesSlot w horizon slots n b → a ≡ b
 does-one w horizon slots n a b apart (by_root root chain cut i c e) y = e ∙ sym (does-by w horizon slots n root cut chain b apart i c y)
 does-one w horizon slots n a b apart (by_none l e) (by_root root chain cut i c f) = absurd (of-not_loose (has_aborted w) slots root n chain i l)
 does-one w horizon slots n a b apart (by_none l e) (by_none k f) = e ∙ sym f
@@ -45,7 +45,7 @@ same-slots (x ∷ xs) [] e = absurd (let h = e 0 in cc h)
 same-slots (x ∷ xs) (y ∷ ys) e = ap₂ (λ (z : Slot) (zs : List Slot). z ∷ zs) (same_Some x y (e 0)) (same-slots xs ys (λ i. e (suc i)))
 
 -- slots that are the same as far as there are any
-pub same-by_slots : (slots a b : List Slot) → length a ≡ length slots → length b ≡ length slots → ((n : ℕ) → IsThere slots n → slot_at a n ≡ slot_at b n) → a ≡ b
+pub same-by_slots : (slots a b : List Slot) → length a ≡ length slots → length b ≡ length slots → ((n : ℕ) → SlotIsThere slots n → slot_at a n ≡ slot_at b n) → a ≡ b
 same-by_slots slots a b long longs e = same-slots a b (λ i. ⊎_elim
     (λ lt. e (suc i) ((omega arith), (omega arith)))
     (λ ge. slice_get_past a i (omega arith) ∙ sym (slice_get_past b i (omega arith)))

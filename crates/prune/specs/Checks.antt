@@ -1,4 +1,4 @@
--- A plan that may be applied, whoever made it, and when: it cuts of each chain a front that pruning would cut now, or less.
+-- A plan that may be applied, whoever made it, and when: it cuts of each chain a prefix that pruning would cut now, or less.
 use Rattle.std.specs.Prelude.{◌≡◌, ◌↔◌, ℕ, ◌<◌, ◌≤◌, true, List, length, Option, Some, IsSome, slice_get, slice_index}
 use Rattle.page_slots.specs.declared.slot.Slot.{Slot}
 use Rattle.page_slots.specs.Slots.{header_at}
@@ -11,7 +11,7 @@ use Rattle.prune.specs.declared.action.Action.{Action}
 use Rattle.prune.specs.declared.action.Action.TheVariants as action
 use Rattle.sound_page.specs.Dead.{IsDeadAt}
 use Rattle.prune.specs.Actions.{AreInOrder, action_of}
-use Rattle.prune.specs.Pruning.{root_action, loose_action, IsOf, IsLoose}
+use Rattle.prune.specs.Pruning.{root_action, orphan_action, IsInChainOf, IsLoose}
 
 -- the version at this place of a chain, or a later one of the chain, is dead
 abbrev pub IsCutIn : Window → ℕ → List Slot → List ℕ → ℕ → Type 0
@@ -19,24 +19,24 @@ IsCutIn w horizon slots chain i = (j : ℕ) × (i ≤ j) × (j < length chain) �
 
 -- What a plan does to a root and its chain: the slots named are its first so many, pruning would cut them too, and they become
 -- what goes with the first that is kept. Where there are none, the root isn't named.
-pub record IsFront (w : Window) (horizon : ℕ) (slots : List Slot) (named : ℕ → Option Action) (root : ℕ) (chain : List ℕ) (front : ℕ) : Type 0 where
-  pub within : front ≤ length chain
-  pub removed : (i : ℕ) → i < length chain → IsSome (named (slice_index chain i)) ↔ (i < front)
-  pub cut : (i : ℕ) → i < front → IsCutIn w horizon slots chain i
-  pub unused : (i : ℕ) (h : Header) → i < front → header_at slots (slice_index chain i) ≡ Some h → is_heap_only h ≡ true
+pub record IsFront (w : Window) (horizon : ℕ) (slots : List Slot) (named : ℕ → Option Action) (root : ℕ) (chain : List ℕ) (prefix : ℕ) : Type 0 where
+  pub within : prefix ≤ length chain
+  pub removed : (i : ℕ) → i < length chain → IsSome (named (slice_index chain i)) ↔ (i < prefix)
+  pub cut : (i : ℕ) → i < prefix → IsCutIn w horizon slots chain i
+  pub unused : (i : ℕ) (h : Header) → i < prefix → header_at slots (slice_index chain i) ≡ Some h → is_heap_only h ≡ true
       → named (slice_index chain i) ≡ Some action.Unuse
-  pub leads : named root ≡ root_action front (slice_get chain front)
+  pub leads : named root ≡ root_action prefix (slice_get chain prefix)
 
 abbrev pub HasFront : Window → ℕ → List Slot → (ℕ → Option Action) → ℕ → Type 0
-HasFront w horizon slots named root = (chain : List ℕ) → IsChain (has_aborted w) slots root chain → (front : ℕ) × IsFront w horizon slots named root chain front
+HasFront w horizon slots named root = (chain : List ℕ) → IsChain (has_aborted w) slots root chain → (prefix : ℕ) × IsFront w horizon slots named root chain prefix
 
 -- a slot named is a root or in the chain of one; every other holds an aborted heap-only version, and becomes unused
 pub data IsAccounted (w : Window) (slots : List Slot) (n : ℕ) (a : Action) : Type 0 where
-  of_root : (root : ℕ) (chain : List ℕ) → IsOf (has_aborted w) slots root chain n → IsAccounted w slots n a
-  lost : IsLoose (has_aborted w) slots n → loose_action w slots n ≡ Some a → IsAccounted w slots n a
+  of_root : (root : ℕ) (chain : List ℕ) → IsInChainOf (has_aborted w) slots root chain n → IsAccounted w slots n a
+  lost : IsLoose (has_aborted w) slots n → orphan_action w slots n ≡ Some a → IsAccounted w slots n a
 
 pub record Checks (w : Window) (horizon : ℕ) (page : PageView) (change : ℕ) (actions : List (ℕ × Action)) : Type 0 where
   pub same_change : change ≡ page.change
   pub in_order : AreInOrder (length page.slots) 0 actions
-  pub fronts : (root : ℕ) → is_root page.slots root ≡ true → HasFront w horizon page.slots (action_of actions) root
+  pub prefixes : (root : ℕ) → is_root page.slots root ≡ true → HasFront w horizon page.slots (action_of actions) root
   pub others : (n : ℕ) (a : Action) → action_of actions n ≡ Some a → IsAccounted w page.slots n a

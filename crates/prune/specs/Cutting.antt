@@ -1,5 +1,5 @@
--- What pruning cuts: of a chain the front, up to and with the last dead version. (README.HOT, "Pruning"; the manual's
--- "Heap-Only Tuples": what no transaction can see any more may be taken from the front of a chain, since a reader who sees
+-- What pruning cuts: of a chain the prefix, up to and with the last dead version. (README.HOT, "Pruning"; the manual's
+-- "Heap-Only Tuples": what no transaction can see any more may be taken from the prefix of a chain, since a reader who sees
 -- a version deleted goes on to the next.)
 use Rattle.std.specs.Prelude.{◌≡◌, ℕ, ◌-◌, ◌<◌, ◌≤◌, ◌⊎◌, List, length, Some, slice_index}
 use Rattle.page_slots.specs.declared.slot.Slot.{Slot}
@@ -26,6 +26,6 @@ pub record IsCut (w : Window) (horizon : ℕ) (slots : List Slot) (n : ℕ) : Ty
   pub dead : IsDeadAt w horizon slots last
 
 -- Versions go, and none comes or moves; each that goes is cut.
-pub record Removes (w : Window) (horizon : ℕ) (slots after : List Slot) : Type 0 where
+pub record RemovesVersions (w : Window) (horizon : ℕ) (slots after : List Slot) : Type 0 where
   pub kept : (n : ℕ) (t : Version) → version_at after n ≡ Some t → version_at slots n ≡ Some t
   pub gone : (n : ℕ) (t : Version) → version_at slots n ≡ Some t → (version_at after n ≡ Some t) ⊎ IsCut w horizon slots n

@@ -10,9 +10,9 @@ use Rattle.prune.specs.declared.action.Action.{Action}
 use Rattle.prune.specs.declared.action.Action.TheVariants as action
 use Rattle.prune.specs.Actions.{applied, action_of, raised}
 use Rattle.sound_page.specs.Dead.{IsDeadAt}
-use Rattle.prune.specs.Cutting.{Removes}
+use Rattle.prune.specs.Cutting.{RemovesVersions}
 use Rattle.sound_page.specs.Links.{NoSharedSlots}
-use Rattle.prune.specs.Pruning.{Does, IsPlan, IsPruned}
+use Rattle.prune.specs.Pruning.{PrunesSlot, IsPlan, IsPruned}
 use Rattle.prune.specs.Checks.{Checks}
 use Rattle.sound_page.specs.Readers.{KeepsFound}
 use Rattle.sound_page.specs.Sound.{SoundPage, KeepsChains}
@@ -26,12 +26,12 @@ pub record IsPrunedPage (w : Window) (horizon : ℕ) (old new : PageView) : Type
 -- where no slot is in two chains, there is one answer for each slot
 abbrev pub PruningHasOneOutcome : Type 0
 PruningHasOneOutcome = (w : Window) (horizon : ℕ) (slots : List Slot) → NoSharedSlots (has_aborted w) slots
-    → ((n : ℕ) (a b : Option Action) → Does w horizon slots n a → Does w horizon slots n b → a ≡ b)
+    → ((n : ℕ) (a b : Option Action) → PrunesSlot w horizon slots n a → PrunesSlot w horizon slots n b → a ≡ b)
     × ((a b : List Slot) → IsPruned w horizon slots a → IsPruned w horizon slots b → a ≡ b)
 
 -- whatever goes from a sound page is found by nobody, as long as only what would be cut goes
 abbrev pub RemovingIsNeverSeen : Type 0
-RemovingIsNeverSeen = (w : Window) (horizon : ℕ) (slots after : List Slot) → SoundPage w horizon slots → Removes w horizon slots after → KeepsFound w horizon slots after
+RemovingIsNeverSeen = (w : Window) (horizon : ℕ) (slots after : List Slot) → SoundPage w horizon slots → RemovesVersions w horizon slots after → KeepsFound w horizon slots after
 
 abbrev pub PruningIsNeverSeen : Type 0
 PruningIsNeverSeen = (w : Window) (horizon : ℕ) (slots after : List Slot) → SoundPage w horizon slots → IsPruned w horizon slots after → KeepsFound w horizon slots after
@@ -50,7 +50,7 @@ PruningIsDoneOnce = (w : Window) (horizon : ℕ) (slots after again : List Slot)
 -- A plan that checks, whoever made it, removes only what would be cut; so from a sound page it takes nothing that anyone finds.
 abbrev pub CheckedIsNeverSeen : Type 0
 CheckedIsNeverSeen = (w : Window) (horizon : ℕ) (page : PageView) (change : ℕ) (actions : List (ℕ × Action)) → Checks w horizon page change actions
-    → Removes w horizon page.slots (applied actions page).slots
+    → RemovesVersions w horizon page.slots (applied actions page).slots
     × (SoundPage w horizon page.slots → KeepsFound w horizon page.slots (applied actions page).slots)
 
 -- Each slot that it names is changed, so it raises the change number by their number, modulo 2 ^ 64.

@@ -5,29 +5,29 @@ use Rattle.page_slots.specs.declared.slot.Slot.{Slot}
 use Rattle.commit_status.specs.Window.{Window}
 use Rattle.hot_chain.specs.Chain.{has_aborted, IsChain}
 use Rattle.prune.specs.declared.action.Action.{Action}
-use Rattle.prune.specs.declared.marks.Mark.{Mark}
-use Rattle.prune.specs.declared.marks.Mark.TheVariants.{Loose, Kept, Goes}
+use Rattle.prune.specs.declared.marks.PruneVerdict.{PruneVerdict}
+use Rattle.prune.specs.declared.marks.PruneVerdict.TheVariants.{Orphan, Kept, Goes}
 use Rattle.sound_page.specs.Dead.{IsDeadAt}
 use Rattle.prune.specs.Cutting.{IsCutCount}
-use Rattle.prune.specs.Pruning.{IsOf, IsLoose, chain_action, loose_action}
+use Rattle.prune.specs.Pruning.{IsInChainOf, IsLoose, chain_action, orphan_action}
 
 -- all are numbers that a slot may have
 abbrev pub AreNumbers : List ℕ → Type 0
 AreNumbers numbers = (i : ℕ) → i < length numbers → slice_index numbers i < 292
 
 -- of a slot that is held by a chain, to which this is done, if anything
-abbrev pub mark_of : Option Action → Mark
-mark_of None = Kept
-mark_of (Some a) = Goes a
+abbrev pub verdict_of : Option Action → PruneVerdict
+verdict_of None = Kept
+verdict_of (Some a) = Goes a
 
-abbrev pub mark_at : List Mark → ℕ → Mark
-mark_at marks n = slice_index_or marks n Loose
+abbrev pub mark_at : List PruneVerdict → ℕ → PruneVerdict
+mark_at marks n = slice_index_or marks n Orphan
 
 -- what stands for a slot after the walk along one root's chain
-abbrev pub marked : ℕ → List ℕ → ℕ → ℕ → Mark → Mark
-marked root chain cut n old = if n == root || list_any (nat_eq n) chain then mark_of (chain_action root chain cut n) else old
+abbrev pub marked : ℕ → List ℕ → ℕ → ℕ → PruneVerdict → PruneVerdict
+marked root chain cut n old = if n == root || list_any (nat_eq n) chain then verdict_of (chain_action root chain cut n) else old
 
-pub record MarksChain (w : Window) (horizon : ℕ) (slots : List Slot) (root : ℕ) (before after : List Mark) : Type 0 where
+pub record MarksChain (w : Window) (horizon : ℕ) (slots : List Slot) (root : ℕ) (before after : List PruneVerdict) : Type 0 where
   pub chain : List ℕ
   pub cut : ℕ
   pub is_chain : IsChain (has_aborted w) slots root chain
@@ -40,13 +40,13 @@ pub record IsSingle (w : Window) (horizon : ℕ) (slots : List Slot) (root start
   pub is_dead : IsTrue dead ↔ IsDeadAt w horizon slots start
 
 -- a mark is right: of a slot of a root's chain, or of a root, it says what becomes of it
-pub data IsMark (w : Window) (horizon : ℕ) (slots : List Slot) (n : ℕ) (mark : Mark) : Type 0 where
-  held : (root : ℕ) (chain : List ℕ) (cut : ℕ) → IsOf (has_aborted w) slots root chain n → IsCutCount w horizon slots chain cut
-      → mark ≡ mark_of (chain_action root chain cut n) → IsMark w horizon slots n mark
-  loose : IsLoose (has_aborted w) slots n → mark ≡ Loose → IsMark w horizon slots n mark
+pub data IsVerdict (w : Window) (horizon : ℕ) (slots : List Slot) (n : ℕ) (mark : PruneVerdict) : Type 0 where
+  held : (root : ℕ) (chain : List ℕ) (cut : ℕ) → IsInChainOf (has_aborted w) slots root chain n → IsCutCount w horizon slots chain cut
+      → mark ≡ verdict_of (chain_action root chain cut n) → IsVerdict w horizon slots n mark
+  loose : IsLoose (has_aborted w) slots n → mark ≡ Orphan → IsVerdict w horizon slots n mark
 
 -- what becomes of a slot with this mark
-abbrev pub planned : Window → List Slot → ℕ → Mark → Option Action
+abbrev pub planned : Window → List Slot → ℕ → PruneVerdict → Option Action
 planned w slots n Kept = None
 planned w slots n (Goes a) = Some a
-planned w slots n Loose = loose_action w slots n
+planned w slots n Orphan = orphan_action w slots n

@@ -6,9 +6,9 @@ use Rattle.tuple_header.specs.declared.version.Header.{Header}
 use Rattle.tuple_header.specs.Marks.{is_heap_only}
 use Rattle.commit_status.specs.Window.{Window}
 use Rattle.prune.specs.declared.action.Action.{Action}
-use Rattle.prune.specs.declared.marks.Mark.{Mark}
-use Rattle.prune.specs.declared.marks.Mark.TheVariants.{Loose}
-use Rattle.prune.specs.Pruning.{loose_action}
+use Rattle.prune.specs.declared.marks.PruneVerdict.{PruneVerdict}
+use Rattle.prune.specs.declared.marks.PruneVerdict.TheVariants.{Orphan}
+use Rattle.prune.specs.Pruning.{orphan_action}
 use Rattle.prune.specs.Marks.{mark_at}
 use Rattle.prune.specs.declared.action.Action.TheVariants as action
 
@@ -16,15 +16,15 @@ abbrev pub named_at : List (Option Action) → ℕ → Option Action
 named_at named n = slice_index_or named n None
 
 -- the first so many of these slots are named, and the next one isn't
-pub record IsNamedFront (named : List (Option Action)) (numbers : List ℕ) (front : ℕ) : Type 0 where
-  pub within : front ≤ length numbers
-  pub all : (i : ℕ) → i < front → IsSome (named_at named (slice_index numbers i))
-  pub next : front < length numbers → named_at named (slice_index numbers front) ≡ None
+pub record IsNamedFront (named : List (Option Action)) (numbers : List ℕ) (prefix : ℕ) : Type 0 where
+  pub within : prefix ≤ length numbers
+  pub all : (i : ℕ) → i < prefix → IsSome (named_at named (slice_index numbers i))
+  pub next : prefix < length numbers → named_at named (slice_index numbers prefix) ≡ None
 
 -- where it holds a heap-only version, the slot becomes unused
 abbrev pub BecomesUnused : List Slot → List (Option Action) → ℕ → Type 0
 BecomesUnused slots named n = (h : Header) → header_at slots n ≡ Some h → is_heap_only h ≡ true → named_at named n ≡ Some action.Unuse
 
 -- where no chain reaches the slot and it is named, what is done to it is what pruning does
-abbrev pub IsLooseRight : Window → List Slot → List Mark → List (Option Action) → ℕ → Type 0
-IsLooseRight w slots marks named n = mark_at marks n ≡ Loose → (a : Action) → named_at named n ≡ Some a → loose_action w slots n ≡ Some a
+abbrev pub IsLooseRight : Window → List Slot → List PruneVerdict → List (Option Action) → ℕ → Type 0
+IsLooseRight w slots marks named n = mark_at marks n ≡ Orphan → (a : Action) → named_at named n ≡ Some a → orphan_action w slots n ≡ Some a

@@ -3,7 +3,7 @@
 ghost use Rattle.std.specs.Prelude.{◌≡◌, length, ℕ};
 ghost use Rattle.hot_chain.specs.Chain.{has_aborted};
 ghost use Rattle.prune.specs.Actions.{CanDo, CanApply, after_action, applied};
-ghost use Rattle.prune.specs.Cutting.{Removes};
+ghost use Rattle.prune.specs.Cutting.{RemovesVersions};
 ghost use Rattle.sound_page.specs.Links.{NoSharedSlots};
 ghost use Rattle.sound_page.specs.Dead.{IsDeadAt};
 ghost use Rattle.prune.specs.Pruning.{IsPruned};
@@ -59,10 +59,13 @@ fn prune_by_chains(page: &mut Page, table: &StatusTable, horizon: Xid)
 pub fn prune(page: &mut Page, table: &StatusTable, horizon: Xid)
     ensures by_plan { IsPrunedPage table.now horizon.0 page.old page.new }
     ensures pruned { IsPruned table.now horizon.0 page.old.slots page.new.slots }
-    ensures removes { Removes table.now horizon.0 page.old.slots page.new.slots }
-    ensures roots { NoSharedSlots (has_aborted table.now) page.old.slots → KeepsRoots page.old.slots page.new.slots }
-    ensures never_seen { SoundPage table.now horizon.0 page.old.slots → KeepsFound table.now horizon.0 page.old.slots page.new.slots }
-    ensures none_dead { SoundPage table.now horizon.0 page.old.slots → (n : ℕ) → ¬ IsDeadAt table.now horizon.0 page.new.slots n }
+    ensures removes { RemovesVersions table.now horizon.0 page.old.slots page.new.slots }
+    ensures roots { NoSharedSlots (has_aborted table.now) page.old.slots
+        → KeepsRoots page.old.slots page.new.slots }
+    ensures never_seen { SoundPage table.now horizon.0 page.old.slots
+        → KeepsFound table.now horizon.0 page.old.slots page.new.slots }
+    ensures none_dead { SoundPage table.now horizon.0 page.old.slots → (n : ℕ)
+        → ¬ IsDeadAt table.now horizon.0 page.new.slots n }
     ensures flag { page.new.flag ≡ page.old.flag }
     ensures spare { page.new.spare ≡ page.old.spare }
 {

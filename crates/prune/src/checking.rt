@@ -3,14 +3,14 @@
 ghost use Rattle.std.specs.Prelude.{◌≡◌, ◌≤◌, ◌<◌, ◌↔◌, ℕ, IsTrue, None, Some, true, length, slice_index};
 ghost use Rattle.hot_chain.specs.Chain.{is_root};
 ghost use Rattle.prune.specs.Actions.{AreInOrder, CanApply, action_of};
-ghost use Rattle.prune.specs.Pruning.{loose_action};
+ghost use Rattle.prune.specs.Pruning.{orphan_action};
 ghost use Rattle.prune.specs.Marks.{AreNumbers};
 ghost use Rattle.prune.specs.Checks.{HasFront, Checks};
 ghost use Rattle.prune.specs.Named.{named_at, IsNamedFront, BecomesUnused, IsLooseRight};
 
 use crate::action::{Action, PrunePlan};
-use crate::marks::{Mark, Marks, cut_count, mark_page, root_action};
-use crate::planning::loose_action;
+use crate::marks::{Marks, PruneVerdict, cut_count, mark_page, root_action};
+use crate::planning::orphan_action;
 use commit_status::StatusTable;
 use hot_chain::{chain, is_root};
 use page_slots::Page;
@@ -68,7 +68,9 @@ fn front_of(named: &Named, numbers: &[u16]) -> usize
 /// Whether none of these slots is named.
 fn are_unnamed(named: &Named, numbers: &[u16]) -> bool
     requires { AreNumbers numbers.now }
-    ensures { IsTrue result ↔ ((i : ℕ) → i < length numbers.now → named_at named.now (slice_index numbers.now i) ≡ None) }
+    ensures { IsTrue result
+        ↔
+        ((i : ℕ) → i < length numbers.now → named_at named.now (slice_index numbers.now i) ≡ None) }
 {
     for number in numbers {
         if named[usize::from(*number)].is_some() {
@@ -93,7 +95,10 @@ fn becomes_unused(page: &Page, named: &Named, number: u16) -> bool
 /// Whether each of these slots does so.
 fn become_unused(page: &Page, named: &Named, numbers: &[u16]) -> bool
     requires { AreNumbers numbers.now }
-    ensures { IsTrue result ↔ ((i : ℕ) → i < length numbers.now → BecomesUnused page.now.slots named.now (slice_index numbers.now i)) }
+    ensures { IsTrue result
+        ↔
+        ((i : ℕ) → i < length numbers.now
+        → BecomesUnused page.now.slots named.now (slice_index numbers.now i)) }
 {
     for number in numbers {
         if !becomes_unused(page, named, *number) {
@@ -110,30 +115,34 @@ fn are_same(a: Option<Action>, b: Option<Action>) -> bool
     a == b
 }
 
-/// Whether of a root's chain a front is named that pruning would cut too, and becomes what goes with the first that is kept.
+/// Whether of a root's chain a prefix is named that pruning would cut too, and becomes what goes with the first that is kept.
 fn has_front(page: &Page, named: &Named, root: u16, table: &StatusTable, horizon: Xid) -> bool
     requires number { root < 292 }
-    ensures { IsTrue result ↔ HasFront table.now horizon.0 page.now.slots (named_at named.now) root }
+    ensures { IsTrue result
+        ↔ HasFront table.now horizon.0 page.now.slots (named_at named.now) root }
 {
     let _limit = page.slots();
     let slots = chain(page, root, table);
     let numbers = slots.as_slice();
-    let front = front_of(named, numbers);
-    if !are_unnamed(named, &numbers[front..]) {
+    let prefix = front_of(named, numbers);
+    if !are_unnamed(named, &numbers[prefix..]) {
         return false;
     }
-    if !become_unused(page, named, &numbers[..front]) {
+    if !become_unused(page, named, &numbers[..prefix]) {
         return false;
     }
-    if cut_count(page, numbers, table, horizon) < front {
+    if cut_count(page, numbers, table, horizon) < prefix {
         return false;
     }
-    are_same(named[usize::from(root)], root_action(front, numbers))
+    are_same(named[usize::from(root)], root_action(prefix, numbers))
 }
 
-/// Whether each root's chain has such a front.
+/// Whether each root's chain has such a prefix.
 fn have_fronts(page: &Page, named: &Named, table: &StatusTable, horizon: Xid) -> bool
-    ensures { IsTrue result ↔ ((root : ℕ) → is_root page.now.slots root ≡ true → HasFront table.now horizon.0 page.now.slots (named_at named.now) root) }
+    ensures { IsTrue result
+        ↔
+        ((root : ℕ) → is_root page.now.slots root ≡ true
+        → HasFront table.now horizon.0 page.now.slots (named_at named.now) root) }
 {
     for root in 1..page.slots() + 1 {
         if is_root(page, root) && !has_front(page, named, root, table, horizon) {
@@ -144,24 +153,29 @@ fn have_fronts(page: &Page, named: &Named, table: &StatusTable, horizon: Xid) ->
 }
 
 /// Whether what is done to a slot that no chain reaches is what pruning does to it.
-fn is_accounted(page: &Page, marks: &Marks, named: &Named, number: u16, table: &StatusTable) -> bool
+fn is_allowed(page: &Page, marks: &Marks, named: &Named, number: u16, table: &StatusTable) -> bool
     requires { number < 292 }
     ensures { IsTrue result ↔ IsLooseRight table.now page.now.slots marks.now named.now number }
 {
     let mark = marks[usize::from(number)];
     let action = named[usize::from(number)];
     match mark {
-        Mark::Kept | Mark::Goes(_) => true,
-        Mark::Loose => { action.is_none() || are_same(action, loose_action(page, number, table)) }
+        PruneVerdict::Kept | PruneVerdict::Goes(_) => true,
+        PruneVerdict::Orphan => {
+            action.is_none() || are_same(action, orphan_action(page, number, table))
+        }
     }
 }
 
 /// Whether it is so of each slot.
 fn are_accounted(page: &Page, marks: &Marks, named: &Named, table: &StatusTable) -> bool
-    ensures { IsTrue result ↔ ((n : ℕ) → 1 ≤ n → n ≤ length page.now.slots → IsLooseRight table.now page.now.slots marks.now named.now n) }
+    ensures { IsTrue result
+        ↔
+        ((n : ℕ) → 1 ≤ n → n ≤ length page.now.slots
+        → IsLooseRight table.now page.now.slots marks.now named.now n) }
 {
     for number in 1..page.slots() + 1 {
-        if !is_accounted(page, marks, named, number, table) {
+        if !is_allowed(page, marks, named, number, table) {
             return false;
         }
     }
@@ -169,17 +183,18 @@ fn are_accounted(page: &Page, marks: &Marks, named: &Named, table: &StatusTable)
 }
 
 /// Whether a plan may be applied to a page, whoever made it, and when: it has the page's change number, its slots are
-/// strictly ascending and on the page, of each chain it cuts a front that pruning at this horizon would cut
+/// strictly ascending and on the page, of each chain it cuts a prefix that pruning at this horizon would cut
 /// too, and every other slot that it names holds an aborted heap-only version that no chain reaches. It takes no memory.
 pub fn check_plan(page: &Page, plan: &PrunePlan, table: &StatusTable, horizon: Xid) -> bool
-    ensures exact { IsTrue result ↔ Checks table.now horizon.0 page.now plan.now.change plan.now.actions.items }
+    ensures exact { IsTrue result
+        ↔ Checks table.now horizon.0 page.now plan.now.change plan.now.actions.items }
     ensures can_apply { IsTrue result → CanApply (length page.now.slots) plan.now.actions.items }
 {
     if !is_fresh(page, plan) || !are_in_order(page.slots(), &plan.actions) {
         return false;
     }
     let named = named_by(&plan.actions);
-    let mut marks = [Mark::Loose; 292];
+    let mut marks = [PruneVerdict::Orphan; 292];
     mark_page(&mut marks, page, table, horizon);
     have_fronts(page, &named, table, horizon) && are_accounted(page, &marks, &named, table)
 }

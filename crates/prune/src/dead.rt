@@ -31,16 +31,18 @@ pub(crate) fn is_dead_at(page: &Page, number: u16, table: &StatusTable, horizon:
 
 /// Whether a version's deleter committed before the horizon.
 fn is_past(header: &Header, table: &StatusTable, horizon: Xid) -> bool
-    ensures { IsTrue result ↔ IsCommitted table.now header.now.xmax.0 × Precedes header.now.xmax.0 horizon.0 }
+    ensures { IsTrue result
+        ↔ IsCommitted table.now header.now.xmax.0 × Precedes header.now.xmax.0 horizon.0 }
 {
     matches!(table.status(header.xmax), Status::Committed) && stands_before(header.xmax, horizon)
 }
 
-/// An id that was not aborted, unless the version was rolled back: its maker, or the one that is known to be such an id.
+/// An id that was not aborted, unless the version was rolled back: its inserter, or the one that is known to be such an id.
 fn unaborted(header: &Header, known: Xid, table: &StatusTable) -> Option<Xid>
     requires { ¬ IsAborted table.now known.0 }
     ensures { MatchOption result (¬ IsFrozen header.now × IsAborted table.now header.now.xmin.0)
-        (λ x. (IsFrozen header.now ⊎ ¬ IsAborted table.now header.now.xmin.0) × ¬ IsAborted table.now x.0) }
+        (λ x. (IsFrozen header.now ⊎ ¬ IsAborted table.now header.now.xmin.0)
+        × ¬ IsAborted table.now x.0) }
 {
     if header.xmin.0 == known.0 {
         Some(known)
@@ -53,7 +55,7 @@ fn unaborted(header: &Header, known: Xid, table: &StatusTable) -> Option<Xid>
     }
 }
 
-/// The same, unless the slot holds a dead version. Neighbours mostly have one maker, whose status is so looked up once.
+/// The same, unless the slot holds a dead version. Neighbours mostly have one inserter, whose status is so looked up once.
 fn unaborted_after(
     page: &Page,
     number: u16,

@@ -1,6 +1,6 @@
 //! Pruning: what no reader can see any more is taken from the chains of a page.
 //!
-//! Of the chain of each root or redirect the front goes, up to and with its last dead version. Heap-only versions leave
+//! Of the chain of each root or redirect the prefix goes, up to and with its last dead version. Heap-only versions leave
 //! their slots unused, since no index entry leads to them; the root becomes a redirect to the first version that is kept,
 //! or dead if none is. An aborted heap-only version that no chain reaches goes too (README.HOT, "Pruning"; the manual's
 //! "Heap-Only Tuples" and "Routine Vacuuming").
@@ -18,7 +18,7 @@ mod action;
 mod applying;
 mod checking;
 mod dead;
-mod laws;
+pub mod laws;
 mod marks;
 mod planning;
 
@@ -26,9 +26,4 @@ pub use action::{Action, PrunePlan};
 pub use applying::{apply, prune};
 pub use checking::check_plan;
 pub use dead::has_dead;
-pub use laws::{
-    checked_is_never_seen, checked_raises, checks_at_either_end, nothing_dead_stays,
-    pruning_has_one_outcome, pruning_is_done_once, pruning_is_never_seen, removing_is_never_seen,
-    sound_stays_sound,
-};
 pub use planning::plan;

@@ -6,7 +6,7 @@ ghost use Rattle.std.specs.List.{list_any};
 ghost use Rattle.hot_chain.specs.Chain.{has_aborted, IsChain};
 ghost use Rattle.prune.specs.Cutting.{IsCutCount};
 ghost use Rattle.prune.specs.Pruning.{root_action};
-ghost use Rattle.prune.specs.Marks.{AreNumbers, mark_of, mark_at, marked, MarksChain, IsMark, IsSingle};
+ghost use Rattle.prune.specs.Marks.{AreNumbers, verdict_of, mark_at, marked, MarksChain, IsVerdict, IsSingle};
 
 use crate::action::Action;
 use crate::dead::is_dead_at;
@@ -19,29 +19,29 @@ use xid_circle::Xid;
 
 /// What was found out of a slot.
 #[derive(Clone, Copy, Debug, PartialEq, Eq)]
-pub(crate) enum Mark {
+pub(crate) enum PruneVerdict {
     /// It is neither a root nor in the chain of one.
-    Loose,
+    Orphan,
     /// It is, and nothing is done to it.
     Kept,
     /// It is, and this is done to it.
     Goes(Action),
 }
 
-impl Mark {
+impl PruneVerdict {
     /// That of a slot in a chain, or of a root, to which this is done, if anything.
-    fn held(action: Option<Action>) -> Mark
-        ensures { result ≡ mark_of action }
+    fn held(action: Option<Action>) -> PruneVerdict
+        ensures { result ≡ verdict_of action }
     {
         match action {
-            Some(action) => Mark::Goes(action),
-            None => Mark::Kept,
+            Some(action) => PruneVerdict::Goes(action),
+            None => PruneVerdict::Kept,
         }
     }
 }
 
 /// A mark for each number from 0 to 291.
-pub(crate) type Marks = [Mark; 292];
+pub(crate) type Marks = [PruneVerdict; 292];
 
 /// The slots of a chain.
 type Listed = ArrayVec<u16, 292>;
@@ -76,17 +76,20 @@ pub(crate) fn root_action(cut: usize, chain: &[u16]) -> Option<Action>
 /// Notes for each of these slots that this is done to it.
 fn mark_all(marks: &mut Marks, numbers: &[u16], action: Option<Action>)
     requires { AreNumbers numbers.now }
-    ensures { (n : ℕ) → mark_at marks.new n ≡ (if list_any (nat_eq n) numbers.now then mark_of action else mark_at marks.old n) }
+    ensures { (n : ℕ)
+        → mark_at marks.new n
+        ≡ (if list_any (nat_eq n) numbers.now then verdict_of action else mark_at marks.old n) }
 {
     for number in numbers {
-        marks[usize::from(*number)] = Mark::held(action);
+        marks[usize::from(*number)] = PruneVerdict::held(action);
     }
 }
 
 /// The only slot of a root's chain, and whether its version is dead, where the header there tells that no later version
 /// replaced it.
 fn single_of(page: &Page, root: u16, table: &StatusTable, horizon: Xid) -> Option<(u16, bool)>
-    ensures { IfSome result (λ single. IsSingle table.now horizon.0 page.now.slots root single.0 single.1) }
+    ensures { IfSome result
+        (λ single. IsSingle table.now horizon.0 page.now.slots root single.0 single.1) }
 {
     let start = page.redirect(root).unwrap_or(root);
     let header = page.header(start)?;
@@ -103,14 +106,16 @@ fn single_of(page: &Page, root: u16, table: &StatusTable, horizon: Xid) -> Optio
 fn mark_single(marks: &mut Marks, root: u16, start: u16, is_dead: bool)
     requires root { root < 292 }
     requires start { start < 292 }
-    ensures { (n : ℕ) → mark_at marks.new n ≡ marked root (start ∷ []) (if is_dead then 1 else 0) n (mark_at marks.old n) }
+    ensures { (n : ℕ)
+        → mark_at marks.new n
+        ≡ marked root (start ∷ []) (if is_dead then 1 else 0) n (mark_at marks.old n) }
 {
     if is_dead {
-        marks[usize::from(start)] = Mark::Goes(Action::Unuse);
-        marks[usize::from(root)] = Mark::Goes(Action::Kill);
+        marks[usize::from(start)] = PruneVerdict::Goes(Action::Unuse);
+        marks[usize::from(root)] = PruneVerdict::Goes(Action::Kill);
     } else {
-        marks[usize::from(start)] = Mark::Kept;
-        marks[usize::from(root)] = Mark::Kept;
+        marks[usize::from(start)] = PruneVerdict::Kept;
+        marks[usize::from(root)] = PruneVerdict::Kept;
     }
 }
 
@@ -131,7 +136,7 @@ fn mark_chain(
     let cut = cut_count(page, chain, table, horizon);
     mark_all(marks, chain, None);
     mark_all(marks, &chain[..cut], Some(Action::Unuse));
-    marks[usize::from(root)] = Mark::held(root_action(cut, chain));
+    marks[usize::from(root)] = PruneVerdict::held(root_action(cut, chain));
 }
 
 /// Notes what becomes of a root and of the slots of its chain, which is listed only where it may have more than one.
@@ -158,8 +163,8 @@ fn mark_root(
 
 /// Notes the mark of each slot. Nothing is noted before.
 pub(crate) fn mark_page(marks: &mut Marks, page: &Page, table: &StatusTable, horizon: Xid)
-    requires blank { (n : ℕ) → mark_at marks.old n ≡ Mark.Loose }
-    ensures { (n : ℕ) → IsMark table.now horizon.0 page.now.slots n (mark_at marks.new n) }
+    requires blank { (n : ℕ) → mark_at marks.old n ≡ PruneVerdict.Orphan }
+    ensures { (n : ℕ) → IsVerdict table.now horizon.0 page.now.slots n (mark_at marks.new n) }
 {
     let mut listed: Listed = ArrayVec::new();
     for root in 1..page.slots() + 1 {

@@ -2,7 +2,7 @@
 
 ghost use Rattle.std.specs.Prelude.{◌≡◌, ◌<◌, [], length};
 ghost use Rattle.prune.specs.Actions.{CanApply};
-ghost use Rattle.prune.specs.Pruning.{loose_action, IsPlan};
+ghost use Rattle.prune.specs.Pruning.{orphan_action, IsPlan};
 ghost use Rattle.hot_chain.specs.Chain.{has_aborted};
 ghost use Rattle.sound_page.specs.Links.{NoSharedSlots};
 ghost use Rattle.prune.specs.Checks.{Checks};
@@ -10,15 +10,15 @@ ghost use Rattle.prune.specs.Marks.{mark_at, planned};
 
 use crate::action::{Action, Actions, PrunePlan};
 use crate::dead::has_dead;
-use crate::marks::{Mark, Marks, mark_page};
+use crate::marks::{Marks, PruneVerdict, mark_page};
 use arrayvec::ArrayVec;
 use commit_status::{Status, StatusTable};
 use page_slots::Page;
 use xid_circle::Xid;
 
 /// What becomes of a slot that no chain reaches.
-pub(crate) fn loose_action(page: &Page, number: u16, table: &StatusTable) -> Option<Action>
-    ensures { result ≡ loose_action table.now page.now.slots number }
+pub(crate) fn orphan_action(page: &Page, number: u16, table: &StatusTable) -> Option<Action>
+    ensures { result ≡ orphan_action table.now page.now.slots number }
 {
     let header = page.header(number)?;
     let is_aborted = matches!(table.status(header.xmin), Status::Aborted);
@@ -35,9 +35,9 @@ fn action_at(page: &Page, marks: &Marks, number: u16, table: &StatusTable) -> Op
     ensures { result ≡ planned table.now page.now.slots number (mark_at marks.now number) }
 {
     match marks[usize::from(number)] {
-        Mark::Kept => None,
-        Mark::Goes(action) => Some(action),
-        Mark::Loose => loose_action(page, number, table),
+        PruneVerdict::Kept => None,
+        PruneVerdict::Goes(action) => Some(action),
+        PruneVerdict::Orphan => orphan_action(page, number, table),
     }
 }
 
@@ -47,7 +47,7 @@ pub(crate) fn list_actions(actions: &mut Actions, page: &Page, table: &StatusTab
     ensures can_apply { CanApply (length page.now.slots) actions.new.items }
     ensures exact { IsPlan table.now horizon.0 page.now.slots actions.new.items }
 {
-    let mut marks = [Mark::Loose; 292];
+    let mut marks = [PruneVerdict::Orphan; 292];
     mark_page(&mut marks, page, table, horizon);
     for number in 1..page.slots() + 1 {
         if let Some(action) = action_at(page, &marks, number, table) {
@@ -56,14 +56,15 @@ pub(crate) fn list_actions(actions: &mut Actions, page: &Page, table: &StatusTab
     }
 }
 
-/// The changes of pruning a page at this horizon in order of slots: of each chain the front up to and with
+/// The changes of pruning a page at this horizon in order of slots: of each chain the prefix up to and with
 /// the last dead version goes. Where no slot is in the chains of two roots or redirects, there is one such plan, and it
 /// checks. It takes no memory. (README.HOT, "Pruning")
 pub fn plan(page: &Page, table: &StatusTable, horizon: Xid) -> PrunePlan
     ensures change { result.change ≡ page.now.change }
     ensures can_apply { CanApply (length page.now.slots) result.actions.items }
     ensures exact { IsPlan table.now horizon.0 page.now.slots result.actions.items }
-    ensures checks { NoSharedSlots (has_aborted table.now) page.now.slots → Checks table.now horizon.0 page.now result.change result.actions.items }
+    ensures checks { NoSharedSlots (has_aborted table.now) page.now.slots
+        → Checks table.now horizon.0 page.now result.change result.actions.items }
 {
     let _limit = page.slots();
     let mut actions = ArrayVec::new();

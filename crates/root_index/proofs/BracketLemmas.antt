@@ -5,7 +5,7 @@ use Rattle.std.specs.declared.cmp.Ordering.TheVariants.{Less, Greater}
 use Rattle.std.proofs.lemmas.Bool.{cases_lt}
 use Rattle.std.proofs.lemmas.Option.{slice_get-get_or}
 use Rattle.root_index.specs.declared.entry.Entry.{Entry}
-use Rattle.root_index.specs.Order.{comparison, Precedes, IsAscending}
+use Rattle.root_index.specs.Order.{comparison, EntryPrecedes, IsAscending}
 use Rattle.root_index.specs.Sets.{IsGapFor}
 use Rattle.root_index.proofs.OrderLemmas.{comparison_total, Precedes-trans}
 use Rattle.root_index.proofs.SetLemmas.{same_place, ascending-at}
@@ -14,8 +14,8 @@ use Rattle.root_index.proofs.SetLemmas.{same_place, ascending-at}
 pub record IsBracket (entries : List Entry) (sought : Entry) (low high : ℕ) : Type 0 where
   pub order : low ≤ high
   pub in_range : high ≤ length entries
-  pub before : (k : ℕ) (e : Entry) → k < low → slice_get entries k ≡ Some e → Precedes e sought
-  pub after : (k : ℕ) (e : Entry) → high ≤ k → slice_get entries k ≡ Some e → Precedes sought e
+  pub before : (k : ℕ) (e : Entry) → k < low → slice_get entries k ≡ Some e → EntryPrecedes e sought
+  pub after : (k : ℕ) (e : Entry) → high ≤ k → slice_get entries k ≡ Some e → EntryPrecedes sought e
 
 -- An entry was looked at. Where it precedes the sought one, all before it do so too.
 
@@ -28,7 +28,7 @@ looked_less xs x d low high i up bracket within less =
       in_range = bracket.in_range;
       before = λ k e lt at_k. elim (cases_lt k i) [
         | inl below ↦ Precedes-trans e (get_or xs i d) x (ascending-at xs k i e (get_or xs i d) up below at_k at) less
-        | inr le ↦ subst (λ y. Precedes y x) (same_place xs i k (get_or xs i d) e (omega arith) at at_k) less
+        | inr le ↦ subst (λ y. EntryPrecedes y x) (same_place xs i k (get_or xs i d) e (omega arith) at at_k) less
       ];
       after = bracket.after;
     }
@@ -37,14 +37,14 @@ pub looked_greater : (xs : List Entry) (x d : Entry) (low high i : ℕ) → IsAs
     → comparison (get_or xs i d) x ≡ Greater → IsBracket xs x low i
 looked_greater xs x d low high i up bracket from_low within greater =
     let at = slice_get-get_or xs i d (omega (arith, within, bracket.in_range)) in
-    let less : Precedes x (get_or xs i d) = comparison_total.antisymm x (get_or xs i d) ∙ ap ordering_reverse greater in
+    let less : EntryPrecedes x (get_or xs i d) = comparison_total.antisymm x (get_or xs i d) ∙ ap ordering_reverse greater in
     record {
       order = from_low;
       in_range = omega (arith, within, bracket.in_range);
       before = bracket.before;
       after = λ k e le at_k. elim (cases_lt i k) [
         | inl above ↦ Precedes-trans x (get_or xs i d) e less (ascending-at xs i k (get_or xs i d) e up above at at_k)
-        | inr same ↦ subst (Precedes x) (same_place xs i k (get_or xs i d) e (omega arith) at at_k) less
+        | inr same ↦ subst (EntryPrecedes x) (same_place xs i k (get_or xs i d) e (omega arith) at at_k) less
       ];
     }
 

@@ -12,13 +12,13 @@ module _ {N : Type 0} (entries : N → List Entry) (IsNeat : N → Type 0) (size
   pub full_by_parts : ((n : N) → IsNeat n → size n ≤ length (entries n)) → 128 ≤ size n → 128 ≤ length (all entries nodes)
   full_by_parts many full =
       let fits = count_fits entries nodes i n at in
-      let front = all_at (λ n. IsNeat n × (0 < size n)) nodes i n neat at in
-      let enough = many n front.0 in
+      let prefix = all_at (λ n. IsNeat n × (0 < size n)) nodes i n neat at in
+      let enough = many n prefix.0 in
       omega arith
 
   -- a part of it is full, so far down as there are any
   pub full_below : (size n ≡ 0) ⊎ (128 ≤ length (entries n)) → 128 ≤ length (all entries nodes)
-  full_below (inl none) = let front = all_at (λ n. IsNeat n × (0 < size n)) nodes i n neat at in absurd (omega (arith, none, front.1))
+  full_below (inl none) = let prefix = all_at (λ n. IsNeat n × (0 < size n)) nodes i n neat at in absurd (omega (arith, none, prefix.1))
   full_below (inr many) = let fits = count_fits entries nodes i n at in omega arith
 
 pub on_err : {T E : Type 0} (r : Result T E) (P : Type 0) → P → OnErr r P

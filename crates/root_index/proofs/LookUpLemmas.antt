@@ -7,19 +7,19 @@ use Rattle.std.proofs.lemmas.Cmp.{ranked, int_ranked, then_total, on_total, int_
 use Rattle.std.proofs.lemmas.Int.{ints}
 use Rattle.std.specs.Cmp.{IsTotalOrder}
 use Rattle.root_index.specs.declared.entry.Entry.{Entry}
-use Rattle.root_index.specs.Order.{comparison, Precedes, IsAscending}
+use Rattle.root_index.specs.Order.{comparison, EntryPrecedes, IsAscending}
 use Rattle.root_index.specs.Sets.{IsLeast, IsAfter, IsBelow, IsOf, IsStart}
 use Rattle.root_index.proofs.OrderLemmas.{comparison_total, Precedes-not_back, same-from_tied, equal_both}
 use Rattle.root_index.proofs.SetLemmas.{first_is_least, start_after, lowest, precedes-below}
 
 -- One is found, and in turn all of them.
 
-same_by_case : (a b : Entry) (o : Ordering) → comparison a b ≡ o → ¬ Precedes a b → ¬ Precedes b a → a ≡ b
+same_by_case : (a b : Entry) (o : Ordering) → comparison a b ≡ o → ¬ EntryPrecedes a b → ¬ EntryPrecedes b a → a ≡ b
 same_by_case a b Less e h k = absurd (h e)
 same_by_case a b Equal e h k = same-from_tied a b e
 same_by_case a b Greater e h k = absurd (k (comparison_total.antisymm b a ∙ ap ordering_reverse e))
 
-pub same-from_neither : (a b : Entry) → ¬ Precedes a b → ¬ Precedes b a → a ≡ b
+pub same-from_neither : (a b : Entry) → ¬ EntryPrecedes a b → ¬ EntryPrecedes b a → a ≡ b
 same-from_neither a b h k = same_by_case a b (comparison a b) refl h k
 
 pub least_is_one : (xs : List Entry) (P : Entry → Type 0) (a b : Option Entry) → IsLeast xs P a → IsLeast xs P b → a ≡ b
@@ -50,7 +50,7 @@ by_key-first o p q e = rw e refl
 by_key_total : IsTotalOrder by_key
 by_key_total = then_total (on_total (λ (e : Entry). e.value) int_cmp_total) (on_total (λ (e : Entry). e.key) nat_cmp_total)
 
-precedes-by_key : (a b : Entry) → by_key a b ≡ Less → Precedes a b
+precedes-by_key : (a b : Entry) → by_key a b ≡ Less → EntryPrecedes a b
 precedes-by_key a b e = by_key-first (by_key a b) (nat_cmp a.tid.page b.tid.page) (nat_cmp a.tid.slot b.tid.slot) e
 
 of-from_tied : (value : ℤ) (key : ℕ) (b : Entry) → ordering_then (int_cmp b.value value) (nat_cmp b.key key) ≡ Equal → IsOf value key b
@@ -62,14 +62,14 @@ by_key-back : (a b : Entry) → by_key a b ≡ Greater → by_key b a ≡ Less
 by_key-back a b e = by_key_total.antisymm b a ∙ ap ordering_reverse e
 
 between_by_case : (value : ℤ) (key : ℕ) (a b c : Entry) (o : Ordering) → by_key b (lowest value key) ≡ o → IsOf value key a → IsOf value key c
-    → ¬ Precedes b a → ¬ Precedes c b → IsOf value key b
+    → ¬ EntryPrecedes b a → ¬ EntryPrecedes c b → IsOf value key b
 between_by_case value key a b c Less e of_a of_c after_a before_c =
     absurd (after_a (precedes-by_key b a (rw (of_a.0, of_a.1) e)))
 between_by_case value key a b c Equal e of_a of_c after_a before_c = of-from_tied value key b e
 between_by_case value key a b c Greater e of_a of_c after_a before_c =
     absurd (before_c (precedes-by_key c b (by_key-back b c (rw (of_c.0, of_c.1) e))))
 
-pub between_alike : (value : ℤ) (key : ℕ) (a b c : Entry) → IsOf value key a → IsOf value key c → ¬ Precedes b a → ¬ Precedes c b → IsOf value key b
+pub between_alike : (value : ℤ) (key : ℕ) (a b c : Entry) → IsOf value key a → IsOf value key c → ¬ EntryPrecedes b a → ¬ EntryPrecedes c b → IsOf value key b
 between_alike value key a b c of_a of_c after_a before_c =
     between_by_case value key a b c (by_key b (lowest value key)) refl of_a of_c after_a before_c
 
@@ -91,6 +91,6 @@ first_of xs value key f least e there of =
 
 -- and where the next one isn't, there is none after
 pub next_of : (xs : List Entry) (value : ℤ) (key : ℕ) (from n : Entry) → IsOf value key from → IsLeast xs (IsAfter (Some from)) (Some n)
-    → (e : Entry) → Contains xs e → IsOf value key e → Precedes from e → IsOf value key n
+    → (e : Entry) → Contains xs e → IsOf value key e → EntryPrecedes from e → IsOf value key n
 next_of xs value key from n of_from least e there of after =
     between_alike value key from n e of_from of (Precedes-not_back from n least.1) (least.2 e there after)

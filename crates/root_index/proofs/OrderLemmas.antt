@@ -7,20 +7,20 @@ use Rattle.std.specs.declared.cmp.Ordering.TheVariants.{Less, Equal, Greater}
 use Rattle.std.proofs.lemmas.Cmp.{then_total, on_total, nat_cmp_total, int_cmp_total, ranked, int_ranked, tied_itself}
 use Rattle.xid_circle.proofs.Members.{Contains-first, Contains-rest, Contains-cases, Contains-none}
 use Rattle.root_index.specs.declared.entry.Entry.{Entry}
-use Rattle.root_index.specs.Order.{comparison, Precedes, IsAscending, MembersDetermine}
+use Rattle.root_index.specs.Order.{comparison, EntryPrecedes, IsAscending, MembersDetermine}
 
 pub comparison_total : IsTotalOrder comparison
 comparison_total =
     then_total (then_total (then_total (on_total (λ (e : Entry). e.value) int_cmp_total)
     (on_total (λ (e : Entry). e.key) nat_cmp_total)) (on_total (λ (e : Entry). e.tid.page) nat_cmp_total)) (on_total (λ (e : Entry). e.tid.slot) nat_cmp_total)
 
-pub not_before_itself : (a : Entry) → ¬ Precedes a a
+pub not_before_itself : (a : Entry) → ¬ EntryPrecedes a a
 not_before_itself a h = absurd (let e = tied_itself comparison_total a in cc)
 
-pub Precedes-trans : (a b c : Entry) → Precedes a b → Precedes b c → Precedes a c
+pub Precedes-trans : (a b c : Entry) → EntryPrecedes a b → EntryPrecedes b c → EntryPrecedes a c
 Precedes-trans a b c = comparison_total.trans a b c
 
-pub Precedes-not_back : (a b : Entry) → Precedes a b → ¬ Precedes b a
+pub Precedes-not_back : (a b : Entry) → EntryPrecedes a b → ¬ EntryPrecedes b a
 Precedes-not_back a b h back = not_before_itself a (Precedes-trans a b a h back)
 
 pub equal_both : (o p : Ordering) → ordering_then o p ≡ Equal → (o ≡ Equal) × (p ≡ Equal)
@@ -52,13 +52,13 @@ same-from_tied a b e =
 pub ascending-tail : (x : Entry) (xs : List Entry) → IsAscending (x ∷ xs) → IsAscending xs
 ascending-tail x xs up i j d lt within = up (suc i) (suc j) d (omega arith) (omega arith)
 
-pub ascending-head : (x e : Entry) (xs : List Entry) → IsAscending (x ∷ xs) → Contains xs e → Precedes x e
-ascending-head x e xs up (k, within, is) = subst (λ y. Precedes x y) is (up 0 (suc k) e (omega arith) (omega arith))
+pub ascending-head : (x e : Entry) (xs : List Entry) → IsAscending (x ∷ xs) → Contains xs e → EntryPrecedes x e
+ascending-head x e xs up (k, within, is) = subst (λ y. EntryPrecedes x y) is (up 0 (suc k) e (omega arith) (omega arith))
 
 -- an entry of one list is in the rest of the other, where both begin with the same
 in_rest : (x y e : Entry) (xs ys : List Entry) → IsAscending (x ∷ xs) → x ≡ y → Contains xs e → Contains (y ∷ ys) e → Contains ys e
 in_rest x y e xs ys up same there h =
-    ⊎_elim (λ first. absurd (not_before_itself x (subst (λ z. Precedes x z) (sym first ∙ sym same) (ascending-head x e xs up there)))) (λ rest. rest) (Contains-cases y e ys h)
+    ⊎_elim (λ first. absurd (not_before_itself x (subst (λ z. EntryPrecedes x z) (sym first ∙ sym same) (ascending-head x e xs up there)))) (λ rest. rest) (Contains-cases y e ys h)
 
 same_first : (x y : Entry) (xs ys : List Entry) → IsAscending (x ∷ xs) → IsAscending (y ∷ ys) → Contains (y ∷ ys) x → Contains (x ∷ xs) y → x ≡ y
 same_first x y xs ys up up' x_there y_there =

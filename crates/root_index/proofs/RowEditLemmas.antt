@@ -8,7 +8,7 @@ use Rattle.root_index.specs.declared.node.Half.{Half}
 use Rattle.root_index.specs.declared.node.Half.TheVariants.{Lower, Upper}
 use Rattle.root_index.specs.declared.nodes.Spot.{Spot}
 use Rattle.root_index.specs.Halves.{IsHalf, rank_half}
-use Rattle.root_index.specs.Lists.{joined}
+use Rattle.root_index.specs.Lists.{concatenated}
 use Rattle.root_index.specs.Nodes.{all, inner_rank, rank_in, IsSpotIn}
 use Rattle.root_index.proofs.JoinedLemmas.{start}
 use Rattle.root_index.proofs.RowLemmas.{length-lists}
@@ -35,16 +35,16 @@ get_back xs ys i n size past =
     let is : i ≡ length xs + (i - n) = omega arith in
     ap (slice_get (xs ++ ys)) is ∙ get_behind xs ys (i - n)
 
-start_behind : (l u : List (List Entry)) (i : ℕ) → start (l ++ u) (length l + i) ≡ length (joined l) + start u i
+start_behind : (l u : List (List Entry)) (i : ℕ) → start (l ++ u) (length l + i) ≡ length (concatenated l) + start u i
 start_behind [] u i =
     let same : 0 + i ≡ i = omega arith in
     let whole : start u (0 + i) ≡ start u i = ap (start u) same in
     omega arith
 start_behind (m ∷ l) u i =
-    let size = length-append m (joined l) in
+    let size = length-append m (concatenated l) in
     let next : suc (length l) + i ≡ suc (length l + i) = omega arith in
     let whole : start (m ∷ (l ++ u)) (suc (length l) + i) ≡ length m + start (l ++ u) (length l + i) =
-    ap (start (m ∷ (l ++ u))) next ∙ length-append m (joined (take (length l + i) (l ++ u))) in
+    ap (start (m ∷ (l ++ u))) next ∙ length-append m (concatenated (take (length l + i) (l ++ u))) in
     let rest = start_behind l u i in
     omega arith
 
@@ -52,8 +52,8 @@ module _ {N S : Type 0} (entries : N → List Entry) (rank : N → S → ℕ) (l
   pub rank_front : node < length l → rank_in entries rank (l ++ u) (record { node = node; inner = inner }) ≡ rank_in entries rank l (record { node = node; inner = inner })
   rank_front within =
       let size = length-lists entries l in
-      let front : start (map entries (l ++ u)) node ≡ start (map entries l) node =
-      ap (λ ls. start ls node) (map-append entries l u) ∙ ap (λ ls. length (joined ls)) (take-append-le node (map entries l) (map entries u) (omega arith)) in
+      let prefix : start (map entries (l ++ u)) node ≡ start (map entries l) node =
+      ap (λ ls. start ls node) (map-append entries l u) ∙ ap (λ ls. length (concatenated ls)) (take-append-le node (map entries l) (map entries u) (omega arith)) in
       let here : inner_rank rank (slice_get (l ++ u) node) inner ≡ inner_rank rank (slice_get l node) inner = ap (λ o. inner_rank rank o inner) (get_front l u node within) in
       omega arith
 
@@ -62,7 +62,7 @@ module _ {N S : Type 0} (entries : N → List Entry) (rank : N → S → ℕ) (l
   rank_back n size past =
       let long = length-lists entries l in
       let is : node ≡ length (map entries l) + (node - n) = omega arith in
-      let front : start (map entries (l ++ u)) node ≡ length (joined (map entries l)) + start (map entries u) (node - n) =
+      let prefix : start (map entries (l ++ u)) node ≡ length (concatenated (map entries l)) + start (map entries u) (node - n) =
       ap (λ ls. start ls node) (map-append entries l u) ∙ ap (start (map entries l ++ map entries u)) is ∙ start_behind (map entries l) (map entries u) (node - n) in
       let here : inner_rank rank (slice_get (l ++ u) node) inner ≡ inner_rank rank (slice_get u (node - n)) inner = ap (λ o. inner_rank rank o inner) (get_back l u node n size past) in
       omega arith

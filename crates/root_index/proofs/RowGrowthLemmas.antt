@@ -6,8 +6,8 @@ use Rattle.std.proofs.lemmas.List.Elements.{All-cons, All-head, All-tail}
 use Rattle.std.proofs.lemmas.Option.{slice_get_within}
 use Rattle.root_index.specs.declared.entry.Entry.{Entry}
 use Rattle.root_index.specs.declared.nodes.Spot.{Spot}
-use Rattle.root_index.specs.Lists.{joined, list_of}
-use Rattle.root_index.specs.Nodes.{all, inner_rank, rank_in, IsOpen}
+use Rattle.root_index.specs.Lists.{concatenated, list_of}
+use Rattle.root_index.specs.Nodes.{all, inner_rank, rank_in, IsOpened}
 use Rattle.root_index.specs.Rows.{inner_is}
 use Rattle.root_index.proofs.JoinedLemmas.{start}
 use Rattle.root_index.proofs.EditLemmas.{joined_put}
@@ -63,9 +63,9 @@ module _ {N : Type 0} (entries : N → List Entry) where
   start_split (m ∷ nodes) zero l u = refl
   start_split (m ∷ nodes) (suc i) l u =
       let rest = start_split nodes i l u in
-      length-append (entries m) (joined (take i (map entries (split_to nodes i l u))))
+      length-append (entries m) (concatenated (take i (map entries (split_to nodes i l u))))
       ∙ ap (λ k. length (entries m) + k) rest
-      ∙ sym (length-append (entries m) (joined (take i (map entries nodes))))
+      ∙ sym (length-append (entries m) (concatenated (take i (map entries nodes))))
 
   all_set_same : (nodes : List N) (i : ℕ) (n put : N) → slice_get nodes i ≡ Some n → entries put ≡ entries n → all entries (slice_set nodes i put) ≡ all entries nodes
   all_set_same [] i n put at is = refl
@@ -75,10 +75,10 @@ module _ {N : Type 0} (entries : N → List Entry) where
   module _ {S : Type 0} (size : N → ℕ) (rank : N → S → ℕ) (IsSpot : N → S → Type 0) where
     module _ (nodes : List N) (spot : Spot S) (n l u : N) (inner : S) (at : slice_get nodes spot.node ≡ Some n) (is : entries l ++ entries u ≡ entries n) where
       pub opened_low : size l < 128 → IsSpot l inner → rank l inner ≡ rank n spot.inner
-          → IsOpen entries size rank IsSpot nodes (split_to nodes spot.node l u) spot (record { node = spot.node; inner = inner })
+          → IsOpened entries size rank IsSpot nodes (split_to nodes spot.node l u) spot (record { node = spot.node; inner = inner })
       opened_low few low ranked =
           let low_at = get_low nodes spot.node l u (slice_get_within nodes spot.node n at) in
-          let front = start_split nodes spot.node l u in
+          let prefix = start_split nodes spot.node l u in
           let there : inner_rank rank (slice_get (split_to nodes spot.node l u) spot.node) inner ≡ rank l inner = ap (λ o. inner_rank rank o inner) low_at in
           let was = inner_is rank nodes spot n at in
           record {
@@ -88,11 +88,11 @@ module _ {N : Type 0} (entries : N → List Entry) where
           }
 
       pub opened_high : size u < 128 → IsSpot u inner → length (entries l) + rank u inner ≡ rank n spot.inner
-          → IsOpen entries size rank IsSpot nodes (split_to nodes spot.node l u) spot (record { node = spot.node + 1; inner = inner })
+          → IsOpened entries size rank IsSpot nodes (split_to nodes spot.node l u) spot (record { node = spot.node + 1; inner = inner })
       opened_high few high ranked =
           let within = slice_get_within nodes spot.node n at in
           let high_at = get_high nodes spot.node l u within in
-          let front = start_split nodes spot.node l u in
+          let prefix = start_split nodes spot.node l u in
           let next = count_next entries (split_to nodes spot.node l u) spot.node l (get_low nodes spot.node l u within) in
           let there : inner_rank rank (slice_get (split_to nodes spot.node l u) (spot.node + 1)) inner ≡ rank u inner = ap (λ o. inner_rank rank o inner) high_at in
           let was = inner_is rank nodes spot n at in
@@ -104,7 +104,7 @@ module _ {N : Type 0} (entries : N → List Entry) where
 
     -- An entry that is put into a node with room.
 
-    module _ (within : (n : N) (s : S) → IsSpot n s → rank n s ≤ length (entries n)) (old new : List N) (was is : Spot S) (b put : N) (opened : IsOpen entries size rank IsSpot old new was is)
+    module _ (within : (n : N) (s : S) → IsSpot n s → rank n s ≤ length (entries n)) (old new : List N) (was is : Spot S) (b put : N) (opened : IsOpened entries size rank IsSpot old new was is)
         (at : slice_get new is.node ≡ Some b) where
       pub put_in : (x : Entry) → entries put ≡ insert (entries b) (rank b is.inner) x → all entries (slice_set new is.node put) ≡ insert (all entries old) (rank_in entries rank old was) x
       put_in x made =
@@ -114,8 +114,8 @@ module _ {N : Type 0} (entries : N → List Entry) where
           let size : length (list_of (map entries new) is.node) ≡ length (entries b) = ap length leaf in
           let there : start (map entries new) is.node + rank b is.inner ≡ rank_in entries rank old was =
           ap (λ k. start (map entries new) is.node + k) (sym (inner_is rank new is b at)) ∙ opened.before in
-          ap joined (map-set entries new is.node put)
-          ∙ ap (λ l. joined (slice_set (map entries new) is.node l)) (made ∙ ap (λ l. insert l (rank b is.inner) x) (sym leaf))
+          ap concatenated (map-set entries new is.node put)
+          ∙ ap (λ l. concatenated (slice_set (map entries new) is.node l)) (made ∙ ap (λ l. insert l (rank b is.inner) x) (sym leaf))
           ∙ joined_put (map entries new) is.node (rank b is.inner) x (list_within entries new is.node b at) (omega arith)
           ∙ ap (λ xs. insert xs (start (map entries new) is.node + rank b is.inner) x) opened.same
           ∙ ap (λ k. insert (all entries old) k x) there

@@ -16,8 +16,8 @@ use Rattle.std.proofs.lemmas.List.Kept.{AllPairs-cons}
 use Rattle.std.proofs.lemmas.List.Sorted.{Contains-permutation, IsPermutation-insert, IsPermutation-sym, All-permutation}
 use Rattle.std.specs.Cmp.{int_cmp_is, nat_cmp_is}
 use Rattle.root_index.specs.declared.entry.Entry.{Entry}
-use Rattle.root_index.specs.Order.{Precedes, IsAscending}
-use Rattle.root_index.specs.Sets.{Adds, IsLeast, IsAfter, IsBelow, IsAt, IsGapFor, IsStart}
+use Rattle.root_index.specs.Order.{EntryPrecedes, IsAscending}
+use Rattle.root_index.specs.Sets.{AddsEntry, IsLeast, IsAfter, IsBelow, IsAt, IsGapFor, IsStart}
 use Rattle.root_index.specs.Lists.{is_among, stays}
 use Rattle.root_index.proofs.OrderLemmas.{not_before_itself, Precedes-not_back, ascending-tail}
 
@@ -32,10 +32,10 @@ Contains-from_place xs e k at = (k, slice_get_within xs k e at, get_or_from_slic
 pub same_place : (xs : List Entry) (k i : ℕ) (e f : Entry) → k ≡ i → slice_get xs k ≡ Some e → slice_get xs i ≡ Some f → e ≡ f
 same_place xs k i e f same at_k at_i = cc
 
-pub ascending-at : (xs : List Entry) (i j : ℕ) (a b : Entry) → IsAscending xs → i < j → slice_get xs i ≡ Some a → slice_get xs j ≡ Some b → Precedes a b
+pub ascending-at : (xs : List Entry) (i j : ℕ) (a b : Entry) → IsAscending xs → i < j → slice_get xs i ≡ Some a → slice_get xs j ≡ Some b → EntryPrecedes a b
 ascending-at xs i j a b up lt at_i at_j =
-    subst (λ x. Precedes x b) (get_or_from_slice_get xs i a b at_i)
-    (subst (λ y. Precedes (get_or xs i b) y) (get_or_from_slice_get xs j b b at_j) (up i j b lt (slice_get_within xs j b at_j)))
+    subst (λ x. EntryPrecedes x b) (get_or_from_slice_get xs i a b at_i)
+    (subst (λ y. EntryPrecedes (get_or xs i b) y) (get_or_from_slice_get xs j b b at_j) (up i j b lt (slice_get_within xs j b at_j)))
 
 -- The first entry from a place on.
 
@@ -55,7 +55,7 @@ first_from_option xs P i (Some f) up start at = (
         | inl lt ↦ absurd (start.before p.0 e lt p.1 h)
         | inr le ↦ elim (cases_lt i p.0) [
           | inl above ↦ Precedes-not_back f e (ascending-at xs i p.0 f e up above at p.1)
-          | inr same ↦ λ back. not_before_itself f (subst (λ y. Precedes y f) (same_place xs p.0 i e f (omega arith) p.1 at) back)
+          | inr same ↦ λ back. not_before_itself f (subst (λ y. EntryPrecedes y f) (same_place xs p.0 i e f (omega arith) p.1 at) back)
         ]
       ],
 )
@@ -70,7 +70,7 @@ start_after xs from i up at = record {
   in_range = omega (arith, slice_get_within xs i from at);
   before = λ k e lt at_k. elim (cases_lt k i) [
     | inl below ↦ Precedes-not_back e from (ascending-at xs k i e from up below at_k at)
-    | inr le ↦ λ back. not_before_itself from (subst (λ y. Precedes from y) (same_place xs k i e from (omega arith) at_k at) back)
+    | inr le ↦ λ back. not_before_itself from (subst (λ y. EntryPrecedes from y) (same_place xs k i e from (omega arith) at_k at) back)
   ];
   from = λ k e le at_k. ascending-at xs i k from e up (omega arith) at at_k;
 }
@@ -95,11 +95,11 @@ none_below_nought n e = let lt : n < 0 = ranked n 0 Less (sym e) in absurd (omeg
 abbrev pub lowest : ℤ → ℕ → Entry
 lowest value key = record { value = value; key = key; tid = record { page = 0; slot = 0 } }
 
-pub below-precedes : (value : ℤ) (key : ℕ) (e : Entry) → IsBelow value key e → Precedes e (lowest value key)
+pub below-precedes : (value : ℤ) (key : ℕ) (e : Entry) → IsBelow value key e → EntryPrecedes e (lowest value key)
 below-precedes value key e (inl low) = rw (sym (int_cmp_is e.value value Less low)) refl
 below-precedes value key e (inr (same, low)) = rw (same, sym (int_cmp_is value value Equal refl), sym (nat_cmp_is e.key key Less low)) refl
 
-pub precedes-below : (value : ℤ) (key : ℕ) (e : Entry) → Precedes e (lowest value key) → IsBelow value key e
+pub precedes-below : (value : ℤ) (key : ℕ) (e : Entry) → EntryPrecedes e (lowest value key) → IsBelow value key e
 precedes-below value key e h =
     let v = int_cmp e.value value in
     let k = nat_cmp e.key key in
@@ -122,7 +122,7 @@ start_from xs value key i up at = record {
   before = λ k e lt at_k h. h (precedes-below value key e (ascending-at xs k i e (lowest value key) up lt at_k at));
   from = λ k e le at_k low. elim (cases_lt i k) [
     | inl above ↦ Precedes-not_back (lowest value key) e (ascending-at xs i k (lowest value key) e up above at at_k) (below-precedes value key e low)
-    | inr same ↦ not_before_itself (lowest value key) (subst (λ y. Precedes y (lowest value key)) (same_place xs k i e (lowest value key) (omega arith) at_k at) (below-precedes value key e low))
+    | inr same ↦ not_before_itself (lowest value key) (subst (λ y. EntryPrecedes y (lowest value key)) (same_place xs k i e (lowest value key) (omega arith) at_k at) (below-precedes value key e low))
   ];
 }
 
@@ -150,21 +150,21 @@ gap_of_rest x y xs i gap = record {
   after = λ k e le at. gap.after (suc k) e (omega arith) at;
 }
 
-all-after : (xs : List Entry) (y : Entry) → IsGapFor xs y 0 → All (Precedes y) xs
+all-after : (xs : List Entry) (y : Entry) → IsGapFor xs y 0 → All (EntryPrecedes y) xs
 all-after xs y gap k d within = gap.after k (get_or xs k d) (omega arith) (slice_get-get_or xs k d within)
 
-all-later : (x : Entry) (xs : List Entry) → IsAscending (x ∷ xs) → All (Precedes x) xs
+all-later : (x : Entry) (xs : List Entry) → IsAscending (x ∷ xs) → All (EntryPrecedes x) xs
 all-later x xs up k d within = up 0 (suc k) d (omega arith) (omega arith)
 
 pub ascending-insert : (xs : List Entry) (y : Entry) (i : ℕ) → IsAscending xs → IsGapFor xs y i → IsAscending (insert xs i y)
-ascending-insert xs y zero up gap = AllPairs-cons Precedes y xs (all-after xs y gap) up
+ascending-insert xs y zero up gap = AllPairs-cons EntryPrecedes y xs (all-after xs y gap) up
 ascending-insert [] y (suc i) up gap = absurd (omega (arith, gap.in_range))
 ascending-insert (x ∷ xs) y (suc i) up gap =
-    AllPairs-cons Precedes x (insert xs i y)
-    (All-permutation (Precedes x) (y ∷ xs) (insert xs i y) (IsPermutation-insert xs i y) (All-cons (Precedes x) y xs (gap.before 0 x (omega arith) refl) (all-later x xs up)))
+    AllPairs-cons EntryPrecedes x (insert xs i y)
+    (All-permutation (EntryPrecedes x) (y ∷ xs) (insert xs i y) (IsPermutation-insert xs i y) (All-cons (EntryPrecedes x) y xs (gap.before 0 x (omega arith) refl) (all-later x xs up)))
     (ascending-insert xs y i (ascending-tail x xs up) (gap_of_rest x y xs i gap))
 
-pub adds-inserted : (xs : List Entry) (y : Entry) (i : ℕ) → IsAscending xs → IsGapFor xs y i → Adds xs (insert xs i y) y
+pub adds-inserted : (xs : List Entry) (y : Entry) (i : ℕ) → IsAscending xs → IsGapFor xs y i → AddsEntry xs (insert xs i y) y
 adds-inserted xs y i up gap = record {
   ascending = ascending-insert xs y i up gap;
   members = λ e. (
@@ -173,7 +173,7 @@ adds-inserted xs y i up gap = record {
   );
 }
 
-pub adds-there : (xs : List Entry) (y : Entry) (i : ℕ) → IsAscending xs → IsAt xs y i → Adds xs xs y
+pub adds-there : (xs : List Entry) (y : Entry) (i : ℕ) → IsAscending xs → IsAt xs y i → AddsEntry xs xs y
 adds-there xs y i up at = record {
   ascending = up;
   members = λ e. (λ h. inl h, λ h. ⊎_elim (λ old. old) (λ same. subst (λ z. Contains xs z) (sym same) (Contains-from_place xs y i at)) h);

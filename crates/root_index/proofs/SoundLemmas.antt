@@ -5,10 +5,10 @@ use Rattle.std.proofs.lemmas.Bool.{cases_lt}
 use Rattle.std.proofs.lemmas.List.Edits.{length-insert}
 use Rattle.root_index.specs.declared.entry.Entry.{Entry}
 use Rattle.root_index.specs.Order.{IsAscending}
-use Rattle.root_index.specs.Sets.{Adds, IsAt, IsGapFor, IsLeast}
+use Rattle.root_index.specs.Sets.{AddsEntry, IsAt, IsGapFor, IsLeast}
 use Rattle.root_index.specs.declared.nodes.Spot.{Spot}
 use Rattle.root_index.specs.Nodes.{all, rank_in, AreNeat, IsStartIn}
-use Rattle.root_index.specs.Trees.{IsSound}
+use Rattle.root_index.specs.Trees.{IsSoundIndex}
 use Rattle.root_index.proofs.SetLemmas.{ascending-insert, adds-inserted, first_is_least}
 
 -- what is left for one insert fewer
@@ -20,10 +20,10 @@ left_after HasLeft HasLeft' next none (suc k) left =
     subst HasLeft' less (next k (subst HasLeft is left))
 
 module _ {N : Type 0} (entries : N → List Entry) (IsNeat : N → Type 0) (size : N → ℕ) (nodes new : List N) (room room' spare spare' : ℕ) (HasLeft HasLeft' : ℕ → Type 0) (count promised : ℕ)
-    (sound : IsSound entries IsNeat size nodes room spare HasLeft count promised) where
+    (sound : IsSoundIndex entries IsNeat size nodes room spare HasLeft count promised) where
   pub sound_inserted : (x : Entry) (rank count' promised' : ℕ) → IsGapFor (all entries nodes) x rank → all entries new ≡ insert (all entries nodes) rank x → AreNeat IsNeat size new
       → room ≤ room' + 1 → spare ≤ spare' + 1 → ((k : ℕ) → HasLeft (k + 1) → HasLeft' k) → HasLeft' 0 → count' ≡ count + 1 → promised' ≡ promised - 1 → count' < 2 ^ 64
-      → IsSound entries IsNeat size new room' spare' HasLeft' count' promised'
+      → IsSoundIndex entries IsNeat size new room' spare' HasLeft' count' promised'
   sound_inserted x rank count' promised' gap made neat in_room in_spare next none counted kept fits =
       let up = ascending-insert (all entries nodes) x rank sound.ascending gap in
       let longer = length-insert (all entries nodes) rank x gap.in_range in
@@ -45,7 +45,7 @@ module _ {N : Type 0} (entries : N → List Entry) (IsNeat : N → Type 0) (size
   -- what was promised for others is kept where it is still enough
   pub sound_unspent : (x : Entry) (rank count' promised' : ℕ) → IsGapFor (all entries nodes) x rank → all entries new ≡ insert (all entries nodes) rank x → AreNeat IsNeat size new
       → count' ≡ count + 1 → promised ≤ room' → promised ≤ spare' → HasLeft' promised → count' + promised < 2 ^ 64 → promised' ≡ promised
-      → IsSound entries IsNeat size new room' spare' HasLeft' count' promised'
+      → IsSoundIndex entries IsNeat size new room' spare' HasLeft' count' promised'
   sound_unspent x rank count' promised' gap made neat counted in_list in_trees below countable is =
       let up = ascending-insert (all entries nodes) x rank sound.ascending gap in
       let longer = length-insert (all entries nodes) rank x gap.in_range in
@@ -64,7 +64,7 @@ module _ {N : Type 0} (entries : N → List Entry) (IsNeat : N → Type 0) (size
 -- Of an index alone: entries that go, and calls that may be refused.
 
 module _ {N : Type 0} (entries : N → List Entry) (IsNeat : N → Type 0) (size : N → ℕ) (nodes : List N) (room spare : ℕ) (HasLeft : ℕ → Type 0) (count promised : ℕ)
-    (sound : IsSound entries IsNeat size nodes room spare HasLeft count promised) where
+    (sound : IsSoundIndex entries IsNeat size nodes room spare HasLeft count promised) where
   -- Where nothing is promised a call may be refused.
 
   pub one_left : ((k : ℕ) → HasLeft (k + 1) → HasLeft k) → ¬ HasLeft 1 → promised ≡ 0
@@ -120,8 +120,8 @@ pub gap_there : {N S : Type 0} (entries : N → List Entry) (rank : N → S → 
     → IsGapFor (all entries there) x (rank_in entries rank there spot) → IsGapFor (all entries nodes) x (rank_in entries rank nodes spot)
 gap_there {N} entries rank nodes there x spot is gap = subst (λ (ns : List N). IsGapFor (all entries ns) x (rank_in entries rank ns spot)) is gap
 
-pub adds_in_gap : (old new : List Entry) (x : Entry) (rank : ℕ) → IsAscending old → IsGapFor old x rank → new ≡ insert old rank x → Adds old new x
-adds_in_gap old new x rank up gap made = subst (λ (xs : List Entry). Adds old xs x) (sym made) (adds-inserted old x rank up gap)
+pub adds_in_gap : (old new : List Entry) (x : Entry) (rank : ℕ) → IsAscending old → IsGapFor old x rank → new ≡ insert old rank x → AddsEntry old new x
+adds_in_gap old new x rank up gap made = subst (λ (xs : List Entry). AddsEntry old xs x) (sym made) (adds-inserted old x rank up gap)
 
 pub max_left : (HasLeft : ℕ → Type 0) (a b most : ℕ) → HasLeft a → HasLeft b → (most ≡ a) ⊎ (most ≡ b) → HasLeft most
 max_left HasLeft a b most left left_too (inl is) = subst HasLeft (sym is) left
@@ -132,8 +132,8 @@ most_is a b most is = elim (cases_lt a b) [ inl less ↦ inr (omega (arith, is))
 
 -- an index that has room for more
 pub sound_roomier : {N : Type 0} (entries : N → List Entry) (IsNeat : N → Type 0) (size : N → ℕ) (nodes new : List N) (room room' spare spare' : ℕ) (HasLeft HasLeft' : ℕ → Type 0)
-    (count promised given most : ℕ) → IsSound entries IsNeat size nodes room spare HasLeft count promised → new ≡ nodes → room ≤ room' → given ≤ room' → spare ≤ spare' → given ≤ spare'
-    → ((k : ℕ) → HasLeft k → HasLeft' k) → HasLeft' given → most ≡ max promised given → count + given < 2 ^ 64 → IsSound entries IsNeat size new room' spare' HasLeft' count most
+    (count promised given most : ℕ) → IsSoundIndex entries IsNeat size nodes room spare HasLeft count promised → new ≡ nodes → room ≤ room' → given ≤ room' → spare ≤ spare' → given ≤ spare'
+    → ((k : ℕ) → HasLeft k → HasLeft' k) → HasLeft' given → most ≡ max promised given → count + given < 2 ^ 64 → IsSoundIndex entries IsNeat size new room' spare' HasLeft' count most
 sound_roomier {N} entries IsNeat size nodes new room room' spare spare' HasLeft HasLeft' count promised given most sound same kept_room in_room kept_spare in_spare kept left is fits =
     let which = most_is promised given most is in
     let list = sound.in_list in

@@ -14,13 +14,13 @@ use Rattle.root_index.specs.declared.node.Swept.{Swept}
 use Rattle.root_index.specs.declared.progress.Progress.{Progress}
 use Rattle.root_index.specs.declared.progress.Progress.TheVariants.{More, Done}
 use Rattle.root_index.specs.declared.nodes.Spot.{Spot}
-use Rattle.root_index.specs.Order.{Precedes, IsAscending}
+use Rattle.root_index.specs.Order.{EntryPrecedes, IsAscending}
 use Rattle.root_index.specs.Sets.{IsAfter, IsStart}
-use Rattle.root_index.specs.Lists.{joined, stays}
+use Rattle.root_index.specs.Lists.{concatenated, stays}
 use Rattle.root_index.specs.Nodes.{all, rank_in, before_node, AreNeat, AreNeatBut, IsSpotIn, IsStartIn, IsBehindIn}
 use Rattle.root_index.specs.Rows.{inner_is, some_with}
 use Rattle.root_index.specs.Sweeps.{IsSwept}
-use Rattle.root_index.specs.Trees.{IsSound}
+use Rattle.root_index.specs.Trees.{IsSoundIndex}
 use Rattle.root_index.specs.Pieces.{RemovesPiece}
 use Rattle.root_index.specs.View.{free_places}
 use Rattle.root_index.proofs.OrderLemmas.{Precedes-not_back, not_before_itself, ascending-tail, ascending-head}
@@ -37,10 +37,10 @@ slice_get_past_not (x ∷ xs) (suc i) within none = slice_get_past_not xs i (ome
 
 -- the entries of the nodes behind that of this number
 abbrev pub behind_node : {N : Type 0} → (N → List Entry) → List N → ℕ → List Entry
-behind_node entries nodes i = joined (drop (suc i) (map entries nodes))
+behind_node entries nodes i = concatenated (drop (suc i) (map entries nodes))
 
 abbrev pub entries_before : {N : Type 0} → (N → List Entry) → List N → ℕ → List Entry
-entries_before entries nodes i = joined (take i (map entries nodes))
+entries_before entries nodes i = concatenated (take i (map entries nodes))
 
 module _ {N : Type 0} (entries : N → List Entry) where
   pub around : (nodes : List N) (i : ℕ) (n : N) → slice_get nodes i ≡ Some n
@@ -69,7 +69,7 @@ module _ {N : Type 0} (entries : N → List Entry) where
   pub none_behind : (nodes : List N) (i : ℕ) → length nodes ≤ i + 1 → behind_node entries nodes i ≡ []
   none_behind nodes i past =
       let size = length-lists entries nodes in
-      ap joined (drop_all (suc i) (map entries nodes) (omega arith))
+      ap concatenated (drop_all (suc i) (map entries nodes) (omega arith))
 
   module _ (IsNeat : N → Type 0) (size : N → ℕ) where
     pub some_behind : ((n : N) → IsNeat n → 0 < size n → 0 < length (entries n)) → (nodes : List N) (i : ℕ) → AreNeat IsNeat size nodes → i + 1 < length nodes
@@ -79,16 +79,16 @@ module _ {N : Type 0} (entries : N → List Entry) where
     some_behind some (m ∷ nodes) (suc i) neat within = some_behind some nodes i (λ k d lt. neat (suc k) d (omega arith)) (omega arith)
 
 -- what is swept in the middle is swept in all
-pub swept_among : (es es' front back : List Entry) (rank : ℕ) (dead : List Tid) (swept now : Swept) → IsSwept es es' rank dead swept
+pub swept_among : (es es' prefix back : List Entry) (rank : ℕ) (dead : List Tid) (swept now : Swept) → IsSwept es es' rank dead swept
     → now.last ≡ swept.last → now.removed ≡ swept.removed → ((now.more ≡ true) ↔ ((swept.more ≡ true) ⊎ (0 < length back)))
-    → IsSwept (front ++ (es ++ back)) (front ++ (es' ++ back)) (length front + rank) dead now
-swept_among es es' front back rank dead swept now s last removed more = record {
-  front = front ++ s.front;
+    → IsSwept (prefix ++ (es ++ back)) (prefix ++ (es' ++ back)) (length prefix + rank) dead now
+swept_among es es' prefix back rank dead swept now s last removed more = record {
+  prefix = prefix ++ s.prefix;
   piece = s.piece;
   back = s.back ++ back;
   was = parted es s.piece s.was;
   is = parted es' (filter (stays dead) s.piece) s.is;
-  begins = length-append front s.front ∙ ap (λ n. length front + n) s.begins;
+  begins = length-append prefix s.prefix ∙ ap (λ n. length prefix + n) s.begins;
   last = s.last ∙ ap Some (sym last);
   removed = ap (λ n. n + length (filter (stays dead) s.piece)) removed ∙ s.removed;
   more = (
@@ -100,11 +100,11 @@ swept_among es es' front back rank dead swept now s last removed more = record {
     whole : length (s.back ++ back) ≡ length s.back + length back
     whole = length-append s.back back
 
-    parted : (xs here : List Entry) → xs ≡ s.front ++ (here ++ s.back) → front ++ (xs ++ back) ≡ (front ++ s.front) ++ (here ++ (s.back ++ back))
+    parted : (xs here : List Entry) → xs ≡ s.prefix ++ (here ++ s.back) → prefix ++ (xs ++ back) ≡ (prefix ++ s.prefix) ++ (here ++ (s.back ++ back))
     parted xs here is =
-        ap (λ xs. front ++ (xs ++ back)) is
-        ∙ ap (λ xs. front ++ xs) (append_assoc s.front (here ++ s.back) back ∙ ap (λ xs. s.front ++ xs) (append_assoc here s.back back))
-        ∙ sym (append_assoc front s.front (here ++ (s.back ++ back)))
+        ap (λ xs. prefix ++ (xs ++ back)) is
+        ∙ ap (λ xs. prefix ++ xs) (append_assoc s.prefix (here ++ s.back) back ∙ ap (λ xs. s.prefix ++ xs) (append_assoc here s.back back))
+        ∙ sym (append_assoc prefix s.prefix (here ++ (s.back ++ back)))
 
 module _ {N S : Type 0} (entries : N → List Entry) (rank : N → S → ℕ) where
   pub rank_among : (nodes : List N) (spot : Spot S) (n : N) → slice_get nodes spot.node ≡ Some n
@@ -171,7 +171,7 @@ module _ {N S : Type 0} (entries : N → List Entry) (rank : N → S → ℕ) wh
       let size = length-lists entries nodes in
       let long : length there ≡ length nodes = ap length same in
       let end : before_node entries nodes (spot.node + 1) ≡ length (all entries nodes) =
-      ap (λ ls. length (joined ls)) (take_all (spot.node + 1) (map entries nodes) (omega arith)) in
+      ap (λ ls. length (concatenated ls)) (take_all (spot.node + 1) (map entries nodes) (omega arith)) in
       omega (arith, end, next)
 
 pub none_weaker : {T : Type 0} {P Q : Type 0} (result : Option T) → (P → Q) → IfNone result P → IfNone result Q
@@ -214,7 +214,7 @@ swept_leaf xs new from dead swept within is last removed more =
     let short = length-take-le from xs (omega arith) in
     let made : length new ≡ length (take from xs) + length (filter (stays dead) (drop from xs)) = ap length is ∙ length-append (take from xs) (filter (stays dead) (drop from xs)) in
     record {
-      front = take from xs;
+      prefix = take from xs;
       piece = drop from xs;
       back = [];
       was = sym (take-append-drop from xs) ∙ ap (λ ys. take from xs ++ ys) (sym (append-nil (drop from xs)));
@@ -253,67 +253,67 @@ ascending_filtered : (test : Entry → Bool) (piece back : List Entry) → IsAsc
 ascending_filtered test [] back up = up
 ascending_filtered test (x ∷ piece) back up = by_case (test x) refl (ascending_filtered test piece back (ascending-tail x (piece ++ back) up))
   where
-    later : All (Precedes x) (filter test piece ++ back)
-    later = all-from (Precedes x) (filter test piece ++ back)
+    later : All (EntryPrecedes x) (filter test piece ++ back)
+    later = all-from (EntryPrecedes x) (filter test piece ++ back)
         (λ e h. ascending-head x e (piece ++ back) up (among_both (filter test piece) piece back (λ e there. (filtered test piece e there).0) e h))
 
     by_case : (b : Bool) → test x ≡ b → IsAscending (filter test piece ++ back) → IsAscending (filter test (x ∷ piece) ++ back)
-    by_case true is rest = rw is (AllPairs-cons Precedes x (filter test piece ++ back) later rest)
+    by_case true is rest = rw is (AllPairs-cons EntryPrecedes x (filter test piece ++ back) later rest)
     by_case false is rest = rw is rest
 
-ascending_front : (front xs ys : List Entry) → IsAscending (front ++ xs) → IsAscending ys → ((e : Entry) → Contains ys e → Contains xs e) → IsAscending (front ++ ys)
+ascending_front : (prefix xs ys : List Entry) → IsAscending (prefix ++ xs) → IsAscending ys → ((e : Entry) → Contains ys e → Contains xs e) → IsAscending (prefix ++ ys)
 ascending_front [] xs ys up up_ys among = up_ys
-ascending_front (x ∷ front) xs ys up up_ys among =
-    AllPairs-cons Precedes x (front ++ ys)
-    (all-from (Precedes x) (front ++ ys) (λ e h. ascending-head x e (front ++ xs) up
-    (⊎_elim (λ first. Contains-append_left front xs e first) (λ second. Contains-append_right front xs e (among e second)) (Contains-append_cases front ys e h))))
-    (ascending_front front xs ys (ascending-tail x (front ++ xs) up) up_ys among)
+ascending_front (x ∷ prefix) xs ys up up_ys among =
+    AllPairs-cons EntryPrecedes x (prefix ++ ys)
+    (all-from (EntryPrecedes x) (prefix ++ ys) (λ e h. ascending-head x e (prefix ++ xs) up
+    (⊎_elim (λ first. Contains-append_left prefix xs e first) (λ second. Contains-append_right prefix xs e (among e second)) (Contains-append_cases prefix ys e h))))
+    (ascending_front prefix xs ys (ascending-tail x (prefix ++ xs) up) up_ys among)
 
-module _ (front piece back : List Entry) (dead : List Tid) (up : IsAscending (front ++ (piece ++ back))) where
+module _ (prefix piece back : List Entry) (dead : List Tid) (up : IsAscending (prefix ++ (piece ++ back))) where
   up_rest : IsAscending (piece ++ back)
-  up_rest = ascending_back front (piece ++ back) up
+  up_rest = ascending_back prefix (piece ++ back) up
 
-  pub ascending_left : IsAscending (front ++ (filter (stays dead) piece ++ back))
+  pub ascending_left : IsAscending (prefix ++ (filter (stays dead) piece ++ back))
   ascending_left =
-      ascending_front front (piece ++ back) (filter (stays dead) piece ++ back) up (ascending_filtered (stays dead) piece back up_rest)
+      ascending_front prefix (piece ++ back) (filter (stays dead) piece ++ back) up (ascending_filtered (stays dead) piece back up_rest)
       (λ e h. among_both (filter (stays dead) piece) piece back (λ e there. (filtered (stays dead) piece e there).0) e h)
 
-  module _ (from : Option Entry) (start : IsStart (front ++ (piece ++ back)) (IsAfter from) (length front)) where
-    in_front : (e : Entry) → Contains front e → ¬ IsAfter from e
+  module _ (from : Option Entry) (start : IsStart (prefix ++ (piece ++ back)) (IsAfter from) (length prefix)) where
+    in_front : (e : Entry) → Contains prefix e → ¬ IsAfter from e
     in_front e there =
-        let p = place_of front e there in
-        let within = slice_get_within front p.0 e p.1 in
-        start.before p.0 e within (get_front front (piece ++ back) p.0 within ∙ p.1)
+        let p = place_of prefix e there in
+        let within = slice_get_within prefix p.0 e p.1 in
+        start.before p.0 e within (get_front prefix (piece ++ back) p.0 within ∙ p.1)
 
     in_rest : (e : Entry) → Contains (piece ++ back) e → IsAfter from e
     in_rest e there =
         let p = place_of (piece ++ back) e there in
-        start.from (length front + p.0) e (omega arith) (get_behind front (piece ++ back) p.0 ∙ p.1)
+        start.from (length prefix + p.0) e (omega arith) (get_behind prefix (piece ++ back) p.0 ∙ p.1)
 
     pub members_left : (IsUp : Entry → Type 0) → ((e : Entry) → Contains piece e → IsUp e) → ((e : Entry) → Contains back e → ¬ IsUp e) → (e : Entry)
-        → Contains (front ++ (filter (stays dead) piece ++ back)) e ↔ (Contains (front ++ (piece ++ back)) e × (¬ (IsAfter from e × IsUp e × Contains dead e.tid)))
+        → Contains (prefix ++ (filter (stays dead) piece ++ back)) e ↔ (Contains (prefix ++ (piece ++ back)) e × (¬ (IsAfter from e × IsUp e × Contains dead e.tid)))
     members_left IsUp here behind e = (
-      λ h. ⊎_elim (λ first. (Contains-append_left front (piece ++ back) e first, λ gone. in_front e first gone.0))
+      λ h. ⊎_elim (λ first. (Contains-append_left prefix (piece ++ back) e first, λ gone. in_front e first gone.0))
           (λ rest. ⊎_elim
           (λ looked. let both = filtered (stays dead) piece e looked in
-          (Contains-append_right front (piece ++ back) e (Contains-append_left piece back e both.0), λ gone. (stays-is dead e).0 both.1 gone.2))
-          (λ last. (Contains-append_right front (piece ++ back) e (Contains-append_right piece back e last), λ gone. behind e last gone.1))
+          (Contains-append_right prefix (piece ++ back) e (Contains-append_left piece back e both.0), λ gone. (stays-is dead e).0 both.1 gone.2))
+          (λ last. (Contains-append_right prefix (piece ++ back) e (Contains-append_right piece back e last), λ gone. behind e last gone.1))
           (Contains-append_cases (filter (stays dead) piece) back e rest))
-          (Contains-append_cases front (filter (stays dead) piece ++ back) e h),
-      λ h. ⊎_elim (λ first. Contains-append_left front (filter (stays dead) piece ++ back) e first)
-          (λ rest. Contains-append_right front (filter (stays dead) piece ++ back) e (⊎_elim
+          (Contains-append_cases prefix (filter (stays dead) piece ++ back) e h),
+      λ h. ⊎_elim (λ first. Contains-append_left prefix (filter (stays dead) piece ++ back) e first)
+          (λ rest. Contains-append_right prefix (filter (stays dead) piece ++ back) e (⊎_elim
           (λ looked. Contains-append_left (filter (stays dead) piece) back e
           (kept (stays dead) piece e looked ((stays-is dead e).1 (λ gone. h.1 (in_rest e rest, here e looked, gone)))))
           (λ last. Contains-append_right (filter (stays dead) piece) back e last)
           (Contains-append_cases piece back e rest)))
-          (Contains-append_cases front (piece ++ back) e h.0),
+          (Contains-append_cases prefix (piece ++ back) e h.0),
     )
 
     module _ (last : Entry) (at : slice_get piece (length piece - 1) ≡ Some last) where
       at_rest : slice_get (piece ++ back) (length piece - 1) ≡ Some last
       at_rest = get_front piece back (length piece - 1) (slice_get_within piece (length piece - 1) last at) ∙ at
 
-      in_piece : (e : Entry) → Contains piece e → ¬ Precedes last e
+      in_piece : (e : Entry) → Contains piece e → ¬ EntryPrecedes last e
       in_piece e there =
           let p = place_of piece e there in
           let within = slice_get_within piece p.0 e p.1 in
@@ -321,32 +321,32 @@ module _ (front piece back : List Entry) (dead : List Tid) (up : IsAscending (fr
           elim (cases_lt p.0 (length piece - 1)) [
             | inl below ↦ Precedes-not_back e last (ascending-at (piece ++ back) p.0 (length piece - 1) e last up_rest below there at_rest)
             | inr same ↦ λ after. not_before_itself last
-                (subst (λ y. Precedes last y) (same_place (piece ++ back) p.0 (length piece - 1) e last (omega (arith, same, within)) there at_rest) after)
+                (subst (λ y. EntryPrecedes last y) (same_place (piece ++ back) p.0 (length piece - 1) e last (omega (arith, same, within)) there at_rest) after)
           ]
 
-      in_back : (e : Entry) → Contains back e → Precedes last e
+      in_back : (e : Entry) → Contains back e → EntryPrecedes last e
       in_back e there =
           let p = place_of back e there in
           let within = slice_get_within piece (length piece - 1) last at in
           ascending-at (piece ++ back) (length piece - 1) (length piece + p.0) last e up_rest (omega (arith, within)) at_rest (get_behind piece back p.0 ∙ p.1)
 
-      next_of : 0 < length back → (next : Entry) × Contains (front ++ (piece ++ back)) next × Precedes last next
+      next_of : 0 < length back → (next : Entry) × Contains (prefix ++ (piece ++ back)) next × EntryPrecedes last next
       next_of some =
           let d = get_or back 0 last in
           let there = Contains-get_or back 0 last some in
-          (d, Contains-append_right front (piece ++ back) d (Contains-append_right piece back d there), in_back d there)
+          (d, Contains-append_right prefix (piece ++ back) d (Contains-append_right piece back d there), in_back d there)
 
       there : Contains (piece ++ back) last
       there = Contains-from_place (piece ++ back) last (length piece - 1) at_rest
 
-      pub removes_more : 0 < length back → RemovesPiece (front ++ (piece ++ back)) (front ++ (filter (stays dead) piece ++ back)) dead from (More last)
+      pub removes_more : 0 < length back → RemovesPiece (prefix ++ (piece ++ back)) (prefix ++ (filter (stays dead) piece ++ back)) dead from (More last)
       removes_more some = record {
         ascending = ascending_left;
-        members = members_left (λ e. ¬ Precedes last e) in_piece (λ e behind up. up (in_back e behind));
-        goes_on = (Contains-append_right front (piece ++ back) last there, in_rest last there, next_of some);
+        members = members_left (λ e. ¬ EntryPrecedes last e) in_piece (λ e behind up. up (in_back e behind));
+        goes_on = (Contains-append_right prefix (piece ++ back) last there, in_rest last there, next_of some);
       }
 
-    pub removes_last : back ≡ [] → RemovesPiece (front ++ (piece ++ back)) (front ++ (filter (stays dead) piece ++ back)) dead from Done
+    pub removes_last : back ≡ [] → RemovesPiece (prefix ++ (piece ++ back)) (prefix ++ (filter (stays dead) piece ++ back)) dead from Done
     removes_last none = record {
       ascending = ascending_left;
       members = members_left (λ e. Unit {0}) (λ e there. tt) (λ e there. absurd (Contains-none e (subst (λ (xs : List Entry). Contains xs e) none there)));
@@ -361,18 +361,18 @@ pub removes_swept : (old new : List Entry) (rank : ℕ) (dead : List Tid) (swept
     → IsSwept old new rank dead swept → (swept.more ≡ true → progress ≡ More swept.last) → (swept.more ≡ false → progress ≡ Done) → RemovesPiece old new dead from progress
 removes_swept old new rank dead swept from progress up start s more done =
     let up_parts = subst IsAscending s.was up in
-    let start_parts = subst (λ (xs : List Entry). IsStart xs (IsAfter from) (length s.front)) s.was (subst (IsStart old (IsAfter from)) (sym s.begins) start) in
+    let start_parts = subst (λ (xs : List Entry). IsStart xs (IsAfter from) (length s.prefix)) s.was (subst (IsStart old (IsAfter from)) (sym s.begins) start) in
     subst (λ (xs : List Entry). RemovesPiece xs new dead from progress) (sym s.was)
-    (subst (λ (xs : List Entry). RemovesPiece (s.front ++ (s.piece ++ s.back)) xs dead from progress) (sym s.is) (by_case swept.more refl up_parts start_parts))
+    (subst (λ (xs : List Entry). RemovesPiece (s.prefix ++ (s.piece ++ s.back)) xs dead from progress) (sym s.is) (by_case swept.more refl up_parts start_parts))
   where
-    by_case : (b : Bool) → swept.more ≡ b → IsAscending (s.front ++ (s.piece ++ s.back)) → IsStart (s.front ++ (s.piece ++ s.back)) (IsAfter from) (length s.front)
-        → RemovesPiece (s.front ++ (s.piece ++ s.back)) (s.front ++ (filter (stays dead) s.piece ++ s.back)) dead from progress
+    by_case : (b : Bool) → swept.more ≡ b → IsAscending (s.prefix ++ (s.piece ++ s.back)) → IsStart (s.prefix ++ (s.piece ++ s.back)) (IsAfter from) (length s.prefix)
+        → RemovesPiece (s.prefix ++ (s.piece ++ s.back)) (s.prefix ++ (filter (stays dead) s.piece ++ s.back)) dead from progress
     by_case true is up start =
-        subst (RemovesPiece (s.front ++ (s.piece ++ s.back)) (s.front ++ (filter (stays dead) s.piece ++ s.back)) dead from) (sym (more is))
-        (removes_more s.front s.piece s.back dead up from start swept.last s.last (s.more.0 is))
+        subst (RemovesPiece (s.prefix ++ (s.piece ++ s.back)) (s.prefix ++ (filter (stays dead) s.piece ++ s.back)) dead from) (sym (more is))
+        (removes_more s.prefix s.piece s.back dead up from start swept.last s.last (s.more.0 is))
     by_case false is up start =
-        subst (RemovesPiece (s.front ++ (s.piece ++ s.back)) (s.front ++ (filter (stays dead) s.piece ++ s.back)) dead from) (sym (done is))
-        (removes_last s.front s.piece s.back dead up from start (empty_back s.back (λ some. let yes = s.more.1 some in absurd (cc (yes, is)))))
+        subst (RemovesPiece (s.prefix ++ (s.piece ++ s.back)) (s.prefix ++ (filter (stays dead) s.piece ++ s.back)) dead from) (sym (done is))
+        (removes_last s.prefix s.piece s.back dead up from start (empty_back s.back (λ some. let yes = s.more.1 some in absurd (cc (yes, is)))))
 
 -- what a look-up found through a reference
 pub start_there : {N S : Type 0} (entries : N → List Entry) (rank : N → S → ℕ) (IsSpot : N → S → Type 0) (nodes seen : List N) (P : Entry → Type 0) (spot : Spot S) → seen ≡ nodes
@@ -392,14 +392,14 @@ removes_none old new rank dead from up start past same = subst (λ (xs : List En
 })
 
 pub sound_swept : {N : Type 0} (entries : N → List Entry) (IsNeat : N → Type 0) (size : N → ℕ) (nodes new : List N) (room room' spare : ℕ) (HasLeft : ℕ → Type 0) (count count' promised rank : ℕ)
-    (dead : List Tid) (swept : Swept) → IsSound entries IsNeat size nodes room spare HasLeft count promised → IsSwept (all entries nodes) (all entries new) rank dead swept
-    → AreNeat IsNeat size new → room ≤ room' → count' ≡ count - swept.removed → IsSound entries IsNeat size new room' spare HasLeft count' promised
+    (dead : List Tid) (swept : Swept) → IsSoundIndex entries IsNeat size nodes room spare HasLeft count promised → IsSwept (all entries nodes) (all entries new) rank dead swept
+    → AreNeat IsNeat size new → room ≤ room' → count' ≡ count - swept.removed → IsSoundIndex entries IsNeat size new room' spare HasLeft count' promised
 sound_swept entries IsNeat size nodes new room room' spare HasLeft count count' promised rank dead swept sound s neat in_room counted =
-    let up = ascending_left s.front s.piece s.back dead (subst IsAscending s.was sound.ascending) in
-    let was : length (all entries nodes) ≡ length s.front + (length s.piece + length s.back) =
-    ap length s.was ∙ length-append s.front (s.piece ++ s.back) ∙ ap (λ n. length s.front + n) (length-append s.piece s.back) in
-    let is : length (all entries new) ≡ length s.front + (length (filter (stays dead) s.piece) + length s.back) =
-    ap length s.is ∙ length-append s.front (filter (stays dead) s.piece ++ s.back) ∙ ap (λ n. length s.front + n) (length-append (filter (stays dead) s.piece) s.back) in
+    let up = ascending_left s.prefix s.piece s.back dead (subst IsAscending s.was sound.ascending) in
+    let was : length (all entries nodes) ≡ length s.prefix + (length s.piece + length s.back) =
+    ap length s.was ∙ length-append s.prefix (s.piece ++ s.back) ∙ ap (λ n. length s.prefix + n) (length-append s.piece s.back) in
+    let is : length (all entries new) ≡ length s.prefix + (length (filter (stays dead) s.piece) + length s.back) =
+    ap length s.is ∙ length-append s.prefix (filter (stays dead) s.piece ++ s.back) ∙ ap (λ n. length s.prefix + n) (length-append (filter (stays dead) s.piece) s.back) in
     let before = sound.counted in
     let gone = s.removed in
     let list = sound.in_list in
@@ -429,9 +429,9 @@ pub room_swept : (old new : List Entry) (rank : ℕ) (dead : List Tid) (swept : 
 room_swept old new rank dead swept promised is some =
     let left = some_left new some in
     let stay = filter (stays dead) is.piece in
-    let before : length old ≡ length is.front + (length is.piece + length is.back) =
-    ap length is.was ∙ length-append is.front (is.piece ++ is.back) ∙ ap (λ n. length is.front + n) (length-append is.piece is.back) in
-    let after : length new ≡ length is.front + (length stay + length is.back) =
-    ap length is.is ∙ length-append is.front (stay ++ is.back) ∙ ap (λ n. length is.front + n) (length-append stay is.back) in
+    let before : length old ≡ length is.prefix + (length is.piece + length is.back) =
+    ap length is.was ∙ length-append is.prefix (is.piece ++ is.back) ∙ ap (λ n. length is.prefix + n) (length-append is.piece is.back) in
+    let after : length new ≡ length is.prefix + (length stay + length is.back) =
+    ap length is.is ∙ length-append is.prefix (stay ++ is.back) ∙ ap (λ n. length is.prefix + n) (length-append stay is.back) in
     let more = places_more (length old) (length new) left (omega (arith, before, after, is.removed)) in
     omega (arith, more)

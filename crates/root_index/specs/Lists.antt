@@ -7,8 +7,8 @@ use Rattle.root_index.specs.declared.entry.Entry.{Entry}
 use Rattle.root_index.specs.Order.{comparison}
 
 -- the entries of the lists, one list after another
-abbrev pub joined : List (List Entry) → List Entry
-joined lists = flat_map (λ list. list) lists
+abbrev pub concatenated : List (List Entry) → List Entry
+concatenated lists = flat_map (λ list. list) lists
 
 -- the list of this number, counted from 0
 abbrev pub list_of : List (List Entry) → ℕ → List Entry
@@ -23,7 +23,7 @@ pub record Place : Type 0 where
 
 -- where the entry at a place stands among all
 abbrev pub rank : List (List Entry) → Place → ℕ
-rank lists place = length (joined (take place.list lists)) + place.entry
+rank lists place = length (concatenated (take place.list lists)) + place.entry
 
 -- the sought entry precedes the list's first
 abbrev pub begins_after : Entry → List Entry → Bool
@@ -36,7 +36,7 @@ IsFirst entry [] = Unit {0}
 IsFirst entry (first ∷ rest) = entry ≡ first
 
 -- one of these two lists or one between them is the last that doesn't begin after the entry
-pub record IsBetween (lists : List (List Entry)) (sought : Entry) (low high : ℕ) : Type 0 where
+pub record IsLastBetween (lists : List (List Entry)) (sought : Entry) (low high : ℕ) : Type 0 where
   pub order : low < high
   pub in_range : high ≤ length lists
   pub below : 0 < low → begins_after sought (list_of lists low) ≡ false

@@ -4,11 +4,11 @@ use Rattle.std.specs.List.{All}
 use Rattle.root_index.specs.declared.entry.Entry.{Entry}
 use Rattle.root_index.specs.declared.nodes.Spot.{Spot}
 use Rattle.root_index.specs.Sets.{IsStart}
-use Rattle.root_index.specs.Lists.{joined, rank, Place}
+use Rattle.root_index.specs.Lists.{concatenated, rank, Place}
 
 -- the entries of the nodes, one node after another
 abbrev pub all : {N : Type 0} → (N → List Entry) → List N → List Entry
-all entries nodes = joined (map entries nodes)
+all entries nodes = concatenated (map entries nodes)
 
 -- no node is empty, nor any part of one
 abbrev pub AreNeat : {N : Type 0} → (N → Type 0) → (N → ℕ) → List N → Type 0
@@ -16,20 +16,20 @@ AreNeat IsNeat size nodes = All (λ n. IsNeat n × (0 < size n)) nodes
 
 -- the number of entries before the node of this number
 abbrev pub before_node : {N : Type 0} → (N → List Entry) → List N → ℕ → ℕ
-before_node entries nodes number = length (joined (take number (map entries nodes)))
+before_node entries nodes number = length (concatenated (take number (map entries nodes)))
 
 -- the number of entries before the spot in its node, if there is such a node
 abbrev pub inner_rank : {N S : Type 0} → (N → S → ℕ) → Option N → S → ℕ
 inner_rank rank None spot = 0
 inner_rank rank (Some n) spot = rank n spot
 
--- the spot as a place in its node's list of entries
-abbrev pub place : {N S : Type 0} → (N → S → ℕ) → List N → Spot S → Place
-place rank nodes spot = record { list = spot.node; entry = inner_rank rank (slice_get nodes spot.node) spot.inner }
+-- the spot as a spot_place in its node's list of entries
+abbrev pub spot_place : {N S : Type 0} → (N → S → ℕ) → List N → Spot S → Place
+spot_place rank nodes spot = record { list = spot.node; entry = inner_rank rank (slice_get nodes spot.node) spot.inner }
 
 -- the number of entries before the spot
 abbrev pub rank_in : {N S : Type 0} → (N → List Entry) → (N → S → ℕ) → List N → Spot S → ℕ
-rank_in entries inner nodes spot = rank (map entries nodes) (place inner nodes spot)
+rank_in entries inner nodes spot = rank (map entries nodes) (spot_place inner nodes spot)
 
 -- no node is empty but for that of this number, nor any part of one
 abbrev pub AreNeatBut : {N : Type 0} → (N → Type 0) → (N → ℕ) → List N → ℕ → Type 0
@@ -54,12 +54,12 @@ pub record IsStartIn {N S : Type 0} (entries : N → List Entry) (rank : N → S
   pub start : IsStart (all entries nodes) P (rank_in entries rank nodes spot)
 
 -- after a node was split if it was full: the same entries, and one more part may come where the spot is
-pub record IsOpen {N S : Type 0} (entries : N → List Entry) (size : N → ℕ) (rank : N → S → ℕ) (IsSpot : N → S → Type 0) (old new : List N) (was is : Spot S) : Type 0 where
+pub record IsOpened {N S : Type 0} (entries : N → List Entry) (size : N → ℕ) (rank : N → S → ℕ) (IsSpot : N → S → Type 0) (old new : List N) (was is : Spot S) : Type 0 where
   pub same : all entries new ≡ all entries old
   pub before : rank_in entries rank new is ≡ rank_in entries rank old was
   pub room : IsSomeAnd (slice_get new is.node) (λ n. (size n < 128) × IsSpot n is.inner)
 
--- no node was taken of those that are set aside, nor a place in their list
+-- no node was taken of those that are set aside, nor a spot_place in their list
 pub record IsUnspent {B : Type 0} (HasLeft : B → ℕ → Type 0) (room room' spare spare' : ℕ) (left left' : B) : Type 0 where
   pub in_list : room ≤ room'
   pub nodes : spare ≤ spare'

@@ -12,12 +12,12 @@ comparison a b =
     ordering_then (ordering_then (ordering_then (int_cmp a.value b.value)
     (nat_cmp a.key b.key)) (nat_cmp a.tid.page b.tid.page)) (nat_cmp a.tid.slot b.tid.slot)
 
-abbrev pub Precedes : Entry → Entry → Type 0
-Precedes a b = comparison a b ≡ Less
+abbrev pub EntryPrecedes : Entry → Entry → Type 0
+EntryPrecedes a b = comparison a b ≡ Less
 
 -- each entry precedes all later ones
 abbrev pub IsAscending : List Entry → Type 0
-IsAscending entries = AllPairs Precedes entries
+IsAscending entries = AllPairs EntryPrecedes entries
 
 -- The law of ordered sets: two ascending lists with the same entries are the same list.
 abbrev pub MembersDetermine : Type 0

@@ -2,19 +2,19 @@
 use Rattle.std.specs.Prelude.{◌↔◌, List, Option, Contains}
 use Rattle.xid_circle.specs.declared.Tid.{Tid}
 use Rattle.root_index.specs.declared.entry.Entry.{Entry}
-use Rattle.root_index.specs.Order.{Precedes, IsAscending}
+use Rattle.root_index.specs.Order.{EntryPrecedes, IsAscending}
 use Rattle.root_index.specs.Sets.{IsAfter}
 use Rattle.root_index.specs.declared.progress.Progress.{Progress}
 use Rattle.root_index.specs.declared.progress.Progress.TheVariants.{More, Done}
 
 -- up to and with the entry that was looked at last
 abbrev pub IsUpTo : Progress → Entry → Type 0
-IsUpTo (More last) e = ¬ Precedes last e
+IsUpTo (More last) e = ¬ EntryPrecedes last e
 IsUpTo Done e = Unit {0}
 
 -- More is answered exactly where an entry comes after the last one, which is after `from`: so no piece is empty where any entry is left
 abbrev pub GoesOn : List Entry → Option Entry → Progress → Type 0
-GoesOn entries from (More last) = Contains entries last × IsAfter from last × ((next : Entry) × Contains entries next × Precedes last next)
+GoesOn entries from (More last) = Contains entries last × IsAfter from last × ((next : Entry) × Contains entries next × EntryPrecedes last next)
 GoesOn entries from Done = Unit {0}
 
 -- a piece that begins after `from`: of its entries those that lead to one of these places go, and no others

@@ -5,7 +5,7 @@ use Rattle.std.proofs.lemmas.List.Elements.{All-tail}
 use Rattle.std.proofs.lemmas.Option.{slice_get_within}
 use Rattle.root_index.specs.declared.entry.Entry.{Entry}
 use Rattle.root_index.specs.declared.nodes.Spot.{Spot}
-use Rattle.root_index.specs.Lists.{joined}
+use Rattle.root_index.specs.Lists.{concatenated}
 use Rattle.root_index.specs.Nodes.{all, AreNeat, inner_rank, rank_in, IsSpotIn, IsEntryIn}
 
 pub none_without : {N : Type 0} (entries : N → List Entry) (nodes : List N) → length nodes ≡ 0 → all entries nodes ≡ []
@@ -16,8 +16,8 @@ pub some_with : {N : Type 0} (entries : N → List Entry) (IsNeat : N → Type 0
     → AreNeat IsNeat size nodes → 0 < length nodes → 0 < length (all entries nodes)
 some_with entries IsNeat size some [] neat within = absurd (omega arith)
 some_with entries IsNeat size some (n ∷ nodes) neat within =
-    let front = neat 0 n (omega arith) in
-    let first = some n front.0 front.1 in
+    let prefix = neat 0 n (omega arith) in
+    let first = some n prefix.0 prefix.1 in
     let whole = length-append (entries n) (all entries nodes) in
     omega arith
 
@@ -25,8 +25,8 @@ pub many_with : {N : Type 0} (entries : N → List Entry) (IsNeat : N → Type 0
     → AreNeat IsNeat size nodes → length nodes ≤ length (all entries nodes)
 many_with entries IsNeat size some [] neat = omega arith
 many_with entries IsNeat size some (n ∷ nodes) neat =
-    let front = neat 0 n (omega arith) in
-    let first = some n front.0 front.1 in
+    let prefix = neat 0 n (omega arith) in
+    let first = some n prefix.0 prefix.1 in
     let rest = many_with entries IsNeat size some nodes (All-tail (λ n. IsNeat n × (0 < size n)) n nodes neat) in
     let whole = length-append (entries n) (all entries nodes) in
     omega arith
@@ -43,8 +43,8 @@ spot_in {N} IsSpot nodes spot n at inner = record {
   inner = subst (λ (o : Option N). IfSome o (λ n. IsSpot n spot.inner)) (sym at) inner;
 }
 
-pub entry_in : {N S : Type 0} (IsEntry : N → S → Type 0) (nodes : List N) (spot : Spot S) (n : N) → slice_get nodes spot.node ≡ Some n → IsEntry n spot.inner → IsEntryIn IsEntry nodes spot
-entry_in {N} IsEntry nodes spot n at inner = subst (λ (o : Option N). IsSomeAnd o (λ n. IsEntry n spot.inner)) (sym at) inner
+pub is_entry_in : {N S : Type 0} (IsEntry : N → S → Type 0) (nodes : List N) (spot : Spot S) (n : N) → slice_get nodes spot.node ≡ Some n → IsEntry n spot.inner → IsEntryIn IsEntry nodes spot
+is_entry_in {N} IsEntry nodes spot n at inner = subst (λ (o : Option N). IsSomeAnd o (λ n. IsEntry n spot.inner)) (sym at) inner
 
 pub entry_is_spot : {N S : Type 0} (IsSpot IsEntry : N → S → Type 0) (before : (n : N) (s : S) → IsEntry n s → IsSpot n s) (nodes : List N) (spot : Spot S)
     → IsEntryIn IsEntry nodes spot → IsSpotIn IsSpot nodes spot
@@ -56,17 +56,17 @@ entry_is_spot {N} IsSpot IsEntry before nodes spot entry = by_node (slice_get no
 
 -- a spot is among the entries, or right behind the last
 
-front_short : {N : Type 0} (entries : N → List Entry) (nodes : List N) (i : ℕ) → length (joined (take i (map entries nodes))) ≤ length (all entries nodes)
+front_short : {N : Type 0} (entries : N → List Entry) (nodes : List N) (i : ℕ) → length (concatenated (take i (map entries nodes))) ≤ length (all entries nodes)
 front_short entries nodes zero = omega arith
 front_short entries [] (suc i) = omega arith
 front_short entries (n ∷ nodes) (suc i) =
-    let front = length-append (entries n) (joined (take i (map entries nodes))) in
+    let prefix = length-append (entries n) (concatenated (take i (map entries nodes))) in
     let whole = length-append (entries n) (all entries nodes) in
     let rest = front_short entries nodes i in
     omega arith
 
 front_and : {N : Type 0} (entries : N → List Entry) (nodes : List N) (i k : ℕ) (n : N) → slice_get nodes i ≡ Some n → k ≤ length (entries n)
-    → length (joined (take i (map entries nodes))) + k ≤ length (all entries nodes)
+    → length (concatenated (take i (map entries nodes))) + k ≤ length (all entries nodes)
 front_and entries [] zero k n at short = absurd (cc at)
 front_and entries [] (suc i) k n at short = absurd (cc at)
 front_and entries (m ∷ nodes) zero k n at short =
@@ -75,7 +75,7 @@ front_and entries (m ∷ nodes) zero k n at short =
     let whole = length-append (entries m) (all entries nodes) in
     omega arith
 front_and entries (m ∷ nodes) (suc i) k n at short =
-    let front = length-append (entries m) (joined (take i (map entries nodes))) in
+    let prefix = length-append (entries m) (concatenated (take i (map entries nodes))) in
     let whole = length-append (entries m) (all entries nodes) in
     let rest = front_and entries nodes i k n at short in
     omega arith
@@ -87,7 +87,7 @@ rank_within {N} {S} entries rank IsSpot within nodes spot in_range = by_node (sl
     by_node : (o : Option N) → slice_get nodes spot.node ≡ o → rank_in entries rank nodes spot ≤ length (all entries nodes)
     by_node None none =
         let is : inner_rank rank (slice_get nodes spot.node) spot.inner ≡ 0 = ap (λ o. inner_rank rank o spot.inner) none in
-        let front = front_short entries nodes spot.node in
+        let prefix = front_short entries nodes spot.node in
         omega arith
     by_node (Some n) at =
         let is = inner_is rank nodes spot n at in

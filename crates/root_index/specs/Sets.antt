@@ -2,10 +2,10 @@
 use Rattle.std.specs.Prelude.{◌≡◌, ◌↔◌, ◌⊎◌, ◌<◌, ◌<ℤ◌, ℕ, ℤ, List, ◌≤◌, length, slice_get, Option, Some, None, Contains}
 use Rattle.xid_circle.specs.declared.Tid.{Tid}
 use Rattle.root_index.specs.declared.entry.Entry.{Entry}
-use Rattle.root_index.specs.Order.{Precedes, IsAscending}
+use Rattle.root_index.specs.Order.{EntryPrecedes, IsAscending}
 
 -- the same entries and this one
-pub record Adds (old new : List Entry) (entry : Entry) : Type 0 where
+pub record AddsEntry (old new : List Entry) (entry : Entry) : Type 0 where
   pub ascending : IsAscending new
   pub members : (e : Entry) → Contains new e ↔ (Contains old e ⊎ (e ≡ entry))
 
@@ -17,12 +17,12 @@ pub record Loses (old new : List Entry) (dead : List Tid) : Type 0 where
 -- the first of the entries that have P, if any has
 abbrev pub IsLeast : List Entry → (Entry → Type 0) → Option Entry → Type 0
 IsLeast entries P None = (e : Entry) → Contains entries e → ¬ P e
-IsLeast entries P (Some first) = Contains entries first × P first × ((e : Entry) → Contains entries e → P e → ¬ Precedes e first)
+IsLeast entries P (Some first) = Contains entries first × P first × ((e : Entry) → Contains entries e → P e → ¬ EntryPrecedes e first)
 
 -- after this entry, be it in the set or not; where there is none, any entry
 abbrev pub IsAfter : Option Entry → Entry → Type 0
 IsAfter None e = Unit {0}
-IsAfter (Some from) e = Precedes from e
+IsAfter (Some from) e = EntryPrecedes from e
 
 -- of a lower value, or of this value and a lower key
 abbrev pub IsBelow : ℤ → ℕ → Entry → Type 0
@@ -47,5 +47,5 @@ pub record IsStart (entries : List Entry) (P : Entry → Type 0) (i : ℕ) : Typ
 -- the entry is not there, and would stand at this place
 pub record IsGapFor (entries : List Entry) (entry : Entry) (i : ℕ) : Type 0 where
   pub in_range : i ≤ length entries
-  pub before : (k : ℕ) (e : Entry) → k < i → slice_get entries k ≡ Some e → Precedes e entry
-  pub after : (k : ℕ) (e : Entry) → i ≤ k → slice_get entries k ≡ Some e → Precedes entry e
+  pub before : (k : ℕ) (e : Entry) → k < i → slice_get entries k ≡ Some e → EntryPrecedes e entry
+  pub after : (k : ℕ) (e : Entry) → i ≤ k → slice_get entries k ≡ Some e → EntryPrecedes entry e

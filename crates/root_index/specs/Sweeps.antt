@@ -9,12 +9,12 @@ use Rattle.root_index.specs.Lists.{stays}
 -- some entries from this place on were looked at, and those of them that lead to dead places are gone
 pub record IsSwept (old new : List Entry) (rank : ℕ) (dead : List Tid) (swept : Swept) : Type 0 where
   -- the entries before the place, those that were looked at, and those behind
-  pub front : List Entry
+  pub prefix : List Entry
   pub piece : List Entry
   pub back : List Entry
-  pub was : old ≡ front ++ (piece ++ back)
-  pub is : new ≡ front ++ (filter (stays dead) piece ++ back)
-  pub begins : length front ≡ rank
+  pub was : old ≡ prefix ++ (piece ++ back)
+  pub is : new ≡ prefix ++ (filter (stays dead) piece ++ back)
+  pub begins : length prefix ≡ rank
   pub last : slice_get piece (length piece - 1) ≡ Some swept.last
   pub removed : swept.removed + length (filter (stays dead) piece) ≡ length piece
   pub more : (swept.more ≡ true) ↔ (0 < length back)

@@ -6,7 +6,7 @@ use Rattle.root_index.specs.Nodes.{all, AreNeat}
 
 -- the trees, the places that their list has left, the spare trees, whether those below are enough for so many inserts, the count
 -- of entries and how many more may come without memory
-pub record IsSound {N : Type 0} (entries : N → List Entry) (IsNeat : N → Type 0) (size : N → ℕ) (trees : List N) (room spare : ℕ) (HasLeft : ℕ → Type 0) (count promised : ℕ) : Type 0 where
+pub record IsSoundIndex {N : Type 0} (entries : N → List Entry) (IsNeat : N → Type 0) (size : N → ℕ) (trees : List N) (room spare : ℕ) (HasLeft : ℕ → Type 0) (count promised : ℕ) : Type 0 where
   pub ascending : IsAscending (all entries trees)
   pub neat : AreNeat IsNeat size trees
   pub counted : count ≡ length (all entries trees)

@@ -229,7 +229,8 @@ fn put(tids: &mut ArrayVec<Tid, 4096>, tid: Tid)
     requires ascending { AreAscending tids.old.items }
     requires room { array_vec_len tids.old < 4096 }
     ensures adds { AddsPlace tids.old.items tids.new.items tid }
-    ensures last { All (λ t. IsBefore t tid) tids.old.items → tids.new.items ≡ tids.old.items ++ tid ∷ [] }
+    ensures last { All (λ t. IsBefore t tid) tids.old.items
+        → tids.new.items ≡ tids.old.items ++ tid ∷ [] }
 {
     if let Some(number) = number_for(tids.as_slice(), &tid) {
         tids.insert(number, tid);

@@ -3,7 +3,7 @@
 ghost use Rattle.std.specs.Prelude.{◌≡◌, ◌≢◌, ◌<◌, ◌≤◌, ◌+◌, ◌^◌, [], length, OnOk, OnErr, Some, Contains, vec_len, vec_capacity};
 ghost use Rattle.std.specs.Option.{option_map};
 ghost use Rattle.root_index.specs.Order.{IsAscending};
-ghost use Rattle.root_index.specs.Sets.{Adds, IsLeast, IsAfter, IsBelow};
+ghost use Rattle.root_index.specs.Sets.{AddsEntry, IsLeast, IsAfter, IsBelow};
 ghost use Rattle.root_index.specs.View.{free_places, room_in};
 ghost use Rattle.root_index.specs.Pieces.{RemovesPiece};
 
@@ -24,7 +24,7 @@ type Tree = Branch<Branch<Leaf>>;
 /// Where an entry stood when it was found; the first place of all, by default. It may stand elsewhere since, or nowhere; then
 /// the next is searched for.
 #[derive(Clone, Copy, Debug, Default, PartialEq, Eq)]
-pub struct Near {
+pub struct PositionHint {
     spot: Spot<Spot<Spot<usize>>>,
 }
 
@@ -47,13 +47,13 @@ impl Model for RootIndex {
     ghost use Rattle.std.specs.Prelude.{◌-◌, sum_by, vec_len, vec_capacity};
     ghost use Rattle.root_index.specs.View.{IndexView};
     ghost use Rattle.root_index.specs.Nodes.{all};
-    ghost use Rattle.root_index.specs.Trees.{IsSound};
+    ghost use Rattle.root_index.specs.Trees.{IsSoundIndex};
 
     ghost Value = { IndexView };
 
     ghost view = { λ x. record { entries = all ⟦<Tree as Node>⟧.entries x.trees.items; spare = x.promised; nodes = sum_by ⟦<Tree as Node>⟧.nodes x.trees.items } };
 
-    ghost invariant = { λ x. IsSound ⟦<Tree as Node>⟧.entries ⟦<Tree as Node>⟧.IsNeat ⟦<Tree as Node>⟧.size x.trees.items (vec_capacity x.trees - vec_len x.trees) (vec_len x.spares.nodes) (⟦<Tree as Node>⟧.HasLeft x.spares.below) x.count x.promised };
+    ghost invariant = { λ x. IsSoundIndex ⟦<Tree as Node>⟧.entries ⟦<Tree as Node>⟧.IsNeat ⟦<Tree as Node>⟧.size x.trees.items (vec_capacity x.trees - vec_len x.trees) (vec_len x.spares.nodes) (⟦<Tree as Node>⟧.HasLeft x.spares.below) x.count x.promised };
 }
 
 impl RootIndex {
@@ -125,12 +125,14 @@ impl RootIndex {
     /// was made for it, and there is no entry or there are 128 or more, so that a node may be full; or where the entries could
     /// not be counted any more. They stay as they were then. The room that was made for others is kept where no node is split.
     pub fn insert(&mut self, entry: Entry) -> Result<(), AllocError>
-        ensures adds { OnOk result (Adds self.old.entries self.new.entries entry) }
+        ensures adds { OnOk result (AddsEntry self.old.entries self.new.entries entry) }
         ensures spare { OnOk result (self.old.spare ≤ self.new.spare + 1) }
         ensures room { OnOk result (room_in self.old ≤ room_in self.new + 1) }
         ensures spare_kept { Contains self.old.entries entry → self.old.spare ≤ self.new.spare }
         ensures nodes { self.old.nodes ≤ self.new.nodes }
-        ensures unspent { OnOk result (self.new.nodes ≡ self.old.nodes → length self.new.entries + self.old.spare < 2 ^ 64 → self.old.spare ≤ self.new.spare) }
+        ensures unspent { OnOk result
+            (self.new.nodes ≡ self.old.nodes → length self.new.entries + self.old.spare < 2 ^ 64
+            → self.old.spare ≤ self.new.spare) }
         ensures memory { OnErr result ((room_in self.old ≡ 0) × ¬ Contains self.old.entries entry) }
         ensures err { OnErr result (self.new.entries ≡ self.old.entries) }
     {
@@ -158,12 +160,13 @@ impl RootIndex {
 
     /// The first entry after this one, and where it stood. Where the other still stands at the place that is given, that is
     /// found without a search.
-    pub fn next_near(&self, from: Entry, near: Near) -> Option<(Entry, Near)>
-        ensures { IsLeast self.now.entries (IsAfter (Some from)) (option_map (λ found. found.0) result) }
+    pub fn next_near(&self, from: Entry, near: PositionHint) -> Option<(Entry, PositionHint)>
+        ensures { IsLeast self.now.entries (IsAfter (Some from))
+            (option_map (λ found. found.0) result) }
     {
         let spot = look_ups::spot_near(&self.trees, from, near.spot);
         match nodes::entry_at(&self.trees, spot) {
-            Some(entry) => Some((entry, Near { spot })),
+            Some(entry) => Some((entry, PositionHint { spot })),
             None => None,
         }
     }

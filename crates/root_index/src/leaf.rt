@@ -292,7 +292,9 @@ fn first_or(entries: &[Entry], other: Entry) -> Entry
 
 /// The last of these entries, if it doesn't stand before this place.
 fn last_from(entries: &[Entry], from: usize) -> Option<Entry>
-    ensures last { IfSome result (λ last. (from < length entries.now) × (slice_get entries.now (length entries.now - 1) ≡ Some last)) }
+    ensures last { IfSome result
+        (λ last. (from < length entries.now)
+        × (slice_get entries.now (length entries.now - 1) ≡ Some last)) }
     ensures none { IfNone result (length entries.now ≤ from) }
 {
     if from >= entries.len() {
@@ -307,7 +309,8 @@ fn next_to_go(entries: &[Entry], pages: PageBounds, from: usize, dead: &DeadSet)
     requires in_range { from ≤ length entries.now }
     requires on { AreOn pages entries.now }
     ensures in_range { result ≤ length entries.now }
-    ensures kept { take result entries.now ++ filter (stays dead.now) (drop result entries.now) ≡ take from entries.now ++ filter (stays dead.now) (drop from entries.now) }
+    ensures kept { take result entries.now ++ filter (stays dead.now) (drop result entries.now)
+        ≡ take from entries.now ++ filter (stays dead.now) (drop from entries.now) }
 {
     // the entries of most leaves lead to other pages
     if dead.is_beside(pages) {
@@ -325,7 +328,8 @@ fn next_to_go(entries: &[Entry], pages: PageBounds, from: usize, dead: &DeadSet)
 /// Removes the entries to dead places from this place on, and moves those behind them up.
 fn remove_from(entries: &mut Vec<Entry>, from: usize, dead: &DeadSet)
     requires { from ≤ vec_len entries.old }
-    ensures items { entries.new.items ≡ take from entries.old.items ++ filter (stays dead.now) (drop from entries.old.items) }
+    ensures items { entries.new.items
+        ≡ take from entries.old.items ++ filter (stays dead.now) (drop from entries.old.items) }
     ensures shorter { vec_len entries.new ≤ vec_len entries.old }
     ensures capacity { vec_capacity entries.old ≤ vec_capacity entries.new }
 {

@@ -29,5 +29,5 @@ mod progress;
 
 pub use dead_set::DeadSet;
 pub use entry::{Entry, members_determine};
-pub use index::{Near, RootIndex};
+pub use index::{PositionHint, RootIndex};
 pub use progress::Progress;

@@ -95,9 +95,11 @@ pub(crate) trait Node: Drop {
         requires neat { IsNeat self.now }
         requires ascending { IsAscending (entries self.now) }
         ensures entry { IfOk result (IsEntry self.now) }
-        ensures found { IfOk result (λ spot. IsAt (entries self.now) sought.now (rank self.now spot)) }
+        ensures found { IfOk result
+            (λ spot. IsAt (entries self.now) sought.now (rank self.now spot)) }
         ensures spot { IfErr result (IsSpot self.now) }
-        ensures absent { IfErr result (λ spot. IsGapFor (entries self.now) sought.now (rank self.now spot)) };
+        ensures absent { IfErr result
+            (λ spot. IsGapFor (entries self.now) sought.now (rank self.now spot)) };
 
     /// Whether this entry stands at this spot.
     fn stands_at(&self, sought: &Entry, spot: Self::Spot) -> bool
@@ -145,13 +147,16 @@ pub(crate) trait Node: Drop {
         requires room { size self.old < 128 }
         requires neat { IsNeat self.old }
         requires spot { IsSpot self.old spot }
-        ensures entries { OnOk result (entries self.new ≡ insert (entries self.old) (rank self.old spot) entry) }
+        ensures entries { OnOk result
+            (entries self.new ≡ insert (entries self.old) (rank self.old spot) entry) }
         ensures some { OnOk result (0 < size self.new) }
         ensures kept { size self.old ≤ size self.new }
         ensures neat { IsNeat self.new }
         ensures grown { nodes self.old ≤ nodes self.new }
         ensures spares { (k : ℕ) → HasLeft spares.old (k + 1) → HasLeft spares.new k }
-        ensures unspent { OnOk result (nodes self.new ≡ nodes self.old → (k : ℕ) → HasLeft spares.old k → HasLeft spares.new k) }
+        ensures unspent { OnOk result
+            (nodes self.new ≡ nodes self.old → (k : ℕ) → HasLeft spares.old k
+            → HasLeft spares.new k) }
         ensures err { OnErr result (entries self.new ≡ entries self.old) }
         ensures refused { OnErr result (¬ HasLeft spares.old 1) }
         ensures full { OnErr result ((size self.old ≡ 0) ⊎ (128 ≤ length (entries self.old))) };
@@ -161,7 +166,8 @@ pub(crate) trait Node: Drop {
     fn sweep_from(&mut self, spot: Self::Spot, dead: &DeadSet) -> Option<Swept>
         requires neat { IsNeat self.old }
         requires spot { IsSpot self.old spot }
-        ensures swept { IfSome result (IsSwept (entries self.old) (entries self.new) (rank self.old spot) dead.now) }
+        ensures swept { IfSome result
+            (IsSwept (entries self.old) (entries self.new) (rank self.old spot) dead.now) }
         ensures none { IfNone result (length (entries self.old) ≤ rank self.old spot) }
         ensures same { IfNone result (self.new ≡ self.old) }
         ensures neat { IsNeat self.new };

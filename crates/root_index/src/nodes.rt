@@ -5,8 +5,8 @@ ghost use Rattle.std.specs.Bool.{OnTrue};
 ghost use Rattle.std.specs.List.{insert};
 ghost use Rattle.root_index.specs.Order.{IsAscending};
 ghost use Rattle.root_index.specs.Sets.{IsAt, IsGapFor};
-ghost use Rattle.root_index.specs.Lists.{IsBetween};
-ghost use Rattle.root_index.specs.Nodes.{all, rank_in, before_node, AreNeat, AreNeatBut, IsSpotIn, IsEntryIn, IsBehindIn, IsOpen, IsUnspent, AreKept};
+ghost use Rattle.root_index.specs.Lists.{IsLastBetween};
+ghost use Rattle.root_index.specs.Nodes.{all, rank_in, before_node, AreNeat, AreNeatBut, IsSpotIn, IsEntryIn, IsBehindIn, IsOpened, IsUnspent, AreKept};
 ghost use Rattle.root_index.specs.Sweeps.{IsSwept};
 
 use crate::dead_set::DeadSet;
@@ -42,7 +42,7 @@ fn node_of<N: Node>(nodes: &[N], number: usize) -> Option<&N>
 fn node_for<N: Node>(nodes: &[N], sought: &Entry) -> usize
     requires some { 0 < length nodes.now }
     requires neat { AreNeat N.IsNeat N.size nodes.now }
-    ensures { IsBetween (map N.entries nodes.now) sought.now result (result + 1) }
+    ensures { IsLastBetween (map N.entries nodes.now) sought.now result (result + 1) }
 {
     let mut low = 0;
     let mut high = nodes.len();
@@ -71,7 +71,8 @@ pub(crate) fn first<N: Node>() -> Spot<N::Spot>
 /// The spot right behind an entry's.
 pub(crate) fn behind<N: Node>(spot: Spot<N::Spot>) -> Spot<N::Spot>
     ensures spot { (nodes : _) → IsEntryIn N.IsEntry nodes spot → IsSpotIn N.IsSpot nodes result }
-    ensures rank { (nodes : _) → IsEntryIn N.IsEntry nodes spot → rank_in N.entries N.rank nodes result ≡ rank_in N.entries N.rank nodes spot + 1 }
+    ensures rank { (nodes : _) → IsEntryIn N.IsEntry nodes spot
+        → rank_in N.entries N.rank nodes result ≡ rank_in N.entries N.rank nodes spot + 1 }
 {
     Spot {
         node: spot.node,
@@ -84,9 +85,13 @@ pub(crate) fn search<N: Node>(nodes: &[N], sought: &Entry) -> Result<Spot<N::Spo
     requires neat { AreNeat N.IsNeat N.size nodes.now }
     requires ascending { IsAscending (all N.entries nodes.now) }
     ensures entry { IfOk result (IsEntryIn N.IsEntry nodes.now) }
-    ensures found { IfOk result (λ spot. IsAt (all N.entries nodes.now) sought.now (rank_in N.entries N.rank nodes.now spot)) }
+    ensures found { IfOk result
+        (λ spot. IsAt (all N.entries nodes.now) sought.now
+        (rank_in N.entries N.rank nodes.now spot)) }
     ensures spot { IfErr result (IsSpotIn N.IsSpot nodes.now) }
-    ensures absent { IfErr result (λ spot. IsGapFor (all N.entries nodes.now) sought.now (rank_in N.entries N.rank nodes.now spot)) }
+    ensures absent { IfErr result
+        (λ spot. IsGapFor (all N.entries nodes.now) sought.now
+        (rank_in N.entries N.rank nodes.now spot)) }
 {
     if nodes.is_empty() {
         return Err(first::<N>());
@@ -101,7 +106,8 @@ pub(crate) fn search<N: Node>(nodes: &[N], sought: &Entry) -> Result<Spot<N::Spo
 /// Whether this entry stands at this spot.
 pub(crate) fn stands_at<N: Node>(nodes: &[N], sought: &Entry, spot: Spot<N::Spot>) -> bool
     ensures entry { OnTrue result (IsEntryIn N.IsEntry nodes.now spot) }
-    ensures found { OnTrue result (IsAt (all N.entries nodes.now) sought.now (rank_in N.entries N.rank nodes.now spot)) }
+    ensures found { OnTrue result
+        (IsAt (all N.entries nodes.now) sought.now (rank_in N.entries N.rank nodes.now spot)) }
 {
     match node_of(nodes, spot.node) {
         Some(node) => node.stands_at(sought, spot.inner),
@@ -113,7 +119,8 @@ pub(crate) fn stands_at<N: Node>(nodes: &[N], sought: &Entry, spot: Spot<N::Spot
 pub(crate) fn entry_at<N: Node>(nodes: &[N], spot: Spot<N::Spot>) -> Option<Entry>
     requires neat { AreNeat N.IsNeat N.size nodes.now }
     requires spot { IsSpotIn N.IsSpot nodes.now spot }
-    ensures { result ≡ slice_get (all N.entries nodes.now) (rank_in N.entries N.rank nodes.now spot) }
+    ensures { result
+        ≡ slice_get (all N.entries nodes.now) (rank_in N.entries N.rank nodes.now spot) }
 {
     let node = node_of(nodes, spot.node)?;
     if let Some(entry) = node.entry_at(spot.inner) {
@@ -158,7 +165,8 @@ fn split<N: Node>(nodes: &mut Vec<N>, mut upper: N, spot: Spot<N::Spot>) -> Spot
     requires node { spot.node < length nodes.old.items }
     requires spot { IsSpotIn N.IsSpot nodes.old.items spot }
     requires full { IfSome (slice_get nodes.old.items spot.node) (λ node. N.size node ≡ 128) }
-    ensures opened { IsOpen N.entries N.size N.rank N.IsSpot nodes.old.items nodes.new.items spot result }
+    ensures opened { IsOpened N.entries N.size N.rank N.IsSpot nodes.old.items nodes.new.items spot
+        result }
     ensures neat { AreNeat N.IsNeat N.size nodes.new.items }
     ensures nodes { sum_by N.nodes nodes.new.items ≡ sum_by N.nodes nodes.old.items + 1 }
     ensures count { vec_len nodes.new ≡ vec_len nodes.old + 1 }
@@ -187,19 +195,26 @@ fn open<N: Node>(
     requires neat { AreNeat N.IsNeat N.size nodes.old.items }
     requires node { spot.node < length nodes.old.items }
     requires spot { IsSpotIn N.IsSpot nodes.old.items spot }
-    ensures opened { IfOk result (IsOpen N.entries N.size N.rank N.IsSpot nodes.old.items nodes.new.items spot) }
+    ensures opened { IfOk result
+        (IsOpened N.entries N.size N.rank N.IsSpot nodes.old.items nodes.new.items spot) }
     ensures neat { AreNeat N.IsNeat N.size nodes.new.items }
-    ensures room { (vec_capacity nodes.old - vec_len nodes.old) ≤ (vec_capacity nodes.new - vec_len nodes.new) + 1 }
+    ensures room { (vec_capacity nodes.old - vec_len nodes.old)
+        ≤ (vec_capacity nodes.new - vec_len nodes.new) + 1 }
     ensures longer { vec_len nodes.new ≤ vec_len nodes.old + 1 }
     ensures shorter { vec_len nodes.old ≤ vec_len nodes.new }
     ensures capacity { vec_capacity nodes.old ≤ vec_capacity nodes.new }
     ensures spare { vec_len spare.old ≤ vec_len spare.new + 1 }
     ensures err { OnErr result (nodes.new.items ≡ nodes.old.items) }
-    ensures refused { OnErr result ((vec_capacity nodes.old - vec_len nodes.old ≡ 0) ⊎ (vec_len spare.old ≡ 0)) }
+    ensures refused { OnErr result
+        ((vec_capacity nodes.old - vec_len nodes.old ≡ 0) ⊎ (vec_len spare.old ≡ 0)) }
     ensures full { OnErr result (128 ≤ length (all N.entries nodes.old.items)) }
     ensures grown { sum_by N.nodes nodes.old.items ≤ sum_by N.nodes nodes.new.items }
-    ensures unspent_list { OnOk result (sum_by N.nodes nodes.new.items ≡ sum_by N.nodes nodes.old.items → vec_capacity nodes.old - vec_len nodes.old ≤ vec_capacity nodes.new - vec_len nodes.new) }
-    ensures unspent_nodes { OnOk result (sum_by N.nodes nodes.new.items ≡ sum_by N.nodes nodes.old.items → vec_len spare.old ≤ vec_len spare.new) }
+    ensures unspent_list { OnOk result
+        (sum_by N.nodes nodes.new.items ≡ sum_by N.nodes nodes.old.items
+        → vec_capacity nodes.old - vec_len nodes.old ≤ vec_capacity nodes.new - vec_len nodes.new) }
+    ensures unspent_nodes { OnOk result
+        (sum_by N.nodes nodes.new.items ≡ sum_by N.nodes nodes.old.items
+        → vec_len spare.old ≤ vec_len spare.new) }
 {
     if nodes[spot.node].len() < MAX_PARTS {
         return Ok(spot);
@@ -218,7 +233,8 @@ fn insert_first<N: Node>(
     requires { nodes.old.items ≡ [] }
     ensures entries { OnOk result (all N.entries nodes.new.items ≡ insert [] 0 entry) }
     ensures neat { AreNeat N.IsNeat N.size nodes.new.items }
-    ensures room { (vec_capacity nodes.old - vec_len nodes.old) ≤ (vec_capacity nodes.new - vec_len nodes.new) + 1 }
+    ensures room { (vec_capacity nodes.old - vec_len nodes.old)
+        ≤ (vec_capacity nodes.new - vec_len nodes.new) + 1 }
     ensures longer { vec_len nodes.new ≤ vec_len nodes.old + 1 }
     ensures some { OnOk result (0 < vec_len nodes.new) }
     ensures nodes { OnOk result (0 < sum_by N.nodes nodes.new.items) }
@@ -226,7 +242,9 @@ fn insert_first<N: Node>(
     ensures spare { vec_len spares.old.nodes ≤ vec_len spares.new.nodes + 1 }
     ensures below { (k : ℕ) → N.HasLeft spares.old.below (k + 1) → N.HasLeft spares.new.below k }
     ensures err { OnErr result (nodes.new.items ≡ nodes.old.items) }
-    ensures refused { OnErr result ((vec_capacity nodes.old - vec_len nodes.old ≡ 0) ⊎ (vec_len spares.old.nodes ≡ 0) ⊎ ¬ N.HasLeft spares.old.below 1) }
+    ensures refused { OnErr result
+        ((vec_capacity nodes.old - vec_len nodes.old ≡ 0) ⊎ (vec_len spares.old.nodes ≡ 0)
+        ⊎ ¬ N.HasLeft spares.old.below 1) }
 {
     nodes.try_reserve(1)?;
     let mut node = take_node(&mut spares.nodes)?;
@@ -244,9 +262,13 @@ pub(crate) fn insert<N: Node>(
 ) -> Result<(), AllocError>
     requires neat { AreNeat N.IsNeat N.size nodes.old.items }
     requires spot { IsSpotIn N.IsSpot nodes.old.items spot }
-    ensures entries { OnOk result (all N.entries nodes.new.items ≡ insert (all N.entries nodes.old.items) (rank_in N.entries N.rank nodes.old.items spot) entry) }
+    ensures entries { OnOk result
+        (all N.entries nodes.new.items
+        ≡ insert (all N.entries nodes.old.items)
+        (rank_in N.entries N.rank nodes.old.items spot) entry) }
     ensures neat { AreNeat N.IsNeat N.size nodes.new.items }
-    ensures room { (vec_capacity nodes.old - vec_len nodes.old) ≤ (vec_capacity nodes.new - vec_len nodes.new) + 1 }
+    ensures room { (vec_capacity nodes.old - vec_len nodes.old)
+        ≤ (vec_capacity nodes.new - vec_len nodes.new) + 1 }
     ensures longer { vec_len nodes.new ≤ vec_len nodes.old + 1 }
     ensures kept { vec_len nodes.old ≤ vec_len nodes.new }
     ensures some { OnOk result (0 < vec_len nodes.new) }
@@ -254,10 +276,17 @@ pub(crate) fn insert<N: Node>(
     ensures spare { vec_len spares.old.nodes ≤ vec_len spares.new.nodes + 1 }
     ensures below { (k : ℕ) → N.HasLeft spares.old.below (k + 1) → N.HasLeft spares.new.below k }
     ensures err { OnErr result (all N.entries nodes.new.items ≡ all N.entries nodes.old.items) }
-    ensures refused { OnErr result ((vec_capacity nodes.old - vec_len nodes.old ≡ 0) ⊎ (vec_len spares.old.nodes ≡ 0) ⊎ ¬ N.HasLeft spares.old.below 1) }
-    ensures full { OnErr result ((length nodes.old.items ≡ 0) ⊎ (128 ≤ length (all N.entries nodes.old.items))) }
+    ensures refused { OnErr result
+        ((vec_capacity nodes.old - vec_len nodes.old ≡ 0) ⊎ (vec_len spares.old.nodes ≡ 0)
+        ⊎ ¬ N.HasLeft spares.old.below 1) }
+    ensures full { OnErr result
+        ((length nodes.old.items ≡ 0) ⊎ (128 ≤ length (all N.entries nodes.old.items))) }
     ensures grown { sum_by N.nodes nodes.old.items ≤ sum_by N.nodes nodes.new.items }
-    ensures unspent { OnOk result (sum_by N.nodes nodes.new.items ≡ sum_by N.nodes nodes.old.items → IsUnspent N.HasLeft (vec_capacity nodes.old - vec_len nodes.old) (vec_capacity nodes.new - vec_len nodes.new) (vec_len spares.old.nodes) (vec_len spares.new.nodes) spares.old.below spares.new.below) }
+    ensures unspent { OnOk result
+        (sum_by N.nodes nodes.new.items ≡ sum_by N.nodes nodes.old.items
+        → IsUnspent N.HasLeft (vec_capacity nodes.old - vec_len nodes.old)
+        (vec_capacity nodes.new - vec_len nodes.new) (vec_len spares.old.nodes)
+        (vec_len spares.new.nodes) spares.old.below spares.new.below) }
 {
     if nodes.is_empty() {
         return insert_first(nodes, spares, entry);
@@ -273,7 +302,9 @@ fn are_kept<N: Node>(
     count: u64,
     promised: usize,
 ) -> bool
-    ensures { IsTrue result ↔ AreKept N.HasLeft (vec_capacity nodes.now - vec_len nodes.now) (vec_len spares.now.nodes) spares.now.below count promised }
+    ensures { IsTrue result
+        ↔ AreKept N.HasLeft (vec_capacity nodes.now - vec_len nodes.now)
+        (vec_len spares.now.nodes) spares.now.below count promised }
 {
     if promised as u64 > u64::MAX - count {
         return false;
@@ -291,8 +322,11 @@ pub(crate) fn still_promised<N: Node>(
     count: u64,
     promised: usize,
 ) -> usize
-    ensures all { AreKept N.HasLeft (vec_capacity nodes.now - vec_len nodes.now) (vec_len spares.now.nodes) spares.now.below count promised → result ≡ promised }
-    ensures fewer { (result ≡ promised - 1) ⊎ (AreKept N.HasLeft (vec_capacity nodes.now - vec_len nodes.now) (vec_len spares.now.nodes) spares.now.below count promised × (result ≡ promised)) }
+    ensures all { AreKept N.HasLeft (vec_capacity nodes.now - vec_len nodes.now)
+        (vec_len spares.now.nodes) spares.now.below count promised → result ≡ promised }
+    ensures fewer { (result ≡ promised - 1)
+        ⊎ (AreKept N.HasLeft (vec_capacity nodes.now - vec_len nodes.now)
+        (vec_len spares.now.nodes) spares.now.below count promised × (result ≡ promised)) }
 {
     if are_kept(nodes, spares, count, promised) {
         promised
@@ -332,7 +366,9 @@ fn sweep_one<N: Node>(nodes: &mut Vec<N>, spot: Spot<N::Spot>, dead: &DeadSet) -
     requires neat { AreNeat N.IsNeat N.size nodes.old.items }
     requires node { spot.node < length nodes.old.items }
     requires spot { IsSpotIn N.IsSpot nodes.old.items spot }
-    ensures swept { IfSome result (IsSwept (all N.entries nodes.old.items) (all N.entries nodes.new.items) (rank_in N.entries N.rank nodes.old.items spot) dead.now) }
+    ensures swept { IfSome result
+        (IsSwept (all N.entries nodes.old.items) (all N.entries nodes.new.items)
+        (rank_in N.entries N.rank nodes.old.items spot) dead.now) }
     ensures none { IfNone result (IsBehindIn N.entries N.rank nodes.old.items spot) }
     ensures same { IfNone result (nodes.new.items ≡ nodes.old.items) }
     ensures neat { AreNeat N.IsNeat N.size nodes.new.items }
@@ -362,8 +398,11 @@ pub(crate) fn sweep_from<N: Node>(
 ) -> Option<Swept>
     requires neat { AreNeat N.IsNeat N.size nodes.old.items }
     requires spot { IsSpotIn N.IsSpot nodes.old.items spot }
-    ensures swept { IfSome result (IsSwept (all N.entries nodes.old.items) (all N.entries nodes.new.items) (rank_in N.entries N.rank nodes.old.items spot) dead.now) }
-    ensures none { IfNone result (length (all N.entries nodes.old.items) ≤ rank_in N.entries N.rank nodes.old.items spot) }
+    ensures swept { IfSome result
+        (IsSwept (all N.entries nodes.old.items) (all N.entries nodes.new.items)
+        (rank_in N.entries N.rank nodes.old.items spot) dead.now) }
+    ensures none { IfNone result
+        (length (all N.entries nodes.old.items) ≤ rank_in N.entries N.rank nodes.old.items spot) }
     ensures same { IfNone result (nodes.new.items ≡ nodes.old.items) }
     ensures neat { AreNeat N.IsNeat N.size nodes.new.items }
     ensures shorter { vec_len nodes.new ≤ vec_len nodes.old }
@@ -382,7 +421,9 @@ pub(crate) fn sweep_from<N: Node>(
 /// Sweeps the node of this number from its first entry on, if there is such a node.
 fn sweep_next<N: Node>(nodes: &mut Vec<N>, number: usize, dead: &DeadSet) -> Option<Swept>
     requires neat { AreNeat N.IsNeat N.size nodes.old.items }
-    ensures swept { IfSome result (IsSwept (all N.entries nodes.old.items) (all N.entries nodes.new.items) (before_node N.entries nodes.old.items number) dead.now) }
+    ensures swept { IfSome result
+        (IsSwept (all N.entries nodes.old.items) (all N.entries nodes.new.items)
+        (before_node N.entries nodes.old.items number) dead.now) }
     ensures none { IfNone result (length nodes.old.items ≤ number) }
     ensures same { IfNone result (nodes.new.items ≡ nodes.old.items) }
     ensures neat { AreNeat N.IsNeat N.size nodes.new.items }

@@ -8,8 +8,8 @@ use Rattle.std.specs.Io.KnownBytes.{Appends}
 use Rattle.script.specs.Engine.{Settings, AreSettings, EngineView, IsNew, beginning, SettingsFault, FirstFault, MaxPages, StopAge, FreezeMinAge, FirstXid, DeadLimit, NoMemoryForSettings}
 use Rattle.script.specs.Grammar.{IsAllowed, heading, with_feed}
 use Rattle.script.specs.Reading.{settings_at}
-use Rattle.script.specs.Pieces.{Takes, Gives}
-use Rattle.script.specs.Script.{Event, Outcome, IsBadHeading, IsScriptRun, Leads, Begins, line_of, answers_of, lines_of}
+use Rattle.script.specs.Pieces.{TakesText, GivesText}
+use Rattle.script.specs.Script.{Event, ScriptOutcome, IsBadHeading, IsScriptRun, EventsLead, WritesBeginning, line_of, answers_of, lines_of}
 use Rattle.script.specs.Refusals.{Refusals, IsRefused}
 use Rattle.script.specs.Steps.{Uses, Advance, Advances, MatchesHeading}
 use Rattle.script.specs.Next.{IsNext}
@@ -19,9 +19,9 @@ use Rattle.script.specs.declared.fault.ShellFault.{ShellFault}
 use Rattle.script.specs.declared.fault.ShellFault.TheVariants.{BadLine, Input, Output, NoMemory, TooManyLines}
 use Rattle.script.proofs.PiecesLemmas.{Appends-Appends}
 use Rattle.script.proofs.HeadingLaws.{settings_at_says, settings_at-heading, Free-heading}
-use Rattle.script.proofs.RunLemmas.{Leads-run, Uses-refl, Uses-Takes, Uses-front, Uses-known, no_text, text_is, position-split}
+use Rattle.script.proofs.RunLemmas.{Leads-run, Uses-refl, Uses-Takes, Uses-prefix, Uses-known, no_text, text_is, position-split}
 
-first_known : (before now : Option (List ℕ)) (old p : List ℕ) → old ≡ [] → Takes before now old p → IfSome before (λ input. (rest : List ℕ) × (now ≡ Some rest) × (input ≡ p ++ rest))
+first_known : (before now : Option (List ℕ)) (old p : List ℕ) → old ≡ [] → TakesText before now old p → IfSome before (λ input. (rest : List ℕ) × (now ≡ Some rest) × (input ≡ p ++ rest))
 first_known before now old p none t =
     IfSome_then before (Uses-known before now old [] p (Uses-Takes before before now old [] old p (Uses-refl before old) t))
     (λ input k. (k.0, k.1, sym (ap (λ r. r ++ input) none) ∙ k.2))
@@ -34,32 +34,32 @@ bad_if (Line n) p rest input h other e = absurd (other n refl)
 bad_if Bad p rest input h other e = λ s more fits flags short f. no_text p rest (heading s) more h (Free-heading s fits) short (sym e ∙ f)
 bad_if End p rest input h other e = λ s more fits flags short f. empty_case s more (sym h.1 ∙ sym (ap (λ r. r ++ rest) h.0) ∙ sym e ∙ f)
 
-pub bad_first : (before now : Option (List ℕ)) (old p : List ℕ) (next : Next) → old ≡ [] → Takes before now old p → IsNext next p now → ((n : ℕ) → next ≡ Line n → ⊥) → IfSome before (λ input. IsBadHeading input)
+pub bad_first : (before now : Option (List ℕ)) (old p : List ℕ) (next : Next) → old ≡ [] → TakesText before now old p → IsNext next p now → ((n : ℕ) → next ≡ Line n → ⊥) → IfSome before (λ input. IsBadHeading input)
 bad_first before now old p next none t h other =
     IfSome_then before (first_known before now old p none t) (λ input k. bad_if next p k.0 input (rw k.1 at h) other k.2)
 
-pub bad_text : (before now : Option (List ℕ)) (old p : List ℕ) (n : ℕ) → old ≡ [] → Takes before now old p → position (λ b. b == 10) p ≡ Some n
+pub bad_text : (before now : Option (List ℕ)) (old p : List ℕ) (n : ℕ) → old ≡ [] → TakesText before now old p → position (λ b. b == 10) p ≡ Some n
     → ((s : Settings) → AreSettings s → settings_at (take n p) ≡ Some s → ⊥) → IfSome before (λ input. IsBadHeading input)
 bad_text before now old p n none t at other =
     IfSome_then before (first_known before now old p none t) (λ input k. λ s more fits flags short f.
     other s fits (ap settings_at (text_is p k.0 n (heading s) more at (Free-heading s fits) (sym k.2 ∙ f)) ∙ settings_at-heading s fits flags))
 
-pub first_used : (before now : Option (List ℕ)) (old p : List ℕ) (n : ℕ) (s : Settings) → old ≡ [] → Takes before now old p → position (λ b. b == 10) p ≡ Some n → settings_at (take n p) ≡ Some s
+pub first_used : (before now : Option (List ℕ)) (old p : List ℕ) (n : ℕ) (s : Settings) → old ≡ [] → TakesText before now old p → position (λ b. b == 10) p ≡ Some n → settings_at (take n p) ≡ Some s
     → Uses before now [] (with_feed (heading s)) (drop (n + 1) p)
 first_used before now old p n s none t at h =
     let says = settings_at_says (take n p) s h in
-    let u = Uses-front before now old [] p (with_feed (heading s)) (drop (n + 1) p) (position-split p n at ∙ ap (λ x. with_feed x ++ drop (n + 1) p) says.text) (Uses-Takes before before now old [] old p (Uses-refl before old) t) in
+    let u = Uses-prefix before now old [] p (with_feed (heading s)) (drop (n + 1) p) (position-split p n at ∙ ap (λ x. with_feed x ++ drop (n + 1) p) says.text) (Uses-Takes before before now old [] old p (Uses-refl before old) t) in
     subst (λ (o : List ℕ). Uses before now o (with_feed (heading s)) (drop (n + 1) p)) none u
 
 nothing_first : (a b c : Option (List ℕ)) (x : List ℕ) → Appends a b [] → Appends b c x → Appends a c x
 nothing_first a b c x h k = Appends-Appends a b c [] x h k
 
-begun_first : (a b c : Option (List ℕ)) (x : List ℕ) → Appends a b [] → Begins b c x → Begins a c x
+begun_first : (a b c : Option (List ℕ)) (x : List ℕ) → Appends a b [] → WritesBeginning b c x → WritesBeginning a c x
 begun_first a b c x h k = (k.0, (k.1.0, nothing_first a b c k.1.0 h k.1.1, k.1.2))
 
 -- a new engine of the settings, which a first line can spell, leads on
 ran_from : (s : Settings) (from : EngineView) (events : List Event) (last : EngineView) → AreSettings s → length s.indexed ≡ 4 → IsNew s from.core
-    → AllByRecursion (λ e. IsAllowed (line_of e)) events → Leads from events last → IsScriptRun s events
+    → AllByRecursion (λ e. IsAllowed (line_of e)) events → EventsLead from events last → IsScriptRun s events
 ran_from s from events last fits columns new allowed led = record {
   in_range = fits;
   columns = columns;
@@ -72,7 +72,7 @@ ran_from s from events last fits columns new allowed led = record {
 }
 
 outcome_is : (s : Settings) (from : EngineView) (input bytes : List ℕ) (w0 w1 w2 : Option (List ℕ)) (r : Result (Unit {0}) ShellFault) → AreSettings s → length s.indexed ≡ 4 → IsNew s from.core
-    → Appends w0 w1 [] → input ≡ with_feed (heading s) ++ bytes → Advance from bytes w1 w2 [] r → Outcome r input w0 w2
+    → Appends w0 w1 [] → input ≡ with_feed (heading s) ++ bytes → Advance from bytes w1 w2 [] r → ScriptOutcome r input w0 w2
 outcome_is s from input bytes w0 w1 w2 (Ok u) fits columns new q e h = (
   s,
   h.events,
@@ -129,7 +129,7 @@ outcome_is s from input bytes w0 w1 w2 (Err TooManyLines) fits columns new q e h
 )
 
 pub outcome_from : (before now : Option (List ℕ)) (p text : List ℕ) (from : EngineView) (s : Settings) (w0 w1 w2 : Option (List ℕ)) (r : Result (Unit {0}) ShellFault)
-    → Uses before now [] (with_feed (heading s)) p → AreSettings s → length s.indexed ≡ 4 → Appends w0 w1 [] → IsNew s from.core → text ≡ [] → Advances from now w1 w2 p text r → IfSome before (λ input. Outcome r input w0 w2)
+    → Uses before now [] (with_feed (heading s)) p → AreSettings s → length s.indexed ≡ 4 → Appends w0 w1 [] → IsNew s from.core → text ≡ [] → Advances from now w1 w2 p text r → IfSome before (λ input. ScriptOutcome r input w0 w2)
 outcome_from before now p text from s w0 w1 w2 r u fits columns q new none h =
     IfSome_then before (Uses-known before now [] (with_feed (heading s)) p u) (λ input k.
     outcome_is s from input (p ++ k.0) w0 w1 w2 r fits columns new q k.2 (rw (k.1, none) at h))
@@ -143,7 +143,7 @@ no_heading NoMemory watch input f = tt
 no_heading TooManyLines watch input f = absurd f
 
 -- no line was read, but perhaps a bad first one
-pub outcome_of_none : (e : ShellFault) (input w0 w1 : Option (List ℕ)) → MatchesHeading e input → Appends w0 w1 [] → IfSome input (λ bytes. Outcome (Err e) bytes w0 w1)
+pub outcome_of_none : (e : ShellFault) (input w0 w1 : Option (List ℕ)) → MatchesHeading e input → Appends w0 w1 [] → IfSome input (λ bytes. ScriptOutcome (Err e) bytes w0 w1)
 outcome_of_none e None w0 w1 h quiet = tt
 outcome_of_none (BadLine n) (Some bytes) w0 w1 h quiet = inl (h.0, quiet, h.1)
 outcome_of_none Input (Some bytes) w0 w1 h quiet = inl quiet
@@ -164,7 +164,7 @@ out_of_range s FirstXid h other k = let out = h.0 in let first = k.first_xid.0 i
 out_of_range s DeadLimit h other k = outside s.dead_limit 1 4096 h.0 k.dead_limit
 out_of_range s NoMemoryForSettings h other k = other refl
 
-pub bad_settings : (before now : Option (List ℕ)) (old p : List ℕ) (n : ℕ) (s : Settings) → old ≡ [] → Takes before now old p → position (λ b. b == 10) p ≡ Some n
+pub bad_settings : (before now : Option (List ℕ)) (old p : List ℕ) (n : ℕ) (s : Settings) → old ≡ [] → TakesText before now old p → position (λ b. b == 10) p ≡ Some n
     → Some s ≡ settings_at (take n p) → (AreSettings s → ⊥) → IfSome before (λ input. IsBadHeading input)
 bad_settings before now old p n s none t at read outside =
     bad_text before now old p n none t at (λ s' fits e. outside (subst AreSettings (sym (same_Some s s' (read ∙ e))) fits))
@@ -173,5 +173,5 @@ nil_front : (xs ys : List ℕ) → [] ≡ xs ++ ys → xs ≡ []
 nil_front [] ys e = refl
 nil_front (x ∷ xs) ys e = cc
 
-pub nothing_given : (a b : Option (List ℕ)) (text left : List ℕ) → text ≡ [] → Gives a b text left → Appends a b []
+pub nothing_given : (a b : Option (List ℕ)) (text left : List ℕ) → text ≡ [] → GivesText a b text left → Appends a b []
 nothing_given a b text left none h = rw (← nil_front h.0 left (sym none ∙ h.2)) h.1

@@ -18,7 +18,7 @@ use Rattle.script.specs.declared.line.Verb.{Verb}
 use Rattle.script.specs.declared.line.Verb.TheVariants.{Get as get_verb, Begin as begin_verb, Commit as commit_verb, Insert as insert_verb, Update as update_verb, Delete as delete_verb, Savepoint as savepoint_verb, RollbackTo as rollback_verb, Release as release_verb, Abort as abort_verb, OpenIndex as openindex_verb, OpenHeap as openheap_verb, Next as next_verb, Close as close_verb, Prune as prune_verb, Page as page_verb, Entries as entries_verb}
 use Rattle.script.specs.Verbs.{verb_of, verb_text, usual_verbs, other_verbs}
 use Rattle.script.specs.Grammar.{Fits, KeyFits, RowFits, RangeFits, spelling, spaced, hex_text, body_text, row_text, key_words, row_words, range_words}
-use Rattle.script.specs.Reading.{line_at, line_of, cut, number_of, number_then, column_then, bound_of, bound_then, nibble_of, pair_and, pairs_of, body_of, row_words_of, key_words_of, count_words_of, range_words_of}
+use Rattle.script.specs.Reading.{line_at, line_for, cut, number_of, number_then, column_then, bound_of, bound_then, nibble_of, pair_and, pairs_of, body_of, row_words_of, key_words_of, count_words_of, range_words_of}
 use Rattle.script.proofs.ByteLemmas.{Free, Free-append}
 use Rattle.script.proofs.NumberLaws.{guarded, bound, mapped, both_true, cut_says, cut-free, number_of_says, number_of-decimal, number_then_says, number_then-decimal, decimal_free}
 use Rattle.script.proofs.SignedLaws.{signed_free, column_then_says, column_then-signed, bound_free, bound_of_says, bound_of-signed, bound_then_says, bound_then-signed}
@@ -238,7 +238,7 @@ one_row verb make rest l h =
     let says = row_words_of_says rest m.0 m.1 in
     (m.0, says.0, m.2, ap (λ r. verb ++ spaced r) says.1)
 
-line_of_says : (verb : Verb) (rest : List ℕ) (l : Line) → line_of verb rest ≡ Some l → Fits l × (verb_text verb ++ spaced rest ≡ spelling l)
+line_of_says : (verb : Verb) (rest : List ℕ) (l : Line) → line_for verb rest ≡ Some l → Fits l × (verb_text verb ++ spaced rest ≡ spelling l)
 line_of_says get_verb rest l h = let m = one_key (codes "get") (λ p. Do (Get p.0 p.1)) rest l h in rw (← m.2) (m.1, m.3)
 line_of_says begin_verb rest l h = let m = one_number (codes "begin") 255 (λ s. Do (Begin s)) rest l (omega arith) h in rw (← m.2) (omega (arith, m.1), m.3)
 line_of_says commit_verb rest l h = let m = one_number (codes "commit") 255 (λ s. Do (Commit s)) rest l (omega arith) h in rw (← m.2) (omega (arith, m.1), m.3)
@@ -303,7 +303,7 @@ row_words_of-spelled s k c0 c1 c2 c3 body hs hk h0 h1 h2 h3 hb =
 
 -- a verb is found again, and no step's line is the line of the ids
 with_verb : (verb : Verb) (rest : List ℕ) → Free 32 (verb_text verb) → verb_of (verb_text verb) ≡ Some verb
-    → bytes_eq (verb_text verb ++ 32 ∷ rest) (codes "ids") ≡ false → line_at (verb_text verb ++ 32 ∷ rest) ≡ line_of verb rest
+    → bytes_eq (verb_text verb ++ 32 ∷ rest) (codes "ids") ≡ false → line_at (verb_text verb ++ 32 ∷ rest) ≡ line_for verb rest
 unfolding line_at
 with_verb verb rest free same other = rw (other, cut-free (verb_text verb) rest free, same) refl
 

@@ -7,10 +7,10 @@ use Rattle.std.proofs.lemmas.Grind.{flat_map-append}
 use Rattle.std.specs.Io.KnownBytes.{Appends}
 use Rattle.script.specs.Engine.{World, EngineView, next, IsRun, Agrees}
 use Rattle.script.specs.Grammar.{IsAllowed, Fits, spelling, with_feed}
-use Rattle.script.specs.Pieces.{Takes, Gives, HasNoLine}
-use Rattle.script.specs.Script.{Event, did, showed_ids, showed_page, showed_entries, line_of, answer_of, steps_of, replies_of, lines_of, answers_of, Moves, Leads, IsBadLine, Begins}
+use Rattle.script.specs.Pieces.{TakesText, GivesText, HasNoLine}
+use Rattle.script.specs.Script.{Event, did, showed_ids, showed_page, showed_entries, line_of, answer_of, steps_of, replies_of, lines_of, answers_of, Moves, EventsLead, IsBadLine, WritesBeginning}
 use Rattle.script.specs.Refusals.{Refusals, IsRefused, IsCaused}
-use Rattle.script.specs.Steps.{Ends, Advance, Uses, Does}
+use Rattle.script.specs.Steps.{EndsLines, Advance, Uses, DoesLine}
 use Rattle.script.specs.declared.line.Line.{Line}
 use Rattle.script.specs.declared.fault.ShellFault.{ShellFault}
 use Rattle.script.specs.declared.fault.ShellFault.TheVariants.{BadLine, Input, Output, NoMemory, TooManyLines}
@@ -25,16 +25,16 @@ pub Uses-refl : (a : Option (List ℕ)) (p : List ℕ) → Uses a a p [] p
 Uses-refl a p = ([], Keeps-nothing a a (Keeps-refl a), append-nil p)
 
 -- more is read
-pub Uses-Takes : (a b c : Option (List ℕ)) (old used p q : List ℕ) → Uses a b old used p → Takes b c p q → Uses a c old used q
+pub Uses-Takes : (a b c : Option (List ℕ)) (old used p q : List ℕ) → Uses a b old used p → TakesText b c p q → Uses a c old used q
 Uses-Takes a b c old used p q h k = (
   h.0 ++ k.0,
   Consumes-Consumes a b c h.0 k.0 h.1 k.1,
   sym (append_assoc old h.0 k.0) ∙ ap (λ r. r ++ k.0) h.2 ∙ append_assoc used p k.0 ∙ ap (λ r. used ++ r) (sym k.2),
 )
 
--- a front of what is pending is used
-pub Uses-front : (a b : Option (List ℕ)) (old used p front q : List ℕ) → p ≡ front ++ q → Uses a b old used p → Uses a b old (used ++ front) q
-Uses-front a b old used p front q e h = (h.0, h.1, h.2 ∙ ap (λ r. used ++ r) e ∙ sym (append_assoc used front q))
+-- a prefix of what is pending is used
+pub Uses-prefix : (a b : Option (List ℕ)) (old used p prefix q : List ℕ) → p ≡ prefix ++ q → Uses a b old used p → Uses a b old (used ++ prefix) q
+Uses-prefix a b old used p prefix q e h = (h.0, h.1, h.2 ∙ ap (λ r. used ++ r) e ∙ sym (append_assoc used prefix q))
 
 -- what is known of the input
 pub Uses-known : (a b : Option (List ℕ)) (old used p : List ℕ) → Uses a b old used p
@@ -44,16 +44,16 @@ Uses-known (Some xs) None old used p h = absurd h.1
 Uses-known (Some xs) (Some ys) old used p h =
     (ys, refl, ap (λ r. old ++ r) h.1 ∙ sym (append_assoc old h.0 ys) ∙ ap (λ r. r ++ ys) h.2 ∙ append_assoc used p ys)
 
-pub Gives-push : (a b : Option (List ℕ)) (text left more new : List ℕ) → Gives a b text left → new ≡ left ++ more → Gives a b (text ++ more) new
+pub Gives-push : (a b : Option (List ℕ)) (text left more new : List ℕ) → GivesText a b text left → new ≡ left ++ more → GivesText a b (text ++ more) new
 Gives-push a b text left more new h e = (h.0, h.1, ap (λ r. r ++ more) h.2 ∙ append_assoc h.0 left more ∙ ap (λ r. h.0 ++ r) (sym e))
 
 -- one more event
-Leads-push : (old : EngineView) (events : List Event) (mid : EngineView) (e : Event) (new : EngineView) → Leads old events mid → Moves mid e new → Leads old (events ++ e ∷ []) new
+Leads-push : (old : EngineView) (events : List Event) (mid : EngineView) (e : Event) (new : EngineView) → EventsLead old events mid → Moves mid e new → EventsLead old (events ++ e ∷ []) new
 Leads-push old [] mid e new led moves = (new, subst (λ (st : EngineView). Moves st e new) (sym led) moves, refl)
 Leads-push old (x ∷ xs) mid e new led moves = (led.0, led.1, Leads-push led.0 xs mid e new led.2 moves)
 
 -- of an engine that agrees with a world, the steps and replies are a run from there
-pub Leads-run : (w : World) (old : EngineView) (events : List Event) (new : EngineView) → Agrees old.core w → Leads old events new → IsRun w (steps_of events) (replies_of events)
+pub Leads-run : (w : World) (old : EngineView) (events : List Event) (new : EngineView) → Agrees old.core w → EventsLead old events new → IsRun w (steps_of events) (replies_of events)
 Leads-run w old [] new agrees led = tt
 Leads-run w old (did step reply ∷ events) new agrees led =
     let now = led.1.0 w agrees in
@@ -76,14 +76,14 @@ answers_of-push events e = flat_map-append (λ e. with_feed (answer_of e)) event
 pub record Progress (from : EngineView) (state : EngineView) (before now : Option (List ℕ)) (old new : List ℕ) (w0 w1 : Option (List ℕ)) (text left : List ℕ) (number : ℕ) : Type 0 where
   pub events : List Event
   pub allowed : AllByRecursion (λ e. IsAllowed (line_of e)) events
-  pub leads : Leads from events state
+  pub leads : EventsLead from events state
   pub uses : Uses before now old (lines_of events) new
-  pub gives : Gives w0 w1 (text ++ answers_of events) left
+  pub gives : GivesText w0 w1 (text ++ answers_of events) left
   pub number_is : number ≡ length events + 2
 
 -- more is read, and some of the text is written
 pub Progress-more : (from state : EngineView) (before now now' : Option (List ℕ)) (old new new' : List ℕ) (w0 w1 w2 : Option (List ℕ)) (text left left' : List ℕ) (number : ℕ)
-    → Progress from state before now old new w0 w1 text left number → Takes now now' new new' → Gives w1 w2 left left' → Progress from state before now' old new' w0 w2 text left' number
+    → Progress from state before now old new w0 w1 text left number → TakesText now now' new new' → GivesText w1 w2 left left' → Progress from state before now' old new' w0 w2 text left' number
 Progress-more from state before now now' old new new' w0 w1 w2 text left left' number h t g = record {
   events = h.events;
   allowed = h.allowed;
@@ -101,7 +101,7 @@ position-split p n h =
 
 -- a line is used, and its answer stands behind the text
 pub Progress-line : (from state state' : EngineView) (before now : Option (List ℕ)) (old new : List ℕ) (w0 w1 : Option (List ℕ)) (text left left' : List ℕ) (number n : ℕ)
-    → Progress from state before now old new w0 w1 text left number → position (λ b. b == 10) new ≡ Some n → n ≤ 4096 → n < length new → Does (take n new) state state' left left'
+    → Progress from state before now old new w0 w1 text left number → position (λ b. b == 10) new ≡ Some n → n ≤ 4096 → n < length new → DoesLine (take n new) state state' left left'
     → Progress from state' before now old (drop (n + 1) new) w0 w1 text left' (number + 1)
 Progress-line from state state' before now old new w0 w1 text left left' number n h at short within d =
     let e = d.0 in
@@ -110,12 +110,12 @@ Progress-line from state state' before now old new w0 w1 text left left' number 
       events = h.events ++ e ∷ [];
       allowed = allowed-push h.events e h.allowed (record { fits = d.1; short = rw (← d.2) (omega arith) });
       leads = Leads-push from h.events state e state' h.leads d.3;
-      uses = rw (lines_of-push h.events e) (Uses-front before now old (lines_of h.events) new (with_feed (spelling (line_of e))) (drop (n + 1) new) (position-split new n at ∙ ap (λ x. with_feed x ++ drop (n + 1) new) d.2) h.uses);
+      uses = rw (lines_of-push h.events e) (Uses-prefix before now old (lines_of h.events) new (with_feed (spelling (line_of e))) (drop (n + 1) new) (position-split new n at ∙ ap (λ x. with_feed x ++ drop (n + 1) new) d.2) h.uses);
       gives = rw (answers_of-push h.events e) (rw (← append_assoc text (answers_of h.events) (with_feed (answer_of e))) (Gives-push w0 w1 (text ++ answers_of h.events) left (with_feed (answer_of e)) left' h.gives d.4));
       number_is = ap (λ k. k + 1) h.number_is ∙ omega (arith, length-append h.events (e ∷ []));
     }
 
--- a line at the front ends at the first line feed
+-- a line at the prefix ends at the first line feed
 first_feed : (s : List ℕ) (all more : List ℕ) → Free 10 s → all ≡ with_feed s ++ more → place 10 all ≡ length s
 first_feed s all more free e = ap (λ xs. place 10 xs) (e ∙ append_assoc s (10 ∷ []) more) ∙ place-free 10 s more free
 
@@ -146,8 +146,8 @@ text_is p rest n s more at free e =
     let first = first_feed s (p ++ rest) more free e in
     let same = place-append_found 10 p rest (rw f.1 f.0) in
     let size : n ≡ length s = sym f.1 ∙ sym same ∙ first in
-    let front : take n (p ++ rest) ≡ take n p = take-append-le n p rest (omega (arith, f.0)) in
-    sym front ∙ ap (λ xs. take n xs) (e ∙ append_assoc s (10 ∷ []) more) ∙ ap (λ k. take k (s ++ (10 ∷ more))) size ∙ take-append_seam s (10 ∷ more)
+    let prefix : take n (p ++ rest) ≡ take n p = take-append-le n p rest (omega (arith, f.0)) in
+    sym prefix ∙ ap (λ xs. take n xs) (e ∙ append_assoc s (10 ∷ []) more) ∙ ap (λ k. take k (s ++ (10 ∷ more))) size ∙ take-append_seam s (10 ∷ more)
 
 pub bad_from_none : (p rest : List ℕ) → HasNoLine p (Some rest) → IsBadLine (p ++ rest)
 bad_from_none p rest h = record {
@@ -163,7 +163,7 @@ bad_from_line p rest n at h =
       bad = λ l more allowed e. h l allowed.fits (text_is p rest n (spelling l) more at (Free-spelling l allowed.fits) e);
     }
 
-ends_fault : (e : ShellFault) (watch : Refusals) → IsRefused e watch → (k : ℕ) (left : List ℕ) (before after : Option (List ℕ)) (text : List ℕ) → Begins before after text → Ends (Err e) k left before after text
+ends_fault : (e : ShellFault) (watch : Refusals) → IsRefused e watch → (k : ℕ) (left : List ℕ) (before after : Option (List ℕ)) (text : List ℕ) → WritesBeginning before after text → EndsLines (Err e) k left before after text
 ends_fault (BadLine n) watch f k left before after text b = absurd f
 ends_fault Input watch f k left before after text b = b
 ends_fault Output watch f k left before after text b = b
@@ -194,7 +194,7 @@ pub refused_growth : (e : ShellFault) (watch : Refusals) → e ≡ NoMemory → 
 refused_growth e watch is noted = rw is noted
 
 pub adv_fault : (from state : EngineView) (before now : Option (List ℕ)) (old new : List ℕ) (w0 w1 w2 : Option (List ℕ)) (text left : List ℕ) (number : ℕ) (e : ShellFault) (watch : Refusals)
-    → Progress from state before now old new w0 w1 text left number → IsRefused e watch → Begins w1 w2 left → IfSome before (λ bytes. Advance from (old ++ bytes) w0 w2 text (Err e))
+    → Progress from state before now old new w0 w1 text left number → IsRefused e watch → WritesBeginning w1 w2 left → IfSome before (λ bytes. Advance from (old ++ bytes) w0 w2 text (Err e))
 adv_fault from state before now old new w0 w1 w2 text left number e watch h f b =
     IfSome_then before (Uses-known before now old (lines_of h.events) new h.uses) (λ input k. record {
       events = h.events;
@@ -220,18 +220,18 @@ adv_over from state before now old new w0 w1 text left number h last =
       ends = (sym h.number_is ∙ last, (left, h.gives));
     })
 
-Gives-rest : (a b c : Option (List ℕ)) (text left : List ℕ) → Gives a b text left → Appends b c left → Appends a c text
+Gives-rest : (a b c : Option (List ℕ)) (text left : List ℕ) → GivesText a b text left → Appends b c left → Appends a c text
 Gives-rest a b c text left h k = rw h.2 (Appends-Appends a b c h.0 left h.1 k)
 
 closed_fault : (from state : EngineView) (before now : Option (List ℕ)) (old new : List ℕ) (w0 w1 w2 : Option (List ℕ)) (text left : List ℕ) (number : ℕ) (r : Result (Unit {0}) ShellFault) (watch : Refusals)
-    → Progress from state before now old new w0 w1 text left number → IsErrAnd r (λ e. IsRefused e watch) → Begins w1 w2 left → IfSome before (λ bytes. Advance from (old ++ bytes) w0 w2 text r)
+    → Progress from state before now old new w0 w1 text left number → IsErrAnd r (λ e. IsRefused e watch) → WritesBeginning w1 w2 left → IfSome before (λ bytes. Advance from (old ++ bytes) w0 w2 text r)
 closed_fault from state before now old new w0 w1 w2 text left number (Ok u) watch h f b = absurd f
 closed_fault from state before now old new w0 w1 w2 text left number (Err e) watch h f b = adv_fault from state before now old new w0 w1 w2 text left number e watch h f b
 
 pub adv_close : (from state : EngineView) (before now : Option (List ℕ)) (old new : List ℕ) (w0 w1 w2 : Option (List ℕ)) (text left : List ℕ) (number : ℕ) (end r : Result (Unit {0}) ShellFault) (watch : Refusals)
     → (h : Progress from state before now old new w0 w1 text left number)
-    → ((r ≡ end) × Appends w1 w2 left) ⊎ (IsErrAnd r (λ e. IsRefused e watch) × Begins w1 w2 left)
-    → ((rest : List ℕ) (T : List ℕ) → now ≡ Some rest → Appends w0 w2 T → Ends end (length h.events) (new ++ rest) w0 w2 T)
+    → ((r ≡ end) × Appends w1 w2 left) ⊎ (IsErrAnd r (λ e. IsRefused e watch) × WritesBeginning w1 w2 left)
+    → ((rest : List ℕ) (T : List ℕ) → now ≡ Some rest → Appends w0 w2 T → EndsLines end (length h.events) (new ++ rest) w0 w2 T)
     → IfSome before (λ bytes. Advance from (old ++ bytes) w0 w2 text r)
 adv_close from state before now old new w0 w1 w2 text left number end r watch h c ends = elim c [
   | inl whole ↦ rw whole.0 (IfSome_then before (Uses-known before now old (lines_of h.events) new h.uses) (λ input k. record {

@@ -31,10 +31,10 @@ decimal_value_after n [] some d small = sym (append-nil (decimal n))
 decimal_value_after n (c ∷ cs) some d small =
     let m : ℕ = n * 10 + digit_value c in
     let k = digit_value_digit c (digit_from_value c d.0) in
-    let front : m / 10 ≡ n = omega (arith, d.0) in
+    let prefix : m / 10 ≡ n = omega (arith, d.0) in
     let end : 48 + m % 10 ≡ c = omega (arith, d.0) in
     decimal_value_after m cs (omega arith) d.1 small
-    ∙ ap (λ x. x ++ cs) (decimal_step_wide m (omega arith) (omega (arith, le_value_after m cs)) ∙ (λ i. decimal (front i) ++ (end i ∷ [])))
+    ∙ ap (λ x. x ++ cs) (decimal_step_wide m (omega arith) (omega (arith, le_value_after m cs)) ∙ (λ i. decimal (prefix i) ++ (end i ∷ [])))
     ∙ append_assoc (decimal n) (c ∷ []) cs
 
 decimal_value_digits : (ds : List ℕ) → AllDigits 10 ds → 0 < length ds → (get_or ds 0 0 ≡ 48 → length ds ≡ 1) → digits_value 10 ds < 10 ^ 64 → decimal (digits_value 10 ds) ≡ ds

@@ -15,7 +15,7 @@ abbrev pub ◌>>=◌ : {A B : Type 0} → Option A → (A → Option B) → Opti
 None >>= f = None
 (Some x) >>= f = f x
 
--- the word at the front, and what stands behind the space after it
+-- the word at the prefix, and what stands behind the space after it
 abbrev pub cut : List ℕ → Option (List ℕ × List ℕ)
 cut xs = option_map (λ i. (take i xs, drop (i + 1) xs)) (position (λ b. b == 32) xs)
 
@@ -24,7 +24,7 @@ unfoldable pub digits_on : ℕ → ℕ → List ℕ → Option ℕ
 digits_on max n [] = Some n
 digits_on max n (c ∷ cs) = if is_ascii_digit c && nat_le (10 * n + (c - 48)) max then digits_on max (10 * n + (c - 48)) cs else None
 
--- a number of at most max: digits, and no zero in front of another digit
+-- a number of at most max: digits, and no zero in prefix of another digit
 unfoldable pub number_of : ℕ → List ℕ → Option ℕ
 number_of max w = if (length w == 0) || (nat_lt 1 (length w) && (slice_index w 0 == 48)) then None else digits_on max 0 w
 
@@ -140,26 +140,26 @@ unfoldable pub settings_at : List ℕ → Option Settings
 settings_at line = cut line >>= λ parts. if bytes_eq parts.0 (codes "heap") then heading_of parts.1 else None
 
 -- what a verb asks for with the words behind it
-abbrev pub line_of : Verb → List ℕ → Option Line
-line_of get_verb rest = option_map (λ p. Do (Get p.0 p.1)) (key_words_of rest)
-line_of begin_verb rest = option_map (λ s. Do (Begin s)) (number_of 255 rest)
-line_of commit_verb rest = option_map (λ s. Do (Commit s)) (number_of 255 rest)
-line_of insert_verb rest = option_map (λ p. Do (Insert p.0 p.1)) (row_words_of rest)
-line_of update_verb rest = option_map (λ p. Do (Update p.0 p.1)) (row_words_of rest)
-line_of delete_verb rest = option_map (λ p. Do (Delete p.0 p.1)) (key_words_of rest)
-line_of savepoint_verb rest = option_map (λ s. Do (Savepoint s)) (number_of 255 rest)
-line_of rollback_verb rest = option_map (λ s. Do (RollbackTo s)) (number_of 255 rest)
-line_of release_verb rest = option_map (λ s. Do (Release s)) (number_of 255 rest)
-line_of abort_verb rest = option_map (λ s. Do (Abort s)) (number_of 255 rest)
-line_of openindex_verb rest = option_map (λ p. Do (OpenIndex p.0 p.1 p.2 p.3)) (range_words_of rest)
-line_of openheap_verb rest = option_map (λ s. Do (OpenHeap s)) (number_of 255 rest)
-line_of next_verb rest = option_map (λ p. Do (Next p.0 p.1)) (count_words_of rest)
-line_of close_verb rest = option_map (λ s. Do (Close s)) (number_of 255 rest)
-line_of prune_verb rest = option_map (λ p. Do (Prune p)) (number_of 4294967295 rest)
-line_of page_verb rest = option_map (λ p. Page p) (number_of 4294967295 rest)
-line_of entries_verb rest = option_map (λ i. Entries i) (number_of 255 rest)
+abbrev pub line_for : Verb → List ℕ → Option Line
+line_for get_verb rest = option_map (λ p. Do (Get p.0 p.1)) (key_words_of rest)
+line_for begin_verb rest = option_map (λ s. Do (Begin s)) (number_of 255 rest)
+line_for commit_verb rest = option_map (λ s. Do (Commit s)) (number_of 255 rest)
+line_for insert_verb rest = option_map (λ p. Do (Insert p.0 p.1)) (row_words_of rest)
+line_for update_verb rest = option_map (λ p. Do (Update p.0 p.1)) (row_words_of rest)
+line_for delete_verb rest = option_map (λ p. Do (Delete p.0 p.1)) (key_words_of rest)
+line_for savepoint_verb rest = option_map (λ s. Do (Savepoint s)) (number_of 255 rest)
+line_for rollback_verb rest = option_map (λ s. Do (RollbackTo s)) (number_of 255 rest)
+line_for release_verb rest = option_map (λ s. Do (Release s)) (number_of 255 rest)
+line_for abort_verb rest = option_map (λ s. Do (Abort s)) (number_of 255 rest)
+line_for openindex_verb rest = option_map (λ p. Do (OpenIndex p.0 p.1 p.2 p.3)) (range_words_of rest)
+line_for openheap_verb rest = option_map (λ s. Do (OpenHeap s)) (number_of 255 rest)
+line_for next_verb rest = option_map (λ p. Do (Next p.0 p.1)) (count_words_of rest)
+line_for close_verb rest = option_map (λ s. Do (Close s)) (number_of 255 rest)
+line_for prune_verb rest = option_map (λ p. Do (Prune p)) (number_of 4294967295 rest)
+line_for page_verb rest = option_map (λ p. Page p) (number_of 4294967295 rest)
+line_for entries_verb rest = option_map (λ i. Entries i) (number_of 255 rest)
 
 -- what a line asks for
 unfoldable pub line_at : List ℕ → Option Line
 line_at line = if bytes_eq line (codes "ids") then Some Ids
-    else (cut line >>= λ parts. verb_of parts.0 >>= λ verb. line_of verb parts.1)
+    else (cut line >>= λ parts. verb_of parts.0 >>= λ verb. line_for verb parts.1)

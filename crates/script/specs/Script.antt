@@ -3,8 +3,8 @@ use Rattle.std.specs.Prelude.{◌≡◌, ℕ, ◌+◌, ◌<◌, ◌≤◌, ◌�
 use Rattle.std.specs.Option.{option_map}
 use Rattle.std.specs.List.{flat_map, AllByRecursion}
 use Rattle.std.specs.Io.KnownBytes.{Appends}
-use Rattle.script.specs.Engine.{Settings, AreSettings, EngineView, Step, Reply, Entry, IsNew, Follows, Exact, beginning, index_at, next_id, IsRun}
-use Rattle.script.specs.Pieces.{Gives}
+use Rattle.script.specs.Engine.{Settings, AreSettings, EngineView, Step, Reply, Entry, IsNew, Follows, Exact, beginning, engine_index, next_id, IsRun}
+use Rattle.script.specs.Pieces.{GivesText}
 use Rattle.script.specs.Grammar.{heading, spelling, with_feed, IsAllowed}
 use Rattle.script.specs.Answers.{reply_text, ids_text, Shown, shown_text, index_text}
 use Rattle.script.specs.declared.line.Line.{Line}
@@ -62,12 +62,12 @@ abbrev pub Moves : EngineView → Event → EngineView → Type 0
 Moves old (did step reply) new = Follows old.core step reply new.core × Exact old.core step reply new.core
 Moves old (showed_ids next frozen_below) new = (old ≡ new) × (next ≡ next_id old.core.heap.table) × (frozen_below ≡ old.core.heap.table.first)
 Moves old (showed_page p shown) new = (old ≡ new) × (shown ≡ shown_of old p)
-Moves old (showed_entries i entries) new = (old ≡ new) × (entries ≡ option_map (λ index. index.entries) (index_at old.core i))
+Moves old (showed_entries i entries) new = (old ≡ new) × (entries ≡ option_map (λ index. index.entries) (engine_index old.core i))
 
 -- the engine's states from event to event
-abbrev pub Leads : EngineView → List Event → EngineView → Type 0
-Leads old [] new = old ≡ new
-Leads old (e ∷ events) new = (st : EngineView) × Moves old e st × Leads st events new
+abbrev pub EventsLead : EngineView → List Event → EngineView → Type 0
+EventsLead old [] new = old ≡ new
+EventsLead old (e ∷ events) new = (st : EngineView) × Moves old e st × EventsLead st events new
 
 -- Allowed lines behind a first one with these settings. Their steps and replies are a run of the history from its beginning, and
 -- all that was answered comes from an engine that is made by the settings.
@@ -79,35 +79,35 @@ pub record IsScriptRun (settings : Settings) (events : List Event) : Type 0 wher
   pub first : EngineView
   pub new : IsNew settings first.core
   pub last : EngineView
-  pub leads : Leads first events last
+  pub leads : EventsLead first events last
 
 abbrev pub script : Settings → List Event → List ℕ
 script settings events = with_feed (heading settings) ++ lines_of events
 
--- something is there, and an allowed line isn't at its front: so it is torn, too long, empty, unknown or out of range
+-- something is there, and an allowed line isn't at its prefix: so it is torn, too long, empty, unknown or out of range
 pub record IsBadLine (rest : List ℕ) : Type 0 where
   pub some : 0 < length rest
   pub bad : (l : Line) (more : List ℕ) → IsAllowed l → rest ≡ with_feed (spelling l) ++ more → ⊥
 
--- no first line with settings in range is at the front
+-- no first line with settings in range is at the prefix
 abbrev pub IsBadHeading : List ℕ → Type 0
 IsBadHeading input = (s : Settings) (more : List ℕ) → AreSettings s → length s.indexed ≡ 4 → length (heading s) ≤ 4096 → input ≡ with_feed (heading s) ++ more → ⊥
 
 -- a beginning of the text was written
-abbrev pub Begins : Option (List ℕ) → Option (List ℕ) → List ℕ → Type 0
-Begins before after text = (left : List ℕ) × Gives before after text left
+abbrev pub WritesBeginning : Option (List ℕ) → Option (List ℕ) → List ℕ → Type 0
+WritesBeginning before after text = (left : List ℕ) × GivesText before after text left
 
 -- what a script's result says of its input and of what was written: without a fault all lines were read and answered; after bad
 -- line n those before it were, and it is the first that isn't allowed; where the numbers of lines ran out, all lines with a number
 -- were read; after another fault a beginning of the answers was written
-abbrev pub Outcome : Result (Unit {0}) ShellFault → List ℕ → Option (List ℕ) → Option (List ℕ) → Type 0
-Outcome (Ok u) input before after = (settings : Settings) × (events : List Event)
+abbrev pub ScriptOutcome : Result (Unit {0}) ShellFault → List ℕ → Option (List ℕ) → Option (List ℕ) → Type 0
+ScriptOutcome (Ok u) input before after = (settings : Settings) × (events : List Event)
     × IsScriptRun settings events × (input ≡ script settings events) × Appends before after (answers_of events)
-Outcome (Err (BadLine n)) input before after = ((n ≡ 1) × Appends before after [] × IsBadHeading input)
+ScriptOutcome (Err (BadLine n)) input before after = ((n ≡ 1) × Appends before after [] × IsBadHeading input)
     ⊎ ((settings : Settings) × (events : List Event) × (rest : List ℕ) × IsScriptRun settings events
     × (input ≡ script settings events ++ rest) × IsBadLine rest × (n ≡ length events + 2) × Appends before after (answers_of events))
-Outcome (Err TooManyLines) input before after = (settings : Settings) × (events : List Event) × (rest : List ℕ) × IsScriptRun settings events
-    × (input ≡ script settings events ++ rest) × (length events + 2 ≡ 18446744073709551615) × Begins before after (answers_of events)
-Outcome (Err fault) input before after = Appends before after []
+ScriptOutcome (Err TooManyLines) input before after = (settings : Settings) × (events : List Event) × (rest : List ℕ) × IsScriptRun settings events
+    × (input ≡ script settings events ++ rest) × (length events + 2 ≡ 18446744073709551615) × WritesBeginning before after (answers_of events)
+ScriptOutcome (Err fault) input before after = Appends before after []
     ⊎ ((settings : Settings) × (events : List Event) × (rest : List ℕ) × IsScriptRun settings events
-    × (input ≡ script settings events ++ rest) × Begins before after (answers_of events))
+    × (input ≡ script settings events ++ rest) × WritesBeginning before after (answers_of events))

@@ -4,30 +4,30 @@ use Rattle.std.specs.List.{AllByRecursion}
 use Rattle.std.specs.Io.KnownBytes.{Appends, Consumes}
 use Rattle.script.specs.Engine.{EngineView}
 use Rattle.script.specs.Grammar.{IsAllowed, Fits, spelling, with_feed}
-use Rattle.script.specs.Script.{Event, line_of, answer_of, lines_of, answers_of, Moves, Leads, IsBadLine, IsBadHeading, Begins}
+use Rattle.script.specs.Script.{Event, line_of, answer_of, lines_of, answers_of, Moves, EventsLead, IsBadLine, IsBadHeading, WritesBeginning}
 use Rattle.script.specs.declared.fault.ShellFault.{ShellFault}
 use Rattle.script.specs.declared.fault.ShellFault.TheVariants.{BadLine, TooManyLines}
 
 -- what a line asks for was done, and its answer is added
-abbrev pub Does : List ℕ → EngineView → EngineView → List ℕ → List ℕ → Type 0
-Does text from to old new = (e : Event) × Fits (line_of e) × (text ≡ spelling (line_of e)) × Moves from e to × (new ≡ old ++ with_feed (answer_of e))
+abbrev pub DoesLine : List ℕ → EngineView → EngineView → List ℕ → List ℕ → Type 0
+DoesLine text from to old new = (e : Event) × Fits (line_of e) × (text ≡ spelling (line_of e)) × Moves from e to × (new ≡ old ++ with_feed (answer_of e))
 
 -- how the lines end: all are read, the next is bad, or a fault comes
-abbrev pub Ends : Result (Unit {0}) ShellFault → ℕ → List ℕ → Option (List ℕ) → Option (List ℕ) → List ℕ → Type 0
-Ends (Ok u) lines left before after text = (left ≡ []) × Appends before after text
-Ends (Err (BadLine n)) lines left before after text = (n ≡ lines + 2) × IsBadLine left × Appends before after text
-Ends (Err TooManyLines) lines left before after text = (lines + 2 ≡ 18446744073709551615) × Begins before after text
-Ends (Err fault) lines left before after text = Begins before after text
+abbrev pub EndsLines : Result (Unit {0}) ShellFault → ℕ → List ℕ → Option (List ℕ) → Option (List ℕ) → List ℕ → Type 0
+EndsLines (Ok u) lines left before after text = (left ≡ []) × Appends before after text
+EndsLines (Err (BadLine n)) lines left before after text = (n ≡ lines + 2) × IsBadLine left × Appends before after text
+EndsLines (Err TooManyLines) lines left before after text = (lines + 2 ≡ 18446744073709551615) × WritesBeginning before after text
+EndsLines (Err fault) lines left before after text = WritesBeginning before after text
 
--- lines at the front of the input are run, and their answers written behind the text
+-- lines at the prefix of the input are run, and their answers written behind the text
 pub record Advance (from : EngineView) (input : List ℕ) (before after : Option (List ℕ)) (text : List ℕ) (result : Result (Unit {0}) ShellFault) : Type 0 where
   pub events : List Event
   pub allowed : AllByRecursion (λ e. IsAllowed (line_of e)) events
   pub last : EngineView
-  pub leads : Leads from events last
+  pub leads : EventsLead from events last
   pub left : List ℕ
   pub lines : input ≡ lines_of events ++ left
-  pub ends : Ends result (length events) left before after (text ++ answers_of events)
+  pub ends : EndsLines result (length events) left before after (text ++ answers_of events)
 
 abbrev pub Advances : EngineView → Option (List ℕ) → Option (List ℕ) → Option (List ℕ) → List ℕ → List ℕ → Result (Unit {0}) ShellFault → Type 0
 Advances from input before after pending text result =

@@ -7,7 +7,7 @@ ghost use Rattle.script.specs.Grammar.{spaced, hex_text, body_text, row_text, wi
 ghost use Rattle.script.specs.Answers.{refusal_text, found_text, row_lines, reply_text};
 
 use crate::growth::{Refused, extend, push};
-use crate::telling::label;
+use crate::inspect::label;
 use itoa::Buffer;
 use session_core::{Refusal, Reply, Row};
 
@@ -27,7 +27,8 @@ fn column(out: &mut Vec<u8>, c: i64) -> Result<(), Refused>
 }
 
 fn columns(out: &mut Vec<u8>, cols: &[i64]) -> Result<(), Refused>
-    ensures { OnOk result (out.new.items ≡ out.old.items ++ flat_map (λ c. spaced (signed_decimal c)) cols.now) }
+    ensures { OnOk result
+        (out.new.items ≡ out.old.items ++ flat_map (λ c. spaced (signed_decimal c)) cols.now) }
 {
     for c in cols {
         column(out, *c)?;
@@ -64,7 +65,8 @@ fn body(out: &mut Vec<u8>, bytes: &[u8]) -> Result<(), Refused>
 }
 
 fn row(out: &mut Vec<u8>, row: &Row) -> Result<(), Refused>
-    ensures { OnOk result (out.new.items ≡ out.old.items ++ row_text row.now.key row.now.cols row.now.body.items) }
+    ensures { OnOk result
+        (out.new.items ≡ out.old.items ++ row_text row.now.key row.now.cols row.now.body.items) }
 {
     unsigned(out, row.key)?;
     columns(out, row.cols.as_slice())?;

@@ -17,7 +17,10 @@ pub const USAGE: &str = "usage: heapsh run|threads|inspect";
 
 /// What the first two words ask for: a script is run where `run` is the only word.
 pub fn command_of(first: Option<&str>, second: Option<&str>) -> Command
-    ensures { result ≡ Command.Run ↔ ((option_map (λ word. word.now) first.entry ≡ Some (codes "run")) × (option_map (λ word. word.now) second.entry ≡ None)) }
+    ensures { result ≡ Command.Run
+        ↔
+        ((option_map (λ word. word.now) first.entry ≡ Some (codes "run"))
+        × (option_map (λ word. word.now) second.entry ≡ None)) }
 {
     match (first, second) {
         (Some(word), None) if word == "run" => Command::Run,

@@ -6,7 +6,7 @@ ghost use Rattle.script.specs.Grammar.{spaced, with_feed};
 ghost use Rattle.script.specs.Answers.{entry_text, entry_lines, index_head_text, index_text, no_index_text};
 
 use crate::growth::{Refused, extend, push};
-use crate::telling::{label, spaced_number};
+use crate::inspect::{label, spaced_number};
 use itoa::Buffer;
 use root_index::{Entry, RootIndex};
 
@@ -52,7 +52,8 @@ fn entries(out: &mut Vec<u8>, index: &RootIndex) -> Result<(), Refused>
 }
 
 fn index_head(out: &mut Vec<u8>, number: u8, index: &RootIndex) -> Result<(), Refused>
-    ensures { OnOk result (out.new.items ≡ out.old.items ++ index_head_text number (length index.now.entries)) }
+    ensures { OnOk result
+        (out.new.items ≡ out.old.items ++ index_head_text number (length index.now.entries)) }
 {
     label(out, b"entries", u64::from(number))?;
     spaced_number(out, index.len())
@@ -60,7 +61,8 @@ fn index_head(out: &mut Vec<u8>, number: u8, index: &RootIndex) -> Result<(), Re
 
 // Adds the lines of an index: one of the index, and one of each entry.
 pub(crate) fn tell_index(out: &mut Vec<u8>, number: u8, index: &RootIndex) -> Result<(), Refused>
-    ensures { OnOk result (out.new.items ≡ out.old.items ++ with_feed (index_text number (Some index.now.entries))) }
+    ensures { OnOk result
+        (out.new.items ≡ out.old.items ++ with_feed (index_text number (Some index.now.entries))) }
 {
     index_head(out, number, index)?;
     entries(out, index)?;

@@ -1,7 +1,7 @@
 //! Why a script ends early.
 
 ghost use Rattle.std.specs.Prelude.{◌≡◌};
-ghost use Rattle.script.specs.Status.{status_of};
+ghost use Rattle.script.specs.Status.{exit_status_of};
 
 use thiserror::Error;
 
@@ -29,7 +29,7 @@ impl ShellFault {
     /// The status that the program ends with: 1 after a bad line, 2 after a fault of the reader or the writer, 3 for want of
     /// memory or of numbers.
     pub fn status(&self) -> u8
-        ensures { result ≡ status_of self.now }
+        ensures { result ≡ exit_status_of self.now }
     {
         match self {
             ShellFault::BadLine(_) => 1,

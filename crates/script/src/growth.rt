@@ -67,7 +67,9 @@ pub(crate) fn buffer(alloc: Global) -> Result<Vec<u8>, Refused>
 
 /// A new engine of these settings, where they are in range.
 pub(crate) fn new_engine(alloc: Global, settings: Settings) -> Result<Option<Engine>, Refused>
-    ensures made { IfOk result (λ made. MatchOption made (AreSettings settings → ⊥) (λ e. IsNew settings e.core × AreSettings settings)) }
+    ensures made { IfOk result
+        (λ made. MatchOption made (AreSettings settings → ⊥)
+        (λ e. IsNew settings e.core × AreSettings settings)) }
     ensures valid { OnErr result (AreSettings settings) }
 {
     match Engine::new(alloc, settings) {

@@ -2,12 +2,12 @@
 
 ghost use Rattle.std.specs.Prelude.{◌≡◌, ◌+◌, ◌-◌, ◌<◌, ◌≤◌, ◌==◌, [], length, take, drop, position, Ok, IfOk, IfSome, OnErr, IfErr};
 ghost use Rattle.std.specs.Io.KnownBytes.{Keeps, Consumes, IsAtEnd};
-ghost use Rattle.script.specs.Pieces.{Takes};
+ghost use Rattle.script.specs.Pieces.{TakesText};
 ghost use Rattle.script.specs.Refusals.{IsRefused};
 
 use crate::fault::ShellFault;
 use crate::growth::{Refused, buffer};
-use crate::watch::{Watch, is_interruption};
+use crate::watch::{IoLog, is_interruption};
 use std::alloc::Global;
 use std::io::Read;
 use std::marker::Model;
@@ -35,12 +35,13 @@ impl Model for Pending {
 
 // Reads once, and again as long as the read is interrupted.
 fn read_some<R: Read, W>(
-    watch: &mut Watch<R, W>,
+    watch: &mut IoLog<R, W>,
     reader: &mut R,
     buf: &mut [u8],
 ) -> Result<usize, ShellFault>
     ensures bound { IfOk result (λ n. n ≤ length buf.new) }
-    ensures bytes { IfOk result (λ n. Consumes (R.remaining reader.old) (R.remaining reader.new) (take n buf.new)) }
+    ensures bytes { IfOk result
+        (λ n. Consumes (R.remaining reader.old) (R.remaining reader.new) (take n buf.new)) }
     ensures end { IfOk result (λ n. n ≡ 0 → 0 < length buf.new → IsAtEnd (R.remaining reader.new)) }
     ensures err { OnErr result (Keeps (R.remaining reader.old) (R.remaining reader.new)) }
     ensures fault { IfErr result (λ e. IsRefused e watch.new) }
@@ -101,11 +102,12 @@ impl Pending {
     // Reads more, and puts it behind what is there. 0 bytes come only at the end.
     pub(crate) fn refill<R: Read, W>(
         &mut self,
-        watch: &mut Watch<R, W>,
+        watch: &mut IoLog<R, W>,
         reader: &mut R,
     ) -> Result<usize, ShellFault>
         requires { length self.old ≤ 4096 }
-        ensures takes { Takes (R.remaining reader.old) (R.remaining reader.new) self.old self.new }
+        ensures takes { TakesText (R.remaining reader.old)
+            (R.remaining reader.new) self.old self.new }
         ensures grows { IfOk result (λ n. length self.new ≡ length self.old + n) }
         ensures end { result ≡ Ok 0 → IsAtEnd (R.remaining reader.new) }
         ensures fault { IfErr result (λ e. IsRefused e watch.new) }
@@ -126,9 +128,9 @@ impl Pending {
     }
 }
 
-// Moves a part to the front, and reads behind it.
+// Moves a part to the prefix, and reads behind it.
 fn read_behind<R: Read, W>(
-    watch: &mut Watch<R, W>,
+    watch: &mut IoLog<R, W>,
     bytes: &mut [u8],
     start: usize,
     end: usize,
@@ -138,8 +140,11 @@ fn read_behind<R: Read, W>(
     requires within { end ≤ length bytes.old }
     ensures moved { take (end - start) bytes.new ≡ take (end - start) (drop start bytes.old) }
     ensures room { IfOk result (λ n. (end - start) + n ≤ length bytes.new) }
-    ensures bytes { IfOk result (λ n. Consumes (R.remaining reader.old) (R.remaining reader.new) (take n (drop (end - start) bytes.new))) }
-    ensures end { IfOk result (λ n. n ≡ 0 → end - start < length bytes.new → IsAtEnd (R.remaining reader.new)) }
+    ensures bytes { IfOk result
+        (λ n. Consumes (R.remaining reader.old) (R.remaining reader.new)
+        (take n (drop (end - start) bytes.new))) }
+    ensures end { IfOk result
+        (λ n. n ≡ 0 → end - start < length bytes.new → IsAtEnd (R.remaining reader.new)) }
     ensures err { OnErr result (Keeps (R.remaining reader.old) (R.remaining reader.new)) }
     ensures fault { IfErr result (λ e. IsRefused e watch.new) }
 {

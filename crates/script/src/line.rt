@@ -3,7 +3,7 @@
 ghost use Rattle.std.specs.Prelude.{◌≡◌, IfOk};
 ghost use Rattle.std.specs.Option.{option_map};
 ghost use Rattle.script.specs.Verbs.{verb_of, verb_in, other_verbs};
-ghost use Rattle.script.specs.Reading.{number_of, row_words_of, key_words_of, count_words_of, range_words_of, line_of, line_at as line_at_of};
+ghost use Rattle.script.specs.Reading.{number_of, row_words_of, key_words_of, count_words_of, range_words_of, line_for, line_at as line_at_of};
 
 use crate::growth::Refused;
 use crate::words::{body, bound, bound_then, column_then, cut, number, number_then};
@@ -180,7 +180,7 @@ fn page(word: &[u8]) -> Option<u32>
 
 // What a verb asks for with the words behind it.
 fn line_with(alloc: Global, verb: Verb, rest: &[u8]) -> Result<Option<Line>, Refused>
-    ensures { IfOk result (λ o. o ≡ line_of verb rest.now) }
+    ensures { IfOk result (λ o. o ≡ line_for verb rest.now) }
 {
     match verb {
         Verb::Get => Ok(key(rest).map(|(s, key)| Line::Do(Step::Get(s, key)))),

@@ -4,14 +4,14 @@ ghost use Rattle.std.specs.Prelude.{◌≡◌, ◌++◌, List, ℕ, [], length, 
 ghost use Rattle.std.specs.Bool.{OnTrue, OnFalse};
 ghost use Rattle.std.specs.Io.KnownBytes.{Appends};
 ghost use Rattle.std.specs.Option.{option_map};
-ghost use Rattle.script.specs.Engine.{Settings, AreSettings, IsNew, index_at};
+ghost use Rattle.script.specs.Engine.{Settings, AreSettings, IsNew, engine_index};
 ghost use Rattle.script.specs.Grammar.{Fits, spelling, heading, with_feed};
-ghost use Rattle.script.specs.Script.{Outcome, Begins, shown_of};
+ghost use Rattle.script.specs.Script.{ScriptOutcome, WritesBeginning, shown_of};
 ghost use Rattle.script.specs.Refusals.{IsRefused, IsCaused};
 ghost use Rattle.script.specs.Answers.{shown_text, index_text};
-ghost use Rattle.script.specs.Pieces.{Takes, Gives};
+ghost use Rattle.script.specs.Pieces.{TakesText, GivesText};
 ghost use Rattle.script.specs.Next.{IsNext};
-ghost use Rattle.script.specs.Steps.{Advances, Does, Uses, MatchesHeading};
+ghost use Rattle.script.specs.Steps.{Advances, DoesLine, Uses, MatchesHeading};
 ghost use Rattle.script.specs.declared.line.Line.{Line};
 
 use crate::answer::answer;
@@ -20,10 +20,10 @@ use crate::fault::ShellFault;
 use crate::growth::{Refused, new_engine};
 use crate::heading::settings_at;
 use crate::input::{MAX_LINE, Pending};
+use crate::inspect::{tell_ids, tell_no_page, write_page};
 use crate::line::{Line, line_at};
 use crate::output::write_out;
-use crate::telling::{tell_ids, tell_no_page, tell_page};
-use crate::watch::Watch;
+use crate::watch::IoLog;
 use session_core::{Engine, Reply};
 use std::alloc::Global;
 use std::io::{Read, Write};
@@ -40,15 +40,19 @@ enum Next {
 
 // Finds the next line. Before it reads, it writes what is to be written, so that nobody waits for an answer.
 fn next_line<R: Read, W: Write>(
-    watch: &mut Watch<R, W>,
+    watch: &mut IoLog<R, W>,
     pending: &mut Pending,
     reader: &mut R,
     text: &mut Vec<u8>,
     writer: &mut W,
 ) -> Result<Next, ShellFault>
-    ensures takes { Takes (R.remaining reader.old) (R.remaining reader.new) pending.old pending.new }
-    ensures gives { IfOk result (λ _. Gives (W.contents writer.old) (W.contents writer.new) text.old.items text.new.items) }
-    ensures front { (left : List ℕ) × Gives (W.contents writer.old) (W.contents writer.new) text.old.items left }
+    ensures takes { TakesText (R.remaining reader.old)
+        (R.remaining reader.new) pending.old pending.new }
+    ensures gives { IfOk result
+        (λ _. GivesText (W.contents writer.old)
+        (W.contents writer.new) text.old.items text.new.items) }
+    ensures prefix { (left : List ℕ)
+        × GivesText (W.contents writer.old) (W.contents writer.new) text.old.items left }
     ensures line { IfOk result (λ next. IsNext next pending.new (R.remaining reader.new)) }
     ensures fault { IfErr result (λ e. IsRefused e watch.new) }
 {
@@ -77,17 +81,24 @@ fn next_line<R: Read, W: Write>(
 
 // Shows a page, or that it isn't there.
 fn show_page(text: &mut Vec<u8>, engine: &Engine, number: u32) -> Result<(), Refused>
-    ensures { OnOk result (text.new.items ≡ text.old.items ++ with_feed (shown_text number (shown_of engine.now number))) }
+    ensures { OnOk result
+        (text.new.items
+        ≡ text.old.items ++ with_feed (shown_text number (shown_of engine.now number))) }
 {
     match (engine.page(number), engine.page_bits(number)) {
-        (Some(page), Some(bits)) => tell_page(text, number, page, bits),
+        (Some(page), Some(bits)) => write_page(text, number, page, bits),
         _ => tell_no_page(text),
     }
 }
 
 // Shows the entries of an index, or that it isn't there.
 fn show_index(text: &mut Vec<u8>, engine: &Engine, number: u8) -> Result<(), Refused>
-    ensures { OnOk result (text.new.items ≡ text.old.items ++ with_feed (index_text number (option_map (λ index. index.entries) (index_at engine.now.core number)))) }
+    ensures { OnOk result
+        (text.new.items
+        ≡ text.old.items
+        ++ with_feed
+        (index_text number
+        (option_map (λ index. index.entries) (engine_index engine.now.core number)))) }
 {
     match engine.index(number) {
         Some(index) => tell_index(text, number, index),
@@ -104,7 +115,8 @@ fn do_line(
     text: &mut Vec<u8>,
     line: &[u8],
 ) -> Result<bool, Refused>
-    ensures done { IfOk result (λ b. OnTrue b (Does line.now engine.old engine.new text.old.items text.new.items)) }
+    ensures done { IfOk result
+        (λ b. OnTrue b (DoesLine line.now engine.old engine.new text.old.items text.new.items)) }
     ensures bad { IfOk result (λ b. OnFalse b ((l : Line) → Fits l → line.now ≡ spelling l → ⊥)) }
     ensures same { IfOk result (λ b. OnFalse b (text.new.items ≡ text.old.items)) }
 {
@@ -133,13 +145,15 @@ fn do_line(
 
 // Writes what is to be written, and gives the result.
 fn close<R, W: Write>(
-    watch: &mut Watch<R, W>,
+    watch: &mut IoLog<R, W>,
     text: &mut Vec<u8>,
     writer: &mut W,
     end: Result<(), ShellFault>,
 ) -> Result<(), ShellFault>
-    ensures { ((result ≡ end) × Appends (W.contents writer.old) (W.contents writer.new) text.old.items)
-        ⊎ (IsErrAnd result (λ e. IsRefused e watch.new) × Begins (W.contents writer.old) (W.contents writer.new) text.old.items) }
+    ensures { ((result ≡ end)
+        × Appends (W.contents writer.old) (W.contents writer.new) text.old.items)
+        ⊎ (IsErrAnd result (λ e. IsRefused e watch.new)
+        × WritesBeginning (W.contents writer.old) (W.contents writer.new) text.old.items) }
 {
     match write_out(watch, text, writer) {
         Ok(()) => end,
@@ -148,12 +162,14 @@ fn close<R, W: Write>(
 }
 
 fn write_if_full<R, W: Write>(
-    watch: &mut Watch<R, W>,
+    watch: &mut IoLog<R, W>,
     text: &mut Vec<u8>,
     writer: &mut W,
 ) -> Result<(), ShellFault>
-    ensures ok { OnOk result (Gives (W.contents writer.old) (W.contents writer.new) text.old.items text.new.items) }
-    ensures front { Begins (W.contents writer.old) (W.contents writer.new) text.old.items }
+    ensures ok { OnOk result
+        (GivesText (W.contents writer.old) (W.contents writer.new) text.old.items text.new.items) }
+    ensures prefix { WritesBeginning (W.contents writer.old)
+        (W.contents writer.new) text.old.items }
     ensures fault { IfErr result (λ e. IsRefused e watch.new) }
 {
     if text.len() < FULL {
@@ -166,14 +182,15 @@ fn write_if_full<R, W: Write>(
 // needs more of them ends with a fault of its own.
 fn run_lines<R: Read, W: Write>(
     alloc: Global,
-    watch: &mut Watch<R, W>,
+    watch: &mut IoLog<R, W>,
     engine: &mut Engine,
     pending: &mut Pending,
     reader: &mut R,
     text: &mut Vec<u8>,
     writer: &mut W,
 ) -> Result<(), ShellFault>
-    ensures advances { Advances engine.old (R.remaining reader.old) (W.contents writer.old) (W.contents writer.new) pending.old text.old.items result }
+    ensures advances { Advances engine.old (R.remaining reader.old) (W.contents writer.old)
+        (W.contents writer.new) pending.old text.old.items result }
     ensures caused { IfErr result (λ e. IsCaused e watch.new) }
 {
     let mut reply = Reply::Done;
@@ -203,15 +220,17 @@ fn run_lines<R: Read, W: Write>(
 // Makes the engine that the first line asks for, and uses that line.
 fn first_line<R: Read, W: Write>(
     alloc: Global,
-    watch: &mut Watch<R, W>,
+    watch: &mut IoLog<R, W>,
     pending: &mut Pending,
     reader: &mut R,
     text: &mut Vec<u8>,
     writer: &mut W,
 ) -> Result<Engine, ShellFault>
     requires { (pending.old ≡ []) × (text.old.items ≡ []) }
-    ensures begins { IfOk result (λ e. (s : Settings) × IsNew s e.core × AreSettings s × (length s.indexed ≡ 4)
-        × Uses (R.remaining reader.old) (R.remaining reader.new) [] (with_feed (heading s)) pending.new) }
+    ensures begins { IfOk result
+        (λ e. (s : Settings) × IsNew s e.core × AreSettings s × (length s.indexed ≡ 4)
+        × Uses (R.remaining reader.old) (R.remaining reader.new) []
+        (with_feed (heading s)) pending.new) }
     ensures quiet { Appends (W.contents writer.old) (W.contents writer.new) [] }
     ensures none { OnOk result (text.new.items ≡ []) }
     ensures fails { IfErr result (λ e. MatchesHeading e (R.remaining reader.old)) }
@@ -240,11 +259,12 @@ fn first_line<R: Read, W: Write>(
 // Reads a script, and writes the answers to its lines, all through the watch.
 fn run_watched<R: Read, W: Write>(
     alloc: Global,
-    watch: &mut Watch<R, W>,
+    watch: &mut IoLog<R, W>,
     reader: &mut R,
     writer: &mut W,
 ) -> Result<(), ShellFault>
-    ensures outcome { IfSome (R.remaining reader.old) (λ input. Outcome result input (W.contents writer.old) (W.contents writer.new)) }
+    ensures outcome { IfSome (R.remaining reader.old)
+        (λ input. ScriptOutcome result input (W.contents writer.old) (W.contents writer.new)) }
     ensures caused { IfErr result (λ e. IsCaused e watch.new) }
 {
     let mut text = Vec::new(alloc);
@@ -275,11 +295,12 @@ pub fn run_script<R: Read, W: Write>(
     alloc: Global,
     reader: &mut R,
     writer: &mut W,
-) -> (Result<(), ShellFault>, Watch<R, W>)
-    ensures outcome { IfSome (R.remaining reader.old) (λ input. Outcome result.0 input (W.contents writer.old) (W.contents writer.new)) }
+) -> (Result<(), ShellFault>, IoLog<R, W>)
+    ensures outcome { IfSome (R.remaining reader.old)
+        (λ input. ScriptOutcome result.0 input (W.contents writer.old) (W.contents writer.new)) }
     ensures caused { IfErr result.0 (λ e. IsCaused e result.1) }
 {
-    let mut watch = Watch::new();
+    let mut watch = IoLog::new();
     let ended = run_watched(alloc, &mut watch, reader, writer);
     (ended, watch)
 }

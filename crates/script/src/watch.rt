@@ -20,7 +20,7 @@ use std::marker::{Model, PhantomData};
 /// A call that was interrupted refused nothing and is made again, as long as fewer than 2^64 - 1 in a row were interrupted: no
 /// function may try for ever.
 #[derive(Drop)]
-pub struct Watch<R, W> {
+pub struct IoLog<R, W> {
     // the last read answered an error that is no interruption
     input: bool,
     // the last write answered such an error, or took nothing of what there was
@@ -33,7 +33,7 @@ pub struct Watch<R, W> {
     writer: PhantomData<W>,
 }
 
-impl<R, W> Model for Watch<R, W> {
+impl<R, W> Model for IoLog<R, W> {
     ghost use Rattle.script.specs.Refusals.{Refusals};
 
     ghost Value = { Refusals };
@@ -48,15 +48,15 @@ pub(crate) fn is_interruption(e: &io::Error) -> bool
     e.kind() == ErrorKind::Interrupted
 }
 
-impl<R, W> Watch<R, W> {
+impl<R, W> IoLog<R, W> {
     /// Nothing was refused yet.
-    pub(crate) fn new() -> Watch<R, W>
+    pub(crate) fn new() -> IoLog<R, W>
         ensures input { result.input ≡ false }
         ensures output { result.output ≡ false }
         ensures interrupted { result.interrupted ≡ 0 }
         ensures memory { result.memory ≡ false }
     {
-        Watch {
+        IoLog {
             input: false,
             output: false,
             interrupted: 0,
@@ -114,17 +114,19 @@ impl<R, W> Watch<R, W> {
     }
 }
 
-impl<R: Read, W> Watch<R, W> {
+impl<R: Read, W> IoLog<R, W> {
     /// Reads once.
     pub(crate) fn read(&mut self, reader: &mut R, buf: &mut [u8]) -> io::Result<usize>
         requires { self.old.interrupted < 18446744073709551615 }
         ensures bound { ReadsAtMost result buf.new }
-        ensures bytes { ReadConsumes (R.remaining reader.old) (R.remaining reader.new) result buf.new }
+        ensures bytes { ReadConsumes (R.remaining reader.old)
+            (R.remaining reader.new) result buf.new }
         ensures taken { OnOk result (self.new.input ≡ false) }
         ensures refused { IfErr result (λ e. error_kind e ≢ Interrupted → self.new.input ≡ true) }
         ensures again { IfErr result (λ e. error_kind e ≡ Interrupted → self.new.input ≡ false) }
         ensures called { OnOk result (self.new.interrupted ≡ 0) }
-        ensures counted { IfErr result (λ e. error_kind e ≡ Interrupted → IsOneMore self.old self.new) }
+        ensures counted { IfErr result
+            (λ e. error_kind e ≡ Interrupted → IsOneMore self.old self.new) }
         ensures ended { IfErr result (λ e. error_kind e ≢ Interrupted → self.new.interrupted ≡ 0) }
         ensures output { self.new.output ≡ self.old.output }
         ensures memory { self.new.memory ≡ self.old.memory }
@@ -149,19 +151,21 @@ impl<R: Read, W> Watch<R, W> {
     }
 }
 
-impl<R, W: Write> Watch<R, W> {
+impl<R, W: Write> IoLog<R, W> {
     /// Writes once. Where there is nothing to write, it is no refusal that nothing was taken.
     pub(crate) fn write(&mut self, writer: &mut W, buf: &[u8]) -> io::Result<usize>
         requires { self.old.interrupted < 18446744073709551615 }
         ensures bound { WritesAtMost result buf.now }
-        ensures bytes { WriteAppends (W.contents writer.old) (W.contents writer.new) result buf.now }
+        ensures bytes { WriteAppends (W.contents writer.old)
+            (W.contents writer.new) result buf.now }
         ensures taken { (n : ℕ) → result ≡ Ok n → 0 < n → self.new.output ≡ false }
         ensures nothing { result ≡ Ok 0 → 0 < length buf.now → self.new.output ≡ true }
         ensures empty { OnOk result (length buf.now ≡ 0 → self.new.output ≡ false) }
         ensures refused { IfErr result (λ e. error_kind e ≢ Interrupted → self.new.output ≡ true) }
         ensures again { IfErr result (λ e. error_kind e ≡ Interrupted → self.new.output ≡ false) }
         ensures called { OnOk result (self.new.interrupted ≡ 0) }
-        ensures counted { IfErr result (λ e. error_kind e ≡ Interrupted → IsOneMore self.old self.new) }
+        ensures counted { IfErr result
+            (λ e. error_kind e ≡ Interrupted → IsOneMore self.old self.new) }
         ensures ended { IfErr result (λ e. error_kind e ≢ Interrupted → self.new.interrupted ≡ 0) }
         ensures input { self.new.input ≡ self.old.input }
         ensures memory { self.new.memory ≡ self.old.memory }

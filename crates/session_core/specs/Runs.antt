@@ -1,13 +1,13 @@
 -- Runs of the engine.
 use Rattle.std.specs.Prelude.{List, [], ◌∷◌, ◌++◌, ◌≡◌, ◌<◌, ℕ, length}
 use Rattle.history.specs.World.{beginning}
-use Rattle.session_relation.specs.declared.settings.Settings.{Settings}
-use Rattle.session_relation.specs.declared.settings.SettingsFault.TheVariants as setting
-use Rattle.session_relation.specs.declared.step.Step.{Step}
-use Rattle.session_relation.specs.declared.reply.Reply.{Reply}
-use Rattle.session_relation.specs.Words.{AreSettings, FirstFault}
-use Rattle.session_relation.specs.Writes.{HasBody}
-use Rattle.session_relation.specs.Allowed.{after}
+use Rattle.refinement.specs.declared.settings.Settings.{Settings}
+use Rattle.refinement.specs.declared.settings.SettingsFault.TheVariants as setting
+use Rattle.refinement.specs.declared.step.Step.{Step}
+use Rattle.refinement.specs.declared.reply.Reply.{Reply}
+use Rattle.refinement.specs.Words.{AreSettings, FirstFault}
+use Rattle.refinement.specs.Writes.{HasBody}
+use Rattle.refinement.specs.Allowed.{after}
 use Rattle.session_core.specs.declared.runs.RunFault.{RunFault}
 use Rattle.session_core.specs.declared.runs.RunFault.TheVariants as fault
 use Rattle.session_core.specs.View.{EngineView}
@@ -17,24 +17,24 @@ use Rattle.session_steps.specs.New.{IsNew}
 
 -- the engine's states one after another: by each step and its reply it follows the history, and does what the history leaves
 -- to it exactly
-abbrev pub Leads : EngineView → List Step → List Reply → EngineView → Type 0
-Leads old [] [] new = old ≡ new
-Leads old (step ∷ steps) (reply ∷ replies) new = (e : EngineView) × Follows old.core step reply e.core × Exact old.core step reply e.core × Leads e steps replies new
-Leads old steps replies new = ⊥
+abbrev pub RepliesLead : EngineView → List Step → List Reply → EngineView → Type 0
+RepliesLead old [] [] new = old ≡ new
+RepliesLead old (step ∷ steps) (reply ∷ replies) new = (e : EngineView) × Follows old.core step reply e.core × Exact old.core step reply e.core × RepliesLead e steps replies new
+RepliesLead old steps replies new = ⊥
 
 -- a new engine of these settings did the steps, and gave these replies
 pub record Ran (settings : Settings) (steps : List Step) (replies : List Reply) : Type 0 where
   pub first : EngineView
   pub new : IsNew settings first.core
   pub last : EngineView
-  pub leads : Leads first steps replies last
+  pub leads : RepliesLead first steps replies last
   pub agrees : Agrees last.core (after (beginning settings.indexed) steps replies)
 
 -- What had to grow, where memory was refused: the list of the replies, before the first step, or the copy of a step with a body,
 -- when those before it were done.
 pub data WantsMemory (old : EngineView) (steps : List Step) (new : EngineView) : Type 0 where
   for_replies : 0 < length steps → old ≡ new → WantsMemory old steps new
-  for_copy : (done more : List Step) (step : Step) (replies : List Reply) → steps ≡ done ++ step ∷ more → Leads old done replies new → HasBody step → WantsMemory old steps new
+  for_copy : (done more : List Step) (step : Step) (replies : List Reply) → steps ≡ done ++ step ∷ more → RepliesLead old done replies new → HasBody step → WantsMemory old steps new
 
 -- memory was refused to a new engine, or when there was one
 pub data WantsToRun (settings : Settings) (steps : List Step) : Type 0 where

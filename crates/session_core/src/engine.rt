@@ -4,16 +4,16 @@ ghost use Rattle.std.specs.Prelude.{◌≡◌, slice_get, option_copied, IfOk, I
 ghost use Rattle.std.specs.Option.{option_map};
 ghost use Rattle.commit_status.specs.Window.{next_id};
 ghost use Rattle.history.specs.World.{World, OpenSession, view};
-ghost use Rattle.session_relation.specs.Allowed.{AllowsClosed};
-ghost use Rattle.session_relation.specs.Words.{AreSettings, FirstFault};
-ghost use Rattle.session_steps.specs.State.{index_at};
+ghost use Rattle.refinement.specs.Allowed.{AllowsClosed};
+ghost use Rattle.refinement.specs.Words.{AreSettings, FirstFault};
+ghost use Rattle.session_steps.specs.State.{engine_index};
 ghost use Rattle.session_steps.specs.Agrees.{Agrees, Follows};
 ghost use Rattle.session_steps.specs.Exact.{Exact};
 ghost use Rattle.session_steps.specs.New.{IsNew};
 
 use page_slots::Page;
+use refinement::{Refusal, Reply, Row, Settings, SettingsFault, Step};
 use root_index::RootIndex;
-use session_relation::{Refusal, Reply, Row, Settings, SettingsFault, Step};
 use std::alloc::Global;
 use std::marker::Model;
 use xid_circle::Xid;
@@ -21,7 +21,7 @@ use xid_circle::Xid;
 /// A table with its sessions, of which there may be 64 open at a time.
 #[derive(Drop)]
 pub struct Engine {
-    core: session_steps::Engine,
+    core: session_steps::SessionEngine,
 }
 
 impl Model for Engine {
@@ -40,7 +40,7 @@ impl Engine {
         ensures fault { IfErr result (λ fault. FirstFault settings fault) }
         ensures valid { OnOk result (AreSettings settings) }
     {
-        match session_steps::Engine::new(alloc, settings) {
+        match session_steps::SessionEngine::new(alloc, settings) {
             Ok(core) => Ok(Engine { core }),
             Err(fault) => Err(fault),
         }
@@ -94,7 +94,7 @@ impl Engine {
     /// The index of this number, if there is one: index 0 is the primary index, by key, and index `c + 1` is that of
     /// column `c`, where the settings ask for it.
     pub fn index(&self, number: u8) -> Option<&RootIndex>
-        ensures { option_copied result ≡ index_at self.now.core number }
+        ensures { option_copied result ≡ engine_index self.now.core number }
     {
         self.core.index(number)
     }

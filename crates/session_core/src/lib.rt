@@ -12,5 +12,5 @@ mod runs;
 
 pub use engine::Engine;
 pub use page_slots::Page;
+pub use refinement::{Refusal, Reply, Row, RowIn, Settings, SettingsFault, Step};
 pub use runs::{RunFault, run};
-pub use session_relation::{Refusal, Reply, Row, RowIn, Settings, SettingsFault, Step};

@@ -2,11 +2,11 @@
 
 ghost use Rattle.std.specs.Prelude.{IfOk, IfErr, OnErr};
 ghost use Rattle.history.specs.World.{beginning};
-ghost use Rattle.session_relation.specs.Allowed.{IsRun, after, IsLawful};
-ghost use Rattle.session_core.specs.Runs.{Leads, Ran, WantsMemory, FirstRunFault};
+ghost use Rattle.refinement.specs.Allowed.{IsRun, after, IsLawful};
+ghost use Rattle.session_core.specs.Runs.{RepliesLead, Ran, WantsMemory, FirstRunFault};
 
 use crate::engine::Engine;
-use session_relation::{Reply, Settings, SettingsFault, Step};
+use refinement::{Reply, Settings, SettingsFault, Step};
 use std::alloc::{AllocError, Global};
 use thiserror::Error;
 
@@ -25,7 +25,8 @@ impl Engine {
     /// Does the steps one after another, and gives their replies. Memory is wanted before the first step, for the list of the
     /// replies, and before a step with a body, for its copy; else each reply has its place.
     fn replies_to(&mut self, alloc: Global, steps: &[Step]) -> Result<Vec<Reply>, AllocError>
-        ensures led { IfOk result (λ replies. Leads self.old steps.now replies.items self.new) }
+        ensures led { IfOk result
+            (λ replies. RepliesLead self.old steps.now replies.items self.new) }
         ensures wanted { OnErr result (WantsMemory self.old steps.now self.new) }
     {
         let mut replies = match Vec::with_capacity(alloc, steps.len()) {
@@ -48,9 +49,11 @@ impl Engine {
 /// The fault is the first setting that is out of its range, or NoMemory: for the engine, for the list of the replies, or for the
 /// copy of a step with a body.
 pub fn run(alloc: Global, settings: Settings, steps: &[Step]) -> Result<Vec<Reply>, RunFault>
-    ensures run { IfOk result (λ replies. IsRun (beginning settings.indexed) steps.now replies.items) }
+    ensures run { IfOk result
+        (λ replies. IsRun (beginning settings.indexed) steps.now replies.items) }
     ensures ran { IfOk result (λ replies. Ran settings steps.now replies.items) }
-    ensures lawful { IfOk result (λ replies. IsLawful (after (beginning settings.indexed) steps.now replies.items)) }
+    ensures lawful { IfOk result
+        (λ replies. IsLawful (after (beginning settings.indexed) steps.now replies.items)) }
     ensures fault { IfErr result (λ fault. FirstRunFault settings steps.now fault) }
 {
     let mut engine = match Engine::new(alloc, settings) {

@@ -14,15 +14,15 @@ use Rattle.sound_entries.specs.Leading.{IsOnHeap}
 use Rattle.sound_entries.proofs.Leads.{visible-found}
 use Rattle.heap_write.specs.Heap.{slots_of}
 use Rattle.heap_write.specs.Indexes.{entries_in, IsInUse}
-use Rattle.sound_writes.proofs.InUse.{index-sound}
+use Rattle.table_integrity.proofs.InUse.{index-sound}
 use Rattle.history.specs.Cursors.{value_in}
 use Rattle.history.specs.History.{Write, committed, reading}
 use Rattle.history.specs.World.{World, OpenSession, joined, view}
-use Rattle.visibility.specs.Seeing.{IsCommitted, VisibleBy, by_itself, by_others}
-use Rattle.session_relation.specs.Visible.{IsVisible}
-use Rattle.session_relation.specs.Agrees as relation
-use Rattle.session_relation.proofs.Follows as theory
-use Rattle.session_relation.proofs.Readers.{Levels-top}
+use Rattle.visibility.specs.Seeing.{HasCommitted, VisibleBy, by_itself, by_others}
+use Rattle.refinement.specs.Visible.{ReaderSees}
+use Rattle.refinement.specs.Agrees as relation
+use Rattle.refinement.proofs.Follows as theory
+use Rattle.refinement.proofs.Readers.{Levels-top}
 use Rattle.visibility.specs.Visible.{state_of}
 use Rattle.session_steps.specs.State.{State, seen, reader_of, horizon_of}
 use Rattle.session_steps.specs.Agrees.{Agrees}
@@ -32,7 +32,7 @@ use Rattle.session_steps.proofs.Owns.{reader-is, now_taken, taken-fresh}
 
 -- a reader whose own ids are in progress, and what it finds on the heap
 by-index : (st : State) (w : World) (n : ℕ) (s : Snap) (own : List ℕ) (row : ℕ → Option Row) → Agrees st w → IsInUse st.heap.indexes n → ((x : ℕ) → Contains own x → window.IsActive st.heap.table x)
-    → relation.Shows (seen st).version (IsVisible (state_of st.heap.table) (λ x. Sees s st.heap.table x) own) row → FindsRows st.heap s own n row
+    → relation.Shows (seen st).version (ReaderSees (state_of st.heap.table) (λ x. Sees s st.heap.table x) own) row → FindsRows st.heap s own n row
 by-index st w n s own row agrees used active shows = record {
   sound = λ value k p t found. let h = (on-heap value k p t).1 found in
       (ap row (sym h.of_key) ∙ shows.sound p t h.there h.has, h.of_value);
@@ -54,20 +54,20 @@ by-index st w n s own row agrees used active shows = record {
         (index-sound st.heap (horizon_of st) agrees.sound.table n used) s own active value k p t
 
 -- one that would begin now sees what is committed
-fresh : (st : State) (w : World) → Agrees st w → relation.Shows (seen st).version (IsVisible (state_of st.heap.table) (λ x. Sees (now_taken st) st.heap.table x) []) (committed w.history (length w.history))
+fresh : (st : State) (w : World) → Agrees st w → relation.Shows (seen st).version (ReaderSees (state_of st.heap.table) (λ x. Sees (now_taken st) st.heap.table x) []) (committed w.history (length w.history))
 fresh st w agrees = record {
   sound = λ p v at sees. agrees.found.current.sound p v at (to v sees);
   there = λ k r is. let some = agrees.found.current.there k r is in (some.0, some.1, some.2, some.3, from some.1 some.4);
   one = λ p q v u at bt sees sees'. agrees.found.current.one p q v u at bt (to v sees) (to u sees');
 }
   where
-    to : (v : Version) → IsVisible (state_of st.heap.table) (λ x. Sees (now_taken st) st.heap.table x) [] v → VisibleBy (IsCommitted (state_of st.heap.table)) v.header
+    to : (v : Version) → ReaderSees (state_of st.heap.table) (λ x. Sees (now_taken st) st.heap.table x) [] v → VisibleBy (HasCommitted (state_of st.heap.table)) v.header
     to v sees = record {
       made = λ x is. elim (sees.made x is) [ by_itself own ↦ absurd (Contains-none x own) | by_others seen' done ↦ done ];
       kept = λ x is done. sees.kept x is (by_others ((taken-fresh st w agrees).finished x done) done);
     }
 
-    from : (v : Version) → VisibleBy (IsCommitted (state_of st.heap.table)) v.header → IsVisible (state_of st.heap.table) (λ x. Sees (now_taken st) st.heap.table x) [] v
+    from : (v : Version) → VisibleBy (HasCommitted (state_of st.heap.table)) v.header → ReaderSees (state_of st.heap.table) (λ x. Sees (now_taken st) st.heap.table x) [] v
     from v sees = record {
       made = λ x is. let done = sees.made x is in by_others ((taken-fresh st w agrees).finished x done) done;
       kept = λ x is reads. elim reads [ by_itself own ↦ Contains-none x own | by_others seen' done ↦ sees.kept x is done ];

@@ -1,5 +1,5 @@
 -- A page is pruned, and no session can tell.
-use Rattle.visibility.proofs.Makers.{is-maker, is-deleter, maker-is, deleter-is, state-is, state-some, committed-from, active-to}
+use Rattle.visibility.proofs.Makers.{is-inserter, is-deleter, inserter-is, deleter-is, state-is, state-some, committed-from, active-to}
 use Rattle.session_steps.proofs.InUse.{still-in_use, agree}
 use Rattle.std.proofs.Common.{◌≡◌, ◌≢◌, ℕ, zero, suc, ◌≤◌, List, Option, Some, false, refl, sym, ap, ◌∙◌, subst, ◌⊎◌, inl, inr, arith}
 use Rattle.std.proofs.lemmas.Option.{same_Some}
@@ -24,20 +24,20 @@ use Rattle.sound_page.proofs.Undone.{aborted-has}
 use Rattle.sound_entries.specs.Pages.{slots_on, version_in}
 use Rattle.heap_write.specs.Heap.{HeapView, slots_of}
 use Rattle.heap_write.specs.Writes.{Prunes}
-use Rattle.sound_writes.specs.Table.{SoundTable}
-use Rattle.sound_writes.proofs.Standing.{RemovesOn, prunes-stand}
-use Rattle.sound_writes.proofs.Keeping.{pruned-stays}
+use Rattle.table_integrity.specs.Table.{SoundTable}
+use Rattle.table_integrity.proofs.Standing.{RemovesOn, prunes-stand}
+use Rattle.table_integrity.proofs.Keeping.{pruned-stays}
 use Rattle.history.specs.World.{World}
-use Rattle.session_relation.specs.declared.step.Step.TheVariants.{Prune}
-use Rattle.session_relation.specs.declared.reply.Reply.TheVariants.{Done, Refused}
-use Rattle.session_relation.specs.declared.reply.Refusal.TheVariants.{NoSuchPage}
-use Rattle.session_relation.specs.declared.settings.Settings.{Settings}
-use Rattle.session_relation.specs.Heap as relation
-use Rattle.session_relation.specs.Agrees as relation_agrees
+use Rattle.refinement.specs.declared.step.Step.TheVariants.{Prune}
+use Rattle.refinement.specs.declared.reply.Reply.TheVariants.{Done, Refused}
+use Rattle.refinement.specs.declared.reply.Refusal.TheVariants.{NoSuchPage}
+use Rattle.refinement.specs.declared.settings.Settings.{Settings}
+use Rattle.refinement.specs.Heap as relation
+use Rattle.refinement.specs.Agrees as relation_agrees
 use Rattle.visibility.specs.Seeing as readers
-use Rattle.session_relation.specs.Changes as change
-use Rattle.session_relation.proofs.Readers.{Levels-top}
-use Rattle.session_relation.proofs.Follows as theory
+use Rattle.refinement.specs.Changes as change
+use Rattle.refinement.proofs.Readers.{Levels-top}
+use Rattle.refinement.proofs.Follows as theory
 use Rattle.session_steps.specs.declared.session.Session.{Session}
 use Rattle.session_steps.specs.State.{State, seen, seen_in, horizon_of, held_back}
 use Rattle.session_steps.specs.Agrees.{Agrees, Follows}
@@ -62,13 +62,13 @@ deleter-of st v done =
 dead-past : (st : State) (w : World) (v : Version) → Agrees st w → IsDead st.heap.table (horizon_of st) v.header → IsPast st v
 dead-past st w v agrees (IsDead.never_was thawed gone) =
     let at = finished-place st.heap.table v.header.xmin.0 (λ active. let e : Aborted ≡ InProgress = sym gone ∙ active in absurd (cc)) in
-    change.IsPast.never_was v.header.xmin.0 (is-maker v.header v.header.xmin.0 thawed refl) (state-is st.heap.table v.header.xmin.0 Aborted (is-from_some (place st.heap.table v.header.xmin.0) at.0 at.1) gone)
+    change.IsPast.never_was v.header.xmin.0 (is-inserter v.header v.header.xmin.0 thawed refl) (state-is st.heap.table v.header.xmin.0 Aborted (is-from_some (place st.heap.table v.header.xmin.0) at.0 at.1) gone)
 dead-past st w v agrees (IsDead.is_past done before) =
     let at = finished-place st.heap.table v.header.xmax.0 (λ active. let e : Committed ≡ InProgress = sym done ∙ active in absurd (cc)) in
     let upto = upto-place st.heap.table v.header.xmax.0 at.0 at.1 in
     change.IsPast.is_over v.header.xmax.0 (deleter-of st v done) (committed-from st.heap.table v.header.xmax.0 done)
     (λ s r bt. let e = reader-at st s r bt in
-    subst (λ (r : relation.Session). Sees r.snapshot st.heap.table v.header.xmax.0) e.2
+    subst (λ (r : relation.SeenSession). Sees r.snapshot st.heap.table v.header.xmax.0) e.2
     (past-seen st.heap.table e.0.snapshot (horizon_of st) v.header.xmax.0 agrees.sound.window (agrees.sound.sessions s e.0 e.1).snapshot.bounds (upto-horizon st w agrees) upto (below-xmin st w agrees s e.0 e.1) before))
 
 -- Who reads a version's deletion reads its making: so what comes before such a version in a chain, nobody reads either.
@@ -90,7 +90,7 @@ module _ (st : State) (w : World) (agrees : Agrees st w) (n : ℕ) where
       of : u.header.xmin.0 ≡ v.header.xmax.0 → has_aborted st.heap.table v.header.xmax.0 ≡ false → IsPast st u
           → (IsCommitted st.heap.table u.header.xmax.0 → IsFrozen u.header ⊎ IsCommitted st.heap.table u.header.xmin.0) → ¬ IsFrozen u.header → IsPast st v
       of made live (change.IsPast.never_was x is gone) committed thawed =
-          let m = maker-is u.header x is in
+          let m = inserter-is u.header x is in
           let aborted : IsAborted st.heap.table v.header.xmax.0 = subst (λ y. IsAborted st.heap.table y) (sym m.1 ∙ made) (state-some st.heap.table x Aborted gone).1 in
           let has = aborted-has st.heap.table v.header.xmax.0 aborted in absurd (cc)
       of made live (change.IsPast.is_over y is done all) committed thawed =
@@ -99,7 +99,7 @@ module _ (st : State) (w : World) (agrees : Agrees st w) (n : ℕ) where
           let mine : IsCommitted st.heap.table v.header.xmax.0 = elim (committed over) [ inl frozen ↦ absurd (thawed frozen) | inr c ↦ subst (λ z. IsCommitted st.heap.table z) made c ] in
           change.IsPast.is_over v.header.xmax.0 (deleter-of st v mine) (committed-from st.heap.table v.header.xmax.0 mine)
           (λ s r at'. let open_ = agrees.found.opened s r at' in
-          let whole = (Levels-top r.own r.saved open_.0.levels open_.2.levels).whole (record { page = n; slot = k }) y u bt is (readers.by_others (all s r at') done) v.header.xmax.0 (is-maker u.header v.header.xmax.0 thawed made) in
+          let whole = (Levels-top r.own r.saved open_.0.levels open_.2.levels).whole (record { page = n; slot = k }) y u bt is (readers.by_others (all s r at') done) v.header.xmax.0 (is-inserter u.header v.header.xmax.0 thawed made) in
           elim whole [
             | readers.by_itself own ↦ (let active = (active-to st.heap.table v.header.xmax.0 (open_.2.own_active v.header.xmax.0 own)).unfinished in
                 let e : Committed ≡ InProgress = sym mine ∙ active in absurd (cc))
@@ -116,7 +116,7 @@ module _ (st : State) (w : World) (agrees : Agrees st w) (n : ℕ) where
 -- what goes from a page when what is cut goes, nobody reads
 pub removes-past : (st : State) (w : World) (store' : Tid → Option Version) (n : ℕ) → Agrees st w
     → RemovesOn (version_in (slots_of st.heap)) store' n (IsCut st.heap.table (horizon_of st) (slots_on (slots_of st.heap) n))
-    → change.Removes (seen st).version store' (λ v. change.IsPast (seen st).status (seen st).sees (seen st).session v)
+    → change.MayRemove (seen st).version store' (λ v. change.IsPast (seen st).status (seen st).sees (seen st).session v)
 removes-past st w store' n agrees removes = record {
   kept = removes.kept;
   gone = λ p v at. elim (removes.gone p v at) [
@@ -139,7 +139,7 @@ pruned st h p w prunes agrees =
     let f = theory.Follows-prune (seen st) p (version_in (slots_of h)) (removes-past st w (version_in (slots_of h)) p agrees (prunes-stand st.heap h p (horizon_of st) prunes)) w agrees.found in
     let table : h.table ≡ st.heap.table = ap (λ (g : HeapView). g.table) prunes.is in
     let limit : h.max_pages ≡ st.heap.max_pages = ap (λ (g : HeapView). g.max_pages) prunes.is in
-    agree agrees refl refl (subst (λ t. relation_agrees.Agrees (seen_in (slots_of h) t st.sessions) w) (sym table) f.1) (record {
+    agree agrees refl refl (subst (λ t. relation_agrees.HeapAgrees (seen_in (slots_of h) t st.sessions) w) (sym table) f.1) (record {
       count = agrees.sound.count;
       max_pages = limit ∙ agrees.sound.max_pages;
       stop_age = rw table agrees.sound.stop_age;

@@ -8,20 +8,20 @@ use Rattle.std.specs.Prelude.{IsSome}
 use Rattle.std.specs.Option.{option_map}
 use Rattle.root_index.specs.View.{IndexView}
 use Rattle.heap_write.specs.Indexes.{IsInUse, index_at}
-use Rattle.session_relation.specs.declared.step.Step.TheVariants.{OpenIndex, OpenHeap, Close}
-use Rattle.session_relation.specs.declared.reply.Reply.TheVariants.{Done, Refused}
-use Rattle.session_relation.specs.declared.reply.Refusal.{Refusal}
-use Rattle.session_relation.specs.declared.reply.Refusal.TheVariants.{NoSuchIndex, BadBounds}
-use Rattle.session_relation.specs.Heap as relation
-use Rattle.session_relation.specs.Allowed.{Allows, next}
-use Rattle.session_relation.proofs.Steps.{OnlyIs}
-use Rattle.session_relation.proofs.FollowsCursors as cursors
+use Rattle.refinement.specs.declared.step.Step.TheVariants.{OpenIndex, OpenHeap, Close}
+use Rattle.refinement.specs.declared.reply.Reply.TheVariants.{Done, Refused}
+use Rattle.refinement.specs.declared.reply.Refusal.{Refusal}
+use Rattle.refinement.specs.declared.reply.Refusal.TheVariants.{NoSuchIndex, BadBounds}
+use Rattle.refinement.specs.Heap as relation
+use Rattle.refinement.specs.Allowed.{Allows, next}
+use Rattle.refinement.proofs.Steps.{OnlyIs}
+use Rattle.refinement.proofs.FollowsCursors as cursors
 use Rattle.session_steps.specs.declared.session.Session.{Session}
 use Rattle.session_steps.specs.declared.cursor.Cursor.{Cursor}
 use Rattle.session_steps.specs.declared.cursor.Cursor.TheVariants.{Index, Heap}
-use Rattle.heap_write.specs.declared.walking.Span.{Span}
+use Rattle.heap_write.specs.declared.index_scan.IndexRange.{IndexRange}
 use Rattle.session_steps.specs.State.{State, session_at, put_session, map_session, with_cursor, seen, position_of, reader_of}
-use Rattle.session_steps.specs.Agrees.{Agrees, Sound, SessionKeeps, Follows, StaysLed}
+use Rattle.session_steps.specs.Agrees.{Agrees, Sound, SessionKeeps, Follows, KeepsAllTargets}
 use Rattle.session_steps.specs.Refuses.{RefusesFree, RefusesBare}
 use Rattle.session_steps.proofs.InUse.{GoesAlong, no-cursor, agree}
 use Rattle.session_steps.proofs.OwnIdsLemmas.{open-within}
@@ -64,7 +64,7 @@ Follows-bad_bounds st s e index low high at sound bare used order w agrees =
 -- A session's cursor changes, and nothing else.
 
 keeps-cursor : (st : State) (e : Session) (cursor : Option Cursor) → SessionKeeps st.heap.table e → SessionKeeps st.heap.table (with_cursor cursor e)
-keeps-cursor st e cursor h = record { snapshot = h.snapshot; topmost = h.topmost; fronts = h.fronts; distinct = h.distinct }
+keeps-cursor st e cursor h = record { snapshot = h.snapshot; topmost = h.topmost; prefixes = h.prefixes; distinct = h.distinct }
 
 module _ (st st' : State) (s : ℕ) (e : Session) (cursor : Option Cursor) (at : session_at st s ≡ Some e) (is : st' ≡ put_session st s (map_session (with_cursor cursor) (session_at st s))) where
   pub moved : st' ≡ put_session st s (Some (with_cursor cursor e))
@@ -76,17 +76,17 @@ module _ (st st' : State) (s : ℕ) (e : Session) (cursor : Option Cursor) (at :
   pub sound-cursor : GoesAlong st.heap.indexes cursor → Sound st → Sound (put_session st s (Some (with_cursor cursor e)))
   sound-cursor along sound = Sound-put st s e (with_cursor cursor e) at refl (keeps-cursor st e cursor (sound.sessions s e at)) along sound
 
-along-span : (indexes : List (Option IndexView)) (span : Span) → IsInUse indexes span.index → GoesAlong indexes (Some (Index span))
-along-span indexes span used other is = let same : span ≡ other = cc in subst (λ (span : Span). IsInUse indexes span.index) same used
+along-span : (indexes : List (Option IndexView)) (span : IndexRange) → IsInUse indexes span.index → GoesAlong indexes (Some (Index span))
+along-span indexes span used other is = let same : span ≡ other = cc in subst (λ (span : IndexRange). IsInUse indexes span.index) same used
 
-pub Follows-opened_index : (st st' : State) (s : ℕ) (e : Session) (span : Span) → session_at st s ≡ Some e → e.failed ≡ false → e.cursor ≡ None → span.low ≤ℤ span.high → span.last ≡ None → IsInUse st.heap.indexes span.index
+pub Follows-opened_index : (st st' : State) (s : ℕ) (e : Session) (span : IndexRange) → session_at st s ≡ Some e → e.failed ≡ false → e.cursor ≡ None → span.low ≤ℤ span.high → span.last ≡ None → IsInUse st.heap.indexes span.index
     → st' ≡ put_session st s (map_session (with_cursor (Some (Index span))) (session_at st s)) → Follows st (OpenIndex s span.index span.low span.high) Done st'
 Follows-opened_index st st' s e span at sound bare order none used is w agrees =
     let position : position_of (Some (Index span)) ≡ Some (relation.in_index span.index span.low span.high None) = rw none refl in
     let only = subst (λ p. OnlyIs (seen st).session (seen (put_session st s (Some (with_cursor (Some (Index span)) e)))).session s (Some (record (reader_of e) { cursor = p }))) position (only-cursor st st' s e (Some (Index span)) at is) in
     let f = cursors.Follows-open_index (seen st) s (reader_of e) span.index span.low span.high (seen (put_session st s (Some (with_cursor (Some (Index span)) e)))).session only
     (reader-is st s e at) sound (ap position_of bare) order w ((agrees.indexes span.index).0 used) agrees.found in
-    subst (λ st'. Allows w (OpenIndex s span.index span.low span.high) Done × Agrees st' (next w (OpenIndex s span.index span.low span.high) Done) × StaysLed st st') (sym (moved st st' s e (Some (Index span)) at is))
+    subst (λ st'. Allows w (OpenIndex s span.index span.low span.high) Done × Agrees st' (next w (OpenIndex s span.index span.low span.high) Done) × KeepsAllTargets st st') (sym (moved st st' s e (Some (Index span)) at is))
     (f.0, agree agrees refl refl f.1 (sound-cursor st st' s e (Some (Index span)) at is (along-span st.heap.indexes span used) agrees.sound), led-same st w agrees)
 
 pub Follows-opened_heap : (st st' : State) (s : ℕ) (e : Session) → session_at st s ≡ Some e → e.failed ≡ false → e.cursor ≡ None
@@ -94,7 +94,7 @@ pub Follows-opened_heap : (st st' : State) (s : ℕ) (e : Session) → session_a
 Follows-opened_heap st st' s e at sound bare is w agrees =
     let f = cursors.Follows-open_heap (seen st) s (reader_of e) (seen (put_session st s (Some (with_cursor (Some (Heap 0)) e)))).session (only-cursor st st' s e (Some (Heap 0)) at is)
     (reader-is st s e at) sound (ap position_of bare) w agrees.found in
-    subst (λ st'. Allows w (OpenHeap s) Done × Agrees st' (next w (OpenHeap s) Done) × StaysLed st st') (sym (moved st st' s e (Some (Heap 0)) at is))
+    subst (λ st'. Allows w (OpenHeap s) Done × Agrees st' (next w (OpenHeap s) Done) × KeepsAllTargets st st') (sym (moved st st' s e (Some (Heap 0)) at is))
     (f.0, agree agrees refl refl f.1 (sound-cursor st st' s e (Some (Heap 0)) at is (λ span here. absurd (cc)) agrees.sound), led-same st w agrees)
 
 pub Follows-closed_cursor : (st st' : State) (s : ℕ) (e : Session) → session_at st s ≡ Some e → e.failed ≡ false → IsSome e.cursor
@@ -102,10 +102,10 @@ pub Follows-closed_cursor : (st st' : State) (s : ℕ) (e : Session) → session
 Follows-closed_cursor st st' s e at sound some is w agrees =
     let f = cursors.Follows-close (seen st) s (reader_of e) (seen (put_session st s (Some (with_cursor None e)))).session (only-cursor st st' s e None at is)
     (reader-is st s e at) sound (some-position e.cursor some) w agrees.found in
-    subst (λ st'. Allows w (Close s) Done × Agrees st' (next w (Close s) Done) × StaysLed st st') (sym (moved st st' s e None at is))
+    subst (λ st'. Allows w (Close s) Done × Agrees st' (next w (Close s) Done) × KeepsAllTargets st st') (sym (moved st st' s e None at is))
     (f.0, agree agrees refl refl f.1 (sound-cursor st st' s e None at is (no-cursor st.heap.indexes None refl) agrees.sound), led-same st w agrees)
 
-abbrev pub span-of : ℕ → ℤ → ℤ → Span
+abbrev pub span-of : ℕ → ℤ → ℤ → IndexRange
 span-of index low high = record { index = index; low = low; high = high; last = None }
 
 -- Bounds as they are compared.

@@ -16,20 +16,20 @@ use Rattle.commit_status.specs.Window as window
 use Rattle.commit_status.specs.Changes.{Finishes}
 use Rattle.commit_status.proofs.Finishing.{finishes-top, finishes-upto, finishes-next}
 use Rattle.forgetting.proofs.WellTopped.{finishes-well_topped}
-use Rattle.page_writes.specs.Laws.{DeletedWhatWasMade, AloneDeletedTheirs}
-use Rattle.visibility.proofs.Makers.{is-maker, is-deleter, active-to, committed-to, state-some}
+use Rattle.tuple_writes.specs.Laws.{DeletedWhatWasMade, AloneDeletedTheirs}
+use Rattle.visibility.proofs.Makers.{is-inserter, is-deleter, active-to, committed-to, state-some}
 use Rattle.sound_entries.specs.Pages.{slots_on}
 use Rattle.heap_write.specs.Heap.{slots_of}
-use Rattle.sound_writes.specs.Table.{StaysSoundTable}
-use Rattle.sound_writes.specs.Laws as laws
-use Rattle.sound_writes.proofs.Keeping.{committed-stays, aborted-stays, later-stays-sound}
+use Rattle.table_integrity.specs.Table.{StaysSoundTable}
+use Rattle.table_integrity.specs.Laws as laws
+use Rattle.table_integrity.proofs.Keeping.{committed-stays, aborted-stays, later-stays-sound}
 use Rattle.history.specs.History.{Write, Transaction}
 use Rattle.history.specs.World.{World, joined}
-use Rattle.session_relation.specs.Heap as relation
-use Rattle.visibility.specs.Seeing.{IsCommitted, IsActive, Reads, by_itself, by_others, deleted_by, maker, deleter}
-use Rattle.session_relation.specs.Visible.{At}
-use Rattle.session_relation.specs.Agrees as theory
-use Rattle.session_relation.proofs.Readers.{Levels-top}
+use Rattle.refinement.specs.Heap as relation
+use Rattle.visibility.specs.Seeing.{HasCommitted, IsRunning, Reads, by_itself, by_others, deleted_by, inserter, deleter}
+use Rattle.refinement.specs.Visible.{At}
+use Rattle.refinement.specs.Agrees as theory
+use Rattle.refinement.proofs.Readers.{Levels-top}
 use Rattle.snapshot.specs.Laws.{IsBounded, IsBetween, IsInWindow}
 use Rattle.snapshot.specs.Snap.{Snap}
 use Rattle.snapshot.specs.Own.{newest}
@@ -38,9 +38,9 @@ use Rattle.snapshot.proofs.Takes.{first-in}
 use Rattle.session_steps.specs.declared.session.Session.{Session}
 use Rattle.visibility.specs.Visible.{state_of}
 use Rattle.session_steps.specs.State.{State, session_at, seen, reader_of, holds_back, horizon_of}
-use Rattle.session_steps.specs.Agrees.{Agrees, Sound, SessionKeeps, StaysLed}
+use Rattle.session_steps.specs.Agrees.{Agrees, Sound, SessionKeeps, KeepsAllTargets}
 use Rattle.session_steps.specs.Changes.{Closes, RollsBack}
-use Rattle.session_relation.specs.declared.settings.Settings.{Settings}
+use Rattle.refinement.specs.declared.settings.Settings.{Settings}
 use Rattle.session_steps.proofs.InUse.{AreInUse, GoesAlong, still-in_use, same-cursor}
 use Rattle.session_steps.proofs.OwnIdsLemmas.{open-within, open-set_cases}
 use Rattle.session_steps.proofs.Owns.{reader-is, reader-at}
@@ -72,7 +72,7 @@ pub keeps-finish : (w v : Window) (ids : List ℕ) (end : Status) (e : Session) 
 keeps-finish w v ids end e f h = record {
   snapshot = in-window-finish w v ids end e.snapshot f h.snapshot;
   topmost = λ x mine. h.topmost x mine ∙ ap Some (sym (finishes-top w v ids end x f));
-  fronts = h.fronts;
+  prefixes = h.prefixes;
   distinct = h.distinct;
 }
 
@@ -98,20 +98,20 @@ newest-reader status store history sees start own before saved all levels is h =
 
 module _ (st : State) (w : World) (agrees : Agrees st w) where
   -- what reads the version at a place, read by a session with these ids of its own
-  read-by : (status : ℕ → Option Status) (sees : ℕ → Type 0) (own : List ℕ) (x : ℕ) → Reads status sees own x → Contains own x ⊎ IsCommitted status x
+  read-by : (status : ℕ → Option Status) (sees : ℕ → Type 0) (own : List ℕ) (x : ℕ) → Reads status sees own x → Contains own x ⊎ HasCommitted status x
   read-by status sees own x (by_itself mine) = inl mine
   read-by status sees own x (by_others seen done) = inr done
 
   -- an id of the session deleted the version: one of its own made it, or one that is committed
-  made-with : (s : ℕ) (e : Session) (p : Tid) (t : Version) (x y : ℕ) → session_at st s ≡ Some e → At (seen st).version p t → maker t.header ≡ Some x → deleter t.header ≡ Some y → Contains e.own.ids y
-      → Contains e.own.ids x ⊎ IsCommitted (state_of st.heap.table) x
+  made-with : (s : ℕ) (e : Session) (p : Tid) (t : Version) (x y : ℕ) → session_at st s ≡ Some e → At (seen st).version p t → inserter t.header ≡ Some x → deleter t.header ≡ Some y → Contains e.own.ids y
+      → Contains e.own.ids x ⊎ HasCommitted (state_of st.heap.table) x
   made-with s e p t x y at there made gone mine =
       let m = agrees.found.opened s (reader_of e) (reader-is st s e at) in
       read-by (state_of st.heap.table) ((seen st).sees e.snapshot) e.own.ids x
       ((Levels-top e.own.ids e.own.saved m.0.levels m.2.levels).whole p y t there gone (by_itself mine) x made)
 
   -- an id in progress of a session made the version: no deletion of it counts, or one of the session's ids made it
-  deleted-with : (s : ℕ) (e : Session) (p : Tid) (t : Version) (x : ℕ) → session_at st s ≡ Some e → At (seen st).version p t → maker t.header ≡ Some x → Contains e.own.ids x
+  deleted-with : (s : ℕ) (e : Session) (p : Tid) (t : Version) (x : ℕ) → session_at st s ≡ Some e → At (seen st).version p t → inserter t.header ≡ Some x → Contains e.own.ids x
       → (t.header.xmax.0 ≡ 0) ⊎ (window.IsAborted st.heap.table t.header.xmax.0 ⊎ Contains e.own.ids t.header.xmax.0)
   deleted-with s e p t x at there made mine = elim (cases_eq t.header.xmax.0 0) [
     | inl none ↦ inl none
@@ -121,18 +121,18 @@ module _ (st : State) (w : World) (agrees : Agrees st w) where
       y : ℕ
       y = t.header.xmax.0
 
-      going : IsActive (state_of st.heap.table) x
+      going : IsRunning (state_of st.heap.table) x
       going = (agrees.found.opened s (reader_of e) (reader-is st s e at)).2.own_active x mine
 
-      unfinished : ¬ IsCommitted (state_of st.heap.table) x
+      unfinished : ¬ HasCommitted (state_of st.heap.table) x
       unfinished done = cc going
 
       -- the session that has the deleter made it too, so it is this one
-      same-session : deleter t.header ≡ Some y → IsActive (state_of st.heap.table) y → Contains e.own.ids y
+      same-session : deleter t.header ≡ Some y → IsRunning (state_of st.heap.table) y → Contains e.own.ids y
       same-session gone active =
           let by = agrees.found.owned y active in
           let f = reader-at st by.0 by.1 by.2 in
-          let theirs : Contains f.0.own.ids y = subst (λ (r : relation.Session). Contains r.own y) (sym f.2) by.3 in
+          let theirs : Contains f.0.own.ids y = subst (λ (r : relation.SeenSession). Contains r.own y) (sym f.2) by.3 in
           elim (made-with by.0 f.0 p t x y f.1 there made gone theirs) [
             | inl both ↦ (let one : s ≡ by.0 = agrees.found.apart s by.0 (reader_of e) (reader_of f.0) x (reader-is st s e at) (reader-is st by.0 f.0 f.1) mine both in
                 subst (λ (g : Session). Contains g.own.ids y) (same_Some f.0 e (sym f.1 ∙ ap (session_at st) (sym one) ∙ at)) theirs)
@@ -151,7 +151,7 @@ module _ (st : State) (w : World) (agrees : Agrees st w) where
     | inl frozen ↦ inl frozen
     | inr thawed ↦ inr (
         let active = active-to st.heap.table t.header.xmax.0 ((agrees.found.opened s (reader_of e) (reader-is st s e at)).2.own_active t.header.xmax.0 mine) in
-        elim (made-with s e (record { page = n; slot = m }) t t.header.xmin.0 t.header.xmax.0 at there (is-maker t.header t.header.xmin.0 thawed refl)
+        elim (made-with s e (record { page = n; slot = m }) t t.header.xmin.0 t.header.xmax.0 at there (is-inserter t.header t.header.xmin.0 thawed refl)
         (is-deleter t.header t.header.xmax.0 (normal-active st.heap.table t.header.xmax.0 active) refl) mine) [
           | inl own ↦ inr own
           | inr done ↦ inl (committed-to st.heap.table t.header.xmin.0 done)
@@ -159,7 +159,7 @@ module _ (st : State) (w : World) (agrees : Agrees st w) where
   ]
 
   alone-deleted : (s : ℕ) (e : Session) → session_at st s ≡ Some e → (n : ℕ) → AloneDeletedTheirs st.heap.table (slots_on (slots_of st.heap) n) e.own.ids
-  alone-deleted s e at n m t there thawed mine = deleted-with s e (record { page = n; slot = m }) t t.header.xmin.0 at there (is-maker t.header t.header.xmin.0 thawed refl) mine
+  alone-deleted s e at n m t there thawed mine = deleted-with s e (record { page = n; slot = m }) t t.header.xmin.0 at there (is-inserter t.header t.header.xmin.0 thawed refl) mine
 
   -- those since its newest savepoint: what these made, no earlier id deletes, since who returns there reads no such making
   since-alone : (s : ℕ) (e : Session) (before since : List ℕ) (saved : List (List ℕ)) → session_at st s ≡ Some e → e.own.saved ≡ before ∷ saved → e.own.ids ≡ before ++ since
@@ -183,8 +183,8 @@ module _ (st : State) (w : World) (agrees : Agrees st w) where
       y : ℕ
       y = t.header.xmax.0
 
-      made : maker t.header ≡ Some x
-      made = is-maker t.header x thawed refl
+      made : inserter t.header ≡ Some x
+      made = is-inserter t.header x thawed refl
 
       too-early : Contains before y → ⊥
       too-early early =
@@ -232,7 +232,7 @@ module _ (st st' : State) (s : ℕ) (e : Session) (now : Option Session) (ids : 
       (λ o f y bt among. let was = was-back o f y bt among in subst (λ first. turns first (horizon_of st) ≤ turns first y) (sym change.finishes.first)
       (horizon-low st.heap.table st.sessions was.0 was.1 y agrees.sound.window (held-in st w agrees) was.2 was.3))
 
-  table-finishes : ((x : ℕ) → Contains ids x → Contains e.own.ids x) → laws.Finishes st.heap st'.heap ids end
+  table-finishes : ((x : ℕ) → Contains ids x → Contains e.own.ids x) → laws.FinishesInTable st.heap st'.heap ids end
   table-finishes mine = record {
     active = λ x among. active-to st.heap.table x ((agrees.found.opened s (reader_of e) (reader-is st s e at)).2.own_active x (mine x among));
     finishes = change.finishes;
@@ -270,7 +270,7 @@ ended-closed st st' s e end at closes = record { settings = closes.settings; pag
 nobody : {A : Type 0} (f : Session) → None ≡ Some f → A
 nobody f is = absurd (none-some f is)
 
-pub commits-sound : (st st' : State) (s : ℕ) (e : Session) (w : World) → session_at st s ≡ Some e → Closes st st' s Committed → Agrees st w → Sound st' × StaysLed st st'
+pub commits-sound : (st st' : State) (s : ℕ) (e : Session) (w : World) → session_at st s ≡ Some e → Closes st st' s Committed → Agrees st w → Sound st' × KeepsAllTargets st st'
 commits-sound st st' s e w at closes agrees =
     let change = ended-closed st st' s e Committed at closes in
     let stays = committed-stays st.heap st'.heap (horizon_of st) e.own.ids agrees.sound.table
@@ -280,7 +280,7 @@ commits-sound st st' s e w at closes agrees =
       stays.led,
     )
 
-pub aborts-sound : (st st' : State) (s : ℕ) (e : Session) (w : World) → session_at st s ≡ Some e → Closes st st' s Aborted → Agrees st w → Sound st' × StaysLed st st'
+pub aborts-sound : (st st' : State) (s : ℕ) (e : Session) (w : World) → session_at st s ≡ Some e → Closes st st' s Aborted → Agrees st w → Sound st' × KeepsAllTargets st st'
 aborts-sound st st' s e w at closes agrees =
     let change = ended-closed st st' s e Aborted at closes in
     let stays = aborted-stays st.heap st'.heap (horizon_of st) e.own.ids agrees.sound.table
@@ -289,7 +289,7 @@ aborts-sound st st' s e w at closes agrees =
 
 -- A session returns to its newest savepoint.
 
-pub rolls-back-sound : (st st' : State) (s : ℕ) (before : List ℕ) (saved : List (List ℕ)) (w : World) (back : RollsBack st st' s) → back.session.own.saved ≡ before ∷ saved → Agrees st w → Sound st' × StaysLed st st'
+pub rolls-back-sound : (st st' : State) (s : ℕ) (before : List ℕ) (saved : List (List ℕ)) (w : World) (back : RollsBack st st' s) → back.session.own.saved ≡ before ∷ saved → Agrees st w → Sound st' × KeepsAllTargets st st'
 rolls-back-sound st st' s before saved w back is agrees =
     let e = back.session in
     let ids : back.now.own.ids ≡ before = back.back.returns.ids ∙ ap newest is in

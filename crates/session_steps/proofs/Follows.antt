@@ -12,44 +12,44 @@ use Rattle.snapshot.specs.Own.{AreDistinct}
 use Rattle.heap_pages.specs.View.{PagesView}
 use Rattle.visibility.proofs.Makers.{active-to}
 use Rattle.sound_entries.specs.Pages.{version_in, slot_in}
-use Rattle.sound_entries.specs.Entries.{MayBeLed, same_version, led_on, died}
+use Rattle.sound_entries.specs.Entries.{MayBeTarget, same_version, led_on, died}
 use Rattle.sound_entries.specs.Entries as entries
 use Rattle.sound_entries.specs.Looking as looking
-use Rattle.sound_writes.specs.Table.{SoundTable}
-use Rattle.sound_writes.proofs.InUse.{used-by}
-use Rattle.sound_writes.proofs.Keeping.{later-stays-sound}
+use Rattle.table_integrity.specs.Table.{SoundTable}
+use Rattle.table_integrity.proofs.InUse.{used-by}
+use Rattle.table_integrity.proofs.Keeping.{later-stays-sound}
 use Rattle.commit_status.specs.declared.status.Status.{Status}
 use Rattle.commit_status.specs.declared.status.Status.TheVariants.{Committed, Aborted}
 use Rattle.snapshot.specs.Snap.{Snap, earliest}
 use Rattle.heap_write.specs.Heap.{slots_of}
 use Rattle.history.specs.World.{World}
-use Rattle.session_relation.specs.declared.step.Step.{Step}
-use Rattle.session_relation.specs.declared.step.Step.TheVariants.{Begin, Get, Commit, Abort}
-use Rattle.session_relation.specs.declared.reply.Reply.{Reply}
-use Rattle.session_relation.specs.declared.reply.Reply.TheVariants.{Done, RolledBack, Refused}
-use Rattle.session_relation.specs.declared.reply.Reply.TheVariants as reply
-use Rattle.session_relation.specs.declared.reply.Refusal.{Refusal}
-use Rattle.session_relation.specs.declared.reply.Refusal.TheVariants.{NotOpen, AlreadyOpen, Failed, AlreadyThere, NotThere, Conflict, Busy, TooLarge, NoRoom, NeedsFreeze, NoMemory, NoSuchPage, NoSuchSession, TooDeep, NoSavepoint, CursorOpen, NoCursor, NoSuchIndex, BadBounds}
-use Rattle.session_relation.specs.Writes.{WriteStep, step_of}
-use Rattle.session_relation.specs.Heap as seen_heap
-use Rattle.session_relation.specs.Agrees as relation
-use Rattle.session_relation.specs.Allowed.{Allows, next}
-use Rattle.session_relation.specs.Finds as finds
-use Rattle.session_relation.specs.Changes as change
-use Rattle.session_relation.proofs.Itself.{new_session}
-use Rattle.session_relation.proofs.Steps.{OnlyIs, SameSights}
-use Rattle.session_relation.proofs.Follows as theory
-use Rattle.session_relation.proofs.Hindrances as hindrances
+use Rattle.refinement.specs.declared.step.Step.{Step}
+use Rattle.refinement.specs.declared.step.Step.TheVariants.{Begin, Get, Commit, Abort}
+use Rattle.refinement.specs.declared.reply.Reply.{Reply}
+use Rattle.refinement.specs.declared.reply.Reply.TheVariants.{Done, RolledBack, Refused}
+use Rattle.refinement.specs.declared.reply.Reply.TheVariants as reply
+use Rattle.refinement.specs.declared.reply.Refusal.{Refusal}
+use Rattle.refinement.specs.declared.reply.Refusal.TheVariants.{NotOpen, AlreadyOpen, Failed, AlreadyThere, NotThere, Conflict, Busy, TooLarge, NoRoom, NeedsFreeze, NoMemory, NoSuchPage, NoSuchSession, TooDeep, NoSavepoint, CursorOpen, NoCursor, NoSuchIndex, BadBounds}
+use Rattle.refinement.specs.Writes.{WriteStep, step_of}
+use Rattle.refinement.specs.Heap as seen_heap
+use Rattle.refinement.specs.Agrees as relation
+use Rattle.refinement.specs.Allowed.{Allows, next}
+use Rattle.refinement.specs.Finds as finds
+use Rattle.refinement.specs.Changes as change
+use Rattle.refinement.proofs.Itself.{new_session}
+use Rattle.refinement.proofs.Steps.{OnlyIs, SameSights}
+use Rattle.refinement.proofs.Follows as theory
+use Rattle.refinement.proofs.Hindrances as hindrances
 use Rattle.session_steps.specs.declared.session.Session.{Session}
 use Rattle.visibility.specs.Visible.{state_of}
-use Rattle.session_steps.specs.State.{State, session_at, put_session, seen, position_of, reader_of, as_failed, holds_back, held_back, horizon_of}
+use Rattle.session_steps.specs.State.{State, session_at, put_session, seen, position_of, reader_of, failed_session, holds_back, held_back, horizon_of}
 use Rattle.session_steps.specs.Keeps.{open_at}
-use Rattle.session_steps.specs.Agrees.{Agrees, Sound, Follows, SessionKeeps, StaysLed}
+use Rattle.session_steps.specs.Agrees.{Agrees, Sound, Follows, SessionKeeps, KeepsAllTargets}
 use Rattle.session_steps.specs.Refuses.{Refuses, RefusesReady, RefusesFree, RefusesBare}
 use Rattle.session_steps.specs.declared.cursor.Cursor.{Cursor}
 use Rattle.session_steps.specs.declared.cursor.Cursor.TheVariants.{Index, Heap}
 use Rattle.session_steps.specs.Changes.{Opens, Closes}
-use Rattle.session_relation.proofs.Runs.{same_indexes}
+use Rattle.refinement.proofs.Runs.{same_indexes}
 use Rattle.session_steps.proofs.InUse.{GoesAlong, used-still, no-cursor, cursors-put, agree}
 use Rattle.session_steps.proofs.OwnIdsLemmas.{open-within, open-set_cases}
 use Rattle.session_steps.proofs.StateLemmas.{only-set}
@@ -59,21 +59,21 @@ use Rattle.session_steps.proofs.Horizons.{back-cases, held-in, horizon-above, ho
 use Rattle.session_steps.proofs.Ends.{commits-sound, aborts-sound}
 
 -- the pages and the entries stay as they are
-stays-led : (o : Option Slot) → MayBeLed o → entries.StaysLed o o
+stays-led : (o : Option Slot) → MayBeTarget o → entries.KeepsTarget o o
 stays-led None may = elim may [ inl root ↦ absurd (let e : false ≡ true = root in cc) | inr dead ↦ died dead ]
 stays-led (Some Unused) may = elim may [ inl root ↦ absurd (let e : false ≡ true = root in cc) | inr dead ↦ died dead ]
 stays-led (Some (Normal t)) may = same_version t t refl refl refl refl
 stays-led (Some (Redirect k)) may = led_on k refl refl
 stays-led (Some Dead) may = died refl
 
-pub led-same : (st : State) (w : World) → Agrees st w → StaysLed st st
+pub led-same : (st : State) (w : World) → Agrees st w → KeepsAllTargets st st
 led-same st w agrees n e there still = stays-led (slot_in (slots_of st.heap) e.tid) ((agrees.sound.table.indexes n (used-by st.heap.indexes n e there)).leads e there)
 
 -- a step that leaves the engine as it is
-pub stays-so : (st : State) (w : World) (step : Step) (r : Reply) → Agrees st w → Allows w step r × relation.Agrees (seen st) (next w step r) → Allows w step r × Agrees st (next w step r) × StaysLed st st
+pub stays-so : (st : State) (w : World) (step : Step) (r : Reply) → Agrees st w → Allows w step r × relation.HeapAgrees (seen st) (next w step r) → Allows w step r × Agrees st (next w step r) × KeepsAllTargets st st
 stays-so st w step r agrees f = (f.0, agree agrees refl (same_indexes w step r f.0) f.1 agrees.sound, led-same st w agrees)
 
-pub Follows-same : (st : State) (step : Step) (r : Reply) → finds.Follows (seen st) step r (seen st) → Follows st step r st
+pub Follows-same : (st : State) (step : Step) (r : Reply) → finds.HeapFollows (seen st) step r (seen st) → Follows st step r st
 Follows-same st step r follows w agrees = stays-so st w step r agrees (follows w agrees.found)
 
 -- Refusals.
@@ -235,7 +235,7 @@ Sound-opens st w s e within snapshot ids saved bare agrees = record {
     mine = record {
       snapshot = rw snapshot (taken-within st w agrees);
       topmost = λ x among. absurd (Contains-none x (subst (λ xs. Contains xs x) ids among));
-      fronts = rw saved tt;
+      prefixes = rw saved tt;
       distinct = subst AreDistinct (sym ids) tt;
     }
 
@@ -275,14 +275,14 @@ Follows-begin st st' s snapshot within idle is opens w agrees =
       itself = (only-set st s (Some e) (omega arith)).itself ∙ ap Some (opened_reader e (now_taken st) (opens.with_snapshot ∙ is) opens.no_ids opens.unsaved opens.sound opens.bare);
     } in
     let f = theory.Follows-begin (seen st) s (now_taken st) (seen (put_session st s (Some e))).session now within (ap (option_map reader_of) idle) (λ w' found. taken-fresh st w agrees) w agrees.found in
-    subst (λ st'. Allows w (Begin s) Done × Agrees st' (next w (Begin s) Done) × StaysLed st st') (sym opens.is)
+    subst (λ st'. Allows w (Begin s) Done × Agrees st' (next w (Begin s) Done) × KeepsAllTargets st st') (sym opens.is)
     (f.0, agree agrees refl refl f.1 (Sound-opens st w s e within (opens.with_snapshot ∙ is) opens.no_ids opens.unsaved opens.bare agrees), led-same st w agrees)
 
 -- Commit and Abort.
 
 -- what readers see of other pages with the rest of the engine
 abbrev with_pages : State → PagesView → seen_heap.Heap
-with_pages st pages = record (seen st) { version = version_in (looking.slots_of pages) }
+with_pages st pages = record (seen st) { version = version_in (looking.page_slots_of pages) }
 
 module _ (st st' : State) (s : ℕ) (e : Session) (end : Status) (at : session_at st s ≡ Some e) (closes : Closes st st' s end) where
   only-closes : OnlyIs (seen st).session (seen st').session s None
@@ -291,7 +291,7 @@ module _ (st st' : State) (s : ℕ) (e : Session) (end : Status) (at : session_a
       let P : List (Option Session) → Type 0 = λ xs. OnlyIs (seen st).session (λ o. option_map reader_of (session_at (record st { sessions = xs }) o)) s None in
       subst P (sym closes.sessions) only
 
-  own-finishes : (w : World) → relation.Agrees (seen st) w → change.Finishes (state_of st.heap.table) (state_of st'.heap.table) (λ x. Contains e.own.ids x) end
+  own-finishes : (w : World) → relation.HeapAgrees (seen st) w → change.FinishesIds (state_of st.heap.table) (state_of st'.heap.table) (λ x. Contains e.own.ids x) end
   own-finishes w found = Finishes-from st.heap.table st'.heap.table e.own.ids end
       (λ x mine. active-to st.heap.table x ((found.opened s (reader_of e) (reader-is st s e at)).2.own_active x mine)) (closes.finishes e at)
 
@@ -299,8 +299,8 @@ module _ (st st' : State) (s : ℕ) (e : Session) (end : Status) (at : session_a
   same-sights o r bt = SameSight-finish r.snapshot st.heap.table st'.heap.table e.own.ids end (closes.finishes e at)
 
   -- the pages stay
-  closed-with : (w' : World) → relation.Agrees (with_pages st' st.heap.pages) w' → relation.Agrees (seen st') w'
-  closed-with w' found = subst (λ pages. relation.Agrees (with_pages st' pages) w') (sym closes.pages) found
+  closed-with : (w' : World) → relation.HeapAgrees (with_pages st' st.heap.pages) w' → relation.HeapAgrees (seen st') w'
+  closed-with w' found = subst (λ pages. relation.HeapAgrees (with_pages st' pages) w') (sym closes.pages) found
 
 pub Follows-abort : (st st' : State) (s : ℕ) (e : Session) → session_at st s ≡ Some e → Closes st st' s Aborted → Follows st (Abort s) RolledBack st'
 Follows-abort st st' s e at closes w agrees =
@@ -358,8 +358,8 @@ Sound-put st s e now at same keeps along sound = record {
   table = subst (λ back. SoundTable st.heap (earliest (next_id st.heap.table) back)) (sym (same-back st.sessions s e now at same)) sound.table;
 }
 
-pub Sound-fails : (st : State) (s : ℕ) (e : Session) → session_at st s ≡ Some e → Sound st → Sound (put_session st s (option_map as_failed (session_at st s)))
+pub Sound-fails : (st : State) (s : ℕ) (e : Session) → session_at st s ≡ Some e → Sound st → Sound (put_session st s (option_map failed_session (session_at st s)))
 Sound-fails st s e at sound =
     let h = sound.sessions s e at in
-    subst (λ o. Sound (put_session st s (option_map as_failed o))) (sym at)
-    (Sound-put st s e (as_failed e) at refl (record { snapshot = h.snapshot; topmost = h.topmost; fronts = h.fronts; distinct = h.distinct }) (λ span is. sound.cursors s e span at is) sound)
+    subst (λ o. Sound (put_session st s (option_map failed_session o))) (sym at)
+    (Sound-put st s e (failed_session e) at refl (record { snapshot = h.snapshot; topmost = h.topmost; prefixes = h.prefixes; distinct = h.distinct }) (λ span is. sound.cursors s e span at is) sound)

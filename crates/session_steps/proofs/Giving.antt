@@ -13,29 +13,29 @@ use Rattle.commit_status.specs.Window.{Window, IsWindow, IsActive, IsCommitted, 
 use Rattle.commit_status.proofs.Places.{upto-given, place-lt, some-from_is, is-from_some}
 use Rattle.commit_status.proofs.Ancestors.{top-same}
 use Rattle.commit_status.proofs.Giving.{finished-place}
-use Rattle.snapshot.specs.Own.{Own, AreFronts, AreDistinct, lacks, level_id, saved_with_each}
+use Rattle.snapshot.specs.Own.{Own, ArePrefixes, AreDistinct, unassigned_levels, current_xid, saved_with_each}
 use Rattle.snapshot.specs.Snap.{Snap, Sees}
 use Rattle.snapshot.specs.Laws.{IsInWindow}
 use Rattle.snapshot.proofs.Sights.{sees-top}
-use Rattle.snapshot.proofs.Levels.{level-among, level-mine, level-none, level-some, level-newest, lacks-given, fronts-given}
+use Rattle.snapshot.proofs.Levels.{level-among, level-mine, level-none, level-some, level-newest, unassigned_levels-given, prefixes-given}
 use Rattle.visibility.proofs.Makers.{active-to}
 use Rattle.heap_write.specs.Heap.{HeapView, SameIds}
 use Rattle.heap_write.specs.Writes.{GivesUnder, TakesIds}
 use Rattle.forgetting.specs.Truncating.{IsWellTopped}
 use Rattle.forgetting.proofs.WellTopped.{before-place}
 use Rattle.heap_write.proofs.GivenIds.{given-place, given-earlier, given-first, given-next, given-upto, given-status, given-top_old, given-active, given-new, given-distinct, given-top, given-top_first, given-late}
-use Rattle.sound_writes.specs.Table.{SoundTable, StaysSoundTable}
+use Rattle.table_integrity.specs.Table.{SoundTable, StaysSoundTable}
 use Rattle.session_steps.proofs.InUse.{still-in_use, cursors-put, same-cursor}
-use Rattle.sound_writes.proofs.Keeping.{later-stays-sound}
+use Rattle.table_integrity.proofs.Keeping.{later-stays-sound}
 use Rattle.history.specs.World.{World}
-use Rattle.session_relation.specs.Heap as relation
-use Rattle.session_relation.specs.Agrees as theory
-use Rattle.session_relation.specs.Changes.{GivesEach, with_id, with_ids}
-use Rattle.session_relation.proofs.Itself.{IsCurrent}
-use Rattle.session_relation.proofs.Steps.{OnlyIs, SameSights}
-use Rattle.session_relation.proofs.GivenBelow.{AreUnseen, Agrees-give_each}
-use Rattle.session_relation.proofs.Follows.{Agrees-sessions}
-use Rattle.session_relation.proofs.Sights.{Agrees-sights}
+use Rattle.refinement.specs.Heap as relation
+use Rattle.refinement.specs.Agrees as theory
+use Rattle.refinement.specs.Changes.{GivesEach, with_id, with_ids}
+use Rattle.refinement.proofs.Itself.{IsCurrent}
+use Rattle.refinement.proofs.Steps.{OnlyIs, SameSights}
+use Rattle.refinement.proofs.GivenBelow.{AreUnseen, Agrees-give_each}
+use Rattle.refinement.proofs.Follows.{Agrees-sessions}
+use Rattle.refinement.proofs.Sights.{Agrees-sights}
 use Rattle.session_steps.specs.declared.session.Session.{Session}
 use Rattle.visibility.specs.Visible.{state_of}
 use Rattle.session_steps.specs.State.{State, session_at, seen, seen_in, reader_of, holds_back, horizon_of}
@@ -99,7 +99,7 @@ keeps-spared : (w : Window) (k : ℕ) (e e' : Session) → SameSession e e' → 
 keeps-spared w k e e' same h = record {
   snapshot = rw same.snapshot (in-window-spared w k e.snapshot h.snapshot);
   topmost = λ x mine. ap (λ ids. slice_get ids 0) same.own.ids ∙ h.topmost x (subst (λ ids. Contains ids x) same.own.ids mine) ∙ ap Some (sym (top-spared w k x));
-  fronts = rw (same.own.ids, same.own.saved) h.fronts;
+  prefixes = rw (same.own.ids, same.own.saved) h.prefixes;
   distinct = subst AreDistinct (sym same.own.ids) h.distinct;
 }
 
@@ -107,14 +107,14 @@ itself : (e : Session) → SameSession e e
 itself e = record { snapshot = refl; own = record { ids = refl; saved = refl }; failed = refl; cursor = refl }
 
 -- what readers see of the ids
-found-spared : (slots : List (List Slot)) (w v : Window) (xs : List (Option Session)) (m : World) → SameIds w v → theory.Agrees (seen_in slots w xs) m → theory.Agrees (seen_in slots v xs) m
-found-spared slots w v xs m same found = subst (λ t. theory.Agrees (seen_in slots t xs) m) (sym (spared-is w v same))
+found-spared : (slots : List (List Slot)) (w v : Window) (xs : List (Option Session)) (m : World) → SameIds w v → theory.HeapAgrees (seen_in slots w xs) m → theory.HeapAgrees (seen_in slots v xs) m
+found-spared slots w v xs m same found = subst (λ t. theory.HeapAgrees (seen_in slots t xs) m) (sym (spared-is w v same))
     (Agrees-sights (seen_in slots w xs) m (λ s x. Sees s (spared w v.spare) x)
     (λ s e at x status is. (λ sees. sees-top e.snapshot (spared w v.spare) w x (top-spared w v.spare x) sees, λ sees. sees-top e.snapshot w (spared w v.spare) x (sym (top-spared w v.spare x)) sees)) found)
 
 -- all that readers see is as it was
 pub found-kept : (slots : List (List Slot)) (w v : Window) (xs : List (Option Session)) (s : ℕ) (e e' : Session) (m : World) → open_at xs s ≡ Some e → SameSession e e' → SameIds w v
-    → theory.Agrees (seen_in slots w xs) m → theory.Agrees (seen_in slots v (set xs s (Some e'))) m
+    → theory.HeapAgrees (seen_in slots w xs) m → theory.HeapAgrees (seen_in slots v (set xs s (Some e'))) m
 found-kept slots w v xs s e e' m at same ids found =
     Agrees-sessions (seen_in slots v xs) m (λ o. option_map reader_of (open_at (set xs s (Some e')) o)) (sessions-same xs s e e' at same) (found-spared slots w v xs m ids found)
 
@@ -129,7 +129,7 @@ keeps-give : (xs : List ℕ) (w v : Window) (parent : Option ℕ) (e : Session) 
 keeps-give xs w v parent e is gives there h = record {
   snapshot = in-window-given xs w v parent e.snapshot gives h.snapshot;
   topmost = λ x mine. h.topmost x mine ∙ ap Some (sym (given-top_old xs w v parent x gives is (there x mine)));
-  fronts = h.fronts;
+  prefixes = h.prefixes;
   distinct = h.distinct;
 }
 
@@ -138,47 +138,47 @@ first-append [] xs top at = absurd (none-some top at)
 first-append (y ∷ ids) xs top at = at
 
 -- each new id has the topmost parent of those that were there, or the first of the new ones
-new-topmost : (ids xs : List ℕ) (saved : List (List ℕ)) (w v : Window) (y : ℕ) → AreFronts ids saved → IsWindow v → GivesUnder w (level_id ids saved) xs v → ((x : ℕ) → Contains ids x → IsGiven w x)
+new-topmost : (ids xs : List ℕ) (saved : List (List ℕ)) (w v : Window) (y : ℕ) → ArePrefixes ids saved → IsWindow v → GivesUnder w (current_xid ids saved) xs v → ((x : ℕ) → Contains ids x → IsGiven w x)
     → ((x : ℕ) → Contains ids x → slice_get ids 0 ≡ Some (top_of w x)) → Contains xs y → slice_get (ids ++ xs) 0 ≡ Some (top_of v y)
-new-topmost [] [] saved w v y fronts is gives there tops among = absurd (Contains-none y among)
-new-topmost [] (x ∷ xs) saved w v y fronts is gives there tops among =
-    ap Some (sym (given-top_first x xs w v y (subst (λ o. GivesUnder w o (x ∷ xs) v) (level-none saved fronts) gives) is among))
-new-topmost (z ∷ ids) xs saved w v y fronts is gives there tops among =
-    let level = level-some z ids saved fronts in
-    let mine = level-among (z ∷ ids) saved level.0 fronts level.1 in
+new-topmost [] [] saved w v y prefixes is gives there tops among = absurd (Contains-none y among)
+new-topmost [] (x ∷ xs) saved w v y prefixes is gives there tops among =
+    ap Some (sym (given-top_first x xs w v y (subst (λ o. GivesUnder w o (x ∷ xs) v) (level-none saved prefixes) gives) is among))
+new-topmost (z ∷ ids) xs saved w v y prefixes is gives there tops among =
+    let level = level-some z ids saved prefixes in
+    let mine = level-among (z ∷ ids) saved level.0 prefixes level.1 in
     tops level.0 mine ∙ ap Some (sym (given-top xs w v level.0 y (subst (λ o. GivesUnder w o xs v) level.1 gives) is (there level.0 mine) among))
 
 module _ (w v : Window) (e : Session) (own : Own) (x : ℕ) (is : IsWindow v) (takes : TakesIds w v e.own own x) (there : (x : ℕ) → Contains e.own.ids x → IsGiven w x) (h : SessionKeeps w e) where
-  fronts-taken : AreFronts own.ids own.saved
-  fronts-taken = rw (takes.ids, takes.saved) (fronts-given takes.given e.own.ids e.own.saved h.fronts takes.count)
+  prefixes-taken : ArePrefixes own.ids own.saved
+  prefixes-taken = rw (takes.ids, takes.saved) (prefixes-given takes.given e.own.ids e.own.saved h.prefixes takes.count)
 
-  lacks-taken : lacks own.ids own.saved ≡ 0
-  lacks-taken = rw (takes.ids, takes.saved) (lacks-given takes.given e.own.ids e.own.saved takes.count)
+  unassigned_levels-taken : unassigned_levels own.ids own.saved ≡ 0
+  unassigned_levels-taken = rw (takes.ids, takes.saved) (unassigned_levels-given takes.given e.own.ids e.own.saved takes.count)
 
   distinct-taken : AreDistinct own.ids
-  distinct-taken = subst AreDistinct (sym takes.ids) (distinct-both e.own.ids takes.given h.distinct (given-distinct takes.given w v (level_id e.own.ids e.own.saved) takes.gives is)
-      (λ y now old. given-new takes.given w v (level_id e.own.ids e.own.saved) y takes.gives is now (there y old)))
+  distinct-taken = subst AreDistinct (sym takes.ids) (distinct-both e.own.ids takes.given h.distinct (given-distinct takes.given w v (current_xid e.own.ids e.own.saved) takes.gives is)
+      (λ y now old. given-new takes.given w v (current_xid e.own.ids e.own.saved) y takes.gives is now (there y old)))
 
   topmost-taken : (y : ℕ) → Contains own.ids y → slice_get own.ids 0 ≡ Some (top_of v y)
   topmost-taken y mine = ap (λ ids. slice_get ids 0) takes.ids ∙ elim (Contains-append_cases e.own.ids takes.given y (subst (λ ids. Contains ids y) takes.ids mine)) [
-    | inl old ↦ first-append e.own.ids takes.given (top_of v y) (h.topmost y old ∙ ap Some (sym (given-top_old takes.given w v (level_id e.own.ids e.own.saved) y takes.gives is (there y old))))
-    | inr new ↦ new-topmost e.own.ids takes.given e.own.saved w v y h.fronts is takes.gives there h.topmost new
+    | inl old ↦ first-append e.own.ids takes.given (top_of v y) (h.topmost y old ∙ ap Some (sym (given-top_old takes.given w v (current_xid e.own.ids e.own.saved) y takes.gives is (there y old))))
+    | inr new ↦ new-topmost e.own.ids takes.given e.own.saved w v y h.prefixes is takes.gives there h.topmost new
   ]
 
   -- the session that took them
   keeps-taken : SessionKeeps v (with_own e own)
   keeps-taken = record {
-    snapshot = in-window-given takes.given w v (level_id e.own.ids e.own.saved) e.snapshot takes.gives h.snapshot;
+    snapshot = in-window-given takes.given w v (current_xid e.own.ids e.own.saved) e.snapshot takes.gives h.snapshot;
     topmost = topmost-taken;
-    fronts = fronts-taken;
+    prefixes = prefixes-taken;
     distinct = distinct-taken;
   }
 
   -- writes under the id of its newest level
   current-taken : IsCurrent (reader_of (with_own e own)) x
   current-taken = record {
-    mine = level-mine own.ids own.saved x lacks-taken takes.newest;
-    newest = λ before at. level-newest own.ids own.saved x fronts-taken distinct-taken lacks-taken takes.newest before at;
+    mine = level-mine own.ids own.saved x unassigned_levels-taken takes.newest;
+    newest = λ before at. level-newest own.ids own.saved x prefixes-taken distinct-taken unassigned_levels-taken takes.newest before at;
   }
 
 -- a topmost parent that is in progress was before: it stands before its child, so it isn't one of the new ids
@@ -261,7 +261,7 @@ module _ (st : State) (w : World) (h : HeapView) (s : ℕ) (e e' : Session) (at 
   Sound-given own x takes is window limit stays =
       let sound = stays.sound in
       let table = st.heap.table in
-      let parent = level_id e.own.ids e.own.saved in
+      let parent = current_xid e.own.ids e.own.saved in
       let there : (o : ℕ) (f : Session) → session_at st o ≡ Some f → (y : ℕ) → Contains f.own.ids y → IsGiven table y =
       λ o f bt y mine. (active-to table y ((agrees.found.opened o (reader_of f) (reader-is st o f bt)).2.own_active y mine)).is_given in
       record {
@@ -287,7 +287,7 @@ module _ (st : State) (w : World) (h : HeapView) (s : ℕ) (e e' : Session) (at 
 
       old-then : (own : Own) (x y : ℕ) → TakesIds st.heap.table h.table e.own own x → Contains (holds_back e) y → IsUpToNext h.table y × (turns st.heap.table.first (horizon_of st) ≤ turns st.heap.table.first y)
       old-then own x y takes back = (
-        given-upto takes.given st.heap.table h.table (level_id e.own.ids e.own.saved) y takes.gives (held-in st w agrees s e y at back),
+        given-upto takes.given st.heap.table h.table (current_xid e.own.ids e.own.saved) y takes.gives (held-in st w agrees s e y at back),
         horizon-low st.heap.table st.sessions s e y agrees.sound.window (held-in st w agrees) at back,
       )
 
@@ -295,7 +295,7 @@ module _ (st : State) (w : World) (h : HeapView) (s : ℕ) (e e' : Session) (at 
           → (y : ℕ) → Contains (holds_back e') y → IsUpToNext h.table y × (turns st.heap.table.first (horizon_of st) ≤ turns st.heap.table.first y)
       mine-then own x takes is window y among =
           let table = st.heap.table in
-          let parent = level_id e.own.ids e.own.saved in
+          let parent = current_xid e.own.ids e.own.saved in
           let back : Contains (e.snapshot.xmin ∷ take 1 own.ids) y = subst (λ (f : Session). Contains (holds_back f) y) is among in
           elim (Contains-cases e.snapshot.xmin y (take 1 own.ids) back) [
             | inl here ↦ old-then own x y takes (subst (λ z. Contains (holds_back e) z) here (Contains-first e.snapshot.xmin (take 1 e.own.ids)))
@@ -310,7 +310,7 @@ module _ (st : State) (w : World) (h : HeapView) (s : ℕ) (e e' : Session) (at 
 
 -- What readers see of a session that takes ids.
 
-with_ids-is : (xs : List ℕ) (r : relation.Session) → with_ids xs r ≡ record r { own = r.own ++ xs; saved = saved_with_each xs r.saved }
+with_ids-is : (xs : List ℕ) (r : relation.SeenSession) → with_ids xs r ≡ record r { own = r.own ++ xs; saved = saved_with_each xs r.saved }
 with_ids-is [] r = rw (append-nil r.own) refl
 with_ids-is (x ∷ xs) r = with_ids-is xs (with_id (length xs) x r) ∙ ap (λ ids. record r { own = ids; saved = saved_with_each (x ∷ xs) r.saved }) (append_assoc r.own (x ∷ []) xs)
 
@@ -323,18 +323,18 @@ module _ (st : State) (w : World) (v : Window) (s : ℕ) (e : Session) (own : Ow
       record { others = only.others; itself = only.itself ∙ ap Some reader-taken }
 
   pub gives-each : GivesEach (state_of st.heap.table) takes.given (state_of v)
-  gives-each = GivesEach-from takes.given st.heap.table v (level_id e.own.ids e.own.saved) takes.gives window
+  gives-each = GivesEach-from takes.given st.heap.table v (current_xid e.own.ids e.own.saved) takes.gives window
 
   pub same-sights : SameSights (seen st) (λ sn y. Sees sn v y)
-  same-sights o r bt = SameSight-given r.snapshot takes.given st.heap.table v (level_id e.own.ids e.own.saved) takes.gives window
+  same-sights o r bt = SameSight-given r.snapshot takes.given st.heap.table v (current_xid e.own.ids e.own.saved) takes.gives window
 
   pub are-unseen : AreUnseen (seen st) (λ sn y. Sees sn v y) takes.given
   are-unseen y among o r bt = let f = reader-at st o r bt in
-      subst (λ (r : relation.Session). ¬ Sees r.snapshot v y) f.2
-      (unseen-given takes.given st.heap.table v v (level_id e.own.ids e.own.saved) f.0.snapshot y takes.gives window (agrees.sound.sessions o f.0 f.1).snapshot.bounds among)
+      subst (λ (r : relation.SeenSession). ¬ Sees r.snapshot v y) f.2
+      (unseen-given takes.given st.heap.table v v (current_xid e.own.ids e.own.saved) f.0.snapshot y takes.gives window (agrees.sound.sessions o f.0 f.1).snapshot.bounds among)
 
   -- the pages may have been pruned before
-  pub found-given : (slots : List (List Slot)) → theory.Agrees (seen_in slots st.heap.table st.sessions) w → theory.Agrees (seen_in slots v (set st.sessions s (Some (with_own e own)))) w
+  pub found-given : (slots : List (List Slot)) → theory.HeapAgrees (seen_in slots st.heap.table st.sessions) w → theory.HeapAgrees (seen_in slots v (set st.sessions s (Some (with_own e own)))) w
   found-given slots found = Agrees-give_each takes.given (seen_in slots st.heap.table st.sessions) w s (reader_of e) (state_of v) (λ sn y. Sees sn v y)
       (λ o. option_map reader_of (open_at (set st.sessions s (Some (with_own e own))) o)) only-taken (reader-is st s e at) gives-each same-sights are-unseen found
 
@@ -351,7 +351,7 @@ module _ (st : State) (w : World) (v : Window) (s : ℕ) (e : Session) (own : Ow
 pub keeps-wrote : (xs : List (Option Session)) (w v : Window) (s : ℕ) (e e' : Session) (x : ℕ) → open_at xs s ≡ Some e → TakesIds w v e.own e'.own x → IsWindow v → EngineKeeps xs w → EngineKeeps (set xs s (Some e')) v
 keeps-wrote xs w v s e e' x at takes window k = record {
   count = length-set xs s (Some e') ∙ k.count;
-  own = keep-given xs w v s e e' takes.given (level_id e.own.ids e.own.saved) at takes.ids window takes.gives k.own;
+  own = keep-given xs w v s e e' takes.given (current_xid e.own.ids e.own.saved) at takes.ids window takes.gives k.own;
 }
 
 pub keeps-kept : (xs : List (Option Session)) (w v : Window) (s : ℕ) (e e' : Session) → open_at xs s ≡ Some e → SameSession e e' → SameIds w v → EngineKeeps xs w → EngineKeeps (set xs s (Some e')) v

@@ -6,22 +6,22 @@ use Rattle.std.proofs.lemmas.Result.{MatchResult-at_err}
 use Rattle.xid_circle.specs.declared.Tid.{Tid}
 use Rattle.tuple_header.specs.declared.version.Row.{Row}
 use Rattle.history.specs.World.{World}
-use Rattle.session_relation.specs.declared.step.Step.TheVariants.{Begin, Insert, Delete}
-use Rattle.session_relation.specs.declared.reply.Reply.TheVariants.{Refused}
-use Rattle.session_relation.specs.declared.reply.Refusal.{Refusal}
-use Rattle.session_relation.specs.declared.reply.Refusal.TheVariants.{NotOpen, AlreadyOpen, Failed, AlreadyThere, NotThere, Conflict, Busy, TooLarge, NoRoom, NeedsFreeze, NoMemory, NoSuchPage, NoSuchSession, TooDeep, NoSavepoint, CursorOpen, NoCursor, NoSuchIndex, BadBounds}
-use Rattle.session_relation.specs.Words.{RowText, FitsRow}
-use Rattle.session_relation.specs.Writes.{WriteStep, inserts, updates, deletes, step_of, key_of, Asks}
-use Rattle.session_relation.specs.Finds.{Begins}
-use Rattle.session_relation.proofs.Hindrances as hindrances
+use Rattle.refinement.specs.declared.step.Step.TheVariants.{Begin, Insert, Delete}
+use Rattle.refinement.specs.declared.reply.Reply.TheVariants.{Refused}
+use Rattle.refinement.specs.declared.reply.Refusal.{Refusal}
+use Rattle.refinement.specs.declared.reply.Refusal.TheVariants.{NotOpen, AlreadyOpen, Failed, AlreadyThere, NotThere, Conflict, Busy, TooLarge, NoRoom, NeedsFreeze, NoMemory, NoSuchPage, NoSuchSession, TooDeep, NoSavepoint, CursorOpen, NoCursor, NoSuchIndex, BadBounds}
+use Rattle.refinement.specs.Words.{RowText, FitsRow}
+use Rattle.refinement.specs.Writes.{WriteStep, inserts, updates, deletes, step_of, key_of, Asks}
+use Rattle.refinement.specs.Finds.{BeginsWrite}
+use Rattle.refinement.proofs.Hindrances as hindrances
 use Rattle.session_steps.specs.declared.session.Session.{Session}
-use Rattle.session_steps.specs.State.{State, session_at, put_session, refused_state, seen, reader_of, as_failed}
+use Rattle.session_steps.specs.State.{State, session_at, put_session, refused_state, seen, reader_of, failed_session}
 use Rattle.session_steps.specs.Agrees.{Agrees, Follows}
-use Rattle.session_steps.specs.Tests.{Reads, IsLate, IsHeld, HindersInsert, HindersChange, MayWrite}
+use Rattle.session_steps.specs.Tests.{ReadsPlace, IsLateKey, IsHeld, RefusesInsertOfKey, RefusesChangeOfKey, MayWriteKey}
 use Rattle.session_steps.specs.Refuses.{Refuses, RefusesFree, MayAct}
 use Rattle.session_steps.specs.Exact.{ExactInsert, ExactUpdate, ExactDelete, Exact}
 use Rattle.session_steps.specs.Follows.{FollowsInsert, FollowsUpdate}
-use Rattle.session_relation.proofs.Runs.{same_indexes}
+use Rattle.refinement.proofs.Runs.{same_indexes}
 use Rattle.session_steps.proofs.InUse.{agree}
 use Rattle.session_steps.proofs.OwnIdsLemmas.{open-within}
 use Rattle.session_steps.proofs.StateLemmas.{only-set}
@@ -31,20 +31,20 @@ use Rattle.session_steps.proofs.Follows.{Follows-same, stays-so, led-same, Sound
 
 -- A later commit, or another session, has written the key.
 
-conflicts : (st : State) (s : ℕ) (e : Session) (write : WriteStep) → session_at st s ≡ Some e → IsLate st e (key_of write)
-    → ((w : World) → Agrees st w → (o : Option Row) × Begins (seen st) s (reader_of e) (key_of write) o × Asks write o)
-    → Follows st (step_of s write) (Refused Conflict) (put_session st s (option_map as_failed (session_at st s)))
+conflicts : (st : State) (s : ℕ) (e : Session) (write : WriteStep) → session_at st s ≡ Some e → IsLateKey st e (key_of write)
+    → ((w : World) → Agrees st w → (o : Option Row) × BeginsWrite (seen st) s (reader_of e) (key_of write) o × Asks write o)
+    → Follows st (step_of s write) (Refused Conflict) (put_session st s (option_map failed_session (session_at st s)))
 conflicts st s e write at late begins w agrees =
     let b = begins w agrees in
     let within = open-within st.sessions s e at in
-    let only = only-set st s (option_map as_failed (session_at st s)) within in
-    let f = hindrances.Follows-conflict (seen st) s (reader_of e) write b.0 (seen (put_session st s (option_map as_failed (session_at st s)))).session b.1 b.2
+    let only = only-set st s (option_map failed_session (session_at st s)) within in
+    let f = hindrances.Follows-conflict (seen st) s (reader_of e) write b.0 (seen (put_session st s (option_map failed_session (session_at st s)))).session b.1 b.2
     (late-to st w e (key_of write) late.id agrees late.late)
-    (record { others = only.others; itself = only.itself ∙ ap (λ o. option_map reader_of (option_map as_failed o)) at }) w agrees.found in
+    (record { others = only.others; itself = only.itself ∙ ap (λ o. option_map reader_of (option_map failed_session o)) at }) w agrees.found in
     (f.0, agree agrees refl (same_indexes w (step_of s write) (Refused Conflict) f.0) f.1 (Sound-fails st s e at agrees.sound), led-same st w agrees)
 
 busies : (st : State) (s o : ℕ) (e : Session) (write : WriteStep) → session_at st s ≡ Some e → IsHeld st e (key_of write) o
-    → ((w : World) → Agrees st w → (found : Option Row) × Begins (seen st) s (reader_of e) (key_of write) found × Asks write found)
+    → ((w : World) → Agrees st w → (found : Option Row) × BeginsWrite (seen st) s (reader_of e) (key_of write) found × Asks write found)
     → Follows st (step_of s write) (Refused (Busy o)) st
 busies st s o e write at held begins w agrees =
     let b = begins w agrees in
@@ -54,25 +54,25 @@ busies st s o e write at held begins w agrees =
     stays-so st w (step_of s write) (Refused (Busy o)) agrees g
 
 -- what an insert reads is none of the key, and what an update or a deletion reads is a row of it
-vacant : (st : State) (s : ℕ) (e : Session) (text : RowText) → FitsRow text → Reads st s e text.key None
-    → (w : World) → Agrees st w → (o : Option Row) × Begins (seen st) s (reader_of e) text.key o × Asks (inserts text) o
-vacant st s e text fits reads w agrees = (None, begins-none st w s e text.key agrees reads, (fits, refl))
+check_insert : (st : State) (s : ℕ) (e : Session) (text : RowText) → FitsRow text → ReadsPlace st s e text.key None
+    → (w : World) → Agrees st w → (o : Option Row) × BeginsWrite (seen st) s (reader_of e) text.key o × Asks (inserts text) o
+check_insert st s e text fits reads w agrees = (None, begins-none st w s e text.key agrees reads, (fits, refl))
 
-occupied : (st : State) (s : ℕ) (e : Session) (p : Tid) (write : WriteStep) → ((row : Row) → Asks write (Some row)) → Reads st s e (key_of write) (Some p)
-    → (w : World) → Agrees st w → (o : Option Row) × Begins (seen st) s (reader_of e) (key_of write) o × Asks write o
-occupied st s e p write asks reads w agrees =
+check_update : (st : State) (s : ℕ) (e : Session) (p : Tid) (write : WriteStep) → ((row : Row) → Asks write (Some row)) → ReadsPlace st s e (key_of write) (Some p)
+    → (w : World) → Agrees st w → (o : Option Row) × BeginsWrite (seen st) s (reader_of e) (key_of write) o × Asks write o
+check_update st s e p write asks reads w agrees =
     let t = target-of st w s e (key_of write) p agrees reads in
     (Some t.0.row, begins-some st s e (key_of write) p t.0 reads t.1, asks t.0.row)
 
 -- Inserts.
 
-insert-hindered : (st : State) (s : ℕ) (text : RowText) (r : Refusal) → FitsRow text → HindersInsert st s text.key r → Follows st (Insert s text) (Refused r) (refused_state st s r)
+insert-hindered : (st : State) (s : ℕ) (text : RowText) (r : Refusal) → FitsRow text → RefusesInsertOfKey st s text.key r → Follows st (Insert s text) (Refused r) (refused_state st s r)
 insert-hindered st s text AlreadyThere fits (e, p, reads) = λ w agrees.
     let t = target-of st w s e text.key p agrees reads in
     Follows-same st (Insert s text) (Refused AlreadyThere)
     (hindrances.Follows-already_there (seen st) s (reader_of e) text t.0.row (begins-some st s e text.key p t.0 reads t.1) fits) w agrees
-insert-hindered st s text Conflict fits d = conflicts st s d.session (inserts text) d.reads.at d.delays (vacant st s d.session text fits d.reads)
-insert-hindered st s text (Busy o) fits d = busies st s o d.session (inserts text) d.reads.at d.delays (vacant st s d.session text fits d.reads)
+insert-hindered st s text Conflict fits d = conflicts st s d.session (inserts text) d.reads.at d.delays (check_insert st s d.session text fits d.reads)
+insert-hindered st s text (Busy o) fits d = busies st s o d.session (inserts text) d.reads.at d.delays (check_insert st s d.session text fits d.reads)
 insert-hindered st s text Failed fits is = absurd is
 insert-hindered st s text NotOpen fits is = absurd is
 insert-hindered st s text NoSuchSession fits is = absurd is
@@ -90,17 +90,17 @@ insert-hindered st s text NeedsFreeze fits is = absurd is
 insert-hindered st s text NoMemory fits is = absurd is
 insert-hindered st s text NoSuchPage fits is = absurd is
 
-pub Follows-hindered_insert : (st : State) (s : ℕ) (row : Row) (r : Refusal) → HindersInsert st s row.key r → FollowsInsert st s row (Refused r) (refused_state st s r)
-Follows-hindered_insert st s row r h text fits same = insert-hindered st s text r fits (subst (λ (row : Row). HindersInsert st s row.key r) same h)
+pub Follows-hindered_insert : (st : State) (s : ℕ) (row : Row) (r : Refusal) → RefusesInsertOfKey st s row.key r → FollowsInsert st s row (Refused r) (refused_state st s r)
+Follows-hindered_insert st s row r h text fits same = insert-hindered st s text r fits (subst (λ (row : Row). RefusesInsertOfKey st s row.key r) same h)
 
 -- Updates and deletions.
 
-change-hindered : (st : State) (s : ℕ) (write : WriteStep) (r : Refusal) → ((row : Row) → Asks write (Some row)) → hindrances.NeedsRow write → HindersChange st s (key_of write) r
+change-hindered : (st : State) (s : ℕ) (write : WriteStep) (r : Refusal) → ((row : Row) → Asks write (Some row)) → hindrances.NeedsRow write → RefusesChangeOfKey st s (key_of write) r
     → Follows st (step_of s write) (Refused r) (refused_state st s r)
 change-hindered st s write NotThere asks needs (e, reads) = λ w agrees.
     Follows-same st (step_of s write) (Refused NotThere) (hindrances.Follows-not_there (seen st) s (reader_of e) write (begins-none st w s e (key_of write) agrees reads) needs) w agrees
-change-hindered st s write Conflict asks needs d = conflicts st s d.1.session write d.1.reads.at d.1.delays (occupied st s d.1.session d.0 write asks d.1.reads)
-change-hindered st s write (Busy o) asks needs d = busies st s o d.1.session write d.1.reads.at d.1.delays (occupied st s d.1.session d.0 write asks d.1.reads)
+change-hindered st s write Conflict asks needs d = conflicts st s d.1.session write d.1.reads.at d.1.delays (check_update st s d.1.session d.0 write asks d.1.reads)
+change-hindered st s write (Busy o) asks needs d = busies st s o d.1.session write d.1.reads.at d.1.delays (check_update st s d.1.session d.0 write asks d.1.reads)
 change-hindered st s write Failed asks needs is = absurd is
 change-hindered st s write NotOpen asks needs is = absurd is
 change-hindered st s write NoSuchSession asks needs is = absurd is
@@ -118,16 +118,16 @@ change-hindered st s write NeedsFreeze asks needs is = absurd is
 change-hindered st s write NoMemory asks needs is = absurd is
 change-hindered st s write NoSuchPage asks needs is = absurd is
 
-pub Follows-hindered_update : (st : State) (s : ℕ) (row : Row) (r : Refusal) → HindersChange st s row.key r → FollowsUpdate st s row (Refused r) (refused_state st s r)
+pub Follows-hindered_update : (st : State) (s : ℕ) (row : Row) (r : Refusal) → RefusesChangeOfKey st s row.key r → FollowsUpdate st s row (Refused r) (refused_state st s r)
 Follows-hindered_update st s row r h text fits same =
-    change-hindered st s (updates text) r (λ row. (fits, refl)) fits (subst (λ (row : Row). HindersChange st s row.key r) same h)
+    change-hindered st s (updates text) r (λ row. (fits, refl)) fits (subst (λ (row : Row). RefusesChangeOfKey st s row.key r) same h)
 
-pub Follows-hindered_delete : (st : State) (s key : ℕ) (r : Refusal) → HindersChange st s key r → Follows st (Delete s key) (Refused r) (refused_state st s r)
+pub Follows-hindered_delete : (st : State) (s key : ℕ) (r : Refusal) → RefusesChangeOfKey st s key r → Follows st (Delete s key) (Refused r) (refused_state st s r)
 Follows-hindered_delete st s key r h = change-hindered st s (deletes key) r (λ row. refl) tt h
 
 -- What such a refusal leaves.
 
-pub exact-hindered_insert : (st : State) (s : ℕ) (row : Row) (r : Refusal) → HindersInsert st s row.key r → ExactInsert st s row (Refused r) (refused_state st s r)
+pub exact-hindered_insert : (st : State) (s : ℕ) (row : Row) (r : Refusal) → RefusesInsertOfKey st s row.key r → ExactInsert st s row (Refused r) (refused_state st s r)
 exact-hindered_insert st s row NotOpen h = refl
 exact-hindered_insert st s row AlreadyOpen h = refl
 exact-hindered_insert st s row TooDeep h = refl
@@ -148,7 +148,7 @@ exact-hindered_insert st s row NoMemory h = absurd h
 exact-hindered_insert st s row NoSuchPage h = refl
 exact-hindered_insert st s row NoSuchSession h = refl
 
-pub exact-hindered_update : (st : State) (s : ℕ) (row : Row) (r : Refusal) → HindersChange st s row.key r → ExactUpdate st s row (Refused r) (refused_state st s r)
+pub exact-hindered_update : (st : State) (s : ℕ) (row : Row) (r : Refusal) → RefusesChangeOfKey st s row.key r → ExactUpdate st s row (Refused r) (refused_state st s r)
 exact-hindered_update st s row NotOpen h = refl
 exact-hindered_update st s row AlreadyOpen h = refl
 exact-hindered_update st s row TooDeep h = refl
@@ -169,7 +169,7 @@ exact-hindered_update st s row NoMemory h = absurd h
 exact-hindered_update st s row NoSuchPage h = refl
 exact-hindered_update st s row NoSuchSession h = refl
 
-pub exact-hindered_delete : (st : State) (s key : ℕ) (r : Refusal) → HindersChange st s key r → ExactDelete st s key (Refused r) (refused_state st s r)
+pub exact-hindered_delete : (st : State) (s key : ℕ) (r : Refusal) → RefusesChangeOfKey st s key r → ExactDelete st s key (Refused r) (refused_state st s r)
 exact-hindered_delete st s key NotOpen h = refl
 exact-hindered_delete st s key AlreadyOpen h = refl
 exact-hindered_delete st s key TooDeep h = refl
@@ -278,18 +278,18 @@ exact-closed st s NoSuchSession is = refl
 
 -- only a session that there is has a conflict
 
-pub small-insert : (st : State) (s key : ℕ) (r : Refusal) → r ≡ Conflict → HindersInsert st s key r → s < 64
-small-insert st s key r is h = (subst (λ r. HindersInsert st s key r) is h).reads.within
+pub small-insert : (st : State) (s key : ℕ) (r : Refusal) → r ≡ Conflict → RefusesInsertOfKey st s key r → s < 64
+small-insert st s key r is h = (subst (λ r. RefusesInsertOfKey st s key r) is h).reads.within
 
-pub small-change : (st : State) (s key : ℕ) (r : Refusal) → r ≡ Conflict → HindersChange st s key r → s < 64
-small-change st s key r is h = (subst (λ r. HindersChange st s key r) is h).1.reads.within
+pub small-change : (st : State) (s key : ℕ) (r : Refusal) → r ≡ Conflict → RefusesChangeOfKey st s key r → s < 64
+small-change st s key r is h = (subst (λ r. RefusesChangeOfKey st s key r) is h).1.reads.within
 
 -- What keeps a session that may act from a write.
 
 pub hinders-insert : (st : State) (s key : ℕ) (e : Session) {A : Type 0} (r : Result A Refusal) (refusal : Refusal) → r ≡ Err refusal → MayAct st s e
-    → ((s : ℕ) → MayAct st s e → MatchResult r (λ _. MayWrite st s key None) (λ refusal. HindersInsert st s key refusal)) → HindersInsert st s key refusal
-hinders-insert st s key e r refusal is acts says = MatchResult-at_err (λ _. MayWrite st s key None) (λ refusal. HindersInsert st s key refusal) refusal is (says s acts)
+    → ((s : ℕ) → MayAct st s e → MatchResult r (λ _. MayWriteKey st s key None) (λ refusal. RefusesInsertOfKey st s key refusal)) → RefusesInsertOfKey st s key refusal
+hinders-insert st s key e r refusal is acts says = MatchResult-at_err (λ _. MayWriteKey st s key None) (λ refusal. RefusesInsertOfKey st s key refusal) refusal is (says s acts)
 
 pub hinders-change : (st : State) (s key : ℕ) (e : Session) (r : Result Tid Refusal) (refusal : Refusal) → r ≡ Err refusal → MayAct st s e
-    → ((s : ℕ) → MayAct st s e → MatchResult r (λ place. MayWrite st s key (Some place)) (λ refusal. HindersChange st s key refusal)) → HindersChange st s key refusal
-hinders-change st s key e r refusal is acts says = MatchResult-at_err (λ place. MayWrite st s key (Some place)) (λ refusal. HindersChange st s key refusal) refusal is (says s acts)
+    → ((s : ℕ) → MayAct st s e → MatchResult r (λ place. MayWriteKey st s key (Some place)) (λ refusal. RefusesChangeOfKey st s key refusal)) → RefusesChangeOfKey st s key refusal
+hinders-change st s key e r refusal is acts says = MatchResult-at_err (λ place. MayWriteKey st s key (Some place)) (λ refusal. RefusesChangeOfKey st s key refusal) refusal is (says s acts)

@@ -4,14 +4,14 @@ use Rattle.std.proofs.lemmas.Option.{same_Some, none-some}
 use Rattle.std.specs.Prelude.{◌↔◌, IsSome, is_some, unwrap_or, slice_index_or, if◌then◌else◌}
 use Rattle.root_index.specs.declared.entry.Entry.{Entry}
 use Rattle.root_index.specs.View.{IndexView}
-use Rattle.sound_entries.specs.Entries.{IsSound}
+use Rattle.sound_entries.specs.Entries.{EntriesAreSound}
 use Rattle.heap_write.specs.Heap.{slots_of, key_value}
 use Rattle.heap_write.specs.Indexes.{index_at, entries_at, entries_in, entries_of, IsInUse, new_entries}
-use Rattle.heap_write.specs.declared.walking.Span.{Span}
-use Rattle.sound_writes.proofs.InUse.{index-sound}
+use Rattle.heap_write.specs.declared.index_scan.IndexRange.{IndexRange}
+use Rattle.table_integrity.proofs.InUse.{index-sound}
 use Rattle.history.specs.World.{World, is_indexed}
-use Rattle.session_relation.specs.declared.settings.Settings.{Settings}
-use Rattle.session_relation.specs.Agrees as relation
+use Rattle.refinement.specs.declared.settings.Settings.{Settings}
+use Rattle.refinement.specs.Agrees as relation
 use Rattle.session_steps.specs.declared.session.Session.{Session}
 use Rattle.session_steps.specs.declared.cursor.Cursor.{Cursor}
 use Rattle.session_steps.specs.declared.cursor.Cursor.TheVariants.{Index}
@@ -24,7 +24,7 @@ abbrev pub AreInUse : List (Option IndexView) → List Bool → Type 0
 AreInUse indexes indexed = (n : ℕ) → IsInUse indexes n ↔ IsSome (new_entries indexed n)
 
 -- the primary index is
-pub by-key : (st : State) → Sound st → IsSound key_value st.heap.table (horizon_of st) (slots_of st.heap) (entries_in st.heap.indexes 0)
+pub by-key : (st : State) → Sound st → EntriesAreSound key_value st.heap.table (horizon_of st) (slots_of st.heap) (entries_in st.heap.indexes 0)
 by-key st sound = index-sound st.heap (horizon_of st) sound.table 0 ((sound.indexes 0).1 refl)
 
 -- a step leaves the same in use
@@ -57,7 +57,7 @@ indexed-is columns zero = (λ some. refl, λ is. refl)
 indexed-is columns (suc c) = is-named (slice_index_or columns c false)
 
 -- an engine of the same settings agrees with a world that has the same
-pub agree : {st st' : State} {w w' : World} → Agrees st w → st'.settings ≡ st.settings → w'.has_index ≡ w.has_index → relation.Agrees (seen st') w' → Sound st' → Agrees st' w'
+pub agree : {st st' : State} {w w' : World} → Agrees st w → st'.settings ≡ st.settings → w'.has_index ≡ w.has_index → relation.HeapAgrees (seen st') w' → Sound st' → Agrees st' w'
 agree {st} {st'} {w} {w'} agrees settings had found sound = record {
   found = found;
   indexes = λ n. let named = λ (g : Settings). IsSome (new_entries g.indexed n) in (
@@ -75,11 +75,11 @@ there-used before st n index is at = subst (λ (st : State). IsInUse st.heap.ind
 
 -- the session's cursor goes along an index in use, if it goes along one
 abbrev pub GoesAlong : List (Option IndexView) → Option Cursor → Type 0
-GoesAlong indexes cursor = (span : Span) → cursor ≡ Some (Index span) → IsInUse indexes span.index
+GoesAlong indexes cursor = (span : IndexRange) → cursor ≡ Some (Index span) → IsInUse indexes span.index
 
 -- so does each open session's
 abbrev pub AllGoAlong : List (Option IndexView) → List (Option Session) → Type 0
-AllGoAlong indexes sessions = (s : ℕ) (e : Session) (span : Span) → open_at sessions s ≡ Some e → e.cursor ≡ Some (Index span) → IsInUse indexes span.index
+AllGoAlong indexes sessions = (s : ℕ) (e : Session) (span : IndexRange) → open_at sessions s ≡ Some e → e.cursor ≡ Some (Index span) → IsInUse indexes span.index
 
 pub no-cursor : (indexes : List (Option IndexView)) (cursor : Option Cursor) → cursor ≡ None → GoesAlong indexes cursor
 no-cursor indexes cursor none span is = absurd (none-some (Index span) (sym none ∙ is))

@@ -18,7 +18,7 @@ pub mod CursorSteps
 pub mod Outcomes
 pub mod Walks
 pub mod WalkSteps
-pub mod Standing
+pub mod WriteCheck
 pub mod NextSteps
 pub mod Reading
 pub mod Cleaned

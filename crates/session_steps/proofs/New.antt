@@ -14,9 +14,9 @@ use Rattle.sound_entries.specs.Pages.{version_in, slots_on}
 use Rattle.heap_write.specs.Heap.{slots_of}
 use Rattle.heap_write.specs.Indexes.{entries_at, new_entries}
 use Rattle.session_steps.proofs.InUse.{new-empty, new-in_use, indexed-is}
-use Rattle.sound_writes.proofs.Keeping.{nothing-stays}
+use Rattle.table_integrity.proofs.Keeping.{nothing-stays}
 use Rattle.history.specs.World.{beginning}
-use Rattle.session_relation.proofs.Steps.{Agrees-beginning}
+use Rattle.refinement.proofs.Steps.{Agrees-beginning}
 use Rattle.session_steps.specs.declared.session.Session.{Session}
 use Rattle.session_steps.specs.State.{State, session_at, seen, reader_of, horizon_of}
 use Rattle.session_steps.specs.Agrees.{Agrees}

@@ -3,25 +3,25 @@ use Rattle.std.proofs.Common.{◌≡◌, ℕ, ◌+◌, ◌<◌, max, List, lengt
 use Rattle.std.specs.Prelude.{Vec}
 use Rattle.std.specs.declared.alloc.Global.{Global}
 use Rattle.tuple_header.specs.declared.version.Row.{Row}
-use Rattle.heap_write.specs.declared.walking.Span.{Span}
+use Rattle.heap_write.specs.declared.index_scan.IndexRange.{IndexRange}
 use Rattle.heap_write.specs.Indexes.{IsInUse}
 use Rattle.history.specs.World.{World}
-use Rattle.session_relation.specs.declared.step.Step.TheVariants.{Next}
-use Rattle.session_relation.specs.declared.reply.Reply.TheVariants.{Rows, End, Refused}
-use Rattle.session_relation.specs.declared.reply.Refusal.{Refusal}
-use Rattle.session_relation.specs.declared.reply.Refusal.TheVariants.{NoMemory}
-use Rattle.session_relation.specs.Allowed.{Allows, next}
-use Rattle.session_relation.specs.Heap.{Position, in_index, in_heap}
-use Rattle.session_relation.specs.Finds as finds
-use Rattle.session_relation.proofs.Steps.{OnlyIs}
-use Rattle.session_relation.proofs.FollowsCursors as cursors
+use Rattle.refinement.specs.declared.step.Step.TheVariants.{Next}
+use Rattle.refinement.specs.declared.reply.Reply.TheVariants.{Rows, End, Refused}
+use Rattle.refinement.specs.declared.reply.Refusal.{Refusal}
+use Rattle.refinement.specs.declared.reply.Refusal.TheVariants.{NoMemory}
+use Rattle.refinement.specs.Allowed.{Allows, next}
+use Rattle.refinement.specs.Heap.{Position, in_index, in_heap}
+use Rattle.refinement.specs.Finds as finds
+use Rattle.refinement.proofs.Steps.{OnlyIs}
+use Rattle.refinement.proofs.FollowsCursors as cursors
 use Rattle.session_steps.specs.declared.session.Session.{Session}
 use Rattle.session_steps.specs.declared.cursor.Cursor.{Cursor}
 use Rattle.session_steps.specs.declared.cursor.Cursor.TheVariants.{Index, Heap}
-use Rattle.session_steps.specs.State.{State, session_at, put_session, map_session, with_cursor, seen, mark_of, position_of, reader_of}
-use Rattle.session_steps.specs.Agrees.{Agrees, Follows, StaysLed}
+use Rattle.session_steps.specs.State.{State, session_at, put_session, map_session, with_cursor, seen, seen_position, position_of, reader_of}
+use Rattle.session_steps.specs.Agrees.{Agrees, Follows, KeepsAllTargets}
 use Rattle.session_steps.specs.Refuses.{RefusesBare}
-use Rattle.session_steps.specs.Takes.{IsAt, IsAtEnd, IsNotAtEnd, TakesRows, TakesPage, Takes, TakesSome, HandsOut}
+use Rattle.session_steps.specs.Takes.{IsAtCursor, IsAtEnd, IsNotAtEnd, TakesRows, TakesPage, Takes, TakesSome, HandsOut}
 use Rattle.session_steps.proofs.InUse.{agree}
 use Rattle.session_steps.proofs.Owns.{reader-is}
 use Rattle.session_steps.proofs.Follows.{Follows-same, bare_by, led-same}
@@ -33,14 +33,14 @@ Follows-bare_next st s n r is = Follows-same st (Next s n) (Refused r) (cursors.
 
 -- The session is open and has not failed, and its cursor is here.
 
-at-cursor : (st : State) (w : World) (s : ℕ) (e : Session) (cursor : Cursor) → Agrees st w → session_at st s ≡ Some e → e.cursor ≡ Some cursor → IsAt st e cursor
+at-cursor : (st : State) (w : World) (s : ℕ) (e : Session) (cursor : Cursor) → Agrees st w → session_at st s ≡ Some e → e.cursor ≡ Some cursor → IsAtCursor st e cursor
 at-cursor st w s e cursor agrees at opened = record { world = w; agrees = agrees; number = s; there = at; opened = opened }
 
-pub Follows-end : (st : State) (s n : ℕ) (e : Session) (cursor : Cursor) → session_at st s ≡ Some e → e.failed ≡ false → e.cursor ≡ Some cursor → (IsAt st e cursor → IsAtEnd st e cursor)
+pub Follows-end : (st : State) (s n : ℕ) (e : Session) (cursor : Cursor) → session_at st s ≡ Some e → e.failed ≡ false → e.cursor ≡ Some cursor → (IsAtCursor st e cursor → IsAtEnd st e cursor)
     → Follows st (Next s n) End st
 Follows-end st s n e (Index span) at sound opened none w agrees =
     Follows-same st (Next s n) End
-    (cursors.Follows-end (seen st) s (reader_of e) (in_index span.index span.low span.high (mark_of span.last)) n (reader-is st s e at) sound (ap position_of opened)
+    (cursors.Follows-end (seen st) s (reader_of e) (in_index span.index span.low span.high (seen_position span.last)) n (reader-is st s e at) sound (ap position_of opened)
     (none (at-cursor st w s e (Index span) agrees at opened)))
     w agrees
 Follows-end st s n e (Heap page) at sound opened none w agrees =
@@ -48,12 +48,12 @@ Follows-end st s n e (Heap page) at sound opened none w agrees =
     (cursors.Follows-end (seen st) s (reader_of e) (in_heap page) n (reader-is st s e at) sound (ap position_of opened) (none (at-cursor st w s e (Heap page) agrees at opened)))
     w agrees
 
-pub Follows-no_memory : (st : State) (s n : ℕ) (e : Session) (cursor : Cursor) → session_at st s ≡ Some e → e.failed ≡ false → e.cursor ≡ Some cursor → (IsAt st e cursor → IsNotAtEnd st e cursor)
+pub Follows-no_memory : (st : State) (s n : ℕ) (e : Session) (cursor : Cursor) → session_at st s ≡ Some e → e.failed ≡ false → e.cursor ≡ Some cursor → (IsAtCursor st e cursor → IsNotAtEnd st e cursor)
     → Follows st (Next s n) (Refused NoMemory) st
 Follows-no_memory st s n e (Index span) at sound opened some w agrees =
     let comes = some (at-cursor st w s e (Index span) agrees at opened) in
     Follows-same st (Next s n) (Refused NoMemory)
-    (cursors.Follows-next_no_memory (seen st) s (reader_of e) (in_index span.index span.low span.high (mark_of span.last)) n comes.0 (reader-is st s e at) sound (ap position_of opened) comes.1)
+    (cursors.Follows-next_no_memory (seen st) s (reader_of e) (in_index span.index span.low span.high (seen_position span.last)) n comes.0 (reader-is st s e at) sound (ap position_of opened) comes.1)
     w agrees
 Follows-no_memory st s n e (Heap page) at sound opened some w agrees =
     let comes = some (at-cursor st w s e (Heap page) agrees at opened) in
@@ -67,32 +67,32 @@ module _ (st st' : State) (s n : ℕ) (e : Session) (after : Cursor) (rows : Vec
   now = put_session st s (Some (with_cursor (Some after) e))
 
   -- what readers see follows, where the new cursor goes along an index in use too
-  put-after : ((span : Span) → Some after ≡ Some (Index span) → IsInUse st.heap.indexes span.index)
-      → ((w : World) → Agrees st w → finds.Follows (seen st) (Next s n) (Rows rows) (seen now)) → Follows st (Next s n) (Rows rows) st'
+  put-after : ((span : IndexRange) → Some after ≡ Some (Index span) → IsInUse st.heap.indexes span.index)
+      → ((w : World) → Agrees st w → finds.HeapFollows (seen st) (Next s n) (Rows rows) (seen now)) → Follows st (Next s n) (Rows rows) st'
   put-after along follows w agrees =
       let f = follows w agrees w agrees.found in
-      subst (λ st'. Allows w (Next s n) (Rows rows) × Agrees st' (next w (Next s n) (Rows rows)) × StaysLed st st') (sym (moved st st' s e (Some after) at is))
+      subst (λ st'. Allows w (Next s n) (Rows rows) × Agrees st' (next w (Next s n) (Rows rows)) × KeepsAllTargets st st') (sym (moved st st' s e (Some after) at is))
       (f.0, agree agrees refl refl f.1 (sound-cursor st st' s e (Some after) at is along agrees.sound), led-same st w agrees)
 
   only-at : (position : Position) → position_of (Some after) ≡ Some position → OnlyIs (seen st).session (seen now).session s (Some (record (reader_of e) { cursor = Some position }))
   only-at position same = subst (λ p. OnlyIs (seen st).session (seen now).session s (Some (record (reader_of e) { cursor = p }))) same (only-cursor st st' s e (Some after) at is)
 
 -- where the cursor is after a walk in an index
-walked-to : (span left : Span) → left ≡ record span { last = left.last } → position_of (Some (Index left)) ≡ Some (in_index span.index span.low span.high (mark_of left.last))
-walked-to span left same = ap (λ (sp : Span). Some (in_index sp.index sp.low sp.high (mark_of left.last))) same
+walked-to : (span left : IndexRange) → left ≡ record span { last = left.last } → position_of (Some (Index left)) ≡ Some (in_index span.index span.low span.high (seen_position left.last))
+walked-to span left same = ap (λ (sp : IndexRange). Some (in_index sp.index sp.low sp.high (seen_position left.last))) same
 
 -- it goes along the same index
-along-left : (st : State) (span left other : Span) → left ≡ record span { last = left.last } → IsInUse st.heap.indexes span.index → Some (Index left) ≡ Some (Index other) → IsInUse st.heap.indexes other.index
-along-left st span left other same used is = (let here : left ≡ other = cc in subst (λ (sp : Span). IsInUse st.heap.indexes sp.index) here (subst (λ n. IsInUse st.heap.indexes n) (sym (ap (λ (sp : Span). sp.index) same)) used))
+along-left : (st : State) (span left other : IndexRange) → left ≡ record span { last = left.last } → IsInUse st.heap.indexes span.index → Some (Index left) ≡ Some (Index other) → IsInUse st.heap.indexes other.index
+along-left st span left other same used is = (let here : left ≡ other = cc in subst (λ (sp : IndexRange). IsInUse st.heap.indexes sp.index) here (subst (λ n. IsInUse st.heap.indexes n) (sym (ap (λ (sp : IndexRange). sp.index) same)) used))
 
 module _ (st st' : State) (s n : ℕ) (e : Session) (rows : Vec Row Global) (at : session_at st s ≡ Some e) (sound : e.failed ≡ false) (some : 0 < length rows.items) where
-  Follows-rows_in_index : (span left : Span) → e.cursor ≡ Some (Index span) → TakesRows st e span left (max 1 n) rows.items
+  Follows-rows_in_index : (span left : IndexRange) → e.cursor ≡ Some (Index span) → TakesRows st e span left (max 1 n) rows.items
       → st' ≡ put_session st s (map_session (with_cursor (Some (Index left))) (session_at st s)) → Follows st (Next s n) (Rows rows) st'
   Follows-rows_in_index span left opened takes is w agrees =
       let here = at-cursor st w s e (Index span) agrees at opened in
       let same = takes.walks.same in
-      let f = cursors.Follows-next_in_index (seen st) s (reader_of e) span.index span.low span.high (mark_of span.last) (mark_of left.last) n rows (seen (now st st' s n e (Index left) rows at is)).session
-      (only-at st st' s n e (Index left) rows at is (in_index span.index span.low span.high (mark_of left.last)) (walked-to span left same))
+      let f = cursors.Follows-next_in_index (seen st) s (reader_of e) span.index span.low span.high (seen_position span.last) (seen_position left.last) n rows (seen (now st st' s n e (Index left) rows at is)).session
+      (only-at st st' s n e (Index left) rows at is (in_index span.index span.low span.high (seen_position left.last)) (walked-to span left same))
       (reader-is st s e at) sound (ap position_of opened) (takes.walks.meets here) some takes.at_most
       (λ fewer row comes. takes.all here fewer row (left-in st e span left row same comes)) in
       put-after st st' s n e (Index left) rows at is (λ other is'. along-left st span left other same (used-at st e span here) is') (λ w' agrees'. f) w agrees

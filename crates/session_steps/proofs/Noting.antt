@@ -5,14 +5,14 @@ use Rattle.std.specs.Prelude.{Result, Ok, Err, OnOk, OnErr}
 use Rattle.std.proofs.lemmas.Option.{same_Some}
 use Rattle.commit_status.specs.declared.status.Status.TheVariants.{InProgress, Aborted}
 use Rattle.commit_status.specs.Window.{Window}
-use Rattle.session_relation.specs.declared.step.Step.TheVariants.{Savepoint, RollbackTo, Release}
-use Rattle.session_relation.specs.declared.reply.Reply.TheVariants.{Done}
+use Rattle.refinement.specs.declared.step.Step.TheVariants.{Savepoint, RollbackTo, Release}
+use Rattle.refinement.specs.declared.reply.Reply.TheVariants.{Done}
 use Rattle.heap_write.specs.Heap.{HeapView}
 use Rattle.session_steps.specs.declared.session.Session.{Session}
 use Rattle.session_steps.specs.State.{State, session_at, put_session}
 use Rattle.session_steps.specs.Keeps.{open_at, EngineKeeps}
 use Rattle.session_steps.specs.Agrees.{Follows}
-use Rattle.session_steps.specs.Changes.{SetsSavepoint, Releases, Becomes, RollsBackOn, RollsBack}
+use Rattle.session_steps.specs.Changes.{SetsSavepoint, Releases, SessionBecomes, RollsBackOn, RollsBack}
 use Rattle.session_steps.specs.Writes.{OnOpen}
 use Rattle.session_steps.proofs.OwnIdsLemmas.{keep-same, keep-dropped}
 use Rattle.session_steps.proofs.Trying.{with_session}
@@ -56,7 +56,7 @@ keeps-returned xs h h' s (Some e) now at back k = rw back.1 (record {
 
 -- What the engine's state becomes.
 
-pub becomes-of : (st : State) (s : ℕ) (o now : Option Session) (changes : Session → Session → Type 0) → session_at st s ≡ o → OnOpen o now changes → Becomes st (put_session st s now) s changes
+pub becomes-of : (st : State) (s : ℕ) (o now : Option Session) (changes : Session → Session → Type 0) → session_at st s ≡ o → OnOpen o now changes → SessionBecomes st (put_session st s now) s changes
 becomes-of st s None now changes at becomes = absurd becomes
 becomes-of st s (Some e) now changes at becomes = record { session = e; at = at; now = becomes.0; is = ap (λ o. put_session st s o) becomes.1; change = becomes.2 }
 
@@ -78,12 +78,12 @@ some-saved (before ∷ saved) some = (before, saved, refl)
 same-one : (st : State) (s : ℕ) (e f : Session) → session_at st s ≡ Some e → session_at st s ≡ Some f → e ≡ f
 same-one st s e f at bt = same_Some e f (sym at ∙ bt)
 
-pub Follows-noted : (st st' : State) (s : ℕ) (e : Session) → session_at st s ≡ Some e → e.failed ≡ false → e.cursor ≡ None → Becomes st st' s (λ e e'. SavesOne e e') → Follows st (Savepoint s) Done st'
+pub Follows-noted : (st st' : State) (s : ℕ) (e : Session) → session_at st s ≡ Some e → e.failed ≡ false → e.cursor ≡ None → SessionBecomes st st' s (λ e e'. SavesOne e e') → Follows st (Savepoint s) Done st'
 Follows-noted st st' s e at sound bare b =
     let change = subst (λ f. SavesOne f b.now) (same-one st s b.session e b.at at) b.change in
     Follows-savepoint st st' s e at sound bare change.1 b.now b.is change.0
 
-pub Follows-forgotten : (st st' : State) (s : ℕ) (e : Session) → session_at st s ≡ Some e → e.failed ≡ false → e.cursor ≡ None → length e.own.saved ≢ 0 → Becomes st st' s Releases → Follows st (Release s) Done st'
+pub Follows-forgotten : (st st' : State) (s : ℕ) (e : Session) → session_at st s ≡ Some e → e.failed ≡ false → e.cursor ≡ None → length e.own.saved ≢ 0 → SessionBecomes st st' s Releases → Follows st (Release s) Done st'
 Follows-forgotten st st' s e at sound bare some b =
     let saved = some-saved e.own.saved some in
     Follows-release st st' s e saved.0 saved.1 at sound bare saved.2 b.now b.is (subst (λ f. Releases f b.now) (same-one st s b.session e b.at at) b.change)

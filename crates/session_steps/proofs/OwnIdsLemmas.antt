@@ -13,7 +13,7 @@ use Rattle.commit_status.specs.Window.{Window, IsWindow, IsActive, place_in}
 use Rattle.commit_status.specs.Changes.{Finishes}
 use Rattle.commit_status.proofs.Finishing.{finishes-active_other}
 use Rattle.snapshot.specs.Own.{AreDistinct}
-use Rattle.snapshot.proofs.Levels.{distinct-front, distinct-after}
+use Rattle.snapshot.proofs.Levels.{distinct-prefix, distinct-after}
 use Rattle.heap_write.specs.Writes.{GivesUnder}
 use Rattle.heap_write.proofs.GivenIds.{given-active_old, given-active, given-active_cases, given-new, given-distinct}
 use Rattle.history.proofs.Places.{slice_get-set_same, slice_get-set_other}
@@ -170,8 +170,12 @@ keep-given xs w v s e e' given parent at same is gives h = keep-set xs w v s (So
     (λ x active. elim (given-active_cases given w v parent x gives is active) [
       | inl now ↦ inl (e', refl, subst (λ ids. Contains ids x) (sym same) (Contains-append_right e.own.ids given x now))
       | inr old ↦ elim (own-cases xs s x (Some e) at (h.owned x old)) [
-        | inl was ↦ inl (e', refl, subst (λ ids. Contains ids x) (sym same)
-            (Contains-append_left e.own.ids given x (subst (λ (f : Session). Contains f.own.ids x) (sym (same_Some e was.0 was.1)) was.2)))
+        | inl was ↦ inl (
+          e',
+          refl,
+          subst (λ ids. Contains ids x) (sym same)
+              (Contains-append_left e.own.ids given x (subst (λ (f : Session). Contains f.own.ids x) (sym (same_Some e was.0 was.1)) was.2)),
+        )
         | inr other ↦ inr other
       ]
     ])
@@ -188,7 +192,7 @@ pub keep-dropped : (xs : List (Option Session)) (w v : Window) (s : ℕ) (e e' :
 keep-dropped xs w v s e e' since status at same final finishes h = keep-set xs w v s (Some e') (open-within xs s e at) h
     (λ o f x ne bt own. finishes-active_other w v since status x finishes (λ dropped. ne (h.apart o s f e x bt at own (was x (inr dropped)))) (h.active o f x bt own))
     (λ f x is own. finishes-active_other w v since status x finishes (λ dropped. distinct-after e.own.ids e'.own.ids since (h.distinct s e at) same x dropped (now f x is own)) (h.active s e x at (was x (inl (now f x is own)))))
-    (λ f is. subst AreDistinct (ap (λ (f : Session). f.own.ids) (same_Some e' f is)) (distinct-front e.own.ids e'.own.ids since (h.distinct s e at) same))
+    (λ f is. subst AreDistinct (ap (λ (f : Session). f.own.ids) (same_Some e' f is)) (distinct-prefix e.own.ids e'.own.ids since (h.distinct s e at) same))
     (λ o f g x ne is bt own own'. ne (h.apart o s g e x bt at own' (was x (inl (now f x is own)))))
     (λ x active. let old = finishes-active_cases w v since status x finishes final active in
     elim (own-cases xs s x (Some e) at (h.owned x old.1)) [
@@ -198,7 +202,7 @@ keep-dropped xs w v s e e' since status at same final finishes h = keep-set xs w
   where
     kept : (x : ℕ) → ¬ Contains since x → Contains e.own.ids x → Contains e'.own.ids x
     kept x not_since among = elim (Contains-append_cases e'.own.ids since x (subst (λ ids. Contains ids x) same among)) [
-      | inl front ↦ front
+      | inl prefix ↦ prefix
       | inr last ↦ absurd (not_since last)
     ]
 
@@ -207,6 +211,6 @@ keep-dropped xs w v s e e' since status at same final finishes h = keep-set xs w
 
     was : (x : ℕ) → Contains e'.own.ids x ⊎ Contains since x → Contains e.own.ids x
     was x cases = subst (λ ids. Contains ids x) (sym same) (elim cases [
-      | inl front ↦ Contains-append_left e'.own.ids since x front
+      | inl prefix ↦ Contains-append_left e'.own.ids since x prefix
       | inr last ↦ Contains-append_right e'.own.ids since x last
     ])

@@ -12,8 +12,8 @@ use Rattle.snapshot.proofs.Takes.{taken-in_window}
 use Rattle.forgetting.proofs.Fresh.{fresh-seen}
 use Rattle.history.specs.World.{World}
 use Rattle.visibility.proofs.Makers.{active-to, active-from, committed-to}
-use Rattle.session_relation.specs.Heap as relation
-use Rattle.session_relation.specs.Visible.{IsFresh}
+use Rattle.refinement.specs.Heap as relation
+use Rattle.refinement.specs.Visible.{IsFreshSnapshot}
 use Rattle.session_steps.specs.declared.session.Session.{Session}
 use Rattle.visibility.specs.Visible.{state_of}
 use Rattle.session_steps.specs.State.{State, session_at, seen, reader_of, owns_of}
@@ -36,7 +36,7 @@ owns-cases (Some f ∷ xs) own among = elim (Contains-cases f.own.ids own (owns_
 ]
 
 -- a session as readers see it is one of the engine's
-pub reader-at : (st : State) (s : ℕ) (r : relation.Session) → (seen st).session s ≡ Some r → (e : Session) × (session_at st s ≡ Some e) × (reader_of e ≡ r)
+pub reader-at : (st : State) (s : ℕ) (r : relation.SeenSession) → (seen st).session s ≡ Some r → (e : Session) × (session_at st s ≡ Some e) × (reader_of e ≡ r)
 reader-at st s r at = of (session_at st s) refl
   where
     of : (o : Option Session) → session_at st s ≡ o → (e : Session) × (session_at st s ≡ Some e) × (reader_of e ≡ r)
@@ -54,14 +54,14 @@ are-open st w agrees = record {
       subst (λ ids. slice_get ids 0 ≡ Some (top_of st.heap.table x)) some.3 ((agrees.sound.sessions some.0 some.1 some.2).topmost x (subst (λ ids. Contains ids x) (sym some.3) mine));
   all = λ x active. let by = agrees.found.owned x (active-from st.heap.table x active) in
       let e = reader-at st by.0 by.1 by.2 in
-      (e.0.own.ids, owns-some st.sessions by.0 e.0 e.1, subst (λ (r : relation.Session). Contains r.own x) (sym e.2) by.3);
+      (e.0.own.ids, owns-some st.sessions by.0 e.0 e.1, subst (λ (r : relation.SeenSession). Contains r.own x) (sym e.2) by.3);
 }
 
 -- the snapshot that is taken now
 abbrev pub now_taken : State → Snap
 now_taken st = taken (next_id st.heap.table) (owns_of st.sessions)
 
-pub taken-fresh : (st : State) (w : World) → Agrees st w → IsFresh (state_of st.heap.table) (λ x. Sees (now_taken st) st.heap.table x)
+pub taken-fresh : (st : State) (w : World) → Agrees st w → IsFreshSnapshot (state_of st.heap.table) (λ x. Sees (now_taken st) st.heap.table x)
 taken-fresh st w agrees = record {
   finished = λ x done. let d = committed-to st.heap.table x done in
       fresh-seen st.heap.table (owns_of st.sessions) x agrees.sound.window (are-open st w agrees) d (agrees.sound.tops x d);

@@ -9,26 +9,26 @@ use Rattle.tuple_header.specs.Marks.{is_frozen}
 use Rattle.commit_status.specs.declared.status.Status.TheVariants.{Aborted}
 use Rattle.commit_status.specs.Window as window
 use Rattle.commit_status.proofs.Places.{upto-given}
-use Rattle.page_writes.specs.Keeps.{IsMade, IsUntaken}
-use Rattle.page_writes.proofs.Bits.{replaced-frozen}
-use Rattle.visibility.proofs.Makers.{is-maker, is-deleter, committed-to, active-to, state-some}
+use Rattle.tuple_writes.specs.Keeps.{IsMade, HasNoXmax}
+use Rattle.tuple_writes.proofs.Bits.{replaced-frozen}
+use Rattle.visibility.proofs.Makers.{is-inserter, is-deleter, committed-to, active-to, state-some}
 use Rattle.heap_write.specs.Heap.{HeapView}
-use Rattle.sound_writes.specs.Table.{MayTake}
-use Rattle.sound_writes.specs.Laws.{IsWriter}
-use Rattle.sound_writes.proofs.Standing.{AddsAt, AltersAt, IsNewBy, taken_version}
+use Rattle.table_integrity.specs.Table.{MayDelete}
+use Rattle.table_integrity.specs.Laws.{WritesUnder}
+use Rattle.table_integrity.proofs.Standing.{AddsAt, AltersAt, IsNewBy, taken_version}
 use Rattle.history.specs.World.{World}
 use Rattle.visibility.specs.Seeing.{deleter}
-use Rattle.session_relation.specs.Changes as change
-use Rattle.session_relation.specs.Finds.{Free}
-use Rattle.session_relation.proofs.Readers.{IsNew, IsDeleted}
-use Rattle.session_relation.proofs.Targets as targets
+use Rattle.refinement.specs.Changes as change
+use Rattle.refinement.specs.Finds.{Free}
+use Rattle.refinement.proofs.Readers.{IsNew, IsDeleted}
+use Rattle.refinement.proofs.Targets as targets
 use Rattle.session_steps.specs.declared.session.Session.{Session}
 use Rattle.session_steps.specs.State.{State, session_at, seen, reader_of}
 use Rattle.session_steps.specs.Agrees.{Agrees}
 use Rattle.session_steps.proofs.Owns.{reader-is}
 use Rattle.session_steps.proofs.Searches.{IsTarget}
 
-pub adds-from : (store store' : Tid → Option Version) (q : Tid) (new : Version) → AddsAt store store' q new → change.Adds store store' q new
+pub adds-from : (store store' : Tid → Option Version) (q : Tid) (new : Version) → AddsAt store store' q new → change.AddsVersion store store' q new
 adds-from store store' q new a = record { here = a.here; unused = a.unused; others = a.others }
 
 pub alters-from : (store store' : Tid → Option Version) (p : Tid) (old new : Version) → AltersAt store store' p old new → change.Alters store store' p old new
@@ -43,7 +43,7 @@ no-deleter v none = of (v.header.xmax.0 == 0) refl
 
 pub is-new : (x : ℕ) (row : Row) (v : Version) → IsNewBy x row v → IsNew x v
 is-new x row v n = record {
-  made = is-maker v.header x (λ frozen. let thawed = n.thawed in cc) n.maker;
+  made = is-inserter v.header x (λ frozen. let thawed = n.thawed in cc) n.inserter;
   kept = no-deleter v n.undeleted;
 }
 
@@ -60,7 +60,7 @@ is-deleted w x t successor hot active = record {
 
 -- The writer.
 
-pub is-writer : (st : State) (w : World) (s : ℕ) (e : Session) (h : HeapView) → Agrees st w → session_at st s ≡ Some e → window.IsWindow h.table → IsWriter st.heap h e.own
+pub is-writer : (st : State) (w : World) (s : ℕ) (e : Session) (h : HeapView) → Agrees st w → session_at st s ≡ Some e → window.IsWindow h.table → WritesUnder st.heap h e.own
 is-writer st w s e h agrees at after = record {
   before = agrees.sound.window;
   after = after;
@@ -72,13 +72,13 @@ is-writer st w s e h agrees at after = record {
 is-made : (st : State) (w : World) (s : ℕ) (e : Session) (key : ℕ) (p : Tid) (t : Version) → Agrees st w → session_at st s ≡ Some e → IsTarget st e key p t → IsMade st.heap.table t.header
 is-made st w s e key p t agrees at target = elim (cases_Bool (is_frozen t.header)) [
   | inl frozen ↦ inl frozen
-  | inr thawed ↦ elim (targets.maker_of (seen st) (reader_of e) t target.seen t.header.xmin.0 (is-maker t.header t.header.xmin.0 (λ frozen. cc) refl)) [
+  | inr thawed ↦ elim (targets.maker_of (seen st) (reader_of e) t target.seen t.header.xmin.0 (is-inserter t.header t.header.xmin.0 (λ frozen. cc) refl)) [
     | inl done ↦ inr (inl (committed-to st.heap.table t.header.xmin.0 done))
     | inr own ↦ inr (inr (active-to st.heap.table t.header.xmin.0 ((agrees.found.opened s (reader_of e) (reader-is st s e at)).2.own_active t.header.xmin.0 own)).unfinished)
   ]
 ]
 
-untaken : (st : State) (w : World) (s : ℕ) (e : Session) (key : ℕ) (found : Option Row) (p : Tid) (t : Version) → Agrees st w → Free (seen st) s (reader_of e) key found → IsTarget st e key p t → IsUntaken st.heap.table t.header
+untaken : (st : State) (w : World) (s : ℕ) (e : Session) (key : ℕ) (found : Option Row) (p : Tid) (t : Version) → Agrees st w → Free (seen st) s (reader_of e) key found → IsTarget st e key p t → HasNoXmax st.heap.table t.header
 untaken st w s e key found p t agrees free target = elim (cases_eq t.header.xmax.0 0) [
   | inl none ↦ inl none
   | inr some ↦ inr (state-some st.heap.table t.header.xmax.0 Aborted
@@ -86,7 +86,7 @@ untaken st w s e key found p t agrees free target = elim (cases_eq t.header.xmax
 ]
 
 pub may-take : (st : State) (w : World) (s : ℕ) (e : Session) (key : ℕ) (found : Option Row) (p : Tid) (t : Version) → Agrees st w → session_at st s ≡ Some e
-    → Free (seen st) s (reader_of e) key found → IsTarget st e key p t → MayTake st.heap p t
+    → Free (seen st) s (reader_of e) key found → IsTarget st e key p t → MayDelete st.heap p t
 may-take st w s e key found p t agrees at free target = record {
   there = target.there;
   made = is-made st w s e key p t agrees at target;

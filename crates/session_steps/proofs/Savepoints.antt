@@ -11,20 +11,20 @@ use Rattle.visibility.proofs.Makers.{active-to}
 use Rattle.sound_entries.specs.Pages.{version_in}
 use Rattle.sound_entries.specs.Looking as looking
 use Rattle.history.specs.World.{World}
-use Rattle.session_relation.specs.declared.step.Step.TheVariants.{Savepoint, RollbackTo, Release}
-use Rattle.session_relation.specs.declared.reply.Reply.TheVariants.{Done, Refused}
-use Rattle.session_relation.specs.declared.reply.Refusal.{Refusal}
-use Rattle.session_relation.specs.declared.reply.Refusal.TheVariants.{NoSavepoint, TooDeep, NoMemory, CursorOpen}
-use Rattle.session_relation.specs.Heap as relation
-use Rattle.session_relation.specs.Allowed.{Allows, next}
-use Rattle.session_relation.specs.Agrees as theory
-use Rattle.session_relation.specs.Changes as change
-use Rattle.session_relation.proofs.Steps.{OnlyIs, SameSights}
-use Rattle.session_relation.proofs.FollowsSavepoints as savepoints
+use Rattle.refinement.specs.declared.step.Step.TheVariants.{Savepoint, RollbackTo, Release}
+use Rattle.refinement.specs.declared.reply.Reply.TheVariants.{Done, Refused}
+use Rattle.refinement.specs.declared.reply.Refusal.{Refusal}
+use Rattle.refinement.specs.declared.reply.Refusal.TheVariants.{NoSavepoint, TooDeep, NoMemory, CursorOpen}
+use Rattle.refinement.specs.Heap as relation
+use Rattle.refinement.specs.Allowed.{Allows, next}
+use Rattle.refinement.specs.Agrees as theory
+use Rattle.refinement.specs.Changes as change
+use Rattle.refinement.proofs.Steps.{OnlyIs, SameSights}
+use Rattle.refinement.proofs.FollowsSavepoints as savepoints
 use Rattle.session_steps.specs.declared.session.Session.{Session}
 use Rattle.visibility.specs.Visible.{state_of}
 use Rattle.session_steps.specs.State.{State, session_at, put_session, seen, position_of, reader_of}
-use Rattle.session_steps.specs.Agrees.{Agrees, Follows, StaysLed}
+use Rattle.session_steps.specs.Agrees.{Agrees, Follows, KeepsAllTargets}
 use Rattle.session_steps.specs.Refuses.{Refuses, RefusesFree}
 use Rattle.session_steps.specs.Changes.{SetsSavepoint, Releases, RollsBack}
 use Rattle.session_steps.proofs.OwnIdsLemmas.{open-within}
@@ -67,7 +67,7 @@ Follows-barred_roll_back_to st s e at some = Follows-same st (RollbackTo s) (Ref
 -- Nothing changes but the session.
 
 -- of the sessions that readers see, one becomes another
-only-becomes : (st : State) (s : ℕ) (e now : Session) (r : relation.Session) → session_at st s ≡ Some e → reader_of now ≡ r → OnlyIs (seen st).session (seen (put_session st s (Some now))).session s (Some r)
+only-becomes : (st : State) (s : ℕ) (e now : Session) (r : relation.SeenSession) → session_at st s ≡ Some e → reader_of now ≡ r → OnlyIs (seen st).session (seen (put_session st s (Some now))).session s (Some r)
 only-becomes st s e now r at is = let only = only-set st s (Some now) (open-within st.sessions s e at) in record { others = only.others; itself = only.itself ∙ ap Some is }
 
 pub Follows-savepoint : (st st' : State) (s : ℕ) (e : Session) → session_at st s ≡ Some e → e.failed ≡ false → e.cursor ≡ None → length e.own.saved < 32 → (now : Session) → st' ≡ put_session st s (Some now) → SetsSavepoint e now
@@ -76,7 +76,7 @@ Follows-savepoint st st' s e at sound bare room now is sets w agrees =
     let reader : reader_of now ≡ record (reader_of e) { saved = e.own.ids ∷ e.own.saved } = rw (sets.snapshot, sets.ids, sets.saved, sets.failed, sets.cursor) refl in
     let f = savepoints.Follows-savepoint (seen st) s (reader_of e) (seen (put_session st s (Some now))).session (only-becomes st s e now (record (reader_of e) { saved = e.own.ids ∷ e.own.saved }) at reader)
     (reader-is st s e at) sound (ap position_of bare) room w agrees.found in
-    subst (λ st'. Allows w (Savepoint s) Done × Agrees st' (next w (Savepoint s) Done) × StaysLed st st') (sym is) (
+    subst (λ st'. Allows w (Savepoint s) Done × Agrees st' (next w (Savepoint s) Done) × KeepsAllTargets st st') (sym is) (
       f.0,
       agree agrees refl refl f.1
           (Sound-put st s e now at (same-holds e now sets.snapshot sets.ids) (keeps-saved st.heap.table e now sets (agrees.sound.sessions s e at)) (same-cursor st.sessions st.heap.indexes s e now at sets.cursor agrees.sound.cursors) agrees.sound),
@@ -90,7 +90,7 @@ Follows-release st st' s e before saved at sound bare some now is releases w agr
     let reader : reader_of now ≡ record (reader_of e) { saved = saved } = rw (releases.snapshot, releases.ids, rest, releases.failed, releases.cursor) refl in
     let f = savepoints.Follows-release (seen st) s (reader_of e) before saved (seen (put_session st s (Some now))).session (only-becomes st s e now (record (reader_of e) { saved = saved }) at reader)
     (reader-is st s e at) sound (ap position_of bare) some w agrees.found in
-    subst (λ st'. Allows w (Release s) Done × Agrees st' (next w (Release s) Done) × StaysLed st st') (sym is) (
+    subst (λ st'. Allows w (Release s) Done × Agrees st' (next w (Release s) Done) × KeepsAllTargets st st') (sym is) (
       f.0,
       agree agrees refl refl f.1
           (Sound-put st s e now at (same-holds e now releases.snapshot releases.ids) (keeps-released st.heap.table e now releases (agrees.sound.sessions s e at)) (same-cursor st.sessions st.heap.indexes s e now at releases.cursor agrees.sound.cursors) agrees.sound),
@@ -100,7 +100,7 @@ Follows-release st st' s e before saved at sound bare some now is releases w agr
 -- The ids since the newest savepoint are aborted.
 
 abbrev with_pages : State → PagesView → relation.Heap
-with_pages st pages = record (seen st) { version = version_in (looking.slots_of pages) }
+with_pages st pages = record (seen st) { version = version_in (looking.page_slots_of pages) }
 
 module _ (st st' : State) (s : ℕ) (before : List ℕ) (saved : List (List ℕ)) (back : RollsBack st st' s) (is : back.session.own.saved ≡ before ∷ saved) where
   were : back.session.own.ids ≡ before ++ back.back.since
@@ -113,7 +113,7 @@ module _ (st st' : State) (s : ℕ) (before : List ℕ) (saved : List (List ℕ)
       subst (λ xs. OnlyIs (seen st).session (λ o. option_map reader_of (session_at (record st { sessions = xs }) o)) s (Some (record (reader_of back.session) { own = before; failed = false }))) (sym back.sessions) only
 
   -- those that it had not then
-  finishes-since : (w : World) → Agrees st w → change.Finishes (state_of st.heap.table) (state_of st'.heap.table) (λ x. Contains back.session.own.ids x × (¬ Contains before x)) Aborted
+  finishes-since : (w : World) → Agrees st w → change.FinishesIds (state_of st.heap.table) (state_of st'.heap.table) (λ x. Contains back.session.own.ids x × (¬ Contains before x)) Aborted
   finishes-since w agrees =
       let e = back.session in
       let distinct = (agrees.sound.sessions s e back.at).distinct in
@@ -139,4 +139,4 @@ Follows-roll_back_to st st' s before saved back bare is w agrees =
     let f = savepoints.Follows-roll_back_to (seen st) s (reader_of back.session) before saved (seen st').status (seen st').sees (seen st').session (only-returns st st' s before saved back is)
     (reader-is st s back.session back.at) (ap position_of bare) is (λ w' found. finishes-since st st' s before saved back is w agrees) (same-sights st st' s before saved back is) w agrees.found in
     let sound' = rolls-back-sound st st' s before saved w back is agrees in
-    (f.0, agree agrees back.settings refl (subst (λ pages. theory.Agrees (with_pages st' pages) (next w (RollbackTo s) Done)) (sym back.back.pages) f.1) sound'.0, sound'.1)
+    (f.0, agree agrees back.settings refl (subst (λ pages. theory.HeapAgrees (with_pages st' pages) (next w (RollbackTo s) Done)) (sym back.back.pages) f.1) sound'.0, sound'.1)

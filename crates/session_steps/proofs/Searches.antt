@@ -22,20 +22,20 @@ use Rattle.sound_entries.specs.Pages.{version_in}
 use Rattle.sound_entries.specs.Leading as search
 use Rattle.sound_entries.specs.Looking.{FirstFound}
 use Rattle.sound_entries.proofs.Fetching.{found-on_heap, place-on_heap}
-use Rattle.sound_entries.proofs.Among.{missed-on_heap, foreign-on_heap}
+use Rattle.sound_entries.proofs.Among.{newer_commit-on_heap, foreign-on_heap}
 use Rattle.heap_write.specs.Heap.{HeapView, slots_of, key_value}
 use Rattle.history.specs.World.{World}
-use Rattle.session_relation.specs.Heap as relation
-use Rattle.visibility.specs.Seeing.{maker, deleter, Reads, by_itself, by_others, Touches, made_by, deleted_by, IsActive}
-use Rattle.session_relation.specs.Visible.{IsVisible}
-use Rattle.session_relation.specs.Finds.{Finds, IsLateFor, IsHeldBy, Begins, Free}
-use Rattle.session_relation.specs.declared.reply.Refusal.{Refusal}
-use Rattle.session_relation.specs.declared.reply.Refusal.TheVariants.{NotOpen, AlreadyOpen, Failed, AlreadyThere, NotThere, Conflict, Busy, TooLarge, NoRoom, NeedsFreeze, NoMemory, NoSuchPage, NoSuchSession, TooDeep, NoSavepoint, CursorOpen, NoCursor, NoSuchIndex, BadBounds}
+use Rattle.refinement.specs.Heap as relation
+use Rattle.visibility.specs.Seeing.{inserter, deleter, Reads, by_itself, by_others, Touches, made_by, deleted_by, IsRunning}
+use Rattle.refinement.specs.Visible.{ReaderSees}
+use Rattle.refinement.specs.Finds.{FindsOfKey, IsLateFor, IsHeldBy, BeginsWrite, Free}
+use Rattle.refinement.specs.declared.reply.Refusal.{Refusal}
+use Rattle.refinement.specs.declared.reply.Refusal.TheVariants.{NotOpen, AlreadyOpen, Failed, AlreadyThere, NotThere, Conflict, Busy, TooLarge, NoRoom, NeedsFreeze, NoMemory, NoSuchPage, NoSuchSession, TooDeep, NoSavepoint, CursorOpen, NoCursor, NoSuchIndex, BadBounds}
 use Rattle.session_steps.specs.declared.session.Session.{Session}
 use Rattle.visibility.specs.Visible.{state_of}
 use Rattle.session_steps.specs.State.{State, session_at, seen, position_of, reader_of, horizon_of}
 use Rattle.session_steps.specs.Agrees.{Agrees}
-use Rattle.session_steps.specs.Tests.{FindsPlace, IsLateBy, IsHeldUnder, IsFree, Delays, HindersInsert, HindersChange}
+use Rattle.session_steps.specs.Tests.{FindsPlace, IsLateBy, IsHeldUnder, IsUncontested, ConflictsWrite, RefusesInsertOfKey, RefusesChangeOfKey}
 use Rattle.session_steps.specs.Tests as tests
 use Rattle.session_steps.proofs.Owns.{reader-is, reader-at}
 
@@ -56,10 +56,10 @@ own-active st w s e agrees at x mine = active-to st.heap.table x ((agrees.found.
 pub record IsTarget (st : State) (e : Session) (key : ℕ) (p : Tid) (t : Version) : Type 0 where
   pub there : version_in (slots_of st.heap) p ≡ Some t
   pub of_key : t.row.key ≡ key
-  pub seen : IsVisible (state_of st.heap.table) (λ x. Sees e.snapshot st.heap.table x) e.own.ids t
+  pub seen : ReaderSees (state_of st.heap.table) (λ x. Sees e.snapshot st.heap.table x) e.own.ids t
 
 abbrev pub FoundIn : State → Session → ℕ → Option Tid → Type 0
-FoundIn st e key None = Finds (seen st).version (IsVisible (state_of st.heap.table) (λ x. Sees e.snapshot st.heap.table x) e.own.ids) key None
+FoundIn st e key None = FindsOfKey (seen st).version (ReaderSees (state_of st.heap.table) (λ x. Sees e.snapshot st.heap.table x) e.own.ids) key None
 FoundIn st e key (Some p) = (t : Version) × IsTarget st e key p t
 
 pub place-to : (st : State) (w : World) (s : ℕ) (e : Session) (key : ℕ) (found : Option Tid) → Agrees st w → session_at st s ≡ Some e → FindsPlace st.heap e key found → FoundIn st e key found
@@ -72,7 +72,7 @@ place-to st w s e key (Some p) agrees at finds =
 
 pub row-to : (st : State) (w : World) (s : ℕ) (e : Session) (key : ℕ) (found : Option Row) → Agrees st w → session_at st s ≡ Some e
     → FirstFound st.heap.table (visibility.IsVisible st.heap.table e.snapshot e.own.ids) (slots_of st.heap) (entries_in st.heap.indexes 0) (pos key) key found
-    → Finds (seen st).version (IsVisible (state_of st.heap.table) (λ x. Sees e.snapshot st.heap.table x) e.own.ids) key found
+    → FindsOfKey (seen st).version (ReaderSees (state_of st.heap.table) (λ x. Sees e.snapshot st.heap.table x) e.own.ids) key found
 row-to st w s e key None agrees at finds = λ p v there seen is.
     found-on_heap key_value st.heap.table (horizon_of st) (slots_of st.heap) (entries_in st.heap.indexes 0) e.snapshot e.own.ids (by-key st agrees.sound) (own-active st w s e agrees at) (pos key) key None finds p v
     (record { there = there; of_value = ap (λ n. pos n) is; of_key = is; has = seen })
@@ -82,13 +82,13 @@ row-to st w s e key (Some row) agrees at finds =
 
 pub late-to : (st : State) (w : World) (e : Session) (key x : ℕ) → Agrees st w → IsLateBy st.heap e key x → IsLateFor (seen st) (reader_of e) key
 late-to st w e key x agrees late =
-    let h = (missed-on_heap key_value st.heap.table (horizon_of st) (slots_of st.heap) (entries_in st.heap.indexes 0) e.snapshot x (by-key st agrees.sound) (pos key) key).0 late in
+    let h = (newer_commit-on_heap key_value st.heap.table (horizon_of st) (slots_of st.heap) (entries_in st.heap.indexes 0) e.snapshot x (by-key st agrees.sound) (pos key) key).0 late in
     (h.0, h.1, h.2.there, h.2.of_key, (x, h.2.has))
 
 pub not-late : (st : State) (w : World) (e : Session) (key : ℕ) → Agrees st w → ((x : ℕ) → ¬ IsLateBy st.heap e key x) → ¬ IsLateFor (seen st) (reader_of e) key
 not-late st w e key agrees timely some =
     let x = some.4.0 in
-    timely x ((missed-on_heap key_value st.heap.table (horizon_of st) (slots_of st.heap) (entries_in st.heap.indexes 0) e.snapshot x (by-key st agrees.sound) (pos key) key).1 (
+    timely x ((newer_commit-on_heap key_value st.heap.table (horizon_of st) (slots_of st.heap) (entries_in st.heap.indexes 0) e.snapshot x (by-key st agrees.sound) (pos key) key).1 (
       some.0,
       some.1,
       record {
@@ -123,24 +123,24 @@ held-from st w e key x agrees some =
 
 -- Tests that are passed, or not.
 
-pub begins-none : (st : State) (w : World) (s : ℕ) (e : Session) (key : ℕ) → Agrees st w → tests.Reads st s e key None → Begins (seen st) s (reader_of e) key None
+pub begins-none : (st : State) (w : World) (s : ℕ) (e : Session) (key : ℕ) → Agrees st w → tests.ReadsPlace st s e key None → BeginsWrite (seen st) s (reader_of e) key None
 begins-none st w s e key agrees reads =
     record { at = reader-is st s e reads.at; sound = reads.sound; bare = ap position_of reads.bare; finds = place-to st w s e key None agrees reads.at reads.finds }
 
-pub target-of : (st : State) (w : World) (s : ℕ) (e : Session) (key : ℕ) (p : Tid) → Agrees st w → tests.Reads st s e key (Some p) → (t : Version) × IsTarget st e key p t
+pub target-of : (st : State) (w : World) (s : ℕ) (e : Session) (key : ℕ) (p : Tid) → Agrees st w → tests.ReadsPlace st s e key (Some p) → (t : Version) × IsTarget st e key p t
 target-of st w s e key p agrees reads = place-to st w s e key (Some p) agrees reads.at reads.finds
 
-pub begins-some : (st : State) (s : ℕ) (e : Session) (key : ℕ) (p : Tid) (t : Version) → tests.Reads st s e key (Some p) → IsTarget st e key p t → Begins (seen st) s (reader_of e) key (Some t.row)
+pub begins-some : (st : State) (s : ℕ) (e : Session) (key : ℕ) (p : Tid) (t : Version) → tests.ReadsPlace st s e key (Some p) → IsTarget st e key p t → BeginsWrite (seen st) s (reader_of e) key (Some t.row)
 begins-some st s e key p t reads target =
     record { at = reader-is st s e reads.at; sound = reads.sound; bare = ap position_of reads.bare; finds = (p, t, target.there, target.of_key, (target.seen, refl)) }
 
-pub free-with : (st : State) (w : World) (s : ℕ) (e : Session) (key : ℕ) (found : Option Row) → Agrees st w → Begins (seen st) s (reader_of e) key found → IsFree st e key → Free (seen st) s (reader_of e) key found
+pub free-with : (st : State) (w : World) (s : ℕ) (e : Session) (key : ℕ) (found : Option Row) → Agrees st w → BeginsWrite (seen st) s (reader_of e) key found → IsUncontested st e key → Free (seen st) s (reader_of e) key found
 free-with st w s e key found agrees begins free =
     record { begins = begins; timely = not-late st w e key agrees free.timely; unheld = λ x held. free.unheld x (held-from st w e key x agrees held) }
 
 -- what delays a session, delays it of what it reads
 
-pub delayed-insert : (st : State) (s key : ℕ) (e : Session) (r : Refusal) → tests.Reads st s e key None → Delays st e key r → HindersInsert st s key r
+pub delayed-insert : (st : State) (s key : ℕ) (e : Session) (r : Refusal) → tests.ReadsPlace st s e key None → ConflictsWrite st e key r → RefusesInsertOfKey st s key r
 delayed-insert st s key e Conflict reads delays = record { session = e; reads = reads; delays = delays }
 delayed-insert st s key e (Busy o) reads delays = record { session = e; reads = reads; delays = delays }
 delayed-insert st s key e NotOpen reads delays = absurd delays
@@ -161,7 +161,7 @@ delayed-insert st s key e NoMemory reads delays = absurd delays
 delayed-insert st s key e NoSuchPage reads delays = absurd delays
 delayed-insert st s key e NoSuchSession reads delays = absurd delays
 
-pub delayed-change : (st : State) (s key : ℕ) (e : Session) (p : Tid) (r : Refusal) → tests.Reads st s e key (Some p) → Delays st e key r → HindersChange st s key r
+pub delayed-change : (st : State) (s key : ℕ) (e : Session) (p : Tid) (r : Refusal) → tests.ReadsPlace st s e key (Some p) → ConflictsWrite st e key r → RefusesChangeOfKey st s key r
 delayed-change st s key e p Conflict reads delays = (p, record { session = e; reads = reads; delays = delays })
 delayed-change st s key e p (Busy o) reads delays = (p, record { session = e; reads = reads; delays = delays })
 delayed-change st s key e p NotOpen reads delays = absurd delays

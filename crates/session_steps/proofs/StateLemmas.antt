@@ -8,9 +8,9 @@ use Rattle.commit_status.specs.declared.status.Status.TheVariants.{InProgress}
 use Rattle.commit_status.specs.Window.{Window, place}
 use Rattle.commit_status.proofs.Places.{place-lt, some-from_is}
 use Rattle.commit_status.specs.Changes.{Finishes}
-use Rattle.session_relation.proofs.Steps.{OnlyIs}
+use Rattle.refinement.proofs.Steps.{OnlyIs}
 use Rattle.session_steps.specs.declared.session.Session.{Session}
-use Rattle.session_steps.specs.State.{State, put_session, reader_of, seen, as_failed}
+use Rattle.session_steps.specs.State.{State, put_session, reader_of, seen, failed_session}
 use Rattle.session_steps.specs.Keeps.{open_at, EngineKeeps}
 use Rattle.session_steps.proofs.OwnIdsLemmas.{open-set_same, open-set_other, keep-open, keep-close, keep-idle, keep-same}
 
@@ -45,11 +45,11 @@ pub keeps-shut : (xs : List (Option Session)) (w : Window) (s : ℕ) → s < len
 keeps-shut xs w s within idle h = record { count = length-set xs s None ∙ h.count; own = keep-idle xs w s within idle h.own }
 
 -- a session that fails keeps its ids
-pub keeps-fail : (xs : List (Option Session)) (w : Window) (s : ℕ) (o : Option Session) → s < length xs → open_at xs s ≡ o → EngineKeeps xs w → EngineKeeps (set xs s (option_map as_failed o)) w
+pub keeps-fail : (xs : List (Option Session)) (w : Window) (s : ℕ) (o : Option Session) → s < length xs → open_at xs s ≡ o → EngineKeeps xs w → EngineKeeps (set xs s (option_map failed_session o)) w
 keeps-fail xs w s None within read h = keeps-shut xs w s within read h
 keeps-fail xs w s (Some e) within read h = record {
-  count = length-set xs s (Some (as_failed e)) ∙ h.count;
-  own = keep-same xs w s e (as_failed e) read refl h.own;
+  count = length-set xs s (Some (failed_session e)) ∙ h.count;
+  own = keep-same xs w s e (failed_session e) read refl h.own;
 }
 
 -- so does one of which nothing else changes

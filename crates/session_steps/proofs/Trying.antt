@@ -5,31 +5,31 @@ use Rattle.xid_circle.specs.declared.Tid.{Tid}
 use Rattle.tuple_header.specs.declared.version.Row.{Row}
 use Rattle.tuple_header.specs.Version.{rounded_size_of}
 use Rattle.commit_status.specs.Window.{Window, IsWindow, IsGiven, IsActive}
-use Rattle.snapshot.specs.Own.{level_id, AreFronts}
+use Rattle.snapshot.specs.Own.{current_xid, ArePrefixes}
 use Rattle.snapshot.proofs.Levels.{level-among}
 use Rattle.heap_write.specs.declared.heap.WriteFault.{WriteFault}
 use Rattle.heap_write.specs.declared.heap.WriteFault.TheVariants as fault
 use Rattle.heap_write.specs.Heap.{HeapView, SameIds, Keeps}
-use Rattle.heap_write.specs.Writes.{Readies}
+use Rattle.heap_write.specs.Writes.{PrunesIfFull}
 use Rattle.heap_write.specs.Refusals.{FailsUpdate, FailsDelete}
 use Rattle.session_steps.specs.declared.session.Session.{Session}
 use Rattle.session_steps.specs.State.{State, session_at, horizon_of}
 use Rattle.session_steps.specs.Keeps.{open_at, EngineKeeps}
-use Rattle.session_steps.specs.Tests.{MayWrite}
+use Rattle.session_steps.specs.Tests.{MayWriteKey}
 use Rattle.session_steps.specs.Writes.{TriesInsert, TriesUpdate, TriesDelete, OnOpen, reply_for}
 use Rattle.session_steps.specs.Exact.{Tried, InsertTried, UpdateTried, DeleteTried, ExactInsert, ExactUpdate, ExactDelete}
 use Rattle.session_steps.proofs.Giving.{keeps-wrote, keeps-kept}
 
 -- the id of a level, whose ids are in progress, is in the window
-pub newest-given : (w : Window) (ids : List ℕ) (saved : List (List ℕ)) → AreFronts ids saved → ((x : ℕ) → Contains ids x → IsActive w x)
-    → (x : ℕ) → level_id ids saved ≡ Some x → IsGiven w x
-newest-given w ids saved fronts active x is = (active x (level-among ids saved x fronts is)).is_given
+pub newest-given : (w : Window) (ids : List ℕ) (saved : List (List ℕ)) → ArePrefixes ids saved → ((x : ℕ) → Contains ids x → IsActive w x)
+    → (x : ℕ) → current_xid ids saved ≡ Some x → IsGiven w x
+newest-given w ids saved prefixes active x is = (active x (level-among ids saved x prefixes is)).is_given
 
 -- The engine keeps what its type keeps, whatever became of a write.
 
-ready-ids : (h ready h' : HeapView) (n horizon size : ℕ) → Readies h ready n horizon size → Keeps ready h' → SameIds h.table h'.table
-ready-ids h ready h' n horizon size (Readies.has_room room is) keeps = subst (λ (g : HeapView). SameIds g.table h'.table) is keeps.table
-ready-ids h ready h' n horizon size (Readies.is_pruned full grown grows prunes) keeps =
+ready-ids : (h ready h' : HeapView) (n horizon size : ℕ) → PrunesIfFull h ready n horizon size → Keeps ready h' → SameIds h.table h'.table
+ready-ids h ready h' n horizon size (PrunesIfFull.has_room room is) keeps = subst (λ (g : HeapView). SameIds g.table h'.table) is keeps.table
+ready-ids h ready h' n horizon size (PrunesIfFull.is_pruned full grown grows prunes) keeps =
     let table : ready.table ≡ grown.table = ap (λ (g : HeapView). g.table) prunes.is in
     let last : SameIds grown.table h'.table = subst (λ t. SameIds t h'.table) table keeps.table in
     record { first = last.first ∙ grows.table.first; stop_age = last.stop_age ∙ grows.table.stop_age; entries = last.entries ∙ grows.table.entries }
@@ -95,11 +95,11 @@ tried-of st h s e now tries at tried =
     let t = subst (λ o. OnOpen o now (λ e e'. tries st.heap h e e')) at tried in
     record { now = t.0; is = ap (with_session st h s) t.1; tried = t.2 }
 
-pub insert-tried : (st : State) (h : HeapView) (s : ℕ) (now : Option Session) (row : Row) (r : Result (Unit {0}) WriteFault) → MayWrite st s row.key None
+pub insert-tried : (st : State) (h : HeapView) (s : ℕ) (now : Option Session) (row : Row) (r : Result (Unit {0}) WriteFault) → MayWriteKey st s row.key None
     → OnOpen (session_at st s) now (λ e e'. TriesInsert st.heap h e e' row r) → InsertTried st (with_session st h s now) s row r
 insert-tried st h s now row r may tried = record { may = may; tried = tried-of st h s may.session now (λ h h' e e'. TriesInsert h h' e e' row r) may.reads.at tried }
 
-pub update-tried : (st : State) (h : HeapView) (s : ℕ) (now : Option Session) (place : Tid) (row : Row) (horizon : ℕ) (r : Result (Unit {0}) WriteFault) → MayWrite st s row.key (Some place)
+pub update-tried : (st : State) (h : HeapView) (s : ℕ) (now : Option Session) (place : Tid) (row : Row) (horizon : ℕ) (r : Result (Unit {0}) WriteFault) → MayWriteKey st s row.key (Some place)
     → horizon ≡ horizon_of st → OnOpen (session_at st s) now (λ e e'. TriesUpdate st.heap h e e' place row horizon r) → UpdateTried st (with_session st h s now) s row r
 update-tried st h s now place row horizon r may is tried = record {
   place = place;
@@ -108,7 +108,7 @@ update-tried st h s now place row horizon r may is tried = record {
       (subst (λ x. OnOpen (session_at st s) now (λ e e'. TriesUpdate st.heap h e e' place row x r)) is tried);
 }
 
-pub delete-tried : (st : State) (h : HeapView) (s key : ℕ) (now : Option Session) (place : Tid) (r : Result (Unit {0}) WriteFault) → MayWrite st s key (Some place)
+pub delete-tried : (st : State) (h : HeapView) (s key : ℕ) (now : Option Session) (place : Tid) (r : Result (Unit {0}) WriteFault) → MayWriteKey st s key (Some place)
     → OnOpen (session_at st s) now (λ e e'. TriesDelete st.heap h e e' place r) → DeleteTried st (with_session st h s now) s key r
 delete-tried st h s key now place r may tried =
     record { place = place; may = may; tried = tried-of st h s may.session now (λ h h' e e'. TriesDelete h h' e e' place r) may.reads.at tried }

@@ -8,26 +8,26 @@ use Rattle.tuple_header.specs.declared.version.Row.{Row}
 use Rattle.tuple_header.specs.Version.{Version}
 use Rattle.visibility.specs.Visible as visibility
 use Rattle.root_index.specs.declared.entry.Entry.{Entry}
-use Rattle.sound_entries.specs.Entries.{IsSound}
+use Rattle.sound_entries.specs.Entries.{EntriesAreSound}
 use Rattle.sound_entries.specs.Looking.{FirstFound}
 use Rattle.sound_entries.proofs.Leads.{visible-found}
 use Rattle.sound_entries.proofs.Fetching.{found-on_heap}
-use Rattle.heap_write.specs.declared.walking.Mark.{Mark}
-use Rattle.heap_write.specs.declared.walking.Span.{Span}
+use Rattle.heap_write.specs.declared.index_scan.IndexPosition.{IndexPosition}
+use Rattle.heap_write.specs.declared.index_scan.IndexRange.{IndexRange}
 use Rattle.heap_write.specs.Heap.{slots_of}
 use Rattle.heap_write.specs.Indexes.{entries_in, IsInUse}
 use Rattle.heap_write.specs.Walking.{LiesIn, ComesAfter, IsNextRow, NoneLeft}
 use Rattle.heap_write.specs.Walking as walking
-use Rattle.sound_writes.proofs.InUse.{index-sound}
+use Rattle.table_integrity.proofs.InUse.{index-sound}
 use Rattle.history.specs.Cursors.{value_in, ComesBefore}
 use Rattle.history.specs.World.{World}
-use Rattle.session_relation.specs.Heap.{in_index}
-use Rattle.session_relation.specs.Heap as relation
-use Rattle.session_relation.specs.Visible.{At}
-use Rattle.session_relation.specs.Cursors.{IsAfter, IsAhead, Comes}
-use Rattle.session_relation.specs.Cursors as cursors
+use Rattle.refinement.specs.Heap.{in_index}
+use Rattle.refinement.specs.Heap as relation
+use Rattle.refinement.specs.Visible.{At}
+use Rattle.refinement.specs.Cursors.{IsPastPosition, IsAhead, Comes}
+use Rattle.refinement.specs.Cursors as cursors
 use Rattle.session_steps.specs.declared.session.Session.{Session}
-use Rattle.session_steps.specs.State.{State, session_at, seen, mark_of, horizon_of}
+use Rattle.session_steps.specs.State.{State, session_at, seen, seen_position, horizon_of}
 use Rattle.session_steps.specs.Agrees.{Agrees}
 use Rattle.session_steps.specs.Takes.{seen_by}
 use Rattle.session_steps.proofs.Searches.{own-active}
@@ -35,28 +35,28 @@ use Rattle.session_steps.proofs.Searches.{own-active}
 -- Places in the order of an index.
 
 -- an entry's, and that of a row of its value and key
-after-entry : (index : ℕ) (row : Row) (e : Entry) (last : Option Mark) → value_in index row ≡ e.value → row.key ≡ e.key → ComesAfter e last → IsAfter index (mark_of last) row
+after-entry : (index : ℕ) (row : Row) (e : Entry) (last : Option IndexPosition) → value_in index row ≡ e.value → row.key ≡ e.key → ComesAfter e last → IsPastPosition index (seen_position last) row
 after-entry index row e None value key after = tt
 after-entry index row e (Some m) value key after = elim after [
   | inl above ↦ inl (subst (λ v. m.value <ℤ v) (sym value) above)
   | inr level ↦ inr (level.0 ∙ sym value, subst (λ k. m.key < k) (sym key) level.1)
 ]
 
-entry-after : (index : ℕ) (row : Row) (e : Entry) (last : Option Mark) → value_in index row ≡ e.value → row.key ≡ e.key → IsAfter index (mark_of last) row → ComesAfter e last
+entry-after : (index : ℕ) (row : Row) (e : Entry) (last : Option IndexPosition) → value_in index row ≡ e.value → row.key ≡ e.key → IsPastPosition index (seen_position last) row → ComesAfter e last
 entry-after index row e None value key after = tt
 entry-after index row e (Some m) value key after = elim after [
   | inl above ↦ inl (subst (λ v. m.value <ℤ v) value above)
   | inr level ↦ inr (level.0 ∙ value, subst (λ k. m.key < k) key level.1)
 ]
 
-ahead-entry : (span : Span) (row : Row) (e : Entry) → value_in span.index row ≡ e.value → row.key ≡ e.key → LiesIn span e → IsAhead span.index span.low span.high (mark_of span.last) row
+ahead-entry : (span : IndexRange) (row : Row) (e : Entry) → value_in span.index row ≡ e.value → row.key ≡ e.key → LiesIn span e → IsAhead span.index span.low span.high (seen_position span.last) row
 ahead-entry span row e value key lies = record {
   from = subst (λ v. span.low ≤ℤ v) (sym value) lies.from;
   to = subst (λ v. v ≤ℤ span.high) (sym value) lies.to;
   after = after-entry span.index row e span.last value key lies.after;
 }
 
-entry-ahead : (span : Span) (row : Row) (e : Entry) → value_in span.index row ≡ e.value → row.key ≡ e.key → IsAhead span.index span.low span.high (mark_of span.last) row → LiesIn span e
+entry-ahead : (span : IndexRange) (row : Row) (e : Entry) → value_in span.index row ≡ e.value → row.key ≡ e.key → IsAhead span.index span.low span.high (seen_position span.last) row → LiesIn span e
 entry-ahead span row e value key ahead = record {
   from = subst (λ v. span.low ≤ℤ v) value ahead.from;
   to = subst (λ v. v ≤ℤ span.high) value ahead.to;
@@ -64,10 +64,10 @@ entry-ahead span row e value key ahead = record {
 }
 
 -- the mark of a row of this value and key
-pub mark-is : (index : ℕ) (row : Row) (m : Mark) → value_in index row ≡ m.value → row.key ≡ m.key → Some (cursors.mark_of index row) ≡ mark_of (Some m)
+pub mark-is : (index : ℕ) (row : Row) (m : IndexPosition) → value_in index row ≡ m.value → row.key ≡ m.key → Some (cursors.index_position_of index row) ≡ seen_position (Some m)
 mark-is index row m value key = by (value_in index row) m.value row.key m.key value key
   where
-    mark : ℤ → ℕ → relation.Mark
+    mark : ℤ → ℕ → relation.RowPosition
     mark v k = record { value = v; key = k }
 
     by : (v v' : ℤ) (k k' : ℕ) → v ≡ v' → k ≡ k' → Some (mark v k) ≡ Some (mark v' k')
@@ -81,8 +81,8 @@ same-value : (x y : ℤ) → x ≤ℤ y → y ≤ℤ x → x ≡ y
 same-value x y a b = grind (arith, ints)
 
 -- a row whose entry does not come before the mark, and that has another key than the row there, comes after that row
-comes-after : (index : ℕ) (row other : Row) (e : Entry) (m : Mark) → value_in index row ≡ m.value → row.key ≡ m.key → value_in index other ≡ e.value → other.key ≡ e.key
-    → other.key ≢ row.key → ¬ walking.ComesBefore e m → ComesBefore index row other
+comes-after : (index : ℕ) (row other : Row) (e : Entry) (m : IndexPosition) → value_in index row ≡ m.value → row.key ≡ m.key → value_in index other ≡ e.value → other.key ≡ e.key
+    → other.key ≢ row.key → ¬ walking.IsBeforePosition e m → ComesBefore index row other
 comes-after index row other e m value key value' key' ne isnt = by_lt_z m.value e.value
     (λ above. inl (subst (λ v. value_in index row <ℤ v) (sym value') (subst (λ v. v <ℤ e.value) (sym value) above)))
     (λ le. by_lt_z e.value m.value
@@ -97,11 +97,11 @@ abbrev pub FindsBy : State → Session → ℕ → ℤ → ℕ → Option Row �
 FindsBy st e index value key found =
     FirstFound st.heap.table (visibility.IsVisible st.heap.table e.snapshot e.own.ids) (slots_of st.heap) (entries_in st.heap.indexes index) value key found
 
-abbrev pub IsNextFor : State → Session → Span → Mark → Row → Type 0
+abbrev pub IsNextFor : State → Session → IndexRange → IndexPosition → Row → Type 0
 IsNextFor st e span mark row =
     IsNextRow st.heap.table (visibility.IsVisible st.heap.table e.snapshot e.own.ids) (slots_of st.heap) (entries_in st.heap.indexes span.index) span mark row
 
-abbrev pub NoneIsLeft : State → Session → Span → Type 0
+abbrev pub NoneIsLeft : State → Session → IndexRange → Type 0
 NoneIsLeft st e span = NoneLeft st.heap.table (visibility.IsVisible st.heap.table e.snapshot e.own.ids) (slots_of st.heap) (entries_in st.heap.indexes span.index) span
 
 -- a version of the row is seen, and it has this value and key
@@ -122,7 +122,7 @@ record HasEntry (st : State) (index : ℕ) (row : Row) : Type 0 where
   pub key : row.key ≡ entry.key
 
 module _ (st : State) (w : World) (s : ℕ) (e : Session) (agrees : Agrees st w) (at : session_at st s ≡ Some e) (index : ℕ) (used : IsInUse st.heap.indexes index) where
-  sound-in : IsSound (value_in index) st.heap.table (horizon_of st) (slots_of st.heap) (entries_in st.heap.indexes index)
+  sound-in : EntriesAreSound (value_in index) st.heap.table (horizon_of st) (slots_of st.heap) (entries_in st.heap.indexes index)
   sound-in = index-sound st.heap (horizon_of st) agrees.sound.table index used
 
   row-shown : (value : ℤ) (key : ℕ) (row : Row) → FindsBy st e index value key (Some row) → ShowsRow st e index value key row
@@ -154,9 +154,9 @@ module _ (st : State) (w : World) (s : ℕ) (e : Session) (agrees : Agrees st w)
       (record { there = here; of_value = refl; of_key = refl; has = shown }) in
       record { entry = i.entry; there = i.leads.there; value = sym i.of.0; key = sym i.of.1 }
 
-module _ (st : State) (w : World) (s : ℕ) (e : Session) (agrees : Agrees st w) (at : session_at st s ≡ Some e) (span : Span) (used : IsInUse st.heap.indexes span.index) where
+module _ (st : State) (w : World) (s : ℕ) (e : Session) (agrees : Agrees st w) (at : session_at st s ≡ Some e) (span : IndexRange) (used : IsInUse st.heap.indexes span.index) where
   -- a row that comes has an entry in the span, by whose value and key it is found
-  come-by : (row : Row) → Comes (seen st).version (seen_by st e) (in_index span.index span.low span.high (mark_of span.last)) row
+  come-by : (row : Row) → Comes (seen st).version (seen_by st e) (in_index span.index span.low span.high (seen_position span.last)) row
       → (h : HasEntry st span.index row) × LiesIn span h.entry × ShowsRow st e span.index h.entry.value h.entry.key row
   come-by row c =
       let h = subst (HasEntry st span.index) c.same_row (has-entry st w s e agrees at span.index used c.place c.version c.here c.shown) in (
@@ -166,7 +166,7 @@ module _ (st : State) (w : World) (s : ℕ) (e : Session) (agrees : Agrees st w)
       )
 
   -- the next row
-  pub next-comes : (mark : Mark) (row : Row) → IsNextFor st e span mark row → Comes (seen st).version (seen_by st e) (in_index span.index span.low span.high (mark_of span.last)) row
+  pub next-comes : (mark : IndexPosition) (row : Row) → IsNextFor st e span mark row → Comes (seen st).version (seen_by st e) (in_index span.index span.low span.high (seen_position span.last)) row
   next-comes mark row next =
       let h = row-shown st w s e agrees at span.index used mark.value mark.key row next.found in
       record {
@@ -178,12 +178,12 @@ module _ (st : State) (w : World) (s : ℕ) (e : Session) (agrees : Agrees st w)
         to_come = ahead-entry span row next.entry (h.of_value ∙ next.value) (h.of_key ∙ next.key) next.lies;
       }
 
-  pub next-mark : (mark : Mark) (row : Row) → IsNextFor st e span mark row → Some (cursors.mark_of span.index row) ≡ mark_of (Some mark)
+  pub next-mark : (mark : IndexPosition) (row : Row) → IsNextFor st e span mark row → Some (cursors.index_position_of span.index row) ≡ seen_position (Some mark)
   next-mark mark row next = let h = row-shown st w s e agrees at span.index used mark.value mark.key row next.found in mark-is span.index row mark h.of_value h.of_key
 
   -- all others that come are after it
-  pub next-first : (mark : Mark) (row : Row) → IsNextFor st e span mark row
-      → (other : Row) → Comes (seen st).version (seen_by st e) (in_index span.index span.low span.high (mark_of span.last)) other → other.key ≢ row.key → ComesBefore span.index row other
+  pub next-first : (mark : IndexPosition) (row : Row) → IsNextFor st e span mark row
+      → (other : Row) → Comes (seen st).version (seen_by st e) (in_index span.index span.low span.high (seen_position span.last)) other → other.key ≢ row.key → ComesBefore span.index row other
   next-first mark row next other comes ne =
       let h = row-shown st w s e agrees at span.index used mark.value mark.key row next.found in
       let c = come-by other comes in
@@ -192,7 +192,7 @@ module _ (st : State) (w : World) (s : ℕ) (e : Session) (agrees : Agrees st w)
       (λ before. none-shown st w s e agrees at span.index used entry.entry.value entry.entry.key other (next.none_before entry.entry entry.there c.1 before) c.2)
 
   -- none is left
-  pub none-comes : NoneIsLeft st e span → (row : Row) → ¬ Comes (seen st).version (seen_by st e) (in_index span.index span.low span.high (mark_of span.last)) row
+  pub none-comes : NoneIsLeft st e span → (row : Row) → ¬ Comes (seen st).version (seen_by st e) (in_index span.index span.low span.high (seen_position span.last)) row
   none-comes none row comes =
       let c = come-by row comes in
       none-shown st w s e agrees at span.index used c.0.entry.value c.0.entry.key row (none c.0.entry c.0.there c.1) c.2

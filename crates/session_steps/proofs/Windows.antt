@@ -23,9 +23,9 @@ use Rattle.visibility.specs.Visible.{state_of}
 use Rattle.visibility.proofs.Makers.{state-some, state-is, active-from}
 use Rattle.heap_write.specs.Writes.{GivesUnder}
 use Rattle.heap_write.proofs.GivenIds.{given-window, given-first, given-upto, given-top_old, next-turn}
-use Rattle.visibility.specs.Seeing.{IsCommitted, IsActive}
-use Rattle.session_relation.specs.Changes.{Gives, GivesEach, Finishes, SameSight}
-use Rattle.session_relation.proofs.Steps.{cases_Contains}
+use Rattle.visibility.specs.Seeing.{HasCommitted, IsRunning}
+use Rattle.refinement.specs.Changes.{GivesNext, GivesEach, FinishesIds, SameSight}
+use Rattle.refinement.proofs.Steps.{cases_Contains}
 
 -- an id is given
 
@@ -39,7 +39,7 @@ place-others w v parent x is gives ne = same-option (place w x) (place v x)
     (λ i at. gives-place_old w v parent x i gives at)
     (λ i at. elim (gives-place_cases w v parent x i is gives at) [ inl old ↦ old | inr now ↦ absurd (ne now.0) ])
 
-Gives-from : (w v : Window) (parent : Option ℕ) → IsWindow w → IsWindow v → change.Gives w v parent → Gives (state_of w) (state_of v) (next_id w)
+Gives-from : (w v : Window) (parent : Option ℕ) → IsWindow w → IsWindow v → change.Gives w v parent → GivesNext (state_of w) (state_of v) (next_id w)
 Gives-from w v parent is is' gives = record {
   fresh = ap (λ o. option_map (λ _. status_of w (next_id w)) o) (next-none w is);
   active = active-from v (next_id w) (gives-active_next w v parent is' gives);
@@ -52,7 +52,7 @@ GivesEach-from [] w v parent gives is = ap state_of gives
 GivesEach-from (x ∷ xs) w v parent gives is =
     let between = given-window xs gives.0 v (Some x) gives.3 is in (
       state_of gives.0,
-      subst (λ y. Gives (state_of w) (state_of gives.0) y) (sym gives.1) (Gives-from w gives.0 parent (given-window (x ∷ xs) w v parent gives is) between gives.2),
+      subst (λ y. GivesNext (state_of w) (state_of gives.0) y) (sym gives.1) (Gives-from w gives.0 parent (given-window (x ∷ xs) w v parent gives is) between gives.2),
       GivesEach-from xs gives.0 v (Some x) gives.3 is,
     )
 
@@ -105,7 +105,7 @@ SameSight-given s xs w v parent gives is x status at =
 -- ids are finished
 
 pub Finishes-from : (w v : Window) (ids : List ℕ) (end : Status) → ((x : ℕ) → Contains ids x → window.IsActive w x) → change.Finishes w v ids end
-    → Finishes (state_of w) (state_of v) (λ x. Contains ids x) end
+    → FinishesIds (state_of w) (state_of v) (λ x. Contains ids x) end
 Finishes-from w v ids end active f = record {
   active = λ x mine. active-from w x (active x mine);
   each = λ x. elim (f.each x) [

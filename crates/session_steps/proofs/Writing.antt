@@ -12,33 +12,33 @@ use Rattle.sound_entries.specs.Pages.{version_in}
 use Rattle.heap_write.specs.declared.heap.WriteFault.{WriteFault}
 use Rattle.heap_write.specs.declared.heap.WriteFault.TheVariants as fault
 use Rattle.heap_write.specs.Heap.{HeapView, SameIds, Keeps, slots_of}
-use Rattle.heap_write.specs.Writes.{TakesIds, Readies, Inserts, Updates, Deletes}
-use Rattle.heap_write.specs.Refusals.{LacksForInsert, FailsUpdate, FailsDelete, IsThere}
-use Rattle.sound_writes.proofs.Standing.{readies-stand, version-on, root-new, root_version, free_place, taken_version, inserts-stand, deletes-stand, updates-ready, updates-stand}
-use Rattle.sound_writes.proofs.Keeping.{kept-stays, readied-stays, ready-come, given-stays}
-use Rattle.sound_writes.proofs.InUse.{stays-then}
-use Rattle.sound_writes.proofs.Writing.{inserted-stays, updated-stays, deleted-stays}
+use Rattle.heap_write.specs.Writes.{TakesIds, PrunesIfFull, Inserts, Updates, Deletes}
+use Rattle.heap_write.specs.Refusals.{LacksForInsert, FailsUpdate, FailsDelete, VersionIsThere}
+use Rattle.table_integrity.proofs.Standing.{readies-stand, version-on, root-new, root_version, free_place, taken_version, inserts-stand, deletes-stand, updates-ready, updates-stand}
+use Rattle.table_integrity.proofs.Keeping.{kept-stays, readied-stays, ready-come, given-stays}
+use Rattle.table_integrity.proofs.InUse.{stays-then}
+use Rattle.table_integrity.proofs.Writing.{inserted-stays, updated-stays, deleted-stays}
 use Rattle.history.specs.World.{World}
-use Rattle.session_relation.specs.declared.step.Step.TheVariants.{Insert, Update, Delete}
-use Rattle.session_relation.specs.declared.reply.Reply.TheVariants.{Done, Refused}
-use Rattle.session_relation.specs.declared.reply.Refusal.TheVariants.{NoRoom, NeedsFreeze, NoMemory}
-use Rattle.session_relation.specs.Words.{RowText, FitsRow, row_of}
-use Rattle.session_relation.specs.Writes.{inserts, updates, deletes}
-use Rattle.session_relation.specs.Allowed.{Allows, next}
-use Rattle.session_relation.specs.Visible.{IsVisible}
-use Rattle.session_relation.specs.Agrees as theory
-use Rattle.session_relation.specs.Heap as relation
-use Rattle.session_relation.specs.Finds.{Free}
-use Rattle.session_relation.proofs.Follows as follows
-use Rattle.session_relation.proofs.Hindrances as hindrances
-use Rattle.session_relation.proofs.Targets as targets
-use Rattle.session_relation.proofs.GivenBelow.{visible_given_each}
-use Rattle.session_relation.proofs.FollowsWrites.{insert_done, update_done, delete_done}
+use Rattle.refinement.specs.declared.step.Step.TheVariants.{Insert, Update, Delete}
+use Rattle.refinement.specs.declared.reply.Reply.TheVariants.{Done, Refused}
+use Rattle.refinement.specs.declared.reply.Refusal.TheVariants.{NoRoom, NeedsFreeze, NoMemory}
+use Rattle.refinement.specs.Words.{RowText, FitsRow, row_of}
+use Rattle.refinement.specs.Writes.{inserts, updates, deletes}
+use Rattle.refinement.specs.Allowed.{Allows, next}
+use Rattle.refinement.specs.Visible.{ReaderSees}
+use Rattle.refinement.specs.Agrees as theory
+use Rattle.refinement.specs.Heap as relation
+use Rattle.refinement.specs.Finds.{Free}
+use Rattle.refinement.proofs.Follows as follows
+use Rattle.refinement.proofs.Hindrances as hindrances
+use Rattle.refinement.proofs.Targets as targets
+use Rattle.refinement.proofs.GivenBelow.{visible_given_each}
+use Rattle.refinement.proofs.FollowsWrites.{insert_done, update_done, delete_done}
 use Rattle.session_steps.specs.declared.session.Session.{Session}
 use Rattle.visibility.specs.Visible.{state_of}
 use Rattle.session_steps.specs.State.{State, session_at, seen, seen_in, reader_of, horizon_of}
-use Rattle.session_steps.specs.Agrees.{Agrees, Follows, StaysLed}
-use Rattle.session_steps.specs.Tests.{MayWrite}
+use Rattle.session_steps.specs.Agrees.{Agrees, Follows, KeepsAllTargets}
+use Rattle.session_steps.specs.Tests.{MayWriteKey}
 use Rattle.session_steps.specs.Writes.{SameSession, TriesInsert, TriesUpdate, TriesDelete, reply_for}
 use Rattle.session_steps.specs.Exact.{InsertTried, UpdateTried, DeleteTried}
 use Rattle.session_steps.specs.Follows.{FollowsInsert, FollowsUpdate}
@@ -51,10 +51,10 @@ use Rattle.session_steps.proofs.Placing.{adds-from, alters-from, is-new, is-dele
 
 -- What the tests have found.
 
-pub free-none : (st : State) (w : World) (s key : ℕ) (may : MayWrite st s key None) → Agrees st w → Free (seen st) s (reader_of may.session) key None
+pub free-none : (st : State) (w : World) (s key : ℕ) (may : MayWriteKey st s key None) → Agrees st w → Free (seen st) s (reader_of may.session) key None
 free-none st w s key may agrees = free-with st w s may.session key None agrees (begins-none st w s may.session key agrees may.reads) may.free
 
-pub free-some : (st : State) (w : World) (s key : ℕ) (p : Tid) (t : Version) (may : MayWrite st s key (Some p)) → Agrees st w → IsTarget st may.session key p t
+pub free-some : (st : State) (w : World) (s key : ℕ) (p : Tid) (t : Version) (may : MayWriteKey st s key (Some p)) → Agrees st w → IsTarget st may.session key p t
     → Free (seen st) s (reader_of may.session) key (Some t.row)
 free-some st w s key p t may agrees target = free-with st w s may.session key (Some t.row) agrees (begins-some st s may.session key p t may.reads target) may.free
 
@@ -67,19 +67,19 @@ now-active st w s e own x at agrees {v} takes window =
 -- All is as it was.
 
 module _ (st : State) (w : World) (s : ℕ) (e e' : Session) (at : session_at st s ≡ Some e) (agrees : Agrees st w) (same : SameSession e e') where
-  kept : (h : HeapView) (w' : World) → Keeps st.heap h → w'.has_index ≡ w.has_index → theory.Agrees (seen st) w' → Agrees (with_write st h s e') w' × StaysLed st (with_write st h s e')
+  kept : (h : HeapView) (w' : World) → Keeps st.heap h → w'.has_index ≡ w.has_index → theory.HeapAgrees (seen st) w' → Agrees (with_write st h s e') w' × KeepsAllTargets st (with_write st h s e')
   kept h w' keeps had found =
       let stays = kept-stays st.heap h (horizon_of st) agrees.sound.table keeps in (
         agree agrees refl had
-            (subst (λ slots. theory.Agrees (seen_in slots h.table (set st.sessions s (Some e'))) w') (sym keeps.slots)
+            (subst (λ slots. theory.HeapAgrees (seen_in slots h.table (set st.sessions s (Some e'))) w') (sym keeps.slots)
             (found-kept (slots_of st.heap) st.heap.table h.table st.sessions s e e' w' at same keeps.table found))
             (Sound-kept st w h s e e' at agrees same keeps.table keeps.max_pages stays),
         stays.led,
       )
 
   -- or the page of the old version was pruned
-  readied : (ready h : HeapView) (n size : ℕ) (w' : World) → Readies st.heap ready n (horizon_of st) size → Keeps ready h → w'.has_index ≡ w.has_index → theory.Agrees (seen st) w'
-      → Agrees (with_write st h s e') w' × StaysLed st (with_write st h s e')
+  readied : (ready h : HeapView) (n size : ℕ) (w' : World) → PrunesIfFull st.heap ready n (horizon_of st) size → Keeps ready h → w'.has_index ≡ w.has_index → theory.HeapAgrees (seen st) w'
+      → Agrees (with_write st h s e') w' × KeepsAllTargets st (with_write st h s e')
   readied ready h n size w' readies keeps had found =
       let first = readied-stays st.heap ready n (horizon_of st) size agrees.sound.table readies in
       let second = kept-stays ready h (horizon_of st) first.sound keeps in
@@ -87,7 +87,7 @@ module _ (st : State) (w : World) (s : ℕ) (e e' : Session) (at : session_at st
       let ids = same-then st.heap.table ready.table h.table (ready-ids readies) keeps.table in
       let pruned = (follows.Follows-prune (seen st) 0 (version_in (slots_of ready)) (removes-past st w (version_in (slots_of ready)) n agrees (readies-stand st.heap ready n (horizon_of st) size readies)) w' found).1 in (
         agree agrees refl had
-            (subst (λ slots. theory.Agrees (seen_in slots h.table (set st.sessions s (Some e'))) w') (sym keeps.slots)
+            (subst (λ slots. theory.HeapAgrees (seen_in slots h.table (set st.sessions s (Some e'))) w') (sym keeps.slots)
             (found-kept (slots_of ready) st.heap.table h.table st.sessions s e e' w' at same ids pruned))
             (Sound-kept st w h s e e' at agrees same ids (keeps.max_pages ∙ ready-limit readies) stays),
         stays.led,
@@ -96,13 +96,13 @@ module _ (st : State) (w : World) (s : ℕ) (e e' : Session) (at : session_at st
       same-then : (a b c : Window) → SameIds a b → SameIds b c → SameIds a c
       same-then a b c f g = record { first = g.first ∙ f.first; stop_age = g.stop_age ∙ f.stop_age; entries = g.entries ∙ f.entries }
 
-      ready-ids : Readies st.heap ready n (horizon_of st) size → SameIds st.heap.table ready.table
-      ready-ids (Readies.has_room room is) = rw is (record { first = refl; stop_age = refl; entries = refl })
-      ready-ids (Readies.is_pruned full grown keeps prunes) = rw prunes.is keeps.table
+      ready-ids : PrunesIfFull st.heap ready n (horizon_of st) size → SameIds st.heap.table ready.table
+      ready-ids (PrunesIfFull.has_room room is) = rw is (record { first = refl; stop_age = refl; entries = refl })
+      ready-ids (PrunesIfFull.is_pruned full grown keeps prunes) = rw prunes.is keeps.table
 
-      ready-limit : Readies st.heap ready n (horizon_of st) size → ready.max_pages ≡ st.heap.max_pages
-      ready-limit (Readies.has_room room is) = ap (λ (g : HeapView). g.max_pages) is
-      ready-limit (Readies.is_pruned full grown keeps prunes) = ap (λ (g : HeapView). g.max_pages) prunes.is ∙ keeps.max_pages
+      ready-limit : PrunesIfFull st.heap ready n (horizon_of st) size → ready.max_pages ≡ st.heap.max_pages
+      ready-limit (PrunesIfFull.has_room room is) = ap (λ (g : HeapView). g.max_pages) is
+      ready-limit (PrunesIfFull.is_pruned full grown keeps prunes) = ap (λ (g : HeapView). g.max_pages) prunes.is ∙ keeps.max_pages
 
 -- Inserts.
 
@@ -112,7 +112,7 @@ by-key row text same = ap (λ (r : Row). r.key) same
 
 module _ (st : State) (w : World) (s : ℕ) (text : RowText) (e : Session) (free : Free (seen st) s (reader_of e) text.key None) (fits : FitsRow text) (at : session_at st s ≡ Some e) (agrees : Agrees st w) where
   inserted : (h : HeapView) (own : Own) (x : ℕ) → Inserts st.heap h e.own own (row_of text) x → IsWindow h.table
-      → Allows w (Insert s text) Done × Agrees (with_write st h s (with_own e own)) (next w (Insert s text) Done) × StaysLed st (with_write st h s (with_own e own))
+      → Allows w (Insert s text) Done × Agrees (with_write st h s (with_own e own)) (next w (Insert s text) Done) × KeepsAllTargets st (with_write st h s (with_own e own))
   inserted h own x i window =
       let row = row_of text in
       let e' = with_own e own in
@@ -125,22 +125,22 @@ module _ (st : State) (w : World) (s : ℕ) (text : RowText) (e : Session) (free
       (done.0, agree agrees refl refl done.1 (Sound-given st w h s e e' at agrees own x i.takes_ids refl window i.max_pages stays), stays.led)
 
   insert-fails : (h : HeapView) (e' : Session) (f : WriteFault) → SameSession e e' → LacksForInsert st.heap e.own (row_of text) f → Keeps st.heap h
-      → Allows w (Insert s text) (reply_for (Err f)) × Agrees (with_write st h s e') (next w (Insert s text) (reply_for (Err f))) × StaysLed st (with_write st h s e')
-  insert-fails h e' fault.NeedsFreeze same lacks keeps =
+      → Allows w (Insert s text) (reply_for (Err f)) × Agrees (with_write st h s e') (next w (Insert s text) (reply_for (Err f))) × KeepsAllTargets st (with_write st h s e')
+  insert-fails h e' fault.NeedsFreeze same unassigned_levels keeps =
       let f = hindrances.Follows-needs_freeze (seen st) s (reader_of e) (inserts text) None free (fits, refl) w agrees.found in
       let k = kept st w s e e' at agrees same h (next w (Insert s text) (Refused NeedsFreeze)) keeps refl f.1 in (f.0, k.0, k.1)
-  insert-fails h e' fault.NoRoom same lacks keeps =
+  insert-fails h e' fault.NoRoom same unassigned_levels keeps =
       let f = hindrances.Follows-no_room (seen st) s (reader_of e) (inserts text) None free (fits, refl) tt w agrees.found in
       let k = kept st w s e e' at agrees same h (next w (Insert s text) (Refused NoRoom)) keeps refl f.1 in (f.0, k.0, k.1)
-  insert-fails h e' fault.NoMemory same lacks keeps =
+  insert-fails h e' fault.NoMemory same unassigned_levels keeps =
       let f = hindrances.Follows-no_memory (seen st) s (reader_of e) (inserts text) None free (fits, refl) w agrees.found in
       let k = kept st w s e e' at agrees same h (next w (Insert s text) (Refused NoMemory)) keeps refl f.1 in (f.0, k.0, k.1)
-  insert-fails h e' fault.Gone same lacks keeps = absurd lacks
+  insert-fails h e' fault.Gone same unassigned_levels keeps = absurd unassigned_levels
 
   insert-tried : (h : HeapView) (e' : Session) (r : Result (Unit {0}) WriteFault) → TriesInsert st.heap h e e' (row_of text) r → IsWindow h.table
-      → Allows w (Insert s text) (reply_for r) × Agrees (with_write st h s e') (next w (Insert s text) (reply_for r)) × StaysLed st (with_write st h s e')
+      → Allows w (Insert s text) (reply_for r) × Agrees (with_write st h s e') (next w (Insert s text) (reply_for r)) × KeepsAllTargets st (with_write st h s e')
   insert-tried h e' (Ok u) tried window =
-      subst (λ (f : Session). Allows w (Insert s text) Done × Agrees (with_write st h s f) (next w (Insert s text) Done) × StaysLed st (with_write st h s f)) (sym tried.is)
+      subst (λ (f : Session). Allows w (Insert s text) Done × Agrees (with_write st h s f) (next w (Insert s text) Done) × KeepsAllTargets st (with_write st h s f)) (sym tried.is)
       (inserted h e'.own tried.x tried.change window)
   insert-tried h e' (Err f) tried window = insert-fails h e' f tried.same tried.fault.0 tried.fault.1
 
@@ -149,7 +149,7 @@ Follows-inserted st st' s row r tried window text fits same w agrees =
     let may = tried.may in
     let key = by-key row text same in
     let free = subst (λ k. Free (seen st) s (reader_of may.session) k None) key (free-none st w s row.key may agrees) in
-    subst (λ new. Allows w (Insert s text) (reply_for r) × Agrees new (next w (Insert s text) (reply_for r)) × StaysLed st new) (sym tried.tried.is)
+    subst (λ new. Allows w (Insert s text) (reply_for r) × Agrees new (next w (Insert s text) (reply_for r)) × KeepsAllTargets st new) (sym tried.tried.is)
     (insert-tried st w s text may.session free fits may.reads.at agrees st'.heap tried.tried.now r
     (subst (λ row. TriesInsert st.heap st'.heap may.session tried.tried.now row r) same tried.tried.tried) window)
 
@@ -157,17 +157,17 @@ Follows-inserted st st' s row r tried window text fits same w agrees =
 
 module _ (st : State) (w : World) (s : ℕ) (key : ℕ) (e : Session) (place : Tid) (t : Version) (target : IsTarget st e key place t) (at : session_at st s ≡ Some e) (agrees : Agrees st w) where
   -- it still sees it when it writes
-  seen-now : (v : Window) (own : Own) (x : ℕ) → TakesIds st.heap.table v e.own own x → IsWindow v → IsVisible (state_of v) (λ y. Sees e.snapshot v y) own.ids t
+  seen-now : (v : Window) (own : Own) (x : ℕ) → TakesIds st.heap.table v e.own own x → IsWindow v → ReaderSees (state_of v) (λ y. Sees e.snapshot v y) own.ids t
   seen-now v own x takes window =
-      subst (λ (r : relation.Session). IsVisible (state_of v) (λ y. Sees r.snapshot v y) r.own t) (sym (reader-taken st w v s e own x at takes window agrees))
+      subst (λ (r : relation.SeenSession). ReaderSees (state_of v) (λ y. Sees r.snapshot v y) r.own t) (sym (reader-taken st w v s e own x at takes window agrees))
       (visible_given_each takes.given (seen st) w s (reader_of e) place t (state_of v) (λ sn y. Sees sn v y) (reader-is st s e at) (gives-each st w v s e own x at takes window agrees)
       (same-sights st w v s e own x at takes window agrees) (are-unseen st w v s e own x at takes window agrees) agrees.found target.there target.seen)
 
   -- it is there, so no write finds it gone
-  is-there : IsThere st.heap place
+  is-there : VersionIsThere st.heap place
   is-there = subst (λ o. IsSome o) (sym (sym (version-on st.heap place) ∙ target.there)) refl
 
-  ready-there : (ready : HeapView) (size : ℕ) → Readies st.heap ready place.page (horizon_of st) size → IsThere ready place
+  ready-there : (ready : HeapView) (size : ℕ) → PrunesIfFull st.heap ready place.page (horizon_of st) size → VersionIsThere ready place
   ready-there ready size readies =
       let stays = targets.visible_stays (seen st) w s (reader_of e) place t (version_in (slots_of ready)) (reader-is st s e at)
       (removes-past st w (version_in (slots_of ready)) place.page agrees (readies-stand st.heap ready place.page (horizon_of st) size readies)) agrees.found target.there target.seen in
@@ -178,7 +178,7 @@ module _ (st : State) (w : World) (s : ℕ) (key : ℕ) (e : Session) (place : T
 module _ (st : State) (w : World) (s : ℕ) (text : RowText) (e : Session) (place : Tid) (t : Version) (target : IsTarget st e text.key place t) (free : Free (seen st) s (reader_of e) text.key (Some t.row))
     (fits : FitsRow text) (at : session_at st s ≡ Some e) (agrees : Agrees st w) where
   updated : (h : HeapView) (own : Own) (x : ℕ) → Updates st.heap h e.own own place (row_of text) (horizon_of st) x → IsWindow h.table
-      → Allows w (Update s text) Done × Agrees (with_write st h s (with_own e own)) (next w (Update s text) Done) × StaysLed st (with_write st h s (with_own e own))
+      → Allows w (Update s text) Done × Agrees (with_write st h s (with_own e own)) (next w (Update s text) Done) × KeepsAllTargets st (with_write st h s (with_own e own))
   updated h own x u window =
       let row = row_of text in
       let e' = with_own e own in
@@ -197,7 +197,7 @@ module _ (st : State) (w : World) (s : ℕ) (text : RowText) (e : Session) (plac
       (done.0, agree agrees refl refl done.1 (Sound-given st w h s e e' at agrees own x u.takes_ids refl window u.max_pages stays), stays.led)
 
   update-fails : (h : HeapView) (e' : Session) (f : WriteFault) → SameSession e e' → FailsUpdate st.heap h e.own place (row_of text) (horizon_of st) f
-      → Allows w (Update s text) (reply_for (Err f)) × Agrees (with_write st h s e') (next w (Update s text) (reply_for (Err f))) × StaysLed st (with_write st h s e')
+      → Allows w (Update s text) (reply_for (Err f)) × Agrees (with_write st h s e') (next w (Update s text) (reply_for (Err f))) × KeepsAllTargets st (with_write st h s e')
   update-fails h e' fault.NeedsFreeze same fails =
       let f = hindrances.Follows-needs_freeze (seen st) s (reader_of e) (updates text) (Some t.row) free (fits, refl) w agrees.found in
       let k = kept st w s e e' at agrees same h (next w (Update s text) (Refused NeedsFreeze)) fails.2 refl f.1 in (f.0, k.0, k.1)
@@ -213,9 +213,9 @@ module _ (st : State) (w : World) (s : ℕ) (text : RowText) (e : Session) (plac
   ]
 
   update-tried : (h : HeapView) (e' : Session) (r : Result (Unit {0}) WriteFault) → TriesUpdate st.heap h e e' place (row_of text) (horizon_of st) r → IsWindow h.table
-      → Allows w (Update s text) (reply_for r) × Agrees (with_write st h s e') (next w (Update s text) (reply_for r)) × StaysLed st (with_write st h s e')
+      → Allows w (Update s text) (reply_for r) × Agrees (with_write st h s e') (next w (Update s text) (reply_for r)) × KeepsAllTargets st (with_write st h s e')
   update-tried h e' (Ok u) tried window =
-      subst (λ (f : Session). Allows w (Update s text) Done × Agrees (with_write st h s f) (next w (Update s text) Done) × StaysLed st (with_write st h s f)) (sym tried.is)
+      subst (λ (f : Session). Allows w (Update s text) Done × Agrees (with_write st h s f) (next w (Update s text) Done) × KeepsAllTargets st (with_write st h s f)) (sym tried.is)
       (updated h e'.own tried.x tried.change window)
   update-tried h e' (Err f) tried window = update-fails h e' f tried.same tried.fault
 
@@ -225,7 +225,7 @@ Follows-updated st st' s row r tried window text fits same w agrees =
     let key = by-key row text same in
     let found = target-of st w s may.session row.key tried.place agrees may.reads in
     let free = subst (λ k. Free (seen st) s (reader_of may.session) k (Some found.0.row)) key (free-some st w s row.key tried.place found.0 may agrees found.1) in
-    subst (λ new. Allows w (Update s text) (reply_for r) × Agrees new (next w (Update s text) (reply_for r)) × StaysLed st new) (sym tried.tried.is)
+    subst (λ new. Allows w (Update s text) (reply_for r) × Agrees new (next w (Update s text) (reply_for r)) × KeepsAllTargets st new) (sym tried.tried.is)
     (update-tried st w s text may.session tried.place found.0 (subst (λ k. IsTarget st may.session k tried.place found.0) key found.1) free fits may.reads.at agrees st'.heap tried.tried.now r
     (subst (λ row. TriesUpdate st.heap st'.heap may.session tried.tried.now tried.place row (horizon_of st) r) same tried.tried.tried) window)
 
@@ -234,7 +234,7 @@ Follows-updated st st' s row r tried window text fits same w agrees =
 module _ (st : State) (w : World) (s key : ℕ) (e : Session) (place : Tid) (t : Version) (target : IsTarget st e key place t) (free : Free (seen st) s (reader_of e) key (Some t.row))
     (at : session_at st s ≡ Some e) (agrees : Agrees st w) where
   deleted : (h : HeapView) (own : Own) (x : ℕ) → Deletes st.heap h e.own own place x → IsWindow h.table
-      → Allows w (Delete s key) Done × Agrees (with_write st h s (with_own e own)) (next w (Delete s key) Done) × StaysLed st (with_write st h s (with_own e own))
+      → Allows w (Delete s key) Done × Agrees (with_write st h s (with_own e own)) (next w (Delete s key) Done) × KeepsAllTargets st (with_write st h s (with_own e own))
   deleted h own x d window =
       let e' = with_own e own in
       let may = may-take st w s e key (Some t.row) place t agrees at free target in
@@ -249,7 +249,7 @@ module _ (st : State) (w : World) (s key : ℕ) (e : Session) (place : Tid) (t :
       (done.0, agree agrees refl refl done.1 (Sound-given st w h s e e' at agrees own x d.takes_ids refl window d.max_pages stays), stays.led)
 
   delete-fails : (h : HeapView) (e' : Session) (f : WriteFault) → SameSession e e' → FailsDelete st.heap h e.own place f
-      → Allows w (Delete s key) (reply_for (Err f)) × Agrees (with_write st h s e') (next w (Delete s key) (reply_for (Err f))) × StaysLed st (with_write st h s e')
+      → Allows w (Delete s key) (reply_for (Err f)) × Agrees (with_write st h s e') (next w (Delete s key) (reply_for (Err f))) × KeepsAllTargets st (with_write st h s e')
   delete-fails h e' fault.NeedsFreeze same fails =
       let f = hindrances.Follows-needs_freeze (seen st) s (reader_of e) (deletes key) (Some t.row) free refl w agrees.found in
       let k = kept st w s e e' at agrees same h (next w (Delete s key) (Refused NeedsFreeze)) fails.2 refl f.1 in (f.0, k.0, k.1)
@@ -260,9 +260,9 @@ module _ (st : State) (w : World) (s key : ℕ) (e : Session) (place : Tid) (t :
   delete-fails h e' fault.Gone same fails = absurd (fails.0 (is-there st w s key e place t target at agrees))
 
   delete-tried : (h : HeapView) (e' : Session) (r : Result (Unit {0}) WriteFault) → TriesDelete st.heap h e e' place r → IsWindow h.table
-      → Allows w (Delete s key) (reply_for r) × Agrees (with_write st h s e') (next w (Delete s key) (reply_for r)) × StaysLed st (with_write st h s e')
+      → Allows w (Delete s key) (reply_for r) × Agrees (with_write st h s e') (next w (Delete s key) (reply_for r)) × KeepsAllTargets st (with_write st h s e')
   delete-tried h e' (Ok u) tried window =
-      subst (λ (f : Session). Allows w (Delete s key) Done × Agrees (with_write st h s f) (next w (Delete s key) Done) × StaysLed st (with_write st h s f)) (sym tried.is)
+      subst (λ (f : Session). Allows w (Delete s key) Done × Agrees (with_write st h s f) (next w (Delete s key) Done) × KeepsAllTargets st (with_write st h s f)) (sym tried.is)
       (deleted h e'.own tried.x tried.change window)
   delete-tried h e' (Err f) tried window = delete-fails h e' f tried.same tried.fault
 
@@ -271,5 +271,5 @@ Follows-deleted st st' s key r tried window w agrees =
     let may = tried.may in
     let found = target-of st w s may.session key tried.place agrees may.reads in
     let free = free-some st w s key tried.place found.0 may agrees found.1 in
-    subst (λ new. Allows w (Delete s key) (reply_for r) × Agrees new (next w (Delete s key) (reply_for r)) × StaysLed st new) (sym tried.tried.is)
+    subst (λ new. Allows w (Delete s key) (reply_for r) × Agrees new (next w (Delete s key) (reply_for r)) × KeepsAllTargets st new) (sym tried.tried.is)
     (delete-tried st w s key may.session tried.place found.0 found.1 free may.reads.at agrees st'.heap tried.tried.now r tried.tried.tried window)

@@ -2,18 +2,18 @@
 use Rattle.std.specs.Prelude.{◌≡◌, ◌↔◌, ℕ, true, length, Some, IsSome, slice_get, Contains}
 use Rattle.history.specs.World.{World}
 use Rattle.snapshot.specs.Laws.{IsInWindow}
-use Rattle.snapshot.specs.Own.{AreFronts, AreDistinct}
+use Rattle.snapshot.specs.Own.{ArePrefixes, AreDistinct}
 use Rattle.commit_status.specs.Window.{Window, IsWindow, IsCommitted, top_of}
 use Rattle.forgetting.specs.Truncating.{IsWellTopped}
-use Rattle.session_relation.specs.declared.step.Step.{Step}
-use Rattle.session_relation.specs.declared.reply.Reply.{Reply}
-use Rattle.session_relation.specs.Allowed.{Allows, next}
-use Rattle.session_relation.specs.Agrees as relation
-use Rattle.sound_entries.specs.Entries.{KeepsLed}
+use Rattle.refinement.specs.declared.step.Step.{Step}
+use Rattle.refinement.specs.declared.reply.Reply.{Reply}
+use Rattle.refinement.specs.Allowed.{Allows, next}
+use Rattle.refinement.specs.Agrees as relation
+use Rattle.sound_entries.specs.Entries.{KeepsTargets}
 use Rattle.heap_write.specs.Heap.{slots_of}
 use Rattle.heap_write.specs.Indexes.{entries_in, IsInUse, new_entries}
-use Rattle.heap_write.specs.declared.walking.Span.{Span}
-use Rattle.sound_writes.specs.Table.{SoundTable}
+use Rattle.heap_write.specs.declared.index_scan.IndexRange.{IndexRange}
+use Rattle.table_integrity.specs.Table.{SoundTable}
 use Rattle.session_steps.specs.declared.session.Session.{Session}
 use Rattle.session_steps.specs.declared.cursor.Cursor.TheVariants.{Index}
 use Rattle.session_steps.specs.State.{State, session_at, seen, horizon_of}
@@ -24,8 +24,8 @@ pub record SessionKeeps (w : Window) (e : Session) : Type 0 where
   pub snapshot : IsInWindow w e.snapshot
   -- its first id is the topmost parent of each
   pub topmost : (x : ℕ) → Contains e.own.ids x → slice_get e.own.ids 0 ≡ Some (top_of w x)
-  -- what it had at each savepoint is a front of what it had at the next
-  pub fronts : AreFronts e.own.ids e.own.saved
+  -- what it had at each savepoint is a prefix of what it had at the next
+  pub prefixes : ArePrefixes e.own.ids e.own.saved
   pub distinct : AreDistinct e.own.ids
 
 -- what the ids and the pages of an engine keep
@@ -42,22 +42,22 @@ pub record Sound (st : State) : Type 0 where
   -- the indexes in use are the primary index and those of the columns that the settings name
   pub indexes : (n : ℕ) → IsInUse st.heap.indexes n ↔ IsSome (new_entries st.settings.indexed n)
   -- an open session's cursor goes along one of these
-  pub cursors : (s : ℕ) (e : Session) (span : Span) → session_at st s ≡ Some e → e.cursor ≡ Some (Index span) → IsInUse st.heap.indexes span.index
+  pub cursors : (s : ℕ) (e : Session) (span : IndexRange) → session_at st s ≡ Some e → e.cursor ≡ Some (Index span) → IsInUse st.heap.indexes span.index
   -- sound entries, on sound pages, at the present horizon
   pub table : SoundTable st.heap (horizon_of st)
 
 pub record Agrees (st : State) (w : World) : Type 0 where
   -- each session reads its view, a new one would read what is committed; same sessions; exact traces
-  pub found : relation.Agrees (seen st) w
+  pub found : relation.HeapAgrees (seen st) w
   -- the indexes in use are those that there are
   pub indexes : (n : ℕ) → IsInUse st.heap.indexes n ↔ (w.has_index n ≡ true)
   pub sound : Sound st
 
 -- what an entry of any index leads to before and after is the same version, a redirect to a later one of its row, or dead
-abbrev pub StaysLed : State → State → Type 0
-StaysLed old new = (n : ℕ) → KeepsLed (slots_of old.heap) (slots_of new.heap) (entries_in old.heap.indexes n) (entries_in new.heap.indexes n)
+abbrev pub KeepsAllTargets : State → State → Type 0
+KeepsAllTargets old new = (n : ℕ) → KeepsTargets (slots_of old.heap) (slots_of new.heap) (entries_in old.heap.indexes n) (entries_in new.heap.indexes n)
 
 -- whatever world the engine agreed with, the history allows the reply, and the engine agrees with the next world; and no index
 -- entry leads to a slot that was given to another row
 abbrev pub Follows : State → Step → Reply → State → Type 0
-Follows old step reply new = (w : World) → Agrees old w → Allows w step reply × Agrees new (next w step reply) × StaysLed old new
+Follows old step reply new = (w : World) → Agrees old w → Allows w step reply × Agrees new (next w step reply) × KeepsAllTargets old new

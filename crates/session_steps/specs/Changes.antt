@@ -58,7 +58,7 @@ pub record Releases (e e' : Session) : Type 0 where
   pub cursor : e'.cursor ≡ e.cursor
 
 -- nothing changes but an open session
-pub record Becomes (old new : State) (s : ℕ) (changes : Session → Session → Type 0) : Type 0 where
+pub record SessionBecomes (old new : State) (s : ℕ) (changes : Session → Session → Type 0) : Type 0 where
   pub session : Session
   pub at : session_at old s ≡ Some session
   pub now : Session

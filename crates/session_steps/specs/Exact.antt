@@ -11,19 +11,19 @@ use Rattle.heap_write.specs.Heap.{HeapView}
 use Rattle.heap_write.specs.Writes.{Prunes}
 use Rattle.heap_write.specs.declared.heap.WriteFault.{WriteFault}
 use Rattle.heap_write.specs.declared.heap.WriteFault.TheVariants as fault
-use Rattle.session_relation.specs.declared.step.Step.{Step}
-use Rattle.session_relation.specs.declared.step.Step.TheVariants.{Begin, Get, Insert, Update, Delete, Savepoint, RollbackTo, Release, OpenIndex, OpenHeap, Next, Close, Commit, Abort, Prune}
-use Rattle.session_relation.specs.declared.reply.Reply.{Reply}
-use Rattle.session_relation.specs.declared.reply.Reply.TheVariants.{Done, Rows, End, Committed, RolledBack, Refused}
-use Rattle.session_relation.specs.declared.reply.Refusal.TheVariants.{NotThere, Conflict, NoRoom, NeedsFreeze, NoMemory, NoSuchPage, NoSuchIndex, BadBounds}
-use Rattle.session_relation.specs.Words.{row_of}
+use Rattle.refinement.specs.declared.step.Step.{Step}
+use Rattle.refinement.specs.declared.step.Step.TheVariants.{Begin, Get, Insert, Update, Delete, Savepoint, RollbackTo, Release, OpenIndex, OpenHeap, Next, Close, Commit, Abort, Prune}
+use Rattle.refinement.specs.declared.reply.Reply.{Reply}
+use Rattle.refinement.specs.declared.reply.Reply.TheVariants.{Done, Rows, End, Committed, RolledBack, Refused}
+use Rattle.refinement.specs.declared.reply.Refusal.TheVariants.{NotThere, Conflict, NoRoom, NeedsFreeze, NoMemory, NoSuchPage, NoSuchIndex, BadBounds}
+use Rattle.refinement.specs.Words.{row_of}
 use Rattle.session_steps.specs.declared.session.Session.{Session}
 use Rattle.session_steps.specs.declared.cursor.Cursor.{Cursor}
 use Rattle.session_steps.specs.declared.cursor.Cursor.TheVariants.{Index, Heap}
-use Rattle.session_steps.specs.State.{State, session_at, index_at, put_session, map_session, with_cursor, as_failed, owns_of, horizon_of}
-use Rattle.session_steps.specs.Changes.{Opens, Closes, SetsSavepoint, Releases, Becomes, RollsBack}
+use Rattle.session_steps.specs.State.{State, session_at, engine_index, put_session, map_session, with_cursor, failed_session, owns_of, horizon_of}
+use Rattle.session_steps.specs.Changes.{Opens, Closes, SetsSavepoint, Releases, SessionBecomes, RollsBack}
 use Rattle.session_steps.specs.Takes.{HandsOut}
-use Rattle.session_steps.specs.Tests.{MayWrite}
+use Rattle.session_steps.specs.Tests.{MayWriteKey}
 use Rattle.session_steps.specs.Writes.{TriesInsert, TriesUpdate, TriesDelete}
 
 -- the session tried to write: nothing but the heap and the session itself changes
@@ -34,19 +34,19 @@ pub record Tried (old new : State) (s : ℕ) (session : Session) (tries : HeapVi
 
 -- it tried to insert the row, of whose key it reads none
 pub record InsertTried (old new : State) (s : ℕ) (row : Row) (outcome : Result (Unit {0}) WriteFault) : Type 0 where
-  pub may : MayWrite old s row.key None
+  pub may : MayWriteKey old s row.key None
   pub tried : Tried old new s may.session (λ h h' e e'. TriesInsert h h' e e' row outcome)
 
 -- to update the version at the place at which it reads the key
 pub record UpdateTried (old new : State) (s : ℕ) (row : Row) (outcome : Result (Unit {0}) WriteFault) : Type 0 where
   pub place : Tid
-  pub may : MayWrite old s row.key (Some place)
+  pub may : MayWriteKey old s row.key (Some place)
   pub tried : Tried old new s may.session (λ h h' e e'. TriesUpdate h h' e e' place row (horizon_of old) outcome)
 
 -- or to delete it
 pub record DeleteTried (old new : State) (s key : ℕ) (outcome : Result (Unit {0}) WriteFault) : Type 0 where
   pub place : Tid
-  pub may : MayWrite old s key (Some place)
+  pub may : MayWriteKey old s key (Some place)
   pub tried : Tried old new s may.session (λ h h' e e'. TriesDelete h h' e e' place outcome)
 
 -- A conflict makes the session fail, and any refusal before the write is tried leaves all as it was.
@@ -55,7 +55,7 @@ ExactInsert old s row Done new = InsertTried old new s row (Ok tt)
 ExactInsert old s row (Refused NeedsFreeze) new = InsertTried old new s row (Err fault.NeedsFreeze)
 ExactInsert old s row (Refused NoRoom) new = InsertTried old new s row (Err fault.NoRoom)
 ExactInsert old s row (Refused NoMemory) new = InsertTried old new s row (Err fault.NoMemory)
-ExactInsert old s row (Refused Conflict) new = new ≡ put_session old s (option_map as_failed (session_at old s))
+ExactInsert old s row (Refused Conflict) new = new ≡ put_session old s (option_map failed_session (session_at old s))
 ExactInsert old s row reply new = new ≡ old
 
 abbrev pub ExactUpdate : State → ℕ → Row → Reply → State → Type 0
@@ -64,7 +64,7 @@ ExactUpdate old s row (Refused NeedsFreeze) new = UpdateTried old new s row (Err
 ExactUpdate old s row (Refused NoRoom) new = UpdateTried old new s row (Err fault.NoRoom)
 ExactUpdate old s row (Refused NoMemory) new = UpdateTried old new s row (Err fault.NoMemory)
 ExactUpdate old s row (Refused NotThere) new = (new ≡ old) ⊎ UpdateTried old new s row (Err fault.Gone)
-ExactUpdate old s row (Refused Conflict) new = new ≡ put_session old s (option_map as_failed (session_at old s))
+ExactUpdate old s row (Refused Conflict) new = new ≡ put_session old s (option_map failed_session (session_at old s))
 ExactUpdate old s row reply new = new ≡ old
 
 abbrev pub ExactDelete : State → ℕ → ℕ → Reply → State → Type 0
@@ -72,7 +72,7 @@ ExactDelete old s key Done new = DeleteTried old new s key (Ok tt)
 ExactDelete old s key (Refused NeedsFreeze) new = DeleteTried old new s key (Err fault.NeedsFreeze)
 ExactDelete old s key (Refused NoMemory) new = DeleteTried old new s key (Err fault.NoMemory)
 ExactDelete old s key (Refused NotThere) new = (new ≡ old) ⊎ DeleteTried old new s key (Err fault.Gone)
-ExactDelete old s key (Refused Conflict) new = new ≡ put_session old s (option_map as_failed (session_at old s))
+ExactDelete old s key (Refused Conflict) new = new ≡ put_session old s (option_map failed_session (session_at old s))
 ExactDelete old s key reply new = new ≡ old
 
 -- one page is pruned at the horizon, and nothing else changes
@@ -109,13 +109,13 @@ Exact old (Insert s row) reply new = ExactInsert old s (row_of row) reply new
 Exact old (Update s row) reply new = ExactUpdate old s (row_of row) reply new
 Exact old (Delete s key) reply new = ExactDelete old s key reply new
 Exact old (Get s key) reply new = new ≡ old
-Exact old (Savepoint s) Done new = Becomes old new s SetsSavepoint
+Exact old (Savepoint s) Done new = SessionBecomes old new s SetsSavepoint
 Exact old (Savepoint s) (Refused NoMemory) new = MustNote old s × (new ≡ old)
 Exact old (RollbackTo s) Done new = RollsBack old new s
-Exact old (Release s) Done new = Becomes old new s Releases
+Exact old (Release s) Done new = SessionBecomes old new s Releases
 Exact old (OpenIndex s index low high) Done new = HasCursor old new s (Some (Index (record { index = index; low = low; high = high; last = None })))
-Exact old (OpenIndex s index low high) (Refused NoSuchIndex) new = (index_at old index ≡ None) × (new ≡ old)
-Exact old (OpenIndex s index low high) (Refused BadBounds) new = IsSome (index_at old index) × (new ≡ old)
+Exact old (OpenIndex s index low high) (Refused NoSuchIndex) new = (engine_index old index ≡ None) × (new ≡ old)
+Exact old (OpenIndex s index low high) (Refused BadBounds) new = IsSome (engine_index old index) × (new ≡ old)
 Exact old (OpenIndex s index low high) (Refused NoMemory) new = ⊥
 Exact old (OpenHeap s) Done new = HasCursor old new s (Some (Heap 0))
 Exact old (OpenHeap s) (Refused NoMemory) new = ⊥

@@ -2,7 +2,7 @@
 use Rattle.std.specs.Prelude.{[], ◌≡◌, ℕ}
 use Rattle.history.specs.World.{beginning}
 use Rattle.heap_write.specs.Indexes.{entries_at, new_entries}
-use Rattle.session_relation.specs.declared.settings.Settings.{Settings}
+use Rattle.refinement.specs.declared.settings.Settings.{Settings}
 use Rattle.session_steps.specs.State.{State}
 use Rattle.session_steps.specs.Agrees.{Agrees}
 

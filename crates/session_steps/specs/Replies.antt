@@ -1,10 +1,10 @@
 -- The reply to a step that hands out no row.
-use Rattle.session_relation.specs.declared.reply.Reply.{Reply}
-use Rattle.session_relation.specs.declared.reply.Reply.TheVariants as reply
-use Rattle.session_steps.specs.declared.outcome.Outcome.{Outcome}
-use Rattle.session_steps.specs.declared.outcome.Outcome.TheVariants as outcome
+use Rattle.refinement.specs.declared.reply.Reply.{Reply}
+use Rattle.refinement.specs.declared.reply.Reply.TheVariants as reply
+use Rattle.session_steps.specs.declared.outcome.Ack.{Ack}
+use Rattle.session_steps.specs.declared.outcome.Ack.TheVariants as outcome
 
-abbrev pub reply_to : Outcome → Reply
+abbrev pub reply_to : Ack → Reply
 reply_to outcome.Done = reply.Done
 reply_to outcome.Committed = reply.Committed
 reply_to outcome.RolledBack = reply.RolledBack

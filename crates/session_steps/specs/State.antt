@@ -9,12 +9,12 @@ use Rattle.root_index.specs.View.{IndexView}
 use Rattle.heap_write.specs.Indexes as indexes
 use Rattle.sound_entries.specs.Pages.{version_in}
 use Rattle.heap_write.specs.Heap.{HeapView, slots_of}
-use Rattle.session_relation.specs.declared.settings.Settings.{Settings}
-use Rattle.session_relation.specs.declared.reply.Refusal.{Refusal}
-use Rattle.session_relation.specs.declared.reply.Refusal.TheVariants.{Conflict}
-use Rattle.session_relation.specs.Heap as relation
+use Rattle.refinement.specs.declared.settings.Settings.{Settings}
+use Rattle.refinement.specs.declared.reply.Refusal.{Refusal}
+use Rattle.refinement.specs.declared.reply.Refusal.TheVariants.{Conflict}
+use Rattle.refinement.specs.Heap as relation
 use Rattle.session_steps.specs.declared.session.Session.{Session}
-use Rattle.heap_write.specs.declared.walking.Mark.{Mark}
+use Rattle.heap_write.specs.declared.index_scan.IndexPosition.{IndexPosition}
 use Rattle.session_steps.specs.declared.cursor.Cursor.{Cursor}
 use Rattle.session_steps.specs.declared.cursor.Cursor.TheVariants.{Index, Heap}
 
@@ -27,20 +27,20 @@ abbrev pub session_at : State → ℕ → Option Session
 session_at st s = option_flatten (slice_get st.sessions s)
 
 -- the index of this number, if there is one
-abbrev pub index_at : State → ℕ → Option IndexView
-index_at st number = indexes.index_at st.heap.indexes number
+abbrev pub engine_index : State → ℕ → Option IndexView
+engine_index st number = indexes.index_at st.heap.indexes number
 
 -- how far the cursor has got, as the relation has it
-abbrev pub mark_of : Option Mark → Option relation.Mark
-mark_of None = None
-mark_of (Some m) = Some (record { value = m.value; key = m.key })
+abbrev pub seen_position : Option IndexPosition → Option relation.RowPosition
+seen_position None = None
+seen_position (Some m) = Some (record { value = m.value; key = m.key })
 
 abbrev pub position_of : Option Cursor → Option relation.Position
 position_of None = None
-position_of (Some (Index span)) = Some (relation.in_index span.index span.low span.high (mark_of span.last))
+position_of (Some (Index span)) = Some (relation.in_index span.index span.low span.high (seen_position span.last))
 position_of (Some (Heap page)) = Some (relation.in_heap page)
 
-abbrev pub reader_of : Session → relation.Session
+abbrev pub reader_of : Session → relation.SeenSession
 reader_of e = record { snapshot = e.snapshot; own = e.own.ids; saved = e.own.saved; failed = e.failed; cursor = position_of e.cursor }
 
 -- what readers see of these slots, ids and sessions
@@ -86,10 +86,10 @@ map_session f o = option_map f o
 abbrev pub with_cursor : Option Cursor → Session → Session
 with_cursor cursor e = record e { cursor = cursor }
 
-abbrev pub as_failed : Session → Session
-as_failed e = record e { failed = true }
+abbrev pub failed_session : Session → Session
+failed_session e = record e { failed = true }
 
 -- the engine after the refusal of a write: a conflict makes the session fail
 abbrev pub refused_state : State → ℕ → Refusal → State
-refused_state st s Conflict = put_session st s (option_map as_failed (session_at st s))
+refused_state st s Conflict = put_session st s (option_map failed_session (session_at st s))
 refused_state st s refusal = st

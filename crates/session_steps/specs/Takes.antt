@@ -4,24 +4,24 @@ use Rattle.std.specs.declared.alloc.Global.{Global}
 use Rattle.tuple_header.specs.declared.version.Row.{Row}
 use Rattle.tuple_header.specs.Version.{Version}
 use Rattle.snapshot.specs.Snap.{Sees}
-use Rattle.heap_write.specs.declared.walking.Span.{Span}
+use Rattle.heap_write.specs.declared.index_scan.IndexRange.{IndexRange}
 use Rattle.history.specs.World.{World}
-use Rattle.session_relation.specs.Heap as relation
-use Rattle.session_relation.specs.Visible.{IsVisible}
-use Rattle.session_relation.specs.Cursors.{Comes, Meets, Stands, Gathers}
+use Rattle.refinement.specs.Heap as relation
+use Rattle.refinement.specs.Visible.{ReaderSees}
+use Rattle.refinement.specs.Cursors.{Comes, WalksOver, Stands, Gathers}
 use Rattle.session_steps.specs.declared.session.Session.{Session}
 use Rattle.session_steps.specs.declared.cursor.Cursor.{Cursor}
 use Rattle.session_steps.specs.declared.cursor.Cursor.TheVariants.{Index, Heap}
 use Rattle.visibility.specs.Visible.{state_of}
-use Rattle.session_steps.specs.State.{State, session_at, seen, mark_of, put_session, with_cursor}
+use Rattle.session_steps.specs.State.{State, session_at, seen, seen_position, put_session, with_cursor}
 use Rattle.session_steps.specs.Agrees.{Agrees}
 
 -- the versions that the session sees
 abbrev pub seen_by : State → Session → Version → Type 0
-seen_by st e = IsVisible (state_of st.heap.table) (λ x. Sees e.snapshot st.heap.table x) e.own.ids
+seen_by st e = ReaderSees (state_of st.heap.table) (λ x. Sees e.snapshot st.heap.table x) e.own.ids
 
 -- the session is open in an engine that agrees with a world, and its cursor is here
-pub record IsAt (st : State) (e : Session) (cursor : Cursor) : Type 0 where
+pub record IsAtCursor (st : State) (e : Session) (cursor : Cursor) : Type 0 where
   pub world : World
   pub agrees : Agrees st world
   pub number : ℕ
@@ -29,30 +29,30 @@ pub record IsAt (st : State) (e : Session) (cursor : Cursor) : Type 0 where
   pub opened : e.cursor ≡ Some cursor
 
 -- the row is seen, and still to come for a cursor that is here
-abbrev pub IsToCome : State → Session → Cursor → Row → Type 0
-IsToCome st e (Index span) row = Comes (seen st).version (seen_by st e) (relation.in_index span.index span.low span.high (mark_of span.last)) row
-IsToCome st e (Heap page) row = Comes (seen st).version (seen_by st e) (relation.in_heap page) row
+abbrev pub IsSeenToCome : State → Session → Cursor → Row → Type 0
+IsSeenToCome st e (Index span) row = Comes (seen st).version (seen_by st e) (relation.in_index span.index span.low span.high (seen_position span.last)) row
+IsSeenToCome st e (Heap page) row = Comes (seen st).version (seen_by st e) (relation.in_heap page) row
 
 -- nothing that the session sees is still to come
 abbrev pub IsAtEnd : State → Session → Cursor → Type 0
-IsAtEnd st e cursor = (row : Row) → ¬ IsToCome st e cursor row
+IsAtEnd st e cursor = (row : Row) → ¬ IsSeenToCome st e cursor row
 
 -- a row is
 abbrev pub IsNotAtEnd : State → Session → Cursor → Type 0
-IsNotAtEnd st e cursor = (row : Row) × IsToCome st e cursor row
+IsNotAtEnd st e cursor = (row : Row) × IsSeenToCome st e cursor row
 
 -- In an index.
 
 -- the first rows of a span that the session sees there, and what is left of the span behind them
-pub record Walks (st : State) (e : Session) (span left : Span) (rows : List Row) : Type 0 where
+pub record Walks (st : State) (e : Session) (span left : IndexRange) (rows : List Row) : Type 0 where
   pub same : left ≡ record span { last = left.last }
-  pub meets : IsAt st e (Index span) → Meets (seen st).version (seen_by st e) span.index span.low span.high (mark_of span.last) (mark_of left.last) rows
+  pub meets : IsAtCursor st e (Index span) → WalksOver (seen st).version (seen_by st e) span.index span.low span.high (seen_position span.last) (seen_position left.last) rows
 
 -- as many as were asked for, or all
-pub record TakesRows (st : State) (e : Session) (span left : Span) (count : ℕ) (rows : List Row) : Type 0 where
+pub record TakesRows (st : State) (e : Session) (span left : IndexRange) (count : ℕ) (rows : List Row) : Type 0 where
   pub walks : Walks st e span left rows
   pub at_most : length rows ≤ count
-  pub all : IsAt st e (Index span) → length rows < count → IsAtEnd st e (Index left)
+  pub all : IsAtCursor st e (Index span) → length rows < count → IsAtEnd st e (Index left)
 
 -- On pages.
 
@@ -84,7 +84,7 @@ TakesNextPage st e from answer = MatchOption answer (IsAtEnd st e (Heap from)) (
 
 -- the cursor takes these rows when n are asked for, where 0 counts as 1, and is then here
 abbrev pub Takes : State → Session → Cursor → ℕ → List Row → Cursor → Type 0
-Takes st e (Index span) n rows after = (left : Span) × (after ≡ Index left) × TakesRows st e span left (max 1 n) rows
+Takes st e (Index span) n rows after = (left : IndexRange) × (after ≡ Index left) × TakesRows st e span left (max 1 n) rows
 Takes st e (Heap from) n rows after = (page : ℕ) × (after ≡ Heap (page + 1)) × TakesPage st e from page rows
 
 -- there are some
@@ -94,7 +94,7 @@ pub record TakesSome (st : State) (e : Session) (cursor : Cursor) (n : ℕ) (row
 
 -- or it is at its end
 abbrev pub TakesNext : State → Session → Cursor → ℕ → Option (Vec Row Global × Cursor) → Type 0
-TakesNext st e cursor n answer = MatchOption answer (IsAt st e cursor → IsAtEnd st e cursor) (λ found. TakesSome st e cursor n found.0.items found.1)
+TakesNext st e cursor n answer = MatchOption answer (IsAtCursor st e cursor → IsAtEnd st e cursor) (λ found. TakesSome st e cursor n found.0.items found.1)
 
 -- n rows were asked for, and the session has handed out these: its cursor alone moves, behind them
 pub record HandsOut (old new : State) (s n : ℕ) (rows : List Row) : Type 0 where

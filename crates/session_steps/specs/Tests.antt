@@ -2,11 +2,11 @@
 use Rattle.heap_write.specs.Indexes.{entries_in}
 use Rattle.std.specs.Prelude.{◌≡◌, ◌<◌, ℕ, pos, Option, Some, None, false, Contains}
 use Rattle.xid_circle.specs.declared.Tid.{Tid}
-use Rattle.visibility.specs.Visible.{IsVisible, IsForeignIn, IsMissedIn}
+use Rattle.visibility.specs.Visible.{IsVisible, IsOtherWriterIn, IsNewerCommitIn}
 use Rattle.sound_entries.specs.Looking.{FirstPlace, SomeOf}
 use Rattle.heap_write.specs.Heap.{HeapView, slots_of}
-use Rattle.session_relation.specs.declared.reply.Refusal.{Refusal}
-use Rattle.session_relation.specs.declared.reply.Refusal.TheVariants.{AlreadyThere, NotThere, Conflict, Busy}
+use Rattle.refinement.specs.declared.reply.Refusal.{Refusal}
+use Rattle.refinement.specs.declared.reply.Refusal.TheVariants.{AlreadyThere, NotThere, Conflict, Busy}
 use Rattle.session_steps.specs.declared.session.Session.{Session}
 use Rattle.session_steps.specs.State.{State, session_at}
 
@@ -16,14 +16,14 @@ FindsPlace h e key found = FirstPlace h.table (IsVisible h.table e.snapshot e.ow
 
 -- a commit that the session does not see wrote the key, by this id
 abbrev pub IsLateBy : HeapView → Session → ℕ → ℕ → Type 0
-IsLateBy h e key x = SomeOf h.table (IsMissedIn h.table e.snapshot x) (slots_of h) (entries_in h.indexes 0) (pos key) key
+IsLateBy h e key x = SomeOf h.table (IsNewerCommitIn h.table e.snapshot x) (slots_of h) (entries_in h.indexes 0) (pos key) key
 
 -- another session has written it, under this id
 abbrev pub IsHeldUnder : HeapView → Session → ℕ → ℕ → Type 0
-IsHeldUnder h e key x = SomeOf h.table (IsForeignIn h.table e.own.ids x) (slots_of h) (entries_in h.indexes 0) (pos key) key
+IsHeldUnder h e key x = SomeOf h.table (IsOtherWriterIn h.table e.own.ids x) (slots_of h) (entries_in h.indexes 0) (pos key) key
 
 -- the session is open, has not failed and has no cursor, and reads the version at this place, or none of the key
-pub record Reads (st : State) (s : ℕ) (e : Session) (key : ℕ) (found : Option Tid) : Type 0 where
+pub record ReadsPlace (st : State) (s : ℕ) (e : Session) (key : ℕ) (found : Option Tid) : Type 0 where
   pub within : s < 64
   pub at : session_at st s ≡ Some e
   pub sound : e.failed ≡ false
@@ -31,12 +31,12 @@ pub record Reads (st : State) (s : ℕ) (e : Session) (key : ℕ) (found : Optio
   pub finds : FindsPlace st.heap e key found
 
 -- nothing keeps the session from writing the key: no later commit, and no other session
-pub record IsFree (st : State) (e : Session) (key : ℕ) : Type 0 where
+pub record IsUncontested (st : State) (e : Session) (key : ℕ) : Type 0 where
   pub timely : (x : ℕ) → ¬ IsLateBy st.heap e key x
   pub unheld : (x : ℕ) → ¬ IsHeldUnder st.heap e key x
 
 -- or a later commit does
-pub record IsLate (st : State) (e : Session) (key : ℕ) : Type 0 where
+pub record IsLateKey (st : State) (e : Session) (key : ℕ) : Type 0 where
   pub id : ℕ
   pub late : IsLateBy st.heap e key id
 
@@ -49,33 +49,33 @@ pub record IsHeld (st : State) (e : Session) (key o : ℕ) : Type 0 where
   pub at : session_at st o ≡ Some other
   pub owns : Contains other.own.ids id
 
-abbrev pub Delays : State → Session → ℕ → Refusal → Type 0
-Delays st e key Conflict = IsLate st e key
-Delays st e key (Busy o) = IsHeld st e key o
-Delays st e key refusal = ⊥
+abbrev pub ConflictsWrite : State → Session → ℕ → Refusal → Type 0
+ConflictsWrite st e key Conflict = IsLateKey st e key
+ConflictsWrite st e key (Busy o) = IsHeld st e key o
+ConflictsWrite st e key refusal = ⊥
 
 -- the session may write the key, of which it reads this
-pub record MayWrite (st : State) (s key : ℕ) (found : Option Tid) : Type 0 where
+pub record MayWriteKey (st : State) (s key : ℕ) (found : Option Tid) : Type 0 where
   pub session : Session
-  pub reads : Reads st s session key found
-  pub free : IsFree st session key
+  pub reads : ReadsPlace st s session key found
+  pub free : IsUncontested st session key
 
 -- it may not, for this reason
-pub record IsDelayed (st : State) (s key : ℕ) (found : Option Tid) (refusal : Refusal) : Type 0 where
+pub record HasWriteConflict (st : State) (s key : ℕ) (found : Option Tid) (refusal : Refusal) : Type 0 where
   pub session : Session
-  pub reads : Reads st s session key found
-  pub delays : Delays st session key refusal
+  pub reads : ReadsPlace st s session key found
+  pub delays : ConflictsWrite st session key refusal
 
 -- what keeps a session that may act from inserting a row of the key
-abbrev pub HindersInsert : State → ℕ → ℕ → Refusal → Type 0
-HindersInsert st s key AlreadyThere = (e : Session) × (p : Tid) × Reads st s e key (Some p)
-HindersInsert st s key Conflict = IsDelayed st s key None Conflict
-HindersInsert st s key (Busy o) = IsDelayed st s key None (Busy o)
-HindersInsert st s key refusal = ⊥
+abbrev pub RefusesInsertOfKey : State → ℕ → ℕ → Refusal → Type 0
+RefusesInsertOfKey st s key AlreadyThere = (e : Session) × (p : Tid) × ReadsPlace st s e key (Some p)
+RefusesInsertOfKey st s key Conflict = HasWriteConflict st s key None Conflict
+RefusesInsertOfKey st s key (Busy o) = HasWriteConflict st s key None (Busy o)
+RefusesInsertOfKey st s key refusal = ⊥
 
 -- what keeps it from changing the row of the key
-abbrev pub HindersChange : State → ℕ → ℕ → Refusal → Type 0
-HindersChange st s key NotThere = (e : Session) × Reads st s e key None
-HindersChange st s key Conflict = (p : Tid) × IsDelayed st s key (Some p) Conflict
-HindersChange st s key (Busy o) = (p : Tid) × IsDelayed st s key (Some p) (Busy o)
-HindersChange st s key refusal = ⊥
+abbrev pub RefusesChangeOfKey : State → ℕ → ℕ → Refusal → Type 0
+RefusesChangeOfKey st s key NotThere = (e : Session) × ReadsPlace st s e key None
+RefusesChangeOfKey st s key Conflict = (p : Tid) × HasWriteConflict st s key (Some p) Conflict
+RefusesChangeOfKey st s key (Busy o) = (p : Tid) × HasWriteConflict st s key (Some p) (Busy o)
+RefusesChangeOfKey st s key refusal = ⊥

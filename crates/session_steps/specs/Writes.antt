@@ -7,10 +7,10 @@ use Rattle.heap_write.specs.Writes.{SameOwn, Inserts, Updates, Deletes}
 use Rattle.heap_write.specs.Refusals.{LacksForInsert, FailsUpdate, FailsDelete}
 use Rattle.heap_write.specs.declared.heap.WriteFault.{WriteFault}
 use Rattle.heap_write.specs.declared.heap.WriteFault.TheVariants as fault
-use Rattle.session_relation.specs.declared.reply.Reply.{Reply}
-use Rattle.session_relation.specs.declared.reply.Reply.TheVariants as reply
-use Rattle.session_relation.specs.declared.reply.Refusal.{Refusal}
-use Rattle.session_relation.specs.declared.reply.Refusal.TheVariants as refusal
+use Rattle.refinement.specs.declared.reply.Reply.{Reply}
+use Rattle.refinement.specs.declared.reply.Reply.TheVariants as reply
+use Rattle.refinement.specs.declared.reply.Refusal.{Refusal}
+use Rattle.refinement.specs.declared.reply.Refusal.TheVariants as refusal
 use Rattle.session_steps.specs.declared.session.Session.{Session}
 
 -- the session is as it was, though there may be more memory
@@ -27,7 +27,7 @@ pub record Done (e e' : Session) (changes : ℕ → Type 0) : Type 0 where
   pub change : changes x
 
 -- or it did not write, for this reason
-pub record Refused (e e' : Session) (fails : Type 0) : Type 0 where
+pub record RefusedWrite (e e' : Session) (fails : Type 0) : Type 0 where
   pub same : SameSession e e'
   pub fault : fails
 
@@ -37,15 +37,15 @@ pub record Refused (e e' : Session) (fails : Type 0) : Type 0 where
 
 abbrev pub TriesInsert : HeapView → HeapView → Session → Session → Row → Result (Unit {0}) WriteFault → Type 0
 TriesInsert h h' e e' row (Ok u) = Done e e' (λ x. Inserts h h' e.own e'.own row x)
-TriesInsert h h' e e' row (Err f) = Refused e e' (LacksForInsert h e.own row f × Keeps h h')
+TriesInsert h h' e e' row (Err f) = RefusedWrite e e' (LacksForInsert h e.own row f × Keeps h h')
 
 abbrev pub TriesUpdate : HeapView → HeapView → Session → Session → Tid → Row → ℕ → Result (Unit {0}) WriteFault → Type 0
 TriesUpdate h h' e e' place row horizon (Ok u) = Done e e' (λ x. Updates h h' e.own e'.own place row horizon x)
-TriesUpdate h h' e e' place row horizon (Err f) = Refused e e' (FailsUpdate h h' e.own place row horizon f)
+TriesUpdate h h' e e' place row horizon (Err f) = RefusedWrite e e' (FailsUpdate h h' e.own place row horizon f)
 
 abbrev pub TriesDelete : HeapView → HeapView → Session → Session → Tid → Result (Unit {0}) WriteFault → Type 0
 TriesDelete h h' e e' place (Ok u) = Done e e' (λ x. Deletes h h' e.own e'.own place x)
-TriesDelete h h' e e' place (Err f) = Refused e e' (FailsDelete h h' e.own place f)
+TriesDelete h h' e e' place (Err f) = RefusedWrite e e' (FailsDelete h h' e.own place f)
 
 -- an open session tried, and is still there
 abbrev pub OnOpen : Option Session → Option Session → (Session → Session → Type 0) → Type 0

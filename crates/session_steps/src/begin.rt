@@ -5,15 +5,15 @@ ghost use Rattle.snapshot.specs.Snap.{taken};
 ghost use Rattle.xid_circle.specs.Circle.{IsNormal};
 ghost use Rattle.commit_status.specs.Window.{next_id};
 ghost use Rattle.session_steps.specs.State.{owns_of};
-ghost use Rattle.session_relation.specs.declared.step.Step.{Step};
+ghost use Rattle.refinement.specs.declared.step.Step.{Step};
 ghost use Rattle.session_steps.specs.Agrees.{Follows};
 ghost use Rattle.session_steps.specs.Exact.{MustList, Exact};
 ghost use Rattle.session_steps.specs.Replies.{reply_to};
 
-use crate::engine::Engine;
-use crate::outcome::Outcome;
+use crate::engine::SessionEngine;
+use crate::outcome::Ack;
 use crate::session::Session;
-use session_relation::Refusal;
+use refinement::Refusal;
 use snapshot::Snapshot;
 use std::alloc::{AllocError, Global};
 use xid_circle::Xid;
@@ -40,9 +40,10 @@ fn take_snapshot(
     Ok(snapshot)
 }
 
-impl Engine {
+impl SessionEngine {
     fn snapshot(&self) -> Result<Snapshot, AllocError>
-        ensures ok { IfOk result (λ s. s ≡ taken (next_id self.now.heap.table) (owns_of self.now.sessions)) }
+        ensures ok { IfOk result
+            (λ s. s ≡ taken (next_id self.now.heap.table) (owns_of self.now.sessions)) }
         ensures err { OnErr result (MustList self.now) }
     {
         take_snapshot(self.alloc, self.heap.table().next(), self.sessions.used())
@@ -50,21 +51,21 @@ impl Engine {
 
     /// Opens the session: it reads what was committed by now. Refusals in order: NoSuchSession, AlreadyOpen, and NoMemory,
     /// which comes only where its snapshot lists more than 8 ids.
-    pub(crate) fn begin(&mut self, s: u8) -> Outcome
+    pub(crate) fn begin(&mut self, s: u8) -> Ack
         ensures follows { Follows self.old (Step.Begin s) (reply_to result) self.new }
         ensures exact { Exact self.old (Step.Begin s) (reply_to result) self.new }
     {
         match self.opened(s) {
-            Ok(_) => Outcome::Refused(Refusal::AlreadyOpen),
+            Ok(_) => Ack::Refused(Refusal::AlreadyOpen),
             Err(refusal) => match refusal {
                 Refusal::NotOpen => match self.snapshot() {
                     Ok(snapshot) => {
                         self.open(s, snapshot);
-                        Outcome::Done
+                        Ack::Done
                     }
-                    Err(_) => Outcome::Refused(Refusal::NoMemory),
+                    Err(_) => Ack::Refused(Refusal::NoMemory),
                 },
-                _ => Outcome::Refused(refusal),
+                _ => Ack::Refused(refusal),
             },
         }
     }

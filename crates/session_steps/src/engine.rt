@@ -2,10 +2,10 @@
 
 ghost use Rattle.std.specs.Prelude.{◌≡◌, ◌≢◌, ◌<◌, ℕ, slice_get, option_copied, IfOk, IfErr, OnOk, MatchResult, Some, None, false, Contains};
 ghost use Rattle.std.specs.Option.{option_map};
-ghost use Rattle.session_relation.specs.Words.{AreSettings, FirstFault};
+ghost use Rattle.refinement.specs.Words.{AreSettings, FirstFault};
 ghost use Rattle.commit_status.specs.Window.{next_id, IsActive, IsWindow};
 ghost use Rattle.commit_status.specs.Changes.{Finishes};
-ghost use Rattle.session_steps.specs.State.{session_at, index_at, put_session, as_failed};
+ghost use Rattle.session_steps.specs.State.{session_at, engine_index, put_session, failed_session};
 ghost use Rattle.session_steps.specs.Changes.{Opens, Closes};
 ghost use Rattle.session_steps.specs.Refuses.{Refuses, RefusesReady, RefusesFree, MayAct, RefusesBare};
 ghost use Rattle.session_steps.specs.New.{IsNew};
@@ -16,8 +16,8 @@ use crate::sessions::Sessions;
 use commit_status::Status;
 use heap_write::HeapState;
 use page_slots::Page;
+use refinement::{Refusal, Settings, SettingsFault};
 use root_index::RootIndex;
-use session_relation::{Refusal, Settings, SettingsFault};
 use snapshot::{OwnIds, Snapshot};
 use std::alloc::Global;
 use std::marker::Model;
@@ -25,14 +25,14 @@ use xid_circle::Xid;
 
 /// A table with its sessions, of which there may be 64 open at a time.
 #[derive(Drop)]
-pub struct Engine {
+pub struct SessionEngine {
     pub(crate) alloc: Global,
     pub(crate) settings: Settings,
     pub(crate) heap: HeapState,
     pub(crate) sessions: Sessions,
 }
 
-impl Model for Engine {
+impl Model for SessionEngine {
     ghost use Rattle.session_steps.specs.State.{State};
     ghost use Rattle.session_steps.specs.Keeps.{EngineKeeps};
 
@@ -44,7 +44,7 @@ impl Model for Engine {
 }
 
 fn fail(session: &mut Option<Session>)
-    ensures { session.new ≡ option_map as_failed session.old }
+    ensures { session.new ≡ option_map failed_session session.old }
 {
     if let Some(session) = session {
         session.failed = true;
@@ -53,11 +53,13 @@ fn fail(session: &mut Option<Session>)
 
 /// Ends the session, if there is one: its ids have the status from now on.
 fn end(heap: &mut HeapState, session: Option<Session>, status: Status)
-    requires { (e : _) (x : ℕ) → session ≡ Some e → Contains e.own.ids x → IsActive heap.old.table x }
+    requires { (e : _) (x : ℕ) → session ≡ Some e → Contains e.own.ids x
+        → IsActive heap.old.table x }
     ensures pages { heap.new.pages ≡ heap.old.pages }
     ensures indexes { heap.new.indexes ≡ heap.old.indexes }
     ensures max_pages { heap.new.max_pages ≡ heap.old.max_pages }
-    ensures finishes { (e : _) → session ≡ Some e → Finishes heap.old.table heap.new.table e.own.ids status }
+    ensures finishes { (e : _) → session ≡ Some e
+        → Finishes heap.old.table heap.new.table e.own.ids status }
     ensures window { (e : _) → session ≡ Some e → IsWindow heap.new.table }
     ensures none { session ≡ None → heap.new.table ≡ heap.old.table }
 {
@@ -66,10 +68,10 @@ fn end(heap: &mut HeapState, session: Option<Session>, status: Status)
     }
 }
 
-impl Engine {
+impl SessionEngine {
     /// An engine of these settings, without sessions, pages or entries. The fault names the first setting that is out of its
     /// range, or memory.
-    pub fn new(alloc: Global, settings: Settings) -> Result<Engine, SettingsFault>
+    pub fn new(alloc: Global, settings: Settings) -> Result<SessionEngine, SettingsFault>
         ensures new { IfOk result (λ e. IsNew settings e) }
         ensures fault { IfErr result (λ fault. FirstFault settings fault) }
         ensures valid { OnOk result (AreSettings settings) }
@@ -82,7 +84,7 @@ impl Engine {
             Err(_) => return Err(SettingsFault::NoMemory),
         };
         let first = Xid(settings.first_xid);
-        Ok(Engine {
+        Ok(SessionEngine {
             alloc,
             settings,
             heap: HeapState::new(
@@ -115,7 +117,7 @@ impl Engine {
     /// The index of this number, if there is one: index 0 is the primary index, by key, and index `c + 1` is that of
     /// column `c`, where the settings ask for it.
     pub fn index(&self, number: u8) -> Option<&RootIndex>
-        ensures { option_copied result ≡ index_at self.now number }
+        ensures { option_copied result ≡ engine_index self.now number }
     {
         self.heap.index(number)
     }
@@ -132,7 +134,8 @@ impl Engine {
 
     /// The session, if it is open.
     pub(crate) fn opened(&self, s: u8) -> Result<&Session, Refusal>
-        ensures { MatchResult result (λ e. (s < 64) × (session_at self.now s ≡ Some e.now)) (λ refusal. Refuses self.now s refusal) }
+        ensures { MatchResult result (λ e. (s < 64) × (session_at self.now s ≡ Some e.now))
+            (λ refusal. Refuses self.now s refusal) }
     {
         if s >= 64 {
             return Err(Refusal::NoSuchSession);
@@ -145,7 +148,9 @@ impl Engine {
 
     /// The session, if it is open and has not failed.
     pub(crate) fn ready(&self, s: u8) -> Result<&Session, Refusal>
-        ensures { MatchResult result (λ e. (s < 64) × (session_at self.now s ≡ Some e.now) × (e.now.failed ≡ false)) (λ refusal. RefusesReady self.now s refusal) }
+        ensures { MatchResult result
+            (λ e. (s < 64) × (session_at self.now s ≡ Some e.now) × (e.now.failed ≡ false))
+            (λ refusal. RefusesReady self.now s refusal) }
     {
         let session = self.opened(s)?;
         if session.failed {
@@ -156,7 +161,8 @@ impl Engine {
 
     /// The session, if it is open, has not failed and has no cursor.
     pub(crate) fn free(&self, s: u8) -> Result<&Session, Refusal>
-        ensures { MatchResult result (λ e. MayAct self.now s e.now) (λ refusal. RefusesFree self.now s refusal) }
+        ensures { MatchResult result (λ e. MayAct self.now s e.now)
+            (λ refusal. RefusesFree self.now s refusal) }
     {
         let session = match self.ready(s) {
             Ok(session) => session,
@@ -170,7 +176,10 @@ impl Engine {
 
     /// The session and its cursor, if it is open, has not failed and has one.
     pub(crate) fn with_cursor(&self, s: u8) -> Result<(&Session, Cursor), Refusal>
-        ensures { MatchResult result (λ found. (s < 64) × (session_at self.now s ≡ Some found.0.now) × (found.0.now.failed ≡ false) × (found.0.now.cursor ≡ Some found.1)) (λ refusal. RefusesBare self.now s refusal) }
+        ensures { MatchResult result
+            (λ found. (s < 64) × (session_at self.now s ≡ Some found.0.now)
+            × (found.0.now.failed ≡ false) × (found.0.now.cursor ≡ Some found.1))
+            (λ refusal. RefusesBare self.now s refusal) }
     {
         let session = match self.ready(s) {
             Ok(session) => session,
@@ -209,7 +218,8 @@ impl Engine {
     /// Notes that the session can only be rolled back.
     pub(crate) fn fail(&mut self, s: u8)
         requires { s < 64 }
-        ensures { self.new ≡ put_session self.old s (option_map as_failed (session_at self.old s)) }
+        ensures { self.new
+            ≡ put_session self.old s (option_map failed_session (session_at self.old s)) }
     {
         fail(self.sessions.place_mut(s));
     }

@@ -1,17 +1,17 @@
 //! A session reads.
 
 ghost use Rattle.std.specs.Prelude.{◌≡◌};
-ghost use Rattle.session_relation.specs.declared.reply.Reply.TheVariants.{Found};
-ghost use Rattle.session_relation.specs.declared.step.Step.{Step};
+ghost use Rattle.refinement.specs.declared.reply.Reply.TheVariants.{Found};
+ghost use Rattle.refinement.specs.declared.step.Step.{Step};
 ghost use Rattle.session_steps.specs.Agrees.{Follows};
 ghost use Rattle.session_steps.specs.Exact.{Exact};
 
-use crate::engine::Engine;
+use crate::engine::SessionEngine;
 use arrayvec::ArrayVec;
-use session_relation::{Reply, Row};
+use refinement::{Reply, Row};
 use tuple_header::RowRef;
 
-impl Engine {
+impl SessionEngine {
     /// The row of the key that the session reads. Refusals in order: NoSuchSession, NotOpen, Failed. It takes no
     /// memory.
     pub(crate) fn get(&self, s: u8, key: u64, reply: &mut Reply)

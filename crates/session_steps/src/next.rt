@@ -3,18 +3,18 @@
 ghost use Rattle.std.specs.Prelude.{◌≡◌, ◌≤◌, ◌++◌, ◌∷◌, [], length, IfOk, OnOk, OnErr};
 ghost use Rattle.sound_entries.specs.Pages.{slots_on};
 ghost use Rattle.heap_write.specs.Heap.{slots_of};
-ghost use Rattle.session_relation.specs.declared.step.Step.{Step};
+ghost use Rattle.refinement.specs.declared.step.Step.{Step};
 ghost use Rattle.session_steps.specs.declared.cursor.Cursor.TheVariants.{Index, Heap};
 ghost use Rattle.session_steps.specs.Agrees.{Follows};
 ghost use Rattle.session_steps.specs.Exact.{Exact};
-ghost use Rattle.session_steps.specs.Takes.{IsAt, IsNotAtEnd, TakesRows, SomeStands, TakesAll, TakesNextPage, TakesNext};
+ghost use Rattle.session_steps.specs.Takes.{IsAtCursor, IsNotAtEnd, TakesRows, SomeStands, TakesAll, TakesNextPage, TakesNext};
 
 use crate::cursor::Cursor;
-use crate::engine::Engine;
+use crate::engine::SessionEngine;
 use crate::get::no_row;
 use crate::session::Session;
-use heap_write::Span;
-use session_relation::{Refusal, Reply, Row};
+use heap_write::IndexRange;
+use refinement::{Refusal, Reply, Row};
 use std::alloc::AllocError;
 use tuple_header::RowRef;
 use xid_circle::Tid;
@@ -40,7 +40,7 @@ fn add_row(rows: &mut Vec<Row>, row: &RowRef<'_>, most: u16) -> Result<(), Alloc
     Ok(())
 }
 
-impl Engine {
+impl SessionEngine {
     /// Hands out rows of the session's cursor: of an index the next `n` in its order, where 0 counts as 1, or all that are
     /// left; of the heap those of the next page on which the session sees any, by their slots. The answer is End exactly
     /// where none is left, and leaves the cursor open. Refusals in order: NoSuchSession, NotOpen, Failed, NoCursor, and
@@ -52,7 +52,7 @@ impl Engine {
         *reply = self.hand_out(s, n);
     }
 
-    /// What [`Engine::next`] answers, by value.
+    /// What [`SessionEngine::next`] answers, by value.
     fn hand_out(&mut self, s: u8, n: u16) -> Reply
         ensures follows { Follows self.old (Step.Next s n) result self.new }
         ensures exact { Exact self.old (Step.Next s n) result self.new }
@@ -79,7 +79,8 @@ impl Engine {
         n: u16,
     ) -> Result<Option<(Vec<Row>, Cursor)>, AllocError>
         ensures taken { IfOk result (TakesNext self.now session.now cursor n) }
-        ensures refused { OnErr result (IsAt self.now session.now cursor → IsNotAtEnd self.now session.now cursor) }
+        ensures refused { OnErr result
+            (IsAtCursor self.now session.now cursor → IsNotAtEnd self.now session.now cursor) }
     {
         match cursor {
             Cursor::Index(span) => {
@@ -100,11 +101,14 @@ impl Engine {
     fn take_rows(
         &self,
         session: &Session,
-        span: Span,
+        span: IndexRange,
         count: u16,
-    ) -> Result<(Vec<Row>, Span), AllocError>
-        ensures taken { IfOk result (λ taken. TakesRows self.now session.now span taken.1 count taken.0.items) }
-        ensures refused { OnErr result (IsAt self.now session.now (Index span) → IsNotAtEnd self.now session.now (Index span)) }
+    ) -> Result<(Vec<Row>, IndexRange), AllocError>
+        ensures taken { IfOk result
+            (λ taken. TakesRows self.now session.now span taken.1 count taken.0.items) }
+        ensures refused { OnErr result
+            (IsAtCursor self.now session.now (Index span)
+            → IsNotAtEnd self.now session.now (Index span)) }
     {
         let mut rows = Vec::new(self.alloc);
         let mut left = span;

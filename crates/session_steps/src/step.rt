@@ -2,15 +2,15 @@
 
 ghost use Rattle.std.specs.Prelude.{◌≡◌, MatchResult, Some};
 ghost use Rattle.history.specs.World.{World, OpenSession, view};
-ghost use Rattle.session_relation.specs.Allowed.{AllowsClosed};
+ghost use Rattle.refinement.specs.Allowed.{AllowsClosed};
 ghost use Rattle.session_steps.specs.Agrees.{Agrees, Follows};
 ghost use Rattle.session_steps.specs.Exact.{Exact};
 
-use crate::engine::Engine;
+use crate::engine::SessionEngine;
 use crate::get::copy_of;
-use session_relation::{Refusal, Reply, Row, Step};
+use refinement::{Refusal, Reply, Row, Step};
 
-impl Engine {
+impl SessionEngine {
     /// Does one step, and gives its reply: whatever world of the history the engine agrees with, the history allows
     /// the reply, and the engine agrees with the next world. A step that is refused names the first reason that holds, in the order
     /// of the table in docs/rules.md, or NoMemory, as is said below that table.
@@ -23,7 +23,7 @@ impl Engine {
         reply
     }
 
-    /// Does one step as [`Engine::step`] does, and puts its reply in the place of an earlier one. A reply has room for a row, over a
+    /// Does one step as [`SessionEngine::step`] does, and puts its reply in the place of an earlier one. A reply has room for a row, over a
     /// kilobyte; who does many steps needs one alone. The earlier one is dropped only when the new one is there, so the rows of two
     /// answers of a cursor may stand in memory at once.
     pub fn step_into(&mut self, step: Step, reply: &mut Reply)

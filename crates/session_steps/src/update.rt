@@ -3,20 +3,20 @@
 ghost use Rattle.std.specs.Prelude.{◌≡◌, ◌≢◌, ℕ, None, Some, Contains};
 ghost use Rattle.commit_status.specs.Window.{IsActive};
 ghost use Rattle.xid_circle.specs.Circle.{IsNormal};
-ghost use Rattle.session_relation.specs.declared.step.Step.{Step};
+ghost use Rattle.refinement.specs.declared.step.Step.{Step};
 ghost use Rattle.session_steps.specs.Agrees.{Follows};
 ghost use Rattle.session_steps.specs.Exact.{ExactUpdate, Exact};
 ghost use Rattle.session_steps.specs.Replies.{reply_to};
 ghost use Rattle.session_steps.specs.Follows.{FollowsUpdate};
-ghost use Rattle.session_steps.specs.Tests.{MayWrite};
+ghost use Rattle.session_steps.specs.Tests.{MayWriteKey};
 ghost use Rattle.session_steps.specs.Writes.{OnOpen, TriesUpdate};
 
-use crate::engine::Engine;
-use crate::outcome::Outcome;
+use crate::checks::{outcome_of, table_row};
+use crate::engine::SessionEngine;
+use crate::outcome::Ack;
 use crate::session::Session;
-use crate::write::{outcome_of, table_row};
 use heap_write::{HeapState, WriteFault};
-use session_relation::{Refusal, Row, RowIn};
+use refinement::{Refusal, Row, RowIn};
 use xid_circle::{Tid, Xid};
 
 /// Updates the version at a place to the row, under the id of the session's newest level.
@@ -32,7 +32,7 @@ fn update_for(
     ensures { TriesUpdate heap.old heap.new session.old session.new place row.now horizon.0 result }
 {
     // an id of its levels is one of its own ids
-    session.own.are_fronts();
+    session.own.are_prefixes();
     match heap.update(&mut session.own, place, row, horizon) {
         Ok(_) => Ok(()),
         Err(fault) => Err(fault),
@@ -49,8 +49,10 @@ fn update_open(
 ) -> Result<(), WriteFault>
     requires open { session.old ≢ None }
     requires normal { IsNormal horizon.0 }
-    requires active { (e : _) (x : ℕ) → session.old ≡ Some e → Contains e.own.ids x → IsActive heap.old.table x }
-    ensures { OnOpen session.old session.new (λ e e'. TriesUpdate heap.old heap.new e e' place row.now horizon.0 result) }
+    requires active { (e : _) (x : ℕ) → session.old ≡ Some e → Contains e.own.ids x
+        → IsActive heap.old.table x }
+    ensures { OnOpen session.old session.new
+        (λ e e'. TriesUpdate heap.old heap.new e e' place row.now horizon.0 result) }
 {
     match session {
         Some(session) => update_for(heap, session, place, row, horizon),
@@ -58,10 +60,10 @@ fn update_open(
     }
 }
 
-impl Engine {
+impl SessionEngine {
     /// Updates the version at a place to the row, which nothing keeps the session from writing.
-    fn replace(&mut self, s: u8, place: Tid, row: &Row) -> Outcome
-        requires { MayWrite self.old s row.now.key (Some place) }
+    fn replace(&mut self, s: u8, place: Tid, row: &Row) -> Ack
+        requires { MayWriteKey self.old s row.now.key (Some place) }
         ensures follows { FollowsUpdate self.old s row.now (reply_to result) self.new }
         ensures exact { ExactUpdate self.old s row.now (reply_to result) self.new }
     {
@@ -75,21 +77,21 @@ impl Engine {
     /// Writes another row of a key that has one. Where the row has no room on the page of the version that it replaces,
     /// that page is pruned first. Refusals in order: NoSuchSession, NotOpen, Failed, CursorOpen, TooLarge, NotThere, Conflict, Busy,
     /// NeedsFreeze, NoMemory, NoRoom.
-    pub(crate) fn update(&mut self, s: u8, row: RowIn) -> Outcome
+    pub(crate) fn update(&mut self, s: u8, row: RowIn) -> Ack
         ensures follows { Follows self.old (Step.Update s row) (reply_to result) self.new }
         ensures exact { Exact self.old (Step.Update s row) (reply_to result) self.new }
     {
         let session = match self.free(s) {
             Ok(session) => session,
-            Err(refusal) => return Outcome::Refused(refusal),
+            Err(refusal) => return Ack::Refused(refusal),
         };
         // the row is not moved: it has over a kilobyte
         match table_row(&row) {
-            Some(row) => match self.occupied(session, row.key) {
+            Some(row) => match self.check_update(session, row.key) {
                 Ok(place) => self.replace(s, place, &row),
                 Err(refusal) => self.refuse(s, refusal),
             },
-            None => Outcome::Refused(Refusal::TooLarge),
+            None => Ack::Refused(Refusal::TooLarge),
         }
     }
 }

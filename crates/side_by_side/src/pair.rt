@@ -2,7 +2,7 @@
 
 ghost use Rattle.std.specs.Prelude.{◌≡◌, ◌<◌, ◌≤◌, ◌↔◌, IsTrue, IfOk};
 ghost use Rattle.std.specs.Prelude.{option_copied};
-ghost use Rattle.side_by_side.specs.Rooms.{IsFull, AreFull};
+ghost use Rattle.side_by_side.specs.Rooms.{PageIsFull, AreFull};
 ghost use Rattle.xid_circle.specs.Circle.{IsNormal, distance_of};
 
 use crate::ask::{Ask, Bodies};
@@ -81,7 +81,8 @@ struct Before {
 
 // Whether from first to next is as far as ids may go.
 fn is_at_stop(first: Xid, next: Xid, stop_age: u32) -> bool
-    ensures { IsTrue result ↔ IsNormal first.0 × IsNormal next.0 × (stop_age ≤ distance_of first.0 next.0) }
+    ensures { IsTrue result
+        ↔ IsNormal first.0 × IsNormal next.0 × (stop_age ≤ distance_of first.0 next.0) }
 {
     first.is_normal() && next.is_normal() && distance(first, next) >= stop_age
 }
@@ -120,7 +121,7 @@ fn no_cursors(alloc: Global) -> Result<Vec<Cursor>, AllocError> {
 
 // Whether the page is in use, and a version of this size does not fit.
 fn is_full_page(page: Option<&Page>, size: usize) -> bool
-    ensures { IsTrue result ↔ IsFull (option_copied page.entry) size }
+    ensures { IsTrue result ↔ PageIsFull (option_copied page.entry) size }
 {
     match page {
         Some(page) => page.room() < size,
@@ -238,7 +239,8 @@ impl Pair {
 
     // Whether a version of this size fits on no page, and there may be no further page.
     fn is_full(&self, size: usize) -> bool
-        ensures { IsTrue result ↔ AreFull self.now.engine.core.heap.pages.pages self.now.settings.max_pages size }
+        ensures { IsTrue result
+            ↔ AreFull self.now.engine.core.heap.pages.pages self.now.settings.max_pages size }
     {
         for number in 0..self.settings.max_pages {
             if !is_full_page(self.engine.page(number), size) {

@@ -6,26 +6,26 @@ use Rattle.std.specs.List.{Contains}
 use Rattle.xid_circle.specs.Circle.{IsNormal}
 use Rattle.xid_circle.specs.declared.Xid.{Xid}
 use Rattle.commit_status.specs.Changes.{numbers}
-use Rattle.snapshot.specs.Own.{newest, fronts, AreMarks, AreNormal}
+use Rattle.snapshot.specs.Own.{newest, prefixes, AreMarks, AreNormal}
 
 pub marks-more : (ms : List ℕ) (n m : ℕ) → AreMarks n ms → n ≤ m → AreMarks m ms
 marks-more [] n m h l = tt
 marks-more (k ∷ ms) n m h l = let a = h.0 in (omega arith, h.1)
 
-pub fronts-append : (ms ids more : List ℕ) (n : ℕ) → AreMarks n ms → n ≤ length ids → fronts (ids ++ more) ms ≡ fronts ids ms
-fronts-append [] ids more n h l = refl
-fronts-append (k ∷ ms) ids more n h l =
+pub prefixes-append : (ms ids more : List ℕ) (n : ℕ) → AreMarks n ms → n ≤ length ids → prefixes (ids ++ more) ms ≡ prefixes ids ms
+prefixes-append [] ids more n h l = refl
+prefixes-append (k ∷ ms) ids more n h l =
     let a = h.0 in
     let here = take-append-le k ids more (omega arith) in
-    let rest = fronts-append ms ids more k h.1 (omega arith) in
+    let rest = prefixes-append ms ids more k h.1 (omega arith) in
     cc
 
-pub fronts-take : (ms ids : List ℕ) (n m : ℕ) → AreMarks n ms → n ≤ m → fronts (take m ids) ms ≡ fronts ids ms
-fronts-take [] ids n m h l = refl
-fronts-take (k ∷ ms) ids n m h l =
+pub prefixes-take : (ms ids : List ℕ) (n m : ℕ) → AreMarks n ms → n ≤ m → prefixes (take m ids) ms ≡ prefixes ids ms
+prefixes-take [] ids n m h l = refl
+prefixes-take (k ∷ ms) ids n m h l =
     let a = h.0 in
     let here = take-take k m ids (omega arith) in
-    let rest = fronts-take ms ids k m h.1 (omega arith) in
+    let rest = prefixes-take ms ids k m h.1 (omega arith) in
     cc
 
 pub normal-push : (ids : List Xid) (x : Xid) → AreNormal ids → IsNormal x.0 → AreNormal (ids ++ x ∷ [])
@@ -48,18 +48,18 @@ cut-same ids k count low e within =
     sym a ∙ ap length e ∙ b
 
 -- what is cut back to the newest mark keeps all marks
-pub marks-cut : (ids : List Xid) (ms : List ℕ) (count : ℕ) → AreMarks (length ids) ms → newest (fronts (numbers ids) ms) ≡ take count (numbers ids)
+pub marks-cut : (ids : List Xid) (ms : List ℕ) (count : ℕ) → AreMarks (length ids) ms → newest (prefixes (numbers ids) ms) ≡ take count (numbers ids)
     → count ≤ length (numbers ids) → AreMarks (length (take count ids)) ms
 marks-cut ids [] count are e within = tt
 marks-cut ids (k ∷ ms) count are e within = (let c = cut-same ids k count are.0 e within in let l = length-take-le count ids (let long = length-map ids (λ (x : Xid). x.0) in omega arith) in omega arith, are.1)
 
-pub fronts-cut : (ids : List Xid) (ms : List ℕ) (count : ℕ) → AreMarks (length ids) ms → newest (fronts (numbers ids) ms) ≡ take count (numbers ids)
-    → count ≤ length (numbers ids) → fronts (numbers (take count ids)) ms ≡ fronts (numbers ids) ms
-fronts-cut ids [] count are e within = refl
-fronts-cut ids (k ∷ ms) count are e within =
+pub prefixes-cut : (ids : List Xid) (ms : List ℕ) (count : ℕ) → AreMarks (length ids) ms → newest (prefixes (numbers ids) ms) ≡ take count (numbers ids)
+    → count ≤ length (numbers ids) → prefixes (numbers (take count ids)) ms ≡ prefixes (numbers ids) ms
+prefixes-cut ids [] count are e within = refl
+prefixes-cut ids (k ∷ ms) count are e within =
     let c = cut-same ids k count are.0 e within in
     let all : AreMarks k (k ∷ ms) = (omega arith, are.1) in
-    ap (λ xs. fronts xs (k ∷ ms)) (sym (take-map (λ (x : Xid). x.0) count ids)) ∙ fronts-take (k ∷ ms) (numbers ids) k count all (omega arith)
+    ap (λ xs. prefixes xs (k ∷ ms)) (sym (take-map (λ (x : Xid). x.0) count ids)) ∙ prefixes-take (k ∷ ms) (numbers ids) k count all (omega arith)
 
 -- without the newest mark
 pub marks-popped : (old new : List ℕ) (r : Option ℕ) (n : ℕ) → old ≡ new ++ option_to_list r → AreMarks n (reverse old) → AreMarks n (reverse new)
@@ -77,6 +77,6 @@ nowhere ids x none (k, h, e) =
     none k within (sym (get_or-map (λ (y : Xid). y.0) ids k (record { 0 = 0 }) x within) ∙ e)
 
 -- where a savepoint is, a mark is
-pub marks-some : (ids marks : List ℕ) → fronts ids (reverse marks) ≢ [] → 0 < length marks
+pub marks-some : (ids marks : List ℕ) → prefixes ids (reverse marks) ≢ [] → 0 < length marks
 marks-some ids [] some = absurd (some refl)
 marks-some ids (mark ∷ marks) some = omega arith

@@ -23,8 +23,8 @@ older [] = []
 older (ids ∷ saved) = saved
 
 -- the first so many ids, for each mark
-abbrev pub fronts : List ℕ → List ℕ → List (List ℕ)
-fronts ids marks = map (λ mark. take mark ids) marks
+abbrev pub prefixes : List ℕ → List ℕ → List (List ℕ)
+prefixes ids marks = map (λ mark. take mark ids) marks
 
 -- no mark is over the one that is newer, nor the newest over the number of ids
 abbrev pub AreMarks : ℕ → List ℕ → Type 0
@@ -34,10 +34,10 @@ AreMarks count (mark ∷ marks) = (mark ≤ count) × AreMarks mark marks
 -- Levels. A session has one level, and one more for each savepoint. The ids of a level are those that it had not at the
 -- savepoint which begins it. (The manual's "Subtransactions".)
 
--- What was there at a savepoint is a front of what was there at the next, and of what is there now.
-abbrev pub AreFronts : List ℕ → List (List ℕ) → Type 0
-AreFronts ids [] = Unit {0}
-AreFronts ids (before ∷ saved) = (since : List ℕ) × (ids ≡ before ++ since) × AreFronts before saved
+-- What was there at a savepoint is a prefix of what was there at the next, and of what is there now.
+abbrev pub ArePrefixes : List ℕ → List (List ℕ) → Type 0
+ArePrefixes ids [] = Unit {0}
+ArePrefixes ids (before ∷ saved) = (since : List ℕ) × (ids ≡ before ++ since) × ArePrefixes before saved
 
 -- no id is there twice
 abbrev pub AreDistinct : List ℕ → Type 0
@@ -45,16 +45,16 @@ AreDistinct [] = Unit {0}
 AreDistinct (x ∷ ids) = (¬ Contains ids x) × AreDistinct ids
 
 -- how many levels, from the newest down, have no id of their own
-abbrev pub lacks : List ℕ → List (List ℕ) → ℕ
-lacks ids [] = if length ids == 0 then 1 else 0
-lacks ids (before ∷ saved) = if length ids == length before then suc (lacks before saved) else 0
+abbrev pub unassigned_levels : List ℕ → List (List ℕ) → ℕ
+unassigned_levels ids [] = if length ids == 0 then 1 else 0
+unassigned_levels ids (before ∷ saved) = if length ids == length before then suc (unassigned_levels before saved) else 0
 
 -- The id of the newest level that has one: the first that was given since the savepoint which begins it. A level that was
 -- released has given its ids to the one below, which goes on under its own. (GetCurrentTransactionId in
 -- src/backend/access/transam/xact.c.)
-abbrev pub level_id : List ℕ → List (List ℕ) → Option ℕ
-level_id ids [] = slice_get ids 0
-level_id ids (before ∷ saved) = if length ids == length before then level_id before saved else slice_get ids (length before)
+abbrev pub current_xid : List ℕ → List (List ℕ) → Option ℕ
+current_xid ids [] = slice_get ids 0
+current_xid ids (before ∷ saved) = if length ids == length before then current_xid before saved else slice_get ids (length before)
 
 -- what was there at each savepoint: at the n newest the id is there too
 abbrev pub saved_with : ℕ → ℕ → List (List ℕ) → List (List ℕ)

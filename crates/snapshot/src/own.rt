@@ -4,7 +4,7 @@ ghost use Rattle.std.specs.Prelude.{◌≡◌, ◌≢◌, ◌+◌, ◌-◌, ◌<
 ghost use Rattle.std.specs.Option.{option_map};
 ghost use Rattle.xid_circle.specs.Circle.{IsNormal};
 ghost use Rattle.commit_status.specs.Changes.{numbers};
-ghost use Rattle.snapshot.specs.Own.{newest, older, lacks, level_id, saved_with, AreFronts};
+ghost use Rattle.snapshot.specs.Own.{newest, older, unassigned_levels, current_xid, saved_with, ArePrefixes};
 ghost use Rattle.snapshot.specs.Saving.{CannotSave};
 
 use smallvec::SmallVec;
@@ -36,13 +36,13 @@ pub struct OwnIds {
 impl Model for OwnIds {
     ghost use Rattle.std.specs.Prelude.{◌-◌, ◌≤◌, length, reverse, vec_len, vec_capacity};
     ghost use Rattle.commit_status.specs.Changes.{numbers};
-    ghost use Rattle.snapshot.specs.Own.{Own, fronts, AreMarks, AreNormal};
+    ghost use Rattle.snapshot.specs.Own.{Own, prefixes, AreMarks, AreNormal};
 
     ghost Value = { Own };
 
     ghost view = { λ o. record {
       ids = numbers o.ids.items;
-      saved = fronts (numbers o.ids.items) (reverse o.marks.items);
+      saved = prefixes (numbers o.ids.items) (reverse o.marks.items);
       spare = vec_capacity o.ids - vec_len o.ids;
       spare_marks = o.marks.capacity - length o.marks.items;
     } };
@@ -112,8 +112,8 @@ impl OwnIds {
     }
 
     /// How many levels, from the newest down, have no id of their own.
-    pub fn lacks(&self) -> u32
-        ensures { result ≡ lacks self.now.ids self.now.saved }
+    pub fn unassigned_levels(&self) -> u32
+        ensures { result ≡ unassigned_levels self.now.ids self.now.saved }
     {
         let count = self.ids.len();
         let mut levels = if count == 0 { 1 } else { 0 };
@@ -125,8 +125,8 @@ impl OwnIds {
     }
 
     /// The id of the newest level that has one, if any has: the first that was given since the savepoint which begins it.
-    pub fn level_id(&self) -> Option<Xid>
-        ensures value { option_map (λ x. x.0) result ≡ level_id self.now.ids self.now.saved }
+    pub fn current_xid(&self) -> Option<Xid>
+        ensures value { option_map (λ x. x.0) result ≡ current_xid self.now.ids self.now.saved }
         ensures normal { IfSome result (λ x. IsNormal x.0) }
     {
         self.ids.get(self.level_start()).copied()
@@ -134,7 +134,7 @@ impl OwnIds {
 
     /// How many ids there were when the newest level began that has one.
     fn level_start(&self) -> usize
-        ensures { level_id self.now.ids self.now.saved ≡ slice_get self.now.ids result }
+        ensures { current_xid self.now.ids self.now.saved ≡ slice_get self.now.ids result }
     {
         let count = self.ids.len();
         let mut start = 0;
@@ -150,21 +150,22 @@ impl OwnIds {
     pub fn add(&mut self, x: Xid)
         requires room { 0 < self.old.spare }
         requires normal { IsNormal x.0 }
-        requires lacking { 0 < lacks self.old.ids self.old.saved }
+        requires lacking { 0 < unassigned_levels self.old.ids self.old.saved }
         ensures ids { self.new.ids ≡ self.old.ids ++ x.0 ∷ [] }
-        ensures saved { self.new.saved ≡ saved_with (lacks self.old.ids self.old.saved - 1) x.0 self.old.saved }
+        ensures saved { self.new.saved
+            ≡ saved_with (unassigned_levels self.old.ids self.old.saved - 1) x.0 self.old.saved }
         ensures spare { self.old.spare ≡ self.new.spare + 1 }
         ensures spare_marks { self.new.spare_marks ≡ self.old.spare_marks }
     {
-        let above = self.lacks() as usize - 1;
+        let above = self.unassigned_levels() as usize - 1;
         self.ids.push_reserved(x);
         raise(self.marks.as_mut_slice(), above, self.ids.len());
     }
 
-    /// What was there at each savepoint is a front of what was there at the next, and of what is there now. It does
+    /// What was there at each savepoint is a prefix of what was there at the next, and of what is there now. It does
     /// nothing: its contract is the law.
-    pub fn are_fronts(&self)
-        ensures fronts { AreFronts self.now.ids self.now.saved }
+    pub fn are_prefixes(&self)
+        ensures prefixes { ArePrefixes self.now.ids self.now.saved }
         ensures few { length self.now.saved ≤ 32 }
     {
         let _ = &self.ids;
@@ -204,7 +205,7 @@ impl OwnIds {
     }
 
     /// The ids that were given since the newest savepoint. There has to be one.
-    pub fn since_save(&self) -> &[Xid]
+    pub fn since_savepoint(&self) -> &[Xid]
         requires { self.now.saved ≢ [] }
         ensures { self.now.ids ≡ newest self.now.saved ++ numbers result.now }
     {

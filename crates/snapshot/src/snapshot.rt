@@ -70,7 +70,7 @@ impl Snapshot {
         self.xmax
     }
 
-    fn sees_alone(&self, x: Xid) -> bool
+    fn has_finished(&self, x: Xid) -> bool
         ensures { IsTrue result ↔ SeesAlone self.now x.0 }
     {
         if stands_before(x, self.xmin) {
@@ -91,7 +91,7 @@ impl Snapshot {
             return false;
         }
         let tested = if self.overflowed { table.top_of(x) } else { x };
-        self.sees_alone(tested)
+        self.has_finished(tested)
     }
 
     /// Lists an open transaction by its own ids: the topmost one, and the others where they are at most 64. A

@@ -17,7 +17,7 @@ use Rattle.commit_status.specs.declared.status.Status.TheVariants.{InProgress, C
 use Rattle.commit_status.specs.Window.{Window, IsCommitted, IsInProgress, IsAborted}
 use Rattle.snapshot.specs.Snap.{Snap}
 use Rattle.visibility.proofs.Makers.{touch-cases, committed-to, active-to}
-use Rattle.visibility.specs.Visible.{IsFrozen, IsForeignIn, IsMissedIn}
+use Rattle.visibility.specs.Visible.{IsFrozen, IsOtherWriterIn, IsNewerCommitIn}
 use Rattle.visibility.specs.Seeing.{Touches}
 use Rattle.hot_chain.specs.Chain.{has_aborted, IsChain}
 use Rattle.hot_chain.proofs.Chains.{chain-one}
@@ -26,7 +26,7 @@ use Rattle.sound_page.proofs.SoundChains.{in-leads}
 use Rattle.root_index.specs.declared.entry.Entry.{Entry}
 use Rattle.root_index.specs.Sets.{IsOf}
 use Rattle.sound_entries.specs.Pages.{slots_on, version_in}
-use Rattle.sound_entries.specs.Entries.{IsSound}
+use Rattle.sound_entries.specs.Entries.{EntriesAreSound}
 use Rattle.sound_entries.specs.Leading.{IsUndone, IsByIndex}
 use Rattle.sound_entries.specs.Looking.{SomeAmong, SomeAt, SomeOf, IsIdAmong, IsIdAt, SomeOnHeap}
 use Rattle.sound_entries.proofs.Leads.{found, touched-made}
@@ -34,10 +34,10 @@ use Rattle.sound_entries.proofs.Fetching.{slots-there, slots-none, listed-in}
 
 -- One version.
 
--- neither the maker nor the deleter of the version
+-- neither the inserter nor the deleter of the version
 pub none-touched : (h : Header) (P : ℕ → Type 0) → (IsFrozen h ⊎ (¬ P h.xmin.0)) → ((h.xmax.0 ≡ 0) ⊎ (¬ P h.xmax.0)) → (x : ℕ) → Touches x h → ¬ P x
-none-touched h P maker deleter x touch p = ⊎_elim
-    (λ made. ⊎_elim (λ frozen. made.0 frozen) (λ none. none (subst P (sym made.1) p)) maker)
+none-touched h P inserter deleter x touch p = ⊎_elim
+    (λ made. ⊎_elim (λ frozen. made.0 frozen) (λ none. none (subst P (sym made.1) p)) inserter)
     (λ gone. ⊎_elim (λ zero. gone.0 zero) (λ none. none (subst P (sym gone.1) p)) deleter)
     (touch-cases h x touch)
 
@@ -94,7 +94,7 @@ none-of w P pages entries value key none x s = none s.entry s.there s.of x s.at
 
 -- On the heap.
 
-some-on_heap : (value_of : Row → ℤ) (w : Window) (horizon : ℕ) (pages : List (List Slot)) (entries : List Entry) (P : Header → Type 0) → IsSound value_of w horizon pages entries
+some-on_heap : (value_of : Row → ℤ) (w : Window) (horizon : ℕ) (pages : List (List Slot)) (entries : List Entry) (P : Header → Type 0) → EntriesAreSound value_of w horizon pages entries
     → ((p : Tid) (t : Version) → version_in pages p ≡ Some t → P t.header → ¬ IsUndone w t.header)
     → (value : ℤ) (key : ℕ) → SomeOf w P pages entries value key ↔ SomeOnHeap value_of pages value key P
 some-on_heap value_of w horizon pages entries P sound made value key = (
@@ -138,17 +138,17 @@ some-on_heap value_of w horizon pages entries P sound made value key = (
       }),
 )
 
-pub missed-on_heap : (value_of : Row → ℤ) (w : Window) (horizon : ℕ) (pages : List (List Slot)) (entries : List Entry) (s : Snap) (x : ℕ) → IsSound value_of w horizon pages entries
-    → (value : ℤ) (key : ℕ) → SomeOf w (IsMissedIn w s x) pages entries value key ↔ SomeOnHeap value_of pages value key (IsMissedIn w s x)
-missed-on_heap value_of w horizon pages entries s x sound value key = some-on_heap value_of w horizon pages entries (IsMissedIn w s x) sound
-    (λ p t at missed. touched-made w horizon (slots_on pages p.page) p.slot x t (sound.heap p.page) at (alive (committed-to w x missed.1)) missed.0) value key
+pub newer_commit-on_heap : (value_of : Row → ℤ) (w : Window) (horizon : ℕ) (pages : List (List Slot)) (entries : List Entry) (s : Snap) (x : ℕ) → EntriesAreSound value_of w horizon pages entries
+    → (value : ℤ) (key : ℕ) → SomeOf w (IsNewerCommitIn w s x) pages entries value key ↔ SomeOnHeap value_of pages value key (IsNewerCommitIn w s x)
+newer_commit-on_heap value_of w horizon pages entries s x sound value key = some-on_heap value_of w horizon pages entries (IsNewerCommitIn w s x) sound
+    (λ p t at newer_commit. touched-made w horizon (slots_on pages p.page) p.slot x t (sound.heap p.page) at (alive (committed-to w x newer_commit.1)) newer_commit.0) value key
   where
     alive : IsCommitted w x → ¬ IsAborted w x
     alive done gone = let e : Committed ≡ Aborted = sym done ∙ gone in cc
 
-pub foreign-on_heap : (value_of : Row → ℤ) (w : Window) (horizon : ℕ) (pages : List (List Slot)) (entries : List Entry) (own : List ℕ) (x : ℕ) → IsSound value_of w horizon pages entries
-    → (value : ℤ) (key : ℕ) → SomeOf w (IsForeignIn w own x) pages entries value key ↔ SomeOnHeap value_of pages value key (IsForeignIn w own x)
-foreign-on_heap value_of w horizon pages entries own x sound value key = some-on_heap value_of w horizon pages entries (IsForeignIn w own x) sound
+pub foreign-on_heap : (value_of : Row → ℤ) (w : Window) (horizon : ℕ) (pages : List (List Slot)) (entries : List Entry) (own : List ℕ) (x : ℕ) → EntriesAreSound value_of w horizon pages entries
+    → (value : ℤ) (key : ℕ) → SomeOf w (IsOtherWriterIn w own x) pages entries value key ↔ SomeOnHeap value_of pages value key (IsOtherWriterIn w own x)
+foreign-on_heap value_of w horizon pages entries own x sound value key = some-on_heap value_of w horizon pages entries (IsOtherWriterIn w own x) sound
     (λ p t at held. touched-made w horizon (slots_on pages p.page) p.slot x t (sound.heap p.page) at (alive (active-to w x held.active).unfinished) held.touch) value key
   where
     alive : IsInProgress w x → ¬ IsAborted w x

@@ -14,29 +14,29 @@ use Rattle.commit_status.specs.Window.{Window, IsActive}
 use Rattle.hot_chain.specs.Chain.{has_aborted, is_root, is_root_in}
 use Rattle.prune.specs.declared.action.Action.{Action}
 use Rattle.prune.specs.Actions.{acted}
-use Rattle.prune.specs.Pruning.{Does, by_root, by_none, IsPruned, loose_in, loose_action}
-use Rattle.sound_page.specs.Sound.{lead, entry_in, IsIn, SoundPage}
+use Rattle.prune.specs.Pruning.{PrunesSlot, by_root, by_none, IsPruned, loose_in, orphan_action}
+use Rattle.sound_page.specs.Sound.{lead, chain_start_in, IsIn, SoundPage}
 use Rattle.sound_page.proofs.Links.{member-version}
 use Rattle.sound_page.proofs.ChainPlaces.{place-of}
 use Rattle.prune.proofs.Removing.{pruned-removes}
 use Rattle.sound_page.proofs.SoundChains.{entry-root}
 use Rattle.prune.proofs.SoundAfter.{pruned-sound, pruned-keeps_chains}
-use Rattle.page_writes.specs.Headers.{root_header, heap_only_header, replaced_header}
-use Rattle.page_writes.specs.Writes.{with_root, with_replaced, with_updated}
-use Rattle.page_writes.specs.Keeps.{IsFree, KeepsEntries}
-use Rattle.page_writes.specs.Laws.{AddsRoot, TakesAway, UpdatesHere}
-use Rattle.page_writes.proofs.Growth.{none-some}
-use Rattle.page_writes.proofs.Slotted.{root-added, taken-away, updated-here, replaced-at, updated-slots}
+use Rattle.tuple_writes.specs.Headers.{root_header, heap_only_header, replaced_header}
+use Rattle.tuple_writes.specs.Writes.{with_root, with_replaced, with_updated}
+use Rattle.tuple_writes.specs.Keeps.{IsDeletable, KeepsEntries}
+use Rattle.tuple_writes.specs.Laws.{AddsRoot, SetsXmaxOnPage, HotUpdatesPage}
+use Rattle.tuple_writes.proofs.Growth.{none-some}
+use Rattle.tuple_writes.proofs.Slotted.{root-added, taken-away, updated-here, replaced-at, updated-slots}
 use Rattle.root_index.specs.declared.entry.Entry.{Entry}
-use Rattle.root_index.specs.Sets.{Adds, IsOf}
+use Rattle.root_index.specs.Sets.{AddsEntry, IsOf}
 use Rattle.sound_entries.specs.Pages.{slots_on, version_in, SoundHeap, Puts}
-use Rattle.sound_entries.specs.Entries.{entry_for, MayBeLed, IsSound, StaysLed, same_version, led_on, died, StaysSound}
+use Rattle.sound_entries.specs.Entries.{entry_for, MayBeTarget, EntriesAreSound, KeepsTarget, same_version, led_on, died, StaysSound}
 use Rattle.sound_entries.proofs.Leads.{chained-version}
 use Rattle.sound_entries.proofs.Going.{Resembles, PageGoesOn, stays-as, page-same, puts-pages, stay-sound, stay-led, add-sound}
 
 -- Roots.
 
-some-entry : (n : ℕ) (o : Option Slot) → is_root_in o ≡ true → (e : ℕ) × (entry_in n o ≡ Some e)
+some-entry : (n : ℕ) (o : Option Slot) → is_root_in o ≡ true → (e : ℕ) × (chain_start_in n o ≡ Some e)
 some-entry n None root = absurd (cc)
 some-entry n (Some Unused) root = absurd (cc)
 some-entry n (Some (Normal t)) root = (n, by (is_heap_only t.header) root)
@@ -58,16 +58,16 @@ in-root : (w : Window) (slots : List Slot) (root n : ℕ) → IsIn w slots root 
 in-root w slots root n i = entry-root slots root i.entry i.leads
 
 -- no entry leads to a slot for a new version
-free-unled : (slots : List Slot) → ¬ MayBeLed (slot_at slots (free_number slots))
+free-unled : (slots : List Slot) → ¬ MayBeTarget (slot_at slots (free_number slots))
 free-unled slots may = ⊎_elim
-    (λ none. not-none (subst (λ o. MayBeLed o) none may))
-    (λ unused. not-unused (subst (λ o. MayBeLed o) unused may))
+    (λ none. not-none (subst (λ o. MayBeTarget o) none may))
+    (λ unused. not-unused (subst (λ o. MayBeTarget o) unused may))
     (free_number-was slots)
   where
-    not-none : ¬ MayBeLed None
+    not-none : ¬ MayBeTarget None
     not-none m = ⊎_elim (λ e. cc) (λ e. cc) m
 
-    not-unused : ¬ MayBeLed (Some Unused)
+    not-unused : ¬ MayBeTarget (Some Unused)
     not-unused m = ⊎_elim (λ e. cc) (λ e. cc) m
 
 -- a version that stays in its chain
@@ -81,10 +81,10 @@ still-in value_of w horizon slots after root n t sound keeps i at =
 
 -- a version whose header alone changes
 stays-replaced : (w : Window) (slots after : List Slot) (m : ℕ) (t u : Version) → KeepsEntries w slots after → slot_at slots m ≡ Some (Normal t) → slot_at after m ≡ Some (Normal u)
-    → u.row ≡ t.row → u.header.xmin.0 ≡ t.header.xmin.0 → MayBeLed (slot_at slots m) → MayBeLed (slot_at after m) × StaysLed (slot_at slots m) (slot_at after m)
-stays-replaced w slots after m t u keeps here put row maker may = (
+    → u.row ≡ t.row → u.header.xmin.0 ≡ t.header.xmin.0 → MayBeTarget (slot_at slots m) → MayBeTarget (slot_at after m) × KeepsTarget (slot_at slots m) (slot_at after m)
+stays-replaced w slots after m t u keeps here put row inserter may = (
   ⊎_elim (λ root. inl (keeps.roots m root)) (λ dead. absurd (let e : Some Dead ≡ Some (Normal t) = sym dead ∙ here in cc)) may,
-  same_version t u here put row maker,
+  same_version t u here put row inserter,
 )
 
 -- Each step on its page.
@@ -93,7 +93,7 @@ adds-page : (value_of : Row → ℤ) (w : Window) (horizon : ℕ) (slots after :
     → PageGoesOn value_of w w slots after (λ n. n ≡ free_number slots)
 adds-page value_of w horizon slots after sound a = record {
   stays = λ n may. ⊎_elim
-      (λ here. absurd (free-unled slots (subst (λ k. MayBeLed (slot_at slots k)) here may)))
+      (λ here. absurd (free-unled slots (subst (λ k. MayBeTarget (slot_at slots k)) here may)))
       (λ other. stays-as (slot_at slots n) (slot_at after n) (a.others n other) may)
       (cases_eq n (free_number slots));
   roots = λ n root. roots-back w w slots after (λ k. k ≡ free_number slots)
@@ -112,15 +112,15 @@ own-chain value_of w horizon n slots after new a added i t within at = ⊎_elim
     (ap (λ (z : Version). value_of z.row) (sym one), ap (λ (z : Version). z.row.key) (sym one)))
     (a.chains.1 (free_number slots) i within)
 
-takes-page : (value_of : Row → ℤ) (w : Window) (horizon k x page place : ℕ) (slots : List Slot) → SoundPage w horizon slots → IsFree w slots k
-    → TakesAway w horizon slots (with_replaced slots k x page place false) k → PageGoesOn value_of w w slots (with_replaced slots k x page place false) (λ n. ⊥)
+takes-page : (value_of : Row → ℤ) (w : Window) (horizon k x page place : ℕ) (slots : List Slot) → SoundPage w horizon slots → IsDeletable w slots k
+    → SetsXmaxOnPage w horizon slots (with_replaced slots k x page place false) k → PageGoesOn value_of w w slots (with_replaced slots k x page place false) (λ n. ⊥)
 takes-page value_of w horizon k x page place slots sound f a =
     let after = with_replaced slots k x page place false in
     let t = f.version in
     let here = slot_at-from_version_at slots k t f.there in
     record {
       stays = λ n may. ⊎_elim
-          (λ same. subst (λ i. MayBeLed (slot_at slots i) → MayBeLed (slot_at after i) × StaysLed (slot_at slots i) (slot_at after i)) (sym same)
+          (λ same. subst (λ i. MayBeTarget (slot_at slots i) → MayBeTarget (slot_at after i) × KeepsTarget (slot_at slots i) (slot_at after i)) (sym same)
           (stays-replaced w slots after k t (record t { header = replaced_header t.header x page place false }) a.entries here (replaced-at slots k x page place false t here) refl refl) may)
           (λ other. stays-as (slot_at slots n) (slot_at after n) (a.others n other) may)
           (cases_eq n k);
@@ -130,7 +130,7 @@ takes-page value_of w horizon k x page place slots sound f a =
 
 updates-page : (value_of : Row → ℤ) (w : Window) (horizon k x page : ℕ) (slots : List Slot) (row : Row) (old : Version) → SoundPage w horizon slots → free_number slots ≤ 291
     → version_at slots k ≡ Some old → value_of row ≡ value_of old.row → row.key ≡ old.row.key
-    → UpdatesHere w horizon slots (with_updated slots k x page row) k (free_number slots) → PageGoesOn value_of w w slots (with_updated slots k x page row) (λ n. ⊥)
+    → HotUpdatesPage w horizon slots (with_updated slots k x page row) k (free_number slots) → PageGoesOn value_of w w slots (with_updated slots k x page row) (λ n. ⊥)
 updates-page value_of w horizon k x page slots row old sound few there value key a =
     let after = with_updated slots k x page row in
     let free = free_number slots in
@@ -139,10 +139,10 @@ updates-page value_of w horizon k x page slots row old sound few there value key
     let new : Version = record { header = heap_only_header x page free; row = row } in
     record {
       stays = λ n may. ⊎_elim
-          (λ same. subst (λ i. MayBeLed (slot_at slots i) → MayBeLed (slot_at after i) × StaysLed (slot_at slots i) (slot_at after i)) (sym same)
+          (λ same. subst (λ i. MayBeTarget (slot_at slots i) → MayBeTarget (slot_at after i) × KeepsTarget (slot_at slots i) (slot_at after i)) (sym same)
           (stays-replaced w slots after k old (record old { header = replaced_header old.header x page free true }) a.entries here r.put refl refl) may)
           (λ off. ⊎_elim
-          (λ same. absurd (free-unled slots (subst (λ i. MayBeLed (slot_at slots i)) same may)))
+          (λ same. absurd (free-unled slots (subst (λ i. MayBeTarget (slot_at slots i)) same may)))
           (λ other. stays-as (slot_at slots n) (slot_at after n) (a.others n off other) may)
           (cases_eq n free))
           (cases_eq n k);
@@ -168,7 +168,7 @@ dead-stays w horizon slots after n p at =
     let each = p.each n (there-from_slot_at slots n Dead at) in
     by each.answer each.does each.is
   where
-    by : (o : Option Action) → Does w horizon slots n o → slot_at after n ≡ acted (slot_at slots n) o → slot_at after n ≡ Some Dead
+    by : (o : Option Action) → PrunesSlot w horizon slots n o → slot_at after n ≡ acted (slot_at slots n) o → slot_at after n ≡ Some Dead
     by o (by_root root chain cut i c e) is = absurd (⊎_elim
         (λ same. let off : false ≡ true = ap is_root_in (sym at) ∙ ap (is_root slots) same ∙ i.starts in cc)
         (λ holds.
@@ -177,7 +177,7 @@ dead-stays w horizon slots after n p at =
         none-some (version_at slots n) v.version (ap (option_and_then version_of) at) (ap (version_at slots) (sym q.2) ∙ v.there))
         i.holds)
     by o (by_none loose e) is =
-        let none : loose_action w slots n ≡ None = ap (λ (s : Option Slot). loose_in w (option_map (λ t. t.header) (option_and_then version_of s))) at in
+        let none : orphan_action w slots n ≡ None = ap (λ (s : Option Slot). loose_in w (option_map (λ t. t.header) (option_and_then version_of s))) at in
         is ∙ ap (acted (slot_at slots n)) (e ∙ none) ∙ at
 
 prunes-page : (value_of : Row → ℤ) (w : Window) (horizon : ℕ) (slots after : List Slot) → SoundPage w horizon slots → IsPruned w horizon slots after
@@ -203,7 +203,7 @@ prunes-page value_of w horizon slots after sound p =
       });
     }
   where
-    leads : (n : ℕ) → is_root slots n ≡ true → (kept : Option ℕ) → slot_at after n ≡ Some (lead kept) → MayBeLed (slot_at after n) × StaysLed (slot_at slots n) (slot_at after n)
+    leads : (n : ℕ) → is_root slots n ≡ true → (kept : Option ℕ) → slot_at after n ≡ Some (lead kept) → MayBeTarget (slot_at after n) × KeepsTarget (slot_at slots n) (slot_at after n)
     leads n root None is = (inr is, died is)
     leads n root (Some k) is = (inl (ap is_root_in is), led_on k root is)
 
@@ -216,7 +216,7 @@ heap-puts w horizon n pages pages' after heap puts sound m = ⊎_elim
     (λ other. subst (SoundPage w horizon) (sym (puts.others m other)) (heap m))
     (cases_eq m n)
 
-stays-on : (value_of : Row → ℤ) (w : Window) (horizon n : ℕ) (pages pages' : List (List Slot)) (entries : List Entry) (after : List Slot) → IsSound value_of w horizon pages entries
+stays-on : (value_of : Row → ℤ) (w : Window) (horizon n : ℕ) (pages pages' : List (List Slot)) (entries : List Entry) (after : List Slot) → EntriesAreSound value_of w horizon pages entries
     → Puts pages pages' n after → SoundPage w horizon after → PageGoesOn value_of w w (slots_on pages n) after (λ k. ⊥) → StaysSound value_of w horizon pages pages' entries entries
 stays-on value_of w horizon n pages pages' entries after sound puts page step =
     let goes = puts-pages value_of w pages pages' n after (λ m k. ⊥) puts step in
@@ -229,7 +229,7 @@ stays-on value_of w horizon n pages pages' entries after sound puts page step =
     }
 
 pub taking-stays : (value_of : Row → ℤ) (w : Window) (horizon n k x page place : ℕ) (pages pages' : List (List Slot)) (entries : List Entry)
-    → IsSound value_of w horizon pages entries → IsActive w x → IsFree w (slots_on pages n) k
+    → EntriesAreSound value_of w horizon pages entries → IsActive w x → IsDeletable w (slots_on pages n) k
     → Puts pages pages' n (with_replaced (slots_on pages n) k x page place false)
     → StaysSound value_of w horizon pages pages' entries entries
 taking-stays value_of w horizon n k x page place pages pages' entries sound active free puts =
@@ -238,7 +238,7 @@ taking-stays value_of w horizon n k x page place pages pages' entries sound acti
     stays-on value_of w horizon n pages pages' entries (with_replaced slots k x page place false) sound puts a.sound (takes-page value_of w horizon k x page place slots (sound.heap n) free a)
 
 pub updating-stays : (value_of : Row → ℤ) (w : Window) (horizon n k x page : ℕ) (pages pages' : List (List Slot)) (entries : List Entry) (row : Row) (old : Version)
-    → IsSound value_of w horizon pages entries → IsActive w x → IsFree w (slots_on pages n) k → free_number (slots_on pages n) ≤ 291
+    → EntriesAreSound value_of w horizon pages entries → IsActive w x → IsDeletable w (slots_on pages n) k → free_number (slots_on pages n) ≤ 291
     → version_in pages (record { page = n; slot = k }) ≡ Some old → value_of row ≡ value_of old.row → row.key ≡ old.row.key
     → Puts pages pages' n (with_updated (slots_on pages n) k x page row)
     → StaysSound value_of w horizon pages pages' entries entries
@@ -249,20 +249,20 @@ updating-stays value_of w horizon n k x page pages pages' entries row old sound 
     (updates-page value_of w horizon k x page slots row old (sound.heap n) few there value key a)
 
 pub pruning-stays : (value_of : Row → ℤ) (w : Window) (horizon n : ℕ) (pages pages' : List (List Slot)) (entries : List Entry) (after : List Slot)
-    → IsSound value_of w horizon pages entries → IsPruned w horizon (slots_on pages n) after → Puts pages pages' n after
+    → EntriesAreSound value_of w horizon pages entries → IsPruned w horizon (slots_on pages n) after → Puts pages pages' n after
     → StaysSound value_of w horizon pages pages' entries entries
 pruning-stays value_of w horizon n pages pages' entries after sound p puts =
     stays-on value_of w horizon n pages pages' entries after sound puts (pruned-sound w horizon (slots_on pages n) after (sound.heap n) p)
     (prunes-page value_of w horizon (slots_on pages n) after (sound.heap n) p)
 
 pub growing-stays : (value_of : Row → ℤ) (w : Window) (horizon n : ℕ) (pages pages' : List (List Slot)) (entries : List Entry)
-    → IsSound value_of w horizon pages entries → Puts pages pages' n (slots_on pages n) → StaysSound value_of w horizon pages pages' entries entries
+    → EntriesAreSound value_of w horizon pages entries → Puts pages pages' n (slots_on pages n) → StaysSound value_of w horizon pages pages' entries entries
 growing-stays value_of w horizon n pages pages' entries sound puts =
     stays-on value_of w horizon n pages pages' entries (slots_on pages n) sound puts (sound.heap n) (page-same value_of w w (slots_on pages n) (λ k. ⊥) (λ root k i. i))
 
 pub adding-stays : (value_of : Row → ℤ) (w : Window) (horizon x n : ℕ) (pages pages' : List (List Slot)) (entries entries' : List Entry) (updated : Bool) (row : Row)
-    → IsSound value_of w horizon pages entries → IsActive w x → free_number (slots_on pages n) ≤ 291
-    → Puts pages pages' n (with_root (slots_on pages n) updated x n row) → Adds entries entries' (entry_for value_of row n (free_number (slots_on pages n)))
+    → EntriesAreSound value_of w horizon pages entries → IsActive w x → free_number (slots_on pages n) ≤ 291
+    → Puts pages pages' n (with_root (slots_on pages n) updated x n row) → AddsEntry entries entries' (entry_for value_of row n (free_number (slots_on pages n)))
     → StaysSound value_of w horizon pages pages' entries entries'
 adding-stays value_of w horizon x n pages pages' entries entries' updated row sound active few puts adds =
     let slots = slots_on pages n in

@@ -19,16 +19,16 @@ use Rattle.hot_chain.proofs.Chains.{chain-one}
 use Rattle.sound_page.specs.Sound.{IsIn, SoundPage}
 use Rattle.sound_page.proofs.ChainPlaces.{place-of, at-place}
 use Rattle.sound_page.proofs.SoundChains.{in-leads, leads-in}
-use Rattle.page_writes.proofs.Growth.{none-some}
+use Rattle.tuple_writes.proofs.Growth.{none-some}
 use Rattle.root_index.specs.declared.entry.Entry.{Entry}
 use Rattle.sound_entries.specs.Pages.{slots_on, version_in}
-use Rattle.sound_entries.specs.Entries.{MayBeLed, IsSound}
+use Rattle.sound_entries.specs.Entries.{MayBeTarget, EntriesAreSound}
 use Rattle.sound_entries.specs.Leading.{IsOnHeap, IsByIndex}
 use Rattle.sound_entries.specs.Looking.{IsNextOf, FetchedAt, FirstFound, IsSeenAt, IsFirstPlace, FirstPlace}
 use Rattle.sound_entries.proofs.Leads.{visible-found}
 
 -- what is in the list of a chain to which an entry may lead, is in the chain
-pub listed-in : (w : Window) (slots : List Slot) (root i : ℕ) (chain : List ℕ) → MayBeLed (slot_at slots root) → IsChain (has_aborted w) slots root chain → i < length chain
+pub listed-in : (w : Window) (slots : List Slot) (root i : ℕ) (chain : List ℕ) → MayBeTarget (slot_at slots root) → IsChain (has_aborted w) slots root chain → i < length chain
     → IsIn w slots root (get_or chain i 0)
 listed-in w slots root i chain may is within = ⊎_elim
     (λ starts. leads-in w slots root (get_or chain i 0) (record { starts = starts; chain = chain; is_chain = is; holds = at-place (get_or chain i 0) chain i within refl }))
@@ -45,7 +45,7 @@ fetched-none w horizon seen slots root n t sound (chain, is, none) within at has
     let p = place-of n chain (subst (λ c. Contains c n) one l.holds) in
     none p.0 t p.1 (ap (version_at slots) p.2 ∙ at) has
 
-pub found-on_heap : (value_of : Row → ℤ) (w : Window) (horizon : ℕ) (pages : List (List Slot)) (entries : List Entry) (s : Snap) (own : List ℕ) → IsSound value_of w horizon pages entries
+pub found-on_heap : (value_of : Row → ℤ) (w : Window) (horizon : ℕ) (pages : List (List Slot)) (entries : List Entry) (s : Snap) (own : List ℕ) → EntriesAreSound value_of w horizon pages entries
     → ((x : ℕ) → Contains own x → IsActive w x) → (value : ℤ) (key : ℕ) (answer : Option Row) → FirstFound w (IsVisible w s own) pages entries value key answer
     → MatchOption answer
     ((p : Tid) (t : Version) → ¬ IsOnHeap value_of pages value key (λ t. IsVisible w s own t.header) p t)
@@ -70,7 +70,7 @@ found-on_heap value_of w horizon pages entries s own sound active value key (Som
     } in
     (p, f.version, (visible-found value_of w horizon pages entries sound s own active value key p f.version).1 i, f.is_row)
 
-pub the_row-found : (value_of : Row → ℤ) (w : Window) (horizon : ℕ) (pages : List (List Slot)) (entries : List Entry) (s : Snap) (own : List ℕ) → IsSound value_of w horizon pages entries
+pub the_row-found : (value_of : Row → ℤ) (w : Window) (horizon : ℕ) (pages : List (List Slot)) (entries : List Entry) (s : Snap) (own : List ℕ) → EntriesAreSound value_of w horizon pages entries
     → ((x : ℕ) → Contains own x → IsActive w x) → (value : ℤ) (key : ℕ)
     → ((p q : Tid) (t u : Version) → IsOnHeap value_of pages value key (λ t. IsVisible w s own t.header) p t → IsOnHeap value_of pages value key (λ t. IsVisible w s own t.header) q u → p ≡ q)
     → (answer : Option Row) → FirstFound w (IsVisible w s own) pages entries value key answer
@@ -174,7 +174,7 @@ pub no-place : (w : Window) (seen : Header → Type 0) (pages : List (List Slot)
     → FirstPlace w seen pages entries value key None
 no-place w seen pages entries stored value key same least = λ e there of. absurd (least e there ((of.0 ∙ sym same, of.1), tt))
 
-pub place-on_heap : (value_of : Row → ℤ) (w : Window) (horizon : ℕ) (pages : List (List Slot)) (entries : List Entry) (s : Snap) (own : List ℕ) → IsSound value_of w horizon pages entries
+pub place-on_heap : (value_of : Row → ℤ) (w : Window) (horizon : ℕ) (pages : List (List Slot)) (entries : List Entry) (s : Snap) (own : List ℕ) → EntriesAreSound value_of w horizon pages entries
     → ((x : ℕ) → Contains own x → IsActive w x) → (value : ℤ) (key : ℕ) (answer : Option Tid) → FirstPlace w (IsVisible w s own) pages entries value key answer
     → MatchOption answer
     ((p : Tid) (t : Version) → ¬ IsOnHeap value_of pages value key (λ t. IsVisible w s own t.header) p t)

@@ -14,11 +14,11 @@ use Rattle.sound_page.specs.Links.{link}
 use Rattle.sound_page.specs.Sound.{IsIn}
 use Rattle.sound_page.proofs.Links.{link-of}
 use Rattle.sound_page.proofs.Undone.{has-aborted, aborted-has}
-use Rattle.page_writes.specs.Laws.{DeletedWhatWasMade, AloneDeletedTheirs}
-use Rattle.page_writes.proofs.Statuses.{successor-from, replaced-live, giving-sound, committing-sound, aborting-sound, later-sound, aborted-other}
+use Rattle.tuple_writes.specs.Laws.{DeletedWhatWasMade, AloneDeletedTheirs}
+use Rattle.tuple_writes.proofs.Statuses.{successor-from, replaced-live, giving-sound, committing-sound, aborting-sound, later-sound, aborted-other}
 use Rattle.root_index.specs.declared.entry.Entry.{Entry}
 use Rattle.sound_entries.specs.Pages.{slots_on, SoundHeap}
-use Rattle.sound_entries.specs.Entries.{IsSound, StaysSound}
+use Rattle.sound_entries.specs.Entries.{EntriesAreSound, StaysSound}
 use Rattle.sound_entries.proofs.Going.{PageGoesOn, page-same, stay-sound, stay-led}
 
 -- Where what was aborted stays so, no link comes.
@@ -43,7 +43,7 @@ module _ (w v : Window) (aborted : (x : ℕ) → IsAborted w x → IsAborted v x
   in-back slots root n i =
       record { entry = i.entry; leads = i.leads; later = record { turns = i.later.turns; along = along-back slots i.later.turns i.entry n i.later.along } }
 
-  pub statuses-stay : (value_of : Row → ℤ) (horizon later : ℕ) (pages : List (List Slot)) (entries : List Entry) → IsSound value_of w horizon pages entries → SoundHeap v later pages
+  pub statuses-stay : (value_of : Row → ℤ) (horizon later : ℕ) (pages : List (List Slot)) (entries : List Entry) → EntriesAreSound value_of w horizon pages entries → SoundHeap v later pages
       → StaysSound value_of v later pages pages entries entries
   statuses-stay value_of horizon later pages entries sound heap = record {
     sound = record { heap = heap; index = stay-sound value_of w v pages pages entries sound.index goes };
@@ -54,27 +54,27 @@ module _ (w v : Window) (aborted : (x : ℕ) → IsAborted w x → IsAborted v x
       goes m = page-same value_of w v (slots_on pages m) (λ k. ⊥) (in-back (slots_on pages m))
 
 pub giving-stays : (value_of : Row → ℤ) (w v : Window) (horizon : ℕ) (parent : Option ℕ) (pages : List (List Slot)) (entries : List Entry)
-    → IsSound value_of w horizon pages entries → IsWindow w → IsWindow v → Gives w v parent → StaysSound value_of v horizon pages pages entries entries
+    → EntriesAreSound value_of w horizon pages entries → IsWindow w → IsWindow v → Gives w v parent → StaysSound value_of v horizon pages pages entries entries
 giving-stays value_of w v horizon parent pages entries sound before after gives =
     statuses-stay w v (λ x gone. gives-status w v parent x before after gives ∙ gone) value_of horizon horizon pages entries sound
     (λ n. giving-sound w v horizon parent (slots_on pages n) before after gives (sound.heap n))
 
 pub committing-stays : (value_of : Row → ℤ) (w v : Window) (horizon : ℕ) (ids : List ℕ) (pages : List (List Slot)) (entries : List Entry)
-    → IsSound value_of w horizon pages entries → ((x : ℕ) → Contains ids x → IsActive w x) → Finishes w v ids Committed
+    → EntriesAreSound value_of w horizon pages entries → ((x : ℕ) → Contains ids x → IsActive w x) → Finishes w v ids Committed
     → ((n : ℕ) → DeletedWhatWasMade w (slots_on pages n) ids) → StaysSound value_of v horizon pages pages entries entries
 committing-stays value_of w v horizon ids pages entries sound active f theirs =
     statuses-stay w v (λ x gone. aborted-other w v ids Committed x active f gone) value_of horizon horizon pages entries sound
     (λ n. committing-sound w v horizon ids (slots_on pages n) active f (theirs n) (sound.heap n))
 
 pub aborting-stays : (value_of : Row → ℤ) (w v : Window) (horizon : ℕ) (ids : List ℕ) (pages : List (List Slot)) (entries : List Entry)
-    → IsSound value_of w horizon pages entries → ((x : ℕ) → Contains ids x → IsActive w x) → Finishes w v ids Aborted
+    → EntriesAreSound value_of w horizon pages entries → ((x : ℕ) → Contains ids x → IsActive w x) → Finishes w v ids Aborted
     → ((n : ℕ) → AloneDeletedTheirs w (slots_on pages n) ids) → StaysSound value_of v horizon pages pages entries entries
 aborting-stays value_of w v horizon ids pages entries sound active f theirs =
     statuses-stay w v (λ x gone. aborted-other w v ids Aborted x active f gone) value_of horizon horizon pages entries sound
     (λ n. aborting-sound w v horizon ids (slots_on pages n) active f (theirs n) (sound.heap n))
 
 pub later-stays : (value_of : Row → ℤ) (w : Window) (horizon later : ℕ) (pages : List (List Slot)) (entries : List Entry)
-    → IsSound value_of w horizon pages entries → IsWindow w → IsUpToNext w horizon → IsUpToNext w later → turns w.first horizon ≤ turns w.first later
+    → EntriesAreSound value_of w horizon pages entries → IsWindow w → IsUpToNext w horizon → IsUpToNext w later → turns w.first horizon ≤ turns w.first later
     → StaysSound value_of w later pages pages entries entries
 later-stays value_of w horizon later pages entries sound is uh ul low =
     statuses-stay w w (λ x gone. gone) value_of horizon later pages entries sound

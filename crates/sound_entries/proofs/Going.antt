@@ -13,9 +13,9 @@ use Rattle.commit_status.specs.Window.{Window}
 use Rattle.hot_chain.specs.Chain.{is_root, is_root_in}
 use Rattle.sound_page.specs.Sound.{IsIn}
 use Rattle.root_index.specs.declared.entry.Entry.{Entry}
-use Rattle.root_index.specs.Sets.{Adds, IsOf}
+use Rattle.root_index.specs.Sets.{AddsEntry, IsOf}
 use Rattle.sound_entries.specs.Pages.{slots_on, slot_in, Puts}
-use Rattle.sound_entries.specs.Entries.{MayBeLed, SoundEntries, StaysLed, same_version, led_on, died, KeepsLed}
+use Rattle.sound_entries.specs.Entries.{MayBeTarget, SoundEntries, KeepsTarget, same_version, led_on, died, KeepsTargets}
 
 -- a version of the chain has the same value and the same key
 pub record Resembles (value_of : Row → ℤ) (w : Window) (slots : List Slot) (root : ℕ) (row : Row) : Type 0 where
@@ -28,21 +28,21 @@ pub record Resembles (value_of : Row → ℤ) (w : Window) (slots : List Slot) (
 
 -- a step on a page, on which these roots are new
 pub record PageGoesOn (value_of : Row → ℤ) (w v : Window) (slots after : List Slot) (IsNew : ℕ → Type 0) : Type 0 where
-  pub stays : (n : ℕ) → MayBeLed (slot_at slots n) → MayBeLed (slot_at after n) × StaysLed (slot_at slots n) (slot_at after n)
+  pub stays : (n : ℕ) → MayBeTarget (slot_at slots n) → MayBeTarget (slot_at after n) × KeepsTarget (slot_at slots n) (slot_at after n)
   pub roots : (n : ℕ) → is_root after n ≡ true → (is_root slots n ≡ true) ⊎ IsNew n
   pub chains : (root n : ℕ) (t : Version) → IsIn v after root n → version_at after n ≡ Some t → Resembles value_of w slots root t.row ⊎ IsNew root
 
 -- A slot that is as it was.
 
-pub stays-same : (o : Option Slot) → MayBeLed o → StaysLed o o
+pub stays-same : (o : Option Slot) → MayBeTarget o → KeepsTarget o o
 stays-same None may = absurd (⊎_elim (λ e. cc) (λ e. cc) may)
 stays-same (Some Unused) may = absurd (⊎_elim (λ e. cc) (λ e. cc) may)
 stays-same (Some (Normal t)) may = same_version t t refl refl refl refl
 stays-same (Some (Redirect k)) may = led_on k refl refl
 stays-same (Some Dead) may = died refl
 
-pub stays-as : (o p : Option Slot) → p ≡ o → MayBeLed o → MayBeLed p × StaysLed o p
-stays-as o p same may = subst (λ (q : Option Slot). MayBeLed q × StaysLed o q) (sym same) (may, stays-same o may)
+pub stays-as : (o p : Option Slot) → p ≡ o → MayBeTarget o → MayBeTarget p × KeepsTarget o p
+stays-as o p same may = subst (λ (q : Option Slot). MayBeTarget q × KeepsTarget o q) (sym same) (may, stays-same o may)
 
 -- a page with the same slots, whose chains have nothing new
 pub page-same : (value_of : Row → ℤ) (w v : Window) (slots : List Slot) (IsNew : ℕ → Type 0) → ((root n : ℕ) → IsIn v slots root n → IsIn w slots root n)
@@ -78,19 +78,19 @@ module _ (value_of : Row → ℤ) (w v : Window) (pages pages' : List (List Slot
       alike-as e t there r = let of = sound.alike e r.place r.version there r.within r.there in (of.0 ∙ sym r.value, of.1 ∙ sym r.key)
 
   pub stay-led : (IsNew : ℕ → ℕ → Type 0) → ((m : ℕ) → PageGoesOn value_of w v (slots_on pages m) (slots_on pages' m) (IsNew m))
-      → (entries' : List Entry) → KeepsLed pages pages' entries entries'
+      → (entries' : List Entry) → KeepsTargets pages pages' entries entries'
   stay-led IsNew goes entries' e there after = ((goes e.tid.page).stays e.tid.slot (sound.leads e there)).1
 
   -- an entry comes, with the one new root
   pub add-sound : (new : Entry) (entries' : List Entry)
       → ((m : ℕ) → PageGoesOn value_of w v (slots_on pages m) (slots_on pages' m) (λ n. (m ≡ new.tid.page) × (n ≡ new.tid.slot)))
-      → Adds entries entries' new → ¬ MayBeLed (slot_in pages new.tid) → MayBeLed (slot_in pages' new.tid)
+      → AddsEntry entries entries' new → ¬ MayBeTarget (slot_in pages new.tid) → MayBeTarget (slot_in pages' new.tid)
       → ((n : ℕ) (t : Version) → IsIn v (slots_on pages' new.tid.page) new.tid.slot n → version_at (slots_on pages' new.tid.page) n ≡ Some t → IsOf (value_of t.row) t.row.key new)
       → SoundEntries value_of v pages' entries'
   add-sound new entries' goes adds was is own = record {
     leads = λ e there. ⊎_elim
         (λ old. ((goes e.tid.page).stays e.tid.slot (sound.leads e old)).0)
-        (λ same. subst (λ (f : Entry). MayBeLed (slot_in pages' f.tid)) (sym same) is)
+        (λ same. subst (λ (f : Entry). MayBeTarget (slot_in pages' f.tid)) (sym same) is)
         ((adds.members e).0 there);
     led = λ p root. ⊎_elim
         (λ old. let s = sound.led p old in record { entry = s.entry; there = (adds.members s.entry).1 (inl s.there); at = s.at })
@@ -117,29 +117,29 @@ module _ (value_of : Row → ℤ) (w v : Window) (pages pages' : List (List Slot
   }
     where
       not-new : (e : Entry) → Contains entries e → e.tid ≡ new.tid → ⊥
-      not-new e there same = was (subst (λ (p : Tid). MayBeLed (slot_in pages p)) same (sound.leads e there))
+      not-new e there same = was (subst (λ (p : Tid). MayBeTarget (slot_in pages p)) same (sound.leads e there))
 
 -- Two steps.
 
-pub stays-then : (a b c : Option Slot) → MayBeLed a → StaysLed a b → StaysLed b c → StaysLed a c
-stays-then a b c may (StaysLed.same_version t u here there row maker) (StaysLed.same_version u2 x from to row2 maker2) =
+pub stays-then : (a b c : Option Slot) → MayBeTarget a → KeepsTarget a b → KeepsTarget b c → KeepsTarget a c
+stays-then a b c may (KeepsTarget.same_version t u here there row inserter) (KeepsTarget.same_version u2 x from to row2 maker2) =
     let one : u ≡ u2 = normal-one u u2 (sym there ∙ from) in
-    same_version t x here to (row2 ∙ ap (λ (z : Version). z.row) (sym one) ∙ row) (maker2 ∙ ap (λ (z : Version). z.header.xmin.0) (sym one) ∙ maker)
+    same_version t x here to (row2 ∙ ap (λ (z : Version). z.row) (sym one) ∙ row) (maker2 ∙ ap (λ (z : Version). z.header.xmin.0) (sym one) ∙ inserter)
   where
     normal-one : (x y : Version) → Some (Normal x) ≡ Some (Normal y) → x ≡ y
     normal-one x y e = cc
-stays-then a b c may (StaysLed.same_version t u here there row maker) (StaysLed.led_on k root to) =
+stays-then a b c may (KeepsTarget.same_version t u here there row inserter) (KeepsTarget.led_on k root to) =
     led_on k (⊎_elim (λ is. is) (λ dead. absurd (let e : Some Dead ≡ Some (Normal t) = sym dead ∙ here in cc)) may) to
-stays-then a b c may (StaysLed.same_version t u here there row maker) (StaysLed.died to) = died to
-stays-then a b c may (StaysLed.led_on j root there) (StaysLed.same_version u x from to row maker) =
+stays-then a b c may (KeepsTarget.same_version t u here there row inserter) (KeepsTarget.died to) = died to
+stays-then a b c may (KeepsTarget.led_on j root there) (KeepsTarget.same_version u x from to row inserter) =
     absurd (let e : Some (Redirect j) ≡ Some (Normal u) = sym there ∙ from in cc)
-stays-then a b c may (StaysLed.led_on j root there) (StaysLed.led_on k root2 to) = led_on k root to
-stays-then a b c may (StaysLed.led_on j root there) (StaysLed.died to) = died to
-stays-then a b c may (StaysLed.died there) (StaysLed.same_version u x from to row maker) = absurd (let e : Some Dead ≡ Some (Normal u) = sym there ∙ from in cc)
-stays-then a b c may (StaysLed.died there) (StaysLed.led_on k root to) = absurd (let e : false ≡ true = ap is_root_in (sym there) ∙ root in cc)
-stays-then a b c may (StaysLed.died there) (StaysLed.died to) = died to
+stays-then a b c may (KeepsTarget.led_on j root there) (KeepsTarget.led_on k root2 to) = led_on k root to
+stays-then a b c may (KeepsTarget.led_on j root there) (KeepsTarget.died to) = died to
+stays-then a b c may (KeepsTarget.died there) (KeepsTarget.same_version u x from to row inserter) = absurd (let e : Some Dead ≡ Some (Normal u) = sym there ∙ from in cc)
+stays-then a b c may (KeepsTarget.died there) (KeepsTarget.led_on k root to) = absurd (let e : false ≡ true = ap is_root_in (sym there) ∙ root in cc)
+stays-then a b c may (KeepsTarget.died there) (KeepsTarget.died to) = died to
 
 pub led-then : (value_of : Row → ℤ) (w : Window) (a b c : List (List Slot)) (xs ys zs : List Entry) → SoundEntries value_of w a xs
-    → ((e : Entry) → Contains xs e → Contains ys e) → KeepsLed a b xs ys → KeepsLed b c ys zs → KeepsLed a c xs zs
+    → ((e : Entry) → Contains xs e → Contains ys e) → KeepsTargets a b xs ys → KeepsTargets b c ys zs → KeepsTargets a c xs zs
 led-then value_of w a b c xs ys zs sound more first second e there among =
     stays-then (slot_in a e.tid) (slot_in b e.tid) (slot_in c e.tid) (sound.leads e there) (first e there (more e there)) (second e (more e there) among)

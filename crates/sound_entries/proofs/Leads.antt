@@ -19,11 +19,11 @@ use Rattle.sound_page.specs.Sound.{IsIn, SoundPage, SomeRoot}
 use Rattle.sound_page.proofs.Links.{SomeVersion, member-version}
 use Rattle.sound_page.proofs.ChainPlaces.{place-of}
 use Rattle.sound_page.proofs.SoundChains.{entry-root, in-leads}
-use Rattle.page_writes.proofs.Growth.{entry-normal}
+use Rattle.tuple_writes.proofs.Growth.{entry-normal}
 use Rattle.root_index.specs.declared.entry.Entry.{Entry}
 use Rattle.sound_entries.specs.Pages.{slots_on, version_in}
-use Rattle.sound_entries.specs.Entries.{IsSound}
-use Rattle.sound_entries.specs.Leading.{IsUndone, LedByOne, IsOnHeap, IsByIndex}
+use Rattle.sound_entries.specs.Entries.{EntriesAreSound}
+use Rattle.sound_entries.specs.Leading.{IsUndone, HasOneEntry, IsOnHeap, IsByIndex}
 
 -- On one page.
 
@@ -55,8 +55,8 @@ seen-made w R t none seen undone = ⊎_elim (λ frozen. undone.thawed frozen) (�
 
 -- On all pages.
 
-module _ (value_of : Row → ℤ) (w : Window) (horizon : ℕ) (pages : List (List Slot)) (entries : List Entry) (sound : IsSound value_of w horizon pages entries) where
-  pub led_by_one : (p : Tid) (t : Version) → version_in pages p ≡ Some t → ¬ IsUndone w t.header → LedByOne w pages entries p (value_of t.row) t.row.key
+module _ (value_of : Row → ℤ) (w : Window) (horizon : ℕ) (pages : List (List Slot)) (entries : List Entry) (sound : EntriesAreSound value_of w horizon pages entries) where
+  pub led_by_one : (p : Tid) (t : Version) → version_in pages p ≡ Some t → ¬ IsUndone w t.header → HasOneEntry w pages entries p (value_of t.row) t.row.key
   led_by_one p t at done =
       let slots = slots_on pages p.page in
       let r = root-of w horizon slots p.slot t (sound.heap p.page) at done in

@@ -11,10 +11,10 @@ use Rattle.page_slots.specs.View.{PageView}
 use Rattle.commit_status.specs.Window.{Window}
 use Rattle.hot_chain.specs.Chain.{has_aborted, IsChain, NoneSeen, IsSeenIn}
 use Rattle.root_index.specs.declared.entry.Entry.{Entry}
-use Rattle.root_index.specs.Order.{Precedes, IsAscending}
+use Rattle.root_index.specs.Order.{EntryPrecedes, IsAscending}
 use Rattle.root_index.specs.Sets.{IsOf}
 use Rattle.sound_entries.specs.Looking.{IsNextOf, FetchedAt, IsSeenAt, SeenAt, IsFirstPlace, FirstPlace, SomeAt, SomeOf, IsIdAt, IsIdOf}
-use Rattle.sound_entries.specs.declared.standing.Standing.{Standing}
+use Rattle.sound_entries.specs.declared.write_check.WriteCheck.{WriteCheck}
 use Rattle.sound_entries.proofs.Among.{none-of}
 use Rattle.sound_entries.proofs.Fetching.{slots-there, none-on_page}
 use Rattle.sound_entries.proofs.Turns.{Looked, looked-first, looked-next, looked-end, looked-none, looked-before}
@@ -79,7 +79,7 @@ pub searched-next : {A : Type 0} (entries : List Entry) (value : ℤ) (key : ℕ
     (next : Option Entry) (before after : Option A) → IsAscending entries
     → Searched entries value key HasNone IsFound turn at before → at ≡ Some from → IsNextOf entries value key (Some from) next
     → IsKept before (λ answer. MatchOption answer (HasNone from) IsHere) after
-    → (Contains entries from → IsOf value key from → ((e : Entry) → Contains entries e → IsOf value key e → Precedes e from → before ≡ None → HasNone e) → (x : A) → before ≡ None → IsHere x → IsFound x)
+    → (Contains entries from → IsOf value key from → ((e : Entry) → Contains entries e → IsOf value key e → EntryPrecedes e from → before ≡ None → HasNone e) → (x : A) → before ≡ None → IsHere x → IsFound x)
     → Searched entries value key HasNone IsFound (turn + 1) next after
 searched-next {A = A} entries value key HasNone IsFound IsHere turn at from next before after up s is least kept here = record {
   looked = looked-next entries value key (IfNothing HasNone after) turn at from next up
@@ -155,27 +155,27 @@ id-of w P pages entries value key (Some x) some = some
 -- For all that a session has to know of a key.
 
 pub record IsStanding (w : Window) (seen : Header → Type 0) (Missed Foreign : ℕ → Header → Type 0) (pages : List (List Slot)) (entries : List Entry) (value : ℤ) (key turn : ℕ) (next : Option Entry)
-    (standing : Standing) : Type 0 where
+    (standing : WriteCheck) : Type 0 where
   pub place : PlaceSearched w seen pages entries value key turn next standing.place
-  pub missed : IdSearched w Missed pages entries value key turn next standing.missed
-  pub holder : IdSearched w Foreign pages entries value key turn next standing.holder
+  pub newer_commit : IdSearched w Missed pages entries value key turn next standing.newer_commit
+  pub other_writer : IdSearched w Foreign pages entries value key turn next standing.other_writer
 
 pub standing-first : (w : Window) (seen : Header → Type 0) (Missed Foreign : ℕ → Header → Type 0) (pages : List (List Slot)) (entries : List Entry) (value : ℤ) (key : ℕ) (next : Option Entry)
-    → IsNextOf entries value key None next → IsStanding w seen Missed Foreign pages entries value key 0 next (record { place = None; missed = None; holder = None })
+    → IsNextOf entries value key None next → IsStanding w seen Missed Foreign pages entries value key 0 next (record { place = None; newer_commit = None; other_writer = None })
 standing-first w seen Missed Foreign pages entries value key next least = record {
   place = searched-first entries value key (λ e. FetchedAt w seen pages e.tid None) (IsFirstPlace w seen pages entries value key) next least;
-  missed = searched-first entries value key (λ e. (x : ℕ) → ¬ SomeAt w (Missed x) pages e.tid) (λ (x : Xid). SomeOf w (Missed x.0) pages entries value key) next least;
-  holder = searched-first entries value key (λ e. (x : ℕ) → ¬ SomeAt w (Foreign x) pages e.tid) (λ (x : Xid). SomeOf w (Foreign x.0) pages entries value key) next least;
+  newer_commit = searched-first entries value key (λ e. (x : ℕ) → ¬ SomeAt w (Missed x) pages e.tid) (λ (x : Xid). SomeOf w (Missed x.0) pages entries value key) next least;
+  other_writer = searched-first entries value key (λ e. (x : ℕ) → ¬ SomeAt w (Foreign x) pages e.tid) (λ (x : Xid). SomeOf w (Foreign x.0) pages entries value key) next least;
 }
 
 pub standing-next : (w : Window) (seen : Header → Type 0) (Missed Foreign : ℕ → Header → Type 0) (pages : List (List Slot)) (entries : List Entry) (value : ℤ) (key turn : ℕ) (at : Option Entry)
-    (from : Entry) (next : Option Entry) (before after : Standing) → IsAscending entries → IsStanding w seen Missed Foreign pages entries value key turn at before → at ≡ Some from
-    → IsNextOf entries value key (Some from) next → IsKept before.place (SeenAt w seen pages from.tid) after.place → IsKept before.missed (IsIdAt w Missed pages from.tid) after.missed
-    → IsKept before.holder (IsIdAt w Foreign pages from.tid) after.holder → IsStanding w seen Missed Foreign pages entries value key (turn + 1) next after
-standing-next w seen Missed Foreign pages entries value key turn at from next before after up s is least place missed holder = record {
+    (from : Entry) (next : Option Entry) (before after : WriteCheck) → IsAscending entries → IsStanding w seen Missed Foreign pages entries value key turn at before → at ≡ Some from
+    → IsNextOf entries value key (Some from) next → IsKept before.place (SeenAt w seen pages from.tid) after.place → IsKept before.newer_commit (IsIdAt w Missed pages from.tid) after.newer_commit
+    → IsKept before.other_writer (IsIdAt w Foreign pages from.tid) after.other_writer → IsStanding w seen Missed Foreign pages entries value key (turn + 1) next after
+standing-next w seen Missed Foreign pages entries value key turn at from next before after up s is least place newer_commit other_writer = record {
   place = place-next w seen pages entries value key turn at from next before.place after.place up s.place is least place;
-  missed = id-next w Missed pages entries value key turn at from next before.missed after.missed up s.missed is least missed;
-  holder = id-next w Foreign pages entries value key turn at from next before.holder after.holder up s.holder is least holder;
+  newer_commit = id-next w Missed pages entries value key turn at from next before.newer_commit after.newer_commit up s.newer_commit is least newer_commit;
+  other_writer = id-next w Foreign pages entries value key turn at from next before.other_writer after.other_writer up s.other_writer is least other_writer;
 }
 
 -- the search has come to its end
@@ -187,7 +187,7 @@ searched-all entries value key HasNone IsFound turn next answer s (inr none) = s
 
 -- what the search has found in the end, of a value that is stored as this
 pub standing-place : (w : Window) (seen : Header → Type 0) (Missed Foreign : ℕ → Header → Type 0) (pages : List (List Slot)) (entries : List Entry) (stored value : ℤ) (key turn : ℕ) (next : Option Entry)
-    (standing : Standing) → stored ≡ value → IsStanding w seen Missed Foreign pages entries stored key turn next standing → (length entries ≤ turn) ⊎ (next ≡ None)
+    (standing : WriteCheck) → stored ≡ value → IsStanding w seen Missed Foreign pages entries stored key turn next standing → (length entries ≤ turn) ⊎ (next ≡ None)
     → FirstPlace w seen pages entries value key standing.place
 standing-place w seen Missed Foreign pages entries stored value key turn next standing same s all =
     subst (λ v. FirstPlace w seen pages entries v key standing.place) same
@@ -200,12 +200,12 @@ found-id w P pages entries stored value key turn next answer same s all =
     (id-of w P pages entries stored key answer
     (searched-all entries stored key (λ e. (x : ℕ) → ¬ SomeAt w (P x) pages e.tid) (λ (x : Xid). SomeOf w (P x.0) pages entries stored key) turn next answer s all))
 
-pub standing-missed : (w : Window) (seen : Header → Type 0) (Missed Foreign : ℕ → Header → Type 0) (pages : List (List Slot)) (entries : List Entry) (stored value : ℤ) (key turn : ℕ) (next : Option Entry)
-    (standing : Standing) → stored ≡ value → IsStanding w seen Missed Foreign pages entries stored key turn next standing → (length entries ≤ turn) ⊎ (next ≡ None)
-    → IsIdOf w Missed pages entries value key standing.missed
-standing-missed w seen Missed Foreign pages entries stored value key turn next standing same s all = found-id w Missed pages entries stored value key turn next standing.missed same s.missed all
+pub standing-newer_commit : (w : Window) (seen : Header → Type 0) (Missed Foreign : ℕ → Header → Type 0) (pages : List (List Slot)) (entries : List Entry) (stored value : ℤ) (key turn : ℕ) (next : Option Entry)
+    (standing : WriteCheck) → stored ≡ value → IsStanding w seen Missed Foreign pages entries stored key turn next standing → (length entries ≤ turn) ⊎ (next ≡ None)
+    → IsIdOf w Missed pages entries value key standing.newer_commit
+standing-newer_commit w seen Missed Foreign pages entries stored value key turn next standing same s all = found-id w Missed pages entries stored value key turn next standing.newer_commit same s.newer_commit all
 
-pub standing-holder : (w : Window) (seen : Header → Type 0) (Missed Foreign : ℕ → Header → Type 0) (pages : List (List Slot)) (entries : List Entry) (stored value : ℤ) (key turn : ℕ) (next : Option Entry)
-    (standing : Standing) → stored ≡ value → IsStanding w seen Missed Foreign pages entries stored key turn next standing → (length entries ≤ turn) ⊎ (next ≡ None)
-    → IsIdOf w Foreign pages entries value key standing.holder
-standing-holder w seen Missed Foreign pages entries stored value key turn next standing same s all = found-id w Foreign pages entries stored value key turn next standing.holder same s.holder all
+pub standing-other_writer : (w : Window) (seen : Header → Type 0) (Missed Foreign : ℕ → Header → Type 0) (pages : List (List Slot)) (entries : List Entry) (stored value : ℤ) (key turn : ℕ) (next : Option Entry)
+    (standing : WriteCheck) → stored ≡ value → IsStanding w seen Missed Foreign pages entries stored key turn next standing → (length entries ≤ turn) ⊎ (next ≡ None)
+    → IsIdOf w Foreign pages entries value key standing.other_writer
+standing-other_writer w seen Missed Foreign pages entries stored value key turn next standing same s all = found-id w Foreign pages entries stored value key turn next standing.other_writer same s.other_writer all

@@ -14,8 +14,8 @@ use Rattle.heap_pages.proofs.PageLemmas.{page-with_page, page-with_page_other, p
 use Rattle.root_index.specs.declared.entry.Entry.{Entry}
 use Rattle.root_index.specs.Sets.{Loses}
 use Rattle.sound_entries.specs.Pages.{slots_on, slot_in, Puts}
-use Rattle.sound_entries.specs.Entries.{IsSound, StaysSound}
-use Rattle.sound_entries.specs.Looking.{slots_of}
+use Rattle.sound_entries.specs.Entries.{EntriesAreSound, StaysSound}
+use Rattle.sound_entries.specs.Looking.{page_slots_of}
 use Rattle.sound_entries.proofs.Going.{stays-same}
 use Rattle.sound_entries.proofs.Fetching.{slots-there, slots-none}
 use Rattle.sound_page.proofs.Empty.{empty-page}
@@ -30,7 +30,7 @@ slots-same ps qs m same = by (slice_get qs m) refl
     by None at = slots-none ps m (same ∙ at) ∙ sym (slots-none qs m at)
     by (Some page) at = slots-there ps m page (same ∙ at) ∙ sym (slots-there qs m page at)
 
-pub puts-with_page : (p : PagesView) (n : ℕ) (page : PageView) → n < length p.pages → Puts (slots_of p) (slots_of (with_page p n page)) n page.slots
+pub puts-with_page : (p : PagesView) (n : ℕ) (page : PageView) → n < length p.pages → Puts (page_slots_of p) (page_slots_of (with_page p n page)) n page.slots
 puts-with_page p n page within = record {
   put = slots-there (with_page p n page).pages n page (page-with_page p n page within);
   others = λ m other. slots-same (with_page p n page).pages p.pages m (page-with_page_other p n m page other);
@@ -52,7 +52,7 @@ no-root : {P : Type 0} (n : ℕ) → is_root_in (slot_at [] n) ≡ true → P
 no-root zero root = absurd (cc)
 no-root (suc n) root = absurd (cc)
 
-pub nothing-sound : (value_of : Row → ℤ) (w : Window) (horizon : ℕ) → IsSound value_of w horizon [] []
+pub nothing-sound : (value_of : Row → ℤ) (w : Window) (horizon : ℕ) → EntriesAreSound value_of w horizon [] []
 nothing-sound value_of w horizon = record {
   heap = λ n. empty-page w horizon;
   index = record {
@@ -65,7 +65,7 @@ nothing-sound value_of w horizon = record {
 
 -- Entries that lead to dead slots go.
 
-pub going-stays : (value_of : Row → ℤ) (w : Window) (horizon : ℕ) (pages : List (List Slot)) (entries entries' : List Entry) (dead : List Tid) → IsSound value_of w horizon pages entries
+pub going-stays : (value_of : Row → ℤ) (w : Window) (horizon : ℕ) (pages : List (List Slot)) (entries entries' : List Entry) (dead : List Tid) → EntriesAreSound value_of w horizon pages entries
     → Loses entries entries' dead → ((p : Tid) → Contains dead p → slot_in pages p ≡ Some Dead) → StaysSound value_of w horizon pages pages entries entries'
 going-stays value_of w horizon pages entries entries' dead sound loses are_dead = record {
   sound = record {

@@ -8,7 +8,7 @@ use Rattle.std.specs.declared.cmp.Ordering.TheVariants.{Less, Equal, Greater}
 use Rattle.std.proofs.lemmas.Bool.{cases_lt}
 use Rattle.std.proofs.lemmas.Option.{slice_get_within, none-some, same_Some}
 use Rattle.root_index.specs.declared.entry.Entry.{Entry}
-use Rattle.root_index.specs.Order.{comparison, Precedes, IsAscending}
+use Rattle.root_index.specs.Order.{comparison, EntryPrecedes, IsAscending}
 use Rattle.root_index.specs.Sets.{IsLeast, IsAfter, IsBelow, IsOf}
 use Rattle.root_index.proofs.OrderLemmas.{comparison_total, same-from_tied}
 use Rattle.root_index.proofs.SetLemmas.{place_of, start_after}
@@ -49,10 +49,10 @@ after-only xs value key from found (Some n) of least only = after-some xs value 
 
 -- Turns.
 
-order-cases : (a b : Entry) → Precedes a b ⊎ ((a ≡ b) ⊎ Precedes b a)
+order-cases : (a b : Entry) → EntryPrecedes a b ⊎ ((a ≡ b) ⊎ EntryPrecedes b a)
 order-cases a b = by (comparison a b) refl
   where
-    by : (o : Ordering) → comparison a b ≡ o → Precedes a b ⊎ ((a ≡ b) ⊎ Precedes b a)
+    by : (o : Ordering) → comparison a b ≡ o → EntryPrecedes a b ⊎ ((a ≡ b) ⊎ EntryPrecedes b a)
     by Less e = inl e
     by Equal e = inr (inl (same-from_tied a b e))
     by Greater e = inr (inr (comparison_total.antisymm b a ∙ ap ordering_reverse e))
@@ -62,13 +62,13 @@ pub record Looked (entries : List Entry) (value : ℤ) (key : ℕ) (HasNone : En
   pub there : (n : Entry) → next ≡ Some n → Contains entries n
   pub of : (n : Entry) → next ≡ Some n → IsOf value key n
   pub place : (n : Entry) → next ≡ Some n → (k : ℕ) × (turn ≤ k) × (slice_get entries k ≡ Some n)
-  pub none_before : (e : Entry) → Contains entries e → IsOf value key e → ((n : Entry) → next ≡ Some n → Precedes e n) → HasNone e
+  pub none_before : (e : Entry) → Contains entries e → IsOf value key e → ((n : Entry) → next ≡ Some n → EntryPrecedes e n) → HasNone e
 
 least-there : (entries : List Entry) (P : Entry → Type 0) (r : Option Entry) (n : Entry) → IsLeast entries P r → r ≡ Some n
-    → Contains entries n × P n × ((e : Entry) → Contains entries e → P e → ¬ Precedes e n)
+    → Contains entries n × P n × ((e : Entry) → Contains entries e → P e → ¬ EntryPrecedes e n)
 least-there entries P r n least is = subst (IsLeast entries P) is least
 
-least-before : (entries : List Entry) (P : Entry → Type 0) (r : Option Entry) (e : Entry) → IsLeast entries P r → Contains entries e → P e → ¬ ((n : Entry) → r ≡ Some n → Precedes e n)
+least-before : (entries : List Entry) (P : Entry → Type 0) (r : Option Entry) (e : Entry) → IsLeast entries P r → Contains entries e → P e → ¬ ((n : Entry) → r ≡ Some n → EntryPrecedes e n)
 least-before entries P None e least there has before = least e there has
 least-before entries P (Some n) e least there has before = least.2 e there has (before n refl)
 
@@ -90,7 +90,7 @@ looked-next entries value key HasNone turn at from next up l is none least = rec
       let p = place_of entries n (found n e).0 in
       (p.0, later n e old.0 old.2 old.1 p.0 p.1, p.1);
   none_before = λ e there of before. ⊎_elim
-      (λ lt. l.none_before e there of (λ n here. subst (λ m. Precedes e m) (same_Some from n (sym is ∙ here)) lt))
+      (λ lt. l.none_before e there of (λ n here. subst (λ m. EntryPrecedes e m) (same_Some from n (sym is ∙ here)) lt))
       (λ rest. ⊎_elim
       (λ same. subst HasNone (sym same) none)
       (λ gt. absurd (least-before entries (λ e. IsOf value key e × IsAfter (Some from) e) next e least there (of, gt) before))
@@ -99,7 +99,7 @@ looked-next entries value key HasNone turn at from next up l is none least = rec
 }
   where
     found : (n : Entry) → next ≡ Some n
-        → Contains entries n × (IsOf value key n × Precedes from n) × ((e : Entry) → Contains entries e → (IsOf value key e × Precedes from e) → ¬ Precedes e n)
+        → Contains entries n × (IsOf value key n × EntryPrecedes from n) × ((e : Entry) → Contains entries e → (IsOf value key e × EntryPrecedes from e) → ¬ EntryPrecedes e n)
     found n e = least-there entries (λ e. IsOf value key e × IsAfter (Some from) e) next n least e
 
     later : (n : Entry) → next ≡ Some n → (k : ℕ) → slice_get entries k ≡ Some from → turn ≤ k → (j : ℕ) → slice_get entries j ≡ Some n → turn + 1 ≤ j
@@ -121,6 +121,6 @@ pub looked-none : (entries : List Entry) (value : ℤ) (key : ℕ) (HasNone : En
 looked-none entries value key HasNone turn next l none e there of = l.none_before e there of (λ n is. absurd (none-some n (sym none ∙ is)))
 
 pub looked-before : (entries : List Entry) (value : ℤ) (key : ℕ) (HasNone : Entry → Type 0) (turn : ℕ) (next : Option Entry) (at : Entry) → Looked entries value key HasNone turn next → next ≡ Some at
-    → (e : Entry) → Contains entries e → IsOf value key e → Precedes e at → HasNone e
+    → (e : Entry) → Contains entries e → IsOf value key e → EntryPrecedes e at → HasNone e
 looked-before entries value key HasNone turn next at l is e there of before =
-    l.none_before e there of (λ n here. subst (λ m. Precedes e m) (same_Some at n (sym is ∙ here)) before)
+    l.none_before e there of (λ n here. subst (λ m. EntryPrecedes e m) (same_Some at n (sym is ∙ here)) before)

@@ -21,8 +21,8 @@ abbrev pub entry_for : (Row → ℤ) → Row → ℕ → ℕ → Entry
 entry_for value_of row page slot = record { value = value_of row; key = row.key; tid = record { page = page; slot = slot } }
 
 -- what an entry leads to: a version that isn't heap-only, a redirect, or a dead slot
-abbrev pub MayBeLed : Option Slot → Type 0
-MayBeLed o = (is_root_in o ≡ true) ⊎ (o ≡ Some Dead)
+abbrev pub MayBeTarget : Option Slot → Type 0
+MayBeTarget o = (is_root_in o ≡ true) ⊎ (o ≡ Some Dead)
 
 pub record SomeEntry (entries : List Entry) (p : Tid) : Type 0 where
   pub entry : Entry
@@ -30,7 +30,7 @@ pub record SomeEntry (entries : List Entry) (p : Tid) : Type 0 where
   pub at : entry.tid ≡ p
 
 pub record SoundEntries (value_of : Row → ℤ) (w : Window) (pages : List (List Slot)) (entries : List Entry) : Type 0 where
-  pub leads : (e : Entry) → Contains entries e → MayBeLed (slot_in pages e.tid)
+  pub leads : (e : Entry) → Contains entries e → MayBeTarget (slot_in pages e.tid)
   -- each root and redirect has an entry
   pub led : (p : Tid) → is_root_in (slot_in pages p) ≡ true → SomeEntry entries p
   -- and no two lead to one place
@@ -39,21 +39,21 @@ pub record SoundEntries (value_of : Row → ℤ) (w : Window) (pages : List (Lis
   pub alike : (e : Entry) (n : ℕ) (t : Version) → Contains entries e → IsIn w (slots_on pages e.tid.page) e.tid.slot n
       → version_at (slots_on pages e.tid.page) n ≡ Some t → IsOf (value_of t.row) t.row.key e
 
-pub record IsSound (value_of : Row → ℤ) (w : Window) (horizon : ℕ) (pages : List (List Slot)) (entries : List Entry) : Type 0 where
+pub record EntriesAreSound (value_of : Row → ℤ) (w : Window) (horizon : ℕ) (pages : List (List Slot)) (entries : List Entry) : Type 0 where
   pub heap : SoundHeap w horizon pages
   pub index : SoundEntries value_of w pages entries
 
 -- The law of each step, for a slot that an entry leads to before and after: it holds the same version, by its row and its
--- maker, or a redirect where a version or a redirect was, or is dead.
-pub data StaysLed (before after : Option Slot) : Type 0 where
-  same_version : (t u : Version) → before ≡ Some (Normal t) → after ≡ Some (Normal u) → u.row ≡ t.row → u.header.xmin.0 ≡ t.header.xmin.0 → StaysLed before after
-  led_on : (k : ℕ) → is_root_in before ≡ true → after ≡ Some (Redirect k) → StaysLed before after
-  died : after ≡ Some Dead → StaysLed before after
+-- inserter, or a redirect where a version or a redirect was, or is dead.
+pub data KeepsTarget (before after : Option Slot) : Type 0 where
+  same_version : (t u : Version) → before ≡ Some (Normal t) → after ≡ Some (Normal u) → u.row ≡ t.row → u.header.xmin.0 ≡ t.header.xmin.0 → KeepsTarget before after
+  led_on : (k : ℕ) → is_root_in before ≡ true → after ≡ Some (Redirect k) → KeepsTarget before after
+  died : after ≡ Some Dead → KeepsTarget before after
 
-abbrev pub KeepsLed : List (List Slot) → List (List Slot) → List Entry → List Entry → Type 0
-KeepsLed pages pages' entries entries' = (e : Entry) → Contains entries e → Contains entries' e → StaysLed (slot_in pages e.tid) (slot_in pages' e.tid)
+abbrev pub KeepsTargets : List (List Slot) → List (List Slot) → List Entry → List Entry → Type 0
+KeepsTargets pages pages' entries entries' = (e : Entry) → Contains entries e → Contains entries' e → KeepsTarget (slot_in pages e.tid) (slot_in pages' e.tid)
 
 -- a step leaves the table sound, and keeps that law
 pub record StaysSound (value_of : Row → ℤ) (v : Window) (horizon : ℕ) (pages pages' : List (List Slot)) (entries entries' : List Entry) : Type 0 where
-  pub sound : IsSound value_of v horizon pages' entries'
-  pub led : KeepsLed pages pages' entries entries'
+  pub sound : EntriesAreSound value_of v horizon pages' entries'
+  pub led : KeepsTargets pages pages' entries entries'

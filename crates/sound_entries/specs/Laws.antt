@@ -13,101 +13,101 @@ use Rattle.snapshot.specs.Snap.{Snap}
 use Rattle.visibility.specs.Visible.{IsVisible}
 use Rattle.visibility.specs.Seeing.{Touches}
 use Rattle.prune.specs.Pruning.{IsPruned}
-use Rattle.page_writes.specs.Writes.{with_replaced, with_root, with_updated}
-use Rattle.page_writes.specs.Keeps.{IsFree}
-use Rattle.page_writes.specs.Laws.{DeletedWhatWasMade, AloneDeletedTheirs}
+use Rattle.tuple_writes.specs.Writes.{with_replaced, with_root, with_updated}
+use Rattle.tuple_writes.specs.Keeps.{IsDeletable}
+use Rattle.tuple_writes.specs.Laws.{DeletedWhatWasMade, AloneDeletedTheirs}
 use Rattle.root_index.specs.declared.entry.Entry.{Entry}
-use Rattle.root_index.specs.Sets.{Adds, Loses}
+use Rattle.root_index.specs.Sets.{AddsEntry, Loses}
 use Rattle.sound_entries.specs.Pages.{slots_on, slot_in, version_in, Puts}
-use Rattle.sound_entries.specs.Entries.{entry_for, SoundEntries, IsSound, StaysSound, KeepsLed}
-use Rattle.sound_entries.specs.Leading.{IsUndone, LedByOne, IsOnHeap, IsByIndex}
+use Rattle.sound_entries.specs.Entries.{entry_for, SoundEntries, EntriesAreSound, StaysSound, KeepsTargets}
+use Rattle.sound_entries.specs.Leading.{IsUndone, HasOneEntry, IsOnHeap, IsByIndex}
 
 -- What is found.
 
 -- a version that isn't undone is in the chain of exactly one entry, which has its value and its key
 abbrev pub LedByEntry : Type 0
-LedByEntry = (value_of : Row → ℤ) (w : Window) (horizon : ℕ) (pages : List (List Slot)) (entries : List Entry) (p : Tid) (t : Version) → IsSound value_of w horizon pages entries
-    → version_in pages p ≡ Some t → ¬ IsUndone w t.header → LedByOne w pages entries p (value_of t.row) t.row.key
+LedByEntry = (value_of : Row → ℤ) (w : Window) (horizon : ℕ) (pages : List (List Slot)) (entries : List Entry) (p : Tid) (t : Version) → EntriesAreSound value_of w horizon pages entries
+    → version_in pages p ≡ Some t → ¬ IsUndone w t.header → HasOneEntry w pages entries p (value_of t.row) t.row.key
 
 -- a reader whose own ids are in progress finds the same by the index as on the heap
 abbrev pub FoundByIndex : Type 0
-FoundByIndex = (value_of : Row → ℤ) (w : Window) (horizon : ℕ) (pages : List (List Slot)) (entries : List Entry) (s : Snap) (own : List ℕ) → IsSound value_of w horizon pages entries
+FoundByIndex = (value_of : Row → ℤ) (w : Window) (horizon : ℕ) (pages : List (List Slot)) (entries : List Entry) (s : Snap) (own : List ℕ) → EntriesAreSound value_of w horizon pages entries
     → ((x : ℕ) → Contains own x → IsActive w x) → (value : ℤ) (key : ℕ) (p : Tid) (t : Version)
     → IsOnHeap value_of pages value key (λ t. IsVisible w s own t.header) p t ↔ IsByIndex w pages entries value key (λ t. IsVisible w s own t.header) p t
 
 -- and what an id made or deleted, that is committed or in progress
 abbrev pub TouchedByIndex : Type 0
-TouchedByIndex = (value_of : Row → ℤ) (w : Window) (horizon : ℕ) (pages : List (List Slot)) (entries : List Entry) (x : ℕ) → IsSound value_of w horizon pages entries
+TouchedByIndex = (value_of : Row → ℤ) (w : Window) (horizon : ℕ) (pages : List (List Slot)) (entries : List Entry) (x : ℕ) → EntriesAreSound value_of w horizon pages entries
     → ¬ IsAborted w x → (value : ℤ) (key : ℕ) (p : Tid) (t : Version)
     → IsOnHeap value_of pages value key (λ t. Touches x t.header) p t ↔ IsByIndex w pages entries value key (λ t. Touches x t.header) p t
 
 -- What steps keep.
 
 -- a table without pages is sound, with an index without entries
-abbrev pub NothingIsSound : Type 0
-NothingIsSound = (value_of : Row → ℤ) (w : Window) (horizon : ℕ) → IsSound value_of w horizon [] []
+abbrev pub NoEntriesAreSound : Type 0
+NoEntriesAreSound = (value_of : Row → ℤ) (w : Window) (horizon : ℕ) → EntriesAreSound value_of w horizon [] []
 
 -- an id in progress adds a root, with an entry of its own
-abbrev pub AddingStaysSound : Type 0
-AddingStaysSound = (value_of : Row → ℤ) (w : Window) (horizon x n : ℕ) (pages pages' : List (List Slot)) (entries entries' : List Entry) (updated : Bool) (row : Row)
-    → IsSound value_of w horizon pages entries → IsActive w x → free_number (slots_on pages n) ≤ 291
-    → Puts pages pages' n (with_root (slots_on pages n) updated x n row) → Adds entries entries' (entry_for value_of row n (free_number (slots_on pages n)))
+abbrev pub AddingKeepsEntries : Type 0
+AddingKeepsEntries = (value_of : Row → ℤ) (w : Window) (horizon x n : ℕ) (pages pages' : List (List Slot)) (entries entries' : List Entry) (updated : Bool) (row : Row)
+    → EntriesAreSound value_of w horizon pages entries → IsActive w x → free_number (slots_on pages n) ≤ 291
+    → Puts pages pages' n (with_root (slots_on pages n) updated x n row) → AddsEntry entries entries' (entry_for value_of row n (free_number (slots_on pages n)))
     → StaysSound value_of w horizon pages pages' entries entries'
 
 -- an id in progress takes a version away
-abbrev pub TakingStaysSound : Type 0
-TakingStaysSound = (value_of : Row → ℤ) (w : Window) (horizon n k x page place : ℕ) (pages pages' : List (List Slot)) (entries : List Entry)
-    → IsSound value_of w horizon pages entries → IsActive w x → IsFree w (slots_on pages n) k
+abbrev pub TakingKeepsEntries : Type 0
+TakingKeepsEntries = (value_of : Row → ℤ) (w : Window) (horizon n k x page place : ℕ) (pages pages' : List (List Slot)) (entries : List Entry)
+    → EntriesAreSound value_of w horizon pages entries → IsActive w x → IsDeletable w (slots_on pages n) k
     → Puts pages pages' n (with_replaced (slots_on pages n) k x page place false)
     → StaysSound value_of w horizon pages pages' entries entries
 
 -- an id in progress replaces a version by a heap-only one of the same value and key
-abbrev pub UpdatingStaysSound : Type 0
-UpdatingStaysSound = (value_of : Row → ℤ) (w : Window) (horizon n k x page : ℕ) (pages pages' : List (List Slot)) (entries : List Entry) (row : Row) (old : Version)
-    → IsSound value_of w horizon pages entries → IsActive w x → IsFree w (slots_on pages n) k → free_number (slots_on pages n) ≤ 291
+abbrev pub UpdatingKeepsEntries : Type 0
+UpdatingKeepsEntries = (value_of : Row → ℤ) (w : Window) (horizon n k x page : ℕ) (pages pages' : List (List Slot)) (entries : List Entry) (row : Row) (old : Version)
+    → EntriesAreSound value_of w horizon pages entries → IsActive w x → IsDeletable w (slots_on pages n) k → free_number (slots_on pages n) ≤ 291
     → version_in pages (record { page = n; slot = k }) ≡ Some old → value_of row ≡ value_of old.row → row.key ≡ old.row.key
     → Puts pages pages' n (with_updated (slots_on pages n) k x page row)
     → StaysSound value_of w horizon pages pages' entries entries
 
 -- a page is pruned
-abbrev pub PruningStaysSound : Type 0
-PruningStaysSound = (value_of : Row → ℤ) (w : Window) (horizon n : ℕ) (pages pages' : List (List Slot)) (entries : List Entry) (after : List Slot)
-    → IsSound value_of w horizon pages entries → IsPruned w horizon (slots_on pages n) after → Puts pages pages' n after
+abbrev pub PruningKeepsEntries : Type 0
+PruningKeepsEntries = (value_of : Row → ℤ) (w : Window) (horizon n : ℕ) (pages pages' : List (List Slot)) (entries : List Entry) (after : List Slot)
+    → EntriesAreSound value_of w horizon pages entries → IsPruned w horizon (slots_on pages n) after → Puts pages pages' n after
     → StaysSound value_of w horizon pages pages' entries entries
 
 -- a page without slots comes into use
 abbrev pub PagesGrowSound : Type 0
 PagesGrowSound = (value_of : Row → ℤ) (w : Window) (horizon n : ℕ) (pages pages' : List (List Slot)) (entries : List Entry)
-    → IsSound value_of w horizon pages entries → Puts pages pages' n (slots_on pages n) → StaysSound value_of w horizon pages pages' entries entries
+    → EntriesAreSound value_of w horizon pages entries → Puts pages pages' n (slots_on pages n) → StaysSound value_of w horizon pages pages' entries entries
 
 -- entries that lead to dead slots go, all of them or some
 abbrev pub EntriesGoSound : Type 0
 EntriesGoSound = (value_of : Row → ℤ) (w : Window) (horizon : ℕ) (pages : List (List Slot)) (entries entries' : List Entry) (dead : List Tid)
-    → IsSound value_of w horizon pages entries → Loses entries entries' dead → ((p : Tid) → Contains dead p → slot_in pages p ≡ Some Dead)
+    → EntriesAreSound value_of w horizon pages entries → Loses entries entries' dead → ((p : Tid) → Contains dead p → slot_in pages p ≡ Some Dead)
     → StaysSound value_of w horizon pages pages entries entries'
 
 -- What becomes of transactions, and of the horizon, keeps it too.
 
-abbrev pub GivingStaysSound : Type 0
-GivingStaysSound = (value_of : Row → ℤ) (w v : Window) (horizon : ℕ) (parent : Option ℕ) (pages : List (List Slot)) (entries : List Entry)
-    → IsSound value_of w horizon pages entries → IsWindow w → IsWindow v → Gives w v parent → StaysSound value_of v horizon pages pages entries entries
+abbrev pub GivingKeepsEntries : Type 0
+GivingKeepsEntries = (value_of : Row → ℤ) (w v : Window) (horizon : ℕ) (parent : Option ℕ) (pages : List (List Slot)) (entries : List Entry)
+    → EntriesAreSound value_of w horizon pages entries → IsWindow w → IsWindow v → Gives w v parent → StaysSound value_of v horizon pages pages entries entries
 
-abbrev pub CommittingStaysSound : Type 0
-CommittingStaysSound = (value_of : Row → ℤ) (w v : Window) (horizon : ℕ) (ids : List ℕ) (pages : List (List Slot)) (entries : List Entry)
-    → IsSound value_of w horizon pages entries → ((x : ℕ) → Contains ids x → IsActive w x) → Finishes w v ids Committed
+abbrev pub CommittingKeepsEntries : Type 0
+CommittingKeepsEntries = (value_of : Row → ℤ) (w v : Window) (horizon : ℕ) (ids : List ℕ) (pages : List (List Slot)) (entries : List Entry)
+    → EntriesAreSound value_of w horizon pages entries → ((x : ℕ) → Contains ids x → IsActive w x) → Finishes w v ids Committed
     → ((n : ℕ) → DeletedWhatWasMade w (slots_on pages n) ids) → StaysSound value_of v horizon pages pages entries entries
 
-abbrev pub AbortingStaysSound : Type 0
-AbortingStaysSound = (value_of : Row → ℤ) (w v : Window) (horizon : ℕ) (ids : List ℕ) (pages : List (List Slot)) (entries : List Entry)
-    → IsSound value_of w horizon pages entries → ((x : ℕ) → Contains ids x → IsActive w x) → Finishes w v ids Aborted
+abbrev pub AbortingKeepsEntries : Type 0
+AbortingKeepsEntries = (value_of : Row → ℤ) (w v : Window) (horizon : ℕ) (ids : List ℕ) (pages : List (List Slot)) (entries : List Entry)
+    → EntriesAreSound value_of w horizon pages entries → ((x : ℕ) → Contains ids x → IsActive w x) → Finishes w v ids Aborted
     → ((n : ℕ) → AloneDeletedTheirs w (slots_on pages n) ids) → StaysSound value_of v horizon pages pages entries entries
 
-abbrev pub LaterHorizonStaysSound : Type 0
-LaterHorizonStaysSound = (value_of : Row → ℤ) (w : Window) (horizon later : ℕ) (pages : List (List Slot)) (entries : List Entry)
-    → IsSound value_of w horizon pages entries → IsWindow w → IsUpToNext w horizon → IsUpToNext w later → turns w.first horizon ≤ turns w.first later
+abbrev pub LaterHorizonKeepsEntries : Type 0
+LaterHorizonKeepsEntries = (value_of : Row → ℤ) (w : Window) (horizon later : ℕ) (pages : List (List Slot)) (entries : List Entry)
+    → EntriesAreSound value_of w horizon pages entries → IsWindow w → IsUpToNext w horizon → IsUpToNext w later → turns w.first horizon ≤ turns w.first later
     → StaysSound value_of w later pages pages entries entries
 
 -- The law of each step holds of two steps, one after the other, where entries only come.
 abbrev pub LedByTwoSteps : Type 0
 LedByTwoSteps = (value_of : Row → ℤ) (w : Window) (a b c : List (List Slot)) (xs ys zs : List Entry) → SoundEntries value_of w a xs
-    → ((e : Entry) → Contains xs e → Contains ys e) → KeepsLed a b xs ys → KeepsLed b c ys zs → KeepsLed a c xs zs
+    → ((e : Entry) → Contains xs e → Contains ys e) → KeepsTargets a b xs ys → KeepsTargets b c ys zs → KeepsTargets a c xs zs

@@ -12,23 +12,23 @@ use Rattle.root_index.specs.declared.entry.Entry.{Entry}
 use Rattle.root_index.specs.Sets.{IsOf}
 use Rattle.sound_entries.specs.Pages.{slots_on, version_in}
 
--- its maker is aborted, and it is not frozen
+-- its inserter is aborted, and it is not frozen
 pub record IsUndone (w : Window) (h : Header) : Type 0 where
   pub thawed : ¬ IsFrozen h
   pub aborted : IsAborted w h.xmin.0
 
 -- the place is in the chain that the entry leads to
-pub record Leads (w : Window) (pages : List (List Slot)) (entries : List Entry) (e : Entry) (p : Tid) : Type 0 where
+pub record PointsTo (w : Window) (pages : List (List Slot)) (entries : List Entry) (e : Entry) (p : Tid) : Type 0 where
   pub there : Contains entries e
   pub page : p.page ≡ e.tid.page
   pub chain : IsIn w (slots_on pages e.tid.page) e.tid.slot p.slot
 
 -- one entry leads to the place, and no other
-pub record LedByOne (w : Window) (pages : List (List Slot)) (entries : List Entry) (p : Tid) (value : ℤ) (key : ℕ) : Type 0 where
+pub record HasOneEntry (w : Window) (pages : List (List Slot)) (entries : List Entry) (p : Tid) (value : ℤ) (key : ℕ) : Type 0 where
   pub entry : Entry
   pub of : IsOf value key entry
-  pub leads : Leads w pages entries entry p
-  pub only : (f : Entry) → Leads w pages entries f p → f ≡ entry
+  pub leads : PointsTo w pages entries entry p
+  pub only : (f : Entry) → PointsTo w pages entries f p → f ≡ entry
 
 -- the place holds a version of this value and this key that has P
 pub record IsOnHeap (value_of : Row → ℤ) (pages : List (List Slot)) (value : ℤ) (key : ℕ) (P : Version → Type 0) (p : Tid) (t : Version) : Type 0 where
@@ -41,6 +41,6 @@ pub record IsOnHeap (value_of : Row → ℤ) (pages : List (List Slot)) (value :
 pub record IsByIndex (w : Window) (pages : List (List Slot)) (entries : List Entry) (value : ℤ) (key : ℕ) (P : Version → Type 0) (p : Tid) (t : Version) : Type 0 where
   pub entry : Entry
   pub of : IsOf value key entry
-  pub leads : Leads w pages entries entry p
+  pub leads : PointsTo w pages entries entry p
   pub there : version_in pages p ≡ Some t
   pub has : P t

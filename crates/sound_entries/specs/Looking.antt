@@ -9,18 +9,18 @@ use Rattle.page_slots.specs.declared.slot.Slot.{Slot}
 use Rattle.page_slots.specs.Slots.{version_at}
 use Rattle.commit_status.specs.Window.{Window, IsActive, IsCommitted, IsInProgress}
 use Rattle.snapshot.specs.Snap.{Snap, Sees}
-use Rattle.visibility.specs.Visible.{IsVisible, IsForeignIn, IsMissedIn}
+use Rattle.visibility.specs.Visible.{IsVisible, IsOtherWriterIn, IsNewerCommitIn}
 use Rattle.hot_chain.specs.Chain.{has_aborted, IsChain, IsSeenIn, Fetched}
 use Rattle.root_index.specs.declared.entry.Entry.{Entry}
-use Rattle.root_index.specs.Order.{Precedes}
+use Rattle.root_index.specs.Order.{EntryPrecedes}
 use Rattle.root_index.specs.Sets.{IsLeast, IsAfter, IsOf}
 use Rattle.heap_pages.specs.View.{PagesView}
 use Rattle.sound_entries.specs.Pages.{slots_on}
-use Rattle.sound_entries.specs.Entries.{IsSound}
+use Rattle.sound_entries.specs.Entries.{EntriesAreSound}
 use Rattle.sound_entries.specs.Leading.{IsOnHeap}
 
-abbrev pub slots_of : PagesView → List (List Slot)
-slots_of p = map (λ page. page.slots) p.pages
+abbrev pub page_slots_of : PagesView → List (List Slot)
+page_slots_of p = map (λ page. page.slots) p.pages
 
 -- the first entry of this value and this key that comes after another one, or the first of all
 abbrev pub IsNextOf : List Entry → ℤ → ℕ → Option Entry → Option Entry → Type 0
@@ -42,7 +42,7 @@ pub record IsFirstFound (w : Window) (seen : Header → Type 0) (pages : List (L
   pub version : Version
   pub fetched : FetchedAt w seen pages entry.tid (Some version)
   pub is_row : row ≡ version.row
-  pub none_before : (e : Entry) → Contains entries e → IsOf value key e → Precedes e entry → FetchedAt w seen pages e.tid None
+  pub none_before : (e : Entry) → Contains entries e → IsOf value key e → EntryPrecedes e entry → FetchedAt w seen pages e.tid None
 
 abbrev pub NoneFound : Window → (Header → Type 0) → List (List Slot) → List Entry → ℤ → ℕ → Type 0
 NoneFound w seen pages entries value key = (e : Entry) → Contains entries e → IsOf value key e → FetchedAt w seen pages e.tid None
@@ -53,7 +53,7 @@ FirstFound w seen pages entries value key answer = MatchOption answer (NoneFound
 -- Where the entries are sound, what is found is what stands on the heap: a row of a version there that is seen, where there
 -- is one.
 abbrev pub FoundIsOnHeap : Type 0
-FoundIsOnHeap = (value_of : Row → ℤ) (w : Window) (horizon : ℕ) (pages : List (List Slot)) (entries : List Entry) (s : Snap) (own : List ℕ) → IsSound value_of w horizon pages entries
+FoundIsOnHeap = (value_of : Row → ℤ) (w : Window) (horizon : ℕ) (pages : List (List Slot)) (entries : List Entry) (s : Snap) (own : List ℕ) → EntriesAreSound value_of w horizon pages entries
     → ((x : ℕ) → Contains own x → IsActive w x) → (value : ℤ) (key : ℕ) (answer : Option Row) → FirstFound w (IsVisible w s own) pages entries value key answer
     → MatchOption answer
     ((p : Tid) (t : Version) → ¬ IsOnHeap value_of pages value key (λ t. IsVisible w s own t.header) p t)
@@ -61,7 +61,7 @@ FoundIsOnHeap = (value_of : Row → ℤ) (w : Window) (horizon : ℕ) (pages : L
 
 -- Where at most one version of the value and the key is seen, its row is found.
 abbrev pub TheRowIsFound : Type 0
-TheRowIsFound = (value_of : Row → ℤ) (w : Window) (horizon : ℕ) (pages : List (List Slot)) (entries : List Entry) (s : Snap) (own : List ℕ) → IsSound value_of w horizon pages entries
+TheRowIsFound = (value_of : Row → ℤ) (w : Window) (horizon : ℕ) (pages : List (List Slot)) (entries : List Entry) (s : Snap) (own : List ℕ) → EntriesAreSound value_of w horizon pages entries
     → ((x : ℕ) → Contains own x → IsActive w x) → (value : ℤ) (key : ℕ)
     → ((p q : Tid) (t u : Version) → IsOnHeap value_of pages value key (λ t. IsVisible w s own t.header) p t → IsOnHeap value_of pages value key (λ t. IsVisible w s own t.header) q u → p ≡ q)
     → (answer : Option Row) → FirstFound w (IsVisible w s own) pages entries value key answer
@@ -85,14 +85,14 @@ pub record IsFirstPlace (w : Window) (seen : Header → Type 0) (pages : List (L
   pub there : Contains entries entry
   pub of : IsOf value key entry
   pub seen_at : IsSeenAt w seen pages entry.tid q
-  pub none_before : (e : Entry) → Contains entries e → IsOf value key e → Precedes e entry → FetchedAt w seen pages e.tid None
+  pub none_before : (e : Entry) → Contains entries e → IsOf value key e → EntryPrecedes e entry → FetchedAt w seen pages e.tid None
 
 abbrev pub FirstPlace : Window → (Header → Type 0) → List (List Slot) → List Entry → ℤ → ℕ → Option Tid → Type 0
 FirstPlace w seen pages entries value key answer = MatchOption answer (NoneFound w seen pages entries value key) (IsFirstPlace w seen pages entries value key)
 
 -- Where the entries are sound, this is the place of a version on the heap that is seen, where there is one.
 abbrev pub PlaceIsOnHeap : Type 0
-PlaceIsOnHeap = (value_of : Row → ℤ) (w : Window) (horizon : ℕ) (pages : List (List Slot)) (entries : List Entry) (s : Snap) (own : List ℕ) → IsSound value_of w horizon pages entries
+PlaceIsOnHeap = (value_of : Row → ℤ) (w : Window) (horizon : ℕ) (pages : List (List Slot)) (entries : List Entry) (s : Snap) (own : List ℕ) → EntriesAreSound value_of w horizon pages entries
     → ((x : ℕ) → Contains own x → IsActive w x) → (value : ℤ) (key : ℕ) (answer : Option Tid) → FirstPlace w (IsVisible w s own) pages entries value key answer
     → MatchOption answer
     ((p : Tid) (t : Version) → ¬ IsOnHeap value_of pages value key (λ t. IsVisible w s own t.header) p t)
@@ -140,9 +140,9 @@ SomeOnHeap value_of pages value key P = (p : Tid) × (t : Version) × IsOnHeap v
 
 -- Where the entries are sound, such ids are those of versions on the heap.
 abbrev pub MissedIsOnHeap : Type 0
-MissedIsOnHeap = (value_of : Row → ℤ) (w : Window) (horizon : ℕ) (pages : List (List Slot)) (entries : List Entry) (s : Snap) (x : ℕ) → IsSound value_of w horizon pages entries
-    → (value : ℤ) (key : ℕ) → SomeOf w (IsMissedIn w s x) pages entries value key ↔ SomeOnHeap value_of pages value key (IsMissedIn w s x)
+MissedIsOnHeap = (value_of : Row → ℤ) (w : Window) (horizon : ℕ) (pages : List (List Slot)) (entries : List Entry) (s : Snap) (x : ℕ) → EntriesAreSound value_of w horizon pages entries
+    → (value : ℤ) (key : ℕ) → SomeOf w (IsNewerCommitIn w s x) pages entries value key ↔ SomeOnHeap value_of pages value key (IsNewerCommitIn w s x)
 
 abbrev pub ForeignIsOnHeap : Type 0
-ForeignIsOnHeap = (value_of : Row → ℤ) (w : Window) (horizon : ℕ) (pages : List (List Slot)) (entries : List Entry) (own : List ℕ) (x : ℕ) → IsSound value_of w horizon pages entries
-    → (value : ℤ) (key : ℕ) → SomeOf w (IsForeignIn w own x) pages entries value key ↔ SomeOnHeap value_of pages value key (IsForeignIn w own x)
+ForeignIsOnHeap = (value_of : Row → ℤ) (w : Window) (horizon : ℕ) (pages : List (List Slot)) (entries : List Entry) (own : List ℕ) (x : ℕ) → EntriesAreSound value_of w horizon pages entries
+    → (value : ℤ) (key : ℕ) → SomeOf w (IsOtherWriterIn w own x) pages entries value key ↔ SomeOnHeap value_of pages value key (IsOtherWriterIn w own x)

@@ -1,6 +1,6 @@
 //! The laws of sound entries. Each function does nothing: its contract is the law.
 
-ghost use Rattle.sound_entries.specs.Laws.{LedByEntry, FoundByIndex, TouchedByIndex, NothingIsSound, AddingStaysSound, TakingStaysSound, UpdatingStaysSound, PruningStaysSound, PagesGrowSound, EntriesGoSound, GivingStaysSound, CommittingStaysSound, AbortingStaysSound, LaterHorizonStaysSound, LedByTwoSteps};
+ghost use Rattle.sound_entries.specs.Laws.{LedByEntry, FoundByIndex, TouchedByIndex, NoEntriesAreSound, AddingKeepsEntries, TakingKeepsEntries, UpdatingKeepsEntries, PruningKeepsEntries, PagesGrowSound, EntriesGoSound, GivingKeepsEntries, CommittingKeepsEntries, AbortingKeepsEntries, LaterHorizonKeepsEntries, LedByTwoSteps};
 
 /// A version that isn't undone is in the chain of exactly one entry, which has its value and its key.
 pub fn led_by_entry()
@@ -18,29 +18,29 @@ pub fn touched_by_index()
 {}
 
 /// A table without pages is sound, with an index without entries.
-pub fn nothing_is_sound()
-    ensures { NothingIsSound }
+pub fn no_entries_are_sound()
+    ensures { NoEntriesAreSound }
 {}
 
 /// The table stays sound when an id in progress adds a root, with one entry for it.
-pub fn adding_stays_sound()
-    ensures { AddingStaysSound }
+pub fn adding_keeps_entries()
+    ensures { AddingKeepsEntries }
 {}
 
 /// The table stays sound when an id in progress deletes a version or replaces it by one elsewhere. The entries stay.
-pub fn taking_stays_sound()
-    ensures { TakingStaysSound }
+pub fn taking_keeps_entries()
+    ensures { TakingKeepsEntries }
 {}
 
 /// The table stays sound when an id in progress replaces a version by a heap-only one of the same value and key. The
 /// entries stay.
-pub fn updating_stays_sound()
-    ensures { UpdatingStaysSound }
+pub fn updating_keeps_entries()
+    ensures { UpdatingKeepsEntries }
 {}
 
 /// The table stays sound when a page is pruned. The entries stay.
-pub fn pruning_stays_sound()
-    ensures { PruningStaysSound }
+pub fn pruning_keeps_entries()
+    ensures { PruningKeepsEntries }
 {}
 
 /// The table stays sound when a page comes into use.
@@ -54,25 +54,25 @@ pub fn entries_go_sound()
 {}
 
 /// The table stays sound when an id is given.
-pub fn giving_stays_sound()
-    ensures { GivingStaysSound }
+pub fn giving_keeps_entries()
+    ensures { GivingKeepsEntries }
 {}
 
 /// The table stays sound when ids in progress commit, if whatever they deleted was made by a frozen or committed id, or
 /// by one of them.
-pub fn committing_stays_sound()
-    ensures { CommittingStaysSound }
+pub fn committing_keeps_entries()
+    ensures { CommittingKeepsEntries }
 {}
 
 /// The table stays sound when ids in progress are aborted, if whatever they made was deleted by nobody, by an aborted id,
 /// or by one of them.
-pub fn aborting_stays_sound()
-    ensures { AbortingStaysSound }
+pub fn aborting_keeps_entries()
+    ensures { AbortingKeepsEntries }
 {}
 
 /// The table stays sound under a later horizon.
-pub fn later_horizon_stays_sound()
-    ensures { LaterHorizonStaysSound }
+pub fn later_horizon_keeps_entries()
+    ensures { LaterHorizonKeepsEntries }
 {}
 
 /// What an entry leads to after two steps is what the law of one step says, if both steps keep it.

@@ -6,24 +6,18 @@
 //! leads to. The laws of `specs/Laws.antt`, which are contracts of functions that do nothing, say that by sound entries
 //! one finds what is found on the heap, and that writes, pruning, and what becomes of transactions leave the entries sound.
 //!
-//! [`place_of`], [`row_of`] and [`standing_of`] go along the entries of one value and one key, and [`place_from`] and
+//! [`place_of`], [`row_of`] and [`check_write`] go along the entries of one value and one key, and [`place_from`] and
 //! [`row_from`] do so from the first of them, where that is known. Their contracts speak of entries and chains alone
 //! (`specs/Looking.antt`), on any pages and any index; the laws there tie them to the heap.
 #![tactic(auto)]
 
-mod laws;
-mod looking;
-mod standing;
-mod touched;
+mod conflicts;
+pub mod laws;
+mod lookup;
+mod write_check;
 
-pub use laws::{
-    aborting_stays_sound, adding_stays_sound, committing_stays_sound, entries_go_sound,
-    found_by_index, giving_stays_sound, later_horizon_stays_sound, led_by_entry, led_by_two_steps,
-    nothing_is_sound, pages_grow_sound, pruning_stays_sound, taking_stays_sound, touched_by_index,
-    updating_stays_sound,
-};
-pub use looking::{
+pub use lookup::{
     foreign_is_on_heap, found_is_on_heap, missed_is_on_heap, place_from, place_is_on_heap,
     place_of, row_from, row_of, the_row_is_found,
 };
-pub use standing::{Standing, standing_of};
+pub use write_check::{WriteCheck, check_write};

@@ -5,11 +5,11 @@ use Rattle.std.proofs.lemmas.Bool.{and_parts, eqb-true, not-true}
 use Rattle.std.proofs.lemmas.Option.{slice_get-get_or}
 use Rattle.page_slots.specs.declared.slot.Slot.{Slot}
 use Rattle.page_slots.specs.declared.slot.Slot.TheVariants.{Unused, Normal, Redirect, Dead}
-use Rattle.page_slots.specs.Slots.{slot_at, version_at, header_at, version_of, IsThere}
+use Rattle.page_slots.specs.Slots.{slot_at, version_at, header_at, version_of, SlotIsThere}
 use Rattle.page_slots.proofs.SlotLemmas.{there-from_slot_at, slot_at-from_version_at}
 use Rattle.tuple_header.specs.Version.{Version}
 use Rattle.tuple_header.specs.Marks.{is_hot_updated, is_heap_only}
-use Rattle.hot_chain.specs.Chain.{is_replaced, is_made_by, successor, next_of, start_in, first_of, IsChain}
+use Rattle.hot_chain.specs.Chain.{is_replaced, is_made_by, successor, next_in_chain, start_in, first_of, IsChain}
 
 -- what leads to the next version, and to what
 pub record IsLink (aborted : ℕ → Bool) (slots : List Slot) (n k : ℕ) : Type 0 where
@@ -67,7 +67,7 @@ successor-link aborted slots n k (Some t) at e =
       made = made.id;
     }
 
-pub link-of : (aborted : ℕ → Bool) (slots : List Slot) (n k : ℕ) → next_of aborted slots n ≡ Some k → IsLink aborted slots n k
+pub link-of : (aborted : ℕ → Bool) (slots : List Slot) (n k : ℕ) → next_in_chain aborted slots n ≡ Some k → IsLink aborted slots n k
 link-of aborted slots n k e = successor-link aborted slots n k (version_at slots n) refl e
 
 -- the version in a slot
@@ -110,8 +110,8 @@ member-version aborted slots n chain (suc i) c h =
     let l = link-of aborted slots (get_or chain i 0) (get_or chain (i + 1) 0) (c.linked i (omega arith)) in
     subst (λ k. SomeVersion slots (get_or chain k 0)) one (record { version = l.new; there = l.to })
 
-pub version-there : (slots : List Slot) (n : ℕ) (t : Version) → version_at slots n ≡ Some t → IsThere slots n
+pub version-there : (slots : List Slot) (n : ℕ) (t : Version) → version_at slots n ≡ Some t → SlotIsThere slots n
 version-there slots n t e = there-from_slot_at slots n (Normal t) (slot_at-from_version_at slots n t e)
 
-pub member-there : (aborted : ℕ → Bool) (slots : List Slot) (n : ℕ) (chain : List ℕ) (i : ℕ) → IsChain aborted slots n chain → i < length chain → IsThere slots (get_or chain i 0)
+pub member-there : (aborted : ℕ → Bool) (slots : List Slot) (n : ℕ) (chain : List ℕ) (i : ℕ) → IsChain aborted slots n chain → i < length chain → SlotIsThere slots (get_or chain i 0)
 member-there aborted slots n chain i c h = let v = member-version aborted slots n chain i c h in version-there slots (get_or chain i 0) v.version v.there

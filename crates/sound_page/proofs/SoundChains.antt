@@ -11,11 +11,11 @@ use Rattle.page_slots.specs.Slots.{slot_at, version_at}
 use Rattle.tuple_header.specs.Version.{Version}
 use Rattle.tuple_header.specs.Marks.{is_heap_only}
 use Rattle.commit_status.specs.Window.{Window}
-use Rattle.hot_chain.specs.Chain.{has_aborted, is_root, is_root_in, first_of, start_in, next_of, IsChain, IsEnd, LeadsTo}
+use Rattle.hot_chain.specs.Chain.{has_aborted, is_root, is_root_in, first_of, start_in, next_in_chain, IsChain, IsEnd, LeadsTo}
 use Rattle.hot_chain.proofs.Walks.{Walk, walk-none, walk-more, walk-room, chain-from_walk}
 use Rattle.hot_chain.proofs.Chains.{any-place}
 use Rattle.sound_page.specs.Links.{Reaches, link, NoSharedSlots}
-use Rattle.sound_page.specs.Sound.{entry_in, entry_of, IsIn, SoundPage}
+use Rattle.sound_page.specs.Sound.{chain_start_in, chain_start_of, IsIn, SoundPage}
 use Rattle.sound_page.proofs.Links.{link-of, first-version, version-there}
 use Rattle.sound_page.proofs.ChainPlaces.{place-of, at-place, chain-first, reaches-places}
 use Rattle.page_slots.proofs.SlotLemmas.{slot_at-from_version_at}
@@ -30,25 +30,25 @@ chain-exists aborted slots n few =
     go 292 [] (first_of slots n) (walk-none next (first_of slots n) (first_of slots n) refl first-small) (omega arith)
   where
     next : ℕ → Option ℕ
-    next = next_of aborted slots
+    next = next_in_chain aborted slots
 
     first-small : (k : ℕ) → first_of slots n ≡ Some k → k < 292
     first-small k e = let v = first-version slots n k e in let there = (version-there slots k v.version v.there).1 in omega arith
 
-    next-small : (m k : ℕ) → next_of aborted slots m ≡ Some k → k < 292
+    next-small : (m k : ℕ) → next_in_chain aborted slots m ≡ Some k → k < 292
     next-small m k e = let l = link-of aborted slots m k e in let there = (version-there slots k l.new l.to).1 in omega arith
 
-    go : (fuel : ℕ) (visited : List ℕ) (at : Option ℕ) → Walk (next_of aborted slots) (first_of slots n) visited at → 292 ≤ fuel + length visited → SomeChain aborted slots n
+    go : (fuel : ℕ) (visited : List ℕ) (at : Option ℕ) → Walk (next_in_chain aborted slots) (first_of slots n) visited at → 292 ≤ fuel + length visited → SomeChain aborted slots n
     go fuel visited None w h = record { chain = visited; is = chain-from_walk aborted slots n visited None w tt }
     go zero visited (Some m) w h = ⊎_elim
         (λ t. record { chain = visited; is = chain-from_walk aborted slots n visited (Some m) w t })
-        (λ f. absurd (let room = walk-room (next_of aborted slots) (first_of slots n) visited m w f in omega arith))
+        (λ f. absurd (let room = walk-room (next_in_chain aborted slots) (first_of slots n) visited m w f in omega arith))
         (cases_Bool (list_any (nat_eq m) visited))
     go (suc fuel) visited (Some m) w h = ⊎_elim
         (λ t. record { chain = visited; is = chain-from_walk aborted slots n visited (Some m) w t })
         (λ f.
         let long = length-append visited (m ∷ []) in
-        go fuel (visited ++ m ∷ []) (next_of aborted slots m) (walk-more (next_of aborted slots) (first_of slots n) visited m (next_of aborted slots m) w f refl (next-small m)) (omega arith))
+        go fuel (visited ++ m ∷ []) (next_in_chain aborted slots m) (walk-more (next_in_chain aborted slots) (first_of slots n) visited m (next_in_chain aborted slots m) w f refl (next-small m)) (omega arith))
         (cases_Bool (list_any (nat_eq m) visited))
 
 -- the last of a chain leads nowhere
@@ -97,10 +97,10 @@ exact w horizon slots n chain i (suc j) x sound c within along = ⊎_elim
 pub plain-root : (slots : List Slot) (n : ℕ) (t : Version) → version_at slots n ≡ Some t → is_heap_only t.header ≡ false → is_root slots n ≡ true
 plain-root slots n t at plain = ap is_root_in (slot_at-from_version_at slots n t at) ∙ ap not plain
 
-pub entry-root : (slots : List Slot) (n e : ℕ) → entry_of slots n ≡ Some e → is_root slots n ≡ true
+pub entry-root : (slots : List Slot) (n e : ℕ) → chain_start_of slots n ≡ Some e → is_root slots n ≡ true
 entry-root slots n e leads = by (slot_at slots n) leads
   where
-    by : (o : Option Slot) → entry_in n o ≡ Some e → is_root_in o ≡ true
+    by : (o : Option Slot) → chain_start_in n o ≡ Some e → is_root_in o ≡ true
     by None f = absurd (cc)
     by (Some Unused) f = absurd (cc)
     by (Some (Normal t)) f = plain (is_heap_only t.header) f
@@ -112,10 +112,10 @@ entry-root slots n e leads = by (slot_at slots n) leads
     by (Some Dead) f = absurd (cc)
 
 -- a root's entry is where its chain starts
-pub first-entry : (slots : List Slot) (n f : ℕ) → is_root slots n ≡ true → first_of slots n ≡ Some f → entry_of slots n ≡ Some f
+pub first-entry : (slots : List Slot) (n f : ℕ) → is_root slots n ≡ true → first_of slots n ≡ Some f → chain_start_of slots n ≡ Some f
 first-entry slots n f starts first = by (slot_at slots n) starts first
   where
-    by : (o : Option Slot) → is_root_in o ≡ true → option_and_then (start_in slots n) o ≡ Some f → entry_in n o ≡ Some f
+    by : (o : Option Slot) → is_root_in o ≡ true → option_and_then (start_in slots n) o ≡ Some f → chain_start_in n o ≡ Some f
     by None s e = absurd (cc)
     by (Some Unused) s e = absurd (cc)
     by (Some (Normal t)) s e = plain (is_heap_only t.header) s e
@@ -130,10 +130,10 @@ first-entry slots n f starts first = by (slot_at slots n) starts first
         there false e = absurd (cc)
     by (Some Dead) s e = absurd (cc)
 
-pub entry-first : (w : Window) (horizon : ℕ) (slots : List Slot) (n e : ℕ) → SoundPage w horizon slots → entry_of slots n ≡ Some e → first_of slots n ≡ Some e
+pub entry-first : (w : Window) (horizon : ℕ) (slots : List Slot) (n e : ℕ) → SoundPage w horizon slots → chain_start_of slots n ≡ Some e → first_of slots n ≡ Some e
 entry-first w horizon slots n e sound leads = by (slot_at slots n) refl leads
   where
-    by : (o : Option Slot) → slot_at slots n ≡ o → entry_in n o ≡ Some e → option_and_then (start_in slots n) o ≡ Some e
+    by : (o : Option Slot) → slot_at slots n ≡ o → chain_start_in n o ≡ Some e → option_and_then (start_in slots n) o ≡ Some e
     by None at f = absurd (cc)
     by (Some Unused) at f = absurd (cc)
     by (Some (Normal t)) at f = plain (is_heap_only t.header) f

@@ -1,4 +1,4 @@
--- Versions whose maker is aborted: no link leads to them.
+-- Versions whose inserter is aborted: no link leads to them.
 use Rattle.std.proofs.Common.{◌≡◌, ◌≢◌, ℕ, zero, suc, true, false, List, Some, sym, ap, ◌∙◌, refl, subst}
 use Rattle.std.proofs.lemmas.Option.{same_Some}
 use Rattle.xid_circle.specs.Following.{ReachesIn}
@@ -37,7 +37,7 @@ pub record IsUndoneAt (w : Window) (slots : List Slot) (n : ℕ) : Type 0 where
   pub thawed : ¬ IsFrozen version.header
   pub aborted : IsAborted w version.header.xmin.0
 
--- a link leads to no version whose maker is aborted
+-- a link leads to no version whose inserter is aborted
 undone-unlinked : (w : Window) (slots : List Slot) (n k : ℕ) → link w slots n ≡ Some k → ¬ IsUndoneAt w slots k
 undone-unlinked w slots n k next u =
     let l = link-of (has_aborted w) slots n k next in

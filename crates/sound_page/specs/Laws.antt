@@ -7,7 +7,7 @@ use Rattle.sound_page.specs.Links.{NoSharedSlots}
 use Rattle.snapshot.specs.Snap.{Snap}
 use Rattle.visibility.specs.Visible.{ReadsIn}
 use Rattle.sound_page.specs.Sound.{SoundPage}
-use Rattle.sound_page.specs.Readers.{IsReader, IsOpenReader}
+use Rattle.sound_page.specs.Readers.{IsPageReader, IsOpenReader}
 
 -- a page without slots is sound
 abbrev pub EmptyPageIsSound : Type 0
@@ -20,4 +20,4 @@ SoundIsUnshared = (w : Window) (horizon : ℕ) (slots : List Slot) → SoundPage
 -- who has a snapshot and own ids reads as is asked of a reader
 abbrev pub OpenReadersAreReaders : Type 0
 OpenReadersAreReaders = (w : Window) (horizon : ℕ) (slots : List Slot) (s : Snap) (own : List ℕ) → IsOpenReader w horizon slots s own
-    → IsReader w horizon slots (ReadsIn w s own)
+    → IsPageReader w horizon slots (ReadsIn w s own)

@@ -3,7 +3,7 @@ use Rattle.std.specs.Prelude.{◌≡◌, ℕ, Bool, List, Option}
 use Rattle.xid_circle.specs.Following.{ReachesIn}
 use Rattle.page_slots.specs.declared.slot.Slot.{Slot}
 use Rattle.commit_status.specs.Window.{Window}
-use Rattle.hot_chain.specs.Chain.{has_aborted, next_of, LeadsTo}
+use Rattle.hot_chain.specs.Chain.{has_aborted, next_in_chain, LeadsTo}
 
 -- no slot is in the chains of two roots or redirects
 abbrev pub NoSharedSlots : (ℕ → Bool) → List Slot → Type 0
@@ -11,7 +11,7 @@ NoSharedSlots aborted slots = (a b n : ℕ) → LeadsTo aborted slots a n → Le
 
 -- where a chain goes on from a slot
 abbrev pub link : Window → List Slot → ℕ → Option ℕ
-link w slots n = next_of (has_aborted w) slots n
+link w slots n = next_in_chain (has_aborted w) slots n
 
 -- from n one comes to k
 pub record Reaches (next : ℕ → Option ℕ) (n k : ℕ) : Type 0 where

@@ -16,7 +16,7 @@ pub record FindsBy (R : ℕ → Type 0) (slots : List Slot) (n : ℕ) (t : Versi
   pub seen : VisibleBy R t.header
 
 -- what pruning at the horizon asks of a reader
-pub record IsReader (w : Window) (horizon : ℕ) (slots : List Slot) (R : ℕ → Type 0) : Type 0 where
+pub record IsPageReader (w : Window) (horizon : ℕ) (slots : List Slot) (R : ℕ → Type 0) : Type 0 where
   -- it counts what was committed before the horizon
   pub past : (x : ℕ) → IsCommitted w x → Precedes x horizon → R x
   -- and nothing that is aborted
@@ -25,8 +25,8 @@ pub record IsReader (w : Window) (horizon : ℕ) (slots : List Slot) (R : ℕ �
   pub in_order : (n : ℕ) (t : Version) → version_at slots n ≡ Some t → IsCommitted w t.header.xmax.0 → R t.header.xmax.0
       → IsFrozen t.header ⊎ R t.header.xmin.0
 
-abbrev pub Finds : Window → Snap → List ℕ → List Slot → ℕ → Version → Type 0
-Finds w s own slots n t = FindsBy (ReadsIn w s own) slots n t
+abbrev pub FindsVersion : Window → Snap → List ℕ → List Slot → ℕ → Version → Type 0
+FindsVersion w s own slots n t = FindsBy (ReadsIn w s own) slots n t
 
 -- A snapshot and own ids, in a window: no snapshot that is open, or taken later, has an xmin before the horizon.
 pub record IsOpenReader (w : Window) (horizon : ℕ) (slots : List Slot) (s : Snap) (own : List ℕ) : Type 0 where
@@ -42,4 +42,4 @@ pub record IsOpenReader (w : Window) (horizon : ℕ) (slots : List Slot) (s : Sn
 -- each such reader finds in each slot the version that it found there, and no other
 abbrev pub KeepsFound : Window → ℕ → List Slot → List Slot → Type 0
 KeepsFound w horizon slots after = (s : Snap) (own : List ℕ) → IsOpenReader w horizon slots s own
-    → (n : ℕ) (t : Version) → Finds w s own slots n t ↔ Finds w s own after n t
+    → (n : ℕ) (t : Version) → FindsVersion w s own slots n t ↔ FindsVersion w s own after n t

@@ -12,20 +12,20 @@ use Rattle.hot_chain.specs.Chain.{has_aborted, is_replaced, is_root}
 use Rattle.sound_page.specs.Links.{link, Reaches}
 
 -- where the chain of a root or a redirect begins
-abbrev pub entry_in : ℕ → Option Slot → Option ℕ
-entry_in n None = None
-entry_in n (Some Unused) = None
-entry_in n (Some (Normal t)) = if is_heap_only t.header then None else Some n
-entry_in n (Some (Redirect k)) = Some k
-entry_in n (Some Dead) = None
+abbrev pub chain_start_in : ℕ → Option Slot → Option ℕ
+chain_start_in n None = None
+chain_start_in n (Some Unused) = None
+chain_start_in n (Some (Normal t)) = if is_heap_only t.header then None else Some n
+chain_start_in n (Some (Redirect k)) = Some k
+chain_start_in n (Some Dead) = None
 
-abbrev pub entry_of : List Slot → ℕ → Option ℕ
-entry_of slots n = entry_in n (slot_at slots n)
+abbrev pub chain_start_of : List Slot → ℕ → Option ℕ
+chain_start_of slots n = chain_start_in n (slot_at slots n)
 
 -- a slot in the chain of a root or a redirect
 pub record IsIn (w : Window) (slots : List Slot) (root n : ℕ) : Type 0 where
   pub entry : ℕ
-  pub leads : entry_of slots root ≡ Some entry
+  pub leads : chain_start_of slots root ≡ Some entry
   pub later : Reaches (link w slots) entry n
 
 -- a heap-only version, made for good
@@ -57,7 +57,7 @@ pub record SoundPage (w : Window) (horizon : ℕ) (slots : List Slot) : Type 0 w
   -- a chain does not come back
   pub ends : (n k : ℕ) → link w slots n ≡ Some k → ¬ Reaches (link w slots) k n
   pub redirects : (n k : ℕ) → slot_at slots n ≡ Some (Redirect k) → IsTarget w horizon slots k
-  -- a heap-only version is in one chain, unless its maker is aborted
+  -- a heap-only version is in one chain, unless its inserter is aborted
   pub owned : (n : ℕ) (t : Version) → version_at slots n ≡ Some t → is_heap_only t.header ≡ true
       → (¬ IsFrozen t.header × IsAborted w t.header.xmin.0) ⊎ SomeRoot w slots n
   pub alone : (a b n : ℕ) → IsIn w slots a n → IsIn w slots b n → a ≡ b

@@ -16,28 +16,28 @@ use Rattle.snapshot.specs.Own.{Own}
 use Rattle.visibility.specs.Visible.{IsVisible}
 use Rattle.commit_status.specs.Window.{Window}
 use Rattle.freeze.specs.Freezing.{Freezes, frozen_slot}
-use Rattle.page_writes.specs.Headers.{heap_only_header}
-use Rattle.page_writes.specs.Writes.{with_root, with_replaced, with_heap_only, with_updated}
-use Rattle.page_writes.proofs.Slotted.{replaced-other}
+use Rattle.tuple_writes.specs.Headers.{heap_only_header}
+use Rattle.tuple_writes.specs.Writes.{with_root, with_replaced, with_heap_only, with_updated}
+use Rattle.tuple_writes.proofs.Slotted.{replaced-other}
 use Rattle.root_index.specs.declared.entry.Entry.{Entry}
 use Rattle.root_index.specs.View.{IndexView}
 use Rattle.history.specs.Cursors.{value_in}
 use Rattle.heap_pages.specs.View.{PagesView}
 use Rattle.sound_entries.specs.Pages.{slots_on, slot_in, version_in, SoundHeap, Puts}
 use Rattle.sound_entries.specs.Looking as looking
-use Rattle.sound_entries.specs.Entries.{IsSound, StaysSound}
+use Rattle.sound_entries.specs.Entries.{EntriesAreSound, StaysSound}
 use Rattle.sound_entries.proofs.Changes.{dead-stays}
 use Rattle.heap_write.specs.Heap.{HeapView, slots_of, page_on, Keeps}
 use Rattle.heap_write.specs.Indexes.{entries_at, entries_in, IsInUse, SameEntries}
-use Rattle.heap_write.specs.Writes.{IsFull, PutsRoot, TakesAway, ReplacesHere, ReplacesByRoot, ReplacesOnPage, Replaces, Readies, Prunes}
-use Rattle.heap_write.specs.Refusals.{WhenReady, FailsUpdate, IsThere}
+use Rattle.heap_write.specs.Writes.{TableIsFull, PutsRoot, SetsXmax, HotUpdates, ColdUpdates, UpdatesOnPage, Replaces, PrunesIfFull, Prunes}
+use Rattle.heap_write.specs.Refusals.{AfterPruning, FailsUpdate, VersionIsThere}
 use Rattle.heap_write.specs.declared.heap.WriteFault.{WriteFault}
 use Rattle.heap_write.specs.declared.heap.WriteFault.TheVariants as fault
-use Rattle.sound_writes.specs.Table.{SoundTable, StaysSoundTable}
-use Rattle.sound_writes.specs.Laws.{Finishes}
-use Rattle.sound_writes.specs.Readers.{FindsAt, Finds, FindsTheSame}
-use Rattle.sound_writes.proofs.Standing.{slots_on-page_on, version-on, free_place, root_version, root-puts, root-stands, away-puts, here-puts, by-root-still, prunes-on, prunes-puts}
-use Rattle.sound_writes.proofs.InUse.{used-by, same-in, enters-used, enters-adds, index-sound, table-stays}
+use Rattle.table_integrity.specs.Table.{SoundTable, StaysSoundTable}
+use Rattle.table_integrity.specs.Laws.{FinishesInTable}
+use Rattle.table_integrity.specs.Readers.{FindsAt, FindsRowAt, FindsTheSame}
+use Rattle.table_integrity.proofs.Standing.{slots_on-page_on, version-on, free_place, root_version, root-puts, root-stands, away-puts, here-puts, by-root-still, prunes-on, prunes-puts}
+use Rattle.table_integrity.proofs.InUse.{used-by, same-in, enters-used, enters-adds, index-sound, table-stays}
 use Rattle.root_index.specs.declared.progress.Progress.{Progress}
 use Rattle.root_index.specs.declared.progress.Progress.TheVariants.{Done}
 use Rattle.vacuum_passes.specs.Visits.{FreesAt, VisitsAt, SweepsAt}
@@ -114,8 +114,8 @@ kept-keep h h' k = pages-keep h h' k.slots k.entries
 pub same-indexes : (a b : List (Option IndexView)) → b ≡ a → SameEntries a b
 same-indexes a b same n = ap (λ (indexes : List (Option IndexView)). entries_at indexes n) same
 
-finished-keep : (h h' : HeapView) (ids : List ℕ) (status : _) → Finishes h h' ids status → KeepsDeadSlots h h'
-finished-keep h h' ids status f = pages-keep h h' (ap (λ (p : PagesView). looking.slots_of p) f.pages) (same-indexes h.indexes h'.indexes f.indexes)
+finished-keep : (h h' : HeapView) (ids : List ℕ) (status : _) → FinishesInTable h h' ids status → KeepsDeadSlots h h'
+finished-keep h h' ids status f = pages-keep h h' (ap (λ (p : PagesView). looking.page_slots_of p) f.pages) (same-indexes h.indexes h'.indexes f.indexes)
 
 pruned-keep : (h h' : HeapView) (number horizon : ℕ) → Prunes h h' number horizon → KeepsDeadSlots h h'
 pruned-keep h h' number horizon p = same-keep h h' (same-indexes h.indexes h'.indexes (ap (λ (g : HeapView). g.indexes) p.is))
@@ -123,10 +123,10 @@ pruned-keep h h' number horizon p = same-keep h h' (same-indexes h.indexes h'.in
     (subst (λ slots. DeadStay slots p.after.slots) (sym (prunes-on h h' number horizon p))
     (λ k dead. dead-stays h.table horizon p.before.slots p.after.slots k p.pruned dead)))
 
-readied-keep : (h h' : HeapView) (number horizon size : ℕ) → Readies h h' number horizon size → KeepsDeadSlots h h'
-readied-keep h h' number horizon size (Readies.has_room room is) =
+readied-keep : (h h' : HeapView) (number horizon size : ℕ) → PrunesIfFull h h' number horizon size → KeepsDeadSlots h h'
+readied-keep h h' number horizon size (PrunesIfFull.has_room room is) =
     pages-keep h h' (ap (λ (g : HeapView). slots_of g) is) (same-indexes h.indexes h'.indexes (ap (λ (g : HeapView). g.indexes) is))
-readied-keep h h' number horizon size (Readies.is_pruned full grown keeps prunes) = keeps-then h grown h' (kept-keep h grown keeps) (pruned-keep grown h' number horizon prunes)
+readied-keep h h' number horizon size (PrunesIfFull.is_pruned full grown keeps prunes) = keeps-then h grown h' (kept-keep h grown keeps) (pruned-keep grown h' number horizon prunes)
 
 root-keep : (h h' : HeapView) (updated : Bool) (x : ℕ) (row : Row) (n : ℕ) → PutsRoot h h' updated x row n → KeepsDeadSlots h h'
 root-keep h h' updated x row n r i = record {
@@ -142,28 +142,28 @@ root-keep h h' updated x row n r i = record {
       (((enters-adds h.indexes h'.indexes row (free_place h n) r.entries i used).members e).0 there);
 }
 
-away-keep : (h h' : HeapView) (place : Tid) (x : ℕ) (successor : Tid) (t : Version) → version_in (slots_of h) place ≡ Some t → TakesAway h h' place x successor → KeepsDeadSlots h h'
+away-keep : (h h' : HeapView) (place : Tid) (x : ℕ) (successor : Tid) (t : Version) → version_in (slots_of h) place ≡ Some t → SetsXmax h h' place x successor → KeepsDeadSlots h h'
 away-keep h h' place x successor t at a = same-keep h h' a.entries
     (put-dead (slots_of h) (slots_of h') place.page (with_replaced (page_on h place.page).slots place.slot x successor.page successor.slot false) (away-puts h h' place x successor a)
     (subst (λ slots. DeadStay slots (with_replaced (page_on h place.page).slots place.slot x successor.page successor.slot false)) (sym (slots_on-page_on h place.page))
     (replaced-dead (page_on h place.page).slots place.slot x successor.page successor.slot false t
     (slot_at-from_version_at (page_on h place.page).slots place.slot t (sym (version-on h place) ∙ at)))))
 
-here-keep : (h h' : HeapView) (place : Tid) (x : ℕ) (row : Row) (t : Version) → version_in (slots_of h) place ≡ Some t → ReplacesHere h h' place x row → KeepsDeadSlots h h'
+here-keep : (h h' : HeapView) (place : Tid) (x : ℕ) (row : Row) (t : Version) → version_in (slots_of h) place ≡ Some t → HotUpdates h h' place x row → KeepsDeadSlots h h'
 here-keep h h' place x row t at a = same-keep h h' a.entries
     (put-dead (slots_of h) (slots_of h') place.page (with_updated (page_on h place.page).slots place.slot x place.page row) (here-puts h h' place x row a)
     (subst (λ slots. DeadStay slots (with_updated (page_on h place.page).slots place.slot x place.page row)) (sym (slots_on-page_on h place.page))
     (updated-dead (page_on h place.page).slots place.slot x place.page row t
     (slot_at-from_version_at (page_on h place.page).slots place.slot t (sym (version-on h place) ∙ at)))))
 
-by-root-keep : (h h' : HeapView) (place : Tid) (x : ℕ) (row : Row) (n : ℕ) (t : Version) → version_in (slots_of h) place ≡ Some t → ReplacesByRoot h h' place x row n → KeepsDeadSlots h h'
+by-root-keep : (h h' : HeapView) (place : Tid) (x : ℕ) (row : Row) (n : ℕ) (t : Version) → version_in (slots_of h) place ≡ Some t → ColdUpdates h h' place x row n → KeepsDeadSlots h h'
 by-root-keep h h' place x row n t at r = keeps-then h r.middle h' (root-keep h r.middle true x row n r.root)
     (away-keep r.middle h' place x (free_place h n) t
     (by-root-still h (version_in (slots_of r.middle)) place (free_place h n) (root_version h true x row n) t (root-stands h r.middle true x row n r.root) at) r.away)
 
 replaces-keep : (h h' : HeapView) (place : Tid) (x : ℕ) (row : Row) (t : Version) → version_in (slots_of h) place ≡ Some t → Replaces h h' place x row → KeepsDeadSlots h h'
-replaces-keep h h' place x row t at (Replaces.on_page room (ReplacesOnPage.heap_only values a)) = here-keep h h' place x row t at a
-replaces-keep h h' place x row t at (Replaces.on_page room (ReplacesOnPage.as_root changed r)) = by-root-keep h h' place x row place.page t at r
+replaces-keep h h' place x row t at (Replaces.on_page room (UpdatesOnPage.heap_only values a)) = here-keep h h' place x row t at a
+replaces-keep h h' place x row t at (Replaces.on_page room (UpdatesOnPage.as_root changed r)) = by-root-keep h h' place x row place.page t at r
 replaces-keep h h' place x row t at (Replaces.elsewhere room n off goes r) = by-root-keep h h' place x row n t at r
 
 pub some-there : (h : HeapView) (place : Tid) → IsNormalAt (page_on h place.page).slots place.slot → (t : Version) × (version_in (slots_of h) place ≡ Some t)
@@ -171,15 +171,15 @@ some-there h place there =
     let t = normal_at (page_on h place.page).slots place.slot there in
     (t.0, version-on h place ∙ version_at-from_slot_at (page_on h place.page).slots place.slot t.0 t.1)
 
-when-ready : (h h' : HeapView) (own : Own) (place : Tid) (horizon size : ℕ) (P : HeapView → Type 0) → WhenReady h h' own place horizon size P → KeepsDeadSlots h h'
+when-ready : (h h' : HeapView) (own : Own) (place : Tid) (horizon size : ℕ) (P : HeapView → Type 0) → AfterPruning h h' own place horizon size P → KeepsDeadSlots h h'
 when-ready h h' own place horizon size P r = keeps-then h r.ready h' (readied-keep h r.ready place.page horizon size r.readies) (kept-keep r.ready h' r.keeps)
 
 failed-keep : (h h' : HeapView) (own : Own) (place : Tid) (row : Row) (horizon : ℕ) (fault : WriteFault) → FailsUpdate h h' own place row horizon fault → KeepsDeadSlots h h'
 failed-keep h h' own place row horizon fault.NeedsFreeze f = kept-keep h h' f.2
-failed-keep h h' own place row horizon fault.NoRoom f = when-ready h h' own place horizon (rounded_size_of row) (λ ready. IsThere ready place × IsFull ready (rounded_size_of row)) f
+failed-keep h h' own place row horizon fault.NoRoom f = when-ready h h' own place horizon (rounded_size_of row) (λ ready. VersionIsThere ready place × TableIsFull ready (rounded_size_of row)) f
 failed-keep h h' own place row horizon fault.NoMemory f = kept-keep h h' f.3
 failed-keep h h' own place row horizon fault.Gone f = ⊎_elim (λ gone. kept-keep h h' gone.1)
-    (λ went. when-ready h h' own place horizon (rounded_size_of row) (λ ready. ¬ IsThere ready place) went) f
+    (λ went. when-ready h h' own place horizon (rounded_size_of row) (λ ready. ¬ VersionIsThere ready place) went) f
 
 visited-keep : (h h' : HeapView) (horizon cutoff p : ℕ) → VisitsAt h h' horizon cutoff p → KeepsDeadSlots h h'
 visited-keep h h' horizon cutoff p v = keeps-then h v.pruned h' (pruned-keep h v.pruned p horizon v.prunes)
@@ -225,10 +225,10 @@ module _ (h h' : HeapView) (i : ℕ) (dead : List Tid) (from : Option Entry) (pr
     fresh = λ e there absent. absurd (absent (only-go n e there));
   }
 
-  piece-of : (horizon : ℕ) → SoundTable h horizon → AreDead (slots_of h) dead → (n : ℕ) → IsSound (value_in n) h.table horizon (slots_of h) (entries_in h.indexes n)
+  piece-of : (horizon : ℕ) → SoundTable h horizon → AreDead (slots_of h) dead → (n : ℕ) → EntriesAreSound (value_in n) h.table horizon (slots_of h) (entries_in h.indexes n)
       → StaysSound (value_in n) h.table horizon (slots_of h) (slots_of h) (entries_in h.indexes n) (entries_in h'.indexes n)
   piece-of horizon s are n = on-index
-      (λ k old new. IsSound (value_in k) h.table horizon (slots_of h) old → StaysSound (value_in k) h.table horizon (slots_of h) (slots_of h) old new)
+      (λ k old new. EntriesAreSound (value_in k) h.table horizon (slots_of h) old → StaysSound (value_in k) h.table horizon (slots_of h) (slots_of h) old new)
       (λ sound. piece-stays (value_in i) h.table horizon (slots_of h) (entries_in h.indexes i) (entries_in h'.indexes i) dead from progress sound v.removes are)
       (λ k es sound. going-stays (value_in k) h.table horizon (slots_of h) es es sound (λ e there. there) (λ e there root. there))
       n
@@ -244,8 +244,8 @@ module _ (h h' : HeapView) (i : ℕ) (dead : List Tid) (from : Option Entry) (pr
 
   pub swept-unseen : (s : Snap) (own : List ℕ) → FindsTheSame h h' s own
   swept-unseen s own q r =
-      subst (λ pages. Finds h s own q r ↔ FindsAt (IsVisible h'.table s own) (version_in pages) q r) (sym same-slots)
-      (subst (λ (w : Window). Finds h s own q r ↔ FindsAt (IsVisible w s own) (version_in (slots_of h)) q r) (sym same-table) (λ a. a, λ b. b))
+      subst (λ pages. FindsRowAt h s own q r ↔ FindsAt (IsVisible h'.table s own) (version_in pages) q r) (sym same-slots)
+      (subst (λ (w : Window). FindsRowAt h s own q r ↔ FindsAt (IsVisible w s own) (version_in (slots_of h)) q r) (sym same-table) (λ a. a, λ b. b))
 
 pub swept-unled : (h : HeapView) (dead : List Tid) (p : ℕ) (numbers : List ℕ) → ((n : ℕ) → IsInUse h.indexes n → IsSweptTo (entries_in h.indexes n) dead Done)
     → ((k : ℕ) → Contains numbers k → Contains dead (record { page = p; slot = k })) → AreUnled h p numbers

@@ -22,14 +22,14 @@ use Rattle.sound_entries.specs.Pages.{slots_on, slot_in, version_in}
 use Rattle.heap_write.specs.Heap.{HeapView, slots_of}
 use Rattle.heap_write.specs.Indexes.{entries_in, IsInUse}
 use Rattle.heap_write.specs.Writes.{Prunes}
-use Rattle.sound_writes.proofs.Standing.{prunes-on, prunes-puts}
+use Rattle.table_integrity.proofs.Standing.{prunes-on, prunes-puts}
 use Rattle.vacuum_passes.specs.declared.vacuum.Mode.{Mode}
 use Rattle.vacuum_passes.specs.declared.vacuum.Mode.TheVariants.{Aggressive}
 use Rattle.vacuum_passes.specs.declared.vacuum.Piece.{Piece}
 use Rattle.vacuum_passes.specs.declared.vacuum.Phase.{Phase}
 use Rattle.vacuum_passes.specs.declared.vacuum.Phase.TheVariants as phase
 use Rattle.root_index.specs.declared.progress.Progress.{Progress}
-use Rattle.vacuum_passes.specs.View.{VacuumView, places, space, collected, counted, begun, disturbed}
+use Rattle.vacuum_passes.specs.View.{VacuumView, places, space, collected, counted, new_vacuum, disturbed}
 use Rattle.vacuum_passes.specs.Visits.{IsNextPage, NoPageLeft, Visits, SweepsAt}
 use Rattle.vacuum_passes.specs.Steps.{Steps, PhaseAfter, Frees, off_page, phase_left}
 use Rattle.vacuum_passes.specs.Keeps.{IsVacuum}
@@ -38,9 +38,9 @@ use Rattle.vacuum_passes.proofs.VacuumLemmas.{steps-kept, begun-kept}
 use Rattle.sound_vacuum.specs.Quiet.{AreSettled}
 use Rattle.sound_vacuum.specs.Sweeping.{AreDead}
 use Rattle.sound_vacuum.specs.Indexes.{AreSwept, AllAreSwept}
-use Rattle.sound_vacuum.specs.Cleaning.{IsDone, IsClean, AreYoung}
+use Rattle.sound_vacuum.specs.Cleaning.{IsDone, IsClean, PagesAreYoung}
 use Rattle.sound_vacuum.specs.Between.{StepsBetween}
-use Rattle.sound_vacuum.specs.Vacuuming.{CanVacuum, KeepsSwept, IsReady, KeepsQuiet, KeepsVacuum, IsSafe, IsVacuumed}
+use Rattle.sound_vacuum.specs.Vacuuming.{CanVacuum, KeepsSwept, IsReadyToNote, KeepsQuiet, KeepsVacuum, IsSafe, IsVacuumed}
 use Rattle.sound_vacuum.proofs.FreedTables.{frees-on, frees-put, version-kept}
 use Rattle.sound_vacuum.proofs.Visited.{freezes-put, visits-page, visited-settled}
 use Rattle.sound_vacuum.proofs.Collected.{steps-keep, freed-others}
@@ -116,7 +116,7 @@ module _ (h h' : HeapView) (v v' : VacuumView) (horizon p : ℕ) (can : CanVacuu
       (visit-stays_clean h visit.visited h.pages.marks horizon v.cutoff v.next p v.pages can.sound can.maps (the-cutoff h horizon v can keeps) visit.visits
       v.horizon (first-cutoff h horizon v can keeps) passed (active-late h horizon v can keeps) keeps.clean))
 
-  visit-young : v.mode ≡ Aggressive → AreYoung h' v.cutoff (collected v p visit.dead).next v.pages
+  visit-young : v.mode ≡ Aggressive → PagesAreYoung h' v.cutoff (collected v p visit.dead).next v.pages
   visit-young mode = young-less h' v.cutoff (collected v p visit.dead).next (p + 1) v.pages next-le
       (young-same visit.visited h' v.cutoff (p + 1) v.pages (ap (λ (g : HeapView). g.table) visit.notes.is) (notes-version visit.visited h' p horizon visit.notes)
       (visit-stays_young h visit.visited h.pages.marks horizon v.cutoff v.next p v.pages can.sound can.maps (the-cutoff h horizon v can keeps) visit.visits
@@ -148,7 +148,7 @@ module _ (h h' : HeapView) (v v' : VacuumView) (horizon p : ℕ) (can : CanVacuu
       omega (arith, same, count, within))
 
   -- the page itself, where all its dead slots are collected
-  here-ready : length visit.dead ≤ space v → horizon ≡ next_id h.table → IsReady h' horizon store' p
+  here-ready : length visit.dead ≤ space v → horizon ≡ next_id h.table → IsReadyToNote h' horizon store' p
   here-ready few none = record {
     settled = settled;
     collected = collected-here;
@@ -183,7 +183,7 @@ module _ (h h' : HeapView) (v v' : VacuumView) (horizon p : ℕ) (can : CanVacuu
         ready = λ mode q below. ⊎_elim
             (λ same. ⊎_elim
             (λ again. absurd (omega (arith, below, same, again)))
-            (λ on. subst (λ n. IsReady h' horizon store' n) (sym same) (here-ready on.1 none))
+            (λ on. subst (λ n. IsReadyToNote h' horizon store' n) (sym same) (here-ready on.1 none))
             (next-cases (nat_lt (space v) (length visit.dead)) refl))
             (λ off.
             let le = next-le in
@@ -222,11 +222,11 @@ module _ (h : HeapView) (v : VacuumView) (horizon : ℕ) (can : CanVacuum h hori
   end-clean = pass-clean h h.pages.marks horizon v.next v.pages v.pages can.maps v.horizon
       (λ q ge lt within. skipped-visible v.mode (mark_on h.pages.marks q) (over q ge lt within)) keeps.clean
 
-  end-young : v.mode ≡ Aggressive → AreYoung h v.cutoff v.pages v.pages
+  end-young : v.mode ≡ Aggressive → PagesAreYoung h v.cutoff v.pages v.pages
   end-young mode = pass-young h h.pages.marks horizon v.next v.pages v.pages can.maps v.cutoff
       (λ q ge lt within. skipped-frozen v.mode (mark_on h.pages.marks q) mode (over q ge lt within)) (keeps.young mode)
 
-  end-ready : v.quiet ≡ true → horizon ≡ next_id h.table → v.mode ≡ Aggressive → (p : ℕ) → p < v.pages → IsReady h horizon v.store p
+  end-ready : v.quiet ≡ true → horizon ≡ next_id h.table → v.mode ≡ Aggressive → (p : ℕ) → p < v.pages → IsReadyToNote h horizon v.store p
   end-ready quiet none mode p below =
       let k = keeps.quiet quiet none in
       ⊎_elim
@@ -263,8 +263,8 @@ module _ (h h' : HeapView) (v v' : VacuumView) (i : ℕ) (from : Option Entry) (
   sweep-swept after used swept (PhaseAfter.over e none is) = subst (KeepsSwept h' v.store) (sym is)
       (all-behind h h' v.store i from keeps.dead swept (subst (SweepsAt h h' i v.store from) e s) none)
 
-  sweep-keeps : (next : ℕ) → IsVacuum (counted v') → IsInUse h.indexes i → AreSwept h v.store i from → IsClean h v.horizon next v.pages → (v.mode ≡ Aggressive → AreYoung h v.cutoff next v.pages)
-      → (v.quiet ≡ true → horizon ≡ next_id h.table → v.mode ≡ Aggressive → (p : ℕ) → p < next → IsReady h horizon v.store p)
+  sweep-keeps : (next : ℕ) → IsVacuum (counted v') → IsInUse h.indexes i → AreSwept h v.store i from → IsClean h v.horizon next v.pages → (v.mode ≡ Aggressive → PagesAreYoung h v.cutoff next v.pages)
+      → (v.quiet ≡ true → horizon ≡ next_id h.table → v.mode ≡ Aggressive → (p : ℕ) → p < next → IsReadyToNote h horizon v.store p)
       → PhaseAfter h.indexes i progress v'.phase → v' ≡ record v { next = next; phase = v'.phase } → KeepsVacuum h' horizon (counted v')
   sweep-keeps next itself used swept clean young ready after same = subst (λ (u : VacuumView). IsVacuum (counted u) → KeepsVacuum h' horizon (counted u)) (sym same) (λ j.
       let k = ids-same h h' horizon v sweep-ids keeps in
@@ -347,7 +347,7 @@ module _ (h h' : HeapView) (v v' : VacuumView) (horizon p : ℕ) (can : CanVacuu
       let within = slice_get_within h.pages.pages p f.frees.before f.frees.at in
       omega (arith, same, count, within))
 
-  freed-ready : IsReady h horizon v.store p → IsReady h' horizon others p
+  freed-ready : IsReadyToNote h horizon v.store p → IsReadyToNote h' horizon others p
   freed-ready r =
       let all : IsAllVisible h.table horizon f.frees.after.slots = freed-visible h.table horizon (slots_on (slots_of h) p) f.frees.after.slots f.numbers r.settled
       (λ n dead. freed-named n (r.collected n dead)) (frees-on h f.freed p f.numbers f.frees) in
@@ -361,7 +361,7 @@ module _ (h h' : HeapView) (v v' : VacuumView) (horizon p : ℕ) (can : CanVacuu
         marked = λ none. ap says_visible freed-mark ∙ f.notes.exact.visible.1 noted;
       }
 
-  freed-off : (q : ℕ) → q ≢ p → IsReady h horizon v.store q → IsReady h' horizon others q
+  freed-off : (q : ℕ) → q ≢ p → IsReadyToNote h horizon v.store q → IsReadyToNote h' horizon others q
   freed-off q off r = ready-same h h' horizon v.store others q free-ids
       (notes-slots f.freed h' p horizon f.notes q ∙ (frees-put h f.freed p f.numbers f.frees).others q off)
       (ap (λ (ms : List Mark). mark_on ms q) (notes-marks f.freed h' p horizon f.notes)
@@ -389,7 +389,7 @@ module _ (h h' : HeapView) (v v' : VacuumView) (horizon p : ℕ) (can : CanVacuu
             record {
               pages = free-count ∙ q.pages;
               ready = λ mode n below. ⊎_elim
-                  (λ same. subst (λ m. IsReady h' horizon others m) (sym same) (freed-ready (subst (λ m. IsReady h horizon v.store m) same (q.ready mode n below))))
+                  (λ same. subst (λ m. IsReadyToNote h' horizon others m) (sym same) (freed-ready (subst (λ m. IsReadyToNote h horizon v.store m) same (q.ready mode n below))))
                   (λ off. freed-off n off (q.ready mode n below))
                   (cases_eq n p);
             };
@@ -434,9 +434,9 @@ ends-vacuumed h h' v horizon can keeps (Steps.ends is over none same) =
 -- The beginning.
 
 pub begun-keeps : (h : HeapView) (mode : Mode) (horizon cutoff entries limit : ℕ) → CanVacuum h horizon → IsUpToNext h.table cutoff
-    → turns h.table.first cutoff ≤ turns h.table.first horizon → 0 < limit → KeepsVacuum h horizon (begun mode horizon cutoff (length h.pages.pages) entries limit)
+    → turns h.table.first cutoff ≤ turns h.table.first horizon → 0 < limit → KeepsVacuum h horizon (new_vacuum mode horizon cutoff (length h.pages.pages) entries limit)
 begun-keeps h mode horizon cutoff entries limit can upto low some = record {
-  itself = begun-kept (begun mode horizon cutoff (length h.pages.pages) entries limit) refl refl refl some;
+  itself = begun-kept (new_vacuum mode horizon cutoff (length h.pages.pages) entries limit) refl refl refl some;
   pages = omega arith;
   cutoff = upto;
   first = can.upto;

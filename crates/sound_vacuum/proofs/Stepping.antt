@@ -18,10 +18,10 @@ use Rattle.sound_entries.specs.Pages.{slots_on, slot_in, version_in}
 use Rattle.sound_entries.proofs.Fetching.{slots-there}
 use Rattle.sound_entries.proofs.Going.{stays-same}
 use Rattle.heap_write.specs.Heap.{HeapView, slots_of}
-use Rattle.sound_writes.specs.Table.{SoundTable, StaysSoundTable}
-use Rattle.sound_writes.specs.Readers.{IsReader, FindsTheSame}
-use Rattle.sound_writes.proofs.Finding.{both}
-use Rattle.sound_writes.proofs.InUse.{used-by, same-come, stays-then}
+use Rattle.table_integrity.specs.Table.{SoundTable, StaysSoundTable}
+use Rattle.table_integrity.specs.Readers.{IsTableReader, FindsTheSame}
+use Rattle.table_integrity.proofs.Finding.{both}
+use Rattle.table_integrity.proofs.InUse.{used-by, same-come, stays-then}
 use Rattle.vacuum_passes.specs.declared.vacuum.Mode.{Mode}
 use Rattle.vacuum_passes.specs.declared.vacuum.Mode.TheVariants.{Normal, Aggressive}
 use Rattle.root_index.specs.declared.progress.Progress.{Progress}
@@ -110,7 +110,7 @@ module _ (h h' : HeapView) (p horizon : ℕ) (n : Notes h h' p horizon) where
   notes-page = slots-there h.pages.pages p n.page n.at
 
   pub then-noted : (g : HeapView) → SoundTable g horizon → g.table ≡ h.table → (same : h.indexes ≡ g.indexes) → StaysSoundTable g h horizon
-      → ((s : Snap) (own : List ℕ) → IsReader g horizon s own → IsReader h horizon s own × FindsTheSame g h s own)
+      → ((s : Snap) (own : List ℕ) → IsTableReader g horizon s own → IsTableReader h horizon s own × FindsTheSame g h s own)
       → MapsAreTrue h.table horizon h'.pages.pages h'.pages.marks → IsSafe g h' horizon
   then-noted g sound ids same stays unseen maps = record {
     ids = notes-flag.table ∙ sym ids;
@@ -161,7 +161,7 @@ module _ (h h' : HeapView) (i : ℕ) (dead : List Tid) (from : Option Entry) (pr
     table = swept-stays-table h h' i dead from progress s horizon can.sound are;
     maps = subst (λ (g : HeapView). MapsAreTrue g.table horizon g.pages.pages g.pages.marks) (sym s.is) can.maps;
     unseen = λ snap own reader. (
-      subst (λ (g : HeapView). IsReader g horizon snap own) (sym s.is) reader,
+      subst (λ (g : HeapView). IsTableReader g horizon snap own) (sym s.is) reader,
       swept-unseen h h' i dead from progress s snap own,
     );
   }

@@ -10,19 +10,19 @@ use Rattle.page_slots.specs.declared.slot.Slot.TheVariants.{Dead}
 use Rattle.commit_status.specs.Window.{Window}
 use Rattle.hot_chain.specs.Chain.{is_root_in}
 use Rattle.root_index.specs.declared.entry.Entry.{Entry}
-use Rattle.root_index.specs.Order.{comparison, Precedes, IsAscending}
+use Rattle.root_index.specs.Order.{comparison, EntryPrecedes, IsAscending}
 use Rattle.root_index.specs.Sets.{IsAfter}
 use Rattle.root_index.proofs.OrderLemmas.{Precedes-trans}
 use Rattle.sound_entries.specs.Pages.{slot_in}
-use Rattle.sound_entries.specs.Entries.{IsSound, StaysSound}
+use Rattle.sound_entries.specs.Entries.{EntriesAreSound, StaysSound}
 use Rattle.sound_entries.proofs.Going.{stays-same}
 use Rattle.root_index.specs.declared.progress.Progress.{Progress}
 use Rattle.root_index.specs.declared.progress.Progress.TheVariants.{More, Done}
 use Rattle.root_index.specs.Pieces.{RemovesPiece}
-use Rattle.sound_vacuum.specs.Sweeping.{AreDead, IsSweptBefore, IsSweptTo, RemovesPieces, KeepsDead, Removes}
+use Rattle.sound_vacuum.specs.Sweeping.{AreDead, IsSweptBefore, IsSweptTo, RemovesPieces, KeepsDead, RemovesEntries}
 
 -- Some of the entries to dead slots go.
-pub going-stays : (value_of : Row → ℤ) (w : Window) (horizon : ℕ) (pages : List (List Slot)) (entries entries' : List Entry) → IsSound value_of w horizon pages entries
+pub going-stays : (value_of : Row → ℤ) (w : Window) (horizon : ℕ) (pages : List (List Slot)) (entries entries' : List Entry) → EntriesAreSound value_of w horizon pages entries
     → ((e : Entry) → Contains entries' e → Contains entries e)
     → ((e : Entry) → Contains entries e → is_root_in (slot_in pages e.tid) ≡ true → Contains entries' e)
     → StaysSound value_of w horizon pages pages entries entries'
@@ -45,7 +45,7 @@ dead-no_root : (o : Option Slot) → o ≡ Some Dead → is_root_in o ≡ true �
 dead-no_root o at root = let e : false ≡ true = sym (ap is_root_in at) ∙ root in cc
 
 pub piece-stays : (value_of : Row → ℤ) (w : Window) (horizon : ℕ) (pages : List (List Slot)) (entries entries' : List Entry) (dead : List Tid) (from : Option Entry) (progress : Progress)
-    → IsSound value_of w horizon pages entries → RemovesPiece entries entries' dead from progress → AreDead pages dead
+    → EntriesAreSound value_of w horizon pages entries → RemovesPiece entries entries' dead from progress → AreDead pages dead
     → StaysSound value_of w horizon pages pages entries entries'
 piece-stays value_of w horizon pages entries entries' dead from progress sound removes are_dead =
     going-stays value_of w horizon pages entries entries' sound
@@ -54,10 +54,10 @@ piece-stays value_of w horizon pages entries entries' dead from progress sound r
 
 -- Whether an entry comes after another.
 
-before-or : (a b : Entry) → Precedes a b ⊎ (Precedes a b → ⊥)
+before-or : (a b : Entry) → EntryPrecedes a b ⊎ (EntryPrecedes a b → ⊥)
 before-or a b = by (comparison a b) refl
   where
-    by : (o : Ordering) → comparison a b ≡ o → Precedes a b ⊎ (Precedes a b → ⊥)
+    by : (o : Ordering) → comparison a b ≡ o → EntryPrecedes a b ⊎ (EntryPrecedes a b → ⊥)
     by Less e = inl e
     by Equal e = inr (λ p. let g : Less ≡ Equal = sym p ∙ e in cc)
     by Greater e = inr (λ p. let g : Less ≡ Greater = sym p ∙ e in cc)
@@ -83,7 +83,7 @@ record RemovesAfter (old new : List Entry) (dead : List Tid) (from : Option Entr
   ascending : IsAscending new
   members : (e : Entry) → Contains new e ↔ (Contains old e × ¬ (IsAfter from e × Contains dead e.tid))
 
-after-trans : (from : Option Entry) (last e : Entry) → IsAfter from last → Precedes last e → IsAfter from e
+after-trans : (from : Option Entry) (last e : Entry) → IsAfter from last → EntryPrecedes last e → IsAfter from e
 after-trans None last e first second = tt
 after-trans (Some a) last e first second = Precedes-trans a last e first second
 
@@ -116,7 +116,7 @@ sweeps-after dead from old new (RemovesPieces.piece _ last _ between _ removes r
       );
     }
 
-pub sweeps-remove : (entries entries' : List Entry) (dead : List Tid) → RemovesPieces dead None entries entries' → Removes entries entries' dead
+pub sweeps-remove : (entries entries' : List Entry) (dead : List Tid) → RemovesPieces dead None entries entries' → RemovesEntries entries entries' dead
 sweeps-remove entries entries' dead sweeps =
     let r = sweeps-after dead None entries entries' sweeps in
     record {

@@ -11,9 +11,9 @@ use Rattle.heap_write.specs.Indexes.{entries_at, entries_in, IsInUse}
 use Rattle.heap_write.specs.Writes.{Inserts, Updates, Deletes, Prunes}
 use Rattle.heap_write.specs.Refusals.{FailsUpdate}
 use Rattle.heap_write.specs.declared.heap.WriteFault.{WriteFault}
-use Rattle.sound_writes.specs.Table.{SoundTable, StaysSoundTable}
-use Rattle.sound_writes.specs.Laws.{IsWriter, Finishes}
-use Rattle.sound_writes.specs.Readers.{FindsTheSame}
+use Rattle.table_integrity.specs.Table.{SoundTable, StaysSoundTable}
+use Rattle.table_integrity.specs.Laws.{WritesUnder, FinishesInTable}
+use Rattle.table_integrity.specs.Readers.{FindsTheSame}
 use Rattle.snapshot.specs.Snap.{Snap}
 use Rattle.root_index.specs.declared.progress.Progress.{Progress}
 use Rattle.root_index.specs.declared.progress.Progress.TheVariants.{Done}
@@ -28,16 +28,16 @@ KeepsDeadSlots h h' = (n : ℕ) → KeepsDead (slots_of h) (slots_of h') (entrie
 
 -- what a session does, the visit of a page, or more memory alone
 pub data StepsBetween (h h' : HeapView) : Type 0 where
-  inserts : (own own' : Own) (row : Row) (x : ℕ) → IsWriter h h' own → Inserts h h' own own' row x
+  inserts : (own own' : Own) (row : Row) (x : ℕ) → WritesUnder h h' own → Inserts h h' own own' row x
       → StepsBetween h h'
-  updates : (own own' : Own) (place : Tid) (row : Row) (horizon x : ℕ) → IsWriter h h' own
+  updates : (own own' : Own) (place : Tid) (row : Row) (horizon x : ℕ) → WritesUnder h h' own
       → Updates h h' own own' place row horizon x → StepsBetween h h'
-  deletes : (own own' : Own) (place : Tid) (x : ℕ) → IsWriter h h' own
+  deletes : (own own' : Own) (place : Tid) (x : ℕ) → WritesUnder h h' own
       → Deletes h h' own own' place x → StepsBetween h h'
   fails_update : (own : Own) (place : Tid) (row : Row) (horizon : ℕ) (fault : WriteFault)
       → FailsUpdate h h' own place row horizon fault → StepsBetween h h'
   keeps : Keeps h h' → StepsBetween h h'
-  finishes : (ids : List ℕ) (status : Status) → Finishes h h' ids status → StepsBetween h h'
+  finishes : (ids : List ℕ) (status : Status) → FinishesInTable h h' ids status → StepsBetween h h'
   prunes : (number horizon : ℕ) → Prunes h h' number horizon → StepsBetween h h'
   visits : (horizon cutoff p : ℕ) → VisitsAt h h' horizon cutoff p → StepsBetween h h'
 

@@ -10,7 +10,7 @@ use Rattle.root_index.specs.declared.entry.Entry.{Entry}
 use Rattle.root_index.specs.Order.{IsAscending}
 use Rattle.root_index.specs.Sets.{IsAfter}
 use Rattle.sound_entries.specs.Pages.{slot_in}
-use Rattle.sound_entries.specs.Entries.{IsSound, StaysSound}
+use Rattle.sound_entries.specs.Entries.{EntriesAreSound, StaysSound}
 use Rattle.root_index.specs.declared.progress.Progress.{Progress}
 use Rattle.root_index.specs.declared.progress.Progress.TheVariants.{More, Done}
 use Rattle.root_index.specs.Pieces.{IsUpTo, RemovesPiece}
@@ -23,7 +23,7 @@ AreDead pages dead = (p : Tid) → Contains dead p → slot_in pages p ≡ Some 
 abbrev pub SweepingStaysSound : Type 0
 SweepingStaysSound = (value_of : Row → ℤ) (w : Window) (horizon : ℕ) (pages : List (List Slot))
     (entries entries' : List Entry) (dead : List Tid) (from : Option Entry) (progress : Progress)
-    → IsSound value_of w horizon pages entries → RemovesPiece entries entries' dead from progress
+    → EntriesAreSound value_of w horizon pages entries → RemovesPiece entries entries' dead from progress
     → AreDead pages dead
     → StaysSound value_of w horizon pages pages entries entries'
 
@@ -57,14 +57,14 @@ pub data RemovesPieces (dead : List Tid) : Option Entry → List Entry → List 
       → RemovesPieces dead (Some last) between new → RemovesPieces dead from old new
 
 -- the same entries but those that lead to one of these places
-pub record Removes (old new : List Entry) (dead : List Tid) : Type 0 where
+pub record RemovesEntries (old new : List Entry) (dead : List Tid) : Type 0 where
   pub ascending : IsAscending new
   pub members : (e : Entry) → Contains new e ↔ (Contains old e × ¬ Contains dead e.tid)
 
 -- A whole index, gone through with nothing between: the entries that lead to these places are gone, and no others.
 abbrev pub SweepingIsRemoving : Type 0
 SweepingIsRemoving = (entries entries' : List Entry) (dead : List Tid)
-    → RemovesPieces dead None entries entries' → Removes entries entries' dead
+    → RemovesPieces dead None entries entries' → RemovesEntries entries entries' dead
 
 -- Steps between two pieces: dead slots stay dead, and an entry that comes leads to a slot that wasn't.
 pub record KeepsDead (pages pages' : List (List Slot))

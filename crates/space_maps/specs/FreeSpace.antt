@@ -30,21 +30,21 @@ pub record IsNextByte (bytes : List ℕ) (from to least n : ℕ) : Type 0 where
   pub none : NoByte bytes from n least
 
 -- that one, if there is one
-abbrev pub IsNext : List ℕ → ℕ → ℕ → ℕ → Option ℕ → Type 0
-IsNext bytes from to least None = NoByte bytes from to least
-IsNext bytes from to least (Some n) = IsNextByte bytes from to least n
+abbrev pub FindsNextByte : List ℕ → ℕ → ℕ → ℕ → Option ℕ → Type 0
+FindsNextByte bytes from to least None = NoByte bytes from to least
+FindsNextByte bytes from to least (Some n) = IsNextByte bytes from to least n
 
 -- the byte promises room for a version of this size
-abbrev pub Promises : ℕ → ℕ → Type 0
-Promises size byte = size ≤ 32 * byte
+abbrev pub IsEnough : ℕ → ℕ → Type 0
+IsEnough size byte = size ≤ 32 * byte
 
 -- the first page whose byte promises it
 pub record IsFirstPromise (bytes : List ℕ) (size n : ℕ) : Type 0 where
   pub in_use : n < length bytes
-  pub promises : Promises size (slice_index bytes n)
-  pub before : (k : ℕ) → k < n → ¬ Promises size (slice_index bytes k)
+  pub promises : IsEnough size (slice_index bytes n)
+  pub before : (k : ℕ) → k < n → ¬ IsEnough size (slice_index bytes k)
 
 -- that one, if there is one
 abbrev pub FindsRoom : List ℕ → ℕ → Option ℕ → Type 0
-FindsRoom bytes size None = (k : ℕ) → k < length bytes → ¬ Promises size (slice_index bytes k)
+FindsRoom bytes size None = (k : ℕ) → k < length bytes → ¬ IsEnough size (slice_index bytes k)
 FindsRoom bytes size (Some n) = IsFirstPromise bytes size n

@@ -1,13 +1,14 @@
 //! The free space map: a byte for each page, and the greatest of each group of 256.
 
 ghost use Rattle.std.specs.Prelude.{◌≡◌, ℕ, ◌+◌, ◌*◌, ◌<◌, ◌≤◌, [], ◌∷◌, ◌++◌, length, max, min, slice_get, slice_set, slice_index, OnOk, OnErr};
-ghost use Rattle.space_maps.specs.FreeSpace.{IsNext, NoByte, FindsRoom};
+ghost use Rattle.space_maps.specs.FreeSpace.{FindsNextByte, NoByte, FindsRoom};
 
 use std::alloc::{AllocError, Global};
 use std::marker::Model;
 
 // A free-space byte counts so many bytes of room, and no more than that many times.
 const UNIT: usize = 32;
+
 const MOST: usize = 255;
 
 // So many bytes make a group.
@@ -77,17 +78,24 @@ impl FreeMap {
         self.bytes.get(number as usize).copied()
     }
 
-    /// Notes this byte of the page of this number, which is in use.
+    /// Notes this byte of the page of this number, which is in use. The group is looked at anew only where the byte falls below
+    /// half of what is noted of it: so what is noted is at most twice too high, and a page that fills costs eight looks.
     pub fn note(&mut self, number: u32, byte: u8)
         requires { number < length self.old.bytes }
         ensures bytes { self.new.bytes ≡ slice_set self.old.bytes number byte }
         ensures spare { self.new.spare ≡ self.old.spare }
     {
         let index = number as usize;
-        self.bytes[index] = byte;
         let group = index / GROUP;
-        let end = (GROUP * group + GROUP).min(self.bytes.len());
-        self.tops[group] = greatest(&self.bytes, GROUP * group, end);
+        let half = self.tops[group] / 2;
+        let falls = self.bytes[index] > half && byte <= half;
+        self.bytes[index] = byte;
+        if falls {
+            let end = (GROUP * group + GROUP).min(self.bytes.len());
+            self.tops[group] = greatest(&self.bytes, GROUP * group, end);
+        } else {
+            self.tops[group] = self.tops[group].max(byte);
+        }
     }
 
     /// The first page whose byte promises room for a version of this size in bytes: that it holds 32 bytes as often as the size
@@ -105,7 +113,7 @@ impl FreeMap {
 
     /// The first page from this number on whose byte is `least` or more, if there is one.
     pub fn next(&self, from: u32, least: u8) -> Option<u32>
-        ensures { IsNext self.now.bytes from (length self.now.bytes) least result }
+        ensures { FindsNextByte self.now.bytes from (length self.now.bytes) least result }
     {
         for group in from as usize / GROUP..self.bytes.len().div_ceil(GROUP) {
             if let Some(number) = self.next_of_group(group, from as usize, least) {
@@ -118,7 +126,8 @@ impl FreeMap {
     // The same in one group, whose bytes are looked at only where the greatest of them is large enough.
     fn next_of_group(&self, group: usize, from: usize, least: u8) -> Option<u32>
         requires { group < 256 }
-        ensures { IsNext self.now.bytes (max from (256 * group)) (min (256 * group + 256) (length self.now.bytes)) least result }
+        ensures { FindsNextByte self.now.bytes (max from (256 * group))
+            (min (256 * group + 256) (length self.now.bytes)) least result }
     {
         if self.tops[group] < least {
             return None;
@@ -156,7 +165,7 @@ fn pass_runs(bytes: &[u8], from: usize, to: usize, least: u8) -> usize
 fn next_between(bytes: &[u8], from: usize, to: usize, least: u8) -> Option<u32>
     requires few { length bytes.now ≤ 65536 }
     requires within { to ≤ length bytes.now }
-    ensures { IsNext bytes.now from to least result }
+    ensures { FindsNextByte bytes.now from to least result }
 {
     for number in from..to {
         if bytes[number] >= least {

@@ -11,7 +11,7 @@ is_hot_updated h = has_mark h.mask2 0x4000
 abbrev pub is_heap_only : Header → Bool
 is_heap_only h = has_mark h.mask2 0x8000
 
--- both marks of the maker together: it is committed for everybody, whatever its number
+-- both marks of the inserter together: it is committed for everybody, whatever its number
 abbrev pub is_frozen : Header → Bool
 is_frozen h = bit_and h.mask 0x0300 == 0x0300
 

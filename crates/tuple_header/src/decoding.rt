@@ -1,7 +1,7 @@
 //! A version from its bytes.
 
 ghost use Rattle.std.specs.Prelude.{◌≡◌, ◌≤◌, ◌+◌, length, Some, None, IfOk};
-ghost use Rattle.tuple_header.specs.Layout.{header_at, column_at, columns_at, row_at, encoding};
+ghost use Rattle.tuple_header.specs.Layout.{decoded_header, column_at, columns_at, decoded_row, encoding};
 ghost use Rattle.tuple_header.specs.Faults.{header_fault, layout_fault, decoding};
 
 use crate::{Header, MOST_SLOTS, Row, Tuple, TupleFault};
@@ -12,7 +12,7 @@ use xid_circle::{Tid, Xid};
 #[tactic(auto, unfolding(crate::specs::Layout::number_at))]
 fn header_of(bytes: &[u8]) -> Header
     requires { 24 ≤ length bytes.now }
-    ensures { result ≡ header_at bytes.now }
+    ensures { result ≡ decoded_header bytes.now }
 {
     let page_high = LittleEndian::read_u16(&bytes[12..]);
     let page_low = LittleEndian::read_u16(&bytes[14..]);
@@ -61,7 +61,7 @@ fn columns_of(bytes: &[u8]) -> [i64; 4]
 fn row_of(bytes: &[u8]) -> Row
     requires from { 66 ≤ length bytes.now }
     requires to { length bytes.now ≤ 1090 }
-    ensures { result ≡ row_at bytes.now }
+    ensures { result ≡ decoded_row bytes.now }
 {
     let body = body_of(&bytes[66..]);
     Row {

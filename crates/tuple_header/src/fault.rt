@@ -23,7 +23,7 @@ pub enum TupleFault {
     /// A bit that has no meaning is set, or `XMAX_COMMITTED` and `XMAX_INVALID` are both.
     #[error("the marks do not go together")]
     Masks,
-    /// The maker is below 3.
+    /// The inserter is below 3.
     #[error("the inserting id is not normal")]
     Xmin,
     /// The deleter is 1 or 2, or it is 0 without `XMAX_INVALID` or with `HOT_UPDATED`.

@@ -61,11 +61,11 @@ impl Header {
     pub const HOT_UPDATED: u16 = 0x4000;
     /// In `mask2`: it is such a successor.
     pub const HEAP_ONLY: u16 = 0x8000;
-    /// In `mask`, and without `XMIN_INVALID` a hint: the maker is committed.
+    /// In `mask`, and without `XMIN_INVALID` a hint: the inserter is committed.
     pub const XMIN_COMMITTED: u16 = 0x0100;
-    /// In `mask`, and without `XMIN_COMMITTED` a hint: the maker is aborted.
+    /// In `mask`, and without `XMIN_COMMITTED` a hint: the inserter is aborted.
     pub const XMIN_INVALID: u16 = 0x0200;
-    /// In `mask`, both marks of the maker: it is committed for everybody, whatever its number.
+    /// In `mask`, both marks of the inserter: it is committed for everybody, whatever its number.
     pub const XMIN_FROZEN: u16 = 0x0300;
     /// In `mask`, a hint: the deleter is committed.
     pub const XMAX_COMMITTED: u16 = 0x0400;
@@ -108,7 +108,7 @@ impl Header {
         self.mask2 & Header::HEAP_ONLY != 0
     }
 
-    /// Whether the maker is marked as committed for everybody.
+    /// Whether the inserter is marked as committed for everybody.
     pub fn is_frozen(&self) -> bool
         ensures { result ≡ is_frozen self.now }
     {

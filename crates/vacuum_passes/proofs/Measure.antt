@@ -22,7 +22,7 @@ use Rattle.vacuum_passes.specs.declared.vacuum.Mode.{Mode}
 use Rattle.vacuum_passes.specs.declared.vacuum.Piece.{Piece}
 use Rattle.vacuum_passes.specs.declared.vacuum.Phase.{Phase}
 use Rattle.vacuum_passes.specs.declared.vacuum.Phase.TheVariants as phase
-use Rattle.vacuum_passes.specs.View.{VacuumView, places, space, phase_with, collected, at_end, with_phase, counted, begun, bound}
+use Rattle.vacuum_passes.specs.View.{VacuumView, places, space, phase_with, collected, at_end, with_phase, counted, new_vacuum, bound}
 use Rattle.root_index.specs.Pieces.{RemovesPiece}
 use Rattle.vacuum_passes.specs.Visits.{Visits, IsNextPage}
 use Rattle.vacuum_passes.specs.Steps.{Steps, PhaseAfter, Sweeps, Frees, off_page, phase_left}
@@ -426,7 +426,7 @@ begin-arith pages slots entries few =
     omega (arith, all, parts, some, sum)
 
 pub begins-within : (h : HeapView) (mode : Mode) (horizon cutoff limit : ℕ) → ((p : ℕ) → length (slots_on (slots_of h) p) ≤ 291)
-    → KeepsBound h (begun mode horizon cutoff (length h.pages.pages) (all_entries h.indexes) limit)
+    → KeepsBound h (new_vacuum mode horizon cutoff (length h.pages.pages) (all_entries h.indexes) limit)
 begins-within h mode horizon cutoff limit few =
     let slots = pages-most [] (slots_of h) 0 (length h.pages.pages - 0) few in
     let most = begin-arith (length h.pages.pages) (count_from [] (slots_of h) 0 (length h.pages.pages - 0)) (all_entries h.indexes) (omega (arith, slots)) in

@@ -11,7 +11,7 @@ use Rattle.std.proofs.lemmas.List.Kept.{AllPairs-cons, AllPairs-filter}
 use Rattle.xid_circle.specs.declared.Tid.{Tid}
 use Rattle.xid_circle.proofs.Members.{Contains-first, Contains-rest, Contains-cases, Contains-none}
 use Rattle.root_index.specs.declared.entry.Entry.{Entry}
-use Rattle.root_index.specs.Order.{comparison, Precedes, IsAscending}
+use Rattle.root_index.specs.Order.{comparison, EntryPrecedes, IsAscending}
 use Rattle.root_index.specs.Sets.{IsAfter}
 use Rattle.root_index.specs.View.{IndexView}
 use Rattle.root_index.proofs.OrderLemmas.{not_before_itself, Precedes-trans}
@@ -37,11 +37,11 @@ no-longer {A} R apart (y ∷ ys) xs up all =
     let others = length-append (take at.0 xs) (drop (at.0 + 1) xs) in
     omega (arith, rest, whole, parts, others)
   where
-    in-rest : (front back : List A) (x a : A) → ¬ (x ≡ a) → Contains (front ++ x ∷ back) a → Contains (front ++ back) a
-    in-rest front back x a other there = ⊎_elim
-        (λ before. Contains-append_left front back a before)
-        (λ after. ⊎_elim (λ same. absurd (other same)) (λ later. Contains-append_right front back a later) (Contains-cases x a back after))
-        (Contains-append_cases front (x ∷ back) a there)
+    in-rest : (prefix back : List A) (x a : A) → ¬ (x ≡ a) → Contains (prefix ++ x ∷ back) a → Contains (prefix ++ back) a
+    in-rest prefix back x a other there = ⊎_elim
+        (λ before. Contains-append_left prefix back a before)
+        (λ after. ⊎_elim (λ same. absurd (other same)) (λ later. Contains-append_right prefix back a later) (Contains-cases x a back after))
+        (Contains-append_cases prefix (x ∷ back) a there)
 
 -- The entries after one.
 
@@ -50,14 +50,14 @@ less-is Less e = refl
 less-is Equal e = absurd (cc e)
 less-is Greater e = absurd (cc e)
 
-after-passes : (from e : Entry) → Precedes from e → is_lt (comparison from e) ≡ true
+after-passes : (from e : Entry) → EntryPrecedes from e → is_lt (comparison from e) ≡ true
 after-passes from e before = ap is_lt before
 
 pub after-there : (from : Option Entry) (entries : List Entry) (e : Entry) → Contains entries e → IsAfter from e → Contains (entries_after from entries) e
 after-there None entries e there after = there
 after-there (Some a) entries e there after = in-filter (λ f. is_lt (comparison a f)) entries e there (after-passes a e after)
 
-pub after-is : (last : Entry) (entries : List Entry) (e : Entry) → Contains (entries_after (Some last) entries) e → Contains entries e × Precedes last e
+pub after-is : (last : Entry) (entries : List Entry) (e : Entry) → Contains (entries_after (Some last) entries) e → Contains entries e × EntryPrecedes last e
 after-is last entries e there = (
   in-filtered (λ f. is_lt (comparison last f)) entries e there,
   less-is (comparison last e) (All-contains (λ f. is_lt (comparison last f) ≡ true) (filter (λ f. is_lt (comparison last f)) entries) e (filter_passes (λ f. is_lt (comparison last f)) entries) there),
@@ -65,7 +65,7 @@ after-is last entries e there = (
 
 -- A piece.
 
-after-later : (from : Option Entry) (last e : Entry) → IsAfter from last → Precedes last e → IsAfter from e
+after-later : (from : Option Entry) (last e : Entry) → IsAfter from last → EntryPrecedes last e → IsAfter from e
 after-later None last e first second = tt
 after-later (Some a) last e first second = Precedes-trans a last e first second
 
@@ -79,12 +79,12 @@ module _ (old new : List Entry) (dead : List Tid) (from : Option Entry) where
       (λ first. subst (Contains (entries_after from old)) first (after-there from old last r.goes_on.0 r.goes_on.1))
       (λ rest. let a = after-is last new e rest in after-there from old e ((r.members e).0 a.0).0 (after-later from last e r.goes_on.1 a.1))
       (Contains-cases last e (entries_after (Some last) new) there) in
-      let ascending : IsAscending (last ∷ entries_after (Some last) new) = AllPairs-cons Precedes last (entries_after (Some last) new)
-      (all-from (Precedes last) (entries_after (Some last) new) (λ e there. (after-is last new e there).1))
-      (AllPairs-filter Precedes (λ e. is_lt (comparison last e)) new r.ascending) in
-      let fewer = no-longer Precedes not_before_itself (last ∷ entries_after (Some last) new) (entries_after from old) ascending members in
-      let two = no-longer Precedes not_before_itself (last ∷ next.0 ∷ []) (entries_after from old)
-      (AllPairs-cons Precedes last (next.0 ∷ []) (all-from (Precedes last) (next.0 ∷ []) (λ e there. one next.0 e next.2 there)) (λ i j d lt within. absurd (omega (arith, lt, within))))
+      let ascending : IsAscending (last ∷ entries_after (Some last) new) = AllPairs-cons EntryPrecedes last (entries_after (Some last) new)
+      (all-from (EntryPrecedes last) (entries_after (Some last) new) (λ e there. (after-is last new e there).1))
+      (AllPairs-filter EntryPrecedes (λ e. is_lt (comparison last e)) new r.ascending) in
+      let fewer = no-longer EntryPrecedes not_before_itself (last ∷ entries_after (Some last) new) (entries_after from old) ascending members in
+      let two = no-longer EntryPrecedes not_before_itself (last ∷ next.0 ∷ []) (entries_after from old)
+      (AllPairs-cons EntryPrecedes last (next.0 ∷ []) (all-from (EntryPrecedes last) (next.0 ∷ []) (λ e there. one next.0 e next.2 there)) (λ i j d lt within. absurd (omega (arith, lt, within))))
       (λ e there. ⊎_elim
       (λ first. subst (Contains (entries_after from old)) first (after-there from old last r.goes_on.0 r.goes_on.1))
       (λ rest. subst (Contains (entries_after from old)) (single next.0 e rest) (after-there from old next.0 next.1 (after-later from last next.0 r.goes_on.1 next.2)))
@@ -94,11 +94,11 @@ module _ (old new : List Entry) (dead : List Tid) (from : Option Entry) where
       single : (x e : Entry) → Contains (x ∷ []) e → x ≡ e
       single x e there = ⊎_elim (λ same. same) (λ none. absurd (Contains-none e none)) (Contains-cases x e [] there)
 
-      one : (x e : Entry) → Precedes last x → Contains (x ∷ []) e → Precedes last e
-      one x e before there = subst (Precedes last) (single x e there) before
+      one : (x e : Entry) → EntryPrecedes last x → Contains (x ∷ []) e → EntryPrecedes last e
+      one x e before there = subst (EntryPrecedes last) (single x e there) before
 
   pub removed-fewer : (progress : Progress) → RemovesPiece old new dead from progress → length new ≤ length old
-  removed-fewer progress r = no-longer Precedes not_before_itself new old r.ascending (λ e there. ((r.members e).0 there).0)
+  removed-fewer progress r = no-longer EntryPrecedes not_before_itself new old r.ascending (λ e there. ((r.members e).0 there).0)
 
 pub piece-some : (from : Option Entry) (entries : List Entry) → 1 ≤ pieces_in from entries
 piece-some from entries = omega arith

@@ -44,8 +44,8 @@ abbrev pub counted : VacuumView → VacuumView
 counted v = record v { steps = if v.alone then min (v.steps + 1) 18446744073709551615 else v.steps }
 
 -- one that begins
-abbrev pub begun : Mode → ℕ → ℕ → ℕ → ℕ → ℕ → VacuumView
-begun mode horizon cutoff pages entries limit = record {
+abbrev pub new_vacuum : Mode → ℕ → ℕ → ℕ → ℕ → ℕ → VacuumView
+new_vacuum mode horizon cutoff pages entries limit = record {
   mode = mode;
   horizon = horizon;
   cutoff = cutoff;

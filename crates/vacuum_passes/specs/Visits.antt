@@ -11,7 +11,7 @@ use Rattle.prune.specs.Actions.{raised}
 use Rattle.space_maps.specs.declared.mark.Mark.{Mark}
 use Rattle.space_maps.specs.View.{mark_on, says_visible}
 use Rattle.freeze.specs.Freezing.{FreezesPage}
-use Rattle.freeze.specs.AllVisible.{IsMark}
+use Rattle.freeze.specs.AllVisible.{IsPageMark}
 use Rattle.heap_write.specs.Heap.{HeapView}
 use Rattle.heap_write.specs.Indexes.{entries_at, entries_in, IsInUse}
 use Rattle.heap_write.specs.Writes.{Prunes}
@@ -35,7 +35,7 @@ pub record Notes (h h' : HeapView) (p horizon : ℕ) : Type 0 where
   pub page : PageView
   pub at : slice_get h.pages.pages p ≡ Some page
   pub mark : Mark
-  pub exact : IsMark h.table horizon page.slots mark
+  pub exact : IsPageMark h.table horizon page.slots mark
   pub is : h' ≡ record h {
     pages = record h.pages {
       pages = slice_set h.pages.pages p (record page { flag = says_visible mark });

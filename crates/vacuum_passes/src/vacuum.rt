@@ -1,7 +1,7 @@
 //! A vacuum in progress.
 
 ghost use Rattle.std.specs.Prelude.{◌≡◌, ◌<◌, ◌≤◌};
-ghost use Rattle.vacuum_passes.specs.View.{begun, disturbed};
+ghost use Rattle.vacuum_passes.specs.View.{new_vacuum, disturbed};
 
 use root_index::{DeadSet, Entry};
 use std::marker::Model;
@@ -101,7 +101,7 @@ impl Vacuum {
     pub fn new(mode: Mode, horizon: Xid, cutoff: Xid, pages: u32, entries: u128, limit: u32) -> Self
         requires some { 0 < limit }
         requires few { limit ≤ 4096 }
-        ensures { result ≡ begun mode horizon.0 cutoff.0 pages entries limit }
+        ensures { result ≡ new_vacuum mode horizon.0 cutoff.0 pages entries limit }
     {
         Vacuum {
             mode,

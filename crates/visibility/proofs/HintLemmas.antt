@@ -10,16 +10,16 @@ use Rattle.commit_status.specs.declared.status.Status.TheVariants.{InProgress, C
 use Rattle.commit_status.specs.Window.{Window, status_of}
 use Rattle.snapshot.specs.Snap.{Snap}
 use Rattle.tuple_header.specs.Marks.{is_frozen}
-use Rattle.visibility.specs.Seeing.{maker}
+use Rattle.visibility.specs.Seeing.{inserter}
 use Rattle.visibility.specs.Visible.{IsVisible}
 use Rattle.visibility.specs.Hints.{maker_marks, deleter_marks, hinted, AreTrue}
 use Rattle.visibility.proofs.Headers.{no-fault, fault-no}
 
-maker-apart : (b : Bool) (s : Status) → (bit_and (maker_marks b s) 0x0400 ≡ 0) × (bit_and (maker_marks b s) 0x0800 ≡ 0) × (bit_and (maker_marks b s) 0xd0ff ≡ 0) × (bit_and (maker_marks b s) 0x0300 ≡ maker_marks b s)
-maker-apart true s = (refl, refl, refl, refl)
-maker-apart false InProgress = (refl, refl, refl, refl)
-maker-apart false Committed = (refl, refl, refl, refl)
-maker-apart false Aborted = (refl, refl, refl, refl)
+inserter-apart : (b : Bool) (s : Status) → (bit_and (maker_marks b s) 0x0400 ≡ 0) × (bit_and (maker_marks b s) 0x0800 ≡ 0) × (bit_and (maker_marks b s) 0xd0ff ≡ 0) × (bit_and (maker_marks b s) 0x0300 ≡ maker_marks b s)
+inserter-apart true s = (refl, refl, refl, refl)
+inserter-apart false InProgress = (refl, refl, refl, refl)
+inserter-apart false Committed = (refl, refl, refl, refl)
+inserter-apart false Aborted = (refl, refl, refl, refl)
 
 deleter-apart : (b : Bool) (s : Status) → (bit_and (deleter_marks b s) 0x0300 ≡ 0) × (bit_and (deleter_marks b s) 0xd0ff ≡ 0)
 deleter-apart true s = (refl, refl)
@@ -41,14 +41,14 @@ mask_of k d m = bit_or (bit_or k d) (bit_and m 0x2000)
 without-updated : (k d m n : ℕ) → bit_and 0x2000 n ≡ 0 → bit_and (mask_of k d m) n ≡ bit_and (bit_or k d) n
 without-updated k d m n e = and_or_apart n (bit_or k d) (bit_and m 0x2000) (updated-apart m n e)
 
-maker-part : (k d m n : ℕ) → bit_and 0x2000 n ≡ 0 → bit_and d n ≡ 0 → bit_and (mask_of k d m) n ≡ bit_and k n
-maker-part k d m n e f = without-updated k d m n e ∙ and_or_apart n k d f
+inserter-part : (k d m n : ℕ) → bit_and 0x2000 n ≡ 0 → bit_and d n ≡ 0 → bit_and (mask_of k d m) n ≡ bit_and k n
+inserter-part k d m n e f = without-updated k d m n e ∙ and_or_apart n k d f
 
 deleter-part : (k d m n : ℕ) → bit_and 0x2000 n ≡ 0 → bit_and k n ≡ 0 → bit_and (mask_of k d m) n ≡ bit_and d n
 deleter-part k d m n e f = without-updated k d m n e ∙ ap (λ x. bit_and x n) (or_comm k d) ∙ and_or_apart n d k f
 
 made-by : (b : Bool) (s : Status) (d m : ℕ) → bit_and d 0x0300 ≡ 0 → bit_and (mask_of (maker_marks b s) d m) 0x0300 ≡ maker_marks b s
-made-by b s d m e = maker-part (maker_marks b s) d m 0x0300 refl e ∙ (maker-apart b s).3
+made-by b s d m e = inserter-part (maker_marks b s) d m 0x0300 refl e ∙ (inserter-apart b s).3
 
 frozen-marks : (b : Bool) (s : Status) → nat_eq (maker_marks b s) 0x0300 ≡ b
 frozen-marks true s = refl
@@ -109,8 +109,8 @@ hinted-true w h =
     let k = maker_marks b s in
     let d = deleter_marks z t in
     let made = made-by b s d h.mask (deleter-apart z t).0 in
-    let four = deleter-part k d h.mask 0x0400 refl (maker-apart b s).0 in
-    let eight = deleter-part k d h.mask 0x0800 refl (maker-apart b s).1 in
+    let four = deleter-part k d h.mask 0x0400 refl (inserter-apart b s).0 in
+    let eight = deleter-part k d h.mask 0x0800 refl (inserter-apart b s).1 in
     record {
       maker_committed = λ e. committed-marks b s (sym made ∙ e);
       maker_aborted = λ e. aborted-marks b s (sym made ∙ e);
@@ -133,9 +133,9 @@ hinted-faultless w h e =
     let t = status_of w h.xmax.0 in
     let k = maker_marks b s in
     let d = deleter_marks z t in
-    let four = deleter-part k d h.mask 0x0400 refl (maker-apart b s).0 in
-    let eight = deleter-part k d h.mask 0x0800 refl (maker-apart b s).1 in
-    let rest = maker-part k d h.mask 0xd0ff refl (deleter-apart z t).1 ∙ (maker-apart b s).2 in
+    let four = deleter-part k d h.mask 0x0400 refl (inserter-apart b s).0 in
+    let eight = deleter-part k d h.mask 0x0800 refl (inserter-apart b s).1 in
+    let rest = inserter-part k d h.mask 0xd0ff refl (deleter-apart z t).1 ∙ (inserter-apart b s).2 in
     let has : ℕ → Bool = λ m. not (nat_eq m 0) in
     fault-no (hinted w h) (record {
       attributes = n.attributes;
@@ -155,5 +155,5 @@ hints-nothing v w s own h = (
   λ a. record { made = λ x is. a.made x (sym same ∙ is); kept = a.kept },
 )
   where
-    same : maker (hinted v h) ≡ maker h
+    same : inserter (hinted v h) ≡ inserter h
     same = ap (λ b. if b then None else Some h.xmin.0) (hinted-frozen v h)

@@ -1,4 +1,4 @@
--- The maker and the deleter of a version, and what became of an id of the window.
+-- The inserter and the deleter of a version, and what became of an id of the window.
 use Rattle.std.proofs.Common.{◌≡◌, ◌≢◌, ◌⊎◌, ℕ, ◌==◌, Option, Some, None, Bool, true, false, refl, sym, ap, ◌∙◌, subst, inl, inr, ⊎_elim, cond}
 use Rattle.std.specs.Prelude.{IsSome}
 use Rattle.std.specs.Option.{option_map}
@@ -12,20 +12,20 @@ use Rattle.commit_status.specs.Window.{Window, IsGiven, place, status_of}
 use Rattle.commit_status.specs.Window as window
 use Rattle.commit_status.proofs.Places.{is-from_some}
 use Rattle.commit_status.proofs.Giving.{finished-place}
-use Rattle.visibility.specs.Seeing.{maker, deleter, IsCommitted, IsActive, VisibleBy, Touches}
+use Rattle.visibility.specs.Seeing.{inserter, deleter, HasCommitted, IsRunning, VisibleBy, Touches}
 use Rattle.visibility.specs.Visible.{IsFrozen, state_of}
 
--- the maker and the deleter of a version
+-- the inserter and the deleter of a version
 
-pub maker-is : (h : Header) (x : ℕ) → maker h ≡ Some x → (¬ IsFrozen h) × (h.xmin.0 ≡ x)
-maker-is h x is = of (is_frozen h) refl is
+pub inserter-is : (h : Header) (x : ℕ) → inserter h ≡ Some x → (¬ IsFrozen h) × (h.xmin.0 ≡ x)
+inserter-is h x is = of (is_frozen h) refl is
   where
     of : (b : Bool) → is_frozen h ≡ b → cond b None (Some h.xmin.0) ≡ Some x → (¬ IsFrozen h) × (h.xmin.0 ≡ x)
     of true frozen is = absurd (none-some x is)
     of false unfrozen is = (λ frozen. cc, same_Some h.xmin.0 x is)
 
-pub is-maker : (h : Header) (x : ℕ) → ¬ IsFrozen h → h.xmin.0 ≡ x → maker h ≡ Some x
-is-maker h x unfrozen is = elim (cases_Bool (is_frozen h)) [
+pub is-inserter : (h : Header) (x : ℕ) → ¬ IsFrozen h → h.xmin.0 ≡ x → inserter h ≡ Some x
+is-inserter h x unfrozen is = elim (cases_Bool (is_frozen h)) [
   | inl frozen ↦ absurd (unfrozen frozen)
   | inr thawed ↦ cond-false (is_frozen h) None (Some h.xmin.0) thawed ∙ ap Some is
 ]
@@ -44,7 +44,7 @@ is-deleter h x some is = cond-false (h.xmax.0 == 0) None (Some h.xmax.0) (ne_eqb
 
 pub visible-of : (R : ℕ → Type 0) (h : Header) → IsFrozen h ⊎ R h.xmin.0 → (h.xmax.0 ≢ 0 → ¬ R h.xmax.0) → VisibleBy R h
 visible-of R h made kept = record {
-  made = λ x is. let m = maker-is h x is in ⊎_elim (λ frozen. absurd (m.0 frozen)) (λ r. subst R m.1 r) made;
+  made = λ x is. let m = inserter-is h x is in ⊎_elim (λ frozen. absurd (m.0 frozen)) (λ r. subst R m.1 r) made;
   kept = λ x is r. let d = deleter-is h x is in kept d.0 (subst R (sym d.1) r);
 }
 
@@ -59,7 +59,7 @@ kept-of R h v some = v.kept h.xmax.0 (is-deleter h h.xmax.0 some refl)
 
 -- what an id is to a version that it touched
 pub touch-cases : (h : Header) (x : ℕ) → Touches x h → ((¬ IsFrozen h) × (h.xmin.0 ≡ x)) ⊎ ((h.xmax.0 ≢ 0) × (h.xmax.0 ≡ x))
-touch-cases h x (Touches.made_by is) = inl (maker-is h x is)
+touch-cases h x (Touches.made_by is) = inl (inserter-is h x is)
 touch-cases h x (Touches.deleted_by is) = inr (deleter-is h x is)
 
 -- the status of an id of the window
@@ -78,14 +78,14 @@ state-some w x s is = mapped-some (place w x) (status_of w x) s is
 pub state-is : (w : Window) (x : ℕ) (s : Status) → IsGiven w x → status_of w x ≡ s → state_of w x ≡ Some s
 state-is w x s given same = mapped-is (place w x) (status_of w x) s given same
 
-pub active-to : (w : Window) (x : ℕ) → IsActive (state_of w) x → window.IsActive w x
+pub active-to : (w : Window) (x : ℕ) → IsRunning (state_of w) x → window.IsActive w x
 active-to w x is = let h = state-some w x InProgress is in record { is_given = h.0; unfinished = h.1 }
 
-pub active-from : (w : Window) (x : ℕ) → window.IsActive w x → IsActive (state_of w) x
+pub active-from : (w : Window) (x : ℕ) → window.IsActive w x → IsRunning (state_of w) x
 active-from w x h = state-is w x InProgress h.is_given h.unfinished
 
-pub committed-to : (w : Window) (x : ℕ) → IsCommitted (state_of w) x → window.IsCommitted w x
+pub committed-to : (w : Window) (x : ℕ) → HasCommitted (state_of w) x → window.IsCommitted w x
 committed-to w x is = (state-some w x Committed is).1
 
-pub committed-from : (w : Window) (x : ℕ) → window.IsCommitted w x → IsCommitted (state_of w) x
+pub committed-from : (w : Window) (x : ℕ) → window.IsCommitted w x → HasCommitted (state_of w) x
 committed-from w x is = let at = finished-place w x (λ active. cc) in state-is w x Committed (is-from_some (place w x) at.0 at.1) is

@@ -1,4 +1,4 @@
--- Hints: marks of a header that say what became of its maker and its deleter, so that the status need not be looked up
+-- Hints: marks of a header that say what became of its inserter and its deleter, so that the status need not be looked up
 -- again. (src/include/access/htup_details.h: the bits of t_infomask.)
 use Rattle.std.specs.Prelude.{◌≡◌, ◌≢◌, ◌↔◌, ℕ, ◌==◌, Bool, true, false, bit_and, bit_or, List}
 use Rattle.tuple_header.specs.declared.version.Header.{Header}

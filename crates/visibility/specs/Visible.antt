@@ -7,9 +7,9 @@ use Rattle.tuple_header.specs.Marks.{is_frozen}
 use Rattle.commit_status.specs.declared.status.Status.{Status}
 use Rattle.commit_status.specs.Window.{Window, IsCommitted, IsAborted, place, status_of}
 use Rattle.snapshot.specs.Snap.{Snap, Sees}
-use Rattle.visibility.specs.Seeing.{Reads, VisibleBy, IsMissed, IsForeign}
+use Rattle.visibility.specs.Seeing.{Reads, VisibleBy, IsNewerCommit, IsOtherWriter}
 
--- its marks say that everybody sees its maker
+-- its marks say that everybody sees its inserter
 abbrev pub IsFrozen : Header → Type 0
 IsFrozen h = is_frozen h ≡ true
 
@@ -26,12 +26,12 @@ abbrev pub IsVisible : Window → Snap → List ℕ → Header → Type 0
 IsVisible w s own h = VisibleBy (ReadsIn w s own) h
 
 -- a committed id that the snapshot does not see made or deleted it
-abbrev pub IsMissedIn : Window → Snap → ℕ → Header → Type 0
-IsMissedIn w s x h = IsMissed (state_of w) (λ x. Sees s w x) x h
+abbrev pub IsNewerCommitIn : Window → Snap → ℕ → Header → Type 0
+IsNewerCommitIn w s x h = IsNewerCommit (state_of w) (λ x. Sees s w x) x h
 
 -- an id in progress that is none of these did
-abbrev pub IsForeignIn : Window → List ℕ → ℕ → Header → Type 0
-IsForeignIn w own x h = IsForeign (state_of w) own x h
+abbrev pub IsOtherWriterIn : Window → List ℕ → ℕ → Header → Type 0
+IsOtherWriterIn w own x h = IsOtherWriter (state_of w) own x h
 
 -- Nobody sees the version, now or later: it was rolled back, or its deleter committed before the horizon. (The
 -- manual's "Routine Vacuuming": a version is removed once no transaction can see it.)

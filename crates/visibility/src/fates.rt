@@ -11,7 +11,7 @@ use snapshot::stands_before;
 use tuple_header::{Header, Tuple};
 use xid_circle::Xid;
 
-/// The fate of the version with this header. It is dead where its maker was rolled back, or where its deleter
+/// The fate of the version with this header. It is dead where its inserter was rolled back, or where its deleter
 /// committed and stands before the horizon. No hint is read.
 pub fn fate_of(header: &Header, horizon: Xid, table: &StatusTable) -> Fate
     requires { header_fault header.now ≡ None }

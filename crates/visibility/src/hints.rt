@@ -1,4 +1,4 @@
-//! Hints: what became of a version's maker and deleter, noted in its header.
+//! Hints: what became of a version's inserter and deleter, noted in its header.
 
 ghost use Rattle.std.specs.Prelude.{◌≡◌, None, ◌==◌};
 ghost use Rattle.tuple_header.specs.Faults.{header_fault};
@@ -7,7 +7,7 @@ ghost use Rattle.visibility.specs.Hints.{maker_marks, deleter_marks, hinted, Are
 use commit_status::{Status, StatusTable};
 use tuple_header::Header;
 
-/// The marks of a version's maker: frozen, or else what became of it.
+/// The marks of a version's inserter: frozen, or else what became of it.
 fn maker_marks(frozen: bool, status: Status) -> u16
     ensures { result ≡ maker_marks frozen status }
 {
@@ -39,18 +39,18 @@ fn deleter_marks(none: bool, status: Status) -> u16
 fn hinted(header: &Header, table: &StatusTable) -> Header
     ensures { result ≡ hinted table.now header.now }
 {
-    let maker = maker_marks(header.is_frozen(), table.status(header.xmin));
+    let inserter = maker_marks(header.is_frozen(), table.status(header.xmin));
     let deleter = deleter_marks(header.xmax.0 == 0, table.status(header.xmax));
     Header {
         xmin: header.xmin,
         xmax: header.xmax,
         ctid: header.ctid,
         mask2: header.mask2,
-        mask: maker | deleter | header.mask & Header::UPDATED,
+        mask: inserter | deleter | header.mask & Header::UPDATED,
     }
 }
 
-/// Notes in a header what became of its maker and its deleter, if they have finished. Nothing else changes, and no
+/// Notes in a header what became of its inserter and its deleter, if they have finished. Nothing else changes, and no
 /// verdict does.
 pub fn set_hints(header: &mut Header, table: &StatusTable)
     requires { header_fault header.old ≡ None }

@@ -25,7 +25,8 @@ pub fn reads(x: Xid, snapshot: &Snapshot, own: &OwnIds, table: &StatusTable) -> 
 /// Whether a reader counts the making of a version.
 fn is_made(header: &Header, snapshot: &Snapshot, own: &OwnIds, table: &StatusTable) -> bool
     requires { header_fault header.now ≡ None }
-    ensures { IsTrue result ↔ (IsFrozen header.now ⊎ ReadsIn table.now snapshot.now own.now.ids header.now.xmin.0) }
+    ensures { IsTrue result
+        ↔ (IsFrozen header.now ⊎ ReadsIn table.now snapshot.now own.now.ids header.now.xmin.0) }
 {
     header.is_frozen() || reads(header.xmin, snapshot, own, table)
 }
@@ -33,7 +34,8 @@ fn is_made(header: &Header, snapshot: &Snapshot, own: &OwnIds, table: &StatusTab
 /// Whether a reader counts the deletion of a version.
 fn is_deleted(header: &Header, snapshot: &Snapshot, own: &OwnIds, table: &StatusTable) -> bool
     requires { header_fault header.now ≡ None }
-    ensures { IsTrue result ↔ ((header.now.xmax.0 ≢ 0) × ReadsIn table.now snapshot.now own.now.ids header.now.xmax.0) }
+    ensures { IsTrue result
+        ↔ ((header.now.xmax.0 ≢ 0) × ReadsIn table.now snapshot.now own.now.ids header.now.xmax.0) }
 {
     header.xmax.0 != 0 && reads(header.xmax, snapshot, own, table)
 }

@@ -1,6 +1,6 @@
 use Rattle.std.proofs.Common.{◌≤◌, ◌+◌, ◌++◌, length, sym, ap, ◌∙◌, subst}
 use Rattle.page_slots.specs.declared.item.Item.{Item}
-use Rattle.page_slots.specs.Store.{slot_in, body_of}
+use Rattle.page_slots.specs.Store.{stored_slot, body_of}
 use Rattle.page_slots.proofs.BodyLemmas.{packed-here, packed-room, packed-more, packed-slots}
 use Rattle.page_slots.proofs.packing.pack.Goals as goal
 
@@ -16,7 +16,7 @@ loop-i-preserved c =
     let bytes = c.args.bytes.now in
     let here = packed-here bytes c.args.items.now c.loop-i.items c.loop-i.packed.items c.loop-i.i c.index-items-i.result c.loop-i.invariant c.loop-i-test.true in
     packed-more bytes c.args.items.now c.loop-i.items c.loop-i.packed.items c.move_body.new.packed.items c.loop-i.i c.move_body.new.item c.loop-i.invariant c.loop-i-test.true
-    (c.move_body.ensures.slot ∙ ap (slot_in bytes) here) c.move_body.ensures.fits
+    (c.move_body.ensures.slot ∙ ap (stored_slot bytes) here) c.move_body.ensures.fits
     (c.move_body.ensures.items ∙ ap (λ (x : Item). c.loop-i.packed.items ++ body_of bytes x) here)
 
 pub returns-clause-slots : goal.returns-clause-slots

@@ -11,8 +11,8 @@ key_more rows i row keys new within is so pushed =
 
 pub loop-row-preserved : goal.loop-row-preserved
 loop-row-preserved c =
-    let front : List Row = take (min c.args.n (length c.args.rows.now)) c.args.rows.now in
-    key_more front c.loop-row.row-index c.row-item.result c.loop-row.keys.items c.push.new.self.items
+    let prefix : List Row = take (min c.args.n (length c.args.rows.now)) c.args.rows.now in
+    key_more prefix c.loop-row.row-index c.row-item.result c.loop-row.keys.items c.push.new.self.items
     (subst (λ k. c.loop-row.row-index < length (take k c.args.rows.now)) c.min.ensures c.loop-row-test.true)
     (subst (λ k. c.row-item.result ≡ get_or (take k c.args.rows.now) c.loop-row.row-index c.row-item.result) c.min.ensures c.row-item.is)
     c.loop-row.invariant c.in_ok-push.ensures.items

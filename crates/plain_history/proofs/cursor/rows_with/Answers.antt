@@ -6,7 +6,7 @@ use Rattle.std.proofs.lemmas.List.Folds.{list_any_more}
 use Rattle.tuple_header.specs.declared.version.Row.{Row}
 use Rattle.history.specs.World.{view}
 use Rattle.plain_history.specs.Plain.{open_of}
-use Rattle.plain_history.specs.Order.{Adds, Covers, row_in, has, wanted}
+use Rattle.plain_history.specs.Order.{AddsRow, Covers, row_in, has, wanted}
 use Rattle.plain_history.proofs.cursor.rows_with.Goals as goal
 
 either : (seen : Bool) (row : Option Row) → option_or (if seen then row else None) row ≡ row
@@ -19,7 +19,7 @@ unless_same true = refl
 unless_same false = refl
 
 -- the row of one more key
-covers_more : (rows : ℕ → Option Row) (old new : List Row) (keys : List ℕ) (i k d : ℕ) → i < length keys → k ≡ get_or keys i d → Adds rows k old new → Covers rows old (take i keys)
+covers_more : (rows : ℕ → Option Row) (old new : List Row) (keys : List ℕ) (i k d : ℕ) → i < length keys → k ≡ get_or keys i d → AddsRow rows k old new → Covers rows old (take i keys)
     → Covers rows new (take (i + 1) keys)
 covers_more rows old new keys i k d within is adds covers key = elim (cases_eq key k) [
   | inl same ↦ subst (λ j. row_in new j ≡ (if has (take (i + 1) keys) j then rows j else None)) (sym same)

@@ -1,7 +1,7 @@
 use Rattle.std.proofs.Common.{◌∙◌, sym, subst, take}
 use Rattle.history.specs.History.{said, written}
 use Rattle.std.specs.Prelude.{IfSome}
-use Rattle.plain_history.specs.Plain.{IsOf}
+use Rattle.plain_history.specs.Plain.{IsRowOf}
 use Rattle.plain_history.proofs.Lists.{written-take, newer, as_before}
 use Rattle.plain_history.proofs.lookup.last_written.Goals as goal
 use Rattle.plain_history.proofs.lookup.last_written.Goals.{in-Some, in_default}
@@ -14,10 +14,10 @@ loop-write-preserved c =
     elim c.match-said.branch [
       | in-Some w ↦ record {
         value = newer c.said.result here before c.match-said.last w.in-Some.said w.in-Some.is c.said.ensures.value w.last-is ∙ sym more;
-        keyed = subst (λ o. IfSome o (λ row. IsOf c.args.key row)) (w.in-Some.is ∙ sym w.last-is) c.said.ensures.keyed;
+        keyed = subst (λ o. IfSome o (λ row. IsRowOf c.args.key row)) (w.in-Some.is ∙ sym w.last-is) c.said.ensures.keyed;
       }
       | in_default w ↦ record {
         value = as_before c.said.result here before c.match-said.last c.loop-write.last w.in_default.is c.said.ensures.value w.last-is c.loop-write.invariant.value ∙ sym more;
-        keyed = subst (λ o. IfSome o (λ row. IsOf c.args.key row)) (sym w.last-is) c.loop-write.invariant.keyed;
+        keyed = subst (λ o. IfSome o (λ row. IsRowOf c.args.key row)) (sym w.last-is) c.loop-write.invariant.keyed;
       }
     ]

@@ -1,7 +1,7 @@
 use Rattle.std.proofs.Common.{◌∙◌, sym, subst, take}
 use Rattle.history.specs.History.{written, latest}
 use Rattle.std.specs.Prelude.{IfSome}
-use Rattle.plain_history.specs.Plain.{IsOf}
+use Rattle.plain_history.specs.Plain.{IsRowOf}
 use Rattle.plain_history.proofs.Lists.{latest-take, newer, as_before}
 use Rattle.plain_history.proofs.lookup.latest_in.Goals as goal
 use Rattle.plain_history.proofs.lookup.latest_in.Goals.{in-Some, in_default}
@@ -14,10 +14,10 @@ loop-transaction-preserved c =
     elim c.match-written.branch [
       | in-Some w ↦ record {
         value = newer c.written.result here before c.match-written.last w.in-Some.said w.in-Some.is c.written.ensures.value w.last-is ∙ sym more;
-        keyed = subst (λ o. IfSome o (λ row. IsOf c.args.key row)) (w.in-Some.is ∙ sym w.last-is) c.written.ensures.keyed;
+        keyed = subst (λ o. IfSome o (λ row. IsRowOf c.args.key row)) (w.in-Some.is ∙ sym w.last-is) c.written.ensures.keyed;
       }
       | in_default w ↦ record {
         value = as_before c.written.result here before c.match-written.last c.loop-transaction.last w.in_default.is c.written.ensures.value w.last-is c.loop-transaction.invariant.value ∙ sym more;
-        keyed = subst (λ o. IfSome o (λ row. IsOf c.args.key row)) (sym w.last-is) c.loop-transaction.invariant.keyed;
+        keyed = subst (λ o. IfSome o (λ row. IsRowOf c.args.key row)) (sym w.last-is) c.loop-transaction.invariant.keyed;
       }
     ]

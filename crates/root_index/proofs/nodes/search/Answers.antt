@@ -1,6 +1,6 @@
 use Rattle.std.proofs.Common.{arith}
 use Rattle.root_index.proofs.RowLemmas.{item, ascending_in, found_in, gap_in, lists_filled, length-lists}
-use Rattle.root_index.specs.Rows.{entry_in, spot_in}
+use Rattle.root_index.specs.Rows.{is_entry_in, spot_in}
 use Rattle.root_index.proofs.nodes.search.Goals as goal
 
 pub search-requires-clause-ascending : goal.search-requires-clause-ascending
@@ -13,7 +13,7 @@ pub returns-in-Ok-clause-entry : goal.returns-in-Ok-clause-entry
 returns-in-Ok-clause-entry g c =
     let size = length-lists g.N.Node.entries c.args.nodes.now in
     let at = item c.args.nodes.now c.node_for-node.result c.index-nodes-node.result (omega (arith, c.node_for-node.ensures.in_range)) c.index-nodes-node.is in
-    entry_in g.N.Node.IsEntry c.args.nodes.now (record { node = c.node_for-node.result; inner = c.in-Ok.inner }) c.index-nodes-node.result at c.in-Ok.ensures.entry
+    is_entry_in g.N.Node.IsEntry c.args.nodes.now (record { node = c.node_for-node.result; inner = c.in-Ok.inner }) c.index-nodes-node.result at c.in-Ok.ensures.entry
 
 pub returns-in-Ok-clause-found : goal.returns-in-Ok-clause-found
 returns-in-Ok-clause-found g c =

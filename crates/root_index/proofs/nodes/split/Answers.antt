@@ -1,5 +1,5 @@
 use Rattle.std.proofs.Common.{◌∙◌, ◌<◌, ◌+◌, sym, subst}
-use Rattle.root_index.specs.Nodes.{AreNeat, IsOpen}
+use Rattle.root_index.specs.Nodes.{AreNeat, IsOpened}
 use Rattle.root_index.proofs.RowLemmas.{item}
 use Rattle.root_index.proofs.RowGrowthLemmas.{split_to_is, all_split, opened_low, opened_high}
 use Rattle.root_index.proofs.NodeLemmas.{count_split}
@@ -11,7 +11,7 @@ returns-in-Lower-clause-opened g c =
     let i = c.args.spot.node in
     let at = item nodes i c.index_mut.result.now c.requires.node c.index_mut.ensures.value in
     let made = split_to_is nodes i c.split-half.new.self c.split-half.new.upper c.requires.node ∙ sym c.put_node.ensures.items in
-    subst (λ new. IsOpen g.N.Node.entries g.N.Node.size g.N.Node.rank g.N.Node.IsSpot nodes new c.args.spot (record { node = i; inner = c.in-Lower.inner })) made
+    subst (λ new. IsOpened g.N.Node.entries g.N.Node.size g.N.Node.rank g.N.Node.IsSpot nodes new c.args.spot (record { node = i; inner = c.in-Lower.inner })) made
     (opened_low g.N.Node.entries g.N.Node.size g.N.Node.rank g.N.Node.IsSpot nodes c.args.spot c.index_mut.result.now c.split-half.new.self c.split-half.new.upper c.in-Lower.inner at
     c.split-half.ensures.entries c.split-half.ensures.part.1 c.in-Lower.ensures.spot c.in-Lower.ensures.rank)
 
@@ -30,7 +30,7 @@ returns-in-Upper-clause-opened g c =
     let i = c.args.spot.node in
     let at = item nodes i c.index_mut.result.now c.requires.node c.index_mut.ensures.value in
     let made = split_to_is nodes i c.split-half.new.self c.split-half.new.upper c.requires.node ∙ sym c.put_node.ensures.items in
-    subst (λ new. IsOpen g.N.Node.entries g.N.Node.size g.N.Node.rank g.N.Node.IsSpot nodes new c.args.spot (record { node = i + 1; inner = c.in-Upper.inner })) made
+    subst (λ new. IsOpened g.N.Node.entries g.N.Node.size g.N.Node.rank g.N.Node.IsSpot nodes new c.args.spot (record { node = i + 1; inner = c.in-Upper.inner })) made
     (opened_high g.N.Node.entries g.N.Node.size g.N.Node.rank g.N.Node.IsSpot nodes c.args.spot c.index_mut.result.now c.split-half.new.self c.split-half.new.upper c.in-Upper.inner at
     c.split-half.ensures.entries c.split-half.ensures.part_too.1 c.in-Upper.ensures.spot c.in-Upper.ensures.rank)
 

@@ -1,7 +1,7 @@
 use Rattle.std.proofs.Common.{◌≡◌, sym, None, ◌∙◌, ap, rules, refl}
 use Rattle.std.specs.Option.{option_map}
 use Rattle.std.proofs.lemmas.Option.{none-some}
-use Rattle.script.specs.Engine.{index_at}
+use Rattle.script.specs.Engine.{engine_index}
 use Rattle.script.specs.Script.{did, showed_ids, showed_page, showed_entries, shown_of}
 use Rattle.script.specs.declared.line.Line.TheVariants.{Do, Ids, Page, Entries}
 use Rattle.script.specs.Reading.{line_at}
@@ -26,7 +26,7 @@ returns-in_ok-show_page-in-Some-Page-clause-done c =
 pub returns-in_ok-show_index-in-Some-Entries-clause-done : goal.returns-in_ok-show_index-in-Some-Entries-clause-done
 returns-in_ok-show_index-in-Some-Entries-clause-done c =
     let says = line_at_says c.args.line.now (Entries c.in-Some-Entries.number) (search rules) in
-    (showed_entries c.in-Some-Entries.number (option_map (λ index. index.entries) (index_at c.args.engine.now.core c.in-Some-Entries.number)), says.0, says.1, (refl, refl), c.in_ok-show_index-in-Some-Entries.ensures)
+    (showed_entries c.in-Some-Entries.number (option_map (λ index. index.entries) (engine_index c.args.engine.now.core c.in-Some-Entries.number)), says.0, says.1, (refl, refl), c.in_ok-show_index-in-Some-Entries.ensures)
 
 pub returns-in-None-clause-bad : goal.returns-in-None-clause-bad
 returns-in-None-clause-bad c l fits e =

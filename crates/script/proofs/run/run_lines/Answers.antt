@@ -4,7 +4,7 @@ use Rattle.script.proofs.RunLemmas.{Progress-more, Progress-line, adv_fault, adv
 use Rattle.script.proofs.run.run_lines.Goals as goal
 
 pub returns-in-Err-clause-advances : goal.returns-in-Err-clause-advances
-returns-in-Err-clause-advances g c = adv_fault _ _ _ _ _ _ _ _ _ _ _ _ _ _ c.loop-number.invariant c.in-Err.ensures.fault c.in-Err.ensures.front
+returns-in-Err-clause-advances g c = adv_fault _ _ _ _ _ _ _ _ _ _ _ _ _ _ c.loop-number.invariant c.in-Err.ensures.fault c.in-Err.ensures.prefix
 
 pub returns-in-Bad-clause-advances : goal.returns-in-Bad-clause-advances
 returns-in-Bad-clause-advances g c =
@@ -41,7 +41,7 @@ returns-in-Err-write_if_full-clause-advances g c =
     let found = rw c.in-Line.is at c.in-Ok.ensures.line in
     let done = rw (c.in-Ok-true.field-0-test, c.as_slice.ensures) at c.in-Ok-true.ensures.done in
     let k = Progress-line _ _ _ _ _ _ _ _ _ _ _ _ _ _ h found.2 found.0 found.1 done in
-    adv_fault _ _ _ _ _ _ _ _ _ _ _ _ _ _ k c.in-Err-write_if_full.ensures.fault c.in-Err-write_if_full.ensures.front
+    adv_fault _ _ _ _ _ _ _ _ _ _ _ _ _ _ k c.in-Err-write_if_full.ensures.fault c.in-Err-write_if_full.ensures.prefix
 
 pub loop-number-preserved : goal.loop-number-preserved
 loop-number-preserved g c =

@@ -1,6 +1,6 @@
 use Rattle.std.proofs.Common.{◌≡◌, ◌∙◌, sym, ap, length, Some, refl, subst, ℕ}
 use Rattle.std.proofs.lemmas.Option.{slice_get_read}
-use Rattle.commit_status.specs.Window.{Entry, place_in}
+use Rattle.commit_status.specs.Window.{IdEntry, place_in}
 use Rattle.commit_status.proofs.Places.{at-from_place}
 use Rattle.commit_status.proofs.Tables.{table-set}
 use Rattle.commit_status.proofs.ChangesLemmas.{finishes-set}
@@ -11,7 +11,7 @@ invariant_of-self c =
     let at : place_in c.self.inside.first.0 c.len.result c.args.x.0 ≡ Some c.in-Some.place = sym c.place_in.ensures ∙ c.in-Some.is in
     let count : c.len.result ≡ length c.self.inside.entries.items = c.len.ensures ∙ c.self.inside.entries.ok.0 in
     let there = slice_get_read c.self.inside.entries.items c.len.result c.in-Some.place c.index_mut.result.now count (at-from_place c.self.inside.first.0 c.len.result c.args.x.0 c.in-Some.place at).within c.index_mut.ensures.value in
-    table-set c.self.inside.first.0 c.self.inside.stop_age _ _ _ _ _ c.in-Some.place c.index_mut.result.now c.finish.new.self c.self.invariant there (ap (λ (e : Entry). e.parent) c.finish.ensures) refl
+    table-set c.self.inside.first.0 c.self.inside.stop_age _ _ _ _ _ c.in-Some.place c.index_mut.result.now c.finish.new.self c.self.invariant there (ap (λ (e : IdEntry). e.parent) c.finish.ensures) refl
 
 pub returns-in-Some : goal.returns-in-Some
 returns-in-Some c =

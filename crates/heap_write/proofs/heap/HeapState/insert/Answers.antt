@@ -3,7 +3,7 @@ use Rattle.std.specs.Prelude.{IfErr}
 use Rattle.tuple_header.specs.Version.{rounded_size_of}
 use Rattle.heap_write.specs.declared.target.Target.{Target}
 use Rattle.heap_write.specs.Heap.{HeapView}
-use Rattle.heap_write.specs.Writes.{NeedsFreeze, Inserts, IsFull}
+use Rattle.heap_write.specs.Writes.{NeedsFreeze, Inserts, TableIsFull}
 use Rattle.heap_write.specs.Refusals.{RootNeedsMemory, LacksForInsert}
 use Rattle.heap_write.specs.Growth.{Reserves}
 use Rattle.heap_write.specs.contracts.heap.HeapState.{the_view}
@@ -28,9 +28,9 @@ pub returns-in-Err-clause-fault : goal.returns-in-Err-clause-fault
 returns-in-Err-clause-fault c =
     let h = the_view c.self.inside in
     let free = iff_false c.needs_freeze.ensures c.if-needs_freeze.false in
-    let P : HeapView → ℕ → Type 0 = λ v size. (¬ NeedsFreeze v.table c.args.own.now) × (¬ IsFull v size) × RootNeedsMemory v c.args.own.now size in
-    let lacks = needs-memory h c.args.own.now c.row_size.result c.in-Err.ensures.needs in
-    subst (λ v. P v (rounded_size_of c.args.row.now)) c.self.view_is (subst (λ size. P h size) c.row_size.ensures.value (free, lacks.0, lacks.1))
+    let P : HeapView → ℕ → Type 0 = λ v size. (¬ NeedsFreeze v.table c.args.own.now) × (¬ TableIsFull v size) × RootNeedsMemory v c.args.own.now size in
+    let unassigned_levels = needs-memory h c.args.own.now c.row_size.result c.in-Err.ensures.needs in
+    subst (λ v. P v (rounded_size_of c.args.row.now)) c.self.view_is (subst (λ size. P h size) c.row_size.ensures.value (free, unassigned_levels.0, unassigned_levels.1))
 
 pub returns-in-Ok-Some-clause-fault : goal.returns-in-Ok-Some-clause-fault
 returns-in-Ok-Some-clause-fault c =

@@ -8,19 +8,19 @@ use Rattle.heap_write.proofs.Updating.{kept-slots}
 use Rattle.heap_write.proofs.SlotMemory.{slot-grown}
 use Rattle.heap_write.proofs.heap.HeapState.update_at_once.Goals as goal
 
-pub replace_on_page-requires-clause-room : goal.replace_on_page-requires-clause-room
-replace_on_page-requires-clause-room c =
+pub update_on_page-requires-clause-room : goal.update_on_page-requires-clause-room
+update_on_page-requires-clause-room c =
     let h1 = c.reserve_on_page-reserved.new.self in
     let slots = kept-slots c.args.self.now h1 c.args.place.page c.reserve_on_page-reserved.ensures.keeps in
     subst (λ s. rounded_size_of c.args.row.now ≤ room_of s) (sym slots) c.requires.room
 
-pub replace_on_page-requires-clause-has_slot : goal.replace_on_page-requires-clause-has_slot
-replace_on_page-requires-clause-has_slot c =
+pub update_on_page-requires-clause-has_slot : goal.update_on_page-requires-clause-has_slot
+update_on_page-requires-clause-has_slot c =
     let h = c.args.self.now in
     slot-grown h c.reserve_on_page-reserved.new.self c.args.place.page (there-within h c.args.place c.requires.there) c.in-Ok.ensures.grows
 
-pub replace_on_page-requires-clause-heap_only : goal.replace_on_page-requires-clause-heap_only
-replace_on_page-requires-clause-heap_only c =
+pub update_on_page-requires-clause-heap_only : goal.update_on_page-requires-clause-heap_only
+update_on_page-requires-clause-heap_only c =
     let h = c.args.self.now in
     let h1 = c.reserve_on_page-reserved.new.self in
     let keeps = c.reserve_on_page-reserved.ensures.keeps in
@@ -31,8 +31,8 @@ replace_on_page-requires-clause-heap_only c =
 pub returns-in-Ok-clause-takes : goal.returns-in-Ok-clause-takes
 returns-in-Ok-clause-takes c =
     let reserved = c.reserve_on_page-reserved.ensures in
-    takes-grown c.args.self.now.table c.reserve_on_page-reserved.new.self.table c.replace_on_page.new.self.table c.args.own.now c.reserve_on_page-reserved.new.own c.replace_on_page.new.own
-    c.replace_on_page.result.0 reserved.keeps.table reserved.own reserved.none c.replace_on_page.ensures.takes
+    takes-grown c.args.self.now.table c.reserve_on_page-reserved.new.self.table c.update_on_page.new.self.table c.args.own.now c.reserve_on_page-reserved.new.own c.update_on_page.new.own
+    c.update_on_page.result.0 reserved.keeps.table reserved.own reserved.none c.update_on_page.ensures.takes
 
 pub returns-in-Ok-clause-replaces : goal.returns-in-Ok-clause-replaces
 returns-in-Ok-clause-replaces c =
@@ -40,4 +40,4 @@ returns-in-Ok-clause-replaces c =
     let h1 = c.reserve_on_page-reserved.new.self in
     let n = c.args.place.page in
     let grown = grown-page h h1 n (there-within h c.args.place c.requires.there) c.in-Ok.ensures.grows c.reserve_on_page-reserved.ensures.keeps.entries in
-    on_page-grown h h1 c.replace_on_page.new.self c.args.place c.replace_on_page.result.0 c.args.row.now grown c.replace_on_page.ensures.replaces
+    on_page-grown h h1 c.update_on_page.new.self c.args.place c.update_on_page.result.0 c.args.row.now grown c.update_on_page.ensures.replaces

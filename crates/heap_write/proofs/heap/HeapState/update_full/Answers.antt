@@ -5,9 +5,9 @@ use Rattle.tuple_header.specs.Version.{rounded_size_of}
 use Rattle.page_slots.specs.declared.slot.Slot.{Slot}
 use Rattle.page_slots.specs.Slots.{room_of}
 use Rattle.heap_write.specs.Writes.{TakesIds}
-use Rattle.heap_write.specs.Refusals.{RootNeedsMemory, IsThere}
+use Rattle.heap_write.specs.Refusals.{RootNeedsMemory, VersionIsThere}
 use Rattle.heap_write.specs.Refusals.UpdateNeedsMemory.{to_prune}
-use Rattle.heap_write.specs.Growth.{IsReady}
+use Rattle.heap_write.specs.Growth.{IsReserved}
 use Rattle.heap_write.specs.Steps.{IsChosen}
 use Rattle.heap_write.proofs.Writing.{both-ok}
 use Rattle.heap_write.proofs.Updating.{both-err, kept-slots, updates, fails}
@@ -27,7 +27,7 @@ update_elsewhere-requires-clause-chosen c = subst (λ n. IsChosen c.reserve_root
 
 pub update_elsewhere-requires-clause-ready : goal.update_elsewhere-requires-clause-ready
 update_elsewhere-requires-clause-ready c =
-    subst (λ n. IfSome c.in-Ok.target (λ t. IsReady c.reserve_root-reserved.new.self.pages n t)) c.row_size.ensures.value c.in-Ok.ensures.ready
+    subst (λ n. IfSome c.in-Ok.target (λ t. IsReserved c.reserve_root-reserved.new.self.pages n t)) c.row_size.ensures.value c.in-Ok.ensures.ready
 
 pub returns-in-Ok-clause-ok : goal.returns-in-Ok-clause-ok
 returns-in-Ok-clause-ok c =
@@ -35,7 +35,7 @@ returns-in-Ok-clause-ok c =
     let reserved = c.reserve_root-reserved.ensures in
     let ready = c.reserve_root-reserved.new.self in
     let prunes = kept-prunes c.args.self.now ready c.args.place c.args.horizon.0 reserved.keeps c.requires.there (c.has_dead.ensures c.if-has_dead.false) in
-    let Begun : Xid → Type 0 = λ x. TakesIds ready.table c.update_elsewhere.new.self.table c.reserve_root-reserved.new.own c.update_elsewhere.new.own x.0 × IsThere ready c.args.place in
+    let Begun : Xid → Type 0 = λ x. TakesIds ready.table c.update_elsewhere.new.self.table c.reserve_root-reserved.new.own c.update_elsewhere.new.own x.0 × VersionIsThere ready c.args.place in
     let begun = both-ok {C = Begun} c.update_elsewhere.result (λ x takes there. (takes, there)) done.takes done.there in
     both-ok {A = Begun} c.update_elsewhere.result (λ x first replaces. updates c.args.self.now ready ready c.update_elsewhere.new.self c.args.own.now c.reserve_root-reserved.new.own c.update_elsewhere.new.own c.args.place c.args.row.now
     c.args.horizon.0 x.0 c.requires.free c.requires.room reserved.keeps reserved.own reserved.none prunes first.0 first.1 replaces done.max_pages) begun done.replaces

@@ -2,7 +2,7 @@ use Rattle.std.proofs.Common.{◌<◌, ◌≤◌, length, sym, ap, subst, refl, 
 use Rattle.std.specs.Vec.{vec_capacity}
 use Rattle.std.proofs.lemmas.Bool.{le-ltb}
 use Rattle.std.proofs.lemmas.List.{length-map}
-use Rattle.page_slots.specs.Store.{slot_in, slots_in}
+use Rattle.page_slots.specs.Store.{stored_slot, slots_in}
 use Rattle.page_slots.specs.Stored.{StoreView}
 use Rattle.page_slots.proofs.BodyLemmas.{version-set}
 use Rattle.page_slots.proofs.store.Store.put_version.Goals as goal
@@ -13,7 +13,7 @@ returns c =
     let items = c.self.inside.items.items in
     let moved = c.keep_version-item.new.items in
     let there = subst (λ (s : StoreView). c.args.index < length s.slots) (sym c.self.view_is) c.requires.there in
-    let long = length-map items (slot_in bytes) in
+    let long = length-map items (stored_slot bytes) in
     let memory : 8168 ≤ vec_capacity c.self.inside.bytes = c.self.invariant.2 (omega arith) in
     rw (← c.self.view_is)
     (rw (

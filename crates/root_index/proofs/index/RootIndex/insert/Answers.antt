@@ -1,7 +1,7 @@
 use Rattle.std.proofs.Common.{◌≡◌, ◌∙◌, ◌+◌, ◌-◌, ◌^◌, ◌<◌, ◌≤◌, ◌⊎◌, ℕ, inl, inr, max, length, Contains, sym, ap, refl, subst, arith}
 use Rattle.std.proofs.lemmas.List.Edits.{length-insert}
 use Rattle.root_index.specs.View.{IndexView, room_in, free_places}
-use Rattle.root_index.specs.Sets.{Adds}
+use Rattle.root_index.specs.Sets.{AddsEntry}
 use Rattle.root_index.proofs.SetLemmas.{adds-there, absent_in_gap}
 use Rattle.root_index.proofs.SoundLemmas.{among, ascending_there, found_there, gap_there, adds_in_gap, sound_inserted, sound_unspent, none_promised, none_countable}
 use Rattle.root_index.proofs.FullLemmas.{on_err, full_among, no_room, room_less, nodes_of}
@@ -14,7 +14,7 @@ search-requires-clause-ascending c = ascending_there c.self.inside.trees.items c
 pub returns-in-Ok-clause-adds : goal.returns-in-Ok-clause-adds
 returns-in-Ok-clause-adds c =
     let found = found_there _ _ c.self.inside.trees.items c.deref.result.now c.args.entry c.in-Ok.field-0 c.deref.ensures.value c.in-Ok.ensures.found in
-    subst (λ (v : IndexView). Adds v.entries v.entries c.args.entry) c.self.view_is (adds-there (among c.self.inside.trees.items) c.args.entry _ c.self.invariant.ascending found)
+    subst (λ (v : IndexView). AddsEntry v.entries v.entries c.args.entry) c.self.view_is (adds-there (among c.self.inside.trees.items) c.args.entry _ c.self.invariant.ascending found)
 
 -- memory is refused only where there is no room, and the entry is not there
 pub returns-then-self-clause-memory : goal.returns-then-self-clause-memory
@@ -54,7 +54,7 @@ invariant_of-self-2 c =
 pub returns-clause-adds : goal.returns-clause-adds
 returns-clause-adds c =
     let gap = gap_there _ _ c.self.inside.trees.items c.deref.result.now c.args.entry c.in-Err.spot c.deref.ensures.value c.in-Err.ensures.absent in
-    subst (λ (v : IndexView). Adds v.entries (among c.insert.new.nodes.items) c.args.entry) c.self.view_is
+    subst (λ (v : IndexView). AddsEntry v.entries (among c.insert.new.nodes.items) c.args.entry) c.self.view_is
     (adds_in_gap (among c.self.inside.trees.items) (among c.insert.new.nodes.items) c.args.entry _ c.self.invariant.ascending gap c.in_ok-insert.ensures.entries)
 
 pub returns-clause-spare_kept : goal.returns-clause-spare_kept

@@ -1,7 +1,7 @@
 use Rattle.std.proofs.Common.{◌≡◌, subst, Some}
 use Rattle.std.specs.Prelude.{MatchResult}
 use Rattle.history.specs.World.{World, OpenSession, view}
-use Rattle.session_relation.specs.Allowed.{AllowsClosed}
+use Rattle.refinement.specs.Allowed.{AllowsClosed}
 use Rattle.session_steps.specs.Agrees.{Agrees}
 use Rattle.session_core.specs.View.{EngineView}
 use Rattle.session_core.proofs.engine.Engine.read.Goals as goal

@@ -2,8 +2,8 @@ use Rattle.std.proofs.Common.{◌≡◌, ◌∙◌, ◌≤◌, List, length, tak
 use Rattle.std.proofs.lemmas.List.{take-map}
 use Rattle.xid_circle.specs.declared.Xid.{Xid}
 use Rattle.commit_status.specs.Changes.{numbers}
-use Rattle.snapshot.specs.Own.{Own, newest, fronts, AreMarks, AreNormal}
-use Rattle.snapshot.proofs.Marks.{normal-take, marks-cut, fronts-cut}
+use Rattle.snapshot.specs.Own.{Own, newest, prefixes, AreMarks, AreNormal}
+use Rattle.snapshot.proofs.Marks.{normal-take, marks-cut, prefixes-cut}
 use Rattle.snapshot.proofs.own.OwnIds.roll_back.Goals as goal
 
 pub invariant_of-self : goal.invariant_of-self
@@ -11,7 +11,7 @@ invariant_of-self c =
     let ids = c.self.inside.ids.items in
     let P : Own → Type 0 = λ o. newest o.saved ≡ take c.newest_mark-count.result o.ids in
     let Q : Own → Type 0 = λ o. c.newest_mark-count.result ≤ length o.ids in
-    let at : newest (fronts (numbers ids) (reverse c.self.inside.marks.items)) ≡ take c.newest_mark-count.result (numbers ids) = subst P (sym c.self.view_is) c.newest_mark-count.ensures.value in
+    let at : newest (prefixes (numbers ids) (reverse c.self.inside.marks.items)) ≡ take c.newest_mark-count.result (numbers ids) = subst P (sym c.self.view_is) c.newest_mark-count.ensures.value in
     let within : c.newest_mark-count.result ≤ length (numbers ids) = subst Q (sym c.self.view_is) c.newest_mark-count.ensures.within in
     let R : List Xid → Type 0 = λ xs. AreNormal xs × AreMarks (length xs) (reverse c.self.inside.marks.items) × (length c.self.inside.marks.items ≤ 32) in
     subst R (sym c.truncate.ensures.items) (normal-take _ ids c.self.invariant.0, marks-cut ids _ _ c.self.invariant.1 at within, c.self.invariant.2)
@@ -28,8 +28,8 @@ returns-clause-saved c =
     let ids = c.self.inside.ids.items in
     let P : Own → Type 0 = λ o. newest o.saved ≡ take c.newest_mark-count.result o.ids in
     let Q : Own → Type 0 = λ o. c.newest_mark-count.result ≤ length o.ids in
-    let at : newest (fronts (numbers ids) (reverse c.self.inside.marks.items)) ≡ take c.newest_mark-count.result (numbers ids) = subst P (sym c.self.view_is) c.newest_mark-count.ensures.value in
+    let at : newest (prefixes (numbers ids) (reverse c.self.inside.marks.items)) ≡ take c.newest_mark-count.result (numbers ids) = subst P (sym c.self.view_is) c.newest_mark-count.ensures.value in
     let within : c.newest_mark-count.result ≤ length (numbers ids) = subst Q (sym c.self.view_is) c.newest_mark-count.ensures.within in
-    ap (λ xs. fronts (numbers xs) (reverse c.self.inside.marks.items)) c.truncate.ensures.items
-    ∙ fronts-cut ids _ _ c.self.invariant.1 at within
+    ap (λ xs. prefixes (numbers xs) (reverse c.self.inside.marks.items)) c.truncate.ensures.items
+    ∙ prefixes-cut ids _ _ c.self.invariant.1 at within
     ∙ ap (λ (o : Own). o.saved) c.self.view_is

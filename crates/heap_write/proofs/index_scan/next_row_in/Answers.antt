@@ -1,0 +1,35 @@
+use Rattle.std.proofs.Common.{◌≤◌, length, None, arith}
+use Rattle.visibility.specs.Visible.{IsVisible}
+use Rattle.sound_entries.specs.Looking.{page_slots_of, FirstFound}
+use Rattle.heap_write.proofs.SpanLemmas.{first-in_span}
+use Rattle.heap_write.proofs.WalkLemmas.{walked-on, walked-end, walked-row}
+use Rattle.heap_write.proofs.index_scan.next_row_in.Goals as goal
+
+pub row_from-requires : goal.row_from-requires
+row_from-requires c = first-in_span c.args.index.now.entries c.loop.left c.in-Some.entry c.in-Some.ensures
+
+pub returns-in-Some-row_from : goal.returns-in-Some-row_from
+returns-in-Some-row_from c =
+    let seen = IsVisible c.args.table.now c.args.snapshot.now c.args.own.now.ids in
+    let mark = c.mark_of-mark.result in
+    walked-row c.args.table.now seen (page_slots_of c.args.pages.now) c.args.index.now.entries c.args.span.now c.loop.left c.loop.counter c.in-Some.entry mark c.in-Some-row_from.row
+    c.loop.invariant c.in-Some.ensures (c.mark_of-mark.ensures.value, c.mark_of-mark.ensures.key) c.in-Some-row_from.ensures
+
+pub loop-preserved : goal.loop-preserved
+loop-preserved c =
+    let seen = IsVisible c.args.table.now c.args.snapshot.now c.args.own.now.ids in
+    let pages = page_slots_of c.args.pages.now in
+    let entries = c.args.index.now.entries in
+    let mark = c.mark_of-mark.result in
+    walked-on entries (λ value key. FirstFound c.args.table.now seen pages entries value key None) c.args.span.now c.loop.left c.loop.counter c.in-Some.entry mark
+    c.is_ascending.ensures c.loop.invariant c.in-Some.ensures (c.mark_of-mark.ensures.value, c.mark_of-mark.ensures.key) c.in_default.ensures
+
+pub returns : goal.returns
+returns c =
+    let seen = IsVisible c.args.table.now c.args.snapshot.now c.args.own.now.ids in
+    let pages = page_slots_of c.args.pages.now in
+    let entries = c.args.index.now.entries in
+    let count = c.len-end.ensures in
+    let over = c.loop-test.false in
+    let all : length entries ≤ c.loop.counter = omega arith in
+    walked-end entries (λ value key. FirstFound c.args.table.now seen pages entries value key None) c.args.span.now c.loop.left c.loop.counter c.loop.invariant all

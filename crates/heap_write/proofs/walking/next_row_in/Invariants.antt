@@ -1,8 +1,0 @@
-use Rattle.std.proofs.Common.{None}
-use Rattle.visibility.specs.Visible.{IsVisible}
-use Rattle.sound_entries.specs.Looking.{slots_of, FirstFound}
-use Rattle.heap_write.proofs.WalkLemmas.{Walked}
-use Rattle.heap_write.proofs.walking.next_row_in.Given as goal
-
-abbrev pub invariant-loop : goal.invariant-loop
-invariant-loop l = Walked l.index.entries (λ value key. FirstFound l.table (IsVisible l.table l.snapshot l.own.ids) (slots_of l.pages) l.index.entries value key None) l.span l.left l.counter

@@ -1,0 +1,263 @@
+//! How cursors go on: along an index from place to place, and over a page from slot to slot. Nothing here takes memory.
+
+ghost use Rattle.std.specs.Prelude.{◌≡◌, ◌↔◌, ◌≤◌, ◌≤ℤ◌, length, Some, IsTrue, FitsSigned};
+ghost use Rattle.std.specs.Int.{w128};
+ghost use Rattle.std.specs.Option.{option_map};
+ghost use Rattle.root_index.specs.Sets.{IsLeast, IsBelow, IsOf};
+ghost use Rattle.visibility.specs.Visible.{IsVisible};
+ghost use Rattle.sound_entries.specs.Looking.{page_slots_of as slots_in};
+ghost use Rattle.heap_write.specs.Heap.{slots_of};
+ghost use Rattle.heap_write.specs.Indexes.{entries_in};
+ghost use Rattle.heap_write.specs.Walking.{ComesAfter, last_at, StartsIn, LiesIn, NextRow, SeenRow};
+
+use crate::heap::HeapState;
+use commit_status::StatusTable;
+use heap_pages::Pages;
+use root_index::{Entry, PositionHint, RootIndex};
+use snapshot::{OwnIds, Snapshot};
+use sound_entries::row_from;
+use tuple_header::RowRef;
+use visibility::visible_header;
+use xid_circle::Tid;
+
+/// A place in the order of an index: that of a row with this value and key.
+#[derive(Clone, Copy, Debug, PartialEq, Eq)]
+pub struct IndexPosition {
+    /// The row's value in the index.
+    pub value: i128,
+    /// The row's key.
+    pub key: u64,
+    /// The root to which the entry of this value and key leads. Nothing but the search that it spares depends on it.
+    pub tid: Tid,
+    /// Where that entry stood, which is a hint as well.
+    pub near: PositionHint,
+}
+
+/// Part of an index: what lies between two values, both included, and after a place of its order, if one is given.
+#[derive(Clone, Copy, Debug, PartialEq, Eq)]
+pub struct IndexRange {
+    /// The index's number: 0 is that by key, and c + 1 that by column c.
+    pub index: u8,
+    /// The least value of the span.
+    pub low: i128,
+    /// The greatest; one below `low` makes the span empty.
+    pub high: i128,
+    /// What comes after this place alone; where there is none, all.
+    pub last: Option<IndexPosition>,
+}
+
+impl HeapState {
+    /// The first place of the span, in the order of the index, where the reader sees a row, and that row, where it stands.
+    /// An index that is not in use has none.
+    pub fn next_row(
+        &self,
+        span: &IndexRange,
+        snapshot: &Snapshot,
+        own: &OwnIds,
+    ) -> Option<(IndexPosition, RowRef<'_>)>
+        ensures { NextRow self.now.table (IsVisible self.now.table snapshot.now own.now.ids)
+            (slots_of self.now) (entries_in self.now.indexes span.now.index) span.now result }
+    {
+        match self.indexes.get(span.index) {
+            Some(index) => next_row_in(&self.pages, index, span, snapshot, own, &self.table),
+            None => None,
+        }
+    }
+
+    /// The row of the version at a place, where it stands, if the reader sees it.
+    pub fn seen_row(&self, place: Tid, snapshot: &Snapshot, own: &OwnIds) -> Option<RowRef<'_>>
+        ensures { SeenRow (IsVisible self.now.table snapshot.now own.now.ids)
+            (slots_of self.now) place result }
+    {
+        let page = match self.pages.page(place.page) {
+            Some(page) => page,
+            None => return None,
+        };
+        match page.header(place.slot) {
+            Some(header) if visible_header(&header, snapshot, own, &self.table) => page.row(
+                place.slot,
+            ),
+            _ => None,
+        }
+    }
+
+    /// How many pages are in use, at most 65536.
+    pub fn page_count(&self) -> u32
+        ensures count { result ≡ length self.now.pages.pages }
+        ensures limit { result ≤ 65536 }
+    {
+        self.pages.len()
+    }
+}
+
+impl IndexRange {
+    fn low(&self) -> i128
+        ensures value { result ≡ self.now.low }
+        ensures fits { FitsSigned w128 result }
+    {
+        self.low
+    }
+
+    /// Whether this place of the order is not below the low value.
+    fn begins_by(&self, mark: &IndexPosition) -> bool
+        ensures { IsTrue result ↔ (self.now.low ≤ℤ mark.now.value) }
+    {
+        self.low <= mark.value
+    }
+
+    /// Whether the entry's value is not above the high value.
+    fn reaches(&self, entry: &Entry) -> bool
+        ensures { IsTrue result ↔ (entry.now.value ≤ℤ self.now.high) }
+    {
+        entry.value <= self.high
+    }
+}
+
+/// That the numbers of an entry's place are in range. It does nothing; its contract is the fact.
+fn has_place(entry: &Entry)
+    ensures page { entry.now.tid.page ≤ 4294967295 }
+    ensures slot { entry.now.tid.slot ≤ 65535 }
+{
+    let _page = entry.tid.page;
+    let _slot = entry.tid.slot;
+}
+
+/// The last entry that there can be at a place of the order.
+fn last_at(mark: &IndexPosition) -> Entry
+    ensures { result ≡ last_at mark.now }
+{
+    Entry {
+        value: mark.value,
+        key: mark.key,
+        tid: Tid {
+            page: u32::MAX,
+            slot: u16::MAX,
+        },
+    }
+}
+
+/// The entry at a place of the order, by the root that it leads to.
+fn entry_of(mark: &IndexPosition) -> Entry
+    ensures value { result.value ≡ mark.now.value }
+    ensures key { result.key ≡ mark.now.key }
+{
+    Entry {
+        value: mark.value,
+        key: mark.key,
+        tid: mark.tid,
+    }
+}
+
+/// Whether the entry is at this place of the order.
+fn is_at(entry: &Entry, mark: &IndexPosition) -> bool
+    ensures { IsTrue result ↔ IsOf mark.now.value mark.now.key entry.now }
+{
+    entry.value == mark.value && entry.key == mark.key
+}
+
+/// The first entry that comes after a place of the order, and where it stood.
+fn after_mark(index: &RootIndex, mark: &IndexPosition) -> Option<(Entry, PositionHint)>
+    ensures { IsLeast index.now.entries (λ e. ComesAfter e (Some mark.now))
+        (option_map (λ found. found.0) result) }
+{
+    let (entry, near) = index.next_near(entry_of(mark), mark.near)?;
+    if !is_at(&entry, mark) {
+        return Some((entry, near));
+    }
+    // one more entry of this value and this key
+    past_all(index, mark, near)
+}
+
+/// The first entry that comes after all that there can be at a place of the order, and where it stood.
+fn past_all(
+    index: &RootIndex,
+    mark: &IndexPosition,
+    near: PositionHint,
+) -> Option<(Entry, PositionHint)>
+    ensures { IsLeast index.now.entries (λ e. ComesAfter e (Some mark.now))
+        (option_map (λ found. found.0) result) }
+{
+    let (entry, near) = index.next_near(last_at(mark), near)?;
+    has_place(&entry);
+    Some((entry, near))
+}
+
+/// The first entry that is not below the span's low value.
+fn from_low(index: &RootIndex, span: &IndexRange) -> Option<Entry>
+    ensures { IsLeast index.now.entries (λ e. ¬ IsBelow span.now.low 0 e) result }
+{
+    index.first_from(span.low(), 0)
+}
+
+/// The same, as if it stood at the prefix.
+fn found_from_low(index: &RootIndex, span: &IndexRange) -> Option<(Entry, PositionHint)>
+    ensures { IsLeast index.now.entries (λ e. ¬ IsBelow span.now.low 0 e)
+        (option_map (λ found. found.0) result) }
+{
+    match from_low(index, span) {
+        Some(entry) => Some((entry, PositionHint::default())),
+        None => None,
+    }
+}
+
+/// The first entry that is not below the span's low value, and comes after its last place, and where it stood.
+fn entry_from(index: &RootIndex, span: &IndexRange) -> Option<(Entry, PositionHint)>
+    ensures { IsLeast index.now.entries (StartsIn span.now) (option_map (λ found. found.0) result) }
+{
+    match &span.last {
+        Some(last) if span.begins_by(last) => after_mark(index, last),
+        _ => found_from_low(index, span),
+    }
+}
+
+/// The first entry of the span, and where it stood.
+fn entry_in(index: &RootIndex, span: &IndexRange) -> Option<(Entry, PositionHint)>
+    ensures { IsLeast index.now.entries (LiesIn span.now) (option_map (λ found. found.0) result) }
+{
+    match entry_from(index, span) {
+        Some((entry, near)) if span.reaches(&entry) => Some((entry, near)),
+        _ => None,
+    }
+}
+
+/// The place of an entry in the order of its index.
+fn mark_of(entry: &Entry, near: PositionHint) -> IndexPosition
+    ensures value { result.value ≡ entry.now.value }
+    ensures key { result.key ≡ entry.now.key }
+{
+    IndexPosition {
+        value: entry.value,
+        key: entry.key,
+        tid: entry.tid,
+        near,
+    }
+}
+
+/// The first place of the span, in the order of this index, where the reader sees a row, and that row, where it stands.
+fn next_row_in<'a>(
+    pages: &'a Pages,
+    index: &RootIndex,
+    span: &IndexRange,
+    snapshot: &Snapshot,
+    own: &OwnIds,
+    table: &StatusTable,
+) -> Option<(IndexPosition, RowRef<'a>)>
+    ensures { NextRow table.now (IsVisible table.now snapshot.now own.now.ids)
+        (slots_in pages.now) index.now.entries span.now result }
+{
+    index.is_ascending();
+    let mut left = *span;
+    for _ in 0..index.len() {
+        match entry_in(index, &left) {
+            None => return None,
+            Some((entry, near)) => {
+                let mark = mark_of(&entry, near);
+                if let Some(row) = row_from(pages, index, entry, snapshot, own, table) {
+                    return Some((mark, row));
+                }
+                left.last = Some(mark);
+            }
+        }
+    }
+    None
+}

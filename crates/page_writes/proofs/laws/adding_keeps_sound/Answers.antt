@@ -1,5 +1,0 @@
-use Rattle.page_writes.proofs.Slotted.{root-added}
-use Rattle.page_writes.proofs.laws.adding_keeps_sound.Goals as goal
-
-pub returns : goal.returns
-returns c = root-added

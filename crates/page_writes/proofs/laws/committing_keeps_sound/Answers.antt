@@ -1,5 +1,0 @@
-use Rattle.page_writes.proofs.Statuses.{committing-sound}
-use Rattle.page_writes.proofs.laws.committing_keeps_sound.Goals as goal
-
-pub returns : goal.returns
-returns c = committing-sound

@@ -1,5 +1,0 @@
-use Rattle.page_writes.proofs.Statuses.{giving-sound}
-use Rattle.page_writes.proofs.laws.giving_keeps_sound.Goals as goal
-
-pub returns : goal.returns
-returns c = giving-sound

@@ -1,0 +1,267 @@
+-- The reply to each step is one that the history allows, and the engine agrees with the next world.
+use Rattle.std.proofs.Common.{◌≡◌, ℕ, ◌<◌, ◌≤◌, Option, Some, None, true, false, refl, sym, ap, ◌∙◌, subst, ◌⊎◌}
+use Rattle.std.specs.Prelude.{IsSome, Contains}
+use Rattle.xid_circle.specs.declared.Tid.{Tid}
+use Rattle.tuple_header.specs.declared.version.Row.{Row}
+use Rattle.tuple_header.specs.Version.{Version}
+use Rattle.commit_status.specs.declared.status.Status.{Status}
+use Rattle.commit_status.specs.declared.status.Status.TheVariants.{Committed, Aborted}
+use Rattle.snapshot.specs.Snap.{Snap}
+use Rattle.history.specs.World.{World, view}
+use Rattle.history.specs.Moves.{stepped}
+use Rattle.refinement.specs.declared.step.Step.TheVariants.{Begin, Get, Commit, Abort, Prune}
+use Rattle.refinement.specs.declared.reply.Reply.TheVariants.{Done, Found, RolledBack, Refused}
+use Rattle.refinement.specs.declared.reply.Reply.TheVariants as reply
+use Rattle.refinement.specs.declared.reply.Refusal.{Refusal}
+use Rattle.refinement.specs.declared.reply.Refusal.TheVariants.{NotOpen, AlreadyOpen, Failed, AlreadyThere, NotThere, Conflict, Busy, CursorOpen, NoCursor, TooDeep, NoSavepoint, TooLarge, NoRoom, NeedsFreeze, NoMemory, NoSuchPage, NoSuchIndex, NoSuchSession, BadBounds}
+use Rattle.refinement.specs.Allowed.{AllowsClosed, AllowsUnready, AllowsBarred, AllowsBare, Allows}
+use Rattle.refinement.specs.Heap.{SeenSession, Heap}
+use Rattle.refinement.specs.Visible.{IsFreshSnapshot, ReaderSees}
+use Rattle.refinement.specs.Changes.{FinishesIds, MayRemove, IsPast}
+use Rattle.refinement.specs.Agrees.{HeapAgrees, Shows}
+use Rattle.refinement.specs.Finds.{FindsOfKey, HeapFollows}
+use Rattle.refinement.proofs.Readers.{Levels-top}
+use Rattle.refinement.proofs.CursorsLemmas.{some_model}
+use Rattle.refinement.proofs.Itself.{new_session}
+use Rattle.refinement.proofs.Pruning.{Agrees-prune}
+use Rattle.refinement.proofs.Steps.{OnlyIs, SameSights, waits-put, Agrees-begin, Agrees-abort}
+use Rattle.refinement.proofs.Commit.{committed-is, Agrees-commit}
+
+-- a step that only passes
+pub Agrees-stepped : (h : Heap) (w : World) (s : ℕ) → HeapAgrees h w → HeapAgrees h (stepped w s)
+Agrees-stepped h w s agrees = record {
+  opened = agrees.opened;
+  idle = agrees.idle;
+  waits = waits-put w s agrees.waits;
+  current = agrees.current;
+  made = agrees.made;
+  given = agrees.given;
+  owned = agrees.owned;
+  apart = agrees.apart;
+  alone = agrees.alone;
+}
+
+-- why a session cannot be used: there is none of that number, or it is not open
+abbrev pub IsClosed : Heap → ℕ → Refusal → Type 0
+IsClosed h s NoSuchSession = 64 ≤ s
+IsClosed h s NotOpen = (s < 64) × (h.session s ≡ None)
+IsClosed h s refusal = ⊥
+
+-- or it has failed
+abbrev pub IsUnready : Heap → ℕ → Refusal → Type 0
+IsUnready h s Failed = (e : SeenSession) × (h.session s ≡ Some e) × (e.failed ≡ true)
+IsUnready h s refusal = IsClosed h s refusal
+
+-- or it has a cursor open
+abbrev pub IsBarred : Heap → ℕ → Refusal → Type 0
+IsBarred h s CursorOpen = (e : SeenSession) × (h.session s ≡ Some e) × (e.failed ≡ false) × IsSome e.cursor
+IsBarred h s refusal = IsUnready h s refusal
+
+-- why a step of a cursor cannot be tried: the session cannot be used, or has failed, or has no cursor open
+abbrev pub IsBare : Heap → ℕ → Refusal → Type 0
+IsBare h s NoCursor = (e : SeenSession) × (h.session s ≡ Some e) × (e.failed ≡ false) × (e.cursor ≡ None)
+IsBare h s refusal = IsUnready h s refusal
+
+-- what holds of each of the two, holds of why it is closed
+pub closed_cases : (h : Heap) (s : ℕ) (P : Refusal → Type 0) (r : Refusal) → IsClosed h s r → (IsClosed h s NoSuchSession → P NoSuchSession) → (IsClosed h s NotOpen → P NotOpen) → P r
+closed_cases h s P NoSuchSession is none idle = none is
+closed_cases h s P NotOpen is none idle = idle is
+closed_cases h s P AlreadyOpen is none idle = absurd is
+closed_cases h s P Failed is none idle = absurd is
+closed_cases h s P AlreadyThere is none idle = absurd is
+closed_cases h s P NotThere is none idle = absurd is
+closed_cases h s P Conflict is none idle = absurd is
+closed_cases h s P (Busy o) is none idle = absurd is
+closed_cases h s P CursorOpen is none idle = absurd is
+closed_cases h s P NoCursor is none idle = absurd is
+closed_cases h s P TooDeep is none idle = absurd is
+closed_cases h s P NoSavepoint is none idle = absurd is
+closed_cases h s P TooLarge is none idle = absurd is
+closed_cases h s P NoRoom is none idle = absurd is
+closed_cases h s P NeedsFreeze is none idle = absurd is
+closed_cases h s P NoMemory is none idle = absurd is
+closed_cases h s P NoSuchPage is none idle = absurd is
+closed_cases h s P NoSuchIndex is none idle = absurd is
+closed_cases h s P BadBounds is none idle = absurd is
+
+-- and of each of the three, of why it is not ready
+pub unready_cases : (h : Heap) (s : ℕ) (P : Refusal → Type 0) (r : Refusal) → IsUnready h s r → (IsClosed h s NoSuchSession → P NoSuchSession) → (IsClosed h s NotOpen → P NotOpen) → (IsUnready h s Failed → P Failed) → P r
+unready_cases h s P NoSuchSession is none idle failed = none is
+unready_cases h s P NotOpen is none idle failed = idle is
+unready_cases h s P AlreadyOpen is none idle failed = absurd is
+unready_cases h s P Failed is none idle failed = failed is
+unready_cases h s P AlreadyThere is none idle failed = absurd is
+unready_cases h s P NotThere is none idle failed = absurd is
+unready_cases h s P Conflict is none idle failed = absurd is
+unready_cases h s P (Busy o) is none idle failed = absurd is
+unready_cases h s P CursorOpen is none idle failed = absurd is
+unready_cases h s P NoCursor is none idle failed = absurd is
+unready_cases h s P TooDeep is none idle failed = absurd is
+unready_cases h s P NoSavepoint is none idle failed = absurd is
+unready_cases h s P TooLarge is none idle failed = absurd is
+unready_cases h s P NoRoom is none idle failed = absurd is
+unready_cases h s P NeedsFreeze is none idle failed = absurd is
+unready_cases h s P NoMemory is none idle failed = absurd is
+unready_cases h s P NoSuchPage is none idle failed = absurd is
+unready_cases h s P NoSuchIndex is none idle failed = absurd is
+unready_cases h s P BadBounds is none idle failed = absurd is
+
+-- what holds of each of these, and of an open cursor, holds of why the session may not write
+pub barred_cases : (h : Heap) (s : ℕ) (P : Refusal → Type 0) (r : Refusal) → IsBarred h s r → ((r : Refusal) → IsUnready h s r → P r) → (IsBarred h s CursorOpen → P CursorOpen) → P r
+barred_cases h s P NoSuchSession is unready cursor = unready NoSuchSession is
+barred_cases h s P NotOpen is unready cursor = unready NotOpen is
+barred_cases h s P AlreadyOpen is unready cursor = unready AlreadyOpen is
+barred_cases h s P Failed is unready cursor = unready Failed is
+barred_cases h s P AlreadyThere is unready cursor = unready AlreadyThere is
+barred_cases h s P NotThere is unready cursor = unready NotThere is
+barred_cases h s P Conflict is unready cursor = unready Conflict is
+barred_cases h s P (Busy o) is unready cursor = unready (Busy o) is
+barred_cases h s P CursorOpen is unready cursor = cursor is
+barred_cases h s P NoCursor is unready cursor = unready NoCursor is
+barred_cases h s P TooDeep is unready cursor = unready TooDeep is
+barred_cases h s P NoSavepoint is unready cursor = unready NoSavepoint is
+barred_cases h s P TooLarge is unready cursor = unready TooLarge is
+barred_cases h s P NoRoom is unready cursor = unready NoRoom is
+barred_cases h s P NeedsFreeze is unready cursor = unready NeedsFreeze is
+barred_cases h s P NoMemory is unready cursor = unready NoMemory is
+barred_cases h s P NoSuchPage is unready cursor = unready NoSuchPage is
+barred_cases h s P NoSuchIndex is unready cursor = unready NoSuchIndex is
+barred_cases h s P BadBounds is unready cursor = unready BadBounds is
+
+pub bare_cases : (h : Heap) (s : ℕ) (P : Refusal → Type 0) (r : Refusal) → IsBare h s r → ((r : Refusal) → IsUnready h s r → P r) → (IsBare h s NoCursor → P NoCursor) → P r
+bare_cases h s P NoSuchSession is unready cursor = unready NoSuchSession is
+bare_cases h s P NotOpen is unready cursor = unready NotOpen is
+bare_cases h s P AlreadyOpen is unready cursor = unready AlreadyOpen is
+bare_cases h s P Failed is unready cursor = unready Failed is
+bare_cases h s P AlreadyThere is unready cursor = unready AlreadyThere is
+bare_cases h s P NotThere is unready cursor = unready NotThere is
+bare_cases h s P Conflict is unready cursor = unready Conflict is
+bare_cases h s P (Busy o) is unready cursor = unready (Busy o) is
+bare_cases h s P CursorOpen is unready cursor = unready CursorOpen is
+bare_cases h s P NoCursor is unready cursor = cursor is
+bare_cases h s P TooDeep is unready cursor = unready TooDeep is
+bare_cases h s P NoSavepoint is unready cursor = unready NoSavepoint is
+bare_cases h s P TooLarge is unready cursor = unready TooLarge is
+bare_cases h s P NoRoom is unready cursor = unready NoRoom is
+bare_cases h s P NeedsFreeze is unready cursor = unready NeedsFreeze is
+bare_cases h s P NoMemory is unready cursor = unready NoMemory is
+bare_cases h s P NoSuchPage is unready cursor = unready NoSuchPage is
+bare_cases h s P NoSuchIndex is unready cursor = unready NoSuchIndex is
+bare_cases h s P BadBounds is unready cursor = unready BadBounds is
+
+pub allows_closed : (h : Heap) (w : World) (s : ℕ) (r : Refusal) → HeapAgrees h w → IsClosed h s r → AllowsClosed w s r
+allows_closed h w s r agrees is = closed_cases h s (λ r. AllowsClosed w s r) r is (λ none. none) (λ idle. (idle.0, agrees.idle s idle.1))
+
+pub allows_unready : (h : Heap) (w : World) (s : ℕ) (r : Refusal) → HeapAgrees h w → IsUnready h s r → AllowsUnready w s r
+allows_unready h w s r agrees is = unready_cases h s (λ r. AllowsUnready w s r) r is (λ none. none) (λ idle. (idle.0, agrees.idle s idle.1))
+    (λ failed. let open_ = agrees.opened s failed.0 failed.1 in (open_.0, open_.1, sym open_.2.same_failed ∙ failed.2))
+
+pub allows_barred : (h : Heap) (w : World) (s : ℕ) (r : Refusal) → HeapAgrees h w → IsBarred h s r → AllowsBarred w s r
+allows_barred h w s r agrees is = barred_cases h s (λ r. AllowsBarred w s r) r is (λ r unready.
+    unready_cases h s (λ r. AllowsBarred w s r) r unready (λ none. none) (λ idle. allows_unready h w s NotOpen agrees idle) (λ failed. allows_unready h w s Failed agrees failed))
+    (λ barred. let open_ = agrees.opened s barred.0 barred.1 in
+    (open_.0, record { there = open_.1; sound = sym open_.2.same_failed ∙ barred.2 }, some_model barred.3 open_.2.cursor))
+
+pub allows_bare : (h : Heap) (w : World) (s : ℕ) (r : Refusal) → HeapAgrees h w → IsBare h s r → AllowsBare w s r
+allows_bare h w s r agrees is = bare_cases h s (λ r. AllowsBare w s r) r is (λ r unready.
+    unready_cases h s (λ r. AllowsBare w s r) r unready (λ none. none) (λ idle. allows_unready h w s NotOpen agrees idle) (λ failed. allows_unready h w s Failed agrees failed))
+    (λ bare. let open_ = agrees.opened s bare.0 bare.1 in
+    (open_.0, record { there = open_.1; sound = sym open_.2.same_failed ∙ bare.2 }, open_.2.cursor.closed bare.3))
+
+-- Refusals before a step is tried.
+
+pub Follows-unready_get : (h : Heap) (s k : ℕ) (r : Refusal) → IsUnready h s r → HeapFollows h (Get s k) (Refused r) h
+Follows-unready_get h s k r is w agrees = (allows_unready h w s r agrees is, Agrees-stepped h w s agrees)
+
+pub Follows-closed_commit : (h : Heap) (s : ℕ) (r : Refusal) → IsClosed h s r → HeapFollows h (Commit s) (Refused r) h
+Follows-closed_commit h s r is w agrees = (allows_closed h w s r agrees is, Agrees-stepped h w s agrees)
+
+pub Follows-closed_abort : (h : Heap) (s : ℕ) (r : Refusal) → IsClosed h s r → HeapFollows h (Abort s) (Refused r) h
+Follows-closed_abort h s r is w agrees = (allows_closed h w s r agrees is, Agrees-stepped h w s agrees)
+
+pub Follows-begin_refused : (h : Heap) (s : ℕ) (r : Refusal) → ((w : World) → HeapAgrees h w → Allows w (Begin s) (Refused r)) → HeapFollows h (Begin s) (Refused r) h
+Follows-begin_refused h s r allows w agrees = (allows w agrees, Agrees-stepped h w s agrees)
+
+pub Follows-already_open : (h : Heap) (s : ℕ) (e : SeenSession) → h.session s ≡ Some e → HeapFollows h (Begin s) (Refused AlreadyOpen) h
+Follows-already_open h s e at w agrees = (let open_ = agrees.opened s e at in (open_.0, open_.1), Agrees-stepped h w s agrees)
+
+-- Begin.
+
+pub Follows-begin : (h : Heap) (s : ℕ) (snapshot : Snap) (session' : ℕ → Option SeenSession)
+    → OnlyIs h.session session' s (Some (new_session snapshot)) → s < 64 → h.session s ≡ None → ((w : World) → HeapAgrees h w → IsFreshSnapshot h.status (h.sees snapshot))
+    → HeapFollows h (Begin s) Done (record h { session = session' })
+Follows-begin h s snapshot session' only within idle fresh w agrees =
+    ((within, agrees.idle s idle), Agrees-begin h w s snapshot session' only idle (fresh w agrees) agrees)
+
+-- Get.
+
+pub reads_rows : (h : Heap) (w : World) (s : ℕ) (e : SeenSession) (at : h.session s ≡ Some e) (agrees : HeapAgrees h w) → let m = (agrees.opened s e at).0 in
+    Shows h.version (ReaderSees h.status (h.sees e.snapshot) e.own) (view w.history m)
+reads_rows h w s e at agrees = let open_ = agrees.opened s e at in (Levels-top e.own e.saved open_.0.levels open_.2.levels).rows
+
+found_is_row : (store : Tid → Option Version) (seen : Version → Type 0) (rows : ℕ → Option Row) (k : ℕ) (found : Option Row) → Shows store seen rows → FindsOfKey store seen k found → found ≡ rows k
+found_is_row store seen rows k None shows none = nothing (rows k) refl
+  where
+    nothing : (o : Option Row) → rows k ≡ o → None ≡ o
+    nothing None is = refl
+    nothing (Some r) is = (let some = shows.there k r is in absurd (none some.0 some.1 some.2 some.4 some.3))
+found_is_row store seen rows k (Some row) shows some =
+    ap Some some.4.1 ∙ (sym (shows.sound some.0 some.1 some.2 some.4.0) ∙ ap rows some.3)
+
+pub found_is_view : (h : Heap) (w : World) (s : ℕ) (e : SeenSession) (k : ℕ) (found : Option Row) (at : h.session s ≡ Some e) (agrees : HeapAgrees h w)
+    → FindsOfKey h.version (ReaderSees h.status (h.sees e.snapshot) e.own) k found → found ≡ view w.history (agrees.opened s e at).0 k
+found_is_view h w s e k found at agrees finds =
+    found_is_row h.version (ReaderSees h.status (h.sees e.snapshot) e.own) (view w.history (agrees.opened s e at).0) k found (reads_rows h w s e at agrees) finds
+
+pub Follows-get : (h : Heap) (s : ℕ) (e : SeenSession) (k : ℕ) (found : Option Row) → h.session s ≡ Some e → e.failed ≡ false
+    → FindsOfKey h.version (ReaderSees h.status (h.sees e.snapshot) e.own) k found → HeapFollows h (Get s k) (Found found) h
+Follows-get h s e k found at sound finds w agrees = let open_ = agrees.opened s e at in (
+  (open_.0, record { there = open_.1; sound = sym open_.2.same_failed ∙ sound }, found_is_view h w s e k found at agrees finds),
+  Agrees-stepped h w s agrees,
+)
+
+-- Commit and Abort.
+
+pub Follows-abort : (h : Heap) (s : ℕ) (e : SeenSession) (status' : ℕ → Option Status) (sees' : Snap → ℕ → Type 0) (session' : ℕ → Option SeenSession)
+    → OnlyIs h.session session' s None → h.session s ≡ Some e → ((w : World) → HeapAgrees h w → FinishesIds h.status status' (λ x. Contains e.own x) Aborted) → SameSights h sees'
+    → HeapFollows h (Abort s) RolledBack (record h { status = status'; sees = sees'; session = session' })
+Follows-abort h s e status' sees' session' only at finishes same w agrees = let open_ = agrees.opened s e at in
+    ((open_.0, open_.1), Agrees-abort h w s e status' sees' session' only at (finishes w agrees) same agrees)
+
+pub Follows-commit_failed : (h : Heap) (s : ℕ) (e : SeenSession) (status' : ℕ → Option Status) (sees' : Snap → ℕ → Type 0) (session' : ℕ → Option SeenSession)
+    → OnlyIs h.session session' s None → h.session s ≡ Some e → e.failed ≡ true → ((w : World) → HeapAgrees h w → FinishesIds h.status status' (λ x. Contains e.own x) Aborted) → SameSights h sees'
+    → HeapFollows h (Commit s) RolledBack (record h { status = status'; sees = sees'; session = session' })
+Follows-commit_failed h s e status' sees' session' only at failed finishes same w agrees = let open_ = agrees.opened s e at in
+    ((open_.0, open_.1, sym open_.2.same_failed ∙ failed), Agrees-abort h w s e status' sees' session' only at (finishes w agrees) same agrees)
+
+pub Follows-commit : (h : Heap) (s : ℕ) (e : SeenSession) (status' : ℕ → Option Status) (sees' : Snap → ℕ → Type 0) (session' : ℕ → Option SeenSession)
+    → OnlyIs h.session session' s None → h.session s ≡ Some e → e.failed ≡ false → ((w : World) → HeapAgrees h w → FinishesIds h.status status' (λ x. Contains e.own x) Committed) → SameSights h sees' → ((x : ℕ) → h.sees e.snapshot x ⊎ (¬ h.sees e.snapshot x))
+    → HeapFollows h (Commit s) reply.Committed (record h { status = status'; sees = sees'; session = session' })
+Follows-commit h s e status' sees' session' only at sound finishes same decided w agrees = let open_ = agrees.opened s e at in (
+  (open_.0, record { there = open_.1; sound = sym open_.2.same_failed ∙ sound }),
+  subst (λ w'. HeapAgrees (record h { status = status'; sees = sees'; session = session' }) w') (sym (committed-is w s open_.0 open_.1))
+      (Agrees-commit h w s e open_.0 status' sees' session' only at open_.1 (finishes w agrees) same decided open_.2 agrees),
+)
+
+-- Cleaning.
+
+pub Follows-prune : (h : Heap) (p : ℕ) (store' : Tid → Option Version) → MayRemove h.version store' (IsPast h.status h.sees h.session)
+    → HeapFollows h (Prune p) Done (record h { version = store' })
+Follows-prune h p store' removes w agrees = (tt, Agrees-prune h w store' removes agrees)
+
+pub Follows-unpruned : (h : Heap) (p : ℕ) (r : Refusal) → ((w : World) → Allows w (Prune p) (Refused r)) → HeapFollows h (Prune p) (Refused r) h
+Follows-unpruned h p r allows w agrees = (allows w, agrees)
+
+-- the same sessions are seen, session by session
+pub Agrees-sessions : (h : Heap) (w : World) (session' : ℕ → Option SeenSession) → ((s : ℕ) → session' s ≡ h.session s) → HeapAgrees h w → HeapAgrees (record h { session = session' }) w
+Agrees-sessions h w session' same agrees = record {
+  opened = λ s e at. agrees.opened s e (sym (same s) ∙ at);
+  idle = λ s at. agrees.idle s (sym (same s) ∙ at);
+  waits = agrees.waits;
+  current = agrees.current;
+  made = agrees.made;
+  given = agrees.given;
+  owned = λ x active. let by = agrees.owned x active in (by.0, by.1, same by.0 ∙ by.2, by.3);
+  apart = λ s o e f x at bt. agrees.apart s o e f x (sym (same s) ∙ at) (sym (same o) ∙ bt);
+  alone = agrees.alone;
+}

@@ -1,0 +1,223 @@
+-- A session opens a cursor, is handed rows by it, and closes it: the reply is one that the history allows, and the engine
+-- agrees with the next world.
+use Rattle.std.proofs.Common.{◌≡◌, ℕ, ◌+◌, ◌<◌, ◌≤◌, max, List, length, Option, Some, None, true, false, refl, sym, ap, ◌∙◌, subst, arith}
+use Rattle.std.specs.Prelude.{IsSome, ℤ, ◌<ℤ◌, ◌≤ℤ◌, Vec}
+use Rattle.std.specs.declared.alloc.Global.{Global}
+use Rattle.std.specs.Option.{option_map}
+use Rattle.std.proofs.lemmas.Option.{same_Some, none-some}
+use Rattle.xid_circle.specs.declared.Tid.{Tid}
+use Rattle.tuple_header.specs.declared.version.Row.{Row}
+use Rattle.tuple_header.specs.Version.{Version}
+use Rattle.commit_status.specs.declared.status.Status.{Status}
+use Rattle.history.specs.History.{Transaction}
+use Rattle.history.specs.World.{World, OpenSession, Cursor, by_index, by_heap, view, IsReady}
+use Rattle.history.specs.Cursors.{rows_within, keys_of}
+use Rattle.history.specs.Moves.{change, past, with_taken}
+use Rattle.refinement.specs.declared.step.Step.{Step}
+use Rattle.refinement.specs.declared.step.Step.TheVariants.{OpenIndex, OpenHeap, Next, Close}
+use Rattle.refinement.specs.declared.reply.Reply.{Reply}
+use Rattle.refinement.specs.declared.reply.Reply.TheVariants.{Done, Rows, End, Refused}
+use Rattle.refinement.specs.declared.reply.Refusal.{Refusal}
+use Rattle.refinement.specs.declared.reply.Refusal.TheVariants.{NotOpen, Failed, CursorOpen, NoCursor, NoMemory, NoSuchIndex, BadBounds}
+use Rattle.refinement.specs.Allowed.{Allows, next}
+use Rattle.refinement.specs.Heap.{RowPosition, Position, in_index, in_heap, SeenSession, Heap}
+use Rattle.refinement.specs.Visible.{ReaderSees, At}
+use Rattle.refinement.specs.Cursors.{Comes, Remains, CursorAgrees, WalksOver, Stands, Gathers}
+use Rattle.refinement.specs.Agrees.{Shows, SessionAgrees, HeapAgrees}
+use Rattle.refinement.specs.Finds.{HeapFollows}
+use Rattle.refinement.proofs.Statuses.{Finishes-none}
+use Rattle.refinement.proofs.CursorsLemmas.{CursorAgrees-none, CursorAgrees-some, some_model}
+use Rattle.refinement.proofs.Rests.{within_is, within_kept, none_left}
+use Rattle.refinement.proofs.Handing.{next_met, rest_met, SeenOnce, part_gathered, rest_gathered}
+use Rattle.refinement.proofs.Readers.{Levels-top}
+use Rattle.refinement.proofs.Steps.{OnlyIs, same_sights}
+use Rattle.refinement.proofs.Savepoints.{Agrees-change}
+use Rattle.refinement.proofs.Follows.{IsBarred, IsBare, unready_cases, barred_cases, bare_cases, allows_unready, allows_barred, allows_bare, Agrees-stepped}
+use Rattle.refinement.proofs.Hindrances.{writer}
+
+-- the versions that a session sees
+abbrev pub seen_by : Heap → SeenSession → Version → Type 0
+seen_by h e = ReaderSees h.status (h.sees e.snapshot) e.own
+
+-- the session has not failed
+ready : (h : Heap) (w : World) (s : ℕ) (e : SeenSession) (at : h.session s ≡ Some e) (agrees : HeapAgrees h w) → e.failed ≡ false → IsReady w s (agrees.opened s e at).0
+ready h w s e at agrees sound = let open_ = agrees.opened s e at in record { there = open_.1; sound = sym open_.2.same_failed ∙ sound }
+
+-- the cursor alone changes, on both sides
+SessionAgrees-cursor : {status : ℕ → Option Status} {store : Tid → Option Version} {history : List Transaction} {sees : ℕ → Type 0} {e : SeenSession} {m : OpenSession} (position : Option Position) (c : Option Cursor)
+    → CursorAgrees store (ReaderSees status sees e.own) position c
+    → SessionAgrees status store history sees m.start sees e m → SessionAgrees status store history sees m.start sees (record e { cursor = position }) (record m { cursor = c })
+SessionAgrees-cursor {status} {store} {history} {sees} {e} {m} position c now mine = record {
+  same_failed = mine.same_failed;
+  cursor = now;
+  levels = mine.levels;
+  level_traces = mine.level_traces;
+  traces = mine.traces;
+  began = mine.began;
+  in_time = mine.in_time;
+  active_unseen = mine.active_unseen;
+  own_active = mine.own_active;
+}
+
+Agrees-cursor : (h : Heap) (w : World) (s : ℕ) (e : SeenSession) (position : Option Position) (f : OpenSession → Option Cursor) (session' : ℕ → Option SeenSession)
+    → OnlyIs h.session session' s (Some (record e { cursor = position })) → h.session s ≡ Some e
+    → ((m : OpenSession) → SessionAgrees h.status h.version w.history (h.sees e.snapshot) m.start (h.sees e.snapshot) e m → CursorAgrees h.version (seen_by h e) position (f m))
+    → HeapAgrees h w → HeapAgrees (record h { session = session' }) (change w s (λ m. record m { cursor = f m }))
+Agrees-cursor h w s e position f session' only at now agrees =
+    Agrees-change h w s e (record e { cursor = position }) (λ m. record m { cursor = f m }) h.status h.sees session' only at (Finishes-none h.status e.own) (same_sights h) (λ m mine x ours. ours)
+    (λ m k wrote. wrote) (λ m mine. SessionAgrees-cursor position (f m) (now m mine) mine) agrees
+
+-- Opening.
+
+-- each row of the view comes from a version that is seen
+shown : {store : Tid → Option Version} {seen : Version → Type 0} {rows : ℕ → Option Row} (k : ℕ) (row : Row) → Shows store seen rows → rows k ≡ Some row
+    → (p : Tid) × (v : Version) × At store p v × seen v × (v.row ≡ row) × (row.key ≡ k)
+shown {store} {seen} {rows} k row shows is =
+    let some = shows.there k row is in
+    let same : some.1.row ≡ row = same_Some some.1.row row (sym (shows.sound some.0 some.1 some.2 some.4) ∙ (ap rows some.3 ∙ is)) in
+    (some.0, some.1, some.2, some.4, same, ap (λ (r : Row). r.key) (sym same) ∙ some.3)
+
+-- and each version that is seen shows one
+shows_row : {store : Tid → Option Version} {seen : Version → Type 0} {rows : ℕ → Option Row} {position : Position} (row : Row) → Shows store seen rows → Comes store seen position row → rows row.key ≡ Some row
+shows_row {store} {seen} {rows} row shows c = subst (λ (r : Row). rows r.key ≡ Some r) c.same_row (shows.sound c.place c.version c.here c.shown)
+
+remains_index : {store : Tid → Option Version} {seen : Version → Type 0} {rows : ℕ → Option Row} (index : ℕ) (low high : ℤ) → Shows store seen rows
+    → Remains store seen (in_index index low high None) (record { order = by_index index; rest = rows_within index low high rows })
+remains_index {store} {seen} {rows} index low high shows = record {
+  order = refl;
+  sound = λ row c. within_kept index low high rows row.key row (shows_row row shows c) c.to_come.from c.to_come.to;
+  there = λ k row is. let within = within_is index low high rows k row is in let some = shown k row shows within.0 in
+      (record { place = some.0; version = some.1; here = some.2; shown = some.3; same_row = some.4; to_come = record { from = within.1; to = within.2; after = tt } }, some.5);
+}
+
+remains_heap : {store : Tid → Option Version} {seen : Version → Type 0} {rows : ℕ → Option Row} → Shows store seen rows → Remains store seen (in_heap 0) (record { order = by_heap; rest = rows })
+remains_heap {store} {seen} {rows} shows = record {
+  order = refl;
+  sound = λ row c. shows_row row shows c;
+  there = λ k row is. let some = shown k row shows is in (record { place = some.0; version = some.1; here = some.2; shown = some.3; same_row = some.4; to_come = omega arith }, some.5);
+}
+
+-- as `HeapFollows` has it, of the worlds of P
+abbrev pub FollowsWhere : (World → Type 0) → Heap → Step → Reply → Heap → Type 0
+FollowsWhere P old step reply new = (w : World) → P w → HeapAgrees old w → Allows w step reply × HeapAgrees new (next w step reply)
+
+pub Follows-open_index : (h : Heap) (s : ℕ) (e : SeenSession) (index : ℕ) (low high : ℤ) (session' : ℕ → Option SeenSession) → OnlyIs h.session session' s (Some (record e { cursor = Some (in_index index low high None) }))
+    → h.session s ≡ Some e → e.failed ≡ false → e.cursor ≡ None → low ≤ℤ high → FollowsWhere (λ w. w.has_index index ≡ true) h (OpenIndex s index low high) Done (record h { session = session' })
+Follows-open_index h s e index low high session' only at sound bare order w there agrees = (
+  ((agrees.opened s e at).0, writer h w s e at agrees sound bare, there, order),
+  Agrees-cursor h w s e (Some (in_index index low high None)) (λ m. Some (record { order = by_index index; rest = rows_within index low high (view w.history m) })) session' only at
+      (λ m mine. CursorAgrees-some (remains_index index low high (Levels-top e.own e.saved m.levels mine.levels).rows)) agrees,
+)
+
+pub Follows-open_heap : (h : Heap) (s : ℕ) (e : SeenSession) (session' : ℕ → Option SeenSession) → OnlyIs h.session session' s (Some (record e { cursor = Some (in_heap 0) }))
+    → h.session s ≡ Some e → e.failed ≡ false → e.cursor ≡ None → HeapFollows h (OpenHeap s) Done (record h { session = session' })
+Follows-open_heap h s e session' only at sound bare w agrees = (
+  ((agrees.opened s e at).0, writer h w s e at agrees sound bare),
+  Agrees-cursor h w s e (Some (in_heap 0)) (λ m. Some (record { order = by_heap; rest = view w.history m })) session' only at
+      (λ m mine. CursorAgrees-some (remains_heap (Levels-top e.own e.saved m.levels mine.levels).rows)) agrees,
+)
+
+pub Follows-no_such_index : (h : Heap) (s : ℕ) (e : SeenSession) (index : ℕ) (low high : ℤ) → h.session s ≡ Some e → e.failed ≡ false → e.cursor ≡ None
+    → FollowsWhere (λ w. w.has_index index ≡ false) h (OpenIndex s index low high) (Refused NoSuchIndex) h
+Follows-no_such_index h s e index low high at sound bare w none agrees = (((agrees.opened s e at).0, writer h w s e at agrees sound bare, none), Agrees-stepped h w s agrees)
+
+pub Follows-bad_bounds : (h : Heap) (s : ℕ) (e : SeenSession) (index : ℕ) (low high : ℤ) → h.session s ≡ Some e → e.failed ≡ false → e.cursor ≡ None → high <ℤ low
+    → FollowsWhere (λ w. w.has_index index ≡ true) h (OpenIndex s index low high) (Refused BadBounds) h
+Follows-bad_bounds h s e index low high at sound bare order w there agrees = (((agrees.opened s e at).0, writer h w s e at agrees sound bare, there, order), Agrees-stepped h w s agrees)
+
+pub Follows-barred_open_index : (h : Heap) (s index : ℕ) (low high : ℤ) (r : Refusal) → IsBarred h s r → HeapFollows h (OpenIndex s index low high) (Refused r) h
+Follows-barred_open_index h s index low high r is w agrees = (
+  barred_cases h s (λ r. Allows w (OpenIndex s index low high) (Refused r)) r is
+      (λ r unready. unready_cases h s (λ r. Allows w (OpenIndex s index low high) (Refused r)) r unready (λ none. none) (λ idle. allows_unready h w s NotOpen agrees idle) (λ failed. allows_unready h w s Failed agrees failed))
+      (λ barred. allows_barred h w s CursorOpen agrees barred),
+  Agrees-stepped h w s agrees,
+)
+
+pub Follows-barred_open_heap : (h : Heap) (s : ℕ) (r : Refusal) → IsBarred h s r → HeapFollows h (OpenHeap s) (Refused r) h
+Follows-barred_open_heap h s r is w agrees = (
+  barred_cases h s (λ r. Allows w (OpenHeap s) (Refused r)) r is
+      (λ r unready. unready_cases h s (λ r. Allows w (OpenHeap s) (Refused r)) r unready (λ none. none) (λ idle. allows_unready h w s NotOpen agrees idle) (λ failed. allows_unready h w s Failed agrees failed))
+      (λ barred. allows_barred h w s CursorOpen agrees barred),
+  Agrees-stepped h w s agrees,
+)
+
+-- Next.
+
+-- the model's cursor, of a session whose cursor is at this position
+model_at : (h : Heap) (w : World) (s : ℕ) (e : SeenSession) (position : Position) (at : h.session s ≡ Some e) (agrees : HeapAgrees h w) → e.cursor ≡ Some position
+    → (c : Cursor) × ((agrees.opened s e at).0.cursor ≡ Some c) × Remains h.version (seen_by h e) position c
+model_at h w s e position at agrees is = (agrees.opened s e at).2.cursor.opened position is
+
+-- of each key it sees one version
+seen_once : (h : Heap) (w : World) (s : ℕ) (e : SeenSession) → h.session s ≡ Some e → HeapAgrees h w → SeenOnce h.version (seen_by h e)
+seen_once h w s e at agrees = let open_ = agrees.opened s e at in (Levels-top e.own e.saved open_.0.levels open_.2.levels).rows.one
+
+-- these rows are handed out, and those that come at the new position are left
+Agrees-taken : (h : Heap) (w : World) (s : ℕ) (e : SeenSession) (position position' : Position) (rows : List Row) (session' : ℕ → Option SeenSession)
+    → OnlyIs h.session session' s (Some (record e { cursor = Some position' })) → h.session s ≡ Some e → e.cursor ≡ Some position
+    → ((c : Cursor) → Remains h.version (seen_by h e) position c → Remains h.version (seen_by h e) position' (past (keys_of rows) c))
+    → HeapAgrees h w → HeapAgrees (record h { session = session' }) (change w s (with_taken (keys_of rows)))
+Agrees-taken h w s e position position' rows session' only at is left agrees =
+    Agrees-cursor h w s e (Some position') (λ m. option_map (past (keys_of rows)) m.cursor) session' only at
+    (λ m mine. let model = mine.cursor.opened position is in
+    subst (λ o. CursorAgrees h.version (seen_by h e) (Some position') (option_map (past (keys_of rows)) o)) (sym model.1) (CursorAgrees-some (left model.0 model.2))) agrees
+
+-- the rows that a walk in the index meets, the first that come: as many as were asked for, or all
+pub Follows-next_in_index : (h : Heap) (s : ℕ) (e : SeenSession) (index : ℕ) (low high : ℤ) (from to : Option RowPosition) (n : ℕ) (rows : Vec Row Global) (session' : ℕ → Option SeenSession)
+    → OnlyIs h.session session' s (Some (record e { cursor = Some (in_index index low high to) })) → h.session s ≡ Some e → e.failed ≡ false → e.cursor ≡ Some (in_index index low high from)
+    → WalksOver h.version (seen_by h e) index low high from to rows.items → 0 < length rows.items → length rows.items ≤ max 1 n
+    → (length rows.items < max 1 n → (row : Row) → ¬ Comes h.version (seen_by h e) (in_index index low high to) row)
+    → HeapFollows h (Next s n) (Rows rows) (record h { session = session' })
+Follows-next_in_index h s e index low high from to n rows session' only at sound is meets some at_most none w agrees =
+    let model = model_at h w s e (in_index index low high from) at agrees is in (
+      ((agrees.opened s e at).0, model.0, ready h w s e at agrees sound, model.1, next_met model.2 meets n some at_most none),
+      Agrees-taken h w s e (in_index index low high from) (in_index index low high to) rows.items session' only at is (λ c remains. rest_met remains meets) agrees,
+    )
+
+-- the rows that a walk over a page meets, where no page between has any
+pub Follows-next_in_heap : (h : Heap) (s : ℕ) (e : SeenSession) (from page end n : ℕ) (rows : Vec Row Global) (session' : ℕ → Option SeenSession)
+    → OnlyIs h.session session' s (Some (record e { cursor = Some (in_heap (page + 1)) })) → h.session s ≡ Some e → e.failed ≡ false → e.cursor ≡ Some (in_heap from)
+    → from ≤ page → ((p slot : ℕ) (row : Row) → from ≤ p → p < page → ¬ Stands h.version (seen_by h e) p slot row)
+    → Gathers h.version (seen_by h e) page end rows.items → ((slot : ℕ) (row : Row) → Stands h.version (seen_by h e) page slot row → slot < end) → 0 < length rows.items
+    → HeapFollows h (Next s n) (Rows rows) (record h { session = session' })
+Follows-next_in_heap h s e from page end n rows session' only at sound is onward bare gathers whole some w agrees =
+    let model = model_at h w s e (in_heap from) at agrees is in let one = seen_once h w s e at agrees in (
+      ((agrees.opened s e at).0, model.0, ready h w s e at agrees sound, model.1, part_gathered model.2 gathers one onward n some),
+      Agrees-taken h w s e (in_heap from) (in_heap (page + 1)) rows.items session' only at is (λ c remains. rest_gathered remains gathers one onward whole bare) agrees,
+    )
+
+-- nothing is still to come
+pub Follows-end : (h : Heap) (s : ℕ) (e : SeenSession) (position : Position) (n : ℕ) → h.session s ≡ Some e → e.failed ≡ false → e.cursor ≡ Some position
+    → ((row : Row) → ¬ Comes h.version (seen_by h e) position row) → HeapFollows h (Next s n) End h
+Follows-end h s e position n at sound is none w agrees = let model = model_at h w s e position at agrees is in (
+  ((agrees.opened s e at).0, model.0, ready h w s e at agrees sound, model.1, none_left model.0.rest (λ k row left. none row (model.2.there k row left).0)),
+  Agrees-stepped h w s agrees,
+)
+
+-- a row is still to come
+pub Follows-next_no_memory : (h : Heap) (s : ℕ) (e : SeenSession) (position : Position) (n : ℕ) (row : Row) → h.session s ≡ Some e → e.failed ≡ false → e.cursor ≡ Some position
+    → Comes h.version (seen_by h e) position row → HeapFollows h (Next s n) (Refused NoMemory) h
+Follows-next_no_memory h s e position n row at sound is comes w agrees = let model = model_at h w s e position at agrees is in (
+  ((agrees.opened s e at).0, model.0, ready h w s e at agrees sound, model.1, λ over. absurd (let none = sym (over row.key) ∙ model.2.sound row comes in none-some row none)),
+  Agrees-stepped h w s agrees,
+)
+
+pub Follows-bare_next : (h : Heap) (s n : ℕ) (r : Refusal) → IsBare h s r → HeapFollows h (Next s n) (Refused r) h
+Follows-bare_next h s n r is w agrees = (
+  bare_cases h s (λ r. Allows w (Next s n) (Refused r)) r is
+      (λ r unready. unready_cases h s (λ r. Allows w (Next s n) (Refused r)) r unready (λ none. none) (λ idle. allows_unready h w s NotOpen agrees idle) (λ failed. allows_unready h w s Failed agrees failed))
+      (λ bare. allows_bare h w s NoCursor agrees bare),
+  Agrees-stepped h w s agrees,
+)
+
+-- Close.
+
+pub Follows-close : (h : Heap) (s : ℕ) (e : SeenSession) (session' : ℕ → Option SeenSession) → OnlyIs h.session session' s (Some (record e { cursor = None }))
+    → h.session s ≡ Some e → e.failed ≡ false → IsSome e.cursor → HeapFollows h (Close s) Done (record h { session = session' })
+Follows-close h s e session' only at sound some w agrees = let open_ = agrees.opened s e at in (
+  (open_.0, ready h w s e at agrees sound, some_model some open_.2.cursor),
+  Agrees-cursor h w s e None (λ m. None) session' only at (λ m mine. CursorAgrees-none refl refl) agrees,
+)
+
+pub Follows-bare_close : (h : Heap) (s : ℕ) (r : Refusal) → IsBare h s r → HeapFollows h (Close s) (Refused r) h
+Follows-bare_close h s r is w agrees = (allows_bare h w s r agrees is, Agrees-stepped h w s agrees)

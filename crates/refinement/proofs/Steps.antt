@@ -1,0 +1,305 @@
+-- Each step keeps the engine's agreement with the model.
+use Rattle.std.proofs.Common.{◌≡◌, ◌≢◌, ℕ, List, [], ◌∷◌, ◌++◌, Option, Some, None, Bool, true, cond, nat_eq, refl, sym, ap, ◌∙◌, subst, ◌⊎◌, inl, inr}
+use Rattle.std.specs.Prelude.{IsSome, Contains}
+use Rattle.std.proofs.lemmas.Bool.{cases_eq}
+use Rattle.std.proofs.lemmas.Option.{same_Some, none-some}
+use Rattle.std.proofs.lemmas.List.Elements.{Contains-push_cases, Contains-append_left, Contains-append_right, Contains-append_cases, Contains-push}
+use Rattle.xid_circle.specs.declared.Tid.{Tid}
+use Rattle.xid_circle.proofs.Members.{Contains-none}
+use Rattle.tuple_header.specs.Version.{Version}
+use Rattle.commit_status.specs.declared.status.Status.{Status}
+use Rattle.commit_status.specs.declared.status.Status.TheVariants.{InProgress, Committed, Aborted}
+use Rattle.snapshot.specs.Snap.{Snap}
+use Rattle.history.specs.History.{Write, Transaction, written, reading, IsLate}
+use Rattle.history.specs.World.{World, OpenSession, joined, own_write, Holds, beginning}
+use Rattle.history.specs.Moves.{put, stepped, begun, with_row, as_failed, aborted}
+use Rattle.history.specs.Cursors.{kept_where}
+use Rattle.std.specs.Prelude.{not, ◌==◌}
+use Rattle.history.proofs.HistoryLemmas.{at_same, at_other, joined-add_write}
+use Rattle.refinement.specs.Heap.{SeenSession, Heap}
+use Rattle.visibility.specs.Seeing.{HasCommitted, IsRunning, Touches, deleter}
+use Rattle.refinement.specs.Visible.{IsFreshSnapshot}
+use Rattle.refinement.specs.Changes.{AddsVersion, GivesNext, FinishesIds, SameSight, with_id}
+use Rattle.refinement.specs.Agrees.{Traced, LevelTraces, SessionAgrees, HeapAgrees}
+use Rattle.refinement.proofs.ShowsLemmas.{Shows-same, Shows-add_unseen}
+use Rattle.refinement.proofs.Statuses.{keeps-give, none_given, some_of, IsCommitted-give, IsActive-give_cases, IsCommitted-finish_old, IsCommitted-abort, IsActive-finish, given-finish, given-give, Finishes-none}
+use Rattle.visibility.proofs.Verdicts.{VisibleBy-same}
+use Rattle.refinement.proofs.Versions.{Adds-cases, active_not_committed}
+use Rattle.refinement.proofs.Readers.{IsNew, touches_new, wrote_before}
+use Rattle.refinement.proofs.LevelTraces.{Traced-join, Nested, nested_of}
+use Rattle.refinement.proofs.Others.{SessionAgrees-add_other, SessionAgrees-give_other, SessionAgrees-abort_other}
+use Rattle.refinement.proofs.Itself.{IsCurrent, new_session, fresh_model, SessionAgrees-begin, SessionAgrees-fail, SessionAgrees-insert, SessionAgrees-give}
+use Rattle.refinement.proofs.SessionsLemmas.{at_value, Matches, opened-change, idle-change, owned-change, apart-change, alone-change}
+
+-- one session alone changed, and is this now
+pub record OnlyIs (before after : ℕ → Option SeenSession) (s : ℕ) (now : Option SeenSession) : Type 0 where
+  pub others : (o : ℕ) → o ≢ s → after o ≡ before o
+  pub itself : after s ≡ now
+
+-- the sight of the open snapshots is as it was
+abbrev pub SameSights : Heap → (Snap → ℕ → Type 0) → Type 0
+SameSights h sees' = (o : ℕ) (e : SeenSession) → h.session o ≡ Some e → SameSight h.status (h.sees e.snapshot) (sees' e.snapshot)
+
+pub waits-put : (w : World) (s : ℕ) → ((t : ℕ) → w.waits_for t ≡ None) → (t : ℕ) → (stepped w s).waits_for t ≡ None
+waits-put w s none t = elim (cases_eq t s) [
+  | inl same ↦ ap (λ t. cond (nat_eq t s) None (w.waits_for t)) same ∙ at_same s None (w.waits_for s)
+  | inr ne ↦ at_other t s None (w.waits_for t) ne ∙ none t
+]
+
+pub waits-aborted : (w : World) (s : ℕ) → ((t : ℕ) → w.waits_for t ≡ None) → (t : ℕ) → (aborted w s).waits_for t ≡ None
+waits-aborted w s none t = ap (λ o. kept_where (λ p. not (p == s)) o) (waits-put w s none t)
+
+pub cases_Contains : (xs : List ℕ) (x : ℕ) → Contains xs x ⊎ (¬ Contains xs x)
+cases_Contains [] x = inr (Contains-none x)
+cases_Contains (y ∷ ys) x = elim (cases_eq y x) [
+  | inl same ↦ inl (Contains-append_left (y ∷ []) ys x (subst (λ z. Contains (y ∷ []) z) same (Contains-push [] y)))
+  | inr ne ↦ elim (cases_Contains ys x) [
+    | inl there ↦ inl (Contains-append_right (y ∷ []) ys x there)
+    | inr absent ↦ inr (λ among. elim (Contains-append_cases (y ∷ []) ys x among) [
+      | inl here ↦ elim (Contains-push_cases [] y x here) [ inl none ↦ Contains-none x none | inr same ↦ ne same ]
+      | inr there ↦ absent there
+    ])
+  ]
+]
+
+-- what a session has written is what its ids made and deleted
+levels_traced : (store : Tid → Option Version) (own : List ℕ) (saved : List (List ℕ)) (levels : List (List Write)) → Nested own saved → LevelTraces store own saved levels → Traced store (λ x. Contains own x) (joined levels)
+levels_traced store own [] [] nested h = absurd h
+levels_traced store own [] (ws ∷ []) nested h = h
+levels_traced store own [] (ws ∷ (vs ∷ levels)) nested h = absurd h
+levels_traced store own (before ∷ saved) [] nested h = absurd h
+levels_traced store own (before ∷ saved) (ws ∷ levels) nested h =
+    Traced-join ws (joined levels) (λ x mine. elim (cases_Contains before x) [ inl old ↦ inr old | inr new ↦ inl (mine, new) ]) (λ x new. new.0) (λ x old. nested.0 x old)
+    h.0 (levels_traced store before saved levels nested.1 h.1)
+
+pub own_traced : {status : ℕ → Option Status} {store : Tid → Option Version} {history : List Transaction} {sees : ℕ → Type 0} {e : SeenSession} {m : OpenSession}
+    → SessionAgrees status store history sees m.start sees e m → Traced store (λ x. Contains e.own x) (joined m.levels)
+own_traced {status} {store} {history} {sees} {e} {m} h =
+    levels_traced store e.own e.saved m.levels (nested_of status store history sees m.start e.own e.saved m.levels h.levels) h.level_traces
+
+-- a session begins
+pub Agrees-begin : (h : Heap) (w : World) (s : ℕ) (snapshot : Snap) (session' : ℕ → Option SeenSession)
+    → OnlyIs h.session session' s (Some (new_session snapshot)) → h.session s ≡ None → IsFreshSnapshot h.status (h.sees snapshot)
+    → HeapAgrees h w → HeapAgrees (record h { session = session' }) (begun w s)
+Agrees-begin h w s snapshot session' only idle fresh agrees = record {
+  opened = opened-change h h' w w' s agrees only.others models (λ o e m ne at there old. old)
+      (λ e. at_value (λ e. Matches h' w' s e) (session' s) (new_session snapshot) e only.itself
+      (fresh_model w, at_same s (Some (fresh_model w)) (w.session s), SessionAgrees-begin snapshot w fresh agrees.current agrees.made));
+  idle = idle-change h h' w w' s agrees only.others models (λ at. absurd (none-some (new_session snapshot) (sym at ∙ only.itself)));
+  waits = waits-put w s agrees.waits;
+  current = agrees.current;
+  made = agrees.made;
+  given = agrees.given;
+  owned = owned-change h h' w w' s agrees only.others models (λ x active. inl (active, λ e at. absurd (none-some e (sym idle ∙ at))));
+  apart = apart-change h h' w w' s agrees only.others models (λ o x e f ne at bt own own'. let is : e ≡ new_session snapshot = same_Some e (new_session snapshot) (sym at ∙ only.itself) in Contains-none x (subst (λ (e : SeenSession). Contains e.own x) is own));
+  alone = alone-change h h' w w' s agrees only.others models (λ o k ne p q. let is : p.0 ≡ fresh_model w = same_Some p.0 (fresh_model w) (sym p.1 ∙ at_same s (Some (fresh_model w)) (w.session s)) in
+      (let wrote : IsSome (own_write (fresh_model w) k) = subst (λ m. IsSome (own_write m k)) is p.2 in cc));
+}
+  where
+    h' : Heap
+    h' = record h { session = session' }
+
+    w' : World
+    w' = begun w s
+
+    models : (o : ℕ) → o ≢ s → w'.session o ≡ w.session o
+    models o ne = at_other o s (Some (fresh_model w)) (w.session o) ne
+
+-- one session alone changes: some of its ids may be rolled back, and it keeps only keys that it had
+pub Agrees-put : (h : Heap) (w : World) (s : ℕ) (e e' : SeenSession) (m m' : OpenSession) (status' : ℕ → Option Status) (sees' : Snap → ℕ → Type 0) (session' : ℕ → Option SeenSession)
+    → OnlyIs h.session session' s (Some e') → h.session s ≡ Some e → w.session s ≡ Some m
+    → FinishesIds h.status status' (λ x. Contains e.own x × (¬ Contains e'.own x)) Aborted → SameSights h sees'
+    → ((x : ℕ) → Contains e'.own x → Contains e.own x) → ((k : ℕ) → IsSome (own_write m' k) → IsSome (own_write m k))
+    → SessionAgrees status' h.version w.history (sees' e'.snapshot) m'.start (sees' e'.snapshot) e' m'
+    → HeapAgrees h w → HeapAgrees (record h { status = status'; sees = sees'; session = session' }) (put w s (Some m'))
+Agrees-put h w s e e' m m' status' sees' session' only at there finishes same fewer kept mine agrees = record {
+  opened = opened-change h h' w w' s agrees only.others models
+      (λ o f n ne bt there' old. SessionAgrees-abort_other (λ x. Contains e.own x × (¬ Contains e'.own x)) finishes (same o f bt) (λ x p theirs. ne (agrees.apart o s f e x bt at theirs p.0)) old)
+      (λ f. at_value (λ f. Matches h' w' s f) (session' s) e' f only.itself (m', at_same s (Some m') (w.session s), mine));
+  idle = idle-change h h' w w' s agrees only.others models (λ at'. absurd (none-some e' (sym at' ∙ only.itself)));
+  waits = waits-put w s agrees.waits;
+  current = Shows-same (λ p v at' seen. VisibleBy-same (λ y touch. to y) (λ y touch. back y) seen) (λ p v at' seen. VisibleBy-same (λ y touch. back y) (λ y touch. to y) seen) (λ k. refl) agrees.current;
+  made = λ p y v at' is done z inserter. to z (agrees.made p y v at' is (back y done) z inserter);
+  given = λ p y v at' touch. given-finish finishes y (agrees.given p y v at' touch);
+  owned = owned-change h h' w w' s agrees only.others models (λ y after. let left = IsActive-finish (λ e. cc) finishes y after in elim (cases_Contains e.own y) [
+    | inl ours ↦ elim (cases_Contains e'.own y) [ inl still ↦ inr (e', only.itself, still) | inr gone ↦ absurd (left.1 (ours, gone)) ]
+    | inr other ↦ inl (left.0, λ f bt own. other (let is : f ≡ e = same_Some f e (sym bt ∙ at) in subst (λ (e : SeenSession). Contains e.own y) is own))
+  ]);
+  apart = apart-change h h' w w' s agrees only.others models (λ o x f g ne bt ct own own'. let is : f ≡ e' = same_Some f e' (sym bt ∙ only.itself) in
+      ne (agrees.apart o s g e x ct at own' (fewer x (subst (λ (e : SeenSession). Contains e.own x) is own))));
+  alone = alone-change h h' w w' s agrees only.others models (λ o k ne p q. let is : p.0 ≡ m' = same_Some p.0 m' (sym p.1 ∙ at_same s (Some m') (w.session s)) in
+      ne (agrees.alone o s k q (m, there, kept k (subst (λ m. IsSome (own_write m k)) is p.2))));
+}
+  where
+    h' : Heap
+    h' = record h { status = status'; sees = sees'; session = session' }
+
+    w' : World
+    w' = put w s (Some m')
+
+    to : (y : ℕ) → HasCommitted h.status y → HasCommitted status' y
+    to y done = IsCommitted-finish_old finishes y done
+
+    back : (y : ℕ) → HasCommitted status' y → HasCommitted h.status y
+    back y done = IsCommitted-abort finishes y done
+
+    models : (o : ℕ) → o ≢ s → w'.session o ≡ w.session o
+    models o ne = at_other o s (Some m') (w.session o) ne
+
+-- the sight of each snapshot stays
+pub same_sights : (h : Heap) → SameSights h h.sees
+same_sights h o e at x status is = (λ sees. sees, λ sees. sees)
+
+-- the session fails
+pub Agrees-fail : (h : Heap) (w : World) (s : ℕ) (e : SeenSession) (m : OpenSession) (session' : ℕ → Option SeenSession)
+    → OnlyIs h.session session' s (Some (record e { failed = true })) → h.session s ≡ Some e → w.session s ≡ Some m
+    → SessionAgrees h.status h.version w.history (h.sees e.snapshot) m.start (h.sees e.snapshot) e m
+    → HeapAgrees h w → HeapAgrees (record h { session = session' }) (put w s (Some (as_failed m)))
+Agrees-fail h w s e m session' only at there mine agrees =
+    Agrees-put h w s e (record e { failed = true }) m (as_failed m) h.status h.sees session' only at there (Finishes-none h.status e.own) (same_sights h) (λ x ours. ours) (λ k wrote. wrote) (SessionAgrees-fail mine) agrees
+
+-- to be given an id, of any level, is no step of the model
+pub Agrees-give_below : (h : Heap) (w : World) (s : ℕ) (e : SeenSession) (n x : ℕ) (status' : ℕ → Option Status) (sees' : Snap → ℕ → Type 0) (session' : ℕ → Option SeenSession)
+    → OnlyIs h.session session' s (Some (with_id n x e)) → h.session s ≡ Some e
+    → GivesNext h.status status' x → SameSights h sees' → ((o : ℕ) (f : SeenSession) → h.session o ≡ Some f → ¬ sees' f.snapshot x)
+    → HeapAgrees h w → HeapAgrees (record h { status = status'; sees = sees'; session = session' }) w
+Agrees-give_below h w s e n x status' sees' session' only at gives same unseen agrees = record {
+  opened = opened-change h h' w w s agrees only.others (λ o ne. refl) (λ o f m ne bt there old. SessionAgrees-give_other x gives (same o f bt) (unseen o f bt) old)
+      (λ f. let old = agrees.opened s e at in at_value (λ f. Matches h' w s f) (session' s) new f only.itself
+      (old.0, old.1, SessionAgrees-give n x gives (same s e at) (unseen s e at) agrees.given old.2));
+  idle = idle-change h h' w w s agrees only.others (λ o ne. refl) (λ at'. absurd (none-some new (sym at' ∙ only.itself)));
+  waits = agrees.waits;
+  current = Shows-same (λ p v bt seen. VisibleBy-same (λ y touch. to y) (λ y touch. back y) seen) (λ p v bt seen. VisibleBy-same (λ y touch. back y) (λ y touch. to y) seen) (λ k. refl) agrees.current;
+  made = λ p y v bt is done z inserter. to z (agrees.made p y v bt is (back y done) z inserter);
+  given = λ p y v bt touch. given-give gives y (agrees.given p y v bt touch);
+  owned = owned-change h h' w w s agrees only.others (λ o ne. refl) (λ y active. elim (IsActive-give_cases gives y active) [
+    | inl old ↦ elim (cases_Contains e.own y) [
+      | inl mine ↦ inr (new, only.itself, Contains-append_left e.own (x ∷ []) y mine)
+      | inr other ↦ inl (old, λ f bt own. other (let is : f ≡ e = same_Some f e (sym bt ∙ at) in subst (λ (e : SeenSession). Contains e.own y) is own))
+    ]
+    | inr now ↦ inr (new, only.itself, subst (λ z. Contains (e.own ++ x ∷ []) z) (sym now) (Contains-push e.own x))
+  ]);
+  apart = apart-change h h' w w s agrees only.others (λ o ne. refl) (λ o y f g ne bt ct own own'.
+      let is : f ≡ new = same_Some f new (sym bt ∙ only.itself) in
+      elim (Contains-push_cases e.own x y (subst (λ (e : SeenSession). Contains e.own y) is own)) [
+        | inl old ↦ ne (agrees.apart o s g e y ct at own' old)
+        | inr now ↦ none_given (h.status x) gives.fresh (some_of InProgress (h.status x) (subst (λ z. IsRunning h.status z) (sym now) ((agrees.opened o g ct).2.own_active y own')))
+      ]);
+  alone = agrees.alone;
+}
+  where
+    new : SeenSession
+    new = with_id n x e
+
+    h' : Heap
+    h' = record h { status = status'; sees = sees'; session = session' }
+
+    to : (y : ℕ) → HasCommitted h.status y → HasCommitted status' y
+    to y done = keeps-give gives y Committed done
+
+    back : (y : ℕ) → HasCommitted status' y → HasCommitted h.status y
+    back y done = IsCommitted-give gives y done
+
+-- a session that has an id writes a row
+pub Agrees-insert : (h : Heap) (w : World) (s : ℕ) (e : SeenSession) (m : OpenSession) (x : ℕ) (place : Tid) (new : Version) (store' : Tid → Option Version)
+    → AddsVersion h.version store' place new → IsNew x new → h.session s ≡ Some e → IsCurrent e x → w.session s ≡ Some m → m.cursor ≡ None
+    → reading w.history m.start (joined m.levels) new.row.key ≡ None → ¬ IsLate w.history m.start new.row.key → ((o : ℕ) → o ≢ s → ¬ Holds w o new.row.key)
+    → SessionAgrees h.status h.version w.history (h.sees e.snapshot) m.start (h.sees e.snapshot) e m
+    → HeapAgrees h w → HeapAgrees (record h { version = store' }) (put w s (Some (with_row new.row m)))
+Agrees-insert h w s e m x place new store' adds is_new at current there bare none in_time unheld mine agrees = record {
+  opened = opened-change h h' w w' s agrees (λ o ne. refl) models
+      (λ o f n ne bt there' old. SessionAgrees-add_other x place new adds is_new active (λ foreign. ne (agrees.apart o s f e x bt at foreign current.mine)) old)
+      (λ e' at'. let is : e ≡ e' = same_Some e e' (sym at ∙ at') in
+      subst (λ e. Matches h' w' s e) is
+      (with_row new.row m, at_same s (Some (with_row new.row m)) (w.session s), SessionAgrees-insert x place new adds is_new current bare none in_time mine));
+  idle = idle-change h h' w w' s agrees (λ o ne. refl) models (λ at'. absurd (none-some e (sym at' ∙ at)));
+  waits = waits-put w s agrees.waits;
+  current = Shows-add_unseen adds (λ p v bt seen. seen) (λ p v bt seen. seen) (λ seen. active_not_committed h.status x active (seen.made x is_new.made)) agrees.current;
+  made = λ p y u at' is done. elim (Adds-cases adds p u at') [
+    | inl old ↦ agrees.made p y u old is done
+    | inr now ↦ absurd (none-some y (sym is_new.kept ∙ (ap (λ (u : Version). deleter u.header) (sym now.1) ∙ is)))
+  ];
+  given = λ p y v at' touch. elim (Adds-cases adds p v at') [
+    | inl old ↦ agrees.given p y v old touch
+    | inr now ↦ some_of InProgress (h.status y) (subst (λ z. IsRunning h.status z) (sym (touches_new y is_new (subst (λ (u : Version). Touches y u.header) now.1 touch))) active)
+  ];
+  owned = agrees.owned;
+  apart = agrees.apart;
+  alone = alone-change h h' w w' s agrees (λ o ne. refl) models (λ o k ne p q. elim (cases_eq k new.row.key) [
+    | inl same ↦ unheld o ne (subst (λ k. Holds w o k) same q)
+    | inr ne' ↦ (let is : p.0 ≡ with_row new.row m = same_Some p.0 (with_row new.row m) (sym p.1 ∙ at_same s (Some (with_row new.row m)) (w.session s)) in
+        ne (agrees.alone o s k q (
+          m,
+          there,
+          wrote_before (joined m.levels) write k ne'
+              (subst (λ ws. IsSome (written ws k)) (joined-add_write write m.levels) (subst (λ m. IsSome (own_write m k)) is p.2)),
+        )))
+  ]);
+}
+  where
+    write : Write
+    write = record { start = m.start; key = new.row.key; row = Some new.row }
+
+    h' : Heap
+    h' = record h { version = store' }
+
+    w' : World
+    w' = put w s (Some (with_row new.row m))
+
+    active : IsRunning h.status x
+    active = mine.own_active x current.mine
+
+    models : (o : ℕ) → o ≢ s → w'.session o ≡ w.session o
+    models o ne = at_other o s (Some (with_row new.row m)) (w.session o) ne
+
+-- a session is rolled back
+pub Agrees-abort : (h : Heap) (w : World) (s : ℕ) (e : SeenSession) (status' : ℕ → Option Status) (sees' : Snap → ℕ → Type 0) (session' : ℕ → Option SeenSession)
+    → OnlyIs h.session session' s None → h.session s ≡ Some e → FinishesIds h.status status' (λ x. Contains e.own x) Aborted → SameSights h sees'
+    → HeapAgrees h w → HeapAgrees (record h { status = status'; sees = sees'; session = session' }) (aborted w s)
+Agrees-abort h w s e status' sees' session' only at finishes same agrees = record {
+  opened = opened-change h h' w w' s agrees only.others models
+      (λ o f m ne bt there old. SessionAgrees-abort_other (λ x. Contains e.own x) finishes (same o f bt) (λ x mine theirs. ne (agrees.apart o s f e x bt at theirs mine)) old)
+      (λ e' at'. absurd (none-some e' (sym only.itself ∙ at')));
+  idle = idle-change h h' w w' s agrees only.others models (λ at'. at_same s None (w.session s));
+  waits = waits-aborted w s agrees.waits;
+  current = Shows-same (λ p v at' seen. VisibleBy-same (λ y touch. to y) (λ y touch. back y) seen) (λ p v at' seen. VisibleBy-same (λ y touch. back y) (λ y touch. to y) seen) (λ k. refl) agrees.current;
+  made = λ p y v at' is done z inserter. to z (agrees.made p y v at' is (back y done) z inserter);
+  given = λ p y v at' touch. given-finish finishes y (agrees.given p y v at' touch);
+  owned = owned-change h h' w w' s agrees only.others models (λ y after. let left = IsActive-finish (λ e. cc) finishes y after in
+      inl (left.0, λ e' at' own'. let is : e' ≡ e = same_Some e' e (sym at' ∙ at) in left.1 (subst (λ (e : SeenSession). Contains e.own y) is own')));
+  apart = apart-change h h' w w' s agrees only.others models (λ o y e' f ne at'. absurd (none-some e' (sym only.itself ∙ at')));
+  alone = alone-change h h' w w' s agrees only.others models (λ o k ne p q. absurd (none-some p.0 (sym (at_same s None (w.session s)) ∙ p.1)));
+}
+  where
+    h' : Heap
+    h' = record h { status = status'; sees = sees'; session = session' }
+
+    w' : World
+    w' = aborted w s
+
+    to : (y : ℕ) → HasCommitted h.status y → HasCommitted status' y
+    to y done = IsCommitted-finish_old finishes y done
+
+    back : (y : ℕ) → HasCommitted status' y → HasCommitted h.status y
+    back y done = IsCommitted-abort finishes y done
+
+    models : (o : ℕ) → o ≢ s → w'.session o ≡ w.session o
+    models o ne = at_other o s None (w.session o) ne
+
+-- nothing is there, and no session is open
+pub Agrees-beginning : (h : Heap) (columns : List Bool) → ((p : Tid) → h.version p ≡ None) → ((x : ℕ) → h.status x ≡ None) → ((s : ℕ) → h.session s ≡ None) → HeapAgrees h (beginning columns)
+Agrees-beginning h columns bare unused idle = record {
+  opened = λ s e at. absurd (none-some e (sym (idle s) ∙ at));
+  idle = λ s at. refl;
+  waits = λ s. refl;
+  current = record {
+    sound = λ p v at seen. absurd (none-some v (sym (bare p) ∙ at));
+    there = λ k r is. absurd (none-some r is);
+    one = λ p q v u at bt seen seen' key. absurd (none-some v (sym (bare p) ∙ at));
+  };
+  made = λ p y v at is done x inserter. absurd (none-some v (sym (bare p) ∙ at));
+  given = λ p x v at touch. absurd (none-some v (sym (bare p) ∙ at));
+  owned = λ x active. absurd (none-some InProgress (sym (unused x) ∙ active));
+  apart = λ s o e f x at bt own own'. absurd (none-some e (sym (idle s) ∙ at));
+  alone = λ s o k p q. absurd (none-some p.0 p.1);
+}

@@ -1,0 +1,126 @@
+//! The steps that sessions may take.
+
+ghost use Rattle.std.specs.Prelude.{◌≡◌, ◌<◌, length, IfOk, OnErr};
+ghost use Rattle.refinement.specs.Bounds.{HasBounds};
+ghost use Rattle.refinement.specs.Writes.{HasBody};
+
+use std::alloc::{AllocError, Global};
+use std::marker::Model;
+
+/// A row to be written, whose body may be of any length.
+#[derive(Debug, Drop)]
+pub struct RowIn {
+    /// The row's own key.
+    pub key: u64,
+    /// The columns 0 to 3.
+    pub cols: [i64; 4],
+    /// At most 1024 bytes, else the step is refused as TooLarge.
+    pub body: Vec<u8>,
+}
+
+impl Model for RowIn {
+    ghost use Rattle.refinement.specs.Words.{RowText};
+
+    ghost Value = { RowText };
+
+    ghost view = { λ r. record { key = r.key; cols = r.cols; body = r.body.items } };
+}
+
+/// One call, most of a session, which is named by its number, from 0 to 63.
+#[derive(Debug, Drop)]
+pub enum Step {
+    /// Opens the session: it reads what was committed by now.
+    Begin(u8),
+    /// Reads the row of a key.
+    Get(u8, u64),
+    /// Writes a row of a key that has none.
+    Insert(u8, RowIn),
+    /// Writes another row of a key that has one.
+    Update(u8, RowIn),
+    /// Takes the row of a key away.
+    Delete(u8, u64),
+    /// Sets a savepoint, above those that the session has: at most 32.
+    Savepoint(u8),
+    /// Takes back what the session wrote since its newest savepoint, which stays. A session that has failed is usable again.
+    RollbackTo(u8),
+    /// Forgets the newest savepoint, and keeps what the session wrote since.
+    Release(u8),
+    /// Makes what the session wrote part of the history, unless it has failed, and closes it.
+    Commit(u8),
+    /// Drops what the session wrote, and closes it.
+    Abort(u8),
+    /// Opens a cursor over the rows that the session reads whose value in an index lies within two bounds, both included: the
+    /// session, the index (0 by key, c + 1 by column c), the lower and the upper bound.
+    OpenIndex(u8, u8, i128, i128),
+    /// Opens a cursor over all rows that the session reads.
+    OpenHeap(u8),
+    /// Asks the cursor for rows: in an index for the next so many, where 0 counts as 1, or all that are left; in the heap
+    /// for those of a page.
+    Next(u8, u16),
+    /// Closes the cursor.
+    Close(u8),
+    /// Takes from a page, counted from 0, what nobody can see any more.
+    Prune(u32),
+}
+
+/// An equal body. An empty one takes no memory.
+fn copy_of(alloc: Global, body: &[u8]) -> Result<Vec<u8>, AllocError>
+    ensures copy { IfOk result (λ copy. copy.items ≡ body.now) }
+    ensures refused { OnErr result (0 < length body.now) }
+{
+    let mut copy = Vec::new(alloc);
+    match copy.extend_from_slice(body) {
+        Ok(()) => Ok(copy),
+        Err(fault) => Err(fault),
+    }
+}
+
+impl RowIn {
+    /// An equal row. It takes no memory where the body is empty.
+    pub fn copy(&self, alloc: Global) -> Result<RowIn, AllocError>
+        ensures copy { IfOk result (λ row. row ≡ self.now) }
+        ensures refused { OnErr result (0 < length self.now.body) }
+    {
+        Ok(RowIn {
+            key: self.key,
+            cols: self.cols,
+            body: copy_of(alloc, self.body.as_slice())?,
+        })
+    }
+}
+
+impl Step {
+    /// The bounds of a cursor are numbers of their type. It does nothing: its contract is the law.
+    pub fn has_bounds(&self)
+        ensures { HasBounds self.now }
+    {
+        if let Step::OpenIndex(_, _, low, high) = self {
+            let _low = *low;
+            let _high = *high;
+        }
+    }
+
+    /// An equal step. It takes no memory but for a body that is not empty.
+    pub fn copy(&self, alloc: Global) -> Result<Step, AllocError>
+        ensures copy { IfOk result (λ step. step ≡ self.now) }
+        ensures refused { OnErr result (HasBody self.now) }
+    {
+        match self {
+            Step::Begin(s) => Ok(Step::Begin(*s)),
+            Step::Get(s, key) => Ok(Step::Get(*s, *key)),
+            Step::Insert(s, row) => Ok(Step::Insert(*s, row.copy(alloc)?)),
+            Step::Update(s, row) => Ok(Step::Update(*s, row.copy(alloc)?)),
+            Step::Delete(s, key) => Ok(Step::Delete(*s, *key)),
+            Step::Savepoint(s) => Ok(Step::Savepoint(*s)),
+            Step::RollbackTo(s) => Ok(Step::RollbackTo(*s)),
+            Step::Release(s) => Ok(Step::Release(*s)),
+            Step::Commit(s) => Ok(Step::Commit(*s)),
+            Step::Abort(s) => Ok(Step::Abort(*s)),
+            Step::OpenIndex(s, index, low, high) => Ok(Step::OpenIndex(*s, *index, *low, *high)),
+            Step::OpenHeap(s) => Ok(Step::OpenHeap(*s)),
+            Step::Next(s, count) => Ok(Step::Next(*s, *count)),
+            Step::Close(s) => Ok(Step::Close(*s)),
+            Step::Prune(page) => Ok(Step::Prune(*page)),
+        }
+    }
+}

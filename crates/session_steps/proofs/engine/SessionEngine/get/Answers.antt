@@ -1,0 +1,23 @@
+use Rattle.heap_write.specs.Indexes.{entries_in}
+use Rattle.std.proofs.Common.{Option, sym, ap, subst, pos}
+use Rattle.tuple_header.specs.declared.version.Row.{Row}
+use Rattle.visibility.specs.Visible.{IsVisible}
+use Rattle.sound_entries.specs.Looking.{FirstFound}
+use Rattle.heap_write.specs.Heap.{HeapView, slots_of}
+use Rattle.refinement.specs.declared.step.Step.TheVariants.{Get}
+use Rattle.session_steps.specs.State.{State}
+use Rattle.session_steps.specs.Agrees.{Follows}
+use Rattle.session_steps.proofs.Reading.{Follows-get}
+use Rattle.session_steps.proofs.Follows.{Follows-unready_get}
+use Rattle.session_steps.proofs.engine.SessionEngine.get.Goals as goal
+
+pub returns-in-Ok-clause-follows : goal.returns-in-Ok-clause-follows
+returns-in-Ok-clause-follows c =
+    let e = c.in-Ok.session.now in
+    let G : HeapView → Option Row → Type 0 = λ h row. FirstFound h.table (IsVisible h.table e.snapshot e.own.ids) (slots_of h) (entries_in h.indexes 0) (pos c.args.key) c.args.key row in
+    subst (λ reply. Follows c.args.self.now (Get c.args.s c.args.key) reply c.args.self.now) (sym c.put_found.ensures)
+    (Follows-get c.args.self.now c.args.s e c.args.key c.row-found.result c.in-Ok.ensures.1 c.in-Ok.ensures.2
+    (subst (λ h. G h c.row-found.result) (ap (λ (st : State). st.heap) c.self.view_is) c.row-found.ensures))
+
+pub returns-in-Err-clause-follows : goal.returns-in-Err-clause-follows
+returns-in-Err-clause-follows c = Follows-unready_get c.args.self.now c.args.s c.args.key c.in-Err.refusal c.in-Err.ensures

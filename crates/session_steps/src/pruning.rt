@@ -1,0 +1,68 @@
+//! A page is cleaned while sessions go on.
+
+ghost use Rattle.std.specs.Prelude.{◌≡◌};
+ghost use Rattle.snapshot.specs.Snap.{earliest};
+ghost use Rattle.xid_circle.specs.Circle.{IsNormal};
+ghost use Rattle.refinement.specs.declared.step.Step.{Step};
+ghost use Rattle.session_steps.specs.State.{held_back, holds_back, horizon_of};
+ghost use Rattle.session_steps.specs.Agrees.{Follows};
+ghost use Rattle.session_steps.specs.Exact.{Exact};
+ghost use Rattle.session_steps.specs.Replies.{reply_to};
+
+use crate::engine::SessionEngine;
+use crate::outcome::Ack;
+use crate::session::Session;
+use heap_write::PruneFault;
+use refinement::Refusal;
+use snapshot::earlier;
+use xid_circle::Xid;
+
+/// The earlier of an id and those that the session holds back: its snapshot's xmin, and its first id.
+fn hold_back(session: &Session, x: Xid) -> Xid
+    requires { IsNormal x.0 }
+    ensures value { result.0 ≡ earliest x.0 (holds_back session.now) }
+    ensures normal { IsNormal result.0 }
+{
+    let held = earlier(x, session.snapshot.xmin());
+    match session.own.first() {
+        Some(first) => earlier(held, first),
+        None => held,
+    }
+}
+
+/// The earliest of the next id and what open sessions hold back.
+fn horizon(next: Xid, sessions: &[Option<Session>]) -> Xid
+    requires { IsNormal next.0 }
+    ensures value { result.0 ≡ earliest next.0 (held_back sessions.now) }
+    ensures normal { IsNormal result.0 }
+{
+    let mut horizon = next;
+    for session in sessions {
+        if let Some(session) = session {
+            horizon = hold_back(session, horizon);
+        }
+    }
+    horizon
+}
+
+impl SessionEngine {
+    /// The earliest id that an open session, or one that begins now, may still ask for.
+    pub(crate) fn horizon(&self) -> Xid
+        ensures value { result.0 ≡ horizon_of self.now }
+        ensures normal { IsNormal result.0 }
+    {
+        horizon(self.heap.table().next(), self.sessions.used())
+    }
+
+    /// Takes from the page what nobody can see any more. Refusals: NoSuchPage. It takes no memory.
+    pub(crate) fn prune(&mut self, page: u32) -> Ack
+        ensures follows { Follows self.old (Step.Prune page) (reply_to result) self.new }
+        ensures exact { Exact self.old (Step.Prune page) (reply_to result) self.new }
+    {
+        let horizon = self.horizon();
+        match self.heap.prune(page, horizon) {
+            Ok(()) => Ack::Done,
+            Err(PruneFault::NoSuchPage) => Ack::Refused(Refusal::NoSuchPage),
+        }
+    }
+}

@@ -1,5 +1,0 @@
-use Rattle.sound_entries.proofs.Changes.{adding-stays}
-use Rattle.sound_entries.proofs.laws.adding_stays_sound.Goals as goal
-
-pub returns : goal.returns
-returns c = adding-stays

@@ -1,5 +1,0 @@
-use Rattle.sound_entries.proofs.Finishing.{committing-stays}
-use Rattle.sound_entries.proofs.laws.committing_stays_sound.Goals as goal
-
-pub returns : goal.returns
-returns c = committing-stays

@@ -1,5 +1,0 @@
-use Rattle.sound_entries.proofs.Finishing.{giving-stays}
-use Rattle.sound_entries.proofs.laws.giving_stays_sound.Goals as goal
-
-pub returns : goal.returns
-returns c = giving-stays

@@ -1,5 +1,0 @@
-use Rattle.sound_entries.proofs.Tables.{nothing-sound}
-use Rattle.sound_entries.proofs.laws.nothing_is_sound.Goals as goal
-
-pub returns : goal.returns
-returns c = nothing-sound

@@ -1,5 +1,0 @@
-use Rattle.sound_entries.proofs.Changes.{updating-stays}
-use Rattle.sound_entries.proofs.laws.updating_stays_sound.Goals as goal
-
-pub returns : goal.returns
-returns c = updating-stays

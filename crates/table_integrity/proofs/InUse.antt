@@ -1,0 +1,99 @@
+-- What a step leaves of each index in use.
+use Rattle.std.proofs.Common.{◌≡◌, ℕ, ◌<◌, List, [], Option, Some, None, refl, sym, ap, subst, inl, ⊎_elim, arith}
+use Rattle.std.specs.Prelude.{◌↔◌, Contains, IsSome, unwrap_or}
+use Rattle.xid_circle.specs.declared.Tid.{Tid}
+use Rattle.tuple_header.specs.declared.version.Row.{Row}
+use Rattle.root_index.specs.declared.entry.Entry.{Entry}
+use Rattle.root_index.specs.Sets.{AddsEntry}
+use Rattle.root_index.specs.View.{IndexView}
+use Rattle.history.specs.Cursors.{value_in}
+use Rattle.sound_entries.specs.Pages.{SoundHeap}
+use Rattle.sound_entries.specs.Entries.{EntriesAreSound, StaysSound}
+use Rattle.sound_entries.proofs.Going.{led-then}
+use Rattle.heap_write.specs.Heap.{HeapView, slots_of}
+use Rattle.heap_write.specs.Indexes.{entries_at, entries_in, IsInUse, index_entry_of, SameEntries, AddsAny, Enters}
+use Rattle.table_integrity.specs.Table.{SoundTable, StaysSoundTable}
+
+-- an index that has an entry is in use
+pub used-by : (indexes : List (Option IndexView)) (n : ℕ) (e : Entry) → Contains (entries_in indexes n) e → IsInUse indexes n
+used-by indexes n e there = by (entries_at indexes n) there
+  where
+    by : (o : Option (List Entry)) → Contains (unwrap_or o []) e → IsSome o
+    by None among = let below : among.0 < 0 = among.1 in absurd (omega arith)
+    by (Some entries) among = refl
+
+-- The entries are as they were.
+
+module _ (a b : List (Option IndexView)) (same : SameEntries a b) where
+  pub same-used : (n : ℕ) → IsInUse a n ↔ IsInUse b n
+  same-used n = (λ used. subst (λ (o : Option (List Entry)). IsSome o) (sym (same n)) used, λ used. subst (λ (o : Option (List Entry)). IsSome o) (same n) used)
+
+  pub same-in : (n : ℕ) → entries_in b n ≡ entries_in a n
+  same-in n = ap (λ (o : Option (List Entry)). unwrap_or o []) (same n)
+
+-- Entries come.
+
+abbrev pub OnlyCome : List (Option IndexView) → List (Option IndexView) → Type 0
+OnlyCome a b = (n : ℕ) (e : Entry) → Contains (entries_in a n) e → Contains (entries_in b n) e
+
+pub same-come : (a b : List (Option IndexView)) → SameEntries a b → OnlyCome a b
+same-come a b same n e there = subst (λ (es : List Entry). Contains es e) (sym (same-in a b same n)) there
+
+any-used : (a b : Option (List Entry)) (new : Entry) → AddsAny a b new → IsSome a ↔ IsSome b
+any-used None b new none = (λ used. subst (λ (o : Option (List Entry)). IsSome o) (sym none) used, λ used. subst (λ (o : Option (List Entry)). IsSome o) none used)
+any-used (Some entries) None new adds = absurd adds
+any-used (Some entries) (Some after) new adds = (λ used. refl, λ used. refl)
+
+any-adds : (a b : Option (List Entry)) (new : Entry) → AddsAny a b new → IsSome a → AddsEntry (unwrap_or a []) (unwrap_or b []) new
+any-adds None b new none used = absurd (cc)
+any-adds (Some entries) None new adds used = absurd adds
+any-adds (Some entries) (Some after) new adds used = adds
+
+any-come : (a b : Option (List Entry)) (new e : Entry) → AddsAny a b new → Contains (unwrap_or a []) e → Contains (unwrap_or b []) e
+any-come None b new e none there = let below : there.0 < 0 = there.1 in absurd (omega arith)
+any-come (Some entries) None new e adds there = absurd adds
+any-come (Some entries) (Some after) new e adds there = (adds.members e).1 (inl there)
+
+module _ (a b : List (Option IndexView)) (row : Row) (place : Tid) (enters : Enters a b row place) where
+  pub enters-used : (n : ℕ) → IsInUse a n ↔ IsInUse b n
+  enters-used n = any-used (entries_at a n) (entries_at b n) (index_entry_of n row place) (enters n)
+
+  pub enters-adds : (n : ℕ) → IsInUse a n → AddsEntry (entries_in a n) (entries_in b n) (index_entry_of n row place)
+  enters-adds n used = any-adds (entries_at a n) (entries_at b n) (index_entry_of n row place) (enters n) used
+
+  pub enters-come : OnlyCome a b
+  enters-come n e there = any-come (entries_at a n) (entries_at b n) (index_entry_of n row place) e (enters n) there
+
+-- A table by its pages and each of its indexes.
+
+pub index-sound : (h : HeapView) (horizon : ℕ) → SoundTable h horizon → (n : ℕ) → IsInUse h.indexes n
+    → EntriesAreSound (value_in n) h.table horizon (slots_of h) (entries_in h.indexes n)
+index-sound h horizon s n used = record { heap = s.heap; index = s.indexes n used }
+
+pub table-stays : (h h' : HeapView) (horizon : ℕ) → SoundHeap h'.table horizon (slots_of h') → ((n : ℕ) → IsInUse h.indexes n ↔ IsInUse h'.indexes n)
+    → ((n : ℕ) → IsInUse h.indexes n → StaysSound (value_in n) h'.table horizon (slots_of h) (slots_of h') (entries_in h.indexes n) (entries_in h'.indexes n))
+    → StaysSoundTable h h' horizon
+table-stays h h' horizon heap in_use each = record {
+  sound = record { heap = heap; indexes = λ n used. (each n ((in_use n).1 used)).sound.index };
+  in_use = in_use;
+  led = λ n e there among. (each n (used-by h.indexes n e there)).led e there among;
+}
+
+-- where the entries are as they were
+pub same-stays : (h h' : HeapView) (horizon : ℕ) → SameEntries h.indexes h'.indexes → SoundHeap h'.table horizon (slots_of h')
+    → ((n : ℕ) → IsInUse h.indexes n → StaysSound (value_in n) h'.table horizon (slots_of h) (slots_of h') (entries_in h.indexes n) (entries_in h.indexes n))
+    → StaysSoundTable h h' horizon
+same-stays h h' horizon same heap each = table-stays h h' horizon heap (same-used h.indexes h'.indexes same) (λ n used.
+    subst (λ (es : List Entry). StaysSound (value_in n) h'.table horizon (slots_of h) (slots_of h') (entries_in h.indexes n) es) (sym (same-in h.indexes h'.indexes same n))
+    (each n used))
+
+-- One step after another, where entries only come.
+pub stays-then : (a b c : HeapView) (horizon : ℕ) → SoundTable a horizon → OnlyCome a.indexes b.indexes
+    → StaysSoundTable a b horizon → StaysSoundTable b c horizon → StaysSoundTable a c horizon
+stays-then a b c horizon sound more first second = record {
+  sound = second.sound;
+  in_use = λ n. (λ used. (second.in_use n).0 ((first.in_use n).0 used), λ used. (first.in_use n).1 ((second.in_use n).1 used));
+  led = λ n e there among.
+      led-then (value_in n) a.table (slots_of a) (slots_of b) (slots_of c) (entries_in a.indexes n) (entries_in b.indexes n) (entries_in c.indexes n)
+      (sound.indexes n (used-by a.indexes n e there)) (more n) (first.led n) (second.led n) e there among;
+}

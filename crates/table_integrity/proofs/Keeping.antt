@@ -1,0 +1,176 @@
+-- Steps that write no row leave a table sound.
+use Rattle.std.proofs.Common.{◌≡◌, ◌≤◌, ℕ, List, [], map, Option, refl, sym, ap, ◌∙◌, subst, ⊎_elim}
+use Rattle.std.specs.Prelude.{Contains, slice_set}
+use Rattle.xid_circle.specs.declared.Tid.{Tid}
+use Rattle.tuple_header.specs.Version.{rounded_size_of}
+use Rattle.tuple_header.specs.declared.version.Row.{Row}
+use Rattle.commit_status.specs.declared.status.Status.TheVariants.{Committed, Aborted}
+use Rattle.commit_status.specs.Window.{Window, IsWindow, IsActive, IsUpToNext, turns}
+use Rattle.commit_status.specs.Changes.{Gives}
+use Rattle.prune.specs.Pruning.{IsPruned}
+use Rattle.prune.proofs.SoundAfter.{pruned-sound}
+use Rattle.tuple_writes.specs.Laws.{DeletedWhatWasMade, AloneDeletedTheirs}
+use Rattle.tuple_writes.proofs.Statuses.{giving-sound, committing-sound, aborting-sound, later-sound}
+use Rattle.snapshot.specs.Own.{Own}
+use Rattle.root_index.specs.View.{IndexView}
+use Rattle.root_index.specs.declared.entry.Entry.{Entry}
+use Rattle.history.specs.Cursors.{value_in}
+use Rattle.sound_entries.specs.Pages.{slots_on, SoundHeap, Puts}
+use Rattle.sound_entries.specs.Entries.{SoundEntries, EntriesAreSound, StaysSound}
+use Rattle.sound_entries.proofs.Changes.{pruning-stays, heap-puts}
+use Rattle.sound_entries.proofs.Finishing.{statuses-stay, giving-stays, committing-stays, aborting-stays}
+use Rattle.sound_entries.proofs.Tables.{nothing-sound}
+use Rattle.heap_pages.specs.View.{PagesView}
+use Rattle.page_slots.specs.View.{PageView}
+use Rattle.sound_entries.specs.Looking as looking
+use Rattle.heap_write.specs.Heap.{HeapView, SameIds, Keeps, slots_of}
+use Rattle.heap_write.specs.Indexes.{entries_at, entries_in, IsInUse, SameEntries}
+use Rattle.heap_write.specs.Writes.{TableIsFull, TakesIds, PrunesIfFull, Prunes}
+use Rattle.heap_write.specs.Refusals.{VersionIsThere, AfterPruning, FailsUpdate}
+use Rattle.heap_write.specs.declared.heap.WriteFault.{WriteFault}
+use Rattle.heap_write.specs.declared.heap.WriteFault.TheVariants as fault
+use Rattle.table_integrity.specs.Table.{SoundTable, StaysSoundTable}
+use Rattle.table_integrity.specs.Laws.{FinishesInTable}
+use Rattle.table_integrity.proofs.Memory.{same-status, same-sound}
+use Rattle.table_integrity.proofs.TakenIds.{under-keeps, takes-mine, takes-active}
+use Rattle.table_integrity.proofs.Standing.{prunes-on, prunes-puts}
+use Rattle.table_integrity.proofs.InUse.{OnlyCome, same-come, index-sound, same-stays, stays-then}
+
+-- A page is pruned.
+
+abbrev pub with_pruned : HeapView → ℕ → PageView → HeapView
+with_pruned h number after = record h { pages = record h.pages { pages = slice_set h.pages.pages number after } }
+
+pub pruned-stays : (h h' : HeapView) (number horizon : ℕ) → SoundTable h horizon → Prunes h h' number horizon → StaysSoundTable h h' horizon
+pruned-stays h h' number horizon s p = subst (λ (g : HeapView). StaysSoundTable h g horizon) (sym p.is)
+    (same-stays h after horizon (λ n. refl) (heap-puts h.table horizon number (slots_of h) (slots_of after) p.after.slots s.heap puts
+    (pruned-sound h.table horizon (slots_on (slots_of h) number) p.after.slots (s.heap number) pruned))
+    (λ n used. pruning-stays (value_in n) h.table horizon number (slots_of h) (slots_of after) (entries_in h.indexes n) p.after.slots (index-sound h horizon s n used) pruned puts))
+  where
+    after : HeapView
+    after = with_pruned h number p.after
+
+    pruned : IsPruned h.table horizon (slots_on (slots_of h) number) p.after.slots
+    pruned = subst (λ slots. IsPruned h.table horizon slots p.after.slots) (sym (prunes-on h h' number horizon p)) p.pruned
+
+    puts : Puts (slots_of h) (slots_of after) number p.after.slots
+    puts = subst (λ (g : HeapView). Puts (slots_of h) (slots_of g) number p.after.slots) p.is (prunes-puts h h' number horizon p)
+
+-- The slots and the entries are as they were.
+
+slots-stay : (h h' : HeapView) (horizon : ℕ) → slots_of h' ≡ slots_of h → SameEntries h.indexes h'.indexes → SoundHeap h'.table horizon (slots_of h)
+    → ((n : ℕ) → IsInUse h.indexes n → StaysSound (value_in n) h'.table horizon (slots_of h) (slots_of h) (entries_in h.indexes n) (entries_in h.indexes n))
+    → StaysSoundTable h h' horizon
+slots-stay h h' horizon slots entries heap each = same-stays h h' horizon entries (subst (λ pages. SoundHeap h'.table horizon pages) (sym slots) heap)
+    (λ n used. subst (λ pages. StaysSound (value_in n) h'.table horizon (slots_of h) pages (entries_in h.indexes n) (entries_in h.indexes n)) (sym slots) (each n used))
+
+pub later-stays-sound : (h : HeapView) (horizon later : ℕ) → SoundTable h horizon → IsWindow h.table → IsUpToNext h.table horizon → IsUpToNext h.table later
+    → turns h.table.first horizon ≤ turns h.table.first later → SoundTable h later
+later-stays-sound h horizon later s is upto upto_later low = record {
+  heap = λ n. later-sound h.table horizon later (slots_on (slots_of h) n) is upto upto_later low (s.heap n);
+  indexes = s.indexes;
+}
+
+same-indexes : (a b : List (Option IndexView)) → b ≡ a → SameEntries a b
+same-indexes a b same n = ap (λ (indexes : List (Option IndexView)). entries_at indexes n) same
+
+pub committed-stays : (h h' : HeapView) (horizon : ℕ) (ids : List ℕ) → SoundTable h horizon → FinishesInTable h h' ids Committed
+    → ((n : ℕ) → DeletedWhatWasMade h.table (slots_on (slots_of h) n) ids) → StaysSoundTable h h' horizon
+committed-stays h h' horizon ids s f theirs =
+    slots-stay h h' horizon (ap (λ (p : PagesView). looking.page_slots_of p) f.pages) (same-indexes h.indexes h'.indexes f.indexes)
+    (λ n. committing-sound h.table h'.table horizon ids (slots_on (slots_of h) n) f.active f.finishes (theirs n) (s.heap n))
+    (λ n used. committing-stays (value_in n) h.table h'.table horizon ids (slots_of h) (entries_in h.indexes n) (index-sound h horizon s n used) f.active f.finishes theirs)
+
+pub aborted-stays : (h h' : HeapView) (horizon : ℕ) (ids : List ℕ) → SoundTable h horizon → FinishesInTable h h' ids Aborted
+    → ((n : ℕ) → AloneDeletedTheirs h.table (slots_on (slots_of h) n) ids) → StaysSoundTable h h' horizon
+aborted-stays h h' horizon ids s f theirs =
+    slots-stay h h' horizon (ap (λ (p : PagesView). looking.page_slots_of p) f.pages) (same-indexes h.indexes h'.indexes f.indexes)
+    (λ n. aborting-sound h.table h'.table horizon ids (slots_on (slots_of h) n) f.active f.finishes (theirs n) (s.heap n))
+    (λ n used. aborting-stays (value_in n) h.table h'.table horizon ids (slots_of h) (entries_in h.indexes n) (index-sound h horizon s n used) f.active f.finishes theirs)
+
+-- There is more memory.
+
+pub kept-stays : (h h' : HeapView) (horizon : ℕ) → SoundTable h horizon → Keeps h h' → StaysSoundTable h h' horizon
+kept-stays h h' horizon s k = slots-stay h h' horizon k.slots k.entries still
+    (λ n used. statuses-stay h.table h'.table (λ x gone. same-status h.table h'.table k.table x ∙ gone) (value_in n) horizon horizon (slots_of h) (entries_in h.indexes n)
+    (index-sound h horizon s n used) still)
+  where
+    still : SoundHeap h'.table horizon (slots_of h)
+    still n = same-sound h.table h'.table k.table horizon (slots_on (slots_of h) n) (s.heap n)
+
+-- A page is made ready, with the ids as they were.
+
+same-back : (w v : Window) → SameIds w v → SameIds v w
+same-back w v ids = record { first = sym ids.first; stop_age = sym ids.stop_age; entries = sym ids.entries }
+
+abbrev pub with_table : HeapView → Window → HeapView
+with_table h w = record h { table = w }
+
+as-was : (h : HeapView) (w : Window) (horizon : ℕ) → SameIds h.table w → SoundTable h horizon → StaysSoundTable h (with_table h w) horizon
+as-was h w horizon ids s = kept-stays h (with_table h w) horizon s (record { slots = refl; changes = refl; flags = refl; table = ids; entries = λ n. refl; max_pages = refl })
+
+pub ready-come : (h h' : HeapView) (number horizon size : ℕ) → PrunesIfFull h h' number horizon size → OnlyCome h.indexes h'.indexes
+ready-come h h' number horizon size (PrunesIfFull.has_room room is) = same-come h.indexes h'.indexes (same-indexes h.indexes h'.indexes (ap (λ (g : HeapView). g.indexes) is))
+ready-come h h' number horizon size (PrunesIfFull.is_pruned full grown keeps prunes) =
+    subst (λ (g : HeapView). OnlyCome h.indexes g.indexes) (sym prunes.is) (same-come h.indexes grown.indexes keeps.entries)
+
+pub readied-stays : (h h' : HeapView) (number horizon size : ℕ) → SoundTable h horizon → PrunesIfFull h h' number horizon size → StaysSoundTable h h' horizon
+readied-stays h h' number horizon size s (PrunesIfFull.has_room room is) =
+    subst (λ (g : HeapView). StaysSoundTable h g horizon) (sym is) (as-was h h.table horizon (record { first = refl; stop_age = refl; entries = refl }) s)
+readied-stays h h' number horizon size s (PrunesIfFull.is_pruned full grown keeps prunes) =
+    let first = kept-stays h grown horizon s keeps in
+    stays-then h grown h' horizon s (same-come h.indexes grown.indexes keeps.entries) first (pruned-stays grown h' number horizon first.sound prunes)
+
+ready-ids : (h h' : HeapView) (number horizon size : ℕ) → PrunesIfFull h h' number horizon size → SameIds h'.table h.table
+ready-ids h h' number horizon size (PrunesIfFull.has_room room is) =
+    subst (λ (g : HeapView). SameIds g.table h.table) (sym is) (record { first = refl; stop_age = refl; entries = refl })
+ready-ids h h' number horizon size (PrunesIfFull.is_pruned full grown keeps prunes) =
+    subst (λ (g : HeapView). SameIds g.table h.table) (sym prunes.is) (same-back h.table grown.table keeps.table)
+
+pub ready-stays : (h h' : HeapView) (number horizon size : ℕ) → SoundTable h horizon → PrunesIfFull h h' number horizon size → StaysSoundTable h (with_table h' h.table) horizon
+ready-stays h h' number horizon size s ready =
+    let first = readied-stays h h' number horizon size s ready in
+    stays-then h h' (with_table h' h.table) horizon s (ready-come h h' number horizon size ready)
+    first (as-was h' h.table horizon (ready-ids h h' number horizon size ready) first.sound)
+
+-- An update fails.
+
+when-ready : (h h' : HeapView) (own : Own) (place : Tid) (horizon size : ℕ) (P : HeapView → Type 0) → SoundTable h horizon → AfterPruning h h' own place horizon size P → StaysSoundTable h h' horizon
+when-ready h h' own place horizon size P s r =
+    let first = readied-stays h r.ready place.page horizon size s r.readies in
+    stays-then h r.ready h' horizon s (ready-come h r.ready place.page horizon size r.readies)
+    first (kept-stays r.ready h' horizon first.sound r.keeps)
+
+pub failed-stays : (h h' : HeapView) (horizon : ℕ) (own : Own) (place : Tid) (row : Row) (fault : WriteFault) → SoundTable h horizon → FailsUpdate h h' own place row horizon fault → StaysSoundTable h h' horizon
+failed-stays h h' horizon own place row fault.NeedsFreeze s f = kept-stays h h' horizon s f.2
+failed-stays h h' horizon own place row fault.NoRoom s f = when-ready h h' own place horizon (rounded_size_of row) (λ ready. VersionIsThere ready place × TableIsFull ready (rounded_size_of row)) s f
+failed-stays h h' horizon own place row fault.NoMemory s f = kept-stays h h' horizon s f.3
+failed-stays h h' horizon own place row fault.Gone s f = ⊎_elim (λ gone. kept-stays h h' horizon s gone.1)
+    (λ went. when-ready h h' own place horizon (rounded_size_of row) (λ ready. ¬ VersionIsThere ready place) s went) f
+
+-- There is nothing.
+
+pub nothing-stays : (h : HeapView) (horizon : ℕ) → h.pages.pages ≡ [] → ((n : ℕ) → entries_in h.indexes n ≡ []) → SoundTable h horizon
+nothing-stays h horizon pages entries = record {
+  heap = (nothing 0).heap;
+  indexes = λ n used. subst (λ (es : List Entry). SoundEntries (value_in n) h.table (slots_of h) es) (sym (entries n)) (nothing n).index;
+}
+  where
+    nothing : (n : ℕ) → EntriesAreSound (value_in n) h.table horizon (slots_of h) []
+    nothing n = subst (λ (ps : List PageView). EntriesAreSound (value_in n) h.table horizon (map (λ (p : PageView). p.slots) ps) []) (sym pages) (nothing-sound (value_in n) h.table horizon)
+
+-- The ids that a session unassigned_levels are given.
+
+given-one : (h : HeapView) (a b : Window) (horizon : ℕ) (parent : Option ℕ) → IsWindow a → IsWindow b → Gives a b parent → SoundTable (with_table h a) horizon → SoundTable (with_table h b) horizon
+given-one h a b horizon parent before after gives s = record {
+  heap = λ n. giving-sound a b horizon parent (slots_on (slots_of h) n) before after gives (s.heap n);
+  indexes = λ n used. (giving-stays (value_in n) a b horizon parent (slots_of h) (entries_in h.indexes n) (index-sound (with_table h a) horizon s n used) before after gives).sound.index;
+}
+
+pub given-stays : (h : HeapView) (v : Window) (horizon : ℕ) (own own' : Own) (x : ℕ) → SoundTable h horizon → IsWindow h.table → IsWindow v
+    → ((y : ℕ) → Contains own.ids y → IsActive h.table y) → TakesIds h.table v own own' x → SoundTable (with_table h v) horizon × IsActive v x
+given-stays h v horizon own own' x s before after active takes = (
+  under-keeps (λ u. SoundTable (with_table h u) horizon) (λ a b parent wa wb gives sound. given-one h a b horizon parent wa wb gives sound)
+      h.table v _ takes.given before after takes.gives s,
+  takes-active h.table v own own' x before after takes active x (takes-mine h.table v own own' x before after takes),
+)

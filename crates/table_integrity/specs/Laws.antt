@@ -1,0 +1,75 @@
+-- What each step keeps of a table.
+use Rattle.std.specs.Prelude.{◌≡◌, ◌≤◌, ℕ, List, [], Contains}
+use Rattle.xid_circle.specs.declared.Tid.{Tid}
+use Rattle.tuple_header.specs.Version.{Version}
+use Rattle.tuple_header.specs.declared.version.Row.{Row}
+use Rattle.commit_status.specs.declared.status.Status.{Status}
+use Rattle.commit_status.specs.declared.status.Status.TheVariants.{Committed, Aborted}
+use Rattle.commit_status.specs.Window.{IsWindow, IsActive, IsUpToNext, turns}
+use Rattle.commit_status.specs.Changes as changes
+use Rattle.snapshot.specs.Own.{Own}
+use Rattle.tuple_writes.specs.Laws.{DeletedWhatWasMade, AloneDeletedTheirs}
+use Rattle.sound_entries.specs.Pages.{slots_on}
+use Rattle.heap_write.specs.Heap.{HeapView, slots_of, Keeps}
+use Rattle.heap_write.specs.Indexes.{entries_in}
+use Rattle.heap_write.specs.Writes.{Inserts, Updates, Deletes, Prunes}
+use Rattle.heap_write.specs.Refusals.{FailsUpdate}
+use Rattle.heap_write.specs.declared.heap.WriteFault.{WriteFault}
+use Rattle.table_integrity.specs.Table.{SoundTable, StaysSoundTable, MayDelete}
+
+-- Writes. The ids that the writer has are in progress; so are those that it is given.
+
+pub record WritesUnder (h h' : HeapView) (own : Own) : Type 0 where
+  pub before : IsWindow h.table
+  pub after : IsWindow h'.table
+  pub active : (x : ℕ) → Contains own.ids x → IsActive h.table x
+
+abbrev pub InsertingKeepsTable : Type 0
+InsertingKeepsTable = (h h' : HeapView) (horizon : ℕ) (own own' : Own) (row : Row) (x : ℕ) → SoundTable h horizon → WritesUnder h h' own
+    → Inserts h h' own own' row x → StaysSoundTable h h' horizon
+
+-- the new row has the key of the old one; if the page of the old version is pruned, then at this horizon
+abbrev pub UpdatingKeepsTable : Type 0
+UpdatingKeepsTable = (h h' : HeapView) (horizon : ℕ) (own own' : Own) (place : Tid) (t : Version) (row : Row) (x : ℕ) → SoundTable h horizon → WritesUnder h h' own
+    → MayDelete h place t → row.key ≡ t.row.key → Updates h h' own own' place row horizon x → StaysSoundTable h h' horizon
+
+abbrev pub DeletingKeepsTable : Type 0
+DeletingKeepsTable = (h h' : HeapView) (horizon : ℕ) (own own' : Own) (place : Tid) (t : Version) (x : ℕ) → SoundTable h horizon → WritesUnder h h' own
+    → MayDelete h place t → Deletes h h' own own' place x → StaysSoundTable h h' horizon
+
+-- an update that fails has pruned a page at most
+abbrev pub FailingUpdateKeepsTable : Type 0
+FailingUpdateKeepsTable = (h h' : HeapView) (horizon : ℕ) (own : Own) (place : Tid) (row : Row) (fault : WriteFault) → SoundTable h horizon
+    → FailsUpdate h h' own place row horizon fault → StaysSoundTable h h' horizon
+
+-- Steps that write no row.
+
+abbrev pub PruningKeepsTable : Type 0
+PruningKeepsTable = (h h' : HeapView) (number horizon : ℕ) → SoundTable h horizon → Prunes h h' number horizon → StaysSoundTable h h' horizon
+
+-- more memory alone
+abbrev pub KeepingKeepsTable : Type 0
+KeepingKeepsTable = (h h' : HeapView) (horizon : ℕ) → SoundTable h horizon → Keeps h h' → StaysSoundTable h h' horizon
+
+-- ids in progress take a final status, and all else stays
+pub record FinishesInTable (h h' : HeapView) (ids : List ℕ) (status : Status) : Type 0 where
+  pub active : (x : ℕ) → Contains ids x → IsActive h.table x
+  pub finishes : changes.Finishes h.table h'.table ids status
+  pub pages : h'.pages ≡ h.pages
+  pub indexes : h'.indexes ≡ h.indexes
+
+abbrev pub CommittingKeepsTable : Type 0
+CommittingKeepsTable = (h h' : HeapView) (horizon : ℕ) (ids : List ℕ) → SoundTable h horizon → FinishesInTable h h' ids Committed
+    → ((n : ℕ) → DeletedWhatWasMade h.table (slots_on (slots_of h) n) ids) → StaysSoundTable h h' horizon
+
+abbrev pub AbortingKeepsTable : Type 0
+AbortingKeepsTable = (h h' : HeapView) (horizon : ℕ) (ids : List ℕ) → SoundTable h horizon → FinishesInTable h h' ids Aborted
+    → ((n : ℕ) → AloneDeletedTheirs h.table (slots_on (slots_of h) n) ids) → StaysSoundTable h h' horizon
+
+abbrev pub LaterHorizonKeepsTable : Type 0
+LaterHorizonKeepsTable = (h : HeapView) (horizon later : ℕ) → SoundTable h horizon → IsWindow h.table → IsUpToNext h.table horizon → IsUpToNext h.table later
+    → turns h.table.first horizon ≤ turns h.table.first later → SoundTable h later
+
+-- a table without pages and entries
+abbrev pub EmptyTableIsSound : Type 0
+EmptyTableIsSound = (h : HeapView) (horizon : ℕ) → h.pages.pages ≡ [] → ((n : ℕ) → entries_in h.indexes n ≡ []) → SoundTable h horizon

@@ -1,0 +1,54 @@
+//! What each step keeps of a table. Each function does nothing: its contract is the law.
+
+ghost use Rattle.table_integrity.specs.Laws.{InsertingKeepsTable, UpdatingKeepsTable, DeletingKeepsTable, FailingUpdateKeepsTable, PruningKeepsTable, KeepingKeepsTable, CommittingKeepsTable, AbortingKeepsTable, LaterHorizonKeepsTable, EmptyTableIsSound};
+
+/// A table stays sound when a row is inserted.
+pub fn inserting_keeps_table()
+    ensures { InsertingKeepsTable }
+{}
+
+/// A table stays sound when a version that may be taken away is updated to a row of the same key: on its page, or to
+/// another, whether or not its page is pruned for that.
+pub fn updating_keeps_table()
+    ensures { UpdatingKeepsTable }
+{}
+
+/// A table stays sound when a version that may be taken away is deleted.
+pub fn deleting_keeps_table()
+    ensures { DeletingKeepsTable }
+{}
+
+/// A table stays sound when an update fails, even if it has pruned a page before.
+pub fn failing_update_keeps_table()
+    ensures { FailingUpdateKeepsTable }
+{}
+
+/// A table stays sound when a page is pruned at the horizon.
+pub fn pruning_keeps_table()
+    ensures { PruningKeepsTable }
+{}
+
+/// A table stays sound when it has more memory.
+pub fn keeping_keeps_table()
+    ensures { KeepingKeepsTable }
+{}
+
+/// A table stays sound when ids commit that have deleted only what was made by themselves, or is frozen or committed.
+pub fn committing_keeps_table()
+    ensures { CommittingKeepsTable }
+{}
+
+/// A table stays sound when ids are aborted whose versions nobody else has deleted.
+pub fn aborting_keeps_table()
+    ensures { AbortingKeepsTable }
+{}
+
+/// A table stays sound under a later horizon.
+pub fn later_horizon_keeps_table()
+    ensures { LaterHorizonKeepsTable }
+{}
+
+/// A table without pages is sound.
+pub fn empty_table_is_sound()
+    ensures { EmptyTableIsSound }
+{}

@@ -1,0 +1,15 @@
+//! What each step keeps of a table: its pages, its ids and its indexes.
+//!
+//! `heap_write` says exactly what a write, a pruning or a refusal leaves of a table. The laws here say what that means: a
+//! table whose pages are sound, and in each of whose indexes the entries lead to the roots of chains of their values, stays
+//! such a table (`specs/Table.antt`, `specs/Laws.antt`); nobody else can tell that a transaction wrote, and it finds what it
+//! wrote itself (`specs/Readers.antt`, `specs/ByKey.antt`). Each law is the contract of a function that does nothing.
+#![tactic(auto)]
+
+pub mod laws;
+mod readers;
+
+pub use readers::{
+    delete_is_found, delete_takes_row, deleting_is_unseen, insert_is_found, insert_puts_row,
+    inserting_is_unseen, pruning_is_unseen, update_is_found, update_puts_row, updating_is_unseen,
+};

@@ -1,0 +1,55 @@
+//! What readers find after each step. Each function does nothing: its contract is the law.
+
+ghost use Rattle.table_integrity.specs.Readers.{PruningIsUnseen, InsertingIsUnseen, UpdatingIsUnseen, DeletingIsUnseen, InsertIsFound, UpdateIsFound, DeleteIsFound};
+ghost use Rattle.table_integrity.specs.ByKey.{InsertPutsRow, UpdatePutsRow, DeleteTakesRow};
+
+/// No reader can tell that a page was pruned.
+pub fn pruning_is_unseen()
+    ensures { PruningIsUnseen }
+{}
+
+/// No reader that doesn't own the id of an insert can tell that there was one.
+pub fn inserting_is_unseen()
+    ensures { InsertingIsUnseen }
+{}
+
+/// No reader that doesn't own the id of an update can tell that there was one, even if it has pruned a page.
+pub fn updating_is_unseen()
+    ensures { UpdatingIsUnseen }
+{}
+
+/// No reader that doesn't own the id of a delete can tell that there was one.
+pub fn deleting_is_unseen()
+    ensures { DeletingIsUnseen }
+{}
+
+/// Who has inserted a row finds what it found before, and the row at one more place.
+pub fn insert_is_found()
+    ensures { InsertIsFound }
+{}
+
+/// Who has updated a version finds what it found elsewhere before, and the new row at one place that held nothing for it.
+pub fn update_is_found()
+    ensures { UpdateIsFound }
+{}
+
+/// Who has deleted a version finds what it found elsewhere before, and nothing else.
+pub fn delete_is_found()
+    ensures { DeleteIsFound }
+{}
+
+/// Who has inserted a row, and found none of its key before, finds it alone of its key, and all other keys as before.
+pub fn insert_puts_row()
+    ensures { InsertPutsRow }
+{}
+
+/// Who has updated a version to a row of its key, and found no other of the key before, finds the row alone of its key, and
+/// all other keys as before.
+pub fn update_puts_row()
+    ensures { UpdatePutsRow }
+{}
+
+/// Who has deleted a version, and found no other of its key before, finds none of the key, and all other keys as before.
+pub fn delete_takes_row()
+    ensures { DeleteTakesRow }
+{}

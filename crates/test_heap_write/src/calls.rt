@@ -1,0 +1,259 @@
+//! Calls of a table, each made where it may be made, and told to nobody.
+
+ghost use Rattle.std.specs.Prelude.{◌≡◌, ℕ, Some, IsTrue};
+ghost use Rattle.xid_circle.specs.Circle.{IsNormal};
+ghost use Rattle.commit_status.specs.Window.{IsGiven};
+ghost use Rattle.snapshot.specs.Own.{current_xid};
+
+use arrayvec::ArrayVec;
+use commit_status::Status;
+use heap_write::{HeapState, IndexPosition, IndexRange, PruneFault, WriteFault};
+use root_index::{Entry, PositionHint};
+use snapshot::{OwnIds, Snapshot};
+use std::alloc::Global;
+use tuple_header::Row;
+use xid_circle::{Tid, Xid};
+
+/// The key, the columns and the length of the body of a row.
+pub type Values = (u64, [i64; 4], usize);
+
+/// The page and the slot of a version.
+pub type Place = (u32, u16);
+
+/// The value, the key, the page and the slot of an entry.
+pub type Parts = (i128, u64, u32, u16);
+
+/// Part of an index, by its number: from one value to another, and behind a value and a key, if they are given.
+pub type Part = (u8, i128, i128, Option<(i128, u64)>);
+
+/// The first column and the key of a row.
+pub type Met = (i64, u64);
+
+/// The id of this number, or the first that is normal, where that number is not.
+fn normal(x: u32) -> Xid
+    ensures { IsNormal result.0 }
+{
+    if Xid(x).is_normal() {
+        Xid(x)
+    } else {
+        Xid::FIRST_NORMAL
+    }
+}
+
+fn row_of((key, cols, length): Values) -> Row {
+    let mut body = ArrayVec::new();
+    for _ in 0..length {
+        let _ = body.try_push(7);
+    }
+    Row { key, cols, body }
+}
+
+fn tid((page, slot): Place) -> Tid {
+    Tid { page, slot }
+}
+
+fn pair(place: Option<Tid>) -> Option<Place> {
+    let place = place?;
+    Some((place.page, place.slot))
+}
+
+fn entry((value, key, page, slot): Parts) -> Entry {
+    Entry {
+        value,
+        key,
+        tid: Tid { page, slot },
+    }
+}
+
+fn parts(entry: Option<Entry>) -> Option<Parts> {
+    let entry = entry?;
+    Some((entry.value, entry.key, entry.tid.page, entry.tid.slot))
+}
+
+/// A table without rows, whose first id is 3.
+pub fn empty(alloc: Global, stop_age: u16, max_pages: u16, indexed: [bool; 4]) -> HeapState {
+    HeapState::new(
+        alloc,
+        Xid(3),
+        u32::from(stop_age),
+        u32::from(max_pages),
+        indexed,
+    )
+}
+
+/// What one sees that begins when this id is the next.
+pub fn begun(alloc: Global, next: u32) -> Snapshot {
+    Snapshot::at(alloc, normal(next))
+}
+
+fn is_known(heap: &HeapState, own: &OwnIds) -> bool
+    ensures { IsTrue result → (x : ℕ) → current_xid own.now.ids own.now.saved ≡ Some x
+        → IsGiven heap.now.table x }
+{
+    match own.current_xid() {
+        Some(x) => heap.table().remembers(x),
+        None => true,
+    }
+}
+
+pub fn insert(heap: &mut HeapState, own: &mut OwnIds, values: Values) -> Result<Xid, WriteFault> {
+    if !is_known(heap, own) {
+        return Err(WriteFault::Gone);
+    }
+    heap.insert(own, &row_of(values))
+}
+
+pub fn update(
+    heap: &mut HeapState,
+    own: &mut OwnIds,
+    place: Place,
+    values: Values,
+    horizon: u32,
+) -> Result<Xid, WriteFault> {
+    if !is_known(heap, own) {
+        return Err(WriteFault::Gone);
+    }
+    heap.update(own, tid(place), &row_of(values), normal(horizon))
+}
+
+pub fn delete(heap: &mut HeapState, own: &mut OwnIds, place: Place) -> Result<Xid, WriteFault> {
+    if !is_known(heap, own) {
+        return Err(WriteFault::Gone);
+    }
+    heap.delete(own, tid(place))
+}
+
+pub fn finish(heap: &mut HeapState, x: Xid, status: Status) {
+    if heap.table().remembers(x) && matches!(heap.table().status(x), Status::InProgress) {
+        heap.finish(&[x], status);
+    }
+}
+
+pub fn prune(heap: &mut HeapState, page: u32, horizon: u32) -> Result<(), PruneFault> {
+    heap.prune(page, normal(horizon))
+}
+
+pub fn release(own: &mut OwnIds) {
+    if own.savepoints() > 0 {
+        own.release();
+    }
+}
+
+/// The place of the version of a key that is seen, a committed id that is newer_commit, and one in progress.
+pub fn check_write(
+    heap: &HeapState,
+    key: u64,
+    snapshot: &Snapshot,
+    own: &OwnIds,
+) -> (Option<Place>, Option<Xid>, Option<Xid>) {
+    let check_write = heap.check_write(key, snapshot, own);
+    (
+        pair(check_write.place),
+        check_write.newer_commit,
+        check_write.other_writer,
+    )
+}
+
+/// The first column of the row of a key.
+pub fn first(heap: &HeapState, key: u64, snapshot: &Snapshot, own: &OwnIds) -> Option<i64> {
+    Some(heap.row(key, snapshot, own)?.cols()[0])
+}
+
+/// The key and the second column of the row at a place.
+pub fn row_at(
+    heap: &HeapState,
+    place: Place,
+    snapshot: &Snapshot,
+    own: &OwnIds,
+) -> Option<(u64, i64)> {
+    let row = heap.seen_row(tid(place), snapshot, own)?;
+    Some((row.key(), row.cols()[1]))
+}
+
+/// How many entries the index of this number has, if it is in use.
+pub fn count(heap: &HeapState, number: u8) -> Option<u64> {
+    Some(heap.index(number)?.len())
+}
+
+/// The entry behind this one in the index of this number, or the first.
+pub fn entry_after(heap: &HeapState, number: u8, from: Option<Parts>) -> Option<Parts> {
+    parts(heap.index(number)?.next_after(from.map(entry)))
+}
+
+/// The first entry of the key, or of a higher one.
+pub fn from_key(heap: &HeapState, key: u64) -> Option<Parts> {
+    parts(heap.index(0)?.first_from(i128::from(key), key))
+}
+
+/// How many slots a page has, its room, and how often it was changed, if it is in use.
+pub fn page_at(heap: &HeapState, number: u32) -> Option<(u16, usize, u64)> {
+    let page = heap.page(number)?;
+    Some((page.slots(), page.room(), page.change()))
+}
+
+/// Whether the version in a slot of page 0 is heap-only, whether it is HOT-updated, and where it leads.
+pub fn marks_at(heap: &HeapState, slot: u16) -> Option<(bool, bool, Place)> {
+    let header = heap.page(0)?.header(slot)?;
+    Some((
+        header.is_heap_only(),
+        header.is_hot_updated(),
+        (header.ctid.page, header.ctid.slot),
+    ))
+}
+
+/// The part of an index, for who knows no entry of it.
+fn span_of((index, low, high, last): Part) -> IndexRange {
+    IndexRange {
+        index,
+        low,
+        high,
+        last: match last {
+            Some((value, key)) => Some(IndexPosition {
+                value,
+                key,
+                tid: tid((u32::MAX, 0)),
+                near: PositionHint::default(),
+            }),
+            None => None,
+        },
+    }
+}
+
+/// The place of the first row of a span, if this is that row, and stands at the place of its value and its key.
+fn place_if(
+    heap: &HeapState,
+    span: &IndexRange,
+    snapshot: &Snapshot,
+    own: &OwnIds,
+    (first, key): Met,
+) -> Option<IndexPosition> {
+    let (mark, row) = heap.next_row(span, snapshot, own)?;
+    let value = if span.index == 0 {
+        i128::from(key)
+    } else {
+        i128::from(first)
+    };
+    if mark.value == value && mark.key == key && row.key() == key && row.cols()[0] == first {
+        Some(mark)
+    } else {
+        None
+    }
+}
+
+/// Whether a walk finds these rows in this order, and no others.
+pub fn walks(
+    heap: &HeapState,
+    part: Part,
+    snapshot: &Snapshot,
+    own: &OwnIds,
+    rows: &[Met],
+) -> bool {
+    let mut left = span_of(part);
+    for row in rows {
+        match place_if(heap, &left, snapshot, own, *row) {
+            Some(mark) => left.last = Some(mark),
+            None => return false,
+        }
+    }
+    heap.next_row(&left, snapshot, own).is_none()
+}

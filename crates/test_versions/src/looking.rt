@@ -1,0 +1,295 @@
+//! Searches along entries, each reckoned by hand.
+
+ghost use Rattle.std.specs.Prelude.{IfSome};
+ghost use Rattle.sound_entries.specs.Looking.{IsFirstOf};
+
+use crate::ids::{begun, finish, owner, table_of};
+use crate::stage::{insert, update};
+use arrayvec::ArrayVec;
+use commit_status::{Status, StatusTable};
+use heap_pages::{MAX_PAGES, Pages};
+use page_slots::Page;
+use root_index::{Entry, RootIndex};
+use snapshot::{OwnIds, Snapshot};
+use sound_entries::laws::{
+    aborting_keeps_entries, adding_keeps_entries, committing_keeps_entries, entries_go_sound,
+    found_by_index, giving_keeps_entries, later_horizon_keeps_entries, led_by_entry,
+    led_by_two_steps, no_entries_are_sound, pages_grow_sound, pruning_keeps_entries,
+    taking_keeps_entries, touched_by_index, updating_keeps_entries,
+};
+use sound_entries::{
+    WriteCheck, check_write, foreign_is_on_heap, found_is_on_heap, missed_is_on_heap, place_from,
+    place_is_on_heap, place_of, row_from, row_of, the_row_is_found,
+};
+use std::alloc::{AllocError, Global};
+use tuple_header::{Row, RowRef};
+use xid_circle::{Tid, Xid};
+
+/// A key that is looked for; the id that was next when the snapshot was taken; and the reader's own id, if it is one.
+type Asked = (u64, u32, u32);
+
+/// The place and the first column of the row that is seen, a committed id that is newer_commit, and one in progress.
+type Found = (Option<(u32, u16)>, Option<i64>, Option<Xid>, Option<Xid>);
+
+/// Of ids 3 to 5 the first is committed, the second in progress, and the third aborted.
+fn statuses(alloc: Global) -> StatusTable {
+    let mut table = table_of(alloc, 3, 3);
+    finish(&mut table, 3, Status::Committed);
+    finish(&mut table, 5, Status::Aborted);
+    table
+}
+
+/// An index by key with entries of these keys, pages and slots.
+fn entries(alloc: Global, of: &[(u64, u32, u16)]) -> Result<RootIndex, AllocError> {
+    let mut index = RootIndex::new(alloc);
+    for (key, page, slot) in of {
+        index.insert(Entry {
+            value: i128::from(*key),
+            key: *key,
+            tid: Tid {
+                page: *page,
+                slot: *slot,
+            },
+        })?;
+    }
+    Ok(index)
+}
+
+fn row(key: u64, first: i64) -> Row {
+    Row {
+        key,
+        cols: [first, 0, 0, 0],
+        body: ArrayVec::new(),
+    }
+}
+
+/// A page of this number with rows of these ids, keys and first columns.
+fn page_of(alloc: Global, number: u32, rows: &[(u32, u64, i64)]) -> Page {
+    let mut page = Page::new(alloc);
+    for (x, key, first) in rows {
+        let _ = insert(&mut page, number, *x, &row(*key, *first));
+    }
+    page
+}
+
+fn add_page(pages: &mut Pages, page: Page) {
+    if pages.make_room(1).is_ok() && pages.len() < MAX_PAGES {
+        pages.push_page(page);
+    }
+}
+
+static FIVE: [(u32, u64, i64); 1] = [(5, 7, 50)];
+
+static SEVEN_AND_EIGHT: [(u32, u64, i64); 2] = [(3, 7, 70), (3, 8, 80)];
+
+/// On page 0 id 5 inserted key 7. On page 1 id 3 inserted keys 7 and 8, and id 4 updated key 7.
+fn two_pages(alloc: Global) -> Pages {
+    let mut pages = Pages::new(alloc);
+    add_page(&mut pages, page_of(alloc, 0, &FIVE));
+    let mut second = page_of(alloc, 1, &SEVEN_AND_EIGHT);
+    let _ = update(&mut second, 1, 1, 4, &row(7, 71));
+    add_page(&mut pages, second);
+    pages
+}
+
+static NINE_TWICE: [(u32, u64, i64); 2] = [(4, 9, 90), (3, 9, 91)];
+
+static NINE_EIGHT_AND_TEN: [(u32, u64, i64); 3] = [(3, 9, 92), (3, 8, 80), (3, 10, 100)];
+
+/// No engine makes these: on page 0 id 4 inserted key 9, and then id 3. On page 1 id 3 inserted key 9 again, and keys 8 and 10.
+fn three_of_a_key(alloc: Global) -> Pages {
+    let mut pages = Pages::new(alloc);
+    add_page(&mut pages, page_of(alloc, 0, &NINE_TWICE));
+    add_page(&mut pages, page_of(alloc, 1, &NINE_EIGHT_AND_TEN));
+    pages
+}
+
+/// The first entry of a key, if it has one.
+fn first_of(index: &RootIndex, key: u64) -> Option<Entry>
+    ensures { IfSome result (IsFirstOf index.now.entries) }
+{
+    let value = i128::from(key);
+    match index.first_from(value, key) {
+        Some(entry) if entry.value == value && entry.key == key => Some(entry),
+        _ => None,
+    }
+}
+
+/// The first column of a row.
+fn column(row: Option<RowRef<'_>>) -> Option<i64> {
+    Some(row?.cols()[0])
+}
+
+/// The page and the slot of a place.
+fn pair(place: Option<Tid>) -> Option<(u32, u16)> {
+    let place = place?;
+    Some((place.page, place.slot))
+}
+
+/// The place and the first column of the row of a key, and both from the first entry of the key.
+type Seen = (Option<(u32, u16)>, Option<i64>);
+
+fn seen(
+    pages: &Pages,
+    index: &RootIndex,
+    key: u64,
+    snapshot: &Snapshot,
+    own: &OwnIds,
+    table: &StatusTable,
+) -> Seen {
+    let value = i128::from(key);
+    let place = place_of(pages, index, value, key, snapshot, own, table);
+    let row = row_of(pages, index, value, key, snapshot, own, table);
+    (pair(place), column(row))
+}
+
+fn seen_from_first(
+    pages: &Pages,
+    index: &RootIndex,
+    key: u64,
+    snapshot: &Snapshot,
+    own: &OwnIds,
+    table: &StatusTable,
+) -> Seen {
+    match first_of(index, key) {
+        Some(first) => {
+            let place = place_from(pages, index, first, snapshot, own, table);
+            let row = row_from(pages, index, first, snapshot, own, table);
+            (pair(place), column(row))
+        }
+        None => (None, None),
+    }
+}
+
+/// What a session has to know of a key before it writes it.
+fn standing(
+    pages: &Pages,
+    index: &RootIndex,
+    key: u64,
+    snapshot: &Snapshot,
+    own: &OwnIds,
+    table: &StatusTable,
+) -> WriteCheck {
+    let value = i128::from(key);
+    check_write(pages, index, value, key, snapshot, own, table)
+}
+
+/// Whether this is found of a key, however it is looked for.
+fn finds(
+    alloc: Global,
+    pages: &Pages,
+    index: &RootIndex,
+    (key, next, own): Asked,
+    found: Found,
+) -> bool {
+    let table = statuses(alloc);
+    let snapshot = begun(alloc, next);
+    let own = owner(alloc, own);
+    let (place, column, newer_commit, other_writer) = found;
+    let standing = standing(pages, index, key, &snapshot, &own, &table);
+    seen(pages, index, key, &snapshot, &own, &table) == (place, column)
+        && seen_from_first(pages, index, key, &snapshot, &own, &table) == (place, column)
+        && pair(standing.place) == place
+        && standing.newer_commit == newer_commit
+        && standing.other_writer == other_writer
+}
+
+/// The first that is found otherwise on these pages, with such entries.
+fn first_other(
+    alloc: Global,
+    pages: &Pages,
+    of: &[(u64, u32, u16)],
+    rows: &[(Asked, Found)],
+) -> Result<Option<Asked>, AllocError> {
+    let index = entries(alloc, of)?;
+    for (asked, found) in rows {
+        if !finds(alloc, pages, &index, *asked, *found) {
+            return Ok(Some(*asked));
+        }
+    }
+    Ok(None)
+}
+
+const NOTHING: Found = (None, None, None, None);
+
+/// What the rows on the two pages have for entries.
+static BY_KEY: [(u64, u32, u16); 3] = [(7, 0, 1), (7, 1, 1), (8, 1, 2)];
+
+/// The first entry of key 7 leads to what is aborted, and the second to what is seen. Nothing is committed before 4 is next.
+static TWO_PAGES: [(Asked, Found); 8] = [
+    ((7, 3, 0), (None, None, Some(Xid(3)), Some(Xid(4)))),
+    ((7, 3, 4), (Some((1, 3)), Some(71), Some(Xid(3)), None)),
+    ((7, 4, 0), (Some((1, 1)), Some(70), None, Some(Xid(4)))),
+    ((7, 4, 4), (Some((1, 3)), Some(71), None, None)),
+    ((8, 4, 0), (Some((1, 2)), Some(80), None, None)),
+    ((8, 3, 0), (None, None, Some(Xid(3)), None)),
+    ((9, 3, 0), NOTHING),
+    ((9, 4, 0), NOTHING),
+];
+
+#[test]
+fn a_row_is_found_by_its_second_entry(rt: HostRuntime) -> Result<(), AllocError> {
+    let pages = two_pages(rt.alloc());
+    assert_eq!(rt; first_other(rt.alloc(), &pages, &BY_KEY, &TWO_PAGES)?, None);
+    Ok(())
+}
+
+static OF_THREE_OF_A_KEY: [(u64, u32, u16); 5] = [
+    (9, 1, 1),
+    (9, 0, 2),
+    (9, 0, 1),
+    (10, 1, 3),
+    (8, 1, 2),
+];
+
+/// What is its own is seen, whenever it began; and there are keys beside that of which there are three.
+static THREE_OF_A_KEY: [(Asked, Found); 7] = [
+    ((9, 4, 0), (Some((0, 2)), Some(91), None, Some(Xid(4)))),
+    ((9, 4, 4), (Some((0, 1)), Some(90), None, None)),
+    ((9, 3, 4), (Some((0, 1)), Some(90), Some(Xid(3)), None)),
+    ((9, 3, 0), (None, None, Some(Xid(3)), Some(Xid(4)))),
+    ((8, 4, 4), (Some((1, 2)), Some(80), None, None)),
+    ((10, 4, 4), (Some((1, 3)), Some(100), None, None)),
+    ((10, 3, 4), (None, None, Some(Xid(3)), None)),
+];
+
+#[test]
+fn the_first_entry_by_which_something_is_seen(rt: HostRuntime) -> Result<(), AllocError> {
+    let pages = three_of_a_key(rt.alloc());
+    let other = first_other(rt.alloc(), &pages, &OF_THREE_OF_A_KEY, &THREE_OF_A_KEY)?;
+    assert_eq!(rt; other, None);
+    Ok(())
+}
+
+static NO_PAGES: [(Asked, Found); 2] = [((7, 3, 0), NOTHING), ((7, 4, 4), NOTHING)];
+
+#[test]
+fn an_entry_of_a_page_that_is_not_in_use_leads_nowhere(rt: HostRuntime) -> Result<(), AllocError> {
+    let pages = Pages::new(rt.alloc());
+    assert_eq!(rt; first_other(rt.alloc(), &pages, &BY_KEY, &NO_PAGES)?, None);
+    Ok(())
+}
+
+#[test]
+fn laws() {
+    led_by_entry();
+    found_by_index();
+    touched_by_index();
+    found_is_on_heap();
+    the_row_is_found();
+    place_is_on_heap();
+    missed_is_on_heap();
+    foreign_is_on_heap();
+    no_entries_are_sound();
+    adding_keeps_entries();
+    taking_keeps_entries();
+    updating_keeps_entries();
+    pruning_keeps_entries();
+    pages_grow_sound();
+    entries_go_sound();
+    giving_keeps_entries();
+    committing_keeps_entries();
+    aborting_keeps_entries();
+    later_horizon_keeps_entries();
+    led_by_two_steps();
+}

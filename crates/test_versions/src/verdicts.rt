@@ -1,0 +1,133 @@
+//! Verdicts, fates and hints, each reckoned by hand.
+
+use crate::ids::{begun, next_id, nobody, normal, owner};
+use crate::stage::{Life, PageStep, header_of, row, run_page};
+use commit_status::{Status, StatusTable};
+use snapshot::{OwnIds, Snapshot};
+use std::alloc::Global;
+use std::test::Fail;
+use tuple_header::{Tuple, fault_of};
+use visibility::laws::{
+    dead_is_unseen, finishing_unseen_ids_changes_no_verdict, giving_changes_no_verdict,
+};
+use visibility::{
+    Fate, fate, fate_of, hints_change_no_verdict, reads, set_hints, visible, visible_header,
+};
+
+/// A version with such a header, if that has no fault.
+fn version_of(life: Life) -> Option<Tuple> {
+    let header = header_of(0, life);
+    match fault_of(&header) {
+        None => Some(Tuple { header, row: row() }),
+        Some(_) => None,
+    }
+}
+
+/// What is seen beside the session of id 5.
+fn beside_5(alloc: Global, table: &StatusTable) -> Option<Snapshot> {
+    let mut snapshot = begun(alloc, next_id(table));
+    match snapshot.list(&owner(alloc, 5)) {
+        Ok(()) => Some(snapshot),
+        Err(_) => None,
+    }
+}
+
+/// Whether a reader sees a version, where its header and the whole of it say the same.
+fn is_seen(
+    version: &Tuple,
+    snapshot: &Snapshot,
+    own: &OwnIds,
+    table: &StatusTable,
+) -> Option<bool> {
+    version.is_version();
+    let is_seen = visible_header(&version.header, snapshot, own, table);
+    if visible(version, snapshot, own, table) == is_seen {
+        Some(is_seen)
+    } else {
+        None
+    }
+}
+
+/// Whether the owner of id 5, or another reader, sees a version.
+pub fn sees(alloc: Global, table: &StatusTable, life: Life, is_owner: bool) -> Option<bool> {
+    let version = version_of(life)?;
+    let snapshot = beside_5(alloc, table)?;
+    let own = if is_owner {
+        owner(alloc, 5)
+    } else {
+        nobody(alloc)
+    };
+    is_seen(&version, &snapshot, &own, table)
+}
+
+/// The fate of a version at a horizon, where its header and the whole of it say the same.
+pub fn fate_at(table: &StatusTable, life: Life, horizon: u32) -> Option<Fate> {
+    let version = version_of(life)?;
+    version.is_version();
+    let told = fate_of(&version.header, normal(horizon), table);
+    if fate(&version, normal(horizon), table) == told {
+        Some(told)
+    } else {
+        None
+    }
+}
+
+/// The mask of a version once it has its hints.
+pub fn hinted(table: &StatusTable, life: Life) -> Option<u16> {
+    let mut header = header_of(0, life);
+    match fault_of(&header) {
+        None => {
+            set_hints(&mut header, table);
+            Some(header.mask)
+        }
+        Some(_) => None,
+    }
+}
+
+/// Whether one who began when 6 was next reads an id.
+pub fn reads_id(alloc: Global, table: &StatusTable, x: u32) -> bool {
+    reads(normal(x), &begun(alloc, 6), &nobody(alloc), table)
+}
+
+/// Id 3 is committed, 4 is aborted, and 5 is in progress.
+static VERDICTS: [PageStep; 23] = [
+    PageStep::Finish(&[3], Status::Committed),
+    PageStep::Finish(&[4], Status::Aborted),
+    PageStep::Seen((3, 0, 1, 0, 0x0800), true, true),
+    PageStep::Seen((4, 0, 1, 0, 0x0800), false, false),
+    PageStep::Seen((5, 0, 1, 0, 0x0800), true, false),
+    // deleted by one that was rolled back, and by the owner
+    PageStep::Seen((3, 4, 1, 0, 0), true, true),
+    PageStep::Seen((3, 5, 1, 0, 0), false, true),
+    // frozen, whatever its number
+    PageStep::Seen((4, 0, 1, 0, 0x0b00), true, true),
+    PageStep::Fate((3, 0, 1, 0, 0x0800), 6, Fate::Kept),
+    PageStep::Fate((4, 0, 1, 0, 0x0800), 3, Fate::Dead),
+    PageStep::Fate((4, 0, 1, 0, 0x0b00), 3, Fate::Kept),
+    // a deleter that is the horizon itself doesn't precede it
+    PageStep::Fate((3, 3, 1, 0, 0), 3, Fate::Kept),
+    PageStep::Fate((3, 3, 1, 0, 0), 4, Fate::Dead),
+    PageStep::Fate((3, 5, 1, 0, 0), 6, Fate::Kept),
+    PageStep::Hinted((3, 0, 1, 0, 0x0800), 0x0900),
+    PageStep::Hinted((4, 0, 1, 0, 0x2800), 0x2a00),
+    PageStep::Hinted((5, 0, 1, 0, 0x0800), 0x0800),
+    PageStep::Hinted((3, 4, 1, 0, 0), 0x0900),
+    PageStep::Hinted((3, 3, 1, 0, 0), 0x0500),
+    PageStep::Hinted((4, 5, 1, 0, 0x0300), 0x0300),
+    PageStep::Reads(3, true),
+    PageStep::Reads(4, false),
+    PageStep::Reads(5, false),
+];
+
+#[test]
+fn verdicts_fates_and_hints(rt: HostRuntime) -> Result<(), Fail> {
+    run_page(rt.alloc(), 3, &VERDICTS)
+}
+
+#[test]
+fn laws() {
+    finishing_unseen_ids_changes_no_verdict();
+    giving_changes_no_verdict();
+    dead_is_unseen();
+    hints_change_no_verdict();
+}

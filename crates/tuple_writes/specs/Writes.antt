@@ -1,0 +1,45 @@
+-- The slots of a page after a write.
+use Rattle.std.specs.Prelude.{ℕ, Bool, true, false, List}
+use Rattle.page_slots.specs.declared.slot.Slot.{Slot}
+use Rattle.page_slots.specs.declared.slot.Slot.TheVariants.{Unused, Normal, Redirect, Dead}
+use Rattle.page_slots.specs.Slots.{the_slot, with_slot, with_added, free_number, change_unless}
+use Rattle.page_slots.specs.Hints.{same_but_hints}
+use Rattle.tuple_header.specs.declared.version.Row.{Row}
+use Rattle.tuple_writes.specs.Headers.{replaced_header, root_header, heap_only_header}
+
+abbrev pub replaced_slot : ℕ → ℕ → ℕ → Bool → Slot → Slot
+replaced_slot x page place hot Unused = Unused
+replaced_slot x page place hot (Normal t) = Normal (record t { header = replaced_header t.header x page place hot })
+replaced_slot x page place hot (Redirect target) = Redirect target
+replaced_slot x page place hot Dead = Dead
+
+-- whether that changes hints alone, as where an aborted id takes the same version away again
+abbrev pub was_replaced : ℕ → ℕ → ℕ → Bool → Slot → Bool
+was_replaced x page place hot Unused = true
+was_replaced x page place hot (Normal t) = same_but_hints t.header (replaced_header t.header x page place hot)
+was_replaced x page place hot (Redirect target) = true
+was_replaced x page place hot Dead = true
+
+-- the change number afterwards
+abbrev pub replaced_change : List Slot → ℕ → ℕ → ℕ → ℕ → Bool → ℕ → ℕ
+replaced_change slots n x page place hot change = change_unless (was_replaced x page place hot (the_slot slots n)) change
+
+-- the version in slot n was taken away by x, and its successor is at this place
+abbrev pub with_replaced : List Slot → ℕ → ℕ → ℕ → ℕ → Bool → List Slot
+with_replaced slots n x page place hot = with_slot slots n (replaced_slot x page place hot (the_slot slots n))
+
+-- the version in slot n of this page was deleted by x
+abbrev pub with_deleted : List Slot → ℕ → ℕ → ℕ → List Slot
+with_deleted slots n x page = with_replaced slots n x page n false
+
+-- x made a version of the row at the free number of this page, as a root
+abbrev pub with_root : List Slot → Bool → ℕ → ℕ → Row → List Slot
+with_root slots updated x page row = with_added slots (Normal (record { header = root_header updated x page (free_number slots); row = row }))
+
+-- the same, heap-only
+abbrev pub with_heap_only : List Slot → ℕ → ℕ → Row → List Slot
+with_heap_only slots x page row = with_added slots (Normal (record { header = heap_only_header x page (free_number slots); row = row }))
+
+-- x updated the version in slot n by one of this row on the same page, by a HOT update
+abbrev pub with_updated : List Slot → ℕ → ℕ → ℕ → Row → List Slot
+with_updated slots n x page row = with_replaced (with_heap_only slots x page row) n x page (free_number slots) true

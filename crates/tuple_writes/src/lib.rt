@@ -1,0 +1,17 @@
+//! Writes on one page, and what they keep.
+//!
+//! An insert adds a version as a root. A delete, and an update whose new version goes to another page, take a version
+//! away. A HOT update replaces it by a heap-only one on the same page (README.HOT). `specs/Headers.antt` and
+//! `specs/Writes.antt` say exactly what each leaves, and the functions promise that. None takes memory: the caller has
+//! tested the room and asked for memory before.
+//!
+//! The laws say that a sound page, as pruning asks for, stays sound, and index entries stay right, under each write by an
+//! id in progress, when ids are given or finish, and under a later horizon (`specs/Laws.antt`).
+#![tactic(auto)]
+
+mod headers;
+pub mod laws;
+mod writes;
+
+pub use headers::{heap_only, replaced, root};
+pub use writes::{add_cold_version, delete_version, hot_update, insert_version, mark_cold_updated};

@@ -1,0 +1,176 @@
+//! Writes. None takes memory, and each fits: whoever calls one has tested the page's room, and asked for memory by
+//! `Page::make_room` where no slot is unused.
+
+ghost use Rattle.std.specs.Prelude.{◌≡◌, ◌≤◌, ◌<◌, ◌+◌, ◌⊎◌, None, true, false};
+ghost use Rattle.xid_circle.specs.Circle.{IsNormal};
+ghost use Rattle.page_slots.specs.Slots.{room_of, free_number, with_added, has_unused, next_change, IsNormalAt};
+ghost use Rattle.page_slots.specs.declared.slot.Slot.{Slot};
+ghost use Rattle.tuple_header.specs.Version.{rounded_size_of};
+ghost use Rattle.tuple_header.specs.Faults.{header_fault};
+ghost use Rattle.tuple_writes.specs.Writes.{with_replaced, replaced_change, with_deleted, with_root, with_updated};
+
+use crate::headers::{heap_only, replaced, root};
+use page_slots::Page;
+use tuple_header::{Header, Row};
+use xid_circle::{Tid, Xid};
+
+/// Adds a version.
+fn add(page: &mut Page, header: Header, row: &Row)
+    requires faultless { header_fault header ≡ None }
+    requires room { rounded_size_of row.now ≤ room_of page.old.slots }
+    requires memory { (has_unused page.old.slots ≡ true) ⊎ (0 < page.old.spare) }
+    ensures slots { page.new.slots
+        ≡ with_added page.old.slots (Slot.Normal (record { header = header; row = row.now })) }
+    ensures change { page.new.change ≡ next_change page.old.change }
+    ensures flag { page.new.flag ≡ page.old.flag }
+    ensures spare { page.old.spare ≤ page.new.spare + 1 }
+    ensures spare_kept { has_unused page.old.slots ≡ true → page.old.spare ≤ page.new.spare }
+{
+    match page.add_row(header, row) {
+        Ok(_) => {}
+        Err(_) => unreachable!(),
+    }
+}
+
+/// Adds a version as a root.
+fn add_root(page: &mut Page, number_of_page: u32, updated: bool, x: Xid, row: &Row) -> u16
+    requires normal { IsNormal x.0 }
+    requires room { rounded_size_of row.now ≤ room_of page.old.slots }
+    requires memory { (has_unused page.old.slots ≡ true) ⊎ (0 < page.old.spare) }
+    ensures number { result ≡ free_number page.old.slots }
+    ensures limit { result ≤ 291 }
+    ensures slots { page.new.slots ≡ with_root page.old.slots updated x.0 number_of_page row.now }
+    ensures change { page.new.change ≡ next_change page.old.change }
+    ensures flag { page.new.flag ≡ page.old.flag }
+    ensures spare { page.old.spare ≤ page.new.spare + 1 }
+    ensures spare_kept { has_unused page.old.slots ≡ true → page.old.spare ≤ page.new.spare }
+{
+    let _room = page.room();
+    let slot = page.free_number();
+    let place = Tid {
+        page: number_of_page,
+        slot,
+    };
+    let header = root(updated, x, place);
+    add(page, header, row);
+    slot
+}
+
+/// Inserts a version of the row, made by `x`, a normal id, as a root in the lowest unused slot, else in a new last one,
+/// and answers the slot's number. The page has the number given, room for the row, and an unused slot or memory for a new
+/// one. (PostgreSQL, `heap_insert` in src/backend/access/heap/heapam.c.)
+pub fn insert_version(page: &mut Page, number_of_page: u32, x: Xid, row: &Row) -> u16
+    requires normal { IsNormal x.0 }
+    requires room { rounded_size_of row.now ≤ room_of page.old.slots }
+    requires memory { (has_unused page.old.slots ≡ true) ⊎ (0 < page.old.spare) }
+    ensures number { result ≡ free_number page.old.slots }
+    ensures limit { result ≤ 291 }
+    ensures slots { page.new.slots ≡ with_root page.old.slots false x.0 number_of_page row.now }
+    ensures change { page.new.change ≡ next_change page.old.change }
+    ensures flag { page.new.flag ≡ page.old.flag }
+    ensures spare { page.old.spare ≤ page.new.spare + 1 }
+    ensures spare_kept { has_unused page.old.slots ≡ true → page.old.spare ≤ page.new.spare }
+{
+    add_root(page, number_of_page, false, x, row)
+}
+
+/// Adds the new version of an update that is not HOT: as [`insert_version`], but marked as made by an update.
+pub fn add_cold_version(page: &mut Page, number_of_page: u32, x: Xid, row: &Row) -> u16
+    requires normal { IsNormal x.0 }
+    requires room { rounded_size_of row.now ≤ room_of page.old.slots }
+    requires memory { (has_unused page.old.slots ≡ true) ⊎ (0 < page.old.spare) }
+    ensures number { result ≡ free_number page.old.slots }
+    ensures limit { result ≤ 291 }
+    ensures slots { page.new.slots ≡ with_root page.old.slots true x.0 number_of_page row.now }
+    ensures change { page.new.change ≡ next_change page.old.change }
+    ensures flag { page.new.flag ≡ page.old.flag }
+    ensures spare { page.old.spare ≤ page.new.spare + 1 }
+    ensures spare_kept { has_unused page.old.slots ≡ true → page.old.spare ≤ page.new.spare }
+{
+    add_root(page, number_of_page, true, x, row)
+}
+
+/// Notes that `x` took away the version in a slot, and where its successor is.
+fn set_xmax(page: &mut Page, slot: u16, x: Xid, place: Tid, hot: bool)
+    requires version { IsNormalAt page.old.slots slot }
+    requires normal { IsNormal x.0 }
+    requires from { 1 ≤ place.slot }
+    requires to { place.slot ≤ 291 }
+    ensures slots { page.new.slots
+        ≡ with_replaced page.old.slots slot x.0 place.page place.slot hot }
+    ensures change { page.new.change
+        ≡ replaced_change page.old.slots slot x.0 place.page place.slot hot page.old.change }
+    ensures flag { page.new.flag ≡ page.old.flag }
+    ensures spare { page.new.spare ≡ page.old.spare }
+{
+    match page.header(slot) {
+        Some(header) => page.set_header(slot, replaced(&header, x, place, hot)),
+        None => unreachable!(),
+    }
+}
+
+/// Deletes the version in a slot, as `x`, a normal id: it points at itself, and whatever an aborted deleter left is written
+/// over. The page has the number given. (PostgreSQL, `heap_delete` in src/backend/access/heap/heapam.c.)
+pub fn delete_version(page: &mut Page, number_of_page: u32, slot: u16, x: Xid)
+    requires version { IsNormalAt page.old.slots slot }
+    requires normal { IsNormal x.0 }
+    ensures slots { page.new.slots ≡ with_deleted page.old.slots slot x.0 number_of_page }
+    ensures change { page.new.change
+        ≡ replaced_change page.old.slots slot x.0 number_of_page slot false page.old.change }
+    ensures flag { page.new.flag ≡ page.old.flag }
+    ensures spare { page.new.spare ≡ page.old.spare }
+{
+    let _slots = page.slots();
+    let own = Tid {
+        page: number_of_page,
+        slot,
+    };
+    set_xmax(page, slot, x, own, false);
+}
+
+/// Notes in the version in a slot that `x`, a normal id, replaced it by one at `place`, which has an index entry of its
+/// own. (PostgreSQL, `heap_update` in src/backend/access/heap/heapam.c.)
+pub fn mark_cold_updated(page: &mut Page, slot: u16, x: Xid, place: Tid)
+    requires version { IsNormalAt page.old.slots slot }
+    requires normal { IsNormal x.0 }
+    requires from { 1 ≤ place.slot }
+    requires to { place.slot ≤ 291 }
+    ensures slots { page.new.slots
+        ≡ with_replaced page.old.slots slot x.0 place.page place.slot false }
+    ensures change { page.new.change
+        ≡ replaced_change page.old.slots slot x.0 place.page place.slot false page.old.change }
+    ensures flag { page.new.flag ≡ page.old.flag }
+    ensures spare { page.new.spare ≡ page.old.spare }
+{
+    set_xmax(page, slot, x, place, false);
+}
+
+/// Updates the version in a slot by one of this row on the same page, as `x`, a normal id, and answers the new one's slot:
+/// the old one is HOT-updated, the new one heap-only. The page has the number given, room for the row, and an unused slot
+/// or memory for a new one. (README.HOT: such an update makes no index entry.)
+pub fn hot_update(page: &mut Page, number_of_page: u32, slot: u16, x: Xid, row: &Row) -> u16
+    requires version { IsNormalAt page.old.slots slot }
+    requires normal { IsNormal x.0 }
+    requires room { rounded_size_of row.now ≤ room_of page.old.slots }
+    requires memory { (has_unused page.old.slots ≡ true) ⊎ (0 < page.old.spare) }
+    ensures number { result ≡ free_number page.old.slots }
+    ensures limit { result ≤ 291 }
+    ensures slots { page.new.slots ≡ with_updated page.old.slots slot x.0 number_of_page row.now }
+    ensures change { page.new.change
+        ≡ replaced_change page.old.slots slot x.0 number_of_page (free_number page.old.slots) true
+        (next_change page.old.change) }
+    ensures flag { page.new.flag ≡ page.old.flag }
+    ensures spare { page.old.spare ≤ page.new.spare + 1 }
+    ensures spare_kept { has_unused page.old.slots ≡ true → page.old.spare ≤ page.new.spare }
+{
+    let _room = page.room();
+    let number = page.free_number();
+    let place = Tid {
+        page: number_of_page,
+        slot: number,
+    };
+    let header = heap_only(x, place);
+    add(page, header, row);
+    set_xmax(page, slot, x, place, true);
+    number
+}
