@@ -1,0 +1,102 @@
+-- What a call does to what the handle has.
+use Rattle.std.specs.Prelude.{◌≡◌, ◌⊎◌, ℕ, ◌<◌, List, [], Option, Some, None, slice_get}
+use Rattle.tuple_header.specs.declared.version.Row.{Row}
+use Rattle.refinement.specs.declared.settings.Settings.{Settings}
+use Rattle.refinement.specs.declared.settings.SettingsFault.{SettingsFault}
+use Rattle.refinement.specs.declared.step.Step.{Step}
+use Rattle.refinement.specs.declared.reply.Reply.{Reply}
+use Rattle.refinement.specs.declared.reply.Reply.TheVariants as reply
+use Rattle.refinement.specs.declared.reply.Refusal.TheVariants as refusal
+use Rattle.refinement.specs.Words.{RowText, FirstFault}
+use Rattle.session_steps.specs.Agrees.{Follows}
+use Rattle.session_steps.specs.Exact.{Exact}
+use Rattle.session_steps.specs.New.{IsNew}
+use Rattle.sandpiper_c.specs.declared.database.Sandpiper.{Sandpiper}
+use Rattle.sandpiper_c.specs.declared.held.Held.{Held}
+use Rattle.sandpiper_c.specs.declared.rows.SandpiperRow.{SandpiperRow}
+use Rattle.sandpiper_c.specs.declared.settings.SandpiperSettings.{SandpiperSettings}
+use Rattle.sandpiper_c.specs.declared.status.CallStatus.TheVariants as status
+use Rattle.sandpiper_c.specs.CallStatus.{number_of_status, status_of_reply, status_of_fault}
+use Rattle.sandpiper_c.specs.Rows.{IsText, IsRow}
+
+-- the engine that C's handle has, if it has one
+abbrev pub held_by : Sandpiper → Option Held
+held_by table = table.handle.held
+
+abbrev pub settings_of : SandpiperSettings → Settings
+settings_of s = record { max_pages = s.max_pages; stop_age = s.stop_age; freeze_min_age = s.freeze_min_age; first_xid = s.first_xid; dead_limit = s.dead_limit; indexed = s.indexed }
+
+-- a new engine of these settings, or the first fault
+abbrev pub OpensHeld : Settings → Option Held → ℕ → Option Held → Type 0
+OpensHeld asked (Some held) code new = (code ≡ number_of_status status.HasEngine) × (new ≡ Some held)
+OpensHeld asked None code (Some held) = (code ≡ number_of_status status.Done) × IsNew asked held.engine.core
+OpensHeld asked None code None = (fault : SettingsFault) × FirstFault asked fault × (code ≡ number_of_status (status_of_fault fault))
+
+abbrev pub OpensTable : SandpiperSettings → Sandpiper → ℕ → Sandpiper → Type 0
+OpensTable asked old code new = OpensHeld (settings_of asked) (held_by old) code (held_by new)
+
+-- the engine is gone
+abbrev pub ClosesHeld : Option Held → ℕ → Option Held → Type 0
+ClosesHeld None code new = (code ≡ number_of_status status.NoEngine) × (new ≡ None)
+ClosesHeld (Some old) code new = (code ≡ number_of_status status.Done) × (new ≡ None)
+
+abbrev pub ClosesTable : Sandpiper → ℕ → Sandpiper → Type 0
+ClosesTable old code new = ClosesHeld (held_by old) code (held_by new)
+
+-- the engine did the step, as its own contract says, and the status is the number of its reply
+pub record Stepped (old : Held) (step : Step) (code : ℕ) (new : Held) : Type 0 where
+  pub follows : Follows old.engine.core step new.reply new.engine.core
+  pub exact : Exact old.engine.core step new.reply new.engine.core
+  pub status : code ≡ number_of_status (status_of_reply new.reply)
+
+abbrev pub DoesHeld : Option Held → Step → ℕ → Option Held → Type 0
+DoesHeld None step code new = (code ≡ number_of_status status.NoEngine) × (new ≡ None)
+DoesHeld (Some old) step code new = (held : Held) × (new ≡ Some held) × Stepped old step code held
+
+-- the engine did the step, or there is none and the status says so
+abbrev pub Does : Sandpiper → Step → ℕ → Sandpiper → Type 0
+Does old step code new = DoesHeld (held_by old) step code (held_by new)
+
+-- the same of a step with a row, unless memory for its body was refused, and nothing done
+abbrev pub Writes : Sandpiper → (RowText → Step) → SandpiperRow → ℕ → Sandpiper → Type 0
+Writes old step row code new = ((text : RowText) × IsText row text × Does old (step text) code new)
+    ⊎ ((0 < row.length) × (code ≡ number_of_status (status.Refused refusal.NoMemory)) × (held_by new ≡ held_by old))
+
+-- what the handle has is as it was
+abbrev pub StaysAsIs : Sandpiper → Sandpiper → Type 0
+StaysAsIs old new = held_by new ≡ held_by old
+
+-- the row of a reply, if it has one
+abbrev pub row_found_in : Reply → Option Row
+row_found_in (reply.Found row) = row
+row_found_in reply = None
+
+abbrev pub rows_in : Reply → List Row
+rows_in (reply.Rows rows) = rows.items
+rows_in reply = []
+
+-- C's place has the row, if there is one, and is else as it was
+abbrev pub ShowsRow : Option Row → SandpiperRow → SandpiperRow → Type 0
+ShowsRow None old new = new ≡ old
+ShowsRow (Some row) old new = IsRow new row
+
+-- the row of the last reply, if there is an engine
+abbrev pub found_by : Option Held → Option Row
+found_by None = None
+found_by (Some held) = row_found_in held.reply
+
+abbrev pub ShowsFound : Sandpiper → SandpiperRow → SandpiperRow → Type 0
+ShowsFound table old new = ShowsRow (found_by (held_by table)) old new
+
+-- the rows of the last reply, if there is an engine
+abbrev pub rows_by : Option Held → List Row
+rows_by None = []
+rows_by (Some held) = rows_in held.reply
+
+-- the row of this number, counted from 0, if there are so many
+abbrev pub row_handed_out : Sandpiper → ℕ → Option Row
+row_handed_out table number = slice_get (rows_by (held_by table)) number
+
+abbrev pub row_code : Option Row → ℕ
+row_code None = number_of_status status.NoRow
+row_code (Some row) = number_of_status status.Found

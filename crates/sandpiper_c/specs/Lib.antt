@@ -1,0 +1,6 @@
+pub mod Heap
+pub mod Owned
+pub mod CallStatus
+pub mod Rows
+pub mod Calls
+pub mod Pages

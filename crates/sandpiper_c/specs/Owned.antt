@@ -1,0 +1,14 @@
+-- What a handle owns.
+use Rattle.std.specs.Prelude.{Option, Some, None}
+use base.Fml.{Fml, ftrue}
+use denote.RawPtr.{Ptr}
+use Rattle.std.specs.contracts.impls.GlobalAllocator.TheImpl.{ghosts}
+use Rattle.std_alloc.specs.Box.Ownership.{box_owns}
+use Rattle.sandpiper_c.specs.Heap.{the_heap}
+use Rattle.sandpiper_c.specs.contracts.held.Held.{the_row}
+use Rattle.sandpiper_c.specs.declared.held.Held.{Held}
+
+-- nothing, or what is held at p, and the right to free its block
+abbrev pub owned : Ptr → Option Held → Fml
+owned p None = ftrue
+owned p (Some x) = box_owns (ghosts.dealloc_token the_heap) the_row p x

@@ -1,0 +1,35 @@
+-- The slots of a page, as C reads them.
+use Rattle.std.specs.Prelude.{◌≡◌, ℕ, Option, Some, None, slice_get}
+use Rattle.std.specs.Option.{option_and_then}
+use Rattle.page_slots.specs.Slots.{slot_at}
+use Rattle.page_slots.specs.declared.slot.Slot.{Slot}
+use Rattle.page_slots.specs.declared.slot.Slot.TheVariants.{Unused, Normal, Redirect, Dead}
+use Rattle.session_steps.specs.State.{State}
+use Rattle.sandpiper_c.specs.declared.database.Sandpiper.{Sandpiper}
+use Rattle.sandpiper_c.specs.declared.held.Held.{Held}
+use Rattle.sandpiper_c.specs.declared.pages.SandpiperSlot.{SandpiperSlot}
+use Rattle.sandpiper_c.specs.declared.status.CallStatus.TheVariants as status
+use Rattle.sandpiper_c.specs.CallStatus.{number_of_status}
+use Rattle.sandpiper_c.specs.Calls.{held_by}
+
+abbrev pub shown_slot : Slot → SandpiperSlot
+shown_slot Unused = record { kind = 0; target = 0; xmin = 0; xmax = 0; key = 0 }
+shown_slot (Normal version) = record { kind = 1; target = 0; xmin = version.header.xmin.0; xmax = version.header.xmax.0; key = version.row.key }
+shown_slot (Redirect target) = record { kind = 2; target = target; xmin = 0; xmax = 0; key = 0 }
+shown_slot Dead = record { kind = 3; target = 0; xmin = 0; xmax = 0; key = 0 }
+
+-- the slot of this number, counted from 1, of the page of this number, counted from 0
+abbrev pub page_slot : State → ℕ → ℕ → Option Slot
+page_slot st page number = option_and_then (λ p. slot_at p.slots number) (slice_get st.heap.pages.pages page)
+
+abbrev pub slot_by : Option Held → ℕ → ℕ → Option Slot
+slot_by None page number = None
+slot_by (Some held) page number = page_slot held.engine.core page number
+
+-- C's place has the slot, if there is one, and is else as it was; the status says which
+abbrev pub ShowsSlot : Option Slot → SandpiperSlot → ℕ → SandpiperSlot → Type 0
+ShowsSlot None old code new = (code ≡ number_of_status status.NoRow) × (new ≡ old)
+ShowsSlot (Some slot) old code new = (code ≡ number_of_status status.Found) × (new ≡ shown_slot slot)
+
+abbrev pub ShowsSlotOf : Sandpiper → ℕ → ℕ → SandpiperSlot → ℕ → SandpiperSlot → Type 0
+ShowsSlotOf table page number old code new = ShowsSlot (slot_by (held_by table) page number) old code new

@@ -1,0 +1,21 @@
+//! The engine for programs in C, and in whatever calls C.
+//!
+//! C keeps a [`database::Sandpiper`], whose pointer owns an engine that C never sees. Each export does one step on that engine
+//! and says again what [`session_core::Engine::step`] says of it (`specs/Calls.antt`). No export requires anything: a handle
+//! without an engine refuses each step. What a call answers is a [`status::CallStatus`], of which C has the number.
+#![tactic(auto)]
+
+mod block;
+mod cursors;
+mod database;
+mod handle;
+mod held;
+mod opening;
+mod pages;
+mod rows;
+mod settings;
+mod status;
+mod steps;
+mod writes;
+
+pub use status::{numbers_differ, refusals_are_high};

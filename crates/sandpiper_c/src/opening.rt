@@ -1,0 +1,64 @@
+//! Making an engine, and ending it.
+
+ghost use Rattle.std.specs.Prelude.{IfOk, IfErr};
+ghost use Rattle.refinement.specs.Words.{FirstFault};
+ghost use Rattle.session_steps.specs.New.{IsNew};
+ghost use Rattle.sandpiper_c.specs.Calls.{settings_of, OpensTable, ClosesTable};
+
+use crate::database::Sandpiper;
+use crate::held::Held;
+use crate::settings::{self, SandpiperSettings};
+use crate::status::CallStatus;
+use session_core::{Engine, Reply, SettingsFault};
+use std::alloc::Global;
+
+/// An engine of these settings, on the heap.
+fn new_held(alloc: Global, settings: &SandpiperSettings) -> Result<Box<Held>, SettingsFault>
+    ensures new { IfOk result (λ b. IsNew (settings_of settings.now) b.value.engine.core) }
+    ensures fault { IfErr result (λ fault. FirstFault (settings_of settings.now) fault) }
+{
+    let engine = Engine::new(alloc, settings::of(settings))?;
+    let held = Held {
+        engine,
+        reply: Reply::Done,
+    };
+    match Box::new(alloc, held) {
+        Ok(held) => Ok(held),
+        Err(_) => Err(SettingsFault::NoMemory),
+    }
+}
+
+/// Makes an engine of these settings. The status is that it is done, or names the first setting that is out of its range, or memory.
+#[unsafe(no_mangle)]
+pub extern "C" fn sandpiper_open(
+    alloc: Global,
+    settings: &SandpiperSettings,
+    table: &mut Sandpiper,
+) -> u32
+    ensures { OpensTable settings.now table.old result table.new }
+{
+    if table.is_open {
+        return CallStatus::HasEngine.number();
+    }
+    match new_held(alloc, settings) {
+        Ok(held) => {
+            table.put(held);
+            CallStatus::Done.number()
+        }
+        Err(fault) => CallStatus::of_fault(fault).number(),
+    }
+}
+
+/// Ends the engine, and gives all its memory back.
+#[unsafe(no_mangle)]
+pub extern "C" fn sandpiper_close(alloc: Global, table: &mut Sandpiper) -> u32
+    ensures { ClosesTable table.old result table.new }
+{
+    match table.take(alloc) {
+        Some(held) => {
+            drop(held);
+            CallStatus::Done.number()
+        }
+        None => CallStatus::NoEngine.number(),
+    }
+}

@@ -1,0 +1,99 @@
+//! The slots of a page, for whoever looks into it.
+
+ghost use Rattle.std.specs.Prelude.{◌≡◌};
+ghost use Rattle.sandpiper_c.specs.Calls.{StaysAsIs};
+ghost use Rattle.sandpiper_c.specs.Pages.{shown_slot, page_slot, ShowsSlot, ShowsSlotOf};
+
+use crate::database::Sandpiper;
+use crate::status::CallStatus;
+use page_slots::Slot;
+use session_core::Engine;
+use std::alloc::Global;
+
+/// A slot: its kind is 0 if it is unused, 1 for a version of a row, 2 if it leads to another slot, and 3 if it is dead. What its kind
+/// has not is 0.
+#[repr(C)]
+#[derive(Clone, Copy)]
+pub struct SandpiperSlot {
+    pub kind: u32,
+    /// Where it leads.
+    pub target: u32,
+    /// Who made the version, and who took it away.
+    pub xmin: u32,
+    pub xmax: u32,
+    pub key: u64,
+}
+
+/// What C reads of a slot.
+fn shown(slot: Slot) -> SandpiperSlot
+    ensures { result ≡ shown_slot slot }
+{
+    let unused = SandpiperSlot {
+        kind: 0,
+        target: 0,
+        xmin: 0,
+        xmax: 0,
+        key: 0,
+    };
+    match slot {
+        Slot::Unused => unused,
+        Slot::Normal(version) => SandpiperSlot {
+            kind: 1,
+            xmin: version.header.xmin.0,
+            xmax: version.header.xmax.0,
+            key: version.row.key,
+            ..unused
+        },
+        Slot::Redirect(target) => SandpiperSlot {
+            kind: 2,
+            target: target as u32,
+            ..unused
+        },
+        Slot::Dead => SandpiperSlot { kind: 3, ..unused },
+    }
+}
+
+/// The slot of this number, counted from 1, of the page of this number, counted from 0.
+fn slot_of_page(engine: &Engine, page: u32, number: u16) -> Option<Slot>
+    ensures { result ≡ page_slot engine.now.core page number }
+{
+    match engine.page(page) {
+        Some(page) => page.slot(number),
+        None => None,
+    }
+}
+
+/// Writes the slot to C's place, if there is one.
+fn put_slot(found: Option<Slot>, place: &mut SandpiperSlot) -> u32
+    ensures { ShowsSlot found place.old result place.new }
+{
+    match found {
+        Some(slot) => {
+            *place = shown(slot);
+            CallStatus::Found.number()
+        }
+        None => CallStatus::NoRow.number(),
+    }
+}
+
+/// Writes the slot of this number, counted from 1, of the page of this number, counted from 0, to `slot`, if there is one.
+#[unsafe(no_mangle)]
+pub extern "C" fn sandpiper_slot_at(
+    alloc: Global,
+    table: &mut Sandpiper,
+    page: u32,
+    number: u16,
+    slot: &mut SandpiperSlot,
+) -> u32
+    ensures stays { StaysAsIs table.old table.new }
+    ensures slot { ShowsSlotOf table.old page number slot.old result slot.new }
+{
+    match table.take(alloc) {
+        Some(held) => {
+            let code = put_slot(slot_of_page(&held.engine, page, number), slot);
+            table.put(held);
+            code
+        }
+        None => CallStatus::NoRow.number(),
+    }
+}

@@ -1,0 +1,134 @@
+//! The steps of sessions that write no row and use no cursor.
+
+ghost use Rattle.refinement.specs.declared.step.Step.TheVariants as step;
+ghost use Rattle.sandpiper_c.specs.Calls.{Does, Stepped, ShowsRow, ShowsFound, row_found_in};
+
+use crate::database::Sandpiper;
+use crate::held::Held;
+use crate::rows::{self, SandpiperRow};
+use crate::status::CallStatus;
+use session_core::{Reply, Step};
+use std::alloc::Global;
+
+/// Does the step on what is held. All that a step answers goes through here.
+fn held_step(held: &mut Held, step: Step) -> u32
+    ensures { Stepped held.old step result held.new }
+{
+    held.engine.step_into(step, &mut held.reply);
+    CallStatus::of_reply(&held.reply).number()
+}
+
+/// Does the step, if the handle has an engine.
+pub(crate) fn do_step(alloc: Global, table: &mut Sandpiper, step: Step) -> u32
+    ensures { Does table.old step result table.new }
+{
+    match table.take(alloc) {
+        Some(mut held) => {
+            let code = held_step(&mut held, step);
+            table.put(held);
+            code
+        }
+        None => CallStatus::NoEngine.number(),
+    }
+}
+
+/// Writes the row of the reply to C's place, if it has one.
+fn put_found(reply: &Reply, row: &mut SandpiperRow)
+    ensures { ShowsRow (row_found_in reply.now) row.old row.new }
+{
+    if let Reply::Found(Some(found)) = reply {
+        rows::put(row, found);
+    }
+}
+
+/// Opens the session: it reads what was committed by now.
+#[unsafe(no_mangle)]
+pub extern "C" fn sandpiper_begin(alloc: Global, table: &mut Sandpiper, session: u8) -> u32
+    ensures { Does table.old (step.Begin session) result table.new }
+{
+    do_step(alloc, table, Step::Begin(session))
+}
+
+/// Reads the row of the key, and writes it to `row`, if there is one.
+#[unsafe(no_mangle)]
+pub extern "C" fn sandpiper_get(
+    alloc: Global,
+    table: &mut Sandpiper,
+    session: u8,
+    key: u64,
+    row: &mut SandpiperRow,
+) -> u32
+    ensures does { Does table.old (step.Get session key) result table.new }
+    ensures row { ShowsFound table.new row.old row.new }
+{
+    match table.take(alloc) {
+        Some(mut held) => {
+            let code = held_step(&mut held, Step::Get(session, key));
+            put_found(&held.reply, row);
+            table.put(held);
+            code
+        }
+        None => CallStatus::NoEngine.number(),
+    }
+}
+
+/// Takes the row of the key away.
+#[unsafe(no_mangle)]
+pub extern "C" fn sandpiper_delete(
+    alloc: Global,
+    table: &mut Sandpiper,
+    session: u8,
+    key: u64,
+) -> u32
+    ensures { Does table.old (step.Delete session key) result table.new }
+{
+    do_step(alloc, table, Step::Delete(session, key))
+}
+
+/// Sets a savepoint, above those that the session has: at most 32.
+#[unsafe(no_mangle)]
+pub extern "C" fn sandpiper_savepoint(alloc: Global, table: &mut Sandpiper, session: u8) -> u32
+    ensures { Does table.old (step.Savepoint session) result table.new }
+{
+    do_step(alloc, table, Step::Savepoint(session))
+}
+
+/// Takes back what the session wrote since its newest savepoint, which stays.
+#[unsafe(no_mangle)]
+pub extern "C" fn sandpiper_rollback_to(alloc: Global, table: &mut Sandpiper, session: u8) -> u32
+    ensures { Does table.old (step.RollbackTo session) result table.new }
+{
+    do_step(alloc, table, Step::RollbackTo(session))
+}
+
+/// Forgets the newest savepoint, and keeps what the session wrote since.
+#[unsafe(no_mangle)]
+pub extern "C" fn sandpiper_release(alloc: Global, table: &mut Sandpiper, session: u8) -> u32
+    ensures { Does table.old (step.Release session) result table.new }
+{
+    do_step(alloc, table, Step::Release(session))
+}
+
+/// Makes what the session wrote part of the history, unless it has failed, and closes it.
+#[unsafe(no_mangle)]
+pub extern "C" fn sandpiper_commit(alloc: Global, table: &mut Sandpiper, session: u8) -> u32
+    ensures { Does table.old (step.Commit session) result table.new }
+{
+    do_step(alloc, table, Step::Commit(session))
+}
+
+/// Drops what the session wrote, and closes it.
+#[unsafe(no_mangle)]
+pub extern "C" fn sandpiper_abort(alloc: Global, table: &mut Sandpiper, session: u8) -> u32
+    ensures { Does table.old (step.Abort session) result table.new }
+{
+    do_step(alloc, table, Step::Abort(session))
+}
+
+/// Takes from a page, counted from 0, what nobody can see any more.
+#[unsafe(no_mangle)]
+pub extern "C" fn sandpiper_prune(alloc: Global, table: &mut Sandpiper, page: u32) -> u32
+    ensures { Does table.old (step.Prune page) result table.new }
+{
+    do_step(alloc, table, Step::Prune(page))
+}

@@ -1,0 +1,164 @@
+/* Sandpipercot: a multi-version table heap in memory, for C and for what calls C.
+ *
+ * THE HANDLE. A struct sandpiper that is all zeros has no table. sandpiper_open gives it one, and sandpiper_close takes it away,
+ * with all its memory. In between the struct may be moved (memcpy it, and use only the new place), but neither copied nor changed:
+ * its fields belong to the library.
+ *
+ * POINTERS. No pointer may be null, and no two that are passed to one call may overlap. The library keeps none of them after
+ * the call, and owns nothing of the caller's. A bool is 0 or 1.
+ *
+ * THREADS. A handle stays on the thread that opened it, and takes one call at a time. No call may be made from a signal handler,
+ * from the forked child of a process with threads, or from within malloc, realloc or free. Two handles are independent.
+ *
+ * MEMORY comes from the program's malloc, realloc and free. Where that is refused, the call says SANDPIPER_NO_MEMORY and has changed
+ * nothing; it may be repeated. sandpiper_get, _rollback_to, _release, _commit, _abort, _prune, _close, _open_heap, _open_keys,
+ * _open_index, _close_cursor, _row_at and _slot_at ask for none.
+ *
+ * STATUSES. Each call returns one of those below. From 16 on something was refused. Whatever the status is, also where nobody reads
+ * it, the table is whole and usable. A refused call leaves everything as it was, but for two: after SANDPIPER_CONFLICT the
+ * session's transaction has failed, and an update may have pruned a page, which no session can tell.
+ */
+#ifndef SANDPIPERCOT_H
+#define SANDPIPERCOT_H
+
+#include <stdbool.h>
+#include <stdint.h>
+
+#ifdef __cplusplus
+extern "C" {
+#endif
+
+struct sandpiper {
+    void *held;
+    bool is_open; /* may be read: whether there is a table */
+};
+
+struct sandpiper_settings {
+    uint32_t max_pages;      /* how many pages, of 8168 bytes for rows, the table may have: 1 to 65536 */
+    uint32_t stop_age;       /* how far from the oldest id that is remembered no id is given any more: 1 to 2144483648 */
+    uint32_t freeze_min_age; /* 0 to 1000000000; without effect until there is a vacuum */
+    uint32_t first_xid;      /* the first transaction's id: 3 to 4294967295 */
+    uint32_t dead_limit;     /* 1 to 4096; without effect until there is a vacuum */
+    bool indexed[4];         /* which of the columns have an index */
+};
+
+/* The widest settings, with no index but that by key. */
+#define SANDPIPER_WIDEST {65536, 2144483648u, 0, 3, 64, {false, false, false, false}}
+
+#define SANDPIPER_SESSIONS 64    /* sessions are numbered from 0 to 63 */
+#define SANDPIPER_SAVEPOINTS 32  /* that a session may have at a time */
+#define SANDPIPER_BODY 1024      /* bytes of the longest body */
+
+/* A row. Of the body the first `length` bytes count; the rest is neither read nor written. */
+struct sandpiper_row {
+    uint64_t key;
+    int64_t cols[4];
+    uint16_t length; /* 0 to 1024 */
+    uint8_t body[SANDPIPER_BODY];
+};
+
+enum sandpiper_status {
+    SANDPIPER_DONE = 0,
+    SANDPIPER_FOUND = 1,              /* the row was written to the place that was named */
+    SANDPIPER_NO_ROW = 2,             /* there is none, and the place is as it was */
+    SANDPIPER_COMMITTED = 3,
+    SANDPIPER_ROLLED_BACK = 4,        /* by an abort, or by the commit of a transaction that had failed */
+    SANDPIPER_ROWS = 5,               /* the cursor hands out rows: sandpiper_row_at reads them */
+    SANDPIPER_END = 6,                /* it has handed out all, and stays open */
+    /* refusals */
+    SANDPIPER_NOT_OPEN = 16,          /* the session is not open */
+    SANDPIPER_ALREADY_OPEN = 17,      /* it is open already */
+    SANDPIPER_FAILED = 18,            /* its transaction has failed: roll back to a savepoint, or abort */
+    SANDPIPER_ALREADY_THERE = 19,     /* an insert: the session reads a row of the key */
+    SANDPIPER_NOT_THERE = 20,         /* an update or delete: it reads none */
+    SANDPIPER_CONFLICT = 21,          /* a transaction that committed since the session began wrote the key */
+    SANDPIPER_CURSOR_OPEN = 22,       /* the session has a cursor, and while it does it writes nothing */
+    SANDPIPER_NO_CURSOR = 23,
+    SANDPIPER_TOO_DEEP = 24,          /* it has 32 savepoints */
+    SANDPIPER_NO_SAVEPOINT = 25,
+    SANDPIPER_TOO_LARGE = 26,         /* the body has more than 1024 bytes */
+    SANDPIPER_NO_ROOM = 27,           /* no page has room, and max_pages are in use */
+    SANDPIPER_NEEDS_FREEZE = 28,      /* no id can be given any more: see stop_age */
+    SANDPIPER_BAD_BOUNDS = 29,        /* the lower bound is over the upper */
+    SANDPIPER_NO_MEMORY = 30,
+    SANDPIPER_NO_SUCH_PAGE = 31,
+    SANDPIPER_NO_SUCH_INDEX = 32,
+    SANDPIPER_NO_SUCH_SESSION = 33,   /* its number is over 63 */
+    SANDPIPER_NO_ENGINE = 48,         /* the handle has no table */
+    SANDPIPER_HAS_ENGINE = 49,        /* sandpiper_open: it has one already */
+    /* sandpiper_open: the first setting that is out of its range */
+    SANDPIPER_BAD_MAX_PAGES = 64,
+    SANDPIPER_BAD_STOP_AGE = 65,
+    SANDPIPER_BAD_FREEZE_MIN_AGE = 66,
+    SANDPIPER_BAD_FIRST_XID = 67,
+    SANDPIPER_BAD_DEAD_LIMIT = 68,
+    SANDPIPER_BUSY = 256              /* plus the number of the open session that has written the key */
+};
+
+/* Opening. The settings are read, and may be let go after the call. */
+uint32_t sandpiper_open(const struct sandpiper_settings *settings, struct sandpiper *table);
+/* Ends all sessions, uncommitted, and gives the table's memory back. The handle may be opened again. */
+uint32_t sandpiper_close(struct sandpiper *table);
+
+/* Transactions. A session is one transaction: it reads what was committed when it began, and its own writes over that. A
+ * commit answers COMMITTED, or ROLLED_BACK where the transaction had failed. Either way the session is closed after it. */
+uint32_t sandpiper_begin(struct sandpiper *table, uint8_t session);
+uint32_t sandpiper_commit(struct sandpiper *table, uint8_t session);
+uint32_t sandpiper_abort(struct sandpiper *table, uint8_t session);
+
+/* Savepoints. rollback_to takes back what was written since the newest, which stays, and a failed transaction is usable again;
+ * release forgets the newest, and keeps what was written. */
+uint32_t sandpiper_savepoint(struct sandpiper *table, uint8_t session);
+uint32_t sandpiper_rollback_to(struct sandpiper *table, uint8_t session);
+uint32_t sandpiper_release(struct sandpiper *table, uint8_t session);
+
+/* Rows. An insert is of a key that has no row, an update of one that has; each key has one row at most. get answers FOUND or
+ * NO_ROW, the others DONE. The place that get writes to need not be set before. */
+uint32_t sandpiper_get(struct sandpiper *table, uint8_t session, uint64_t key, struct sandpiper_row *row);
+uint32_t sandpiper_insert(struct sandpiper *table, uint8_t session, const struct sandpiper_row *row);
+uint32_t sandpiper_update(struct sandpiper *table, uint8_t session, const struct sandpiper_row *row);
+uint32_t sandpiper_delete(struct sandpiper *table, uint8_t session, uint64_t key);
+
+/* Cursors. A session has one at most. open_heap takes all rows, page by page. open_keys takes those whose key, and open_index
+ * those whose value in index c + 1, which is column c, lies between two bounds, both included, in ascending order. (Index 0 is by
+ * key, for keys that an int64_t can name.) next answers ROWS or END: it hands out the rows of a page, or in an index at most
+ * `most` of them, where 0 counts as 1. While the cursor is open the session writes nothing, and sets no savepoint; it may read,
+ * commit and abort, and the last two close the cursor. */
+uint32_t sandpiper_open_heap(struct sandpiper *table, uint8_t session);
+uint32_t sandpiper_open_keys(struct sandpiper *table, uint8_t session, uint64_t low, uint64_t high);
+uint32_t sandpiper_open_index(struct sandpiper *table, uint8_t session, uint8_t index, int64_t low, int64_t high);
+uint32_t sandpiper_next(struct sandpiper *table, uint8_t session, uint16_t most);
+uint32_t sandpiper_close_cursor(struct sandpiper *table, uint8_t session);
+
+/* Row number 0, 1, .. of those that next handed out, if next was the last call but for row_at and slot_at: FOUND or NO_ROW.
+ * Any other call ends these rows: read them before the next one, of whichever session. */
+uint32_t sandpiper_row_at(struct sandpiper *table, uint32_t number, struct sandpiper_row *row);
+
+/* Takes from a page, counted from 0, the versions that no session can see any more. */
+uint32_t sandpiper_prune(struct sandpiper *table, uint32_t page);
+
+/* What is in a slot of a page, for who wants to see versions and chains. */
+enum sandpiper_kind {
+    SANDPIPER_UNUSED = 0,
+    SANDPIPER_NORMAL = 1,   /* a version of a row: who made it, who took it away or 0, and its key */
+    SANDPIPER_REDIRECT = 2, /* it leads to the slot of number `target` */
+    SANDPIPER_DEAD = 3      /* nothing, but kept while an index leads to it */
+};
+
+/* What its kind has not is 0. */
+struct sandpiper_slot {
+    uint32_t kind;
+    uint32_t target;
+    uint32_t xmin;
+    uint32_t xmax;
+    uint64_t key;
+};
+
+/* Slot number 1, 2, .. of a page, counted from 0: FOUND or NO_ROW. */
+uint32_t sandpiper_slot_at(struct sandpiper *table, uint32_t page, uint16_t number, struct sandpiper_slot *slot);
+
+#ifdef __cplusplus
+}
+#endif
+
+#endif

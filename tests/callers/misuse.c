@@ -1,0 +1,135 @@
+/* What a program may get wrong: each such call gets a status, and nothing is lost. */
+#include "checks.h"
+
+static struct sandpiper t;
+static struct sandpiper_row *row, *place;
+static const struct sandpiper_settings widest = SANDPIPER_WIDEST;
+
+/* Every call on a handle that has no table. */
+static void check_closed(void) {
+    struct sandpiper_slot slot = {.kind = 77};
+    place->key = 77;
+    CHECK(sandpiper_begin(&t, 0) == SANDPIPER_NO_ENGINE && sandpiper_commit(&t, 0) == SANDPIPER_NO_ENGINE);
+    CHECK(sandpiper_abort(&t, 0) == SANDPIPER_NO_ENGINE && sandpiper_savepoint(&t, 0) == SANDPIPER_NO_ENGINE);
+    CHECK(sandpiper_rollback_to(&t, 0) == SANDPIPER_NO_ENGINE && sandpiper_release(&t, 0) == SANDPIPER_NO_ENGINE);
+    CHECK(sandpiper_get(&t, 0, 1, place) == SANDPIPER_NO_ENGINE && place->key == 77);
+    CHECK(sandpiper_insert(&t, 0, row) == SANDPIPER_NO_ENGINE && sandpiper_update(&t, 0, row) == SANDPIPER_NO_ENGINE);
+    CHECK(sandpiper_delete(&t, 0, 1) == SANDPIPER_NO_ENGINE && sandpiper_open_heap(&t, 0) == SANDPIPER_NO_ENGINE);
+    CHECK(sandpiper_open_keys(&t, 0, 0, 1) == SANDPIPER_NO_ENGINE && sandpiper_open_index(&t, 0, 0, 0, 1) == SANDPIPER_NO_ENGINE);
+    CHECK(sandpiper_next(&t, 0, 1) == SANDPIPER_NO_ENGINE && sandpiper_close_cursor(&t, 0) == SANDPIPER_NO_ENGINE);
+    CHECK(sandpiper_row_at(&t, 0, place) == SANDPIPER_NO_ROW && place->key == 77);
+    CHECK(sandpiper_prune(&t, 0) == SANDPIPER_NO_ENGINE);
+    CHECK(sandpiper_slot_at(&t, 0, 1, &slot) == SANDPIPER_NO_ROW && slot.kind == 77);
+    CHECK(sandpiper_close(&t) == SANDPIPER_NO_ENGINE && !t.is_open && !t.held);
+}
+
+/* Every call of a session whose number is over 63. */
+static void check_session(uint8_t session) {
+    const uint32_t no_such_session = SANDPIPER_NO_SUCH_SESSION;
+    place->key = 77;
+    CHECK(sandpiper_begin(&t, session) == no_such_session && sandpiper_commit(&t, session) == no_such_session);
+    CHECK(sandpiper_abort(&t, session) == no_such_session && sandpiper_savepoint(&t, session) == no_such_session);
+    CHECK(sandpiper_rollback_to(&t, session) == no_such_session && sandpiper_release(&t, session) == no_such_session);
+    CHECK(sandpiper_get(&t, session, 1, place) == no_such_session && place->key == 77);
+    CHECK(sandpiper_insert(&t, session, row) == no_such_session && sandpiper_update(&t, session, row) == no_such_session);
+    CHECK(sandpiper_delete(&t, session, 1) == no_such_session && sandpiper_open_heap(&t, session) == no_such_session);
+    CHECK(sandpiper_open_keys(&t, session, 0, 1) == no_such_session);
+    CHECK(sandpiper_open_index(&t, session, 0, 0, 1) == no_such_session);
+    CHECK(sandpiper_next(&t, session, 1) == no_such_session && sandpiper_close_cursor(&t, session) == no_such_session);
+}
+
+/* Lengths over 1024, of which the body has no such bytes to read. */
+static void check_lengths(void) {
+    CHECK(sandpiper_begin(&t, 0) == SANDPIPER_DONE);
+    set_row(row, 5000, 0, "");
+    for (unsigned length = SANDPIPER_BODY + 1; length <= UINT16_MAX; length += 4001) {
+        row->length = (uint16_t)length;
+        CHECK(sandpiper_insert(&t, 0, row) == SANDPIPER_TOO_LARGE && sandpiper_update(&t, 0, row) == SANDPIPER_TOO_LARGE);
+    }
+    CHECK(sandpiper_get(&t, 0, 5000, place) == SANDPIPER_NO_ROW);
+    CHECK(sandpiper_abort(&t, 0) == SANDPIPER_ROLLED_BACK);
+}
+
+static void check_numbers(void) {
+    struct sandpiper_slot slot;
+    CHECK(sandpiper_begin(&t, 0) == SANDPIPER_DONE);
+    CHECK(sandpiper_prune(&t, UINT32_MAX) == SANDPIPER_NO_SUCH_PAGE && sandpiper_slot_at(&t, UINT32_MAX, 1, &slot) == SANDPIPER_NO_ROW);
+    CHECK(sandpiper_slot_at(&t, 0, 0, &slot) == SANDPIPER_NO_ROW && sandpiper_slot_at(&t, 0, UINT16_MAX, &slot) == SANDPIPER_NO_ROW);
+    CHECK(sandpiper_row_at(&t, UINT32_MAX, place) == SANDPIPER_NO_ROW);
+    CHECK(sandpiper_open_index(&t, 0, UINT8_MAX, 0, 1) == SANDPIPER_NO_SUCH_INDEX);
+    CHECK(sandpiper_open_keys(&t, 0, UINT64_MAX, 0) == SANDPIPER_BAD_BOUNDS);
+    CHECK(sandpiper_abort(&t, 0) == SANDPIPER_ROLLED_BACK);
+}
+
+static uint64_t seed = 88172645463325252u;
+
+static uint32_t below(uint32_t limit) {
+    seed ^= seed >> 12, seed ^= seed << 25, seed ^= seed >> 27;
+    return (uint32_t)((seed * 2685821657736338717u) >> 32) % limit;
+}
+
+/* Calls in no order, on keys below 1000, of which nobody reads what they answer. */
+static void call_at_random(int calls) {
+    struct sandpiper_slot slot;
+    for (int i = 0; i < calls; i++) {
+        uint8_t session = (uint8_t)below(below(8) ? 8 : 256);
+        uint64_t key = below(1000);
+        set_row(row, key, (int64_t)below(100), "");
+        row->length = (uint16_t)below(below(8) ? 200 : 65536);
+        switch (below(16)) {
+        case 0: sandpiper_commit(&t, session); break;
+        case 1: sandpiper_abort(&t, session); break;
+        case 2: sandpiper_savepoint(&t, session); break;
+        case 3: sandpiper_rollback_to(&t, session); break;
+        case 4: sandpiper_release(&t, session); break;
+        case 5: sandpiper_get(&t, session, key, place); break;
+        case 6: sandpiper_insert(&t, session, row); break;
+        case 7: sandpiper_update(&t, session, row); break;
+        case 8: sandpiper_delete(&t, session, key); break;
+        case 9: sandpiper_open_heap(&t, session); break;
+        case 10: sandpiper_open_index(&t, session, (uint8_t)below(256), below(9), below(9)); break;
+        case 11: sandpiper_next(&t, session, (uint16_t)below(65536)); break;
+        case 12: sandpiper_close_cursor(&t, session); break;
+        case 13: sandpiper_prune(&t, below(64)); break;
+        case 14: sandpiper_slot_at(&t, below(64), (uint16_t)below(400), &slot); break;
+        default: sandpiper_begin(&t, session);
+        }
+        sandpiper_row_at(&t, below(4), place);
+    }
+    for (int session = 0; session < 256; session++) sandpiper_abort(&t, (uint8_t)session);
+}
+
+/* The keys 1000 to 1999 have the rows that were committed first. */
+static void check_kept(void) {
+    CHECK(sandpiper_begin(&t, 0) == SANDPIPER_DONE);
+    for (uint64_t key = 1000; key < 2000; key++) {
+        CHECK(sandpiper_get(&t, 0, key, place) == SANDPIPER_FOUND);
+        CHECK(place->key == key && place->cols[0] == -(int64_t)key && has_body(place, "kept"));
+    }
+    CHECK(sandpiper_commit(&t, 0) == SANDPIPER_COMMITTED);
+}
+
+int main(int argc, char **argv) {
+    row = new_place();
+    place = new_place();
+    memset(row, 1, sizeof *row);
+    set_row(row, 1, 0, "");
+    check_closed();
+    CHECK(sandpiper_open(&widest, &t) == SANDPIPER_DONE && sandpiper_begin(&t, 9) == SANDPIPER_DONE);
+    for (uint64_t key = 1000; key < 2000; key++)
+        CHECK(sandpiper_insert(&t, 9, set_row(row, key, -(int64_t)key, "kept")) == SANDPIPER_DONE);
+    CHECK(sandpiper_commit(&t, 9) == SANDPIPER_COMMITTED);
+    CHECK(sandpiper_open(&widest, &t) == SANDPIPER_HAS_ENGINE);
+    for (int session = SANDPIPER_SESSIONS; session < 256; session++) check_session((uint8_t)session);
+    check_lengths();
+    check_numbers();
+    check_kept();
+    call_at_random(argc > 1 ? atoi(argv[1]) : 300000);
+    check_kept();
+    CHECK(sandpiper_close(&t) == SANDPIPER_DONE);
+    check_closed();
+    free(row);
+    free(place);
+    puts("all right");
+    return 0;
+}

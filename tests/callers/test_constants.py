@@ -1,0 +1,66 @@
+"""Compares the numbers and layouts of the Python module with those of the header: test_constants.py HEADER STATUSES.
+
+STATUSES has a line for each status that the library has answered under that name (statuses.c prints them). CC names the C compiler."""
+import ctypes
+import os
+import pathlib
+import re
+import subprocess
+import sys
+import tempfile
+from typing import Dict, Set
+
+import sandpipercot as sp
+
+
+def enumeration(header: str, name: str) -> Dict[str, int]:
+    """The constants of an enum of the header, without their prefix."""
+    body = re.search(rf"enum {name} {{(.*?)}};", header, re.S)
+    assert body, name
+    return {key: int(value) for key, value in re.findall(r"SANDPIPER_(\w+) = (\d+)", body[1])}
+
+
+def check_layouts(folder: pathlib.Path) -> None:
+    """The size of each struct, and the place and size of each field, are those that a C program prints."""
+    structs = {"sandpiper": sp._Handle, "sandpiper_settings": sp._Settings, "sandpiper_row": sp._Row, "sandpiper_slot": sp._Slot}
+    lines, ours = ["#include <sandpipercot.h>", "#include <stddef.h>", "#include <stdio.h>", "int main(void) {"], []
+    for name, struct in structs.items():
+        lines.append(f'printf("{name} %zu\\n", sizeof(struct {name}));')
+        ours.append(f"{name} {ctypes.sizeof(struct)}")
+        for field, *_ in struct._fields_:
+            place = getattr(struct, field)
+            place_in_c = f"offsetof(struct {name}, {field}), sizeof((struct {name}){{0}}.{field})"
+            lines.append(f'printf("{field} %zu %zu\\n", {place_in_c});')
+            ours.append(f"{field} {place.offset} {place.size}")
+    (folder / "layouts.c").write_text("\n".join([*lines, "return 0; }"]))
+    program = folder / "layouts"
+    subprocess.run([os.environ.get("CC", "cc"), "-I", sys.argv[1], folder / "layouts.c", "-o", program], check=True)
+    said = subprocess.run([program], check=True, capture_output=True, text=True).stdout.splitlines()
+    assert said == ours, (said, ours)
+
+
+def main() -> None:
+    header = pathlib.Path(sys.argv[1], "sandpipercot.h").read_text()
+    statuses = enumeration(header, "sandpiper_status")
+    assert {it.name: it.value for it in sp.Status} == statuses, statuses
+    assert {it.name: it.value for it in sp.Kind} == enumeration(header, "sandpiper_kind")
+    answered: Set[str] = set(pathlib.Path(sys.argv[2]).read_text().split())
+    assert answered == set(statuses), answered ^ set(statuses)
+
+    defines = dict(re.findall(r"#define SANDPIPER_(\w+) (\d+)", header))
+    assert defines == {"SESSIONS": str(sp.SESSIONS), "SAVEPOINTS": str(sp.SAVEPOINTS), "BODY": str(sp.BODY)}, defines
+    widest = re.search(r"#define SANDPIPER_WIDEST {(.*?), {", header)
+    defaults = sp.Table.__init__.__kwdefaults__
+    assert widest and [int(it.rstrip("u")) for it in widest[1].split(", ")] == [it for it in defaults.values() if isinstance(it, int)]
+
+    # a class for each refusal, and a call for each function
+    refusals = {it.status for it in sp.Refused.__subclasses__()}
+    assert refusals == {it for it in sp.Status if it >= sp.Status.NOT_OPEN}
+    assert set(re.findall(r"^uint32_t sandpiper_(\w+)\(", header, re.M)) == set(sp._ARGUMENTS)
+    with tempfile.TemporaryDirectory() as folder:
+        check_layouts(pathlib.Path(folder))
+    print(f"{len(statuses)} statuses, each answered by the library; 4 structs, {len(sp._ARGUMENTS)} calls: all as the header has them")
+
+
+if __name__ == "__main__":
+    main()

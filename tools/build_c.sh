@@ -1,0 +1,54 @@
+#!/usr/bin/env bash
+# tools/build_c.sh PREFIX: proves the C library, builds it, and installs it under PREFIX: include/sandpipercot.h,
+# lib/libsandpipercot.a and .so, lib/pkgconfig/sandpipercot.pc, and lib/python/sandpipercot.py.
+# RT_JOBS says how many jobs rt is to use; CC names the C compiler, if it is not cc.
+set -euo pipefail
+
+[ $# -eq 1 ] || { echo "usage: tools/build_c.sh PREFIX" >&2; exit 2; }
+root=$(cd "$(dirname "$0")/.." && pwd)
+mkdir -p "$1"
+prefix=$(cd "$1" && pwd)
+compiler=${CC:-cc}
+
+missing=0
+need() { command -v "$1" >/dev/null || { echo "build_c.sh: $1 is missing: $2" >&2; missing=1; }; }
+need rt "the toolchain's command, which proves and builds the crate (README.md names the toolchain)"
+need "$compiler" "a C compiler, which links the shared library (set CC to yours)"
+need python3 "Python 3.8 or later, which rt and the Python module run on"
+for tool in ar ld objcopy; do
+    need "$tool" "of the binutils, which come with a C compiler"
+done
+[ $missing -eq 0 ] || exit 2
+
+# the toolchain's three functions over malloc, realloc and free
+kit=$(dirname "$(dirname "$(readlink -f "$(command -v rt)")")")
+heap=$kit/c/liblibc_c.a
+[ -f "$heap" ] || { echo "build_c.sh: $heap is missing: it comes with the toolchain" >&2; exit 2; }
+
+(cd "$root/crates/sandpiper_c" && rt lib ${RT_JOBS:+--jobs "$RT_JOBS"})
+
+work=$(mktemp -d)
+trap 'rm -rf "$work"' EXIT
+# one object that shows the calls of the header and nothing else
+ld -r --whole-archive -o "$work/sandpipercot.o" "$root/crates/sandpiper_c/out/libsandpiper_c.a" "$heap"
+objcopy --wildcard --keep-global-symbol='sandpiper_*' "$work/sandpipercot.o"
+
+mkdir -p "$prefix/include" "$prefix/lib/pkgconfig" "$prefix/lib/python"
+rm -f "$prefix/lib/libsandpipercot.a"
+ar rcs "$prefix/lib/libsandpipercot.a" "$work/sandpipercot.o"
+"$compiler" -shared -o "$prefix/lib/libsandpipercot.so" "$work/sandpipercot.o" \
+    -Wl,-soname,libsandpipercot.so -Wl,-z,defs -Wl,-z,noexecstack
+install -m 644 "$root/include/sandpipercot.h" "$prefix/include/"
+install -m 644 "$root/python/sandpipercot.py" "$prefix/lib/python/"
+cat >"$prefix/lib/pkgconfig/sandpipercot.pc" <<'PC'
+prefix=${pcfiledir}/../..
+libdir=${prefix}/lib
+includedir=${prefix}/include
+
+Name: sandpipercot
+Description: a proved multi-version table heap in memory
+Version: 0.1
+Libs: -L${libdir} -lsandpipercot
+Cflags: -I${includedir}
+PC
+echo "build_c.sh: installed under $prefix"

@@ -1,0 +1,94 @@
+#!/usr/bin/env bash
+# tools/test_callers.sh [PREFIX]: tries the C library from C, C++, Rust and Python, and the examples. With no PREFIX it is built
+# anew by tools/build_c.sh, and installed under a folder that is removed at the end; else that under PREFIX is tried.
+set -euo pipefail
+
+root=$(cd "$(dirname "$0")/.." && pwd)
+work=$(mktemp -d)
+trap 'rm -rf "$work"' EXIT
+if [ $# -eq 0 ]; then
+    prefix=$work/prefix
+    "$root/tools/build_c.sh" "$prefix"
+else
+    prefix=$(cd "$1" && pwd)
+fi
+tests=$root/tests/callers
+compiler=${CC:-cc}
+cplusplus=${CXX:-c++}
+export LD_LIBRARY_PATH=$prefix/lib PYTHONPATH=$prefix/lib/python PYTHONDONTWRITEBYTECODE=1
+flags=(-g -O1 -Wall -Wextra -Wpedantic -Werror -I"$prefix/include")
+wrap=-Wl,--wrap=malloc,--wrap=realloc
+not_tried=()
+
+say() { echo "test_callers.sh: $*"; }
+
+# The tests in C: under the sanitizers, and where valgrind is there under that, which looks into the library too.
+in_c() {
+    local name=$1 link=$2
+    "$compiler" -std=c11 "${flags[@]}" -fsanitize=address,undefined -fno-sanitize-recover=all "$tests/$name.c" \
+        "$prefix/lib/libsandpipercot.a" $link -o "$work/$name"
+    say "$name.c, with the address sanitizer"
+    "$work/$name" >"$work/$name.out"
+    if command -v valgrind >/dev/null; then
+        "$compiler" -std=c11 "${flags[@]}" "$tests/$name.c" "$prefix/lib/libsandpipercot.a" $link -o "$work/$name.plain"
+        say "$name.c, under valgrind"
+        valgrind -q --leak-check=full --error-exitcode=9 "$work/$name.plain" ${3:-} >/dev/null
+    fi
+}
+in_c table ""
+in_c statuses "$wrap"
+in_c misuse "" 20000
+in_c memory "$wrap"
+cat "$work/memory.out"
+command -v valgrind >/dev/null || not_tried+=("valgrind")
+
+# What an example prints has to be what is said beside its script in examples/first_committer_wins.md.
+example() {
+    say "$1"
+    shift
+    "$@" | diff - "$tests/first_committer_wins.txt"
+}
+"$compiler" -std=c11 "${flags[@]}" "$root/examples/c/first_committer_wins.c" -L"$prefix/lib" -lsandpipercot -o "$work/example_c"
+example "the example in C" "$work/example_c"
+if command -v pkg-config >/dev/null; then
+    PKG_CONFIG_PATH=$prefix/lib/pkgconfig pkg-config --cflags --libs sandpipercot >"$work/flags"
+    "$compiler" "$root/examples/c/first_committer_wins.c" $(cat "$work/flags") -o "$work/example_pc"
+    example "the same, as pkg-config says" "$work/example_pc"
+else
+    not_tried+=("pkg-config")
+fi
+
+if command -v "$cplusplus" >/dev/null; then
+    "$cplusplus" -std=c++17 "${flags[@]}" -fsanitize=address,undefined -fno-sanitize-recover=all "$tests/table.cpp" \
+        "$prefix/lib/libsandpipercot.a" -o "$work/table_cpp"
+    say "table.cpp, with the address sanitizer"
+    "$work/table_cpp"
+    "$cplusplus" -std=c++17 "${flags[@]}" "$root/examples/cpp/first_committer_wins.cpp" -L"$prefix/lib" -lsandpipercot \
+        -o "$work/example_cpp"
+    example "the example in C++" "$work/example_cpp"
+else
+    not_tried+=("C++")
+fi
+
+if command -v rustc >/dev/null; then
+    rustc --edition 2021 -D warnings -O "$tests/table.rs" -L "$prefix/lib" -l static=sandpipercot -o "$work/table_rs"
+    say "table.rs"
+    "$work/table_rs"
+    rustc --edition 2021 -D warnings -O "$root/examples/rust/first_committer_wins.rs" -L "$prefix/lib" -l sandpipercot \
+        -o "$work/example_rs"
+    example "the example in Rust" "$work/example_rs"
+else
+    not_tried+=("Rust")
+fi
+
+say "the Python module"
+CC=$compiler python3 "$tests/test_constants.py" "$prefix/include" "$work/statuses.out"
+python3 "$tests/test_table.py"
+python3 "$tests/test_random.py"
+example "the example in Python" python3 "$root/examples/python/first_committer_wins.py"
+python3 "$tests/test_documents.py" "$prefix"
+
+if [ ${#not_tried[@]} -gt 0 ]; then
+    say "not tried, since it is missing here: ${not_tried[*]}"
+fi
+say "all passed"
