@@ -37,9 +37,16 @@ ENDINGS = ("rt", "antt", "py", "md", "sh", "script", "edit", "txt", "rs", "page"
 
 
 def tracked():
-    """The files of the repository, those that are not committed yet included."""
-    said = subprocess.run(["git", "ls-files", "-co", "--exclude-standard"], capture_output=True, text=True, check=True)
-    return [path for path in said.stdout.split("\n") if path and os.path.exists(path)]
+    """The files of the repository, those that are not committed yet included; where git can't tell, all but what is built."""
+    try:
+        said = subprocess.run(["git", "ls-files", "-co", "--exclude-standard"], capture_output=True, text=True, check=True)
+        paths = said.stdout.split("\n")
+    except (OSError, subprocess.CalledProcessError):
+        paths = []
+        for folder, folders, names in os.walk("."):
+            folders[:] = [name for name in folders if name not in (".git", "out", "__pycache__")]
+            paths += [os.path.relpath(os.path.join(folder, name)) for name in names]
+    return [path for path in paths if path and os.path.exists(path)]
 
 
 def text_of(path):
