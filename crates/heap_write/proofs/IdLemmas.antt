@@ -117,7 +117,7 @@ giving-one w0 own0 w own count v next now lacking gives ids saved spare own_spar
       whole = λ w' own' x takes. now.whole w' own' x (takes-one w v w' own next own' n x one takes);
     }
 
--- while there are turns, a level unassigned_levels an id; after them none does
+-- while there are turns, a level lacks an id; after them none does
 pub giving-lacking : (w0 : Window) (own0 : Own) (w : Window) (own : Own) (count : ℕ) → Giving w0 own0 w own count → count < unassigned_levels own0.ids own0.saved → 0 < unassigned_levels own.ids own.saved
 giving-lacking w0 own0 w own count now lt = let more = now.more in omega (arith, more, lt)
 

@@ -189,7 +189,7 @@ fn from_low(index: &RootIndex, span: &IndexRange) -> Option<Entry>
     index.first_from(span.low(), 0)
 }
 
-/// The same, as if it stood at the prefix.
+/// The same, as if it stood at the front.
 fn found_from_low(index: &RootIndex, span: &IndexRange) -> Option<(Entry, PositionHint)>
     ensures { IsLeast index.now.entries (λ e. ¬ IsBelow span.now.low 0 e)
         (option_map (λ found. found.0) result) }

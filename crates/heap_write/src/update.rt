@@ -174,7 +174,7 @@ impl HeapState {
         }
     }
 
-    /// Makes room in memory for a new root of this size, with its entries and an id for each level that unassigned_levels one, and answers where it
+    /// Makes room in memory for a new root of this size, with its entries and an id for each level that lacks one, and answers where it
     /// goes, if anywhere.
     fn reserve_root(&mut self, own: &mut OwnIds, size: usize) -> Result<Option<Target>, AllocError>
         requires { size ≤ 8164 }

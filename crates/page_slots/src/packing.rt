@@ -43,7 +43,7 @@ fn pack(items: &mut [Item], bytes: &[u8]) -> ArrayVec<u8, 8168>
     packed
 }
 
-/// Moves the bodies of these slots together at the prefix of the bytes.
+/// Moves the bodies of these slots together at the front of the bytes.
 fn compact(items: &mut [Item], bytes: &mut Vec<u8>)
     requires within { AreWithin (length bytes.old.items) items.old }
     requires room { sum_by bytes_taken (slots_in bytes.old.items items.old) ≤ 8168 }

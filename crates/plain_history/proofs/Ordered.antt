@@ -205,7 +205,7 @@ view-none history m older newest key all none none' none'' =
     right_none None p e = e
     right_none (Some x) p e = absurd (cc)
 
--- The prefix of the rows, and what is left.
+-- The front of the rows, and what is left.
 
 pub in_order-drop : (index n : ℕ) (rows : List Row) → IsInOrder index rows → IsInOrder index (drop n rows)
 in_order-drop index zero rows order = order

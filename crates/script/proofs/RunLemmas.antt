@@ -115,7 +115,7 @@ Progress-line from state state' before now old new w0 w1 text left left' number 
       number_is = ap (λ k. k + 1) h.number_is ∙ omega (arith, length-append h.events (e ∷ []));
     }
 
--- a line at the prefix ends at the first line feed
+-- a line at the front ends at the first line feed
 first_feed : (s : List ℕ) (all more : List ℕ) → Free 10 s → all ≡ with_feed s ++ more → place 10 all ≡ length s
 first_feed s all more free e = ap (λ xs. place 10 xs) (e ∙ append_assoc s (10 ∷ []) more) ∙ place-free 10 s more free
 

@@ -6,10 +6,10 @@ use Rattle.std.specs.Io.KnownBytes.{Appends, Consumes, IsAtEnd}
 abbrev pub TakesText : Option (List ℕ) → Option (List ℕ) → List ℕ → List ℕ → Type 0
 TakesText before after old new = (more : List ℕ) × Consumes before after more × (new ≡ old ++ more)
 
--- the writer took what stands at the prefix of the text, and the rest of the text is kept
+-- the writer took what stands at the front of the text, and the rest of the text is kept
 abbrev pub GivesText : Option (List ℕ) → Option (List ℕ) → List ℕ → List ℕ → Type 0
 GivesText before after old new = (written : List ℕ) × Appends before after written × (old ≡ written ++ new)
 
--- no line of at most 4096 bytes is at the prefix of what is pending, and what is left behind it
+-- no line of at most 4096 bytes is at the front of what is pending, and what is left behind it
 abbrev pub HasNoLine : List ℕ → Option (List ℕ) → Type 0
 HasNoLine pending rest = (0 < length pending) × (((4096 < length pending) × ((n : ℕ) → position (λ b. b == 10) pending ≡ Some n → 4096 < n)) ⊎ ((position (λ b. b == 10) pending ≡ None) × IsAtEnd rest))

@@ -15,7 +15,7 @@ abbrev pub ◌>>=◌ : {A B : Type 0} → Option A → (A → Option B) → Opti
 None >>= f = None
 (Some x) >>= f = f x
 
--- the word at the prefix, and what stands behind the space after it
+-- the word at the front, and what stands behind the space after it
 abbrev pub cut : List ℕ → Option (List ℕ × List ℕ)
 cut xs = option_map (λ i. (take i xs, drop (i + 1) xs)) (position (λ b. b == 32) xs)
 
@@ -24,7 +24,7 @@ unfoldable pub digits_on : ℕ → ℕ → List ℕ → Option ℕ
 digits_on max n [] = Some n
 digits_on max n (c ∷ cs) = if is_ascii_digit c && nat_le (10 * n + (c - 48)) max then digits_on max (10 * n + (c - 48)) cs else None
 
--- a number of at most max: digits, and no zero in prefix of another digit
+-- a number of at most max: digits, and no zero in front of another digit
 unfoldable pub number_of : ℕ → List ℕ → Option ℕ
 number_of max w = if (length w == 0) || (nat_lt 1 (length w) && (slice_index w 0 == 48)) then None else digits_on max 0 w
 

@@ -84,12 +84,12 @@ pub record IsScriptRun (settings : Settings) (events : List Event) : Type 0 wher
 abbrev pub script : Settings → List Event → List ℕ
 script settings events = with_feed (heading settings) ++ lines_of events
 
--- something is there, and an allowed line isn't at its prefix: so it is torn, too long, empty, unknown or out of range
+-- something is there, and an allowed line isn't at its front: so it is torn, too long, empty, unknown or out of range
 pub record IsBadLine (rest : List ℕ) : Type 0 where
   pub some : 0 < length rest
   pub bad : (l : Line) (more : List ℕ) → IsAllowed l → rest ≡ with_feed (spelling l) ++ more → ⊥
 
--- no first line with settings in range is at the prefix
+-- no first line with settings in range is at the front
 abbrev pub IsBadHeading : List ℕ → Type 0
 IsBadHeading input = (s : Settings) (more : List ℕ) → AreSettings s → length s.indexed ≡ 4 → length (heading s) ≤ 4096 → input ≡ with_feed (heading s) ++ more → ⊥
 

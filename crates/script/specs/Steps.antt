@@ -19,7 +19,7 @@ EndsLines (Err (BadLine n)) lines left before after text = (n ≡ lines + 2) × 
 EndsLines (Err TooManyLines) lines left before after text = (lines + 2 ≡ 18446744073709551615) × WritesBeginning before after text
 EndsLines (Err fault) lines left before after text = WritesBeginning before after text
 
--- lines at the prefix of the input are run, and their answers written behind the text
+-- lines at the front of the input are run, and their answers written behind the text
 pub record Advance (from : EngineView) (input : List ℕ) (before after : Option (List ℕ)) (text : List ℕ) (result : Result (Unit {0}) ShellFault) : Type 0 where
   pub events : List Event
   pub allowed : AllByRecursion (λ e. IsAllowed (line_of e)) events

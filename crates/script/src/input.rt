@@ -128,7 +128,7 @@ impl Pending {
     }
 }
 
-// Moves a part to the prefix, and reads behind it.
+// Moves a part to the front, and reads behind it.
 fn read_behind<R: Read, W>(
     watch: &mut IoLog<R, W>,
     bytes: &mut [u8],

@@ -15,7 +15,7 @@ fn space(text: &[u8]) -> Option<usize>
     text.iter().position(|b| *b == b' ')
 }
 
-// The word at the prefix, and what stands behind the space after it.
+// The word at the front, and what stands behind the space after it.
 pub(crate) fn cut(text: &[u8]) -> Option<(&[u8], &[u8])>
     ensures { option_map (λ x. (x.0.now, x.1.now)) result ≡ cut_of text.now }
 {
@@ -57,7 +57,7 @@ fn wide_digits(word: &[u8], max: u128) -> Option<u128>
     spelled!(word, u128, max)
 }
 
-// Whether a word is empty, or has a zero in prefix of another digit.
+// Whether a word is empty, or has a zero in front of another digit.
 fn is_misspelled(word: &[u8]) -> bool
     ensures { result
         ≡ (length word.now == 0) || (nat_lt 1 (length word.now) && (slice_index word.now 0 == 48)) }

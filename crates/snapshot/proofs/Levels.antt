@@ -37,7 +37,7 @@ distinct-after ids before since d e x c = apart before since x (subst AreDistinc
 
 -- levels that lack an id
 
--- a level whose ids are those of the savepoint unassigned_levels one
+-- a level whose ids are those of the savepoint lacks one
 pub unassigned_levels-more : (ids before : List ℕ) (saved : List (List ℕ)) → length ids ≡ length before → unassigned_levels ids (before ∷ saved) ≡ suc (unassigned_levels before saved)
 unassigned_levels-more ids before saved e = cond-true (length ids == length before) (suc (unassigned_levels before saved)) 0 (eq-eqb (length ids) (length before) e)
 
@@ -138,7 +138,7 @@ level-newest ids (b ∷ saved) x (y ∷ since, e, prefixes) d none is before at 
     let there : Contains (y ∷ since) x = subst (Contains (y ∷ since)) it (Contains-first y since) in
     subst (λ l. ¬ Contains l x) same (distinct-after ids b (y ∷ since) d e x there)
 
--- an id is added to the lowest level that unassigned_levels one
+-- an id is added to the lowest level that lacks one
 
 same-prefix : (ids before since : List ℕ) → ids ≡ before ++ since → length ids ≡ length before → ids ≡ before
 same-prefix ids before [] e same = e ∙ append-nil before
@@ -185,7 +185,7 @@ prefixes-added ids (before ∷ saved) x (suc n) prefixes e =
     let same = same-prefix ids before prefixes.0 prefixes.1 less.0 in
     ([], ap (λ l. l ++ x ∷ []) same ∙ sym (append-nil (before ++ x ∷ [])), prefixes-added before saved x n prefixes.2 less.1)
 
--- each level that unassigned_levels an id is given one
+-- each level that lacks an id is given one
 
 pub unassigned_levels-given : (given ids : List ℕ) (saved : List (List ℕ)) → length given ≡ unassigned_levels ids saved → unassigned_levels (ids ++ given) (saved_with_each given saved) ≡ 0
 unassigned_levels-given [] ids saved e = subst (λ l. unassigned_levels l saved ≡ 0) (sym (append-nil ids)) (sym e)

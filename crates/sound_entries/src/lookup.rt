@@ -196,7 +196,7 @@ pub fn place_is_on_heap()
     ensures { PlaceIsOnHeap }
 {}
 
-/// Where the entries are sound, the newer_commit ids that a standing names are those of versions on the heap. It does nothing; its
+/// Where the entries are sound, the ids that a write check names are those of versions on the heap. It does nothing; its
 /// contract is the law.
 pub fn missed_is_on_heap()
     ensures { MissedIsOnHeap }

@@ -54,7 +54,7 @@ fn place_among(
     }
 }
 
-/// What was found before, or else a newer_commit id in these slots.
+/// What was found before, or else the id of a newer commit in these slots.
 fn missed_or(
     before: Option<Xid>,
     page: &Page,
@@ -72,7 +72,7 @@ fn missed_or(
     }
 }
 
-/// What was found before, or else a other_writer in these slots.
+/// What was found before, or else another writer in these slots.
 fn holder_or(
     before: Option<Xid>,
     page: &Page,

@@ -159,7 +159,7 @@ nothing-stays h horizon pages entries = record {
     nothing : (n : ℕ) → EntriesAreSound (value_in n) h.table horizon (slots_of h) []
     nothing n = subst (λ (ps : List PageView). EntriesAreSound (value_in n) h.table horizon (map (λ (p : PageView). p.slots) ps) []) (sym pages) (nothing-sound (value_in n) h.table horizon)
 
--- The ids that a session unassigned_levels are given.
+-- The ids that a session lacks are given.
 
 given-one : (h : HeapView) (a b : Window) (horizon : ℕ) (parent : Option ℕ) → IsWindow a → IsWindow b → Gives a b parent → SoundTable (with_table h a) horizon → SoundTable (with_table h b) horizon
 given-one h a b horizon parent before after gives s = record {

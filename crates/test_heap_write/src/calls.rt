@@ -139,7 +139,7 @@ pub fn release(own: &mut OwnIds) {
     }
 }
 
-/// The place of the version of a key that is seen, a committed id that is newer_commit, and one in progress.
+/// The place of the version of a key that is seen, the id of a newer commit, and one in progress.
 pub fn check_write(
     heap: &HeapState,
     key: u64,

@@ -5,7 +5,7 @@ use heap_write::WriteFault;
 use std::test::Fail;
 use xid_circle::Xid;
 
-/// Each level has an id of its own. One that is begun again unassigned_levels one, and those below have theirs.
+/// Each level has an id of its own. One that is begun again lacks one, and those below have theirs.
 static EACH_LEVEL: [Line; 15] = [
     (0, HeapStep::Save),
     (0, HeapStep::Save),
@@ -51,7 +51,7 @@ fn after_a_release_the_level_writes_under_its_own_id(rt: HostRuntime) -> Result<
     run_heap(rt.alloc(), (1000, 1, BY_KEY), &RELEASED)
 }
 
-/// Ids 3 to 7 can be given: two are left after the first session. One that unassigned_levels three takes none, and one that unassigned_levels two both.
+/// Ids 3 to 7 can be given: two are left after the first session. One that lacks three takes none, and one that lacks two both.
 static ALL_OR_NONE: [Line; 12] = [
     (0, HeapStep::Save),
     (0, HeapStep::Save),

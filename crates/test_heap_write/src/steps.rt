@@ -43,7 +43,7 @@ pub enum HeapStep {
     Next(Xid),
     /// The second is the topmost parent of the first.
     Top(Xid, Xid),
-    /// Of a key, with the next id: the place of the version that is seen, a committed id that is newer_commit, and one in progress.
+    /// Of a key, with the next id: the place of the version that is seen, the id of a newer commit, and one in progress.
     WriteCheck(u64, u32, (Option<Place>, Option<Xid>, Option<Xid>)),
     /// The first column of the row of a key, with the next id.
     First(u64, u32, Option<i64>),

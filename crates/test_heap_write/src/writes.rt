@@ -6,7 +6,7 @@ use heap_write::WriteFault;
 use std::test::Fail;
 use xid_circle::Xid;
 
-/// A row is found where its id is seen; else its id holds the key, and once it is committed it is newer_commit.
+/// A row is found where its id is seen; else its id holds the key, and once it is committed it is a newer commit.
 static SEEN_OR_NOT: [Line; 12] = [
     (NOBODY, HeapStep::Page(0, None)),
     (0, HeapStep::Insert((7, [70, 0, 0, 0], 0), Ok(Xid(3)))),

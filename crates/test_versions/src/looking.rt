@@ -28,7 +28,7 @@ use xid_circle::{Tid, Xid};
 /// A key that is looked for; the id that was next when the snapshot was taken; and the reader's own id, if it is one.
 type Asked = (u64, u32, u32);
 
-/// The place and the first column of the row that is seen, a committed id that is newer_commit, and one in progress.
+/// The place and the first column of the row that is seen, the id of a newer commit, and one in progress.
 type Found = (Option<(u32, u16)>, Option<i64>, Option<Xid>, Option<Xid>);
 
 /// Of ids 3 to 5 the first is committed, the second in progress, and the third aborted.

@@ -52,7 +52,7 @@ fn put_bytes(out: &mut [u8], at: usize, bytes: &[u8])
     out[at..at + bytes.len()].copy_from_slice(bytes);
 }
 
-/// Writes a version's bytes, 66 and its body, at the prefix of `out`, which has room for them. What follows stays.
+/// Writes a version's bytes, 66 and its body, at the front of `out`, which has room for them. What follows stays.
 pub fn encode(t: &Tuple, out: &mut [u8])
     requires { size_of t.now.row ≤ length out.old }
     ensures { out.new ≡ encoding t.now ++ drop (size_of t.now.row) out.old }

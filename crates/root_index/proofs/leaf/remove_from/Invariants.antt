@@ -3,7 +3,7 @@ use Rattle.std.specs.List.{filter}
 use Rattle.root_index.specs.Lists.{stays}
 use Rattle.root_index.proofs.leaf.remove_from.Given as goal
 
--- what stays of the entries so far stands in prefix, and the others as they were
+-- what stays of the entries so far stands in front, and the others as they were
 abbrev pub invariant-loop-place : goal.invariant-loop-place
 invariant-loop-place l = record {
   result : take l.kept l.entries.items ++ filter (stays l.dead) (drop l.place l.entries.items) ≡ take l.from l.fn.entries.items ++ filter (stays l.dead) (drop l.from l.fn.entries.items);
