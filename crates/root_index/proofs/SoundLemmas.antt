@@ -19,12 +19,12 @@ left_after HasLeft HasLeft' next none (suc k) left =
     let less : k ≡ suc k - 1 = omega arith in
     subst HasLeft' less (next k (subst HasLeft is left))
 
-module _ {N : Type 0} (entries : N → List Entry) (IsNeat : N → Type 0) (size : N → ℕ) (nodes new : List N) (room room' spare spare' : ℕ) (HasLeft HasLeft' : ℕ → Type 0) (count promised : ℕ)
-    (sound : IsSoundIndex entries IsNeat size nodes room spare HasLeft count promised) where
-  pub sound_inserted : (x : Entry) (rank count' promised' : ℕ) → IsGapFor (all entries nodes) x rank → all entries new ≡ insert (all entries nodes) rank x → AreNeat IsNeat size new
+module _ {N : Type 0} (entries : N → List Entry) (IsNeat : N → Type 0) (size : N → ℕ) (nodes new : List N) (room room' spare spare' : ℕ) (HasLeft HasLeft' : ℕ → Type 0) (Places Places' : Type 0)
+    (count promised : ℕ) (sound : IsSoundIndex entries IsNeat size nodes room spare HasLeft Places count promised) where
+  pub sound_inserted : (x : Entry) (rank count' promised' : ℕ) → IsGapFor (all entries nodes) x rank → all entries new ≡ insert (all entries nodes) rank x → AreNeat IsNeat size new → Places'
       → room ≤ room' + 1 → spare ≤ spare' + 1 → ((k : ℕ) → HasLeft (k + 1) → HasLeft' k) → HasLeft' 0 → count' ≡ count + 1 → promised' ≡ promised - 1 → count' < 2 ^ 64
-      → IsSoundIndex entries IsNeat size new room' spare' HasLeft' count' promised'
-  sound_inserted x rank count' promised' gap made neat in_room in_spare next none counted kept fits =
+      → IsSoundIndex entries IsNeat size new room' spare' HasLeft' Places' count' promised'
+  sound_inserted x rank count' promised' gap made neat places in_room in_spare next none counted kept fits =
       let up = ascending-insert (all entries nodes) x rank sound.ascending gap in
       let longer = length-insert (all entries nodes) rank x gap.in_range in
       let before = sound.counted in
@@ -39,14 +39,15 @@ module _ {N : Type 0} (entries : N → List Entry) (IsNeat : N → Type 0) (size
         in_list = omega arith;
         in_trees = omega arith;
         below = subst HasLeft' (sym kept) (left_after HasLeft HasLeft' next none promised sound.below);
+        places = λ some. places;
         countable = omega arith;
       }
 
   -- what was promised for others is kept where it is still enough
-  pub sound_unspent : (x : Entry) (rank count' promised' : ℕ) → IsGapFor (all entries nodes) x rank → all entries new ≡ insert (all entries nodes) rank x → AreNeat IsNeat size new
+  pub sound_unspent : (x : Entry) (rank count' promised' : ℕ) → IsGapFor (all entries nodes) x rank → all entries new ≡ insert (all entries nodes) rank x → AreNeat IsNeat size new → Places'
       → count' ≡ count + 1 → promised ≤ room' → promised ≤ spare' → HasLeft' promised → count' + promised < 2 ^ 64 → promised' ≡ promised
-      → IsSoundIndex entries IsNeat size new room' spare' HasLeft' count' promised'
-  sound_unspent x rank count' promised' gap made neat counted in_list in_trees below countable is =
+      → IsSoundIndex entries IsNeat size new room' spare' HasLeft' Places' count' promised'
+  sound_unspent x rank count' promised' gap made neat places counted in_list in_trees below countable is =
       let up = ascending-insert (all entries nodes) x rank sound.ascending gap in
       let longer = length-insert (all entries nodes) rank x gap.in_range in
       let before = sound.counted in
@@ -58,13 +59,14 @@ module _ {N : Type 0} (entries : N → List Entry) (IsNeat : N → Type 0) (size
         in_list = omega (arith, is, in_list);
         in_trees = omega (arith, is, in_trees);
         below = subst HasLeft' (sym is) below;
+        places = λ some. places;
         countable = omega (arith, is, countable);
       }
 
 -- Of an index alone: entries that go, and calls that may be refused.
 
-module _ {N : Type 0} (entries : N → List Entry) (IsNeat : N → Type 0) (size : N → ℕ) (nodes : List N) (room spare : ℕ) (HasLeft : ℕ → Type 0) (count promised : ℕ)
-    (sound : IsSoundIndex entries IsNeat size nodes room spare HasLeft count promised) where
+module _ {N : Type 0} (entries : N → List Entry) (IsNeat : N → Type 0) (size : N → ℕ) (nodes : List N) (room spare : ℕ) (HasLeft : ℕ → Type 0) (Places : Type 0) (count promised : ℕ)
+    (sound : IsSoundIndex entries IsNeat size nodes room spare HasLeft Places count promised) where
   -- Where nothing is promised a call may be refused.
 
   pub one_left : ((k : ℕ) → HasLeft (k + 1) → HasLeft k) → ¬ HasLeft 1 → promised ≡ 0
@@ -132,9 +134,10 @@ most_is a b most is = elim (cases_lt a b) [ inl less ↦ inr (omega (arith, is))
 
 -- an index that has room for more
 pub sound_roomier : {N : Type 0} (entries : N → List Entry) (IsNeat : N → Type 0) (size : N → ℕ) (nodes new : List N) (room room' spare spare' : ℕ) (HasLeft HasLeft' : ℕ → Type 0)
-    (count promised given most : ℕ) → IsSoundIndex entries IsNeat size nodes room spare HasLeft count promised → new ≡ nodes → room ≤ room' → given ≤ room' → spare ≤ spare' → given ≤ spare'
-    → ((k : ℕ) → HasLeft k → HasLeft' k) → HasLeft' given → most ≡ max promised given → count + given < 2 ^ 64 → IsSoundIndex entries IsNeat size new room' spare' HasLeft' count most
-sound_roomier {N} entries IsNeat size nodes new room room' spare spare' HasLeft HasLeft' count promised given most sound same kept_room in_room kept_spare in_spare kept left is fits =
+    (Places Places' : Type 0) (count promised given most : ℕ) → IsSoundIndex entries IsNeat size nodes room spare HasLeft Places count promised → new ≡ nodes → room ≤ room' → given ≤ room' → spare ≤ spare' → given ≤ spare'
+    → ((k : ℕ) → HasLeft k → HasLeft' k) → HasLeft' given → (Places → Places') → most ≡ max promised given → count + given < 2 ^ 64
+    → IsSoundIndex entries IsNeat size new room' spare' HasLeft' Places' count most
+sound_roomier {N} entries IsNeat size nodes new room room' spare spare' HasLeft HasLeft' Places Places' count promised given most sound same kept_room in_room kept_spare in_spare kept left places is fits =
     let which = most_is promised given most is in
     let list = sound.in_list in
     let trees = sound.in_trees in
@@ -146,5 +149,6 @@ sound_roomier {N} entries IsNeat size nodes new room room' spare spare' HasLeft 
       in_list = omega arith;
       in_trees = omega arith;
       below = max_left HasLeft' promised given most (kept promised sound.below) left which;
+      places = λ some. places (sound.places some);
       countable = omega arith;
     }

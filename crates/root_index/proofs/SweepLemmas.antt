@@ -1,5 +1,5 @@
 -- What a sweep does: in a leaf, in a node among others, and to the set of all entries.
-use Rattle.std.proofs.Common.{◌≡◌, ◌∙◌, ℕ, zero, suc, ◌+◌, ◌-◌, ◌<◌, ◌≤◌, ◌⊎◌, inl, inr, ⊎_elim, ◌↔◌, List, [], ◌∷◌, ◌++◌, length, take, drop, map, max, get_or, Bool, true, false, Option, Some, None, slice_get, slice_set, IfSome, IfNone, ◌≢◌, sym, ap, refl, subst, arith, Contains}
+use Rattle.std.proofs.Common.{◌≡◌, ◌∙◌, ℕ, zero, suc, ◌+◌, ◌-◌, ◌^◌, ◌<◌, ◌≤◌, ◌⊎◌, inl, inr, ⊎_elim, ◌↔◌, List, [], ◌∷◌, ◌++◌, length, take, drop, map, max, get_or, Bool, true, false, Option, Some, None, slice_get, slice_set, IfSome, IfNone, ◌≢◌, sym, ap, refl, subst, arith, Contains}
 use Rattle.std.specs.List.{filter, remove, All}
 use Rattle.std.proofs.lemmas.Bool.{cases_lt, cases_eq}
 use Rattle.std.proofs.lemmas.List.{append_assoc, append-nil, length-append, length-drop, length-take-le, take-append-drop, take_all, drop_all}
@@ -18,7 +18,7 @@ use Rattle.root_index.specs.Order.{EntryPrecedes, IsAscending}
 use Rattle.root_index.specs.Sets.{IsAfter, IsStart}
 use Rattle.root_index.specs.Lists.{concatenated, stays}
 use Rattle.root_index.specs.Nodes.{all, rank_in, before_node, AreNeat, AreNeatBut, IsSpotIn, IsStartIn, IsBehindIn}
-use Rattle.root_index.specs.Rows.{inner_is, some_with}
+use Rattle.root_index.specs.Rows.{inner_is, some_with, none_without}
 use Rattle.root_index.specs.Sweeps.{IsSwept}
 use Rattle.root_index.specs.Trees.{IsSoundIndex}
 use Rattle.root_index.specs.Pieces.{RemovesPiece}
@@ -391,47 +391,101 @@ removes_none old new rank dead from up start past same = subst (λ (xs : List En
   goes_on = tt;
 })
 
-pub sound_swept : {N : Type 0} (entries : N → List Entry) (IsNeat : N → Type 0) (size : N → ℕ) (nodes new : List N) (room room' spare : ℕ) (HasLeft : ℕ → Type 0) (count count' promised rank : ℕ)
-    (dead : List Tid) (swept : Swept) → IsSoundIndex entries IsNeat size nodes room spare HasLeft count promised → IsSwept (all entries nodes) (all entries new) rank dead swept
-    → AreNeat IsNeat size new → room ≤ room' → count' ≡ count - swept.removed → IsSoundIndex entries IsNeat size new room' spare HasLeft count' promised
-sound_swept entries IsNeat size nodes new room room' spare HasLeft count count' promised rank dead swept sound s neat in_room counted =
-    let up = ascending_left s.prefix s.piece s.back dead (subst IsAscending s.was sound.ascending) in
-    let was : length (all entries nodes) ≡ length s.prefix + (length s.piece + length s.back) =
-    ap length s.was ∙ length-append s.prefix (s.piece ++ s.back) ∙ ap (λ n. length s.prefix + n) (length-append s.piece s.back) in
-    let is : length (all entries new) ≡ length s.prefix + (length (filter (stays dead) s.piece) + length s.back) =
-    ap length s.is ∙ length-append s.prefix (filter (stays dead) s.piece ++ s.back) ∙ ap (λ n. length s.prefix + n) (length-append (filter (stays dead) s.piece) s.back) in
-    let before = sound.counted in
-    let gone = s.removed in
-    let list = sound.in_list in
-    let bound = sound.countable in
-    record {
-      ascending = subst IsAscending (sym s.is) up;
+-- what is left of the entries
+module _ (old new : List Entry) (rank : ℕ) (dead : List Tid) (swept : Swept) (is : IsSwept old new rank dead swept) where
+  pub some_swept : 0 < length old
+  some_swept =
+      let within = slice_get_within is.piece (length is.piece - 1) swept.last is.last in
+      let was = ap length is.was ∙ length-append is.prefix (is.piece ++ is.back) ∙ ap (λ n. length is.prefix + n) (length-append is.piece is.back) in
+      omega (arith, within, was)
+
+  pub fewer_swept : swept.removed + length new ≡ length old
+  fewer_swept =
+      let stay = filter (stays dead) is.piece in
+      let was : length old ≡ length is.prefix + (length is.piece + length is.back) =
+      ap length is.was ∙ length-append is.prefix (is.piece ++ is.back) ∙ ap (λ n. length is.prefix + n) (length-append is.piece is.back) in
+      let left : length new ≡ length is.prefix + (length stay + length is.back) =
+      ap length is.is ∙ length-append is.prefix (stay ++ is.back) ∙ ap (λ n. length is.prefix + n) (length-append stay is.back) in
+      omega (arith, was, left, is.removed)
+
+pub some_nodes : {N : Type 0} (entries : N → List Entry) (nodes : List N) → 0 < length (all entries nodes) → 0 < length nodes
+some_nodes entries [] some = absurd (omega (arith, some))
+some_nodes entries (n ∷ nodes) some = omega arith
+
+-- how many inserts are promised then: as many as before, or one where no node is left
+abbrev pub IsPromisedAfter : ℕ → ℕ → ℕ → Type 0
+IsPromisedAfter nodes promised promised' = (0 < nodes → promised' ≡ promised) × (nodes ≡ 0 → promised' ≡ max promised 1)
+
+pub sound_swept : {N : Type 0} (entries : N → List Entry) (IsNeat : N → Type 0) (size : N → ℕ) (nodes new : List N) (room room' spare spare' : ℕ) (HasLeft HasLeft' : ℕ → Type 0)
+    (Places Places' : Type 0) (count count' promised promised' rank : ℕ) (dead : List Tid) (swept : Swept) → IsSoundIndex entries IsNeat size nodes room spare HasLeft Places count promised
+    → IsSwept (all entries nodes) (all entries new) rank dead swept → AreNeat IsNeat size new → room ≤ room' → spare ≤ spare' → ((k : ℕ) → HasLeft k → HasLeft' k) → (Places → Places')
+    → (length new ≡ 0 → Places → (1 ≤ room') × (1 ≤ spare') × HasLeft' 1) → count' ≡ count - swept.removed → IsPromisedAfter (length new) promised promised'
+    → IsSoundIndex entries IsNeat size new room' spare' HasLeft' Places' count' promised'
+sound_swept {N} entries IsNeat size nodes new room room' spare spare' HasLeft HasLeft' Places Places' count count' promised promised' rank dead swept sound s neat in_room in_spare kept places emptied
+    counted after = elim (cases_lt 0 (length new)) [
+      | inl some ↦ of_promised promised' (inl (after.0 some)) (omega (arith, after.0 some, list, in_room)) (omega (arith, after.0 some, trees, in_spare)) (omega (arith, after.0 some, bound, whole, before, counted))
+      | inr none ↦
+          let empty : length new ≡ 0 = omega (arith, none) in
+          let one = emptied empty (sound.places (omega (arith, before, some_swept (all entries nodes) (all entries new) rank dead swept s))) in
+          let is = after.1 empty in
+          let no_entry = ap length (none_without entries new empty) in
+          elim (cases_lt 0 promised) [
+            | inl more ↦ of_promised promised' (inl (omega (arith, is, more))) (omega (arith, is, more, list, in_room)) (omega (arith, is, more, trees, in_spare))
+                (omega (arith, is, more, bound, whole, before, counted))
+            | inr less ↦ of_promised promised' (inr (omega (arith, is, less), one.2)) (omega (arith, is, less, one.0)) (omega (arith, is, less, one.1)) (omega (arith, is, less, whole, before, counted, no_entry))
+          ]
+    ]
+  where
+    before : count ≡ length (all entries nodes)
+    before = sound.counted
+
+    list : promised ≤ room
+    list = sound.in_list
+
+    trees : promised ≤ spare
+    trees = sound.in_trees
+
+    bound : count + promised < 2 ^ 64
+    bound = sound.countable
+
+    whole : swept.removed + length (all entries new) ≡ length (all entries nodes)
+    whole = fewer_swept (all entries nodes) (all entries new) rank dead swept s
+
+    of_promised : (p : ℕ) → (p ≡ promised) ⊎ ((p ≡ 1) × HasLeft' 1) → p ≤ room' → p ≤ spare' → count' + p < 2 ^ 64
+        → IsSoundIndex entries IsNeat size new room' spare' HasLeft' Places' count' p
+    of_promised p which fits enough countable = record {
+      ascending = subst IsAscending (sym s.is) (ascending_left s.prefix s.piece s.back dead (subst IsAscending s.was sound.ascending));
       neat = neat;
-      counted = omega arith;
-      in_list = omega arith;
-      in_trees = sound.in_trees;
-      below = sound.below;
-      countable = omega arith;
+      counted = omega (arith, counted, whole, before);
+      in_list = fits;
+      in_trees = enough;
+      below = ⊎_elim (λ is. subst HasLeft' (sym is) (kept promised sound.below)) (λ one. subst HasLeft' (sym one.0) one.1) which;
+      places = λ some. places (sound.places (omega (arith, before, some_swept (all entries nodes) (all entries new) rank dead swept s)));
+      countable = countable;
     }
 
--- fewer entries leave more places free, as long as there is one
-places_more : (m n : ℕ) → 0 < n → n ≤ m → free_places m ≤ free_places n
-places_more zero n some le = omega arith
-places_more (suc m) zero some le = absurd (omega (arith, some))
-places_more (suc m) (suc n) some le = omega arith
+-- fewer entries leave more places free
+places_more : (m n promised promised' : ℕ) → n ≤ m → promised ≤ promised' → (n ≡ 0 → 1 ≤ promised') → free_places m promised ≤ free_places n promised'
+places_more zero zero zero promised' le more some = omega arith
+places_more zero zero (suc promised) zero le more some = absurd (omega (arith, more))
+places_more zero zero (suc promised) (suc promised') le more some = omega arith
+places_more zero (suc n) promised promised' le more some = absurd (omega (arith, le))
+places_more (suc m) zero promised zero le more some = absurd (omega (arith, some refl))
+places_more (suc m) zero promised (suc promised') le more some = omega arith
+places_more (suc m) (suc n) promised promised' le more some = omega (arith, le)
 
-some_left : (entries : List Entry) → entries ≢ [] → 0 < length entries
-some_left [] some = absurd (some refl)
-some_left (e ∷ entries) some = omega arith
-
-pub room_swept : (old new : List Entry) (rank : ℕ) (dead : List Tid) (swept : Swept) (promised : ℕ) → IsSwept old new rank dead swept → new ≢ []
-    → max promised (free_places (length old)) ≤ max promised (free_places (length new))
-room_swept old new rank dead swept promised is some =
-    let left = some_left new some in
-    let stay = filter (stays dead) is.piece in
-    let before : length old ≡ length is.prefix + (length is.piece + length is.back) =
-    ap length is.was ∙ length-append is.prefix (is.piece ++ is.back) ∙ ap (λ n. length is.prefix + n) (length-append is.piece is.back) in
-    let after : length new ≡ length is.prefix + (length stay + length is.back) =
-    ap length is.is ∙ length-append is.prefix (stay ++ is.back) ∙ ap (λ n. length is.prefix + n) (length-append stay is.back) in
-    let more = places_more (length old) (length new) left (omega (arith, before, after, is.removed)) in
-    omega (arith, more)
+pub room_swept : (old new : List Entry) (rank : ℕ) (dead : List Tid) (swept : Swept) (nodes promised promised' : ℕ) → IsSwept old new rank dead swept
+    → (0 < nodes → 0 < length new) → IsPromisedAfter nodes promised promised'
+    → (promised ≤ promised') × (max promised (free_places (length old) promised) ≤ max promised' (free_places (length new) promised'))
+room_swept old new rank dead swept nodes promised promised' is some after =
+    let whole = fewer_swept old new rank dead swept is in
+    elim (cases_lt 0 nodes) [
+      | inl left ↦
+          let same = after.0 left in
+          let more = places_more (length old) (length new) promised promised' (omega (arith, whole)) (omega (arith, same)) (λ none. absurd (omega (arith, none, some left))) in
+          (omega (arith, same), omega (arith, same, more))
+      | inr none ↦
+          let one = after.1 (omega (arith, none)) in
+          let more = places_more (length old) (length new) promised promised' (omega (arith, whole)) (omega (arith, one)) (λ empty. omega (arith, one)) in
+          (omega (arith, one), omega (arith, one, more))
+    ]

@@ -72,3 +72,14 @@ AreKept HasLeft room spare left count promised = (promised ≤ room) × (promise
 -- enough nodes for so many inserts, those below them too
 abbrev pub AreLeft : {B : Type 0} → (B → ℕ → Type 0) → ℕ → B → ℕ → Type 0
 AreLeft HasLeft count below k = (k ≤ count) × HasLeft below k
+
+-- a place for a node that is emptied, and for those below it
+abbrev pub HavePlaces : {B : Type 0} → (B → Type 0) → ℕ → B → Type 0
+HavePlaces HasPlaces capacity below = (1 ≤ capacity) × HasPlaces below
+
+-- none of the nodes that are set aside goes, nor a place for one
+pub record KeepsSpares {B : Type 0} (HasLeft : B → ℕ → Type 0) (HasPlaces : B → Type 0) (count count' capacity capacity' : ℕ) (below below' : B) : Type 0 where
+  pub nodes : count ≤ count'
+  pub left : (k : ℕ) → HasLeft below k → HasLeft below' k
+  pub list : capacity ≤ capacity'
+  pub places : HasPlaces below → HasPlaces below'

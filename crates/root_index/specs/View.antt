@@ -10,11 +10,13 @@ pub record IndexView : Type 0 where
   -- in so many nodes they stand
   pub nodes : ℕ
 
--- Where there are entries, and fewer than 128 of them, no node is full: all have places for as many as are lacking.
-abbrev pub free_places : ℕ → ℕ
-free_places zero = 0
-free_places (suc n) = 127 - n
+-- Where there are fewer than 128 entries no node is full: all have places for as many as are lacking. Without any entry that is
+-- so if nodes are set aside, for these are taken first.
+abbrev pub free_places : (entries spare : ℕ) → ℕ
+free_places zero zero = 0
+free_places zero (suc spare) = 128
+free_places (suc n) spare = 127 - n
 
 -- how many entries can be inserted without memory, wherever they go
 abbrev pub room_in : IndexView → ℕ
-room_in index = max index.spare (free_places (length index.entries))
+room_in index = max index.spare (free_places (length index.entries) index.spare)

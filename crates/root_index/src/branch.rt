@@ -3,7 +3,7 @@
 ghost use Rattle.std.specs.Prelude.{◌≡◌, ◌≤◌, ◌++◌, [], suc, length, sum_by, vec_len, vec_capacity};
 ghost use Rattle.std.proofs.Common.{arith};
 ghost use Rattle.root_index.specs.Rows.{none_without, some_with, many_with, rank_within, entry_is_spot};
-ghost use Rattle.root_index.specs.Nodes.{all, rank_in, AreNeat, IsSpotIn, IsEntryIn, AreLeft};
+ghost use Rattle.root_index.specs.Nodes.{all, rank_in, AreNeat, IsSpotIn, IsEntryIn, AreLeft, HavePlaces};
 
 use crate::dead_set::DeadSet;
 use crate::entry::Entry;
@@ -48,6 +48,8 @@ impl<N: Node> Node for Branch<N> {
     ghost rank = { λ b spot. rank_in N.entries N.rank b spot };
 
     ghost HasLeft = { λ spares k. AreLeft N.HasLeft (vec_len spares.nodes) spares.below k };
+
+    ghost HasPlaces = { λ spares. HavePlaces N.HasPlaces (vec_capacity spares.nodes) spares.below };
 
     fn new(alloc: Global) -> Result<Self, AllocError> {
         let nodes = Vec::with_capacity(alloc, MAX_PARTS)?;
@@ -110,8 +112,13 @@ impl<N: Node> Node for Branch<N> {
         nodes::insert(&mut self.nodes, spares, spot, entry)
     }
 
-    fn sweep_from(&mut self, spot: Spot<N::Spot>, dead: &DeadSet) -> Option<Swept> {
-        nodes::sweep_from(&mut self.nodes, spot, dead)
+    fn sweep_from(
+        &mut self,
+        spares: &mut Spares<N, N::Spares>,
+        spot: Spot<N::Spot>,
+        dead: &DeadSet,
+    ) -> Option<Swept> {
+        nodes::sweep_from(&mut self.nodes, spares, spot, dead)
     }
 
     fn no_spares(alloc: Global) -> Spares<N, N::Spares> {

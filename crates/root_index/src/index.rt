@@ -1,6 +1,6 @@
 //! The index.
 
-ghost use Rattle.std.specs.Prelude.{◌≡◌, ◌≢◌, ◌<◌, ◌≤◌, ◌+◌, ◌^◌, [], length, OnOk, OnErr, Some, Contains, vec_len, vec_capacity};
+ghost use Rattle.std.specs.Prelude.{◌≡◌, ◌<◌, ◌≤◌, ◌+◌, ◌^◌, [], length, OnOk, OnErr, Some, Contains, vec_len, vec_capacity};
 ghost use Rattle.std.specs.Option.{option_map};
 ghost use Rattle.root_index.specs.Order.{IsAscending};
 ghost use Rattle.root_index.specs.Sets.{AddsEntry, IsLeast, IsAfter, IsBelow};
@@ -46,14 +46,14 @@ pub struct RootIndex {
 impl Model for RootIndex {
     ghost use Rattle.std.specs.Prelude.{◌-◌, sum_by, vec_len, vec_capacity};
     ghost use Rattle.root_index.specs.View.{IndexView};
-    ghost use Rattle.root_index.specs.Nodes.{all};
+    ghost use Rattle.root_index.specs.Nodes.{all, HavePlaces};
     ghost use Rattle.root_index.specs.Trees.{IsSoundIndex};
 
     ghost Value = { IndexView };
 
     ghost view = { λ x. record { entries = all ⟦<Tree as Node>⟧.entries x.trees.items; spare = x.promised; nodes = sum_by ⟦<Tree as Node>⟧.nodes x.trees.items } };
 
-    ghost invariant = { λ x. IsSoundIndex ⟦<Tree as Node>⟧.entries ⟦<Tree as Node>⟧.IsNeat ⟦<Tree as Node>⟧.size x.trees.items (vec_capacity x.trees - vec_len x.trees) (vec_len x.spares.nodes) (⟦<Tree as Node>⟧.HasLeft x.spares.below) x.count x.promised };
+    ghost invariant = { λ x. IsSoundIndex ⟦<Tree as Node>⟧.entries ⟦<Tree as Node>⟧.IsNeat ⟦<Tree as Node>⟧.size x.trees.items (vec_capacity x.trees - vec_len x.trees) (vec_len x.spares.nodes) (⟦<Tree as Node>⟧.HasLeft x.spares.below) (HavePlaces ⟦<Tree as Node>⟧.HasPlaces (vec_capacity x.spares.nodes) x.spares.below) x.count x.promised };
 }
 
 impl RootIndex {
@@ -86,9 +86,9 @@ impl RootIndex {
         let _count = self.count;
     }
 
-    /// Makes room in memory for `count` more entries, so that the next `count` of them are inserted without asking for any. Where
-    /// there are entries, and with these they are no more than 128, no node will be full, and nothing has to grow; only else may
-    /// it be refused. It is always refused where the number of entries would be above 2^64 - 1.
+    /// Makes room in memory for `count` more entries, so that the next `count` of them are inserted without asking for any. An
+    /// index that has an entry, or had one, has nodes for 128, and nothing has to grow as long as they are no more; only else
+    /// may it be refused. It is always refused where the number of entries would be above 2^64 - 1.
     pub fn make_room(&mut self, count: usize) -> Result<(), AllocError>
         ensures room { OnOk result (count ≤ room_in self.new) }
         ensures refused { OnErr result (room_in self.old < count) }
@@ -96,7 +96,7 @@ impl RootIndex {
         ensures entries { self.new.entries ≡ self.old.entries }
         ensures err { OnErr result (self.new ≡ self.old) }
     {
-        if count as u64 <= free_places(self.count) {
+        if count as u64 <= free_places(self.count, self.promised) {
             return Ok(());
         }
         self.set_aside(count)
@@ -122,7 +122,7 @@ impl RootIndex {
     }
 
     /// Adds an entry. One that is there already stays there once. Memory is refused only where the entry is not there, no room
-    /// was made for it, and there is no entry or there are 128 or more, so that a node may be full; or where the entries could
+    /// was made for it, and there was never an entry or there are 128 or more, so that a node may be full; or where the entries could
     /// not be counted any more. They stay as they were then. The room that was made for others is kept where no node is split.
     pub fn insert(&mut self, entry: Entry) -> Result<(), AllocError>
         ensures adds { OnOk result (AddsEntry self.old.entries self.new.entries entry) }
@@ -180,17 +180,18 @@ impl RootIndex {
     }
 
     /// Goes over the entries after this one, or over all, as far as the leaf goes that holds the first of them, and removes those
-    /// to dead places. Says how far it came, so that the next call goes on from there. It takes no memory, and room that was made
-    /// stays as long as an entry does.
+    /// to dead places. Says how far it came, so that the next call goes on from there. It takes no memory, and keeps all room: the
+    /// last nodes that are emptied are set aside.
     pub fn remove_where(&mut self, dead: &DeadSet, from: Option<Entry>) -> Progress
         ensures piece { RemovesPiece self.old.entries self.new.entries dead.now from result }
         ensures spare { self.old.spare ≤ self.new.spare }
-        ensures room { self.new.entries ≢ [] → room_in self.old ≤ room_in self.new }
+        ensures room { room_in self.old ≤ room_in self.new }
     {
         let spot = look_ups::spot_after(&self.trees, from);
-        match nodes::sweep_from(&mut self.trees, spot, dead) {
+        match nodes::sweep_from(&mut self.trees, &mut self.spares, spot, dead) {
             Some(swept) => {
                 self.count -= swept.removed;
+                self.promised = nodes::promised_after_sweep(&self.trees, self.promised);
                 if swept.more {
                     Progress::More(swept.last)
                 } else {
@@ -202,11 +203,11 @@ impl RootIndex {
     }
 }
 
-/// How many entries an index of so many takes without another node, wherever they go.
-fn free_places(count: u64) -> u64
-    ensures { result ≡ free_places count }
+/// How many entries an index of so many takes without another node, wherever they go, with nodes set aside for `promised` more.
+fn free_places(count: u64, promised: usize) -> u64
+    ensures { result ≡ free_places count promised }
 {
-    if count == 0 {
+    if count == 0 && promised == 0 {
         0
     } else {
         128u64.saturating_sub(count)

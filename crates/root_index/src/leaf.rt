@@ -64,6 +64,8 @@ impl Node for Leaf {
 
     ghost HasLeft = { λ spares k. Unit {0} };
 
+    ghost HasPlaces = { λ spares. Unit {0} };
+
     fn new(alloc: Global) -> Result<Self, AllocError> {
         let entries = Vec::with_capacity(alloc, MAX_PARTS)?;
         let tid = Tid { page: 0, slot: 0 };
@@ -145,7 +147,7 @@ impl Node for Leaf {
         Ok(())
     }
 
-    fn sweep_from(&mut self, spot: usize, dead: &DeadSet) -> Option<Swept> {
+    fn sweep_from(&mut self, _spares: &mut (), spot: usize, dead: &DeadSet) -> Option<Swept> {
         let last = last_from(&self.entries, spot)?;
         let count = self.entries.len();
         let goes = next_to_go(&self.entries, self.pages, spot, dead);

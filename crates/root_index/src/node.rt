@@ -70,6 +70,9 @@ pub(crate) trait Node: Drop {
     // enough for so many inserts
     ghost HasLeft: { Self.Spares → ℕ → Type 0 };
 
+    // each kind of them has a place for one that is emptied
+    ghost HasPlaces: { Self.Spares → Type 0 };
+
     /// A node without parts.
     fn new(alloc: Global) -> Result<Self, AllocError>
         ensures none { IfOk result (λ node. size node ≡ 0) }
@@ -157,20 +160,31 @@ pub(crate) trait Node: Drop {
         ensures unspent { OnOk result
             (nodes self.new ≡ nodes self.old → (k : ℕ) → HasLeft spares.old k
             → HasLeft spares.new k) }
+        ensures places { HasPlaces spares.old → HasPlaces spares.new }
+        ensures first { OnOk result (size self.old ≡ 0 → HasPlaces spares.new) }
         ensures err { OnErr result (entries self.new ≡ entries self.old) }
         ensures refused { OnErr result (¬ HasLeft spares.old 1) }
         ensures full { OnErr result ((size self.old ≡ 0) ⊎ (128 ≤ length (entries self.old))) };
 
-    /// Removes entries to dead places, from this spot on as far as its leaf goes, and the parts that are left without any. It
-    /// does nothing where no entry follows.
-    fn sweep_from(&mut self, spot: Self::Spot, dead: &DeadSet) -> Option<Swept>
+    /// Removes entries to dead places, from this spot on as far as its leaf goes. The parts that are left without any are set
+    /// aside, if there is a place for them. It does nothing where no entry follows.
+    fn sweep_from(
+        &mut self,
+        spares: &mut Self::Spares,
+        spot: Self::Spot,
+        dead: &DeadSet,
+    ) -> Option<Swept>
         requires neat { IsNeat self.old }
         requires spot { IsSpot self.old spot }
         ensures swept { IfSome result
             (IsSwept (entries self.old) (entries self.new) (rank self.old spot) dead.now) }
         ensures none { IfNone result (length (entries self.old) ≤ rank self.old spot) }
         ensures same { IfNone result (self.new ≡ self.old) }
-        ensures neat { IsNeat self.new };
+        ensures neat { IsNeat self.new }
+        ensures spares { (k : ℕ) → HasLeft spares.old k → HasLeft spares.new k }
+        ensures places { HasPlaces spares.old → HasPlaces spares.new }
+        ensures emptied { 0 < size self.old → size self.new ≡ 0 → HasPlaces spares.old
+            → HasLeft spares.new 1 };
 
     /// No spares.
     fn no_spares(alloc: Global) -> Self::Spares;
@@ -183,6 +197,7 @@ pub(crate) trait Node: Drop {
     fn add_spares(spares: &mut Self::Spares, count: usize) -> Result<(), AllocError>
         ensures ok { OnOk result (HasLeft spares.new count) }
         ensures kept { (k : ℕ) → HasLeft spares.old k → HasLeft spares.new k }
+        ensures places { HasPlaces spares.old → HasPlaces spares.new }
         ensures err { OnErr result (¬ HasLeft spares.old count) };
 
     // a node without parts has no entries, and any other has some

@@ -1,12 +1,12 @@
 //! Nodes, one after another: looking for an entry's spot, putting one there, and removing entries from all of them.
 
-ghost use Rattle.std.specs.Prelude.{◌≡◌, ◌<◌, ◌≤◌, ◌+◌, ◌-◌, ◌⊎◌, ℕ, [], length, map, sum_by, ◌↔◌, ◌^◌, IsTrue, IfOk, IfErr, IfSome, IfNone, OnOk, OnErr, vec_len, vec_capacity, slice_get, option_copied};
+ghost use Rattle.std.specs.Prelude.{◌≡◌, ◌<◌, ◌≤◌, ◌+◌, ◌-◌, ◌⊎◌, ℕ, [], length, map, max, sum_by, ◌↔◌, ◌^◌, IsTrue, IfOk, IfErr, IfSome, IfNone, OnOk, OnErr, vec_len, vec_capacity, slice_get, option_copied};
 ghost use Rattle.std.specs.Bool.{OnTrue};
 ghost use Rattle.std.specs.List.{insert};
 ghost use Rattle.root_index.specs.Order.{IsAscending};
 ghost use Rattle.root_index.specs.Sets.{IsAt, IsGapFor};
 ghost use Rattle.root_index.specs.Lists.{IsLastBetween};
-ghost use Rattle.root_index.specs.Nodes.{all, rank_in, before_node, AreNeat, AreNeatBut, IsSpotIn, IsEntryIn, IsBehindIn, IsOpened, IsUnspent, AreKept};
+ghost use Rattle.root_index.specs.Nodes.{all, rank_in, before_node, AreNeat, AreNeatBut, IsSpotIn, IsEntryIn, IsBehindIn, IsOpened, IsUnspent, AreKept, AreLeft, HavePlaces, KeepsSpares};
 ghost use Rattle.root_index.specs.Sweeps.{IsSwept};
 
 use crate::dead_set::DeadSet;
@@ -134,6 +134,7 @@ fn take_node<N: Node>(spare: &mut Vec<N>) -> Result<N, AllocError>
     ensures none { IfOk result (λ node. N.size node ≡ 0) }
     ensures neat { IfOk result N.IsNeat }
     ensures count { vec_len spare.old ≤ vec_len spare.new + 1 }
+    ensures capacity { vec_capacity spare.old ≤ vec_capacity spare.new }
     ensures err { OnErr result (vec_len spare.old ≡ 0) }
 {
     match spare.pop() {
@@ -204,6 +205,7 @@ fn open<N: Node>(
     ensures shorter { vec_len nodes.old ≤ vec_len nodes.new }
     ensures capacity { vec_capacity nodes.old ≤ vec_capacity nodes.new }
     ensures spare { vec_len spare.old ≤ vec_len spare.new + 1 }
+    ensures places { vec_capacity spare.old ≤ vec_capacity spare.new }
     ensures err { OnErr result (nodes.new.items ≡ nodes.old.items) }
     ensures refused { OnErr result
         ((vec_capacity nodes.old - vec_len nodes.old ≡ 0) ⊎ (vec_len spare.old ≡ 0)) }
@@ -224,6 +226,19 @@ fn open<N: Node>(
     Ok(split(nodes, upper, spot))
 }
 
+/// Reserves a place to set a node aside, if there is none.
+fn reserve_place<N: Node>(spare: &mut Vec<N>) -> Result<(), AllocError>
+    ensures ok { OnOk result (1 ≤ vec_capacity spare.new) }
+    ensures count { vec_len spare.new ≡ vec_len spare.old }
+    ensures capacity { vec_capacity spare.old ≤ vec_capacity spare.new }
+    ensures err { OnErr result (vec_len spare.old ≡ 0) }
+{
+    if spare.capacity() > 0 {
+        return Ok(());
+    }
+    spare.try_reserve(1)
+}
+
 /// Makes the first node, with this entry alone.
 fn insert_first<N: Node>(
     nodes: &mut Vec<N>,
@@ -241,12 +256,17 @@ fn insert_first<N: Node>(
     ensures capacity { vec_capacity nodes.old ≤ vec_capacity nodes.new }
     ensures spare { vec_len spares.old.nodes ≤ vec_len spares.new.nodes + 1 }
     ensures below { (k : ℕ) → N.HasLeft spares.old.below (k + 1) → N.HasLeft spares.new.below k }
+    ensures places { HavePlaces N.HasPlaces (vec_capacity spares.old.nodes) spares.old.below
+        → HavePlaces N.HasPlaces (vec_capacity spares.new.nodes) spares.new.below }
+    ensures first { OnOk result
+        (HavePlaces N.HasPlaces (vec_capacity spares.new.nodes) spares.new.below) }
     ensures err { OnErr result (nodes.new.items ≡ nodes.old.items) }
     ensures refused { OnErr result
         ((vec_capacity nodes.old - vec_len nodes.old ≡ 0) ⊎ (vec_len spares.old.nodes ≡ 0)
         ⊎ ¬ N.HasLeft spares.old.below 1) }
 {
     nodes.try_reserve(1)?;
+    reserve_place(&mut spares.nodes)?;
     let mut node = take_node(&mut spares.nodes)?;
     node.insert(&mut spares.below, N::first(), entry)?;
     nodes.push_reserved(node);
@@ -275,6 +295,10 @@ pub(crate) fn insert<N: Node>(
     ensures capacity { vec_capacity nodes.old ≤ vec_capacity nodes.new }
     ensures spare { vec_len spares.old.nodes ≤ vec_len spares.new.nodes + 1 }
     ensures below { (k : ℕ) → N.HasLeft spares.old.below (k + 1) → N.HasLeft spares.new.below k }
+    ensures places { HavePlaces N.HasPlaces (vec_capacity spares.old.nodes) spares.old.below
+        → HavePlaces N.HasPlaces (vec_capacity spares.new.nodes) spares.new.below }
+    ensures first { OnOk result (length nodes.old.items ≡ 0
+        → HavePlaces N.HasPlaces (vec_capacity spares.new.nodes) spares.new.below) }
     ensures err { OnErr result (all N.entries nodes.new.items ≡ all N.entries nodes.old.items) }
     ensures refused { OnErr result
         ((vec_capacity nodes.old - vec_len nodes.old ≡ 0) ⊎ (vec_len spares.old.nodes ≡ 0)
@@ -335,10 +359,23 @@ pub(crate) fn still_promised<N: Node>(
     }
 }
 
+/// How many inserts are promised after a sweep: one at least where no node is left, since the last ones are set aside then.
+pub(crate) fn promised_after_sweep<N: Node>(nodes: &Vec<N>, promised: usize) -> usize
+    ensures left { 0 < length nodes.now.items → result ≡ promised }
+    ensures emptied { length nodes.now.items ≡ 0 → result ≡ max promised 1 }
+{
+    if nodes.is_empty() {
+        promised.max(1)
+    } else {
+        promised
+    }
+}
+
 /// Adds nodes until there are so many.
 pub(crate) fn add_nodes<N: Node>(spare: &mut Vec<N>, count: usize) -> Result<(), AllocError>
     ensures ok { OnOk result (count ≤ vec_len spare.new) }
     ensures kept { vec_len spare.old ≤ vec_len spare.new }
+    ensures places { vec_capacity spare.old ≤ vec_capacity spare.new }
     ensures err { OnErr result (vec_len spare.old < count) }
 {
     while spare.len() < count {
@@ -347,22 +384,47 @@ pub(crate) fn add_nodes<N: Node>(spare: &mut Vec<N>, count: usize) -> Result<(),
     Ok(())
 }
 
-/// Takes the node of this number out if it has no parts.
-fn drop_empty<N: Node>(nodes: &mut Vec<N>, number: usize)
+/// Takes the node of this number out if it has no parts, and sets it aside if there is a place for it.
+fn drop_empty<N: Node>(nodes: &mut Vec<N>, spare: &mut Vec<N>, number: usize)
     requires in_range { number < length nodes.old.items }
     requires neat { AreNeatBut N.IsNeat N.size nodes.old.items number }
     ensures entries { all N.entries nodes.new.items ≡ all N.entries nodes.old.items }
     ensures neat { AreNeat N.IsNeat N.size nodes.new.items }
     ensures shorter { vec_len nodes.new ≤ vec_len nodes.old }
     ensures capacity { vec_capacity nodes.old ≤ vec_capacity nodes.new }
+    ensures room { vec_len nodes.new < vec_len nodes.old
+        → vec_len nodes.new < vec_capacity nodes.new }
+    ensures spare { vec_len spare.old ≤ vec_len spare.new }
+    ensures places { vec_capacity spare.old ≤ vec_capacity spare.new }
+    ensures size { vec_len nodes.new < vec_len nodes.old
+        → IfSome (slice_get nodes.old.items number) (λ n. N.size n ≡ 0) }
+    ensures emptied { vec_len nodes.new < vec_len nodes.old → 1 ≤ vec_capacity spare.old
+        → 1 ≤ vec_len spare.new }
 {
     if nodes[number].len() == 0 {
-        let _empty = nodes.remove(number);
+        let empty = nodes.remove(number);
+        keep_node(spare, empty);
+    }
+}
+
+/// Sets a node aside, if there is a place for it.
+fn keep_node<N: Node>(spare: &mut Vec<N>, node: N)
+    ensures count { vec_len spare.old ≤ vec_len spare.new }
+    ensures capacity { vec_capacity spare.old ≤ vec_capacity spare.new }
+    ensures some { 1 ≤ vec_capacity spare.old → 1 ≤ vec_len spare.new }
+{
+    if spare.len() < spare.capacity() {
+        spare.push_reserved(node);
     }
 }
 
 /// Sweeps the spot's node alone, and takes it out if that leaves it without parts.
-fn sweep_one<N: Node>(nodes: &mut Vec<N>, spot: Spot<N::Spot>, dead: &DeadSet) -> Option<Swept>
+fn sweep_one<N: Node>(
+    nodes: &mut Vec<N>,
+    spares: &mut Spares<N, N::Spares>,
+    spot: Spot<N::Spot>,
+    dead: &DeadSet,
+) -> Option<Swept>
     requires neat { AreNeat N.IsNeat N.size nodes.old.items }
     requires node { spot.node < length nodes.old.items }
     requires spot { IsSpotIn N.IsSpot nodes.old.items spot }
@@ -374,11 +436,19 @@ fn sweep_one<N: Node>(nodes: &mut Vec<N>, spot: Spot<N::Spot>, dead: &DeadSet) -
     ensures neat { AreNeat N.IsNeat N.size nodes.new.items }
     ensures shorter { vec_len nodes.new ≤ vec_len nodes.old }
     ensures capacity { vec_capacity nodes.old ≤ vec_capacity nodes.new }
+    ensures room { vec_len nodes.new < vec_len nodes.old
+        → vec_len nodes.new < vec_capacity nodes.new }
+    ensures kept { KeepsSpares N.HasLeft N.HasPlaces (vec_len spares.old.nodes)
+        (vec_len spares.new.nodes) (vec_capacity spares.old.nodes)
+        (vec_capacity spares.new.nodes) spares.old.below spares.new.below }
+    ensures emptied { 0 < length nodes.old.items → length nodes.new.items ≡ 0
+        → HavePlaces N.HasPlaces (vec_capacity spares.old.nodes) spares.old.below
+        → AreLeft N.HasLeft (vec_len spares.new.nodes) spares.new.below 1 }
 {
     let others = spot.node + 1 < nodes.len();
-    match nodes[spot.node].sweep_from(spot.inner, dead) {
+    match nodes[spot.node].sweep_from(&mut spares.below, spot.inner, dead) {
         Some(swept) => {
-            drop_empty(nodes, spot.node);
+            drop_empty(nodes, &mut spares.nodes, spot.node);
             Some(Swept {
                 last: swept.last,
                 removed: swept.removed,
@@ -389,10 +459,11 @@ fn sweep_one<N: Node>(nodes: &mut Vec<N>, spot: Spot<N::Spot>, dead: &DeadSet) -
     }
 }
 
-/// Removes entries to dead places, from this spot on as far as its leaf goes, and the nodes that are left without any. It does
-/// nothing where no entry follows.
+/// Removes entries to dead places, from this spot on as far as its leaf goes. The nodes that are left without any are set aside,
+/// if there is a place for them. It does nothing where no entry follows.
 pub(crate) fn sweep_from<N: Node>(
     nodes: &mut Vec<N>,
+    spares: &mut Spares<N, N::Spares>,
     spot: Spot<N::Spot>,
     dead: &DeadSet,
 ) -> Option<Swept>
@@ -407,19 +478,32 @@ pub(crate) fn sweep_from<N: Node>(
     ensures neat { AreNeat N.IsNeat N.size nodes.new.items }
     ensures shorter { vec_len nodes.new ≤ vec_len nodes.old }
     ensures capacity { vec_capacity nodes.old ≤ vec_capacity nodes.new }
+    ensures room { vec_len nodes.new < vec_len nodes.old
+        → vec_len nodes.new < vec_capacity nodes.new }
+    ensures kept { KeepsSpares N.HasLeft N.HasPlaces (vec_len spares.old.nodes)
+        (vec_len spares.new.nodes) (vec_capacity spares.old.nodes)
+        (vec_capacity spares.new.nodes) spares.old.below spares.new.below }
+    ensures emptied { 0 < length nodes.old.items → length nodes.new.items ≡ 0
+        → HavePlaces N.HasPlaces (vec_capacity spares.old.nodes) spares.old.below
+        → AreLeft N.HasLeft (vec_len spares.new.nodes) spares.new.below 1 }
 {
     // where there are no nodes
     if spot.node >= nodes.len() {
         return None;
     }
-    match sweep_one(nodes, spot, dead) {
+    match sweep_one(nodes, spares, spot, dead) {
         Some(swept) => Some(swept),
-        None => sweep_next(nodes, spot.node + 1, dead),
+        None => sweep_next(nodes, spares, spot.node + 1, dead),
     }
 }
 
 /// Sweeps the node of this number from its first entry on, if there is such a node.
-fn sweep_next<N: Node>(nodes: &mut Vec<N>, number: usize, dead: &DeadSet) -> Option<Swept>
+fn sweep_next<N: Node>(
+    nodes: &mut Vec<N>,
+    spares: &mut Spares<N, N::Spares>,
+    number: usize,
+    dead: &DeadSet,
+) -> Option<Swept>
     requires neat { AreNeat N.IsNeat N.size nodes.old.items }
     ensures swept { IfSome result
         (IsSwept (all N.entries nodes.old.items) (all N.entries nodes.new.items)
@@ -429,6 +513,14 @@ fn sweep_next<N: Node>(nodes: &mut Vec<N>, number: usize, dead: &DeadSet) -> Opt
     ensures neat { AreNeat N.IsNeat N.size nodes.new.items }
     ensures shorter { vec_len nodes.new ≤ vec_len nodes.old }
     ensures capacity { vec_capacity nodes.old ≤ vec_capacity nodes.new }
+    ensures room { vec_len nodes.new < vec_len nodes.old
+        → vec_len nodes.new < vec_capacity nodes.new }
+    ensures kept { KeepsSpares N.HasLeft N.HasPlaces (vec_len spares.old.nodes)
+        (vec_len spares.new.nodes) (vec_capacity spares.old.nodes)
+        (vec_capacity spares.new.nodes) spares.old.below spares.new.below }
+    ensures emptied { 0 < length nodes.old.items → length nodes.new.items ≡ 0
+        → HavePlaces N.HasPlaces (vec_capacity spares.old.nodes) spares.old.below
+        → AreLeft N.HasLeft (vec_len spares.new.nodes) spares.new.below 1 }
 {
     if number >= nodes.len() {
         return None;
@@ -436,6 +528,7 @@ fn sweep_next<N: Node>(nodes: &mut Vec<N>, number: usize, dead: &DeadSet) -> Opt
     let inner = N::first();
     sweep_one(
         nodes,
+        spares,
         Spot {
             node: number,
             inner,

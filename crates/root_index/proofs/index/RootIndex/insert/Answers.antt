@@ -4,7 +4,7 @@ use Rattle.root_index.specs.View.{IndexView, room_in, free_places}
 use Rattle.root_index.specs.Sets.{AddsEntry}
 use Rattle.root_index.proofs.SetLemmas.{adds-there, absent_in_gap}
 use Rattle.root_index.proofs.SoundLemmas.{among, ascending_there, found_there, gap_there, adds_in_gap, sound_inserted, sound_unspent, none_promised, none_countable}
-use Rattle.root_index.proofs.FullLemmas.{on_err, full_among, no_room, room_less, nodes_of}
+use Rattle.root_index.proofs.FullLemmas.{on_err, full_among, no_room, room_less, places_after, nodes_of}
 use Rattle.root_index.proofs.index.RootIndex.insert.Goals as goal
 
 pub search-requires-clause-ascending : goal.search-requires-clause-ascending
@@ -21,7 +21,7 @@ pub returns-then-self-clause-memory : goal.returns-then-self-clause-memory
 returns-then-self-clause-memory c =
     let trees = c.self.inside.trees.items in
     let gap = gap_there _ _ trees c.deref.result.now c.args.entry c.in-Err.spot c.deref.ensures.value c.in-Err.ensures.absent in
-    let none = none_countable _ _ _ _ _ _ _ _ _ c.self.invariant (omega (arith, c.if-self.true)) in
+    let none = none_countable _ _ _ _ _ _ _ _ _ _ c.self.invariant (omega (arith, c.if-self.true)) in
     let counted : c.self.inside.count ≡ length (among trees) = c.self.invariant.counted in
     on_err c.ask_for_too_much.result ((room_in c.args.self.now ≡ 0) × (¬ Contains c.args.self.now.entries c.args.entry))
     (subst (λ (v : IndexView). (room_in v ≡ 0) × (¬ Contains v.entries c.args.entry)) c.self.view_is
@@ -31,7 +31,7 @@ pub returns-in_err-insert-clause-memory : goal.returns-in_err-insert-clause-memo
 returns-in_err-insert-clause-memory c =
     let trees = c.self.inside.trees.items in
     let gap = gap_there _ _ trees c.deref.result.now c.args.entry c.in-Err.spot c.deref.ensures.value c.in-Err.ensures.absent in
-    let none = none_promised _ _ _ _ _ _ _ _ _ c.self.invariant (λ k left. (omega (arith, left.0), (omega (arith, left.1.0), tt))) c.in_err-insert.ensures.refused in
+    let none = none_promised _ _ _ _ _ _ _ _ _ _ c.self.invariant (λ k left. (omega (arith, left.0), (omega (arith, left.1.0), tt))) c.in_err-insert.ensures.refused in
     on_err c.from_residual.result ((room_in c.args.self.now ≡ 0) × (¬ Contains c.args.self.now.entries c.args.entry))
     (subst (λ (v : IndexView). (room_in v ≡ 0) × (¬ Contains v.entries c.args.entry)) c.self.view_is
     (no_room c.self.inside.promised (length (among trees)) none (full_among trees c.in_err-insert.ensures.full), absent_in_gap (among trees) c.args.entry _ gap))
@@ -41,14 +41,15 @@ pub invariant_of-self-2 : goal.invariant_of-self-2
 invariant_of-self-2 c =
     let gap = gap_there _ _ c.self.inside.trees.items c.deref.result.now c.args.entry c.in-Err.spot c.deref.ensures.value c.in-Err.ensures.absent in
     let now = c.in_ok-insert.ensures in
+    let places = places_after c.self.inside.trees.items c.self.inside.count _ _ c.self.invariant.neat c.self.invariant.counted c.self.invariant.places now.places now.first in
     elim c.still_promised-self-inside.ensures.fewer [
       | inl fewer ↦
-          sound_inserted _ _ _ c.self.inside.trees.items c.insert.new.nodes.items _ _ _ _ _ _ c.self.inside.count c.self.inside.promised c.self.invariant
-          c.args.entry _ (c.self.inside.count + 1) _ gap now.entries now.neat now.room now.spare now.below (omega arith, (omega arith, tt)) refl fewer
+          sound_inserted _ _ _ c.self.inside.trees.items c.insert.new.nodes.items _ _ _ _ _ _ _ _ c.self.inside.count c.self.inside.promised c.self.invariant
+          c.args.entry _ (c.self.inside.count + 1) _ gap now.entries now.neat places now.room now.spare now.below (omega arith, (omega arith, tt)) refl fewer
           (omega (arith, c.self.invariant.countable, c.if-self.false))
       | inr kept ↦
-          sound_unspent _ _ _ c.self.inside.trees.items c.insert.new.nodes.items _ _ _ _ _ _ c.self.inside.count c.self.inside.promised c.self.invariant
-          c.args.entry _ (c.self.inside.count + 1) _ gap now.entries now.neat refl kept.0.0 kept.0.1 kept.0.2 kept.0.3 kept.1
+          sound_unspent _ _ _ c.self.inside.trees.items c.insert.new.nodes.items _ _ _ _ _ _ _ _ c.self.inside.count c.self.inside.promised c.self.invariant
+          c.args.entry _ (c.self.inside.count + 1) _ gap now.entries now.neat places refl kept.0.0 kept.0.1 kept.0.2 kept.0.3 kept.1
     ]
 
 pub returns-clause-adds : goal.returns-clause-adds
@@ -74,7 +75,7 @@ returns-clause-room c =
     let gap = gap_there _ _ trees c.deref.result.now c.args.entry c.in-Err.spot c.deref.ensures.value c.in-Err.ensures.absent in
     let longer : length (among new) ≡ length (among trees) + 1 =
     ap length c.in_ok-insert.ensures.entries ∙ length-insert (among trees) _ c.args.entry gap.in_range in
-    subst (λ (v : IndexView). room_in v ≤ max still (free_places (length (among new))) + 1) c.self.view_is
+    subst (λ (v : IndexView). room_in v ≤ max still (free_places (length (among new)) still) + 1) c.self.view_is
     (room_less c.self.inside.promised still (length (among trees)) (length (among new)) (still_less c.self.inside.promised still _ c.still_promised-self-inside.ensures.fewer) longer)
 
 -- where no node was split all others stay promised

@@ -1,16 +1,23 @@
 use Rattle.std.proofs.Common.{◌≤◌, max, length, ap, refl, subst, arith}
 use Rattle.root_index.specs.View.{IndexView, free_places, room_in}
 use Rattle.root_index.specs.Pieces.{RemovesPiece}
-use Rattle.root_index.proofs.SoundLemmas.{among}
-use Rattle.root_index.proofs.SweepLemmas.{start_there, removes_swept, removes_none, sound_swept, room_swept}
+use Rattle.root_index.proofs.SoundLemmas.{tree_entries, among}
+use Rattle.root_index.proofs.FullLemmas.{some_among}
+use Rattle.root_index.proofs.SweepLemmas.{start_there, removes_swept, removes_none, sound_swept, some_swept, some_nodes, room_swept}
 use Rattle.root_index.proofs.index.RootIndex.remove_where.Goals as goal
 use Rattle.root_index.proofs.index.RootIndex.remove_where.Goals.{then-swept, else-swept}
 
+-- where no node is left the last ones are set aside
 pub invariant_of-self : goal.invariant_of-self
 invariant_of-self c =
     let now = c.in-Some.ensures in
-    sound_swept _ _ _ c.self.inside.trees.items c.sweep_from.new.nodes.items _ _ _ _ c.self.inside.count _ c.self.inside.promised _ c.args.dead.now c.in-Some.swept c.self.invariant now.swept
-    now.neat (omega (arith, now.shorter, now.capacity)) refl
+    let kept = c.sweep_from.ensures.kept in
+    let some = some_nodes tree_entries c.self.inside.trees.items (some_swept _ _ _ _ _ now.swept) in
+    sound_swept _ _ _ c.self.inside.trees.items c.sweep_from.new.nodes.items _ _ _ _ _ _ _ _ c.self.inside.count _ c.self.inside.promised _ _ c.args.dead.now c.in-Some.swept
+    c.self.invariant now.swept now.neat (omega (arith, now.shorter, now.capacity)) kept.nodes kept.left (λ places. (omega (arith, kept.list, places.0), kept.places places.1))
+    (λ empty places. let left = c.sweep_from.ensures.emptied some empty places in
+    (omega (arith, empty, c.sweep_from.ensures.room (omega (arith, empty, some))), left.0, left.1))
+    refl (c.promised_after_sweep-self-inside.ensures.left, c.promised_after_sweep-self-inside.ensures.emptied)
 
 pub returns-after-swept-clause-piece : goal.returns-after-swept-clause-piece
 returns-after-swept-clause-piece c =
@@ -21,11 +28,22 @@ returns-after-swept-clause-piece c =
     (λ more. elim c.if-swept.branch [ then-swept w ↦ w.result-is | else-swept w ↦ absurd (cc (more, w.if-swept.false)) ])
     (λ none. elim c.if-swept.branch [ then-swept w ↦ absurd (cc (none, w.if-swept.true)) | else-swept w ↦ w.result-is ]))
 
+-- so there is as much room as before, and as many nodes are set aside
+
+pub returns-after-swept-clause-spare : goal.returns-after-swept-clause-spare
+returns-after-swept-clause-spare c =
+    let after = c.promised_after_sweep-self-inside.ensures in
+    let more = room_swept (among c.self.inside.trees.items) (among c.sweep_from.new.nodes.items) _ c.args.dead.now c.in-Some.swept (length c.sweep_from.new.nodes.items) c.self.inside.promised
+    c.promised_after_sweep-self-inside.result c.in-Some.ensures.swept (some_among c.sweep_from.new.nodes.items c.in-Some.ensures.neat) (after.left, after.emptied) in
+    subst (λ (v : IndexView). v.spare ≤ c.promised_after_sweep-self-inside.result) c.self.view_is more.0
+
 pub returns-after-swept-clause-room : goal.returns-after-swept-clause-room
-returns-after-swept-clause-room c = λ some.
-    let promised = c.self.inside.promised in
-    subst (λ (v : IndexView). room_in v ≤ max promised (free_places (length (among c.sweep_from.new.nodes.items)))) c.self.view_is
-    (room_swept (among c.self.inside.trees.items) (among c.sweep_from.new.nodes.items) _ c.args.dead.now c.in-Some.swept promised c.in-Some.ensures.swept some)
+returns-after-swept-clause-room c =
+    let after = c.promised_after_sweep-self-inside.ensures in
+    let promised = c.promised_after_sweep-self-inside.result in
+    let more = room_swept (among c.self.inside.trees.items) (among c.sweep_from.new.nodes.items) _ c.args.dead.now c.in-Some.swept (length c.sweep_from.new.nodes.items) c.self.inside.promised
+    promised c.in-Some.ensures.swept (some_among c.sweep_from.new.nodes.items c.in-Some.ensures.neat) (after.left, after.emptied) in
+    subst (λ (v : IndexView). room_in v ≤ max promised (free_places (length (among c.sweep_from.new.nodes.items)) promised)) c.self.view_is more.1
 
 pub returns-in-None-clause-piece : goal.returns-in-None-clause-piece
 returns-in-None-clause-piece c =
