@@ -9,8 +9,9 @@ use Rattle.tuple_header.specs.declared.version.Row.{Row}
 use Rattle.page_slots.specs.Slots.{version_at, header_at, row_at}
 use Rattle.page_slots.specs.View.{PageView}
 use Rattle.page_slots.proofs.SlotLemmas.{version-from_header}
-use Rattle.sound_entries.specs.Pages.{version_in}
-use Rattle.sound_entries.proofs.Fetching.{slots-there, row-nowhere}
+use Rattle.index_lookup.specs.Pages.{version_in}
+use Rattle.index_lookup.proofs.PageLists.{slots-there}
+use Rattle.index_lookup.proofs.Fetching.{row-nowhere}
 use Rattle.heap_write.specs.Walking.{NoneSeenFrom, SeenRow}
 
 version-there : (pages : List PageView) (place : Tid) (page : PageView) → slice_get pages place.page ≡ Some page

@@ -9,7 +9,7 @@ use Rattle.std.proofs.lemmas.Int.{ints}
 use Rattle.root_index.specs.declared.entry.Entry.{Entry}
 use Rattle.root_index.specs.Order.{EntryPrecedes}
 use Rattle.root_index.specs.Sets.{IsLeast, IsBelow, IsOf}
-use Rattle.sound_entries.specs.Looking.{IsFirstOf}
+use Rattle.index_lookup.specs.Looking.{IsFirstOf}
 use Rattle.heap_write.specs.declared.index_scan.IndexPosition.{IndexPosition}
 use Rattle.heap_write.specs.declared.index_scan.IndexRange.{IndexRange}
 use Rattle.heap_write.specs.Walking.{ComesAfter, StartsIn, LiesIn}

@@ -11,7 +11,7 @@ use Rattle.root_index.specs.declared.entry.Entry.{Entry}
 use Rattle.root_index.specs.Order.{IsAscending}
 use Rattle.root_index.specs.Sets.{IsLeast}
 use Rattle.root_index.proofs.SetLemmas.{place_of, start_after}
-use Rattle.sound_entries.specs.Looking.{FirstFound}
+use Rattle.index_lookup.specs.Looking.{FirstFound}
 use Rattle.heap_write.specs.declared.index_scan.IndexPosition.{IndexPosition}
 use Rattle.heap_write.specs.declared.index_scan.IndexRange.{IndexRange}
 use Rattle.heap_write.specs.Walking.{IsBeforePosition, ComesAfter, LiesIn, IsNextRow}

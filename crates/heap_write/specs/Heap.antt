@@ -6,7 +6,7 @@ use Rattle.page_slots.specs.declared.slot.Slot.{Slot}
 use Rattle.commit_status.specs.Window.{Window}
 use Rattle.root_index.specs.View.{IndexView}
 use Rattle.heap_pages.specs.View.{PagesView}
-use Rattle.sound_entries.specs.Looking as looking
+use Rattle.index_lookup.specs.Pages as lists
 use Rattle.heap_write.specs.Indexes.{SameEntries}
 
 pub record HeapView : Type 0 where
@@ -18,7 +18,7 @@ pub record HeapView : Type 0 where
   pub max_pages : ℕ
 
 abbrev pub slots_of : HeapView → List (List Slot)
-slots_of h = looking.page_slots_of h.pages
+slots_of h = lists.page_slots_of h.pages
 
 -- the value of a row in the index by key
 abbrev pub key_value : Row → ℤ

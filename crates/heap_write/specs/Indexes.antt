@@ -7,7 +7,7 @@ use Rattle.root_index.specs.declared.entry.Entry.{Entry}
 use Rattle.root_index.specs.Sets.{AddsEntry}
 use Rattle.root_index.specs.View.{IndexView, room_in}
 use Rattle.history.specs.Cursors.{value_in}
-use Rattle.sound_entries.specs.Entries.{entry_for}
+use Rattle.index_lookup.specs.Pages.{entry_for}
 
 -- the index of a number, if it is in use
 abbrev pub index_at : List (Option IndexView) → ℕ → Option IndexView

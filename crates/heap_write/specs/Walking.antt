@@ -7,8 +7,8 @@ use Rattle.tuple_header.specs.declared.version.Row.{Row}
 use Rattle.page_slots.specs.declared.slot.Slot.{Slot}
 use Rattle.commit_status.specs.Window.{Window}
 use Rattle.root_index.specs.declared.entry.Entry.{Entry}
-use Rattle.sound_entries.specs.Pages.{version_in}
-use Rattle.sound_entries.specs.Looking.{FirstFound}
+use Rattle.index_lookup.specs.Pages.{version_in}
+use Rattle.index_lookup.specs.Looking.{FirstFound}
 use Rattle.heap_write.specs.declared.index_scan.IndexPosition.{IndexPosition}
 use Rattle.heap_write.specs.declared.index_scan.IndexRange.{IndexRange}
 

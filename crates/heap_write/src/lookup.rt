@@ -2,13 +2,13 @@
 
 ghost use Rattle.std.specs.Prelude.{pos};
 ghost use Rattle.visibility.specs.Visible.{IsVisible, IsOtherWriterIn, IsNewerCommitIn};
-ghost use Rattle.sound_entries.specs.Looking.{FirstFound, FirstPlace, IsIdOf};
+ghost use Rattle.index_lookup.specs.Looking.{FirstFound, FirstPlace, IsIdOf};
 ghost use Rattle.heap_write.specs.Heap.{slots_of};
 ghost use Rattle.heap_write.specs.Indexes.{entries_in};
 
 use crate::heap::HeapState;
+use index_lookup::{WriteCheck, check_write, row_of};
 use snapshot::{OwnIds, Snapshot};
-use sound_entries::{WriteCheck, check_write, row_of};
 use tuple_header::RowRef;
 
 impl HeapState {

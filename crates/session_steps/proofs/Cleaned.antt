@@ -21,7 +21,7 @@ use Rattle.sound_page.specs.Dead.{IsDeadAt}
 use Rattle.sound_page.specs.Links.{link}
 use Rattle.sound_page.proofs.Links.{link-of}
 use Rattle.sound_page.proofs.Undone.{aborted-has}
-use Rattle.sound_entries.specs.Pages.{slots_on, version_in}
+use Rattle.index_lookup.specs.Pages.{slots_on, version_in}
 use Rattle.heap_write.specs.Heap.{HeapView, slots_of}
 use Rattle.heap_write.specs.Writes.{Prunes}
 use Rattle.table_integrity.specs.Table.{SoundTable}

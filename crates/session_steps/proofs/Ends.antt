@@ -18,7 +18,7 @@ use Rattle.commit_status.proofs.Finishing.{finishes-top, finishes-upto, finishes
 use Rattle.forgetting.proofs.WellTopped.{finishes-well_topped}
 use Rattle.tuple_writes.specs.Laws.{DeletedWhatWasMade, AloneDeletedTheirs}
 use Rattle.visibility.proofs.Makers.{is-inserter, is-deleter, active-to, committed-to, state-some}
-use Rattle.sound_entries.specs.Pages.{slots_on}
+use Rattle.index_lookup.specs.Pages.{slots_on}
 use Rattle.heap_write.specs.Heap.{slots_of}
 use Rattle.table_integrity.specs.Table.{StaysSoundTable}
 use Rattle.table_integrity.specs.Laws as laws

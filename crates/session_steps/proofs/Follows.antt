@@ -11,10 +11,10 @@ use Rattle.commit_status.specs.Window.{IsUpToNext, next_id, turns}
 use Rattle.snapshot.specs.Own.{AreDistinct}
 use Rattle.heap_pages.specs.View.{PagesView}
 use Rattle.visibility.proofs.Makers.{active-to}
-use Rattle.sound_entries.specs.Pages.{version_in, slot_in}
+use Rattle.index_lookup.specs.Pages.{version_in, slot_in}
 use Rattle.sound_entries.specs.Entries.{MayBeTarget, same_version, led_on, died}
 use Rattle.sound_entries.specs.Entries as entries
-use Rattle.sound_entries.specs.Looking as looking
+use Rattle.index_lookup.specs.Pages as lists
 use Rattle.table_integrity.specs.Table.{SoundTable}
 use Rattle.table_integrity.proofs.InUse.{used-by}
 use Rattle.table_integrity.proofs.Keeping.{later-stays-sound}
@@ -282,7 +282,7 @@ Follows-begin st st' s snapshot within idle is opens w agrees =
 
 -- what readers see of other pages with the rest of the engine
 abbrev with_pages : State → PagesView → seen_heap.Heap
-with_pages st pages = record (seen st) { version = version_in (looking.page_slots_of pages) }
+with_pages st pages = record (seen st) { version = version_in (lists.page_slots_of pages) }
 
 module _ (st st' : State) (s : ℕ) (e : Session) (end : Status) (at : session_at st s ≡ Some e) (closes : Closes st st' s end) where
   only-closes : OnlyIs (seen st).session (seen st').session s None

@@ -10,7 +10,7 @@ use Rattle.commit_status.proofs.Giving.{finished-place}
 use Rattle.page_slots.specs.Slots.{version_at}
 use Rattle.page_slots.specs.View.{PageView}
 use Rattle.page_slots.specs.declared.slot.Slot.{Slot}
-use Rattle.sound_entries.specs.Pages.{version_in, slots_on}
+use Rattle.index_lookup.specs.Pages.{version_in, slots_on}
 use Rattle.heap_write.specs.Heap.{slots_of}
 use Rattle.heap_write.specs.Indexes.{entries_at, new_entries}
 use Rattle.session_steps.proofs.InUse.{new-empty, new-in_use, indexed-is}

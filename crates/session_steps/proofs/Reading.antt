@@ -4,7 +4,7 @@ use Rattle.std.proofs.Common.{◌≡◌, ℕ, Option, Some, false}
 use Rattle.std.specs.Prelude.{pos}
 use Rattle.tuple_header.specs.declared.version.Row.{Row}
 use Rattle.visibility.specs.Visible.{IsVisible}
-use Rattle.sound_entries.specs.Looking.{FirstFound}
+use Rattle.index_lookup.specs.Looking.{FirstFound}
 use Rattle.heap_write.specs.Heap.{slots_of}
 use Rattle.history.specs.World.{World, OpenSession, view}
 use Rattle.refinement.specs.declared.step.Step.TheVariants.{Get}

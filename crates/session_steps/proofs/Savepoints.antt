@@ -8,8 +8,8 @@ use Rattle.snapshot.specs.Own.{newest, older}
 use Rattle.snapshot.proofs.Levels.{distinct-after}
 use Rattle.heap_pages.specs.View.{PagesView}
 use Rattle.visibility.proofs.Makers.{active-to}
-use Rattle.sound_entries.specs.Pages.{version_in}
-use Rattle.sound_entries.specs.Looking as looking
+use Rattle.index_lookup.specs.Pages.{version_in}
+use Rattle.index_lookup.specs.Pages as lists
 use Rattle.history.specs.World.{World}
 use Rattle.refinement.specs.declared.step.Step.TheVariants.{Savepoint, RollbackTo, Release}
 use Rattle.refinement.specs.declared.reply.Reply.TheVariants.{Done, Refused}
@@ -100,7 +100,7 @@ Follows-release st st' s e before saved at sound bare some now is releases w agr
 -- The ids since the newest savepoint are aborted.
 
 abbrev with_pages : State → PagesView → relation.Heap
-with_pages st pages = record (seen st) { version = version_in (looking.page_slots_of pages) }
+with_pages st pages = record (seen st) { version = version_in (lists.page_slots_of pages) }
 
 module _ (st st' : State) (s : ℕ) (before : List ℕ) (saved : List (List ℕ)) (back : RollsBack st st' s) (is : back.session.own.saved ≡ before ∷ saved) where
   were : back.session.own.ids ≡ before ++ back.back.since

@@ -18,11 +18,10 @@ use Rattle.commit_status.specs.Window.{Window, place, status_of}
 use Rattle.commit_status.specs.Window as window
 use Rattle.snapshot.specs.Snap.{Snap, Sees}
 use Rattle.visibility.specs.Visible as visibility
-use Rattle.sound_entries.specs.Pages.{version_in}
+use Rattle.index_lookup.specs.Pages.{version_in}
+use Rattle.index_lookup.specs.Looking.{FirstFound}
+use Rattle.sound_entries.proofs.OnHeap.{found-on_heap, place-on_heap, newer_commit-on_heap, foreign-on_heap}
 use Rattle.sound_entries.specs.Leading as search
-use Rattle.sound_entries.specs.Looking.{FirstFound}
-use Rattle.sound_entries.proofs.Fetching.{found-on_heap, place-on_heap}
-use Rattle.sound_entries.proofs.Among.{newer_commit-on_heap, foreign-on_heap}
 use Rattle.heap_write.specs.Heap.{HeapView, slots_of, key_value}
 use Rattle.history.specs.World.{World}
 use Rattle.refinement.specs.Heap as relation

@@ -8,10 +8,10 @@ use Rattle.tuple_header.specs.declared.version.Row.{Row}
 use Rattle.tuple_header.specs.Version.{Version}
 use Rattle.visibility.specs.Visible as visibility
 use Rattle.root_index.specs.declared.entry.Entry.{Entry}
+use Rattle.index_lookup.specs.Looking.{FirstFound}
 use Rattle.sound_entries.specs.Entries.{EntriesAreSound}
-use Rattle.sound_entries.specs.Looking.{FirstFound}
 use Rattle.sound_entries.proofs.Leads.{visible-found}
-use Rattle.sound_entries.proofs.Fetching.{found-on_heap}
+use Rattle.sound_entries.proofs.OnHeap.{found-on_heap}
 use Rattle.heap_write.specs.declared.index_scan.IndexPosition.{IndexPosition}
 use Rattle.heap_write.specs.declared.index_scan.IndexRange.{IndexRange}
 use Rattle.heap_write.specs.Heap.{slots_of}

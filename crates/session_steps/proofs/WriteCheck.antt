@@ -9,7 +9,7 @@ use Rattle.page_slots.specs.Slots.{version_of, version_at}
 use Rattle.page_slots.specs.View.{PageView}
 use Rattle.page_slots.proofs.SlotLemmas.{version_at-none}
 use Rattle.visibility.specs.Visible as visibility
-use Rattle.sound_entries.specs.Pages.{slots_on}
+use Rattle.index_lookup.specs.Pages.{slots_on}
 use Rattle.heap_write.specs.Heap.{slots_of}
 use Rattle.heap_write.specs.Walking.{IsSeenRow, NoneSeenFrom}
 use Rattle.refinement.specs.Cursors.{Stands, Gathers}

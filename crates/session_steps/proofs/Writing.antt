@@ -8,7 +8,7 @@ use Rattle.commit_status.specs.Window.{Window, IsWindow, IsActive}
 use Rattle.snapshot.specs.Own.{Own}
 use Rattle.snapshot.specs.Snap.{Sees}
 use Rattle.visibility.proofs.Makers.{active-to}
-use Rattle.sound_entries.specs.Pages.{version_in}
+use Rattle.index_lookup.specs.Pages.{version_in}
 use Rattle.heap_write.specs.declared.heap.WriteFault.{WriteFault}
 use Rattle.heap_write.specs.declared.heap.WriteFault.TheVariants as fault
 use Rattle.heap_write.specs.Heap.{HeapView, SameIds, Keeps, slots_of}

@@ -7,7 +7,7 @@ use Rattle.visibility.specs.Visible.{state_of}
 use Rattle.page_slots.specs.declared.slot.Slot.{Slot}
 use Rattle.root_index.specs.View.{IndexView}
 use Rattle.heap_write.specs.Indexes as indexes
-use Rattle.sound_entries.specs.Pages.{version_in}
+use Rattle.index_lookup.specs.Pages.{version_in}
 use Rattle.heap_write.specs.Heap.{HeapView, slots_of}
 use Rattle.refinement.specs.declared.settings.Settings.{Settings}
 use Rattle.refinement.specs.declared.reply.Refusal.{Refusal}

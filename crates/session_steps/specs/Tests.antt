@@ -3,7 +3,7 @@ use Rattle.heap_write.specs.Indexes.{entries_in}
 use Rattle.std.specs.Prelude.{◌≡◌, ◌<◌, ℕ, pos, Option, Some, None, false, Contains}
 use Rattle.xid_circle.specs.declared.Tid.{Tid}
 use Rattle.visibility.specs.Visible.{IsVisible, IsOtherWriterIn, IsNewerCommitIn}
-use Rattle.sound_entries.specs.Looking.{FirstPlace, SomeOf}
+use Rattle.index_lookup.specs.Looking.{FirstPlace, SomeOf}
 use Rattle.heap_write.specs.Heap.{HeapView, slots_of}
 use Rattle.refinement.specs.declared.reply.Refusal.{Refusal}
 use Rattle.refinement.specs.declared.reply.Refusal.TheVariants.{AlreadyThere, NotThere, Conflict, Busy}

@@ -1,7 +1,7 @@
 //! A session asks its cursor for rows.
 
 ghost use Rattle.std.specs.Prelude.{◌≡◌, ◌≤◌, ◌++◌, ◌∷◌, [], length, IfOk, OnOk, OnErr};
-ghost use Rattle.sound_entries.specs.Pages.{slots_on};
+ghost use Rattle.index_lookup.specs.Pages.{slots_on};
 ghost use Rattle.heap_write.specs.Heap.{slots_of};
 ghost use Rattle.refinement.specs.declared.step.Step.{Step};
 ghost use Rattle.session_steps.specs.declared.cursor.Cursor.TheVariants.{Index, Heap};

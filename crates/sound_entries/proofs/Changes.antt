@@ -29,8 +29,8 @@ use Rattle.tuple_writes.proofs.Growth.{none-some}
 use Rattle.tuple_writes.proofs.Slotted.{root-added, taken-away, updated-here, replaced-at, updated-slots}
 use Rattle.root_index.specs.declared.entry.Entry.{Entry}
 use Rattle.root_index.specs.Sets.{AddsEntry, IsOf}
-use Rattle.sound_entries.specs.Pages.{slots_on, version_in, SoundHeap, Puts}
-use Rattle.sound_entries.specs.Entries.{entry_for, MayBeTarget, EntriesAreSound, KeepsTarget, same_version, led_on, died, StaysSound}
+use Rattle.index_lookup.specs.Pages.{slots_on, version_in, Puts, entry_for}
+use Rattle.sound_entries.specs.Entries.{SoundHeap, MayBeTarget, EntriesAreSound, KeepsTarget, same_version, led_on, died, StaysSound}
 use Rattle.sound_entries.proofs.Leads.{chained-version}
 use Rattle.sound_entries.proofs.Going.{Resembles, PageGoesOn, stays-as, page-same, puts-pages, stay-sound, stay-led, add-sound}
 

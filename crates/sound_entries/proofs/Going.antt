@@ -14,7 +14,7 @@ use Rattle.hot_chain.specs.Chain.{is_root, is_root_in}
 use Rattle.sound_page.specs.Sound.{IsIn}
 use Rattle.root_index.specs.declared.entry.Entry.{Entry}
 use Rattle.root_index.specs.Sets.{AddsEntry, IsOf}
-use Rattle.sound_entries.specs.Pages.{slots_on, slot_in, Puts}
+use Rattle.index_lookup.specs.Pages.{slots_on, slot_in, Puts}
 use Rattle.sound_entries.specs.Entries.{MayBeTarget, SoundEntries, KeepsTarget, same_version, led_on, died, KeepsTargets}
 
 -- a version of the chain has the same value and the same key

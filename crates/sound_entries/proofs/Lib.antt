@@ -2,8 +2,5 @@ pub mod Leads
 pub mod Going
 pub mod Changes
 pub mod Finishing
-pub mod Fetching
-pub mod Turns
-pub mod Searching
-pub mod Among
+pub mod OnHeap
 pub mod Tables

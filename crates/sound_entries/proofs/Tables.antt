@@ -1,5 +1,5 @@
 -- Tables as lists of pages: none, one page put, one added; and entries that go.
-use Rattle.std.proofs.Common.{◌≡◌, ℕ, ℤ, zero, suc, ◌<◌, true, false, List, [], ◌∷◌, ◌++◌, length, map, Option, Some, None, refl, sym, ap, ◌∙◌, arith, slice_get}
+use Rattle.std.proofs.Common.{◌≡◌, ℕ, ℤ, zero, suc, ◌<◌, true, false, List, [], Some, sym, ap, ◌∙◌, arith}
 use Rattle.std.specs.List.{Contains}
 use Rattle.xid_circle.specs.declared.Tid.{Tid}
 use Rattle.tuple_header.specs.declared.version.Row.{Row}
@@ -8,40 +8,12 @@ use Rattle.page_slots.specs.declared.slot.Slot.TheVariants.{Dead}
 use Rattle.page_slots.specs.Slots.{slot_at}
 use Rattle.commit_status.specs.Window.{Window}
 use Rattle.hot_chain.specs.Chain.{is_root_in}
-use Rattle.page_slots.specs.View.{PageView}
-use Rattle.heap_pages.specs.View.{PagesView, with_page}
-use Rattle.heap_pages.proofs.PageLemmas.{page-with_page, page-with_page_other, page-pushed, page-pushed_other}
 use Rattle.root_index.specs.declared.entry.Entry.{Entry}
 use Rattle.root_index.specs.Sets.{Loses}
-use Rattle.sound_entries.specs.Pages.{slots_on, slot_in, Puts}
+use Rattle.index_lookup.specs.Pages.{slot_in}
 use Rattle.sound_entries.specs.Entries.{EntriesAreSound, StaysSound}
-use Rattle.sound_entries.specs.Looking.{page_slots_of}
 use Rattle.sound_entries.proofs.Going.{stays-same}
-use Rattle.sound_entries.proofs.Fetching.{slots-there, slots-none}
 use Rattle.sound_page.proofs.Empty.{empty-page}
-
--- The lists.
-
--- what a page of the table has, by its slots
-slots-same : (ps qs : List PageView) (m : ℕ) → slice_get ps m ≡ slice_get qs m → slots_on (map (λ (p : PageView). p.slots) ps) m ≡ slots_on (map (λ (p : PageView). p.slots) qs) m
-slots-same ps qs m same = by (slice_get qs m) refl
-  where
-    by : (o : Option PageView) → slice_get qs m ≡ o → slots_on (map (λ (p : PageView). p.slots) ps) m ≡ slots_on (map (λ (p : PageView). p.slots) qs) m
-    by None at = slots-none ps m (same ∙ at) ∙ sym (slots-none qs m at)
-    by (Some page) at = slots-there ps m page (same ∙ at) ∙ sym (slots-there qs m page at)
-
-pub puts-with_page : (p : PagesView) (n : ℕ) (page : PageView) → n < length p.pages → Puts (page_slots_of p) (page_slots_of (with_page p n page)) n page.slots
-puts-with_page p n page within = record {
-  put = slots-there (with_page p n page).pages n page (page-with_page p n page within);
-  others = λ m other. slots-same (with_page p n page).pages p.pages m (page-with_page_other p n m page other);
-}
-
-pub puts-pushed : (pages : List PageView) (page : PageView)
-    → Puts (map (λ (p : PageView). p.slots) pages) (map (λ (p : PageView). p.slots) (pages ++ page ∷ [])) (length pages) page.slots
-puts-pushed pages page = record {
-  put = slots-there (pages ++ page ∷ []) (length pages) page (page-pushed pages page);
-  others = λ m other. slots-same (pages ++ page ∷ []) pages m (page-pushed_other pages m page other);
-}
 
 -- Nothing.
 

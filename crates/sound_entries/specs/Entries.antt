@@ -11,14 +11,14 @@ use Rattle.page_slots.specs.declared.slot.Slot.TheVariants.{Normal, Redirect, De
 use Rattle.page_slots.specs.Slots.{version_at}
 use Rattle.commit_status.specs.Window.{Window}
 use Rattle.hot_chain.specs.Chain.{is_root_in}
-use Rattle.sound_page.specs.Sound.{IsIn}
+use Rattle.sound_page.specs.Sound.{IsIn, SoundPage}
 use Rattle.root_index.specs.declared.entry.Entry.{Entry}
 use Rattle.root_index.specs.Sets.{IsOf}
-use Rattle.sound_entries.specs.Pages.{slots_on, slot_in, SoundHeap}
+use Rattle.index_lookup.specs.Pages.{slots_on, slot_in}
 
--- the entry of a row's version at a place
-abbrev pub entry_for : (Row → ℤ) → Row → ℕ → ℕ → Entry
-entry_for value_of row page slot = record { value = value_of row; key = row.key; tid = record { page = page; slot = slot } }
+-- each page is sound
+abbrev pub SoundHeap : Window → ℕ → List (List Slot) → Type 0
+SoundHeap w horizon pages = (n : ℕ) → SoundPage w horizon (slots_on pages n)
 
 -- what an entry leads to: a version that isn't heap-only, a redirect, or a dead slot
 abbrev pub MayBeTarget : Option Slot → Type 0

@@ -1,5 +1,5 @@
 -- The laws of sound entries.
-use Rattle.std.specs.Prelude.{◌≡◌, ◌↔◌, ◌≤◌, ℕ, ℤ, List, [], Bool, false, Option, Some, Contains}
+use Rattle.std.specs.Prelude.{◌≡◌, ◌↔◌, ◌≤◌, ℕ, ℤ, List, [], Bool, false, Option, Some, Contains, MatchOption}
 use Rattle.xid_circle.specs.declared.Tid.{Tid}
 use Rattle.tuple_header.specs.Version.{Version}
 use Rattle.tuple_header.specs.declared.version.Row.{Row}
@@ -10,7 +10,7 @@ use Rattle.commit_status.specs.declared.status.Status.TheVariants.{Committed, Ab
 use Rattle.commit_status.specs.Window.{Window, IsWindow, IsActive, IsAborted, IsUpToNext, turns}
 use Rattle.commit_status.specs.Changes.{Gives, Finishes}
 use Rattle.snapshot.specs.Snap.{Snap}
-use Rattle.visibility.specs.Visible.{IsVisible}
+use Rattle.visibility.specs.Visible.{IsVisible, IsOtherWriterIn, IsNewerCommitIn}
 use Rattle.visibility.specs.Seeing.{Touches}
 use Rattle.prune.specs.Pruning.{IsPruned}
 use Rattle.tuple_writes.specs.Writes.{with_replaced, with_root, with_updated}
@@ -18,9 +18,10 @@ use Rattle.tuple_writes.specs.Keeps.{IsDeletable}
 use Rattle.tuple_writes.specs.Laws.{DeletedWhatWasMade, AloneDeletedTheirs}
 use Rattle.root_index.specs.declared.entry.Entry.{Entry}
 use Rattle.root_index.specs.Sets.{AddsEntry, Loses}
-use Rattle.sound_entries.specs.Pages.{slots_on, slot_in, version_in, Puts}
-use Rattle.sound_entries.specs.Entries.{entry_for, SoundEntries, EntriesAreSound, StaysSound, KeepsTargets}
-use Rattle.sound_entries.specs.Leading.{IsUndone, HasOneEntry, IsOnHeap, IsByIndex}
+use Rattle.index_lookup.specs.Pages.{slots_on, slot_in, version_in, Puts, entry_for}
+use Rattle.index_lookup.specs.Looking.{FirstFound, FirstPlace, SomeOf}
+use Rattle.sound_entries.specs.Entries.{SoundEntries, EntriesAreSound, StaysSound, KeepsTargets}
+use Rattle.sound_entries.specs.Leading.{IsUndone, HasOneEntry, IsOnHeap, IsByIndex, SomeOnHeap}
 
 -- What is found.
 
@@ -40,6 +41,40 @@ abbrev pub TouchedByIndex : Type 0
 TouchedByIndex = (value_of : Row → ℤ) (w : Window) (horizon : ℕ) (pages : List (List Slot)) (entries : List Entry) (x : ℕ) → EntriesAreSound value_of w horizon pages entries
     → ¬ IsAborted w x → (value : ℤ) (key : ℕ) (p : Tid) (t : Version)
     → IsOnHeap value_of pages value key (λ t. Touches x t.header) p t ↔ IsByIndex w pages entries value key (λ t. Touches x t.header) p t
+
+-- Where the entries are sound, what is found is what stands on the heap: a row of a version there that is seen, where there
+-- is one.
+abbrev pub FoundIsOnHeap : Type 0
+FoundIsOnHeap = (value_of : Row → ℤ) (w : Window) (horizon : ℕ) (pages : List (List Slot)) (entries : List Entry) (s : Snap) (own : List ℕ) → EntriesAreSound value_of w horizon pages entries
+    → ((x : ℕ) → Contains own x → IsActive w x) → (value : ℤ) (key : ℕ) (answer : Option Row) → FirstFound w (IsVisible w s own) pages entries value key answer
+    → MatchOption answer
+    ((p : Tid) (t : Version) → ¬ IsOnHeap value_of pages value key (λ t. IsVisible w s own t.header) p t)
+    (λ row. (p : Tid) × (t : Version) × IsOnHeap value_of pages value key (λ t. IsVisible w s own t.header) p t × (row ≡ t.row))
+
+-- Where at most one version of the value and the key is seen, its row is found.
+abbrev pub TheRowIsFound : Type 0
+TheRowIsFound = (value_of : Row → ℤ) (w : Window) (horizon : ℕ) (pages : List (List Slot)) (entries : List Entry) (s : Snap) (own : List ℕ) → EntriesAreSound value_of w horizon pages entries
+    → ((x : ℕ) → Contains own x → IsActive w x) → (value : ℤ) (key : ℕ)
+    → ((p q : Tid) (t u : Version) → IsOnHeap value_of pages value key (λ t. IsVisible w s own t.header) p t → IsOnHeap value_of pages value key (λ t. IsVisible w s own t.header) q u → p ≡ q)
+    → (answer : Option Row) → FirstFound w (IsVisible w s own) pages entries value key answer
+    → (p : Tid) (t : Version) → IsOnHeap value_of pages value key (λ t. IsVisible w s own t.header) p t → answer ≡ Some t.row
+
+-- Where the entries are sound, this is the place of a version on the heap that is seen, where there is one.
+abbrev pub PlaceIsOnHeap : Type 0
+PlaceIsOnHeap = (value_of : Row → ℤ) (w : Window) (horizon : ℕ) (pages : List (List Slot)) (entries : List Entry) (s : Snap) (own : List ℕ) → EntriesAreSound value_of w horizon pages entries
+    → ((x : ℕ) → Contains own x → IsActive w x) → (value : ℤ) (key : ℕ) (answer : Option Tid) → FirstPlace w (IsVisible w s own) pages entries value key answer
+    → MatchOption answer
+    ((p : Tid) (t : Version) → ¬ IsOnHeap value_of pages value key (λ t. IsVisible w s own t.header) p t)
+    (λ p. (t : Version) × IsOnHeap value_of pages value key (λ t. IsVisible w s own t.header) p t)
+
+-- Where the entries are sound, such ids are those of versions on the heap.
+abbrev pub MissedIsOnHeap : Type 0
+MissedIsOnHeap = (value_of : Row → ℤ) (w : Window) (horizon : ℕ) (pages : List (List Slot)) (entries : List Entry) (s : Snap) (x : ℕ) → EntriesAreSound value_of w horizon pages entries
+    → (value : ℤ) (key : ℕ) → SomeOf w (IsNewerCommitIn w s x) pages entries value key ↔ SomeOnHeap value_of pages value key (IsNewerCommitIn w s x)
+
+abbrev pub ForeignIsOnHeap : Type 0
+ForeignIsOnHeap = (value_of : Row → ℤ) (w : Window) (horizon : ℕ) (pages : List (List Slot)) (entries : List Entry) (own : List ℕ) (x : ℕ) → EntriesAreSound value_of w horizon pages entries
+    → (value : ℤ) (key : ℕ) → SomeOf w (IsOtherWriterIn w own x) pages entries value key ↔ SomeOnHeap value_of pages value key (IsOtherWriterIn w own x)
 
 -- What steps keep.
 

@@ -10,7 +10,7 @@ use Rattle.visibility.specs.Visible.{IsFrozen}
 use Rattle.sound_page.specs.Sound.{IsIn}
 use Rattle.root_index.specs.declared.entry.Entry.{Entry}
 use Rattle.root_index.specs.Sets.{IsOf}
-use Rattle.sound_entries.specs.Pages.{slots_on, version_in}
+use Rattle.index_lookup.specs.Pages.{slots_on, version_in}
 
 -- its inserter is aborted, and it is not frozen
 pub record IsUndone (w : Window) (h : Header) : Type 0 where
@@ -44,3 +44,7 @@ pub record IsByIndex (w : Window) (pages : List (List Slot)) (entries : List Ent
   pub leads : PointsTo w pages entries entry p
   pub there : version_in pages p ≡ Some t
   pub has : P t
+
+-- a version on the heap
+abbrev pub SomeOnHeap : (Row → ℤ) → List (List Slot) → ℤ → ℕ → (Header → Type 0) → Type 0
+SomeOnHeap value_of pages value key P = (p : Tid) × (t : Version) × IsOnHeap value_of pages value key (λ t. P t.header) p t

@@ -1,6 +1,6 @@
 //! The laws of sound entries. Each function does nothing: its contract is the law.
 
-ghost use Rattle.sound_entries.specs.Laws.{LedByEntry, FoundByIndex, TouchedByIndex, NoEntriesAreSound, AddingKeepsEntries, TakingKeepsEntries, UpdatingKeepsEntries, PruningKeepsEntries, PagesGrowSound, EntriesGoSound, GivingKeepsEntries, CommittingKeepsEntries, AbortingKeepsEntries, LaterHorizonKeepsEntries, LedByTwoSteps};
+ghost use Rattle.sound_entries.specs.Laws.{LedByEntry, FoundByIndex, TouchedByIndex, FoundIsOnHeap, TheRowIsFound, PlaceIsOnHeap, MissedIsOnHeap, ForeignIsOnHeap, NoEntriesAreSound, AddingKeepsEntries, TakingKeepsEntries, UpdatingKeepsEntries, PruningKeepsEntries, PagesGrowSound, EntriesGoSound, GivingKeepsEntries, CommittingKeepsEntries, AbortingKeepsEntries, LaterHorizonKeepsEntries, LedByTwoSteps};
 
 /// A version that isn't undone is in the chain of exactly one entry, which has its value and its key.
 pub fn led_by_entry()
@@ -15,6 +15,31 @@ pub fn found_by_index()
 /// What an id made or deleted, that isn't aborted, is found by the index.
 pub fn touched_by_index()
     ensures { TouchedByIndex }
+{}
+
+/// Where the entries are sound, the row that is found is that of a version on the heap, and none where there is none.
+pub fn found_is_on_heap()
+    ensures { FoundIsOnHeap }
+{}
+
+/// Where the entries are sound and at most one version of the value and the key is seen, its row is found.
+pub fn the_row_is_found()
+    ensures { TheRowIsFound }
+{}
+
+/// Where the entries are sound, the place that is found is that of a version on the heap, and none where there is none.
+pub fn place_is_on_heap()
+    ensures { PlaceIsOnHeap }
+{}
+
+/// Where the entries are sound, the ids that a write check names are those of versions on the heap.
+pub fn missed_is_on_heap()
+    ensures { MissedIsOnHeap }
+{}
+
+/// Where the entries are sound, the holders that a standing names are those of versions on the heap.
+pub fn foreign_is_on_heap()
+    ensures { ForeignIsOnHeap }
 {}
 
 /// A table without pages is sound, with an index without entries.

@@ -23,10 +23,10 @@ use Rattle.root_index.specs.declared.entry.Entry.{Entry}
 use Rattle.root_index.specs.View.{IndexView}
 use Rattle.history.specs.Cursors.{value_in}
 use Rattle.heap_pages.specs.View.{PagesView}
-use Rattle.sound_entries.specs.Pages.{slots_on, slot_in, version_in, SoundHeap, Puts}
-use Rattle.sound_entries.specs.Looking as looking
-use Rattle.sound_entries.specs.Entries.{EntriesAreSound, StaysSound}
+use Rattle.index_lookup.specs.Pages.{slots_on, slot_in, version_in, Puts}
+use Rattle.sound_entries.specs.Entries.{SoundHeap, EntriesAreSound, StaysSound}
 use Rattle.sound_entries.proofs.Changes.{dead-stays}
+use Rattle.index_lookup.specs.Pages as lists
 use Rattle.heap_write.specs.Heap.{HeapView, slots_of, page_on, Keeps}
 use Rattle.heap_write.specs.Indexes.{entries_at, entries_in, IsInUse, SameEntries}
 use Rattle.heap_write.specs.Writes.{TableIsFull, PutsRoot, SetsXmax, HotUpdates, ColdUpdates, UpdatesOnPage, Replaces, PrunesIfFull, Prunes}
@@ -115,7 +115,7 @@ pub same-indexes : (a b : List (Option IndexView)) → b ≡ a → SameEntries a
 same-indexes a b same n = ap (λ (indexes : List (Option IndexView)). entries_at indexes n) same
 
 finished-keep : (h h' : HeapView) (ids : List ℕ) (status : _) → FinishesInTable h h' ids status → KeepsDeadSlots h h'
-finished-keep h h' ids status f = pages-keep h h' (ap (λ (p : PagesView). looking.page_slots_of p) f.pages) (same-indexes h.indexes h'.indexes f.indexes)
+finished-keep h h' ids status f = pages-keep h h' (ap (λ (p : PagesView). lists.page_slots_of p) f.pages) (same-indexes h.indexes h'.indexes f.indexes)
 
 pruned-keep : (h h' : HeapView) (number horizon : ℕ) → Prunes h h' number horizon → KeepsDeadSlots h h'
 pruned-keep h h' number horizon p = same-keep h h' (same-indexes h.indexes h'.indexes (ap (λ (g : HeapView). g.indexes) p.is))

@@ -18,7 +18,7 @@ use Rattle.space_maps.specs.View.{mark_on, says_visible}
 use Rattle.freeze.specs.AllVisible.{IsAllVisible}
 use Rattle.root_index.specs.declared.entry.Entry.{Entry}
 use Rattle.root_index.specs.View.{IndexView}
-use Rattle.sound_entries.specs.Pages.{slots_on, slot_in, version_in}
+use Rattle.index_lookup.specs.Pages.{slots_on, slot_in, version_in}
 use Rattle.heap_write.specs.Heap.{HeapView, slots_of}
 use Rattle.heap_write.specs.Indexes.{entries_in, IsInUse}
 use Rattle.heap_write.specs.Writes.{Prunes}

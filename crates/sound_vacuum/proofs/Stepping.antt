@@ -14,8 +14,8 @@ use Rattle.space_maps.specs.declared.mark.Mark.TheVariants.{Nothing, AllVisible,
 use Rattle.space_maps.specs.View.{says_visible, says_frozen}
 use Rattle.freeze.specs.Laws.{IsCutoff}
 use Rattle.root_index.specs.declared.entry.Entry.{Entry}
-use Rattle.sound_entries.specs.Pages.{slots_on, slot_in, version_in}
-use Rattle.sound_entries.proofs.Fetching.{slots-there}
+use Rattle.index_lookup.specs.Pages.{slots_on, slot_in, version_in}
+use Rattle.index_lookup.proofs.PageLists.{slots-there}
 use Rattle.sound_entries.proofs.Going.{stays-same}
 use Rattle.heap_write.specs.Heap.{HeapView, slots_of}
 use Rattle.table_integrity.specs.Table.{SoundTable, StaysSoundTable}

@@ -13,7 +13,7 @@ use Rattle.root_index.specs.declared.entry.Entry.{Entry}
 use Rattle.root_index.specs.Order.{comparison, EntryPrecedes, IsAscending}
 use Rattle.root_index.specs.Sets.{IsAfter}
 use Rattle.root_index.proofs.OrderLemmas.{Precedes-trans}
-use Rattle.sound_entries.specs.Pages.{slot_in}
+use Rattle.index_lookup.specs.Pages.{slot_in}
 use Rattle.sound_entries.specs.Entries.{EntriesAreSound, StaysSound}
 use Rattle.sound_entries.proofs.Going.{stays-same}
 use Rattle.root_index.specs.declared.progress.Progress.{Progress}

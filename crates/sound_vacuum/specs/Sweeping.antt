@@ -9,7 +9,7 @@ use Rattle.commit_status.specs.Window.{Window}
 use Rattle.root_index.specs.declared.entry.Entry.{Entry}
 use Rattle.root_index.specs.Order.{IsAscending}
 use Rattle.root_index.specs.Sets.{IsAfter}
-use Rattle.sound_entries.specs.Pages.{slot_in}
+use Rattle.index_lookup.specs.Pages.{slot_in}
 use Rattle.sound_entries.specs.Entries.{EntriesAreSound, StaysSound}
 use Rattle.root_index.specs.declared.progress.Progress.{Progress}
 use Rattle.root_index.specs.declared.progress.Progress.TheVariants.{More, Done}

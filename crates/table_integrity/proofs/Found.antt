@@ -17,7 +17,7 @@ use Rattle.prune.specs.Cutting.{IsCut}
 use Rattle.prune.proofs.Unseen.{cut-unseen}
 use Rattle.sound_page.proofs.ReaderLemmas.{open-reader}
 use Rattle.tuple_writes.proofs.Slotted.{active-some}
-use Rattle.sound_entries.specs.Pages.{slots_on, version_in}
+use Rattle.index_lookup.specs.Pages.{slots_on, version_in}
 use Rattle.heap_write.specs.Heap.{HeapView, slots_of}
 use Rattle.heap_write.specs.Writes.{TakesIds, Inserts, Updates, Deletes, Prunes}
 use Rattle.table_integrity.specs.Table.{SoundTable, MayDelete}

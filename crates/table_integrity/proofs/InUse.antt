@@ -7,8 +7,7 @@ use Rattle.root_index.specs.declared.entry.Entry.{Entry}
 use Rattle.root_index.specs.Sets.{AddsEntry}
 use Rattle.root_index.specs.View.{IndexView}
 use Rattle.history.specs.Cursors.{value_in}
-use Rattle.sound_entries.specs.Pages.{SoundHeap}
-use Rattle.sound_entries.specs.Entries.{EntriesAreSound, StaysSound}
+use Rattle.sound_entries.specs.Entries.{SoundHeap, EntriesAreSound, StaysSound}
 use Rattle.sound_entries.proofs.Going.{led-then}
 use Rattle.heap_write.specs.Heap.{HeapView, slots_of}
 use Rattle.heap_write.specs.Indexes.{entries_at, entries_in, IsInUse, index_entry_of, SameEntries, AddsAny, Enters}

@@ -15,14 +15,14 @@ use Rattle.snapshot.specs.Own.{Own}
 use Rattle.root_index.specs.View.{IndexView}
 use Rattle.root_index.specs.declared.entry.Entry.{Entry}
 use Rattle.history.specs.Cursors.{value_in}
-use Rattle.sound_entries.specs.Pages.{slots_on, SoundHeap, Puts}
-use Rattle.sound_entries.specs.Entries.{SoundEntries, EntriesAreSound, StaysSound}
+use Rattle.index_lookup.specs.Pages.{slots_on, Puts}
+use Rattle.sound_entries.specs.Entries.{SoundHeap, SoundEntries, EntriesAreSound, StaysSound}
 use Rattle.sound_entries.proofs.Changes.{pruning-stays, heap-puts}
 use Rattle.sound_entries.proofs.Finishing.{statuses-stay, giving-stays, committing-stays, aborting-stays}
 use Rattle.sound_entries.proofs.Tables.{nothing-sound}
 use Rattle.heap_pages.specs.View.{PagesView}
 use Rattle.page_slots.specs.View.{PageView}
-use Rattle.sound_entries.specs.Looking as looking
+use Rattle.index_lookup.specs.Pages as lists
 use Rattle.heap_write.specs.Heap.{HeapView, SameIds, Keeps, slots_of}
 use Rattle.heap_write.specs.Indexes.{entries_at, entries_in, IsInUse, SameEntries}
 use Rattle.heap_write.specs.Writes.{TableIsFull, TakesIds, PrunesIfFull, Prunes}
@@ -77,14 +77,14 @@ same-indexes a b same n = ap (λ (indexes : List (Option IndexView)). entries_at
 pub committed-stays : (h h' : HeapView) (horizon : ℕ) (ids : List ℕ) → SoundTable h horizon → FinishesInTable h h' ids Committed
     → ((n : ℕ) → DeletedWhatWasMade h.table (slots_on (slots_of h) n) ids) → StaysSoundTable h h' horizon
 committed-stays h h' horizon ids s f theirs =
-    slots-stay h h' horizon (ap (λ (p : PagesView). looking.page_slots_of p) f.pages) (same-indexes h.indexes h'.indexes f.indexes)
+    slots-stay h h' horizon (ap (λ (p : PagesView). lists.page_slots_of p) f.pages) (same-indexes h.indexes h'.indexes f.indexes)
     (λ n. committing-sound h.table h'.table horizon ids (slots_on (slots_of h) n) f.active f.finishes (theirs n) (s.heap n))
     (λ n used. committing-stays (value_in n) h.table h'.table horizon ids (slots_of h) (entries_in h.indexes n) (index-sound h horizon s n used) f.active f.finishes theirs)
 
 pub aborted-stays : (h h' : HeapView) (horizon : ℕ) (ids : List ℕ) → SoundTable h horizon → FinishesInTable h h' ids Aborted
     → ((n : ℕ) → AloneDeletedTheirs h.table (slots_on (slots_of h) n) ids) → StaysSoundTable h h' horizon
 aborted-stays h h' horizon ids s f theirs =
-    slots-stay h h' horizon (ap (λ (p : PagesView). looking.page_slots_of p) f.pages) (same-indexes h.indexes h'.indexes f.indexes)
+    slots-stay h h' horizon (ap (λ (p : PagesView). lists.page_slots_of p) f.pages) (same-indexes h.indexes h'.indexes f.indexes)
     (λ n. aborting-sound h.table h'.table horizon ids (slots_on (slots_of h) n) f.active f.finishes (theirs n) (s.heap n))
     (λ n used. aborting-stays (value_in n) h.table h'.table horizon ids (slots_of h) (entries_in h.indexes n) (index-sound h horizon s n used) f.active f.finishes theirs)
 

@@ -6,7 +6,7 @@ use Rattle.tuple_header.specs.Version.{Version}
 use Rattle.tuple_header.specs.declared.version.Row.{Row}
 use Rattle.snapshot.specs.Own.{Own}
 use Rattle.snapshot.specs.Snap.{Snap}
-use Rattle.sound_entries.specs.Pages.{version_in}
+use Rattle.index_lookup.specs.Pages.{version_in}
 use Rattle.heap_write.specs.Heap.{HeapView, slots_of}
 use Rattle.heap_write.specs.Writes.{Inserts, Updates, Deletes}
 use Rattle.table_integrity.specs.Table.{SoundTable, MayDelete}

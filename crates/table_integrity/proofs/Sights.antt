@@ -16,7 +16,7 @@ use Rattle.visibility.specs.Visible.{IsFrozen, ReadsIn, IsVisible}
 use Rattle.visibility.proofs.Makers.{visible-of, made-of, kept-of, committed-to}
 use Rattle.tuple_writes.specs.Keeps.{HasNoXmax}
 use Rattle.tuple_writes.proofs.Bits.{replaced-frozen}
-use Rattle.sound_entries.specs.Pages.{version_in}
+use Rattle.index_lookup.specs.Pages.{version_in}
 use Rattle.heap_write.specs.Heap.{HeapView, slots_of}
 use Rattle.heap_write.specs.Writes.{TakesIds}
 use Rattle.table_integrity.specs.Readers.{IsAuthor}

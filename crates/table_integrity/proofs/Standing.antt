@@ -19,9 +19,8 @@ use Rattle.tuple_writes.specs.Writes.{with_root, with_heap_only, with_replaced, 
 use Rattle.tuple_writes.proofs.Bits.{root-thawed}
 use Rattle.tuple_writes.proofs.Slotted.{replaced-at, replaced-other}
 use Rattle.prune.specs.Cutting.{RemovesVersions, IsCut}
-use Rattle.sound_entries.specs.Pages.{slots_on, version_in, Puts}
-use Rattle.sound_entries.proofs.Fetching.{slots-there}
-use Rattle.sound_entries.proofs.Tables.{puts-with_page, puts-pushed}
+use Rattle.index_lookup.specs.Pages.{slots_on, version_in, Puts}
+use Rattle.index_lookup.proofs.PageLists.{slots-there, puts-with_page, puts-pushed}
 use Rattle.snapshot.specs.Own.{Own}
 use Rattle.heap_write.specs.Heap.{HeapView, slots_of, unused_page, page_on, PutsPage}
 use Rattle.heap_write.specs.Writes.{PutsRoot, SetsXmax, HotUpdates, ColdUpdates, UpdatesOnPage, Replaces, PrunesIfFull, Prunes, Inserts, Updates, Deletes}

@@ -13,8 +13,7 @@ use Rattle.tuple_writes.proofs.Slotted.{root-added, taken-away, updated-here}
 use Rattle.snapshot.specs.Own.{Own}
 use Rattle.root_index.specs.Sets.{AddsEntry}
 use Rattle.history.specs.Cursors.{value_in}
-use Rattle.sound_entries.specs.Pages.{slots_on, slot_in, version_in, Puts}
-use Rattle.sound_entries.specs.Entries.{entry_for}
+use Rattle.index_lookup.specs.Pages.{slots_on, slot_in, version_in, Puts, entry_for}
 use Rattle.sound_entries.proofs.Going.{stays-same}
 use Rattle.sound_entries.proofs.Changes.{adding-stays, taking-stays, updating-stays, heap-puts}
 use Rattle.heap_write.specs.Heap.{HeapView, slots_of, page_on}

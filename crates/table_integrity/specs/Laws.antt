@@ -9,7 +9,7 @@ use Rattle.commit_status.specs.Window.{IsWindow, IsActive, IsUpToNext, turns}
 use Rattle.commit_status.specs.Changes as changes
 use Rattle.snapshot.specs.Own.{Own}
 use Rattle.tuple_writes.specs.Laws.{DeletedWhatWasMade, AloneDeletedTheirs}
-use Rattle.sound_entries.specs.Pages.{slots_on}
+use Rattle.index_lookup.specs.Pages.{slots_on}
 use Rattle.heap_write.specs.Heap.{HeapView, slots_of, Keeps}
 use Rattle.heap_write.specs.Indexes.{entries_in}
 use Rattle.heap_write.specs.Writes.{Inserts, Updates, Deletes, Prunes}

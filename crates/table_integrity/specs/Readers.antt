@@ -10,7 +10,7 @@ use Rattle.snapshot.specs.Snap.{Snap}
 use Rattle.snapshot.specs.Own.{Own}
 use Rattle.visibility.specs.Visible.{IsFrozen, IsVisible}
 use Rattle.sound_page.specs.Readers.{IsOpenReader}
-use Rattle.sound_entries.specs.Pages.{slots_on, version_in}
+use Rattle.index_lookup.specs.Pages.{slots_on, version_in}
 use Rattle.heap_write.specs.Heap.{HeapView, slots_of}
 use Rattle.heap_write.specs.Writes.{Inserts, Updates, Deletes, Prunes}
 use Rattle.table_integrity.specs.Table.{SoundTable, MayDelete}

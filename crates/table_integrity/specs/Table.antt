@@ -4,8 +4,8 @@ use Rattle.xid_circle.specs.declared.Tid.{Tid}
 use Rattle.tuple_header.specs.Version.{Version}
 use Rattle.tuple_writes.specs.Keeps.{IsMade, HasNoXmax}
 use Rattle.history.specs.Cursors.{value_in}
-use Rattle.sound_entries.specs.Pages.{version_in, SoundHeap}
-use Rattle.sound_entries.specs.Entries.{SoundEntries, KeepsTargets}
+use Rattle.index_lookup.specs.Pages.{version_in}
+use Rattle.sound_entries.specs.Entries.{SoundHeap, SoundEntries, KeepsTargets}
 use Rattle.heap_write.specs.Heap.{HeapView, slots_of}
 use Rattle.heap_write.specs.Indexes.{entries_in, IsInUse}
 

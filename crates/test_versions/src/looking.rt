@@ -1,25 +1,23 @@
 //! Searches along entries, each reckoned by hand.
 
 ghost use Rattle.std.specs.Prelude.{IfSome};
-ghost use Rattle.sound_entries.specs.Looking.{IsFirstOf};
+ghost use Rattle.index_lookup.specs.Looking.{IsFirstOf};
 
 use crate::ids::{begun, finish, owner, table_of};
 use crate::stage::{insert, update};
 use arrayvec::ArrayVec;
 use commit_status::{Status, StatusTable};
 use heap_pages::{MAX_PAGES, Pages};
+use index_lookup::{WriteCheck, check_write, place_from, place_of, row_from, row_of};
 use page_slots::Page;
 use root_index::{Entry, RootIndex};
 use snapshot::{OwnIds, Snapshot};
 use sound_entries::laws::{
     aborting_keeps_entries, adding_keeps_entries, committing_keeps_entries, entries_go_sound,
-    found_by_index, giving_keeps_entries, later_horizon_keeps_entries, led_by_entry,
-    led_by_two_steps, no_entries_are_sound, pages_grow_sound, pruning_keeps_entries,
-    taking_keeps_entries, touched_by_index, updating_keeps_entries,
-};
-use sound_entries::{
-    WriteCheck, check_write, foreign_is_on_heap, found_is_on_heap, missed_is_on_heap, place_from,
-    place_is_on_heap, place_of, row_from, row_of, the_row_is_found,
+    foreign_is_on_heap, found_by_index, found_is_on_heap, giving_keeps_entries,
+    later_horizon_keeps_entries, led_by_entry, led_by_two_steps, missed_is_on_heap,
+    no_entries_are_sound, pages_grow_sound, place_is_on_heap, pruning_keeps_entries,
+    taking_keeps_entries, the_row_is_found, touched_by_index, updating_keeps_entries,
 };
 use std::alloc::{AllocError, Global};
 use tuple_header::{Row, RowRef};

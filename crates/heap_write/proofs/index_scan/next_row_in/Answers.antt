@@ -1,6 +1,7 @@
 use Rattle.std.proofs.Common.{◌≤◌, length, None, arith}
 use Rattle.visibility.specs.Visible.{IsVisible}
-use Rattle.sound_entries.specs.Looking.{page_slots_of, FirstFound}
+use Rattle.index_lookup.specs.Pages.{page_slots_of}
+use Rattle.index_lookup.specs.Looking.{FirstFound}
 use Rattle.heap_write.proofs.SpanLemmas.{first-in_span}
 use Rattle.heap_write.proofs.WalkLemmas.{walked-on, walked-end, walked-row}
 use Rattle.heap_write.proofs.index_scan.next_row_in.Goals as goal

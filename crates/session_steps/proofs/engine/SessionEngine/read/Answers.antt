@@ -2,7 +2,7 @@ use Rattle.heap_write.specs.Indexes.{entries_in}
 use Rattle.std.proofs.Common.{Option, sym, ap, subst, pos}
 use Rattle.tuple_header.specs.declared.version.Row.{Row}
 use Rattle.visibility.specs.Visible.{IsVisible}
-use Rattle.sound_entries.specs.Looking.{FirstFound}
+use Rattle.index_lookup.specs.Looking.{FirstFound}
 use Rattle.heap_write.specs.Heap.{HeapView, slots_of}
 use Rattle.session_steps.specs.State.{State}
 use Rattle.session_steps.proofs.Reading.{reads-view}

@@ -1,7 +1,7 @@
 use Rattle.std.proofs.Common.{◌≡◌, ◌∙◌, List, None, length, slice_get, sym, ap, subst}
 use Rattle.std.specs.Prelude.{option_copied}
 use Rattle.page_slots.specs.declared.slot.Slot.{Slot}
-use Rattle.sound_entries.proofs.Fetching.{slots-none}
+use Rattle.index_lookup.proofs.PageLists.{slots-none}
 use Rattle.session_steps.specs.State.{State}
 use Rattle.session_steps.proofs.engine.SessionEngine.slots_on.Goals as goal
 

@@ -1,0 +1,13 @@
+//! The search along the entries of an index, and along the chain to which each leads.
+//!
+//! [`place_of`], [`row_of`] and [`check_write`] go along the entries of one value and one key, and [`place_from`] and
+//! [`row_from`] do so from the first of them, where that is known. Their contracts speak of entries and chains alone
+//! (`specs/Looking.antt`), on any pages and any index, sound or not; the laws of `sound_entries` tie them to the heap.
+#![tactic(auto)]
+
+mod conflicts;
+mod lookup;
+mod write_check;
+
+pub use lookup::{place_from, place_of, row_from, row_of};
+pub use write_check::{WriteCheck, check_write};

@@ -1,0 +1,179 @@
+//! Looking along the entries of one value and one key. None takes memory.
+
+ghost use Rattle.std.specs.Prelude.{◌≡◌, IfSome, MatchOption, None, Some, FitsSigned};
+ghost use Rattle.std.specs.Int.{w128};
+ghost use Rattle.std.specs.Option.{option_map};
+ghost use Rattle.root_index.specs.Sets.{IsOf};
+ghost use Rattle.visibility.specs.Visible.{IsVisible};
+ghost use Rattle.index_lookup.specs.Pages.{version_in, page_slots_of};
+ghost use Rattle.index_lookup.specs.Looking.{IsNextOf, IsFirstOf, FirstFound, SeenAt, FirstPlace};
+
+use arrayvec::ArrayVec;
+use commit_status::StatusTable;
+use heap_pages::Pages;
+use hot_chain::{first_seen, list_chain};
+use root_index::{Entry, RootIndex};
+use snapshot::{OwnIds, Snapshot};
+use tuple_header::RowRef;
+use xid_circle::Tid;
+
+/// An entry, if it is of this value and this key.
+fn only_of(found: Option<Entry>, value: i128, key: u64) -> Option<Entry>
+    ensures { MatchOption result ((e : _) → found ≡ Some e → ¬ IsOf value key e)
+        (λ e. (found ≡ Some e) × IsOf value key e) }
+{
+    match found {
+        Some(entry) if entry.value == value && entry.key == key => Some(entry),
+        _ => None,
+    }
+}
+
+/// That the value of an entry is in range. It does nothing; its contract is the fact.
+fn has_value(entry: &Entry)
+    ensures { FitsSigned w128 entry.now.value }
+{
+    let _value = entry.value;
+}
+
+/// The first entry of this value and this key that comes after another one of these, or the first of all.
+pub(crate) fn next_of(
+    index: &RootIndex,
+    value: i128,
+    key: u64,
+    from: Option<Entry>,
+) -> Option<Entry>
+    requires { IfSome from (IsOf value key) }
+    ensures { IsNextOf index.now.entries value key from result }
+{
+    match from {
+        None => only_of(index.first_from(value, key), value, key),
+        Some(_) => only_of(index.next_after(from), value, key),
+    }
+}
+
+/// The place of the first version that the reader sees in the chain of a place. A page that is not in use has no chains.
+fn seen_at(
+    pages: &Pages,
+    place: Tid,
+    snapshot: &Snapshot,
+    own: &OwnIds,
+    table: &StatusTable,
+) -> Option<Tid>
+    ensures { SeenAt table.now (IsVisible table.now snapshot.now own.now.ids)
+        (page_slots_of pages.now) place result }
+{
+    let page = match pages.page(place.page) {
+        Some(page) => page,
+        None => return None,
+    };
+    let mut slots: ArrayVec<u16, 292> = ArrayVec::new();
+    list_chain(page, place.slot, table, &mut slots);
+    match first_seen(page, slots.as_slice(), snapshot, own, table) {
+        Some(slot) => Some(Tid {
+            page: place.page,
+            slot,
+        }),
+        None => None,
+    }
+}
+
+/// The place of the first version that the reader sees, along the entries of the value and the key of this one in their
+/// order, and along the chain of each. Who knows the first of these entries spares the search for it. It takes no memory.
+pub fn place_from(
+    pages: &Pages,
+    index: &RootIndex,
+    first: Entry,
+    snapshot: &Snapshot,
+    own: &OwnIds,
+    table: &StatusTable,
+) -> Option<Tid>
+    requires { IsFirstOf index.now.entries first }
+    ensures { FirstPlace table.now (IsVisible table.now snapshot.now own.now.ids)
+        (page_slots_of pages.now) index.now.entries first.value first.key result }
+{
+    index.is_ascending();
+    has_value(&first);
+    let mut next = Some(first);
+    for _ in 0..index.len() {
+        match next {
+            None => return None,
+            Some(entry) => {
+                if let Some(place) = seen_at(pages, entry.tid, snapshot, own, table) {
+                    return Some(place);
+                }
+                next = next_of(index, first.value, first.key, Some(entry));
+            }
+        }
+    }
+    None
+}
+
+/// The place of the first version that the reader sees, along the entries of this value and this key in their order, and
+/// along the chain of each. It takes no memory.
+pub fn place_of(
+    pages: &Pages,
+    index: &RootIndex,
+    value: i128,
+    key: u64,
+    snapshot: &Snapshot,
+    own: &OwnIds,
+    table: &StatusTable,
+) -> Option<Tid>
+    ensures { FirstPlace table.now (IsVisible table.now snapshot.now own.now.ids)
+        (page_slots_of pages.now) index.now.entries value key result }
+{
+    match next_of(index, value, key, None) {
+        Some(first) => place_from(pages, index, first, snapshot, own, table),
+        None => None,
+    }
+}
+
+/// The row of the version at a place, where it stands, if there is one.
+fn row_at(pages: &Pages, place: Tid) -> Option<RowRef<'_>>
+    ensures { result ≡ option_map (λ t. t.row) (version_in (page_slots_of pages.now) place) }
+{
+    match pages.page(place.page) {
+        Some(page) => page.row(place.slot),
+        None => None,
+    }
+}
+
+/// The row, where it stands, of the first version that the reader sees, along the entries of this value and this key in
+/// their order, and along the chain of each. It takes no memory.
+pub fn row_of<'a>(
+    pages: &'a Pages,
+    index: &RootIndex,
+    value: i128,
+    key: u64,
+    snapshot: &Snapshot,
+    own: &OwnIds,
+    table: &StatusTable,
+) -> Option<RowRef<'a>>
+    ensures { FirstFound table.now (IsVisible table.now snapshot.now own.now.ids)
+        (page_slots_of pages.now) index.now.entries value key result }
+{
+    match place_of(pages, index, value, key, snapshot, own, table) {
+        Some(place) => row_at(pages, place),
+        None => None,
+    }
+}
+
+/// The row, where it stands, of the first version that the reader sees, as [`place_from`] finds its place. It takes no
+/// memory.
+pub fn row_from<'a>(
+    pages: &'a Pages,
+    index: &RootIndex,
+    first: Entry,
+    snapshot: &Snapshot,
+    own: &OwnIds,
+    table: &StatusTable,
+) -> Option<RowRef<'a>>
+    requires { IsFirstOf index.now.entries first }
+    ensures { FirstFound table.now (IsVisible table.now snapshot.now own.now.ids)
+        (page_slots_of pages.now) index.now.entries first.value first.key result }
+{
+    match place_from(pages, index, first, snapshot, own, table) {
+        Some(place) => row_at(pages, place),
+        None => None,
+    }
+}

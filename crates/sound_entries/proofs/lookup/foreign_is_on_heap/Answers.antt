@@ -1,5 +1,0 @@
-use Rattle.sound_entries.proofs.Among.{foreign-on_heap}
-use Rattle.sound_entries.proofs.lookup.foreign_is_on_heap.Goals as goal
-
-pub returns : goal.returns
-returns c = foreign-on_heap
