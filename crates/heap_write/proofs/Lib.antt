@@ -10,6 +10,3 @@ pub mod Writing
 pub mod Updating
 pub mod IdlePages
 pub mod GivenIds
-pub mod SpanLemmas
-pub mod WalkLemmas
-pub mod SeenLemmas

@@ -10,7 +10,6 @@
 mod delete;
 mod heap;
 mod ids;
-mod index_scan;
 mod indexes;
 mod insert;
 mod lookup;
@@ -19,5 +18,5 @@ mod target;
 mod update;
 
 pub use heap::{HeapState, WriteFault};
-pub use index_scan::{IndexPosition, IndexRange};
+pub use index_lookup::{IndexPosition, IndexRange};
 pub use pruning::PruneFault;

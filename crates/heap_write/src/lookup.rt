@@ -1,15 +1,19 @@
-//! What a step looks for, through the index by key. None takes memory.
+//! What a step looks for: through the index by key, along an index, and on a page. Nothing here takes memory.
 
-ghost use Rattle.std.specs.Prelude.{pos};
+ghost use Rattle.std.specs.Prelude.{◌≡◌, ◌≤◌, length, pos};
 ghost use Rattle.visibility.specs.Visible.{IsVisible, IsOtherWriterIn, IsNewerCommitIn};
 ghost use Rattle.index_lookup.specs.Looking.{FirstFound, FirstPlace, IsIdOf};
+ghost use Rattle.index_lookup.specs.Walking.{NextRow, SeenRow};
 ghost use Rattle.heap_write.specs.Heap.{slots_of};
 ghost use Rattle.heap_write.specs.Indexes.{entries_in};
 
 use crate::heap::HeapState;
-use index_lookup::{WriteCheck, check_write, row_of};
+use index_lookup::{
+    IndexPosition, IndexRange, WriteCheck, check_write, next_row, row_of, seen_row,
+};
 use snapshot::{OwnIds, Snapshot};
 use tuple_header::RowRef;
+use xid_circle::Tid;
 
 impl HeapState {
     /// The row of the key that the reader sees, where it stands.
@@ -49,5 +53,38 @@ impl HeapState {
             own,
             &self.table,
         )
+    }
+
+    /// The first place of the span, in the order of the index, where the reader sees a row, and that row, where it stands.
+    /// An index that is not in use has none.
+    pub fn next_row(
+        &self,
+        span: &IndexRange,
+        snapshot: &Snapshot,
+        own: &OwnIds,
+    ) -> Option<(IndexPosition, RowRef<'_>)>
+        ensures { NextRow self.now.table (IsVisible self.now.table snapshot.now own.now.ids)
+            (slots_of self.now) (entries_in self.now.indexes span.now.index) span.now result }
+    {
+        match self.indexes.get(span.index) {
+            Some(index) => next_row(&self.pages, index, span, snapshot, own, &self.table),
+            None => None,
+        }
+    }
+
+    /// The row of the version at a place, where it stands, if the reader sees it.
+    pub fn seen_row(&self, place: Tid, snapshot: &Snapshot, own: &OwnIds) -> Option<RowRef<'_>>
+        ensures { SeenRow (IsVisible self.now.table snapshot.now own.now.ids)
+            (slots_of self.now) place result }
+    {
+        seen_row(&self.pages, place, snapshot, own, &self.table)
+    }
+
+    /// How many pages are in use, at most 65536.
+    pub fn page_count(&self) -> u32
+        ensures count { result ≡ length self.now.pages.pages }
+        ensures limit { result ≤ 65536 }
+    {
+        self.pages.len()
     }
 }

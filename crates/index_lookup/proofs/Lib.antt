@@ -3,3 +3,6 @@ pub mod Fetching
 pub mod Turns
 pub mod Among
 pub mod Searching
+pub mod SpanLemmas
+pub mod WalkLemmas
+pub mod SeenLemmas

@@ -6,8 +6,10 @@
 #![tactic(auto)]
 
 mod conflicts;
+mod index_scan;
 mod lookup;
 mod write_check;
 
-pub use lookup::{place_from, place_of, row_from, row_of};
+pub use index_scan::{IndexPosition, IndexRange, next_row};
+pub use lookup::{place_from, place_of, row_from, row_of, seen_row};
 pub use write_check::{WriteCheck, check_write};

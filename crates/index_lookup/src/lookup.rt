@@ -6,6 +6,7 @@ ghost use Rattle.std.specs.Option.{option_map};
 ghost use Rattle.root_index.specs.Sets.{IsOf};
 ghost use Rattle.visibility.specs.Visible.{IsVisible};
 ghost use Rattle.index_lookup.specs.Pages.{version_in, page_slots_of};
+ghost use Rattle.index_lookup.specs.Walking.{SeenRow};
 ghost use Rattle.index_lookup.specs.Looking.{IsNextOf, IsFirstOf, FirstFound, SeenAt, FirstPlace};
 
 use arrayvec::ArrayVec;
@@ -15,6 +16,7 @@ use hot_chain::{first_seen, list_chain};
 use root_index::{Entry, RootIndex};
 use snapshot::{OwnIds, Snapshot};
 use tuple_header::RowRef;
+use visibility::visible_header;
 use xid_circle::Tid;
 
 /// An entry, if it is of this value and this key.
@@ -175,5 +177,26 @@ pub fn row_from<'a>(
     match place_from(pages, index, first, snapshot, own, table) {
         Some(place) => row_at(pages, place),
         None => None,
+    }
+}
+
+/// The row of the version at a place, where it stands, if the reader sees it. It takes no memory.
+pub fn seen_row<'a>(
+    pages: &'a Pages,
+    place: Tid,
+    snapshot: &Snapshot,
+    own: &OwnIds,
+    table: &StatusTable,
+) -> Option<RowRef<'a>>
+    ensures { SeenRow (IsVisible table.now snapshot.now own.now.ids)
+        (page_slots_of pages.now) place result }
+{
+    let page = match pages.page(place.page) {
+        Some(page) => page,
+        None => return None,
+    };
+    match page.header(place.slot) {
+        Some(header) if visible_header(&header, snapshot, own, table) => page.row(place.slot),
+        _ => None,
     }
 }

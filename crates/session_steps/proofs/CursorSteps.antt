@@ -19,7 +19,7 @@ use Rattle.refinement.proofs.FollowsCursors as cursors
 use Rattle.session_steps.specs.declared.session.Session.{Session}
 use Rattle.session_steps.specs.declared.cursor.Cursor.{Cursor}
 use Rattle.session_steps.specs.declared.cursor.Cursor.TheVariants.{Index, Heap}
-use Rattle.heap_write.specs.declared.index_scan.IndexRange.{IndexRange}
+use Rattle.index_lookup.specs.declared.index_scan.IndexRange.{IndexRange}
 use Rattle.session_steps.specs.State.{State, session_at, put_session, map_session, with_cursor, seen, position_of, reader_of}
 use Rattle.session_steps.specs.Agrees.{Agrees, Sound, SessionKeeps, Follows, KeepsAllTargets}
 use Rattle.session_steps.specs.Refuses.{RefusesFree, RefusesBare}

@@ -3,8 +3,8 @@ use Rattle.std.proofs.Common.{◌≡◌, ℕ, ◌+◌, ◌<◌, ◌≤◌, List,
 use Rattle.std.proofs.lemmas.List.{length-append}
 use Rattle.std.proofs.lemmas.Option.{slice_get_within}
 use Rattle.tuple_header.specs.declared.version.Row.{Row}
-use Rattle.heap_write.specs.declared.index_scan.IndexPosition.{IndexPosition}
-use Rattle.heap_write.specs.declared.index_scan.IndexRange.{IndexRange}
+use Rattle.index_lookup.specs.declared.index_scan.IndexPosition.{IndexPosition}
+use Rattle.index_lookup.specs.declared.index_scan.IndexRange.{IndexRange}
 use Rattle.heap_write.specs.Indexes.{IsInUse}
 use Rattle.history.specs.Cursors.{ComesBefore}
 use Rattle.refinement.specs.Heap.{in_index}

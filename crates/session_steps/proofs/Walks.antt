@@ -12,12 +12,12 @@ use Rattle.index_lookup.specs.Looking.{FirstFound}
 use Rattle.sound_entries.specs.Entries.{EntriesAreSound}
 use Rattle.sound_entries.proofs.Leads.{visible-found}
 use Rattle.sound_entries.proofs.OnHeap.{found-on_heap}
-use Rattle.heap_write.specs.declared.index_scan.IndexPosition.{IndexPosition}
-use Rattle.heap_write.specs.declared.index_scan.IndexRange.{IndexRange}
+use Rattle.index_lookup.specs.declared.index_scan.IndexPosition.{IndexPosition}
+use Rattle.index_lookup.specs.declared.index_scan.IndexRange.{IndexRange}
 use Rattle.heap_write.specs.Heap.{slots_of}
 use Rattle.heap_write.specs.Indexes.{entries_in, IsInUse}
-use Rattle.heap_write.specs.Walking.{LiesIn, ComesAfter, IsNextRow, NoneLeft}
-use Rattle.heap_write.specs.Walking as walking
+use Rattle.index_lookup.specs.Walking.{LiesIn, ComesAfter, IsNextRow, NoneLeft}
+use Rattle.index_lookup.specs.Walking as walking
 use Rattle.table_integrity.proofs.InUse.{index-sound}
 use Rattle.history.specs.Cursors.{value_in, ComesBefore}
 use Rattle.history.specs.World.{World}

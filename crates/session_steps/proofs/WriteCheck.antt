@@ -11,7 +11,7 @@ use Rattle.page_slots.proofs.SlotLemmas.{version_at-none}
 use Rattle.visibility.specs.Visible as visibility
 use Rattle.index_lookup.specs.Pages.{slots_on}
 use Rattle.heap_write.specs.Heap.{slots_of}
-use Rattle.heap_write.specs.Walking.{IsSeenRow, NoneSeenFrom}
+use Rattle.index_lookup.specs.Walking.{IsSeenRow, NoneSeenFrom}
 use Rattle.refinement.specs.Cursors.{Stands, Gathers}
 use Rattle.refinement.proofs.CursorWalks.{below_or}
 use Rattle.session_steps.specs.declared.session.Session.{Session}

@@ -14,7 +14,7 @@ use Rattle.refinement.specs.declared.reply.Refusal.{Refusal}
 use Rattle.refinement.specs.declared.reply.Refusal.TheVariants.{Conflict}
 use Rattle.refinement.specs.Heap as relation
 use Rattle.session_steps.specs.declared.session.Session.{Session}
-use Rattle.heap_write.specs.declared.index_scan.IndexPosition.{IndexPosition}
+use Rattle.index_lookup.specs.declared.index_scan.IndexPosition.{IndexPosition}
 use Rattle.session_steps.specs.declared.cursor.Cursor.{Cursor}
 use Rattle.session_steps.specs.declared.cursor.Cursor.TheVariants.{Index, Heap}
 

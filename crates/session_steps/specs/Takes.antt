@@ -4,7 +4,7 @@ use Rattle.std.specs.declared.alloc.Global.{Global}
 use Rattle.tuple_header.specs.declared.version.Row.{Row}
 use Rattle.tuple_header.specs.Version.{Version}
 use Rattle.snapshot.specs.Snap.{Sees}
-use Rattle.heap_write.specs.declared.index_scan.IndexRange.{IndexRange}
+use Rattle.index_lookup.specs.declared.index_scan.IndexRange.{IndexRange}
 use Rattle.history.specs.World.{World}
 use Rattle.refinement.specs.Heap as relation
 use Rattle.refinement.specs.Visible.{ReaderSees}

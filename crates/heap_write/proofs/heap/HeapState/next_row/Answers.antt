@@ -4,15 +4,15 @@ use Rattle.root_index.specs.View.{IndexView}
 use Rattle.visibility.specs.Visible.{IsVisible}
 use Rattle.heap_write.specs.Heap.{HeapView, slots_of}
 use Rattle.heap_write.specs.Indexes.{entries_of, entries_in}
-use Rattle.heap_write.specs.Walking.{NextRow}
+use Rattle.index_lookup.specs.Walking.{NextRow}
 use Rattle.heap_write.specs.contracts.heap.HeapState.{the_view}
 use Rattle.heap_write.proofs.heap.HeapState.next_row.Goals as goal
 
 pub returns-in-Some : goal.returns-in-Some
 returns-in-Some c =
-    let answer = c.next_row_in.result in
+    let answer = c.next_row.result in
     let h = the_view c.self.inside in
     let seen = IsVisible h.table c.args.snapshot.now c.args.own.now.ids in
-    let found = subst (λ (o : Option IndexView). NextRow h.table seen (slots_of h) (unwrap_or (entries_of o) []) c.args.span.now answer) c.in-Some.ensures c.next_row_in.ensures in
+    let found = subst (λ (o : Option IndexView). NextRow h.table seen (slots_of h) (unwrap_or (entries_of o) []) c.args.span.now answer) c.in-Some.ensures c.next_row.ensures in
     subst (λ (v : HeapView). NextRow v.table (IsVisible v.table c.args.snapshot.now c.args.own.now.ids) (slots_of v) (entries_in v.indexes c.args.span.now.index) c.args.span.now answer)
     c.self.view_is found

@@ -1,6 +1,6 @@
 use Rattle.std.proofs.Common.{◌≡◌, Some, None, refl, sym, ap, ◌∙◌, subst}
 use Rattle.std.specs.Prelude.{option_copied}
-use Rattle.heap_write.specs.declared.index_scan.IndexRange.{IndexRange}
+use Rattle.index_lookup.specs.declared.index_scan.IndexRange.{IndexRange}
 use Rattle.session_steps.specs.State.{State, session_at, engine_index, put_session, map_session, with_cursor}
 use Rattle.session_steps.specs.declared.cursor.Cursor.TheVariants.{Index}
 use Rattle.session_steps.proofs.InUse.{there-used}

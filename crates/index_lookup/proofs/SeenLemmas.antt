@@ -12,7 +12,7 @@ use Rattle.page_slots.proofs.SlotLemmas.{version-from_header}
 use Rattle.index_lookup.specs.Pages.{version_in}
 use Rattle.index_lookup.proofs.PageLists.{slots-there}
 use Rattle.index_lookup.proofs.Fetching.{row-nowhere}
-use Rattle.heap_write.specs.Walking.{NoneSeenFrom, SeenRow}
+use Rattle.index_lookup.specs.Walking.{NoneSeenFrom, SeenRow}
 
 version-there : (pages : List PageView) (place : Tid) (page : PageView) → slice_get pages place.page ≡ Some page
     → version_at page.slots place.slot ≡ version_in (map (λ (p : PageView). p.slots) pages) place
@@ -43,9 +43,9 @@ pub none-unseen : (seen : Header → Type 0) (pages : List PageView) (place : Ti
 none-unseen seen pages place page r h at value is not t there has =
     not (subst seen (sym (header-of (version_at page.slots place.slot) h t (sym value ∙ is) (version-there pages place page at ∙ there))) has)
 
-pub seen-there : (seen : Header → Type 0) (pages : List PageView) (place : Tid) (page : PageView) (r : Option Header) (h : Header) (answer : Option Row) → slice_get pages place.page ≡ Some page
+pub seen-row : (seen : Header → Type 0) (pages : List PageView) (place : Tid) (page : PageView) (r : Option Header) (h : Header) (answer : Option Row) → slice_get pages place.page ≡ Some page
     → r ≡ header_at page.slots place.slot → r ≡ Some h → seen h → answer ≡ row_at page.slots place.slot → SeenRow seen (map (λ (p : PageView). p.slots) pages) place answer
-seen-there seen pages place page r h answer at value is has row =
+seen-row seen pages place page r h answer at value is has row =
     let t = version-from_header page.slots place.slot h (sym value ∙ is) in
     subst (SeenRow seen (map (λ (p : PageView). p.slots) pages) place) (sym (row ∙ ap (option_map (λ (t : Version). t.row)) t.1)) (record {
       version = t.0;

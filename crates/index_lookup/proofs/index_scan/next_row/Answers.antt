@@ -2,9 +2,9 @@ use Rattle.std.proofs.Common.{◌≤◌, length, None, arith}
 use Rattle.visibility.specs.Visible.{IsVisible}
 use Rattle.index_lookup.specs.Pages.{page_slots_of}
 use Rattle.index_lookup.specs.Looking.{FirstFound}
-use Rattle.heap_write.proofs.SpanLemmas.{first-in_span}
-use Rattle.heap_write.proofs.WalkLemmas.{walked-on, walked-end, walked-row}
-use Rattle.heap_write.proofs.index_scan.next_row_in.Goals as goal
+use Rattle.index_lookup.proofs.SpanLemmas.{first-in_span}
+use Rattle.index_lookup.proofs.WalkLemmas.{walked-on, walked-end, walked-row}
+use Rattle.index_lookup.proofs.index_scan.next_row.Goals as goal
 
 pub row_from-requires : goal.row_from-requires
 row_from-requires c = first-in_span c.args.index.now.entries c.loop.left c.in-Some.entry c.in-Some.ensures

@@ -1,23 +1,19 @@
-//! How cursors go on: along an index from place to place, and over a page from slot to slot. Nothing here takes memory.
+//! How a cursor goes on along an index, from place to place. Nothing here takes memory.
 
-ghost use Rattle.std.specs.Prelude.{◌≡◌, ◌↔◌, ◌≤◌, ◌≤ℤ◌, length, Some, IsTrue, FitsSigned};
+ghost use Rattle.std.specs.Prelude.{◌≡◌, ◌↔◌, ◌≤◌, ◌≤ℤ◌, IsTrue, FitsSigned};
 ghost use Rattle.std.specs.Int.{w128};
 ghost use Rattle.std.specs.Option.{option_map};
 ghost use Rattle.root_index.specs.Sets.{IsLeast, IsBelow, IsOf};
 ghost use Rattle.visibility.specs.Visible.{IsVisible};
-ghost use Rattle.index_lookup.specs.Pages.{page_slots_of as slots_in};
-ghost use Rattle.heap_write.specs.Heap.{slots_of};
-ghost use Rattle.heap_write.specs.Indexes.{entries_in};
-ghost use Rattle.heap_write.specs.Walking.{ComesAfter, last_at, StartsIn, LiesIn, NextRow, SeenRow};
+ghost use Rattle.index_lookup.specs.Pages.{page_slots_of};
+ghost use Rattle.index_lookup.specs.Walking.{ComesAfter, last_at, StartsIn, LiesIn, NextRow};
 
-use crate::heap::HeapState;
+use crate::lookup::row_from;
 use commit_status::StatusTable;
 use heap_pages::Pages;
-use index_lookup::row_from;
 use root_index::{Entry, PositionHint, RootIndex};
 use snapshot::{OwnIds, Snapshot};
 use tuple_header::RowRef;
-use visibility::visible_header;
 use xid_circle::Tid;
 
 /// A place in the order of an index: that of a row with this value and key.
@@ -44,50 +40,6 @@ pub struct IndexRange {
     pub high: i128,
     /// What comes after this place alone; where there is none, all.
     pub last: Option<IndexPosition>,
-}
-
-impl HeapState {
-    /// The first place of the span, in the order of the index, where the reader sees a row, and that row, where it stands.
-    /// An index that is not in use has none.
-    pub fn next_row(
-        &self,
-        span: &IndexRange,
-        snapshot: &Snapshot,
-        own: &OwnIds,
-    ) -> Option<(IndexPosition, RowRef<'_>)>
-        ensures { NextRow self.now.table (IsVisible self.now.table snapshot.now own.now.ids)
-            (slots_of self.now) (entries_in self.now.indexes span.now.index) span.now result }
-    {
-        match self.indexes.get(span.index) {
-            Some(index) => next_row_in(&self.pages, index, span, snapshot, own, &self.table),
-            None => None,
-        }
-    }
-
-    /// The row of the version at a place, where it stands, if the reader sees it.
-    pub fn seen_row(&self, place: Tid, snapshot: &Snapshot, own: &OwnIds) -> Option<RowRef<'_>>
-        ensures { SeenRow (IsVisible self.now.table snapshot.now own.now.ids)
-            (slots_of self.now) place result }
-    {
-        let page = match self.pages.page(place.page) {
-            Some(page) => page,
-            None => return None,
-        };
-        match page.header(place.slot) {
-            Some(header) if visible_header(&header, snapshot, own, &self.table) => page.row(
-                place.slot,
-            ),
-            _ => None,
-        }
-    }
-
-    /// How many pages are in use, at most 65536.
-    pub fn page_count(&self) -> u32
-        ensures count { result ≡ length self.now.pages.pages }
-        ensures limit { result ≤ 65536 }
-    {
-        self.pages.len()
-    }
 }
 
 impl IndexRange {
@@ -233,8 +185,9 @@ fn mark_of(entry: &Entry, near: PositionHint) -> IndexPosition
     }
 }
 
-/// The first place of the span, in the order of this index, where the reader sees a row, and that row, where it stands.
-fn next_row_in<'a>(
+/// The first place of the span, in the order of this index, where the reader sees a row, and that row, where it
+/// stands. It takes no memory.
+pub fn next_row<'a>(
     pages: &'a Pages,
     index: &RootIndex,
     span: &IndexRange,
@@ -243,7 +196,7 @@ fn next_row_in<'a>(
     table: &StatusTable,
 ) -> Option<(IndexPosition, RowRef<'a>)>
     ensures { NextRow table.now (IsVisible table.now snapshot.now own.now.ids)
-        (slots_in pages.now) index.now.entries span.now result }
+        (page_slots_of pages.now) index.now.entries span.now result }
 {
     index.is_ascending();
     let mut left = *span;

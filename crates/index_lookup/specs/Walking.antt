@@ -9,8 +9,8 @@ use Rattle.commit_status.specs.Window.{Window}
 use Rattle.root_index.specs.declared.entry.Entry.{Entry}
 use Rattle.index_lookup.specs.Pages.{version_in}
 use Rattle.index_lookup.specs.Looking.{FirstFound}
-use Rattle.heap_write.specs.declared.index_scan.IndexPosition.{IndexPosition}
-use Rattle.heap_write.specs.declared.index_scan.IndexRange.{IndexRange}
+use Rattle.index_lookup.specs.declared.index_scan.IndexPosition.{IndexPosition}
+use Rattle.index_lookup.specs.declared.index_scan.IndexRange.{IndexRange}
 
 -- Along an index, in the order of value and key.
 

@@ -12,10 +12,10 @@ use Rattle.root_index.specs.Order.{IsAscending}
 use Rattle.root_index.specs.Sets.{IsLeast}
 use Rattle.root_index.proofs.SetLemmas.{place_of, start_after}
 use Rattle.index_lookup.specs.Looking.{FirstFound}
-use Rattle.heap_write.specs.declared.index_scan.IndexPosition.{IndexPosition}
-use Rattle.heap_write.specs.declared.index_scan.IndexRange.{IndexRange}
-use Rattle.heap_write.specs.Walking.{IsBeforePosition, ComesAfter, LiesIn, IsNextRow}
-use Rattle.heap_write.proofs.SpanLemmas.{IsLower, lower-precedes, lower-cases, IsPlaceOf, lower-from_after, after-from_lower}
+use Rattle.index_lookup.specs.declared.index_scan.IndexPosition.{IndexPosition}
+use Rattle.index_lookup.specs.declared.index_scan.IndexRange.{IndexRange}
+use Rattle.index_lookup.specs.Walking.{IsBeforePosition, ComesAfter, LiesIn, IsNextRow}
+use Rattle.index_lookup.proofs.SpanLemmas.{IsLower, lower-precedes, lower-cases, IsPlaceOf, lower-from_after, after-from_lower}
 
 -- After some turns this part of the span is left.
 pub record Walked (entries : List Entry) (HasNone : ℤ → ℕ → Type 0) (span left : IndexRange) (turn : ℕ) : Type 0 where

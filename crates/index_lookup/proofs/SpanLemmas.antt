@@ -10,9 +10,9 @@ use Rattle.root_index.specs.declared.entry.Entry.{Entry}
 use Rattle.root_index.specs.Order.{EntryPrecedes}
 use Rattle.root_index.specs.Sets.{IsLeast, IsBelow, IsOf}
 use Rattle.index_lookup.specs.Looking.{IsFirstOf}
-use Rattle.heap_write.specs.declared.index_scan.IndexPosition.{IndexPosition}
-use Rattle.heap_write.specs.declared.index_scan.IndexRange.{IndexRange}
-use Rattle.heap_write.specs.Walking.{ComesAfter, StartsIn, LiesIn}
+use Rattle.index_lookup.specs.declared.index_scan.IndexPosition.{IndexPosition}
+use Rattle.index_lookup.specs.declared.index_scan.IndexRange.{IndexRange}
+use Rattle.index_lookup.specs.Walking.{ComesAfter, StartsIn, LiesIn}
 
 -- The order by value and key alone.
 

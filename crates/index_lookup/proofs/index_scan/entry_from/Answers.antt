@@ -1,9 +1,9 @@
 use Rattle.std.proofs.Common.{sym, ◌∙◌}
 use Rattle.std.specs.Option.{option_map}
 use Rattle.std.proofs.lemmas.Bool.{true≢false}
-use Rattle.heap_write.proofs.SpanLemmas.{starts-after, starts-from, all-after_none, all-after_lower}
-use Rattle.heap_write.proofs.index_scan.entry_from.Goals as goal
-use Rattle.heap_write.proofs.index_scan.entry_from.Goals.{in_default-via-in-Some+else-begins_by, in_default-via-in_default}
+use Rattle.index_lookup.proofs.SpanLemmas.{starts-after, starts-from, all-after_none, all-after_lower}
+use Rattle.index_lookup.proofs.index_scan.entry_from.Goals as goal
+use Rattle.index_lookup.proofs.index_scan.entry_from.Goals.{in_default-via-in-Some+else-begins_by, in_default-via-in_default}
 
 pub returns-in-Some : goal.returns-in-Some
 returns-in-Some c =
