@@ -9,7 +9,8 @@ ghost use Rattle.heap_write.specs.Indexes.{entries_in};
 
 use crate::heap::HeapState;
 use index_lookup::{
-    IndexPosition, IndexRange, WriteCheck, check_write, next_row, row_of, seen_row,
+    IndexPosition, IndexRange, Reader, TableView, WriteCheck, check_write, next_row, row_of,
+    seen_row,
 };
 use snapshot::{OwnIds, Snapshot};
 use tuple_header::RowRef;
@@ -22,15 +23,16 @@ impl HeapState {
             (slots_of self.now) (entries_in self.now.indexes 0) (pos key) key result }
     {
         let value = i128::from(key);
-        row_of(
-            &self.pages,
-            self.indexes.by_key(),
-            value,
-            key,
+        let reader = Reader {
             snapshot,
             own,
-            &self.table,
-        )
+            statuses: &self.table,
+        };
+        let table = TableView {
+            pages: &self.pages,
+            index: self.indexes.by_key(),
+        };
+        row_of(&table, value, key, &reader)
     }
 
     /// How the versions of the key stand to a session that is about to write it.
@@ -44,15 +46,16 @@ impl HeapState {
             (slots_of self.now) (entries_in self.now.indexes 0) (pos key) key result.other_writer }
     {
         let value = i128::from(key);
-        check_write(
-            &self.pages,
-            self.indexes.by_key(),
-            value,
-            key,
+        let reader = Reader {
             snapshot,
             own,
-            &self.table,
-        )
+            statuses: &self.table,
+        };
+        let table = TableView {
+            pages: &self.pages,
+            index: self.indexes.by_key(),
+        };
+        check_write(&table, value, key, &reader)
     }
 
     /// The first place of the span, in the order of the index, where the reader sees a row, and that row, where it stands.
@@ -66,8 +69,20 @@ impl HeapState {
         ensures { NextRow self.now.table (IsVisible self.now.table snapshot.now own.now.ids)
             (slots_of self.now) (entries_in self.now.indexes span.now.index) span.now result }
     {
+        let reader = Reader {
+            snapshot,
+            own,
+            statuses: &self.table,
+        };
         match self.indexes.get(span.index) {
-            Some(index) => next_row(&self.pages, index, span, snapshot, own, &self.table),
+            Some(index) => next_row(
+                &TableView {
+                    pages: &self.pages,
+                    index,
+                },
+                span,
+                &reader,
+            ),
             None => None,
         }
     }
@@ -77,7 +92,12 @@ impl HeapState {
         ensures { SeenRow (IsVisible self.now.table snapshot.now own.now.ids)
             (slots_of self.now) place result }
     {
-        seen_row(&self.pages, place, snapshot, own, &self.table)
+        let reader = Reader {
+            snapshot,
+            own,
+            statuses: &self.table,
+        };
+        seen_row(&self.pages, place, &reader)
     }
 
     /// How many pages are in use, at most 65536.

@@ -1,3 +1,4 @@
 pub mod Pages
 pub mod Looking
+pub mod Reading
 pub mod Walking

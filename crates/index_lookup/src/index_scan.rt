@@ -4,15 +4,13 @@ ghost use Rattle.std.specs.Prelude.{◌≡◌, ◌↔◌, ◌≤◌, ◌≤ℤ�
 ghost use Rattle.std.specs.Int.{w128};
 ghost use Rattle.std.specs.Option.{option_map};
 ghost use Rattle.root_index.specs.Sets.{IsLeast, IsBelow, IsOf};
-ghost use Rattle.visibility.specs.Visible.{IsVisible};
 ghost use Rattle.index_lookup.specs.Pages.{page_slots_of};
+ghost use Rattle.index_lookup.specs.Reading.{IsSeenBy};
 ghost use Rattle.index_lookup.specs.Walking.{ComesAfter, last_at, StartsIn, LiesIn, NextRow};
 
 use crate::lookup::row_from;
-use commit_status::StatusTable;
-use heap_pages::Pages;
+use crate::reader::{Reader, TableView};
 use root_index::{Entry, PositionHint, RootIndex};
-use snapshot::{OwnIds, Snapshot};
 use tuple_header::RowRef;
 use xid_circle::Tid;
 
@@ -188,24 +186,21 @@ fn mark_of(entry: &Entry, near: PositionHint) -> IndexPosition
 /// The first place of the span, in the order of this index, where the reader sees a row, and that row, where it
 /// stands. It takes no memory.
 pub fn next_row<'a>(
-    pages: &'a Pages,
-    index: &RootIndex,
+    table: &TableView<'a>,
     span: &IndexRange,
-    snapshot: &Snapshot,
-    own: &OwnIds,
-    table: &StatusTable,
+    reader: &Reader<'_>,
 ) -> Option<(IndexPosition, RowRef<'a>)>
-    ensures { NextRow table.now (IsVisible table.now snapshot.now own.now.ids)
-        (page_slots_of pages.now) index.now.entries span.now result }
+    ensures { NextRow reader.now.statuses.now (IsSeenBy reader.now)
+        (page_slots_of table.now.pages.now) table.now.index.now.entries span.now result }
 {
-    index.is_ascending();
+    table.index.is_ascending();
     let mut left = *span;
-    for _ in 0..index.len() {
-        match entry_in(index, &left) {
+    for _ in 0..table.index.len() {
+        match entry_in(table.index, &left) {
             None => return None,
             Some((entry, near)) => {
                 let mark = mark_of(&entry, near);
-                if let Some(row) = row_from(pages, index, entry, snapshot, own, table) {
+                if let Some(row) = row_from(table, entry, reader) {
                     return Some((mark, row));
                 }
                 left.last = Some(mark);

@@ -8,8 +8,10 @@
 mod conflicts;
 mod index_scan;
 mod lookup;
+mod reader;
 mod write_check;
 
 pub use index_scan::{IndexPosition, IndexRange, next_row};
 pub use lookup::{place_from, place_of, row_from, row_of, seen_row};
+pub use reader::{Reader, TableView};
 pub use write_check::{WriteCheck, check_write};

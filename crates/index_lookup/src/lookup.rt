@@ -4,17 +4,16 @@ ghost use Rattle.std.specs.Prelude.{◌≡◌, IfSome, MatchOption, None, Some, 
 ghost use Rattle.std.specs.Int.{w128};
 ghost use Rattle.std.specs.Option.{option_map};
 ghost use Rattle.root_index.specs.Sets.{IsOf};
-ghost use Rattle.visibility.specs.Visible.{IsVisible};
 ghost use Rattle.index_lookup.specs.Pages.{version_in, page_slots_of};
 ghost use Rattle.index_lookup.specs.Walking.{SeenRow};
+ghost use Rattle.index_lookup.specs.Reading.{IsSeenBy};
 ghost use Rattle.index_lookup.specs.Looking.{IsNextOf, IsFirstOf, FirstFound, SeenAt, FirstPlace};
 
+use crate::reader::{Reader, TableView};
 use arrayvec::ArrayVec;
-use commit_status::StatusTable;
 use heap_pages::Pages;
 use hot_chain::{first_seen, list_chain};
 use root_index::{Entry, RootIndex};
-use snapshot::{OwnIds, Snapshot};
 use tuple_header::RowRef;
 use visibility::visible_header;
 use xid_circle::Tid;
@@ -54,14 +53,8 @@ pub(crate) fn next_of(
 }
 
 /// The place of the first version that the reader sees in the chain of a place. A page that is not in use has no chains.
-fn seen_at(
-    pages: &Pages,
-    place: Tid,
-    snapshot: &Snapshot,
-    own: &OwnIds,
-    table: &StatusTable,
-) -> Option<Tid>
-    ensures { SeenAt table.now (IsVisible table.now snapshot.now own.now.ids)
+fn seen_at(pages: &Pages, place: Tid, reader: &Reader<'_>) -> Option<Tid>
+    ensures { SeenAt reader.now.statuses.now (IsSeenBy reader.now)
         (page_slots_of pages.now) place result }
 {
     let page = match pages.page(place.page) {
@@ -69,8 +62,14 @@ fn seen_at(
         None => return None,
     };
     let mut slots: ArrayVec<u16, 292> = ArrayVec::new();
-    list_chain(page, place.slot, table, &mut slots);
-    match first_seen(page, slots.as_slice(), snapshot, own, table) {
+    list_chain(page, place.slot, reader.statuses, &mut slots);
+    match first_seen(
+        page,
+        slots.as_slice(),
+        reader.snapshot,
+        reader.own,
+        reader.statuses,
+    ) {
         Some(slot) => Some(Tid {
             page: place.page,
             slot,
@@ -81,29 +80,23 @@ fn seen_at(
 
 /// The place of the first version that the reader sees, along the entries of the value and the key of this one in their
 /// order, and along the chain of each. Who knows the first of these entries spares the search for it. It takes no memory.
-pub fn place_from(
-    pages: &Pages,
-    index: &RootIndex,
-    first: Entry,
-    snapshot: &Snapshot,
-    own: &OwnIds,
-    table: &StatusTable,
-) -> Option<Tid>
-    requires { IsFirstOf index.now.entries first }
-    ensures { FirstPlace table.now (IsVisible table.now snapshot.now own.now.ids)
-        (page_slots_of pages.now) index.now.entries first.value first.key result }
+pub fn place_from(table: &TableView<'_>, first: Entry, reader: &Reader<'_>) -> Option<Tid>
+    requires { IsFirstOf table.now.index.now.entries first }
+    ensures { FirstPlace reader.now.statuses.now (IsSeenBy reader.now)
+        (page_slots_of table.now.pages.now) table.now.index.now.entries
+        first.value first.key result }
 {
-    index.is_ascending();
+    table.index.is_ascending();
     has_value(&first);
     let mut next = Some(first);
-    for _ in 0..index.len() {
+    for _ in 0..table.index.len() {
         match next {
             None => return None,
             Some(entry) => {
-                if let Some(place) = seen_at(pages, entry.tid, snapshot, own, table) {
+                if let Some(place) = seen_at(table.pages, entry.tid, reader) {
                     return Some(place);
                 }
-                next = next_of(index, first.value, first.key, Some(entry));
+                next = next_of(table.index, first.value, first.key, Some(entry));
             }
         }
     }
@@ -112,20 +105,13 @@ pub fn place_from(
 
 /// The place of the first version that the reader sees, along the entries of this value and this key in their order, and
 /// along the chain of each. It takes no memory.
-pub fn place_of(
-    pages: &Pages,
-    index: &RootIndex,
-    value: i128,
-    key: u64,
-    snapshot: &Snapshot,
-    own: &OwnIds,
-    table: &StatusTable,
-) -> Option<Tid>
-    ensures { FirstPlace table.now (IsVisible table.now snapshot.now own.now.ids)
-        (page_slots_of pages.now) index.now.entries value key result }
+pub fn place_of(table: &TableView<'_>, value: i128, key: u64, reader: &Reader<'_>) -> Option<Tid>
+    ensures { FirstPlace reader.now.statuses.now (IsSeenBy reader.now)
+        (page_slots_of table.now.pages.now) table.now.index.now.entries
+        value key result }
 {
-    match next_of(index, value, key, None) {
-        Some(first) => place_from(pages, index, first, snapshot, own, table),
+    match next_of(table.index, value, key, None) {
+        Some(first) => place_from(table, first, reader),
         None => None,
     }
 }
@@ -143,52 +129,38 @@ fn row_at(pages: &Pages, place: Tid) -> Option<RowRef<'_>>
 /// The row, where it stands, of the first version that the reader sees, along the entries of this value and this key in
 /// their order, and along the chain of each. It takes no memory.
 pub fn row_of<'a>(
-    pages: &'a Pages,
-    index: &RootIndex,
+    table: &TableView<'a>,
     value: i128,
     key: u64,
-    snapshot: &Snapshot,
-    own: &OwnIds,
-    table: &StatusTable,
+    reader: &Reader<'_>,
 ) -> Option<RowRef<'a>>
-    ensures { FirstFound table.now (IsVisible table.now snapshot.now own.now.ids)
-        (page_slots_of pages.now) index.now.entries value key result }
+    ensures { FirstFound reader.now.statuses.now (IsSeenBy reader.now)
+        (page_slots_of table.now.pages.now) table.now.index.now.entries
+        value key result }
 {
-    match place_of(pages, index, value, key, snapshot, own, table) {
-        Some(place) => row_at(pages, place),
+    match place_of(table, value, key, reader) {
+        Some(place) => row_at(table.pages, place),
         None => None,
     }
 }
 
 /// The row, where it stands, of the first version that the reader sees, as [`place_from`] finds its place. It takes no
 /// memory.
-pub fn row_from<'a>(
-    pages: &'a Pages,
-    index: &RootIndex,
-    first: Entry,
-    snapshot: &Snapshot,
-    own: &OwnIds,
-    table: &StatusTable,
-) -> Option<RowRef<'a>>
-    requires { IsFirstOf index.now.entries first }
-    ensures { FirstFound table.now (IsVisible table.now snapshot.now own.now.ids)
-        (page_slots_of pages.now) index.now.entries first.value first.key result }
+pub fn row_from<'a>(table: &TableView<'a>, first: Entry, reader: &Reader<'_>) -> Option<RowRef<'a>>
+    requires { IsFirstOf table.now.index.now.entries first }
+    ensures { FirstFound reader.now.statuses.now (IsSeenBy reader.now)
+        (page_slots_of table.now.pages.now) table.now.index.now.entries
+        first.value first.key result }
 {
-    match place_from(pages, index, first, snapshot, own, table) {
-        Some(place) => row_at(pages, place),
+    match place_from(table, first, reader) {
+        Some(place) => row_at(table.pages, place),
         None => None,
     }
 }
 
 /// The row of the version at a place, where it stands, if the reader sees it. It takes no memory.
-pub fn seen_row<'a>(
-    pages: &'a Pages,
-    place: Tid,
-    snapshot: &Snapshot,
-    own: &OwnIds,
-    table: &StatusTable,
-) -> Option<RowRef<'a>>
-    ensures { SeenRow (IsVisible table.now snapshot.now own.now.ids)
+pub fn seen_row<'a>(pages: &'a Pages, place: Tid, reader: &Reader<'_>) -> Option<RowRef<'a>>
+    ensures { SeenRow (IsSeenBy reader.now)
         (page_slots_of pages.now) place result }
 {
     let page = match pages.page(place.page) {
@@ -196,7 +168,8 @@ pub fn seen_row<'a>(
         None => return None,
     };
     match page.header(place.slot) {
-        Some(header) if visible_header(&header, snapshot, own, table) => page.row(place.slot),
+        Some(header) if visible_header(&header, reader.snapshot, reader.own, reader.statuses) =>
+            page.row(place.slot),
         _ => None,
     }
 }

@@ -8,10 +8,11 @@ use crate::stage::{insert, update};
 use arrayvec::ArrayVec;
 use commit_status::{Status, StatusTable};
 use heap_pages::{MAX_PAGES, Pages};
-use index_lookup::{WriteCheck, check_write, place_from, place_of, row_from, row_of};
+use index_lookup::{
+    Reader, TableView, WriteCheck, check_write, place_from, place_of, row_from, row_of,
+};
 use page_slots::Page;
 use root_index::{Entry, RootIndex};
-use snapshot::{OwnIds, Snapshot};
 use sound_entries::laws::{
     aborting_keeps_entries, adding_keeps_entries, committing_keeps_entries, entries_go_sound,
     foreign_is_on_heap, found_by_index, found_is_on_heap, giving_keeps_entries,
@@ -127,32 +128,18 @@ fn pair(place: Option<Tid>) -> Option<(u32, u16)> {
 /// The place and the first column of the row of a key, and both from the first entry of the key.
 type Seen = (Option<(u32, u16)>, Option<i64>);
 
-fn seen(
-    pages: &Pages,
-    index: &RootIndex,
-    key: u64,
-    snapshot: &Snapshot,
-    own: &OwnIds,
-    table: &StatusTable,
-) -> Seen {
+fn seen(table: &TableView<'_>, key: u64, reader: &Reader<'_>) -> Seen {
     let value = i128::from(key);
-    let place = place_of(pages, index, value, key, snapshot, own, table);
-    let row = row_of(pages, index, value, key, snapshot, own, table);
+    let place = place_of(table, value, key, reader);
+    let row = row_of(table, value, key, reader);
     (pair(place), column(row))
 }
 
-fn seen_from_first(
-    pages: &Pages,
-    index: &RootIndex,
-    key: u64,
-    snapshot: &Snapshot,
-    own: &OwnIds,
-    table: &StatusTable,
-) -> Seen {
-    match first_of(index, key) {
+fn seen_from_first(table: &TableView<'_>, key: u64, reader: &Reader<'_>) -> Seen {
+    match first_of(table.index, key) {
         Some(first) => {
-            let place = place_from(pages, index, first, snapshot, own, table);
-            let row = row_from(pages, index, first, snapshot, own, table);
+            let place = place_from(table, first, reader);
+            let row = row_from(table, first, reader);
             (pair(place), column(row))
         }
         None => (None, None),
@@ -160,16 +147,9 @@ fn seen_from_first(
 }
 
 /// What a session has to know of a key before it writes it.
-fn standing(
-    pages: &Pages,
-    index: &RootIndex,
-    key: u64,
-    snapshot: &Snapshot,
-    own: &OwnIds,
-    table: &StatusTable,
-) -> WriteCheck {
+fn standing(table: &TableView<'_>, key: u64, reader: &Reader<'_>) -> WriteCheck {
     let value = i128::from(key);
-    check_write(pages, index, value, key, snapshot, own, table)
+    check_write(table, value, key, reader)
 }
 
 /// Whether this is found of a key, however it is looked for.
@@ -180,13 +160,19 @@ fn finds(
     (key, next, own): Asked,
     found: Found,
 ) -> bool {
-    let table = statuses(alloc);
+    let statuses = statuses(alloc);
     let snapshot = begun(alloc, next);
     let own = owner(alloc, own);
+    let reader = Reader {
+        snapshot: &snapshot,
+        own: &own,
+        statuses: &statuses,
+    };
+    let table = TableView { pages, index };
     let (place, column, newer_commit, other_writer) = found;
-    let standing = standing(pages, index, key, &snapshot, &own, &table);
-    seen(pages, index, key, &snapshot, &own, &table) == (place, column)
-        && seen_from_first(pages, index, key, &snapshot, &own, &table) == (place, column)
+    let standing = standing(&table, key, &reader);
+    seen(&table, key, &reader) == (place, column)
+        && seen_from_first(&table, key, &reader) == (place, column)
         && pair(standing.place) == place
         && standing.newer_commit == newer_commit
         && standing.other_writer == other_writer

@@ -9,7 +9,7 @@ use Rattle.index_lookup.proofs.conflicts.foreign_in.Goals.{else-not-is_frozen-vi
 
 pub returns : goal.returns
 returns c =
-    let P : ℕ → Type 0 = λ x. IsRunning (state_of c.args.table.now) x × (Contains c.args.own.now.ids x → ⊥) in
+    let P : ℕ → Type 0 = λ x. IsRunning (state_of c.args.reader.now.statuses.now) x × (Contains c.args.reader.now.own.now.ids x → ⊥) in
     λ x held. none-touched c.args.header.now P
     (elim c.else-not-is_frozen.branch [
       | else-not-is_frozen-via-then-not-is_frozen+else-is_foreign w ↦ inr (iff_false w.is_foreign.ensures w.if-is_foreign.false)

@@ -9,7 +9,7 @@ use Rattle.index_lookup.proofs.conflicts.missed_in.Goals.{else-not-is_frozen-via
 
 pub returns : goal.returns
 returns c =
-    let P : ℕ → Type 0 = λ x. HasCommitted (state_of c.args.table.now) x × (Sees c.args.snapshot.now c.args.table.now x → ⊥) in
+    let P : ℕ → Type 0 = λ x. HasCommitted (state_of c.args.reader.now.statuses.now) x × (Sees c.args.reader.now.snapshot.now c.args.reader.now.statuses.now x → ⊥) in
     λ x newer_commit. none-touched c.args.header.now P
     (elim c.else-not-is_frozen.branch [
       | else-not-is_frozen-via-then-not-is_frozen+else-misses w ↦ inr (iff_false w.misses.ensures w.if-misses.false)

@@ -1,0 +1,17 @@
+-- What a reader sees, and what it has to know before it writes.
+use Rattle.std.specs.Prelude.{ℕ}
+use Rattle.tuple_header.specs.declared.version.Header.{Header}
+use Rattle.visibility.specs.Visible.{IsVisible, IsOtherWriterIn, IsNewerCommitIn}
+use Rattle.index_lookup.specs.declared.reader.Reader.{Reader}
+
+-- it sees a version with this header
+abbrev pub IsSeenBy : Reader → Header → Type 0
+IsSeenBy r h = IsVisible r.statuses.now r.snapshot.now r.own.now.ids h
+
+-- the id is committed, its snapshot does not see it, and it made or deleted the version
+abbrev pub IsNewerCommitFor : Reader → ℕ → Header → Type 0
+IsNewerCommitFor r x h = IsNewerCommitIn r.statuses.now r.snapshot.now x h
+
+-- the id is in progress, none of its own, and made or deleted the version
+abbrev pub IsOtherWriterFor : Reader → ℕ → Header → Type 0
+IsOtherWriterFor r x h = IsOtherWriterIn r.statuses.now r.own.now.ids x h
