@@ -1,5 +1,3 @@
-pub mod Columns
-pub mod IndexLemmas
 pub mod PageLemmas
 pub mod IdLemmas
 pub mod PlaceLemmas

@@ -8,9 +8,9 @@ use Rattle.xid_circle.specs.declared.Tid.{Tid}
 use Rattle.page_slots.specs.View.{PageView}
 use Rattle.heap_pages.specs.View.{PagesView, with_page}
 use Rattle.page_slots.specs.Slots.{IsNormalAt, row_at, room_of}
+use Rattle.table_indexes.specs.Indexes.{SameEntries}
 use Rattle.heap_write.specs.Heap.{HeapView, unused_page, SameIds, Keeps, PutsPage}
 use Rattle.heap_write.specs.Heap.PutsPage.{in_use, after_all}
-use Rattle.heap_write.specs.Indexes.{SameEntries}
 use Rattle.tuple_header.specs.declared.version.Row.{Row}
 use Rattle.heap_write.specs.Writes.{KeepsValues}
 use Rattle.heap_write.specs.Refusals.{VersionIsThere}

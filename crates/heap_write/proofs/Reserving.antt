@@ -15,6 +15,7 @@ use Rattle.heap_pages.specs.View.{PagesView, with_page}
 use Rattle.heap_pages.specs.Choice.{HasRoom, IsPlaceFor}
 use Rattle.heap_pages.specs.declared.pages.Placement.{Placement}
 use Rattle.heap_pages.specs.declared.pages.Placement.TheVariants as to
+use Rattle.table_indexes.specs.Indexes.{NeedsEntry}
 use Rattle.heap_write.specs.declared.target.Target.{Target}
 use Rattle.heap_write.specs.declared.target.Target.TheVariants.{Page, New}
 use Rattle.heap_write.specs.Heap.{HeapView, unused_page, page_on}
@@ -23,7 +24,6 @@ use Rattle.heap_write.specs.declared.heap.WriteFault.TheVariants.{NoMemory}
 use Rattle.heap_write.specs.Writes.{NeedsFreeze, TableIsFull}
 use Rattle.heap_write.specs.Refusals.{NeedsSlot, NeedsIds, RootNeedsMemory, LacksForInsert}
 use Rattle.heap_write.specs.Growth.{page_in, HasSlot, SamePage, GrowsPage, place_of_target, IsReserved, Reserves, PlaceNeedsMemory}
-use Rattle.heap_write.specs.Indexes.{NeedsEntry}
 use Rattle.heap_write.specs.Steps.{IsChosen}
 use Rattle.heap_write.proofs.PageLemmas.{page-at, page-set, page-set_other}
 use Rattle.heap_write.proofs.PlaceLemmas.{alike-same, alike-full, place-set, place-back, page-place, new-place}

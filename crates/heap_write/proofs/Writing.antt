@@ -12,11 +12,12 @@ use Rattle.std.proofs.lemmas.Option.{slice_get_within}
 use Rattle.tuple_writes.specs.Writes.{with_root, with_replaced, with_updated, replaced_change}
 use Rattle.heap_pages.specs.View.{PagesView}
 use Rattle.heap_pages.specs.declared.pages.Placement.TheVariants as to
+use Rattle.table_indexes.specs.Indexes.{entries_at, SameEntries, Enters}
+use Rattle.table_indexes.proofs.Columns.{entries-then, enters-grown, values-grown}
 use Rattle.heap_write.specs.declared.target.Target.{Target}
 use Rattle.heap_write.specs.declared.target.Target.TheVariants.{Page, New}
 use Rattle.heap_write.specs.Heap.{HeapView, unused_page, page_on, PutsPage}
 use Rattle.heap_write.specs.Heap.PutsPage.{in_use, after_all}
-use Rattle.heap_write.specs.Indexes.{entries_at, SameEntries, Enters}
 use Rattle.heap_write.specs.Writes.{NeedsFreeze, TakesIds, GoesTo, PutsRoot, SetsXmax, HotUpdates, ColdUpdates, KeepsValues, UpdatesOnPage, Inserts, Deletes, Replaces}
 use Rattle.heap_write.specs.Writes.UpdatesOnPage.{heap_only, as_root}
 use Rattle.heap_write.specs.Writes.Replaces.{elsewhere}
@@ -25,7 +26,6 @@ use Rattle.heap_write.specs.Growth.{page_in, SamePage, GrowsPage, Reserves, targ
 use Rattle.heap_write.specs.Steps.{IsChosen}
 use Rattle.heap_write.proofs.PageLemmas.{page-at, puts-grown, page-set, page-set_other, there-within}
 use Rattle.heap_write.proofs.PlaceLemmas.{page-place}
-use Rattle.heap_write.proofs.Columns.{entries-then, enters-grown, values-grown}
 use Rattle.tuple_writes.proofs.Altered.{normal-added}
 use Rattle.std.proofs.lemmas.Bool.{cases_eq}
 

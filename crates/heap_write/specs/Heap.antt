@@ -7,7 +7,7 @@ use Rattle.commit_status.specs.Window.{Window}
 use Rattle.root_index.specs.View.{IndexView}
 use Rattle.heap_pages.specs.View.{PagesView}
 use Rattle.index_lookup.specs.Pages as lists
-use Rattle.heap_write.specs.Indexes.{SameEntries}
+use Rattle.table_indexes.specs.Indexes.{SameEntries}
 
 pub record HeapView : Type 0 where
   pub pages : PagesView

@@ -1,4 +1,3 @@
-pub mod Indexes
 pub mod Heap
 pub mod Writes
 pub mod Refusals

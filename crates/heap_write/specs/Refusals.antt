@@ -9,13 +9,13 @@ use Rattle.snapshot.specs.Own.{Own, unassigned_levels}
 use Rattle.page_slots.specs.Slots.{room_of, IsNormalAt}
 use Rattle.heap_pages.specs.Choice.{IsPlaceFor}
 use Rattle.heap_pages.specs.declared.pages.Placement.TheVariants.{Page, NewPage}
+use Rattle.table_indexes.specs.Indexes.{NeedsEntry}
 use Rattle.heap_write.specs.declared.pruning.PruneFault.{PruneFault}
 use Rattle.heap_write.specs.declared.pruning.PruneFault.TheVariants as prune_fault
 use Rattle.heap_write.specs.declared.heap.WriteFault.{WriteFault}
 use Rattle.heap_write.specs.declared.heap.WriteFault.TheVariants as fault
 use Rattle.heap_write.specs.Heap.{HeapView, page_on, Keeps}
 use Rattle.heap_write.specs.Writes.{NeedsFreeze, TableIsFull, PrunesIfFull, KeepsValues}
-use Rattle.heap_write.specs.Indexes.{NeedsEntry}
 
 -- the first slot of a page takes memory: with it comes memory for all that the page may have
 pub record NeedsSlot (page : PageView) : Type 0 where

@@ -17,8 +17,8 @@ use Rattle.tuple_writes.specs.Writes.{with_root, with_replaced, with_updated, re
 use Rattle.heap_pages.specs.Choice.{IsPlaceFor, HasRoom, NoPage}
 use Rattle.heap_pages.specs.declared.pages.Placement.{Placement}
 use Rattle.heap_pages.specs.declared.pages.Placement.TheVariants.{Page, NewPage, Nowhere}
+use Rattle.table_indexes.specs.Indexes.{SameValues, SameEntries, Enters}
 use Rattle.heap_write.specs.Heap.{HeapView, page_on, Keeps, PutsPage}
-use Rattle.heap_write.specs.Indexes.{SameValues, SameEntries, Enters}
 
 -- Ids.
 

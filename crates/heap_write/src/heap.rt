@@ -4,15 +4,15 @@ ghost use Rattle.std.specs.Prelude.{◌≡◌, ◌≤◌, ◌<◌, ℕ, [], slic
 ghost use Rattle.xid_circle.specs.Circle.{IsNormal};
 ghost use Rattle.commit_status.specs.Window.{IsActive, IsWindow};
 ghost use Rattle.commit_status.specs.Changes.{numbers, Finishes};
-ghost use Rattle.heap_write.specs.Indexes.{index_at, entries_at, new_entries};
+ghost use Rattle.table_indexes.specs.Indexes.{index_at, entries_at, new_entries};
 
-use crate::indexes::Indexes;
 use commit_status::{Status, StatusTable};
 use heap_pages::Pages;
 use page_slots::Page;
 use root_index::RootIndex;
 use std::alloc::Global;
 use std::marker::Model;
+use table_indexes::Indexes;
 use thiserror::Error;
 use xid_circle::Xid;
 

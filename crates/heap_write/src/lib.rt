@@ -2,15 +2,14 @@
 //!
 //! A write either is done, with an id for each level of its session, or is refused for the first of its reasons, and then
 //! changes nothing; only an update that ends in NoRoom or Gone may have pruned the page of the old version.
-//! `specs/Writes.antt` says what each write does, `specs/Indexes.antt` what that is in an index, and `specs/Refusals.antt` why
-//! one is refused. Whatever has to grow is grown before the first change, so that nothing is left half done
+//! `specs/Writes.antt` says what each write does, and `specs/Refusals.antt` why one is refused; what a write does in an index
+//! is said in `table_indexes`. Whatever has to grow is grown before the first change, so that nothing is left half done
 //! (`specs/Growth.antt`). What a step looks for by key is found through the index by key; a cursor goes along any.
 #![tactic(auto)]
 
 mod delete;
 mod heap;
 mod ids;
-mod indexes;
 mod insert;
 mod lookup;
 mod pruning;

@@ -4,8 +4,8 @@ ghost use Rattle.std.specs.Prelude.{◌≡◌, ◌≤◌, length, pos};
 ghost use Rattle.visibility.specs.Visible.{IsVisible, IsOtherWriterIn, IsNewerCommitIn};
 ghost use Rattle.index_lookup.specs.Looking.{FirstFound, FirstPlace, IsIdOf};
 ghost use Rattle.index_lookup.specs.Walking.{NextRow, SeenRow};
+ghost use Rattle.table_indexes.specs.Indexes.{entries_in};
 ghost use Rattle.heap_write.specs.Heap.{slots_of};
-ghost use Rattle.heap_write.specs.Indexes.{entries_in};
 
 use crate::heap::HeapState;
 use index_lookup::{

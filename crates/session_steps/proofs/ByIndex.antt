@@ -12,8 +12,8 @@ use Rattle.visibility.specs.Visible as visibility
 use Rattle.visibility.proofs.Makers.{active-to}
 use Rattle.sound_entries.specs.Leading.{IsOnHeap}
 use Rattle.sound_entries.proofs.Leads.{visible-found}
+use Rattle.table_indexes.specs.Indexes.{entries_in, IsInUse}
 use Rattle.heap_write.specs.Heap.{slots_of}
-use Rattle.heap_write.specs.Indexes.{entries_in, IsInUse}
 use Rattle.table_integrity.proofs.InUse.{index-sound}
 use Rattle.history.specs.Cursors.{value_in}
 use Rattle.history.specs.History.{Write, committed, reading}

@@ -7,7 +7,7 @@ use Rattle.std.proofs.Common.{SFits, to_z, of_z, ◌≡◌, ℕ, arith, ℤ, ◌
 use Rattle.std.specs.Prelude.{IsSome}
 use Rattle.std.specs.Option.{option_map}
 use Rattle.root_index.specs.View.{IndexView}
-use Rattle.heap_write.specs.Indexes.{IsInUse, index_at}
+use Rattle.table_indexes.specs.Indexes.{IsInUse, index_at}
 use Rattle.refinement.specs.declared.step.Step.TheVariants.{OpenIndex, OpenHeap, Close}
 use Rattle.refinement.specs.declared.reply.Reply.TheVariants.{Done, Refused}
 use Rattle.refinement.specs.declared.reply.Refusal.{Refusal}

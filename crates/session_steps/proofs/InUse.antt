@@ -5,8 +5,8 @@ use Rattle.std.specs.Prelude.{◌↔◌, IsSome, is_some, unwrap_or, slice_index
 use Rattle.root_index.specs.declared.entry.Entry.{Entry}
 use Rattle.root_index.specs.View.{IndexView}
 use Rattle.sound_entries.specs.Entries.{EntriesAreSound}
+use Rattle.table_indexes.specs.Indexes.{index_at, entries_at, entries_in, entries_of, IsInUse, new_entries}
 use Rattle.heap_write.specs.Heap.{slots_of, key_value}
-use Rattle.heap_write.specs.Indexes.{index_at, entries_at, entries_in, entries_of, IsInUse, new_entries}
 use Rattle.index_lookup.specs.declared.index_scan.IndexRange.{IndexRange}
 use Rattle.table_integrity.proofs.InUse.{index-sound}
 use Rattle.history.specs.World.{World, is_indexed}

@@ -11,8 +11,8 @@ use Rattle.page_slots.specs.Slots.{version_at}
 use Rattle.page_slots.specs.View.{PageView}
 use Rattle.page_slots.specs.declared.slot.Slot.{Slot}
 use Rattle.index_lookup.specs.Pages.{version_in, slots_on}
+use Rattle.table_indexes.specs.Indexes.{entries_at, new_entries}
 use Rattle.heap_write.specs.Heap.{slots_of}
-use Rattle.heap_write.specs.Indexes.{entries_at, new_entries}
 use Rattle.session_steps.proofs.InUse.{new-empty, new-in_use, indexed-is}
 use Rattle.table_integrity.proofs.Keeping.{nothing-stays}
 use Rattle.history.specs.World.{beginning}

@@ -4,7 +4,7 @@ use Rattle.std.specs.Prelude.{Vec}
 use Rattle.std.specs.declared.alloc.Global.{Global}
 use Rattle.tuple_header.specs.declared.version.Row.{Row}
 use Rattle.index_lookup.specs.declared.index_scan.IndexRange.{IndexRange}
-use Rattle.heap_write.specs.Indexes.{IsInUse}
+use Rattle.table_indexes.specs.Indexes.{IsInUse}
 use Rattle.history.specs.World.{World}
 use Rattle.refinement.specs.declared.step.Step.TheVariants.{Next}
 use Rattle.refinement.specs.declared.reply.Reply.TheVariants.{Rows, End, Refused}

@@ -1,5 +1,5 @@
 -- What a session reads.
-use Rattle.heap_write.specs.Indexes.{entries_in}
+use Rattle.table_indexes.specs.Indexes.{entries_in}
 use Rattle.std.proofs.Common.{◌≡◌, ℕ, Option, Some, false}
 use Rattle.std.specs.Prelude.{pos}
 use Rattle.tuple_header.specs.declared.version.Row.{Row}

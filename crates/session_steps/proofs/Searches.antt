@@ -1,7 +1,7 @@
 -- What a search of the pages finds, as readers see it.
 use Rattle.visibility.proofs.Makers.{committed-to, committed-from, active-to, state-is}
 use Rattle.session_steps.proofs.InUse.{by-key}
-use Rattle.heap_write.specs.Indexes.{entries_in}
+use Rattle.table_indexes.specs.Indexes.{entries_in}
 use Rattle.std.proofs.Common.{◌≡◌, ◌≢◌, ℕ, List, Option, Some, None, Bool, true, false, refl, sym, ap, ◌∙◌, subst, inl, inr, cond}
 use Rattle.std.specs.Prelude.{pos, Contains, IsSome, MatchOption, ◌==◌}
 use Rattle.std.specs.Option.{option_map}

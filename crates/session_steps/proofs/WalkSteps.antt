@@ -5,7 +5,7 @@ use Rattle.std.proofs.lemmas.Option.{slice_get_within}
 use Rattle.tuple_header.specs.declared.version.Row.{Row}
 use Rattle.index_lookup.specs.declared.index_scan.IndexPosition.{IndexPosition}
 use Rattle.index_lookup.specs.declared.index_scan.IndexRange.{IndexRange}
-use Rattle.heap_write.specs.Indexes.{IsInUse}
+use Rattle.table_indexes.specs.Indexes.{IsInUse}
 use Rattle.history.specs.Cursors.{ComesBefore}
 use Rattle.refinement.specs.Heap.{in_index}
 use Rattle.refinement.specs.Cursors.{Comes, WalksOver}

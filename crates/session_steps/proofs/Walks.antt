@@ -14,8 +14,8 @@ use Rattle.sound_entries.proofs.Leads.{visible-found}
 use Rattle.sound_entries.proofs.OnHeap.{found-on_heap}
 use Rattle.index_lookup.specs.declared.index_scan.IndexPosition.{IndexPosition}
 use Rattle.index_lookup.specs.declared.index_scan.IndexRange.{IndexRange}
+use Rattle.table_indexes.specs.Indexes.{entries_in, IsInUse}
 use Rattle.heap_write.specs.Heap.{slots_of}
-use Rattle.heap_write.specs.Indexes.{entries_in, IsInUse}
 use Rattle.index_lookup.specs.Walking.{LiesIn, ComesAfter, IsNextRow, NoneLeft}
 use Rattle.index_lookup.specs.Walking as walking
 use Rattle.table_integrity.proofs.InUse.{index-sound}

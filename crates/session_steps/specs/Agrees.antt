@@ -10,8 +10,8 @@ use Rattle.refinement.specs.declared.reply.Reply.{Reply}
 use Rattle.refinement.specs.Allowed.{Allows, next}
 use Rattle.refinement.specs.Agrees as relation
 use Rattle.sound_entries.specs.Entries.{KeepsTargets}
+use Rattle.table_indexes.specs.Indexes.{entries_in, IsInUse, new_entries}
 use Rattle.heap_write.specs.Heap.{slots_of}
-use Rattle.heap_write.specs.Indexes.{entries_in, IsInUse, new_entries}
 use Rattle.index_lookup.specs.declared.index_scan.IndexRange.{IndexRange}
 use Rattle.table_integrity.specs.Table.{SoundTable}
 use Rattle.session_steps.specs.declared.session.Session.{Session}

@@ -1,7 +1,7 @@
 -- A new engine.
 use Rattle.std.specs.Prelude.{[], ◌≡◌, ℕ}
 use Rattle.history.specs.World.{beginning}
-use Rattle.heap_write.specs.Indexes.{entries_at, new_entries}
+use Rattle.table_indexes.specs.Indexes.{entries_at, new_entries}
 use Rattle.refinement.specs.declared.settings.Settings.{Settings}
 use Rattle.session_steps.specs.State.{State}
 use Rattle.session_steps.specs.Agrees.{Agrees}

@@ -6,7 +6,7 @@ use Rattle.commit_status.specs.Window.{Window, next_id}
 use Rattle.visibility.specs.Visible.{state_of}
 use Rattle.page_slots.specs.declared.slot.Slot.{Slot}
 use Rattle.root_index.specs.View.{IndexView}
-use Rattle.heap_write.specs.Indexes as indexes
+use Rattle.table_indexes.specs.Indexes as indexes
 use Rattle.index_lookup.specs.Pages.{version_in}
 use Rattle.heap_write.specs.Heap.{HeapView, slots_of}
 use Rattle.refinement.specs.declared.settings.Settings.{Settings}

@@ -1,5 +1,5 @@
 -- The tests of a write, in their order. What they look for is found through the index by key.
-use Rattle.heap_write.specs.Indexes.{entries_in}
+use Rattle.table_indexes.specs.Indexes.{entries_in}
 use Rattle.std.specs.Prelude.{◌≡◌, ◌<◌, ℕ, pos, Option, Some, None, false, Contains}
 use Rattle.xid_circle.specs.declared.Tid.{Tid}
 use Rattle.visibility.specs.Visible.{IsVisible, IsOtherWriterIn, IsNewerCommitIn}

@@ -27,8 +27,8 @@ use Rattle.index_lookup.specs.Pages.{slots_on, slot_in, version_in, Puts}
 use Rattle.sound_entries.specs.Entries.{SoundHeap, EntriesAreSound, StaysSound}
 use Rattle.sound_entries.proofs.Changes.{dead-stays}
 use Rattle.index_lookup.specs.Pages as lists
+use Rattle.table_indexes.specs.Indexes.{entries_at, entries_in, IsInUse, SameEntries}
 use Rattle.heap_write.specs.Heap.{HeapView, slots_of, page_on, Keeps}
-use Rattle.heap_write.specs.Indexes.{entries_at, entries_in, IsInUse, SameEntries}
 use Rattle.heap_write.specs.Writes.{TableIsFull, PutsRoot, SetsXmax, HotUpdates, ColdUpdates, UpdatesOnPage, Replaces, PrunesIfFull, Prunes}
 use Rattle.heap_write.specs.Refusals.{AfterPruning, FailsUpdate, VersionIsThere}
 use Rattle.heap_write.specs.declared.heap.WriteFault.{WriteFault}

@@ -19,8 +19,8 @@ use Rattle.freeze.specs.AllVisible.{IsAllVisible}
 use Rattle.root_index.specs.declared.entry.Entry.{Entry}
 use Rattle.root_index.specs.View.{IndexView}
 use Rattle.index_lookup.specs.Pages.{slots_on, slot_in, version_in}
+use Rattle.table_indexes.specs.Indexes.{entries_in, IsInUse}
 use Rattle.heap_write.specs.Heap.{HeapView, slots_of}
-use Rattle.heap_write.specs.Indexes.{entries_in, IsInUse}
 use Rattle.heap_write.specs.Writes.{Prunes}
 use Rattle.table_integrity.proofs.Standing.{prunes-on, prunes-puts}
 use Rattle.vacuum_passes.specs.declared.vacuum.Mode.{Mode}

@@ -6,8 +6,8 @@ use Rattle.commit_status.specs.declared.status.Status.{Status}
 use Rattle.snapshot.specs.Own.{Own}
 use Rattle.root_index.specs.declared.entry.Entry.{Entry}
 use Rattle.index_lookup.specs.Pages.{slot_in}
+use Rattle.table_indexes.specs.Indexes.{entries_at, entries_in, IsInUse}
 use Rattle.heap_write.specs.Heap.{HeapView, slots_of, Keeps}
-use Rattle.heap_write.specs.Indexes.{entries_at, entries_in, IsInUse}
 use Rattle.heap_write.specs.Writes.{Inserts, Updates, Deletes, Prunes}
 use Rattle.heap_write.specs.Refusals.{FailsUpdate}
 use Rattle.heap_write.specs.declared.heap.WriteFault.{WriteFault}

@@ -9,8 +9,8 @@ use Rattle.root_index.specs.View.{IndexView}
 use Rattle.history.specs.Cursors.{value_in}
 use Rattle.sound_entries.specs.Entries.{SoundHeap, EntriesAreSound, StaysSound}
 use Rattle.sound_entries.proofs.Going.{led-then}
+use Rattle.table_indexes.specs.Indexes.{entries_at, entries_in, IsInUse, index_entry_of, SameEntries, AddsAny, Enters}
 use Rattle.heap_write.specs.Heap.{HeapView, slots_of}
-use Rattle.heap_write.specs.Indexes.{entries_at, entries_in, IsInUse, index_entry_of, SameEntries, AddsAny, Enters}
 use Rattle.table_integrity.specs.Table.{SoundTable, StaysSoundTable}
 
 -- an index that has an entry is in use

@@ -23,8 +23,8 @@ use Rattle.sound_entries.proofs.Tables.{nothing-sound}
 use Rattle.heap_pages.specs.View.{PagesView}
 use Rattle.page_slots.specs.View.{PageView}
 use Rattle.index_lookup.specs.Pages as lists
+use Rattle.table_indexes.specs.Indexes.{entries_at, entries_in, IsInUse, SameEntries}
 use Rattle.heap_write.specs.Heap.{HeapView, SameIds, Keeps, slots_of}
-use Rattle.heap_write.specs.Indexes.{entries_at, entries_in, IsInUse, SameEntries}
 use Rattle.heap_write.specs.Writes.{TableIsFull, TakesIds, PrunesIfFull, Prunes}
 use Rattle.heap_write.specs.Refusals.{VersionIsThere, AfterPruning, FailsUpdate}
 use Rattle.heap_write.specs.declared.heap.WriteFault.{WriteFault}

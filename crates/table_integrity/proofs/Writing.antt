@@ -16,8 +16,8 @@ use Rattle.history.specs.Cursors.{value_in}
 use Rattle.index_lookup.specs.Pages.{slots_on, slot_in, version_in, Puts, entry_for}
 use Rattle.sound_entries.proofs.Going.{stays-same}
 use Rattle.sound_entries.proofs.Changes.{adding-stays, taking-stays, updating-stays, heap-puts}
+use Rattle.table_indexes.specs.Indexes.{entries_in, IsInUse}
 use Rattle.heap_write.specs.Heap.{HeapView, slots_of, page_on}
-use Rattle.heap_write.specs.Indexes.{entries_in, IsInUse}
 use Rattle.heap_write.specs.Writes.{PutsRoot, SetsXmax, HotUpdates, ColdUpdates, KeepsValues, UpdatesOnPage, Replaces, Inserts, Updates, Deletes}
 use Rattle.table_integrity.specs.Table.{SoundTable, StaysSoundTable, MayDelete}
 use Rattle.table_integrity.specs.Laws.{WritesUnder}

@@ -10,8 +10,8 @@ use Rattle.commit_status.specs.Changes as changes
 use Rattle.snapshot.specs.Own.{Own}
 use Rattle.tuple_writes.specs.Laws.{DeletedWhatWasMade, AloneDeletedTheirs}
 use Rattle.index_lookup.specs.Pages.{slots_on}
+use Rattle.table_indexes.specs.Indexes.{entries_in}
 use Rattle.heap_write.specs.Heap.{HeapView, slots_of, Keeps}
-use Rattle.heap_write.specs.Indexes.{entries_in}
 use Rattle.heap_write.specs.Writes.{Inserts, Updates, Deletes, Prunes}
 use Rattle.heap_write.specs.Refusals.{FailsUpdate}
 use Rattle.heap_write.specs.declared.heap.WriteFault.{WriteFault}

@@ -6,8 +6,8 @@ use Rattle.tuple_writes.specs.Keeps.{IsMade, HasNoXmax}
 use Rattle.history.specs.Cursors.{value_in}
 use Rattle.index_lookup.specs.Pages.{version_in}
 use Rattle.sound_entries.specs.Entries.{SoundHeap, SoundEntries, KeepsTargets}
+use Rattle.table_indexes.specs.Indexes.{entries_in, IsInUse}
 use Rattle.heap_write.specs.Heap.{HeapView, slots_of}
-use Rattle.heap_write.specs.Indexes.{entries_in, IsInUse}
 
 -- what a table keeps, at a horizon
 pub record SoundTable (h : HeapView) (horizon : ℕ) : Type 0 where

@@ -16,8 +16,8 @@ use Rattle.page_slots.proofs.SlotLemmas.{there-from_slot_at}
 use Rattle.root_index.specs.declared.entry.Entry.{Entry}
 use Rattle.root_index.specs.View.{IndexView}
 use Rattle.index_lookup.specs.Pages.{slots_on}
+use Rattle.table_indexes.specs.Indexes.{entries_in}
 use Rattle.heap_write.specs.Heap.{HeapView, slots_of}
-use Rattle.heap_write.specs.Indexes.{entries_in}
 use Rattle.vacuum_passes.specs.declared.vacuum.Mode.{Mode}
 use Rattle.vacuum_passes.specs.declared.vacuum.Piece.{Piece}
 use Rattle.vacuum_passes.specs.declared.vacuum.Phase.{Phase}

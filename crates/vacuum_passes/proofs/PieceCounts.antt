@@ -15,7 +15,7 @@ use Rattle.root_index.specs.Order.{comparison, EntryPrecedes, IsAscending}
 use Rattle.root_index.specs.Sets.{IsAfter}
 use Rattle.root_index.specs.View.{IndexView}
 use Rattle.root_index.proofs.OrderLemmas.{not_before_itself, Precedes-trans}
-use Rattle.heap_write.specs.Indexes.{entries_at, entries_in, IsInUse}
+use Rattle.table_indexes.specs.Indexes.{entries_at, entries_in, IsInUse}
 use Rattle.root_index.specs.declared.progress.Progress.{Progress}
 use Rattle.root_index.specs.declared.progress.Progress.TheVariants.{More}
 use Rattle.root_index.specs.Pieces.{RemovesPiece}

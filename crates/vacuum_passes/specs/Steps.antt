@@ -4,8 +4,8 @@ use Rattle.std.specs.List.{filter}
 use Rattle.xid_circle.specs.declared.Tid.{Tid}
 use Rattle.root_index.specs.declared.entry.Entry.{Entry}
 use Rattle.root_index.specs.View.{IndexView}
+use Rattle.table_indexes.specs.Indexes.{IsInUse}
 use Rattle.heap_write.specs.Heap.{HeapView}
-use Rattle.heap_write.specs.Indexes.{IsInUse}
 use Rattle.root_index.specs.declared.progress.Progress.{Progress}
 use Rattle.root_index.specs.declared.progress.Progress.TheVariants.{More, Done}
 use Rattle.vacuum_passes.specs.declared.vacuum.Phase.{Phase}

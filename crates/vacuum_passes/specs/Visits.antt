@@ -12,8 +12,8 @@ use Rattle.space_maps.specs.declared.mark.Mark.{Mark}
 use Rattle.space_maps.specs.View.{mark_on, says_visible}
 use Rattle.freeze.specs.Freezing.{FreezesPage}
 use Rattle.freeze.specs.AllVisible.{IsPageMark}
+use Rattle.table_indexes.specs.Indexes.{entries_at, entries_in, IsInUse}
 use Rattle.heap_write.specs.Heap.{HeapView}
-use Rattle.heap_write.specs.Indexes.{entries_at, entries_in, IsInUse}
 use Rattle.heap_write.specs.Writes.{Prunes}
 use Rattle.root_index.specs.declared.entry.Entry.{Entry}
 use Rattle.root_index.specs.declared.progress.Progress.{Progress}

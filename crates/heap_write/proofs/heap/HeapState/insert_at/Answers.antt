@@ -2,7 +2,7 @@ use Rattle.std.proofs.Common.{◌≡◌, ◌⊎◌, true, sym, subst, ◌∙◌,
 use Rattle.std.specs.Prelude.{Result, Ok, Err, OnErr}
 use Rattle.std.specs.Result.{is_err}
 use Rattle.std.proofs.lemmas.Bool.{true≢false}
-use Rattle.heap_write.specs.Indexes.{NeedsEntry}
+use Rattle.table_indexes.specs.Indexes.{NeedsEntry}
 use Rattle.heap_write.specs.Refusals.{NeedsIds}
 use Rattle.heap_write.specs.contracts.heap.HeapState.{the_view}
 use Rattle.commit_status.specs.Window.{Window}

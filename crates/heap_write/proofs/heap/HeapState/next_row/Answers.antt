@@ -2,8 +2,8 @@ use Rattle.std.proofs.Common.{Option, [], subst}
 use Rattle.std.specs.Prelude.{unwrap_or}
 use Rattle.root_index.specs.View.{IndexView}
 use Rattle.visibility.specs.Visible.{IsVisible}
+use Rattle.table_indexes.specs.Indexes.{entries_of, entries_in}
 use Rattle.heap_write.specs.Heap.{HeapView, slots_of}
-use Rattle.heap_write.specs.Indexes.{entries_of, entries_in}
 use Rattle.index_lookup.specs.Walking.{NextRow}
 use Rattle.heap_write.specs.contracts.heap.HeapState.{the_view}
 use Rattle.heap_write.proofs.heap.HeapState.next_row.Goals as goal

@@ -1,8 +1,8 @@
 use Rattle.std.proofs.Common.{◌⊎◌, inl, inr, refl, subst}
 use Rattle.std.specs.Prelude.{IsFalse, OnOk, OnErr}
 use Rattle.std.proofs.lemmas.Result.{on_err_weaker}
+use Rattle.table_indexes.specs.Indexes.{NeedsEntry}
 use Rattle.heap_write.specs.Heap.{HeapView, page_on}
-use Rattle.heap_write.specs.Indexes.{NeedsEntry}
 use Rattle.heap_write.specs.Refusals.{NeedsIds, NeedsSlot}
 use Rattle.heap_write.specs.Growth.{GrowsPage}
 use Rattle.heap_write.specs.contracts.heap.HeapState.{the_view}

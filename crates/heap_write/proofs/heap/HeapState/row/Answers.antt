@@ -2,8 +2,8 @@ use Rattle.std.proofs.Common.{List, ℤ, pos, subst}
 use Rattle.root_index.specs.declared.entry.Entry.{Entry}
 use Rattle.visibility.specs.Visible.{IsVisible}
 use Rattle.index_lookup.specs.Looking.{FirstFound}
+use Rattle.table_indexes.specs.Indexes.{entries_in}
 use Rattle.heap_write.specs.Heap.{HeapView, slots_of}
-use Rattle.heap_write.specs.Indexes.{entries_in}
 use Rattle.heap_write.specs.contracts.heap.HeapState.{the_view}
 use Rattle.heap_write.proofs.KeyLemmas.{read-back}
 use Rattle.heap_write.proofs.heap.HeapState.row.Goals as goal

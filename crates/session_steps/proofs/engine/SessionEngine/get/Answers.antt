@@ -1,4 +1,4 @@
-use Rattle.heap_write.specs.Indexes.{entries_in}
+use Rattle.table_indexes.specs.Indexes.{entries_in}
 use Rattle.std.proofs.Common.{Option, sym, ap, subst, pos}
 use Rattle.tuple_header.specs.declared.version.Row.{Row}
 use Rattle.visibility.specs.Visible.{IsVisible}

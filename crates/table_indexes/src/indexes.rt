@@ -5,7 +5,7 @@ ghost use Rattle.std.specs.Int.{w128};
 ghost use Rattle.root_index.specs.Sets.{AddsEntry};
 ghost use Rattle.root_index.specs.View.{room_in};
 ghost use Rattle.history.specs.Cursors.{value_in};
-ghost use Rattle.heap_write.specs.Indexes.{index_at, entries_of, entries_at, entries_in, new_entries, without_body, SameValues, SameEntries, AddsAny, Enters, HasEntry, HasEntries, LacksEntry, NeedsEntry};
+ghost use Rattle.table_indexes.specs.Indexes.{index_at, entries_of, entries_at, entries_in, new_entries, without_body, SameValues, SameEntries, AddsAny, Enters, HasEntry, HasEntries, LacksEntry, NeedsEntry};
 
 use root_index::{Entry, RootIndex};
 use std::alloc::{AllocError, Global};
@@ -18,7 +18,7 @@ const COLUMNS: usize = 4;
 
 /// The index by key, and that by each column for which there is one.
 #[derive(Debug, Drop)]
-pub(crate) struct Indexes {
+pub struct Indexes {
     by_key: RootIndex,
     by_column: [Option<RootIndex>; 4],
 }
@@ -36,7 +36,7 @@ impl Model for Indexes {
 
 impl Indexes {
     /// Indexes without entries: one by key, and one by each column of which this says so.
-    pub(crate) fn new(alloc: Global, indexed: [bool; 4]) -> Self
+    pub fn new(alloc: Global, indexed: [bool; 4]) -> Self
         ensures { (n : ℕ) → entries_at result n ≡ new_entries indexed n }
     {
         Indexes {
@@ -51,7 +51,7 @@ impl Indexes {
     }
 
     /// The index by key.
-    pub(crate) fn by_key(&self) -> &RootIndex
+    pub fn by_key(&self) -> &RootIndex
         ensures index { index_at self.now 0 ≡ Some result.now }
         ensures entries { result.now.entries ≡ entries_in self.now 0 }
     {
@@ -59,7 +59,7 @@ impl Indexes {
     }
 
     /// The index of this number, if it is in use: 0 is that by key, and c + 1 that by column c.
-    pub(crate) fn get(&self, number: u8) -> Option<&RootIndex>
+    pub fn get(&self, number: u8) -> Option<&RootIndex>
         ensures { option_copied result ≡ index_at self.now number }
     {
         if number == 0 {
@@ -72,7 +72,7 @@ impl Indexes {
     }
 
     /// Whether two rows have the same value in each index in use.
-    pub(crate) fn same_values(&self, old: &RowRef<'_>, new: &Row) -> bool
+    pub fn same_values(&self, old: &RowRef<'_>, new: &Row) -> bool
         ensures { IsTrue result ↔ SameValues self.now old.now new.now }
     {
         let cols = old.cols();
@@ -85,7 +85,7 @@ impl Indexes {
     }
 
     /// Makes room in memory for one more entry in each index in use.
-    pub(crate) fn make_room(&mut self) -> Result<(), AllocError>
+    pub fn make_room(&mut self) -> Result<(), AllocError>
         ensures room { OnOk result (HasEntries self.new) }
         ensures refused { OnErr result (NeedsEntry self.old) }
         ensures same { SameEntries self.old self.new }
@@ -98,7 +98,7 @@ impl Indexes {
     }
 
     /// Makes that room for an update, which makes no entry if it is heap-only.
-    pub(crate) fn make_room_for(&mut self, heap_only: bool) -> Result<(), AllocError>
+    pub fn make_room_for(&mut self, heap_only: bool) -> Result<(), AllocError>
         ensures room { OnOk result (IsFalse heap_only → HasEntries self.new) }
         ensures refused { OnErr result (IsFalse heap_only × NeedsEntry self.old) }
         ensures same { SameEntries self.old self.new }
@@ -111,7 +111,7 @@ impl Indexes {
 
     /// Adds an entry to each index in use, for a version at a place of a row with this key and these columns. It takes no
     /// memory.
-    pub(crate) fn enter(&mut self, key: u64, cols: &[i64; 4], place: Tid)
+    pub fn enter(&mut self, key: u64, cols: &[i64; 4], place: Tid)
         requires { HasEntries self.old }
         ensures { Enters self.old self.new (without_body key cols.now) place }
     {

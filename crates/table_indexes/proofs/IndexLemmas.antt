@@ -2,7 +2,7 @@
 use Rattle.std.proofs.Common.{◌≡◌, ℕ, List, [], Option, ap}
 use Rattle.std.specs.Prelude.{unwrap_or}
 use Rattle.root_index.specs.View.{IndexView}
-use Rattle.heap_write.specs.Indexes.{entries_in, SameEntries}
+use Rattle.table_indexes.specs.Indexes.{entries_in, SameEntries}
 
 -- The same entries.
 

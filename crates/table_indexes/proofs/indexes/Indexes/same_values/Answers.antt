@@ -1,8 +1,8 @@
 use Rattle.std.proofs.Common.{ℤ, List, suc, Some, get_or, pos, sym, ap, ◌∙◌, of_z}
 use Rattle.std.specs.Int.{w64}
 use Rattle.std.proofs.lemmas.Bool.{eq-eqb, eqb-true, true≢false}
-use Rattle.heap_write.proofs.Columns.{column-in_use, same-all, same-key}
-use Rattle.heap_write.proofs.indexes.Indexes.same_values.Goals as goal
+use Rattle.table_indexes.proofs.Columns.{column-in_use, same-all, same-key}
+use Rattle.table_indexes.proofs.indexes.Indexes.same_values.Goals as goal
 
 pub returns-then-cols-c : goal.returns-then-cols-c
 returns-then-cols-c c = (

@@ -1,6 +1,6 @@
 use Rattle.std.proofs.Common.{Some}
-use Rattle.heap_write.proofs.Columns.{reserved-key, reserved-column}
-use Rattle.heap_write.proofs.indexes.Indexes.make_room.Goals as goal
+use Rattle.table_indexes.proofs.Columns.{reserved-key, reserved-column}
+use Rattle.table_indexes.proofs.indexes.Indexes.make_room.Goals as goal
 
 pub loop-c-init : goal.loop-c-init
 loop-c-init c =

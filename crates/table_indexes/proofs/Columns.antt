@@ -8,7 +8,7 @@ use Rattle.tuple_header.specs.declared.version.Row.{Row}
 use Rattle.root_index.specs.Sets.{AddsEntry}
 use Rattle.root_index.specs.View.{IndexView, room_in}
 use Rattle.history.specs.Cursors.{value_in}
-use Rattle.heap_write.specs.Indexes.{index_at, entries_of, entries_at, IsInUse, SameValues, index_entry_of, SameEntries, AddsAny, Enters, HasEntry, HasEntries}
+use Rattle.table_indexes.specs.Indexes.{index_at, entries_of, entries_at, IsInUse, SameValues, index_entry_of, SameEntries, AddsAny, Enters, HasEntry, HasEntries}
 
 -- the indexes up to a number were changed so, and the others are as they were
 pub record Changed (P : ℕ → Option IndexView → Option IndexView → Type 0) (before after : List (Option IndexView)) (i : ℕ) : Type 0 where
