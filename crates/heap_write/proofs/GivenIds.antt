@@ -8,7 +8,7 @@ use Rattle.xid_circle.proofs.Members.{Contains-cases, Contains-first, Contains-n
 use Rattle.commit_status.specs.Window.{IdEntry, Window, IsWindow, IsGiven, IsGivenBefore, IsActive, IsUpToNext, turns, place, parent_at, status_of, top_of, next_id}
 use Rattle.commit_status.specs.Changes.{Gives}
 use Rattle.commit_status.proofs.Turns.{turns-given}
-use Rattle.commit_status.proofs.Places.{IsAt, at-from_place, place-from_at, next-none, none-unless, is-from_some, some-from_is}
+use Rattle.commit_status.proofs.Places.{at-from_place, place-from_at, next-none, none-unless, is-from_some, some-from_is}
 use Rattle.commit_status.proofs.Giving.{gives-length, gives-place_cases, gives-place_old, gives-status, gives-top_old, gives-top_next, gives-top_alone, gives-active_next, gives-upto}
 use Rattle.snapshot.specs.Own.{AreDistinct}
 use Rattle.heap_write.specs.Writes.{GivesUnder}

@@ -8,7 +8,7 @@ use Rattle.commit_status.proofs.Places.{is-from_some}
 use Rattle.snapshot.specs.Own.{Own, unassigned_levels, current_xid, saved_with, saved_with_each, ArePrefixes}
 use Rattle.snapshot.proofs.Levels.{level-added, unassigned_levels-level, unassigned_levels-added, prefixes-added}
 use Rattle.heap_write.specs.Heap.{SameIds}
-use Rattle.heap_write.specs.Writes.{GivesUnder, TakesIds, SameOwn}
+use Rattle.heap_write.specs.Writes.{NewestIsGiven, GivesUnder, TakesIds, SameOwn}
 use Rattle.heap_write.specs.Growth.{HasIds}
 
 -- More memory.
@@ -60,7 +60,7 @@ pub record Giving (w0 : Window) (own0 : Own) (w : Window) (own : Own) (count : �
   pub prefixes : ArePrefixes own.ids own.saved
   pub can : CanGive w (unassigned_levels own.ids own.saved)
   pub room : HasIds w own
-  pub newest : (x : ℕ) → current_xid own.ids own.saved ≡ Some x → IsGiven w x
+  pub newest : NewestIsGiven w own
   pub window : IsWindow w
   pub whole : (w' : Window) (own' : Own) (x : ℕ) → TakesIds w w' own own' x → TakesIds w0 w' own0 own' x
 

@@ -7,7 +7,7 @@ use Rattle.tuple_header.specs.declared.version.Row.{Row}
 use Rattle.tuple_header.specs.Version.{rounded_size_of}
 use Rattle.page_slots.specs.View.{PageView}
 use Rattle.page_slots.specs.Slots.{room_of, free_number, next_change, row_at, IsNormalAt}
-use Rattle.commit_status.specs.Window.{Window, next_id}
+use Rattle.commit_status.specs.Window.{Window, IsGiven, next_id}
 use Rattle.commit_status.specs.Changes.{Gives, CanGive}
 use Rattle.snapshot.specs.Own.{Own, unassigned_levels, current_xid, saved_with_each}
 use Rattle.prune.specs.Actions.{applied}
@@ -25,6 +25,10 @@ use Rattle.heap_write.specs.Heap.{HeapView, page_on, Keeps, PutsPage}
 -- A session writes under the id of its newest level. Each of its levels that has none is given one before, the lowest
 -- first and each under the one below it, all or none. (The manual's "Subtransactions"; AssignTransactionId in
 -- src/backend/access/transam/xact.c.)
+
+-- the newest id of the session, if it has one, was given
+abbrev pub NewestIsGiven : Window → Own → Type 0
+NewestIsGiven w own = (x : ℕ) → current_xid own.ids own.saved ≡ Some x → IsGiven w x
 
 -- the levels need more ids than can be given
 abbrev pub NeedsFreeze : Window → Own → Type 0

@@ -1,10 +1,9 @@
 //! A row is deleted.
 
-ghost use Rattle.std.specs.Prelude.{◌≡◌, ℕ, Some, IfErr, IfOk, IsTrue, OnErr, ◌↔◌};
+ghost use Rattle.std.specs.Prelude.{IfErr, IfOk, IsTrue, OnErr, ◌↔◌};
 ghost use Rattle.xid_circle.specs.Circle.{IsNormal};
-ghost use Rattle.commit_status.specs.Window.{IsWindow, IsGiven};
-ghost use Rattle.snapshot.specs.Own.{current_xid};
-ghost use Rattle.heap_write.specs.Writes.{SameOwn, Deletes};
+ghost use Rattle.commit_status.specs.Window.{IsWindow};
+ghost use Rattle.heap_write.specs.Writes.{NewestIsGiven, SameOwn, Deletes};
 ghost use Rattle.heap_write.specs.Refusals.{FailsDelete, VersionIsThere};
 
 use crate::heap::{HeapState, WriteFault};
@@ -20,8 +19,7 @@ impl HeapState {
     /// where the table of ids or the session's own list has to grow. A refused delete changes nothing and gives no id.
     /// (PostgreSQL, `heap_delete` in src/backend/access/heap/heapam.c.)
     pub fn delete(&mut self, own: &mut OwnIds, place: Tid) -> Result<Xid, WriteFault>
-        requires newest { (x : ℕ) → current_xid own.old.ids own.old.saved ≡ Some x
-            → IsGiven self.old.table x }
+        requires newest { NewestIsGiven self.old.table own.old }
         ensures ok { IfOk result (λ x. Deletes self.old self.new own.old own.new place x.0) }
         ensures fault { IfErr result (λ fault. FailsDelete self.old self.new own.old place fault) }
         ensures own { OnErr result (SameOwn own.old own.new) }

@@ -1,12 +1,12 @@
 //! The ids of a write: those that the levels of its session lack.
 
-ghost use Rattle.std.specs.Prelude.{◌≡◌, ℕ, ◌+◌, ◌-◌, ◌<◌, ◌≤◌, ◌⊎◌, ◌↔◌, ◌∷◌, ◌++◌, [], Some, IsTrue, OnOk, OnErr};
+ghost use Rattle.std.specs.Prelude.{◌≡◌, ◌+◌, ◌-◌, ◌<◌, ◌≤◌, ◌⊎◌, ◌↔◌, ◌∷◌, ◌++◌, [], Some, IsTrue, OnOk, OnErr};
 ghost use Rattle.xid_circle.specs.Circle.{IsNormal, distance_of};
-ghost use Rattle.commit_status.specs.Window.{IsWindow, IsGiven, next_id};
+ghost use Rattle.commit_status.specs.Window.{IsWindow, next_id};
 ghost use Rattle.commit_status.specs.Changes.{Gives};
 ghost use Rattle.snapshot.specs.Own.{unassigned_levels, current_xid, saved_with};
 ghost use Rattle.heap_write.specs.Heap.{SameIds};
-ghost use Rattle.heap_write.specs.Writes.{NeedsFreeze, TakesIds, SameOwn};
+ghost use Rattle.heap_write.specs.Writes.{NeedsFreeze, NewestIsGiven, TakesIds, SameOwn};
 ghost use Rattle.heap_write.specs.Growth.{HasIds};
 
 use commit_status::StatusTable;
@@ -45,8 +45,7 @@ fn give_id(table: &mut StatusTable, own: &mut OwnIds)
     requires near { distance_of table.old.first (next_id table.old) < table.old.stop_age }
     requires in_table { 0 < table.old.spare }
     requires in_own { 0 < own.old.spare }
-    requires newest { (x : ℕ) → current_xid own.old.ids own.old.saved ≡ Some x
-        → IsGiven table.old x }
+    requires newest { NewestIsGiven table.old own.old }
     ensures gives { Gives table.old table.new (current_xid own.old.ids own.old.saved) }
     ensures ids { own.new.ids ≡ own.old.ids ++ next_id table.old ∷ [] }
     ensures saved { own.new.saved
@@ -67,8 +66,7 @@ fn give_id(table: &mut StatusTable, own: &mut OwnIds)
 pub(crate) fn take_ids(table: &mut StatusTable, own: &mut OwnIds) -> Xid
     requires free { ¬ NeedsFreeze table.old own.old }
     requires room { HasIds table.old own.old }
-    requires newest { (x : ℕ) → current_xid own.old.ids own.old.saved ≡ Some x
-        → IsGiven table.old x }
+    requires newest { NewestIsGiven table.old own.old }
     ensures takes { TakesIds table.old table.new own.old own.new result.0 }
     ensures normal { IsNormal result.0 }
     ensures window { IsWindow table.new }

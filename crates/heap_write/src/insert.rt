@@ -1,14 +1,13 @@
 //! A new row.
 
-ghost use Rattle.std.specs.Prelude.{◌≡◌, ℕ, ◌≤◌, ◌⊎◌, false, Some, IfErr, IfOk, OnErr};
+ghost use Rattle.std.specs.Prelude.{◌≡◌, ◌≤◌, ◌⊎◌, false, IfErr, IfOk, OnErr};
 ghost use Rattle.xid_circle.specs.Circle.{IsNormal};
 ghost use Rattle.page_slots.specs.Slots.{free_number};
 ghost use Rattle.tuple_header.specs.Version.{rounded_size_of};
-ghost use Rattle.commit_status.specs.Window.{IsWindow, IsGiven};
-ghost use Rattle.snapshot.specs.Own.{current_xid};
+ghost use Rattle.commit_status.specs.Window.{IsWindow};
 ghost use Rattle.table_indexes.specs.Indexes.{HasEntries, NeedsEntry};
 ghost use Rattle.heap_write.specs.Heap.{page_on, Keeps};
-ghost use Rattle.heap_write.specs.Writes.{NeedsFreeze, TakesIds, SameOwn, PutsRoot, Inserts};
+ghost use Rattle.heap_write.specs.Writes.{NeedsFreeze, NewestIsGiven, TakesIds, SameOwn, PutsRoot, Inserts};
 ghost use Rattle.heap_write.specs.Refusals.{LacksForInsert, NeedsIds};
 ghost use Rattle.heap_write.specs.Growth.{IsReserved, target_number};
 
@@ -26,8 +25,7 @@ impl HeapState {
     /// NoMemory only where something has to grow. A refused insert changes nothing and gives no id. (PostgreSQL,
     /// `heap_insert` in src/backend/access/heap/heapam.c.)
     pub fn insert(&mut self, own: &mut OwnIds, row: &Row) -> Result<Xid, WriteFault>
-        requires newest { (x : ℕ) → current_xid own.old.ids own.old.saved ≡ Some x
-            → IsGiven self.old.table x }
+        requires newest { NewestIsGiven self.old.table own.old }
         ensures ok { IfOk result (λ x. Inserts self.old self.new own.old own.new row.now x.0) }
         ensures fault { IfErr result (λ fault. LacksForInsert self.old own.old row.now fault) }
         ensures err { OnErr result (Keeps self.old self.new) }
@@ -49,8 +47,7 @@ impl HeapState {
     /// Inserts a version of the row where it goes, unless an index or a list of ids has to grow and cannot.
     fn insert_at(&mut self, target: Target, own: &mut OwnIds, row: &Row) -> Result<Xid, WriteFault>
         requires free { ¬ NeedsFreeze self.old.table own.old }
-        requires newest { (x : ℕ) → current_xid own.old.ids own.old.saved ≡ Some x
-            → IsGiven self.old.table x }
+        requires newest { NewestIsGiven self.old.table own.old }
         requires ready { IsReserved self.old.pages (rounded_size_of row.now) target }
         ensures takes { IfOk result
             (λ x. TakesIds self.old.table self.new.table own.old own.new x.0) }

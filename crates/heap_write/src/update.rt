@@ -1,14 +1,14 @@
 //! A row is updated.
 
-ghost use Rattle.std.specs.Prelude.{◌≡◌, ℕ, ◌≤◌, ◌<◌, length, IfErr, IfOk, IfSome, IsFalse, IsTrue, OnErr, OnOk, Some, ◌↔◌, ◌⊎◌};
+ghost use Rattle.std.specs.Prelude.{◌≡◌, ℕ, ◌≤◌, ◌<◌, length, IfErr, IfOk, IfSome, IsFalse, IsTrue, OnErr, OnOk, ◌↔◌, ◌⊎◌};
 ghost use Rattle.xid_circle.specs.Circle.{IsNormal};
-ghost use Rattle.commit_status.specs.Window.{IsWindow, IsGiven};
-ghost use Rattle.snapshot.specs.Own.{unassigned_levels, current_xid};
+ghost use Rattle.commit_status.specs.Window.{IsWindow};
+ghost use Rattle.snapshot.specs.Own.{unassigned_levels};
 ghost use Rattle.page_slots.specs.Slots.{room_of};
 ghost use Rattle.tuple_header.specs.Version.{rounded_size_of};
 ghost use Rattle.table_indexes.specs.Indexes.{HasEntries, NeedsEntry};
 ghost use Rattle.heap_write.specs.Heap.{page_on, Keeps};
-ghost use Rattle.heap_write.specs.Writes.{NeedsFreeze, TakesIds, SameOwn, KeepsValues, HotUpdates, ColdUpdates, UpdatesOnPage, Replaces, Updates};
+ghost use Rattle.heap_write.specs.Writes.{NeedsFreeze, NewestIsGiven, TakesIds, SameOwn, KeepsValues, HotUpdates, ColdUpdates, UpdatesOnPage, Replaces, Updates};
 ghost use Rattle.heap_write.specs.Refusals.{FailsUpdate, RootNeedsMemory, UpdateNeedsMemory, VersionIsThere, NeedsIds, NeedsSlot};
 ghost use Rattle.heap_write.specs.Growth.{HasIds, HasSlot, GrowsPage, IsReserved, target_number};
 ghost use Rattle.heap_write.specs.Steps.{IsChosen, FailsAfterPruning};
@@ -39,8 +39,7 @@ impl HeapState {
         row: &Row,
         horizon: Xid,
     ) -> Result<Xid, WriteFault>
-        requires newest { (x : ℕ) → current_xid own.old.ids own.old.saved ≡ Some x
-            → IsGiven self.old.table x }
+        requires newest { NewestIsGiven self.old.table own.old }
         requires horizon { IsNormal horizon.0 }
         ensures ok { IfOk result
             (λ x. Updates self.old self.new own.old own.new place row.now horizon.0 x.0) }
@@ -91,8 +90,7 @@ impl HeapState {
 
     /// Updates a version whose page has room for the row.
     fn update_at_once(&mut self, own: &mut OwnIds, place: Tid, row: &Row) -> Result<Xid, WriteFault>
-        requires newest { (x : ℕ) → current_xid own.old.ids own.old.saved ≡ Some x
-            → IsGiven self.old.table x }
+        requires newest { NewestIsGiven self.old.table own.old }
         requires free { ¬ NeedsFreeze self.old.table own.old }
         requires there { VersionIsThere self.old place }
         requires room { rounded_size_of row.now ≤ room_of (page_on self.old place.page).slots }
@@ -149,8 +147,7 @@ impl HeapState {
         row: &Row,
         horizon: Xid,
     ) -> Result<Xid, WriteFault>
-        requires newest { (x : ℕ) → current_xid own.old.ids own.old.saved ≡ Some x
-            → IsGiven self.old.table x }
+        requires newest { NewestIsGiven self.old.table own.old }
         requires horizon { IsNormal horizon.0 }
         requires free { ¬ NeedsFreeze self.old.table own.old }
         requires there { VersionIsThere self.old place }
@@ -205,8 +202,7 @@ impl HeapState {
         row: &Row,
         horizon: Xid,
     ) -> Result<Xid, WriteFault>
-        requires newest { (x : ℕ) → current_xid own.old.ids own.old.saved ≡ Some x
-            → IsGiven self.old.table x }
+        requires newest { NewestIsGiven self.old.table own.old }
         requires horizon { IsNormal horizon.0 }
         requires free { ¬ NeedsFreeze self.old.table own.old }
         requires there { VersionIsThere self.old place }
@@ -281,8 +277,7 @@ impl HeapState {
         row: &Row,
         target: Option<Target>,
     ) -> Result<Xid, WriteFault>
-        requires newest { (x : ℕ) → current_xid own.old.ids own.old.saved ≡ Some x
-            → IsGiven self.old.table x }
+        requires newest { NewestIsGiven self.old.table own.old }
         requires free { ¬ NeedsFreeze self.old.table own.old }
         requires has_ids { HasIds self.old.table own.old }
         requires has_slot { HasSlot (page_on self.old place.page) }
@@ -322,8 +317,7 @@ impl HeapState {
         row: &Row,
         target: Option<Target>,
     ) -> Result<Xid, WriteFault>
-        requires newest { (x : ℕ) → current_xid own.old.ids own.old.saved ≡ Some x
-            → IsGiven self.old.table x }
+        requires newest { NewestIsGiven self.old.table own.old }
         requires free { ¬ NeedsFreeze self.old.table own.old }
         requires has_ids { HasIds self.old.table own.old }
         requires has_entries { HasEntries self.old.indexes }
@@ -353,8 +347,7 @@ impl HeapState {
 
     /// Replaces a version by one on its page, which has room and memory for it: a heap-only one, or a root.
     fn update_on_page(&mut self, own: &mut OwnIds, place: Tid, row: &Row, heap_only: bool) -> Xid
-        requires newest { (x : ℕ) → current_xid own.old.ids own.old.saved ≡ Some x
-            → IsGiven self.old.table x }
+        requires newest { NewestIsGiven self.old.table own.old }
         requires free { ¬ NeedsFreeze self.old.table own.old }
         requires has_ids { HasIds self.old.table own.old }
         requires there { VersionIsThere self.old place }
@@ -377,8 +370,7 @@ impl HeapState {
 
     /// Replaces a version by a heap-only one on its page, which has room and memory for it.
     fn hot_update(&mut self, own: &mut OwnIds, place: Tid, row: &Row) -> Xid
-        requires newest { (x : ℕ) → current_xid own.old.ids own.old.saved ≡ Some x
-            → IsGiven self.old.table x }
+        requires newest { NewestIsGiven self.old.table own.old }
         requires free { ¬ NeedsFreeze self.old.table own.old }
         requires has_ids { HasIds self.old.table own.old }
         requires there { VersionIsThere self.old place }
@@ -399,8 +391,7 @@ impl HeapState {
 
     /// Replaces a version by a root where one goes, with room and memory for it and its entries.
     fn cold_update(&mut self, own: &mut OwnIds, place: Tid, row: &Row, target: Target) -> Xid
-        requires newest { (x : ℕ) → current_xid own.old.ids own.old.saved ≡ Some x
-            → IsGiven self.old.table x }
+        requires newest { NewestIsGiven self.old.table own.old }
         requires free { ¬ NeedsFreeze self.old.table own.old }
         requires has_ids { HasIds self.old.table own.old }
         requires there { VersionIsThere self.old place }

@@ -1,4 +1,4 @@
-use Rattle.std.proofs.Common.{rules, ap, subst, sym, ◌∙◌}
+use Rattle.std.proofs.Common.{rules, subst, sym}
 use Rattle.std.specs.Prelude.{OnOk, OnErr}
 use Rattle.std.proofs.lemmas.Result.{on_ok_weaker, on_err_weaker}
 use Rattle.heap_pages.specs.View.{PagesView}

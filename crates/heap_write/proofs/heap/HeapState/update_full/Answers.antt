@@ -1,4 +1,4 @@
-use Rattle.std.proofs.Common.{◌<◌, ℕ, List, inr, sym, subst}
+use Rattle.std.proofs.Common.{◌<◌, List, inr, sym, subst}
 use Rattle.std.specs.Prelude.{IfSome}
 use Rattle.xid_circle.specs.declared.Xid.{Xid}
 use Rattle.tuple_header.specs.Version.{rounded_size_of}
