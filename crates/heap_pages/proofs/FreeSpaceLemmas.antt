@@ -1,7 +1,8 @@
 -- The free space map: which pages it lets a search pass.
-use Rattle.std.proofs.Common.{◌≡◌, ◌∙◌, ℕ, ◌*◌, ◌/◌, ◌<◌, ◌≤◌, min, inl, inr, List, [], ◌∷◌, ◌++◌, length, set, Option, Some, None, slice_get, get_or, sym, ap, arith}
+use Rattle.std.proofs.Common.{◌≡◌, ◌∙◌, ℕ, ◌*◌, ◌/◌, ◌<◌, ◌≤◌, min, inl, inr, Bool, List, [], ◌∷◌, ◌++◌, length, set, Option, Some, None, slice_get, get_or, sym, ap, arith}
 use Rattle.std.specs.Option.{option_map}
 use Rattle.std.proofs.lemmas.Bool.{cases_lt}
+use Rattle.std.proofs.Math.Seq.{map-set_same}
 use Rattle.std.proofs.lemmas.List.{length-map, map-append, map-set}
 use Rattle.std.proofs.lemmas.Option.{slice_get_cases, slice_get-map, slice_get_within, get_or_from_slice_get}
 use Rattle.page_slots.specs.View.{PageView}
@@ -60,3 +61,10 @@ pub noted : (bytes : List ℕ) (pages : List PageView) (n byte : ℕ) (page : Pa
     → set bytes n byte ≡ free_space_bytes (set pages n page)
 noted bytes pages n byte page is byte_is =
     ap (λ bytes. set bytes n byte) is ∙ ap (λ byte. set (free_space_bytes pages) n byte) byte_is ∙ sym (map-set (λ (page : PageView). free_byte_of (room_of page.slots)) pages n page)
+
+-- the flag of a page doesn't change its byte
+pub flagged : (bytes : List ℕ) (pages : List PageView) (n : ℕ) (page : PageView) (flag : Bool) → bytes ≡ free_space_bytes pages → slice_get pages n ≡ Some page
+    → bytes ≡ free_space_bytes (set pages n (record page { flag = flag }))
+flagged bytes pages n page flag is at =
+    let byte : PageView → ℕ = λ (page : PageView). free_byte_of (room_of page.slots) in
+    is ∙ sym (map-set_same byte pages n (record page { flag = flag }) page (sym (ap byte (get_or_from_slice_get pages n page page at))))

@@ -1,13 +1,15 @@
 -- The pages of a table as their callers see them.
-use Rattle.std.specs.Prelude.{◌≡◌, ℕ, ◌≤◌, List, length, map, Some, slice_get, slice_set}
+use Rattle.std.specs.Prelude.{◌≡◌, ℕ, ◌≤◌, false, List, length, map, Some, slice_get, slice_set}
 use Rattle.std.specs.Borrow.{MutBor}
 use Rattle.std.specs.Fn.{Once, FnOnceReturnsAtMut}
 use Rattle.page_slots.specs.View.{PageView}
 use Rattle.page_slots.specs.Slots.{room_of}
-use Rattle.space_maps.specs.View.{MarksView}
+use Rattle.space_maps.specs.View.{MarksView, says_visible}
 use Rattle.space_maps.specs.FreeSpace.{FreeView}
 use Rattle.space_maps.specs.declared.mark.Mark.{Mark}
+use Rattle.space_maps.specs.declared.mark.Mark.TheVariants.{Nothing}
 use Rattle.heap_pages.specs.Choice.{free_byte_of}
+use Rattle.heap_pages.specs.declared.pages.TheConstants.{MAX_PAGES}
 
 pub record PagesView : Type 0 where
   pub pages : List PageView
@@ -29,9 +31,20 @@ abbrev pub Edits : {F R : Type 0} → Once F (MutBor PageView × Unit {0}) (R ×
 Edits g change old new number result =
     (was : PageView) × (is : PageView) × (slice_get old.pages number ≡ Some was) × FnOnceReturnsAtMut g change was result is × (new ≡ with_page old number is)
 
+-- this was noted of the page of this number, in the map and in the page's flag, and nothing else changed
+abbrev pub NotesMark : PagesView → PagesView → ℕ → Mark → Type 0
+NotesMark old new n mark = (was : PageView) × (slice_get old.pages n ≡ Some was)
+    × (new ≡ record old { pages = slice_set old.pages n (record was { flag = says_visible mark }); marks = slice_set old.marks n mark })
+
+-- the page of this number was changed as the function does, once nothing was noted of it any more, and nothing else
+abbrev pub WritesOn : {F R : Type 0} → Once F (MutBor PageView × Unit {0}) (R × (MutBor PageView × Unit {0})) → F → PagesView → PagesView → ℕ → R → Type 0
+WritesOn g change old new number result =
+    (was : PageView) × (is : PageView) × (slice_get old.pages number ≡ Some was) × FnOnceReturnsAtMut g change (record was { flag = false }) result is
+    × (new ≡ record old { pages = slice_set old.pages number is; marks = slice_set old.marks number Nothing })
+
 -- what is true of the pages of a table, their maps, and how many more each has memory for
 pub record IsPageTable (pages : List PageView) (free : FreeView) (marks : MarksView) (spare room : ℕ) : Type 0 where
-  pub few : length pages ≤ 65536
+  pub few : length pages ≤ MAX_PAGES
   pub bytes : free.bytes ≡ free_space_bytes pages
   pub pages_spare : spare ≤ room
   pub free_spare : spare ≤ free.spare

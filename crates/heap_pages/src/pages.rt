@@ -1,9 +1,9 @@
 //! The pages of a table.
 
-ghost use Rattle.std.specs.Prelude.{◌≡◌, ◌≤◌, ◌<◌, ◌+◌, [], ◌∷◌, ◌++◌, length, OnOk, OnErr, Some, slice_get, slice_set, option_copied};
+ghost use Rattle.std.specs.Prelude.{◌≡◌, ◌≤◌, false, ◌<◌, ◌+◌, [], ◌∷◌, ◌++◌, length, OnOk, OnErr, Some, slice_get, slice_set, option_copied};
 ghost use Rattle.std.specs.Fn.{FnOnceTakesAtMut};
 ghost use Rattle.page_slots.specs.View.{PageView};
-ghost use Rattle.heap_pages.specs.View.{free_space_bytes, Edits};
+ghost use Rattle.heap_pages.specs.View.{free_space_bytes, Edits, NotesMark, WritesOn};
 ghost use Rattle.heap_pages.specs.Choice.{Promises, HasRoom, FindsFirstPage, IsPlaceFor};
 
 use crate::choice::{first_with_room, free_byte};
@@ -30,7 +30,8 @@ pub enum Placement {
 ///
 /// A page with room is found by a map of the pages' free-space bytes, as PostgreSQL finds one
 /// (src/backend/storage/freespace/README), and not by a look at each. A page is changed through [`Pages::edit`] alone, which
-/// notes its byte anew: so after every call each byte is that of its page.
+/// notes its byte anew: so after every call each byte is that of its page. A session's write goes through [`Pages::write`]
+/// to that, which first takes back what the visibility map says of the page.
 #[derive(Debug, Drop)]
 pub struct Pages {
     pages: Vec<Page>,
@@ -68,7 +69,7 @@ impl Pages {
     /// The number of pages, at most 65536.
     pub fn len(&self) -> u32
         ensures count { result ≡ length self.now.pages }
-        ensures limit { result ≤ 65536 }
+        ensures limit { result ≤ MAX_PAGES }
     {
         self.pages.len() as u32
     }
@@ -101,6 +102,18 @@ impl Pages {
         result
     }
 
+    /// Changes the page of this number as a session's write does: as [`Pages::edit`], but nothing is noted of it any more, in the
+    /// map and in the page's flag, before `change` is done. (The manual's "Visibility Map"; `visibilitymap_clear`.)
+    pub fn write<R, F: FnOnce(&mut Page) -> R>(&mut self, number: u32, change: F) -> R
+        requires within { number < length self.old.pages }
+        requires ready { (page : PageView) → slice_get self.old.pages number ≡ Some page
+            → FnOnceTakesAtMut F.FnOnce change (record page { flag = false }) }
+        ensures writes { WritesOn F.FnOnce change self.old self.new number result }
+    {
+        self.note(number, Mark::Nothing);
+        self.edit(number, change)
+    }
+
     /// Makes room in memory for `count` more pages, so that the next `count` pages are added without asking for any. Where
     /// memory is refused, all stays as it was.
     pub fn make_room(&mut self, count: usize) -> Result<(), AllocError>
@@ -108,6 +121,7 @@ impl Pages {
         ensures refused { OnErr result (self.old.spare < count) }
         ensures spare { self.old.spare ≤ self.new.spare }
         ensures pages { self.new.pages ≡ self.old.pages }
+        ensures marks { self.new.marks ≡ self.old.marks }
         ensures err { OnErr result (self.new ≡ self.old) }
     {
         self.pages.try_reserve(count)?;
@@ -120,7 +134,7 @@ impl Pages {
     /// Adds a page after all others. There is room for it in memory, and fewer than 65536 pages are in use.
     pub fn push_page(&mut self, page: Page)
         requires room { 0 < self.old.spare }
-        requires few { length self.old.pages < 65536 }
+        requires few { length self.old.pages < MAX_PAGES }
         ensures pages { self.new.pages ≡ self.old.pages ++ page ∷ [] }
         ensures marks { self.new.marks ≡ self.old.marks ++ Mark.Nothing ∷ [] }
         ensures spare { self.old.spare ≡ self.new.spare + 1 }
@@ -138,11 +152,12 @@ impl Pages {
         self.marks.mark(number)
     }
 
-    /// Notes this of the page of this number, which is in use. No page changes.
+    /// Notes this of the page of this number, which is in use: in the map, and whether it is all-visible in the page's flag too.
     pub fn note(&mut self, number: u32, mark: Mark)
         requires { number < length self.old.pages }
-        ensures { self.new ≡ record self.old { marks = slice_set self.old.marks number mark } }
+        ensures { NotesMark self.old self.new number mark }
     {
+        self.pages[number as usize].set_flag(mark.is_visible());
         self.marks.note(number, mark);
     }
 

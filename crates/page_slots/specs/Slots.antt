@@ -8,6 +8,8 @@ use Rattle.page_slots.specs.Hints.{same_but_hints}
 use Rattle.tuple_header.specs.Version.{Version, rounded_size_of}
 use Rattle.tuple_header.specs.declared.version.Header.{Header}
 use Rattle.tuple_header.specs.declared.version.Row.{Row}
+use Rattle.page_slots.specs.declared.packing.TheConstants.{MOST_BYTES}
+use Rattle.tuple_header.specs.declared.version.TheConstants.{MOST_SLOTS}
 
 -- Kinds of slots.
 
@@ -121,13 +123,13 @@ bytes_taken Dead = 0
 
 -- what neither pointers nor versions take
 abbrev pub free_bytes : List Slot → ℕ
-free_bytes slots = 8168 - (4 * length slots + sum_by bytes_taken slots)
+free_bytes slots = MOST_BYTES - (4 * length slots + sum_by bytes_taken slots)
 
 -- the largest size of a version that fits: a new slot takes a pointer, and there are at most 291
 abbrev pub room_of : List Slot → ℕ
 room_of slots =
     if has_unused slots then free_bytes slots
-    else (if nat_lt (length slots) 291 then free_bytes slots - 4 else 0)
+    else (if nat_lt (length slots) MOST_SLOTS then free_bytes slots - 4 else 0)
 
 -- The change number: one more, modulo 2 ^ 64, for each slot that is afterwards not the same otherwise than in hints.
 

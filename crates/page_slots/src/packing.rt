@@ -16,7 +16,7 @@ pub(crate) const MOST_BYTES: usize = 8168;
 /// Adds the body of a slot's version behind others, and lets the slot keep it there.
 fn move_body(item: &mut Item, bytes: &[u8], packed: &mut ArrayVec<u8, 8168>)
     requires within { fits (length bytes.now) item.old ≡ true }
-    requires room { length packed.old.items + length (body_of bytes.now item.old) ≤ 8168 }
+    requires room { length packed.old.items + length (body_of bytes.now item.old) ≤ MOST_BYTES }
     ensures slot { stored_slot packed.new.items item.new ≡ stored_slot bytes.now item.old }
     ensures fits { fits (length packed.new.items) item.new ≡ true }
     ensures items { packed.new.items ≡ packed.old.items ++ body_of bytes.now item.old }
@@ -31,7 +31,7 @@ fn move_body(item: &mut Item, bytes: &[u8], packed: &mut ArrayVec<u8, 8168>)
 /// The bodies of these slots, one behind the other, in the order of the slots, which keep them there from now on.
 fn pack(items: &mut [Item], bytes: &[u8]) -> ArrayVec<u8, 8168>
     requires within { AreWithin (length bytes.now) items.old }
-    requires room { sum_by bytes_taken (slots_in bytes.now items.old) ≤ 8168 }
+    requires room { sum_by bytes_taken (slots_in bytes.now items.old) ≤ MOST_BYTES }
     ensures slots { slots_in result.items items.new ≡ slots_in bytes.now items.old }
     ensures within { AreWithin (length result.items) items.new }
     ensures limit { length result.items ≤ sum_by bytes_taken (slots_in bytes.now items.old) }
@@ -46,13 +46,13 @@ fn pack(items: &mut [Item], bytes: &[u8]) -> ArrayVec<u8, 8168>
 /// Moves the bodies of these slots together at the front of the bytes.
 fn compact(items: &mut [Item], bytes: &mut Vec<u8>)
     requires within { AreWithin (length bytes.old.items) items.old }
-    requires room { sum_by bytes_taken (slots_in bytes.old.items items.old) ≤ 8168 }
-    requires memory { 8168 ≤ vec_capacity bytes.old }
+    requires room { sum_by bytes_taken (slots_in bytes.old.items items.old) ≤ MOST_BYTES }
+    requires memory { MOST_BYTES ≤ vec_capacity bytes.old }
     ensures slots { slots_in bytes.new.items items.new ≡ slots_in bytes.old.items items.old }
     ensures within { AreWithin (length bytes.new.items) items.new }
     ensures limit { length bytes.new.items
         ≤ sum_by bytes_taken (slots_in bytes.old.items items.old) }
-    ensures memory { 8168 ≤ vec_capacity bytes.new }
+    ensures memory { MOST_BYTES ≤ vec_capacity bytes.new }
 {
     let packed = pack(items, bytes.as_slice());
     bytes.clear();
@@ -63,12 +63,12 @@ fn compact(items: &mut [Item], bytes: &mut Vec<u8>)
 /// none.
 fn make_way(items: &mut [Item], bytes: &mut Vec<u8>, count: usize)
     requires within { AreWithin (length bytes.old.items) items.old }
-    requires room { sum_by bytes_taken (slots_in bytes.old.items items.old) + count ≤ 8168 }
-    requires memory { 8168 ≤ vec_capacity bytes.old }
+    requires room { sum_by bytes_taken (slots_in bytes.old.items items.old) + count ≤ MOST_BYTES }
+    requires memory { MOST_BYTES ≤ vec_capacity bytes.old }
     ensures slots { slots_in bytes.new.items items.new ≡ slots_in bytes.old.items items.old }
     ensures within { AreWithin (length bytes.new.items) items.new }
-    ensures room { length bytes.new.items + count ≤ 8168 }
-    ensures memory { 8168 ≤ vec_capacity bytes.new }
+    ensures room { length bytes.new.items + count ≤ MOST_BYTES }
+    ensures memory { MOST_BYTES ≤ vec_capacity bytes.new }
 {
     if bytes.len() > MOST_BYTES - count {
         compact(items, bytes);
@@ -79,14 +79,14 @@ fn make_way(items: &mut [Item], bytes: &mut Vec<u8>, count: usize)
 pub(crate) fn keep_body(items: &mut [Item], bytes: &mut Vec<u8>, body: &[u8]) -> u16
     requires within { AreWithin (length bytes.old.items) items.old }
     requires room { sum_by bytes_taken (slots_in bytes.old.items items.old) + length body.now
-        ≤ 8168 }
-    requires memory { 8168 ≤ vec_capacity bytes.old }
+        ≤ MOST_BYTES }
+    requires memory { MOST_BYTES ≤ vec_capacity bytes.old }
     ensures slots { slots_in bytes.new.items items.new ≡ slots_in bytes.old.items items.old }
     ensures within { AreWithin (length bytes.new.items) items.new }
     ensures body { take (length body.now) (drop result bytes.new.items) ≡ body.now }
     ensures end { result + length body.now ≡ length bytes.new.items }
-    ensures limit { length bytes.new.items ≤ 8168 }
-    ensures memory { 8168 ≤ vec_capacity bytes.new }
+    ensures limit { length bytes.new.items ≤ MOST_BYTES }
+    ensures memory { MOST_BYTES ≤ vec_capacity bytes.new }
 {
     make_way(items, bytes, body.len());
     let from = bytes.len();
@@ -103,16 +103,16 @@ pub(crate) fn keep_version(
 ) -> Item
     requires within { AreWithin (length bytes.old.items) items.old }
     requires room { sum_by bytes_taken (slots_in bytes.old.items items.old)
-        + length row.now.body.items ≤ 8168 }
-    requires memory { 8168 ≤ vec_capacity bytes.old }
+        + length row.now.body.items ≤ MOST_BYTES }
+    requires memory { MOST_BYTES ≤ vec_capacity bytes.old }
     requires faultless { header_fault header ≡ None }
     ensures slots { slots_in bytes.new.items items.new ≡ slots_in bytes.old.items items.old }
     ensures within { AreWithin (length bytes.new.items) items.new }
     ensures version { stored_slot bytes.new.items result
         ≡ Slot.Normal (record { header = header; row = row.now }) }
     ensures fits { fits (length bytes.new.items) result ≡ true }
-    ensures limit { length bytes.new.items ≤ 8168 }
-    ensures memory { 8168 ≤ vec_capacity bytes.new }
+    ensures limit { length bytes.new.items ≤ MOST_BYTES }
+    ensures memory { MOST_BYTES ≤ vec_capacity bytes.new }
 {
     let body = row.body.as_slice();
     let from = keep_body(items, bytes, body);

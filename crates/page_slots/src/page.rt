@@ -42,6 +42,8 @@ pub struct Page {
 impl Model for Page {
     ghost use Rattle.std.specs.Prelude.{◌+◌, ◌*◌, ◌≤◌, length, sum_by};
     ghost use Rattle.page_slots.specs.View.{PageView};
+    ghost use Rattle.page_slots.specs.declared.packing.TheConstants.{MOST_BYTES};
+    ghost use Rattle.tuple_header.specs.declared.version.TheConstants.{MOST_SLOTS};
 
     ghost Value = { PageView };
 
@@ -51,7 +53,7 @@ impl Model for Page {
 
     ghost view = { λ p. record { slots = p.slots.slots; change = p.change; flag = p.flag; spare = p.slots.spare } };
 
-    ghost invariant = { λ p. (length p.slots.slots ≤ 291) × (4 * length p.slots.slots + sum_by bytes_taken p.slots.slots ≤ 8168)
+    ghost invariant = { λ p. (length p.slots.slots ≤ MOST_SLOTS) × (4 * length p.slots.slots + sum_by bytes_taken p.slots.slots ≤ MOST_BYTES)
         × (p.free ≡ position_or_len is_unused p.slots.slots) × (p.taken_bytes ≡ sum_by bytes_taken p.slots.slots) };
 }
 
@@ -74,7 +76,7 @@ impl Page {
     /// The number of slots, at most 291.
     pub fn slots(&self) -> u16
         ensures count { result ≡ length self.now.slots }
-        ensures limit { result ≤ 291 }
+        ensures limit { result ≤ MOST_SLOTS }
     {
         self.slots.len() as u16
     }
@@ -170,7 +172,7 @@ impl Page {
     pub fn room(&self) -> usize
         ensures value { result ≡ room_of self.now.slots }
         ensures limit { result ≤ 8164 }
-        ensures place { 0 < result → free_number self.now.slots ≤ 291 }
+        ensures place { 0 < result → free_number self.now.slots ≤ MOST_SLOTS }
     {
         let count = self.slots.len();
         let free_bytes = MOST_BYTES - (4 * count + self.taken_bytes);
@@ -210,7 +212,7 @@ impl Page {
             → has_unused self.old.slots ≡ false }
         ensures memory_for_the_first { result ≡ Err AddFault.NoMemory → length self.old.slots ≡ 0 }
         ensures number { IfOk result (λ n. n ≡ free_number self.old.slots) }
-        ensures limit { IfOk result (λ n. n ≤ 291) }
+        ensures limit { IfOk result (λ n. n ≤ MOST_SLOTS) }
         ensures slots { OnOk result
             (self.new.slots ≡ with_added self.old.slots (Slot.Normal version)) }
         ensures change { OnOk result (self.new.change ≡ next_change self.old.change) }
@@ -236,7 +238,7 @@ impl Page {
             → has_unused self.old.slots ≡ false }
         ensures memory_for_the_first { result ≡ Err AddFault.NoMemory → length self.old.slots ≡ 0 }
         ensures number { IfOk result (λ n. n ≡ free_number self.old.slots) }
-        ensures limit { IfOk result (λ n. n ≤ 291) }
+        ensures limit { IfOk result (λ n. n ≤ MOST_SLOTS) }
         ensures slots { OnOk result
             (self.new.slots
             ≡ with_added self.old.slots (Slot.Normal (record { header = header; row = row.now }))) }
@@ -273,7 +275,7 @@ impl Page {
         ensures room { OnOk result (count ≤ self.new.spare) }
         ensures refused { OnErr result (self.old.spare < count) }
         ensures grows { OnErr result
-            ((length self.old.slots ≡ 0) ⊎ (291 < length self.old.slots + count)) }
+            ((length self.old.slots ≡ 0) ⊎ (MOST_SLOTS < length self.old.slots + count)) }
         ensures spare { self.old.spare ≤ self.new.spare }
         ensures slots { self.new.slots ≡ self.old.slots }
         ensures change { self.new.change ≡ self.old.change }

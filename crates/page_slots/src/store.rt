@@ -26,16 +26,18 @@ impl Model for Store {
     ghost use Rattle.std.specs.Prelude.{◌≡◌, ◌⊎◌, ◌<◌, ◌≤◌, ◌-◌, nat_lt, if◌then◌else◌, length, vec_len, vec_capacity};
     ghost use Rattle.page_slots.specs.Stored.{StoreView};
     ghost use Rattle.page_slots.specs.Store.{slots_in, AreWithin};
+    ghost use Rattle.page_slots.specs.declared.packing.TheConstants.{MOST_BYTES};
+    ghost use Rattle.tuple_header.specs.declared.version.TheConstants.{MOST_SLOTS};
 
     ghost Value = { StoreView };
 
     ghost view = { λ s. record {
       slots = slots_in s.bytes.items s.items.items;
-      spare = if nat_lt (vec_capacity s.bytes) 8168 then 0 else vec_capacity s.items - vec_len s.items;
+      spare = if nat_lt (vec_capacity s.bytes) MOST_BYTES then 0 else vec_capacity s.items - vec_len s.items;
     } };
 
-    ghost invariant = { λ s. AreWithin (length s.bytes.items) s.items.items × (length s.bytes.items ≤ 8168) × (0 < length s.items.items → 8168 ≤ vec_capacity s.bytes)
-        × ((vec_capacity s.items ≡ 0) ⊎ (291 ≤ vec_capacity s.items)) };
+    ghost invariant = { λ s. AreWithin (length s.bytes.items) s.items.items × (length s.bytes.items ≤ MOST_BYTES) × (0 < length s.items.items → MOST_BYTES ≤ vec_capacity s.bytes)
+        × ((vec_capacity s.items ≡ 0) ⊎ (MOST_SLOTS ≤ vec_capacity s.items)) };
 }
 
 impl Store {
@@ -165,7 +167,7 @@ impl Store {
         ensures room { OnOk result (count ≤ self.new.spare) }
         ensures refused { OnErr result (self.old.spare < count) }
         ensures grows { OnErr result
-            ((length self.old.slots ≡ 0) ⊎ (291 < length self.old.slots + count)) }
+            ((length self.old.slots ≡ 0) ⊎ (MOST_SLOTS < length self.old.slots + count)) }
         ensures spare { self.old.spare ≤ self.new.spare }
         ensures slots { self.new.slots ≡ self.old.slots }
     {
@@ -207,7 +209,7 @@ impl Store {
     pub(crate) fn put_version(&mut self, index: usize, header: Header, row: &Row)
         requires there { index < length self.old.slots }
         requires faultless { header_fault header ≡ None }
-        requires room { sum_by bytes_taken self.old.slots + length row.now.body.items ≤ 8168 }
+        requires room { sum_by bytes_taken self.old.slots + length row.now.body.items ≤ MOST_BYTES }
         ensures { self.new
             ≡ record self.old {
               slots = slice_set self.old.slots index
@@ -222,7 +224,7 @@ impl Store {
     fn push_ready(&mut self, header: Header, row: &Row)
         requires memory { 0 < self.old.spare }
         requires faultless { header_fault header ≡ None }
-        requires room { sum_by bytes_taken self.old.slots + length row.now.body.items ≤ 8168 }
+        requires room { sum_by bytes_taken self.old.slots + length row.now.body.items ≤ MOST_BYTES }
         ensures slots { self.new.slots
             ≡ self.old.slots ++ Slot.Normal (record { header = header; row = row.now }) ∷ [] }
         ensures spare { self.old.spare ≤ self.new.spare + 1 }
@@ -234,13 +236,13 @@ impl Store {
     /// Adds a version behind all slots.
     pub(crate) fn push_version(&mut self, header: Header, row: &Row) -> Result<(), AllocError>
         requires faultless { header_fault header ≡ None }
-        requires room { sum_by bytes_taken self.old.slots + length row.now.body.items ≤ 8168 }
+        requires room { sum_by bytes_taken self.old.slots + length row.now.body.items ≤ MOST_BYTES }
         ensures slots { OnOk result
             (self.new.slots
             ≡ self.old.slots ++ Slot.Normal (record { header = header; row = row.now }) ∷ []) }
         ensures spare { OnOk result (self.old.spare ≤ self.new.spare + 1) }
         ensures refused { OnErr result (self.old.spare ≡ 0) }
-        ensures grows { OnErr result ((length self.old.slots ≡ 0) ⊎ (291 ≤ length self.old.slots)) }
+        ensures grows { OnErr result ((length self.old.slots ≡ 0) ⊎ (MOST_SLOTS ≤ length self.old.slots)) }
         ensures err { OnErr result (self.new.slots ≡ self.old.slots) }
         ensures err_spare { OnErr result (self.old.spare ≤ self.new.spare) }
     {

@@ -7,6 +7,7 @@ ghost use Rattle.prune.specs.Pruning.{orphan_action};
 ghost use Rattle.prune.specs.Marks.{AreNumbers};
 ghost use Rattle.prune.specs.Checks.{HasFront, Checks};
 ghost use Rattle.prune.specs.Named.{named_at, IsNamedFront, BecomesUnused, IsLooseRight};
+ghost use Rattle.tuple_header.specs.declared.version.TheConstants.{MOST_SLOTS};
 
 use crate::action::{Action, PrunePlan};
 use crate::marks::{Marks, PruneVerdict, cut_count, mark_page, root_action};
@@ -42,7 +43,7 @@ fn are_in_order(count: u16, actions: &[(u16, Action)]) -> bool
 
 /// What these actions do to each slot.
 fn named_by(actions: &[(u16, Action)]) -> Named
-    requires { AreInOrder 291 0 actions.now }
+    requires { AreInOrder MOST_SLOTS 0 actions.now }
     ensures { (n : ℕ) → named_at result n ≡ action_of actions.now n }
 {
     let mut named = [None; 292];

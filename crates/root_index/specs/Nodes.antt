@@ -5,6 +5,7 @@ use Rattle.root_index.specs.declared.entry.Entry.{Entry}
 use Rattle.root_index.specs.declared.nodes.Spot.{Spot}
 use Rattle.root_index.specs.Sets.{IsStart}
 use Rattle.root_index.specs.Lists.{concatenated, rank, Place}
+use Rattle.root_index.specs.declared.node.TheConstants.{MAX_PARTS}
 
 -- the entries of the nodes, one node after another
 abbrev pub all : {N : Type 0} → (N → List Entry) → List N → List Entry
@@ -57,7 +58,7 @@ pub record IsStartIn {N S : Type 0} (entries : N → List Entry) (rank : N → S
 pub record IsOpened {N S : Type 0} (entries : N → List Entry) (size : N → ℕ) (rank : N → S → ℕ) (IsSpot : N → S → Type 0) (old new : List N) (was is : Spot S) : Type 0 where
   pub same : all entries new ≡ all entries old
   pub before : rank_in entries rank new is ≡ rank_in entries rank old was
-  pub room : IsSomeAnd (slice_get new is.node) (λ n. (size n < 128) × IsSpot n is.inner)
+  pub room : IsSomeAnd (slice_get new is.node) (λ n. (size n < MAX_PARTS) × IsSpot n is.inner)
 
 -- no node was taken of those that are set aside, nor a spot_place in their list
 pub record IsUnspent {B : Type 0} (HasLeft : B → ℕ → Type 0) (room room' spare spare' : ℕ) (left left' : B) : Type 0 where

@@ -20,12 +20,13 @@ pub(crate) struct Branch<N> {
 
 impl<N> Model for Branch<N> {
     ghost use Rattle.std.specs.Prelude.{◌≤◌, List, length, vec_capacity};
+    ghost use Rattle.root_index.specs.declared.node.TheConstants.{MAX_PARTS};
 
     ghost Value = { List N };
 
     ghost view = { λ b. b.nodes.items };
 
-    ghost invariant = { λ b. (length b.nodes.items ≤ 128) × (128 ≤ vec_capacity b.nodes) };
+    ghost invariant = { λ b. (length b.nodes.items ≤ MAX_PARTS) × (MAX_PARTS ≤ vec_capacity b.nodes) };
 }
 
 impl<N: Node> Node for Branch<N> {
@@ -157,11 +158,11 @@ impl<N: Node> Node for Branch<N> {
 
 /// Moves all of 128 nodes but the first 64. There is room for them in memory.
 fn move_half<N: Node>(lower: &mut Vec<N>, upper: &mut Vec<N>)
-    requires full { length lower.old.items ≡ 128 }
+    requires full { length lower.old.items ≡ MAX_PARTS }
     requires none { upper.old.items ≡ [] }
-    requires room { 128 ≤ vec_capacity upper.old }
+    requires room { MAX_PARTS ≤ vec_capacity upper.old }
     ensures nodes { lower.new.items ++ upper.new.items ≡ lower.old.items }
-    ensures half { length lower.new.items ≡ 64 }
+    ensures half { length lower.new.items ≡ HALF }
     ensures capacity { vec_capacity lower.old ≤ vec_capacity lower.new }
     ensures capacity_too { vec_capacity upper.old ≤ vec_capacity upper.new }
 {

@@ -35,12 +35,13 @@ impl Model for Leaf {
     ghost use Rattle.root_index.specs.declared.entry.Entry.{Entry as Seen};
     ghost use Rattle.root_index.specs.Lists.{IsFirst};
     ghost use Rattle.root_index.specs.Bounds.{AreOn};
+    ghost use Rattle.root_index.specs.declared.node.TheConstants.{MAX_PARTS};
 
     ghost Value = { List Seen };
 
     ghost view = { λ l. l.entries.items };
 
-    ghost invariant = { λ l. (length l.entries.items ≤ 128) × (128 ≤ vec_capacity l.entries) × IsFirst l.first l.entries.items × AreOn l.pages l.entries.items };
+    ghost invariant = { λ l. (length l.entries.items ≤ MAX_PARTS) × (MAX_PARTS ≤ vec_capacity l.entries) × IsFirst l.first l.entries.items × AreOn l.pages l.entries.items };
 }
 
 impl Node for Leaf {
@@ -198,8 +199,8 @@ impl Node for Leaf {
 /// How many entries a full leaf keeps when it is split for one more at this spot: the first 64 of all stay, be the new one among
 /// them or not.
 fn kept_with(spot: usize) -> usize
-    ensures among { spot < 64 → result + 1 ≡ 64 }
-    ensures behind { 64 ≤ spot → result ≡ 64 }
+    ensures among { spot < HALF → result + 1 ≡ HALF }
+    ensures behind { HALF ≤ spot → result ≡ HALF }
 {
     if spot < HALF { HALF - 1 } else { HALF }
 }

@@ -86,7 +86,7 @@ pub(crate) trait Node: Drop {
     /// The number of parts.
     fn len(&self) -> usize
         ensures value { result ≡ size self.now }
-        ensures limit { result ≤ 128 };
+        ensures limit { result ≤ MAX_PARTS };
 
     /// Whether the entry precedes the first of the node.
     fn begins_after(&self, sought: &Entry) -> bool
@@ -127,13 +127,13 @@ pub(crate) trait Node: Drop {
 
     /// Moves the upper parts of a full node to one without any, and says where the spot is then. It takes no memory.
     fn split(&mut self, upper: &mut Self, spot: Self::Spot) -> Half<Self::Spot>
-        requires full { size self.old ≡ 128 }
+        requires full { size self.old ≡ MAX_PARTS }
         requires none { size upper.old ≡ 0 }
         requires neat { IsNeat self.old }
         requires spot { IsSpot self.old spot }
         ensures entries { entries self.new ++ entries upper.new ≡ entries self.old }
-        ensures part { (0 < size self.new) × (size self.new < 128) }
-        ensures part_too { (0 < size upper.new) × (size upper.new < 128) }
+        ensures part { (0 < size self.new) × (size self.new < MAX_PARTS) }
+        ensures part_too { (0 < size upper.new) × (size upper.new < MAX_PARTS) }
         ensures neat { IsNeat self.new }
         ensures neat_too { IsNeat upper.new }
         ensures nodes { nodes self.new + nodes upper.new ≡ nodes self.old + 1 }
@@ -147,7 +147,7 @@ pub(crate) trait Node: Drop {
         spot: Self::Spot,
         entry: Entry,
     ) -> Result<(), AllocError>
-        requires room { size self.old < 128 }
+        requires room { size self.old < MAX_PARTS }
         requires neat { IsNeat self.old }
         requires spot { IsSpot self.old spot }
         ensures entries { OnOk result
@@ -164,7 +164,7 @@ pub(crate) trait Node: Drop {
         ensures first { OnOk result (size self.old ≡ 0 → HasPlaces spares.new) }
         ensures err { OnErr result (entries self.new ≡ entries self.old) }
         ensures refused { OnErr result (¬ HasLeft spares.old 1) }
-        ensures full { OnErr result ((size self.old ≡ 0) ⊎ (128 ≤ length (entries self.old))) };
+        ensures full { OnErr result ((size self.old ≡ 0) ⊎ (MAX_PARTS ≤ length (entries self.old))) };
 
     /// Removes entries to dead places, from this spot on as far as its leaf goes. The parts that are left without any are set
     /// aside, if there is a place for them. It does nothing where no entry follows.

@@ -165,7 +165,7 @@ fn split<N: Node>(nodes: &mut Vec<N>, mut upper: N, spot: Spot<N::Spot>) -> Spot
     requires neat { AreNeat N.IsNeat N.size nodes.old.items }
     requires node { spot.node < length nodes.old.items }
     requires spot { IsSpotIn N.IsSpot nodes.old.items spot }
-    requires full { IfSome (slice_get nodes.old.items spot.node) (λ node. N.size node ≡ 128) }
+    requires full { IfSome (slice_get nodes.old.items spot.node) (λ node. N.size node ≡ MAX_PARTS) }
     ensures opened { IsOpened N.entries N.size N.rank N.IsSpot nodes.old.items nodes.new.items spot
         result }
     ensures neat { AreNeat N.IsNeat N.size nodes.new.items }
@@ -209,7 +209,7 @@ fn open<N: Node>(
     ensures err { OnErr result (nodes.new.items ≡ nodes.old.items) }
     ensures refused { OnErr result
         ((vec_capacity nodes.old - vec_len nodes.old ≡ 0) ⊎ (vec_len spare.old ≡ 0)) }
-    ensures full { OnErr result (128 ≤ length (all N.entries nodes.old.items)) }
+    ensures full { OnErr result (MAX_PARTS ≤ length (all N.entries nodes.old.items)) }
     ensures grown { sum_by N.nodes nodes.old.items ≤ sum_by N.nodes nodes.new.items }
     ensures unspent_list { OnOk result
         (sum_by N.nodes nodes.new.items ≡ sum_by N.nodes nodes.old.items
@@ -304,7 +304,7 @@ pub(crate) fn insert<N: Node>(
         ((vec_capacity nodes.old - vec_len nodes.old ≡ 0) ⊎ (vec_len spares.old.nodes ≡ 0)
         ⊎ ¬ N.HasLeft spares.old.below 1) }
     ensures full { OnErr result
-        ((length nodes.old.items ≡ 0) ⊎ (128 ≤ length (all N.entries nodes.old.items))) }
+        ((length nodes.old.items ≡ 0) ⊎ (MAX_PARTS ≤ length (all N.entries nodes.old.items))) }
     ensures grown { sum_by N.nodes nodes.old.items ≤ sum_by N.nodes nodes.new.items }
     ensures unspent { OnOk result
         (sum_by N.nodes nodes.new.items ≡ sum_by N.nodes nodes.old.items

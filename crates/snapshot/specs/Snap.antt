@@ -5,6 +5,7 @@ use Rattle.std.specs.Prelude.{ℕ, ◌^◌, nat_lt, nat_le, Bool, false, ◌||�
 use Rattle.std.specs.List.{fold}
 use Rattle.xid_circle.specs.Circle.{Precedes, distance_of}
 use Rattle.commit_status.specs.Window.{Window, top_of}
+use Rattle.snapshot.specs.declared.snapshot.TheConstants.{MOST_LISTED}
 
 pub record Snap : Type 0 where
   -- the earliest id that was in progress when it was taken, or else the next id
@@ -49,7 +50,7 @@ empty_at next = record { xmin = next; xmax = next; listed = []; overflowed = fal
 
 -- more children than are listed
 abbrev pub are_many : List ℕ → Bool
-are_many children = nat_lt 64 (length children)
+are_many children = nat_lt MOST_LISTED (length children)
 
 -- an open transaction is listed: its topmost id, and its children where they are at most 64
 abbrev pub listing : Snap → List ℕ → Snap

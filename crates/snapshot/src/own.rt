@@ -37,6 +37,7 @@ impl Model for OwnIds {
     ghost use Rattle.std.specs.Prelude.{◌-◌, ◌≤◌, length, reverse, vec_len, vec_capacity};
     ghost use Rattle.commit_status.specs.Changes.{numbers};
     ghost use Rattle.snapshot.specs.Own.{Own, prefixes, AreMarks, AreNormal};
+    ghost use Rattle.snapshot.specs.declared.own.TheConstants.{MOST_SAVEPOINTS};
 
     ghost Value = { Own };
 
@@ -47,7 +48,7 @@ impl Model for OwnIds {
       spare_marks = o.marks.capacity - length o.marks.items;
     } };
 
-    ghost invariant = { λ o. AreNormal o.ids.items × AreMarks (length o.ids.items) (reverse o.marks.items) × (length o.marks.items ≤ 32) };
+    ghost invariant = { λ o. AreNormal o.ids.items × AreMarks (length o.ids.items) (reverse o.marks.items) × (length o.marks.items ≤ MOST_SAVEPOINTS) };
 }
 
 impl OwnIds {
@@ -166,7 +167,7 @@ impl OwnIds {
     /// nothing: its contract is the law.
     pub fn are_prefixes(&self)
         ensures prefixes { ArePrefixes self.now.ids self.now.saved }
-        ensures few { length self.now.saved ≤ 32 }
+        ensures few { length self.now.saved ≤ MOST_SAVEPOINTS }
     {
         let _ = &self.ids;
     }
@@ -179,7 +180,7 @@ impl OwnIds {
         ensures spare { self.new.spare ≡ self.old.spare }
         ensures saved { OnOk result (self.new.saved ≡ self.old.ids ∷ self.old.saved) }
         ensures refused { OnErr result (self.new ≡ self.old) }
-        ensures room { OnOk result (length self.old.saved < 32) }
+        ensures room { OnOk result (length self.old.saved < MOST_SAVEPOINTS) }
         ensures spare_marks { OnOk result (self.old.spare_marks ≤ self.new.spare_marks + 1) }
         ensures fault { IfErr result (λ fault. CannotSave self.old fault) }
     {

@@ -10,6 +10,7 @@ use Rattle.xid_circle.specs.Circle.{Precedes}
 use Rattle.visibility.specs.Visible.{IsFrozen}
 use Rattle.hot_chain.specs.Chain.{has_aborted, is_replaced, is_root}
 use Rattle.sound_page.specs.Links.{link, Reaches}
+use Rattle.tuple_header.specs.declared.version.TheConstants.{MOST_SLOTS}
 
 -- where the chain of a root or a redirect begins
 abbrev pub chain_start_in : ℕ → Option Slot → Option ℕ
@@ -44,7 +45,7 @@ pub record SomeNext (w : Window) (slots : List Slot) (n : ℕ) : Type 0 where
   pub next : link w slots n ≡ Some place
 
 pub record SoundPage (w : Window) (horizon : ℕ) (slots : List Slot) : Type 0 where
-  pub few : length slots ≤ 291
+  pub few : length slots ≤ MOST_SLOTS
   -- a committed deleter deleted what was made
   pub made : (n : ℕ) (t : Version) → version_at slots n ≡ Some t → IsCommitted w t.header.xmax.0 → IsFrozen t.header ⊎ IsCommitted w t.header.xmin.0
   -- what was never made has no deleter that counts

@@ -1,6 +1,7 @@
 -- The free space map of a table: a byte for each page, which says how many times the room on it holds 32 bytes, at most 255.
 -- (PostgreSQL's src/backend/storage/freespace/README: one byte, in units of a 256th of a page.)
 use Rattle.std.specs.Prelude.{◌*◌, ℕ, ◌/◌, ◌<◌, ◌≤◌, List, length, Option, Some, None, slice_index}
+use Rattle.space_maps.specs.declared.free_map.TheConstants.{GROUP}
 
 -- the map as its callers see it
 pub record FreeView : Type 0 where
@@ -11,7 +12,7 @@ pub record FreeView : Type 0 where
 
 -- no byte is over what is noted of its group of 256
 abbrev pub AreTops : List ℕ → List ℕ → Type 0
-AreTops tops bytes = (n : ℕ) → slice_index bytes n ≤ slice_index tops (n / 256)
+AreTops tops bytes = (n : ℕ) → slice_index bytes n ≤ slice_index tops (n / GROUP)
 
 pub record IsMap (tops bytes : List ℕ) : Type 0 where
   pub few : length bytes ≤ 65536

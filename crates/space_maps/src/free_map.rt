@@ -125,9 +125,9 @@ impl FreeMap {
 
     // The same in one group, whose bytes are looked at only where the greatest of them is large enough.
     fn next_of_group(&self, group: usize, from: usize, least: u8) -> Option<u32>
-        requires { group < 256 }
-        ensures { FindsNextByte self.now.bytes (max from (256 * group))
-            (min (256 * group + 256) (length self.now.bytes)) least result }
+        requires { group < GROUP }
+        ensures { FindsNextByte self.now.bytes (max from (GROUP * group))
+            (min (GROUP * group + GROUP) (length self.now.bytes)) least result }
     {
         if self.tops[group] < least {
             return None;

@@ -81,7 +81,7 @@ impl Header {
     pub fn inserted(xmin: Xid, ctid: Tid) -> Header
         requires normal { 3 ≤ xmin.0 }
         requires from { 1 ≤ ctid.slot }
-        requires to { ctid.slot ≤ 291 }
+        requires to { ctid.slot ≤ MOST_SLOTS }
         ensures value { result ≡ inserted_header xmin.0 ctid.page ctid.slot }
         ensures faultless { header_fault result ≡ None }
     {

@@ -11,6 +11,7 @@ use Rattle.visibility.specs.Visible.{IsFrozen}
 use Rattle.sound_page.specs.Sound.{SoundPage}
 use Rattle.tuple_writes.specs.Writes.{with_replaced, replaced_change, with_root, with_updated}
 use Rattle.tuple_writes.specs.Keeps.{IsDeletable, KeepsEntries, NoNew, NewRoot, NewIn}
+use Rattle.tuple_header.specs.declared.version.TheConstants.{MOST_SLOTS}
 
 -- Writes by an id in progress.
 
@@ -22,7 +23,7 @@ pub record AddsRoot (w : Window) (horizon : ℕ) (slots after : List Slot) (k : 
   pub chains : NewRoot w slots after k
 
 abbrev pub AddingKeepsSound : Type 0
-AddingKeepsSound = (w : Window) (horizon x page : ℕ) (slots : List Slot) (updated : Bool) (row : Row) → SoundPage w horizon slots → IsActive w x → free_number slots ≤ 291
+AddingKeepsSound = (w : Window) (horizon x page : ℕ) (slots : List Slot) (updated : Bool) (row : Row) → SoundPage w horizon slots → IsActive w x → free_number slots ≤ MOST_SLOTS
     → AddsRoot w horizon slots (with_root slots updated x page row) (free_number slots)
 
 -- a version taken away: deleted, or replaced by one elsewhere
@@ -44,7 +45,7 @@ pub record HotUpdatesPage (w : Window) (horizon : ℕ) (slots after : List Slot)
   pub chains : NewIn w slots after n k
 
 abbrev pub HotUpdatingKeepsSound : Type 0
-HotUpdatingKeepsSound = (w : Window) (horizon n x page : ℕ) (slots : List Slot) (row : Row) → SoundPage w horizon slots → IsActive w x → IsDeletable w slots n → free_number slots ≤ 291
+HotUpdatingKeepsSound = (w : Window) (horizon n x page : ℕ) (slots : List Slot) (row : Row) → SoundPage w horizon slots → IsActive w x → IsDeletable w slots n → free_number slots ≤ MOST_SLOTS
     → HotUpdatesPage w horizon slots (with_updated slots n x page row) n (free_number slots)
 
 -- each version taken away raises the change number

@@ -4,6 +4,7 @@ ghost use Rattle.std.specs.Prelude.{◌≡◌, ◌≤◌, None};
 ghost use Rattle.xid_circle.specs.Circle.{IsNormal};
 ghost use Rattle.tuple_header.specs.Faults.{header_fault};
 ghost use Rattle.tuple_writes.specs.Headers.{marked_hot, replaced_header, root_header, heap_only_header};
+ghost use Rattle.tuple_header.specs.declared.version.TheConstants.{MOST_SLOTS};
 
 use tuple_header::Header;
 use xid_circle::{Tid, Xid};
@@ -32,7 +33,7 @@ pub fn replaced(header: &Header, x: Xid, place: Tid, hot: bool) -> Header
     requires faultless { header_fault header.now ≡ None }
     requires normal { IsNormal x.0 }
     requires from { 1 ≤ place.slot }
-    requires to { place.slot ≤ 291 }
+    requires to { place.slot ≤ MOST_SLOTS }
     ensures value { result ≡ replaced_header header.now x.0 place.page place.slot hot }
     ensures faultless { header_fault result ≡ None }
 {
@@ -50,7 +51,7 @@ pub fn replaced(header: &Header, x: Xid, place: Tid, hot: bool) -> Header
 pub fn root(updated: bool, x: Xid, place: Tid) -> Header
     requires normal { IsNormal x.0 }
     requires from { 1 ≤ place.slot }
-    requires to { place.slot ≤ 291 }
+    requires to { place.slot ≤ MOST_SLOTS }
     ensures value { result ≡ root_header updated x.0 place.page place.slot }
     ensures faultless { header_fault result ≡ None }
 {
@@ -70,7 +71,7 @@ pub fn root(updated: bool, x: Xid, place: Tid) -> Header
 pub fn heap_only(x: Xid, place: Tid) -> Header
     requires normal { IsNormal x.0 }
     requires from { 1 ≤ place.slot }
-    requires to { place.slot ≤ 291 }
+    requires to { place.slot ≤ MOST_SLOTS }
     ensures value { result ≡ heap_only_header x.0 place.page place.slot }
     ensures faultless { header_fault result ≡ None }
 {

@@ -8,6 +8,7 @@ ghost use Rattle.page_slots.specs.declared.slot.Slot.{Slot};
 ghost use Rattle.tuple_header.specs.Version.{rounded_size_of};
 ghost use Rattle.tuple_header.specs.Faults.{header_fault};
 ghost use Rattle.tuple_writes.specs.Writes.{with_replaced, replaced_change, with_deleted, with_root, with_updated};
+ghost use Rattle.tuple_header.specs.declared.version.TheConstants.{MOST_SLOTS};
 
 use crate::headers::{heap_only, replaced, root};
 use page_slots::Page;
@@ -38,7 +39,7 @@ fn add_root(page: &mut Page, number_of_page: u32, updated: bool, x: Xid, row: &R
     requires room { rounded_size_of row.now ≤ room_of page.old.slots }
     requires memory { (has_unused page.old.slots ≡ true) ⊎ (0 < page.old.spare) }
     ensures number { result ≡ free_number page.old.slots }
-    ensures limit { result ≤ 291 }
+    ensures limit { result ≤ MOST_SLOTS }
     ensures slots { page.new.slots ≡ with_root page.old.slots updated x.0 number_of_page row.now }
     ensures change { page.new.change ≡ next_change page.old.change }
     ensures flag { page.new.flag ≡ page.old.flag }
@@ -64,7 +65,7 @@ pub fn insert_version(page: &mut Page, number_of_page: u32, x: Xid, row: &Row) -
     requires room { rounded_size_of row.now ≤ room_of page.old.slots }
     requires memory { (has_unused page.old.slots ≡ true) ⊎ (0 < page.old.spare) }
     ensures number { result ≡ free_number page.old.slots }
-    ensures limit { result ≤ 291 }
+    ensures limit { result ≤ MOST_SLOTS }
     ensures slots { page.new.slots ≡ with_root page.old.slots false x.0 number_of_page row.now }
     ensures change { page.new.change ≡ next_change page.old.change }
     ensures flag { page.new.flag ≡ page.old.flag }
@@ -80,7 +81,7 @@ pub fn add_cold_version(page: &mut Page, number_of_page: u32, x: Xid, row: &Row)
     requires room { rounded_size_of row.now ≤ room_of page.old.slots }
     requires memory { (has_unused page.old.slots ≡ true) ⊎ (0 < page.old.spare) }
     ensures number { result ≡ free_number page.old.slots }
-    ensures limit { result ≤ 291 }
+    ensures limit { result ≤ MOST_SLOTS }
     ensures slots { page.new.slots ≡ with_root page.old.slots true x.0 number_of_page row.now }
     ensures change { page.new.change ≡ next_change page.old.change }
     ensures flag { page.new.flag ≡ page.old.flag }
@@ -95,7 +96,7 @@ fn set_xmax(page: &mut Page, slot: u16, x: Xid, place: Tid, hot: bool)
     requires version { IsNormalAt page.old.slots slot }
     requires normal { IsNormal x.0 }
     requires from { 1 ≤ place.slot }
-    requires to { place.slot ≤ 291 }
+    requires to { place.slot ≤ MOST_SLOTS }
     ensures slots { page.new.slots
         ≡ with_replaced page.old.slots slot x.0 place.page place.slot hot }
     ensures change { page.new.change
@@ -134,7 +135,7 @@ pub fn mark_cold_updated(page: &mut Page, slot: u16, x: Xid, place: Tid)
     requires version { IsNormalAt page.old.slots slot }
     requires normal { IsNormal x.0 }
     requires from { 1 ≤ place.slot }
-    requires to { place.slot ≤ 291 }
+    requires to { place.slot ≤ MOST_SLOTS }
     ensures slots { page.new.slots
         ≡ with_replaced page.old.slots slot x.0 place.page place.slot false }
     ensures change { page.new.change
@@ -154,7 +155,7 @@ pub fn hot_update(page: &mut Page, number_of_page: u32, slot: u16, x: Xid, row: 
     requires room { rounded_size_of row.now ≤ room_of page.old.slots }
     requires memory { (has_unused page.old.slots ≡ true) ⊎ (0 < page.old.spare) }
     ensures number { result ≡ free_number page.old.slots }
-    ensures limit { result ≤ 291 }
+    ensures limit { result ≤ MOST_SLOTS }
     ensures slots { page.new.slots ≡ with_updated page.old.slots slot x.0 number_of_page row.now }
     ensures change { page.new.change
         ≡ replaced_change page.old.slots slot x.0 number_of_page (free_number page.old.slots) true
