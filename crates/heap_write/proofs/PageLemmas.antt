@@ -6,6 +6,7 @@ use Rattle.std.proofs.lemmas.List.{get_or_past, get_or-set_same, get_or-set_othe
 use Rattle.std.proofs.Math.Seq.{map-set_same}
 use Rattle.xid_circle.specs.declared.Tid.{Tid}
 use Rattle.page_slots.specs.View.{PageView}
+use Rattle.space_maps.specs.declared.mark.Mark.TheVariants.{Nothing}
 use Rattle.heap_pages.specs.View.{PagesView, with_page}
 use Rattle.page_slots.specs.Slots.{IsNormalAt, row_at, room_of}
 use Rattle.table_indexes.specs.Indexes.{SameEntries}
@@ -62,41 +63,45 @@ room-none pages n none = ap (λ (p : PageView). room_of p.slots) (page-none page
 
 -- Pages that have the same in them.
 
-pub same-pages : (pages : List PageView) → SamePages pages pages
-same-pages pages = record { slots = refl; changes = refl; flags = refl }
+pub same-pages : (pages : PagesView) → SamePages pages pages
+same-pages pages = record { slots = refl; changes = refl; flags = refl; marks = refl }
 
-pub same-set : (pages : List PageView) (n : ℕ) (page : PageView) → SamePage (page_in pages n) page → SamePages pages (set pages n page)
+pub same-set : (pages : PagesView) (n : ℕ) (page : PageView) → SamePage (page_in pages.pages n) page → SamePages pages (with_page pages n page)
 same-set pages n page same = record {
-  slots = map-set_same (λ (p : PageView). p.slots) pages n page unused_page same.slots;
-  changes = map-set_same (λ (p : PageView). p.change) pages n page unused_page same.change;
-  flags = map-set_same (λ (p : PageView). p.flag) pages n page unused_page same.flag;
+  slots = map-set_same (λ (p : PageView). p.slots) pages.pages n page unused_page same.slots;
+  changes = map-set_same (λ (p : PageView). p.change) pages.pages n page unused_page same.change;
+  flags = map-set_same (λ (p : PageView). p.flag) pages.pages n page unused_page same.flag;
+  marks = refl;
 }
 
-pub same-then : (a b c : List PageView) → SamePages a b → SamePages b c → SamePages a c
+pub same-then : (a b c : PagesView) → SamePages a b → SamePages b c → SamePages a c
 same-then a b c first second = record {
   slots = second.slots ∙ first.slots;
   changes = second.changes ∙ first.changes;
   flags = second.flags ∙ first.flags;
+  marks = second.marks ∙ first.marks;
 }
 
-pub keeps : (h h' : HeapView) → SamePages h.pages.pages h'.pages.pages → SameIds h.table h'.table → SameEntries h.indexes h'.indexes → h'.max_pages ≡ h.max_pages → Keeps h h'
+pub keeps : (h h' : HeapView) → SamePages h.pages h'.pages → SameIds h.table h'.table → SameEntries h.indexes h'.indexes → h'.max_pages ≡ h.max_pages → Keeps h h'
 keeps h h' same ids entries max_pages = record {
   slots = same.slots;
   changes = same.changes;
   flags = same.flags;
+  marks = same.marks;
   table = ids;
   entries = entries;
   max_pages = max_pages;
 }
 
 pub keeps-all : (h : HeapView) → Keeps h h
-keeps-all h = keeps h h (same-pages h.pages.pages) (record { first = refl; stop_age = refl; entries = refl }) (λ n. refl) refl
+keeps-all h = keeps h h (same-pages h.pages) (record { first = refl; stop_age = refl; entries = refl }) (λ n. refl) refl
 
 pub keeps-then : (h h1 h2 : HeapView) → Keeps h h1 → Keeps h1 h2 → Keeps h h2
 keeps-then h h1 h2 first second = record {
   slots = second.slots ∙ first.slots;
   changes = second.changes ∙ first.changes;
   flags = second.flags ∙ first.flags;
+  marks = second.marks ∙ first.marks;
   table = record { first = second.table.first ∙ first.table.first; stop_age = second.table.stop_age ∙ first.table.stop_age; entries = second.table.entries ∙ first.table.entries };
   entries = λ n. second.entries n ∙ first.entries n;
   max_pages = second.max_pages ∙ first.max_pages;
@@ -110,13 +115,15 @@ page-set pages n page within = get_or-set_same pages n page unused_page within
 pub page-set_other : (pages : List PageView) (n m : ℕ) (page : PageView) → m ≢ n → page_in (set pages n page) m ≡ page_in pages m
 page-set_other pages n m page other = get_or-set_other pages n m page unused_page other
 
-pub puts-grown : (pages middle pages' : List PageView) (n : ℕ) (grown page : PageView) → n < length pages → middle ≡ set pages n grown → PutsPage middle pages' n page → PutsPage pages pages' n page
-puts-grown pages middle pages' n grown page within is (in_use lt e) = in_use within (e ∙ ap (λ ps. set ps n page) is ∙ set-set pages n grown page)
-puts-grown pages middle pages' n grown page within is (after_all over e) =
-    absurd (let long : length middle ≡ length pages = ap length is ∙ length-set pages n grown in let no : 1 ≤ 0 = omega (arith, within, over, long) in omega (arith, no))
+pub puts-grown : (pages middle pages' : PagesView) (n : ℕ) (grown page : PageView) → n < length pages.pages → middle.pages ≡ set pages.pages n grown → middle.marks ≡ pages.marks
+    → PutsPage middle pages' n page → PutsPage pages pages' n page
+puts-grown pages middle pages' n grown page within is marks (in_use lt e m) =
+    in_use within (e ∙ ap (λ ps. set ps n page) is ∙ set-set pages.pages n grown page) (m ∙ ap (λ ms. set ms n Nothing) marks)
+puts-grown pages middle pages' n grown page within is marks (after_all over e m) =
+    absurd (let long : length middle.pages ≡ length pages.pages = ap length is ∙ length-set pages.pages n grown in let no : 1 ≤ 0 = omega (arith, within, over, long) in omega (arith, no))
 
 -- the same, of a table whose view is known
-pub keeps-viewed : (v h h' : HeapView) → v ≡ h → SamePages v.pages.pages h'.pages.pages → SameIds v.table h'.table → SameEntries v.indexes h'.indexes → h'.max_pages ≡ v.max_pages → Keeps h h'
+pub keeps-viewed : (v h h' : HeapView) → v ≡ h → SamePages v.pages h'.pages → SameIds v.table h'.table → SameEntries v.indexes h'.indexes → h'.max_pages ≡ v.max_pages → Keeps h h'
 keeps-viewed v h h' view_is same ids entries max_pages = subst (λ u. Keeps u h') view_is (keeps v h' same ids entries max_pages)
 
 -- a page in its own place

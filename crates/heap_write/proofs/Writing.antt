@@ -1,5 +1,5 @@
 -- Writes on a table that has grown before, said of the table as it was.
-use Rattle.std.proofs.Common.{◌≡◌, ◌≢◌, ℕ, ◌<◌, ◌≤◌, Bool, true, false, inl, inr, List, [], ◌∷◌, length, set, Some, slice_get, sym, ap, subst, refl, ◌∙◌, arith, length-append}
+use Rattle.std.proofs.Common.{◌≡◌, ◌≢◌, ℕ, ◌<◌, ◌≤◌, Bool, true, false, inl, inr, List, [], ◌∷◌, ◌++◌, length, set, Some, slice_get, sym, ap, subst, refl, ◌∙◌, arith, length-append}
 use Rattle.std.proofs.lemmas.List.{get_or_append_left, length-set}
 use Rattle.std.specs.Prelude.{IfOk, Result, Ok, Err}
 use Rattle.xid_circle.specs.declared.Tid.{Tid}
@@ -10,7 +10,8 @@ use Rattle.page_slots.specs.Slots.{room_of, free_number, next_change, row_at, Is
 use Rattle.snapshot.specs.Own.{Own}
 use Rattle.std.proofs.lemmas.Option.{slice_get_within}
 use Rattle.tuple_writes.specs.Writes.{with_root, with_replaced, with_updated, replaced_change}
-use Rattle.heap_pages.specs.View.{PagesView}
+use Rattle.space_maps.specs.declared.mark.Mark.TheVariants.{Nothing}
+use Rattle.heap_pages.specs.View.{PagesView, with_page}
 use Rattle.heap_pages.specs.declared.pages.Placement.TheVariants as to
 use Rattle.table_indexes.specs.Indexes.{entries_at, SameEntries, Enters}
 use Rattle.table_indexes.proofs.Columns.{entries-then, enters-grown, values-grown}
@@ -39,21 +40,27 @@ both-ok (Err e) f a b = a
 -- a write that puts page n on the second table puts it on the first
 pub record Grown (h h1 : HeapView) (n : ℕ) : Type 0 where
   pub same : SamePage (page_on h n) (page_on h1 n)
-  pub puts : (pages' : List PageView) (page : PageView) → PutsPage h1.pages.pages pages' n page → PutsPage h.pages.pages pages' n page
+  pub puts : (pages' : PagesView) (page : PageView) → PutsPage h1.pages pages' n page → PutsPage h.pages pages' n page
   pub entries : SameEntries h.indexes h1.indexes
 
-pub grown-none : (h h1 : HeapView) (n : ℕ) → h1.pages.pages ≡ h.pages.pages → SameEntries h.indexes h1.indexes → Grown h h1 n
-grown-none h h1 n same entries = record {
+puts-same_pages : (pages pages1 pages' : PagesView) (n : ℕ) (page : PageView) → pages1.pages ≡ pages.pages → pages1.marks ≡ pages.marks → PutsPage pages1 pages' n page → PutsPage pages pages' n page
+puts-same_pages pages pages1 pages' n page same marks (in_use lt is m) =
+    in_use (subst (λ (ps : List PageView). n < length ps) same lt) (is ∙ ap (λ ps. set ps n page) same) (m ∙ ap (λ ms. set ms n Nothing) marks)
+puts-same_pages pages pages1 pages' n page same marks (after_all over is m) =
+    after_all (over ∙ ap (λ (ps : List PageView). length ps) same) (is ∙ ap (λ ps. ps ++ page ∷ []) same) (m ∙ ap (λ ms. ms ++ Nothing ∷ []) marks)
+
+pub grown-none : (h h1 : HeapView) (n : ℕ) → h1.pages.pages ≡ h.pages.pages → h1.pages.marks ≡ h.pages.marks → SameEntries h.indexes h1.indexes → Grown h h1 n
+grown-none h h1 n same marks entries = record {
   same = subst (λ pages. SamePage (page_on h n) (page_in pages n)) (sym same) (record { slots = refl; change = refl; flag = refl });
-  puts = λ pages' page puts. subst (λ pages. PutsPage pages pages' n page) same puts;
+  puts = λ pages' page puts. puts-same_pages h.pages h1.pages pages' n page same marks puts;
   entries = entries;
 }
 
-pub grown-set : (h h1 : HeapView) (n : ℕ) (page : PageView) → n < length h.pages.pages → h1.pages.pages ≡ set h.pages.pages n page → SamePage (page_on h n) page
+pub grown-set : (h h1 : HeapView) (n : ℕ) (page : PageView) → n < length h.pages.pages → h1.pages ≡ with_page h.pages n page → SamePage (page_on h n) page
     → SameEntries h.indexes h1.indexes → Grown h h1 n
 grown-set h h1 n page within is same entries = record {
-  same = subst (λ p. SamePage (page_on h n) p) (sym (ap (λ pages. page_in pages n) is ∙ page-set h.pages.pages n page within)) same;
-  puts = λ pages' new puts. puts-grown h.pages.pages h1.pages.pages pages' n page new within is puts;
+  same = subst (λ p. SamePage (page_on h n) p) (sym (ap (λ (p : PagesView). page_in p.pages n) is ∙ page-set h.pages.pages n page within)) same;
+  puts = λ pages' new puts. puts-grown h.pages h1.pages pages' n page new within (ap (λ (p : PagesView). p.pages) is) (ap (λ (p : PagesView). p.marks) is) puts;
   entries = entries;
 }
 
@@ -62,10 +69,10 @@ root-grown h h1 h' updated x row n grown root =
     let E : ℕ → Type 0 = λ slot. Enters h.indexes h'.indexes row (record { page = n; slot = slot }) in
     record {
       page = root.page;
-      puts = grown.puts h'.pages.pages root.page root.puts;
+      puts = grown.puts h'.pages root.page root.puts;
       slots = root.slots ∙ ap (λ slots. with_root slots updated x n row) grown.same.slots;
       change = root.change ∙ ap next_change grown.same.change;
-      flag = root.flag ∙ grown.same.flag;
+      flag = root.flag;
       within = subst (λ slots. free_number slots ≤ 291) grown.same.slots root.within;
       entries = subst (λ slots. E (free_number slots)) grown.same.slots (enters-grown h.indexes h1.indexes h'.indexes row _ grown.entries root.entries);
     }
@@ -73,12 +80,12 @@ root-grown h h1 h' updated x row n grown root =
 pub here-grown : (h h1 h' : HeapView) (place : Tid) (x : ℕ) (row : Row) → Grown h h1 place.page → HotUpdates h1 h' place x row → HotUpdates h h' place x row
 here-grown h h1 h' place x row grown here = record {
   page = here.page;
-  puts = grown.puts h'.pages.pages here.page here.puts;
+  puts = grown.puts h'.pages here.page here.puts;
   slots = here.slots ∙ ap (λ slots. with_updated slots place.slot x place.page row) grown.same.slots;
   change = here.change
       ∙ ap (λ slots. replaced_change slots place.slot x place.page (free_number slots) true (next_change (page_on h1 place.page).change)) grown.same.slots
       ∙ ap (λ change. replaced_change (page_on h place.page).slots place.slot x place.page (free_number (page_on h place.page).slots) true (next_change change)) grown.same.change;
-  flag = here.flag ∙ grown.same.flag;
+  flag = here.flag;
   within = subst (λ slots. free_number slots ≤ 291) grown.same.slots here.within;
   entries = entries-then h.indexes h1.indexes h'.indexes grown.entries here.entries;
 }
@@ -101,11 +108,11 @@ values-back h h1 place row slots entries keeps old at =
 reserved-grown : (h h1 : HeapView) (size : ℕ) (target : Target) → Reserves h.pages h1.pages h.max_pages size (Some target) → SameEntries h.indexes h1.indexes
     → Grown h h1 (target_number h1.pages.pages target) × GoesTo h size (target_number h1.pages.pages target)
 reserved-grown h h1 size (Page n) (chosen, grows) entries = (
-  grown-set h h1 n grows.page (page-place h.pages.pages h.max_pages size n chosen).0 (ap (λ (p : PagesView). p.pages) grows.pages_are) grows.same entries,
+  grown-set h h1 n grows.page (page-place h.pages.pages h.max_pages size n chosen).0 grows.pages_are grows.same entries,
   record { place = to.Page n; chosen = chosen; number = refl },
 )
-reserved-grown h h1 size (New page) (chosen, same) entries = (
-  grown-none h h1 (length h1.pages.pages) same entries,
+reserved-grown h h1 size (New page) (chosen, (same, marks)) entries = (
+  grown-none h h1 (length h1.pages.pages) same marks entries,
   record { place = to.NewPage; chosen = chosen; number = ap (λ pages. Some (length pages)) (sym same) },
 )
 
@@ -126,13 +133,13 @@ inserts h h1 h' own own' row x target free reserves entries takes root max_pages
 
 -- An update by a root.
 
-pub puts-other : (pages pages' : List PageView) (n m : ℕ) (page : PageView) → m < length pages → m ≢ n → PutsPage pages pages' n page → page_in pages' m ≡ page_in pages m
-puts-other pages pages' n m page within other (in_use lt is) = ap (λ ps. page_in ps m) is ∙ page-set_other pages n m page other
-puts-other pages pages' n m page within other (after_all over is) = ap (λ ps. page_in ps m) is ∙ get_or_append_left pages (page ∷ []) unused_page m within
+pub puts-other : (pages pages' : PagesView) (n m : ℕ) (page : PageView) → m < length pages.pages → m ≢ n → PutsPage pages pages' n page → page_in pages'.pages m ≡ page_in pages.pages m
+puts-other pages pages' n m page within other (in_use lt is marks) = ap (λ ps. page_in ps m) is ∙ page-set_other pages.pages n m page other
+puts-other pages pages' n m page within other (after_all over is marks) = ap (λ ps. page_in ps m) is ∙ get_or_append_left pages.pages (page ∷ []) unused_page m within
 
-puts-same : (pages pages' : List PageView) (n : ℕ) (page : PageView) → n < length pages → PutsPage pages pages' n page → page_in pages' n ≡ page
-puts-same pages pages' n page within (in_use lt is) = ap (λ ps. page_in ps n) is ∙ page-set pages n page within
-puts-same pages pages' n page within (after_all over is) = absurd (let no : 1 ≤ 0 = omega (arith, within, over) in omega (arith, no))
+puts-same : (pages pages' : PagesView) (n : ℕ) (page : PageView) → n < length pages.pages → PutsPage pages pages' n page → page_in pages'.pages n ≡ page
+puts-same pages pages' n page within (in_use lt is marks) = ap (λ ps. page_in ps n) is ∙ page-set pages.pages n page within
+puts-same pages pages' n page within (after_all over is marks) = absurd (let no : 1 ≤ 0 = omega (arith, within, over) in omega (arith, no))
 
 -- a version goes to another page than one that has no room for it
 pub goes-elsewhere : (h : HeapView) (place : Tid) (size : ℕ) (target : Target) → VersionIsThere h place → room_of (page_on h place.page).slots < size
@@ -158,18 +165,18 @@ replaces-elsewhere h h' place x row target there full chosen replaces =
 pub record MarksColdUpdated (before after : PageView) (place successor : Tid) (x : ℕ) : Type 0 where
   pub slots : after.slots ≡ with_replaced before.slots place.slot x successor.page successor.slot false
   pub change : after.change ≡ replaced_change before.slots place.slot x successor.page successor.slot false before.change
-  pub flag : after.flag ≡ before.flag
+  pub flag : after.flag ≡ false
 
 pub moves : (h h1 middle h' : HeapView) (place successor : Tid) (x : ℕ) (row : Row) (target : Target) (before after : PageView)
     → h1.pages ≡ h.pages → h1.indexes ≡ h.indexes → PutsRoot h1 middle true x row successor.page
     → successor.page ≡ target_number h1.pages.pages target → successor.slot ≡ free_number (page_on h1 successor.page).slots
     → slice_get middle.pages.pages place.page ≡ Some before → MarksColdUpdated before after place successor x
-    → h'.pages.pages ≡ set middle.pages.pages place.page after → h'.indexes ≡ middle.indexes → ColdUpdates h h' place x row (target_number h.pages.pages target)
-moves h h1 middle h' place successor x row target before after same_pages same_indexes root page slot at away pages indexes =
+    → h'.pages.pages ≡ set middle.pages.pages place.page after → h'.pages.marks ≡ set middle.pages.marks place.page Nothing → h'.indexes ≡ middle.indexes → ColdUpdates h h' place x row (target_number h.pages.pages target)
+moves h h1 middle h' place successor x row target before after same_pages same_indexes root page slot at away pages marks indexes =
     let same = ap (λ (p : PagesView). p.pages) same_pages in
     let number : successor.page ≡ target_number h.pages.pages target = page ∙ ap (λ ps. target_number ps target) same in
     let free : successor.slot ≡ free_number (page_on h successor.page).slots = slot ∙ ap (λ (p : PagesView). free_number (page_in p.pages successor.page).slots) same_pages in
-    let grown = grown-none h h1 successor.page same (λ n. ap (λ is. entries_at is n) same_indexes) in
+    let grown = grown-none h h1 successor.page same (ap (λ (p : PagesView). p.marks) same_pages) (λ n. ap (λ is. entries_at is n) same_indexes) in
     let is = page-at middle.pages.pages place.page before at in
     let T : PageView → Tid → Type 0 = λ page to. MarksColdUpdated page after place to x in
     let moved : T (page_on middle place.page) (record { page = successor.page; slot = free_number (page_on h successor.page).slots }) =
@@ -179,7 +186,7 @@ moves h h1 middle h' place successor x row target before after same_pages same_i
       root = root-grown h h1 middle true x row successor.page grown root;
       away = record {
         page = after;
-        puts = in_use (slice_get_within middle.pages.pages place.page before at) pages;
+        puts = in_use (slice_get_within middle.pages.pages place.page before at) pages marks;
         slots = moved.slots;
         change = moved.change;
         flag = moved.flag;
@@ -187,9 +194,9 @@ moves h h1 middle h' place successor x row target before after same_pages same_i
       };
     })
 
-pub puts-within : (pages pages' : List PageView) (n m : ℕ) (page : PageView) → m < length pages → PutsPage pages pages' n page → m < length pages'
-puts-within pages pages' n m page within (in_use lt is) = let long = ap length is ∙ length-set pages n page in omega (arith, long, within)
-puts-within pages pages' n m page within (after_all over is) = let long = ap length is ∙ length-append pages (page ∷ []) in omega (arith, long, within)
+pub puts-within : (pages pages' : PagesView) (n m : ℕ) (page : PageView) → m < length pages.pages → PutsPage pages pages' n page → m < length pages'.pages
+puts-within pages pages' n m page within (in_use lt is marks) = let long = ap length is ∙ length-set pages.pages n page in omega (arith, long, within)
+puts-within pages pages' n m page within (after_all over is marks) = let long = ap length is ∙ length-append pages.pages (page ∷ []) in omega (arith, long, within)
 
 -- the old version is still there when the new one has come
 pub stays-there : (h h1 middle : HeapView) (place : Tid) (x : ℕ) (row : Row) (n : ℕ) (before : PageView)
@@ -201,18 +208,18 @@ stays-there h h1 middle place x row n before same_pages there root at =
     elim (cases_eq place.page n) [
       | inl here ↦
           let now : page_on middle place.page ≡ root.page = ap (λ m. page_in middle.pages.pages m) here
-          ∙ puts-same h1.pages.pages middle.pages.pages n root.page (subst (λ m. m < length h1.pages.pages) here within) root.puts in
+          ∙ puts-same h1.pages middle.pages n root.page (subst (λ m. m < length h1.pages.pages) here within) root.puts in
           let added = subst (λ slots. IsNormalAt slots place.slot) (sym root.slots)
           (normal-added (page_on h1 n).slots place.slot _ (subst (λ m. IsNormalAt (page_on h1 m).slots place.slot) here there_1)) in
           subst (λ (p : PageView). IsNormalAt p.slots place.slot) (sym now ∙ is) added
       | inr other ↦
-          let kept = puts-other h1.pages.pages middle.pages.pages n place.page root.page within other root.puts in
+          let kept = puts-other h1.pages middle.pages n place.page root.page within other root.puts in
           subst (λ (p : PageView). IsNormalAt p.slots place.slot) (sym kept ∙ is) there_1
     ]
 
 -- the page has grown in memory alone
 pub grown-page : (h h1 : HeapView) (n : ℕ) → n < length h.pages.pages → GrowsPage h.pages h1.pages n → SameEntries h.indexes h1.indexes → Grown h h1 n
-grown-page h h1 n within grows same = grown-set h h1 n grows.page within (ap (λ (p : PagesView). p.pages) grows.pages_are) grows.same same
+grown-page h h1 n within grows same = grown-set h h1 n grows.page within grows.pages_are grows.same same
 
 -- An update on the page, said of the table before the page grew.
 
@@ -230,16 +237,16 @@ on_page-grown h h1 h' place x row grown (as_root changes replaces) =
 pub replaces-here : (h h' : HeapView) (place : Tid) (x : ℕ) (row : Row) (before after : PageView) → slice_get h.pages.pages place.page ≡ Some before
     → after.slots ≡ with_updated before.slots place.slot x place.page row
     → after.change ≡ replaced_change before.slots place.slot x place.page (free_number before.slots) true (next_change before.change)
-    → after.flag ≡ before.flag → free_number before.slots ≤ 291
-    → h'.pages.pages ≡ set h.pages.pages place.page after → SameEntries h.indexes h'.indexes → HotUpdates h h' place x row
-replaces-here h h' place x row before after at slots change flag within pages entries =
+    → after.flag ≡ false → free_number before.slots ≤ 291
+    → h'.pages.pages ≡ set h.pages.pages place.page after → h'.pages.marks ≡ set h.pages.marks place.page Nothing → SameEntries h.indexes h'.indexes → HotUpdates h h' place x row
+replaces-here h h' place x row before after at slots change flag within pages marks entries =
     let same : before ≡ page_on h place.page = sym (page-at h.pages.pages place.page before at) in
     record {
       page = after;
-      puts = in_use (slice_get_within h.pages.pages place.page before at) pages;
+      puts = in_use (slice_get_within h.pages.pages place.page before at) pages marks;
       slots = subst (λ (p : PageView). after.slots ≡ with_updated p.slots place.slot x place.page row) same slots;
       change = subst (λ (p : PageView). after.change ≡ replaced_change p.slots place.slot x place.page (free_number p.slots) true (next_change p.change)) same change;
-      flag = subst (λ (p : PageView). after.flag ≡ p.flag) same flag;
+      flag = flag;
       within = subst (λ (p : PageView). free_number p.slots ≤ 291) same within;
       entries = entries;
     }
@@ -248,8 +255,8 @@ replaces-here h h' place x row before after at slots change flag within pages en
 
 pub deletes : (h h' : HeapView) (own own' : Own) (place : Tid) (x : ℕ) (before after : PageView) → ¬ NeedsFreeze h.table own → TakesIds h.table h'.table own own' x
     → VersionIsThere h place → slice_get h.pages.pages place.page ≡ Some before → MarksColdUpdated before after place place x
-    → h'.pages.pages ≡ set h.pages.pages place.page after → SameEntries h.indexes h'.indexes → h'.max_pages ≡ h.max_pages → Deletes h h' own own' place x
-deletes h h' own own' place x before after free takes there at away pages entries max_pages =
+    → h'.pages.pages ≡ set h.pages.pages place.page after → h'.pages.marks ≡ set h.pages.marks place.page Nothing → SameEntries h.indexes h'.indexes → h'.max_pages ≡ h.max_pages → Deletes h h' own own' place x
+deletes h h' own own' place x before after free takes there at away pages marks entries max_pages =
     let moved : MarksColdUpdated (page_on h place.page) after place place x = subst (λ page. MarksColdUpdated page after place place x) (sym (page-at h.pages.pages place.page before at)) away in
     record {
       free = free;
@@ -257,7 +264,7 @@ deletes h h' own own' place x before after free takes there at away pages entrie
       there = there;
       away = record {
         page = after;
-        puts = in_use (slice_get_within h.pages.pages place.page before at) pages;
+        puts = in_use (slice_get_within h.pages.pages place.page before at) pages marks;
         slots = moved.slots;
         change = moved.change;
         flag = moved.flag;

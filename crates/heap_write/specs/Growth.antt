@@ -14,6 +14,8 @@ use Rattle.heap_write.specs.declared.target.Target.{Target}
 use Rattle.heap_write.specs.declared.target.Target.TheVariants.{Page, New}
 use Rattle.heap_write.specs.Heap.{unused_page, PutsPage}
 use Rattle.heap_write.specs.Refusals.{NeedsSlot}
+use Rattle.heap_pages.specs.declared.pages.TheConstants.{MAX_PAGES}
+use Rattle.tuple_header.specs.declared.version.TheConstants.{MOST_SLOTS}
 
 -- Ids.
 
@@ -30,7 +32,7 @@ page_in pages n = slice_index_or pages n unused_page
 
 -- a slot is unused, or there is memory for one more, or there may be no more: a page has at most 291
 abbrev pub HasSlot : PageView → Type 0
-HasSlot page = (has_unused page.slots ≡ true) ⊎ (0 < page.spare) ⊎ (291 ≤ length page.slots)
+HasSlot page = (has_unused page.slots ≡ true) ⊎ (0 < page.spare) ⊎ (MOST_SLOTS ≤ length page.slots)
 
 -- the page is as it was, though there may be more memory
 pub record SamePage (page page' : PageView) : Type 0 where
@@ -38,11 +40,12 @@ pub record SamePage (page page' : PageView) : Type 0 where
   pub change : page'.change ≡ page.change
   pub flag : page'.flag ≡ page.flag
 
--- so are all pages
-pub record SamePages (pages pages' : List PageView) : Type 0 where
-  pub slots : map (λ (p : PageView). p.slots) pages' ≡ map (λ (p : PageView). p.slots) pages
-  pub changes : map (λ (p : PageView). p.change) pages' ≡ map (λ (p : PageView). p.change) pages
-  pub flags : map (λ (p : PageView). p.flag) pages' ≡ map (λ (p : PageView). p.flag) pages
+-- so are all pages, and what is noted of them
+pub record SamePages (pages pages' : PagesView) : Type 0 where
+  pub slots : map (λ (p : PageView). p.slots) pages'.pages ≡ map (λ (p : PageView). p.slots) pages.pages
+  pub changes : map (λ (p : PageView). p.change) pages'.pages ≡ map (λ (p : PageView). p.change) pages.pages
+  pub flags : map (λ (p : PageView). p.flag) pages'.pages ≡ map (λ (p : PageView). p.flag) pages.pages
+  pub marks : pages'.marks ≡ pages.marks
 
 -- the page of this number alone may have more memory
 pub record GrowsPage (pages pages' : PagesView) (n : ℕ) : Type 0 where
@@ -67,7 +70,7 @@ target_number pages (New page) = length pages
 -- a version of this size can be put there without memory
 abbrev pub IsReserved : PagesView → ℕ → Target → Type 0
 IsReserved pages size (Page n) = (n < length pages.pages) × (size ≤ room_of (page_in pages.pages n).slots) × HasSlot (page_in pages.pages n)
-IsReserved pages size (New page) = IsFreshPage page × (size ≤ room_of page.slots) × (0 < pages.spare) × (length pages.pages < 65536)
+IsReserved pages size (New page) = IsFreshPage page × (size ≤ room_of page.slots) × (0 < pages.spare) × (length pages.pages < MAX_PAGES)
 
 -- the place that was chosen where a root is to go there, or nowhere
 abbrev pub place_of_target : Option Target → Placement
@@ -79,7 +82,7 @@ place_of_target (Some (New page)) = place.NewPage
 abbrev pub GrowsFor : PagesView → PagesView → Option Target → Type 0
 GrowsFor pages pages' None = pages' ≡ pages
 GrowsFor pages pages' (Some (Page n)) = GrowsPage pages pages' n
-GrowsFor pages pages' (Some (New page)) = pages'.pages ≡ pages.pages
+GrowsFor pages pages' (Some (New page)) = (pages'.pages ≡ pages.pages) × (pages'.marks ≡ pages.marks)
 
 -- the place for a version of this size stands ready, if there is one
 abbrev pub Reserves : PagesView → PagesView → ℕ → ℕ → Option Target → Type 0
@@ -91,10 +94,10 @@ pub data PlaceNeedsMemory (pages : List PageView) (limit size : ℕ) : Type 0 wh
   for_slot : (n : ℕ) → IsPlaceFor pages limit size (place.Page n) → NeedsSlot (page_in pages n) → PlaceNeedsMemory pages limit size
 
 -- x made a version of the row as a root on the page of this number
-pub record PutsVersion (pages pages' : List PageView) (updated : Bool) (x : ℕ) (row : Row) (n : ℕ) : Type 0 where
+pub record PutsVersion (pages pages' : PagesView) (updated : Bool) (x : ℕ) (row : Row) (n : ℕ) : Type 0 where
   pub page : PageView
   pub puts : PutsPage pages pages' n page
-  pub slots : page.slots ≡ with_root (page_in pages n).slots updated x n row
-  pub change : page.change ≡ next_change (page_in pages n).change
-  pub flag : page.flag ≡ (page_in pages n).flag
-  pub within : free_number (page_in pages n).slots ≤ 291
+  pub slots : page.slots ≡ with_root (page_in pages.pages n).slots updated x n row
+  pub change : page.change ≡ next_change (page_in pages.pages n).change
+  pub flag : page.flag ≡ false
+  pub within : free_number (page_in pages.pages n).slots ≤ MOST_SLOTS

@@ -3,6 +3,7 @@ use Rattle.std.specs.Prelude.{◌≡◌, ℕ, ◌<◌, ℤ, pos, false, List, []
 use Rattle.tuple_header.specs.declared.version.Row.{Row}
 use Rattle.page_slots.specs.View.{PageView}
 use Rattle.page_slots.specs.declared.slot.Slot.{Slot}
+use Rattle.space_maps.specs.declared.mark.Mark.TheVariants.{Nothing}
 use Rattle.commit_status.specs.Window.{Window}
 use Rattle.root_index.specs.View.{IndexView}
 use Rattle.heap_pages.specs.View.{PagesView}
@@ -44,11 +45,15 @@ pub record Keeps (h h' : HeapView) : Type 0 where
   pub slots : slots_of h' ≡ slots_of h
   pub changes : map (λ p. p.change) h'.pages.pages ≡ map (λ p. p.change) h.pages.pages
   pub flags : map (λ p. p.flag) h'.pages.pages ≡ map (λ p. p.flag) h.pages.pages
+  pub marks : h'.pages.marks ≡ h.pages.marks
   pub table : SameIds h.table h'.table
   pub entries : SameEntries h.indexes h'.indexes
   pub max_pages : h'.max_pages ≡ h.max_pages
 
--- this becomes the page of the number, in the place of one that is in use or after all others; no other page changes
-pub data PutsPage (pages pages' : List PageView) (n : ℕ) (page : PageView) : Type 0 where
-  in_use : n < length pages → pages' ≡ slice_set pages n page → PutsPage pages pages' n page
-  after_all : n ≡ length pages → pages' ≡ pages ++ page ∷ [] → PutsPage pages pages' n page
+-- this becomes the page of the number, in the place of one that is in use or after all others, and nothing is noted of it any more; no
+-- other page changes, nor what is noted of one (the manual's "Visibility Map")
+pub data PutsPage (pages pages' : PagesView) (n : ℕ) (page : PageView) : Type 0 where
+  in_use : n < length pages.pages → pages'.pages ≡ slice_set pages.pages n page → pages'.marks ≡ slice_set pages.marks n Nothing
+      → PutsPage pages pages' n page
+  after_all : n ≡ length pages.pages → pages'.pages ≡ pages.pages ++ page ∷ [] → pages'.marks ≡ pages.marks ++ Nothing ∷ []
+      → PutsPage pages pages' n page

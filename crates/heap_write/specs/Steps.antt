@@ -10,6 +10,7 @@ use Rattle.heap_write.specs.Heap.{HeapView, page_on}
 use Rattle.heap_write.specs.Growth.{place_of_target}
 use Rattle.heap_write.specs.Writes.{TableIsFull}
 use Rattle.heap_write.specs.Refusals.{VersionIsThere}
+use Rattle.tuple_header.specs.declared.version.TheConstants.{MOST_SLOTS}
 
 -- a new version of this size goes there, or nowhere
 abbrev pub IsChosen : HeapView → ℕ → Option Target → Type 0
@@ -24,5 +25,5 @@ FailsAfterPruning h place size fault.NoMemory = ⊥
 
 -- no version on the page of this number is dead, so that pruning leaves it as it is
 pub record HasNoneDead (h : HeapView) (number horizon : ℕ) : Type 0 where
-  pub few : length (page_on h number).slots ≤ 291
+  pub few : length (page_on h number).slots ≤ MOST_SLOTS
   pub none : ¬ HasDead h.table horizon (page_on h number).slots

@@ -38,7 +38,7 @@ impl HeapState {
             return Err(WriteFault::NoMemory);
         }
         let x = take_ids(&mut self.table, own);
-        self.pages.edit(
+        self.pages.write(
             place.page,
             |page| delete_version(page, place.page, place.slot, x),
         );

@@ -5,6 +5,7 @@ ghost use Rattle.xid_circle.specs.Circle.{IsNormal};
 ghost use Rattle.commit_status.specs.Window.{IsActive, IsWindow};
 ghost use Rattle.commit_status.specs.Changes.{numbers, Finishes};
 ghost use Rattle.table_indexes.specs.Indexes.{index_at, entries_at, new_entries};
+ghost use Rattle.heap_pages.specs.declared.pages.TheConstants.{MAX_PAGES};
 
 use commit_status::{Status, StatusTable};
 use heap_pages::Pages;
@@ -47,12 +48,13 @@ pub struct HeapState {
 impl Model for HeapState {
     ghost use Rattle.std.specs.Prelude.{◌≤◌};
     ghost use Rattle.heap_write.specs.Heap.{HeapView};
+    ghost use Rattle.heap_pages.specs.declared.pages.TheConstants.{MAX_PAGES};
 
     ghost Value = { HeapView };
 
     ghost view = { λ h. record { pages = h.pages; table = h.table; indexes = h.indexes; max_pages = h.max_pages } };
 
-    ghost invariant = { λ h. h.max_pages ≤ 65536 };
+    ghost invariant = { λ h. h.max_pages ≤ MAX_PAGES };
 }
 
 impl HeapState {
@@ -62,8 +64,9 @@ impl HeapState {
     pub fn new(alloc: Global, first: Xid, stop_age: u32, max_pages: u32, indexed: [bool; 4]) -> Self
         requires normal { IsNormal first.0 }
         requires limit { stop_age ≤ 2144483648 }
-        requires few { max_pages ≤ 65536 }
+        requires few { max_pages ≤ MAX_PAGES }
         ensures pages { result.pages.pages ≡ [] }
+        ensures marks { result.pages.marks ≡ [] }
         ensures indexes { (n : ℕ) → entries_at result.indexes n ≡ new_entries indexed n }
         ensures max_pages { result.max_pages ≡ max_pages }
         ensures first { result.table.first ≡ first.0 }

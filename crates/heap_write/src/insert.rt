@@ -10,6 +10,7 @@ ghost use Rattle.heap_write.specs.Heap.{page_on, Keeps};
 ghost use Rattle.heap_write.specs.Writes.{NeedsFreeze, NewestIsGiven, TakesIds, SameOwn, PutsRoot, Inserts};
 ghost use Rattle.heap_write.specs.Refusals.{LacksForInsert, NeedsIds};
 ghost use Rattle.heap_write.specs.Growth.{IsReserved, target_number};
+ghost use Rattle.tuple_header.specs.declared.version.TheConstants.{MOST_SLOTS};
 
 use crate::heap::{HeapState, WriteFault};
 use crate::ids::{needs_freeze, reserve_ids, take_ids};
@@ -79,7 +80,7 @@ impl HeapState {
         ensures root { PutsRoot self.old self.new updated x.0 row.now result.page }
         ensures page { result.page ≡ target_number self.old.pages.pages target }
         ensures slot { result.slot ≡ free_number (page_on self.old result.page).slots }
-        ensures limit { result.slot ≤ 291 }
+        ensures limit { result.slot ≤ MOST_SLOTS }
         ensures table { self.new.table ≡ self.old.table }
         ensures max_pages { self.new.max_pages ≡ self.old.max_pages }
     {

@@ -7,6 +7,7 @@ ghost use Rattle.tuple_writes.specs.Writes.{with_root};
 ghost use Rattle.tuple_header.specs.Version.{rounded_size_of};
 ghost use Rattle.heap_write.specs.Refusals.{NeedsSlot};
 ghost use Rattle.heap_write.specs.Growth.{HasSlot, SamePage, SamePages, GrowsPage, page_in, IsFreshPage, IsReserved, Reserves, PlaceNeedsMemory, target_number, PutsVersion};
+ghost use Rattle.heap_pages.specs.declared.pages.TheConstants.{MAX_PAGES};
 
 use heap_pages::{Pages, Placement};
 use page_slots::Page;
@@ -39,7 +40,7 @@ fn make_slot(page: &mut Page) -> Result<(), AllocError>
 /// Makes room in memory for one more slot on the page of this number, which is in use.
 pub(crate) fn reserve_slot(pages: &mut Pages, number: u32) -> Result<(), AllocError>
     requires { number < length pages.old.pages }
-    ensures same { SamePages pages.old.pages pages.new.pages }
+    ensures same { SamePages pages.old pages.new }
     ensures grows { OnOk result (GrowsPage pages.old pages.new number) }
     ensures needs { OnErr result (NeedsSlot (page_in pages.old.pages number)) }
 {
@@ -66,8 +67,8 @@ pub(crate) fn reserve_place(
     limit: u32,
 ) -> Result<Option<Target>, AllocError>
     requires fits { size ≤ 8164 }
-    requires few { limit ≤ 65536 }
-    ensures same { SamePages pages.old.pages pages.new.pages }
+    requires few { limit ≤ MAX_PAGES }
+    ensures same { SamePages pages.old pages.new }
     ensures reserves { IfOk result (λ found. Reserves pages.old pages.new limit size found) }
     ensures ready { IfOk result
         (λ found. IfSome found (λ target. IsReserved pages.new size target)) }
@@ -95,7 +96,7 @@ fn add_root(page: &mut Page, number: u32, updated: bool, x: Xid, row: &Row) -> u
     requires room { rounded_size_of row.now ≤ room_of page.old.slots }
     requires memory { HasSlot page.old }
     ensures number { result ≡ free_number page.old.slots }
-    ensures limit { result ≤ 291 }
+    ensures limit { result ≤ MOST_SLOTS }
     ensures slots { page.new.slots ≡ with_root page.old.slots updated x.0 number row.now }
     ensures change { page.new.change ≡ next_change page.old.change }
     ensures flag { page.new.flag ≡ page.old.flag }
@@ -119,12 +120,12 @@ pub(crate) fn put_version(
     requires ready { IsReserved pages.old (rounded_size_of row.now) target }
     ensures page { result.page ≡ target_number pages.old.pages target }
     ensures slot { result.slot ≡ free_number (page_in pages.old.pages result.page).slots }
-    ensures limit { result.slot ≤ 291 }
-    ensures puts { PutsVersion pages.old.pages pages.new.pages updated x.0 row.now result.page }
+    ensures limit { result.slot ≤ MOST_SLOTS }
+    ensures puts { PutsVersion pages.old pages.new updated x.0 row.now result.page }
 {
     match target {
         Target::Page(number) => {
-            let slot = pages.edit(number, |page| add_root(page, number, updated, x, row));
+            let slot = pages.write(number, |page| add_root(page, number, updated, x, row));
             Tid { page: number, slot }
         }
         Target::New(mut page) => {

@@ -383,7 +383,7 @@ impl HeapState {
         ensures normal { IsNormal result.0 }
     {
         let x = take_ids(&mut self.table, own);
-        let _slot = self.pages.edit(place.page, |page| {
+        let _slot = self.pages.write(place.page, |page| {
             hot_update(page, place.page, place.slot, x, row)
         });
         x
@@ -406,7 +406,7 @@ impl HeapState {
     {
         let x = take_ids(&mut self.table, own);
         let successor = self.put_root(target, true, x, row);
-        self.pages.edit(
+        self.pages.write(
             place.page,
             |page| mark_cold_updated(page, place.slot, x, successor),
         );

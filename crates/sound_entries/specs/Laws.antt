@@ -22,6 +22,7 @@ use Rattle.index_lookup.specs.Pages.{slots_on, slot_in, version_in, Puts, entry_
 use Rattle.index_lookup.specs.Looking.{FirstFound, FirstPlace, SomeOf}
 use Rattle.sound_entries.specs.Entries.{SoundEntries, EntriesAreSound, StaysSound, KeepsTargets}
 use Rattle.sound_entries.specs.Leading.{IsUndone, HasOneEntry, IsOnHeap, IsByIndex, SomeOnHeap}
+use Rattle.tuple_header.specs.declared.version.TheConstants.{MOST_SLOTS}
 
 -- What is found.
 
@@ -85,7 +86,7 @@ NoEntriesAreSound = (value_of : Row → ℤ) (w : Window) (horizon : ℕ) → En
 -- an id in progress adds a root, with an entry of its own
 abbrev pub AddingKeepsEntries : Type 0
 AddingKeepsEntries = (value_of : Row → ℤ) (w : Window) (horizon x n : ℕ) (pages pages' : List (List Slot)) (entries entries' : List Entry) (updated : Bool) (row : Row)
-    → EntriesAreSound value_of w horizon pages entries → IsActive w x → free_number (slots_on pages n) ≤ 291
+    → EntriesAreSound value_of w horizon pages entries → IsActive w x → free_number (slots_on pages n) ≤ MOST_SLOTS
     → Puts pages pages' n (with_root (slots_on pages n) updated x n row) → AddsEntry entries entries' (entry_for value_of row n (free_number (slots_on pages n)))
     → StaysSound value_of w horizon pages pages' entries entries'
 
@@ -99,7 +100,7 @@ TakingKeepsEntries = (value_of : Row → ℤ) (w : Window) (horizon n k x page p
 -- an id in progress replaces a version by a heap-only one of the same value and key
 abbrev pub UpdatingKeepsEntries : Type 0
 UpdatingKeepsEntries = (value_of : Row → ℤ) (w : Window) (horizon n k x page : ℕ) (pages pages' : List (List Slot)) (entries : List Entry) (row : Row) (old : Version)
-    → EntriesAreSound value_of w horizon pages entries → IsActive w x → IsDeletable w (slots_on pages n) k → free_number (slots_on pages n) ≤ 291
+    → EntriesAreSound value_of w horizon pages entries → IsActive w x → IsDeletable w (slots_on pages n) k → free_number (slots_on pages n) ≤ MOST_SLOTS
     → version_in pages (record { page = n; slot = k }) ≡ Some old → value_of row ≡ value_of old.row → row.key ≡ old.row.key
     → Puts pages pages' n (with_updated (slots_on pages n) k x page row)
     → StaysSound value_of w horizon pages pages' entries entries

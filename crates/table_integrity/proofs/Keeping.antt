@@ -107,7 +107,7 @@ abbrev pub with_table : HeapView → Window → HeapView
 with_table h w = record h { table = w }
 
 as-was : (h : HeapView) (w : Window) (horizon : ℕ) → SameIds h.table w → SoundTable h horizon → StaysSoundTable h (with_table h w) horizon
-as-was h w horizon ids s = kept-stays h (with_table h w) horizon s (record { slots = refl; changes = refl; flags = refl; table = ids; entries = λ n. refl; max_pages = refl })
+as-was h w horizon ids s = kept-stays h (with_table h w) horizon s (record { slots = refl; changes = refl; flags = refl; marks = refl; table = ids; entries = λ n. refl; max_pages = refl })
 
 pub ready-come : (h h' : HeapView) (number horizon size : ℕ) → PrunesIfFull h h' number horizon size → OnlyCome h.indexes h'.indexes
 ready-come h h' number horizon size (PrunesIfFull.has_room room is) = same-come h.indexes h'.indexes (same-indexes h.indexes h'.indexes (ap (λ (g : HeapView). g.indexes) is))

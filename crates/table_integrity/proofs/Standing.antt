@@ -56,10 +56,10 @@ version-on h p = ap (λ slots. version_at slots p.slot) (slots_on-page_on h p.pa
 pub row-there : (h : HeapView) (p : Tid) (t : Version) → version_in (slots_of h) p ≡ Some t → row_at (page_on h p.page).slots p.slot ≡ Some t.row
 row-there h p t at = ap (option_map (λ (v : Version). v.row)) (sym (version-on h p) ∙ at)
 
-pub puts-from : (h h' : HeapView) (n : ℕ) (page : PageView) → PutsPage h.pages.pages h'.pages.pages n page → Puts (slots_of h) (slots_of h') n page.slots
-puts-from h h' n page (PutsPage.in_use within is) =
+pub puts-from : (h h' : HeapView) (n : ℕ) (page : PageView) → PutsPage h.pages h'.pages n page → Puts (slots_of h) (slots_of h') n page.slots
+puts-from h h' n page (PutsPage.in_use within is marks) =
     subst (λ (pages : List PageView). Puts (slots_of h) (map (λ (p : PageView). p.slots) pages) n page.slots) (sym is) (puts-with_page h.pages n page within)
-puts-from h h' n page (PutsPage.after_all end is) =
+puts-from h h' n page (PutsPage.after_all end is marks) =
     subst (λ (pages : List PageView). Puts (slots_of h) (map (λ (p : PageView). p.slots) pages) n page.slots) (sym is)
     (subst (λ k. Puts (slots_of h) (map (λ (p : PageView). p.slots) (h.pages.pages ++ page ∷ [])) k page.slots) (sym end) (puts-pushed h.pages.pages page))
 

@@ -12,8 +12,8 @@ pub returns-clause-same : goal.returns-clause-same
 returns-clause-same c =
     let e = c.edit.ensures.edits in
     let same : SamePage e.0 e.1 = search rules in
-    let pages = c.args.pages.now.pages in
-    subst (λ (p : PagesView). SamePages pages p.pages) (sym e.4) (same-set pages c.args.number e.1 (same-at pages c.args.number e.0 e.1 e.2 same))
+    let pages = c.args.pages.now in
+    subst (λ (p : PagesView). SamePages pages p) (sym e.4) (same-set pages c.args.number e.1 (same-at pages.pages c.args.number e.0 e.1 e.2 same))
 
 pub returns-clause-grows : goal.returns-clause-grows
 returns-clause-grows c =

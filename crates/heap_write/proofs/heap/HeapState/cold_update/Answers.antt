@@ -2,22 +2,23 @@ use Rattle.std.proofs.Common.{rules, ◌≡◌, Some, ◌<◌, length, set, slic
 use Rattle.std.proofs.iter.Serving.{serving}
 use Rattle.page_slots.specs.View.{PageView}
 use Rattle.page_slots.specs.Slots.{IsNormalAt}
+use Rattle.space_maps.specs.declared.mark.Mark.TheVariants.{Nothing}
 use Rattle.heap_pages.specs.View.{PagesView}
 use Rattle.heap_write.specs.Heap.{HeapView}
 use Rattle.heap_write.proofs.PageLemmas.{there-within}
 use Rattle.heap_write.proofs.Writing.{MarksColdUpdated, moves, puts-within, stays-there}
 use Rattle.heap_write.proofs.heap.HeapState.cold_update.Goals as goal
 
-pub edit-requires-clause-within : goal.edit-requires-clause-within
-edit-requires-clause-within c =
+pub write-requires-clause-within : goal.write-requires-clause-within
+write-requires-clause-within c =
     let n = c.args.place.page in
     let root = c.put_root-successor.ensures.root in
     let within = subst (λ (h : HeapView). n < length h.pages.pages) (sym c.self.view_is) (there-within c.args.self.now c.args.place c.requires.there) in
     subst (λ (h : HeapView). n < length h.pages.pages) (sym c.self-2.view_is)
-    (puts-within c.self.inside.pages.pages c.put_root-successor.new.self.pages.pages c.put_root-successor.result.page n root.page within root.puts)
+    (puts-within c.self.inside.pages c.put_root-successor.new.self.pages c.put_root-successor.result.page n root.page within root.puts)
 
-pub edit-requires-clause-ready : goal.edit-requires-clause-ready
-edit-requires-clause-ready c =
+pub write-requires-clause-ready : goal.write-requires-clause-ready
+write-requires-clause-ready c =
     let version : (page : PageView) → slice_get c.self-2.inside.pages.pages c.args.place.page ≡ Some page → IsNormalAt page.slots c.args.place.slot = λ page at.
     stays-there c.args.self.now (record { pages = c.self.inside.pages; table = c.take_ids-x.new.table; indexes = c.self.inside.indexes; max_pages = c.self.inside.max_pages }) c.put_root-successor.new.self
     c.args.place c.take_ids-x.result.0 c.args.row.now c.put_root-successor.result.page page
@@ -30,11 +31,12 @@ returns-clause-replaces c =
     let place = c.args.place in
     let x = c.take_ids-x.result.0 in
     let successor = c.put_root-successor.result in
-    let e = c.edit.ensures.edits in
+    let e = c.write.ensures.writes in
     let away : MarksColdUpdated e.0 e.1 place successor x = search rules in
     moves c.args.self.now (record { pages = c.self.inside.pages; table = c.take_ids-x.new.table; indexes = c.self.inside.indexes; max_pages = c.self.inside.max_pages }) c.put_root-successor.new.self _
     place successor x c.args.row.now c.args.target e.0 e.1
     (ap (λ (h : HeapView). h.pages) c.self.view_is) (ap (λ (h : HeapView). h.indexes) c.self.view_is)
     c.put_root-successor.ensures.root c.put_root-successor.ensures.page c.put_root-successor.ensures.slot
     (sym (ap (λ (h : HeapView). slice_get h.pages.pages place.page) c.self-2.view_is) ∙ e.2) away
-    (ap (λ (p : PagesView). p.pages) e.4 ∙ ap (λ (h : HeapView). set h.pages.pages place.page e.1) c.self-2.view_is) (ap (λ (h : HeapView). h.indexes) c.self-2.view_is)
+    (ap (λ (p : PagesView). p.pages) e.4 ∙ ap (λ (h : HeapView). set h.pages.pages place.page e.1) c.self-2.view_is)
+    (ap (λ (p : PagesView). p.marks) e.4 ∙ ap (λ (h : HeapView). set h.pages.marks place.page Nothing) c.self-2.view_is) (ap (λ (h : HeapView). h.indexes) c.self-2.view_is)

@@ -15,10 +15,10 @@ returns-clause-ok c =
     let own = c.args.own.now in
     let x = c.take_ids-x.result.0 in
     let reserved = c.reserve_ids.ensures in
-    let e = c.edit.ensures.edits in
+    let e = c.write.ensures.writes in
     let away : MarksColdUpdated e.0 e.1 c.args.place c.args.place x = search rules in
     let free = iff_false c.needs_freeze.ensures c.if-needs_freeze.false in
     let takes = takes-grown h.table c.reserve_ids.new.table c.take_ids-x.new.table own c.reserve_ids.new.own c.take_ids-x.new.own x reserved.ids reserved.own reserved.none c.take_ids-x.ensures.takes in
-    let h' : HeapView = record { pages = c.edit.new.self; table = c.take_ids-x.new.table; indexes = c.self.inside.indexes; max_pages = c.self.inside.max_pages } in
+    let h' : HeapView = record { pages = c.write.new.self; table = c.take_ids-x.new.table; indexes = c.self.inside.indexes; max_pages = c.self.inside.max_pages } in
     subst (λ (v : HeapView). VersionIsThere v c.args.place → Deletes v h' own c.take_ids-x.new.own c.args.place x) c.self.view_is
-    (λ there. deletes h h' own c.take_ids-x.new.own c.args.place x e.0 e.1 free takes there e.2 away (ap (λ (p : PagesView). p.pages) e.4) (λ n. refl) refl) (c.is_there.ensures.0 c.if-not-is_there.false)
+    (λ there. deletes h h' own c.take_ids-x.new.own c.args.place x e.0 e.1 free takes there e.2 away (ap (λ (p : PagesView). p.pages) e.4) (ap (λ (p : PagesView). p.marks) e.4) (λ n. refl) refl) (c.is_there.ensures.0 c.if-not-is_there.false)

@@ -1,4 +1,4 @@
-use Rattle.std.proofs.Common.{true, ◌≡◌, ◌≤◌, rules, ap, refl, subst}
+use Rattle.std.proofs.Common.{true, false, ◌≡◌, ◌≤◌, rules, ap, refl, subst}
 use Rattle.page_slots.specs.Slots.{free_number, next_change}
 use Rattle.tuple_writes.specs.Writes.{with_updated, replaced_change}
 use Rattle.heap_pages.specs.View.{PagesView}
@@ -14,11 +14,11 @@ returns-clause-replaces c =
     let place = c.args.place in
     let x = c.take_ids-x.result.0 in
     let row = c.args.row.now in
-    let e = c.edit-slot.ensures.edits in
+    let e = c.write-slot.ensures.writes in
     let slots : e.1.slots ≡ with_updated e.0.slots place.slot x place.page row = search rules in
     let change : e.1.change ≡ replaced_change e.0.slots place.slot x place.page (free_number e.0.slots) true (next_change e.0.change) = search rules in
-    let flag : e.1.flag ≡ e.0.flag = search rules in
+    let flag : e.1.flag ≡ false = search rules in
     let within : free_number e.0.slots ≤ 291 = search rules in
-    let h' : HeapView = record { pages = c.edit-slot.new.self; table = c.take_ids-x.new.table; indexes = c.self.inside.indexes; max_pages = c.self.inside.max_pages } in
+    let h' : HeapView = record { pages = c.write-slot.new.self; table = c.take_ids-x.new.table; indexes = c.self.inside.indexes; max_pages = c.self.inside.max_pages } in
     subst (λ (v : HeapView). HotUpdates v h' place x row) c.self.view_is
-    (replaces-here h h' place x row e.0 e.1 e.2 slots change flag within (ap (λ (p : PagesView). p.pages) e.4) (λ n. refl))
+    (replaces-here h h' place x row e.0 e.1 e.2 slots change flag within (ap (λ (p : PagesView). p.pages) e.4) (ap (λ (p : PagesView). p.marks) e.4) (λ n. refl))

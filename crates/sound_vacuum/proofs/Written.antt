@@ -1,0 +1,160 @@
+-- What is noted of pages, where the steps between those of a vacuum change them.
+use Rattle.std.proofs.Common.{◌≡◌, ℕ, Bool, true, false, List, [], ◌∷◌, ◌++◌, map, length, ◌≤◌, Option, Some, None, refl, sym, ap, ◌∙◌, subst, ⊎_elim}
+use Rattle.std.specs.Prelude.{slice_get, slice_set}
+use Rattle.std.specs.Option.{option_map}
+use Rattle.std.proofs.lemmas.List.{length-set, length-map, set-set}
+use Rattle.std.proofs.lemmas.Option.{slice_get-map, same_Some, none-some}
+use Rattle.xid_circle.specs.declared.Tid.{Tid}
+use Rattle.tuple_header.specs.Version.{rounded_size_of}
+use Rattle.tuple_header.specs.declared.version.Row.{Row}
+use Rattle.page_slots.specs.View.{PageView}
+use Rattle.page_slots.specs.declared.slot.Slot.{Slot}
+use Rattle.commit_status.specs.Window.{Window, IsWindow, IsUpToNext, turns}
+use Rattle.snapshot.specs.Own.{Own}
+use Rattle.space_maps.specs.declared.mark.Mark.{Mark}
+use Rattle.space_maps.specs.declared.mark.Mark.TheVariants.{Nothing}
+use Rattle.space_maps.specs.View.{mark_on, says_visible}
+use Rattle.heap_pages.specs.View.{PagesView}
+use Rattle.freeze.specs.AllVisible.{IsTrueMark}
+use Rattle.freeze.specs.Visiting.{SettlesOn}
+use Rattle.freeze.proofs.Visiting.{true-on}
+use Rattle.heap_write.specs.Heap.{HeapView, Keeps, SameIds, PutsPage}
+use Rattle.heap_write.specs.Writes.{TableIsFull, PutsRoot, SetsXmax, HotUpdates, ColdUpdates, UpdatesOnPage, Replaces, PrunesIfFull}
+use Rattle.heap_write.specs.Refusals.{AfterPruning, FailsUpdate, VersionIsThere}
+use Rattle.heap_write.specs.declared.heap.WriteFault.{WriteFault}
+use Rattle.heap_write.specs.declared.heap.WriteFault.TheVariants as fault
+use Rattle.heap_write.proofs.IdLemmas.{same-status}
+use Rattle.table_integrity.proofs.Standing.{free_place}
+use Rattle.sound_vacuum.specs.Maps.{MapsAreTrue, flagged_as}
+use Rattle.sound_vacuum.specs.Cleaning.{IsNoVisit}
+use Rattle.sound_vacuum.specs.Between.{StepsBetween}
+use Rattle.sound_vacuum.proofs.Cleaned.{pruned-maps}
+use Rattle.sound_vacuum.proofs.LaterMaps.{later-of, added-maps}
+use Rattle.sound_vacuum.proofs.Noted.{noted-true}
+use Rattle.sound_vacuum.proofs.OnePage.{set-here, set-other}
+
+-- More memory alone.
+
+mapped-from : {B : Type 0} (f : PageView → B) (o : Option PageView) (x : B) → option_map f o ≡ Some x → (page : PageView) × (o ≡ Some page) × (f page ≡ x)
+mapped-from f None x is = absurd (none-some x is)
+mapped-from f (Some page) x is = (page, refl, same_Some (f page) x is)
+
+-- a page of the one list is one of the other, with the same slots and flag
+same-page : (pages pages' : List PageView) → map (λ (p : PageView). p.slots) pages' ≡ map (λ (p : PageView). p.slots) pages → map (λ (p : PageView). p.flag) pages' ≡ map (λ (p : PageView). p.flag) pages
+    → (n : ℕ) (q : PageView) → slice_get pages' n ≡ Some q → (page : PageView) × (slice_get pages n ≡ Some page) × (page.slots ≡ q.slots) × (page.flag ≡ q.flag)
+same-page pages pages' slots flags n q at =
+    let slots_of : PageView → List Slot = λ (p : PageView). p.slots in
+    let flag_of : PageView → Bool = λ (p : PageView). p.flag in
+    let by_slots = sym (slice_get-map slots_of pages n) ∙ ap (λ (l : List (List Slot)). slice_get l n) (sym slots) ∙ slice_get-map slots_of pages' n ∙ ap (option_map slots_of) at in
+    let by_flag = sym (slice_get-map flag_of pages n) ∙ ap (λ (l : List Bool). slice_get l n) (sym flags) ∙ slice_get-map flag_of pages' n ∙ ap (option_map flag_of) at in
+    let here = mapped-from slots_of (slice_get pages n) q.slots by_slots in
+    (here.0, here.1, here.2, same_Some here.0.flag q.flag (ap (option_map flag_of) (sym here.1) ∙ by_flag))
+
+ids-on : (w v : Window) (horizon : ℕ) (slots : List Slot) → SameIds w v → SettlesOn w v horizon horizon slots
+ids-on w v horizon slots same = record {
+  committed = λ n t at thawed done. same-status w v t.header.xmin.0 same ∙ done;
+  past = λ x done before. before;
+}
+
+pub ids-true : (w v : Window) (horizon : ℕ) (pages : List PageView) (marks : List Mark) → SameIds w v → MapsAreTrue w horizon pages marks → MapsAreTrue v horizon pages marks
+ids-true w v horizon pages marks same t = record {
+  count = t.count;
+  true_marks = λ n page at. true-on w v horizon horizon page.slots (ids-on w v horizon page.slots same) (mark_on marks n) (t.true_marks n page at);
+  true_flags = t.true_flags;
+}
+
+same-back : (w v : Window) → SameIds w v → SameIds v w
+same-back w v ids = record { first = sym ids.first; stop_age = sym ids.stop_age; entries = sym ids.entries }
+
+-- What is so of the pages of a table and their marks, while nothing becomes of ids.
+
+module _ (w : Window) (horizon : ℕ) where
+  abbrev AreTrue : HeapView → Type 0
+  AreTrue h = MapsAreTrue w horizon h.pages.pages h.pages.marks
+
+  nothing-true : (slots : List Slot) → IsTrueMark w horizon slots Nothing
+  nothing-true slots = record { visible = λ e. absurd (cc e); frozen = λ e. absurd (cc e) }
+
+  puts-true : (p p' : PagesView) (n : ℕ) (page : PageView) → page.flag ≡ false → PutsPage p p' n page → MapsAreTrue w horizon p.pages p.marks → MapsAreTrue w horizon p'.pages p'.marks
+  puts-true p p' n page unflagged (PutsPage.in_use within is marks) t =
+      let q = flagged_as Nothing page in
+      let same : page ≡ q = ap (λ f. record page { flag = f }) unflagged in
+      noted-true w horizon n p.pages (slice_set p.pages n page) p'.pages p.marks p'.marks page Nothing t
+      (record { count = length-set p.pages n page; others = λ m off. set-other p.pages n m page off })
+      (record { at = set-here p.pages n page within; flagged = is ∙ ap (slice_set p.pages n) same ∙ sym (set-set p.pages n page q); marked = marks })
+      (nothing-true page.slots)
+  puts-true p p' n page unflagged (PutsPage.after_all end is marks) t =
+      subst (λ ps. MapsAreTrue w horizon ps p'.marks) (sym is)
+      (subst (λ ms. MapsAreTrue w horizon (p.pages ++ page ∷ []) ms) (sym marks) (added-maps w horizon p.pages p.marks page unflagged t))
+
+  root-true : (h h' : HeapView) (updated : Bool) (x : ℕ) (row : Row) (n : ℕ) → PutsRoot h h' updated x row n → AreTrue h → AreTrue h'
+  root-true h h' updated x row n r t = puts-true h.pages h'.pages n r.page r.flag r.puts t
+
+  away-true : (h h' : HeapView) (place : Tid) (x : ℕ) (successor : Tid) → SetsXmax h h' place x successor → AreTrue h → AreTrue h'
+  away-true h h' place x successor a t = puts-true h.pages h'.pages place.page a.page a.flag a.puts t
+
+  cold-true : (h h' : HeapView) (place : Tid) (x : ℕ) (row : Row) (n : ℕ) → ColdUpdates h h' place x row n → AreTrue h → AreTrue h'
+  cold-true h h' place x row n r t = away-true r.middle h' place x (free_place h n) r.away (root-true h r.middle true x row n r.root t)
+
+  replaces-true : (h h' : HeapView) (place : Tid) (x : ℕ) (row : Row) → Replaces h h' place x row → AreTrue h → AreTrue h'
+  replaces-true h h' place x row (Replaces.on_page room (UpdatesOnPage.heap_only values a)) t = puts-true h.pages h'.pages place.page a.page a.flag a.puts t
+  replaces-true h h' place x row (Replaces.on_page room (UpdatesOnPage.as_root changed r)) t = cold-true h h' place x row place.page r t
+  replaces-true h h' place x row (Replaces.elsewhere room n off goes r) t = cold-true h h' place x row n r t
+
+  kept-true : (h h' : HeapView) → Keeps h h' → AreTrue h → AreTrue h'
+  kept-true h h' k t =
+      let old : (n : ℕ) (q : PageView) → slice_get h'.pages.pages n ≡ Some q → (page : PageView) × (slice_get h.pages.pages n ≡ Some page) × (page.slots ≡ q.slots) × (page.flag ≡ q.flag)
+      = same-page h.pages.pages h'.pages.pages k.slots k.flags in
+      let slots_of : PageView → List Slot = λ (p : PageView). p.slots in
+      let long = sym (length-map h'.pages.pages slots_of) ∙ ap (λ (l : List (List Slot)). length l) k.slots ∙ length-map h.pages.pages slots_of in
+      subst (λ ms. MapsAreTrue w horizon h'.pages.pages ms) (sym k.marks) (record {
+        count = t.count ∙ sym long;
+        true_marks = λ n q at. let o = old n q at in subst (λ slots. IsTrueMark w horizon slots (mark_on h.pages.marks n)) o.2 (t.true_marks n o.0 o.1);
+        true_flags = λ n q at. let o = old n q at in sym o.3 ∙ t.true_flags n o.0 o.1;
+      })
+
+  readied-true : (h h' : HeapView) (number later size : ℕ) → SameIds w h.table → PrunesIfFull h h' number later size → AreTrue h → AreTrue h'
+  readied-true h h' number later size ids (PrunesIfFull.has_room room is) t = subst AreTrue (sym is) t
+  readied-true h h' number later size ids (PrunesIfFull.is_pruned full grown keeps prunes) t =
+      let same : SameIds w grown.table = record {
+        first = keeps.table.first ∙ ids.first;
+        stop_age = keeps.table.stop_age ∙ ids.stop_age;
+        entries = keeps.table.entries ∙ ids.entries;
+      } in
+      let table : h'.table ≡ grown.table = ap (λ (g : HeapView). g.table) prunes.is in
+      let marks : h'.pages.marks ≡ grown.pages.marks = ap (λ (g : HeapView). g.pages.marks) prunes.is in
+      let pruned = pruned-maps grown h' grown.pages.marks number later horizon (ids-true w grown.table horizon grown.pages.pages grown.pages.marks same (kept-true h grown keeps t)) prunes in
+      ids-true grown.table w horizon h'.pages.pages h'.pages.marks (same-back w grown.table same)
+      (subst (λ ms. MapsAreTrue grown.table horizon h'.pages.pages ms) (sym marks) (subst (λ v. MapsAreTrue v horizon h'.pages.pages grown.pages.marks) table pruned))
+
+  after-true : (h h' : HeapView) (own : Own) (place : Tid) (later size : ℕ) (P : HeapView → Type 0) → SameIds w h.table → AfterPruning h h' own place later size P → AreTrue h → AreTrue h'
+  after-true h h' own place later size P ids r t = kept-true r.ready h' r.keeps (readied-true h r.ready place.page later size ids r.readies t)
+
+  failed-true : (h h' : HeapView) (own : Own) (place : Tid) (row : Row) (later : ℕ) (fault : WriteFault) → SameIds w h.table → FailsUpdate h h' own place row later fault → AreTrue h → AreTrue h'
+  failed-true h h' own place row later fault.NeedsFreeze ids f t = kept-true h h' f.2 t
+  failed-true h h' own place row later fault.NoRoom ids f t = after-true h h' own place later (rounded_size_of row) (λ ready. VersionIsThere ready place × TableIsFull ready (rounded_size_of row)) ids f t
+  failed-true h h' own place row later fault.NoMemory ids f t = kept-true h h' f.3 t
+  failed-true h h' own place row later fault.Gone ids f t = ⊎_elim (λ gone. kept-true h h' gone.1 t)
+      (λ went. after-true h h' own place later (rounded_size_of row) (λ ready. ¬ VersionIsThere ready place) ids went t) f
+
+no-more : (w : Window) → SameIds w w
+no-more w = record { first = refl; stop_age = refl; entries = refl }
+
+-- by the ids as they were before the step
+pages-true : (h h' : HeapView) (horizon : ℕ) (step : StepsBetween h h') → IsNoVisit step → MapsAreTrue h.table horizon h.pages.pages h.pages.marks → MapsAreTrue h.table horizon h'.pages.pages h'.pages.marks
+pages-true h h' horizon (StepsBetween.inserts own own' row x writer i) none t = root-true h.table horizon h h' false x row i.number i.root t
+pages-true h h' horizon (StepsBetween.updates own own' place row later x writer u) none t =
+    replaces-true h.table horizon u.ready h' place x row u.replaces (readied-true h.table horizon h u.ready place.page later (rounded_size_of row) (no-more h.table) u.readies t)
+pages-true h h' horizon (StepsBetween.deletes own own' place x writer d) none t = away-true h.table horizon h h' place x place d.away t
+pages-true h h' horizon (StepsBetween.fails_update own place row later fault f) none t = failed-true h.table horizon h h' own place row later fault (no-more h.table) f t
+pages-true h h' horizon (StepsBetween.keeps k) none t = kept-true h.table horizon h h' k t
+pages-true h h' horizon (StepsBetween.finishes ids status f) none t = subst (λ (p : PagesView). MapsAreTrue h.table horizon p.pages p.marks) (sym f.pages) t
+pages-true h h' horizon (StepsBetween.prunes number later p) none t =
+    subst (λ ms. MapsAreTrue h.table horizon h'.pages.pages ms) (sym (ap (λ (g : HeapView). g.pages.marks) p.is))
+    (subst (λ v. MapsAreTrue v horizon h'.pages.pages h.pages.marks) (ap (λ (g : HeapView). g.table) p.is) (pruned-maps h h' h.pages.marks number later horizon t p))
+pages-true h h' horizon (StepsBetween.visits later cutoff p v) none t = absurd none
+
+pub steps-true : (h h' : HeapView) (horizon later : ℕ) (step : StepsBetween h h') → IsNoVisit step → IsWindow h.table → IsWindow h'.table → IsUpToNext h.table horizon → IsUpToNext h'.table later
+    → turns h.table.first horizon ≤ turns h.table.first later → MapsAreTrue h.table horizon h.pages.pages h.pages.marks → MapsAreTrue h'.table later h'.pages.pages h'.pages.marks
+steps-true h h' horizon later step none is is' upto upto' on t =
+    later-of h h' horizon later step is is' upto upto' on h'.pages.pages h'.pages.marks (pages-true h h' horizon step none t)
