@@ -8,3 +8,4 @@ pub mod Writing
 pub mod Updating
 pub mod IdlePages
 pub mod GivenIds
+pub mod Freeing

@@ -3,3 +3,4 @@ pub mod Writes
 pub mod Refusals
 pub mod Growth
 pub mod Steps
+pub mod Cleaning

@@ -5,8 +5,12 @@
 //! `specs/Writes.antt` says what each write does, and `specs/Refusals.antt` why one is refused; what a write does in an index
 //! is said in `table_indexes`. Whatever has to grow is grown before the first change, so that nothing is left half done
 //! (`specs/Growth.antt`). What a step looks for by key is found through the index by key; a cursor goes along any.
+//!
+//! A vacuum prunes, freezes and notes pages, removes entries and makes dead slots unused (`specs/Cleaning.antt`). Whether and when
+//! that is safe is no matter of these calls: `sound_vacuum` says so.
 #![tactic(auto)]
 
+mod cleaning;
 mod delete;
 mod heap;
 mod ids;

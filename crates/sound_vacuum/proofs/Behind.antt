@@ -11,7 +11,7 @@ use Rattle.root_index.specs.declared.progress.Progress.TheVariants.{More, Done}
 use Rattle.root_index.specs.Pieces.{IsUpTo}
 use Rattle.sound_vacuum.specs.Sweeping.{AreDead, IsSweptTo}
 use Rattle.sound_vacuum.specs.Between.{StepsBetween}
-use Rattle.vacuum_passes.specs.Visits.{SweepsAt}
+use Rattle.heap_write.specs.Cleaning.{SweepsAt}
 use Rattle.sound_vacuum.specs.Indexes.{AreSwept, AllAreSwept}
 use Rattle.sound_vacuum.proofs.Swept.{piece-goes_on, unled-stays}
 use Rattle.sound_vacuum.proofs.Collected.{steps-keep}

@@ -40,7 +40,8 @@ use Rattle.table_integrity.proofs.Standing.{slots_on-page_on, version-on, free_p
 use Rattle.table_integrity.proofs.InUse.{used-by, same-in, enters-used, enters-adds, index-sound, table-stays}
 use Rattle.root_index.specs.declared.progress.Progress.{Progress}
 use Rattle.root_index.specs.declared.progress.Progress.TheVariants.{Done}
-use Rattle.vacuum_passes.specs.Visits.{FreesAt, VisitsAt, SweepsAt}
+use Rattle.vacuum_passes.specs.Visits.{VisitsAt}
+use Rattle.heap_write.specs.Cleaning.{FreesAt, SweepsAt}
 use Rattle.sound_vacuum.specs.Freeing.{AreUnled}
 use Rattle.sound_vacuum.specs.Sweeping.{AreDead, IsSweptTo}
 use Rattle.sound_vacuum.specs.Between.{KeepsDeadSlots, StepsBetween}

@@ -30,7 +30,8 @@ use Rattle.vacuum_passes.specs.declared.vacuum.Phase.{Phase}
 use Rattle.vacuum_passes.specs.declared.vacuum.Phase.TheVariants as phase
 use Rattle.root_index.specs.declared.progress.Progress.{Progress}
 use Rattle.vacuum_passes.specs.View.{VacuumView, places, space, collected, counted, new_vacuum, disturbed}
-use Rattle.vacuum_passes.specs.Visits.{IsNextPage, NoPageLeft, Visits, SweepsAt}
+use Rattle.vacuum_passes.specs.Visits.{IsNextPage, NoPageLeft, Visits}
+use Rattle.heap_write.specs.Cleaning.{SweepsAt}
 use Rattle.vacuum_passes.specs.Steps.{Steps, PhaseAfter, Frees, off_page, phase_left}
 use Rattle.vacuum_passes.specs.Keeps.{IsVacuum}
 use Rattle.vacuum_passes.proofs.ListLemmas.{in-filtered, in-filter, in-mapped, in-mapping, in-taken}

@@ -26,7 +26,8 @@ use Rattle.vacuum_passes.specs.declared.vacuum.Mode.{Mode}
 use Rattle.vacuum_passes.specs.declared.vacuum.Mode.TheVariants.{Normal, Aggressive}
 use Rattle.root_index.specs.declared.progress.Progress.{Progress}
 use Rattle.vacuum_passes.specs.View.{VacuumView, skips}
-use Rattle.vacuum_passes.specs.Visits.{Notes, Visits, SweepsAt}
+use Rattle.vacuum_passes.specs.Visits.{Visits}
+use Rattle.heap_write.specs.Cleaning.{Notes, SweepsAt}
 use Rattle.vacuum_passes.specs.Steps.{Frees}
 use Rattle.vacuum_passes.proofs.ListLemmas.{in-filtered, in-mapping}
 use Rattle.sound_vacuum.specs.Maps.{MapsAreTrue}

@@ -17,7 +17,8 @@ use Rattle.table_integrity.specs.Readers.{FindsTheSame}
 use Rattle.snapshot.specs.Snap.{Snap}
 use Rattle.root_index.specs.declared.progress.Progress.{Progress}
 use Rattle.root_index.specs.declared.progress.Progress.TheVariants.{Done}
-use Rattle.vacuum_passes.specs.Visits.{VisitsAt, SweepsAt, FreesAt}
+use Rattle.vacuum_passes.specs.Visits.{VisitsAt}
+use Rattle.heap_write.specs.Cleaning.{SweepsAt, FreesAt}
 use Rattle.sound_vacuum.specs.Freeing.{AreUnled}
 use Rattle.sound_vacuum.specs.Sweeping.{AreDead, IsSweptTo, KeepsDead}
 

@@ -7,7 +7,7 @@ use Rattle.table_indexes.specs.Indexes.{entries_in, IsInUse}
 use Rattle.heap_write.specs.Heap.{HeapView, slots_of}
 use Rattle.sound_vacuum.specs.Sweeping.{AreDead, IsSweptTo}
 use Rattle.root_index.specs.declared.progress.Progress.TheVariants.{More, Done}
-use Rattle.vacuum_passes.specs.Visits.{SweepsAt}
+use Rattle.heap_write.specs.Cleaning.{SweepsAt}
 use Rattle.sound_vacuum.specs.Between.{StepsBetween}
 
 -- the entry stands in an index before this one, or in this one where a piece that begins after `from` has it behind

@@ -1,14 +1,18 @@
 -- A change of all indexes, one after another by their numbers.
-use Rattle.std.proofs.Common.{◌≡◌, ℕ, zero, suc, ◌+◌, ◌<◌, ◌≤◌, true, inl, inr, List, ◌∷◌, length, get_or, set, Option, Some, None, IsSome, ℤ, pos, nat_abs, sym, ap, subst, refl, ◌∙◌, arith}
-use Rattle.std.specs.Prelude.{is_some}
+use Rattle.std.proofs.Common.{◌≡◌, ℕ, zero, suc, ◌+◌, ◌-◌, ◌<◌, ◌≤◌, true, inl, inr, ⊎_elim, Bor, List, [], ◌∷◌, length, get_or, set, Option, Some, None, IsSome, ℤ, pos, nat_abs, sym, ap, subst, refl, ◌∙◌, arith}
+use Rattle.std.specs.Prelude.{is_some, option_copied}
+use Rattle.std.specs.Option.{unwrap_or}
 use Rattle.std.proofs.lemmas.Bool.{cases_lt, cases_eq, true≢false}
 use Rattle.std.proofs.lemmas.List.{get_or_default, get_or_past, get_or-set_same, get_or-set_other, length-set}
 use Rattle.xid_circle.specs.declared.Tid.{Tid}
 use Rattle.tuple_header.specs.declared.version.Row.{Row}
+use Rattle.root_index.specs.declared.entry.Entry.{Entry}
+use Rattle.root_index.specs.declared.progress.Progress.{Progress}
+use Rattle.root_index.specs.Pieces.{RemovesPiece}
 use Rattle.root_index.specs.Sets.{AddsEntry}
 use Rattle.root_index.specs.View.{IndexView, room_in}
 use Rattle.history.specs.Cursors.{value_in}
-use Rattle.table_indexes.specs.Indexes.{index_at, entries_of, entries_at, IsInUse, SameValues, index_entry_of, SameEntries, AddsAny, Enters, HasEntry, HasEntries}
+use Rattle.table_indexes.specs.Indexes.{index_at, entries_of, entries_at, entries_in, IsInUse, SameValues, index_entry_of, SameEntries, AddsAny, Enters, HasEntry, HasEntries}
 
 -- the indexes up to a number were changed so, and the others are as they were
 pub record Changed (P : ℕ → Option IndexView → Option IndexView → Type 0) (before after : List (Option IndexView)) (i : ℕ) : Type 0 where
@@ -152,3 +156,29 @@ same-all indexes cols key old new i view_is size all agree same (suc c) in_use =
 pub same-key : (indexes cols : List (Option IndexView)) (key : IndexView) (old new : Row) → Some key ∷ cols ≡ indexes → SameValues indexes old new → old.key ≡ new.key
 same-key indexes cols key old new view_is same =
     let e : pos new.key ≡ pos old.key = same 0 (subst (λ v. IsInUse v 0) view_is refl) in ap nat_abs (sym e)
+
+-- An index that is found, and one of which a piece is gone through.
+
+pub index-in_use : (indexes : List (Option IndexView)) (n : ℕ) (found : Option (Bor IndexView)) → option_copied found ≡ index_at indexes n → is_some found ≡ true → IsInUse indexes n
+index-in_use indexes n None e some = absurd (true≢false (sym some))
+index-in_use indexes n (Some index) e some = subst (λ o. IsSome (entries_of o)) e (some-entries (Some index.now) refl)
+
+pub few-in_use : (before cols : List (Option IndexView)) (key : Option IndexView) (n : ℕ) → key ∷ cols ≡ before → length cols ≡ 4 → IsInUse before n → n < 5
+few-in_use before cols key n view_is size used = ⊎_elim
+    (λ below. below)
+    (λ past. absurd (not-past (index_at before n) (get_or_past before n None (omega (arith, past, size, ap length view_is))) used))
+    (cases_lt n 5)
+  where
+    not-past : (o : Option IndexView) → o ≡ None → ¬ IsSome (entries_of o)
+    not-past None none some = true≢false (sym some)
+    not-past (Some x) none some = absurd (let e : Some x ≡ None = none in cc)
+
+pub swept-column : (before cols : List (Option IndexView)) (key old new : Option IndexView) (dead : List Tid) (from : Option Entry) (progress : Progress) (n : ℕ) → key ∷ cols ≡ before → 1 ≤ n
+    → n - 1 < length cols → RemovesPiece (unwrap_or (entries_of (get_or cols (n - 1) old)) []) (unwrap_or (entries_of new) []) dead from progress
+    → RemovesPiece (entries_in before n) (entries_in (key ∷ set cols (n - 1) new) n) dead from progress
+swept-column before cols key old new dead from progress n view_is some within removes =
+    let one : suc (n - 1) ≡ n = omega (arith, some) in
+    subst (λ m. RemovesPiece (entries_in before m) (entries_in (key ∷ set cols (n - 1) new) m) dead from progress) one
+    (subst (λ v. RemovesPiece (entries_in v (suc (n - 1))) (entries_in (key ∷ set cols (n - 1) new) (suc (n - 1))) dead from progress) view_is
+    (subst (λ o. RemovesPiece (unwrap_or (entries_of (get_or cols (n - 1) None)) []) (unwrap_or (entries_of o) []) dead from progress) (sym (get_or-set_same cols (n - 1) new None within))
+    (subst (λ o. RemovesPiece (unwrap_or (entries_of o) []) (unwrap_or (entries_of new) []) dead from progress) (get_or_default cols (n - 1) old None within) removes)))

@@ -1,6 +1,6 @@
 -- The indexes of a table by their numbers: index 0 by key, which is always in use, and index c + 1 by column c. (README.HOT:
 -- there is one entry for a chain, in each index; a version that has another value in one of them is a root of its own.)
-use Rattle.std.specs.Prelude.{◌≡◌, ℕ, zero, suc, ◌<◌, Bool, false, if◌then◌else◌, List, [], Option, Some, None, IsSome, ℤ, option_map, unwrap_or, slice_index_or}
+use Rattle.std.specs.Prelude.{◌≡◌, ℕ, zero, suc, ◌+◌, ◌<◌, length, Bool, false, if◌then◌else◌, List, [], Option, Some, None, IsSome, ℤ, option_map, unwrap_or, slice_index_or}
 use Rattle.xid_circle.specs.declared.Tid.{Tid}
 use Rattle.tuple_header.specs.declared.version.Row.{Row}
 use Rattle.root_index.specs.declared.entry.Entry.{Entry}
@@ -31,6 +31,25 @@ IsInUse indexes n = IsSome (entries_at indexes n)
 abbrev pub new_entries : List Bool → ℕ → Option (List Entry)
 new_entries indexed zero = Some []
 new_entries indexed (suc c) = if slice_index_or indexed c false then Some [] else None
+
+-- index 0 is in use, and there are no more than five
+pub record HasIndexes (indexes : List (Option IndexView)) : Type 0 where
+  pub by_key : IsInUse indexes 0
+  pub few : (n : ℕ) → IsInUse indexes n → n < 5
+
+-- the next index in use
+pub record IsNextIndex (indexes : List (Option IndexView)) (i j : ℕ) : Type 0 where
+  pub onward : i < j
+  pub in_use : IsInUse indexes j
+  pub none_between : (n : ℕ) → i < n → n < j → ¬ IsInUse indexes n
+
+-- how many entries so many indexes have, counted from n, and all five that there may be
+abbrev pub entries_from : List (Option IndexView) → ℕ → ℕ → ℕ
+entries_from indexes n zero = 0
+entries_from indexes n (suc count) = length (entries_in indexes n) + entries_from indexes (suc n) count
+
+abbrev pub all_entries : List (Option IndexView) → ℕ
+all_entries indexes = entries_from indexes 0 5
 
 -- What is said of rows.
 

@@ -1,13 +1,15 @@
 //! The indexes of a table: one by key, and one by each column for which it has one.
 
-ghost use Rattle.std.specs.Prelude.{◌≡◌, ℕ, ◌↔◌, ◌<◌, [], Some, None, IsFalse, IsTrue, OnOk, OnErr, if◌then◌else◌, option_copied, FitsSigned};
+ghost use Rattle.std.specs.Prelude.{◌≡◌, ℕ, ◌↔◌, ◌<◌, [], Some, None, IsFalse, IsTrue, OnOk, OnErr, if◌then◌else◌, option_copied, FitsSigned, ◌≢◌, ◌^◌, length, MatchOption, IsSome};
 ghost use Rattle.std.specs.Int.{w128};
+ghost use Rattle.std.specs.Option.{unwrap_or};
+ghost use Rattle.root_index.specs.Pieces.{RemovesPiece};
 ghost use Rattle.root_index.specs.Sets.{AddsEntry};
 ghost use Rattle.root_index.specs.View.{room_in};
 ghost use Rattle.history.specs.Cursors.{value_in};
-ghost use Rattle.table_indexes.specs.Indexes.{index_at, entries_of, entries_at, entries_in, new_entries, without_body, SameValues, SameEntries, AddsAny, Enters, HasEntry, HasEntries, LacksEntry, NeedsEntry};
+ghost use Rattle.table_indexes.specs.Indexes.{IsInUse, HasIndexes, IsNextIndex, all_entries, index_at, entries_of, entries_at, entries_in, new_entries, without_body, SameValues, SameEntries, AddsAny, Enters, HasEntry, HasEntries, LacksEntry, NeedsEntry};
 
-use root_index::{Entry, RootIndex};
+use root_index::{DeadSet, Entry, Progress, RootIndex};
 use std::alloc::{AllocError, Global};
 use std::marker::Model;
 use tuple_header::{Row, RowRef};
@@ -71,6 +73,52 @@ impl Indexes {
         }
     }
 
+    /// That index 0 is in use, and at most five are. It does nothing; its contract is the fact.
+    pub fn are_few(&self)
+        ensures { HasIndexes self.now }
+    {
+        let _columns = &self.by_column;
+    }
+
+    /// The first index in use after that of this number, if there is one.
+    pub fn next_after(&self, number: u8) -> Option<u8>
+        ensures { MatchOption result ((n : ℕ) → number < n → ¬ IsInUse self.now n)
+            (λ next. IsNextIndex self.now number next) }
+    {
+        self.are_few();
+        for next in number.saturating_add(1)..5 {
+            if self.get(next).is_some() {
+                return Some(next);
+            }
+        }
+        None
+    }
+
+    /// How many entries all indexes have.
+    pub fn entries(&self) -> u128
+        ensures { result ≡ all_entries self.now }
+    {
+        let columns = &self.by_column;
+        let by_column = count(&columns[0]) + count(&columns[1]) + count(&columns[2]) + count(&columns[3]);
+        u128::from(self.by_key.len()) + by_column
+    }
+
+    /// Goes through a piece of the index of this number, which is in use: of its entries after `from`, or of all, those go that
+    /// lead to a dead place. It answers where the piece ended, as [`RootIndex::remove_where`] does, and takes no memory.
+    pub fn sweep(&mut self, number: u8, dead: &DeadSet, from: Option<Entry>) -> Progress
+        requires { IsInUse self.old number }
+        ensures removes { RemovesPiece (entries_in self.old number) (entries_in self.new number)
+            dead.now from result }
+        ensures others { (n : ℕ) → n ≢ number → entries_at self.new n ≡ entries_at self.old n }
+        ensures in_use { (n : ℕ) → IsInUse self.old n ↔ IsInUse self.new n }
+    {
+        if number == 0 {
+            self.by_key.remove_where(dead, from)
+        } else {
+            sweep_column(&mut self.by_column[number as usize - 1], dead, from)
+        }
+    }
+
     /// Whether two rows have the same value in each index in use.
     pub fn same_values(&self, old: &RowRef<'_>, new: &Row) -> bool
         ensures { IsTrue result ↔ SameValues self.now old.now new.now }
@@ -120,6 +168,30 @@ impl Indexes {
             let value = value_in(c + 1, key, cols);
             enter_in(&mut self.by_column[c], value, key, place);
         }
+    }
+}
+
+/// How many entries an index has, if it is in use.
+fn count(index: &Option<RootIndex>) -> u128
+    ensures value { result ≡ length (unwrap_or (entries_of index.now) []) }
+    ensures limit { result < 2 ^ 64 }
+{
+    match index {
+        Some(index) => u128::from(index.len()),
+        None => 0,
+    }
+}
+
+/// Goes through a piece of the index by a column, which is in use.
+fn sweep_column(index: &mut Option<RootIndex>, dead: &DeadSet, from: Option<Entry>) -> Progress
+    requires { IsSome (entries_of index.old) }
+    ensures removes { RemovesPiece (unwrap_or (entries_of index.old) [])
+        (unwrap_or (entries_of index.new) []) dead.now from result }
+    ensures in_use { IsSome (entries_of index.new) }
+{
+    match index {
+        Some(index) => index.remove_where(dead, from),
+        None => unreachable!(),
     }
 }
 

@@ -27,7 +27,8 @@ use Rattle.root_index.specs.Pieces.{RemovesPiece}
 use Rattle.vacuum_passes.specs.Visits.{Visits, IsNextPage}
 use Rattle.vacuum_passes.specs.Steps.{Steps, PhaseAfter, Sweeps, Frees, off_page, phase_left}
 use Rattle.vacuum_passes.specs.Keeps.{KeepsStore}
-use Rattle.vacuum_passes.specs.Bound.{count_on, count_from, slots_left, pieces_in, pieces_of, pieces_from, all_pieces, pieces_after, whole_round, round_left, left, KeepsBound, IsWithin, HasIndexes, CanCount, all_entries}
+use Rattle.vacuum_passes.specs.Bound.{count_on, count_from, slots_left, pieces_in, pieces_of, pieces_from, all_pieces, pieces_after, whole_round, round_left, left, KeepsBound, IsWithin, CanCount}
+use Rattle.table_indexes.specs.Indexes.{HasIndexes, all_entries}
 use Rattle.vacuum_passes.proofs.ListLemmas.{pairs-take, in-taken, in-filter, in-mapped, in-mapping}
 use Rattle.vacuum_passes.proofs.OnePage.{SetsPage, visits-set, visits-count, visits-unused, frees-set}
 use Rattle.vacuum_passes.proofs.SlotCounts.{counts-unused, counts-among, counts-live, counts-less, Takes, count-taken, count-less, pages-less, pages-split, pages-most}

@@ -19,7 +19,8 @@ use Rattle.table_indexes.specs.Indexes.{entries_at, entries_in, IsInUse}
 use Rattle.root_index.specs.declared.progress.Progress.{Progress}
 use Rattle.root_index.specs.declared.progress.Progress.TheVariants.{More}
 use Rattle.root_index.specs.Pieces.{RemovesPiece}
-use Rattle.vacuum_passes.specs.Bound.{entries_after, pieces_in, pieces_of, pieces_from, pieces_after, entries_from}
+use Rattle.vacuum_passes.specs.Bound.{entries_after, pieces_in, pieces_of, pieces_from, pieces_after}
+use Rattle.table_indexes.specs.Indexes.{entries_from}
 use Rattle.vacuum_passes.proofs.ListLemmas.{pairs-tail, pairs-head, all-from, in-filtered, in-filter}
 
 -- A list without doubles is no longer than one that has all of it.

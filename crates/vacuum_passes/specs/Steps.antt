@@ -4,7 +4,7 @@ use Rattle.std.specs.List.{filter}
 use Rattle.xid_circle.specs.declared.Tid.{Tid}
 use Rattle.root_index.specs.declared.entry.Entry.{Entry}
 use Rattle.root_index.specs.View.{IndexView}
-use Rattle.table_indexes.specs.Indexes.{IsInUse}
+use Rattle.table_indexes.specs.Indexes.{IsInUse, IsNextIndex}
 use Rattle.heap_write.specs.Heap.{HeapView}
 use Rattle.root_index.specs.declared.progress.Progress.{Progress}
 use Rattle.root_index.specs.declared.progress.Progress.TheVariants.{More, Done}
@@ -13,15 +13,10 @@ use Rattle.vacuum_passes.specs.declared.vacuum.Phase.TheVariants as phase
 use Rattle.vacuum_passes.specs.declared.vacuum.Piece.{Piece}
 use Rattle.vacuum_passes.specs.declared.vacuum.Piece.TheVariants as piece
 use Rattle.vacuum_passes.specs.View.{VacuumView, counted, at_end, with_phase, places}
-use Rattle.vacuum_passes.specs.Visits.{IsNextPage, NoPageLeft, Visits, SweepsAt, FreesAt, Notes}
+use Rattle.vacuum_passes.specs.Visits.{IsNextPage, NoPageLeft, Visits}
+use Rattle.heap_write.specs.Cleaning.{SweepsAt, FreesAt, Notes}
 
 -- Index.
-
--- the next index in use
-pub record IsNextIndex (indexes : List (Option IndexView)) (i j : ℕ) : Type 0 where
-  pub onward : i < j
-  pub in_use : IsInUse indexes j
-  pub none_between : (n : ℕ) → i < n → n < j → ¬ IsInUse indexes n
 
 -- what comes after a piece of index i: another of it, or the first of the next index, or the collected slots become free
 pub data PhaseAfter (indexes : List (Option IndexView)) (i : ℕ) (progress : Progress)

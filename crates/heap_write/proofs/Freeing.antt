@@ -1,0 +1,119 @@
+-- Dead slots of a page become unused, one after another.
+use Rattle.std.proofs.Common.{◌≡◌, ◌≢◌, ◌∙◌, ℕ, zero, suc, ◌+◌, ◌<◌, ◌≤◌, true, false, List, [], ◌∷◌, ◌++◌, length, map, take, get_or, Option, Some, sym, ap, refl, subst, ⊎_elim, arith}
+use Rattle.std.specs.Prelude.{Contains, nat_eq}
+use Rattle.std.specs.List.{AllPairs, list_any}
+use Rattle.std.proofs.lemmas.Bool.{cases_eq, cases_Bool}
+use Rattle.std.proofs.lemmas.List.{length_push, length-take-le, get_or-take, get_or_default}
+use Rattle.std.proofs.lemmas.List.Elements.{Contains-append_left, Contains-push, Contains-push_cases}
+use Rattle.page_slots.specs.declared.slot.Slot.{Slot}
+use Rattle.page_slots.specs.declared.slot.Slot.TheVariants.{Unused, Dead}
+use Rattle.page_slots.specs.Slots.{slot_at, SlotIsThere, with_slot, next_change}
+use Rattle.page_slots.specs.View.{PageView}
+use Rattle.page_slots.proofs.SlotLemmas.{length-with_slot, slot_at-with_slot, slot_at-with_slot_other}
+use Rattle.hot_chain.proofs.Chains.{contains-any, any-contains}
+use Rattle.prune.specs.Actions.{raised}
+use Rattle.heap_write.specs.Cleaning.{FreesSlots}
+
+-- One slot.
+
+only : (n k : ℕ) → Contains (n ∷ []) k → n ≡ k
+only n k (zero, lt, e) = e
+only n k (suc i, lt, e) = absurd (omega (arith, lt))
+
+itself : (n k : ℕ) → n ≡ k → Contains (n ∷ []) k
+itself n k e = (0, omega arith, e)
+
+pub free-one : (slots : List Slot) (n : ℕ) → SlotIsThere slots n → slot_at slots n ≡ Some Dead → FreesSlots slots (with_slot slots n Unused) (n ∷ [])
+free-one slots n there dead = record {
+  count = length-with_slot slots n Unused;
+  freed = λ k c was. subst (λ m. slot_at (with_slot slots n Unused) m ≡ Some Unused) (only n k c) (slot_at-with_slot slots n Unused there);
+  others = λ k spared. ⊎_elim
+      (λ same. absurd (spared (itself n k (sym same)) (ap (slot_at slots) same ∙ dead)))
+      (λ off. slot_at-with_slot_other slots n k Unused there.0 off)
+      (cases_eq k n);
+}
+
+pub free-none : (slots : List Slot) (n : ℕ) → slot_at slots n ≢ Some Dead → FreesSlots slots slots (n ∷ [])
+free-none slots n alive = record {
+  count = refl;
+  freed = λ k c was. absurd (alive (ap (slot_at slots) (only n k c) ∙ was));
+  others = λ k spared. refl;
+}
+
+-- One more.
+
+unused-alive : (o : Option Slot) → o ≡ Some Unused → o ≢ Some Dead
+unused-alive o unused dead = let e : Some Unused ≡ Some Dead = sym unused ∙ dead in cc
+
+module _ (a b c : List Slot) (ns : List ℕ) (n : ℕ) (f : FreesSlots a b ns) (g : FreesSlots b c (n ∷ [])) where
+  -- a slot that was named before
+  before : (k : ℕ) → Contains ns k → slot_at a k ≡ Some Dead → slot_at c k ≡ Some Unused
+  before k mine dead =
+      let unused = f.freed k mine dead in
+      g.others k (λ also. unused-alive (slot_at b k) unused) ∙ unused
+
+  -- this one
+  here : (k : ℕ) → n ≡ k → slot_at a k ≡ Some Dead → slot_at c k ≡ Some Unused
+  here k same dead = ⊎_elim
+      (λ named. before k (any-contains k ns named) dead)
+      (λ off. g.freed k (itself n k same) (f.others k (λ mine. absurd (let e : true ≡ false = sym (contains-any k ns mine) ∙ off in cc)) ∙ dead))
+      (cases_Bool (list_any (nat_eq k) ns))
+
+  spare : (k : ℕ) → (Contains (ns ++ n ∷ []) k → slot_at a k ≢ Some Dead) → slot_at c k ≡ slot_at a k
+  spare k spared =
+      let same : slot_at b k ≡ slot_at a k = f.others k (λ mine. spared (Contains-append_left ns (n ∷ []) k mine)) in
+      g.others k (λ also dead. spared (subst (Contains (ns ++ n ∷ [])) (only n k also) (Contains-push ns n)) (sym same ∙ dead)) ∙ same
+
+  pub frees-more : FreesSlots a c (ns ++ n ∷ [])
+  frees-more = record {
+    count = g.count ∙ f.count;
+    freed = λ k named dead. ⊎_elim (λ mine. before k mine dead) (λ same. here k same dead) (Contains-push_cases ns n k named);
+    others = spare;
+  }
+
+  -- where each is dead, and named once, each raises the change number
+  pub raises-more : (x y z : ℕ) → ¬ Contains ns n → (((k : ℕ) → Contains ns k → slot_at a k ≡ Some Dead) → y ≡ raised (length ns) x) → (slot_at b n ≡ Some Dead → z ≡ next_change y)
+      → ((k : ℕ) → Contains (ns ++ n ∷ []) k → slot_at a k ≡ Some Dead) → z ≡ raised (length (ns ++ n ∷ [])) x
+  raises-more x y z fresh earlier last dead =
+      let was = f.others n (λ mine. absurd (fresh mine)) ∙ dead n (Contains-push ns n) in
+      last was ∙ ap next_change (earlier (λ k mine. dead k (Contains-append_left ns (n ∷ []) k mine))) ∙ raised-more (length ns) x ∙ ap (λ m. raised m x) (long ns n)
+    where
+      raised-more : (k x : ℕ) → next_change (raised k x) ≡ raised (suc k) x
+      raised-more zero x = refl
+      raised-more (suc k) x = raised-more k (next_change x)
+
+      long : (ns : List ℕ) (n : ℕ) → suc (length ns) ≡ length (ns ++ n ∷ [])
+      long ns n = let e = length_push ns n in omega arith
+
+-- a number of an ascending list is not among those before it
+pub ascending-fresh : (xs : List ℕ) (i : ℕ) → AllPairs (λ a b. a < b) xs → i < length xs → ¬ Contains (take i xs) (get_or xs i 0)
+ascending-fresh xs i up within (j, lt, e) =
+    let x = get_or xs i 0 in
+    let long : length (take i xs) ≡ i = length-take-le i xs (omega (arith, within)) in
+    let below : j < i = omega (arith, lt, long) in
+    let less = up j i x below within in
+    let same : get_or xs j x ≡ x = sym (get_or-take i xs j x below) ∙ e in
+    let last : get_or xs i x ≡ x = get_or_default xs i x 0 within in
+    absurd (omega (arith, less, same, last))
+
+-- Some of the slots of these numbers that were dead are unused, and nothing else has changed.
+pub record HasFreed (old page : PageView) (ns : List ℕ) : Type 0 where
+  pub slots : FreesSlots old.slots page.slots ns
+  pub change : ((n : ℕ) → Contains ns n → slot_at old.slots n ≡ Some Dead) → page.change ≡ raised (length ns) old.change
+  pub flag : page.flag ≡ old.flag
+
+pub freed-none : (page : PageView) → HasFreed page page []
+freed-none page = record {
+  slots = record { count = refl; freed = λ k (i, lt, e) dead. absurd (omega (arith, lt)); others = λ k spared. refl };
+  change = λ dead. refl;
+  flag = refl;
+}
+
+pub freed-more : (old page next : PageView) (xs : List ℕ) (i : ℕ) → AllPairs (λ a b. a < b) xs → i < length xs → HasFreed old page (take i xs)
+    → FreesSlots page.slots next.slots (get_or xs i 0 ∷ []) → (slot_at page.slots (get_or xs i 0) ≡ Some Dead → next.change ≡ next_change page.change) → next.flag ≡ page.flag
+    → HasFreed old next (take i xs ++ get_or xs i 0 ∷ [])
+freed-more old page next xs i up within before slots change flag = record {
+  slots = frees-more old.slots page.slots next.slots (take i xs) (get_or xs i 0) before.slots slots;
+  change = raises-more old.slots page.slots next.slots (take i xs) (get_or xs i 0) before.slots slots old.change page.change next.change (ascending-fresh xs i up within) before.change change;
+  flag = flag ∙ before.flag;
+}

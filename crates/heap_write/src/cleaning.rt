@@ -1,0 +1,130 @@
+//! What a vacuum calls, beside pruning. Nothing here takes memory.
+
+ghost use Rattle.std.specs.Prelude.{◌≡◌, ◌<◌, ℕ, [], ◌∷◌, Some, MatchOption, Contains, length, map, slice_get};
+ghost use Rattle.std.specs.List.{AllPairs};
+ghost use Rattle.xid_circle.specs.declared.Tid.{Tid as Place};
+ghost use Rattle.xid_circle.specs.Circle.{IsNormal};
+ghost use Rattle.page_slots.specs.declared.slot.Slot.TheVariants.{Dead};
+ghost use Rattle.page_slots.specs.Slots.{slot_at, next_change};
+ghost use Rattle.commit_status.specs.Window.{IsWindow, IsUpToNext};
+ghost use Rattle.prune.specs.Actions.{raised};
+ghost use Rattle.table_indexes.specs.Indexes.{IsInUse, HasIndexes, IsNextIndex, all_entries};
+ghost use Rattle.heap_write.specs.Cleaning.{FreezesAt, Notes, SweepsAt, FreesSlots, FreesAt, ForgetsBefore};
+
+use crate::heap::HeapState;
+use freeze::{freeze_page, mark_of};
+use page_slots::Page;
+use root_index::{DeadSet, Entry, Progress};
+use space_maps::Mark;
+use xid_circle::{Tid, Xid};
+
+impl HeapState {
+    /// What is noted of the page of this number, if it is in use: whether each of its versions is visible to all, and frozen.
+    pub fn mark(&self, number: u32) -> Option<Mark>
+        ensures { result ≡ slice_get self.now.pages.marks number }
+    {
+        self.pages.mark(number)
+    }
+
+    /// Freezes the page of this number, which is in use, at the cutoff, a normal id, as [`freeze_page`] does. (The manual's
+    /// "Preventing Transaction ID Wraparound Failures".)
+    pub fn freeze(&mut self, number: u32, cutoff: Xid)
+        requires within { number < length self.old.pages.pages }
+        requires normal { IsNormal cutoff.0 }
+        ensures { FreezesAt self.old self.new number cutoff.0 }
+    {
+        let table = &self.table;
+        self.pages.edit(number, |page| freeze_page(page, number, cutoff, table));
+    }
+
+    /// Notes what is so of the page of this number, which is in use, at the horizon, a normal id: in the visibility map, and in
+    /// the page's flag.
+    pub fn note(&mut self, number: u32, horizon: Xid)
+        requires within { number < length self.old.pages.pages }
+        requires normal { IsNormal horizon.0 }
+        ensures { Notes self.old self.new number horizon.0 }
+    {
+        if let Some(page) = self.pages.page(number) {
+            let mark = mark_of(page, horizon, &self.table);
+            self.pages.note(number, mark);
+        }
+    }
+
+    /// Makes those of these slots unused that are dead. They are slots of the page of this number, which is in use, in ascending
+    /// order. No entry is to lead to one: that is asked of the table (`sound_vacuum`), and not here.
+    pub fn free(&mut self, number: u32, places: &[Tid])
+        requires within { number < length self.old.pages.pages }
+        requires ascending { AllPairs (λ a b. a < b) (map (λ (tid : Place). tid.slot) places.now) }
+        ensures { FreesAt self.old self.new number (map (λ (tid : Place). tid.slot) places.now) }
+    {
+        self.pages.edit(number, |page| free_slots(page, places));
+    }
+
+    /// Goes through a piece of the index of this number, which is in use: of its entries after `from`, or of all, those go that
+    /// lead to a dead place. It answers where the piece ended.
+    pub fn sweep(&mut self, number: u8, dead: &DeadSet, from: Option<Entry>) -> Progress
+        requires { IsInUse self.old.indexes number }
+        ensures { SweepsAt self.old self.new number dead.now from result }
+    {
+        self.indexes.sweep(number, dead, from)
+    }
+
+    /// The first index in use after that of this number, if there is one.
+    pub fn next_index(&self, number: u8) -> Option<u8>
+        ensures { MatchOption result ((n : ℕ) → number < n → ¬ IsInUse self.now.indexes n)
+            (λ next. IsNextIndex self.now.indexes number next) }
+    {
+        self.indexes.next_after(number)
+    }
+
+    /// How many entries all indexes have.
+    pub fn entries(&self) -> u128
+        ensures { result ≡ all_entries self.now.indexes }
+    {
+        self.indexes.entries()
+    }
+
+    /// That index 0 is in use, and at most five are. It does nothing; its contract is the fact.
+    pub fn has_indexes(&self)
+        ensures { HasIndexes self.now.indexes }
+    {
+        self.indexes.are_few();
+    }
+
+    /// Forgets the ids before this one, which is remembered or the next.
+    pub fn forget(&mut self, x: Xid)
+        requires { IsUpToNext self.old.table x.0 }
+        ensures forgets { ForgetsBefore self.old self.new x.0 }
+        ensures window { IsWindow self.new.table }
+    {
+        self.table.truncate(x);
+        self.table.is_window();
+    }
+}
+
+/// Makes the slot of this place unused, if it is dead.
+fn free_slot(page: &mut Page, number: u16)
+    ensures slots { FreesSlots page.old.slots page.new.slots (number ∷ []) }
+    ensures change { slot_at page.old.slots number ≡ Some Dead
+        → page.new.change ≡ next_change page.old.change }
+    ensures flag { page.new.flag ≡ page.old.flag }
+{
+    if page.is_dead(number) {
+        page.set_unused(number);
+    }
+}
+
+/// Makes those of these slots unused that are dead.
+fn free_slots(page: &mut Page, places: &[Tid])
+    requires { AllPairs (λ a b. a < b) (map (λ (tid : Place). tid.slot) places.now) }
+    ensures slots { FreesSlots page.old.slots page.new.slots
+        (map (λ (tid : Place). tid.slot) places.now) }
+    ensures change { ((n : ℕ) → Contains (map (λ (tid : Place). tid.slot) places.now) n
+        → slot_at page.old.slots n ≡ Some Dead)
+        → page.new.change ≡ raised (length places.now) page.old.change }
+    ensures flag { page.new.flag ≡ page.old.flag }
+{
+    for place in places {
+        free_slot(page, place.slot);
+    }
+}
