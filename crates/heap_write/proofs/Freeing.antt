@@ -3,8 +3,9 @@ use Rattle.std.proofs.Common.{◌≡◌, ◌≢◌, ◌∙◌, ℕ, zero, suc, �
 use Rattle.std.specs.Prelude.{Contains, nat_eq}
 use Rattle.std.specs.List.{AllPairs, list_any}
 use Rattle.std.proofs.lemmas.Bool.{cases_eq, cases_Bool}
-use Rattle.std.proofs.lemmas.List.{length_push, length-take-le, get_or-take, get_or_default}
+use Rattle.std.proofs.lemmas.List.{length_push, length-map, length-take-le, get_or-take, get_or_default, get_or-map, map_more, take-map, take_all}
 use Rattle.std.proofs.lemmas.List.Elements.{Contains-append_left, Contains-push, Contains-push_cases}
+use Rattle.xid_circle.specs.declared.Tid.{Tid}
 use Rattle.page_slots.specs.declared.slot.Slot.{Slot}
 use Rattle.page_slots.specs.declared.slot.Slot.TheVariants.{Unused, Dead}
 use Rattle.page_slots.specs.Slots.{slot_at, SlotIsThere, with_slot, next_change}
@@ -117,3 +118,27 @@ freed-more old page next xs i up within before slots change flag = record {
   change = raises-more old.slots page.slots next.slots (take i xs) (get_or xs i 0) before.slots slots old.change page.change next.change (ascending-fresh xs i up within) before.change change;
   flag = flag ∙ before.flag;
 }
+
+-- the numbers of the first of these places
+pub freed-next : (old page next : PageView) (places : List Tid) (i : ℕ) (d : Tid) → AllPairs (λ a b. a < b) (map (λ (tid : Tid). tid.slot) places) → i < length places
+    → HasFreed old page (map (λ (tid : Tid). tid.slot) (take i places)) → FreesSlots page.slots next.slots ((get_or places i d).slot ∷ [])
+    → (slot_at page.slots (get_or places i d).slot ≡ Some Dead → next.change ≡ next_change page.change) → next.flag ≡ page.flag
+    → HasFreed old next (map (λ (tid : Tid). tid.slot) (take (i + 1) places))
+freed-next old page next places i d up within before slots change flag =
+    let slot_of : Tid → ℕ = λ (tid : Tid). tid.slot in
+    let xs = map slot_of places in
+    let here : get_or xs i 0 ≡ (get_or places i d).slot = get_or-map slot_of places i d 0 within in
+    let earlier : map slot_of (take i places) ≡ take i xs = sym (take-map slot_of i places) in
+    let long = length-map places slot_of in
+    subst (HasFreed old next) (sym (map_more slot_of places i d within))
+    (subst (λ ns. HasFreed old next (ns ++ (get_or places i d).slot ∷ [])) (sym earlier)
+    (subst (λ n. HasFreed old next (take i xs ++ n ∷ [])) here
+    (freed-more old page next xs i up (omega (arith, within, long)) (subst (HasFreed old page) earlier before)
+    (subst (λ n. FreesSlots page.slots next.slots (n ∷ [])) (sym here) slots)
+    (subst (λ n. slot_at page.slots n ≡ Some Dead → next.change ≡ next_change page.change) (sym here) change)
+    flag)))
+
+-- at the end of the list
+pub freed-all : (old page : PageView) (places : List Tid) (i : ℕ) → length places ≤ i → HasFreed old page (map (λ (tid : Tid). tid.slot) (take i places))
+    → HasFreed old page (map (λ (tid : Tid). tid.slot) places)
+freed-all old page places i past before = subst (λ (ps : List Tid). HasFreed old page (map (λ (tid : Tid). tid.slot) ps)) (take_all i places past) before

@@ -119,7 +119,7 @@ pub unchosen-kept : (pages pages' : PagesView) (limit size m : ℕ) (found : Opt
 unchosen-kept pages pages' limit size m None (chosen, same) full = ap (λ (p : PagesView). page_in p.pages m) same
 unchosen-kept pages pages' limit size m (Some (Page n)) (chosen, grown) full =
     ap (λ (p : PagesView). page_in p.pages m) grown.pages_are ∙ page-set_other pages.pages n m grown.page (not-chosen pages.pages limit size n m chosen full)
-unchosen-kept pages pages' limit size m (Some (New page)) (chosen, same) full = ap (λ ps. page_in ps m) same
+unchosen-kept pages pages' limit size m (Some (New page)) (chosen, (same, marks)) full = ap (λ ps. page_in ps m) same
 
 -- what was chosen before its page grew is chosen after
 pub reserves-chosen : (pages : PagesView) (h : HeapView) (size : ℕ) (found : Option Target) → Reserves pages h.pages h.max_pages size found → IsChosen h size found
@@ -128,7 +128,7 @@ reserves-chosen pages h size (Some (Page n)) (chosen, grown) =
     subst (λ (p : PagesView). IsPlaceFor p.pages h.max_pages size (to.Page n)) (sym grown.pages_are)
     (place-set pages.pages h.max_pages size n grown.page (to.Page n) (page-place pages.pages h.max_pages size n chosen).0
     (alike-same size (page_in pages.pages n) grown.page grown.same.slots) chosen)
-reserves-chosen pages h size (Some (New page)) (chosen, same) = subst (λ ps. IsPlaceFor ps h.max_pages size to.NewPage) (sym same) chosen
+reserves-chosen pages h size (Some (New page)) (chosen, (same, marks)) = subst (λ ps. IsPlaceFor ps h.max_pages size to.NewPage) (sym same) chosen
 
 -- A page without room, and without room after it has changed.
 
