@@ -9,7 +9,7 @@ under #[cfg(test)], comments, and ghost and contract lines. It refuses
   by `?` or by `Err(error) => return Err(error)`;
 - the NoMemory of an enum as an expression, unless it answers a call that failed: in the arm of an `Err(..)`, in a `map_err(..)`,
   in a block behind `is_err()` or behind the `else` of a `let Ok(..)`, in an `impl From<AllocError>`, or as one NoMemory turned
-  into another's. (`no_memory` of crates/script/src/watch.rs makes one for its callers, which call it where a call failed.)
+  into another's. (`no_memory` of crates/script/src/io_log.rt makes one for its callers, which call it where a call failed.)
 
 Run it at the top of the repository, with no words: python3 tools/alloc_errors.py. It prints a line for each place, and ends
 with status 1 where there is one.

@@ -5,9 +5,10 @@ use Rattle.std.specs.List.{AllByRecursion}
 use Rattle.std.proofs.lemmas.Option.{IfSome_then, same_Some}
 use Rattle.std.proofs.lemmas.List.{append-nil}
 use Rattle.std.specs.Io.KnownBytes.{Appends}
-use Rattle.script.specs.Engine.{Settings, AreSettings, EngineView, IsNew, beginning, SettingsFault, FirstFault, MaxPages, StopAge, FreezeMinAge, FirstXid, DeadLimit, NoMemoryForSettings}
-use Rattle.script.specs.Grammar.{IsAllowed, heading, with_feed}
-use Rattle.script.specs.Reading.{settings_at}
+use Rattle.script_text.specs.Names.{Settings, AreSettings}
+use Rattle.script.specs.Engine.{EngineView, IsNew, beginning, SettingsFault, FirstFault, MaxPages, StopAge, FreezeMinAge, FirstXid, DeadLimit, NoMemoryForSettings}
+use Rattle.script_text.specs.Grammar.{IsAllowed, heading, with_feed}
+use Rattle.script_text.specs.Reading.{settings_at}
 use Rattle.script.specs.Pieces.{TakesText, GivesText}
 use Rattle.script.specs.Script.{Event, ScriptOutcome, IsBadHeading, IsScriptRun, EventsLead, WritesBeginning, line_of, answers_of, lines_of}
 use Rattle.script.specs.Refusals.{Refusals, IsRefused}
@@ -18,7 +19,7 @@ use Rattle.script.specs.declared.run.Next.TheVariants.{Line, Bad, End}
 use Rattle.script.specs.declared.fault.ShellFault.{ShellFault}
 use Rattle.script.specs.declared.fault.ShellFault.TheVariants.{BadLine, Input, Output, NoMemory, TooManyLines}
 use Rattle.script.proofs.PiecesLemmas.{Appends-Appends}
-use Rattle.script.proofs.HeadingLaws.{settings_at_says, settings_at-heading, Free-heading}
+use Rattle.script_text.proofs.HeadingLaws.{settings_at_says, settings_at-heading, Free-heading}
 use Rattle.script.proofs.RunLemmas.{Leads-run, Uses-refl, Uses-Takes, Uses-prefix, Uses-known, no_text, text_is, position-split}
 
 first_known : (before now : Option (List ℕ)) (old p : List ℕ) → old ≡ [] → TakesText before now old p → IfSome before (λ input. (rest : List ℕ) × (now ≡ Some rest) × (input ≡ p ++ rest))
@@ -135,12 +136,12 @@ outcome_from before now p text from s w0 w1 w2 r u fits columns q new none h =
     outcome_is s from input (p ++ k.0) w0 w1 w2 r fits columns new q k.2 (rw (k.1, none) at h))
 
 -- a refusal says nothing of the first line
-pub no_heading : (e : ShellFault) (watch : Refusals) (input : Option (List ℕ)) → IsRefused e watch → MatchesHeading e input
-no_heading (BadLine n) watch input f = absurd f
-no_heading Input watch input f = tt
-no_heading Output watch input f = tt
-no_heading NoMemory watch input f = tt
-no_heading TooManyLines watch input f = absurd f
+pub no_heading : (e : ShellFault) (log : Refusals) (input : Option (List ℕ)) → IsRefused e log → MatchesHeading e input
+no_heading (BadLine n) log input f = absurd f
+no_heading Input log input f = tt
+no_heading Output log input f = tt
+no_heading NoMemory log input f = tt
+no_heading TooManyLines log input f = absurd f
 
 -- no line was read, but perhaps a bad first one
 pub outcome_of_none : (e : ShellFault) (input w0 w1 : Option (List ℕ)) → MatchesHeading e input → Appends w0 w1 [] → IfSome input (λ bytes. ScriptOutcome (Err e) bytes w0 w1)

@@ -1,12 +1,3 @@
-pub mod ByteLemmas
-pub mod WideLaws
-pub mod NumberLaws
-pub mod SignedLaws
-pub mod ReadingLemmas
 pub mod PiecesLemmas
-pub mod GrammarLaws
-pub mod HeadingLaws
 pub mod RunLemmas
 pub mod FirstLemmas
-pub mod TellingLemmas
-pub mod EntryLemmas

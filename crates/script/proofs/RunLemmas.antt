@@ -6,16 +6,16 @@ use Rattle.std.proofs.lemmas.List.{append-nil, length-take-le}
 use Rattle.std.proofs.lemmas.Grind.{flat_map-append}
 use Rattle.std.specs.Io.KnownBytes.{Appends}
 use Rattle.script.specs.Engine.{World, EngineView, next, IsRun, Agrees}
-use Rattle.script.specs.Grammar.{IsAllowed, Fits, spelling, with_feed}
+use Rattle.script_text.specs.Grammar.{IsAllowed, Fits, spelling, with_feed}
 use Rattle.script.specs.Pieces.{TakesText, GivesText, HasNoLine}
 use Rattle.script.specs.Script.{Event, did, showed_ids, showed_page, showed_entries, line_of, answer_of, steps_of, replies_of, lines_of, answers_of, Moves, EventsLead, IsBadLine, WritesBeginning}
 use Rattle.script.specs.Refusals.{Refusals, IsRefused, IsCaused}
 use Rattle.script.specs.Steps.{EndsLines, Advance, Uses, DoesLine}
-use Rattle.script.specs.declared.line.Line.{Line}
+use Rattle.script_text.specs.declared.line.Line.{Line}
 use Rattle.script.specs.declared.fault.ShellFault.{ShellFault}
 use Rattle.script.specs.declared.fault.ShellFault.TheVariants.{BadLine, Input, Output, NoMemory, TooManyLines}
-use Rattle.script.proofs.ByteLemmas.{place, Free, place-free, place-append_found, place-append_past, place-split, position_found, position_none}
-use Rattle.script.proofs.GrammarLaws.{Free-spelling}
+use Rattle.script_text.proofs.ByteLemmas.{place, Free, place-free, place-append_found, place-append_past, place-split, position_found, position_none}
+use Rattle.script_text.proofs.GrammarLaws.{Free-spelling}
 use Rattle.std.proofs.lemmas.Option.{IfSome_then}
 use Rattle.std.proofs.Math.Seq.{take-append_seam}
 use Rattle.std.proofs.lemmas.List.{take-append-le}
@@ -163,39 +163,39 @@ bad_from_line p rest n at h =
       bad = λ l more allowed e. h l allowed.fits (text_is p rest n (spelling l) more at (Free-spelling l allowed.fits) e);
     }
 
-ends_fault : (e : ShellFault) (watch : Refusals) → IsRefused e watch → (k : ℕ) (left : List ℕ) (before after : Option (List ℕ)) (text : List ℕ) → WritesBeginning before after text → EndsLines (Err e) k left before after text
-ends_fault (BadLine n) watch f k left before after text b = absurd f
-ends_fault Input watch f k left before after text b = b
-ends_fault Output watch f k left before after text b = b
-ends_fault NoMemory watch f k left before after text b = b
-ends_fault TooManyLines watch f k left before after text b = absurd f
+ends_fault : (e : ShellFault) (log : Refusals) → IsRefused e log → (k : ℕ) (left : List ℕ) (before after : Option (List ℕ)) (text : List ℕ) → WritesBeginning before after text → EndsLines (Err e) k left before after text
+ends_fault (BadLine n) log f k left before after text b = absurd f
+ends_fault Input log f k left before after text b = b
+ends_fault Output log f k left before after text b = b
+ends_fault NoMemory log f k left before after text b = b
+ends_fault TooManyLines log f k left before after text b = absurd f
 
 -- a refusal causes its fault
-pub caused_by : (e : ShellFault) (watch : Refusals) → IsRefused e watch → IsCaused e watch
-caused_by (BadLine n) watch f = absurd f
-caused_by Input watch f = f
-caused_by Output watch f = f
-caused_by NoMemory watch f = f
-caused_by TooManyLines watch f = absurd f
+pub caused_by : (e : ShellFault) (log : Refusals) → IsRefused e log → IsCaused e log
+caused_by (BadLine n) log f = absurd f
+caused_by Input log f = f
+caused_by Output log f = f
+caused_by NoMemory log f = f
+caused_by TooManyLines log f = absurd f
 
-err_caused : (r : Result (Unit {0}) ShellFault) (watch : Refusals) → IsErrAnd r (λ e. IsRefused e watch) → IfErr r (λ e. IsCaused e watch)
-err_caused (Ok u) watch f = absurd f
-err_caused (Err e) watch f = caused_by e watch f
+err_caused : (r : Result (Unit {0}) ShellFault) (log : Refusals) → IsErrAnd r (λ e. IsRefused e log) → IfErr r (λ e. IsCaused e log)
+err_caused (Ok u) log f = absurd f
+err_caused (Err e) log f = caused_by e log f
 
 -- the end is given, or a refusal of the last write
-pub closed_caused : {A B : Type 0} (r end : Result (Unit {0}) ShellFault) (watch : Refusals) → ((r ≡ end) × A) ⊎ (IsErrAnd r (λ e. IsRefused e watch) × B) → IfErr end (λ e. IsCaused e watch) → IfErr r (λ e. IsCaused e watch)
-closed_caused r end watch c caused = elim c [
+pub closed_caused : {A B : Type 0} (r end : Result (Unit {0}) ShellFault) (log : Refusals) → ((r ≡ end) × A) ⊎ (IsErrAnd r (λ e. IsRefused e log) × B) → IfErr end (λ e. IsCaused e log) → IfErr r (λ e. IsCaused e log)
+closed_caused r end log c caused = elim c [
   | inl h ↦ rw h.0 caused
-  | inr h ↦ err_caused r watch h.0
+  | inr h ↦ err_caused r log h.0
 ]
 
 -- that a growth was refused is noted
-pub refused_growth : (e : ShellFault) (watch : Refusals) → e ≡ NoMemory → watch.memory ≡ true → IsRefused e watch
-refused_growth e watch is noted = rw is noted
+pub refused_growth : (e : ShellFault) (log : Refusals) → e ≡ NoMemory → log.memory ≡ true → IsRefused e log
+refused_growth e log is noted = rw is noted
 
-pub adv_fault : (from state : EngineView) (before now : Option (List ℕ)) (old new : List ℕ) (w0 w1 w2 : Option (List ℕ)) (text left : List ℕ) (number : ℕ) (e : ShellFault) (watch : Refusals)
-    → Progress from state before now old new w0 w1 text left number → IsRefused e watch → WritesBeginning w1 w2 left → IfSome before (λ bytes. Advance from (old ++ bytes) w0 w2 text (Err e))
-adv_fault from state before now old new w0 w1 w2 text left number e watch h f b =
+pub adv_fault : (from state : EngineView) (before now : Option (List ℕ)) (old new : List ℕ) (w0 w1 w2 : Option (List ℕ)) (text left : List ℕ) (number : ℕ) (e : ShellFault) (log : Refusals)
+    → Progress from state before now old new w0 w1 text left number → IsRefused e log → WritesBeginning w1 w2 left → IfSome before (λ bytes. Advance from (old ++ bytes) w0 w2 text (Err e))
+adv_fault from state before now old new w0 w1 w2 text left number e log h f b =
     IfSome_then before (Uses-known before now old (lines_of h.events) new h.uses) (λ input k. record {
       events = h.events;
       allowed = h.allowed;
@@ -203,7 +203,7 @@ adv_fault from state before now old new w0 w1 w2 text left number e watch h f b 
       leads = h.leads;
       left = new ++ k.0;
       lines = k.2;
-      ends = ends_fault e watch f (length h.events) (new ++ k.0) w0 w2 (text ++ answers_of h.events) (b.0, Gives-Gives w0 w1 w2 (text ++ answers_of h.events) left b.0 h.gives b.1);
+      ends = ends_fault e log f (length h.events) (new ++ k.0) w0 w2 (text ++ answers_of h.events) (b.0, Gives-Gives w0 w1 w2 (text ++ answers_of h.events) left b.0 h.gives b.1);
     })
 
 -- the numbers of lines ran out
@@ -223,17 +223,17 @@ adv_over from state before now old new w0 w1 text left number h last =
 Gives-rest : (a b c : Option (List ℕ)) (text left : List ℕ) → GivesText a b text left → Appends b c left → Appends a c text
 Gives-rest a b c text left h k = rw h.2 (Appends-Appends a b c h.0 left h.1 k)
 
-closed_fault : (from state : EngineView) (before now : Option (List ℕ)) (old new : List ℕ) (w0 w1 w2 : Option (List ℕ)) (text left : List ℕ) (number : ℕ) (r : Result (Unit {0}) ShellFault) (watch : Refusals)
-    → Progress from state before now old new w0 w1 text left number → IsErrAnd r (λ e. IsRefused e watch) → WritesBeginning w1 w2 left → IfSome before (λ bytes. Advance from (old ++ bytes) w0 w2 text r)
-closed_fault from state before now old new w0 w1 w2 text left number (Ok u) watch h f b = absurd f
-closed_fault from state before now old new w0 w1 w2 text left number (Err e) watch h f b = adv_fault from state before now old new w0 w1 w2 text left number e watch h f b
+closed_fault : (from state : EngineView) (before now : Option (List ℕ)) (old new : List ℕ) (w0 w1 w2 : Option (List ℕ)) (text left : List ℕ) (number : ℕ) (r : Result (Unit {0}) ShellFault) (log : Refusals)
+    → Progress from state before now old new w0 w1 text left number → IsErrAnd r (λ e. IsRefused e log) → WritesBeginning w1 w2 left → IfSome before (λ bytes. Advance from (old ++ bytes) w0 w2 text r)
+closed_fault from state before now old new w0 w1 w2 text left number (Ok u) log h f b = absurd f
+closed_fault from state before now old new w0 w1 w2 text left number (Err e) log h f b = adv_fault from state before now old new w0 w1 w2 text left number e log h f b
 
-pub adv_close : (from state : EngineView) (before now : Option (List ℕ)) (old new : List ℕ) (w0 w1 w2 : Option (List ℕ)) (text left : List ℕ) (number : ℕ) (end r : Result (Unit {0}) ShellFault) (watch : Refusals)
+pub adv_close : (from state : EngineView) (before now : Option (List ℕ)) (old new : List ℕ) (w0 w1 w2 : Option (List ℕ)) (text left : List ℕ) (number : ℕ) (end r : Result (Unit {0}) ShellFault) (log : Refusals)
     → (h : Progress from state before now old new w0 w1 text left number)
-    → ((r ≡ end) × Appends w1 w2 left) ⊎ (IsErrAnd r (λ e. IsRefused e watch) × WritesBeginning w1 w2 left)
+    → ((r ≡ end) × Appends w1 w2 left) ⊎ (IsErrAnd r (λ e. IsRefused e log) × WritesBeginning w1 w2 left)
     → ((rest : List ℕ) (T : List ℕ) → now ≡ Some rest → Appends w0 w2 T → EndsLines end (length h.events) (new ++ rest) w0 w2 T)
     → IfSome before (λ bytes. Advance from (old ++ bytes) w0 w2 text r)
-adv_close from state before now old new w0 w1 w2 text left number end r watch h c ends = elim c [
+adv_close from state before now old new w0 w1 w2 text left number end r log h c ends = elim c [
   | inl whole ↦ rw whole.0 (IfSome_then before (Uses-known before now old (lines_of h.events) new h.uses) (λ input k. record {
     events = h.events;
     allowed = h.allowed;
@@ -243,5 +243,5 @@ adv_close from state before now old new w0 w1 w2 text left number end r watch h 
     lines = k.2;
     ends = ends k.0 (text ++ answers_of h.events) k.1 (Gives-rest w0 w1 w2 (text ++ answers_of h.events) left h.gives whole.1);
   }))
-  | inr fault ↦ closed_fault from state before now old new w0 w1 w2 text left number r watch h fault.0 fault.1
+  | inr fault ↦ closed_fault from state before now old new w0 w1 w2 text left number r log h fault.0 fault.1
 ]

@@ -1,11 +1,7 @@
 pub mod Engine
-pub mod Grammar
-pub mod Answers
 pub mod Status
 pub mod Refusals
-pub mod Script
-pub mod Verbs
-pub mod Reading
 pub mod Pieces
+pub mod Script
 pub mod Next
 pub mod Steps

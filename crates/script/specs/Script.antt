@@ -3,12 +3,13 @@ use Rattle.std.specs.Prelude.{◌≡◌, ℕ, ◌+◌, ◌<◌, ◌≤◌, ◌�
 use Rattle.std.specs.Option.{option_map}
 use Rattle.std.specs.List.{flat_map, AllByRecursion}
 use Rattle.std.specs.Io.KnownBytes.{Appends}
-use Rattle.script.specs.Engine.{Settings, AreSettings, EngineView, Step, Reply, Entry, IsNew, Follows, Exact, beginning, engine_index, next_id, IsRun}
+use Rattle.script_text.specs.Names.{Settings, AreSettings, Step, Reply, Entry}
+use Rattle.script.specs.Engine.{EngineView, IsNew, Follows, Exact, beginning, engine_index, next_id, IsRun}
 use Rattle.script.specs.Pieces.{GivesText}
-use Rattle.script.specs.Grammar.{heading, spelling, with_feed, IsAllowed}
-use Rattle.script.specs.Answers.{reply_text, ids_text, Shown, shown_text, index_text}
-use Rattle.script.specs.declared.line.Line.{Line}
-use Rattle.script.specs.declared.line.Line.TheVariants.{Do, Ids, Page, Entries}
+use Rattle.script_text.specs.Grammar.{heading, spelling, with_feed, IsAllowed}
+use Rattle.script_text.specs.Answers.{reply_text, ids_text, Shown, shown_text, index_text}
+use Rattle.script_text.specs.declared.line.Line.{Line}
+use Rattle.script_text.specs.declared.line.Line.TheVariants.{Do, Ids, Page, Entries}
 use Rattle.script.specs.declared.fault.ShellFault.{ShellFault}
 use Rattle.script.specs.declared.fault.ShellFault.TheVariants.{BadLine, TooManyLines}
 

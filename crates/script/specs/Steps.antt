@@ -3,7 +3,7 @@ use Rattle.std.specs.Prelude.{◌≡◌, ℕ, ◌+◌, List, [], ◌++◌, lengt
 use Rattle.std.specs.List.{AllByRecursion}
 use Rattle.std.specs.Io.KnownBytes.{Appends, Consumes}
 use Rattle.script.specs.Engine.{EngineView}
-use Rattle.script.specs.Grammar.{IsAllowed, Fits, spelling, with_feed}
+use Rattle.script_text.specs.Grammar.{IsAllowed, Fits, spelling, with_feed}
 use Rattle.script.specs.Script.{Event, line_of, answer_of, lines_of, answers_of, Moves, EventsLead, IsBadLine, IsBadHeading, WritesBeginning}
 use Rattle.script.specs.declared.fault.ShellFault.{ShellFault}
 use Rattle.script.specs.declared.fault.ShellFault.TheVariants.{BadLine, TooManyLines}

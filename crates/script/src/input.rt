@@ -6,8 +6,8 @@ ghost use Rattle.script.specs.Pieces.{TakesText};
 ghost use Rattle.script.specs.Refusals.{IsRefused};
 
 use crate::fault::ShellFault;
-use crate::growth::{Refused, buffer};
-use crate::watch::{IoLog, is_interruption};
+use crate::io_log::{IoLog, is_interruption};
+use script_text::{RefusedGrowth, buffer};
 use std::alloc::Global;
 use std::io::Read;
 use std::marker::Model;
@@ -35,7 +35,7 @@ impl Model for Pending {
 
 // Reads once, and again as long as the read is interrupted.
 fn read_some<R: Read, W>(
-    watch: &mut IoLog<R, W>,
+    log: &mut IoLog<R, W>,
     reader: &mut R,
     buf: &mut [u8],
 ) -> Result<usize, ShellFault>
@@ -44,10 +44,10 @@ fn read_some<R: Read, W>(
         (λ n. Consumes (R.remaining reader.old) (R.remaining reader.new) (take n buf.new)) }
     ensures end { IfOk result (λ n. n ≡ 0 → 0 < length buf.new → IsAtEnd (R.remaining reader.new)) }
     ensures err { OnErr result (Keeps (R.remaining reader.old) (R.remaining reader.new)) }
-    ensures fault { IfErr result (λ e. IsRefused e watch.new) }
+    ensures fault { IfErr result (λ e. IsRefused e log.new) }
 {
-    while watch.may_try() {
-        match watch.read(reader, buf) {
+    while log.may_try() {
+        match log.read(reader, buf) {
             Ok(n) => return Ok(n),
             Err(e) => {
                 if !is_interruption(&e) {
@@ -61,7 +61,7 @@ fn read_some<R: Read, W>(
 
 impl Pending {
     // Nothing was read yet.
-    pub(crate) fn new(alloc: Global) -> Result<Pending, Refused>
+    pub(crate) fn new(alloc: Global) -> Result<Pending, RefusedGrowth>
         ensures { IfOk result (λ p. p ≡ []) }
     {
         Ok(Pending {
@@ -102,7 +102,7 @@ impl Pending {
     // Reads more, and puts it behind what is there. 0 bytes come only at the end.
     pub(crate) fn refill<R: Read, W>(
         &mut self,
-        watch: &mut IoLog<R, W>,
+        log: &mut IoLog<R, W>,
         reader: &mut R,
     ) -> Result<usize, ShellFault>
         requires { length self.old ≤ 4096 }
@@ -110,16 +110,10 @@ impl Pending {
             (R.remaining reader.new) self.old self.new }
         ensures grows { IfOk result (λ n. length self.new ≡ length self.old + n) }
         ensures end { result ≡ Ok 0 → IsAtEnd (R.remaining reader.new) }
-        ensures fault { IfErr result (λ e. IsRefused e watch.new) }
+        ensures fault { IfErr result (λ e. IsRefused e log.new) }
     {
         let len = self.end - self.start;
-        let result = read_behind(
-            watch,
-            self.bytes.as_mut_slice(),
-            self.start,
-            self.end,
-            reader,
-        );
+        let result = read_behind(log, self.bytes.as_mut_slice(), self.start, self.end, reader);
         self.start = 0;
         self.end = len;
         let n = result?;
@@ -130,7 +124,7 @@ impl Pending {
 
 // Moves a part to the front, and reads behind it.
 fn read_behind<R: Read, W>(
-    watch: &mut IoLog<R, W>,
+    log: &mut IoLog<R, W>,
     bytes: &mut [u8],
     start: usize,
     end: usize,
@@ -146,11 +140,11 @@ fn read_behind<R: Read, W>(
     ensures end { IfOk result
         (λ n. n ≡ 0 → end - start < length bytes.new → IsAtEnd (R.remaining reader.new)) }
     ensures err { OnErr result (Keeps (R.remaining reader.old) (R.remaining reader.new)) }
-    ensures fault { IfErr result (λ e. IsRefused e watch.new) }
+    ensures fault { IfErr result (λ e. IsRefused e log.new) }
 {
     let len = end - start;
     bytes.copy_within(start..end, 0);
-    read_some(watch, reader, &mut bytes[len..])
+    read_some(log, reader, &mut bytes[len..])
 }
 
 fn line_feed_in(bytes: &[u8]) -> Option<usize>

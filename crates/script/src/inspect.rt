@@ -1,120 +1,58 @@
-//! The text of what the engine holds: its ids, and the slots of a page.
+//! What the engine shows: its ids, its pages and its indexes.
 
-ghost use Rattle.std.specs.Prelude.{◌≡◌, ◌∷◌, ◌++◌, length, OnOk};
-ghost use Rattle.std.specs.Fmt.{decimal};
-ghost use Rattle.script.specs.Grammar.{spaced, with_feed};
-ghost use Rattle.script.specs.Answers.{labelled, ids_text, slot_text, slot_lines, page_head_text, page_text, no_page_text};
+ghost use Rattle.std.specs.Prelude.{◌≡◌, ◌++◌, OnOk};
+ghost use Rattle.std.specs.Option.{option_map};
+ghost use Rattle.script_text.specs.Grammar.{with_feed};
+ghost use Rattle.script_text.specs.Answers.{ids_text, shown_text, index_text};
+ghost use Rattle.script.specs.Engine.{engine_index, next_id};
+ghost use Rattle.script.specs.Script.{shown_of};
 
-use crate::answer::unsigned;
-use crate::growth::{Refused, extend, push};
-use page_slots::{Page, Slot};
-use xid_circle::Xid;
+use script_text::{RefusedGrowth, tell_ids, tell_index, tell_no_index, tell_no_page, tell_page};
+use session_core::Engine;
 
-// A space and a number.
-pub(crate) fn spaced_number(out: &mut Vec<u8>, n: u64) -> Result<(), Refused>
-    ensures { OnOk result (out.new.items ≡ out.old.items ++ spaced (decimal n)) }
-{
-    push(out, b' ')?;
-    unsigned(out, n)
-}
-
-// A word or words, and a number behind them.
-#[tactic(auto, unfolding(crate::specs::Answers::labelled))]
-pub(crate) fn label(out: &mut Vec<u8>, words: &[u8], n: u64) -> Result<(), Refused>
-    ensures { OnOk result (out.new.items ≡ out.old.items ++ labelled words.now n) }
-{
-    extend(out, words)?;
-    spaced_number(out, n)
-}
-
-fn ids(out: &mut Vec<u8>, next: Xid, frozen_below: Xid) -> Result<(), Refused>
-    ensures { OnOk result (out.new.items ≡ out.old.items ++ ids_text next.0 frozen_below.0) }
-{
-    label(out, b"next", u64::from(next.0))?;
-    label(out, b" frozen_below", u64::from(frozen_below.0))
-}
-
-// Adds the line of the next id and of that below which all are frozen.
-pub(crate) fn tell_ids(out: &mut Vec<u8>, next: Xid, frozen_below: Xid) -> Result<(), Refused>
+// Shows the next id, and that below which all are frozen.
+pub(crate) fn show_ids(text: &mut Vec<u8>, engine: &Engine) -> Result<(), RefusedGrowth>
     ensures { OnOk result
-        (out.new.items ≡ out.old.items ++ with_feed (ids_text next.0 frozen_below.0)) }
+        (text.new.items
+        ≡ text.old.items
+        ++ with_feed
+        (ids_text (next_id engine.now.core.heap.table) engine.now.core.heap.table.first)) }
 {
-    ids(out, next, frozen_below)?;
-    push(out, b'\n')
+    let (next, frozen_below) = engine.ids();
+    tell_ids(text, next, frozen_below)
 }
 
-// Adds the line for a page that isn't there.
-pub(crate) fn tell_no_page(out: &mut Vec<u8>) -> Result<(), Refused>
-    ensures { OnOk result (out.new.items ≡ out.old.items ++ with_feed no_page_text) }
-{
-    extend(out, b"error 19 NoSuchPage\n")
-}
-
-fn slot(out: &mut Vec<u8>, slot: &Slot) -> Result<(), Refused>
-    ensures { OnOk result (out.new.items ≡ out.old.items ++ slot_text slot.now) }
-{
-    match slot {
-        Slot::Unused => extend(out, b" unused"),
-        Slot::Dead => extend(out, b" dead"),
-        Slot::Redirect(target) => {
-            extend(out, b" redirect")?;
-            spaced_number(out, u64::from(*target))
-        }
-        Slot::Normal(version) => {
-            extend(out, b" normal")?;
-            spaced_number(out, u64::from(version.header.xmin.0))?;
-            spaced_number(out, u64::from(version.header.xmax.0))?;
-            spaced_number(out, version.row.key)
-        }
-    }
-}
-
-// A line feed, and then the line of a slot.
-fn slot_line(out: &mut Vec<u8>, number: u16, one: &Slot) -> Result<(), Refused>
-    ensures { OnOk result
-        (out.new.items ≡ out.old.items ++ 10 ∷ (decimal number ++ slot_text one.now)) }
-{
-    push(out, b'\n')?;
-    unsigned(out, u64::from(number))?;
-    slot(out, one)
-}
-
-#[tactic(auto, using(crate::proofs::TellingLemmas::slot_lemmas))]
-fn slots(out: &mut Vec<u8>, page: &Page) -> Result<(), Refused>
-    ensures { OnOk result
-        (out.new.items ≡ out.old.items ++ slot_lines (length page.now.slots) page.now.slots) }
-{
-    for i in 0..page.slots() {
-        if let Some(one) = page.slot(i + 1) {
-            slot_line(out, i + 1, &one)?;
-        }
-    }
-    Ok(())
-}
-
-fn page_head(out: &mut Vec<u8>, number: u32, page: &Page, visible: u8) -> Result<(), Refused>
-    ensures { OnOk result
-        (out.new.items
-        ≡ out.old.items ++ page_head_text number page.now.change visible (length page.now.slots)) }
-{
-    label(out, b"page", u64::from(number))?;
-    label(out, b" change", page.change())?;
-    label(out, b" visible", u64::from(visible))?;
-    label(out, b" slots", u64::from(page.slots()))
-}
-
-// Adds the lines of a page: one of the page, and one of each slot.
-pub(crate) fn write_page(
-    out: &mut Vec<u8>,
+// Shows a page, or that it isn't there.
+pub(crate) fn show_page(
+    text: &mut Vec<u8>,
+    engine: &Engine,
     number: u32,
-    page: &Page,
-    visible: u8,
-) -> Result<(), Refused>
+) -> Result<(), RefusedGrowth>
     ensures { OnOk result
-        (out.new.items
-        ≡ out.old.items ++ with_feed (page_text number page.now.change visible page.now.slots)) }
+        (text.new.items
+        ≡ text.old.items ++ with_feed (shown_text number (shown_of engine.now number))) }
 {
-    page_head(out, number, page, visible)?;
-    slots(out, page)?;
-    push(out, b'\n')
+    match (engine.page(number), engine.page_bits(number)) {
+        (Some(page), Some(bits)) => tell_page(text, number, page, bits),
+        _ => tell_no_page(text),
+    }
+}
+
+// Shows the entries of an index, or that it isn't there.
+pub(crate) fn show_index(
+    text: &mut Vec<u8>,
+    engine: &Engine,
+    number: u8,
+) -> Result<(), RefusedGrowth>
+    ensures { OnOk result
+        (text.new.items
+        ≡ text.old.items
+        ++ with_feed
+        (index_text number
+        (option_map (λ index. index.entries) (engine_index engine.now.core number)))) }
+{
+    match engine.index(number) {
+        Some(index) => tell_index(text, number, index),
+        None => tell_no_index(text),
+    }
 }

@@ -1,27 +1,20 @@
-//! The script of the shell: lines to steps, replies to text.
+//! The run of a script: its lines are read, done and answered.
 //!
 //! The contract of [`run_script`] says, of any reader whose bytes are known and any writer that tells what it holds, that the
-//! lines read are of the grammar (`specs/Grammar.antt`), that the replies to their steps are a run of the history and come from
-//! an engine made by the first line's settings, and that exactly their text (`specs/Answers.antt`) was written
-//! (`specs/Script.antt`); after a fault, which part of this holds, and that the [`IoLog`] had noted what was refused
-//! (`specs/Refusals.antt`). [`command_of`] says which words of the command line ask for a script.
+//! lines read are of the grammar (`script_text`), that the replies to their steps are a run of the history and come from an engine
+//! made by the first line's settings, and that exactly their text was written (`specs/Script.antt`); after a fault, which part of
+//! this holds, and that the [`IoLog`] had noted what was refused (`specs/Refusals.antt`). What the program's words ask for is said
+//! by [`command_of`] of `script_text`.
 #![tactic(auto)]
 
-mod answer;
-mod command;
-mod entries;
 mod fault;
-mod growth;
-mod heading;
 mod input;
 mod inspect;
-mod line;
+mod io_log;
 mod output;
 mod run;
-mod watch;
-mod words;
 
-pub use command::{Command, USAGE, command_of};
 pub use fault::ShellFault;
+pub use io_log::IoLog;
 pub use run::run_script;
-pub use watch::IoLog;
+pub use script_text::{Command, USAGE, command_of};

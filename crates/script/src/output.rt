@@ -6,12 +6,12 @@ ghost use Rattle.script.specs.Pieces.{GivesText};
 ghost use Rattle.script.specs.Refusals.{IsRefused};
 
 use crate::fault::ShellFault;
-use crate::watch::{IoLog, is_interruption};
+use crate::io_log::{IoLog, is_interruption};
 use std::io::Write;
 
 // Writes once, and again as long as the write is interrupted. A writer that takes nothing has refused.
 fn write_some<R, W: Write>(
-    watch: &mut IoLog<R, W>,
+    log: &mut IoLog<R, W>,
     writer: &mut W,
     rest: &[u8],
 ) -> Result<usize, ShellFault>
@@ -21,10 +21,10 @@ fn write_some<R, W: Write>(
     ensures bytes { IfOk result
         (λ n. Appends (W.contents writer.old) (W.contents writer.new) (take n rest.now)) }
     ensures err { OnErr result (Appends (W.contents writer.old) (W.contents writer.new) []) }
-    ensures fault { IfErr result (λ e. IsRefused e watch.new) }
+    ensures fault { IfErr result (λ e. IsRefused e log.new) }
 {
-    while watch.may_try() {
-        match watch.write(writer, rest) {
+    while log.may_try() {
+        match log.write(writer, rest) {
             Ok(0) => return Err(ShellFault::Output),
             Ok(n) => return Ok(n),
             Err(e) => {
@@ -39,7 +39,7 @@ fn write_some<R, W: Write>(
 
 // Writes the text and empties it. After a fault a beginning of it was written.
 pub(crate) fn write_out<R, W: Write>(
-    watch: &mut IoLog<R, W>,
+    log: &mut IoLog<R, W>,
     text: &mut Vec<u8>,
     writer: &mut W,
 ) -> Result<(), ShellFault>
@@ -48,11 +48,11 @@ pub(crate) fn write_out<R, W: Write>(
         (Appends (W.contents writer.old) (W.contents writer.new) text.old.items) }
     ensures prefix { (left : List ℕ)
         × GivesText (W.contents writer.old) (W.contents writer.new) text.old.items left }
-    ensures fault { IfErr result (λ e. IsRefused e watch.new) }
+    ensures fault { IfErr result (λ e. IsRefused e log.new) }
 {
     let mut written = 0;
     while written < text.len() {
-        written += write_some(watch, writer, &text[written..])?;
+        written += write_some(log, writer, &text[written..])?;
     }
     text.clear();
     Ok(())

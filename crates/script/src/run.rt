@@ -3,27 +3,22 @@
 ghost use Rattle.std.specs.Prelude.{◌≡◌, ◌++◌, List, ℕ, [], length, IfSome, IfOk, IfErr, OnOk, IsErrAnd, ◌⊎◌};
 ghost use Rattle.std.specs.Bool.{OnTrue, OnFalse};
 ghost use Rattle.std.specs.Io.KnownBytes.{Appends};
-ghost use Rattle.std.specs.Option.{option_map};
-ghost use Rattle.script.specs.Engine.{Settings, AreSettings, IsNew, engine_index};
-ghost use Rattle.script.specs.Grammar.{Fits, spelling, heading, with_feed};
-ghost use Rattle.script.specs.Script.{ScriptOutcome, WritesBeginning, shown_of};
+ghost use Rattle.script_text.specs.Names.{Settings, AreSettings};
+ghost use Rattle.script.specs.Engine.{IsNew};
+ghost use Rattle.script_text.specs.Grammar.{Fits, spelling, heading, with_feed};
+ghost use Rattle.script.specs.Script.{ScriptOutcome, WritesBeginning};
 ghost use Rattle.script.specs.Refusals.{IsRefused, IsCaused};
-ghost use Rattle.script.specs.Answers.{shown_text, index_text};
 ghost use Rattle.script.specs.Pieces.{TakesText, GivesText};
 ghost use Rattle.script.specs.Next.{IsNext};
 ghost use Rattle.script.specs.Steps.{Advances, DoesLine, Uses, MatchesHeading};
-ghost use Rattle.script.specs.declared.line.Line.{Line};
+ghost use Rattle.script_text.specs.declared.line.Line.{Line};
 
-use crate::answer::answer;
-use crate::entries::{tell_index, tell_no_index};
 use crate::fault::ShellFault;
-use crate::growth::{Refused, new_engine};
-use crate::heading::settings_at;
 use crate::input::{MAX_LINE, Pending};
-use crate::inspect::{tell_ids, tell_no_page, write_page};
-use crate::line::{Line, line_at};
+use crate::inspect::{show_ids, show_index, show_page};
+use crate::io_log::IoLog;
 use crate::output::write_out;
-use crate::watch::IoLog;
+use script_text::{Line, RefusedGrowth, line_at, settings_at, tell_reply};
 use session_core::{Engine, Reply};
 use std::alloc::Global;
 use std::io::{Read, Write};
@@ -40,7 +35,7 @@ enum Next {
 
 // Finds the next line. Before it reads, it writes what is to be written, so that nobody waits for an answer.
 fn next_line<R: Read, W: Write>(
-    watch: &mut IoLog<R, W>,
+    log: &mut IoLog<R, W>,
     pending: &mut Pending,
     reader: &mut R,
     text: &mut Vec<u8>,
@@ -54,7 +49,7 @@ fn next_line<R: Read, W: Write>(
     ensures prefix { (left : List ℕ)
         × GivesText (W.contents writer.old) (W.contents writer.new) text.old.items left }
     ensures line { IfOk result (λ next. IsNext next pending.new (R.remaining reader.new)) }
-    ensures fault { IfErr result (λ e. IsRefused e watch.new) }
+    ensures fault { IfErr result (λ e. IsRefused e log.new) }
 {
     while pending.len() <= MAX_LINE {
         if let Some(n) = pending.line_feed() {
@@ -64,8 +59,8 @@ fn next_line<R: Read, W: Write>(
                 Next::Bad
             });
         }
-        write_out(watch, text, writer)?;
-        if pending.refill(watch, reader)? == 0 {
+        write_out(log, text, writer)?;
+        if pending.refill(log, reader)? == 0 {
             return Ok(if pending.len() == 0 {
                 Next::End
             } else {
@@ -79,33 +74,6 @@ fn next_line<R: Read, W: Write>(
     }
 }
 
-// Shows a page, or that it isn't there.
-fn show_page(text: &mut Vec<u8>, engine: &Engine, number: u32) -> Result<(), Refused>
-    ensures { OnOk result
-        (text.new.items
-        ≡ text.old.items ++ with_feed (shown_text number (shown_of engine.now number))) }
-{
-    match (engine.page(number), engine.page_bits(number)) {
-        (Some(page), Some(bits)) => write_page(text, number, page, bits),
-        _ => tell_no_page(text),
-    }
-}
-
-// Shows the entries of an index, or that it isn't there.
-fn show_index(text: &mut Vec<u8>, engine: &Engine, number: u8) -> Result<(), Refused>
-    ensures { OnOk result
-        (text.new.items
-        ≡ text.old.items
-        ++ with_feed
-        (index_text number
-        (option_map (λ index. index.entries) (engine_index engine.now.core number)))) }
-{
-    match engine.index(number) {
-        Some(index) => tell_index(text, number, index),
-        None => tell_no_index(text),
-    }
-}
-
 // Does what a line asks for, and adds its answer; false where the line isn't allowed. The reply to a step is put in the place of an
 // earlier one.
 fn do_line(
@@ -114,7 +82,7 @@ fn do_line(
     reply: &mut Reply,
     text: &mut Vec<u8>,
     line: &[u8],
-) -> Result<bool, Refused>
+) -> Result<bool, RefusedGrowth>
     ensures done { IfOk result
         (λ b. OnTrue b (DoesLine line.now engine.old engine.new text.old.items text.new.items)) }
     ensures bad { IfOk result (λ b. OnFalse b ((l : Line) → Fits l → line.now ≡ spelling l → ⊥)) }
@@ -123,12 +91,11 @@ fn do_line(
     match line_at(alloc, line)? {
         Some(Line::Do(step)) => {
             engine.step_into(step, reply);
-            answer(text, reply)?;
+            tell_reply(text, reply)?;
             Ok(true)
         }
         Some(Line::Ids) => {
-            let (next, frozen_below) = engine.ids();
-            tell_ids(text, next, frozen_below)?;
+            show_ids(text, engine)?;
             Ok(true)
         }
         Some(Line::Page(number)) => {
@@ -145,24 +112,24 @@ fn do_line(
 
 // Writes what is to be written, and gives the result.
 fn close<R, W: Write>(
-    watch: &mut IoLog<R, W>,
+    log: &mut IoLog<R, W>,
     text: &mut Vec<u8>,
     writer: &mut W,
     end: Result<(), ShellFault>,
 ) -> Result<(), ShellFault>
     ensures { ((result ≡ end)
         × Appends (W.contents writer.old) (W.contents writer.new) text.old.items)
-        ⊎ (IsErrAnd result (λ e. IsRefused e watch.new)
+        ⊎ (IsErrAnd result (λ e. IsRefused e log.new)
         × WritesBeginning (W.contents writer.old) (W.contents writer.new) text.old.items) }
 {
-    match write_out(watch, text, writer) {
+    match write_out(log, text, writer) {
         Ok(()) => end,
         Err(fault) => Err(fault),
     }
 }
 
 fn write_if_full<R, W: Write>(
-    watch: &mut IoLog<R, W>,
+    log: &mut IoLog<R, W>,
     text: &mut Vec<u8>,
     writer: &mut W,
 ) -> Result<(), ShellFault>
@@ -170,19 +137,19 @@ fn write_if_full<R, W: Write>(
         (GivesText (W.contents writer.old) (W.contents writer.new) text.old.items text.new.items) }
     ensures prefix { WritesBeginning (W.contents writer.old)
         (W.contents writer.new) text.old.items }
-    ensures fault { IfErr result (λ e. IsRefused e watch.new) }
+    ensures fault { IfErr result (λ e. IsRefused e log.new) }
 {
     if text.len() < FULL {
         return Ok(());
     }
-    write_out(watch, text, writer)
+    write_out(log, text, writer)
 }
 
 // Does the lines behind the first, up to the end of the script or its first bad line. Lines have numbers of 64 bits: a script that
 // needs more of them ends with a fault of its own.
 fn run_lines<R: Read, W: Write>(
     alloc: Global,
-    watch: &mut IoLog<R, W>,
+    log: &mut IoLog<R, W>,
     engine: &mut Engine,
     pending: &mut Pending,
     reader: &mut R,
@@ -191,26 +158,26 @@ fn run_lines<R: Read, W: Write>(
 ) -> Result<(), ShellFault>
     ensures advances { Advances engine.old (R.remaining reader.old) (W.contents writer.old)
         (W.contents writer.new) pending.old text.old.items result }
-    ensures caused { IfErr result (λ e. IsCaused e watch.new) }
+    ensures caused { IfErr result (λ e. IsCaused e log.new) }
 {
     let mut reply = Reply::Done;
     for number in 2..u64::MAX {
-        let next = match next_line(watch, pending, reader, text, writer) {
+        let next = match next_line(log, pending, reader, text, writer) {
             Ok(next) => next,
             Err(fault) => return Err(fault),
         };
         let n = match next {
             Next::Line(n) => n,
-            Next::Bad => return close(watch, text, writer, Err(ShellFault::BadLine(number))),
-            Next::End => return close(watch, text, writer, Ok(())),
+            Next::Bad => return close(log, text, writer, Err(ShellFault::BadLine(number))),
+            Next::End => return close(log, text, writer, Ok(())),
         };
         match do_line(alloc, engine, &mut reply, text, &pending.as_slice()[..n]) {
             Ok(true) => {}
-            Ok(false) => return close(watch, text, writer, Err(ShellFault::BadLine(number))),
-            Err(refused) => return Err(watch.no_memory(refused)),
+            Ok(false) => return close(log, text, writer, Err(ShellFault::BadLine(number))),
+            Err(refused) => return Err(log.no_memory(refused)),
         }
         pending.consume(n + 1);
-        if let Err(fault) = write_if_full(watch, text, writer) {
+        if let Err(fault) = write_if_full(log, text, writer) {
             return Err(fault);
         }
     }
@@ -220,7 +187,7 @@ fn run_lines<R: Read, W: Write>(
 // Makes the engine that the first line asks for, and uses that line.
 fn first_line<R: Read, W: Write>(
     alloc: Global,
-    watch: &mut IoLog<R, W>,
+    log: &mut IoLog<R, W>,
     pending: &mut Pending,
     reader: &mut R,
     text: &mut Vec<u8>,
@@ -234,9 +201,9 @@ fn first_line<R: Read, W: Write>(
     ensures quiet { Appends (W.contents writer.old) (W.contents writer.new) [] }
     ensures none { OnOk result (text.new.items ≡ []) }
     ensures fails { IfErr result (λ e. MatchesHeading e (R.remaining reader.old)) }
-    ensures caused { IfErr result (λ e. IsCaused e watch.new) }
+    ensures caused { IfErr result (λ e. IsCaused e log.new) }
 {
-    let next = match next_line(watch, pending, reader, text, writer) {
+    let next = match next_line(log, pending, reader, text, writer) {
         Ok(next) => next,
         Err(fault) => return Err(fault),
     };
@@ -246,39 +213,39 @@ fn first_line<R: Read, W: Write>(
     let Some(settings) = settings_at(&pending.as_slice()[..n]) else {
         return Err(ShellFault::BadLine(1));
     };
-    match new_engine(alloc, settings) {
+    match log.new_engine(alloc, settings) {
         Ok(Some(engine)) => {
             pending.consume(n + 1);
             Ok(engine)
         }
         Ok(None) => Err(ShellFault::BadLine(1)),
-        Err(refused) => Err(watch.no_memory(refused)),
+        Err(fault) => Err(fault),
     }
 }
 
-// Reads a script, and writes the answers to its lines, all through the watch.
-fn run_watched<R: Read, W: Write>(
+// Reads a script, and writes the answers to its lines, all through the log.
+fn run_logged<R: Read, W: Write>(
     alloc: Global,
-    watch: &mut IoLog<R, W>,
+    log: &mut IoLog<R, W>,
     reader: &mut R,
     writer: &mut W,
 ) -> Result<(), ShellFault>
     ensures outcome { IfSome (R.remaining reader.old)
         (λ input. ScriptOutcome result input (W.contents writer.old) (W.contents writer.new)) }
-    ensures caused { IfErr result (λ e. IsCaused e watch.new) }
+    ensures caused { IfErr result (λ e. IsCaused e log.new) }
 {
     let mut text = Vec::new(alloc);
     let mut pending = match Pending::new(alloc) {
         Ok(pending) => pending,
-        Err(refused) => return Err(watch.no_memory(refused)),
+        Err(refused) => return Err(log.no_memory(refused)),
     };
-    let mut engine = match first_line(alloc, watch, &mut pending, reader, &mut text, writer) {
+    let mut engine = match first_line(alloc, log, &mut pending, reader, &mut text, writer) {
         Ok(engine) => engine,
         Err(fault) => return Err(fault),
     };
     run_lines(
         alloc,
-        watch,
+        log,
         &mut engine,
         &mut pending,
         reader,
@@ -287,7 +254,7 @@ fn run_watched<R: Read, W: Write>(
     )
 }
 
-/// Reads a script, and writes the answers to its lines. The watch, which is made here, says which call was refused: a fault of
+/// Reads a script, and writes the answers to its lines. The log, which is made here, says which call was refused: a fault of
 /// the reader is answered only where its last read answered an error that is no interruption, one of the writer only where its
 /// last write answered such an error or took nothing of what there was, or either where 2^64 - 1 calls in a row were interrupted,
 /// and want of memory only where a growth of the shell was refused.
@@ -300,7 +267,7 @@ pub fn run_script<R: Read, W: Write>(
         (λ input. ScriptOutcome result.0 input (W.contents writer.old) (W.contents writer.new)) }
     ensures caused { IfErr result.0 (λ e. IsCaused e result.1) }
 {
-    let mut watch = IoLog::new();
-    let ended = run_watched(alloc, &mut watch, reader, writer);
-    (ended, watch)
+    let mut log = IoLog::new();
+    let ended = run_logged(alloc, &mut log, reader, writer);
+    (ended, log)
 }

@@ -108,8 +108,8 @@ fn is_prompt(alloc: Global, piece: usize, interruptions: usize) -> bool {
         answered: &answered,
         interruptions: Interruptions::new(interruptions),
     };
-    let (ended, watch) = run_script(alloc, &mut asker, &mut counter);
-    let refused = watch.input() || watch.output() || watch.memory();
+    let (ended, log) = run_script(alloc, &mut asker, &mut counter);
+    let refused = log.input() || log.output() || log.memory();
     ended == Ok(()) && !refused && answered.get() == 7
 }
 

@@ -20,7 +20,7 @@ fn marks_of(ended: &Result<(), ShellFault>) -> [bool; 3] {
 }
 
 /// Whether a script from this reader, with room for so many bytes of answers, ends like this and has written these bytes, and
-/// the watch tells what was refused.
+/// the log tells what was refused.
 pub fn runs_so<R: Read>(
     alloc: Global,
     reader: &mut R,
@@ -29,8 +29,8 @@ pub fn runs_so<R: Read>(
     answers: &[u8],
 ) -> bool {
     let mut writer = small(alloc, room);
-    let (ended, watch) = run_script(alloc, reader, &mut writer);
-    let marked = [watch.input(), watch.output(), watch.memory()];
+    let (ended, log) = run_script(alloc, reader, &mut writer);
+    let marked = [log.input(), log.output(), log.memory()];
     ended == wanted && marked == marks_of(&wanted) && writer.bytes.as_slice() == answers
 }
 

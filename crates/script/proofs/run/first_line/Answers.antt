@@ -1,6 +1,6 @@
 use Rattle.std.proofs.Common.{refl, sym, ◌∙◌}
 use Rattle.std.proofs.lemmas.Option.{none-some}
-use Rattle.script.proofs.HeadingLaws.{settings_at_says}
+use Rattle.script_text.proofs.HeadingLaws.{settings_at_says}
 use Rattle.script.proofs.FirstLemmas.{bad_first, bad_text, bad_settings, first_used, nothing_given, no_heading}
 use Rattle.script.proofs.RunLemmas.{caused_by}
 use Rattle.script.proofs.run.first_line.Goals as goal

@@ -1,6 +1,0 @@
-use Rattle.std.proofs.Common.{◌≡◌, ◌++◌, take}
-use Rattle.script.specs.Answers.{row_lines}
-use Rattle.script.proofs.answer.rows.Given as goal
-
-abbrev pub invariant-loop-one : goal.invariant-loop-one
-invariant-loop-one l = l.out.items ≡ l.initial.out.items ++ row_lines (take l.one-index l.rows)

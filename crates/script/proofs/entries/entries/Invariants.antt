@@ -1,6 +1,0 @@
-use Rattle.script.proofs.EntryLemmas.{IsTold}
-use Rattle.script.proofs.entries.entries.Given as goal
-
--- the entries before the next one are told
-abbrev pub invariant-loop : goal.invariant-loop
-invariant-loop l = IsTold l.index.entries l.counter l.next l.initial.out.items l.out.items

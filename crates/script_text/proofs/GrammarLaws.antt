@@ -1,0 +1,466 @@
+-- What is read is spelled so, and what is spelled so is read.
+use Rattle.std.proofs.Common.{◌≡◌, ℕ, ℤ, ◌+◌, ◌-◌, ◌*◌, ◌/◌, ◌%◌, ◌^◌, ◌<◌, ◌≤◌, List, [], ◌∷◌, ◌++◌, length, refl, ap, append_assoc, ◌∙◌, sym, subst, arith, Option, None, Some, Bool, true, false, cond, eqb, nat_lt, nat_le, ◌&&◌, leb-true, le-leb, ◌⊎◌, inl, inr, codes}
+use Rattle.std.specs.Int.{w64}
+use Rattle.std.specs.Prelude.{FitsSigned}
+use Rattle.std.specs.Option.{option_map}
+use Rattle.std.specs.List.{flat_map, find, AllByRecursion}
+use Rattle.std.specs.Str.{bytes_eq}
+use Rattle.std.specs.Fmt.{decimal, signed_decimal, digit_glyph}
+use Rattle.std.proofs.lemmas.Option.{none-some, same_Some}
+use Rattle.std.proofs.lemmas.Bool.Decides.{nat_tests}
+use Rattle.std.proofs.lemmas.Slice.Eq.{bytes_eq-Decides}
+use Rattle.std.proofs.lemmas.Bool.{lt-leb, cases_lt, and_right}
+use Rattle.std.proofs.lemmas.List.{nil_from_length, append-nil}
+use Rattle.script_text.specs.Names.{Begin, Get, Insert, Update, Delete, Savepoint, RollbackTo, Release, Commit, Abort, OpenIndex, OpenHeap, Next, Close, Prune, RowText}
+use Rattle.script_text.specs.declared.line.Line.{Line}
+use Rattle.script_text.specs.declared.line.Line.TheVariants.{Do, Ids, Page, Entries}
+use Rattle.script_text.specs.declared.line.Verb.{Verb}
+use Rattle.script_text.specs.declared.line.Verb.TheVariants.{Get as get_verb, Begin as begin_verb, Commit as commit_verb, Insert as insert_verb, Update as update_verb, Delete as delete_verb, Savepoint as savepoint_verb, RollbackTo as rollback_verb, Release as release_verb, Abort as abort_verb, OpenIndex as openindex_verb, OpenHeap as openheap_verb, Next as next_verb, Close as close_verb, Prune as prune_verb, Page as page_verb, Entries as entries_verb}
+use Rattle.script_text.specs.Verbs.{verb_of, verb_text, usual_verbs, other_verbs}
+use Rattle.script_text.specs.Grammar.{Fits, KeyFits, RowFits, RangeFits, spelling, spaced, hex_text, body_text, row_text, key_words, row_words, range_words}
+use Rattle.script_text.specs.Reading.{line_at, line_for, cut, number_of, number_then, column_then, bound_of, bound_then, nibble_of, pair_and, pairs_of, body_of, row_words_of, key_words_of, count_words_of, range_words_of}
+use Rattle.script_text.proofs.ByteLemmas.{Free, Free-append}
+use Rattle.script_text.proofs.NumberLaws.{guarded, bound, mapped, both_true, cut_says, cut-free, number_of_says, number_of-decimal, number_then_says, number_then-decimal, decimal_free}
+use Rattle.script_text.proofs.SignedLaws.{signed_free, column_then_says, column_then-signed, bound_free, bound_of_says, bound_of-signed, bound_then_says, bound_then-signed}
+
+pair_is : (x y a b : ℕ) (xs ys : List ℕ) → x ≡ a → y ≡ b → xs ≡ ys → x ∷ y ∷ xs ≡ a ∷ b ∷ ys
+pair_is x y a b xs ys e f g = cc
+
+one_is : (x a : ℕ) (xs : List ℕ) → x ≡ a → xs ≡ [] → x ∷ xs ≡ a ∷ []
+one_is x a xs e f = cc
+
+chosen : {A : Type 0} (b : Bool) (x y z : A) → cond b x y ≡ z → ((b ≡ true) × (x ≡ z)) ⊎ ((b ≡ false) × (y ≡ z))
+chosen true x y z h = inl (refl, h)
+chosen false x y z h = inr (refl, h)
+
+low_glyph : (a : ℕ) → a < 10 → digit_glyph false a ≡ 48 + a
+low_glyph a h = let t : nat_lt a 10 ≡ true = grind (arith, nat_tests) in rw t refl
+
+high_glyph : (a : ℕ) → 10 ≤ a → digit_glyph false a ≡ 87 + a
+high_glyph a h = let t : nat_lt a 10 ≡ false = grind (arith, nat_tests) in rw t refl
+
+nibble_of_says : (c a : ℕ) → nibble_of c ≡ Some a → (c ≡ digit_glyph false a) × (a < 16)
+unfolding nibble_of
+nibble_of_says c a h = elim (chosen (nat_le 48 c && nat_le c 57) (Some (c - 48)) (cond (nat_le 97 c && nat_le c 102) (Some (c - 87)) None) (Some a) h) [
+  | inl l ↦
+      let t = both_true (nat_le 48 c) (nat_le c 57) l.0 in
+      let from = leb-true 48 c t.0 in
+      let to = leb-true c 57 t.1 in
+      let e = same_Some (c - 48) a l.1 in
+      (rw (low_glyph a (omega arith)) (omega arith), omega arith)
+  | inr r ↦
+      let g = guarded (nat_le 97 c && nat_le c 102) (Some (c - 87)) a r.1 in
+      let t = both_true (nat_le 97 c) (nat_le c 102) g.0 in
+      let from = leb-true 97 c t.0 in
+      let to = leb-true c 102 t.1 in
+      let e = same_Some (c - 87) a g.1 in
+      (rw (high_glyph a (omega arith)) (omega arith), omega arith)
+]
+
+nibble_low : (a : ℕ) → a < 10 → nibble_of (48 + a) ≡ Some a
+unfolding nibble_of
+nibble_low a h =
+    let back : 48 + a - 48 ≡ a = omega arith in
+    rw (le-leb 48 (48 + a) (omega arith), le-leb (48 + a) 57 (omega arith), back) refl
+
+nibble_high : (a : ℕ) → 10 ≤ a → a < 16 → nibble_of (87 + a) ≡ Some a
+unfolding nibble_of
+nibble_high a h k =
+    let back : 87 + a - 87 ≡ a = omega arith in
+    rw (le-leb 48 (87 + a) (omega arith), lt-leb (87 + a) 57 (omega arith), le-leb 97 (87 + a) (omega arith), le-leb (87 + a) 102 (omega arith), back) refl
+
+nibble_of-glyph : (a : ℕ) → a < 16 → nibble_of (digit_glyph false a) ≡ Some a
+nibble_of-glyph a h = elim (cases_lt a 10) [
+  | inl l ↦ rw (low_glyph a l) (nibble_low a l)
+  | inr g ↦ rw (high_glyph a g) (nibble_high a g h)
+]
+
+pair_some : (x y : Option ℕ) (r : Option (List ℕ)) (bs : List ℕ) → pair_and x y r ≡ Some bs
+    → (a : ℕ) × (b : ℕ) × (ds : List ℕ) × (x ≡ Some a) × (y ≡ Some b) × (r ≡ Some ds) × ((16 * a + b) ∷ ds ≡ bs)
+pair_some None y r bs h = absurd (none-some bs h)
+pair_some (Some a) None r bs h = absurd (none-some bs h)
+pair_some (Some a) (Some b) None bs h = absurd (none-some bs h)
+pair_some (Some a) (Some b) (Some ds) bs h = (a, b, ds, refl, refl, refl, same_Some _ bs h)
+
+pairs_of_says : (w bs : List ℕ) → pairs_of w ≡ Some bs → (w ≡ hex_text bs) × AllByRecursion (λ b. b < 2 ^ 8) bs
+unfolding pairs_of
+pairs_of_says [] bs h = rw (← same_Some [] bs h) (refl, tt)
+pairs_of_says (x ∷ []) bs h = absurd (none-some bs h)
+pairs_of_says (x ∷ y ∷ rest) bs h =
+    let p = pair_some (nibble_of x) (nibble_of y) (pairs_of rest) bs h in
+    let high = nibble_of_says x p.0 p.3 in
+    let low = nibble_of_says y p.1 p.4 in
+    let r = pairs_of_says rest p.2 p.5 in
+    let over : (16 * p.0 + p.1) / 16 ≡ p.0 = omega (arith, low.1) in
+    let under : (16 * p.0 + p.1) % 16 ≡ p.1 = omega (arith, low.1) in
+    rw (← p.6) (rw (over, under) (pair_is x y _ _ rest _ high.0 low.0 r.0), (omega (arith, high.1, low.1), r.1))
+
+pairs_of-hex : (bs : List ℕ) → AllByRecursion (λ b. b < 2 ^ 8) bs → pairs_of (hex_text bs) ≡ Some bs
+unfolding pairs_of
+pairs_of-hex [] h = refl
+pairs_of-hex (b ∷ bs) h =
+    let small = h.0 in
+    let whole : 16 * (b / 16) + b % 16 ≡ b = omega arith in
+    rw (nibble_of-glyph (b / 16) (omega arith), nibble_of-glyph (b % 16) (omega arith), pairs_of-hex bs h.1, whole) refl
+
+hex_body : (w bs : List ℕ) → 0 < length w → (w ≡ hex_text bs) × AllByRecursion (λ b. b < 2 ^ 8) bs → (w ≡ body_text bs) × AllByRecursion (λ b. b < 2 ^ 8) bs
+hex_body w [] some h = let e = rw h.0 at some in absurd (omega arith)
+hex_body w (b ∷ bs) some h = h
+
+body_of_says : (w bs : List ℕ) → body_of w ≡ Some bs → (w ≡ body_text bs) × AllByRecursion (λ b. b < 2 ^ 8) bs
+unfolding body_of
+body_of_says [] bs h = absurd (none-some bs h)
+body_of_says (x ∷ xs) bs h = elim (chosen (eqb x 45 && eqb (length xs) 0) (Some []) (pairs_of (x ∷ xs)) (Some bs) h) [
+  | inl l ↦
+      let t = both_true (eqb x 45) (eqb (length xs) 0) l.0 in
+      let x_is : x ≡ 45 = let e = t.0 in grind (arith, nat_tests) in
+      let none : length xs ≡ 0 = let e = t.1 in grind (arith, nat_tests) in
+      rw (← same_Some [] bs l.1) (one_is x 45 xs x_is (nil_from_length xs none), tt)
+  | inr r ↦ hex_body (x ∷ xs) bs (omega arith) (pairs_of_says (x ∷ xs) bs r.1)
+]
+
+body_of-text : (bs : List ℕ) → AllByRecursion (λ b. b < 2 ^ 8) bs → body_of (body_text bs) ≡ Some bs
+unfolding body_of
+body_of-text [] h = refl
+body_of-text (b ∷ bs) h =
+    let more : eqb (length (digit_glyph false (b % 16) ∷ hex_text bs)) 0 ≡ false = grind (arith, nat_tests) in
+    rw (more, and_right (eqb (digit_glyph false (b / 16)) 45) false refl) (pairs_of-hex (b ∷ bs) h)
+
+key_words_of_says : (xs : List ℕ) (p : ℕ × ℕ) → key_words_of xs ≡ Some p → KeyFits p.0 p.1 × (xs ≡ key_words p.0 p.1)
+unfolding key_words_of
+key_words_of_says xs p h =
+    let s = bound (number_then 255 xs) _ p h in
+    let k = bound (number_of (2 ^ 64 - 1) s.0.1) _ p s.2 in
+    let s_is = number_then_says 255 xs s.0.0 s.0.1 (omega arith) s.1 in
+    let k_is = number_of_says (2 ^ 64 - 1) s.0.1 k.0 (omega arith) k.1 in
+    rw (← same_Some _ p k.2) ((omega (arith, s_is.1), omega (arith, k_is.1)), s_is.0 ∙ ap (λ r. decimal s.0.0 ++ spaced r) k_is.0)
+
+count_words_of_says : (xs : List ℕ) (p : ℕ × ℕ) → count_words_of xs ≡ Some p → (p.0 < 2 ^ 8) × (p.1 < 2 ^ 16) × (xs ≡ key_words p.0 p.1)
+unfolding count_words_of
+count_words_of_says xs p h =
+    let s = bound (number_then 255 xs) _ p h in
+    let n = bound (number_of 65535 s.0.1) _ p s.2 in
+    let s_is = number_then_says 255 xs s.0.0 s.0.1 (omega arith) s.1 in
+    let n_is = number_of_says 65535 s.0.1 n.0 (omega arith) n.1 in
+    rw (← same_Some _ p n.2) (omega (arith, s_is.1), omega (arith, n_is.1), s_is.0 ∙ ap (λ r. decimal s.0.0 ++ spaced r) n_is.0)
+
+range_chain : (xs r0 r1 r2 ds di sl sh : List ℕ) → xs ≡ ds ++ 32 ∷ r0 → r0 ≡ di ++ 32 ∷ r1 → r1 ≡ sl ++ 32 ∷ r2 → r2 ≡ sh → xs ≡ ds ++ 32 ∷ (di ++ 32 ∷ (sl ++ 32 ∷ sh))
+range_chain xs r0 r1 r2 ds di sl sh a b c d = cc
+
+range_words_of_says : (xs : List ℕ) (p : ℕ × ℕ × ℤ × ℤ) → range_words_of xs ≡ Some p → RangeFits p.0 p.1 p.2 p.3 × (xs ≡ range_words p.0 p.1 p.2 p.3)
+unfolding range_words_of
+range_words_of_says xs p h =
+    let s = bound (number_then 255 xs) _ p h in
+    let i = bound (number_then 255 s.0.1) _ p s.2 in
+    let low = bound (bound_then i.0.1) _ p i.2 in
+    let high = bound (bound_of low.0.1) _ p low.2 in
+    let s_is = number_then_says 255 xs s.0.0 s.0.1 (omega arith) s.1 in
+    let i_is = number_then_says 255 s.0.1 i.0.0 i.0.1 (omega arith) i.1 in
+    let low_is = bound_then_says i.0.1 low.0.0 low.0.1 low.1 in
+    let high_is = bound_of_says low.0.1 high.0 high.1 in
+    rw (← same_Some _ p high.2) (
+      (omega (arith, s_is.1), omega (arith, i_is.1), low_is.1, high_is.1),
+      range_chain xs s.0.1 i.0.1 low.0.1 (decimal s.0.0) (decimal i.0.0) (signed_decimal low.0.0) (signed_decimal high.0) s_is.0 i_is.0 low_is.0 high_is.0,
+    )
+
+pub row_chain : (xs r0 r1 r2 r3 r4 r5 ds dk s0 s1 s2 s3 sb : List ℕ) → xs ≡ ds ++ 32 ∷ r0 → r0 ≡ dk ++ 32 ∷ r1 → r1 ≡ s0 ++ 32 ∷ r2 → r2 ≡ s1 ++ 32 ∷ r3 → r3 ≡ s2 ++ 32 ∷ r4 → r4 ≡ s3 ++ 32 ∷ r5 → r5 ≡ sb
+    → xs ≡ ds ++ 32 ∷ (dk ++ 32 ∷ (s0 ++ 32 ∷ (s1 ++ 32 ∷ (s2 ++ 32 ∷ (s3 ++ 32 ∷ sb)))))
+row_chain xs r0 r1 r2 r3 r4 r5 ds dk s0 s1 s2 s3 sb a b c d e f g = cc
+
+regroup : (dk s0 s1 s2 s3 sb : List ℕ) → dk ++ 32 ∷ (s0 ++ 32 ∷ (s1 ++ 32 ∷ (s2 ++ 32 ∷ (s3 ++ 32 ∷ sb)))) ≡ dk ++ ((spaced s0 ++ (spaced s1 ++ (spaced s2 ++ (spaced s3 ++ [])))) ++ spaced sb)
+regroup dk s0 s1 s2 s3 sb =
+    let e3 : (s3 ++ []) ++ (32 ∷ sb) ≡ s3 ++ 32 ∷ sb = ap (λ r. r ++ 32 ∷ sb) (append-nil s3) in
+    let e2 : (s2 ++ 32 ∷ (s3 ++ [])) ++ (32 ∷ sb) ≡ s2 ++ 32 ∷ (s3 ++ 32 ∷ sb) = append_assoc s2 (32 ∷ (s3 ++ [])) (32 ∷ sb) ∙ ap (λ r. s2 ++ 32 ∷ r) e3 in
+    let e1 : (s1 ++ 32 ∷ (s2 ++ 32 ∷ (s3 ++ []))) ++ (32 ∷ sb) ≡ s1 ++ 32 ∷ (s2 ++ 32 ∷ (s3 ++ 32 ∷ sb)) = append_assoc s1 (32 ∷ (s2 ++ 32 ∷ (s3 ++ []))) (32 ∷ sb) ∙ ap (λ r. s1 ++ 32 ∷ r) e2 in
+    let e0 : (s0 ++ 32 ∷ (s1 ++ 32 ∷ (s2 ++ 32 ∷ (s3 ++ [])))) ++ (32 ∷ sb) ≡ s0 ++ 32 ∷ (s1 ++ 32 ∷ (s2 ++ 32 ∷ (s3 ++ 32 ∷ sb))) = append_assoc s0 (32 ∷ (s1 ++ 32 ∷ (s2 ++ 32 ∷ (s3 ++ [])))) (32 ∷ sb) ∙ ap (λ r. s0 ++ 32 ∷ r) e1 in
+    ap (λ r. dk ++ 32 ∷ r) (sym e0)
+
+row_words_of_says : (xs : List ℕ) (p : ℕ × RowText) → row_words_of xs ≡ Some p → RowFits p.0 p.1 × (xs ≡ row_words p.0 p.1)
+unfolding row_words_of
+row_words_of_says xs p h =
+    let s = bound (number_then 255 xs) _ p h in
+    let k = bound (number_then (2 ^ 64 - 1) s.0.1) _ p s.2 in
+    let c0 = bound (column_then k.0.1) _ p k.2 in
+    let c1 = bound (column_then c0.0.1) _ p c0.2 in
+    let c2 = bound (column_then c1.0.1) _ p c1.2 in
+    let c3 = bound (column_then c2.0.1) _ p c2.2 in
+    let b = bound (body_of c3.0.1) _ p c3.2 in
+    let s_is = number_then_says 255 xs s.0.0 s.0.1 (omega arith) s.1 in
+    let k_is = number_then_says (2 ^ 64 - 1) s.0.1 k.0.0 k.0.1 (omega arith) k.1 in
+    let d0 = column_then_says k.0.1 c0.0.0 c0.0.1 c0.1 in
+    let d1 = column_then_says c0.0.1 c1.0.0 c1.0.1 c1.1 in
+    let d2 = column_then_says c1.0.1 c2.0.0 c2.0.1 c2.1 in
+    let d3 = column_then_says c2.0.1 c3.0.0 c3.0.1 c3.1 in
+    let b_is = body_of_says c3.0.1 b.0 b.1 in
+    rw (← same_Some _ p b.2) (
+      (omega (arith, s_is.1), omega (arith, k_is.1), refl, (d0.1, (d1.1, (d2.1, (d3.1, tt)))), b_is.1),
+      row_chain xs _ _ _ _ _ _ (decimal s.0.0) (decimal k.0.0) (signed_decimal c0.0.0) (signed_decimal c1.0.0) (signed_decimal c2.0.0) (signed_decimal c3.0.0) (body_text b.0) s_is.0 k_is.0 d0.0 d1.0 d2.0 d3.0 b_is.0
+          ∙ ap (λ r. decimal s.0.0 ++ 32 ∷ r) (regroup (decimal k.0.0) (signed_decimal c0.0.0) (signed_decimal c1.0.0) (signed_decimal c2.0.0) (signed_decimal c3.0.0) (body_text b.0)),
+    )
+
+pub verb_is : (v w : List ℕ) → bytes_eq v w ≡ true → v ≡ w
+verb_is v w h = (bytes_eq-Decides v w).0 h
+
+-- what a verb and one number ask for
+one_number : (verb : List ℕ) (max : ℕ) (make : ℕ → Line) (rest : List ℕ) (l : Line) → max < 10 ^ 64 → option_map make (number_of max rest) ≡ Some l
+    → (s : ℕ) × (s ≤ max) × (make s ≡ l) × (verb ++ spaced rest ≡ verb ++ spaced (decimal s))
+one_number verb max make rest l fits h =
+    let m = mapped (number_of max rest) make l h in
+    let says = number_of_says max rest m.0 fits m.1 in
+    (m.0, says.1, m.2, ap (λ r. verb ++ spaced r) says.0)
+
+-- a verb, a session and a key, or a row
+one_key : (verb : List ℕ) (make : ℕ × ℕ → Line) (rest : List ℕ) (l : Line) → option_map make (key_words_of rest) ≡ Some l
+    → (p : ℕ × ℕ) × KeyFits p.0 p.1 × (make p ≡ l) × (verb ++ spaced rest ≡ verb ++ spaced (key_words p.0 p.1))
+one_key verb make rest l h =
+    let m = mapped (key_words_of rest) make l h in
+    let says = key_words_of_says rest m.0 m.1 in
+    (m.0, says.0, m.2, ap (λ r. verb ++ spaced r) says.1)
+
+one_count : (verb : List ℕ) (make : ℕ × ℕ → Line) (rest : List ℕ) (l : Line) → option_map make (count_words_of rest) ≡ Some l
+    → (p : ℕ × ℕ) × (p.0 < 2 ^ 8) × (p.1 < 2 ^ 16) × (make p ≡ l) × (verb ++ spaced rest ≡ verb ++ spaced (key_words p.0 p.1))
+one_count verb make rest l h =
+    let m = mapped (count_words_of rest) make l h in
+    let says = count_words_of_says rest m.0 m.1 in
+    (m.0, says.0, says.1, m.2, ap (λ r. verb ++ spaced r) says.2)
+
+one_range : (verb : List ℕ) (make : ℕ × ℕ × ℤ × ℤ → Line) (rest : List ℕ) (l : Line) → option_map make (range_words_of rest) ≡ Some l
+    → (p : ℕ × ℕ × ℤ × ℤ) × RangeFits p.0 p.1 p.2 p.3 × (make p ≡ l) × (verb ++ spaced rest ≡ verb ++ spaced (range_words p.0 p.1 p.2 p.3))
+one_range verb make rest l h =
+    let m = mapped (range_words_of rest) make l h in
+    let says = range_words_of_says rest m.0 m.1 in
+    (m.0, says.0, m.2, ap (λ r. verb ++ spaced r) says.1)
+
+one_row : (verb : List ℕ) (make : ℕ × RowText → Line) (rest : List ℕ) (l : Line) → option_map make (row_words_of rest) ≡ Some l
+    → (p : ℕ × RowText) × RowFits p.0 p.1 × (make p ≡ l) × (verb ++ spaced rest ≡ verb ++ spaced (row_words p.0 p.1))
+one_row verb make rest l h =
+    let m = mapped (row_words_of rest) make l h in
+    let says = row_words_of_says rest m.0 m.1 in
+    (m.0, says.0, m.2, ap (λ r. verb ++ spaced r) says.1)
+
+line_of_says : (verb : Verb) (rest : List ℕ) (l : Line) → line_for verb rest ≡ Some l → Fits l × (verb_text verb ++ spaced rest ≡ spelling l)
+line_of_says get_verb rest l h = let m = one_key (codes "get") (λ p. Do (Get p.0 p.1)) rest l h in rw (← m.2) (m.1, m.3)
+line_of_says begin_verb rest l h = let m = one_number (codes "begin") 255 (λ s. Do (Begin s)) rest l (omega arith) h in rw (← m.2) (omega (arith, m.1), m.3)
+line_of_says commit_verb rest l h = let m = one_number (codes "commit") 255 (λ s. Do (Commit s)) rest l (omega arith) h in rw (← m.2) (omega (arith, m.1), m.3)
+line_of_says insert_verb rest l h = let m = one_row (codes "insert") (λ p. Do (Insert p.0 p.1)) rest l h in rw (← m.2) (m.1, m.3)
+line_of_says update_verb rest l h = let m = one_row (codes "update") (λ p. Do (Update p.0 p.1)) rest l h in rw (← m.2) (m.1, m.3)
+line_of_says delete_verb rest l h = let m = one_key (codes "delete") (λ p. Do (Delete p.0 p.1)) rest l h in rw (← m.2) (m.1, m.3)
+line_of_says savepoint_verb rest l h = let m = one_number (codes "savepoint") 255 (λ s. Do (Savepoint s)) rest l (omega arith) h in rw (← m.2) (omega (arith, m.1), m.3)
+line_of_says rollback_verb rest l h = let m = one_number (codes "rollbackto") 255 (λ s. Do (RollbackTo s)) rest l (omega arith) h in rw (← m.2) (omega (arith, m.1), m.3)
+line_of_says release_verb rest l h = let m = one_number (codes "release") 255 (λ s. Do (Release s)) rest l (omega arith) h in rw (← m.2) (omega (arith, m.1), m.3)
+line_of_says abort_verb rest l h = let m = one_number (codes "abort") 255 (λ s. Do (Abort s)) rest l (omega arith) h in rw (← m.2) (omega (arith, m.1), m.3)
+line_of_says openindex_verb rest l h = let m = one_range (codes "openindex") (λ p. Do (OpenIndex p.0 p.1 p.2 p.3)) rest l h in rw (← m.2) (m.1, m.3)
+line_of_says openheap_verb rest l h = let m = one_number (codes "openheap") 255 (λ s. Do (OpenHeap s)) rest l (omega arith) h in rw (← m.2) (omega (arith, m.1), m.3)
+line_of_says next_verb rest l h = let m = one_count (codes "next") (λ p. Do (Next p.0 p.1)) rest l h in rw (← m.3) ((m.1, m.2), m.4)
+line_of_says close_verb rest l h = let m = one_number (codes "close") 255 (λ s. Do (Close s)) rest l (omega arith) h in rw (← m.2) (omega (arith, m.1), m.3)
+line_of_says prune_verb rest l h = let m = one_number (codes "prune") 4294967295 (λ p. Do (Prune p)) rest l (omega arith) h in rw (← m.2) (omega (arith, m.1), m.3)
+line_of_says page_verb rest l h = let m = one_number (codes "page") 4294967295 (λ p. Page p) rest l (omega arith) h in rw (← m.2) (omega (arith, m.1), m.3)
+line_of_says entries_verb rest l h = let m = one_number (codes "entries") 255 (λ i. Entries i) rest l (omega arith) h in rw (← m.2) (omega (arith, m.1), m.3)
+
+find_says : {A : Type 0} (p : A → Bool) (xs : List A) (y : A) → find p xs ≡ Some y → p y ≡ true
+find_says p [] y h = absurd (none-some y h)
+find_says p (x ∷ xs) y h = elim (chosen (p x) (Some x) (find p xs) (Some y) h) [
+  | inl a ↦ subst (λ z. p z ≡ true) (same_Some x y a.1) a.0
+  | inr a ↦ find_says p xs y a.1
+]
+
+-- the verb that a word is found to be spells that word
+verb_of_says : (w : List ℕ) (verb : Verb) → verb_of w ≡ Some verb → w ≡ verb_text verb
+verb_of_says w verb h = verb_is w (verb_text verb) (find_says (λ verb. bytes_eq w (verb_text verb)) (usual_verbs ++ other_verbs) verb h)
+
+pub line_at_says : (w : List ℕ) (l : Line) → line_at w ≡ Some l → Fits l × (w ≡ spelling l)
+unfolding line_at
+line_at_says w l h = elim (chosen (bytes_eq w (codes "ids")) (Some Ids) _ (Some l) h) [
+  | inl a ↦ rw (← same_Some Ids l a.1) (tt, verb_is w (codes "ids") a.0)
+  | inr a ↦
+      let p = bound (cut w) _ l a.1 in
+      let v = bound (verb_of p.0.0) _ l p.2 in
+      let says = line_of_says v.0 p.0.1 l v.2 in
+      (says.0, cut_says w p.0.0 p.0.1 p.1 ∙ ap (λ r. r ++ 32 ∷ p.0.1) (verb_of_says p.0.0 v.0 v.1) ∙ says.1)
+]
+
+four : (cols : List ℤ) → length cols ≡ 4 → (a : ℤ) × (b : ℤ) × (c : ℤ) × (d : ℤ) × (cols ≡ a ∷ b ∷ c ∷ d ∷ [])
+four [] h = absurd (omega arith)
+four (a ∷ []) h = absurd (omega arith)
+four (a ∷ b ∷ []) h = absurd (omega arith)
+four (a ∷ b ∷ c ∷ []) h = absurd (omega arith)
+four (a ∷ b ∷ c ∷ d ∷ []) h = (a, b, c, d, refl)
+four (a ∷ b ∷ c ∷ d ∷ e ∷ r) h = absurd (omega arith)
+
+row_words_of-spelled : (s k : ℕ) (c0 c1 c2 c3 : ℤ) (body : List ℕ) → s < 2 ^ 8 → k < 2 ^ 64 → FitsSigned w64 c0 → FitsSigned w64 c1 → FitsSigned w64 c2 → FitsSigned w64 c3 → AllByRecursion (λ b. b < 2 ^ 8) body
+    → row_words_of (decimal s ++ 32 ∷ (decimal k ++ 32 ∷ (signed_decimal c0 ++ 32 ∷ (signed_decimal c1 ++ 32 ∷ (signed_decimal c2 ++ 32 ∷ (signed_decimal c3 ++ 32 ∷ body_text body)))))) ≡ Some (s, record { key = k; cols = c0 ∷ c1 ∷ c2 ∷ c3 ∷ []; body = body })
+unfolding row_words_of
+row_words_of-spelled s k c0 c1 c2 c3 body hs hk h0 h1 h2 h3 hb =
+    rw (
+      number_then-decimal 255 s (decimal k ++ 32 ∷ (signed_decimal c0 ++ 32 ∷ (signed_decimal c1 ++ 32 ∷ (signed_decimal c2 ++ 32 ∷ (signed_decimal c3 ++ 32 ∷ body_text body))))) (omega arith) (omega arith),
+      number_then-decimal (2 ^ 64 - 1) k (signed_decimal c0 ++ 32 ∷ (signed_decimal c1 ++ 32 ∷ (signed_decimal c2 ++ 32 ∷ (signed_decimal c3 ++ 32 ∷ body_text body)))) (omega arith) (omega arith),
+      column_then-signed c0 (signed_decimal c1 ++ 32 ∷ (signed_decimal c2 ++ 32 ∷ (signed_decimal c3 ++ 32 ∷ body_text body))) h0,
+      column_then-signed c1 (signed_decimal c2 ++ 32 ∷ (signed_decimal c3 ++ 32 ∷ body_text body)) h1,
+      column_then-signed c2 (signed_decimal c3 ++ 32 ∷ body_text body) h2,
+      column_then-signed c3 (body_text body) h3,
+      body_of-text body hb,
+    ) refl
+
+-- a verb is found again, and no step's line is the line of the ids
+with_verb : (verb : Verb) (rest : List ℕ) → Free 32 (verb_text verb) → verb_of (verb_text verb) ≡ Some verb
+    → bytes_eq (verb_text verb ++ 32 ∷ rest) (codes "ids") ≡ false → line_at (verb_text verb ++ 32 ∷ rest) ≡ line_for verb rest
+unfolding line_at
+with_verb verb rest free same other = rw (other, cut-free (verb_text verb) rest free, same) refl
+
+row_words_of-columns : (s k : ℕ) (c0 c1 c2 c3 : ℤ) (body : List ℕ) → s < 2 ^ 8 → k < 2 ^ 64 → FitsSigned w64 c0 → FitsSigned w64 c1 → FitsSigned w64 c2 → FitsSigned w64 c3 → AllByRecursion (λ b. b < 2 ^ 8) body
+    → row_words_of (decimal s ++ spaced (row_text k (c0 ∷ c1 ∷ c2 ∷ c3 ∷ []) body)) ≡ Some (s, record { key = k; cols = c0 ∷ c1 ∷ c2 ∷ c3 ∷ []; body = body })
+row_words_of-columns s k c0 c1 c2 c3 body hs hk h0 h1 h2 h3 hb =
+    ap (λ r. row_words_of (decimal s ++ 32 ∷ r)) (sym (regroup (decimal k) (signed_decimal c0) (signed_decimal c1) (signed_decimal c2) (signed_decimal c3) (body_text body)))
+    ∙ row_words_of-spelled s k c0 c1 c2 c3 body hs hk h0 h1 h2 h3 hb
+
+row_words_of-words : (s : ℕ) (row : RowText) → RowFits s row → row_words_of (row_words s row) ≡ Some (s, row)
+row_words_of-words s row h =
+    let f = four row.cols h.2 in
+    let all = rw f.4 at h.3 in
+    let same : record row { cols = f.0 ∷ f.1 ∷ f.2 ∷ f.3 ∷ [] } ≡ row = ap (λ (cols : List ℤ). record row { cols = cols }) (sym f.4) in
+    ap (λ (cols : List ℤ). row_words_of (decimal s ++ spaced (row_text row.key cols row.body))) f.4
+    ∙ row_words_of-columns s row.key f.0 f.1 f.2 f.3 row.body h.0 h.1 all.0 all.1.0 all.1.1.0 all.1.1.1.0 h.4
+    ∙ ap (λ (r : RowText). Some (s, r)) same
+
+key_words_of-words : (s k : ℕ) → s < 2 ^ 8 → k < 2 ^ 64 → key_words_of (key_words s k) ≡ Some (s, k)
+unfolding key_words_of
+key_words_of-words s k hs hk = rw (number_then-decimal 255 s (decimal k) (omega arith) (omega arith), number_of-decimal (2 ^ 64 - 1) k (omega arith) (omega arith)) refl
+
+count_words_of-words : (s n : ℕ) → s < 2 ^ 8 → n < 2 ^ 16 → count_words_of (key_words s n) ≡ Some (s, n)
+unfolding count_words_of
+count_words_of-words s n hs hn = rw (number_then-decimal 255 s (decimal n) (omega arith) (omega arith), number_of-decimal 65535 n (omega arith) (omega arith)) refl
+
+range_words_of-words : (s index : ℕ) (low high : ℤ) → RangeFits s index low high → range_words_of (range_words s index low high) ≡ Some (s, index, low, high)
+unfolding range_words_of
+range_words_of-words s index low high h =
+    rw (
+      number_then-decimal 255 s (decimal index ++ 32 ∷ (signed_decimal low ++ 32 ∷ signed_decimal high)) (omega (arith, h.0)) (omega arith),
+      number_then-decimal 255 index (signed_decimal low ++ 32 ∷ signed_decimal high) (omega (arith, h.1)) (omega arith),
+      bound_then-signed low (signed_decimal high) h.2,
+      bound_of-signed high h.3,
+    ) refl
+
+ids_line : line_at (codes "ids") ≡ Some Ids
+unfolding line_at
+ids_line = refl
+
+pub line_at-spelling : (l : Line) → Fits l → line_at (spelling l) ≡ Some l
+line_at-spelling (Do (Begin s)) h =
+    with_verb begin_verb (decimal s) (refl, (refl, (refl, (refl, (refl, tt))))) refl refl ∙ ap (λ (o : Option ℕ). option_map (λ s. Do (Begin s)) o) (number_of-decimal 255 s (omega arith) (omega arith))
+line_at-spelling (Do (Get s k)) h =
+    with_verb get_verb (key_words s k) (refl, (refl, (refl, tt))) refl refl ∙ ap (λ (o : Option (ℕ × ℕ)). option_map (λ p. Do (Get p.0 p.1)) o) (key_words_of-words s k h.0 h.1)
+line_at-spelling (Do (Insert s row)) h =
+    with_verb insert_verb (row_words s row) (refl, (refl, (refl, (refl, (refl, (refl, tt)))))) refl refl ∙ ap (λ (o : Option (ℕ × RowText)). option_map (λ p. Do (Insert p.0 p.1)) o) (row_words_of-words s row h)
+line_at-spelling (Do (Update s row)) h =
+    with_verb update_verb (row_words s row) (refl, (refl, (refl, (refl, (refl, (refl, tt)))))) refl refl ∙ ap (λ (o : Option (ℕ × RowText)). option_map (λ p. Do (Update p.0 p.1)) o) (row_words_of-words s row h)
+line_at-spelling (Do (Delete s k)) h =
+    with_verb delete_verb (key_words s k) (refl, (refl, (refl, (refl, (refl, (refl, tt)))))) refl refl ∙ ap (λ (o : Option (ℕ × ℕ)). option_map (λ p. Do (Delete p.0 p.1)) o) (key_words_of-words s k h.0 h.1)
+line_at-spelling (Do (Savepoint s)) h =
+    with_verb savepoint_verb (decimal s) (refl, (refl, (refl, (refl, (refl, (refl, (refl, (refl, (refl, tt))))))))) refl refl ∙ ap (λ (o : Option ℕ). option_map (λ s. Do (Savepoint s)) o) (number_of-decimal 255 s (omega arith) (omega arith))
+line_at-spelling (Do (RollbackTo s)) h =
+    with_verb rollback_verb (decimal s) (refl, (refl, (refl, (refl, (refl, (refl, (refl, (refl, (refl, (refl, tt)))))))))) refl refl ∙ ap (λ (o : Option ℕ). option_map (λ s. Do (RollbackTo s)) o) (number_of-decimal 255 s (omega arith) (omega arith))
+line_at-spelling (Do (Release s)) h =
+    with_verb release_verb (decimal s) (refl, (refl, (refl, (refl, (refl, (refl, (refl, tt))))))) refl refl ∙ ap (λ (o : Option ℕ). option_map (λ s. Do (Release s)) o) (number_of-decimal 255 s (omega arith) (omega arith))
+line_at-spelling (Do (Commit s)) h =
+    with_verb commit_verb (decimal s) (refl, (refl, (refl, (refl, (refl, (refl, tt)))))) refl refl ∙ ap (λ (o : Option ℕ). option_map (λ s. Do (Commit s)) o) (number_of-decimal 255 s (omega arith) (omega arith))
+line_at-spelling (Do (Abort s)) h =
+    with_verb abort_verb (decimal s) (refl, (refl, (refl, (refl, (refl, tt))))) refl refl ∙ ap (λ (o : Option ℕ). option_map (λ s. Do (Abort s)) o) (number_of-decimal 255 s (omega arith) (omega arith))
+line_at-spelling (Do (OpenIndex s index low high)) h =
+    with_verb openindex_verb (range_words s index low high) (refl, (refl, (refl, (refl, (refl, (refl, (refl, (refl, (refl, tt))))))))) refl refl ∙ ap (λ (o : Option (ℕ × ℕ × ℤ × ℤ)). option_map (λ p. Do (OpenIndex p.0 p.1 p.2 p.3)) o) (range_words_of-words s index low high h)
+line_at-spelling (Do (OpenHeap s)) h =
+    with_verb openheap_verb (decimal s) (refl, (refl, (refl, (refl, (refl, (refl, (refl, (refl, tt)))))))) refl refl ∙ ap (λ (o : Option ℕ). option_map (λ s. Do (OpenHeap s)) o) (number_of-decimal 255 s (omega arith) (omega arith))
+line_at-spelling (Do (Next s n)) h =
+    with_verb next_verb (key_words s n) (refl, (refl, (refl, (refl, tt)))) refl refl ∙ ap (λ (o : Option (ℕ × ℕ)). option_map (λ p. Do (Next p.0 p.1)) o) (count_words_of-words s n h.0 h.1)
+line_at-spelling (Do (Close s)) h =
+    with_verb close_verb (decimal s) (refl, (refl, (refl, (refl, (refl, tt))))) refl refl ∙ ap (λ (o : Option ℕ). option_map (λ s. Do (Close s)) o) (number_of-decimal 255 s (omega arith) (omega arith))
+line_at-spelling (Do (Prune p)) h =
+    with_verb prune_verb (decimal p) (refl, (refl, (refl, (refl, (refl, tt))))) refl refl ∙ ap (λ (o : Option ℕ). option_map (λ p. Do (Prune p)) o) (number_of-decimal 4294967295 p (omega arith) (omega arith))
+line_at-spelling Ids h = ids_line
+line_at-spelling (Page p) h =
+    with_verb page_verb (decimal p) (refl, (refl, (refl, (refl, tt)))) refl refl ∙ ap (λ (o : Option ℕ). option_map (λ p. Page p) o) (number_of-decimal 4294967295 p (omega arith) (omega arith))
+line_at-spelling (Entries i) h =
+    with_verb entries_verb (decimal i) (refl, (refl, (refl, (refl, (refl, (refl, (refl, tt))))))) refl refl ∙ ap (λ (o : Option ℕ). option_map (λ i. Entries i) o) (number_of-decimal 255 i (omega arith) (omega arith))
+
+columns_free : (cols : List ℤ) → AllByRecursion (λ c. FitsSigned w64 c) cols → Free 10 (flat_map (λ c. spaced (signed_decimal c)) cols)
+columns_free [] h = tt
+columns_free (c ∷ cs) h = Free-append 10 (spaced (signed_decimal c)) (flat_map (λ c. spaced (signed_decimal c)) cs) (refl, signed_free 10 c (omega arith) h.0) (columns_free cs h.1)
+
+far_from : (k : ℕ) → 10 < k → eqb k 10 ≡ false
+far_from k h = grind (arith, nat_tests)
+
+glyph_free : (a : ℕ) → a < 16 → eqb (digit_glyph false a) 10 ≡ false
+glyph_free a h = elim (cases_lt a 10) [
+  | inl l ↦ rw (low_glyph a l) (far_from (48 + a) (omega arith))
+  | inr g ↦ rw (high_glyph a g) (far_from (87 + a) (omega arith))
+]
+
+hex_free : (bs : List ℕ) → AllByRecursion (λ b. b < 2 ^ 8) bs → Free 10 (hex_text bs)
+hex_free [] h = tt
+hex_free (b ∷ bs) h = let small = h.0 in (glyph_free (b / 16) (omega arith), (glyph_free (b % 16) (omega arith), hex_free bs h.1))
+
+body_free : (bs : List ℕ) → AllByRecursion (λ b. b < 2 ^ 8) bs → Free 10 (body_text bs)
+body_free [] h = (refl, tt)
+body_free (b ∷ bs) h = hex_free (b ∷ bs) h
+
+one_free : (n : ℕ) → n < 2 ^ 64 → Free 10 (spaced (decimal n))
+one_free n h = (refl, decimal_free 10 n (omega arith) (omega arith))
+
+row_free : (row : RowText) → row.key < 2 ^ 64 → AllByRecursion (λ c. FitsSigned w64 c) row.cols → AllByRecursion (λ b. b < 2 ^ 8) row.body → Free 10 (row_text row.key row.cols row.body)
+row_free row k cols body = Free-append 10 (decimal row.key) _ (decimal_free 10 row.key (omega arith) (omega (arith, k))) (Free-append 10 _ (spaced (body_text row.body)) (columns_free row.cols cols) (refl, body_free row.body body))
+
+verb_free : (verb : Verb) → Free 10 (verb_text verb)
+verb_free get_verb = (refl, (refl, (refl, tt)))
+verb_free begin_verb = (refl, (refl, (refl, (refl, (refl, tt)))))
+verb_free commit_verb = (refl, (refl, (refl, (refl, (refl, (refl, tt))))))
+verb_free insert_verb = (refl, (refl, (refl, (refl, (refl, (refl, tt))))))
+verb_free update_verb = (refl, (refl, (refl, (refl, (refl, (refl, tt))))))
+verb_free delete_verb = (refl, (refl, (refl, (refl, (refl, (refl, tt))))))
+verb_free savepoint_verb = (refl, (refl, (refl, (refl, (refl, (refl, (refl, (refl, (refl, tt)))))))))
+verb_free rollback_verb = (refl, (refl, (refl, (refl, (refl, (refl, (refl, (refl, (refl, (refl, tt))))))))))
+verb_free release_verb = (refl, (refl, (refl, (refl, (refl, (refl, (refl, tt)))))))
+verb_free abort_verb = (refl, (refl, (refl, (refl, (refl, tt)))))
+verb_free openindex_verb = (refl, (refl, (refl, (refl, (refl, (refl, (refl, (refl, (refl, tt)))))))))
+verb_free openheap_verb = (refl, (refl, (refl, (refl, (refl, (refl, (refl, (refl, tt))))))))
+verb_free next_verb = (refl, (refl, (refl, (refl, tt))))
+verb_free close_verb = (refl, (refl, (refl, (refl, (refl, tt)))))
+verb_free prune_verb = (refl, (refl, (refl, (refl, (refl, tt)))))
+verb_free page_verb = (refl, (refl, (refl, (refl, tt))))
+verb_free entries_verb = (refl, (refl, (refl, (refl, (refl, (refl, (refl, tt)))))))
+
+key_words_free : (s k : ℕ) → KeyFits s k → Free 10 (spaced (key_words s k))
+key_words_free s k h = (refl, Free-append 10 (decimal s) (spaced (decimal k)) (decimal_free 10 s (omega arith) (omega (arith, h.0))) (one_free k h.1))
+
+range_words_free : (s index : ℕ) (low high : ℤ) → RangeFits s index low high → Free 10 (spaced (range_words s index low high))
+range_words_free s index low high h = (
+  refl,
+  Free-append 10 (decimal s) (spaced (decimal index ++ spaced (signed_decimal low ++ spaced (signed_decimal high)))) (decimal_free 10 s (omega arith) (omega (arith, h.0))) (
+    refl,
+    Free-append 10 (decimal index) (spaced (signed_decimal low ++ spaced (signed_decimal high))) (decimal_free 10 index (omega arith) (omega (arith, h.1)))
+        (refl, Free-append 10 (signed_decimal low) (spaced (signed_decimal high)) (bound_free 10 low (omega arith) h.2) (refl, bound_free 10 high (omega arith) h.3)),
+  ),
+)
+
+row_words_free : (s : ℕ) (row : RowText) → RowFits s row → Free 10 (spaced (row_words s row))
+row_words_free s row h =
+    (refl, Free-append 10 (decimal s) (spaced (row_text row.key row.cols row.body)) (decimal_free 10 s (omega arith) (omega (arith, h.0))) (refl, row_free row h.1 h.3 h.4))
+
+-- no line feed is in a line's text
+pub Free-spelling : (l : Line) → Fits l → Free 10 (spelling l)
+Free-spelling (Do (Begin s)) h = Free-append 10 (codes "begin") (spaced (decimal s)) (verb_free begin_verb) (one_free s (omega arith))
+Free-spelling (Do (Get s k)) h = Free-append 10 (codes "get") (spaced (key_words s k)) (verb_free get_verb) (key_words_free s k h)
+Free-spelling (Do (Insert s row)) h = Free-append 10 (codes "insert") (spaced (row_words s row)) (verb_free insert_verb) (row_words_free s row h)
+Free-spelling (Do (Update s row)) h = Free-append 10 (codes "update") (spaced (row_words s row)) (verb_free update_verb) (row_words_free s row h)
+Free-spelling (Do (Delete s k)) h = Free-append 10 (codes "delete") (spaced (key_words s k)) (verb_free delete_verb) (key_words_free s k h)
+Free-spelling (Do (Savepoint s)) h = Free-append 10 (codes "savepoint") (spaced (decimal s)) (verb_free savepoint_verb) (one_free s (omega arith))
+Free-spelling (Do (RollbackTo s)) h = Free-append 10 (codes "rollbackto") (spaced (decimal s)) (verb_free rollback_verb) (one_free s (omega arith))
+Free-spelling (Do (Release s)) h = Free-append 10 (codes "release") (spaced (decimal s)) (verb_free release_verb) (one_free s (omega arith))
+Free-spelling (Do (Commit s)) h = Free-append 10 (codes "commit") (spaced (decimal s)) (verb_free commit_verb) (one_free s (omega arith))
+Free-spelling (Do (Abort s)) h = Free-append 10 (codes "abort") (spaced (decimal s)) (verb_free abort_verb) (one_free s (omega arith))
+Free-spelling (Do (OpenIndex s index low high)) h = Free-append 10 (codes "openindex") (spaced (range_words s index low high)) (verb_free openindex_verb) (range_words_free s index low high h)
+Free-spelling (Do (OpenHeap s)) h = Free-append 10 (codes "openheap") (spaced (decimal s)) (verb_free openheap_verb) (one_free s (omega arith))
+Free-spelling (Do (Next s n)) h = Free-append 10 (codes "next") (spaced (key_words s n)) (verb_free next_verb) (key_words_free s n (h.0, omega (arith, h.1)))
+Free-spelling (Do (Close s)) h = Free-append 10 (codes "close") (spaced (decimal s)) (verb_free close_verb) (one_free s (omega arith))
+Free-spelling (Do (Prune p)) h = Free-append 10 (codes "prune") (spaced (decimal p)) (verb_free prune_verb) (one_free p (omega arith))
+Free-spelling Ids h = (refl, (refl, (refl, tt)))
+Free-spelling (Page p) h = Free-append 10 (codes "page") (spaced (decimal p)) (verb_free page_verb) (one_free p (omega arith))
+Free-spelling (Entries i) h = Free-append 10 (codes "entries") (spaced (decimal i)) (verb_free entries_verb) (one_free i (omega arith))

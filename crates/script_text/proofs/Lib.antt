@@ -1,0 +1,9 @@
+pub mod ByteLemmas
+pub mod WideLaws
+pub mod NumberLaws
+pub mod SignedLaws
+pub mod ReadingLemmas
+pub mod GrammarLaws
+pub mod HeadingLaws
+pub mod TellingLemmas
+pub mod EntryLemmas

@@ -1,0 +1,118 @@
+-- What is written for a line, its line feed left out.
+use Rattle.std.specs.Prelude.{ℕ, zero, suc, List, [], ◌∷◌, ◌++◌, codes, length, Option, Some, None}
+use Rattle.std.specs.List.{flat_map}
+use Rattle.std.specs.Fmt.{decimal, signed_decimal}
+use Rattle.tuple_header.specs.declared.version.Row.{Row}
+use Rattle.page_slots.specs.declared.slot.Slot.{Slot}
+use Rattle.page_slots.specs.declared.slot.Slot.TheVariants.{Unused, Normal, Redirect, Dead}
+use Rattle.page_slots.specs.Slots.{slot_at}
+use Rattle.script_text.specs.Names.{Reply, Done, Found, Committed, RolledBack, Rows, End, Refused, Refusal, NotOpen, AlreadyOpen, Failed, AlreadyThere, NotThere, Conflict, Busy, CursorOpen, NoCursor, TooDeep, NoSavepoint, TooLarge, NoRoom, NeedsFreeze, NoMemory, NoSuchPage, NoSuchIndex, NoSuchSession, BadBounds, Entry}
+use Rattle.script_text.specs.Grammar.{spaced, row_text}
+
+-- the number and the name of a refusal
+abbrev pub refusal_text : Refusal → List ℕ
+refusal_text NotOpen = codes "1 NotOpen"
+refusal_text AlreadyOpen = codes "2 AlreadyOpen"
+refusal_text Failed = codes "3 Failed"
+refusal_text AlreadyThere = codes "4 AlreadyThere"
+refusal_text NotThere = codes "5 NotThere"
+refusal_text Conflict = codes "6 Conflict"
+refusal_text (Busy s) = codes "7 Busy" ++ spaced (decimal s)
+refusal_text CursorOpen = codes "9 CursorOpen"
+refusal_text NoCursor = codes "10 NoCursor"
+refusal_text TooDeep = codes "11 TooDeep"
+refusal_text NoSavepoint = codes "12 NoSavepoint"
+refusal_text TooLarge = codes "13 TooLarge"
+refusal_text NoRoom = codes "14 NoRoom"
+refusal_text NeedsFreeze = codes "15 NeedsFreeze"
+refusal_text NoMemory = codes "16 NoMemory"
+refusal_text NoSuchPage = codes "19 NoSuchPage"
+refusal_text NoSuchIndex = codes "20 NoSuchIndex"
+refusal_text NoSuchSession = codes "23 NoSuchSession"
+refusal_text BadBounds = codes "24 BadBounds"
+
+-- words, and a number behind them
+unfoldable pub labelled : List ℕ → ℕ → List ℕ
+labelled words n = words ++ spaced (decimal n)
+
+-- a row's line
+abbrev pub found_text : Row → List ℕ
+found_text row = codes "row" ++ spaced (row_text row.key row.cols row.body.items)
+
+-- the lines of rows, in their order, each behind a line feed
+abbrev pub row_lines : List Row → List ℕ
+row_lines rows = flat_map (λ row. 10 ∷ found_text row) rows
+
+-- what is written for a reply
+abbrev pub reply_text : Reply → List ℕ
+reply_text Done = codes "ok"
+reply_text (Found None) = codes "none"
+reply_text (Found (Some row)) = found_text row
+reply_text Committed = codes "committed"
+reply_text RolledBack = codes "rolled back"
+reply_text (Rows rows) = labelled (codes "rows") (length rows.items) ++ row_lines rows.items
+reply_text End = codes "end"
+reply_text (Refused r) = codes "error" ++ spaced (refusal_text r)
+
+-- the next id, and that below which all are frozen
+abbrev pub ids_text : ℕ → ℕ → List ℕ
+ids_text next frozen_below = labelled (codes "next") next ++ labelled (codes " frozen_below") frozen_below
+
+-- a slot behind its number, with raw ids
+abbrev pub slot_text : Slot → List ℕ
+slot_text Unused = codes " unused"
+slot_text Dead = codes " dead"
+slot_text (Redirect target) = codes " redirect" ++ spaced (decimal target)
+slot_text (Normal version) = codes " normal" ++ (spaced (decimal version.header.xmin.0) ++ (spaced (decimal version.header.xmax.0) ++ spaced (decimal version.row.key)))
+
+-- a slot's line, behind a line feed
+abbrev pub slot_line_text : ℕ → Option Slot → List ℕ
+slot_line_text number None = []
+slot_line_text number (Some slot) = 10 ∷ (decimal number ++ slot_text slot)
+
+-- the lines of the slots up to a number
+abbrev pub slot_lines : ℕ → List Slot → List ℕ
+slot_lines zero slots = []
+slot_lines (suc n) slots = slot_lines n slots ++ slot_line_text (suc n) (slot_at slots (suc n))
+
+-- a page's own line
+abbrev pub page_head_text : ℕ → ℕ → ℕ → ℕ → List ℕ
+page_head_text number change visible count =
+    labelled (codes "page") number ++ (labelled (codes " change") change ++ (labelled (codes " visible") visible ++ labelled (codes " slots") count))
+
+-- a page's line, and those of its slots
+abbrev pub page_text : ℕ → ℕ → ℕ → List Slot → List ℕ
+page_text number change visible slots = page_head_text number change visible (length slots) ++ slot_lines (length slots) slots
+
+abbrev pub no_page_text : List ℕ
+no_page_text = codes "error 19 NoSuchPage"
+
+-- a page as it is shown: its change number, 1 for all-visible or 2 for all-frozen too, and its slots
+pub record Shown : Type 0 where
+  pub change : ℕ
+  pub visible : ℕ
+  pub slots : List Slot
+
+abbrev pub shown_text : ℕ → Option Shown → List ℕ
+shown_text number None = no_page_text
+shown_text number (Some shown) = page_text number shown.change shown.visible shown.slots
+
+-- an entry of an index: its value, its key, and the page and the slot that it leads to
+abbrev pub entry_text : Entry → List ℕ
+entry_text e = codes "entry" ++ (spaced (signed_decimal e.value) ++ (spaced (decimal e.key) ++ (spaced (decimal e.tid.page) ++ spaced (decimal e.tid.slot))))
+
+-- the lines of entries, in their order, each behind a line feed
+abbrev pub entry_lines : List Entry → List ℕ
+entry_lines entries = flat_map (λ e. 10 ∷ entry_text e) entries
+
+-- an index's own line, with the number of its entries
+abbrev pub index_head_text : ℕ → ℕ → List ℕ
+index_head_text number count = labelled (codes "entries") number ++ spaced (decimal count)
+
+abbrev pub no_index_text : List ℕ
+no_index_text = codes "error 20 NoSuchIndex"
+
+-- an index's line, and those of its entries, where there is such an index
+abbrev pub index_text : ℕ → Option (List Entry) → List ℕ
+index_text number None = no_index_text
+index_text number (Some entries) = index_head_text number (length entries) ++ entry_lines entries

@@ -1,0 +1,118 @@
+-- The lines of a script. Each value has one spelling, so a line is allowed just where it is the spelling of a value in range.
+use Rattle.std.specs.Prelude.{◌≡◌, ℕ, ℤ, ◌/◌, ◌%◌, ◌^◌, ◌<◌, ◌≤◌, List, [], ◌∷◌, ◌++◌, length, codes, Bool, false, if◌then◌else◌, FitsSigned}
+use Rattle.std.specs.Int.{w64, w128}
+use Rattle.std.specs.List.{flat_map, AllByRecursion}
+use Rattle.std.specs.Fmt.{decimal, signed_decimal, digit_glyph}
+use Rattle.script_text.specs.Names.{Settings, RowText, Step, Begin, Get, Insert, Update, Delete, Savepoint, RollbackTo, Release, Commit, Abort, OpenIndex, OpenHeap, Next, Close, Prune}
+use Rattle.script_text.specs.declared.line.Line.{Line}
+use Rattle.script_text.specs.declared.line.Line.TheVariants.{Do, Ids, Page, Entries}
+
+-- a space, and then a word: one space separates words
+abbrev pub spaced : List ℕ → List ℕ
+spaced word = 32 ∷ word
+
+-- a line and its line feed
+abbrev pub with_feed : List ℕ → List ℕ
+with_feed text = text ++ 10 ∷ []
+
+-- two lower case hexadecimal digits for each byte
+abbrev pub hex_text : List ℕ → List ℕ
+hex_text bytes = flat_map (λ b. digit_glyph false (b / 16) ∷ digit_glyph false (b % 16) ∷ []) bytes
+
+-- a body in hexadecimal digits, or a minus where it is empty
+abbrev pub body_text : List ℕ → List ℕ
+body_text [] = 45 ∷ []
+body_text (b ∷ bs) = hex_text (b ∷ bs)
+
+-- a row: its key, its columns and its body
+abbrev pub row_text : ℕ → List ℤ → List ℕ → List ℕ
+row_text k cols body = decimal k ++ (flat_map (λ c. spaced (signed_decimal c)) cols ++ spaced (body_text body))
+
+-- a session and a key, or a session and how many rows
+abbrev pub key_words : ℕ → ℕ → List ℕ
+key_words s k = decimal s ++ spaced (decimal k)
+
+-- a session, an index and two bounds
+abbrev pub range_words : ℕ → ℕ → ℤ → ℤ → List ℕ
+range_words s index low high = decimal s ++ spaced (decimal index ++ spaced (signed_decimal low ++ spaced (signed_decimal high)))
+
+-- a session and a row
+abbrev pub row_words : ℕ → RowText → List ℕ
+row_words s row = decimal s ++ spaced (row_text row.key row.cols row.body)
+
+-- a digit for a column: 1 where it has an index
+abbrev pub flag_text : Bool → List ℕ
+flag_text b = (if b then 49 else 48) ∷ []
+
+-- the first line: `heap PAGES STOP MIN FIRST DEAD COLS`
+abbrev pub heading : Settings → List ℕ
+heading s = codes "heap" ++ spaced (decimal s.max_pages ++ spaced (decimal s.stop_age ++ spaced (decimal s.freeze_min_age
+    ++ spaced (decimal s.first_xid ++ spaced (decimal s.dead_limit ++ spaced (flat_map flag_text s.indexed))))))
+
+-- a line that asks for a step
+abbrev pub step_text : Step → List ℕ
+step_text (Begin s) = codes "begin" ++ spaced (decimal s)
+step_text (Get s k) = codes "get" ++ spaced (key_words s k)
+step_text (Insert s row) = codes "insert" ++ spaced (row_words s row)
+step_text (Update s row) = codes "update" ++ spaced (row_words s row)
+step_text (Delete s k) = codes "delete" ++ spaced (key_words s k)
+step_text (Savepoint s) = codes "savepoint" ++ spaced (decimal s)
+step_text (RollbackTo s) = codes "rollbackto" ++ spaced (decimal s)
+step_text (Release s) = codes "release" ++ spaced (decimal s)
+step_text (Commit s) = codes "commit" ++ spaced (decimal s)
+step_text (Abort s) = codes "abort" ++ spaced (decimal s)
+step_text (OpenIndex s index low high) = codes "openindex" ++ spaced (range_words s index low high)
+step_text (OpenHeap s) = codes "openheap" ++ spaced (decimal s)
+step_text (Next s n) = codes "next" ++ spaced (key_words s n)
+step_text (Close s) = codes "close" ++ spaced (decimal s)
+step_text (Prune p) = codes "prune" ++ spaced (decimal p)
+
+-- any line but the first
+abbrev pub spelling : Line → List ℕ
+spelling (Do step) = step_text step
+spelling Ids = codes "ids"
+spelling (Page p) = codes "page" ++ spaced (decimal p)
+spelling (Entries i) = codes "entries" ++ spaced (decimal i)
+
+-- a session's number has 8 bits, and a key 64
+abbrev pub KeyFits : ℕ → ℕ → Type 0
+KeyFits s k = (s < 2 ^ 8) × (k < 2 ^ 64)
+
+-- a row has four columns of 64 bits with their signs, and a body of bytes
+abbrev pub RowFits : ℕ → RowText → Type 0
+RowFits s row = (s < 2 ^ 8) × (row.key < 2 ^ 64) × (length row.cols ≡ 4) × AllByRecursion (λ c. FitsSigned w64 c) row.cols
+    × AllByRecursion (λ b. b < 2 ^ 8) row.body
+
+-- an index's number has 8 bits, and bounds have 128 with their signs
+abbrev pub RangeFits : ℕ → ℕ → ℤ → ℤ → Type 0
+RangeFits s index low high = (s < 2 ^ 8) × (index < 2 ^ 8) × FitsSigned w128 low × FitsSigned w128 high
+
+-- each number of a step is in the range of its type; a count of rows has 16 bits, and a page's number 32
+abbrev pub StepFits : Step → Type 0
+StepFits (Begin s) = s < 2 ^ 8
+StepFits (Get s k) = KeyFits s k
+StepFits (Insert s row) = RowFits s row
+StepFits (Update s row) = RowFits s row
+StepFits (Delete s k) = KeyFits s k
+StepFits (Savepoint s) = s < 2 ^ 8
+StepFits (RollbackTo s) = s < 2 ^ 8
+StepFits (Release s) = s < 2 ^ 8
+StepFits (Commit s) = s < 2 ^ 8
+StepFits (Abort s) = s < 2 ^ 8
+StepFits (OpenIndex s index low high) = RangeFits s index low high
+StepFits (OpenHeap s) = s < 2 ^ 8
+StepFits (Next s n) = (s < 2 ^ 8) × (n < 2 ^ 16)
+StepFits (Close s) = s < 2 ^ 8
+StepFits (Prune p) = p < 2 ^ 32
+
+-- and each number of a line
+abbrev pub Fits : Line → Type 0
+Fits (Do step) = StepFits step
+Fits Ids = Unit {0}
+Fits (Page p) = p < 2 ^ 32
+Fits (Entries i) = i < 2 ^ 8
+
+-- what a line may spell: values in range, in at most 4096 bytes
+pub record IsAllowed (l : Line) : Type 0 where
+  pub fits : Fits l
+  pub short : length (spelling l) ≤ 4096

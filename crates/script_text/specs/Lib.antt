@@ -1,0 +1,5 @@
+pub mod Names
+pub mod Grammar
+pub mod Answers
+pub mod Verbs
+pub mod Reading

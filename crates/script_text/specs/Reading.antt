@@ -1,0 +1,165 @@
+-- What the reader of a line gives, step by step.
+use Rattle.std.specs.Prelude.{ℕ, ℤ, pos, negsuc, ◌+◌, ◌-◌, ◌*◌, ◌^◌, ◌==◌, ◌&&◌, ◌||◌, nat_lt, nat_le, Bool, true, false, List, [], ◌∷◌, length, take, drop, slice_index, codes, Option, Some, None, position, if◌then◌else◌}
+use Rattle.std.specs.Option.{option_map}
+use Rattle.std.specs.Char.{is_ascii_digit}
+use Rattle.std.specs.Str.{bytes_eq}
+use Rattle.script_text.specs.Names.{Settings, RowText, Begin, Get, Insert, Update, Delete, Savepoint, RollbackTo, Release, Commit, Abort, OpenIndex, OpenHeap, Next, Close, Prune}
+use Rattle.script_text.specs.Verbs.{verb_of}
+use Rattle.script_text.specs.declared.line.Line.{Line}
+use Rattle.script_text.specs.declared.line.Line.TheVariants.{Do, Ids, Page, Entries}
+use Rattle.script_text.specs.declared.line.Verb.{Verb}
+use Rattle.script_text.specs.declared.line.Verb.TheVariants.{Get as get_verb, Begin as begin_verb, Commit as commit_verb, Insert as insert_verb, Update as update_verb, Delete as delete_verb, Savepoint as savepoint_verb, RollbackTo as rollback_verb, Release as release_verb, Abort as abort_verb, OpenIndex as openindex_verb, OpenHeap as openheap_verb, Next as next_verb, Close as close_verb, Prune as prune_verb, Page as page_verb, Entries as entries_verb}
+
+infixl 10 ◌>>=◌
+abbrev pub ◌>>=◌ : {A B : Type 0} → Option A → (A → Option B) → Option B
+None >>= f = None
+(Some x) >>= f = f x
+
+-- the word at the front, and what stands behind the space after it
+abbrev pub cut : List ℕ → Option (List ℕ × List ℕ)
+cut xs = option_map (λ i. (take i xs, drop (i + 1) xs)) (position (λ b. b == 32) xs)
+
+-- the number of at most max that the digits write when they follow those of n
+unfoldable pub digits_on : ℕ → ℕ → List ℕ → Option ℕ
+digits_on max n [] = Some n
+digits_on max n (c ∷ cs) = if is_ascii_digit c && nat_le (10 * n + (c - 48)) max then digits_on max (10 * n + (c - 48)) cs else None
+
+-- a number of at most max: digits, and no zero in front of another digit
+unfoldable pub number_of : ℕ → List ℕ → Option ℕ
+number_of max w = if (length w == 0) || (nat_lt 1 (length w) && (slice_index w 0 == 48)) then None else digits_on max 0 w
+
+-- a number, and what stands behind the space after it
+unfoldable pub number_then : ℕ → List ℕ → Option (ℕ × List ℕ)
+number_then max xs = do
+  parts ← cut xs
+  n ← number_of max parts.0
+  Some (n, parts.1)
+
+-- a number with its sign, below top and not below - top: a minus stands before a number other than 0
+unfoldable pub signed_of : ℕ → List ℕ → Option ℤ
+signed_of top w = if slice_index w 0 == 45
+    then (number_of top (drop 1 w) >>= λ n. if n == 0 then None else Some (negsuc (n - 1)))
+    else option_map (λ n. pos n) (number_of (top - 1) w)
+
+unfoldable pub signed_then : ℕ → List ℕ → Option (ℤ × List ℕ)
+signed_then top xs = do
+  parts ← cut xs
+  z ← signed_of top parts.0
+  Some (z, parts.1)
+
+-- a column has 64 bits, and a bound 128
+abbrev pub column_of : List ℕ → Option ℤ
+column_of w = signed_of (2 ^ 63) w
+
+abbrev pub column_then : List ℕ → Option (ℤ × List ℕ)
+column_then xs = signed_then (2 ^ 63) xs
+
+abbrev pub bound_of : List ℕ → Option ℤ
+bound_of w = signed_of (2 ^ 127) w
+
+abbrev pub bound_then : List ℕ → Option (ℤ × List ℕ)
+bound_then xs = signed_then (2 ^ 127) xs
+
+-- the value of a lower case hexadecimal digit
+unfoldable pub nibble_of : ℕ → Option ℕ
+nibble_of c = if nat_le 48 c && nat_le c 57 then Some (c - 48) else if nat_le 97 c && nat_le c 102 then Some (c - 87) else None
+
+-- a byte of two digits, before the bytes of the rest
+abbrev pub pair_and : Option ℕ → Option ℕ → Option (List ℕ) → Option (List ℕ)
+pair_and None low rest = None
+pair_and (Some a) None rest = None
+pair_and (Some a) (Some b) rest = option_map (λ bytes. (16 * a + b) ∷ bytes) rest
+
+unfoldable pub pairs_of : List ℕ → Option (List ℕ)
+pairs_of [] = Some []
+pairs_of (h ∷ []) = None
+pairs_of (h ∷ l ∷ rest) = pair_and (nibble_of h) (nibble_of l) (pairs_of rest)
+
+unfoldable pub body_of : List ℕ → Option (List ℕ)
+body_of [] = None
+body_of (x ∷ xs) = if (x == 45) && (length xs == 0) then Some [] else pairs_of (x ∷ xs)
+
+-- a session and a row
+unfoldable pub row_words_of : List ℕ → Option (ℕ × RowText)
+row_words_of xs = do
+  s ← number_then 255 xs
+  k ← number_then (2 ^ 64 - 1) s.1
+  c0 ← column_then k.1
+  c1 ← column_then c0.1
+  c2 ← column_then c1.1
+  c3 ← column_then c2.1
+  body ← body_of c3.1
+  Some (s.0, record { key = k.0; cols = c0.0 ∷ c1.0 ∷ c2.0 ∷ c3.0 ∷ []; body = body })
+
+-- a session and a key
+unfoldable pub key_words_of : List ℕ → Option (ℕ × ℕ)
+key_words_of xs = do
+  s ← number_then 255 xs
+  k ← number_of (2 ^ 64 - 1) s.1
+  Some (s.0, k)
+
+-- a session and how many rows
+unfoldable pub count_words_of : List ℕ → Option (ℕ × ℕ)
+count_words_of xs = do
+  s ← number_then 255 xs
+  n ← number_of 65535 s.1
+  Some (s.0, n)
+
+-- a session, an index and two bounds
+unfoldable pub range_words_of : List ℕ → Option (ℕ × ℕ × ℤ × ℤ)
+range_words_of xs = do
+  s ← number_then 255 xs
+  index ← number_then 255 s.1
+  low ← bound_then index.1
+  high ← bound_of low.1
+  Some (s.0, index.0, low.0, high)
+
+-- a digit for each of the four columns
+unfoldable pub flag_of : ℕ → Option Bool
+flag_of c = if c == 48 then Some false else if c == 49 then Some true else None
+
+unfoldable pub flags4_of : List ℕ → Option (List Bool)
+flags4_of w = if length w == 4 then (do
+  a ← flag_of (slice_index w 0)
+  b ← flag_of (slice_index w 1)
+  c ← flag_of (slice_index w 2)
+  d ← flag_of (slice_index w 3)
+  Some (a ∷ b ∷ c ∷ d ∷ [])) else None
+
+unfoldable pub heading_of : List ℕ → Option Settings
+heading_of xs = do
+  pages ← number_then 4294967295 xs
+  stop ← number_then 4294967295 pages.1
+  min ← number_then 4294967295 stop.1
+  first ← number_then 4294967295 min.1
+  dead ← number_then 4294967295 first.1
+  flags ← flags4_of dead.1
+  Some (record { max_pages = pages.0; stop_age = stop.0; freeze_min_age = min.0; first_xid = first.0; dead_limit = dead.0; indexed = flags })
+
+unfoldable pub settings_at : List ℕ → Option Settings
+settings_at line = cut line >>= λ parts. if bytes_eq parts.0 (codes "heap") then heading_of parts.1 else None
+
+-- what a verb asks for with the words behind it
+abbrev pub line_for : Verb → List ℕ → Option Line
+line_for get_verb rest = option_map (λ p. Do (Get p.0 p.1)) (key_words_of rest)
+line_for begin_verb rest = option_map (λ s. Do (Begin s)) (number_of 255 rest)
+line_for commit_verb rest = option_map (λ s. Do (Commit s)) (number_of 255 rest)
+line_for insert_verb rest = option_map (λ p. Do (Insert p.0 p.1)) (row_words_of rest)
+line_for update_verb rest = option_map (λ p. Do (Update p.0 p.1)) (row_words_of rest)
+line_for delete_verb rest = option_map (λ p. Do (Delete p.0 p.1)) (key_words_of rest)
+line_for savepoint_verb rest = option_map (λ s. Do (Savepoint s)) (number_of 255 rest)
+line_for rollback_verb rest = option_map (λ s. Do (RollbackTo s)) (number_of 255 rest)
+line_for release_verb rest = option_map (λ s. Do (Release s)) (number_of 255 rest)
+line_for abort_verb rest = option_map (λ s. Do (Abort s)) (number_of 255 rest)
+line_for openindex_verb rest = option_map (λ p. Do (OpenIndex p.0 p.1 p.2 p.3)) (range_words_of rest)
+line_for openheap_verb rest = option_map (λ s. Do (OpenHeap s)) (number_of 255 rest)
+line_for next_verb rest = option_map (λ p. Do (Next p.0 p.1)) (count_words_of rest)
+line_for close_verb rest = option_map (λ s. Do (Close s)) (number_of 255 rest)
+line_for prune_verb rest = option_map (λ p. Do (Prune p)) (number_of 4294967295 rest)
+line_for page_verb rest = option_map (λ p. Page p) (number_of 4294967295 rest)
+line_for entries_verb rest = option_map (λ i. Entries i) (number_of 255 rest)
+
+-- what a line asks for
+unfoldable pub line_at : List ℕ → Option Line
+line_at line = if bytes_eq line (codes "ids") then Some Ids
+    else (cut line >>= λ parts. verb_of parts.0 >>= λ verb. line_for verb parts.1)

@@ -1,0 +1,157 @@
+//! The text of a reply.
+
+ghost use Rattle.std.specs.Prelude.{◌≡◌, ◌+◌, ◌<◌, ◌/◌, ◌%◌, ◌∷◌, ◌++◌, OnOk, false};
+ghost use Rattle.std.specs.List.{flat_map};
+ghost use Rattle.std.specs.Fmt.{decimal, signed_decimal, digit_glyph};
+ghost use Rattle.script_text.specs.Grammar.{spaced, hex_text, body_text, row_text, with_feed};
+ghost use Rattle.script_text.specs.Answers.{refusal_text, found_text, row_lines, reply_text};
+
+use crate::growth::{RefusedGrowth, extend, push};
+use crate::page::label;
+use itoa::Buffer;
+use refinement::{Refusal, Reply, Row};
+
+pub(crate) fn unsigned(out: &mut Vec<u8>, n: u64) -> Result<(), RefusedGrowth>
+    ensures { OnOk result (out.new.items ≡ out.old.items ++ decimal n) }
+{
+    let mut buffer = Buffer::new();
+    extend(out, buffer.format(n).as_bytes())
+}
+
+fn column(out: &mut Vec<u8>, c: i64) -> Result<(), RefusedGrowth>
+    ensures { OnOk result (out.new.items ≡ out.old.items ++ spaced (signed_decimal c)) }
+{
+    let mut buffer = Buffer::new();
+    push(out, b' ')?;
+    extend(out, buffer.format(c).as_bytes())
+}
+
+fn columns(out: &mut Vec<u8>, cols: &[i64]) -> Result<(), RefusedGrowth>
+    ensures { OnOk result
+        (out.new.items ≡ out.old.items ++ flat_map (λ c. spaced (signed_decimal c)) cols.now) }
+{
+    for c in cols {
+        column(out, *c)?;
+    }
+    Ok(())
+}
+
+fn glyph(n: u8) -> u8
+    requires { n < 16 }
+    ensures { result ≡ digit_glyph false n }
+{
+    if n < 10 { b'0' + n } else { b'a' + (n - 10) }
+}
+
+fn hex(out: &mut Vec<u8>, bytes: &[u8]) -> Result<(), RefusedGrowth>
+    ensures { OnOk result (out.new.items ≡ out.old.items ++ hex_text bytes.now) }
+{
+    for b in bytes {
+        let pair = [glyph(*b / 16), glyph(*b % 16)];
+        extend(out, pair.as_slice())?;
+    }
+    Ok(())
+}
+
+fn body(out: &mut Vec<u8>, bytes: &[u8]) -> Result<(), RefusedGrowth>
+    ensures { OnOk result (out.new.items ≡ out.old.items ++ spaced (body_text bytes.now)) }
+{
+    push(out, b' ')?;
+    if bytes.is_empty() {
+        push(out, b'-')
+    } else {
+        hex(out, bytes)
+    }
+}
+
+fn row(out: &mut Vec<u8>, row: &Row) -> Result<(), RefusedGrowth>
+    ensures { OnOk result
+        (out.new.items ≡ out.old.items ++ row_text row.now.key row.now.cols row.now.body.items) }
+{
+    unsigned(out, row.key)?;
+    columns(out, row.cols.as_slice())?;
+    body(out, row.body.as_slice())
+}
+
+// The line of a row.
+fn found(out: &mut Vec<u8>, one: &Row) -> Result<(), RefusedGrowth>
+    ensures { OnOk result (out.new.items ≡ out.old.items ++ found_text one.now) }
+{
+    extend(out, b"row ")?;
+    row(out, one)
+}
+
+// A line feed, and then the line of a row.
+fn row_line(out: &mut Vec<u8>, one: &Row) -> Result<(), RefusedGrowth>
+    ensures { OnOk result (out.new.items ≡ out.old.items ++ 10 ∷ found_text one.now) }
+{
+    push(out, b'\n')?;
+    found(out, one)
+}
+
+fn rows(out: &mut Vec<u8>, rows: &[Row]) -> Result<(), RefusedGrowth>
+    ensures { OnOk result (out.new.items ≡ out.old.items ++ row_lines rows.now) }
+{
+    for one in rows {
+        row_line(out, one)?;
+    }
+    Ok(())
+}
+
+fn refusal(out: &mut Vec<u8>, refusal: Refusal) -> Result<(), RefusedGrowth>
+    ensures { OnOk result (out.new.items ≡ out.old.items ++ refusal_text refusal) }
+{
+    match refusal {
+        Refusal::NotOpen => extend(out, b"1 NotOpen"),
+        Refusal::AlreadyOpen => extend(out, b"2 AlreadyOpen"),
+        Refusal::Failed => extend(out, b"3 Failed"),
+        Refusal::AlreadyThere => extend(out, b"4 AlreadyThere"),
+        Refusal::NotThere => extend(out, b"5 NotThere"),
+        Refusal::Conflict => extend(out, b"6 Conflict"),
+        Refusal::Busy(s) => {
+            extend(out, b"7 Busy ")?;
+            unsigned(out, u64::from(s))
+        }
+        Refusal::CursorOpen => extend(out, b"9 CursorOpen"),
+        Refusal::NoCursor => extend(out, b"10 NoCursor"),
+        Refusal::TooDeep => extend(out, b"11 TooDeep"),
+        Refusal::NoSavepoint => extend(out, b"12 NoSavepoint"),
+        Refusal::TooLarge => extend(out, b"13 TooLarge"),
+        Refusal::NoRoom => extend(out, b"14 NoRoom"),
+        Refusal::NeedsFreeze => extend(out, b"15 NeedsFreeze"),
+        Refusal::NoMemory => extend(out, b"16 NoMemory"),
+        Refusal::NoSuchPage => extend(out, b"19 NoSuchPage"),
+        Refusal::NoSuchIndex => extend(out, b"20 NoSuchIndex"),
+        Refusal::NoSuchSession => extend(out, b"23 NoSuchSession"),
+        Refusal::BadBounds => extend(out, b"24 BadBounds"),
+    }
+}
+
+fn text(out: &mut Vec<u8>, reply: &Reply) -> Result<(), RefusedGrowth>
+    ensures { OnOk result (out.new.items ≡ out.old.items ++ reply_text reply.now) }
+{
+    match reply {
+        Reply::Done => extend(out, b"ok"),
+        Reply::Found(None) => extend(out, b"none"),
+        Reply::Found(Some(row)) => found(out, row),
+        Reply::Committed => extend(out, b"committed"),
+        Reply::RolledBack => extend(out, b"rolled back"),
+        Reply::Rows(found) => {
+            label(out, b"rows", found.len() as u64)?;
+            rows(out, found.as_slice())
+        }
+        Reply::End => extend(out, b"end"),
+        Reply::Refused(r) => {
+            extend(out, b"error ")?;
+            refusal(out, *r)
+        }
+    }
+}
+
+/// Adds the line of a reply.
+pub fn tell_reply(out: &mut Vec<u8>, reply: &Reply) -> Result<(), RefusedGrowth>
+    ensures { OnOk result (out.new.items ≡ out.old.items ++ with_feed (reply_text reply.now)) }
+{
+    text(out, reply)?;
+    push(out, b'\n')
+}

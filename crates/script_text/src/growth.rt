@@ -1,0 +1,64 @@
+//! All growths of texts and buffers.
+//!
+//! Each function here asks for memory once, for no more than the bytes that it is given need, or for one buffer. A [`RefusedGrowth`]
+//! is made of the refusal of that request, and of nothing else: no other module can make one.
+
+ghost use Rattle.std.specs.Prelude.{◌≡◌, ◌∷◌, ◌++◌, ◌+◌, ◌/◌, ◌<◌, ◌≤◌, [], length, vec_len, vec_capacity, IfOk, OnOk, OnErr};
+
+use std::alloc::Global;
+
+/// That a growth was refused.
+#[derive(Drop)]
+pub struct RefusedGrowth {
+    _of_this_module: (),
+}
+
+const REFUSED: RefusedGrowth = RefusedGrowth {
+    _of_this_module: (),
+};
+
+/// Adds a byte.
+pub(crate) fn push(out: &mut Vec<u8>, byte: u8) -> Result<(), RefusedGrowth>
+    ensures added { OnOk result (out.new.items ≡ out.old.items ++ byte ∷ []) }
+    ensures full { OnErr result (vec_capacity out.old ≤ vec_len out.old) }
+{
+    match out.push(byte) {
+        Ok(()) => Ok(()),
+        Err(_) => Err(REFUSED),
+    }
+}
+
+/// Adds bytes.
+pub(crate) fn extend(out: &mut Vec<u8>, bytes: &[u8]) -> Result<(), RefusedGrowth>
+    ensures added { OnOk result (out.new.items ≡ out.old.items ++ bytes.now) }
+    ensures full { OnErr result (vec_capacity out.old < vec_len out.old + length bytes.now) }
+{
+    match out.extend_from_slice(bytes) {
+        Ok(()) => Ok(()),
+        Err(_) => Err(REFUSED),
+    }
+}
+
+/// An empty list with room for the bytes that a word spells, two digits each.
+pub(crate) fn room_for_pairs(alloc: Global, word: &[u8]) -> Result<Vec<u8>, RefusedGrowth>
+    ensures empty { IfOk result (λ bytes. bytes.items ≡ []) }
+    ensures some { OnErr result (0 < length word.now / 2) }
+{
+    match Vec::with_capacity(alloc, word.len() / 2) {
+        Ok(bytes) => Ok(bytes),
+        Err(_) => Err(REFUSED),
+    }
+}
+
+// How many bytes a buffer has.
+const CAPACITY: usize = 65536;
+
+/// A buffer of zeros.
+pub fn buffer(alloc: Global) -> Result<Vec<u8>, RefusedGrowth>
+    ensures { IfOk result (λ bytes. length bytes.items ≡ 65536) }
+{
+    match vec![in alloc; 0; CAPACITY] {
+        Ok(bytes) => Ok(bytes),
+        Err(_) => Err(REFUSED),
+    }
+}

@@ -1,0 +1,24 @@
+//! The language of the shell's scripts: lines to steps, replies to text.
+//!
+//! [`settings_at`] reads a script's first line and [`line_at`] any other, each exactly as `specs/Grammar.antt` spells it: what is read
+//! is spelled so, and what is spelled so is read (`proofs/GrammarLaws.antt`, `proofs/HeadingLaws.antt`). The functions `tell_..` add
+//! the lines of an answer to a text (`specs/Answers.antt`). [`command_of`] says which words of the command line ask for a script.
+//! Each of them gives up only with a [`RefusedGrowth`], which only the refusal of a growth makes.
+#![tactic(auto)]
+
+mod answer;
+mod command;
+mod entries;
+mod growth;
+mod heading;
+mod line;
+mod page;
+mod words;
+
+pub use answer::tell_reply;
+pub use command::{Command, USAGE, command_of};
+pub use entries::{tell_index, tell_no_index};
+pub use growth::{RefusedGrowth, buffer};
+pub use heading::settings_at;
+pub use line::{Line, line_at};
+pub use page::{tell_ids, tell_no_page, tell_page};

@@ -1,0 +1,223 @@
+//! A line behind the first, and what it asks for.
+
+ghost use Rattle.std.specs.Prelude.{◌≡◌, IfOk};
+ghost use Rattle.std.specs.Option.{option_map};
+ghost use Rattle.script_text.specs.Verbs.{verb_of, verb_in, other_verbs};
+ghost use Rattle.script_text.specs.Reading.{number_of, row_words_of, key_words_of, count_words_of, range_words_of, line_for, line_at as line_at_of};
+
+use crate::growth::RefusedGrowth;
+use crate::words::{body, bound, bound_then, column_then, cut, number, number_then};
+use refinement::{RowIn, Step};
+use std::alloc::Global;
+
+/// What a line asks for.
+#[derive(Debug, Drop)]
+pub enum Line {
+    /// A step of the engine.
+    Do(Step),
+    /// The next id, and that below which all are frozen.
+    Ids,
+    /// The slots of a page.
+    Page(u32),
+    /// The entries of an index.
+    Entries(u8),
+}
+
+/// The first word of a line with several words.
+#[derive(Clone, Copy, Debug)]
+pub enum Verb {
+    Get,
+    Begin,
+    Commit,
+    Insert,
+    Update,
+    Delete,
+    Savepoint,
+    RollbackTo,
+    Release,
+    Abort,
+    OpenIndex,
+    OpenHeap,
+    Next,
+    Close,
+    Prune,
+    Page,
+    Entries,
+}
+
+// The verb that a word spells, of those that are asked for less often.
+fn other_verb_at(word: &[u8]) -> Option<Verb>
+    ensures { result ≡ verb_in other_verbs word.now }
+{
+    if word == b"savepoint".as_slice() {
+        Some(Verb::Savepoint)
+    } else if word == b"rollbackto".as_slice() {
+        Some(Verb::RollbackTo)
+    } else if word == b"release".as_slice() {
+        Some(Verb::Release)
+    } else if word == b"openindex".as_slice() {
+        Some(Verb::OpenIndex)
+    } else if word == b"openheap".as_slice() {
+        Some(Verb::OpenHeap)
+    } else if word == b"close".as_slice() {
+        Some(Verb::Close)
+    } else if word == b"prune".as_slice() {
+        Some(Verb::Prune)
+    } else if word == b"page".as_slice() {
+        Some(Verb::Page)
+    } else if word == b"entries".as_slice() {
+        Some(Verb::Entries)
+    } else {
+        None
+    }
+}
+
+// The verb that a word spells; the most usual come first.
+fn verb_at(word: &[u8]) -> Option<Verb>
+    ensures { result ≡ verb_of word.now }
+{
+    if word == b"get".as_slice() {
+        Some(Verb::Get)
+    } else if word == b"begin".as_slice() {
+        Some(Verb::Begin)
+    } else if word == b"commit".as_slice() {
+        Some(Verb::Commit)
+    } else if word == b"insert".as_slice() {
+        Some(Verb::Insert)
+    } else if word == b"update".as_slice() {
+        Some(Verb::Update)
+    } else if word == b"delete".as_slice() {
+        Some(Verb::Delete)
+    } else if word == b"next".as_slice() {
+        Some(Verb::Next)
+    } else if word == b"abort".as_slice() {
+        Some(Verb::Abort)
+    } else {
+        other_verb_at(word)
+    }
+}
+
+// A session and a row.
+#[tactic(auto, unfolding(crate::specs::Reading::row_words_of))]
+fn row(alloc: Global, text: &[u8]) -> Result<Option<(u8, RowIn)>, RefusedGrowth>
+    ensures { IfOk result (λ o. option_map (λ p. (p.0, p.1)) o ≡ row_words_of text.now) }
+{
+    let Some((s, rest)) = number_then(text, 255) else {
+        return Ok(None);
+    };
+    let Some((key, rest)) = number_then(rest, u64::MAX) else {
+        return Ok(None);
+    };
+    let Some((c0, rest)) = column_then(rest) else {
+        return Ok(None);
+    };
+    let Some((c1, rest)) = column_then(rest) else {
+        return Ok(None);
+    };
+    let Some((c2, rest)) = column_then(rest) else {
+        return Ok(None);
+    };
+    let Some((c3, rest)) = column_then(rest) else {
+        return Ok(None);
+    };
+    let Some(body) = body(alloc, rest)? else {
+        return Ok(None);
+    };
+    let row = RowIn {
+        key,
+        cols: [c0, c1, c2, c3],
+        body,
+    };
+    Ok(Some((s as u8, row)))
+}
+
+// A session and a key.
+#[tactic(auto, unfolding(crate::specs::Reading::key_words_of))]
+fn key(text: &[u8]) -> Option<(u8, u64)>
+    ensures { option_map (λ p. (p.0, p.1)) result ≡ key_words_of text.now }
+{
+    let (s, rest) = number_then(text, 255)?;
+    let key = number(rest, u64::MAX)?;
+    Some((s as u8, key))
+}
+
+// A session and how many rows.
+#[tactic(auto, unfolding(crate::specs::Reading::count_words_of))]
+fn count(text: &[u8]) -> Option<(u8, u16)>
+    ensures { option_map (λ p. (p.0, p.1)) result ≡ count_words_of text.now }
+{
+    let (s, rest) = number_then(text, 255)?;
+    let n = number(rest, u64::from(u16::MAX))?;
+    Some((s as u8, n as u16))
+}
+
+// A session, an index and two bounds.
+#[tactic(auto, unfolding(crate::specs::Reading::range_words_of))]
+fn range(text: &[u8]) -> Option<(u8, u8, i128, i128)>
+    ensures { option_map (λ p. (p.0, p.1, p.2, p.3)) result ≡ range_words_of text.now }
+{
+    let (s, rest) = number_then(text, 255)?;
+    let (index, rest) = number_then(rest, 255)?;
+    let (low, rest) = bound_then(rest)?;
+    let high = bound(rest)?;
+    Some((s as u8, index as u8, low, high))
+}
+
+// A session or an index.
+fn number8(word: &[u8]) -> Option<u8>
+    ensures { result ≡ number_of 255 word.now }
+{
+    let n = number(word, 255)?;
+    Some(n as u8)
+}
+
+fn page(word: &[u8]) -> Option<u32>
+    ensures { result ≡ number_of 4294967295 word.now }
+{
+    let p = number(word, u64::from(u32::MAX))?;
+    Some(p as u32)
+}
+
+// What a verb asks for with the words behind it.
+fn line_with(alloc: Global, verb: Verb, rest: &[u8]) -> Result<Option<Line>, RefusedGrowth>
+    ensures { IfOk result (λ o. o ≡ line_for verb rest.now) }
+{
+    match verb {
+        Verb::Get => Ok(key(rest).map(|(s, key)| Line::Do(Step::Get(s, key)))),
+        Verb::Begin => Ok(number8(rest).map(|s| Line::Do(Step::Begin(s)))),
+        Verb::Commit => Ok(number8(rest).map(|s| Line::Do(Step::Commit(s)))),
+        Verb::Insert => Ok(row(alloc, rest)?.map(|(s, row)| Line::Do(Step::Insert(s, row)))),
+        Verb::Update => Ok(row(alloc, rest)?.map(|(s, row)| Line::Do(Step::Update(s, row)))),
+        Verb::Delete => Ok(key(rest).map(|(s, key)| Line::Do(Step::Delete(s, key)))),
+        Verb::Savepoint => Ok(number8(rest).map(|s| Line::Do(Step::Savepoint(s)))),
+        Verb::RollbackTo => Ok(number8(rest).map(|s| Line::Do(Step::RollbackTo(s)))),
+        Verb::Release => Ok(number8(rest).map(|s| Line::Do(Step::Release(s)))),
+        Verb::Abort => Ok(number8(rest).map(|s| Line::Do(Step::Abort(s)))),
+        Verb::OpenIndex => Ok(range(rest).map(|(s, index, low, high)| Line::Do(Step::OpenIndex(
+            s, index, low, high,
+        )))),
+        Verb::OpenHeap => Ok(number8(rest).map(|s| Line::Do(Step::OpenHeap(s)))),
+        Verb::Next => Ok(count(rest).map(|(s, n)| Line::Do(Step::Next(s, n)))),
+        Verb::Close => Ok(number8(rest).map(|s| Line::Do(Step::Close(s)))),
+        Verb::Prune => Ok(page(rest).map(|p| Line::Do(Step::Prune(p)))),
+        Verb::Page => Ok(page(rest).map(|p| Line::Page(p))),
+        Verb::Entries => Ok(number8(rest).map(|i| Line::Entries(i))),
+    }
+}
+
+/// What a line asks for, if it is allowed. The line has no line feed.
+#[tactic(auto, unfolding(crate::specs::Reading::line_at))]
+pub fn line_at(alloc: Global, line: &[u8]) -> Result<Option<Line>, RefusedGrowth>
+    ensures { IfOk result (λ o. o ≡ line_at_of line.now) }
+{
+    if line == b"ids".as_slice() {
+        return Ok(Some(Line::Ids));
+    }
+    let Some((word, rest)) = cut(line) else {
+        return Ok(None);
+    };
+    match verb_at(word) {
+        Some(verb) => line_with(alloc, verb, rest),
+        None => Ok(None),
+    }
+}
