@@ -2,13 +2,12 @@
 use Rattle.std.proofs.Common.{◌≡◌, subst, ℕ, ◌+◌, ◌<◌, ◌≤◌, ◌⊎◌, inl, inr, arith, List, [], ◌∷◌, ◌++◌, length, take, drop, refl, ap, append_assoc, ◌∙◌, sym, Option, Some, None, Result, Ok, Err, position, IfSome}
 use Rattle.std.specs.Bool.{◌==◌}
 use Rattle.std.specs.List.{AllByRecursion}
-use Rattle.std.proofs.lemmas.Option.{IfSome_then, same_Some}
+use Rattle.std.proofs.lemmas.Option.{IfSome_then}
 use Rattle.std.proofs.lemmas.List.{append-nil}
 use Rattle.std.specs.Io.KnownBytes.{Appends}
 use Rattle.script_text.specs.Names.{Settings, AreSettings}
 use Rattle.script.specs.Engine.{EngineView, IsNew, beginning, SettingsFault, FirstFault, MaxPages, StopAge, FreezeMinAge, FirstXid, DeadLimit, NoMemoryForSettings}
-use Rattle.script_text.specs.Grammar.{IsAllowed, heading, with_feed}
-use Rattle.script_text.specs.Reading.{settings_at}
+use Rattle.script_text.specs.Grammar.{IsAllowed, SettingsFit, heading, with_feed}
 use Rattle.script.specs.Pieces.{TakesText, GivesText}
 use Rattle.script.specs.Script.{Event, ScriptOutcome, IsBadHeading, IsScriptRun, EventsLead, WritesBeginning, line_of, answers_of, lines_of}
 use Rattle.script.specs.Refusals.{Refusals, IsRefused}
@@ -19,7 +18,7 @@ use Rattle.script.specs.declared.run.Next.TheVariants.{Line, Bad, End}
 use Rattle.script.specs.declared.fault.ShellFault.{ShellFault}
 use Rattle.script.specs.declared.fault.ShellFault.TheVariants.{BadLine, Input, Output, NoMemory, TooManyLines}
 use Rattle.script.proofs.PiecesLemmas.{Appends-Appends}
-use Rattle.script_text.proofs.HeadingLaws.{settings_at_says, settings_at-heading, Free-heading}
+use Rattle.script_text.proofs.HeadingLaws.{heading_once, settings_fit, Free-heading}
 use Rattle.script.proofs.RunLemmas.{Leads-run, Uses-refl, Uses-Takes, Uses-prefix, Uses-known, no_text, text_is, position-split}
 
 first_known : (before now : Option (List ℕ)) (old p : List ℕ) → old ≡ [] → TakesText before now old p → IfSome before (λ input. (rest : List ℕ) × (now ≡ Some rest) × (input ≡ p ++ rest))
@@ -40,16 +39,15 @@ bad_first before now old p next none t h other =
     IfSome_then before (first_known before now old p none t) (λ input k. bad_if next p k.0 input (rw k.1 at h) other k.2)
 
 pub bad_text : (before now : Option (List ℕ)) (old p : List ℕ) (n : ℕ) → old ≡ [] → TakesText before now old p → position (λ b. b == 10) p ≡ Some n
-    → ((s : Settings) → AreSettings s → settings_at (take n p) ≡ Some s → ⊥) → IfSome before (λ input. IsBadHeading input)
+    → ((s : Settings) → AreSettings s → SettingsFit s → take n p ≡ heading s → ⊥) → IfSome before (λ input. IsBadHeading input)
 bad_text before now old p n none t at other =
     IfSome_then before (first_known before now old p none t) (λ input k. λ s more fits flags short f.
-    other s fits (ap settings_at (text_is p k.0 n (heading s) more at (Free-heading s fits) (sym k.2 ∙ f)) ∙ settings_at-heading s fits flags))
+    other s fits (settings_fit s fits flags) (text_is p k.0 n (heading s) more at (Free-heading s fits) (sym k.2 ∙ f)))
 
-pub first_used : (before now : Option (List ℕ)) (old p : List ℕ) (n : ℕ) (s : Settings) → old ≡ [] → TakesText before now old p → position (λ b. b == 10) p ≡ Some n → settings_at (take n p) ≡ Some s
+pub first_used : (before now : Option (List ℕ)) (old p : List ℕ) (n : ℕ) (s : Settings) → old ≡ [] → TakesText before now old p → position (λ b. b == 10) p ≡ Some n → take n p ≡ heading s
     → Uses before now [] (with_feed (heading s)) (drop (n + 1) p)
 first_used before now old p n s none t at h =
-    let says = settings_at_says (take n p) s h in
-    let u = Uses-prefix before now old [] p (with_feed (heading s)) (drop (n + 1) p) (position-split p n at ∙ ap (λ x. with_feed x ++ drop (n + 1) p) says.text) (Uses-Takes before before now old [] old p (Uses-refl before old) t) in
+    let u = Uses-prefix before now old [] p (with_feed (heading s)) (drop (n + 1) p) (position-split p n at ∙ ap (λ x. with_feed x ++ drop (n + 1) p) h) (Uses-Takes before before now old [] old p (Uses-refl before old) t) in
     subst (λ (o : List ℕ). Uses before now o (with_feed (heading s)) (drop (n + 1) p)) none u
 
 nothing_first : (a b c : Option (List ℕ)) (x : List ℕ) → Appends a b [] → Appends b c x → Appends a c x
@@ -166,9 +164,9 @@ out_of_range s DeadLimit h other k = outside s.dead_limit 1 4096 h.0 k.dead_limi
 out_of_range s NoMemoryForSettings h other k = other refl
 
 pub bad_settings : (before now : Option (List ℕ)) (old p : List ℕ) (n : ℕ) (s : Settings) → old ≡ [] → TakesText before now old p → position (λ b. b == 10) p ≡ Some n
-    → Some s ≡ settings_at (take n p) → (AreSettings s → ⊥) → IfSome before (λ input. IsBadHeading input)
+    → SettingsFit s × (take n p ≡ heading s) → (AreSettings s → ⊥) → IfSome before (λ input. IsBadHeading input)
 bad_settings before now old p n s none t at read outside =
-    bad_text before now old p n none t at (λ s' fits e. outside (subst AreSettings (sym (same_Some s s' (read ∙ e))) fits))
+    bad_text before now old p n none t at (λ s' fits fit e. outside (subst AreSettings (sym (heading_once s s' read.0 fit (sym read.1 ∙ e))) fits))
 
 nil_front : (xs ys : List ℕ) → [] ≡ xs ++ ys → xs ≡ []
 nil_front [] ys e = refl

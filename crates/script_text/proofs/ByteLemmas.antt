@@ -12,6 +12,19 @@ abbrev pub Free : ℕ → List ℕ → Type 0
 Free x [] = Unit {0}
 Free x (b ∷ bs) = (eqb b x ≡ false) × Free x bs
 
+-- whether a byte is not in a text
+abbrev pub lacks : ℕ → List ℕ → Bool
+lacks x [] = true
+lacks x (b ∷ bs) = cond (eqb b x) false (lacks x bs)
+
+lacking : (x b : ℕ) (bs : List ℕ) (t : Bool) → eqb b x ≡ t → cond (eqb b x) false (lacks x bs) ≡ true → (eqb b x ≡ false) × (lacks x bs ≡ true)
+lacking x b bs true e h = absurd (let h' = rw e at h in cc h')
+lacking x b bs false e h = let h' = rw e at h in (e, h')
+
+pub free_text : (x : ℕ) (xs : List ℕ) → lacks x xs ≡ true → Free x xs
+free_text x [] h = tt
+free_text x (b ∷ bs) h = let k = lacking x b bs (eqb b x) refl h in (k.0, free_text x bs k.1)
+
 pub Free-append : (x : ℕ) (xs ys : List ℕ) → Free x xs → Free x ys → Free x (xs ++ ys)
 Free-append x [] ys h k = k
 Free-append x (b ∷ bs) ys h k = (h.0, Free-append x bs ys h.1 k)

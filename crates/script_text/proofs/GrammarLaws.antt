@@ -1,9 +1,9 @@
 -- What is read is spelled so, and what is spelled so is read.
-use Rattle.std.proofs.Common.{◌≡◌, ℕ, ℤ, ◌+◌, ◌-◌, ◌*◌, ◌/◌, ◌%◌, ◌^◌, ◌<◌, ◌≤◌, List, [], ◌∷◌, ◌++◌, length, refl, ap, append_assoc, ◌∙◌, sym, subst, arith, Option, None, Some, Bool, true, false, cond, eqb, nat_lt, nat_le, ◌&&◌, leb-true, le-leb, ◌⊎◌, inl, inr, codes}
+use Rattle.std.proofs.Common.{◌≡◌, ℕ, ℤ, ◌+◌, ◌-◌, ◌*◌, ◌/◌, ◌%◌, ◌^◌, ◌<◌, ◌≤◌, List, [], ◌∷◌, ◌++◌, length, refl, ap, append_assoc, ◌∙◌, sym, arith, Option, None, Some, Bool, true, false, cond, eqb, nat_lt, nat_le, ◌&&◌, leb-true, le-leb, ◌⊎◌, inl, inr, codes, Result, Ok, Err, IfOk}
 use Rattle.std.specs.Int.{w64}
 use Rattle.std.specs.Prelude.{FitsSigned}
 use Rattle.std.specs.Option.{option_map}
-use Rattle.std.specs.List.{flat_map, find, AllByRecursion}
+use Rattle.std.specs.List.{flat_map, AllByRecursion}
 use Rattle.std.specs.Str.{bytes_eq}
 use Rattle.std.specs.Fmt.{decimal, signed_decimal, digit_glyph}
 use Rattle.std.proofs.lemmas.Option.{none-some, same_Some}
@@ -14,12 +14,9 @@ use Rattle.std.proofs.lemmas.List.{nil_from_length, append-nil}
 use Rattle.script_text.specs.Names.{Begin, Get, Insert, Update, Delete, Savepoint, RollbackTo, Release, Commit, Abort, OpenIndex, OpenHeap, Next, Close, Prune, RowText}
 use Rattle.script_text.specs.declared.line.Line.{Line}
 use Rattle.script_text.specs.declared.line.Line.TheVariants.{Do, Ids, Page, Entries}
-use Rattle.script_text.specs.declared.line.Verb.{Verb}
-use Rattle.script_text.specs.declared.line.Verb.TheVariants.{Get as get_verb, Begin as begin_verb, Commit as commit_verb, Insert as insert_verb, Update as update_verb, Delete as delete_verb, Savepoint as savepoint_verb, RollbackTo as rollback_verb, Release as release_verb, Abort as abort_verb, OpenIndex as openindex_verb, OpenHeap as openheap_verb, Next as next_verb, Close as close_verb, Prune as prune_verb, Page as page_verb, Entries as entries_verb}
-use Rattle.script_text.specs.Verbs.{verb_of, verb_text, usual_verbs, other_verbs}
-use Rattle.script_text.specs.Grammar.{Fits, KeyFits, RowFits, RangeFits, spelling, spaced, hex_text, body_text, row_text, key_words, row_words, range_words}
-use Rattle.script_text.specs.Reading.{line_at, line_for, cut, number_of, number_then, column_then, bound_of, bound_then, nibble_of, pair_and, pairs_of, body_of, row_words_of, key_words_of, count_words_of, range_words_of}
-use Rattle.script_text.proofs.ByteLemmas.{Free, Free-append}
+use Rattle.script_text.specs.Grammar.{Fits, Spells, KeyFits, RowFits, RangeFits, spelling, spaced, hex_text, body_text, row_text, key_words, row_words, range_words}
+use Rattle.script_text.specs.Reading.{Verbs, usual_verbs, other_verbs, line_in, line_at, cut, number_of, number_then, column_then, bound_of, bound_then, nibble_of, pair_and, pairs_of, body_of, row_words_of, key_words_of, count_words_of, range_words_of}
+use Rattle.script_text.proofs.ByteLemmas.{Free, Free-append, free_text}
 use Rattle.script_text.proofs.NumberLaws.{guarded, bound, mapped, both_true, cut_says, cut-free, number_of_says, number_of-decimal, number_then_says, number_then-decimal, decimal_free}
 use Rattle.script_text.proofs.SignedLaws.{signed_free, column_then_says, column_then-signed, bound_free, bound_of_says, bound_of-signed, bound_then_says, bound_then-signed}
 
@@ -135,14 +132,14 @@ key_words_of_says xs p h =
     let k_is = number_of_says (2 ^ 64 - 1) s.0.1 k.0 (omega arith) k.1 in
     rw (← same_Some _ p k.2) ((omega (arith, s_is.1), omega (arith, k_is.1)), s_is.0 ∙ ap (λ r. decimal s.0.0 ++ spaced r) k_is.0)
 
-count_words_of_says : (xs : List ℕ) (p : ℕ × ℕ) → count_words_of xs ≡ Some p → (p.0 < 2 ^ 8) × (p.1 < 2 ^ 16) × (xs ≡ key_words p.0 p.1)
+count_words_of_says : (xs : List ℕ) (p : ℕ × ℕ) → count_words_of xs ≡ Some p → ((p.0 < 2 ^ 8) × (p.1 < 2 ^ 16)) × (xs ≡ key_words p.0 p.1)
 unfolding count_words_of
 count_words_of_says xs p h =
     let s = bound (number_then 255 xs) _ p h in
     let n = bound (number_of 65535 s.0.1) _ p s.2 in
     let s_is = number_then_says 255 xs s.0.0 s.0.1 (omega arith) s.1 in
     let n_is = number_of_says 65535 s.0.1 n.0 (omega arith) n.1 in
-    rw (← same_Some _ p n.2) (omega (arith, s_is.1), omega (arith, n_is.1), s_is.0 ∙ ap (λ r. decimal s.0.0 ++ spaced r) n_is.0)
+    rw (← same_Some _ p n.2) ((omega (arith, s_is.1), omega (arith, n_is.1)), s_is.0 ∙ ap (λ r. decimal s.0.0 ++ spaced r) n_is.0)
 
 range_chain : (xs r0 r1 r2 ds di sl sh : List ℕ) → xs ≡ ds ++ 32 ∷ r0 → r0 ≡ di ++ 32 ∷ r1 → r1 ≡ sl ++ 32 ∷ r2 → r2 ≡ sh → xs ≡ ds ++ 32 ∷ (di ++ 32 ∷ (sl ++ 32 ∷ sh))
 range_chain xs r0 r1 r2 ds di sl sh a b c d = cc
@@ -201,82 +198,83 @@ row_words_of_says xs p h =
 pub verb_is : (v w : List ℕ) → bytes_eq v w ≡ true → v ≡ w
 verb_is v w h = (bytes_eq-Decides v w).0 h
 
--- what a verb and one number ask for
-one_number : (verb : List ℕ) (max : ℕ) (make : ℕ → Line) (rest : List ℕ) (l : Line) → max < 10 ^ 64 → option_map make (number_of max rest) ≡ Some l
-    → (s : ℕ) × (s ≤ max) × (make s ≡ l) × (verb ++ spaced rest ≡ verb ++ spaced (decimal s))
-one_number verb max make rest l fits h =
+-- what a verb asks for is spelled so
+abbrev pub IsSpelled : List ℕ × (List ℕ → Option Line) → Type 0
+IsSpelled verb = (rest : List ℕ) (l : Line) → verb.1 rest ≡ Some l → Fits l × (verb.0 ++ spaced rest ≡ spelling l)
+
+-- a verb and one number
+number_verb : (verb : List ℕ) (max : ℕ) (make : ℕ → Line) → max < 10 ^ 64 → ((n : ℕ) → n ≤ max → Fits (make n)) → ((n : ℕ) → verb ++ spaced (decimal n) ≡ spelling (make n))
+    → IsSpelled (verb, λ rest. option_map make (number_of max rest))
+number_verb verb max make small fits text rest l h =
     let m = mapped (number_of max rest) make l h in
-    let says = number_of_says max rest m.0 fits m.1 in
-    (m.0, says.1, m.2, ap (λ r. verb ++ spaced r) says.0)
+    let says = number_of_says max rest m.0 small m.1 in
+    rw (← m.2) (fits m.0 says.1, ap (λ r. verb ++ spaced r) says.0 ∙ text m.0)
 
--- a verb, a session and a key, or a row
-one_key : (verb : List ℕ) (make : ℕ × ℕ → Line) (rest : List ℕ) (l : Line) → option_map make (key_words_of rest) ≡ Some l
-    → (p : ℕ × ℕ) × KeyFits p.0 p.1 × (make p ≡ l) × (verb ++ spaced rest ≡ verb ++ spaced (key_words p.0 p.1))
-one_key verb make rest l h =
-    let m = mapped (key_words_of rest) make l h in
-    let says = key_words_of_says rest m.0 m.1 in
-    (m.0, says.0, m.2, ap (λ r. verb ++ spaced r) says.1)
+-- a verb and several words, whose reading says what they are
+words_verb : {A : Type 0} (verb : List ℕ) (read : List ℕ → Option A) (make : A → Line) (words : A → List ℕ) → ((xs : List ℕ) (a : A) → read xs ≡ Some a → Fits (make a) × (xs ≡ words a))
+    → ((a : A) → verb ++ spaced (words a) ≡ spelling (make a)) → IsSpelled (verb, λ rest. option_map make (read rest))
+words_verb verb read make words says text rest l h =
+    let m = mapped (read rest) make l h in
+    let is = says rest m.0 m.1 in
+    rw (← m.2) (is.0, ap (λ r. verb ++ spaced r) is.1 ∙ text m.0)
 
-one_count : (verb : List ℕ) (make : ℕ × ℕ → Line) (rest : List ℕ) (l : Line) → option_map make (count_words_of rest) ≡ Some l
-    → (p : ℕ × ℕ) × (p.0 < 2 ^ 8) × (p.1 < 2 ^ 16) × (make p ≡ l) × (verb ++ spaced rest ≡ verb ++ spaced (key_words p.0 p.1))
-one_count verb make rest l h =
-    let m = mapped (count_words_of rest) make l h in
-    let says = count_words_of_says rest m.0 m.1 in
-    (m.0, says.0, says.1, m.2, ap (λ r. verb ++ spaced r) says.2)
+get_spelled : IsSpelled (codes "get", λ rest. option_map (λ p. Do (Get p.0 p.1)) (key_words_of rest))
+get_spelled = words_verb (codes "get") key_words_of (λ p. Do (Get p.0 p.1)) (λ p. key_words p.0 p.1) key_words_of_says (λ p. refl)
 
-one_range : (verb : List ℕ) (make : ℕ × ℕ × ℤ × ℤ → Line) (rest : List ℕ) (l : Line) → option_map make (range_words_of rest) ≡ Some l
-    → (p : ℕ × ℕ × ℤ × ℤ) × RangeFits p.0 p.1 p.2 p.3 × (make p ≡ l) × (verb ++ spaced rest ≡ verb ++ spaced (range_words p.0 p.1 p.2 p.3))
-one_range verb make rest l h =
-    let m = mapped (range_words_of rest) make l h in
-    let says = range_words_of_says rest m.0 m.1 in
-    (m.0, says.0, m.2, ap (λ r. verb ++ spaced r) says.1)
+delete_spelled : IsSpelled (codes "delete", λ rest. option_map (λ p. Do (Delete p.0 p.1)) (key_words_of rest))
+delete_spelled = words_verb (codes "delete") key_words_of (λ p. Do (Delete p.0 p.1)) (λ p. key_words p.0 p.1) key_words_of_says (λ p. refl)
 
-one_row : (verb : List ℕ) (make : ℕ × RowText → Line) (rest : List ℕ) (l : Line) → option_map make (row_words_of rest) ≡ Some l
-    → (p : ℕ × RowText) × RowFits p.0 p.1 × (make p ≡ l) × (verb ++ spaced rest ≡ verb ++ spaced (row_words p.0 p.1))
-one_row verb make rest l h =
-    let m = mapped (row_words_of rest) make l h in
-    let says = row_words_of_says rest m.0 m.1 in
-    (m.0, says.0, m.2, ap (λ r. verb ++ spaced r) says.1)
+insert_spelled : IsSpelled (codes "insert", λ rest. option_map (λ p. Do (Insert p.0 p.1)) (row_words_of rest))
+insert_spelled = words_verb (codes "insert") row_words_of (λ p. Do (Insert p.0 p.1)) (λ p. row_words p.0 p.1) row_words_of_says (λ p. refl)
 
-line_of_says : (verb : Verb) (rest : List ℕ) (l : Line) → line_for verb rest ≡ Some l → Fits l × (verb_text verb ++ spaced rest ≡ spelling l)
-line_of_says get_verb rest l h = let m = one_key (codes "get") (λ p. Do (Get p.0 p.1)) rest l h in rw (← m.2) (m.1, m.3)
-line_of_says begin_verb rest l h = let m = one_number (codes "begin") 255 (λ s. Do (Begin s)) rest l (omega arith) h in rw (← m.2) (omega (arith, m.1), m.3)
-line_of_says commit_verb rest l h = let m = one_number (codes "commit") 255 (λ s. Do (Commit s)) rest l (omega arith) h in rw (← m.2) (omega (arith, m.1), m.3)
-line_of_says insert_verb rest l h = let m = one_row (codes "insert") (λ p. Do (Insert p.0 p.1)) rest l h in rw (← m.2) (m.1, m.3)
-line_of_says update_verb rest l h = let m = one_row (codes "update") (λ p. Do (Update p.0 p.1)) rest l h in rw (← m.2) (m.1, m.3)
-line_of_says delete_verb rest l h = let m = one_key (codes "delete") (λ p. Do (Delete p.0 p.1)) rest l h in rw (← m.2) (m.1, m.3)
-line_of_says savepoint_verb rest l h = let m = one_number (codes "savepoint") 255 (λ s. Do (Savepoint s)) rest l (omega arith) h in rw (← m.2) (omega (arith, m.1), m.3)
-line_of_says rollback_verb rest l h = let m = one_number (codes "rollbackto") 255 (λ s. Do (RollbackTo s)) rest l (omega arith) h in rw (← m.2) (omega (arith, m.1), m.3)
-line_of_says release_verb rest l h = let m = one_number (codes "release") 255 (λ s. Do (Release s)) rest l (omega arith) h in rw (← m.2) (omega (arith, m.1), m.3)
-line_of_says abort_verb rest l h = let m = one_number (codes "abort") 255 (λ s. Do (Abort s)) rest l (omega arith) h in rw (← m.2) (omega (arith, m.1), m.3)
-line_of_says openindex_verb rest l h = let m = one_range (codes "openindex") (λ p. Do (OpenIndex p.0 p.1 p.2 p.3)) rest l h in rw (← m.2) (m.1, m.3)
-line_of_says openheap_verb rest l h = let m = one_number (codes "openheap") 255 (λ s. Do (OpenHeap s)) rest l (omega arith) h in rw (← m.2) (omega (arith, m.1), m.3)
-line_of_says next_verb rest l h = let m = one_count (codes "next") (λ p. Do (Next p.0 p.1)) rest l h in rw (← m.3) ((m.1, m.2), m.4)
-line_of_says close_verb rest l h = let m = one_number (codes "close") 255 (λ s. Do (Close s)) rest l (omega arith) h in rw (← m.2) (omega (arith, m.1), m.3)
-line_of_says prune_verb rest l h = let m = one_number (codes "prune") 4294967295 (λ p. Do (Prune p)) rest l (omega arith) h in rw (← m.2) (omega (arith, m.1), m.3)
-line_of_says page_verb rest l h = let m = one_number (codes "page") 4294967295 (λ p. Page p) rest l (omega arith) h in rw (← m.2) (omega (arith, m.1), m.3)
-line_of_says entries_verb rest l h = let m = one_number (codes "entries") 255 (λ i. Entries i) rest l (omega arith) h in rw (← m.2) (omega (arith, m.1), m.3)
+update_spelled : IsSpelled (codes "update", λ rest. option_map (λ p. Do (Update p.0 p.1)) (row_words_of rest))
+update_spelled = words_verb (codes "update") row_words_of (λ p. Do (Update p.0 p.1)) (λ p. row_words p.0 p.1) row_words_of_says (λ p. refl)
 
-find_says : {A : Type 0} (p : A → Bool) (xs : List A) (y : A) → find p xs ≡ Some y → p y ≡ true
-find_says p [] y h = absurd (none-some y h)
-find_says p (x ∷ xs) y h = elim (chosen (p x) (Some x) (find p xs) (Some y) h) [
-  | inl a ↦ subst (λ z. p z ≡ true) (same_Some x y a.1) a.0
-  | inr a ↦ find_says p xs y a.1
+next_spelled : IsSpelled (codes "next", λ rest. option_map (λ p. Do (Next p.0 p.1)) (count_words_of rest))
+next_spelled = words_verb (codes "next") count_words_of (λ p. Do (Next p.0 p.1)) (λ p. key_words p.0 p.1) count_words_of_says (λ p. refl)
+
+openindex_spelled : IsSpelled (codes "openindex", λ rest. option_map (λ p. Do (OpenIndex p.0 p.1 p.2 p.3)) (range_words_of rest))
+openindex_spelled = words_verb (codes "openindex") range_words_of (λ p. Do (OpenIndex p.0 p.1 p.2 p.3)) (λ p. range_words p.0 p.1 p.2 p.3) range_words_of_says (λ p. refl)
+
+prune_spelled : IsSpelled (codes "prune", λ rest. option_map (λ p. Do (Prune p)) (number_of 4294967295 rest))
+prune_spelled = number_verb (codes "prune") 4294967295 (λ p. Do (Prune p)) (omega arith) (λ p h. omega (arith, h)) (λ p. refl)
+
+page_spelled : IsSpelled (codes "page", λ rest. option_map (λ p. Page p) (number_of 4294967295 rest))
+page_spelled = number_verb (codes "page") 4294967295 (λ p. Page p) (omega arith) (λ p h. omega (arith, h)) (λ p. refl)
+
+entries_spelled : IsSpelled (codes "entries", λ rest. option_map (λ i. Entries i) (number_of 255 rest))
+entries_spelled = number_verb (codes "entries") 255 (λ i. Entries i) (omega arith) (λ i h. omega (arith, h)) (λ i. refl)
+
+-- a verb and a session alone
+session_verb : (verb : List ℕ) (make : ℕ → Line) → ((s : ℕ) → s < 2 ^ 8 → Fits (make s)) → ((s : ℕ) → verb ++ spaced (decimal s) ≡ spelling (make s))
+    → IsSpelled (verb, λ rest. option_map make (number_of 255 rest))
+session_verb verb make fits text = number_verb verb 255 make (omega arith) (λ s h. fits s (omega (arith, h))) text
+
+usual_spelled : AllByRecursion IsSpelled usual_verbs
+usual_spelled = (get_spelled, (session_verb (codes "begin") (λ s. Do (Begin s)) (λ s h. h) (λ s. refl), (session_verb (codes "commit") (λ s. Do (Commit s)) (λ s h. h) (λ s. refl), (insert_spelled, (update_spelled, (delete_spelled, (next_spelled, (session_verb (codes "abort") (λ s. Do (Abort s)) (λ s h. h) (λ s. refl), tt))))))))
+
+other_spelled : AllByRecursion IsSpelled other_verbs
+other_spelled = (session_verb (codes "savepoint") (λ s. Do (Savepoint s)) (λ s h. h) (λ s. refl), (session_verb (codes "rollbackto") (λ s. Do (RollbackTo s)) (λ s h. h) (λ s. refl), (session_verb (codes "release") (λ s. Do (Release s)) (λ s h. h) (λ s. refl), (openindex_spelled, (session_verb (codes "openheap") (λ s. Do (OpenHeap s)) (λ s h. h) (λ s. refl), (session_verb (codes "close") (λ s. Do (Close s)) (λ s h. h) (λ s. refl), (prune_spelled, (page_spelled, (entries_spelled, tt)))))))))
+
+All-append : (xs ys : Verbs) → AllByRecursion IsSpelled xs → AllByRecursion IsSpelled ys → AllByRecursion IsSpelled (xs ++ ys)
+All-append [] ys h k = k
+All-append (x ∷ xs) ys h k = (h.0, All-append xs ys h.1 k)
+
+line_in_says : (verbs : Verbs) (word rest : List ℕ) (l : Line) → AllByRecursion IsSpelled verbs → line_in verbs word rest ≡ Some l → Fits l × (word ++ spaced rest ≡ spelling l)
+line_in_says [] word rest l spelled h = absurd (none-some l h)
+line_in_says (verb ∷ verbs) word rest l spelled h = elim (chosen (bytes_eq word verb.0) (verb.1 rest) (line_in verbs word rest) (Some l) h) [
+  | inl a ↦ let says = spelled.0 rest l a.1 in (says.0, ap (λ w. w ++ spaced rest) (verb_is word verb.0 a.0) ∙ says.1)
+  | inr a ↦ line_in_says verbs word rest l spelled.1 a.1
 ]
 
--- the verb that a word is found to be spells that word
-verb_of_says : (w : List ℕ) (verb : Verb) → verb_of w ≡ Some verb → w ≡ verb_text verb
-verb_of_says w verb h = verb_is w (verb_text verb) (find_says (λ verb. bytes_eq w (verb_text verb)) (usual_verbs ++ other_verbs) verb h)
-
-pub line_at_says : (w : List ℕ) (l : Line) → line_at w ≡ Some l → Fits l × (w ≡ spelling l)
+line_at_says : (w : List ℕ) (l : Line) → line_at w ≡ Some l → Fits l × (w ≡ spelling l)
 unfolding line_at
 line_at_says w l h = elim (chosen (bytes_eq w (codes "ids")) (Some Ids) _ (Some l) h) [
   | inl a ↦ rw (← same_Some Ids l a.1) (tt, verb_is w (codes "ids") a.0)
   | inr a ↦
       let p = bound (cut w) _ l a.1 in
-      let v = bound (verb_of p.0.0) _ l p.2 in
-      let says = line_of_says v.0 p.0.1 l v.2 in
-      (says.0, cut_says w p.0.0 p.0.1 p.1 ∙ ap (λ r. r ++ 32 ∷ p.0.1) (verb_of_says p.0.0 v.0 v.1) ∙ says.1)
+      let says = line_in_says (usual_verbs ++ other_verbs) p.0.0 p.0.1 l (All-append usual_verbs other_verbs usual_spelled other_spelled) p.2 in
+      (says.0, cut_says w p.0.0 p.0.1 p.1 ∙ says.1)
 ]
 
 four : (cols : List ℤ) → length cols ≡ 4 → (a : ℤ) × (b : ℤ) × (c : ℤ) × (d : ℤ) × (cols ≡ a ∷ b ∷ c ∷ d ∷ [])
@@ -301,11 +299,11 @@ row_words_of-spelled s k c0 c1 c2 c3 body hs hk h0 h1 h2 h3 hb =
       body_of-text body hb,
     ) refl
 
--- a verb is found again, and no step's line is the line of the ids
-with_verb : (verb : Verb) (rest : List ℕ) → Free 32 (verb_text verb) → verb_of (verb_text verb) ≡ Some verb
-    → bytes_eq (verb_text verb ++ 32 ∷ rest) (codes "ids") ≡ false → line_at (verb_text verb ++ 32 ∷ rest) ≡ line_for verb rest
+-- a verb is found again, and no line of a verb is the line of the ids
+with_verb : (verb rest : List ℕ) (line : Option Line) → Free 32 verb → bytes_eq (verb ++ 32 ∷ rest) (codes "ids") ≡ false → line_in (usual_verbs ++ other_verbs) verb rest ≡ line
+    → line_at (verb ++ 32 ∷ rest) ≡ line
 unfolding line_at
-with_verb verb rest free same other = rw (other, cut-free (verb_text verb) rest free, same) refl
+with_verb verb rest line free other same = rw (other, cut-free verb rest free) same
 
 row_words_of-columns : (s k : ℕ) (c0 c1 c2 c3 : ℤ) (body : List ℕ) → s < 2 ^ 8 → k < 2 ^ 64 → FitsSigned w64 c0 → FitsSigned w64 c1 → FitsSigned w64 c2 → FitsSigned w64 c3 → AllByRecursion (λ b. b < 2 ^ 8) body
     → row_words_of (decimal s ++ spaced (row_text k (c0 ∷ c1 ∷ c2 ∷ c3 ∷ []) body)) ≡ Some (s, record { key = k; cols = c0 ∷ c1 ∷ c2 ∷ c3 ∷ []; body = body })
@@ -344,42 +342,51 @@ ids_line : line_at (codes "ids") ≡ Some Ids
 unfolding line_at
 ids_line = refl
 
-pub line_at-spelling : (l : Line) → Fits l → line_at (spelling l) ≡ Some l
+line_at-spelling : (l : Line) → Fits l → line_at (spelling l) ≡ Some l
 line_at-spelling (Do (Begin s)) h =
-    with_verb begin_verb (decimal s) (refl, (refl, (refl, (refl, (refl, tt))))) refl refl ∙ ap (λ (o : Option ℕ). option_map (λ s. Do (Begin s)) o) (number_of-decimal 255 s (omega arith) (omega arith))
+    with_verb (codes "begin") (decimal s) _ (free_text 32 (codes "begin") refl) refl (ap (λ (o : Option ℕ). option_map (λ s. Do (Begin s)) o) (number_of-decimal 255 s (omega arith) (omega arith)))
 line_at-spelling (Do (Get s k)) h =
-    with_verb get_verb (key_words s k) (refl, (refl, (refl, tt))) refl refl ∙ ap (λ (o : Option (ℕ × ℕ)). option_map (λ p. Do (Get p.0 p.1)) o) (key_words_of-words s k h.0 h.1)
+    with_verb (codes "get") (key_words s k) _ (free_text 32 (codes "get") refl) refl (ap (λ (o : Option (ℕ × ℕ)). option_map (λ p. Do (Get p.0 p.1)) o) (key_words_of-words s k h.0 h.1))
 line_at-spelling (Do (Insert s row)) h =
-    with_verb insert_verb (row_words s row) (refl, (refl, (refl, (refl, (refl, (refl, tt)))))) refl refl ∙ ap (λ (o : Option (ℕ × RowText)). option_map (λ p. Do (Insert p.0 p.1)) o) (row_words_of-words s row h)
+    with_verb (codes "insert") (row_words s row) _ (free_text 32 (codes "insert") refl) refl (ap (λ (o : Option (ℕ × RowText)). option_map (λ p. Do (Insert p.0 p.1)) o) (row_words_of-words s row h))
 line_at-spelling (Do (Update s row)) h =
-    with_verb update_verb (row_words s row) (refl, (refl, (refl, (refl, (refl, (refl, tt)))))) refl refl ∙ ap (λ (o : Option (ℕ × RowText)). option_map (λ p. Do (Update p.0 p.1)) o) (row_words_of-words s row h)
+    with_verb (codes "update") (row_words s row) _ (free_text 32 (codes "update") refl) refl (ap (λ (o : Option (ℕ × RowText)). option_map (λ p. Do (Update p.0 p.1)) o) (row_words_of-words s row h))
 line_at-spelling (Do (Delete s k)) h =
-    with_verb delete_verb (key_words s k) (refl, (refl, (refl, (refl, (refl, (refl, tt)))))) refl refl ∙ ap (λ (o : Option (ℕ × ℕ)). option_map (λ p. Do (Delete p.0 p.1)) o) (key_words_of-words s k h.0 h.1)
+    with_verb (codes "delete") (key_words s k) _ (free_text 32 (codes "delete") refl) refl (ap (λ (o : Option (ℕ × ℕ)). option_map (λ p. Do (Delete p.0 p.1)) o) (key_words_of-words s k h.0 h.1))
 line_at-spelling (Do (Savepoint s)) h =
-    with_verb savepoint_verb (decimal s) (refl, (refl, (refl, (refl, (refl, (refl, (refl, (refl, (refl, tt))))))))) refl refl ∙ ap (λ (o : Option ℕ). option_map (λ s. Do (Savepoint s)) o) (number_of-decimal 255 s (omega arith) (omega arith))
+    with_verb (codes "savepoint") (decimal s) _ (free_text 32 (codes "savepoint") refl) refl (ap (λ (o : Option ℕ). option_map (λ s. Do (Savepoint s)) o) (number_of-decimal 255 s (omega arith) (omega arith)))
 line_at-spelling (Do (RollbackTo s)) h =
-    with_verb rollback_verb (decimal s) (refl, (refl, (refl, (refl, (refl, (refl, (refl, (refl, (refl, (refl, tt)))))))))) refl refl ∙ ap (λ (o : Option ℕ). option_map (λ s. Do (RollbackTo s)) o) (number_of-decimal 255 s (omega arith) (omega arith))
+    with_verb (codes "rollbackto") (decimal s) _ (free_text 32 (codes "rollbackto") refl) refl (ap (λ (o : Option ℕ). option_map (λ s. Do (RollbackTo s)) o) (number_of-decimal 255 s (omega arith) (omega arith)))
 line_at-spelling (Do (Release s)) h =
-    with_verb release_verb (decimal s) (refl, (refl, (refl, (refl, (refl, (refl, (refl, tt))))))) refl refl ∙ ap (λ (o : Option ℕ). option_map (λ s. Do (Release s)) o) (number_of-decimal 255 s (omega arith) (omega arith))
+    with_verb (codes "release") (decimal s) _ (free_text 32 (codes "release") refl) refl (ap (λ (o : Option ℕ). option_map (λ s. Do (Release s)) o) (number_of-decimal 255 s (omega arith) (omega arith)))
 line_at-spelling (Do (Commit s)) h =
-    with_verb commit_verb (decimal s) (refl, (refl, (refl, (refl, (refl, (refl, tt)))))) refl refl ∙ ap (λ (o : Option ℕ). option_map (λ s. Do (Commit s)) o) (number_of-decimal 255 s (omega arith) (omega arith))
+    with_verb (codes "commit") (decimal s) _ (free_text 32 (codes "commit") refl) refl (ap (λ (o : Option ℕ). option_map (λ s. Do (Commit s)) o) (number_of-decimal 255 s (omega arith) (omega arith)))
 line_at-spelling (Do (Abort s)) h =
-    with_verb abort_verb (decimal s) (refl, (refl, (refl, (refl, (refl, tt))))) refl refl ∙ ap (λ (o : Option ℕ). option_map (λ s. Do (Abort s)) o) (number_of-decimal 255 s (omega arith) (omega arith))
+    with_verb (codes "abort") (decimal s) _ (free_text 32 (codes "abort") refl) refl (ap (λ (o : Option ℕ). option_map (λ s. Do (Abort s)) o) (number_of-decimal 255 s (omega arith) (omega arith)))
 line_at-spelling (Do (OpenIndex s index low high)) h =
-    with_verb openindex_verb (range_words s index low high) (refl, (refl, (refl, (refl, (refl, (refl, (refl, (refl, (refl, tt))))))))) refl refl ∙ ap (λ (o : Option (ℕ × ℕ × ℤ × ℤ)). option_map (λ p. Do (OpenIndex p.0 p.1 p.2 p.3)) o) (range_words_of-words s index low high h)
+    with_verb (codes "openindex") (range_words s index low high) _ (free_text 32 (codes "openindex") refl) refl (ap (λ (o : Option (ℕ × ℕ × ℤ × ℤ)). option_map (λ p. Do (OpenIndex p.0 p.1 p.2 p.3)) o) (range_words_of-words s index low high h))
 line_at-spelling (Do (OpenHeap s)) h =
-    with_verb openheap_verb (decimal s) (refl, (refl, (refl, (refl, (refl, (refl, (refl, (refl, tt)))))))) refl refl ∙ ap (λ (o : Option ℕ). option_map (λ s. Do (OpenHeap s)) o) (number_of-decimal 255 s (omega arith) (omega arith))
+    with_verb (codes "openheap") (decimal s) _ (free_text 32 (codes "openheap") refl) refl (ap (λ (o : Option ℕ). option_map (λ s. Do (OpenHeap s)) o) (number_of-decimal 255 s (omega arith) (omega arith)))
 line_at-spelling (Do (Next s n)) h =
-    with_verb next_verb (key_words s n) (refl, (refl, (refl, (refl, tt)))) refl refl ∙ ap (λ (o : Option (ℕ × ℕ)). option_map (λ p. Do (Next p.0 p.1)) o) (count_words_of-words s n h.0 h.1)
+    with_verb (codes "next") (key_words s n) _ (free_text 32 (codes "next") refl) refl (ap (λ (o : Option (ℕ × ℕ)). option_map (λ p. Do (Next p.0 p.1)) o) (count_words_of-words s n h.0 h.1))
 line_at-spelling (Do (Close s)) h =
-    with_verb close_verb (decimal s) (refl, (refl, (refl, (refl, (refl, tt))))) refl refl ∙ ap (λ (o : Option ℕ). option_map (λ s. Do (Close s)) o) (number_of-decimal 255 s (omega arith) (omega arith))
+    with_verb (codes "close") (decimal s) _ (free_text 32 (codes "close") refl) refl (ap (λ (o : Option ℕ). option_map (λ s. Do (Close s)) o) (number_of-decimal 255 s (omega arith) (omega arith)))
 line_at-spelling (Do (Prune p)) h =
-    with_verb prune_verb (decimal p) (refl, (refl, (refl, (refl, (refl, tt))))) refl refl ∙ ap (λ (o : Option ℕ). option_map (λ p. Do (Prune p)) o) (number_of-decimal 4294967295 p (omega arith) (omega arith))
+    with_verb (codes "prune") (decimal p) _ (free_text 32 (codes "prune") refl) refl (ap (λ (o : Option ℕ). option_map (λ p. Do (Prune p)) o) (number_of-decimal 4294967295 p (omega arith) (omega arith)))
 line_at-spelling Ids h = ids_line
 line_at-spelling (Page p) h =
-    with_verb page_verb (decimal p) (refl, (refl, (refl, (refl, tt)))) refl refl ∙ ap (λ (o : Option ℕ). option_map (λ p. Page p) o) (number_of-decimal 4294967295 p (omega arith) (omega arith))
+    with_verb (codes "page") (decimal p) _ (free_text 32 (codes "page") refl) refl (ap (λ (o : Option ℕ). option_map (λ p. Page p) o) (number_of-decimal 4294967295 p (omega arith) (omega arith)))
 line_at-spelling (Entries i) h =
-    with_verb entries_verb (decimal i) (refl, (refl, (refl, (refl, (refl, (refl, (refl, tt))))))) refl refl ∙ ap (λ (o : Option ℕ). option_map (λ i. Entries i) o) (number_of-decimal 255 i (omega arith) (omega arith))
+    with_verb (codes "entries") (decimal i) _ (free_text 32 (codes "entries") refl) refl (ap (λ (o : Option ℕ). option_map (λ i. Entries i) o) (number_of-decimal 255 i (omega arith) (omega arith)))
+
+-- what is read of a line is what it spells
+spells : (text : List ℕ) (o : Option Line) → o ≡ line_at text → Spells text o
+spells text None e = λ l fits is. none-some l (e ∙ ap line_at is ∙ line_at-spelling l fits)
+spells text (Some l) e = line_at_says text l (sym e)
+
+pub spells_read : {E : Type 0} (r : Result (Option Line) E) (text : List ℕ) → IfOk r (λ o. o ≡ line_at text) → IfOk r (λ o. Spells text o)
+spells_read (Ok o) text h = spells text o h
+spells_read (Err e) text h = tt
 
 columns_free : (cols : List ℤ) → AllByRecursion (λ c. FitsSigned w64 c) cols → Free 10 (flat_map (λ c. spaced (signed_decimal c)) cols)
 columns_free [] h = tt
@@ -408,25 +415,6 @@ one_free n h = (refl, decimal_free 10 n (omega arith) (omega arith))
 row_free : (row : RowText) → row.key < 2 ^ 64 → AllByRecursion (λ c. FitsSigned w64 c) row.cols → AllByRecursion (λ b. b < 2 ^ 8) row.body → Free 10 (row_text row.key row.cols row.body)
 row_free row k cols body = Free-append 10 (decimal row.key) _ (decimal_free 10 row.key (omega arith) (omega (arith, k))) (Free-append 10 _ (spaced (body_text row.body)) (columns_free row.cols cols) (refl, body_free row.body body))
 
-verb_free : (verb : Verb) → Free 10 (verb_text verb)
-verb_free get_verb = (refl, (refl, (refl, tt)))
-verb_free begin_verb = (refl, (refl, (refl, (refl, (refl, tt)))))
-verb_free commit_verb = (refl, (refl, (refl, (refl, (refl, (refl, tt))))))
-verb_free insert_verb = (refl, (refl, (refl, (refl, (refl, (refl, tt))))))
-verb_free update_verb = (refl, (refl, (refl, (refl, (refl, (refl, tt))))))
-verb_free delete_verb = (refl, (refl, (refl, (refl, (refl, (refl, tt))))))
-verb_free savepoint_verb = (refl, (refl, (refl, (refl, (refl, (refl, (refl, (refl, (refl, tt)))))))))
-verb_free rollback_verb = (refl, (refl, (refl, (refl, (refl, (refl, (refl, (refl, (refl, (refl, tt))))))))))
-verb_free release_verb = (refl, (refl, (refl, (refl, (refl, (refl, (refl, tt)))))))
-verb_free abort_verb = (refl, (refl, (refl, (refl, (refl, tt)))))
-verb_free openindex_verb = (refl, (refl, (refl, (refl, (refl, (refl, (refl, (refl, (refl, tt)))))))))
-verb_free openheap_verb = (refl, (refl, (refl, (refl, (refl, (refl, (refl, (refl, tt))))))))
-verb_free next_verb = (refl, (refl, (refl, (refl, tt))))
-verb_free close_verb = (refl, (refl, (refl, (refl, (refl, tt)))))
-verb_free prune_verb = (refl, (refl, (refl, (refl, (refl, tt)))))
-verb_free page_verb = (refl, (refl, (refl, (refl, tt))))
-verb_free entries_verb = (refl, (refl, (refl, (refl, (refl, (refl, (refl, tt)))))))
-
 key_words_free : (s k : ℕ) → KeyFits s k → Free 10 (spaced (key_words s k))
 key_words_free s k h = (refl, Free-append 10 (decimal s) (spaced (decimal k)) (decimal_free 10 s (omega arith) (omega (arith, h.0))) (one_free k h.1))
 
@@ -446,21 +434,21 @@ row_words_free s row h =
 
 -- no line feed is in a line's text
 pub Free-spelling : (l : Line) → Fits l → Free 10 (spelling l)
-Free-spelling (Do (Begin s)) h = Free-append 10 (codes "begin") (spaced (decimal s)) (verb_free begin_verb) (one_free s (omega arith))
-Free-spelling (Do (Get s k)) h = Free-append 10 (codes "get") (spaced (key_words s k)) (verb_free get_verb) (key_words_free s k h)
-Free-spelling (Do (Insert s row)) h = Free-append 10 (codes "insert") (spaced (row_words s row)) (verb_free insert_verb) (row_words_free s row h)
-Free-spelling (Do (Update s row)) h = Free-append 10 (codes "update") (spaced (row_words s row)) (verb_free update_verb) (row_words_free s row h)
-Free-spelling (Do (Delete s k)) h = Free-append 10 (codes "delete") (spaced (key_words s k)) (verb_free delete_verb) (key_words_free s k h)
-Free-spelling (Do (Savepoint s)) h = Free-append 10 (codes "savepoint") (spaced (decimal s)) (verb_free savepoint_verb) (one_free s (omega arith))
-Free-spelling (Do (RollbackTo s)) h = Free-append 10 (codes "rollbackto") (spaced (decimal s)) (verb_free rollback_verb) (one_free s (omega arith))
-Free-spelling (Do (Release s)) h = Free-append 10 (codes "release") (spaced (decimal s)) (verb_free release_verb) (one_free s (omega arith))
-Free-spelling (Do (Commit s)) h = Free-append 10 (codes "commit") (spaced (decimal s)) (verb_free commit_verb) (one_free s (omega arith))
-Free-spelling (Do (Abort s)) h = Free-append 10 (codes "abort") (spaced (decimal s)) (verb_free abort_verb) (one_free s (omega arith))
-Free-spelling (Do (OpenIndex s index low high)) h = Free-append 10 (codes "openindex") (spaced (range_words s index low high)) (verb_free openindex_verb) (range_words_free s index low high h)
-Free-spelling (Do (OpenHeap s)) h = Free-append 10 (codes "openheap") (spaced (decimal s)) (verb_free openheap_verb) (one_free s (omega arith))
-Free-spelling (Do (Next s n)) h = Free-append 10 (codes "next") (spaced (key_words s n)) (verb_free next_verb) (key_words_free s n (h.0, omega (arith, h.1)))
-Free-spelling (Do (Close s)) h = Free-append 10 (codes "close") (spaced (decimal s)) (verb_free close_verb) (one_free s (omega arith))
-Free-spelling (Do (Prune p)) h = Free-append 10 (codes "prune") (spaced (decimal p)) (verb_free prune_verb) (one_free p (omega arith))
+Free-spelling (Do (Begin s)) h = Free-append 10 (codes "begin") (spaced (decimal s)) (free_text 10 (codes "begin") refl) (one_free s (omega arith))
+Free-spelling (Do (Get s k)) h = Free-append 10 (codes "get") (spaced (key_words s k)) (free_text 10 (codes "get") refl) (key_words_free s k h)
+Free-spelling (Do (Insert s row)) h = Free-append 10 (codes "insert") (spaced (row_words s row)) (free_text 10 (codes "insert") refl) (row_words_free s row h)
+Free-spelling (Do (Update s row)) h = Free-append 10 (codes "update") (spaced (row_words s row)) (free_text 10 (codes "update") refl) (row_words_free s row h)
+Free-spelling (Do (Delete s k)) h = Free-append 10 (codes "delete") (spaced (key_words s k)) (free_text 10 (codes "delete") refl) (key_words_free s k h)
+Free-spelling (Do (Savepoint s)) h = Free-append 10 (codes "savepoint") (spaced (decimal s)) (free_text 10 (codes "savepoint") refl) (one_free s (omega arith))
+Free-spelling (Do (RollbackTo s)) h = Free-append 10 (codes "rollbackto") (spaced (decimal s)) (free_text 10 (codes "rollbackto") refl) (one_free s (omega arith))
+Free-spelling (Do (Release s)) h = Free-append 10 (codes "release") (spaced (decimal s)) (free_text 10 (codes "release") refl) (one_free s (omega arith))
+Free-spelling (Do (Commit s)) h = Free-append 10 (codes "commit") (spaced (decimal s)) (free_text 10 (codes "commit") refl) (one_free s (omega arith))
+Free-spelling (Do (Abort s)) h = Free-append 10 (codes "abort") (spaced (decimal s)) (free_text 10 (codes "abort") refl) (one_free s (omega arith))
+Free-spelling (Do (OpenIndex s index low high)) h = Free-append 10 (codes "openindex") (spaced (range_words s index low high)) (free_text 10 (codes "openindex") refl) (range_words_free s index low high h)
+Free-spelling (Do (OpenHeap s)) h = Free-append 10 (codes "openheap") (spaced (decimal s)) (free_text 10 (codes "openheap") refl) (one_free s (omega arith))
+Free-spelling (Do (Next s n)) h = Free-append 10 (codes "next") (spaced (key_words s n)) (free_text 10 (codes "next") refl) (key_words_free s n (h.0, omega (arith, h.1)))
+Free-spelling (Do (Close s)) h = Free-append 10 (codes "close") (spaced (decimal s)) (free_text 10 (codes "close") refl) (one_free s (omega arith))
+Free-spelling (Do (Prune p)) h = Free-append 10 (codes "prune") (spaced (decimal p)) (free_text 10 (codes "prune") refl) (one_free p (omega arith))
 Free-spelling Ids h = (refl, (refl, (refl, tt)))
-Free-spelling (Page p) h = Free-append 10 (codes "page") (spaced (decimal p)) (verb_free page_verb) (one_free p (omega arith))
-Free-spelling (Entries i) h = Free-append 10 (codes "entries") (spaced (decimal i)) (verb_free entries_verb) (one_free i (omega arith))
+Free-spelling (Page p) h = Free-append 10 (codes "page") (spaced (decimal p)) (free_text 10 (codes "page") refl) (one_free p (omega arith))
+Free-spelling (Entries i) h = Free-append 10 (codes "entries") (spaced (decimal i)) (free_text 10 (codes "entries") refl) (one_free i (omega arith))

@@ -1,12 +1,12 @@
 -- The first line is read just where it is written so.
-use Rattle.std.proofs.Common.{◌≡◌, ℕ, ◌^◌, ◌<◌, ◌≤◌, List, [], ◌∷◌, ◌++◌, length, get_or, refl, ap, ◌∙◌, arith, Some, Bool, true, false, cond, eqb, codes}
+use Rattle.std.proofs.Common.{◌≡◌, ℕ, ◌^◌, ◌<◌, List, [], ◌∷◌, ◌++◌, length, get_or, refl, ap, ◌∙◌, sym, arith, Option, None, Some, Bool, true, false, cond, eqb, codes}
 use Rattle.std.specs.List.{flat_map}
 use Rattle.std.specs.Str.{bytes_eq}
 use Rattle.std.specs.Fmt.{decimal}
 use Rattle.std.proofs.lemmas.Option.{none-some, same_Some}
 use Rattle.std.proofs.lemmas.Bool.Decides.{nat_tests}
 use Rattle.script_text.specs.Names.{Settings, AreSettings}
-use Rattle.script_text.specs.Grammar.{heading, spaced, flag_text}
+use Rattle.script_text.specs.Grammar.{heading, spaced, flag_text, SettingsFit, SpellsSettings}
 use Rattle.script_text.specs.Reading.{cut, number_then, flag_of, flags4_of, heading_of, settings_at}
 use Rattle.script_text.proofs.ByteLemmas.{Free, Free-append}
 use Rattle.script_text.proofs.NumberLaws.{guarded, bound, cut_says, cut-free, number_then_says, number_then-decimal, decimal_free}
@@ -63,13 +63,7 @@ flags4_of-text (a ∷ b ∷ c ∷ []) h = absurd (omega arith)
 flags4_of-text (a ∷ b ∷ c ∷ d ∷ []) h = rw (flag_of-text a, flag_of-text b, flag_of-text c, flag_of-text d) refl
 flags4_of-text (a ∷ b ∷ c ∷ d ∷ e ∷ r) h = absurd (omega arith)
 
--- what a first line spells
-pub record IsHeading (w : List ℕ) (s : Settings) : Type 0 where
-  pub text : w ≡ heading s
-  pub flags : length s.indexed ≡ 4
-  pub first : s.first_xid ≤ 4294967295
-
-pub settings_at_says : (w : List ℕ) (s : Settings) → settings_at w ≡ Some s → IsHeading w s
+pub settings_at_says : (w : List ℕ) (s : Settings) → settings_at w ≡ Some s → SettingsFit s × (w ≡ heading s)
 unfolding settings_at heading_of
 settings_at_says w s h =
     let p = bound (cut w) _ s h in
@@ -86,16 +80,22 @@ settings_at_says w s h =
     let d_is = number_then_says 4294967295 c.0.1 d.0.0 d.0.1 (omega arith) d.1 in
     let e_is = number_then_says 4294967295 d.0.1 e.0.0 e.0.1 (omega arith) e.1 in
     let f_is = flags4_of_says e.0.1 f.0 f.1 in
-    rw (← same_Some _ s f.2) (record {
-      text = row_chain w _ _ _ _ _ _ (codes "heap") (decimal a.0.0) (decimal b.0.0) (decimal c.0.0) (decimal d.0.0) (decimal e.0.0) (flat_map flag_text f.0)
-          (cut_says w p.0.0 p.0.1 p.1 ∙ ap (λ r. r ++ 32 ∷ p.0.1) (verb_is p.0.0 (codes "heap") g.0)) a_is.0 b_is.0 c_is.0 d_is.0 e_is.0 f_is.0;
-      flags = f_is.1;
-      first = d_is.1;
-    })
+    rw (← same_Some _ s f.2) (
+      record {
+        max_pages = omega (arith, a_is.1);
+        stop_age = omega (arith, b_is.1);
+        freeze_min_age = omega (arith, c_is.1);
+        first_xid = omega (arith, d_is.1);
+        dead_limit = omega (arith, e_is.1);
+        indexed = f_is.1;
+      },
+      row_chain w _ _ _ _ _ _ (codes "heap") (decimal a.0.0) (decimal b.0.0) (decimal c.0.0) (decimal d.0.0) (decimal e.0.0) (flat_map flag_text f.0)
+          (cut_says w p.0.0 p.0.1 p.1 ∙ ap (λ r. r ++ 32 ∷ p.0.1) (verb_is p.0.0 (codes "heap") g.0)) a_is.0 b_is.0 c_is.0 d_is.0 e_is.0 f_is.0,
+    )
 
-pub settings_at-heading : (s : Settings) → AreSettings s → length s.indexed ≡ 4 → settings_at (heading s) ≡ Some s
+pub settings_at-heading : (s : Settings) → SettingsFit s → settings_at (heading s) ≡ Some s
 unfolding settings_at heading_of
-settings_at-heading s h k =
+settings_at-heading s h =
     let pages = h.max_pages in let stop = h.stop_age in let least = h.freeze_min_age in let first = h.first_xid in let dead = h.dead_limit in
     rw (
       cut-free (codes "heap") (decimal s.max_pages ++ spaced (decimal s.stop_age ++ spaced (decimal s.freeze_min_age ++ spaced (decimal s.first_xid ++ spaced (decimal s.dead_limit ++ spaced (flat_map flag_text s.indexed)))))) (refl, (refl, (refl, (refl, tt)))),
@@ -104,8 +104,29 @@ settings_at-heading s h k =
       number_then-decimal 4294967295 s.freeze_min_age (decimal s.first_xid ++ spaced (decimal s.dead_limit ++ spaced (flat_map flag_text s.indexed))) (omega arith) (omega arith),
       number_then-decimal 4294967295 s.first_xid (decimal s.dead_limit ++ spaced (flat_map flag_text s.indexed)) (omega arith) (omega arith),
       number_then-decimal 4294967295 s.dead_limit (flat_map flag_text s.indexed) (omega arith) (omega arith),
-      flags4_of-text s.indexed k,
+      flags4_of-text s.indexed h.indexed,
     ) refl
+
+-- what is read of a first line is what it spells
+pub spells_settings : (text : List ℕ) (o : Option Settings) → o ≡ settings_at text → SpellsSettings text o
+spells_settings text None e = λ s fit is. none-some s (e ∙ ap settings_at is ∙ settings_at-heading s fit)
+spells_settings text (Some s) e = settings_at_says text s (sym e)
+
+pub heading_once : (s t : Settings) → SettingsFit s → SettingsFit t → heading s ≡ heading t → s ≡ t
+heading_once s t fit other e = same_Some s t (sym (settings_at-heading s fit) ∙ ap settings_at e ∙ settings_at-heading t other)
+
+-- settings in range fit
+pub settings_fit : (s : Settings) → AreSettings s → length s.indexed ≡ 4 → SettingsFit s
+settings_fit s h columns =
+    let pages = h.max_pages in let stop = h.stop_age in let least = h.freeze_min_age in let first = h.first_xid in let dead = h.dead_limit in
+    record {
+      max_pages = omega arith;
+      stop_age = omega arith;
+      freeze_min_age = omega arith;
+      first_xid = omega arith;
+      dead_limit = omega arith;
+      indexed = columns;
+    }
 
 flags_free : (bs : List Bool) → Free 10 (flat_map flag_text bs)
 flags_free [] = tt

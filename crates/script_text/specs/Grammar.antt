@@ -1,5 +1,5 @@
 -- The lines of a script. Each value has one spelling, so a line is allowed just where it is the spelling of a value in range.
-use Rattle.std.specs.Prelude.{◌≡◌, ℕ, ℤ, ◌/◌, ◌%◌, ◌^◌, ◌<◌, ◌≤◌, List, [], ◌∷◌, ◌++◌, length, codes, Bool, false, if◌then◌else◌, FitsSigned}
+use Rattle.std.specs.Prelude.{◌≡◌, ℕ, ℤ, ◌/◌, ◌%◌, ◌^◌, ◌<◌, ◌≤◌, List, [], ◌∷◌, ◌++◌, length, codes, Bool, false, if◌then◌else◌, FitsSigned, Option, Some, None}
 use Rattle.std.specs.Int.{w64, w128}
 use Rattle.std.specs.List.{flat_map, AllByRecursion}
 use Rattle.std.specs.Fmt.{decimal, signed_decimal, digit_glyph}
@@ -48,6 +48,20 @@ flag_text b = (if b then 49 else 48) ∷ []
 abbrev pub heading : Settings → List ℕ
 heading s = codes "heap" ++ spaced (decimal s.max_pages ++ spaced (decimal s.stop_age ++ spaced (decimal s.freeze_min_age
     ++ spaced (decimal s.first_xid ++ spaced (decimal s.dead_limit ++ spaced (flat_map flag_text s.indexed))))))
+
+-- each number of the settings has 32 bits, and there are four columns
+pub record SettingsFit (s : Settings) : Type 0 where
+  pub max_pages : s.max_pages < 2 ^ 32
+  pub stop_age : s.stop_age < 2 ^ 32
+  pub freeze_min_age : s.freeze_min_age < 2 ^ 32
+  pub first_xid : s.first_xid < 2 ^ 32
+  pub dead_limit : s.dead_limit < 2 ^ 32
+  pub indexed : length s.indexed ≡ 4
+
+-- what a text spells as a first line: these settings, or none
+abbrev pub SpellsSettings : List ℕ → Option Settings → Type 0
+SpellsSettings text (Some s) = SettingsFit s × (text ≡ heading s)
+SpellsSettings text None = (s : Settings) → SettingsFit s → text ≡ heading s → ⊥
 
 -- a line that asks for a step
 abbrev pub step_text : Step → List ℕ
@@ -111,6 +125,11 @@ Fits (Do step) = StepFits step
 Fits Ids = Unit {0}
 Fits (Page p) = p < 2 ^ 32
 Fits (Entries i) = i < 2 ^ 8
+
+-- what a text spells: this line, whose numbers are in range, or none
+abbrev pub Spells : List ℕ → Option Line → Type 0
+Spells text (Some line) = Fits line × (text ≡ spelling line)
+Spells text None = (line : Line) → Fits line → text ≡ spelling line → ⊥
 
 -- what a line may spell: values in range, in at most 4096 bytes
 pub record IsAllowed (l : Line) : Type 0 where

@@ -1,14 +1,11 @@
 -- What the reader of a line gives, step by step.
-use Rattle.std.specs.Prelude.{ℕ, ℤ, pos, negsuc, ◌+◌, ◌-◌, ◌*◌, ◌^◌, ◌==◌, ◌&&◌, ◌||◌, nat_lt, nat_le, Bool, true, false, List, [], ◌∷◌, length, take, drop, slice_index, codes, Option, Some, None, position, if◌then◌else◌}
+use Rattle.std.specs.Prelude.{ℕ, ℤ, pos, negsuc, ◌+◌, ◌-◌, ◌*◌, ◌^◌, ◌==◌, ◌&&◌, ◌||◌, nat_lt, nat_le, Bool, true, false, List, [], ◌∷◌, ◌++◌, length, take, drop, slice_index, codes, Option, Some, None, position, if◌then◌else◌}
 use Rattle.std.specs.Option.{option_map}
 use Rattle.std.specs.Char.{is_ascii_digit}
 use Rattle.std.specs.Str.{bytes_eq}
 use Rattle.script_text.specs.Names.{Settings, RowText, Begin, Get, Insert, Update, Delete, Savepoint, RollbackTo, Release, Commit, Abort, OpenIndex, OpenHeap, Next, Close, Prune}
-use Rattle.script_text.specs.Verbs.{verb_of}
 use Rattle.script_text.specs.declared.line.Line.{Line}
 use Rattle.script_text.specs.declared.line.Line.TheVariants.{Do, Ids, Page, Entries}
-use Rattle.script_text.specs.declared.line.Verb.{Verb}
-use Rattle.script_text.specs.declared.line.Verb.TheVariants.{Get as get_verb, Begin as begin_verb, Commit as commit_verb, Insert as insert_verb, Update as update_verb, Delete as delete_verb, Savepoint as savepoint_verb, RollbackTo as rollback_verb, Release as release_verb, Abort as abort_verb, OpenIndex as openindex_verb, OpenHeap as openheap_verb, Next as next_verb, Close as close_verb, Prune as prune_verb, Page as page_verb, Entries as entries_verb}
 
 infixl 10 ◌>>=◌
 abbrev pub ◌>>=◌ : {A B : Type 0} → Option A → (A → Option B) → Option B
@@ -139,27 +136,41 @@ heading_of xs = do
 unfoldable pub settings_at : List ℕ → Option Settings
 settings_at line = cut line >>= λ parts. if bytes_eq parts.0 (codes "heap") then heading_of parts.1 else None
 
--- what a verb asks for with the words behind it
-abbrev pub line_for : Verb → List ℕ → Option Line
-line_for get_verb rest = option_map (λ p. Do (Get p.0 p.1)) (key_words_of rest)
-line_for begin_verb rest = option_map (λ s. Do (Begin s)) (number_of 255 rest)
-line_for commit_verb rest = option_map (λ s. Do (Commit s)) (number_of 255 rest)
-line_for insert_verb rest = option_map (λ p. Do (Insert p.0 p.1)) (row_words_of rest)
-line_for update_verb rest = option_map (λ p. Do (Update p.0 p.1)) (row_words_of rest)
-line_for delete_verb rest = option_map (λ p. Do (Delete p.0 p.1)) (key_words_of rest)
-line_for savepoint_verb rest = option_map (λ s. Do (Savepoint s)) (number_of 255 rest)
-line_for rollback_verb rest = option_map (λ s. Do (RollbackTo s)) (number_of 255 rest)
-line_for release_verb rest = option_map (λ s. Do (Release s)) (number_of 255 rest)
-line_for abort_verb rest = option_map (λ s. Do (Abort s)) (number_of 255 rest)
-line_for openindex_verb rest = option_map (λ p. Do (OpenIndex p.0 p.1 p.2 p.3)) (range_words_of rest)
-line_for openheap_verb rest = option_map (λ s. Do (OpenHeap s)) (number_of 255 rest)
-line_for next_verb rest = option_map (λ p. Do (Next p.0 p.1)) (count_words_of rest)
-line_for close_verb rest = option_map (λ s. Do (Close s)) (number_of 255 rest)
-line_for prune_verb rest = option_map (λ p. Do (Prune p)) (number_of 4294967295 rest)
-line_for page_verb rest = option_map (λ p. Page p) (number_of 4294967295 rest)
-line_for entries_verb rest = option_map (λ i. Entries i) (number_of 255 rest)
+-- verbs, the first words of lines with several words: each is spelled so, and asks for this with the words behind it
+abbrev pub Verbs : Type 0
+Verbs = List (List ℕ × (List ℕ → Option Line))
+
+-- those that are asked for most, and the others
+abbrev pub usual_verbs : Verbs
+usual_verbs =
+    (codes "get", λ rest. option_map (λ p. Do (Get p.0 p.1)) (key_words_of rest))
+    ∷ (codes "begin", λ rest. option_map (λ s. Do (Begin s)) (number_of 255 rest))
+    ∷ (codes "commit", λ rest. option_map (λ s. Do (Commit s)) (number_of 255 rest))
+    ∷ (codes "insert", λ rest. option_map (λ p. Do (Insert p.0 p.1)) (row_words_of rest))
+    ∷ (codes "update", λ rest. option_map (λ p. Do (Update p.0 p.1)) (row_words_of rest))
+    ∷ (codes "delete", λ rest. option_map (λ p. Do (Delete p.0 p.1)) (key_words_of rest))
+    ∷ (codes "next", λ rest. option_map (λ p. Do (Next p.0 p.1)) (count_words_of rest))
+    ∷ (codes "abort", λ rest. option_map (λ s. Do (Abort s)) (number_of 255 rest))
+    ∷ []
+
+abbrev pub other_verbs : Verbs
+other_verbs =
+    (codes "savepoint", λ rest. option_map (λ s. Do (Savepoint s)) (number_of 255 rest))
+    ∷ (codes "rollbackto", λ rest. option_map (λ s. Do (RollbackTo s)) (number_of 255 rest))
+    ∷ (codes "release", λ rest. option_map (λ s. Do (Release s)) (number_of 255 rest))
+    ∷ (codes "openindex", λ rest. option_map (λ p. Do (OpenIndex p.0 p.1 p.2 p.3)) (range_words_of rest))
+    ∷ (codes "openheap", λ rest. option_map (λ s. Do (OpenHeap s)) (number_of 255 rest))
+    ∷ (codes "close", λ rest. option_map (λ s. Do (Close s)) (number_of 255 rest))
+    ∷ (codes "prune", λ rest. option_map (λ p. Do (Prune p)) (number_of 4294967295 rest))
+    ∷ (codes "page", λ rest. option_map (λ p. Page p) (number_of 4294967295 rest))
+    ∷ (codes "entries", λ rest. option_map (λ i. Entries i) (number_of 255 rest))
+    ∷ []
+
+-- what a word asks for that is one of these verbs, with the words behind it
+abbrev pub line_in : Verbs → List ℕ → List ℕ → Option Line
+line_in [] word rest = None
+line_in (verb ∷ verbs) word rest = if bytes_eq word verb.0 then verb.1 rest else line_in verbs word rest
 
 -- what a line asks for
 unfoldable pub line_at : List ℕ → Option Line
-line_at line = if bytes_eq line (codes "ids") then Some Ids
-    else (cut line >>= λ parts. verb_of parts.0 >>= λ verb. line_for verb parts.1)
+line_at line = if bytes_eq line (codes "ids") then Some Ids else (cut line >>= λ parts. line_in (usual_verbs ++ other_verbs) parts.0 parts.1)

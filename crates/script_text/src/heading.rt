@@ -2,6 +2,7 @@
 
 ghost use Rattle.std.specs.Prelude.{◌≡◌};
 ghost use Rattle.std.specs.Option.{option_map};
+ghost use Rattle.script_text.specs.Grammar.{SpellsSettings};
 ghost use Rattle.script_text.specs.Reading.{number_then as number_then_of, flag_of, flags4_of, heading_of, settings_at as settings_at_of};
 
 use crate::words::{cut, number_then};
@@ -59,9 +60,8 @@ fn heading(text: &[u8]) -> Option<Settings>
     })
 }
 
-/// The settings that a first line spells, in range or not. The line has no line feed.
 #[tactic(auto, unfolding(crate::specs::Reading::settings_at))]
-pub fn settings_at(line: &[u8]) -> Option<Settings>
+fn read_settings(line: &[u8]) -> Option<Settings>
     ensures { result ≡ settings_at_of line.now }
 {
     let (verb, rest) = cut(line)?;
@@ -70,4 +70,11 @@ pub fn settings_at(line: &[u8]) -> Option<Settings>
     } else {
         None
     }
+}
+
+/// The settings that a first line spells, in range or not. The line has no line feed.
+pub fn settings_at(line: &[u8]) -> Option<Settings>
+    ensures { SpellsSettings line.now result }
+{
+    read_settings(line)
 }

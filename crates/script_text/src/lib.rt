@@ -1,9 +1,9 @@
 //! The language of the shell's scripts: lines to steps, replies to text.
 //!
-//! [`settings_at`] reads a script's first line and [`line_at`] any other, each exactly as `specs/Grammar.antt` spells it: what is read
-//! is spelled so, and what is spelled so is read (`proofs/GrammarLaws.antt`, `proofs/HeadingLaws.antt`). The functions `tell_..` add
-//! the lines of an answer to a text (`specs/Answers.antt`). [`command_of`] says which words of the command line ask for a script.
-//! Each of them gives up only with a [`RefusedGrowth`], which only the refusal of a growth makes.
+//! [`settings_at`] reads a script's first line and [`line_at`] any other, each exactly as `specs/Grammar.antt` spells it: what is
+//! read is spelled so, and what is spelled so is read. The functions `tell_..` add the lines of an answer to a text
+//! (`specs/Answers.antt`). Each of them gives up only with a [`RefusedGrowth`], which only the refusal of a growth makes.
+//! [`command_of`] says which words of the command line ask for a script.
 #![tactic(auto)]
 
 mod answer;

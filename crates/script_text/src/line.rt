@@ -1,9 +1,9 @@
 //! A line behind the first, and what it asks for.
 
-ghost use Rattle.std.specs.Prelude.{◌≡◌, IfOk};
+ghost use Rattle.std.specs.Prelude.{◌≡◌, ◌++◌, IfOk};
 ghost use Rattle.std.specs.Option.{option_map};
-ghost use Rattle.script_text.specs.Verbs.{verb_of, verb_in, other_verbs};
-ghost use Rattle.script_text.specs.Reading.{number_of, row_words_of, key_words_of, count_words_of, range_words_of, line_for, line_at as line_at_of};
+ghost use Rattle.script_text.specs.Grammar.{Spells};
+ghost use Rattle.script_text.specs.Reading.{number_of, row_words_of, key_words_of, count_words_of, range_words_of, line_in, usual_verbs, other_verbs, line_at as line_at_of};
 
 use crate::growth::RefusedGrowth;
 use crate::words::{body, bound, bound_then, column_then, cut, number, number_then};
@@ -21,80 +21,6 @@ pub enum Line {
     Page(u32),
     /// The entries of an index.
     Entries(u8),
-}
-
-/// The first word of a line with several words.
-#[derive(Clone, Copy, Debug)]
-pub enum Verb {
-    Get,
-    Begin,
-    Commit,
-    Insert,
-    Update,
-    Delete,
-    Savepoint,
-    RollbackTo,
-    Release,
-    Abort,
-    OpenIndex,
-    OpenHeap,
-    Next,
-    Close,
-    Prune,
-    Page,
-    Entries,
-}
-
-// The verb that a word spells, of those that are asked for less often.
-fn other_verb_at(word: &[u8]) -> Option<Verb>
-    ensures { result ≡ verb_in other_verbs word.now }
-{
-    if word == b"savepoint".as_slice() {
-        Some(Verb::Savepoint)
-    } else if word == b"rollbackto".as_slice() {
-        Some(Verb::RollbackTo)
-    } else if word == b"release".as_slice() {
-        Some(Verb::Release)
-    } else if word == b"openindex".as_slice() {
-        Some(Verb::OpenIndex)
-    } else if word == b"openheap".as_slice() {
-        Some(Verb::OpenHeap)
-    } else if word == b"close".as_slice() {
-        Some(Verb::Close)
-    } else if word == b"prune".as_slice() {
-        Some(Verb::Prune)
-    } else if word == b"page".as_slice() {
-        Some(Verb::Page)
-    } else if word == b"entries".as_slice() {
-        Some(Verb::Entries)
-    } else {
-        None
-    }
-}
-
-// The verb that a word spells; the most usual come first.
-fn verb_at(word: &[u8]) -> Option<Verb>
-    ensures { result ≡ verb_of word.now }
-{
-    if word == b"get".as_slice() {
-        Some(Verb::Get)
-    } else if word == b"begin".as_slice() {
-        Some(Verb::Begin)
-    } else if word == b"commit".as_slice() {
-        Some(Verb::Commit)
-    } else if word == b"insert".as_slice() {
-        Some(Verb::Insert)
-    } else if word == b"update".as_slice() {
-        Some(Verb::Update)
-    } else if word == b"delete".as_slice() {
-        Some(Verb::Delete)
-    } else if word == b"next".as_slice() {
-        Some(Verb::Next)
-    } else if word == b"abort".as_slice() {
-        Some(Verb::Abort)
-    } else {
-        other_verb_at(word)
-    }
 }
 
 // A session and a row.
@@ -178,46 +104,74 @@ fn page(word: &[u8]) -> Option<u32>
     Some(p as u32)
 }
 
-// What a verb asks for with the words behind it.
-fn line_with(alloc: Global, verb: Verb, rest: &[u8]) -> Result<Option<Line>, RefusedGrowth>
-    ensures { IfOk result (λ o. o ≡ line_for verb rest.now) }
+// What a line asks for that begins with this word, one of those that are asked for less often.
+fn other_line(word: &[u8], rest: &[u8]) -> Option<Line>
+    ensures { result ≡ line_in other_verbs word.now rest.now }
 {
-    match verb {
-        Verb::Get => Ok(key(rest).map(|(s, key)| Line::Do(Step::Get(s, key)))),
-        Verb::Begin => Ok(number8(rest).map(|s| Line::Do(Step::Begin(s)))),
-        Verb::Commit => Ok(number8(rest).map(|s| Line::Do(Step::Commit(s)))),
-        Verb::Insert => Ok(row(alloc, rest)?.map(|(s, row)| Line::Do(Step::Insert(s, row)))),
-        Verb::Update => Ok(row(alloc, rest)?.map(|(s, row)| Line::Do(Step::Update(s, row)))),
-        Verb::Delete => Ok(key(rest).map(|(s, key)| Line::Do(Step::Delete(s, key)))),
-        Verb::Savepoint => Ok(number8(rest).map(|s| Line::Do(Step::Savepoint(s)))),
-        Verb::RollbackTo => Ok(number8(rest).map(|s| Line::Do(Step::RollbackTo(s)))),
-        Verb::Release => Ok(number8(rest).map(|s| Line::Do(Step::Release(s)))),
-        Verb::Abort => Ok(number8(rest).map(|s| Line::Do(Step::Abort(s)))),
-        Verb::OpenIndex => Ok(range(rest).map(|(s, index, low, high)| Line::Do(Step::OpenIndex(
-            s, index, low, high,
-        )))),
-        Verb::OpenHeap => Ok(number8(rest).map(|s| Line::Do(Step::OpenHeap(s)))),
-        Verb::Next => Ok(count(rest).map(|(s, n)| Line::Do(Step::Next(s, n)))),
-        Verb::Close => Ok(number8(rest).map(|s| Line::Do(Step::Close(s)))),
-        Verb::Prune => Ok(page(rest).map(|p| Line::Do(Step::Prune(p)))),
-        Verb::Page => Ok(page(rest).map(|p| Line::Page(p))),
-        Verb::Entries => Ok(number8(rest).map(|i| Line::Entries(i))),
+    if word == b"savepoint".as_slice() {
+        number8(rest).map(|s| Line::Do(Step::Savepoint(s)))
+    } else if word == b"rollbackto".as_slice() {
+        number8(rest).map(|s| Line::Do(Step::RollbackTo(s)))
+    } else if word == b"release".as_slice() {
+        number8(rest).map(|s| Line::Do(Step::Release(s)))
+    } else if word == b"openindex".as_slice() {
+        range(rest).map(|(s, index, low, high)| Line::Do(Step::OpenIndex(s, index, low, high)))
+    } else if word == b"openheap".as_slice() {
+        number8(rest).map(|s| Line::Do(Step::OpenHeap(s)))
+    } else if word == b"close".as_slice() {
+        number8(rest).map(|s| Line::Do(Step::Close(s)))
+    } else if word == b"prune".as_slice() {
+        page(rest).map(|p| Line::Do(Step::Prune(p)))
+    } else if word == b"page".as_slice() {
+        page(rest).map(|p| Line::Page(p))
+    } else if word == b"entries".as_slice() {
+        number8(rest).map(|i| Line::Entries(i))
+    } else {
+        None
     }
 }
 
-/// What a line asks for, if it is allowed. The line has no line feed.
+// What a line asks for that begins with this word; the most usual words come first.
+fn line_for(alloc: Global, word: &[u8], rest: &[u8]) -> Result<Option<Line>, RefusedGrowth>
+    ensures { IfOk result (λ o. o ≡ line_in (usual_verbs ++ other_verbs) word.now rest.now) }
+{
+    if word == b"get".as_slice() {
+        Ok(key(rest).map(|(s, key)| Line::Do(Step::Get(s, key))))
+    } else if word == b"begin".as_slice() {
+        Ok(number8(rest).map(|s| Line::Do(Step::Begin(s))))
+    } else if word == b"commit".as_slice() {
+        Ok(number8(rest).map(|s| Line::Do(Step::Commit(s))))
+    } else if word == b"insert".as_slice() {
+        Ok(row(alloc, rest)?.map(|(s, row)| Line::Do(Step::Insert(s, row))))
+    } else if word == b"update".as_slice() {
+        Ok(row(alloc, rest)?.map(|(s, row)| Line::Do(Step::Update(s, row))))
+    } else if word == b"delete".as_slice() {
+        Ok(key(rest).map(|(s, key)| Line::Do(Step::Delete(s, key))))
+    } else if word == b"next".as_slice() {
+        Ok(count(rest).map(|(s, n)| Line::Do(Step::Next(s, n))))
+    } else if word == b"abort".as_slice() {
+        Ok(number8(rest).map(|s| Line::Do(Step::Abort(s))))
+    } else {
+        Ok(other_line(word, rest))
+    }
+}
+
 #[tactic(auto, unfolding(crate::specs::Reading::line_at))]
-pub fn line_at(alloc: Global, line: &[u8]) -> Result<Option<Line>, RefusedGrowth>
+fn read_line(alloc: Global, line: &[u8]) -> Result<Option<Line>, RefusedGrowth>
     ensures { IfOk result (λ o. o ≡ line_at_of line.now) }
 {
     if line == b"ids".as_slice() {
         return Ok(Some(Line::Ids));
     }
-    let Some((word, rest)) = cut(line) else {
-        return Ok(None);
-    };
-    match verb_at(word) {
-        Some(verb) => line_with(alloc, verb, rest),
+    match cut(line) {
+        Some((word, rest)) => line_for(alloc, word, rest),
         None => Ok(None),
     }
+}
+
+/// What a line asks for, if it is allowed. The line has no line feed.
+pub fn line_at(alloc: Global, line: &[u8]) -> Result<Option<Line>, RefusedGrowth>
+    ensures { IfOk result (λ o. Spells line.now o) }
+{
+    read_line(alloc, line)
 }

@@ -1,6 +1,4 @@
-use Rattle.std.proofs.Common.{refl, sym, ◌∙◌}
-use Rattle.std.proofs.lemmas.Option.{none-some}
-use Rattle.script_text.proofs.HeadingLaws.{settings_at_says}
+use Rattle.std.proofs.Common.{refl}
 use Rattle.script.proofs.FirstLemmas.{bad_first, bad_text, bad_settings, first_used, nothing_given, no_heading}
 use Rattle.script.proofs.RunLemmas.{caused_by}
 use Rattle.script.proofs.run.first_line.Goals as goal
@@ -24,17 +22,15 @@ pub returns-in_default-settings_at-clause-fails : goal.returns-in_default-settin
 returns-in_default-settings_at-clause-fails g c =
     let found = rw c.in-Line.is at c.in-Ok.ensures.line in (
       refl,
-      bad_text _ _ _ _ c.in-Line.n c.requires.0 c.in-Ok.ensures.takes found.2 (λ s fits e.
-          none-some s (rw c.as_slice.ensures at c.in_default-settings_at.ensures ∙ e)),
+      bad_text _ _ _ _ c.in-Line.n c.requires.0 c.in-Ok.ensures.takes found.2 (λ s fits fit e. (rw c.as_slice.ensures at c.in_default-settings_at.ensures) s fit e),
     )
 
 pub returns-in-Ok-Some-clause-begins : goal.returns-in-Ok-Some-clause-begins
 returns-in-Ok-Some-clause-begins g c =
     let found = rw c.in-Line.is at c.in-Ok.ensures.line in
     let read = rw c.as_slice.ensures at c.in-Some.ensures in
-    let says = settings_at_says _ c.in-Some.settings (sym read) in
     let made = rw c.in-Ok-Some.field-0-is at c.in-Ok-Some.ensures.made in
-    (c.in-Some.settings, made.0, made.1, says.flags, rw c.consume.ensures (first_used _ _ _ _ c.in-Line.n c.in-Some.settings c.requires.0 c.in-Ok.ensures.takes found.2 (sym read)))
+    (c.in-Some.settings, made.0, made.1, read.0.indexed, rw c.consume.ensures (first_used _ _ _ _ c.in-Line.n c.in-Some.settings c.requires.0 c.in-Ok.ensures.takes found.2 read.1))
 
 pub returns-in-Ok-None : goal.returns-in-Ok-None
 returns-in-Ok-None g c =
