@@ -129,6 +129,9 @@ impl<R, W> IoLog<R, W> {
             (λ e. IsNew settings e.core × AreSettings settings)) }
         ensures valid { OnErr result (AreSettings settings) }
         ensures fault { IfErr result (λ e. IsRefused e self.new) }
+        ensures input { self.new.input ≡ self.old.input }
+        ensures output { self.new.output ≡ self.old.output }
+        ensures interrupted { self.new.interrupted ≡ self.old.interrupted }
     {
         match Engine::new(alloc, settings) {
             Ok(engine) => Ok(Some(engine)),
