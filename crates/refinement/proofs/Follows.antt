@@ -13,7 +13,7 @@ use Rattle.refinement.specs.declared.step.Step.TheVariants.{Begin, Get, Commit, 
 use Rattle.refinement.specs.declared.reply.Reply.TheVariants.{Done, Found, RolledBack, Refused}
 use Rattle.refinement.specs.declared.reply.Reply.TheVariants as reply
 use Rattle.refinement.specs.declared.reply.Refusal.{Refusal}
-use Rattle.refinement.specs.declared.reply.Refusal.TheVariants.{NotOpen, AlreadyOpen, Failed, AlreadyThere, NotThere, Conflict, Busy, CursorOpen, NoCursor, TooDeep, NoSavepoint, TooLarge, NoRoom, NeedsFreeze, NoMemory, NoSuchPage, NoSuchIndex, NoSuchSession, BadBounds}
+use Rattle.refinement.specs.declared.reply.Refusal.TheVariants.{NotOpen, AlreadyOpen, Failed, CursorOpen, NoCursor, NoSuchSession}
 use Rattle.refinement.specs.Allowed.{AllowsClosed, AllowsUnready, AllowsBarred, AllowsBare, Allows}
 use Rattle.refinement.specs.Heap.{SeenSession, Heap}
 use Rattle.refinement.specs.Visible.{IsFreshSnapshot, ReaderSees}
@@ -66,88 +66,23 @@ IsBare h s refusal = IsUnready h s refusal
 pub closed_cases : (h : Heap) (s : ℕ) (P : Refusal → Type 0) (r : Refusal) → IsClosed h s r → (IsClosed h s NoSuchSession → P NoSuchSession) → (IsClosed h s NotOpen → P NotOpen) → P r
 closed_cases h s P NoSuchSession is none idle = none is
 closed_cases h s P NotOpen is none idle = idle is
-closed_cases h s P AlreadyOpen is none idle = absurd is
-closed_cases h s P Failed is none idle = absurd is
-closed_cases h s P AlreadyThere is none idle = absurd is
-closed_cases h s P NotThere is none idle = absurd is
-closed_cases h s P Conflict is none idle = absurd is
-closed_cases h s P (Busy o) is none idle = absurd is
-closed_cases h s P CursorOpen is none idle = absurd is
-closed_cases h s P NoCursor is none idle = absurd is
-closed_cases h s P TooDeep is none idle = absurd is
-closed_cases h s P NoSavepoint is none idle = absurd is
-closed_cases h s P TooLarge is none idle = absurd is
-closed_cases h s P NoRoom is none idle = absurd is
-closed_cases h s P NeedsFreeze is none idle = absurd is
-closed_cases h s P NoMemory is none idle = absurd is
-closed_cases h s P NoSuchPage is none idle = absurd is
-closed_cases h s P NoSuchIndex is none idle = absurd is
-closed_cases h s P BadBounds is none idle = absurd is
+closed_cases h s P _ is none idle = absurd is
 
 -- and of each of the three, of why it is not ready
 pub unready_cases : (h : Heap) (s : ℕ) (P : Refusal → Type 0) (r : Refusal) → IsUnready h s r → (IsClosed h s NoSuchSession → P NoSuchSession) → (IsClosed h s NotOpen → P NotOpen) → (IsUnready h s Failed → P Failed) → P r
 unready_cases h s P NoSuchSession is none idle failed = none is
 unready_cases h s P NotOpen is none idle failed = idle is
-unready_cases h s P AlreadyOpen is none idle failed = absurd is
 unready_cases h s P Failed is none idle failed = failed is
-unready_cases h s P AlreadyThere is none idle failed = absurd is
-unready_cases h s P NotThere is none idle failed = absurd is
-unready_cases h s P Conflict is none idle failed = absurd is
-unready_cases h s P (Busy o) is none idle failed = absurd is
-unready_cases h s P CursorOpen is none idle failed = absurd is
-unready_cases h s P NoCursor is none idle failed = absurd is
-unready_cases h s P TooDeep is none idle failed = absurd is
-unready_cases h s P NoSavepoint is none idle failed = absurd is
-unready_cases h s P TooLarge is none idle failed = absurd is
-unready_cases h s P NoRoom is none idle failed = absurd is
-unready_cases h s P NeedsFreeze is none idle failed = absurd is
-unready_cases h s P NoMemory is none idle failed = absurd is
-unready_cases h s P NoSuchPage is none idle failed = absurd is
-unready_cases h s P NoSuchIndex is none idle failed = absurd is
-unready_cases h s P BadBounds is none idle failed = absurd is
+unready_cases h s P _ is none idle failed = absurd is
 
 -- what holds of each of these, and of an open cursor, holds of why the session may not write
 pub barred_cases : (h : Heap) (s : ℕ) (P : Refusal → Type 0) (r : Refusal) → IsBarred h s r → ((r : Refusal) → IsUnready h s r → P r) → (IsBarred h s CursorOpen → P CursorOpen) → P r
-barred_cases h s P NoSuchSession is unready cursor = unready NoSuchSession is
-barred_cases h s P NotOpen is unready cursor = unready NotOpen is
-barred_cases h s P AlreadyOpen is unready cursor = unready AlreadyOpen is
-barred_cases h s P Failed is unready cursor = unready Failed is
-barred_cases h s P AlreadyThere is unready cursor = unready AlreadyThere is
-barred_cases h s P NotThere is unready cursor = unready NotThere is
-barred_cases h s P Conflict is unready cursor = unready Conflict is
-barred_cases h s P (Busy o) is unready cursor = unready (Busy o) is
 barred_cases h s P CursorOpen is unready cursor = cursor is
-barred_cases h s P NoCursor is unready cursor = unready NoCursor is
-barred_cases h s P TooDeep is unready cursor = unready TooDeep is
-barred_cases h s P NoSavepoint is unready cursor = unready NoSavepoint is
-barred_cases h s P TooLarge is unready cursor = unready TooLarge is
-barred_cases h s P NoRoom is unready cursor = unready NoRoom is
-barred_cases h s P NeedsFreeze is unready cursor = unready NeedsFreeze is
-barred_cases h s P NoMemory is unready cursor = unready NoMemory is
-barred_cases h s P NoSuchPage is unready cursor = unready NoSuchPage is
-barred_cases h s P NoSuchIndex is unready cursor = unready NoSuchIndex is
-barred_cases h s P BadBounds is unready cursor = unready BadBounds is
+barred_cases h s P r is unready cursor = unready r is
 
 pub bare_cases : (h : Heap) (s : ℕ) (P : Refusal → Type 0) (r : Refusal) → IsBare h s r → ((r : Refusal) → IsUnready h s r → P r) → (IsBare h s NoCursor → P NoCursor) → P r
-bare_cases h s P NoSuchSession is unready cursor = unready NoSuchSession is
-bare_cases h s P NotOpen is unready cursor = unready NotOpen is
-bare_cases h s P AlreadyOpen is unready cursor = unready AlreadyOpen is
-bare_cases h s P Failed is unready cursor = unready Failed is
-bare_cases h s P AlreadyThere is unready cursor = unready AlreadyThere is
-bare_cases h s P NotThere is unready cursor = unready NotThere is
-bare_cases h s P Conflict is unready cursor = unready Conflict is
-bare_cases h s P (Busy o) is unready cursor = unready (Busy o) is
-bare_cases h s P CursorOpen is unready cursor = unready CursorOpen is
 bare_cases h s P NoCursor is unready cursor = cursor is
-bare_cases h s P TooDeep is unready cursor = unready TooDeep is
-bare_cases h s P NoSavepoint is unready cursor = unready NoSavepoint is
-bare_cases h s P TooLarge is unready cursor = unready TooLarge is
-bare_cases h s P NoRoom is unready cursor = unready NoRoom is
-bare_cases h s P NeedsFreeze is unready cursor = unready NeedsFreeze is
-bare_cases h s P NoMemory is unready cursor = unready NoMemory is
-bare_cases h s P NoSuchPage is unready cursor = unready NoSuchPage is
-bare_cases h s P NoSuchIndex is unready cursor = unready NoSuchIndex is
-bare_cases h s P BadBounds is unready cursor = unready BadBounds is
+bare_cases h s P r is unready cursor = unready r is
 
 pub allows_closed : (h : Heap) (w : World) (s : ℕ) (r : Refusal) → HeapAgrees h w → IsClosed h s r → AllowsClosed w s r
 allows_closed h w s r agrees is = closed_cases h s (λ r. AllowsClosed w s r) r is (λ none. none) (λ idle. (idle.0, agrees.idle s idle.1))
