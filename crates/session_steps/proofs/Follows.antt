@@ -29,7 +29,7 @@ use Rattle.refinement.specs.declared.reply.Reply.{Reply}
 use Rattle.refinement.specs.declared.reply.Reply.TheVariants.{Done, RolledBack, Refused}
 use Rattle.refinement.specs.declared.reply.Reply.TheVariants as reply
 use Rattle.refinement.specs.declared.reply.Refusal.{Refusal}
-use Rattle.refinement.specs.declared.reply.Refusal.TheVariants.{NotOpen, AlreadyOpen, Failed, AlreadyThere, NotThere, Conflict, Busy, TooLarge, NoRoom, NeedsFreeze, NoMemory, NoSuchPage, NoSuchSession, TooDeep, NoSavepoint, CursorOpen, NoCursor, NoSuchIndex, BadBounds}
+use Rattle.refinement.specs.declared.reply.Refusal.TheVariants.{NotOpen, AlreadyOpen, Failed, TooLarge, NoMemory, NoSuchSession, CursorOpen, NoCursor}
 use Rattle.refinement.specs.Writes.{WriteStep, step_of}
 use Rattle.refinement.specs.Heap as seen_heap
 use Rattle.refinement.specs.Agrees as relation
@@ -81,44 +81,11 @@ Follows-same st step r follows w agrees = stays-so st w step r agrees (follows w
 pub closed_by : (st : State) (s : ℕ) (r : Refusal) → Refuses st s r → theory.IsClosed (seen st) s r
 closed_by st s NoSuchSession is = is
 closed_by st s NotOpen is = (is.0, ap (option_map reader_of) is.1)
-closed_by st s AlreadyOpen is = absurd is
-closed_by st s TooDeep is = absurd is
-closed_by st s CursorOpen is = absurd is
-closed_by st s NoCursor is = absurd is
-closed_by st s NoSuchIndex is = absurd is
-closed_by st s BadBounds is = absurd is
-closed_by st s NoSavepoint is = absurd is
-closed_by st s Failed is = absurd is
-closed_by st s AlreadyThere is = absurd is
-closed_by st s NotThere is = absurd is
-closed_by st s Conflict is = absurd is
-closed_by st s (Busy o) is = absurd is
-closed_by st s TooLarge is = absurd is
-closed_by st s NoRoom is = absurd is
-closed_by st s NeedsFreeze is = absurd is
-closed_by st s NoMemory is = absurd is
-closed_by st s NoSuchPage is = absurd is
+closed_by st s _ is = absurd is
 
 pub unready_by : (st : State) (s : ℕ) (r : Refusal) → RefusesReady st s r → theory.IsUnready (seen st) s r
 unready_by st s Failed is = (reader_of is.1, reader-is st s is.1 is.2, is.3)
-unready_by st s NoSuchSession is = is
-unready_by st s NotOpen is = (is.0, ap (option_map reader_of) is.1)
-unready_by st s AlreadyOpen is = absurd is
-unready_by st s TooDeep is = absurd is
-unready_by st s CursorOpen is = absurd is
-unready_by st s NoCursor is = absurd is
-unready_by st s NoSuchIndex is = absurd is
-unready_by st s BadBounds is = absurd is
-unready_by st s NoSavepoint is = absurd is
-unready_by st s AlreadyThere is = absurd is
-unready_by st s NotThere is = absurd is
-unready_by st s Conflict is = absurd is
-unready_by st s (Busy o) is = absurd is
-unready_by st s TooLarge is = absurd is
-unready_by st s NoRoom is = absurd is
-unready_by st s NeedsFreeze is = absurd is
-unready_by st s NoMemory is = absurd is
-unready_by st s NoSuchPage is = absurd is
+unready_by st s r is = closed_by st s r is
 
 pub Follows-closed_commit : (st : State) (s : ℕ) (r : Refusal) → Refuses st s r → Follows st (Commit s) (Refused r) st
 Follows-closed_commit st s r is = Follows-same st (Commit s) (Refused r) (theory.Follows-closed_commit (seen st) s r (closed_by st s r is))
@@ -142,23 +109,7 @@ Follows-no_such_session st s past = Follows-same st (Begin s) (Refused NoSuchSes
 pub Follows-closed_begin : (st : State) (s : ℕ) (r : Refusal) → (r ≡ NotOpen → ⊥) → Refuses st s r → Follows st (Begin s) (Refused r) st
 Follows-closed_begin st s NoSuchSession ne is = Follows-no_such_session st s is
 Follows-closed_begin st s NotOpen ne is = absurd (ne refl)
-Follows-closed_begin st s AlreadyOpen ne is = absurd is
-Follows-closed_begin st s TooDeep ne is = absurd is
-Follows-closed_begin st s CursorOpen ne is = absurd is
-Follows-closed_begin st s NoCursor ne is = absurd is
-Follows-closed_begin st s NoSuchIndex ne is = absurd is
-Follows-closed_begin st s BadBounds ne is = absurd is
-Follows-closed_begin st s NoSavepoint ne is = absurd is
-Follows-closed_begin st s Failed ne is = absurd is
-Follows-closed_begin st s AlreadyThere ne is = absurd is
-Follows-closed_begin st s NotThere ne is = absurd is
-Follows-closed_begin st s Conflict ne is = absurd is
-Follows-closed_begin st s (Busy o) ne is = absurd is
-Follows-closed_begin st s TooLarge ne is = absurd is
-Follows-closed_begin st s NoRoom ne is = absurd is
-Follows-closed_begin st s NeedsFreeze ne is = absurd is
-Follows-closed_begin st s NoMemory ne is = absurd is
-Follows-closed_begin st s NoSuchPage ne is = absurd is
+Follows-closed_begin st s _ ne is = absurd is
 
 -- a cursor as readers see it
 
@@ -169,45 +120,11 @@ some-position (Some (Heap page)) some = refl
 
 pub free_by : (st : State) (s : ℕ) (r : Refusal) → RefusesFree st s r → theory.IsBarred (seen st) s r
 free_by st s CursorOpen is = (reader_of is.1, ap (option_map reader_of) is.2, is.3, some-position is.1.cursor is.4)
-free_by st s NoSuchSession is = unready_by st s NoSuchSession is
-free_by st s NotOpen is = unready_by st s NotOpen is
-free_by st s Failed is = unready_by st s Failed is
-free_by st s AlreadyOpen is = absurd is
-free_by st s AlreadyThere is = absurd is
-free_by st s NotThere is = absurd is
-free_by st s Conflict is = absurd is
-free_by st s (Busy o) is = absurd is
-free_by st s TooDeep is = absurd is
-free_by st s NoSavepoint is = absurd is
-free_by st s NoCursor is = absurd is
-free_by st s NoSuchIndex is = absurd is
-free_by st s BadBounds is = absurd is
-free_by st s TooLarge is = absurd is
-free_by st s NoRoom is = absurd is
-free_by st s NeedsFreeze is = absurd is
-free_by st s NoMemory is = absurd is
-free_by st s NoSuchPage is = absurd is
+free_by st s r is = unready_by st s r is
 
 pub bare_by : (st : State) (s : ℕ) (r : Refusal) → RefusesBare st s r → theory.IsBare (seen st) s r
 bare_by st s NoCursor is = (reader_of is.1, ap (option_map reader_of) is.2, is.3, ap position_of is.4)
-bare_by st s NoSuchSession is = unready_by st s NoSuchSession is
-bare_by st s NotOpen is = unready_by st s NotOpen is
-bare_by st s Failed is = unready_by st s Failed is
-bare_by st s AlreadyOpen is = absurd is
-bare_by st s AlreadyThere is = absurd is
-bare_by st s NotThere is = absurd is
-bare_by st s Conflict is = absurd is
-bare_by st s (Busy o) is = absurd is
-bare_by st s TooDeep is = absurd is
-bare_by st s NoSavepoint is = absurd is
-bare_by st s CursorOpen is = absurd is
-bare_by st s NoSuchIndex is = absurd is
-bare_by st s BadBounds is = absurd is
-bare_by st s TooLarge is = absurd is
-bare_by st s NoRoom is = absurd is
-bare_by st s NeedsFreeze is = absurd is
-bare_by st s NoMemory is = absurd is
-bare_by st s NoSuchPage is = absurd is
+bare_by st s r is = unready_by st s r is
 
 -- Begin.
 

@@ -9,7 +9,7 @@ use Rattle.history.specs.World.{World}
 use Rattle.refinement.specs.declared.step.Step.TheVariants.{Begin, Insert, Delete}
 use Rattle.refinement.specs.declared.reply.Reply.TheVariants.{Refused}
 use Rattle.refinement.specs.declared.reply.Refusal.{Refusal}
-use Rattle.refinement.specs.declared.reply.Refusal.TheVariants.{NotOpen, AlreadyOpen, Failed, AlreadyThere, NotThere, Conflict, Busy, TooLarge, NoRoom, NeedsFreeze, NoMemory, NoSuchPage, NoSuchSession, TooDeep, NoSavepoint, CursorOpen, NoCursor, NoSuchIndex, BadBounds}
+use Rattle.refinement.specs.declared.reply.Refusal.TheVariants.{AlreadyThere, NotThere, Conflict, Busy, NoRoom, NeedsFreeze, NoMemory}
 use Rattle.refinement.specs.Words.{RowText, FitsRow}
 use Rattle.refinement.specs.Writes.{WriteStep, inserts, updates, deletes, step_of, key_of, Asks}
 use Rattle.refinement.specs.Finds.{BeginsWrite}
@@ -73,22 +73,7 @@ insert-hindered st s text AlreadyThere fits (e, p, reads) = λ w agrees.
     (hindrances.Follows-already_there (seen st) s (reader_of e) text t.0.row (begins-some st s e text.key p t.0 reads t.1) fits) w agrees
 insert-hindered st s text Conflict fits d = conflicts st s d.session (inserts text) d.reads.at d.delays (check_insert st s d.session text fits d.reads)
 insert-hindered st s text (Busy o) fits d = busies st s o d.session (inserts text) d.reads.at d.delays (check_insert st s d.session text fits d.reads)
-insert-hindered st s text Failed fits is = absurd is
-insert-hindered st s text NotOpen fits is = absurd is
-insert-hindered st s text NoSuchSession fits is = absurd is
-insert-hindered st s text NotThere fits is = absurd is
-insert-hindered st s text AlreadyOpen fits is = absurd is
-insert-hindered st s text TooDeep fits is = absurd is
-insert-hindered st s text CursorOpen fits is = absurd is
-insert-hindered st s text NoCursor fits is = absurd is
-insert-hindered st s text NoSuchIndex fits is = absurd is
-insert-hindered st s text BadBounds fits is = absurd is
-insert-hindered st s text NoSavepoint fits is = absurd is
-insert-hindered st s text TooLarge fits is = absurd is
-insert-hindered st s text NoRoom fits is = absurd is
-insert-hindered st s text NeedsFreeze fits is = absurd is
-insert-hindered st s text NoMemory fits is = absurd is
-insert-hindered st s text NoSuchPage fits is = absurd is
+insert-hindered st s text _ fits is = absurd is
 
 pub Follows-hindered_insert : (st : State) (s : ℕ) (row : Row) (r : Refusal) → RefusesInsertOfKey st s row.key r → FollowsInsert st s row (Refused r) (refused_state st s r)
 Follows-hindered_insert st s row r h text fits same = insert-hindered st s text r fits (subst (λ (row : Row). RefusesInsertOfKey st s row.key r) same h)
@@ -101,22 +86,7 @@ change-hindered st s write NotThere asks needs (e, reads) = λ w agrees.
     Follows-same st (step_of s write) (Refused NotThere) (hindrances.Follows-not_there (seen st) s (reader_of e) write (begins-none st w s e (key_of write) agrees reads) needs) w agrees
 change-hindered st s write Conflict asks needs d = conflicts st s d.1.session write d.1.reads.at d.1.delays (check_update st s d.1.session d.0 write asks d.1.reads)
 change-hindered st s write (Busy o) asks needs d = busies st s o d.1.session write d.1.reads.at d.1.delays (check_update st s d.1.session d.0 write asks d.1.reads)
-change-hindered st s write Failed asks needs is = absurd is
-change-hindered st s write NotOpen asks needs is = absurd is
-change-hindered st s write NoSuchSession asks needs is = absurd is
-change-hindered st s write AlreadyThere asks needs is = absurd is
-change-hindered st s write AlreadyOpen asks needs is = absurd is
-change-hindered st s write TooDeep asks needs is = absurd is
-change-hindered st s write CursorOpen asks needs is = absurd is
-change-hindered st s write NoCursor asks needs is = absurd is
-change-hindered st s write NoSuchIndex asks needs is = absurd is
-change-hindered st s write BadBounds asks needs is = absurd is
-change-hindered st s write NoSavepoint asks needs is = absurd is
-change-hindered st s write TooLarge asks needs is = absurd is
-change-hindered st s write NoRoom asks needs is = absurd is
-change-hindered st s write NeedsFreeze asks needs is = absurd is
-change-hindered st s write NoMemory asks needs is = absurd is
-change-hindered st s write NoSuchPage asks needs is = absurd is
+change-hindered st s write _ asks needs is = absurd is
 
 pub Follows-hindered_update : (st : State) (s : ℕ) (row : Row) (r : Refusal) → RefusesChangeOfKey st s row.key r → FollowsUpdate st s row (Refused r) (refused_state st s r)
 Follows-hindered_update st s row r h text fits same =
@@ -128,153 +98,51 @@ Follows-hindered_delete st s key r h = change-hindered st s (deletes key) r (λ 
 -- What such a refusal leaves.
 
 pub exact-hindered_insert : (st : State) (s : ℕ) (row : Row) (r : Refusal) → RefusesInsertOfKey st s row.key r → ExactInsert st s row (Refused r) (refused_state st s r)
-exact-hindered_insert st s row NotOpen h = refl
-exact-hindered_insert st s row AlreadyOpen h = refl
-exact-hindered_insert st s row TooDeep h = refl
-exact-hindered_insert st s row CursorOpen h = refl
-exact-hindered_insert st s row NoCursor h = refl
-exact-hindered_insert st s row NoSuchIndex h = refl
-exact-hindered_insert st s row BadBounds h = refl
-exact-hindered_insert st s row NoSavepoint h = refl
-exact-hindered_insert st s row Failed h = refl
-exact-hindered_insert st s row AlreadyThere h = refl
-exact-hindered_insert st s row NotThere h = refl
-exact-hindered_insert st s row Conflict h = refl
-exact-hindered_insert st s row (Busy o) h = refl
-exact-hindered_insert st s row TooLarge h = refl
 exact-hindered_insert st s row NoRoom h = absurd h
 exact-hindered_insert st s row NeedsFreeze h = absurd h
 exact-hindered_insert st s row NoMemory h = absurd h
-exact-hindered_insert st s row NoSuchPage h = refl
-exact-hindered_insert st s row NoSuchSession h = refl
+exact-hindered_insert st s row _ h = refl
 
 pub exact-hindered_update : (st : State) (s : ℕ) (row : Row) (r : Refusal) → RefusesChangeOfKey st s row.key r → ExactUpdate st s row (Refused r) (refused_state st s r)
-exact-hindered_update st s row NotOpen h = refl
-exact-hindered_update st s row AlreadyOpen h = refl
-exact-hindered_update st s row TooDeep h = refl
-exact-hindered_update st s row CursorOpen h = refl
-exact-hindered_update st s row NoCursor h = refl
-exact-hindered_update st s row NoSuchIndex h = refl
-exact-hindered_update st s row BadBounds h = refl
-exact-hindered_update st s row NoSavepoint h = refl
-exact-hindered_update st s row Failed h = refl
-exact-hindered_update st s row AlreadyThere h = refl
 exact-hindered_update st s row NotThere h = inl refl
-exact-hindered_update st s row Conflict h = refl
-exact-hindered_update st s row (Busy o) h = refl
-exact-hindered_update st s row TooLarge h = refl
 exact-hindered_update st s row NoRoom h = absurd h
 exact-hindered_update st s row NeedsFreeze h = absurd h
 exact-hindered_update st s row NoMemory h = absurd h
-exact-hindered_update st s row NoSuchPage h = refl
-exact-hindered_update st s row NoSuchSession h = refl
+exact-hindered_update st s row _ h = refl
 
 pub exact-hindered_delete : (st : State) (s key : ℕ) (r : Refusal) → RefusesChangeOfKey st s key r → ExactDelete st s key (Refused r) (refused_state st s r)
-exact-hindered_delete st s key NotOpen h = refl
-exact-hindered_delete st s key AlreadyOpen h = refl
-exact-hindered_delete st s key TooDeep h = refl
-exact-hindered_delete st s key CursorOpen h = refl
-exact-hindered_delete st s key NoCursor h = refl
-exact-hindered_delete st s key NoSuchIndex h = refl
-exact-hindered_delete st s key BadBounds h = refl
-exact-hindered_delete st s key NoSavepoint h = refl
-exact-hindered_delete st s key Failed h = refl
-exact-hindered_delete st s key AlreadyThere h = refl
 exact-hindered_delete st s key NotThere h = inl refl
-exact-hindered_delete st s key Conflict h = refl
-exact-hindered_delete st s key (Busy o) h = refl
-exact-hindered_delete st s key TooLarge h = refl
-exact-hindered_delete st s key NoRoom h = refl
 exact-hindered_delete st s key NeedsFreeze h = absurd h
 exact-hindered_delete st s key NoMemory h = absurd h
-exact-hindered_delete st s key NoSuchPage h = refl
-exact-hindered_delete st s key NoSuchSession h = refl
+exact-hindered_delete st s key _ h = refl
 
 -- A session that is not open, or has failed, leaves all as it was.
 
 pub exact-unready_insert : (st : State) (s : ℕ) (row : Row) (r : Refusal) → RefusesFree st s r → ExactInsert st s row (Refused r) st
-exact-unready_insert st s row NotOpen is = refl
-exact-unready_insert st s row AlreadyOpen is = refl
-exact-unready_insert st s row TooDeep is = refl
-exact-unready_insert st s row CursorOpen is = refl
-exact-unready_insert st s row NoCursor is = refl
-exact-unready_insert st s row NoSuchIndex is = refl
-exact-unready_insert st s row BadBounds is = refl
-exact-unready_insert st s row NoSavepoint is = refl
-exact-unready_insert st s row Failed is = refl
-exact-unready_insert st s row AlreadyThere is = refl
-exact-unready_insert st s row NotThere is = refl
 exact-unready_insert st s row Conflict is = absurd is
-exact-unready_insert st s row (Busy o) is = refl
-exact-unready_insert st s row TooLarge is = refl
 exact-unready_insert st s row NoRoom is = absurd is
 exact-unready_insert st s row NeedsFreeze is = absurd is
 exact-unready_insert st s row NoMemory is = absurd is
-exact-unready_insert st s row NoSuchPage is = refl
-exact-unready_insert st s row NoSuchSession is = refl
+exact-unready_insert st s row _ is = refl
 
 pub exact-unready_update : (st : State) (s : ℕ) (row : Row) (r : Refusal) → RefusesFree st s r → ExactUpdate st s row (Refused r) st
-exact-unready_update st s row NotOpen is = refl
-exact-unready_update st s row AlreadyOpen is = refl
-exact-unready_update st s row TooDeep is = refl
-exact-unready_update st s row CursorOpen is = refl
-exact-unready_update st s row NoCursor is = refl
-exact-unready_update st s row NoSuchIndex is = refl
-exact-unready_update st s row BadBounds is = refl
-exact-unready_update st s row NoSavepoint is = refl
-exact-unready_update st s row Failed is = refl
-exact-unready_update st s row AlreadyThere is = refl
 exact-unready_update st s row NotThere is = inl refl
 exact-unready_update st s row Conflict is = absurd is
-exact-unready_update st s row (Busy o) is = refl
-exact-unready_update st s row TooLarge is = refl
 exact-unready_update st s row NoRoom is = absurd is
 exact-unready_update st s row NeedsFreeze is = absurd is
 exact-unready_update st s row NoMemory is = absurd is
-exact-unready_update st s row NoSuchPage is = refl
-exact-unready_update st s row NoSuchSession is = refl
+exact-unready_update st s row _ is = refl
 
 pub exact-unready_delete : (st : State) (s key : ℕ) (r : Refusal) → RefusesFree st s r → ExactDelete st s key (Refused r) st
-exact-unready_delete st s key NotOpen is = refl
-exact-unready_delete st s key AlreadyOpen is = refl
-exact-unready_delete st s key TooDeep is = refl
-exact-unready_delete st s key CursorOpen is = refl
-exact-unready_delete st s key NoCursor is = refl
-exact-unready_delete st s key NoSuchIndex is = refl
-exact-unready_delete st s key BadBounds is = refl
-exact-unready_delete st s key NoSavepoint is = refl
-exact-unready_delete st s key Failed is = refl
-exact-unready_delete st s key AlreadyThere is = refl
 exact-unready_delete st s key NotThere is = inl refl
 exact-unready_delete st s key Conflict is = absurd is
-exact-unready_delete st s key (Busy o) is = refl
-exact-unready_delete st s key TooLarge is = refl
-exact-unready_delete st s key NoRoom is = refl
 exact-unready_delete st s key NeedsFreeze is = absurd is
 exact-unready_delete st s key NoMemory is = absurd is
-exact-unready_delete st s key NoSuchPage is = refl
-exact-unready_delete st s key NoSuchSession is = refl
+exact-unready_delete st s key _ is = refl
 
 pub exact-closed : (st : State) (s : ℕ) (r : Refusal) → Refuses st s r → Exact st (Begin s) (Refused r) st
-exact-closed st s NotOpen is = refl
-exact-closed st s AlreadyOpen is = refl
-exact-closed st s TooDeep is = refl
-exact-closed st s CursorOpen is = refl
-exact-closed st s NoCursor is = refl
-exact-closed st s NoSuchIndex is = refl
-exact-closed st s BadBounds is = refl
-exact-closed st s NoSavepoint is = refl
-exact-closed st s Failed is = refl
-exact-closed st s AlreadyThere is = refl
-exact-closed st s NotThere is = refl
-exact-closed st s Conflict is = refl
-exact-closed st s (Busy o) is = refl
-exact-closed st s TooLarge is = refl
-exact-closed st s NoRoom is = refl
-exact-closed st s NeedsFreeze is = refl
 exact-closed st s NoMemory is = absurd is
-exact-closed st s NoSuchPage is = refl
-exact-closed st s NoSuchSession is = refl
+exact-closed st s _ is = refl
 
 -- only a session that there is has a conflict
 

@@ -29,14 +29,14 @@ use Rattle.visibility.specs.Seeing.{inserter, deleter, Reads, by_itself, by_othe
 use Rattle.refinement.specs.Visible.{ReaderSees}
 use Rattle.refinement.specs.Finds.{FindsOfKey, IsLateFor, IsHeldBy, BeginsWrite, Free}
 use Rattle.refinement.specs.declared.reply.Refusal.{Refusal}
-use Rattle.refinement.specs.declared.reply.Refusal.TheVariants.{NotOpen, AlreadyOpen, Failed, AlreadyThere, NotThere, Conflict, Busy, TooLarge, NoRoom, NeedsFreeze, NoMemory, NoSuchPage, NoSuchSession, TooDeep, NoSavepoint, CursorOpen, NoCursor, NoSuchIndex, BadBounds}
+use Rattle.refinement.specs.declared.reply.Refusal.TheVariants.{Conflict, Busy}
 use Rattle.session_steps.specs.declared.session.Session.{Session}
 use Rattle.visibility.specs.Visible.{state_of}
 use Rattle.session_steps.specs.State.{State, session_at, seen, position_of, reader_of, horizon_of}
 use Rattle.session_steps.specs.Agrees.{Agrees}
 use Rattle.session_steps.specs.Tests.{FindsPlace, IsLateBy, IsHeldUnder, IsUncontested, ConflictsWrite, RefusesInsertOfKey, RefusesChangeOfKey}
 use Rattle.session_steps.specs.Tests as tests
-use Rattle.session_steps.proofs.Owns.{reader-is, reader-at}
+use Rattle.session_steps.proofs.Owns.{reader-is}
 
 -- the answers of a search for an id
 
@@ -142,41 +142,9 @@ free-with st w s e key found agrees begins free =
 pub delayed-insert : (st : State) (s key : ℕ) (e : Session) (r : Refusal) → tests.ReadsPlace st s e key None → ConflictsWrite st e key r → RefusesInsertOfKey st s key r
 delayed-insert st s key e Conflict reads delays = record { session = e; reads = reads; delays = delays }
 delayed-insert st s key e (Busy o) reads delays = record { session = e; reads = reads; delays = delays }
-delayed-insert st s key e NotOpen reads delays = absurd delays
-delayed-insert st s key e AlreadyOpen reads delays = absurd delays
-delayed-insert st s key e TooDeep reads delays = absurd delays
-delayed-insert st s key e CursorOpen reads delays = absurd delays
-delayed-insert st s key e NoCursor reads delays = absurd delays
-delayed-insert st s key e NoSuchIndex reads delays = absurd delays
-delayed-insert st s key e BadBounds reads delays = absurd delays
-delayed-insert st s key e NoSavepoint reads delays = absurd delays
-delayed-insert st s key e Failed reads delays = absurd delays
-delayed-insert st s key e AlreadyThere reads delays = absurd delays
-delayed-insert st s key e NotThere reads delays = absurd delays
-delayed-insert st s key e TooLarge reads delays = absurd delays
-delayed-insert st s key e NoRoom reads delays = absurd delays
-delayed-insert st s key e NeedsFreeze reads delays = absurd delays
-delayed-insert st s key e NoMemory reads delays = absurd delays
-delayed-insert st s key e NoSuchPage reads delays = absurd delays
-delayed-insert st s key e NoSuchSession reads delays = absurd delays
+delayed-insert st s key e _ reads delays = absurd delays
 
 pub delayed-change : (st : State) (s key : ℕ) (e : Session) (p : Tid) (r : Refusal) → tests.ReadsPlace st s e key (Some p) → ConflictsWrite st e key r → RefusesChangeOfKey st s key r
 delayed-change st s key e p Conflict reads delays = (p, record { session = e; reads = reads; delays = delays })
 delayed-change st s key e p (Busy o) reads delays = (p, record { session = e; reads = reads; delays = delays })
-delayed-change st s key e p NotOpen reads delays = absurd delays
-delayed-change st s key e p AlreadyOpen reads delays = absurd delays
-delayed-change st s key e p TooDeep reads delays = absurd delays
-delayed-change st s key e p CursorOpen reads delays = absurd delays
-delayed-change st s key e p NoCursor reads delays = absurd delays
-delayed-change st s key e p NoSuchIndex reads delays = absurd delays
-delayed-change st s key e p BadBounds reads delays = absurd delays
-delayed-change st s key e p NoSavepoint reads delays = absurd delays
-delayed-change st s key e p Failed reads delays = absurd delays
-delayed-change st s key e p AlreadyThere reads delays = absurd delays
-delayed-change st s key e p NotThere reads delays = absurd delays
-delayed-change st s key e p TooLarge reads delays = absurd delays
-delayed-change st s key e p NoRoom reads delays = absurd delays
-delayed-change st s key e p NeedsFreeze reads delays = absurd delays
-delayed-change st s key e p NoMemory reads delays = absurd delays
-delayed-change st s key e p NoSuchPage reads delays = absurd delays
-delayed-change st s key e p NoSuchSession reads delays = absurd delays
+delayed-change st s key e p _ reads delays = absurd delays
