@@ -62,46 +62,49 @@ abbrev pub IsBare : Heap → ℕ → Refusal → Type 0
 IsBare h s NoCursor = (e : SeenSession) × (h.session s ≡ Some e) × (e.failed ≡ false) × (e.cursor ≡ None)
 IsBare h s refusal = IsUnready h s refusal
 
--- what holds of each of the two, holds of why it is closed
-pub closed_cases : (h : Heap) (s : ℕ) (P : Refusal → Type 0) (r : Refusal) → IsClosed h s r → (IsClosed h s NoSuchSession → P NoSuchSession) → (IsClosed h s NotOpen → P NotOpen) → P r
-closed_cases h s P NoSuchSession is none idle = none is
-closed_cases h s P NotOpen is none idle = idle is
-closed_cases h s P _ is none idle = absurd is
-
--- and of each of the three, of why it is not ready
-pub unready_cases : (h : Heap) (s : ℕ) (P : Refusal → Type 0) (r : Refusal) → IsUnready h s r → (IsClosed h s NoSuchSession → P NoSuchSession) → (IsClosed h s NotOpen → P NotOpen) → (IsUnready h s Failed → P Failed) → P r
-unready_cases h s P NoSuchSession is none idle failed = none is
-unready_cases h s P NotOpen is none idle failed = idle is
-unready_cases h s P Failed is none idle failed = failed is
-unready_cases h s P _ is none idle failed = absurd is
-
--- what holds of each of these, and of an open cursor, holds of why the session may not write
-pub barred_cases : (h : Heap) (s : ℕ) (P : Refusal → Type 0) (r : Refusal) → IsBarred h s r → ((r : Refusal) → IsUnready h s r → P r) → (IsBarred h s CursorOpen → P CursorOpen) → P r
-barred_cases h s P CursorOpen is unready cursor = cursor is
-barred_cases h s P r is unready cursor = unready r is
-
-pub bare_cases : (h : Heap) (s : ℕ) (P : Refusal → Type 0) (r : Refusal) → IsBare h s r → ((r : Refusal) → IsUnready h s r → P r) → (IsBare h s NoCursor → P NoCursor) → P r
-bare_cases h s P NoCursor is unready cursor = cursor is
-bare_cases h s P r is unready cursor = unready r is
+-- The history allows to say so.
 
 pub allows_closed : (h : Heap) (w : World) (s : ℕ) (r : Refusal) → HeapAgrees h w → IsClosed h s r → AllowsClosed w s r
-allows_closed h w s r agrees is = closed_cases h s (λ r. AllowsClosed w s r) r is (λ none. none) (λ idle. (idle.0, agrees.idle s idle.1))
+allows_closed h w s NotOpen agrees is = (is.0, agrees.idle s is.1)
+allows_closed h w s r agrees is = is
 
 pub allows_unready : (h : Heap) (w : World) (s : ℕ) (r : Refusal) → HeapAgrees h w → IsUnready h s r → AllowsUnready w s r
-allows_unready h w s r agrees is = unready_cases h s (λ r. AllowsUnready w s r) r is (λ none. none) (λ idle. (idle.0, agrees.idle s idle.1))
-    (λ failed. let open_ = agrees.opened s failed.0 failed.1 in (open_.0, open_.1, sym open_.2.same_failed ∙ failed.2))
+allows_unready h w s Failed agrees is = let open_ = agrees.opened s is.0 is.1 in (open_.0, open_.1, sym open_.2.same_failed ∙ is.2)
+allows_unready h w s r agrees is = allows_closed h w s r agrees is
 
 pub allows_barred : (h : Heap) (w : World) (s : ℕ) (r : Refusal) → HeapAgrees h w → IsBarred h s r → AllowsBarred w s r
-allows_barred h w s r agrees is = barred_cases h s (λ r. AllowsBarred w s r) r is (λ r unready.
-    unready_cases h s (λ r. AllowsBarred w s r) r unready (λ none. none) (λ idle. allows_unready h w s NotOpen agrees idle) (λ failed. allows_unready h w s Failed agrees failed))
-    (λ barred. let open_ = agrees.opened s barred.0 barred.1 in
-    (open_.0, record { there = open_.1; sound = sym open_.2.same_failed ∙ barred.2 }, some_model barred.3 open_.2.cursor))
+allows_barred h w s CursorOpen agrees is = let open_ = agrees.opened s is.0 is.1 in
+    (open_.0, record { there = open_.1; sound = sym open_.2.same_failed ∙ is.2 }, some_model is.3 open_.2.cursor)
+allows_barred h w s r agrees is = allows_unready h w s r agrees is
 
 pub allows_bare : (h : Heap) (w : World) (s : ℕ) (r : Refusal) → HeapAgrees h w → IsBare h s r → AllowsBare w s r
-allows_bare h w s r agrees is = bare_cases h s (λ r. AllowsBare w s r) r is (λ r unready.
-    unready_cases h s (λ r. AllowsBare w s r) r unready (λ none. none) (λ idle. allows_unready h w s NotOpen agrees idle) (λ failed. allows_unready h w s Failed agrees failed))
-    (λ bare. let open_ = agrees.opened s bare.0 bare.1 in
-    (open_.0, record { there = open_.1; sound = sym open_.2.same_failed ∙ bare.2 }, open_.2.cursor.closed bare.3))
+allows_bare h w s NoCursor agrees is = let open_ = agrees.opened s is.0 is.1 in
+    (open_.0, record { there = open_.1; sound = sym open_.2.same_failed ∙ is.2 }, open_.2.cursor.closed is.3)
+allows_bare h w s r agrees is = allows_unready h w s r agrees is
+
+-- What holds of each reason why a session is kept from anything, holds of why it is. So a step that says other refusals of
+-- itself allows these too.
+
+pub of_closed : (w : World) (s : ℕ) (P : Refusal → Type 0) → (AllowsClosed w s NoSuchSession → P NoSuchSession) → (AllowsClosed w s NotOpen → P NotOpen)
+    → (r : Refusal) → AllowsClosed w s r → P r
+of_closed w s P none idle NoSuchSession is = none is
+of_closed w s P none idle NotOpen is = idle is
+of_closed w s P none idle _ is = absurd is
+
+pub of_unready : (w : World) (s : ℕ) (P : Refusal → Type 0) → (AllowsClosed w s NoSuchSession → P NoSuchSession) → (AllowsClosed w s NotOpen → P NotOpen)
+    → (AllowsUnready w s Failed → P Failed) → (r : Refusal) → AllowsUnready w s r → P r
+of_unready w s P none idle failed Failed is = failed is
+of_unready w s P none idle failed r is = of_closed w s P none idle r is
+
+pub of_barred : (w : World) (s : ℕ) (P : Refusal → Type 0) → (AllowsClosed w s NoSuchSession → P NoSuchSession) → (AllowsClosed w s NotOpen → P NotOpen)
+    → (AllowsUnready w s Failed → P Failed) → (AllowsBarred w s CursorOpen → P CursorOpen) → (r : Refusal) → AllowsBarred w s r → P r
+of_barred w s P none idle failed cursor CursorOpen is = cursor is
+of_barred w s P none idle failed cursor r is = of_unready w s P none idle failed r is
+
+pub of_bare : (w : World) (s : ℕ) (P : Refusal → Type 0) → (AllowsClosed w s NoSuchSession → P NoSuchSession) → (AllowsClosed w s NotOpen → P NotOpen)
+    → (AllowsUnready w s Failed → P Failed) → (AllowsBare w s NoCursor → P NoCursor) → (r : Refusal) → AllowsBare w s r → P r
+of_bare w s P none idle failed bare NoCursor is = bare is
+of_bare w s P none idle failed bare r is = of_unready w s P none idle failed r is
 
 -- Refusals before a step is tried.
 

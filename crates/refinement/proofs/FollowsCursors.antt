@@ -18,7 +18,7 @@ use Rattle.refinement.specs.declared.step.Step.TheVariants.{OpenIndex, OpenHeap,
 use Rattle.refinement.specs.declared.reply.Reply.{Reply}
 use Rattle.refinement.specs.declared.reply.Reply.TheVariants.{Done, Rows, End, Refused}
 use Rattle.refinement.specs.declared.reply.Refusal.{Refusal}
-use Rattle.refinement.specs.declared.reply.Refusal.TheVariants.{NotOpen, Failed, CursorOpen, NoCursor, NoMemory, NoSuchIndex, BadBounds}
+use Rattle.refinement.specs.declared.reply.Refusal.TheVariants.{NoMemory, NoSuchIndex, BadBounds}
 use Rattle.refinement.specs.Allowed.{Allows, next}
 use Rattle.refinement.specs.Heap.{RowPosition, Position, in_index, in_heap, SeenSession, Heap}
 use Rattle.refinement.specs.Visible.{ReaderSees, At}
@@ -32,7 +32,7 @@ use Rattle.refinement.proofs.Handing.{next_met, rest_met, SeenOnce, part_gathere
 use Rattle.refinement.proofs.Readers.{Levels-top}
 use Rattle.refinement.proofs.Steps.{OnlyIs, same_sights}
 use Rattle.refinement.proofs.Savepoints.{Agrees-change}
-use Rattle.refinement.proofs.Follows.{IsBarred, IsBare, unready_cases, barred_cases, bare_cases, allows_unready, allows_barred, allows_bare, Agrees-stepped}
+use Rattle.refinement.proofs.Follows.{IsBarred, IsBare, of_barred, of_bare, allows_barred, allows_bare, Agrees-stepped}
 use Rattle.refinement.proofs.Hindrances.{writer}
 
 -- the versions that a session sees
@@ -126,20 +126,12 @@ pub Follows-bad_bounds : (h : Heap) (s : ℕ) (e : SeenSession) (index : ℕ) (l
 Follows-bad_bounds h s e index low high at sound bare order w there agrees = (((agrees.opened s e at).0, writer h w s e at agrees sound bare, there, order), Agrees-stepped h w s agrees)
 
 pub Follows-barred_open_index : (h : Heap) (s index : ℕ) (low high : ℤ) (r : Refusal) → IsBarred h s r → HeapFollows h (OpenIndex s index low high) (Refused r) h
-Follows-barred_open_index h s index low high r is w agrees = (
-  barred_cases h s (λ r. Allows w (OpenIndex s index low high) (Refused r)) r is
-      (λ r unready. unready_cases h s (λ r. Allows w (OpenIndex s index low high) (Refused r)) r unready (λ none. none) (λ idle. allows_unready h w s NotOpen agrees idle) (λ failed. allows_unready h w s Failed agrees failed))
-      (λ barred. allows_barred h w s CursorOpen agrees barred),
-  Agrees-stepped h w s agrees,
-)
+Follows-barred_open_index h s index low high r is w agrees =
+    (of_barred w s (λ r. Allows w (OpenIndex s index low high) (Refused r)) (λ is. is) (λ is. is) (λ is. is) (λ is. is) r (allows_barred h w s r agrees is), Agrees-stepped h w s agrees)
 
 pub Follows-barred_open_heap : (h : Heap) (s : ℕ) (r : Refusal) → IsBarred h s r → HeapFollows h (OpenHeap s) (Refused r) h
-Follows-barred_open_heap h s r is w agrees = (
-  barred_cases h s (λ r. Allows w (OpenHeap s) (Refused r)) r is
-      (λ r unready. unready_cases h s (λ r. Allows w (OpenHeap s) (Refused r)) r unready (λ none. none) (λ idle. allows_unready h w s NotOpen agrees idle) (λ failed. allows_unready h w s Failed agrees failed))
-      (λ barred. allows_barred h w s CursorOpen agrees barred),
-  Agrees-stepped h w s agrees,
-)
+Follows-barred_open_heap h s r is w agrees =
+    (of_barred w s (λ r. Allows w (OpenHeap s) (Refused r)) (λ is. is) (λ is. is) (λ is. is) (λ is. is) r (allows_barred h w s r agrees is), Agrees-stepped h w s agrees)
 
 -- Next.
 
@@ -203,12 +195,8 @@ Follows-next_no_memory h s e position n row at sound is comes w agrees = let mod
 )
 
 pub Follows-bare_next : (h : Heap) (s n : ℕ) (r : Refusal) → IsBare h s r → HeapFollows h (Next s n) (Refused r) h
-Follows-bare_next h s n r is w agrees = (
-  bare_cases h s (λ r. Allows w (Next s n) (Refused r)) r is
-      (λ r unready. unready_cases h s (λ r. Allows w (Next s n) (Refused r)) r unready (λ none. none) (λ idle. allows_unready h w s NotOpen agrees idle) (λ failed. allows_unready h w s Failed agrees failed))
-      (λ bare. allows_bare h w s NoCursor agrees bare),
-  Agrees-stepped h w s agrees,
-)
+Follows-bare_next h s n r is w agrees =
+    (of_bare w s (λ r. Allows w (Next s n) (Refused r)) (λ is. is) (λ is. is) (λ is. is) (λ is. is) r (allows_bare h w s r agrees is), Agrees-stepped h w s agrees)
 
 -- Close.
 

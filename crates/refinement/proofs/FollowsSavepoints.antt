@@ -9,7 +9,7 @@ use Rattle.history.specs.World.{World}
 use Rattle.refinement.specs.declared.step.Step.TheVariants.{Savepoint, RollbackTo, Release}
 use Rattle.refinement.specs.declared.reply.Reply.TheVariants.{Done, Refused}
 use Rattle.refinement.specs.declared.reply.Refusal.{Refusal}
-use Rattle.refinement.specs.declared.reply.Refusal.TheVariants.{NotOpen, Failed, CursorOpen, TooDeep, NoSavepoint, NoMemory}
+use Rattle.refinement.specs.declared.reply.Refusal.TheVariants.{CursorOpen, TooDeep, NoSavepoint, NoMemory}
 use Rattle.refinement.specs.Allowed.{savepoints, Allows}
 use Rattle.refinement.specs.Heap.{SeenSession, Heap}
 use Rattle.refinement.specs.Changes.{FinishesIds}
@@ -19,7 +19,7 @@ use Rattle.refinement.proofs.CursorsLemmas.{some_model}
 use Rattle.refinement.proofs.Itself.{levels_count}
 use Rattle.refinement.proofs.Steps.{OnlyIs, SameSights}
 use Rattle.refinement.proofs.Savepoints.{Agrees-save, Agrees-roll_back, Agrees-release}
-use Rattle.refinement.proofs.Follows.{IsClosed, IsUnready, IsBarred, closed_cases, unready_cases, barred_cases, allows_closed, allows_unready, allows_barred, Agrees-stepped}
+use Rattle.refinement.proofs.Follows.{IsClosed, IsBarred, of_closed, of_barred, allows_closed, allows_barred, Agrees-stepped}
 use Rattle.refinement.proofs.Hindrances.{writer}
 
 -- the model's session has as many savepoints
@@ -54,15 +54,9 @@ pub Follows-savepoint_no_memory : (h : Heap) (s : ℕ) (e : SeenSession) → h.s
 Follows-savepoint_no_memory h s e at sound bare room w agrees =
     (((agrees.opened s e at).0, writer h w s e at agrees sound bare, few_saved h w s e at agrees room), Agrees-stepped h w s agrees)
 
-pub Follows-unready_savepoint : (h : Heap) (s : ℕ) (r : Refusal) → IsUnready h s r → HeapFollows h (Savepoint s) (Refused r) h
-Follows-unready_savepoint h s r is w agrees = (
-  unready_cases h s (λ r. Allows w (Savepoint s) (Refused r)) r is (λ none. none) (λ idle. allows_unready h w s NotOpen agrees idle) (λ failed. allows_unready h w s Failed agrees failed),
-  Agrees-stepped h w s agrees,
-)
-
 pub Follows-barred_savepoint : (h : Heap) (s : ℕ) (r : Refusal) → IsBarred h s r → HeapFollows h (Savepoint s) (Refused r) h
-Follows-barred_savepoint h s r is = barred_cases h s (λ r. HeapFollows h (Savepoint s) (Refused r) h) r is (λ r unready. Follows-unready_savepoint h s r unready)
-    (λ barred w agrees. (allows_barred h w s CursorOpen agrees barred, Agrees-stepped h w s agrees))
+Follows-barred_savepoint h s r is w agrees =
+    (of_barred w s (λ r. Allows w (Savepoint s) (Refused r)) (λ is. is) (λ is. is) (λ is. is) (λ is. is) r (allows_barred h w s r agrees is), Agrees-stepped h w s agrees)
 
 -- RollbackTo: the session may have failed.
 
@@ -81,7 +75,7 @@ Follows-nowhere_to_return h s e at bare none w agrees = let open_ = agrees.opene
 
 pub Follows-closed_roll_back_to : (h : Heap) (s : ℕ) (r : Refusal) → IsClosed h s r → HeapFollows h (RollbackTo s) (Refused r) h
 Follows-closed_roll_back_to h s r is w agrees =
-    (closed_cases h s (λ r. Allows w (RollbackTo s) (Refused r)) r is (λ none. none) (λ idle. allows_closed h w s NotOpen agrees idle), Agrees-stepped h w s agrees)
+    (of_closed w s (λ r. Allows w (RollbackTo s) (Refused r)) (λ is. is) (λ is. is) r (allows_closed h w s r agrees is), Agrees-stepped h w s agrees)
 
 pub Follows-barred_roll_back_to : (h : Heap) (s : ℕ) (e : SeenSession) → h.session s ≡ Some e → IsSome e.cursor → HeapFollows h (RollbackTo s) (Refused CursorOpen) h
 Follows-barred_roll_back_to h s e at some w agrees = let open_ = agrees.opened s e at in
@@ -98,12 +92,6 @@ pub Follows-nothing_to_release : (h : Heap) (s : ℕ) (e : SeenSession) → h.se
 Follows-nothing_to_release h s e at sound bare none w agrees =
     (((agrees.opened s e at).0, writer h w s e at agrees sound bare, none_saved h w s e at agrees none), Agrees-stepped h w s agrees)
 
-pub Follows-unready_release : (h : Heap) (s : ℕ) (r : Refusal) → IsUnready h s r → HeapFollows h (Release s) (Refused r) h
-Follows-unready_release h s r is w agrees = (
-  unready_cases h s (λ r. Allows w (Release s) (Refused r)) r is (λ none. none) (λ idle. allows_unready h w s NotOpen agrees idle) (λ failed. allows_unready h w s Failed agrees failed),
-  Agrees-stepped h w s agrees,
-)
-
 pub Follows-barred_release : (h : Heap) (s : ℕ) (r : Refusal) → IsBarred h s r → HeapFollows h (Release s) (Refused r) h
-Follows-barred_release h s r is = barred_cases h s (λ r. HeapFollows h (Release s) (Refused r) h) r is (λ r unready. Follows-unready_release h s r unready)
-    (λ barred w agrees. (allows_barred h w s CursorOpen agrees barred, Agrees-stepped h w s agrees))
+Follows-barred_release h s r is w agrees =
+    (of_barred w s (λ r. Allows w (Release s) (Refused r)) (λ is. is) (λ is. is) (λ is. is) (λ is. is) r (allows_barred h w s r agrees is), Agrees-stepped h w s agrees)

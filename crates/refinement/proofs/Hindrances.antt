@@ -10,7 +10,7 @@ use Rattle.history.specs.Moves.{put, as_failed}
 use Rattle.refinement.specs.declared.step.Step.TheVariants.{Insert}
 use Rattle.refinement.specs.declared.reply.Reply.TheVariants.{Refused}
 use Rattle.refinement.specs.declared.reply.Refusal.{Refusal}
-use Rattle.refinement.specs.declared.reply.Refusal.TheVariants.{NotOpen, Failed, CursorOpen, AlreadyThere, NotThere, Conflict, Busy, TooLarge, NoRoom, NeedsFreeze, NoMemory}
+use Rattle.refinement.specs.declared.reply.Refusal.TheVariants.{AlreadyThere, NotThere, Conflict, Busy, TooLarge, NoRoom, NeedsFreeze, NoMemory}
 use Rattle.refinement.specs.Words.{RowText, FitsRow}
 use Rattle.refinement.specs.Writes.{WriteStep, inserts, updates, deletes, step_of, key_of, IsPut, Asks}
 use Rattle.refinement.specs.Allowed.{AllowsHindered, AllowsWrite, Suits, refused_write}
@@ -18,7 +18,7 @@ use Rattle.refinement.specs.Heap.{SeenSession, Heap}
 use Rattle.refinement.specs.Agrees.{HeapAgrees}
 use Rattle.refinement.specs.Finds.{IsLateFor, IsHeldBy, BeginsWrite, Free, HeapFollows}
 use Rattle.refinement.proofs.Steps.{OnlyIs, own_traced, Agrees-fail}
-use Rattle.refinement.proofs.Follows.{IsUnready, IsBarred, unready_cases, barred_cases, allows_barred, allows_unready, Agrees-stepped, found_is_view}
+use Rattle.refinement.proofs.Follows.{IsBarred, of_barred, allows_barred, Agrees-stepped, found_is_view}
 
 -- one reply for the three kinds of write
 
@@ -30,14 +30,11 @@ Follows-refused h h' s r (deletes k) follows = follows
 
 -- Before the key counts.
 
-pub Follows-unready_write : (h : Heap) (s : ℕ) (write : WriteStep) (r : Refusal) → IsUnready h s r → HeapFollows h (step_of s write) (Refused r) h
-Follows-unready_write h s write r is = Follows-refused h h s r write (λ w agrees.
-    unready_cases h s (λ r. AllowsHindered w s r write × HeapAgrees h (refused_write w s r)) r is (λ none. (none, Agrees-stepped h w s agrees))
-    (λ idle. (allows_unready h w s NotOpen agrees idle, Agrees-stepped h w s agrees)) (λ failed. (allows_unready h w s Failed agrees failed, Agrees-stepped h w s agrees)))
-
 pub Follows-barred_write : (h : Heap) (s : ℕ) (write : WriteStep) (r : Refusal) → IsBarred h s r → HeapFollows h (step_of s write) (Refused r) h
-Follows-barred_write h s write r is = barred_cases h s (λ r. HeapFollows h (step_of s write) (Refused r) h) r is (λ r unready. Follows-unready_write h s write r unready)
-    (λ barred. Follows-refused h h s CursorOpen write (λ w agrees. (allows_barred h w s CursorOpen agrees barred, Agrees-stepped h w s agrees)))
+Follows-barred_write h s write r is = Follows-refused h h s r write (λ w agrees.
+    let stays = Agrees-stepped h w s agrees in
+    of_barred w s (λ r. AllowsHindered w s r write × HeapAgrees h (refused_write w s r)) (λ is. (is, stays)) (λ is. (is, stays)) (λ is. (is, stays)) (λ is. (is, stays)) r
+    (allows_barred h w s r agrees is))
 
 -- the session may write
 pub writer : (h : Heap) (w : World) (s : ℕ) (e : SeenSession) (at : h.session s ≡ Some e) (agrees : HeapAgrees h w) → e.failed ≡ false → e.cursor ≡ None → IsWriter w s (agrees.opened s e at).0
