@@ -1,19 +1,19 @@
 -- Forgetting old ids is seen by no reader.
-use Rattle.std.proofs.Common.{◌≡◌, ℕ, ◌⊎◌, List, Option, Some, None, refl, sym, ap, ◌∙◌, subst, inl, inr, ⊎_elim}
-use Rattle.std.specs.Prelude.{Contains, IsSome}
+use Rattle.std.proofs.Common.{◌≡◌, ℕ, List, Option, Some, refl, sym, ◌∙◌, subst, ⊎_elim}
+use Rattle.std.specs.Prelude.{IsSome}
 use Rattle.std.proofs.lemmas.Option.{none-some}
 use Rattle.xid_circle.specs.declared.Tid.{Tid}
 use Rattle.tuple_header.specs.Version.{Version}
 use Rattle.commit_status.specs.declared.status.Status.{Status}
-use Rattle.commit_status.specs.declared.status.Status.TheVariants.{InProgress, Committed, Aborted}
+use Rattle.commit_status.specs.declared.status.Status.TheVariants.{InProgress, Committed}
 use Rattle.snapshot.specs.Snap.{Snap}
-use Rattle.history.specs.History.{Write, Transaction}
+use Rattle.history.specs.History.{Transaction}
 use Rattle.history.specs.World.{World, OpenSession}
 use Rattle.refinement.specs.Heap.{SeenSession, Heap}
-use Rattle.visibility.specs.Seeing.{HasCommitted, HasAborted, IsRunning, Reads, by_itself, by_others, VisibleBy, Touches, made_by, deleted_by, inserter, deleter}
-use Rattle.refinement.specs.Visible.{ReaderSees, HasMissed, At, SomeVersion}
-use Rattle.refinement.specs.Agrees.{Shows, ReaderAgrees, SessionAgrees, HeapAgrees}
-use Rattle.refinement.proofs.CursorsLemmas.{KeepsSeen, CursorAgrees-keeps}
+use Rattle.visibility.specs.Seeing.{Reads, by_itself, by_others, Touches, made_by}
+use Rattle.refinement.specs.Visible.{At}
+use Rattle.refinement.specs.Agrees.{SessionAgrees, HeapAgrees}
+use Rattle.refinement.proofs.CursorsLemmas.{CursorAgrees-keeps}
 use Rattle.refinement.proofs.ShowsLemmas.{Shows-same}
 use Rattle.refinement.proofs.Readers.{Levels-map, ReaderAgrees-same}
 use Rattle.visibility.proofs.Verdicts.{VisibleBy-same}

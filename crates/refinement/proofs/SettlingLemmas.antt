@@ -1,17 +1,16 @@
 -- Freezing is seen by no reader.
-use Rattle.std.proofs.Common.{◌≡◌, ℕ, List, Option, Some, None, refl, sym, ap, ◌∙◌, subst, inl, inr}
+use Rattle.std.proofs.Common.{◌≡◌, ℕ, List, Option, Some, sym, ap, ◌∙◌, subst}
 use Rattle.std.specs.Prelude.{Contains, IsSome}
 use Rattle.std.proofs.lemmas.Option.{same_Some, none-some}
 use Rattle.xid_circle.specs.declared.Tid.{Tid}
 use Rattle.tuple_header.specs.declared.version.Row.{Row}
 use Rattle.tuple_header.specs.Version.{Version}
 use Rattle.commit_status.specs.declared.status.Status.{Status}
-use Rattle.snapshot.specs.Snap.{Snap}
 use Rattle.history.specs.History.{Write, Transaction, written, IsLate}
 use Rattle.history.specs.World.{World, OpenSession}
 use Rattle.refinement.specs.Heap.{SeenSession, Heap}
 use Rattle.visibility.specs.Seeing.{HasCommitted, HasAborted, IsRunning, Reads, by_itself, by_others, VisibleBy, Touches, made_by, deleted_by, inserter, deleter}
-use Rattle.refinement.specs.Visible.{ReaderSees, HasMissed, IsBy, At, SomeVersion}
+use Rattle.refinement.specs.Visible.{At}
 use Rattle.refinement.specs.Agrees.{Shows, ReaderAgrees, Traced, SessionAgrees, HeapAgrees}
 use Rattle.refinement.proofs.CursorsLemmas.{KeepsSeen, CursorAgrees-keeps}
 use Rattle.refinement.proofs.Readers.{Levels-map}

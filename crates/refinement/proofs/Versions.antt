@@ -7,7 +7,7 @@ use Rattle.xid_circle.specs.declared.Tid.{Tid}
 use Rattle.xid_circle.proofs.Tids.{cases-tid}
 use Rattle.tuple_header.specs.Version.{Version}
 use Rattle.commit_status.specs.declared.status.Status.{Status}
-use Rattle.visibility.specs.Seeing.{HasCommitted, IsRunning, Reads, by_itself, by_others, VisibleBy, Touches, made_by, deleted_by}
+use Rattle.visibility.specs.Seeing.{HasCommitted, IsRunning, Reads, by_itself, by_others, Touches}
 use Rattle.refinement.specs.Visible.{At, SomeVersion}
 use Rattle.refinement.specs.Changes.{AddsVersion, Alters}
 

@@ -1,31 +1,22 @@
 -- What a search of the pages finds, as readers see it.
-use Rattle.visibility.proofs.Makers.{committed-to, committed-from, active-to, state-is}
+use Rattle.visibility.proofs.Makers.{active-to}
 use Rattle.session_steps.proofs.InUse.{by-key}
 use Rattle.table_indexes.specs.Indexes.{entries_in}
-use Rattle.std.proofs.Common.{◌≡◌, ◌≢◌, ℕ, List, Option, Some, None, Bool, true, false, refl, sym, ap, ◌∙◌, subst, inl, inr, cond}
-use Rattle.std.specs.Prelude.{pos, Contains, IsSome, MatchOption, ◌==◌}
-use Rattle.std.specs.Option.{option_map}
-use Rattle.std.proofs.lemmas.Bool.{cases_Bool, cond-false, eq-eqb, ne_eqb}
-use Rattle.std.proofs.lemmas.Option.{same_Some, none-some}
+use Rattle.std.proofs.Common.{◌≡◌, ℕ, Option, Some, None, refl, ap}
+use Rattle.std.specs.Prelude.{pos, Contains, MatchOption}
 use Rattle.tuple_header.specs.declared.version.Row.{Row}
 use Rattle.tuple_header.specs.Version.{Version}
-use Rattle.tuple_header.specs.Marks.{is_frozen}
 use Rattle.xid_circle.specs.declared.Tid.{Tid}
 use Rattle.xid_circle.specs.declared.Xid.{Xid}
-use Rattle.commit_status.specs.declared.status.Status.{Status}
-use Rattle.commit_status.specs.declared.status.Status.TheVariants.{InProgress}
 use Rattle.commit_status.specs.Window.{Window, place, status_of}
 use Rattle.commit_status.specs.Window as window
-use Rattle.snapshot.specs.Snap.{Snap, Sees}
+use Rattle.snapshot.specs.Snap.{Sees}
 use Rattle.visibility.specs.Visible as visibility
 use Rattle.index_lookup.specs.Pages.{version_in}
 use Rattle.index_lookup.specs.Looking.{FirstFound}
 use Rattle.sound_entries.proofs.OnHeap.{found-on_heap, place-on_heap, newer_commit-on_heap, foreign-on_heap}
-use Rattle.sound_entries.specs.Leading as search
 use Rattle.heap_write.specs.Heap.{HeapView, slots_of, key_value}
 use Rattle.history.specs.World.{World}
-use Rattle.refinement.specs.Heap as relation
-use Rattle.visibility.specs.Seeing.{inserter, deleter, Reads, by_itself, by_others, Touches, made_by, deleted_by, IsRunning}
 use Rattle.refinement.specs.Visible.{ReaderSees}
 use Rattle.refinement.specs.Finds.{FindsOfKey, IsLateFor, IsHeldBy, BeginsWrite, Free}
 use Rattle.refinement.specs.declared.reply.Refusal.{Refusal}
