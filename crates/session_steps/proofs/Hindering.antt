@@ -1,5 +1,5 @@
 -- A write that is refused before it is tried.
-use Rattle.std.proofs.Common.{◌≡◌, ◌<◌, ℕ, Option, Some, None, refl, ap, ◌∙◌, subst, inl, Result, Err}
+use Rattle.std.proofs.Common.{◌≡◌, ℕ, Option, Some, None, refl, ap, ◌∙◌, subst, inl, Result, Err}
 use Rattle.std.specs.Option.{option_map}
 use Rattle.std.specs.Prelude.{MatchResult}
 use Rattle.std.proofs.lemmas.Result.{MatchResult-at_err}
@@ -143,14 +143,6 @@ exact-unready_delete st s key _ is = refl
 pub exact-closed : (st : State) (s : ℕ) (r : Refusal) → Refuses st s r → Exact st (Begin s) (Refused r) st
 exact-closed st s NoMemory is = absurd is
 exact-closed st s _ is = refl
-
--- only a session that there is has a conflict
-
-pub small-insert : (st : State) (s key : ℕ) (r : Refusal) → r ≡ Conflict → RefusesInsertOfKey st s key r → s < 64
-small-insert st s key r is h = (subst (λ r. RefusesInsertOfKey st s key r) is h).reads.within
-
-pub small-change : (st : State) (s key : ℕ) (r : Refusal) → r ≡ Conflict → RefusesChangeOfKey st s key r → s < 64
-small-change st s key r is h = (subst (λ r. RefusesChangeOfKey st s key r) is h).1.reads.within
 
 -- What keeps a session that may act from a write.
 

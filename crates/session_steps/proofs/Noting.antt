@@ -1,10 +1,11 @@
 -- A session in its place becomes another, when it sets a savepoint, returns to one, or releases it.
-use Rattle.std.proofs.Common.{◌≡◌, ◌≢◌, ℕ, ◌<◌, List, [], ◌∷◌, length, set, Option, Some, None, false, refl, sym, ap, ◌∙◌, subst}
+use Rattle.std.proofs.Common.{◌≡◌, ◌≢◌, ℕ, ◌<◌, List, [], ◌∷◌, ◌++◌, length, set, Option, Some, None, false, refl, sym, ap, ◌∙◌, subst}
 use Rattle.std.proofs.Math.ListN.{length-set}
-use Rattle.std.specs.Prelude.{Result, Ok, Err, OnOk, OnErr}
 use Rattle.std.proofs.lemmas.Option.{same_Some}
 use Rattle.commit_status.specs.declared.status.Status.TheVariants.{InProgress, Aborted}
-use Rattle.commit_status.specs.Window.{Window}
+use Rattle.commit_status.specs.Window.{IsWindow}
+use Rattle.commit_status.specs.Changes.{Finishes}
+use Rattle.snapshot.specs.Own.{Own, newest}
 use Rattle.refinement.specs.declared.step.Step.TheVariants.{Savepoint, RollbackTo, Release}
 use Rattle.refinement.specs.declared.reply.Reply.TheVariants.{Done}
 use Rattle.heap_write.specs.Heap.{HeapView}
@@ -12,57 +13,39 @@ use Rattle.session_steps.specs.declared.session.Session.{Session}
 use Rattle.session_steps.specs.State.{State, session_at, put_session}
 use Rattle.session_steps.specs.Keeps.{open_at, EngineKeeps}
 use Rattle.session_steps.specs.Agrees.{Follows}
-use Rattle.session_steps.specs.Changes.{SetsSavepoint, Releases, SessionBecomes, RollsBackOn, RollsBack}
-use Rattle.session_steps.specs.Writes.{OnOpen}
-use Rattle.session_steps.proofs.OwnIdsLemmas.{keep-same, keep-dropped}
-use Rattle.session_steps.proofs.Trying.{with_session}
+use Rattle.session_steps.specs.Changes.{SetsSavepoint, Releases, RollsBackOn, RollsBack}
+use Rattle.session_steps.specs.Refuses.{MayAct}
+use Rattle.session_steps.proofs.OwnIdsLemmas.{keep-dropped}
+use Rattle.session_steps.proofs.Idle.{open-put}
 use Rattle.session_steps.proofs.Savepoints.{Follows-savepoint, Follows-release, Follows-roll_back_to}
-
--- the session that is there
-pub there : (o : Option Session) → o ≢ None → (e : Session) × (o ≡ Some e)
-there None some = absurd (some refl)
-there (Some e) some = (e, refl)
-
--- one that keeps its ids
-keeps-ids : (xs : List (Option Session)) (w : Window) (s : ℕ) (e e' : Session) → open_at xs s ≡ Some e → e'.own.ids ≡ e.own.ids → EngineKeeps xs w → EngineKeeps (set xs s (Some e')) w
-keeps-ids xs w s e e' at same k = record { count = length-set xs s (Some e') ∙ k.count; own = keep-same xs w s e e' at same k.own }
-
-keeps-open : (xs : List (Option Session)) (w : Window) (s : ℕ) (o now : Option Session) (changes : Session → Session → Type 0) → ((e e' : Session) → changes e e' → e'.own.ids ≡ e.own.ids) → open_at xs s ≡ o
-    → OnOpen o now changes → EngineKeeps xs w → EngineKeeps (set xs s now) w
-keeps-open xs w s None now changes same at becomes k = absurd becomes
-keeps-open xs w s (Some e) now changes same at becomes k = rw becomes.1 (keeps-ids xs w s e becomes.0 at (same e becomes.0 becomes.2) k)
-
--- one savepoint more, where there is room for it
-abbrev pub SavesOne : Session → Session → Type 0
-SavesOne e e' = SetsSavepoint e e' × (length e.own.saved < 32)
-
-pub keeps-noted : {A B : Type 0} (r : Result A B) (xs : List (Option Session)) (w : Window) (s : ℕ) (o now : Option Session) → o ≢ None → open_at xs s ≡ o → OnOk r (OnOpen o now (λ e e'. SavesOne e e')) → OnErr r (now ≡ o)
-    → EngineKeeps xs w → EngineKeeps (set xs s now) w
-keeps-noted (Ok a) xs w s o now some at ok err k = keeps-open xs w s o now (λ e e'. SavesOne e e') (λ e e' sets. sets.0.ids) at ok k
-keeps-noted (Err b) xs w s o now some at ok err k = let e = there o some in rw (err ∙ e.1) (keeps-ids xs w s e.0 e.0 (at ∙ e.1) refl k)
-
-pub keeps-forgotten : (xs : List (Option Session)) (w : Window) (s : ℕ) (o now : Option Session) → open_at xs s ≡ o → OnOpen o now (λ e e'. Releases e e') → EngineKeeps xs w → EngineKeeps (set xs s now) w
-keeps-forgotten xs w s o now at becomes k = keeps-open xs w s o now (λ e e'. Releases e e') (λ e e' releases. releases.ids) at becomes k
 
 unfinished : Aborted ≢ InProgress
 unfinished is = cc
 
-pub keeps-returned : (xs : List (Option Session)) (h h' : HeapView) (s : ℕ) (o now : Option Session) → open_at xs s ≡ o → OnOpen o now (λ e e'. RollsBackOn h h' e e') → EngineKeeps xs h.table → EngineKeeps (set xs s now) h'.table
-keeps-returned xs h h' s None now at back k = absurd back
-keeps-returned xs h h' s (Some e) now at back k = rw back.1 (record {
-  count = length-set xs s (Some back.0) ∙ k.count;
-  own = keep-dropped xs h.table h'.table s e back.0 back.2.since Aborted at back.2.ids unfinished back.2.finishes k.own;
-})
+pub keeps-returned : (xs : List (Option Session)) (h h' : HeapView) (s : ℕ) (e e' : Session) → open_at xs s ≡ Some e → RollsBackOn h h' e e' → EngineKeeps xs h.table → EngineKeeps (set xs s (Some e')) h'.table
+keeps-returned xs h h' s e e' at back k = record {
+  count = length-set xs s (Some e') ∙ k.count;
+  own = keep-dropped xs h.table h'.table s e e' back.since Aborted at back.ids unfinished back.finishes k.own;
+}
 
--- What the engine's state becomes.
+-- what the heap and the session's own ids say of a return
+pub rolls-back-on : (h h' : HeapView) (e : Session) (own : Own) (since : List ℕ) → h'.pages ≡ h.pages → h'.indexes ≡ h.indexes → h'.max_pages ≡ h.max_pages → e.own.ids ≡ newest e.own.saved ++ since → own.ids ≡ newest e.own.saved
+    → own.saved ≡ e.own.saved → Finishes h.table h'.table since Aborted → IsWindow h'.table → RollsBackOn h h' e (record e { own = own; failed = false })
+rolls-back-on h h' e own since pages indexes max_pages were ids saved finishes window = record {
+  pages = pages;
+  indexes = indexes;
+  max_pages = max_pages;
+  returns = record { snapshot = refl; ids = ids; saved = saved; sound = refl; cursor = refl };
+  since = since;
+  ids = were ∙ ap (λ xs. xs ++ since) (sym ids);
+  finishes = finishes;
+  window = window;
+}
 
-pub becomes-of : (st : State) (s : ℕ) (o now : Option Session) (changes : Session → Session → Type 0) → session_at st s ≡ o → OnOpen o now changes → SessionBecomes st (put_session st s now) s changes
-becomes-of st s None now changes at becomes = absurd becomes
-becomes-of st s (Some e) now changes at becomes = record { session = e; at = at; now = becomes.0; is = ap (λ o. put_session st s o) becomes.1; change = becomes.2 }
-
-pub rolls-back-of : (st : State) (h : HeapView) (s : ℕ) (o now : Option Session) → session_at st s ≡ o → OnOpen o now (λ e e'. RollsBackOn st.heap h e e') → RollsBack st (with_session st h s now) s
-rolls-back-of st h s None now at back = absurd back
-rolls-back-of st h s (Some e) now at back = record { session = e; at = at; now = back.0; settings = refl; sessions = ap (set st.sessions s) back.1; back = back.2 }
+-- a savepoint that is not set leaves all as it was
+pub unnoted : (before st : State) (s : ℕ) (e : Session) (own : Own) → before ≡ st → session_at before s ≡ Some e → own ≡ e.own → put_session before s (Some (record e { own = own })) ≡ st
+unnoted before st s e own is at same =
+    ap (λ own. put_session before s (Some (record e { own = own }))) same ∙ (ap (λ (xs : List (Option Session)). record before { sessions = xs }) (open-put before.sessions s (Some e) at) ∙ is)
 
 -- The reply follows the history.
 
@@ -74,19 +57,26 @@ some-saved : (saved : List (List ℕ)) → length saved ≢ 0 → (before : List
 some-saved [] some = absurd (some refl)
 some-saved (before ∷ saved) some = (before, saved, refl)
 
--- the session that was found open is the one that becomes another
+-- the session that was found is the one that is changed
 same-one : (st : State) (s : ℕ) (e f : Session) → session_at st s ≡ Some e → session_at st s ≡ Some f → e ≡ f
-same-one st s e f at bt = same_Some e f (sym at ∙ bt)
+same-one st s e f at there = same_Some e f (sym at ∙ there)
 
-pub Follows-noted : (st st' : State) (s : ℕ) (e : Session) → session_at st s ≡ Some e → e.failed ≡ false → e.cursor ≡ None → SessionBecomes st st' s (λ e e'. SavesOne e e') → Follows st (Savepoint s) Done st'
-Follows-noted st st' s e at sound bare b =
-    let change = subst (λ f. SavesOne f b.now) (same-one st s b.session e b.at at) b.change in
-    Follows-savepoint st st' s e at sound bare change.1 b.now b.is change.0
+pub acts-there : (st : State) (s : ℕ) (e f : Session) → MayAct st s e → session_at st s ≡ Some f → MayAct st s f
+acts-there st s e f acts there = subst (λ e. MayAct st s e) (same-one st s e f acts.1 there) acts
 
-pub Follows-forgotten : (st st' : State) (s : ℕ) (e : Session) → session_at st s ≡ Some e → e.failed ≡ false → e.cursor ≡ None → length e.own.saved ≢ 0 → SessionBecomes st st' s Releases → Follows st (Release s) Done st'
-Follows-forgotten st st' s e at sound bare some b =
+-- it has a savepoint, if the one that was found has
+pub some-there : (st : State) (s : ℕ) (e f : Session) → session_at st s ≡ Some e → session_at st s ≡ Some f → length e.own.saved ≢ 0 → f.own.saved ≢ []
+some-there st s e f at there some none = some (ap (λ (e : Session). length e.own.saved) (same-one st s e f at there) ∙ ap length none)
+
+pub Follows-noted : (st st' : State) (s : ℕ) (e f now : Session) → MayAct st s e → session_at st s ≡ Some f → length f.own.saved < 32 → st' ≡ put_session st s (Some now) → SetsSavepoint f now → Follows st (Savepoint s) Done st'
+Follows-noted st st' s e f now acts there few is sets =
+    let acts = acts-there st s e f acts there in
+    Follows-savepoint st st' s f acts.1 acts.2 acts.3 few now is sets
+
+pub Follows-forgotten : (st st' : State) (s : ℕ) (e f now : Session) → MayAct st s e → session_at st s ≡ Some f → length e.own.saved ≢ 0 → st' ≡ put_session st s (Some now) → Releases f now → Follows st (Release s) Done st'
+Follows-forgotten st st' s e f now acts there some is releases =
     let saved = some-saved e.own.saved some in
-    Follows-release st st' s e saved.0 saved.1 at sound bare saved.2 b.now b.is (subst (λ f. Releases f b.now) (same-one st s b.session e b.at at) b.change)
+    Follows-release st st' s e saved.0 saved.1 acts.1 acts.2 acts.3 saved.2 now is (subst (λ f. Releases f now) (same-one st s f e there acts.1) releases)
 
 pub Follows-returned : (st st' : State) (s : ℕ) (e : Session) → session_at st s ≡ Some e → e.cursor ≡ None → length e.own.saved ≢ 0 → RollsBack st st' s → Follows st (RollbackTo s) Done st'
 Follows-returned st st' s e at bare some back =

@@ -20,8 +20,12 @@ use Rattle.history.proofs.Places.{slice_get-set_same, slice_get-set_other}
 use Rattle.session_steps.specs.declared.session.Session.{Session}
 use Rattle.session_steps.specs.Keeps.{open_at, IsOwned, OwnIdsKeep}
 
+-- an open session has one of the places
+pub place-within : (xs : List (Option Session)) (s : ℕ) → open_at xs s ≢ None → s < length xs
+place-within xs s some = elim (cases_lt s (length xs)) [ inl lt ↦ lt | inr past ↦ absurd (some (ap option_flatten (slice_get_past xs s past))) ]
+
 pub open-within : (xs : List (Option Session)) (s : ℕ) (e : Session) → open_at xs s ≡ Some e → s < length xs
-open-within xs s e at = elim (cases_lt s (length xs)) [ inl lt ↦ lt | inr past ↦ absurd (none-some e (sym (ap option_flatten (slice_get_past xs s past)) ∙ at)) ]
+open-within xs s e at = place-within xs s (λ none. none-some e (sym none ∙ at))
 
 pub open-set_same : (xs : List (Option Session)) (s : ℕ) (v : Option Session) → s < length xs → open_at (set xs s v) s ≡ v
 open-set_same xs s v within = ap option_flatten (slice_get-set_same xs s v within)

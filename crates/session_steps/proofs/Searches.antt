@@ -3,7 +3,7 @@ use Rattle.visibility.proofs.Makers.{active-to}
 use Rattle.session_steps.proofs.InUse.{by-key}
 use Rattle.table_indexes.specs.Indexes.{entries_in}
 use Rattle.std.proofs.Common.{◌≡◌, ℕ, Option, Some, None, refl, ap}
-use Rattle.std.specs.Prelude.{pos, Contains, MatchOption}
+use Rattle.std.specs.Prelude.{pos, Contains, Result, Ok, Err, MatchOption, MatchResult}
 use Rattle.tuple_header.specs.declared.version.Row.{Row}
 use Rattle.tuple_header.specs.Version.{Version}
 use Rattle.xid_circle.specs.declared.Tid.{Tid}
@@ -139,3 +139,10 @@ pub delayed-change : (st : State) (s key : ℕ) (e : Session) (p : Tid) (r : Ref
 delayed-change st s key e p Conflict reads delays = (p, record { session = e; reads = reads; delays = delays })
 delayed-change st s key e p (Busy o) reads delays = (p, record { session = e; reads = reads; delays = delays })
 delayed-change st s key e p _ reads delays = absurd delays
+
+-- What a session that may act, and reads this of the key, may do.
+
+pub may-insert : (st : State) (s key : ℕ) (e : Session) (r : Result (Unit {0}) Refusal) → tests.ReadsPlace st s e key None → MatchResult r (λ _. IsUncontested st e key) (λ refusal. ConflictsWrite st e key refusal)
+    → MatchResult r (λ _. tests.MayWriteKey st s key None) (λ refusal. RefusesInsertOfKey st s key refusal)
+may-insert st s key e (Ok u) reads free = record { session = e; reads = reads; free = free }
+may-insert st s key e (Err refusal) reads delays = delayed-insert st s key e refusal reads delays

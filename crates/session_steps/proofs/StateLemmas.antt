@@ -10,7 +10,7 @@ use Rattle.commit_status.proofs.Places.{place-lt, some-from_is}
 use Rattle.commit_status.specs.Changes.{Finishes}
 use Rattle.refinement.proofs.Steps.{OnlyIs}
 use Rattle.session_steps.specs.declared.session.Session.{Session}
-use Rattle.session_steps.specs.State.{State, put_session, reader_of, seen, failed_session}
+use Rattle.session_steps.specs.State.{State, put_session, reader_of, seen}
 use Rattle.session_steps.specs.Keeps.{open_at, EngineKeeps}
 use Rattle.session_steps.proofs.OwnIdsLemmas.{open-set_same, open-set_other, keep-open, keep-close, keep-idle, keep-same}
 
@@ -44,22 +44,9 @@ keeps-close xs w v s e status at final finishes h = record { count = length-set 
 pub keeps-shut : (xs : List (Option Session)) (w : Window) (s : ℕ) → s < length xs → open_at xs s ≡ None → EngineKeeps xs w → EngineKeeps (set xs s None) w
 keeps-shut xs w s within idle h = record { count = length-set xs s None ∙ h.count; own = keep-idle xs w s within idle h.own }
 
--- a session that fails keeps its ids
-pub keeps-fail : (xs : List (Option Session)) (w : Window) (s : ℕ) (o : Option Session) → s < length xs → open_at xs s ≡ o → EngineKeeps xs w → EngineKeeps (set xs s (option_map failed_session o)) w
-keeps-fail xs w s None within read h = keeps-shut xs w s within read h
-keeps-fail xs w s (Some e) within read h = record {
-  count = length-set xs s (Some (failed_session e)) ∙ h.count;
-  own = keep-same xs w s e (failed_session e) read refl h.own;
-}
-
--- so does one of which nothing else changes
-pub keeps-mapped : (xs : List (Option Session)) (w : Window) (s : ℕ) (o : Option Session) (f : Session → Session) → ((e : Session) → (f e).own ≡ e.own) → s < length xs → open_at xs s ≡ o → EngineKeeps xs w
-    → EngineKeeps (set xs s (option_map f o)) w
-keeps-mapped xs w s None f same within read h = keeps-shut xs w s within read h
-keeps-mapped xs w s (Some e) f same within read h = record {
-  count = length-set xs s (Some (f e)) ∙ h.count;
-  own = keep-same xs w s e (f e) read (ap (λ own. own.ids) (same e)) h.own;
-}
+-- one becomes another with the same ids
+pub keeps-ids : (xs : List (Option Session)) (w : Window) (s : ℕ) (e e' : Session) → open_at xs s ≡ Some e → e'.own.ids ≡ e.own.ids → EngineKeeps xs w → EngineKeeps (set xs s (Some e')) w
+keeps-ids xs w s e e' at same h = record { count = length-set xs s (Some e') ∙ h.count; own = keep-same xs w s e e' at same h.own }
 
 -- of the sessions that readers see, one changes
 pub only-set : (st : State) (s : ℕ) (now : Option Session) → s < length st.sessions → OnlyIs (seen st).session (seen (put_session st s now)).session s (option_map reader_of now)

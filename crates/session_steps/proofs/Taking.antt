@@ -27,9 +27,9 @@ taken-open next xs i o e within read some =
     ap (λ xs. taken next (owns_of xs)) (take_more xs i o within ∙ ap (λ o. take i xs ++ o ∷ []) (read ∙ some))
     ∙ (ap (taken next) (owns-push_open (take i xs) e) ∙ fold-append listing (empty_at next) (owns_of (take i xs)) (e.own.ids ∷ []))
 
-pub none-unless : (o : Option Session) → ((e : Session) → o ≡ Some e → ⊥) → o ≡ None
+pub none-unless : {T : Type 0} (o : Option T) → ((x : T) → o ≡ Some x → ⊥) → o ≡ None
 none-unless None h = refl
-none-unless (Some e) h = absurd (h e refl)
+none-unless (Some x) h = absurd (h x refl)
 
 -- A snapshot lists more and more.
 

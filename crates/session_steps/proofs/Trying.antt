@@ -1,22 +1,24 @@
 -- A write that a session tries: what it changes, or why it is not done.
-use Rattle.std.proofs.Common.{◌≡◌, ℕ, List, set, Option, Some, None, ap, ◌∙◌, subst, inl, inr}
-use Rattle.std.specs.Prelude.{Result, Ok, Err, Contains}
+use Rattle.std.proofs.Common.{◌≡◌, ℕ, List, set, Option, Some, None, refl, sym, ap, ◌∙◌, subst, inl, inr}
+use Rattle.std.specs.Prelude.{Result, Ok, Err, IfOk, IfErr, OnErr, Contains}
+use Rattle.std.proofs.lemmas.Option.{same_Some}
 use Rattle.xid_circle.specs.declared.Tid.{Tid}
+use Rattle.xid_circle.specs.declared.Xid.{Xid}
 use Rattle.tuple_header.specs.declared.version.Row.{Row}
 use Rattle.tuple_header.specs.Version.{rounded_size_of}
 use Rattle.commit_status.specs.Window.{Window, IsWindow, IsGiven, IsActive}
-use Rattle.snapshot.specs.Own.{current_xid, ArePrefixes}
+use Rattle.snapshot.specs.Own.{Own, current_xid, ArePrefixes}
 use Rattle.snapshot.proofs.Levels.{level-among}
 use Rattle.heap_write.specs.declared.heap.WriteFault.{WriteFault}
 use Rattle.heap_write.specs.declared.heap.WriteFault.TheVariants as fault
 use Rattle.heap_write.specs.Heap.{HeapView, SameIds, Keeps}
-use Rattle.heap_write.specs.Writes.{PrunesIfFull}
-use Rattle.heap_write.specs.Refusals.{FailsUpdate, FailsDelete}
+use Rattle.heap_write.specs.Writes.{SameOwn, PrunesIfFull, Inserts, Updates, Deletes}
+use Rattle.heap_write.specs.Refusals.{LacksForInsert, FailsUpdate, FailsDelete}
 use Rattle.session_steps.specs.declared.session.Session.{Session}
 use Rattle.session_steps.specs.State.{State, session_at, horizon_of}
 use Rattle.session_steps.specs.Keeps.{open_at, EngineKeeps}
 use Rattle.session_steps.specs.Tests.{MayWriteKey}
-use Rattle.session_steps.specs.Writes.{TriesInsert, TriesUpdate, TriesDelete, OnOpen, reply_for}
+use Rattle.session_steps.specs.Writes.{TriesInsert, TriesUpdate, TriesDelete, outcome_of, reply_for}
 use Rattle.session_steps.specs.Exact.{Tried, InsertTried, UpdateTried, DeleteTried, ExactInsert, ExactUpdate, ExactDelete}
 use Rattle.session_steps.proofs.Giving.{keeps-wrote, keeps-kept}
 
@@ -49,69 +51,64 @@ delete-ids h h' e place fault.NoRoom fails = absurd fails
 delete-ids h h' e place fault.NoMemory fails = fails.3.table
 delete-ids h h' e place fault.Gone fails = fails.1.table
 
-keeps-inserted : (xs : List (Option Session)) (h h' : HeapView) (s : ℕ) (e e' : Session) (row : Row) (r : Result (Unit {0}) WriteFault) → open_at xs s ≡ Some e → TriesInsert h h' e e' row r → IsWindow h'.table
+pub keeps-inserted : (xs : List (Option Session)) (h h' : HeapView) (s : ℕ) (e e' : Session) (row : Row) (r : Result (Unit {0}) WriteFault) → open_at xs s ≡ Some e → TriesInsert h h' e e' row r → IsWindow h'.table
     → EngineKeeps xs h.table → EngineKeeps (set xs s (Some e')) h'.table
 keeps-inserted xs h h' s e e' row (Ok u) at tries is k = keeps-wrote xs h.table h'.table s e e' tries.x at tries.change.takes_ids is k
 keeps-inserted xs h h' s e e' row (Err f) at tries is k = keeps-kept xs h.table h'.table s e e' at tries.same tries.fault.1.table k
 
-keeps-updated : (xs : List (Option Session)) (h h' : HeapView) (s : ℕ) (e e' : Session) (place : Tid) (row : Row) (horizon : ℕ) (r : Result (Unit {0}) WriteFault) → open_at xs s ≡ Some e → TriesUpdate h h' e e' place row horizon r
+pub keeps-updated : (xs : List (Option Session)) (h h' : HeapView) (s : ℕ) (e e' : Session) (place : Tid) (row : Row) (horizon : ℕ) (r : Result (Unit {0}) WriteFault) → open_at xs s ≡ Some e → TriesUpdate h h' e e' place row horizon r
     → IsWindow h'.table → EngineKeeps xs h.table → EngineKeeps (set xs s (Some e')) h'.table
 keeps-updated xs h h' s e e' place row horizon (Ok u) at tries is k = keeps-wrote xs h.table h'.table s e e' tries.x at tries.change.takes_ids is k
 keeps-updated xs h h' s e e' place row horizon (Err f) at tries is k = keeps-kept xs h.table h'.table s e e' at tries.same (update-ids h h' e place row horizon f tries.fault) k
 
-keeps-deleted : (xs : List (Option Session)) (h h' : HeapView) (s : ℕ) (e e' : Session) (place : Tid) (r : Result (Unit {0}) WriteFault) → open_at xs s ≡ Some e → TriesDelete h h' e e' place r
+pub keeps-deleted : (xs : List (Option Session)) (h h' : HeapView) (s : ℕ) (e e' : Session) (place : Tid) (r : Result (Unit {0}) WriteFault) → open_at xs s ≡ Some e → TriesDelete h h' e e' place r
     → IsWindow h'.table → EngineKeeps xs h.table → EngineKeeps (set xs s (Some e')) h'.table
 keeps-deleted xs h h' s e e' place (Ok u) at tries is k = keeps-wrote xs h.table h'.table s e e' tries.x at tries.change.takes_ids is k
 keeps-deleted xs h h' s e e' place (Err f) at tries is k = keeps-kept xs h.table h'.table s e e' at tries.same (delete-ids h h' e place f tries.fault) k
 
--- of the session in a place
-keeps-on : (xs : List (Option Session)) (v : Window) (s : ℕ) (o now : Option Session) (tries : Session → Session → Type 0) → open_at xs s ≡ o → OnOpen o now tries
-    → ((e e' : Session) → open_at xs s ≡ Some e → tries e e' → EngineKeeps (set xs s (Some e')) v) → EngineKeeps (set xs s now) v
-keeps-on xs v s None now tries at tried each = absurd tried
-keeps-on xs v s (Some e) now tries at tried each = rw tried.1 (each e tried.0 at tried.2)
+-- What the heap says of a write is what became of it.
 
-pub keeps-insert : (xs : List (Option Session)) (h h' : HeapView) (s : ℕ) (o now : Option Session) (row : Row) (r : Result (Unit {0}) WriteFault) → open_at xs s ≡ o → OnOpen o now (λ e e'. TriesInsert h h' e e' row r)
-    → IsWindow h'.table → EngineKeeps xs h.table → EngineKeeps (set xs s now) h'.table
-keeps-insert xs h h' s o now row r at tried is k = keeps-on xs h'.table s o now (λ e e'. TriesInsert h h' e e' row r) at tried (λ e e' at' tries. keeps-inserted xs h h' s e e' row r at' tries is k)
+pub tries-insert : (h h' : HeapView) (e : Session) (own : Own) (row : Row) (r : Result Xid WriteFault) → IfOk r (λ x. Inserts h h' e.own own row x.0) → IfErr r (λ f. LacksForInsert h e.own row f) → OnErr r (Keeps h h') → OnErr r (SameOwn e.own own)
+    → TriesInsert h h' e (record e { own = own }) row (outcome_of r)
+tries-insert h h' e own row (Ok x) ok fails keeps same = record { is = refl; x = x.0; change = ok }
+tries-insert h h' e own row (Err f) ok fails keeps same = record { same = record { snapshot = refl; own = same; failed = refl; cursor = refl }; fault = (fails, keeps) }
 
-pub keeps-update : (xs : List (Option Session)) (h h' : HeapView) (s : ℕ) (o now : Option Session) (place : Tid) (row : Row) (horizon : ℕ) (r : Result (Unit {0}) WriteFault) → open_at xs s ≡ o
-    → OnOpen o now (λ e e'. TriesUpdate h h' e e' place row horizon r) → IsWindow h'.table → EngineKeeps xs h.table → EngineKeeps (set xs s now) h'.table
-keeps-update xs h h' s o now place row horizon r at tried is k =
-    keeps-on xs h'.table s o now (λ e e'. TriesUpdate h h' e e' place row horizon r) at tried (λ e e' at' tries. keeps-updated xs h h' s e e' place row horizon r at' tries is k)
+pub tries-update : (h h' : HeapView) (e : Session) (own : Own) (place : Tid) (row : Row) (horizon : ℕ) (r : Result Xid WriteFault) → IfOk r (λ x. Updates h h' e.own own place row horizon x.0)
+    → IfErr r (λ f. FailsUpdate h h' e.own place row horizon f) → OnErr r (SameOwn e.own own) → TriesUpdate h h' e (record e { own = own }) place row horizon (outcome_of r)
+tries-update h h' e own place row horizon (Ok x) ok fails same = record { is = refl; x = x.0; change = ok }
+tries-update h h' e own place row horizon (Err f) ok fails same = record { same = record { snapshot = refl; own = same; failed = refl; cursor = refl }; fault = fails }
 
-pub keeps-delete : (xs : List (Option Session)) (h h' : HeapView) (s : ℕ) (o now : Option Session) (place : Tid) (r : Result (Unit {0}) WriteFault) → open_at xs s ≡ o → OnOpen o now (λ e e'. TriesDelete h h' e e' place r)
-    → IsWindow h'.table → EngineKeeps xs h.table → EngineKeeps (set xs s now) h'.table
-keeps-delete xs h h' s o now place r at tried is k =
-    keeps-on xs h'.table s o now (λ e e'. TriesDelete h h' e e' place r) at tried (λ e e' at' tries. keeps-deleted xs h h' s e e' place r at' tries is k)
+pub tries-delete : (h h' : HeapView) (e : Session) (own : Own) (place : Tid) (r : Result Xid WriteFault) → IfOk r (λ x. Deletes h h' e.own own place x.0) → IfErr r (λ f. FailsDelete h h' e.own place f) → OnErr r (SameOwn e.own own)
+    → TriesDelete h h' e (record e { own = own }) place (outcome_of r)
+tries-delete h h' e own place (Ok x) ok fails same = record { is = refl; x = x.0; change = ok }
+tries-delete h h' e own place (Err f) ok fails same = record { same = record { snapshot = refl; own = same; failed = refl; cursor = refl }; fault = fails }
 
 -- The engine afterwards.
 
-abbrev pub with_session : State → HeapView → ℕ → Option Session → State
-with_session st h s now = record { settings = st.settings; heap = h; sessions = set st.sessions s now }
+abbrev pub with_session : State → HeapView → ℕ → Session → State
+with_session st h s now = record { settings = st.settings; heap = h; sessions = set st.sessions s (Some now) }
 
-tried-of : (st : State) (h : HeapView) (s : ℕ) (e : Session) (now : Option Session) (tries : HeapView → HeapView → Session → Session → Type 0) → session_at st s ≡ Some e
-    → OnOpen (session_at st s) now (λ e e'. tries st.heap h e e') → Tried st (with_session st h s now) s e tries
-tried-of st h s e now tries at tried =
-    let t = subst (λ o. OnOpen o now (λ e e'. tries st.heap h e e')) at tried in
-    record { now = t.0; is = ap (with_session st h s) t.1; tried = t.2 }
+-- the session that may write is the one that is there
+tried-of : (st : State) (h : HeapView) (s : ℕ) (e f now : Session) (tries : HeapView → HeapView → Session → Session → Type 0) → session_at st s ≡ Some e → session_at st s ≡ Some f → tries st.heap h f now
+    → Tried st (with_session st h s now) s e tries
+tried-of st h s e f now tries at there tried = record { now = now; is = refl; tried = subst (λ e. tries st.heap h e now) (same_Some f e (sym there ∙ at)) tried }
 
-pub insert-tried : (st : State) (h : HeapView) (s : ℕ) (now : Option Session) (row : Row) (r : Result (Unit {0}) WriteFault) → MayWriteKey st s row.key None
-    → OnOpen (session_at st s) now (λ e e'. TriesInsert st.heap h e e' row r) → InsertTried st (with_session st h s now) s row r
-insert-tried st h s now row r may tried = record { may = may; tried = tried-of st h s may.session now (λ h h' e e'. TriesInsert h h' e e' row r) may.reads.at tried }
+pub insert-tried : (st : State) (h : HeapView) (s : ℕ) (e now : Session) (row : Row) (r : Result (Unit {0}) WriteFault) → MayWriteKey st s row.key None → session_at st s ≡ Some e → TriesInsert st.heap h e now row r
+    → InsertTried st (with_session st h s now) s row r
+insert-tried st h s e now row r may there tries = record { may = may; tried = tried-of st h s may.session e now (λ h h' e e'. TriesInsert h h' e e' row r) may.reads.at there tries }
 
-pub update-tried : (st : State) (h : HeapView) (s : ℕ) (now : Option Session) (place : Tid) (row : Row) (horizon : ℕ) (r : Result (Unit {0}) WriteFault) → MayWriteKey st s row.key (Some place)
-    → horizon ≡ horizon_of st → OnOpen (session_at st s) now (λ e e'. TriesUpdate st.heap h e e' place row horizon r) → UpdateTried st (with_session st h s now) s row r
-update-tried st h s now place row horizon r may is tried = record {
+pub update-tried : (st : State) (h : HeapView) (s : ℕ) (e now : Session) (place : Tid) (row : Row) (horizon : ℕ) (r : Result (Unit {0}) WriteFault) → MayWriteKey st s row.key (Some place) → horizon ≡ horizon_of st
+    → session_at st s ≡ Some e → TriesUpdate st.heap h e now place row horizon r → UpdateTried st (with_session st h s now) s row r
+update-tried st h s e now place row horizon r may is there tries = record {
   place = place;
   may = may;
-  tried = tried-of st h s may.session now (λ h h' e e'. TriesUpdate h h' e e' place row (horizon_of st) r) may.reads.at
-      (subst (λ x. OnOpen (session_at st s) now (λ e e'. TriesUpdate st.heap h e e' place row x r)) is tried);
+  tried = tried-of st h s may.session e now (λ h h' e e'. TriesUpdate h h' e e' place row (horizon_of st) r) may.reads.at there (subst (λ x. TriesUpdate st.heap h e now place row x r) is tries);
 }
 
-pub delete-tried : (st : State) (h : HeapView) (s key : ℕ) (now : Option Session) (place : Tid) (r : Result (Unit {0}) WriteFault) → MayWriteKey st s key (Some place)
-    → OnOpen (session_at st s) now (λ e e'. TriesDelete st.heap h e e' place r) → DeleteTried st (with_session st h s now) s key r
-delete-tried st h s key now place r may tried =
-    record { place = place; may = may; tried = tried-of st h s may.session now (λ h h' e e'. TriesDelete h h' e e' place r) may.reads.at tried }
+pub delete-tried : (st : State) (h : HeapView) (s key : ℕ) (e now : Session) (place : Tid) (r : Result (Unit {0}) WriteFault) → MayWriteKey st s key (Some place) → session_at st s ≡ Some e → TriesDelete st.heap h e now place r
+    → DeleteTried st (with_session st h s now) s key r
+delete-tried st h s key e now place r may there tries =
+    record { place = place; may = may; tried = tried-of st h s may.session e now (λ h h' e e'. TriesDelete h h' e e' place r) may.reads.at there tries }
 
 -- That is what the reply says of it.
 

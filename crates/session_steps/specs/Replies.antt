@@ -1,11 +1,13 @@
 -- The reply to a step that hands out no row.
+use Rattle.std.specs.Prelude.{Result, Ok, Err}
 use Rattle.refinement.specs.declared.reply.Reply.{Reply}
 use Rattle.refinement.specs.declared.reply.Reply.TheVariants as reply
+use Rattle.refinement.specs.declared.reply.Refusal.{Refusal}
 use Rattle.session_steps.specs.declared.outcome.Ack.{Ack}
-use Rattle.session_steps.specs.declared.outcome.Ack.TheVariants as outcome
+use Rattle.session_steps.specs.declared.outcome.Ack.TheVariants.{Done, Committed, RolledBack}
 
-abbrev pub reply_to : Ack → Reply
-reply_to outcome.Done = reply.Done
-reply_to outcome.Committed = reply.Committed
-reply_to outcome.RolledBack = reply.RolledBack
-reply_to (outcome.Refused r) = reply.Refused r
+abbrev pub reply_to : Result Ack Refusal → Reply
+reply_to (Ok Done) = reply.Done
+reply_to (Ok Committed) = reply.Committed
+reply_to (Ok RolledBack) = reply.RolledBack
+reply_to (Err refusal) = reply.Refused refusal

@@ -1,5 +1,5 @@
 -- The places of the sessions, as they are lent and looked through.
-use Rattle.std.specs.Prelude.{◌≡◌, ◌≤◌, ℕ, List, length, Option, slice_set}
+use Rattle.std.specs.Prelude.{◌≡◌, ◌≤◌, ℕ, List, length, Option, Some, slice_set}
 use Rattle.std.specs.Borrow.{Lends, MutBor, Fml}
 use Rattle.std.specs.contracts.option.Option as option
 use Rattle.session_steps.specs.declared.session.Session.{Session}
@@ -11,6 +11,10 @@ use Rattle.session_steps.specs.State.{owns_of, held_back}
 -- one place alone is changed
 abbrev pub LendsPlace : MutBor (List (Option Session)) → ℕ → MutBor (Option Session) → Fml
 LendsPlace p s r = Lends the_row (option.the_row session.the_row) p r (slice_set p.now s)
+
+-- one open session alone is changed
+abbrev pub LendsOpen : MutBor (List (Option Session)) → ℕ → MutBor Session → Fml
+LendsOpen p s r = Lends the_row session.the_row p r (λ e. slice_set p.now s (Some e))
 
 -- the first of the places, which have all the open sessions
 pub record HoldsOpen (first sessions : List (Option Session)) : Type 0 where

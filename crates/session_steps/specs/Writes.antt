@@ -1,6 +1,7 @@
 -- What a write changes, and why it is not done. It is said of the engine's own ids and pages.
-use Rattle.std.specs.Prelude.{◌≡◌, ℕ, Option, Some, None, Result, Ok, Err}
+use Rattle.std.specs.Prelude.{◌≡◌, ℕ, Result, Ok, Err}
 use Rattle.xid_circle.specs.declared.Tid.{Tid}
+use Rattle.xid_circle.specs.declared.Xid.{Xid}
 use Rattle.tuple_header.specs.declared.version.Row.{Row}
 use Rattle.heap_write.specs.Heap.{HeapView, Keeps}
 use Rattle.heap_write.specs.Writes.{SameOwn, Inserts, Updates, Deletes}
@@ -47,10 +48,10 @@ abbrev pub TriesDelete : HeapView → HeapView → Session → Session → Tid �
 TriesDelete h h' e e' place (Ok u) = Done e e' (λ x. Deletes h h' e.own e'.own place x)
 TriesDelete h h' e e' place (Err f) = RefusedWrite e e' (FailsDelete h h' e.own place f)
 
--- an open session tried, and is still there
-abbrev pub OnOpen : Option Session → Option Session → (Session → Session → Type 0) → Type 0
-OnOpen None now tries = ⊥
-OnOpen (Some e) now tries = (e' : Session) × (now ≡ Some e') × tries e e'
+-- what became of a write, whatever its id
+abbrev pub outcome_of : Result Xid WriteFault → Result (Unit {0}) WriteFault
+outcome_of (Ok x) = Ok tt
+outcome_of (Err f) = Err f
 
 -- The reply. A version that is gone is no longer there.
 

@@ -31,10 +31,7 @@ fn take_snapshot(
     let mut snapshot = Snapshot::at(alloc, next);
     for session in sessions {
         if let Some(session) = session {
-            match snapshot.list(&session.own) {
-                Ok(()) => {}
-                Err(fault) => return Err(fault),
-            }
+            snapshot.list(&session.own)?;
         }
     }
     Ok(snapshot)
@@ -51,21 +48,21 @@ impl SessionEngine {
 
     /// Opens the session: it reads what was committed by now. Refusals in order: NoSuchSession, AlreadyOpen, and NoMemory,
     /// which comes only where its snapshot lists more than 8 ids.
-    pub(crate) fn begin(&mut self, s: u8) -> Ack
+    pub(crate) fn begin(&mut self, s: u8) -> Result<Ack, Refusal>
         ensures follows { Follows self.old (Step.Begin s) (reply_to result) self.new }
         ensures exact { Exact self.old (Step.Begin s) (reply_to result) self.new }
     {
         match self.opened(s) {
-            Ok(_) => Ack::Refused(Refusal::AlreadyOpen),
+            Ok(_) => Err(Refusal::AlreadyOpen),
             Err(refusal) => match refusal {
                 Refusal::NotOpen => match self.snapshot() {
                     Ok(snapshot) => {
                         self.open(s, snapshot);
-                        Ack::Done
+                        Ok(Ack::Done)
                     }
-                    Err(_) => Ack::Refused(Refusal::NoMemory),
+                    Err(_) => Err(Refusal::NoMemory),
                 },
-                _ => Ack::Refused(refusal),
+                _ => Err(refusal),
             },
         }
     }

@@ -1,20 +1,16 @@
 //! What every write of a session asks first, and what it answers.
 
-ghost use Rattle.std.specs.Prelude.{◌≡◌, ◌<◌, ◌≤◌, ℕ, length, MatchOption, MatchResult, Some, None, Contains};
+ghost use Rattle.std.specs.Prelude.{◌≡◌, ◌≢◌, ◌<◌, ◌≤◌, ℕ, length, MatchOption, MatchResult, Some, None, Contains, Err};
 ghost use Rattle.refinement.specs.Words.{FitsRow, row_of};
-ghost use Rattle.refinement.specs.declared.reply.Reply.{Reply};
 ghost use Rattle.session_steps.specs.Keeps.{open_at};
 ghost use Rattle.session_steps.specs.Refuses.{MayAct};
-ghost use Rattle.session_steps.specs.State.{refused_state};
+ghost use Rattle.session_steps.specs.State.{session_at, refused_state};
 ghost use Rattle.session_steps.specs.Tests.{FindsPlace, IsUncontested, ConflictsWrite, MayWriteKey, RefusesInsertOfKey, RefusesChangeOfKey};
-ghost use Rattle.session_steps.specs.Replies.{reply_to};
-ghost use Rattle.session_steps.specs.Writes.{refusal_for, reply_for};
 
 use crate::engine::SessionEngine;
 use crate::outcome::Ack;
 use crate::session::Session;
 use arrayvec::ArrayVec;
-use heap_write::WriteFault;
 use refinement::{Refusal, Row, RowIn};
 use xid_circle::{Tid, Xid};
 
@@ -51,46 +47,25 @@ fn owner(sessions: &[Option<Session>], x: Xid) -> Option<u8>
     None
 }
 
-/// The refusal of a write that the heap did not do. A version that is gone is no longer there.
-fn refusal_of(fault: WriteFault) -> Refusal
-    ensures { result ≡ refusal_for fault }
-{
-    match fault {
-        WriteFault::Gone => Refusal::NotThere,
-        WriteFault::NeedsFreeze => Refusal::NeedsFreeze,
-        WriteFault::NoRoom => Refusal::NoRoom,
-        WriteFault::NoMemory => Refusal::NoMemory,
-    }
-}
-
-pub(crate) fn outcome_of(tried: Result<(), WriteFault>) -> Ack
-    ensures { reply_to result ≡ reply_for tried }
-{
-    match tried {
-        Ok(()) => Ack::Done,
-        Err(fault) => Ack::Refused(refusal_of(fault)),
-    }
-}
-
 impl SessionEngine {
     /// The place of the version of the key that a session reads, and what keeps it from writing the key, whatever it reads
     /// of it. Tests in order: Conflict, Busy.
-    fn write_conflict(&self, session: &Session, key: u64) -> (Option<Tid>, Option<Refusal>)
+    fn write_conflict(&self, session: &Session, key: u64) -> (Option<Tid>, Result<(), Refusal>)
         ensures place { FindsPlace self.now.heap session.now key result.0 }
-        ensures write_conflict { MatchOption result.1 (IsUncontested self.now session.now key)
+        ensures write_conflict { MatchResult result.1 (λ _. IsUncontested self.now session.now key)
             (λ refusal. ConflictsWrite self.now session.now key refusal) }
     {
         let check = self.heap.check_write(key, &session.snapshot, &session.own);
         if let Some(_) = check.newer_commit {
-            return (check.place, Some(Refusal::Conflict));
+            return (check.place, Err(Refusal::Conflict));
         }
         match check.other_writer {
             Some(x) => match owner(self.sessions.used(), x) {
-                Some(o) => (check.place, Some(Refusal::Busy(o))),
+                Some(o) => (check.place, Err(Refusal::Busy(o))),
                 // each id in progress is an open session's
                 None => unreachable!(),
             },
-            None => (check.place, None),
+            None => (check.place, Ok(())),
         }
     }
 
@@ -103,10 +78,7 @@ impl SessionEngine {
         let (place, write_conflict) = self.write_conflict(session, key);
         match place {
             Some(_) => Err(Refusal::AlreadyThere),
-            None => match write_conflict {
-                None => Ok(()),
-                Some(refusal) => Err(refusal),
-            },
+            None => write_conflict,
         }
     }
 
@@ -120,25 +92,22 @@ impl SessionEngine {
         let (place, write_conflict) = self.write_conflict(session, key);
         match place {
             None => Err(Refusal::NotThere),
-            Some(place) => match write_conflict {
-                None => Ok(place),
-                Some(refusal) => Err(refusal),
-            },
+            Some(place) => {
+                write_conflict?;
+                Ok(place)
+            }
         }
     }
 
-    /// Answers the refusal of a write. A conflict makes the session fail.
-    pub(crate) fn refuse(&mut self, s: u8, refusal: Refusal) -> Ack
-        requires { refusal ≡ Refusal.Conflict → s < 64 }
-        ensures reply { reply_to result ≡ Reply.Refused refusal }
+    /// Answers the refusal of a write. A conflict makes the session fail: it can only be rolled back.
+    pub(crate) fn refuse(&mut self, s: u8, refusal: Refusal) -> Result<Ack, Refusal>
+        requires { refusal ≡ Refusal.Conflict → session_at self.old s ≢ None }
+        ensures answer { result ≡ Err refusal }
         ensures state { self.new ≡ refused_state self.old s refusal }
     {
-        match refusal {
-            Refusal::Conflict => {
-                self.fail(s);
-                Ack::Refused(Refusal::Conflict)
-            }
-            _ => Ack::Refused(refusal),
+        if let Refusal::Conflict = refusal {
+            self.sessions.open_mut(s).failed = true;
         }
+        Err(refusal)
     }
 }

@@ -8,37 +8,31 @@ ghost use Rattle.session_steps.specs.Replies.{reply_to};
 use crate::engine::SessionEngine;
 use crate::outcome::Ack;
 use commit_status::Status;
+use refinement::Refusal;
 
 impl SessionEngine {
     /// Makes what the session wrote part of the history, unless it has failed, and closes it. Refusals in order:
     /// NoSuchSession, NotOpen. It takes no memory.
-    pub(crate) fn commit(&mut self, s: u8) -> Ack
+    pub(crate) fn commit(&mut self, s: u8) -> Result<Ack, Refusal>
         ensures follows { Follows self.old (Step.Commit s) (reply_to result) self.new }
         ensures exact { Exact self.old (Step.Commit s) (reply_to result) self.new }
     {
-        let failed = match self.opened(s) {
-            Ok(session) => session.failed,
-            Err(refusal) => return Ack::Refused(refusal),
-        };
-        if failed {
+        if self.opened(s)?.failed {
             self.close(s, Status::Aborted);
-            Ack::RolledBack
+            Ok(Ack::RolledBack)
         } else {
             self.close(s, Status::Committed);
-            Ack::Committed
+            Ok(Ack::Committed)
         }
     }
 
     /// Drops what the session wrote, and closes it. Refusals in order: NoSuchSession, NotOpen. It takes no memory.
-    pub(crate) fn abort(&mut self, s: u8) -> Ack
+    pub(crate) fn abort(&mut self, s: u8) -> Result<Ack, Refusal>
         ensures follows { Follows self.old (Step.Abort s) (reply_to result) self.new }
         ensures exact { Exact self.old (Step.Abort s) (reply_to result) self.new }
     {
-        match self.opened(s) {
-            Ok(_) => {}
-            Err(refusal) => return Ack::Refused(refusal),
-        }
+        self.opened(s)?;
         self.close(s, Status::Aborted);
-        Ack::RolledBack
+        Ok(Ack::RolledBack)
     }
 }

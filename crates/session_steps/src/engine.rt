@@ -1,11 +1,10 @@
 //! The engine and its sessions.
 
-ghost use Rattle.std.specs.Prelude.{◌≡◌, ◌≢◌, ◌<◌, ℕ, slice_get, option_copied, IfOk, IfErr, OnOk, MatchResult, Some, None, false, Contains};
+ghost use Rattle.std.specs.Prelude.{◌≡◌, ◌≢◌, ◌<◌, slice_get, option_copied, IfOk, IfErr, OnOk, MatchResult, Some, None, false};
 ghost use Rattle.std.specs.Option.{option_map};
 ghost use Rattle.refinement.specs.Words.{AreSettings, FirstFault};
-ghost use Rattle.commit_status.specs.Window.{next_id, IsActive, IsWindow};
-ghost use Rattle.commit_status.specs.Changes.{Finishes};
-ghost use Rattle.session_steps.specs.State.{session_at, engine_index, put_session, failed_session};
+ghost use Rattle.commit_status.specs.Window.{next_id};
+ghost use Rattle.session_steps.specs.State.{session_at, engine_index};
 ghost use Rattle.session_steps.specs.Changes.{Opens, Closes};
 ghost use Rattle.session_steps.specs.Refuses.{Refuses, RefusesReady, RefusesFree, MayAct, RefusesBare};
 ghost use Rattle.session_steps.specs.New.{IsNew};
@@ -41,31 +40,6 @@ impl Model for SessionEngine {
     ghost view = { λ e. record { settings = e.settings; heap = e.heap; sessions = e.sessions } };
 
     ghost invariant = { λ e. EngineKeeps e.sessions e.heap.table };
-}
-
-fn fail(session: &mut Option<Session>)
-    ensures { session.new ≡ option_map failed_session session.old }
-{
-    if let Some(session) = session {
-        session.failed = true;
-    }
-}
-
-/// Ends the session, if there is one: its ids have the status from now on.
-fn end(heap: &mut HeapState, session: Option<Session>, status: Status)
-    requires { (e : _) (x : ℕ) → session ≡ Some e → Contains e.own.ids x
-        → IsActive heap.old.table x }
-    ensures pages { heap.new.pages ≡ heap.old.pages }
-    ensures indexes { heap.new.indexes ≡ heap.old.indexes }
-    ensures max_pages { heap.new.max_pages ≡ heap.old.max_pages }
-    ensures finishes { (e : _) → session ≡ Some e
-        → Finishes heap.old.table heap.new.table e.own.ids status }
-    ensures window { (e : _) → session ≡ Some e → IsWindow heap.new.table }
-    ensures none { session ≡ None → heap.new.table ≡ heap.old.table }
-{
-    if let Some(session) = &session {
-        heap.finish(session.own.as_slice(), status);
-    }
 }
 
 impl SessionEngine {
@@ -164,10 +138,7 @@ impl SessionEngine {
         ensures { MatchResult result (λ e. MayAct self.now s e.now)
             (λ refusal. RefusesFree self.now s refusal) }
     {
-        let session = match self.ready(s) {
-            Ok(session) => session,
-            Err(refusal) => return Err(refusal),
-        };
+        let session = self.ready(s)?;
         match session.cursor {
             None => Ok(session),
             Some(_) => Err(Refusal::CursorOpen),
@@ -181,10 +152,7 @@ impl SessionEngine {
             × (found.0.now.failed ≡ false) × (found.0.now.cursor ≡ Some found.1))
             (λ refusal. RefusesBare self.now s refusal) }
     {
-        let session = match self.ready(s) {
-            Ok(session) => session,
-            Err(refusal) => return Err(refusal),
-        };
+        let session = self.ready(s)?;
         match session.cursor {
             Some(cursor) => Ok((session, cursor)),
             None => Err(Refusal::NoCursor),
@@ -212,15 +180,8 @@ impl SessionEngine {
         ensures { Closes self.old self.new s status }
     {
         let session = self.sessions.place_mut(s).take();
-        end(&mut self.heap, session, status);
-    }
-
-    /// Notes that the session can only be rolled back.
-    pub(crate) fn fail(&mut self, s: u8)
-        requires { s < 64 }
-        ensures { self.new
-            ≡ put_session self.old s (option_map failed_session (session_at self.old s)) }
-    {
-        fail(self.sessions.place_mut(s));
+        if let Some(session) = &session {
+            self.heap.finish(session.own.as_slice(), status);
+        }
     }
 }

@@ -19,10 +19,7 @@ impl SessionEngine {
         ensures exact { Exact self.now (Step.Get s key) reply.new self.now }
     {
         match self.ready(s) {
-            Ok(session) => {
-                let found = self.heap.row(key, &session.snapshot, &session.own);
-                put_found(found, reply);
-            }
+            Ok(session) => put_found(self.heap.row(key, &session.snapshot, &session.own), reply),
             Err(refusal) => *reply = Reply::Refused(refusal),
         }
     }

@@ -45,15 +45,7 @@ impl SessionEngine {
     /// left; of the heap those of the next page on which the session sees any, by their slots. The answer is End exactly
     /// where none is left, and leaves the cursor open. Refusals in order: NoSuchSession, NotOpen, Failed, NoCursor, and
     /// NoMemory, which comes only where there is a row to hand out, and leaves the cursor where it was.
-    pub(crate) fn next(&mut self, s: u8, n: u16, reply: &mut Reply)
-        ensures follows { Follows self.old (Step.Next s n) reply.new self.new }
-        ensures exact { Exact self.old (Step.Next s n) reply.new self.new }
-    {
-        *reply = self.hand_out(s, n);
-    }
-
-    /// What [`SessionEngine::next`] answers, by value.
-    fn hand_out(&mut self, s: u8, n: u16) -> Reply
+    pub(crate) fn next(&mut self, s: u8, n: u16) -> Reply
         ensures follows { Follows self.old (Step.Next s n) result self.new }
         ensures exact { Exact self.old (Step.Next s n) result self.new }
     {

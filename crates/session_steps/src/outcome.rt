@@ -2,29 +2,42 @@
 
 ghost use Rattle.std.specs.Prelude.{◌≡◌};
 ghost use Rattle.session_steps.specs.Replies.{reply_to};
+ghost use Rattle.session_steps.specs.Writes.{outcome_of, reply_for};
 
+use heap_write::WriteFault;
 use refinement::{Refusal, Reply};
+use xid_circle::Xid;
 
-/// What a step answers that hands out no row. A `Reply` has room for one, which costs wherever it is made or handed on.
+/// What a step has done that hands out no row. A `Reply` has room for one, which costs wherever it is made or handed on.
 #[derive(Clone, Copy, Debug)]
 pub(crate) enum Ack {
     Done,
     Committed,
     RolledBack,
-    Refused(Refusal),
 }
 
-impl Ack {
-    /// Puts the reply to the step in the place of another.
-    pub(crate) fn put_in(self, reply: &mut Reply)
-        ensures { reply.new ≡ reply_to self }
-    {
-        // each is made where it stays
-        match self {
-            Ack::Done => *reply = Reply::Done,
-            Ack::Committed => *reply = Reply::Committed,
-            Ack::RolledBack => *reply = Reply::RolledBack,
-            Ack::Refused(refusal) => *reply = Reply::Refused(refusal),
-        }
+/// What a write answers. A version that is gone is no longer there.
+pub(crate) fn write_answer(tried: Result<Xid, WriteFault>) -> Result<Ack, Refusal>
+    ensures { reply_to result ≡ reply_for (outcome_of tried) }
+{
+    match tried {
+        Ok(_) => Ok(Ack::Done),
+        Err(WriteFault::Gone) => Err(Refusal::NotThere),
+        Err(WriteFault::NeedsFreeze) => Err(Refusal::NeedsFreeze),
+        Err(WriteFault::NoRoom) => Err(Refusal::NoRoom),
+        Err(WriteFault::NoMemory) => Err(Refusal::NoMemory),
+    }
+}
+
+/// Puts the reply to a step in the place of another.
+pub(crate) fn put_reply(answer: Result<Ack, Refusal>, reply: &mut Reply)
+    ensures { reply.new ≡ reply_to answer }
+{
+    // each is made where it stays
+    match answer {
+        Ok(Ack::Done) => *reply = Reply::Done,
+        Ok(Ack::Committed) => *reply = Reply::Committed,
+        Ok(Ack::RolledBack) => *reply = Reply::RolledBack,
+        Err(refusal) => *reply = Reply::Refused(refusal),
     }
 }

@@ -55,14 +55,14 @@ impl SessionEngine {
     }
 
     /// Takes from the page what nobody can see any more. Refusals: NoSuchPage. It takes no memory.
-    pub(crate) fn prune(&mut self, page: u32) -> Ack
+    pub(crate) fn prune(&mut self, page: u32) -> Result<Ack, Refusal>
         ensures follows { Follows self.old (Step.Prune page) (reply_to result) self.new }
         ensures exact { Exact self.old (Step.Prune page) (reply_to result) self.new }
     {
         let horizon = self.horizon();
         match self.heap.prune(page, horizon) {
-            Ok(()) => Ack::Done,
-            Err(PruneFault::NoSuchPage) => Ack::Refused(Refusal::NoSuchPage),
+            Ok(()) => Ok(Ack::Done),
+            Err(PruneFault::NoSuchPage) => Err(Refusal::NoSuchPage),
         }
     }
 }

@@ -1,9 +1,9 @@
 //! The places of the sessions.
 
-ghost use Rattle.std.specs.Prelude.{◌≡◌, ◌<◌, length, replicate, None, Some, IfOk, slice_get};
+ghost use Rattle.std.specs.Prelude.{◌≡◌, ◌≢◌, ◌<◌, length, replicate, None, Some, IfOk, slice_get};
 ghost use Rattle.std.specs.Borrow.{sem};
 ghost use Rattle.session_steps.specs.Keeps.{open_at};
-ghost use Rattle.session_steps.specs.Sessions.{LendsPlace, HoldsOpen};
+ghost use Rattle.session_steps.specs.Sessions.{LendsPlace, LendsOpen, HoldsOpen};
 
 use crate::session::Session;
 use std::alloc::{AllocError, Global};
@@ -59,6 +59,18 @@ impl Sessions {
     {
         self.used = self.used.max(s as usize + 1);
         &mut self.places[s as usize]
+    }
+
+    /// The open session in a place, to be changed.
+    pub(crate) fn open_mut(&mut self, s: u8) -> &mut Session
+        requires { open_at self.old s ≢ None }
+        ensures* writes_back { sem 𝓛 (LendsOpen self.entry s result) }
+        ensures value { open_at self.old s ≡ Some result.now }
+    {
+        match self.place_mut(s) {
+            Some(session) => session,
+            None => unreachable!(),
+        }
     }
 
     /// The places that were used so far. Every open session has one of them.

@@ -8,6 +8,7 @@ ghost use Rattle.session_steps.specs.Exact.{Exact};
 
 use crate::engine::SessionEngine;
 use crate::get::copy_of;
+use crate::outcome::put_reply;
 use refinement::{Refusal, Reply, Row, Step};
 
 impl SessionEngine {
@@ -31,9 +32,12 @@ impl SessionEngine {
         ensures exact { Exact self.old step reply.new self.new }
     {
         step.has_bounds();
-        let outcome = match step {
+        let answer = match step {
             Step::Get(s, key) => return self.get(s, key, reply),
-            Step::Next(s, n) => return self.next(s, n, reply),
+            Step::Next(s, n) => {
+                *reply = self.next(s, n);
+                return;
+            }
             Step::Begin(s) => self.begin(s),
             Step::Insert(s, row) => self.insert(s, row),
             Step::Update(s, row) => self.update(s, row),
@@ -48,7 +52,7 @@ impl SessionEngine {
             Step::Abort(s) => self.abort(s),
             Step::Prune(page) => self.prune(page),
         };
-        outcome.put_in(reply)
+        put_reply(answer, reply)
     }
 
     /// The row of the key that the session reads, also in a transaction that has failed. It is no step, and takes no
@@ -58,9 +62,7 @@ impl SessionEngine {
             (λ row. (m : OpenSession) × (w.session s ≡ Some m) × (row ≡ view w.history m key))
             (λ refusal. AllowsClosed w s refusal) }
     {
-        match self.opened(s) {
-            Ok(session) => Ok(copy_of(self.heap.row(key, &session.snapshot, &session.own))),
-            Err(refusal) => Err(refusal),
-        }
+        let session = self.opened(s)?;
+        Ok(copy_of(self.heap.row(key, &session.snapshot, &session.own)))
     }
 }

@@ -1,9 +1,11 @@
 use Rattle.std.proofs.Common.{ap, is_some}
+use Rattle.session_steps.proofs.Outcomes.{handed-on}
 use Rattle.session_steps.proofs.CursorSteps.{Follows-bare_close, Follows-closed_cursor}
 use Rattle.session_steps.proofs.engine.SessionEngine.close_cursor.Goals as goal
 
-pub returns-in-Err-clause-follows : goal.returns-in-Err-clause-follows
-returns-in-Err-clause-follows c = Follows-bare_close c.args.self.now c.args.s c.in-Err.refusal c.in-Err.ensures
+pub returns-in_err-with_cursor-clause-follows : goal.returns-in_err-with_cursor-clause-follows
+returns-in_err-with_cursor-clause-follows c = rw (handed-on c.from_residual.result c.from_residual.ensures.1) (Follows-bare_close c.args.self.now c.args.s c.in_err-with_cursor.field-0.0 c.in_err-with_cursor.ensures)
 
 pub returns-clause-follows : goal.returns-clause-follows
-returns-clause-follows c = Follows-closed_cursor c.args.self.now _ c.args.s c.in-Ok.field-0.0.now c.in-Ok.ensures.1 c.in-Ok.ensures.2 (ap is_some c.in-Ok.ensures.3) c.move_cursor.ensures
+returns-clause-follows c =
+    Follows-closed_cursor c.args.self.now _ c.args.s c.in_ok-with_cursor.field-0.0.now c.in_ok-with_cursor.ensures.1 c.in_ok-with_cursor.ensures.2 (ap is_some c.in_ok-with_cursor.ensures.3) c.move_cursor.ensures

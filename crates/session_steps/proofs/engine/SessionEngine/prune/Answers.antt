@@ -1,10 +1,11 @@
-use Rattle.std.proofs.Common.{◌≡◌, ℕ, refl, sym, ap, ◌∙◌, subst}
+use Rattle.std.proofs.Common.{◌≡◌, ℕ, Result, refl, sym, ap, ◌∙◌, subst}
 use Rattle.heap_write.specs.Heap.{HeapView}
 use Rattle.heap_write.specs.Writes.{Prunes}
 use Rattle.refinement.specs.declared.step.Step.TheVariants.{Prune}
 use Rattle.refinement.specs.declared.reply.Reply.TheVariants.{Refused}
 use Rattle.refinement.specs.declared.reply.Refusal.TheVariants.{NoSuchPage}
 use Rattle.session_steps.specs.State.{State, horizon_of}
+use Rattle.refinement.specs.declared.reply.Refusal.{Refusal}
 use Rattle.session_steps.specs.declared.outcome.Ack.{Ack}
 use Rattle.session_steps.specs.Replies.{reply_to}
 use Rattle.session_steps.specs.Agrees.{Follows}
@@ -18,7 +19,7 @@ returns-clause-follows c =
     let after : State = record before { heap = c.prune.new.self } in
     let horizon : c.horizon-horizon.result.0 ≡ horizon_of before = c.horizon-horizon.ensures.value ∙ ap horizon_of (sym c.self.view_is) in
     let P : State → Type 0 = λ st. Follows st (Prune c.args.page) (reply_to c.match-prune.result) after in
-    let R : Ack → Type 0 = λ r. Follows before (Prune c.args.page) (reply_to r) after in
+    let R : Result Ack Refusal → Type 0 = λ r. Follows before (Prune c.args.page) (reply_to r) after in
     let H : ℕ → Type 0 = λ x. Prunes before.heap after.heap c.args.page x in
     subst P c.self.view_is (elim c.match-prune.branch [
       | in-Ok w ↦ subst R (sym w.result-is) (Follows-prune before after c.args.page (record { settings = refl; sessions = refl; heap = subst H horizon w.in-Ok.ensures.ok }))

@@ -1,22 +1,82 @@
-use Rattle.std.proofs.Common.{sym, ◌∙◌, refl, subst}
-use Rattle.std.specs.Prelude.{IsSome, Option}
+use Rattle.std.proofs.Common.{ℕ, List, Option, false, sym, ap, ◌∙◌, refl, subst}
+use Rattle.std.specs.Prelude.{Contains, IsSome}
+use Rattle.std.proofs.lemmas.List.Elements.{Contains-append_right}
+use Rattle.commit_status.specs.Changes.{numbers}
+use Rattle.snapshot.specs.Own.{newest}
 use Rattle.session_steps.specs.declared.cursor.Cursor.{Cursor}
+use Rattle.session_steps.specs.declared.session.Session.{Session}
+use Rattle.session_steps.specs.State.{State, session_at}
+use Rattle.session_steps.specs.Changes.{RollsBack}
+use Rattle.session_steps.proofs.Taking.{none-unless}
+use Rattle.session_steps.proofs.Trying.{with_session}
+use Rattle.session_steps.proofs.Outcomes.{handed-on}
 use Rattle.session_steps.proofs.Savepoints.{Follows-nowhere_to_return, Follows-closed_roll_back_to, Follows-barred_roll_back_to}
-use Rattle.session_steps.proofs.Noting.{none-saved, Follows-returned}
+use Rattle.session_steps.proofs.Noting.{none-saved, some-there, rolls-back-on, keeps-returned, Follows-returned}
 use Rattle.session_steps.proofs.engine.SessionEngine.rollback_to.Goals as goal
+
+pub returns-in_err-session-clause-follows : goal.returns-in_err-session-clause-follows
+returns-in_err-session-clause-follows c = rw (handed-on c.from_residual.result c.from_residual.ensures.1) (Follows-closed_roll_back_to c.args.self.now c.args.s c.in_err-session.field-0.0 c.in_err-session.ensures)
 
 pub returns-in-Some-clause-follows : goal.returns-in-Some-clause-follows
 returns-in-Some-clause-follows c =
     let P : Option Cursor → Type 0 = λ o. IsSome o in
-    Follows-barred_roll_back_to c.args.self.now c.args.s c.in-Ok.session.now c.in-Ok.ensures.1 (subst P (sym c.in-Some.is) refl)
+    Follows-barred_roll_back_to c.args.self.now c.args.s c.in_ok-session.session.now c.in_ok-session.ensures.1 (subst P (sym c.in-Some.is) refl)
 
 pub returns-then-savepoints-eq0-clause-follows : goal.returns-then-savepoints-eq0-clause-follows
-returns-then-savepoints-eq0-clause-follows c = Follows-nowhere_to_return c.args.self.now c.args.s c.in-Ok.session.now c.in-Ok.ensures.1 c.in-None.is
-    (none-saved c.in-Ok.session.now.own.saved (sym c.savepoints.ensures ∙ c.if-savepoints-eq0.true))
+returns-then-savepoints-eq0-clause-follows c =
+    let e = c.in_ok-session.session.now in
+    let bare = none-unless e.cursor c.in_default.not-Some in
+    Follows-nowhere_to_return c.args.self.now c.args.s e c.in_ok-session.ensures.1 bare (none-saved e.own.saved (sym c.savepoints.ensures ∙ c.if-savepoints-eq0.true))
 
-pub returns-in-Err-clause-follows : goal.returns-in-Err-clause-follows
-returns-in-Err-clause-follows c = Follows-closed_roll_back_to c.args.self.now c.args.s c.in-Err.refusal c.in-Err.ensures
+-- the session that was found has a savepoint, and is the one that is changed
+pub since_savepoint-requires : goal.since_savepoint-requires
+since_savepoint-requires c =
+    let there = ap (λ (st : State). session_at st c.args.s) (sym c.self.view_is) ∙ c.open_mut-session.ensures.value in
+    some-there c.args.self.now c.args.s c.in_ok-session.session.now c.open_mut-session.result.now c.in_ok-session.ensures.1 there (λ none. c.if-savepoints-eq0.false (c.savepoints.ensures ∙ none))
+
+pub roll_back-requires : goal.roll_back-requires
+roll_back-requires c =
+    let there = ap (λ (st : State). session_at st c.args.s) (sym c.self.view_is) ∙ c.open_mut-session.ensures.value in
+    some-there c.args.self.now c.args.s c.in_ok-session.session.now c.open_mut-session.result.now c.in_ok-session.ensures.1 there (λ none. c.if-savepoints-eq0.false (c.savepoints.ensures ∙ none))
+
+pub finish-requires : goal.finish-requires
+finish-requires c = λ x among.
+    let e = c.open_mut-session.result.now in
+    let P : List ℕ → Type 0 = λ ids. Contains ids x in
+    c.self.invariant.own.active c.args.s e x c.open_mut-session.ensures.value (subst P (sym c.since_savepoint.ensures) (Contains-append_right (newest e.own.saved) _ x among))
+
+pub invariant_of-self : goal.invariant_of-self
+invariant_of-self c =
+    let e = c.open_mut-session.result.now in
+    let own = c.roll_back.new.self in
+    let f = c.finish in
+    let since = numbers c.since_savepoint.result.now in
+    let back = rolls-back-on c.self.inside.heap f.new.self e own since f.ensures.pages f.ensures.indexes f.ensures.max_pages c.since_savepoint.ensures c.roll_back.ensures.ids c.roll_back.ensures.saved f.ensures.finishes f.ensures.window in
+    keeps-returned c.self.inside.sessions c.self.inside.heap f.new.self c.args.s e (record e { own = own; failed = false }) c.open_mut-session.ensures.value back c.self.invariant
 
 pub returns-clause-follows : goal.returns-clause-follows
 returns-clause-follows c =
-    Follows-returned c.args.self.now _ c.args.s c.in-Ok.session.now c.in-Ok.ensures.1 c.in-None.is (λ none. c.if-savepoints-eq0.false (c.savepoints.ensures ∙ none)) c.return_back.ensures
+    let e = c.open_mut-session.result.now in
+    let own = c.roll_back.new.self in
+    let f = c.finish in
+    let since = numbers c.since_savepoint.result.now in
+    let back = rolls-back-on c.self.inside.heap f.new.self e own since f.ensures.pages f.ensures.indexes f.ensures.max_pages c.since_savepoint.ensures c.roll_back.ensures.ids c.roll_back.ensures.saved f.ensures.finishes f.ensures.window in
+    let now : Session = record e { own = own; failed = false } in
+    let before : State = record { settings = c.self.inside.settings; heap = c.self.inside.heap; sessions = c.self.inside.sessions } in
+    let after = with_session before f.new.self c.args.s now in
+    let R : State → Type 0 = λ st. RollsBack st after c.args.s in
+    let found = c.in_ok-session.session.now in
+    Follows-returned c.args.self.now after c.args.s found c.in_ok-session.ensures.1 (none-unless found.cursor c.in_default.not-Some) (λ none. c.if-savepoints-eq0.false (c.savepoints.ensures ∙ none))
+    (subst R c.self.view_is (record { session = e; at = c.open_mut-session.ensures.value; now = now; settings = refl; sessions = refl; back = back }))
+
+pub returns-clause-exact : goal.returns-clause-exact
+returns-clause-exact c =
+    let e = c.open_mut-session.result.now in
+    let own = c.roll_back.new.self in
+    let f = c.finish in
+    let since = numbers c.since_savepoint.result.now in
+    let back = rolls-back-on c.self.inside.heap f.new.self e own since f.ensures.pages f.ensures.indexes f.ensures.max_pages c.since_savepoint.ensures c.roll_back.ensures.ids c.roll_back.ensures.saved f.ensures.finishes f.ensures.window in
+    let now : Session = record e { own = own; failed = false } in
+    let before : State = record { settings = c.self.inside.settings; heap = c.self.inside.heap; sessions = c.self.inside.sessions } in
+    let R : State → Type 0 = λ st. RollsBack st (with_session before f.new.self c.args.s now) c.args.s in
+    subst R c.self.view_is (record { session = e; at = c.open_mut-session.ensures.value; now = now; settings = refl; sessions = refl; back = back })

@@ -1,7 +1,7 @@
 use Rattle.std.proofs.Common.{subst}
 use Rattle.session_steps.specs.Takes.{TakesNext}
 use Rattle.session_steps.proofs.NextSteps.{Follows-bare_next, Follows-end, Follows-no_memory, Follows-rows, hands-out}
-use Rattle.session_steps.proofs.engine.SessionEngine.hand_out.Goals as goal
+use Rattle.session_steps.proofs.engine.SessionEngine.next.Goals as goal
 
 pub returns-in-Err-clause-follows : goal.returns-in-Err-clause-follows
 returns-in-Err-clause-follows c = Follows-bare_next c.args.self.now c.args.s c.args.n c.in-Err.refusal c.in-Err.ensures
