@@ -21,6 +21,7 @@ use Rattle.session_steps.specs.declared.session.Session.{Session}
 use Rattle.session_steps.specs.declared.cursor.Cursor.{Cursor}
 use Rattle.session_steps.specs.declared.cursor.Cursor.TheVariants.{Index, Heap}
 use Rattle.session_steps.specs.State.{State, session_at, engine_index, put_session, map_session, with_cursor, failed_session, owns_of, horizon_of}
+use Rattle.session_steps.specs.Agrees.{Follows}
 use Rattle.session_steps.specs.Changes.{Opens, Closes, SetsSavepoint, Releases, SessionBecomes, RollsBack}
 use Rattle.session_steps.specs.Takes.{HandsOut}
 use Rattle.session_steps.specs.Tests.{MayWriteKey}
@@ -130,3 +131,8 @@ Exact old (Prune p) (Refused NoSuchPage) new = (length old.heap.pages.pages ≤ 
 Exact old (Prune p) (Refused NoMemory) new = ⊥
 Exact old step (Refused refusal) new = new ≡ old
 Exact old step reply new = ⊥
+
+-- The step is answered: whatever world the engine agreed with, the history allows the reply, and the rest is as above.
+pub record AnswersStep (old : State) (step : Step) (reply : Reply) (new : State) : Type 0 where
+  pub follows : Follows old step reply new
+  pub exact : Exact old step reply new

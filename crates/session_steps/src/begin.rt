@@ -6,8 +6,7 @@ ghost use Rattle.xid_circle.specs.Circle.{IsNormal};
 ghost use Rattle.commit_status.specs.Window.{next_id};
 ghost use Rattle.session_steps.specs.State.{owns_of};
 ghost use Rattle.refinement.specs.declared.step.Step.{Step};
-ghost use Rattle.session_steps.specs.Agrees.{Follows};
-ghost use Rattle.session_steps.specs.Exact.{MustList, Exact};
+ghost use Rattle.session_steps.specs.Exact.{MustList, AnswersStep};
 ghost use Rattle.session_steps.specs.Replies.{reply_to};
 
 use crate::engine::SessionEngine;
@@ -49,8 +48,7 @@ impl SessionEngine {
     /// Opens the session: it reads what was committed by now. Refusals in order: NoSuchSession, AlreadyOpen, and NoMemory,
     /// which comes only where its snapshot lists more than 8 ids.
     pub(crate) fn begin(&mut self, s: u8) -> Result<Ack, Refusal>
-        ensures follows { Follows self.old (Step.Begin s) (reply_to result) self.new }
-        ensures exact { Exact self.old (Step.Begin s) (reply_to result) self.new }
+        ensures { AnswersStep self.old (Step.Begin s) (reply_to result) self.new }
     {
         match self.opened(s) {
             Ok(_) => Err(Refusal::AlreadyOpen),

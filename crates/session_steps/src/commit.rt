@@ -1,8 +1,7 @@
 //! A session ends.
 
 ghost use Rattle.refinement.specs.declared.step.Step.{Step};
-ghost use Rattle.session_steps.specs.Agrees.{Follows};
-ghost use Rattle.session_steps.specs.Exact.{Exact};
+ghost use Rattle.session_steps.specs.Exact.{AnswersStep};
 ghost use Rattle.session_steps.specs.Replies.{reply_to};
 
 use crate::engine::SessionEngine;
@@ -14,8 +13,7 @@ impl SessionEngine {
     /// Makes what the session wrote part of the history, unless it has failed, and closes it. Refusals in order:
     /// NoSuchSession, NotOpen. It takes no memory.
     pub(crate) fn commit(&mut self, s: u8) -> Result<Ack, Refusal>
-        ensures follows { Follows self.old (Step.Commit s) (reply_to result) self.new }
-        ensures exact { Exact self.old (Step.Commit s) (reply_to result) self.new }
+        ensures { AnswersStep self.old (Step.Commit s) (reply_to result) self.new }
     {
         if self.opened(s)?.failed {
             self.close(s, Status::Aborted);
@@ -28,8 +26,7 @@ impl SessionEngine {
 
     /// Drops what the session wrote, and closes it. Refusals in order: NoSuchSession, NotOpen. It takes no memory.
     pub(crate) fn abort(&mut self, s: u8) -> Result<Ack, Refusal>
-        ensures follows { Follows self.old (Step.Abort s) (reply_to result) self.new }
-        ensures exact { Exact self.old (Step.Abort s) (reply_to result) self.new }
+        ensures { AnswersStep self.old (Step.Abort s) (reply_to result) self.new }
     {
         self.opened(s)?;
         self.close(s, Status::Aborted);

@@ -3,8 +3,7 @@
 ghost use Rattle.std.specs.Prelude.{◌≢◌, None};
 ghost use Rattle.refinement.specs.declared.step.Step.{Step};
 ghost use Rattle.session_steps.specs.State.{session_at};
-ghost use Rattle.session_steps.specs.Agrees.{Follows};
-ghost use Rattle.session_steps.specs.Exact.{HasCursor, Exact};
+ghost use Rattle.session_steps.specs.Exact.{HasCursor, AnswersStep};
 ghost use Rattle.session_steps.specs.Replies.{reply_to};
 
 use crate::cursor::Cursor;
@@ -31,9 +30,7 @@ impl SessionEngine {
         low: i128,
         high: i128,
     ) -> Result<Ack, Refusal>
-        ensures follows { Follows self.old (Step.OpenIndex s index low high)
-            (reply_to result) self.new }
-        ensures exact { Exact self.old (Step.OpenIndex s index low high)
+        ensures { AnswersStep self.old (Step.OpenIndex s index low high)
             (reply_to result) self.new }
     {
         self.free(s)?;
@@ -57,8 +54,7 @@ impl SessionEngine {
     /// Opens a cursor over all rows that the session reads. Refusals in order: NoSuchSession, NotOpen, Failed,
     /// CursorOpen. It takes no memory.
     pub(crate) fn open_heap(&mut self, s: u8) -> Result<Ack, Refusal>
-        ensures follows { Follows self.old (Step.OpenHeap s) (reply_to result) self.new }
-        ensures exact { Exact self.old (Step.OpenHeap s) (reply_to result) self.new }
+        ensures { AnswersStep self.old (Step.OpenHeap s) (reply_to result) self.new }
     {
         self.free(s)?;
         self.move_cursor(s, Some(Cursor::Heap(0)));
@@ -67,8 +63,7 @@ impl SessionEngine {
 
     /// Closes the session's cursor. Refusals in order: NoSuchSession, NotOpen, Failed, NoCursor. It takes no memory.
     pub(crate) fn close_cursor(&mut self, s: u8) -> Result<Ack, Refusal>
-        ensures follows { Follows self.old (Step.Close s) (reply_to result) self.new }
-        ensures exact { Exact self.old (Step.Close s) (reply_to result) self.new }
+        ensures { AnswersStep self.old (Step.Close s) (reply_to result) self.new }
     {
         self.with_cursor(s)?;
         self.move_cursor(s, None);

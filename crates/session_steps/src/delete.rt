@@ -2,8 +2,7 @@
 
 ghost use Rattle.std.specs.Prelude.{Some};
 ghost use Rattle.refinement.specs.declared.step.Step.{Step};
-ghost use Rattle.session_steps.specs.Agrees.{Follows};
-ghost use Rattle.session_steps.specs.Exact.{Exact};
+ghost use Rattle.session_steps.specs.Exact.{AnswersStep};
 ghost use Rattle.session_steps.specs.Replies.{reply_to};
 ghost use Rattle.session_steps.specs.Tests.{MayWriteKey};
 
@@ -16,8 +15,7 @@ impl SessionEngine {
     /// Deletes the version at a place, which nothing keeps the session from, under the id of its newest level.
     fn take_away(&mut self, s: u8, key: u64, place: Tid) -> Result<Ack, Refusal>
         requires { MayWriteKey self.old s key (Some place) }
-        ensures follows { Follows self.old (Step.Delete s key) (reply_to result) self.new }
-        ensures exact { Exact self.old (Step.Delete s key) (reply_to result) self.new }
+        ensures { AnswersStep self.old (Step.Delete s key) (reply_to result) self.new }
     {
         let session = self.sessions.open_mut(s);
         // an id of its levels is one of its own ids
@@ -28,8 +26,7 @@ impl SessionEngine {
     /// Takes the row of a key away. Refusals in order: NoSuchSession, NotOpen, Failed, CursorOpen, NotThere, Conflict, Busy,
     /// NeedsFreeze, NoMemory.
     pub(crate) fn delete(&mut self, s: u8, key: u64) -> Result<Ack, Refusal>
-        ensures follows { Follows self.old (Step.Delete s key) (reply_to result) self.new }
-        ensures exact { Exact self.old (Step.Delete s key) (reply_to result) self.new }
+        ensures { AnswersStep self.old (Step.Delete s key) (reply_to result) self.new }
     {
         let session = self.free(s)?;
         match self.check_update(session, key) {

@@ -3,8 +3,7 @@
 ghost use Rattle.std.specs.Prelude.{◌≡◌};
 ghost use Rattle.refinement.specs.declared.reply.Reply.TheVariants.{Found};
 ghost use Rattle.refinement.specs.declared.step.Step.{Step};
-ghost use Rattle.session_steps.specs.Agrees.{Follows};
-ghost use Rattle.session_steps.specs.Exact.{Exact};
+ghost use Rattle.session_steps.specs.Exact.{AnswersStep};
 
 use crate::engine::SessionEngine;
 use arrayvec::ArrayVec;
@@ -15,8 +14,7 @@ impl SessionEngine {
     /// The row of the key that the session reads. Refusals in order: NoSuchSession, NotOpen, Failed. It takes no
     /// memory.
     pub(crate) fn get(&self, s: u8, key: u64, reply: &mut Reply)
-        ensures follows { Follows self.now (Step.Get s key) reply.new self.now }
-        ensures exact { Exact self.now (Step.Get s key) reply.new self.now }
+        ensures { AnswersStep self.now (Step.Get s key) reply.new self.now }
     {
         match self.ready(s) {
             Ok(session) => put_found(self.heap.row(key, &session.snapshot, &session.own), reply),

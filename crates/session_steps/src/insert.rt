@@ -2,8 +2,7 @@
 
 ghost use Rattle.std.specs.Prelude.{None};
 ghost use Rattle.refinement.specs.declared.step.Step.{Step};
-ghost use Rattle.session_steps.specs.Agrees.{Follows};
-ghost use Rattle.session_steps.specs.Exact.{ExactInsert, Exact};
+ghost use Rattle.session_steps.specs.Exact.{ExactInsert, AnswersStep};
 ghost use Rattle.session_steps.specs.Replies.{reply_to};
 ghost use Rattle.session_steps.specs.Follows.{FollowsInsert};
 ghost use Rattle.session_steps.specs.Tests.{MayWriteKey};
@@ -30,8 +29,7 @@ impl SessionEngine {
     /// Writes a row of a key that has none. Refusals in order: NoSuchSession, NotOpen, Failed, CursorOpen, TooLarge,
     /// AlreadyThere, Conflict, Busy, NeedsFreeze, NoRoom, NoMemory.
     pub(crate) fn insert(&mut self, s: u8, row: RowIn) -> Result<Ack, Refusal>
-        ensures follows { Follows self.old (Step.Insert s row) (reply_to result) self.new }
-        ensures exact { Exact self.old (Step.Insert s row) (reply_to result) self.new }
+        ensures { AnswersStep self.old (Step.Insert s row) (reply_to result) self.new }
     {
         let session = self.free(s)?;
         // the row is not moved: it has over a kilobyte

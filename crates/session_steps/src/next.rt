@@ -5,8 +5,7 @@ ghost use Rattle.index_lookup.specs.Pages.{slots_on};
 ghost use Rattle.heap_write.specs.Heap.{slots_of};
 ghost use Rattle.refinement.specs.declared.step.Step.{Step};
 ghost use Rattle.session_steps.specs.declared.cursor.Cursor.TheVariants.{Index, Heap};
-ghost use Rattle.session_steps.specs.Agrees.{Follows};
-ghost use Rattle.session_steps.specs.Exact.{Exact};
+ghost use Rattle.session_steps.specs.Exact.{AnswersStep};
 ghost use Rattle.session_steps.specs.Takes.{IsAtCursor, IsNotAtEnd, TakesRows, SomeStands, TakesAll, TakesNextPage, TakesNext};
 
 use crate::cursor::Cursor;
@@ -46,8 +45,7 @@ impl SessionEngine {
     /// where none is left, and leaves the cursor open. Refusals in order: NoSuchSession, NotOpen, Failed, NoCursor, and
     /// NoMemory, which comes only where there is a row to hand out, and leaves the cursor where it was.
     pub(crate) fn next(&mut self, s: u8, n: u16) -> Reply
-        ensures follows { Follows self.old (Step.Next s n) result self.new }
-        ensures exact { Exact self.old (Step.Next s n) result self.new }
+        ensures { AnswersStep self.old (Step.Next s n) result self.new }
     {
         let (session, cursor) = match self.with_cursor(s) {
             Ok(found) => found,

@@ -5,8 +5,7 @@ ghost use Rattle.snapshot.specs.Snap.{earliest};
 ghost use Rattle.xid_circle.specs.Circle.{IsNormal};
 ghost use Rattle.refinement.specs.declared.step.Step.{Step};
 ghost use Rattle.session_steps.specs.State.{held_back, holds_back, horizon_of};
-ghost use Rattle.session_steps.specs.Agrees.{Follows};
-ghost use Rattle.session_steps.specs.Exact.{Exact};
+ghost use Rattle.session_steps.specs.Exact.{AnswersStep};
 ghost use Rattle.session_steps.specs.Replies.{reply_to};
 
 use crate::engine::SessionEngine;
@@ -56,8 +55,7 @@ impl SessionEngine {
 
     /// Takes from the page what nobody can see any more. Refusals: NoSuchPage. It takes no memory.
     pub(crate) fn prune(&mut self, page: u32) -> Result<Ack, Refusal>
-        ensures follows { Follows self.old (Step.Prune page) (reply_to result) self.new }
-        ensures exact { Exact self.old (Step.Prune page) (reply_to result) self.new }
+        ensures { AnswersStep self.old (Step.Prune page) (reply_to result) self.new }
     {
         let horizon = self.horizon();
         match self.heap.prune(page, horizon) {

@@ -1,8 +1,7 @@
 //! A session sets savepoints, returns to its newest, and releases it.
 
 ghost use Rattle.refinement.specs.declared.step.Step.{Step};
-ghost use Rattle.session_steps.specs.Agrees.{Follows};
-ghost use Rattle.session_steps.specs.Exact.{Exact};
+ghost use Rattle.session_steps.specs.Exact.{AnswersStep};
 ghost use Rattle.session_steps.specs.Replies.{reply_to};
 
 use crate::engine::SessionEngine;
@@ -15,8 +14,7 @@ impl SessionEngine {
     /// Sets a savepoint, to which the session can return. Refusals in order: NoSuchSession, NotOpen, Failed, CursorOpen;
     /// TooDeep where it has 32 already; NoMemory.
     pub(crate) fn savepoint(&mut self, s: u8) -> Result<Ack, Refusal>
-        ensures follows { Follows self.old (Step.Savepoint s) (reply_to result) self.new }
-        ensures exact { Exact self.old (Step.Savepoint s) (reply_to result) self.new }
+        ensures { AnswersStep self.old (Step.Savepoint s) (reply_to result) self.new }
     {
         self.free(s)?;
         match self.sessions.open_mut(s).own.save() {
@@ -30,8 +28,7 @@ impl SessionEngine {
     /// more. Refusals in order: NoSuchSession, NotOpen, CursorOpen, NoSavepoint. It takes no memory. (The manual's
     /// "ROLLBACK TO SAVEPOINT".)
     pub(crate) fn rollback_to(&mut self, s: u8) -> Result<Ack, Refusal>
-        ensures follows { Follows self.old (Step.RollbackTo s) (reply_to result) self.new }
-        ensures exact { Exact self.old (Step.RollbackTo s) (reply_to result) self.new }
+        ensures { AnswersStep self.old (Step.RollbackTo s) (reply_to result) self.new }
     {
         let session = self.opened(s)?;
         if let Some(_) = session.cursor {
@@ -51,8 +48,7 @@ impl SessionEngine {
     /// Forgets the newest savepoint; what was written since it belongs to the level below. Refusals in order:
     /// NoSuchSession, NotOpen, Failed, CursorOpen, NoSavepoint. It takes no memory. (The manual's "RELEASE SAVEPOINT".)
     pub(crate) fn release(&mut self, s: u8) -> Result<Ack, Refusal>
-        ensures follows { Follows self.old (Step.Release s) (reply_to result) self.new }
-        ensures exact { Exact self.old (Step.Release s) (reply_to result) self.new }
+        ensures { AnswersStep self.old (Step.Release s) (reply_to result) self.new }
     {
         if self.free(s)?.own.savepoints() == 0 {
             return Err(Refusal::NoSavepoint);

@@ -2,8 +2,7 @@
 
 ghost use Rattle.std.specs.Prelude.{Some};
 ghost use Rattle.refinement.specs.declared.step.Step.{Step};
-ghost use Rattle.session_steps.specs.Agrees.{Follows};
-ghost use Rattle.session_steps.specs.Exact.{ExactUpdate, Exact};
+ghost use Rattle.session_steps.specs.Exact.{ExactUpdate, AnswersStep};
 ghost use Rattle.session_steps.specs.Replies.{reply_to};
 ghost use Rattle.session_steps.specs.Follows.{FollowsUpdate};
 ghost use Rattle.session_steps.specs.Tests.{MayWriteKey};
@@ -33,8 +32,7 @@ impl SessionEngine {
     /// that page is pruned first. Refusals in order: NoSuchSession, NotOpen, Failed, CursorOpen, TooLarge, NotThere, Conflict, Busy,
     /// NeedsFreeze, NoMemory, NoRoom.
     pub(crate) fn update(&mut self, s: u8, row: RowIn) -> Result<Ack, Refusal>
-        ensures follows { Follows self.old (Step.Update s row) (reply_to result) self.new }
-        ensures exact { Exact self.old (Step.Update s row) (reply_to result) self.new }
+        ensures { AnswersStep self.old (Step.Update s row) (reply_to result) self.new }
     {
         let session = self.free(s)?;
         // the row is not moved: it has over a kilobyte

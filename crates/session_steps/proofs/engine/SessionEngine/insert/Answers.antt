@@ -9,25 +9,34 @@ use Rattle.session_steps.proofs.engine.SessionEngine.insert.Goals as goal
 use Rattle.session_steps.specs.State.{State, refused_state}
 use Rattle.session_steps.specs.Agrees.{Follows}
 use Rattle.session_steps.specs.Replies.{reply_to}
-use Rattle.std.proofs.Common.{sym, ap, subst}
+use Rattle.std.proofs.Common.{rules, sym, ap, subst}
 
-pub returns-in_err-session-clause-follows : goal.returns-in_err-session-clause-follows
-returns-in_err-session-clause-follows c = rw (handed-on c.from_residual.result c.from_residual.ensures.1) (Follows-barred_write c.args.self.now c.args.s (inserts c.args.row) c.in_err-session.field-0.0 c.in_err-session.ensures)
+pub returns-in_err-session : goal.returns-in_err-session
+returns-in_err-session c = rw (handed-on c.from_residual.result c.from_residual.ensures.1) (record {
+  follows = Follows-barred_write c.args.self.now c.args.s (inserts c.args.row) c.in_err-session.field-0.0 c.in_err-session.ensures;
+  exact = exact-unready_insert c.args.self.now c.args.s (row_of c.args.row) c.in_err-session.field-0.0 c.in_err-session.ensures;
+})
 
-pub returns-in_err-session-clause-exact : goal.returns-in_err-session-clause-exact
-returns-in_err-session-clause-exact c = rw (handed-on c.from_residual.result c.from_residual.ensures.1) (exact-unready_insert c.args.self.now c.args.s (row_of c.args.row) c.in_err-session.field-0.0 c.in_err-session.ensures)
+pub returns : goal.returns
+returns c = record {
+  follows = Follows-too_large c.args.self.now c.args.s c.in_ok-session.session.now (inserts c.args.row) c.in_ok-session.ensures.1 c.in_ok-session.ensures.2 c.in_ok-session.ensures.3 c.in-None.ensures;
+  exact = search rules;
+}
 
-pub returns-clause-follows : goal.returns-clause-follows
-returns-clause-follows c = Follows-too_large c.args.self.now c.args.s c.in_ok-session.session.now (inserts c.args.row) c.in_ok-session.ensures.1 c.in_ok-session.ensures.2 c.in_ok-session.ensures.3 c.in-None.ensures
+pub returns-in-Ok : goal.returns-in-Ok
+returns-in-Ok c = record {
+  follows = c.add.ensures.follows c.args.row c.in-Some.ensures.0 c.in-Some.ensures.1;
+  exact = search rules;
+}
 
-pub returns-in-Ok-clause-follows : goal.returns-in-Ok-clause-follows
-returns-in-Ok-clause-follows c = c.add.ensures.follows c.args.row c.in-Some.ensures.0 c.in-Some.ensures.1
-
-pub returns-in-Some-clause-follows : goal.returns-in-Some-clause-follows
-returns-in-Some-clause-follows c =
-    let row = c.in-Some.row in
-    let h = hinders-insert c.args.self.now c.args.s row.key c.in_ok-session.session.now c.check_insert.result c.in-Err.refusal c.in-Err.is c.in_ok-session.ensures c.check_insert.ensures in
-    let P : State → Reply → Type 0 = λ new reply. Follows c.args.self.now (Insert c.args.s c.args.row) reply new in
-    subst (λ (new : State). P new (reply_to c.refuse.result)) (sym c.refuse.ensures.state)
-    (subst (λ (reply : Reply). P (refused_state c.args.self.now c.args.s c.in-Err.refusal) reply) (ap reply_to (sym c.refuse.ensures.answer))
-    (Follows-hindered_insert c.args.self.now c.args.s row c.in-Err.refusal h c.args.row c.in-Some.ensures.0 c.in-Some.ensures.1))
+pub returns-in-Some : goal.returns-in-Some
+returns-in-Some c = record {
+  follows = (
+      let row = c.in-Some.row in
+      let h = hinders-insert c.args.self.now c.args.s row.key c.in_ok-session.session.now c.check_insert.result c.in-Err.refusal c.in-Err.is c.in_ok-session.ensures c.check_insert.ensures in
+      let P : State → Reply → Type 0 = λ new reply. Follows c.args.self.now (Insert c.args.s c.args.row) reply new in
+      subst (λ (new : State). P new (reply_to c.refuse.result)) (sym c.refuse.ensures.state)
+      (subst (λ (reply : Reply). P (refused_state c.args.self.now c.args.s c.in-Err.refusal) reply) (ap reply_to (sym c.refuse.ensures.answer))
+      (Follows-hindered_insert c.args.self.now c.args.s row c.in-Err.refusal h c.args.row c.in-Some.ensures.0 c.in-Some.ensures.1)));
+  exact = search rules;
+}

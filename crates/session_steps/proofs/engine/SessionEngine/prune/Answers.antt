@@ -1,4 +1,4 @@
-use Rattle.std.proofs.Common.{◌≡◌, ℕ, Result, refl, sym, ap, ◌∙◌, subst}
+use Rattle.std.proofs.Common.{rules, ◌≡◌, ℕ, Result, refl, sym, ap, ◌∙◌, subst}
 use Rattle.heap_write.specs.Heap.{HeapView}
 use Rattle.heap_write.specs.Writes.{Prunes}
 use Rattle.refinement.specs.declared.step.Step.TheVariants.{Prune}
@@ -13,16 +13,19 @@ use Rattle.session_steps.proofs.Cleaned.{Follows-prune, Follows-no_such_page}
 use Rattle.session_steps.proofs.engine.SessionEngine.prune.Goals as goal
 use Rattle.session_steps.proofs.engine.SessionEngine.prune.Goals.{in-Ok, in-Err-NoSuchPage}
 
-pub returns-clause-follows : goal.returns-clause-follows
-returns-clause-follows c =
-    let before : State = record { settings = c.self.inside.settings; heap = c.self.inside.heap; sessions = c.self.inside.sessions } in
-    let after : State = record before { heap = c.prune.new.self } in
-    let horizon : c.horizon-horizon.result.0 ≡ horizon_of before = c.horizon-horizon.ensures.value ∙ ap horizon_of (sym c.self.view_is) in
-    let P : State → Type 0 = λ st. Follows st (Prune c.args.page) (reply_to c.match-prune.result) after in
-    let R : Result Ack Refusal → Type 0 = λ r. Follows before (Prune c.args.page) (reply_to r) after in
-    let H : ℕ → Type 0 = λ x. Prunes before.heap after.heap c.args.page x in
-    subst P c.self.view_is (elim c.match-prune.branch [
-      | in-Ok w ↦ subst R (sym w.result-is) (Follows-prune before after c.args.page (record { settings = refl; sessions = refl; heap = subst H horizon w.in-Ok.ensures.ok }))
-      | in-Err-NoSuchPage w ↦ subst R (sym w.result-is)
-          (let G : HeapView → Type 0 = λ h. Follows before (Prune c.args.page) (Refused NoSuchPage) (record before { heap = h }) in subst G (sym w.in-Err-NoSuchPage.ensures.err) (Follows-no_such_page before c.args.page))
-    ])
+pub returns : goal.returns
+returns c = record {
+  follows = (
+      let before : State = record { settings = c.self.inside.settings; heap = c.self.inside.heap; sessions = c.self.inside.sessions } in
+      let after : State = record before { heap = c.prune.new.self } in
+      let horizon : c.horizon-horizon.result.0 ≡ horizon_of before = c.horizon-horizon.ensures.value ∙ ap horizon_of (sym c.self.view_is) in
+      let P : State → Type 0 = λ st. Follows st (Prune c.args.page) (reply_to c.match-prune.result) after in
+      let R : Result Ack Refusal → Type 0 = λ r. Follows before (Prune c.args.page) (reply_to r) after in
+      let H : ℕ → Type 0 = λ x. Prunes before.heap after.heap c.args.page x in
+      subst P c.self.view_is (elim c.match-prune.branch [
+        | in-Ok w ↦ subst R (sym w.result-is) (Follows-prune before after c.args.page (record { settings = refl; sessions = refl; heap = subst H horizon w.in-Ok.ensures.ok }))
+        | in-Err-NoSuchPage w ↦ subst R (sym w.result-is)
+            (let G : HeapView → Type 0 = λ h. Follows before (Prune c.args.page) (Refused NoSuchPage) (record before { heap = h }) in subst G (sym w.in-Err-NoSuchPage.ensures.err) (Follows-no_such_page before c.args.page))
+      ]));
+  exact = search rules;
+}

@@ -1,4 +1,4 @@
-use Rattle.std.proofs.Common.{ℕ, List, Option, false, sym, ap, ◌∙◌, refl, subst}
+use Rattle.std.proofs.Common.{rules, ℕ, List, Option, false, sym, ap, ◌∙◌, refl, subst}
 use Rattle.std.specs.Prelude.{Contains, IsSome}
 use Rattle.std.proofs.lemmas.List.Elements.{Contains-append_right}
 use Rattle.commit_status.specs.Changes.{numbers}
@@ -14,19 +14,28 @@ use Rattle.session_steps.proofs.Savepoints.{Follows-nowhere_to_return, Follows-c
 use Rattle.session_steps.proofs.Noting.{none-saved, some-there, rolls-back-on, keeps-returned, Follows-returned}
 use Rattle.session_steps.proofs.engine.SessionEngine.rollback_to.Goals as goal
 
-pub returns-in_err-session-clause-follows : goal.returns-in_err-session-clause-follows
-returns-in_err-session-clause-follows c = rw (handed-on c.from_residual.result c.from_residual.ensures.1) (Follows-closed_roll_back_to c.args.self.now c.args.s c.in_err-session.field-0.0 c.in_err-session.ensures)
+pub returns-in_err-session : goal.returns-in_err-session
+returns-in_err-session c = record {
+  follows = rw (handed-on c.from_residual.result c.from_residual.ensures.1) (Follows-closed_roll_back_to c.args.self.now c.args.s c.in_err-session.field-0.0 c.in_err-session.ensures);
+  exact = search rules;
+}
 
-pub returns-in-Some-clause-follows : goal.returns-in-Some-clause-follows
-returns-in-Some-clause-follows c =
-    let P : Option Cursor → Type 0 = λ o. IsSome o in
-    Follows-barred_roll_back_to c.args.self.now c.args.s c.in_ok-session.session.now c.in_ok-session.ensures.1 (subst P (sym c.in-Some.is) refl)
+pub returns-in-Some : goal.returns-in-Some
+returns-in-Some c = record {
+  follows = (
+      let P : Option Cursor → Type 0 = λ o. IsSome o in
+      Follows-barred_roll_back_to c.args.self.now c.args.s c.in_ok-session.session.now c.in_ok-session.ensures.1 (subst P (sym c.in-Some.is) refl));
+  exact = search rules;
+}
 
-pub returns-then-savepoints-eq0-clause-follows : goal.returns-then-savepoints-eq0-clause-follows
-returns-then-savepoints-eq0-clause-follows c =
-    let e = c.in_ok-session.session.now in
-    let bare = none-unless e.cursor c.in_default.not-Some in
-    Follows-nowhere_to_return c.args.self.now c.args.s e c.in_ok-session.ensures.1 bare (none-saved e.own.saved (sym c.savepoints.ensures ∙ c.if-savepoints-eq0.true))
+pub returns-then-savepoints-eq0 : goal.returns-then-savepoints-eq0
+returns-then-savepoints-eq0 c = record {
+  follows = (
+      let e = c.in_ok-session.session.now in
+      let bare = none-unless e.cursor c.in_default.not-Some in
+      Follows-nowhere_to_return c.args.self.now c.args.s e c.in_ok-session.ensures.1 bare (none-saved e.own.saved (sym c.savepoints.ensures ∙ c.if-savepoints-eq0.true)));
+  exact = search rules;
+}
 
 -- the session that was found has a savepoint, and is the one that is changed
 pub since_savepoint-requires : goal.since_savepoint-requires
@@ -54,8 +63,8 @@ invariant_of-self c =
     let back = rolls-back-on c.self.inside.heap f.new.self e own since f.ensures.pages f.ensures.indexes f.ensures.max_pages c.since_savepoint.ensures c.roll_back.ensures.ids c.roll_back.ensures.saved f.ensures.finishes f.ensures.window in
     keeps-returned c.self.inside.sessions c.self.inside.heap f.new.self c.args.s e (record e { own = own; failed = false }) c.open_mut-session.ensures.value back c.self.invariant
 
-pub returns-clause-follows : goal.returns-clause-follows
-returns-clause-follows c =
+pub returns : goal.returns
+returns c =
     let e = c.open_mut-session.result.now in
     let own = c.roll_back.new.self in
     let f = c.finish in
@@ -65,18 +74,9 @@ returns-clause-follows c =
     let before : State = record { settings = c.self.inside.settings; heap = c.self.inside.heap; sessions = c.self.inside.sessions } in
     let after = with_session before f.new.self c.args.s now in
     let R : State → Type 0 = λ st. RollsBack st after c.args.s in
+    let rolls = subst R c.self.view_is (record { session = e; at = c.open_mut-session.ensures.value; now = now; settings = refl; sessions = refl; back = back }) in
     let found = c.in_ok-session.session.now in
-    Follows-returned c.args.self.now after c.args.s found c.in_ok-session.ensures.1 (none-unless found.cursor c.in_default.not-Some) (λ none. c.if-savepoints-eq0.false (c.savepoints.ensures ∙ none))
-    (subst R c.self.view_is (record { session = e; at = c.open_mut-session.ensures.value; now = now; settings = refl; sessions = refl; back = back }))
-
-pub returns-clause-exact : goal.returns-clause-exact
-returns-clause-exact c =
-    let e = c.open_mut-session.result.now in
-    let own = c.roll_back.new.self in
-    let f = c.finish in
-    let since = numbers c.since_savepoint.result.now in
-    let back = rolls-back-on c.self.inside.heap f.new.self e own since f.ensures.pages f.ensures.indexes f.ensures.max_pages c.since_savepoint.ensures c.roll_back.ensures.ids c.roll_back.ensures.saved f.ensures.finishes f.ensures.window in
-    let now : Session = record e { own = own; failed = false } in
-    let before : State = record { settings = c.self.inside.settings; heap = c.self.inside.heap; sessions = c.self.inside.sessions } in
-    let R : State → Type 0 = λ st. RollsBack st (with_session before f.new.self c.args.s now) c.args.s in
-    subst R c.self.view_is (record { session = e; at = c.open_mut-session.ensures.value; now = now; settings = refl; sessions = refl; back = back })
+    record {
+      follows = Follows-returned c.args.self.now after c.args.s found c.in_ok-session.ensures.1 (none-unless found.cursor c.in_default.not-Some) (λ none. c.if-savepoints-eq0.false (c.savepoints.ensures ∙ none)) rolls;
+      exact = rolls;
+    }

@@ -6,8 +6,7 @@ use Rattle.session_steps.specs.State.{State}
 use Rattle.session_steps.specs.Tests.{MayWriteKey}
 use Rattle.session_steps.specs.Writes.{outcome_of}
 use Rattle.session_steps.specs.Replies.{reply_to}
-use Rattle.session_steps.specs.Exact.{ExactDelete}
-use Rattle.session_steps.specs.Agrees.{Follows}
+use Rattle.session_steps.specs.Exact.{AnswersStep}
 use Rattle.refinement.specs.declared.step.Step.TheVariants.{Delete}
 use Rattle.session_steps.proofs.Trying.{with_session, newest-given, tries-delete, keeps-deleted, delete-tried, exact-deleted}
 use Rattle.session_steps.proofs.Writing.{Follows-deleted}
@@ -31,8 +30,8 @@ invariant_of-self c =
     let tries = tries-delete c.self.inside.heap r.new.self e r.new.own c.args.place r.result r.ensures.ok r.ensures.fault r.ensures.own in
     keeps-deleted c.self.inside.sessions c.self.inside.heap r.new.self c.args.s e (record e { own = r.new.own }) c.args.place (outcome_of r.result) c.open_mut-session.ensures.value tries r.ensures.window c.self.invariant
 
-pub returns-clause-follows : goal.returns-clause-follows
-returns-clause-follows c =
+pub returns : goal.returns
+returns c =
     let before : State = record { settings = c.self.inside.settings; heap = c.self.inside.heap; sessions = c.self.inside.sessions } in
     let M : State → Type 0 = λ st. MayWriteKey st c.args.s c.args.key (Some c.args.place) in
     let may = subst M (sym c.self.view_is) c.requires in
@@ -42,21 +41,9 @@ returns-clause-follows c =
     let tries = tries-delete before.heap r.new.self e r.new.own c.args.place r.result r.ensures.ok r.ensures.fault r.ensures.own in
     let tried = delete-tried before r.new.self c.args.s c.args.key e now c.args.place (outcome_of r.result) may c.open_mut-session.ensures.value tries in
     let after = with_session before r.new.self c.args.s now in
-    let P : State → Type 0 = λ st. Follows st (Delete c.args.s c.args.key) (reply_to c.write_answer.result) after in
-    let R : Reply → Type 0 = λ reply. Follows before (Delete c.args.s c.args.key) reply after in
-    subst P c.self.view_is (subst R (sym c.write_answer.ensures) (Follows-deleted before after c.args.s c.args.key (outcome_of r.result) tried r.ensures.window))
-
-pub returns-clause-exact : goal.returns-clause-exact
-returns-clause-exact c =
-    let before : State = record { settings = c.self.inside.settings; heap = c.self.inside.heap; sessions = c.self.inside.sessions } in
-    let M : State → Type 0 = λ st. MayWriteKey st c.args.s c.args.key (Some c.args.place) in
-    let may = subst M (sym c.self.view_is) c.requires in
-    let e = c.open_mut-session.result.now in
-    let r = c.delete in
-    let now : Session = record e { own = r.new.own } in
-    let tries = tries-delete before.heap r.new.self e r.new.own c.args.place r.result r.ensures.ok r.ensures.fault r.ensures.own in
-    let tried = delete-tried before r.new.self c.args.s c.args.key e now c.args.place (outcome_of r.result) may c.open_mut-session.ensures.value tries in
-    let after = with_session before r.new.self c.args.s now in
-    let P : State → Type 0 = λ st. ExactDelete st c.args.s c.args.key (reply_to c.write_answer.result) after in
-    let R : Reply → Type 0 = λ reply. ExactDelete before c.args.s c.args.key reply after in
-    subst P c.self.view_is (subst R (sym c.write_answer.ensures) (exact-deleted before after c.args.s c.args.key (outcome_of r.result) tried))
+    let P : State → Type 0 = λ st. AnswersStep st (Delete c.args.s c.args.key) (reply_to c.write_answer.result) after in
+    let R : Reply → Type 0 = λ reply. AnswersStep before (Delete c.args.s c.args.key) reply after in
+    subst P c.self.view_is (subst R (sym c.write_answer.ensures) (record {
+      follows = Follows-deleted before after c.args.s c.args.key (outcome_of r.result) tried r.ensures.window;
+      exact = exact-deleted before after c.args.s c.args.key (outcome_of r.result) tried;
+    }))
