@@ -34,7 +34,8 @@ impl HeapState {
         ensures { FreezesAt self.old self.new number cutoff.0 }
     {
         let table = &self.table;
-        self.pages.edit(number, |page| freeze_page(page, number, cutoff, table));
+        self.pages
+            .edit(number, |page| freeze_page(page, number, cutoff, table));
     }
 
     /// Notes what is so of the page of this number, which is in use, at the horizon, a normal id: in the visibility map, and in

@@ -13,6 +13,7 @@ use Rattle.refinement.specs.declared.reply.Refusal.{Refusal}
 use Rattle.refinement.specs.declared.reply.Refusal.TheVariants.{NotOpen, AlreadyOpen, Failed, AlreadyThere, NotThere, Conflict, Busy, CursorOpen, NoCursor, TooDeep, NoSavepoint, TooLarge, NoRoom, NeedsFreeze, NoMemory, NoSuchPage, NoSuchIndex, NoSuchSession, BadBounds}
 use Rattle.refinement.specs.Words.{FitsRow, row_of}
 use Rattle.refinement.specs.Writes.{WriteStep, inserts, updates, deletes, key_of, IsPut, Asks}
+use Rattle.snapshot.specs.declared.own.TheConstants.{MOST_SAVEPOINTS}
 
 abbrev pub IsOpen : World → ℕ → OpenSession → Type 0
 IsOpen w s m = w.session s ≡ Some m
@@ -102,9 +103,9 @@ Allows w (Update s row) Done = AllowsWrite w s (updates row)
 Allows w (Update s row) (Refused refusal) = AllowsHindered w s refusal (updates row)
 Allows w (Delete s k) Done = AllowsWrite w s (deletes k)
 Allows w (Delete s k) (Refused refusal) = AllowsHindered w s refusal (deletes k)
-Allows w (Savepoint s) Done = (m : OpenSession) × IsWriter w s m × (savepoints m < 32)
-Allows w (Savepoint s) (Refused TooDeep) = (m : OpenSession) × IsWriter w s m × (savepoints m ≡ 32)
-Allows w (Savepoint s) (Refused NoMemory) = (m : OpenSession) × IsWriter w s m × (savepoints m < 32)
+Allows w (Savepoint s) Done = (m : OpenSession) × IsWriter w s m × (savepoints m < MOST_SAVEPOINTS)
+Allows w (Savepoint s) (Refused TooDeep) = (m : OpenSession) × IsWriter w s m × (savepoints m ≡ MOST_SAVEPOINTS)
+Allows w (Savepoint s) (Refused NoMemory) = (m : OpenSession) × IsWriter w s m × (savepoints m < MOST_SAVEPOINTS)
 Allows w (Savepoint s) (Refused refusal) = AllowsBarred w s refusal
 Allows w (RollbackTo s) Done = (m : OpenSession) × IsOpen w s m × (m.cursor ≡ None) × (0 < savepoints m)
 Allows w (RollbackTo s) (Refused CursorOpen) = (m : OpenSession) × IsOpen w s m × IsSome m.cursor

@@ -7,13 +7,10 @@ ghost use Rattle.script.specs.Refusals.{IsRefused};
 
 use crate::fault::ShellFault;
 use crate::io_log::{IoLog, is_interruption};
-use script_text::{RefusedGrowth, buffer};
+use script_text::{MAX_LINE, RefusedGrowth, buffer};
 use std::alloc::Global;
 use std::io::Read;
 use std::marker::Model;
-
-/// The longest line, its line feed not counted.
-pub(crate) const MAX_LINE: usize = 4096;
 
 /// What was read and not used yet, from `start` to `end` of a buffer that never grows.
 #[derive(Drop)]
@@ -105,7 +102,7 @@ impl Pending {
         log: &mut IoLog<R, W>,
         reader: &mut R,
     ) -> Result<usize, ShellFault>
-        requires { length self.old ≤ 4096 }
+        requires { length self.old ≤ MAX_LINE }
         ensures takes { TakesText (R.remaining reader.old)
             (R.remaining reader.new) self.old self.new }
         ensures grows { IfOk result (λ n. length self.new ≡ length self.old + n) }

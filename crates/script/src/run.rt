@@ -14,11 +14,11 @@ ghost use Rattle.script.specs.Steps.{Advances, DoesLine, Uses, MatchesHeading};
 ghost use Rattle.script_text.specs.declared.line.Line.{Line};
 
 use crate::fault::ShellFault;
-use crate::input::{MAX_LINE, Pending};
+use crate::input::Pending;
 use crate::inspect::{show_ids, show_index, show_page};
 use crate::io_log::IoLog;
 use crate::output::write_out;
-use script_text::{Line, RefusedGrowth, line_at, settings_at, tell_reply};
+use script_text::{Line, MAX_LINE, RefusedGrowth, line_at, settings_at, tell_reply};
 use session_core::{Engine, Reply};
 use std::alloc::Global;
 use std::io::{Read, Write};

@@ -6,6 +6,7 @@ use Rattle.std.specs.Fmt.{decimal, signed_decimal, digit_glyph}
 use Rattle.script_text.specs.Names.{Settings, RowText, Step, Begin, Get, Insert, Update, Delete, Savepoint, RollbackTo, Release, Commit, Abort, OpenIndex, OpenHeap, Next, Close, Prune}
 use Rattle.script_text.specs.declared.line.Line.{Line}
 use Rattle.script_text.specs.declared.line.Line.TheVariants.{Do, Ids, Page, Entries}
+use Rattle.script_text.specs.declared.line.TheConstants.{MAX_LINE}
 
 -- a space, and then a word: one space separates words
 abbrev pub spaced : List ℕ → List ℕ
@@ -134,4 +135,4 @@ Spells text None = (line : Line) → Fits line → text ≡ spelling line → �
 -- what a line may spell: values in range, in at most 4096 bytes
 pub record IsAllowed (l : Line) : Type 0 where
   pub fits : Fits l
-  pub short : length (spelling l) ≤ 4096
+  pub short : length (spelling l) ≤ MAX_LINE

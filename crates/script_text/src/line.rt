@@ -10,6 +10,9 @@ use crate::words::{body, bound, bound_then, column_then, cut, number, number_the
 use refinement::{RowIn, Step};
 use std::alloc::Global;
 
+/// The longest line, its line feed not counted.
+pub const MAX_LINE: usize = 4096;
+
 /// What a line asks for.
 #[derive(Debug, Drop)]
 pub enum Line {

@@ -17,6 +17,7 @@ use Rattle.table_integrity.specs.Table.{SoundTable}
 use Rattle.session_steps.specs.declared.session.Session.{Session}
 use Rattle.session_steps.specs.declared.cursor.Cursor.TheVariants.{Index}
 use Rattle.session_steps.specs.State.{State, session_at, seen, horizon_of}
+use Rattle.session_steps.specs.declared.sessions.TheConstants.{MOST_SESSIONS}
 
 -- what the ids of an open session keep
 pub record SessionKeeps (w : Window) (e : Session) : Type 0 where
@@ -30,7 +31,7 @@ pub record SessionKeeps (w : Window) (e : Session) : Type 0 where
 
 -- what the ids and the pages of an engine keep
 pub record Sound (st : State) : Type 0 where
-  pub count : length st.sessions ≡ 64
+  pub count : length st.sessions ≡ MOST_SESSIONS
   -- no more pages may be in use, and no id is given further from the first, than the settings say
   pub max_pages : st.heap.max_pages ≡ st.settings.max_pages
   pub stop_age : st.heap.table.stop_age ≡ st.settings.stop_age

@@ -4,6 +4,7 @@ use Rattle.std.specs.Option.{option_flatten}
 use Rattle.commit_status.specs.Window.{Window, IsActive}
 use Rattle.snapshot.specs.Own.{AreDistinct}
 use Rattle.session_steps.specs.declared.session.Session.{Session}
+use Rattle.session_steps.specs.declared.sessions.TheConstants.{MOST_SESSIONS}
 
 abbrev pub open_at : List (Option Session) → ℕ → Option Session
 open_at sessions s = option_flatten (slice_get sessions s)
@@ -24,5 +25,5 @@ pub record OwnIdsKeep (sessions : List (Option Session)) (w : Window) : Type 0 w
   pub owned : (x : ℕ) → IsActive w x → IsOwned sessions x
 
 pub record EngineKeeps (sessions : List (Option Session)) (w : Window) : Type 0 where
-  pub count : length sessions ≡ 64
+  pub count : length sessions ≡ MOST_SESSIONS
   pub own : OwnIdsKeep sessions w

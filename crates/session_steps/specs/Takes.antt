@@ -15,6 +15,7 @@ use Rattle.session_steps.specs.declared.cursor.Cursor.TheVariants.{Index, Heap}
 use Rattle.visibility.specs.Visible.{state_of}
 use Rattle.session_steps.specs.State.{State, session_at, seen, seen_position, put_session, with_cursor}
 use Rattle.session_steps.specs.Agrees.{Agrees}
+use Rattle.heap_pages.specs.declared.pages.TheConstants.{MAX_PAGES}
 
 -- the versions that the session sees
 abbrev pub seen_by : State → Session → Version → Type 0
@@ -78,7 +79,7 @@ pub record TakesPage (st : State) (e : Session) (from page : ℕ) (rows : List R
 
 -- and that page's number; none where no page has any
 abbrev pub TakesNextPage : State → Session → ℕ → Option (Vec Row Global × ℕ) → Type 0
-TakesNextPage st e from answer = MatchOption answer (IsAtEnd st e (Heap from)) (λ found. (0 < length found.0.items) × (found.1 < 65536) × TakesPage st e from found.1 found.0.items)
+TakesNextPage st e from answer = MatchOption answer (IsAtEnd st e (Heap from)) (λ found. (0 < length found.0.items) × (found.1 < MAX_PAGES) × TakesPage st e from found.1 found.0.items)
 
 -- Either way.
 

@@ -9,6 +9,7 @@ use Rattle.refinement.specs.declared.reply.Refusal.{Refusal}
 use Rattle.refinement.specs.declared.reply.Refusal.TheVariants.{AlreadyThere, NotThere, Conflict, Busy}
 use Rattle.session_steps.specs.declared.session.Session.{Session}
 use Rattle.session_steps.specs.State.{State, session_at}
+use Rattle.session_steps.specs.declared.sessions.TheConstants.{MOST_SESSIONS}
 
 -- the place of the version of the key that the session reads, if it reads one
 abbrev pub FindsPlace : HeapView → Session → ℕ → Option Tid → Type 0
@@ -24,7 +25,7 @@ IsHeldUnder h e key x = SomeOf h.table (IsOtherWriterIn h.table e.own.ids x) (sl
 
 -- the session is open, has not failed and has no cursor, and reads the version at this place, or none of the key
 pub record ReadsPlace (st : State) (s : ℕ) (e : Session) (key : ℕ) (found : Option Tid) : Type 0 where
-  pub within : s < 64
+  pub within : s < MOST_SESSIONS
   pub at : session_at st s ≡ Some e
   pub sound : e.failed ≡ false
   pub bare : e.cursor ≡ None

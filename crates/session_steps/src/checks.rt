@@ -6,6 +6,7 @@ ghost use Rattle.session_steps.specs.Keeps.{open_at};
 ghost use Rattle.session_steps.specs.Refuses.{MayAct};
 ghost use Rattle.session_steps.specs.State.{session_at, refused_state};
 ghost use Rattle.session_steps.specs.Tests.{FindsPlace, IsUncontested, ConflictsWrite, MayWriteKey, RefusesInsertOfKey, RefusesChangeOfKey};
+ghost use Rattle.session_steps.specs.declared.sessions.TheConstants.{MOST_SESSIONS};
 
 use crate::engine::SessionEngine;
 use crate::outcome::Ack;
@@ -32,7 +33,7 @@ pub(crate) fn table_row(row: &RowIn) -> Option<Row>
 
 /// The session that has the id.
 fn owner(sessions: &[Option<Session>], x: Xid) -> Option<u8>
-    requires { length sessions.now ≤ 64 }
+    requires { length sessions.now ≤ MOST_SESSIONS }
     ensures { MatchOption result
         ((s : ℕ) (e : _) → open_at sessions.now s ≡ Some e → Contains e.own.ids x.0 → ⊥)
         (λ s. (e : _) × (open_at sessions.now s ≡ Some e) × Contains e.own.ids x.0) }

@@ -8,6 +8,7 @@ ghost use Rattle.session_steps.specs.State.{session_at, engine_index};
 ghost use Rattle.session_steps.specs.Changes.{Opens, Closes};
 ghost use Rattle.session_steps.specs.Refuses.{Refuses, RefusesReady, RefusesFree, MayAct, RefusesBare};
 ghost use Rattle.session_steps.specs.New.{IsNew};
+ghost use Rattle.session_steps.specs.declared.sessions.TheConstants.{MOST_SESSIONS};
 
 use crate::cursor::Cursor;
 use crate::session::Session;
@@ -108,7 +109,7 @@ impl SessionEngine {
 
     /// The session, if it is open.
     pub(crate) fn opened(&self, s: u8) -> Result<&Session, Refusal>
-        ensures { MatchResult result (λ e. (s < 64) × (session_at self.now s ≡ Some e.now))
+        ensures { MatchResult result (λ e. (s < MOST_SESSIONS) × (session_at self.now s ≡ Some e.now))
             (λ refusal. Refuses self.now s refusal) }
     {
         if s >= 64 {
@@ -123,7 +124,7 @@ impl SessionEngine {
     /// The session, if it is open and has not failed.
     pub(crate) fn ready(&self, s: u8) -> Result<&Session, Refusal>
         ensures { MatchResult result
-            (λ e. (s < 64) × (session_at self.now s ≡ Some e.now) × (e.now.failed ≡ false))
+            (λ e. (s < MOST_SESSIONS) × (session_at self.now s ≡ Some e.now) × (e.now.failed ≡ false))
             (λ refusal. RefusesReady self.now s refusal) }
     {
         let session = self.opened(s)?;
@@ -148,7 +149,7 @@ impl SessionEngine {
     /// The session and its cursor, if it is open, has not failed and has one.
     pub(crate) fn with_cursor(&self, s: u8) -> Result<(&Session, Cursor), Refusal>
         ensures { MatchResult result
-            (λ found. (s < 64) × (session_at self.now s ≡ Some found.0.now)
+            (λ found. (s < MOST_SESSIONS) × (session_at self.now s ≡ Some found.0.now)
             × (found.0.now.failed ≡ false) × (found.0.now.cursor ≡ Some found.1))
             (λ refusal. RefusesBare self.now s refusal) }
     {
@@ -161,7 +162,7 @@ impl SessionEngine {
 
     /// Opens the session, which sees what its snapshot does.
     pub(crate) fn open(&mut self, s: u8, snapshot: Snapshot)
-        requires within { s < 64 }
+        requires within { s < MOST_SESSIONS }
         requires idle { session_at self.old s ≡ None }
         ensures { Opens self.old self.new s snapshot }
     {
@@ -175,7 +176,7 @@ impl SessionEngine {
 
     /// Closes the session; its ids have the status, which is final, from now on.
     pub(crate) fn close(&mut self, s: u8, status: Status)
-        requires within { s < 64 }
+        requires within { s < MOST_SESSIONS }
         requires finishes { status ≢ Status.InProgress }
         ensures { Closes self.old self.new s status }
     {

@@ -7,6 +7,7 @@ ghost use Rattle.refinement.specs.declared.step.Step.{Step};
 ghost use Rattle.session_steps.specs.declared.cursor.Cursor.TheVariants.{Index, Heap};
 ghost use Rattle.session_steps.specs.Exact.{AnswersStep};
 ghost use Rattle.session_steps.specs.Takes.{IsAtCursor, IsNotAtEnd, TakesRows, SomeStands, TakesAll, TakesNextPage, TakesNext};
+ghost use Rattle.tuple_header.specs.declared.version.TheConstants.{MOST_SLOTS};
 
 use crate::cursor::Cursor;
 use crate::engine::SessionEngine;
@@ -131,7 +132,7 @@ impl SessionEngine {
     /// How many slots the page of this number has, at most 291: none if it is not in use.
     fn slots_on(&self, page: u32) -> u16
         ensures count { result ≡ length (slots_on (slots_of self.now.heap) page) }
-        ensures limit { result ≤ 291 }
+        ensures limit { result ≤ MOST_SLOTS }
     {
         match self.heap.page(page) {
             Some(page) => page.slots(),

@@ -10,7 +10,7 @@ use std::alloc::{AllocError, Global};
 use std::marker::Model;
 
 /// How many sessions may be open at a time.
-const PLACES: usize = 64;
+const MOST_SESSIONS: usize = 64;
 
 /// Places for 64 sessions. What looks at every open session looks at the places that were used so far, and no further.
 #[derive(Drop)]
@@ -34,10 +34,10 @@ impl Model for Sessions {
 impl Sessions {
     /// Places that are all idle.
     pub(crate) fn new(alloc: Global) -> Result<Sessions, AllocError>
-        ensures { IfOk result (λ sessions. sessions ≡ replicate 64 None) }
+        ensures { IfOk result (λ sessions. sessions ≡ replicate MOST_SESSIONS None) }
     {
-        let mut places = Vec::with_capacity(alloc, PLACES)?;
-        for _ in 0..PLACES {
+        let mut places = Vec::with_capacity(alloc, MOST_SESSIONS)?;
+        for _ in 0..MOST_SESSIONS {
             places.push(None)?;
         }
         Ok(Sessions { places, used: 0 })

@@ -99,7 +99,10 @@ impl Indexes {
         ensures { result ≡ all_entries self.now }
     {
         let columns = &self.by_column;
-        let by_column = count(&columns[0]) + count(&columns[1]) + count(&columns[2]) + count(&columns[3]);
+        let by_column = count(&columns[0])
+            + count(&columns[1])
+            + count(&columns[2])
+            + count(&columns[3]);
         u128::from(self.by_key.len()) + by_column
     }
 

@@ -35,6 +35,6 @@ returns c =
       was,
       at,
       ap (λ (page : PageView). record { pages = set pages n page; marks = c.note.new.self.marks; spare = c.self.inside.spare }) (c.set_flag.ensures ∙ ap (λ f. record was { flag = f }) c.is_visible.ensures)
-      ∙ ap (λ (m : List Mark). record { pages = set pages n flagged_as; marks = m; spare = c.self.inside.spare }) c.note.ensures.marks
-      ∙ ap (λ (p : PagesView). record { pages = set p.pages n flagged_as; marks = set p.marks n c.args.mark; spare = p.spare }) c.self.view_is,
+          ∙ ap (λ (m : List Mark). record { pages = set pages n flagged_as; marks = m; spare = c.self.inside.spare }) c.note.ensures.marks
+          ∙ ap (λ (p : PagesView). record { pages = set p.pages n flagged_as; marks = set p.marks n c.args.mark; spare = p.spare }) c.self.view_is,
     )
