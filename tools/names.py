@@ -1,7 +1,8 @@
 #!/usr/bin/env python3
 """Looks at names and clauses: tools/names.py, at the top of the repository. Ends with 1 where something is wrong.
 
-It reports each definition of specs/, and each public type, that has the name of another; and each clause over 100 columns.
+It reports each definition of specs/, and each public type, that has the name of another; each clause over 100 columns; and each limit
+that a clause or a definition writes as a number where a constant of its crate, or a public one of a crate below, has a name for it.
 """
 import collections
 import glob
@@ -12,6 +13,9 @@ COLUMNS = 100
 DEFINITION = re.compile(r"(?:pub |abbrev |record |data )*(?:abbrev|record|data|pub) (?:pub )?([^\s:({]+)")
 TYPE = re.compile(r"pub (?:struct|enum|trait|type) (\w+)")
 CLAUSE = re.compile(r"\s*(?:requires|ensures\*?)\b")
+PROMISE = re.compile(r"\s*(?:requires|ensures\*?|ghost (?:invariant|view))\b")
+LIMIT = re.compile(r"(pub )?(?:pub\(crate\) )?const (MOST_\w+|MAX_\w+|HALF|GROUP): \w+ = (\d+);")
+NUMBER = re.compile(r"(?<![\w.])(?<!\^ )(\d+)(?![\w.])")
 
 
 def definitions():
@@ -42,12 +46,54 @@ def long_lines():
                     yield f"{path}:{number}"
 
 
+def limits():
+    """For each crate, the names of the limits that it may cite, by their numbers."""
+    below = {}
+    for line in open("crates.txt", encoding="utf-8"):
+        names, _, used = line.partition(":")
+        if names.strip():
+            below[names.split()[0]] = set(used.split())
+    own = collections.defaultdict(list)
+    for path in sorted(glob.glob("crates/*/src/**/*.rt", recursive=True)):
+        for public, name, number in LIMIT.findall(open(path, encoding="utf-8").read()):
+            own[path.split("/")[1]].append((number, name, bool(public)))
+    return {
+        crate: {number: name for owner in used | {crate} for number, name, public in own[owner] if public or owner == crate}
+        for crate, used in below.items()
+    }
+
+
+def promises(path):
+    """The lines of a file that promise something, without comments: definitions, or clauses."""
+    depth = 0
+    for number, line in enumerate(open(path, encoding="utf-8"), 1):
+        if path.endswith(".antt"):
+            if not line.startswith("use "):
+                yield number, line.partition("--")[0]
+        elif depth > 0 or PROMISE.match(line):
+            text = line.partition("//")[0]
+            depth += text.count("{") - text.count("}")
+            yield number, text
+
+
+def bare_limits():
+    """Each limit that is written as a number though it has a name."""
+    for crate, named in limits().items():
+        paths = glob.glob(f"crates/{crate}/specs/**/*.antt", recursive=True) + glob.glob(f"crates/{crate}/src/**/*.rt", recursive=True)
+        for path in sorted(paths) if not crate.startswith("test_") else []:
+            for number, text in promises(path):
+                for found in NUMBER.findall(text):
+                    if found in named:
+                        yield f"{path}:{number}: {found} is {named[found]}"
+
+
 def main():
     places = collections.defaultdict(list)
     for name, place in definitions():
         places[name].append(place)
     wrong = [f"{name} has {len(at)} meanings: {', '.join(at)}" for name, at in sorted(places.items()) if len(at) > 1]
     wrong += [f"{place}: a clause over {COLUMNS} columns" for place in long_lines()]
+    wrong += list(bare_limits())
     print("\n".join(wrong + [f"{len(places)} names, {len(wrong)} wrong"]))
     return 1 if wrong else 0
 

@@ -242,7 +242,8 @@ impl Store {
             ≡ self.old.slots ++ Slot.Normal (record { header = header; row = row.now }) ∷ []) }
         ensures spare { OnOk result (self.old.spare ≤ self.new.spare + 1) }
         ensures refused { OnErr result (self.old.spare ≡ 0) }
-        ensures grows { OnErr result ((length self.old.slots ≡ 0) ⊎ (MOST_SLOTS ≤ length self.old.slots)) }
+        ensures grows { OnErr result
+            ((length self.old.slots ≡ 0) ⊎ (MOST_SLOTS ≤ length self.old.slots)) }
         ensures err { OnErr result (self.new.slots ≡ self.old.slots) }
         ensures err_spare { OnErr result (self.old.spare ≤ self.new.spare) }
     {

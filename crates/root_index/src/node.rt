@@ -164,7 +164,8 @@ pub(crate) trait Node: Drop {
         ensures first { OnOk result (size self.old ≡ 0 → HasPlaces spares.new) }
         ensures err { OnErr result (entries self.new ≡ entries self.old) }
         ensures refused { OnErr result (¬ HasLeft spares.old 1) }
-        ensures full { OnErr result ((size self.old ≡ 0) ⊎ (MAX_PARTS ≤ length (entries self.old))) };
+        ensures full { OnErr result
+            ((size self.old ≡ 0) ⊎ (MAX_PARTS ≤ length (entries self.old))) };
 
     /// Removes entries to dead places, from this spot on as far as its leaf goes. The parts that are left without any are set
     /// aside, if there is a place for them. It does nothing where no entry follows.

@@ -109,7 +109,8 @@ impl SessionEngine {
 
     /// The session, if it is open.
     pub(crate) fn opened(&self, s: u8) -> Result<&Session, Refusal>
-        ensures { MatchResult result (λ e. (s < MOST_SESSIONS) × (session_at self.now s ≡ Some e.now))
+        ensures { MatchResult result
+            (λ e. (s < MOST_SESSIONS) × (session_at self.now s ≡ Some e.now))
             (λ refusal. Refuses self.now s refusal) }
     {
         if s >= 64 {
@@ -124,7 +125,8 @@ impl SessionEngine {
     /// The session, if it is open and has not failed.
     pub(crate) fn ready(&self, s: u8) -> Result<&Session, Refusal>
         ensures { MatchResult result
-            (λ e. (s < MOST_SESSIONS) × (session_at self.now s ≡ Some e.now) × (e.now.failed ≡ false))
+            (λ e. (s < MOST_SESSIONS) × (session_at self.now s ≡ Some e.now)
+            × (e.now.failed ≡ false))
             (λ refusal. RefusesReady self.now s refusal) }
     {
         let session = self.opened(s)?;

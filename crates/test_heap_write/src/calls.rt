@@ -2,13 +2,13 @@
 
 ghost use Rattle.std.specs.Prelude.{◌≡◌, ℕ, Some, IsTrue};
 ghost use Rattle.xid_circle.specs.Circle.{IsNormal};
-ghost use Rattle.commit_status.specs.Window.{IsGiven};
+ghost use Rattle.commit_status.specs.Window.{IsGiven, IsUpToNext};
 ghost use Rattle.snapshot.specs.Own.{current_xid};
 
 use arrayvec::ArrayVec;
 use commit_status::Status;
 use heap_write::{HeapState, IndexPosition, IndexRange, PruneFault, WriteFault};
-use root_index::{Entry, PositionHint};
+use root_index::{DeadSet, Entry, PositionHint, Progress};
 use snapshot::{OwnIds, Snapshot};
 use std::alloc::Global;
 use tuple_header::Row;
@@ -131,6 +131,44 @@ pub fn finish(heap: &mut HeapState, x: Xid, status: Status) {
 
 pub fn prune(heap: &mut HeapState, page: u32, horizon: u32) -> Result<(), PruneFault> {
     heap.prune(page, normal(horizon))
+}
+
+pub fn freeze(heap: &mut HeapState, page: u32, cutoff: u32) {
+    if page < heap.page_count() {
+        heap.freeze(page, normal(cutoff));
+    }
+}
+
+pub fn note(heap: &mut HeapState, page: u32, horizon: u32) {
+    if page < heap.page_count() {
+        heap.note(page, normal(horizon));
+    }
+}
+
+pub fn free(heap: &mut HeapState, place: Place) {
+    if place.0 < heap.page_count() {
+        heap.free(place.0, &[tid(place)]);
+    }
+}
+
+/// Whether the index by key is gone through in one piece, where this place is dead.
+pub fn sweeps(heap: &mut HeapState, place: Place) -> bool {
+    let mut dead = DeadSet::new();
+    dead.insert(tid(place));
+    heap.has_indexes();
+    matches!(heap.sweep(0, &dead, None), Progress::Done)
+}
+
+fn is_known_or_next(heap: &HeapState, x: Xid) -> bool
+    ensures { IsTrue result → IsUpToNext heap.now.table x.0 }
+{
+    heap.table().remembers(x)
+}
+
+pub fn forget(heap: &mut HeapState, x: u32) {
+    if is_known_or_next(heap, normal(x)) {
+        heap.forget(normal(x));
+    }
 }
 
 pub fn release(own: &mut OwnIds) {

@@ -8,6 +8,8 @@
 #[cfg(test)]
 mod calls;
 #[cfg(test)]
+mod cleaning;
+#[cfg(test)]
 mod columns;
 #[cfg(test)]
 mod levels;

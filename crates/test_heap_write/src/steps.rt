@@ -2,12 +2,14 @@
 
 use crate::calls::{
     Met, Part, Parts, Place, Values, begun, check_write, count, delete, empty, entry_after, finish,
-    first, from_key, insert, marks_at, page_at, prune, release, row_at, update, walks,
+    first, forget, free, freeze, from_key, insert, marks_at, note, page_at, prune, release, row_at,
+    sweeps, update, walks,
 };
 use commit_status::Status;
 use heap_write::{HeapState, PruneFault, WriteFault};
 use page_slots::Slot;
 use snapshot::OwnIds;
+use space_maps::Mark;
 use std::alloc::Global;
 use std::test::Fail;
 use xid_circle::Xid;
@@ -62,6 +64,22 @@ pub enum HeapStep {
     Page(u32, Option<(u16, usize, u64)>),
     /// Whether the version in a slot of page 0 is heap-only, whether it is HOT-updated, and where it leads.
     Marks(u16, Option<(bool, bool, Place)>),
+    /// A page is frozen at a cutoff.
+    Freeze(u32, u32),
+    /// What is so of a page at a horizon is noted.
+    Note(u32, u32),
+    /// What is noted of a page.
+    Noted(u32, Option<Mark>),
+    /// Entries to a dead place leave the index by key.
+    Sweep(Place),
+    /// A dead slot becomes unused.
+    Free(Place),
+    /// The ids before this one are forgotten.
+    Forget(u32),
+    /// The index in use after this one.
+    NextIndex(u8, Option<u8>),
+    /// How many entries all indexes have.
+    Entries(u128),
     /// This slot of page 0 is dead.
     Dead(u16),
     Unused(u16),
@@ -102,6 +120,9 @@ impl HeapStep {
             HeapStep::Marks(slot, told) => marks_at(heap, slot) == told,
             HeapStep::Dead(slot) => is_dead(heap, slot),
             HeapStep::Unused(slot) => is_unused(heap, slot),
+            HeapStep::Noted(number, told) => heap.mark(number) == told,
+            HeapStep::NextIndex(number, told) => heap.next_index(number) == told,
+            HeapStep::Entries(told) => heap.entries() == told,
             _ => false,
         }
     }
@@ -134,6 +155,19 @@ impl HeapStep {
         }
     }
 
+    /// What a vacuum does.
+    fn is_cleaned(self, alloc: Global, heap: &mut HeapState, own: &mut OwnIds) -> bool {
+        match self {
+            HeapStep::Freeze(page, cutoff) => freeze(heap, page, cutoff),
+            HeapStep::Note(page, horizon) => note(heap, page, horizon),
+            HeapStep::Free(place) => free(heap, place),
+            HeapStep::Forget(x) => forget(heap, x),
+            HeapStep::Sweep(place) => return sweeps(heap, place),
+            _ => return self.is_read(alloc, heap, own),
+        }
+        true
+    }
+
     /// What is done to the table alone.
     fn is_done(self, alloc: Global, heap: &mut HeapState, own: &OwnIds) -> bool {
         match self {
@@ -142,7 +176,7 @@ impl HeapStep {
                 true
             }
             HeapStep::Prune(page, horizon, told) => prune(heap, page, horizon) == told,
-            _ => self.is_read(alloc, heap, own),
+            _ => self.is_cleaned(alloc, heap, own),
         }
     }
 
