@@ -1,13 +1,13 @@
-//! Looking along the entries of one value and one key. None takes memory.
+//! Looking along the entries of one value and one key, and at one place. Nothing here takes memory.
 
 ghost use Rattle.std.specs.Prelude.{◌≡◌, IfSome, MatchOption, None, Some, FitsSigned};
 ghost use Rattle.std.specs.Int.{w128};
 ghost use Rattle.std.specs.Option.{option_map};
 ghost use Rattle.root_index.specs.Sets.{IsOf};
 ghost use Rattle.index_lookup.specs.Pages.{version_in, page_slots_of};
-ghost use Rattle.index_lookup.specs.Walking.{SeenRow};
 ghost use Rattle.index_lookup.specs.Reading.{IsSeenBy};
 ghost use Rattle.index_lookup.specs.Looking.{IsNextOf, IsFirstOf, FirstFound, SeenAt, FirstPlace};
+ghost use Rattle.index_lookup.specs.Walking.{SeenRow};
 
 use crate::reader::{Reader, TableView};
 use arrayvec::ArrayVec;
