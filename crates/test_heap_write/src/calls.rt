@@ -166,8 +166,9 @@ fn is_known_or_next(heap: &HeapState, x: Xid) -> bool
 }
 
 pub fn forget(heap: &mut HeapState, x: u32) {
-    if is_known_or_next(heap, normal(x)) {
-        heap.forget(normal(x));
+    let x = normal(x);
+    if is_known_or_next(heap, x) {
+        heap.forget(x);
     }
 }
 

@@ -156,7 +156,7 @@ impl HeapStep {
     }
 
     /// What a vacuum does.
-    fn is_cleaned(self, alloc: Global, heap: &mut HeapState, own: &mut OwnIds) -> bool {
+    fn is_cleaned(self, alloc: Global, heap: &mut HeapState, own: &OwnIds) -> bool {
         match self {
             HeapStep::Freeze(page, cutoff) => freeze(heap, page, cutoff),
             HeapStep::Note(page, horizon) => note(heap, page, horizon),
