@@ -1,0 +1,26 @@
+-- The limits of the product: how much each constant is that a contract names.
+use Rattle.std.specs.Prelude.{◌≡◌, true, false, [], replicate}
+use Rattle.tuple_header.specs.declared.version.TheConstants.{MOST_SLOTS}
+use Rattle.page_slots.specs.Slots.{room_of}
+use Rattle.heap_pages.specs.declared.pages.TheConstants.{MAX_PAGES}
+use Rattle.snapshot.specs.declared.own.TheConstants.{MOST_SAVEPOINTS}
+use Rattle.snapshot.specs.Snap.{are_many}
+use Rattle.refinement.specs.declared.reply.Refusal.TheVariants.{NoSuchSession}
+use Rattle.session_steps.specs.State.{State}
+use Rattle.session_steps.specs.Refuses.{Refuses}
+use Rattle.script_text.specs.declared.line.TheConstants.{MAX_LINE}
+
+pub record LimitsAre : Type 0 where
+  pub slots_of_a_page : MOST_SLOTS ≡ 291
+  -- in an empty page: 8168 bytes without the pointer of a first slot
+  pub bytes_of_a_page : room_of [] ≡ 8164
+  pub pages : MAX_PAGES ≡ 65536
+  pub savepoints : MOST_SAVEPOINTS ≡ 32
+  -- of a transaction's child ids in a snapshot
+  pub listed : are_many (replicate 64 3) ≡ false
+  pub not_listed : are_many (replicate 65 3) ≡ true
+  -- session 64 is none, and session 63 is one
+  pub no_session : (st : State) → Refuses st 64 NoSuchSession
+  pub last_session : (st : State) → ¬ Refuses st 63 NoSuchSession
+  -- of a line of a script, in bytes
+  pub line : MAX_LINE ≡ 4096
