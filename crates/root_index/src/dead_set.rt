@@ -130,6 +130,13 @@ impl DeadSet {
     {
         self.tids.clear();
     }
+
+    /// The places in their order.
+    pub fn as_slice(&self) -> &[Tid]
+        ensures { result.now ≡ self.now }
+    {
+        self.tids.as_slice()
+    }
 }
 
 /// The place of this number, if there is one.

@@ -3,3 +3,4 @@ pub mod Visits
 pub mod Steps
 pub mod Keeps
 pub mod Bound
+pub mod Working

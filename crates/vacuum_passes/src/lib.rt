@@ -8,7 +8,10 @@
 //! are while no others come between ([`laws::steps_stay_within`]).
 #![tactic(auto)]
 
+mod freeing;
 pub mod laws;
+mod sweeping;
 mod vacuum;
+mod visiting;
 
 pub use vacuum::{Mode, Phase, Piece, Vacuum};

@@ -1,0 +1,64 @@
+-- What the parts of a vacuum's step do: to one page, to the collected slots, and to one index.
+use Rattle.std.specs.Prelude.{◌≡◌, ◌≢◌, ◌<◌, ◌≤◌, ◌-◌, ℕ, nat_lt, Bool, true, false, List, [], ◌∷◌, ◌++◌, length, take, map, Option, Some, Contains}
+use Rattle.xid_circle.specs.declared.Tid.{Tid}
+use Rattle.page_slots.specs.declared.slot.Slot.{Slot}
+use Rattle.page_slots.specs.declared.slot.Slot.TheVariants.{Dead}
+use Rattle.page_slots.specs.Slots.{slot_at}
+use Rattle.root_index.specs.declared.entry.Entry.{Entry}
+use Rattle.root_index.specs.declared.progress.Progress.{Progress}
+use Rattle.heap_write.specs.Heap.{HeapView}
+use Rattle.heap_write.specs.Cleaning.{SweepsAt, FreesAt, Notes}
+use Rattle.vacuum_passes.specs.declared.vacuum.Phase.{Phase}
+use Rattle.vacuum_passes.specs.declared.vacuum.Phase.TheVariants as phase
+use Rattle.vacuum_passes.specs.View.{VacuumView, places}
+use Rattle.vacuum_passes.specs.Visits.{ListsDead, VisitsAt}
+use Rattle.vacuum_passes.specs.Steps.{PhaseAfter}
+
+-- What a step rests on.
+
+-- the collected slots are on pages that are in use
+abbrev pub StoreIsInUse : HeapView → VacuumView → Type 0
+StoreIsInUse h v = (tid : Tid) → Contains v.store tid → tid.page < length h.pages.pages
+
+-- only while slots are freed are some of the places that the vacuum holds those of freed ones
+abbrev pub FreesLast : Phase → ℕ → Type 0
+FreesLast phase.Heap freed = freed ≡ 0
+FreesLast (phase.Index i from) freed = freed ≡ 0
+FreesLast phase.Free freed = Unit {0}
+
+-- A page.
+
+-- it is pruned, frozen and noted
+pub record VisitsPage (h h' : HeapView) (horizon cutoff p : ℕ) : Type 0 where
+  pub visited : HeapView
+  pub visits : VisitsAt h visited horizon cutoff p
+  pub notes : Notes visited h' p horizon
+
+-- a slot is collected if it is dead and there is space, and left over if there is none
+pub data CollectsSlot (old new : List Tid) (slots : List Slot) (tid : Tid) (limit : ℕ) : Bool → Type 0 where
+  stays : slot_at slots tid.slot ≢ Some Dead → new ≡ old → CollectsSlot old new slots tid limit false
+  goes_in : slot_at slots tid.slot ≡ Some Dead → length old < limit → new ≡ old ++ tid ∷ []
+      → CollectsSlot old new slots tid limit false
+  left_over : slot_at slots tid.slot ≡ Some Dead → limit ≤ length old → new ≡ old
+      → CollectsSlot old new slots tid limit true
+
+-- the first of the page's dead slots are collected, as far as there is space, and some may be left over
+pub record Collects (old new : List Tid) (slots : List Slot) (p limit : ℕ) (left_over : Bool) : Type 0 where
+  pub dead : List ℕ
+  pub lists : ListsDead slots dead
+  pub store : new ≡ old ++ places p (take (limit - length old) dead)
+  pub left : left_over ≡ nat_lt (limit - length old) (length dead)
+
+-- its collected slots become unused, and it is noted
+pub record FreesPage (h h' : HeapView) (horizon p : ℕ) (here : List Tid) : Type 0 where
+  pub freed : HeapView
+  pub frees : FreesAt h freed p (map (λ (tid : Tid). tid.slot) here)
+  pub notes : Notes freed h' p horizon
+
+-- An index.
+
+-- a piece of it is gone through, and this comes next
+pub record SweepsPiece (h h' : HeapView) (dead : List Tid) (i : ℕ) (from : Option Entry) (after : Phase) : Type 0 where
+  pub progress : Progress
+  pub sweeps : SweepsAt h h' i dead from progress
+  pub next : PhaseAfter h.indexes i progress after
