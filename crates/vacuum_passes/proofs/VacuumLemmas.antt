@@ -30,10 +30,10 @@ use Rattle.std.proofs.lemmas.List.Kept.{AllPairs-cons}
 before-cmp : (x y : ℕ) → x < y → nat_cmp x y ≡ Less
 before-cmp x y lt = cond-true (nat_lt x y) Less (if x == y then Equal else Greater) (lt-ltb x y lt)
 
-lower-page : (a b : Tid) → a.page < b.page → IsBefore a b
+pub lower-page : (a b : Tid) → a.page < b.page → IsBefore a b
 lower-page a b lt = ap (λ o. ordering_then o (nat_cmp a.slot b.slot)) (before-cmp a.page b.page lt)
 
-lower-slot : (p n m : ℕ) → n < m → IsBefore (record { page = p; slot = n }) (record { page = p; slot = m })
+pub lower-slot : (p n m : ℕ) → n < m → IsBefore (record { page = p; slot = n }) (record { page = p; slot = m })
 lower-slot p n m lt = ap (λ o. ordering_then o (nat_cmp n m)) (tied_itself nat_cmp_total p) ∙ before-cmp n m lt
 
 pub on-its_page : (p : ℕ) (ns : List ℕ) (tid : Tid) → Contains (places p ns) tid → tid.page ≡ p
@@ -118,7 +118,7 @@ index-kept indexes i progress after v some (PhaseAfter.more last e is) = subst (
 index-kept indexes i progress after v some (PhaseAfter.onward j e n is) = subst (KeepsStore v) (sym is) some
 index-kept indexes i progress after v some (PhaseAfter.over e n is) = subst (KeepsStore v) (sym is) some
 
-swept-kept : (h h' : HeapView) (v v' : VacuumView) (i : ℕ) (from : Option Entry) → v.next ≤ v.pages → 0 < v.limit → length v.store ≤ v.limit → AllPairs IsBefore v.store
+pub swept-kept : (h h' : HeapView) (v v' : VacuumView) (i : ℕ) (from : Option Entry) → v.next ≤ v.pages → 0 < v.limit → length v.store ≤ v.limit → AllPairs IsBefore v.store
     → ((tid : Tid) → Contains v.store tid → tid.page ≤ v.next) → v.store ≢ [] → Sweeps h h' v v' i from → IsVacuum v'
 swept-kept h h' v v' i from within limit few up passed some s = subst IsVacuum (sym s.same) (record {
   within = within;
@@ -141,7 +141,7 @@ left-kept v [] e some = (
 )
 left-kept v (x ∷ xs) e some = λ none. let g : [] ≡ x ∷ xs = sym none ∙ e in absurd (let n = ap (λ (ys : List Tid). length ys) g in omega (arith, n))
 
-freed-kept : (h h' : HeapView) (v v' : VacuumView) (horizon p : ℕ) → IsVacuum v → Frees h h' v v' horizon p → IsVacuum v'
+pub freed-kept : (h h' : HeapView) (v v' : VacuumView) (horizon p : ℕ) → IsVacuum v → Frees h h' v v' horizon p → IsVacuum v'
 freed-kept h h' v v' horizon p i f = subst IsVacuum (sym f.is) (record {
   within = i.within;
   some = i.some;
@@ -153,10 +153,10 @@ freed-kept h h' v v' horizon p i f = subst IsVacuum (sym f.is) (record {
 
 -- Each step.
 
-counted-kept : (v : VacuumView) → IsVacuum v → IsVacuum (counted v)
+pub counted-kept : (v : VacuumView) → IsVacuum v → IsVacuum (counted v)
 counted-kept v i = record { within = i.within; some = i.some; few = i.few; ascending = i.ascending; passed = i.passed; store = i.store }
 
-some-stored : (v : VacuumView) (i : ℕ) (from : Option Entry) → IsVacuum v → v.phase ≡ phase.Index i from → v.store ≢ []
+pub some-stored : (v : VacuumView) (i : ℕ) (from : Option Entry) → IsVacuum v → v.phase ≡ phase.Index i from → v.store ≢ []
 some-stored v i from keeps is = subst (KeepsStore v) is keeps.store
 
 pub steps-kept : (h h' : HeapView) (v v' : VacuumView) (horizon : ℕ) (piece : Piece) → IsVacuum v → Steps h h' v horizon (Some v') (Some piece) → IsVacuum v'

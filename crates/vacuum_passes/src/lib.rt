@@ -10,6 +10,7 @@
 
 mod freeing;
 pub mod laws;
+mod step;
 mod sweeping;
 mod vacuum;
 mod visiting;

@@ -1,6 +1,7 @@
 //! A vacuum in progress.
 
 ghost use Rattle.std.specs.Prelude.{◌≡◌, ◌<◌, ◌≤◌};
+ghost use Rattle.xid_circle.specs.Circle.{IsNormal};
 ghost use Rattle.vacuum_passes.specs.View.{new_vacuum, disturbed};
 
 use root_index::{DeadSet, Entry};
@@ -60,7 +61,9 @@ pub struct Vacuum {
 impl Model for Vacuum {
     ghost use Rattle.std.specs.Prelude.{drop, length, ◌≤◌};
     ghost use Rattle.vacuum_passes.specs.View.{VacuumView};
+    ghost use Rattle.xid_circle.specs.Circle.{IsNormal};
     ghost use Rattle.vacuum_passes.specs.Keeps.{IsVacuum};
+    ghost use Rattle.vacuum_passes.specs.Working.{FreesLast};
 
     ghost Value = { VacuumView };
 
@@ -92,13 +95,14 @@ impl Model for Vacuum {
       alone = v.alone;
       quiet = v.quiet;
       steps = v.steps;
-    }) × (v.limit ≤ 4096) × (v.freed ≤ length v.store) };
+    }) × (v.limit ≤ 4096) × (v.freed ≤ length v.store) × IsNormal v.cutoff.0 × FreesLast v.phase v.freed };
 }
 
 impl Vacuum {
-    /// A vacuum that begins: it visits so many pages, freezes what committed before `cutoff`, and collects at most `limit` dead slots at
-    /// a time, up to 4096. `horizon` is that of this moment, and `entries` is how many the indexes have.
+    /// A vacuum that begins: it visits so many pages, freezes what committed before `cutoff`, a normal id, and collects at most `limit`
+    /// dead slots at a time, up to 4096. `horizon` is that of this moment, and `entries` is how many the indexes have.
     pub fn new(mode: Mode, horizon: Xid, cutoff: Xid, pages: u32, entries: u128, limit: u32) -> Self
+        requires normal { IsNormal cutoff.0 }
         requires some { 0 < limit }
         requires few { limit ≤ 4096 }
         ensures { result ≡ new_vacuum mode horizon.0 cutoff.0 pages entries limit }
