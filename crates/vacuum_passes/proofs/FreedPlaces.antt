@@ -1,18 +1,21 @@
 -- Which of the collected slots are on the first page.
-use Rattle.std.proofs.Common.{◌≡◌, ◌≢◌, ℕ, zero, suc, ◌+◌, ◌<◌, ◌≤◌, ◌==◌, Bool, true, false, not, List, [], ◌∷◌, ◌++◌, length, map, take, drop, get_or, inl, inr, arith, refl, sym, ap, ◌∙◌, subst, ⊎_elim, Contains, append-nil}
+use Rattle.std.proofs.Common.{◌≡◌, ◌≢◌, ℕ, zero, suc, ◌+◌, ◌<◌, ◌≤◌, ◌==◌, Bool, true, false, not, List, [], ◌∷◌, ◌++◌, length, map, take, drop, get_or, inl, inr, Some, None, slice_get, arith, refl, sym, ap, ◌∙◌, subst, ⊎_elim, Contains, append-nil}
 use Rattle.std.specs.List.{All, AllPairs, filter}
 use Rattle.std.specs.Ordering.{nat_cmp}
 use Rattle.std.specs.declared.cmp.Ordering.TheVariants.{Less, Equal}
-use Rattle.std.proofs.lemmas.Bool.{cases_eq, eq-eqb, ne_eqb}
+use Rattle.std.proofs.lemmas.Bool.{eq-eqb, ne_eqb, eqb-true}
 use Rattle.std.proofs.lemmas.Cmp.{ranked}
 use Rattle.std.proofs.lemmas.List.{take-append-drop, take_more, get_or-drop, get_or_default, length-drop, drop_all}
-use Rattle.std.proofs.lemmas.List.Elements.{Contains-append_cases, filter-append}
+use Rattle.std.proofs.lemmas.List.Elements.{Contains-append_cases, filter-append, filter_passes, All-contains}
+use Rattle.std.proofs.lemmas.List.Kept.{AllPairs-cons, AllPairs-filter}
+use Rattle.std.proofs.lemmas.Option.{same_Some}
 use Rattle.xid_circle.specs.declared.Tid.{Tid}
 use Rattle.xid_circle.proofs.Members.{Contains-first, Contains-rest, Contains-cases, Contains-none}
 use Rattle.root_index.specs.Places.{IsBefore, AreAscending}
 use Rattle.root_index.proofs.SetLemmas.{less_both}
 use Rattle.vacuum_passes.specs.View.{places}
 use Rattle.vacuum_passes.specs.Steps.{on_page, off_page}
+use Rattle.vacuum_passes.proofs.ListLemmas.{all-from, pairs-head, pairs-tail, in-mapped}
 
 -- Lists.
 
@@ -94,3 +97,47 @@ cut-here xs p i d up lowest within other on = cut xs p i on (off-after xs p i d 
 pub cut-all : (xs : List Tid) (p i : ℕ) → i ≡ length xs → AreOn xs p i → IsCut xs p (length xs)
 cut-all xs p i all on = subst (λ k. IsCut xs p k) all
     (cut xs p i on (λ tid there. absurd (Contains-none tid (subst (λ (ys : List Tid). Contains ys tid) (drop_all i xs (omega (arith, all))) there))))
+
+-- Their slots.
+
+page-or-slot : (a b : Tid) → IsBefore a b → a.page ≡ b.page → a.slot < b.slot
+page-or-slot a b h same = elim (less_both (nat_cmp a.page b.page) (nat_cmp a.slot b.slot) h) [
+  | inl less ↦ let lt : a.page < b.page = ranked a.page b.page Less (sym less) in absurd (omega (arith, lt, same))
+  | inr both ↦ ranked a.slot b.slot Less (sym both.1)
+]
+
+slots-up : (p : ℕ) (xs : List Tid) → AreAscending xs → ((tid : Tid) → Contains xs tid → tid.page ≡ p) → AllPairs (λ a b. a < b) (map (λ (tid : Tid). tid.slot) xs)
+slots-up p [] up on = λ i j d lt within. absurd (omega (arith, within))
+slots-up p (x ∷ xs) up on = AllPairs-cons (λ a b. a < b) x.slot (map (λ (tid : Tid). tid.slot) xs)
+    (all-from (λ n. x.slot < n) (map (λ (tid : Tid). tid.slot) xs) (λ n there.
+    let m = in-mapped (λ (tid : Tid). tid.slot) xs n there in
+    subst (λ k. x.slot < k) m.2 (page-or-slot x m.0 (pairs-head IsBefore x m.0 xs up m.1) (on x (Contains-first x xs) ∙ sym (on m.0 (Contains-rest x m.0 xs m.1))))))
+    (slots-up p xs (pairs-tail IsBefore x xs up) (λ tid there. on tid (Contains-rest x tid xs there)))
+
+passed-test : (p : ℕ) (xs : List Tid) (tid : Tid) → Contains (on_page p xs) tid → tid.page ≡ p
+passed-test p xs tid there = eqb-true tid.page p (All-contains (λ t. (t.page == p) ≡ true) (on_page p xs) tid (filter_passes (λ t. t.page == p) xs) there)
+
+-- the slots on one page are in ascending order
+pub slots-ascending : (p : ℕ) (xs here : List Tid) → AreAscending xs → here ≡ on_page p xs → AllPairs (λ a b. a < b) (map (λ (tid : Tid). tid.slot) here)
+slots-ascending p xs here up is = subst (λ (ys : List Tid). AllPairs (λ a b. a < b) (map (λ (tid : Tid). tid.slot) ys)) (sym is)
+    (slots-up p (on_page p xs) (AllPairs-filter IsBefore (λ tid. tid.page == p) xs up) (passed-test p xs))
+
+all-places : (p : ℕ) (xs : List Tid) → ((tid : Tid) → Contains xs tid → tid.page ≡ p) → xs ≡ places p (map (λ (tid : Tid). tid.slot) xs)
+all-places p [] on = refl
+all-places p (x ∷ xs) on =
+    ap (λ n. (record { page = n; slot = x.slot }) ∷ xs) (on x (Contains-first x xs))
+    ∙ ap (λ (ys : List Tid). (record { page = p; slot = x.slot }) ∷ ys) (all-places p xs (λ tid there. on tid (Contains-rest x tid xs there)))
+
+-- and tell the places
+pub on-places : (p : ℕ) (xs : List Tid) → on_page p xs ≡ places p (map (λ (tid : Tid). tid.slot) (on_page p xs))
+on-places p xs = all-places p (on_page p xs) (passed-test p xs)
+
+-- The first.
+
+pub first-there : (xs : List Tid) (x : Tid) → slice_get xs 0 ≡ Some x → Contains xs x
+first-there [] x at = absurd (let e : None ≡ Some x = at in cc)
+first-there (y ∷ xs) x at = subst (Contains (y ∷ xs)) (same_Some y x at) (Contains-first y xs)
+
+pub none-first : (xs : List Tid) → slice_get xs 0 ≡ None → xs ≡ []
+none-first [] at = refl
+none-first (y ∷ xs) at = absurd (let e : Some y ≡ None = at in cc)

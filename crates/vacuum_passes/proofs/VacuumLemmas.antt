@@ -113,12 +113,12 @@ module _ (v : VacuumView) (p : ℕ) (dead : List ℕ) (i : IsVacuum v) (is : v.p
 
 -- A piece of an index.
 
-index-kept : (indexes : List (Option IndexView)) (i : ℕ) (progress : Progress) (after : Phase) (v : VacuumView) → v.store ≢ [] → PhaseAfter indexes i progress after → KeepsStore v after
+pub index-kept : (indexes : List (Option IndexView)) (i : ℕ) (progress : Progress) (after : Phase) (v : VacuumView) → v.store ≢ [] → PhaseAfter indexes i progress after → KeepsStore v after
 index-kept indexes i progress after v some (PhaseAfter.more last e is) = subst (KeepsStore v) (sym is) some
 index-kept indexes i progress after v some (PhaseAfter.onward j e n is) = subst (KeepsStore v) (sym is) some
 index-kept indexes i progress after v some (PhaseAfter.over e n is) = subst (KeepsStore v) (sym is) some
 
-pub swept-kept : (h h' : HeapView) (v v' : VacuumView) (i : ℕ) (from : Option Entry) → v.next ≤ v.pages → 0 < v.limit → length v.store ≤ v.limit → AllPairs IsBefore v.store
+swept-kept : (h h' : HeapView) (v v' : VacuumView) (i : ℕ) (from : Option Entry) → v.next ≤ v.pages → 0 < v.limit → length v.store ≤ v.limit → AllPairs IsBefore v.store
     → ((tid : Tid) → Contains v.store tid → tid.page ≤ v.next) → v.store ≢ [] → Sweeps h h' v v' i from → IsVacuum v'
 swept-kept h h' v v' i from within limit few up passed some s = subst IsVacuum (sym s.same) (record {
   within = within;
@@ -141,19 +141,22 @@ left-kept v [] e some = (
 )
 left-kept v (x ∷ xs) e some = λ none. let g : [] ≡ x ∷ xs = sym none ∙ e in absurd (let n = ap (λ (ys : List Tid). length ys) g in omega (arith, n))
 
-pub freed-kept : (h h' : HeapView) (v v' : VacuumView) (horizon p : ℕ) → IsVacuum v → Frees h h' v v' horizon p → IsVacuum v'
-freed-kept h h' v v' horizon p i f = subst IsVacuum (sym f.is) (record {
+pub off-kept : (v : VacuumView) (p : ℕ) → IsVacuum v → IsVacuum (record v { store = off_page p v.store; phase = phase_left (off_page p v.store) })
+off-kept v p i = record {
   within = i.within;
   some = i.some;
   few = let short = filter-short (λ tid. not (tid.page == p)) v.store in let few = i.few in omega (arith, short, few);
   ascending = AllPairs-filter IsBefore (λ tid. not (tid.page == p)) v.store i.ascending;
   passed = λ tid there. i.passed tid (in-filtered (λ t. not (t.page == p)) v.store tid there);
   store = left-kept (record v { store = off_page p v.store; phase = phase_left (off_page p v.store) }) (off_page p v.store) refl i.some;
-})
+}
+
+freed-kept : (h h' : HeapView) (v v' : VacuumView) (horizon p : ℕ) → IsVacuum v → Frees h h' v v' horizon p → IsVacuum v'
+freed-kept h h' v v' horizon p i f = subst IsVacuum (sym f.is) (off-kept v p i)
 
 -- Each step.
 
-pub counted-kept : (v : VacuumView) → IsVacuum v → IsVacuum (counted v)
+counted-kept : (v : VacuumView) → IsVacuum v → IsVacuum (counted v)
 counted-kept v i = record { within = i.within; some = i.some; few = i.few; ascending = i.ascending; passed = i.passed; store = i.store }
 
 pub some-stored : (v : VacuumView) (i : ℕ) (from : Option Entry) → IsVacuum v → v.phase ≡ phase.Index i from → v.store ≢ []

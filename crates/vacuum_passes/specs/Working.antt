@@ -1,16 +1,17 @@
 -- What the parts of a vacuum's step do: to one page, to the collected slots, and to one index.
-use Rattle.std.specs.Prelude.{◌≡◌, ◌≢◌, ◌<◌, ◌≤◌, ◌-◌, ℕ, nat_lt, Bool, true, false, List, [], ◌∷◌, ◌++◌, length, take, map, Option, Some, Contains}
+use Rattle.std.specs.Prelude.{◌≡◌, ◌≢◌, ◌<◌, ◌≤◌, ◌+◌, ◌-◌, ℕ, nat_lt, Bool, true, false, if◌then◌else◌, List, [], ◌∷◌, ◌++◌, length, take, map, slice_get, Option, Some, Contains}
 use Rattle.xid_circle.specs.declared.Tid.{Tid}
 use Rattle.page_slots.specs.declared.slot.Slot.{Slot}
 use Rattle.page_slots.specs.declared.slot.Slot.TheVariants.{Dead}
 use Rattle.page_slots.specs.Slots.{slot_at}
+use Rattle.page_slots.specs.View.{PageView}
 use Rattle.root_index.specs.declared.entry.Entry.{Entry}
 use Rattle.root_index.specs.declared.progress.Progress.{Progress}
 use Rattle.heap_write.specs.Heap.{HeapView}
 use Rattle.heap_write.specs.Cleaning.{SweepsAt, FreesAt, Notes}
 use Rattle.vacuum_passes.specs.declared.vacuum.Phase.{Phase}
 use Rattle.vacuum_passes.specs.declared.vacuum.Phase.TheVariants as phase
-use Rattle.vacuum_passes.specs.View.{VacuumView, places}
+use Rattle.vacuum_passes.specs.View.{VacuumView, places, phase_with}
 use Rattle.vacuum_passes.specs.Visits.{ListsDead, VisitsAt}
 use Rattle.vacuum_passes.specs.Steps.{PhaseAfter}
 
@@ -48,6 +49,21 @@ pub record Collects (old new : List Tid) (slots : List Slot) (p limit : ℕ) (le
   pub lists : ListsDead slots dead
   pub store : new ≡ old ++ places p (take (limit - length old) dead)
   pub left : left_over ≡ nat_lt (limit - length old) (length dead)
+
+-- the dead slots of the page of this number are collected so
+pub record CollectsOn (h : HeapView) (old new : List Tid) (p limit : ℕ) (left_over : Bool) : Type 0 where
+  pub page : PageView
+  pub at : slice_get h.pages.pages p ≡ Some page
+  pub collects : Collects old new page.slots p limit left_over
+
+-- it is visited, its dead slots are collected, and this page and phase come next
+pub record VisitsFrom (h h' : HeapView) (horizon cutoff p limit : ℕ) (old new : List Tid) (next : ℕ) (after : Phase) : Type 0 where
+  pub page : VisitsPage h h' horizon cutoff p
+  pub dead : List ℕ
+  pub lists : ListsDead page.notes.page.slots dead
+  pub store : new ≡ old ++ places p (take (limit - length old) dead)
+  pub onward : next ≡ (if nat_lt (limit - length old) (length dead) then p else p + 1)
+  pub phase : after ≡ phase_with limit new
 
 -- its collected slots become unused, and it is noted
 pub record FreesPage (h h' : HeapView) (horizon p : ℕ) (here : List Tid) : Type 0 where

@@ -1,18 +1,87 @@
 //! The collected slots of a page become unused.
 
-ghost use Rattle.std.specs.Prelude.{◌≡◌, ◌<◌, ◌≤◌, length, map, take, drop, Contains};
+ghost use Rattle.std.specs.Prelude.{◌≡◌, ◌≢◌, ◌<◌, ◌≤◌, ◌+◌, [], length, map, take, drop, Contains};
 ghost use Rattle.std.specs.List.{AllPairs};
 ghost use Rattle.xid_circle.specs.declared.Tid.{Tid as Place};
 ghost use Rattle.xid_circle.specs.Circle.{IsNormal};
 ghost use Rattle.root_index.specs.Places.{AreAscending};
-ghost use Rattle.vacuum_passes.specs.Steps.{on_page, off_page};
-ghost use Rattle.vacuum_passes.specs.Working.{FreesPage};
+ghost use Rattle.vacuum_passes.specs.Steps.{on_page, off_page, phase_left, IsLowest};
+ghost use Rattle.vacuum_passes.specs.Working.{FreesPage, FreesLast};
 
+use crate::vacuum::Phase;
 use heap_write::HeapState;
+use root_index::DeadSet;
 use xid_circle::{Tid, Xid};
 
+/// Makes those of the places from this number on unused that are on the lowest page, and notes what is so of that page then. It answers
+/// the page, and how many places are on it.
+pub(crate) fn free_from(heap: &mut HeapState, store: &DeadSet, freed: usize, horizon: Xid) -> (u32, usize)
+    requires some { freed < length store.now }
+    requires normal { IsNormal horizon.0 }
+    ensures within { freed + result.1 ≤ length store.now }
+    ensures limit { freed + result.1 ≤ 4096 }
+    ensures lowest { IsLowest (drop freed store.now) result.0 }
+    ensures left { drop (freed + result.1) store.now ≡ off_page result.0 (drop freed store.now) }
+    ensures frees { result.0 < length heap.old.pages.pages
+        → FreesPage heap.old heap.new horizon.0 result.0 (on_page result.0 (drop freed store.now)) }
+{
+    store.is_ascending();
+    let _limit = store.len();
+    let (_, places) = store.as_slice().split_at(freed);
+    free_lowest(heap, places, horizon)
+}
+
+/// What comes after slots were freed, of which the store holds the first so many: once it holds no others it is emptied, and pages are
+/// visited again. It answers how many of its places are those of freed slots then.
+pub(crate) fn after_freeing(store: &mut DeadSet, freed: usize) -> (usize, Phase)
+    requires { freed ≤ length store.old }
+    ensures shown { drop result.0 store.new ≡ drop freed store.old }
+    ensures phase { result.1 ≡ phase_left (drop freed store.old) }
+    ensures within { result.0 ≤ length store.new }
+    ensures last { FreesLast result.1 result.0 }
+{
+    if freed == store.len() {
+        store.clear();
+        return (0, Phase::Heap);
+    }
+    (freed, Phase::Free)
+}
+
+/// Makes those of these places unused that are on the lowest page, and notes what is so of that page then. It answers the page, and how
+/// many places are on it.
+fn free_lowest(heap: &mut HeapState, places: &[Tid], horizon: Xid) -> (u32, usize)
+    requires some { places.now ≢ [] }
+    requires ascending { AreAscending places.now }
+    requires normal { IsNormal horizon.0 }
+    ensures within { result.1 ≤ length places.now }
+    ensures lowest { IsLowest places.now result.0 }
+    ensures left { drop result.1 places.now ≡ off_page result.0 places.now }
+    ensures frees { result.0 < length heap.old.pages.pages
+        → FreesPage heap.old heap.new horizon.0 result.0 (on_page result.0 places.now) }
+{
+    let page = lowest_page(places);
+    let count = count_on(places, page);
+    let (here, _) = places.split_at(count);
+    if page < heap.page_count() {
+        free_page(heap, page, here, horizon);
+    }
+    (page, count)
+}
+
+/// The lowest page with one of these places.
+fn lowest_page(places: &[Tid]) -> u32
+    requires some { places.now ≢ [] }
+    requires ascending { AreAscending places.now }
+    ensures { IsLowest places.now result }
+{
+    match places.first() {
+        Some(first) => first.page,
+        None => 0,
+    }
+}
+
 /// Makes these slots of the page of this number unused, those that are dead, and notes what is so of the page then.
-pub(crate) fn free_page(heap: &mut HeapState, number: u32, places: &[Tid], horizon: Xid)
+fn free_page(heap: &mut HeapState, number: u32, places: &[Tid], horizon: Xid)
     requires in_use { number < length heap.old.pages.pages }
     requires ascending { AllPairs (λ a b. a < b) (map (λ (tid : Place). tid.slot) places.now) }
     requires normal { IsNormal horizon.0 }
@@ -23,7 +92,7 @@ pub(crate) fn free_page(heap: &mut HeapState, number: u32, places: &[Tid], horiz
 }
 
 /// How many of these places are on this page, the first on which one is.
-pub(crate) fn count_on(places: &[Tid], page: u32) -> usize
+fn count_on(places: &[Tid], page: u32) -> usize
     requires ascending { AreAscending places.now }
     requires lowest { (tid : Place) → Contains places.now tid → page ≤ tid.page }
     ensures within { result ≤ length places.now }

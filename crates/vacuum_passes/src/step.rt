@@ -10,15 +10,77 @@ ghost use Rattle.vacuum_passes.specs.Visits.{IsNextPage, NoPageLeft, Visits};
 ghost use Rattle.vacuum_passes.specs.Steps.{Steps, Sweeps, Frees};
 ghost use Rattle.vacuum_passes.specs.Working.{StoreIsInUse};
 
-use crate::freeing::{count_on, free_page};
+use crate::freeing::{after_freeing, free_from};
 use crate::sweeping::sweep_piece;
 use crate::vacuum::{Mode, Phase, Piece, Vacuum};
-use crate::visiting::{collect, visit_page};
+use crate::visiting::visit_and_collect;
 use heap_write::HeapState;
 use root_index::Entry;
 use xid_circle::Xid;
 
 impl Vacuum {
+    /// Does the next step at the present horizon, a normal id, and answers what it did; nothing where the vacuum has ended. The collected
+    /// slots are on pages that are in use: that is so of the table that it was begun on, from which no page goes.
+    pub fn step(&mut self, heap: &mut HeapState, horizon: Xid) -> Option<Piece>
+        requires { IsNormal horizon.0 }
+        ensures { StoreIsInUse heap.old self.old → Steps heap.old heap.new self.old horizon.0
+            (option_map (λ _. self.new) result) result }
+    {
+        match self.work(heap, horizon) {
+            Some(piece) => {
+                self.count();
+                Some(piece)
+            }
+            None => None,
+        }
+    }
+
+    /// Does the next step, and doesn't count it.
+    fn work(&mut self, heap: &mut HeapState, horizon: Xid) -> Option<Piece>
+        requires { IsNormal horizon.0 }
+        ensures { StoreIsInUse heap.old self.old → Steps heap.old heap.new self.old horizon.0
+            (option_map (λ _. counted self.new) result) result }
+    {
+        match self.phase {
+            Phase::Heap => self.visit_next(heap, horizon),
+            Phase::Index(index, from) => {
+                self.sweep(heap, index, from);
+                Some(Piece::Index(index))
+            }
+            Phase::Free => Some(Piece::Free(self.free(heap, horizon))),
+        }
+    }
+
+    /// Visits the next page. Where none is left the indexes begin, and if nothing is collected the vacuum has ended.
+    fn visit_next(&mut self, heap: &mut HeapState, horizon: Xid) -> Option<Piece>
+        requires phase { self.old.phase ≡ phase.Heap }
+        requires normal { IsNormal horizon.0 }
+        ensures { Steps heap.old heap.new self.old horizon.0
+            (option_map (λ _. counted self.new) result) result }
+    {
+        match self.next_page(heap) {
+            Some(number) => {
+                self.visit(heap, number, horizon);
+                Some(Piece::Heap(number))
+            }
+            None => self.visit_none(heap, horizon),
+        }
+    }
+
+    /// Begins with the indexes, where no page is left. If nothing is collected the vacuum has ended.
+    fn visit_none(&mut self, heap: &mut HeapState, _horizon: Xid) -> Option<Piece>
+        requires phase { self.old.phase ≡ phase.Heap }
+        requires none_left { NoPageLeft heap.old self.old }
+        ensures { Steps heap.old heap.new self.old _horizon.0
+            (option_map (λ _. counted self.new) result) result }
+    {
+        if self.store.is_empty() {
+            return None;
+        }
+        self.begin_indexes(heap);
+        Some(Piece::Index(0))
+    }
+
     /// Whether the vacuum passes over the page of this number.
     fn skips(&self, heap: &HeapState, number: u32) -> bool
         ensures { result ≡ skips self.now.mode (mark_on heap.now.pages.marks number) }
@@ -52,16 +114,10 @@ impl Vacuum {
         requires normal { IsNormal horizon.0 }
         ensures { Visits heap.old heap.new self.old self.new horizon.0 number }
     {
-        visit_page(heap, number, horizon, self.cutoff);
         let limit = self.limit as usize;
-        let left_over = match heap.page(number) {
-            Some(page) => collect(&mut self.store, page, number, limit),
-            None => false,
-        };
-        self.next = if left_over { number } else { number + 1 };
-        if self.store.len() == limit {
-            self.phase = Phase::Index(0, None);
-        }
+        let (next, phase) = visit_and_collect(heap, &mut self.store, number, horizon, self.cutoff, limit);
+        self.next = next;
+        self.phase = phase;
     }
 
     /// Begins with the indexes, once no page is left.
@@ -80,6 +136,19 @@ impl Vacuum {
         ensures { Sweeps heap.old heap.new self.old self.new index from }
     {
         self.phase = sweep_piece(heap, &self.store, index, from);
+    }
+
+    /// Makes the collected slots of the lowest page unused. It answers the page.
+    fn free(&mut self, heap: &mut HeapState, horizon: Xid) -> u32
+        requires phase { self.old.phase ≡ phase.Free }
+        requires normal { IsNormal horizon.0 }
+        ensures { StoreIsInUse heap.old self.old → Frees heap.old heap.new self.old self.new horizon.0 result }
+    {
+        let (page, count) = free_from(heap, &self.store, self.freed, horizon);
+        let (freed, phase) = after_freeing(&mut self.store, self.freed + count);
+        self.freed = freed;
+        self.phase = phase;
+        page
     }
 
     /// Counts one more of its own steps.

@@ -1,0 +1,74 @@
+//! A small table is loaded, half of it is deleted, and a vacuum goes over it to its end.
+
+use arrayvec::ArrayVec;
+use commit_status::Status;
+use heap_write::HeapState;
+use page_slots::Slot;
+use snapshot::OwnIds;
+use space_maps::Mark;
+use std::alloc::Global;
+use tuple_header::Row;
+use vacuum_passes::{Mode, Piece, Vacuum};
+use xid_circle::{Tid, Xid};
+
+fn row_of(key: u64) -> Row {
+    Row {
+        key,
+        cols: [0; 4],
+        body: ArrayVec::new(),
+    }
+}
+
+/// Rows 1 to 6 are inserted under id 3 and committed, and rows 2, 4 and 6 are deleted under id 4 and that is committed.
+fn half_deleted(alloc: Global) -> Option<HeapState> {
+    let mut heap = HeapState::new(alloc, Xid(3), 1000, 4, [false; 4]);
+    let mut own = OwnIds::new(alloc);
+    for key in 1..7u64 {
+        let Ok(_) = heap.insert(&mut own, &row_of(key)) else {
+            return None;
+        };
+    }
+    heap.finish(&[Xid(3)], Status::Committed);
+    let mut own = OwnIds::new(alloc);
+    for slot in [2u16, 4, 6] {
+        let Ok(_) = heap.delete(&mut own, Tid { page: 0, slot }) else {
+            return None;
+        };
+    }
+    heap.finish(&[Xid(4)], Status::Committed);
+    Some(heap)
+}
+
+fn is_unused(heap: &HeapState, slot: u16) -> bool {
+    match heap.page(0) {
+        Some(page) => matches!(page.slot(slot), Some(Slot::Unused)),
+        None => false,
+    }
+}
+
+/// It collects two slots at a time: so it visits the page twice, and there are two rounds.
+#[test]
+fn two_rounds(rt: HostRuntime) {
+    let Some(mut heap) = half_deleted(rt.alloc()) else {
+        panic!(rt; "the rows were refused");
+    };
+    assert!(rt; heap.entries() == 6);
+    let mut vacuum = Vacuum::new(Mode::Normal, Xid(5), Xid(3), heap.page_count(), heap.entries(), 2);
+    let round = [Piece::Heap(0), Piece::Index(0), Piece::Free(0)];
+    for piece in round {
+        assert!(rt; vacuum.step(&mut heap, Xid(5)) == Some(piece));
+        vacuum.disturbed(false);
+    }
+    assert!(rt; heap.entries() == 4);
+    assert!(rt; is_unused(&heap, 2) && is_unused(&heap, 4) && !is_unused(&heap, 6));
+    assert!(rt; heap.mark(0) == Some(Mark::Nothing));
+    for piece in round {
+        assert!(rt; vacuum.step(&mut heap, Xid(5)) == Some(piece));
+        vacuum.disturbed(true);
+    }
+    assert!(rt; vacuum.step(&mut heap, Xid(5)) == None);
+    assert!(rt; heap.entries() == 3);
+    assert!(rt; is_unused(&heap, 2) && is_unused(&heap, 4) && is_unused(&heap, 6));
+    assert!(rt; !is_unused(&heap, 1) && !is_unused(&heap, 3) && !is_unused(&heap, 5));
+    assert!(rt; heap.mark(0) == Some(Mark::AllVisible));
+}

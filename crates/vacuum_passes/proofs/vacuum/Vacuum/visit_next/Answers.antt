@@ -1,0 +1,5 @@
+use Rattle.vacuum_passes.specs.Steps.{Steps}
+use Rattle.vacuum_passes.proofs.vacuum.Vacuum.visit_next.Goals as goal
+
+pub returns-in-Some : goal.returns-in-Some
+returns-in-Some c = Steps.visits c.in-Some.number c.visit.new.self c.requires.phase c.in-Some.ensures c.visit.ensures
