@@ -1,6 +1,6 @@
 -- Which of the collected slots are on the first page.
 use Rattle.std.proofs.Common.{◌≡◌, ◌≢◌, ℕ, zero, suc, ◌+◌, ◌<◌, ◌≤◌, ◌==◌, Bool, true, false, not, List, [], ◌∷◌, ◌++◌, length, map, take, drop, get_or, inl, inr, Some, None, slice_get, arith, refl, sym, ap, ◌∙◌, subst, ⊎_elim, Contains, append-nil}
-use Rattle.std.specs.List.{All, AllPairs, filter}
+use Rattle.std.specs.List.{AllPairs, filter}
 use Rattle.std.specs.Ordering.{nat_cmp}
 use Rattle.std.specs.declared.cmp.Ordering.TheVariants.{Less, Equal}
 use Rattle.std.proofs.lemmas.Bool.{eq-eqb, ne_eqb, eqb-true}
@@ -48,13 +48,15 @@ pub on-none : (xs : List Tid) (p : ℕ) → AreOn xs p 0
 on-none xs p = record { each = λ tid there. absurd (Contains-none tid there) }
 
 pub on-more : (xs : List Tid) (p i : ℕ) (d : Tid) → i < length xs → (get_or xs i d).page ≡ p → AreOn xs p i → AreOn xs p (i + 1)
-on-more xs p i d within here on = record { each = λ tid there. ⊎_elim
-    (λ first. on.each tid first)
-    (λ last. ⊎_elim
-    (λ e. ap (λ (t : Tid). t.page) (sym e) ∙ here)
-    (λ none. absurd (Contains-none tid none))
-    (Contains-cases (get_or xs i d) tid [] last))
-    (Contains-append_cases (take i xs) (get_or xs i d ∷ []) tid (subst (λ (ys : List Tid). Contains ys tid) (take_more xs i d within) there)) }
+on-more xs p i d within here on = record {
+  each = λ tid there. ⊎_elim
+      (λ first. on.each tid first)
+      (λ last. ⊎_elim
+      (λ e. ap (λ (t : Tid). t.page) (sym e) ∙ here)
+      (λ none. absurd (Contains-none tid none))
+      (Contains-cases (get_or xs i d) tid [] last))
+      (Contains-append_cases (take i xs) (get_or xs i d ∷ []) tid (subst (λ (ys : List Tid). Contains ys tid) (take_more xs i d within) there));
+}
 
 -- what is found so far
 pub record IsCut (xs : List Tid) (p i : ℕ) : Type 0 where

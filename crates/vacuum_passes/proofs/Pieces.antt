@@ -2,7 +2,7 @@
 use Rattle.std.proofs.Common.{◌↔◌, ℕ, List, Option}
 use Rattle.root_index.specs.View.{IndexView}
 use Rattle.root_index.specs.declared.progress.Progress.{Progress}
-use Rattle.table_indexes.specs.Indexes.{IsInUse, IsNextIndex}
+use Rattle.table_indexes.specs.Indexes.{IsInUse}
 use Rattle.vacuum_passes.specs.declared.vacuum.Phase.{Phase}
 use Rattle.vacuum_passes.specs.Steps.{PhaseAfter}
 

@@ -1,5 +1,5 @@
 -- What a vacuum holds after a step, as it is seen.
-use Rattle.std.proofs.Common.{◌≡◌, ◌≢◌, ℕ, zero, suc, ◌+◌, ◌-◌, ◌<◌, ◌≤◌, ◌==◌, nat_lt, Bool, true, false, List, [], ◌∷◌, ◌++◌, length, map, take, drop, Option, Some, None, if◌then◌else◌, inl, inr, arith, refl, sym, ap, ◌∙◌, subst, ⊎_elim, Contains, slice_get}
+use Rattle.std.proofs.Common.{◌≡◌, ◌≢◌, ℕ, zero, suc, ◌+◌, ◌-◌, ◌<◌, ◌≤◌, ◌==◌, nat_lt, true, false, List, [], ◌∷◌, ◌++◌, length, map, take, drop, Option, Some, None, if◌then◌else◌, arith, refl, sym, ap, ◌∙◌, subst, ⊎_elim, Contains, slice_get}
 use Rattle.std.proofs.lemmas.Bool.{cases_lt, eqb-true, eqb-false}
 use Rattle.std.proofs.lemmas.List.{drop_all, length-drop, nil_from_length}
 use Rattle.xid_circle.specs.declared.Tid.{Tid}

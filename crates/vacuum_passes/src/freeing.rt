@@ -15,7 +15,12 @@ use xid_circle::{Tid, Xid};
 
 /// Makes those of the places from this number on unused that are on the lowest page, and notes what is so of that page then. It answers
 /// the page, and how many places are on it.
-pub(crate) fn free_from(heap: &mut HeapState, store: &DeadSet, freed: usize, horizon: Xid) -> (u32, usize)
+pub(crate) fn free_from(
+    heap: &mut HeapState,
+    store: &DeadSet,
+    freed: usize,
+    horizon: Xid,
+) -> (u32, usize)
     requires some { freed < length store.now }
     requires normal { IsNormal horizon.0 }
     ensures within { freed + result.1 ≤ length store.now }

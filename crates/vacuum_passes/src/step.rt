@@ -115,7 +115,14 @@ impl Vacuum {
         ensures { Visits heap.old heap.new self.old self.new horizon.0 number }
     {
         let limit = self.limit as usize;
-        let (next, phase) = visit_and_collect(heap, &mut self.store, number, horizon, self.cutoff, limit);
+        let (next, phase) = visit_and_collect(
+            heap,
+            &mut self.store,
+            number,
+            horizon,
+            self.cutoff,
+            limit,
+        );
         self.next = next;
         self.phase = phase;
     }

@@ -11,7 +11,12 @@ use root_index::{DeadSet, Entry, Progress};
 
 /// Goes through a piece of the index of this number, after `from`, or from its beginning: its entries to dead places go. It answers
 /// what comes next.
-pub(crate) fn sweep_piece(heap: &mut HeapState, dead: &DeadSet, index: u8, from: Option<Entry>) -> Phase
+pub(crate) fn sweep_piece(
+    heap: &mut HeapState,
+    dead: &DeadSet,
+    index: u8,
+    from: Option<Entry>,
+) -> Phase
     ensures { SweepsPiece heap.old heap.new dead.now index from result }
 {
     match sweep(heap, dead, index, from) {

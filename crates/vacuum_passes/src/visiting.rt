@@ -16,7 +16,14 @@ use xid_circle::{Tid, Xid};
 
 /// Visits the page of this number, and collects its dead slots, up to so many places in all. It answers which page and which phase
 /// come next.
-pub(crate) fn visit_and_collect(heap: &mut HeapState, store: &mut DeadSet, number: u32, horizon: Xid, cutoff: Xid, limit: usize) -> (u32, Phase)
+pub(crate) fn visit_and_collect(
+    heap: &mut HeapState,
+    store: &mut DeadSet,
+    number: u32,
+    horizon: Xid,
+    cutoff: Xid,
+    limit: usize,
+) -> (u32, Phase)
     requires in_use { number < length heap.old.pages.pages }
     requires next { number < 4294967295 }
     requires normal { IsNormal horizon.0 }

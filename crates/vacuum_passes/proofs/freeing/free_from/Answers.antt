@@ -1,4 +1,4 @@
-use Rattle.std.proofs.Common.{◌≡◌, ◌≢◌, ◌∙◌, ◌+◌, ◌<◌, ℕ, List, [], length, drop, sym, ap, arith, subst}
+use Rattle.std.proofs.Common.{◌≡◌, ◌≢◌, ◌∙◌, List, [], length, drop, sym, ap, arith, subst}
 use Rattle.std.proofs.lemmas.List.{drop-drop}
 use Rattle.xid_circle.specs.declared.Tid.{Tid}
 use Rattle.root_index.specs.Places.{AreAscending}

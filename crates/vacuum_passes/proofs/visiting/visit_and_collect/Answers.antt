@@ -1,4 +1,4 @@
-use Rattle.std.proofs.Common.{◌∙◌, ◌-◌, ◌+◌, ℕ, length, nat_lt, if◌then◌else◌, sym, ap, subst, List}
+use Rattle.std.proofs.Common.{◌∙◌, ◌+◌, if◌then◌else◌, ap, subst, List}
 use Rattle.page_slots.specs.declared.slot.Slot.{Slot}
 use Rattle.vacuum_passes.specs.Visits.{ListsDead}
 use Rattle.vacuum_passes.proofs.OnePage.{noted-slots}

@@ -23,8 +23,7 @@ invariant_of-self c =
     let onward = ap (λ (v : VacuumView). v.next) c.self.view_is in
     let pages = ap (λ (v : VacuumView). v.pages) c.self.view_is in
     let none = none-freed c.self.inside.phase c.self.inside.freed is c.self.invariant.4 in
-    let e = c.visit_and_collect-next.ensures in
-    (
+    let e = c.visit_and_collect-next.ensures in (
       subst IsVacuum
           (sym (visited-is _ c.args.number e.dead c.self.inside.freed c.visit_and_collect-next.result.0 c.self.inside.store c.visit_and_collect-next.new.store
           c.visit_and_collect-next.result.1 none refl e.store e.onward e.phase c.self.invariant.0))
