@@ -1,5 +1,8 @@
 //! A small table is loaded, half of it is deleted, and a vacuum goes over it to its end.
 
+ghost use Rattle.std.specs.Prelude.{IsTrue};
+ghost use Rattle.heap_write.specs.Writes.{NewestIsGiven};
+
 use arrayvec::ArrayVec;
 use commit_status::Status;
 use heap_write::HeapState;
@@ -19,24 +22,43 @@ fn row_of(key: u64) -> Row {
     }
 }
 
+fn is_known(heap: &HeapState, own: &OwnIds) -> bool
+    ensures { IsTrue result → NewestIsGiven heap.now.table own.now }
+{
+    match own.current_xid() {
+        Some(x) => heap.table().remembers(x),
+        None => true,
+    }
+}
+
+fn insert(heap: &mut HeapState, own: &mut OwnIds, key: u64) -> bool {
+    is_known(heap, own) && heap.insert(own, &row_of(key)).is_ok()
+}
+
+fn delete(heap: &mut HeapState, own: &mut OwnIds, slot: u16) -> bool {
+    is_known(heap, own) && heap.delete(own, Tid { page: 0, slot }).is_ok()
+}
+
+fn commit(heap: &mut HeapState, x: Xid) {
+    if heap.table().remembers(x) && matches!(heap.table().status(x), Status::InProgress) {
+        heap.finish(&[x], Status::Committed);
+    }
+}
+
 /// Rows 1 to 6 are inserted under id 3 and committed, and rows 2, 4 and 6 are deleted under id 4 and that is committed.
-fn half_deleted(alloc: Global) -> Option<HeapState> {
+fn half_deleted(alloc: Global) -> HeapState {
     let mut heap = HeapState::new(alloc, Xid(3), 1000, 4, [false; 4]);
     let mut own = OwnIds::new(alloc);
     for key in 1..7u64 {
-        let Ok(_) = heap.insert(&mut own, &row_of(key)) else {
-            return None;
-        };
+        let _ = insert(&mut heap, &mut own, key);
     }
-    heap.finish(&[Xid(3)], Status::Committed);
+    commit(&mut heap, Xid(3));
     let mut own = OwnIds::new(alloc);
     for slot in [2u16, 4, 6] {
-        let Ok(_) = heap.delete(&mut own, Tid { page: 0, slot }) else {
-            return None;
-        };
+        let _ = delete(&mut heap, &mut own, slot);
     }
-    heap.finish(&[Xid(4)], Status::Committed);
-    Some(heap)
+    commit(&mut heap, Xid(4));
+    heap
 }
 
 fn is_unused(heap: &HeapState, slot: u16) -> bool {
@@ -49,11 +71,16 @@ fn is_unused(heap: &HeapState, slot: u16) -> bool {
 /// It collects two slots at a time: so it visits the page twice, and there are two rounds.
 #[test]
 fn two_rounds(rt: HostRuntime) {
-    let Some(mut heap) = half_deleted(rt.alloc()) else {
-        panic!(rt; "the rows were refused");
-    };
+    let mut heap = half_deleted(rt.alloc());
     assert!(rt; heap.entries() == 6);
-    let mut vacuum = Vacuum::new(Mode::Normal, Xid(5), Xid(3), heap.page_count(), heap.entries(), 2);
+    let mut vacuum = Vacuum::new(
+        Mode::Normal,
+        Xid(5),
+        Xid(3),
+        heap.page_count(),
+        heap.entries(),
+        2,
+    );
     let round = [Piece::Heap(0), Piece::Index(0), Piece::Free(0)];
     for piece in round {
         assert!(rt; vacuum.step(&mut heap, Xid(5)) == Some(piece));

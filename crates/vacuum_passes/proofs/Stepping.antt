@@ -20,7 +20,7 @@ use Rattle.vacuum_passes.proofs.ListLemmas.{pairs-tail}
 use Rattle.vacuum_passes.specs.Keeps.{IsVacuum, KeepsStore}
 use Rattle.heap_write.specs.Heap.{HeapView}
 use Rattle.vacuum_passes.specs.Visits.{ListsDead, Visits}
-use Rattle.vacuum_passes.specs.Working.{FreesLast, VisitsPage, FreesPage, StoreIsInUse}
+use Rattle.vacuum_passes.specs.Working.{FreesLast, CleansPage, FreesPage, StoreIsInUse}
 use Rattle.vacuum_passes.proofs.VacuumLemmas.{index-kept, off-kept}
 
 -- Marks.
@@ -74,7 +74,7 @@ frees-none phase.Heap freed none = none
 frees-none (phase.Index i from) freed none = none
 frees-none phase.Free freed none = tt
 
-pub visit-says : (h h' : HeapView) (v w v' : VacuumView) (horizon p : ℕ) → v ≡ w → (page : VisitsPage h h' horizon v.cutoff p) (dead : List ℕ) → ListsDead page.notes.page.slots dead
+pub visit-says : (h h' : HeapView) (v w v' : VacuumView) (horizon p : ℕ) → v ≡ w → (page : CleansPage h h' horizon v.cutoff p) (dead : List ℕ) → ListsDead page.notes.page.slots dead
     → v' ≡ collected v p dead → Visits h h' w v' horizon p
 visit-says h h' v w v' horizon p same page dead lists is = subst (λ (u : VacuumView). Visits h h' u v' horizon p) same (record {
   visited = page.visited;

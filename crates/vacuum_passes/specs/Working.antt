@@ -30,7 +30,7 @@ FreesLast phase.Free freed = Unit {0}
 -- A page.
 
 -- it is pruned, frozen and noted
-pub record VisitsPage (h h' : HeapView) (horizon cutoff p : ℕ) : Type 0 where
+pub record CleansPage (h h' : HeapView) (horizon cutoff p : ℕ) : Type 0 where
   pub visited : HeapView
   pub visits : VisitsAt h visited horizon cutoff p
   pub notes : Notes visited h' p horizon
@@ -58,7 +58,7 @@ pub record CollectsOn (h : HeapView) (old new : List Tid) (p limit : ℕ) (left_
 
 -- it is visited, its dead slots are collected, and this page and phase come next
 pub record VisitsFrom (h h' : HeapView) (horizon cutoff p limit : ℕ) (old new : List Tid) (next : ℕ) (after : Phase) : Type 0 where
-  pub page : VisitsPage h h' horizon cutoff p
+  pub page : CleansPage h h' horizon cutoff p
   pub dead : List ℕ
   pub lists : ListsDead page.notes.page.slots dead
   pub store : new ≡ old ++ places p (take (limit - length old) dead)

@@ -149,7 +149,8 @@ impl Vacuum {
     fn free(&mut self, heap: &mut HeapState, horizon: Xid) -> u32
         requires phase { self.old.phase ≡ phase.Free }
         requires normal { IsNormal horizon.0 }
-        ensures { StoreIsInUse heap.old self.old → Frees heap.old heap.new self.old self.new horizon.0 result }
+        ensures { StoreIsInUse heap.old self.old
+            → Frees heap.old heap.new self.old self.new horizon.0 result }
     {
         let (page, count) = free_from(heap, &self.store, self.freed, horizon);
         let (freed, phase) = after_freeing(&mut self.store, self.freed + count);

@@ -6,7 +6,7 @@ ghost use Rattle.xid_circle.specs.declared.Tid.{Tid as Place};
 ghost use Rattle.xid_circle.specs.Circle.{IsNormal};
 ghost use Rattle.root_index.specs.Places.{IsBefore};
 ghost use Rattle.vacuum_passes.specs.View.{phase_with};
-ghost use Rattle.vacuum_passes.specs.Working.{VisitsPage, VisitsFrom, CollectsSlot, Collects, CollectsOn};
+ghost use Rattle.vacuum_passes.specs.Working.{CleansPage, VisitsFrom, CollectsSlot, Collects, CollectsOn};
 
 use crate::vacuum::Phase;
 use heap_write::HeapState;
@@ -63,7 +63,7 @@ fn visit_page(heap: &mut HeapState, number: u32, horizon: Xid, cutoff: Xid)
     requires in_use { number < length heap.old.pages.pages }
     requires normal { IsNormal horizon.0 }
     requires cutoff { IsNormal cutoff.0 }
-    ensures { VisitsPage heap.old heap.new horizon.0 cutoff.0 number }
+    ensures { CleansPage heap.old heap.new horizon.0 cutoff.0 number }
 {
     match heap.prune(number, horizon) {
         Ok(()) => {
