@@ -62,6 +62,15 @@ impl SessionEngine {
         }
     }
 
+    /// Puts what [`SessionEngine::next`] answers in the place of another reply. It stands alone, so that a reply by value is cleared
+    /// only where one is made.
+    #[inline(never)]
+    pub(crate) fn next_into(&mut self, s: u8, n: u16, reply: &mut Reply)
+        ensures { AnswersStep self.old (Step.Next s n) reply.new self.new }
+    {
+        *reply = self.next(s, n);
+    }
+
     /// The next rows of the session's cursor, and where it is after them; none where nothing is left.
     fn take(
         &self,

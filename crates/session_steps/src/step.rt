@@ -34,10 +34,7 @@ impl SessionEngine {
         step.has_bounds();
         let answer = match step {
             Step::Get(s, key) => return self.get(s, key, reply),
-            Step::Next(s, n) => {
-                *reply = self.next(s, n);
-                return;
-            }
+            Step::Next(s, n) => return self.next_into(s, n, reply),
             Step::Begin(s) => self.begin(s),
             Step::Insert(s, row) => self.insert(s, row),
             Step::Update(s, row) => self.update(s, row),

@@ -23,7 +23,7 @@ returns-in-Get c =
 
 pub returns-in-Next : goal.returns-in-Next
 returns-in-Next c =
-    let does = subst (λ (step : Step). AnswersStep c.args.self.now step c.next.result c.next.new.self) (sym c.in-Next.is) c.next.ensures in
+    let does = subst (λ (step : Step). AnswersStep c.args.self.now step c.next_into.new.reply c.next_into.new.self) (sym c.in-Next.is) c.next_into.ensures in
     record { follows = does.follows; exact = does.exact }
 
 pub returns : goal.returns
