@@ -18,7 +18,7 @@ use Rattle.prune.specs.Cutting.{IsCut, RemovesVersions}
 use Rattle.prune.specs.Actions.{AreInOrder, HasTarget, CanApply, action_of, applied, acted}
 use Rattle.prune.specs.Pruning.{root_action, orphan_action}
 use Rattle.prune.specs.Marks.{mark_at, IsVerdict}
-use Rattle.prune.specs.Checks.{IsFront, HasFront, IsAccounted, Checks}
+use Rattle.prune.specs.Checks.{IsPrefix, HasPrefix, IsAccounted, Checks}
 use Rattle.prune.specs.Named.{named_at, IsLooseRight}
 use Rattle.prune.proofs.Marking.{held-not_loose}
 use Rattle.sound_page.proofs.Links.{member-there, member-version}
@@ -49,13 +49,13 @@ loose-right w horizon slots n a mark (IsVerdict.loose l e) is (IsAccounted.of_ro
 pub checked : (w : Window) (horizon : ℕ) (page : PageView) (change : ℕ) (actions : List (ℕ × Action)) (named : List (Option Action)) (marks : List PruneVerdict) (b : Bool)
     → change ≡ page.change → AreInOrder (length page.slots) 0 actions → ((n : ℕ) → named_at named n ≡ action_of actions n)
     → ((n : ℕ) → IsVerdict w horizon page.slots n (mark_at marks n))
-    → ((root : ℕ) → is_root page.slots root ≡ true → HasFront w horizon page.slots (named_at named) root)
+    → ((root : ℕ) → is_root page.slots root ≡ true → HasPrefix w horizon page.slots (named_at named) root)
     → (IsTrue b ↔ ((n : ℕ) → 1 ≤ n → n ≤ length page.slots → IsLooseRight w page.slots marks named n)) → IsTrue b ↔ Checks w horizon page change actions
 checked w horizon page change actions named marks b same order names marked prefixes t = (
   λ yes. record {
     same_change = same;
     in_order = order;
-    prefixes = λ root starts. subst (λ f. HasFront w horizon page.slots f root) (same-names (named_at named) (action_of actions) names) (prefixes root starts);
+    prefixes = λ root starts. subst (λ f. HasPrefix w horizon page.slots f root) (same-names (named_at named) (action_of actions) names) (prefixes root starts);
     others = λ n a e.
         let there = named-there (length page.slots) 0 n actions a order e in
         accounted w horizon page.slots n a (mark_at marks n) (marked n)
@@ -123,7 +123,7 @@ checks-can_apply w horizon page change actions c = can-from_order (length page.s
 -- What it removes would be cut.
 
 prefix-cut : (w : Window) (horizon : ℕ) (slots : List Slot) (named : ℕ → Option Action) (root prefix i : ℕ) (chain : List ℕ) → IsChain (has_aborted w) slots root chain
-    → IsFront w horizon slots named root chain prefix → i < prefix → IsCut w horizon slots (get_or chain i 0)
+    → IsPrefix w horizon slots named root chain prefix → i < prefix → IsCut w horizon slots (get_or chain i 0)
 prefix-cut w horizon slots named root prefix i chain c f h =
     let d = f.cut i h in
     record { last = get_or chain d.0 0; later = reaches-places w slots root chain i d.0 c d.1 d.2; dead = d.3 }

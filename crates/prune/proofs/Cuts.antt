@@ -14,7 +14,7 @@ use Rattle.visibility.specs.Visible.{IsFrozen, IsDead}
 use Rattle.sound_page.specs.Dead.{IsDeadAt}
 
 -- of the first `prefix` of a chain
-pub record IsCutFront (w : Window) (horizon : ℕ) (slots : List Slot) (chain : List ℕ) (prefix cut : ℕ) : Type 0 where
+pub record IsCutPrefix (w : Window) (horizon : ℕ) (slots : List Slot) (chain : List ℕ) (prefix cut : ℕ) : Type 0 where
   pub within : cut ≤ prefix
   pub dead : 0 < cut → IsDeadAt w horizon slots (get_or chain (cut - 1) 0)
   pub none_after : (j : ℕ) → cut ≤ j → j < prefix → ¬ IsDeadAt w horizon slots (get_or chain j 0)

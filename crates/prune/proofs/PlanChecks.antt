@@ -20,7 +20,7 @@ use Rattle.prune.specs.Cutting.{IsCutCount}
 use Rattle.sound_page.specs.Links.{NoSharedSlots}
 use Rattle.prune.specs.Actions.{action_of}
 use Rattle.prune.specs.Pruning.{root_action, chain_action, IsInChainOf, PrunesSlot, by_root, by_none, IsPlan}
-use Rattle.prune.specs.Checks.{IsFront, IsAccounted, Checks}
+use Rattle.prune.specs.Checks.{IsPrefix, IsAccounted, Checks}
 use Rattle.sound_page.proofs.Links.{member-there, member-version}
 use Rattle.prune.proofs.Listing.{named-there}
 use Rattle.sound_page.proofs.ChainPlaces.{place-of, at-place, place-in_front, in_front-place, root-first, root-plain}
@@ -77,7 +77,7 @@ root-count w horizon slots root chain o unshared i (by_none l e) = absurd (of-no
 -- what pruning does to a root and its chain is a prefix
 plan-prefix : (w : Window) (horizon : ℕ) (slots : List Slot) (named : ℕ → Option Action) (root cut : ℕ) (chain : List ℕ) → is_root slots root ≡ true → IsChain (has_aborted w) slots root chain
     → IsCutCount w horizon slots chain cut → ((n : ℕ) → IsInChainOf (has_aborted w) slots root chain n → SlotIsThere slots n → named n ≡ chain_action root chain cut n)
-    → IsFront w horizon slots named root chain cut
+    → IsPrefix w horizon slots named root chain cut
 plan-prefix w horizon slots named root cut chain starts is count does = record {
   within = count.within;
   removed = λ i h. let e = of-place i h in

@@ -19,7 +19,7 @@ IsCutIn w horizon slots chain i = (j : ℕ) × (i ≤ j) × (j < length chain) �
 
 -- What a plan does to a root and its chain: the slots named are its first so many, pruning would cut them too, and they become
 -- what goes with the first that is kept. Where there are none, the root isn't named.
-pub record IsFront (w : Window) (horizon : ℕ) (slots : List Slot) (named : ℕ → Option Action) (root : ℕ) (chain : List ℕ) (prefix : ℕ) : Type 0 where
+pub record IsPrefix (w : Window) (horizon : ℕ) (slots : List Slot) (named : ℕ → Option Action) (root : ℕ) (chain : List ℕ) (prefix : ℕ) : Type 0 where
   pub within : prefix ≤ length chain
   pub removed : (i : ℕ) → i < length chain → IsSome (named (slice_index chain i)) ↔ (i < prefix)
   pub cut : (i : ℕ) → i < prefix → IsCutIn w horizon slots chain i
@@ -27,8 +27,8 @@ pub record IsFront (w : Window) (horizon : ℕ) (slots : List Slot) (named : ℕ
       → named (slice_index chain i) ≡ Some action.Unuse
   pub leads : named root ≡ root_action prefix (slice_get chain prefix)
 
-abbrev pub HasFront : Window → ℕ → List Slot → (ℕ → Option Action) → ℕ → Type 0
-HasFront w horizon slots named root = (chain : List ℕ) → IsChain (has_aborted w) slots root chain → (prefix : ℕ) × IsFront w horizon slots named root chain prefix
+abbrev pub HasPrefix : Window → ℕ → List Slot → (ℕ → Option Action) → ℕ → Type 0
+HasPrefix w horizon slots named root = (chain : List ℕ) → IsChain (has_aborted w) slots root chain → (prefix : ℕ) × IsPrefix w horizon slots named root chain prefix
 
 -- a slot named is a root or in the chain of one; every other holds an aborted heap-only version, and becomes unused
 pub data IsAccounted (w : Window) (slots : List Slot) (n : ℕ) (a : Action) : Type 0 where
@@ -38,5 +38,5 @@ pub data IsAccounted (w : Window) (slots : List Slot) (n : ℕ) (a : Action) : T
 pub record Checks (w : Window) (horizon : ℕ) (page : PageView) (change : ℕ) (actions : List (ℕ × Action)) : Type 0 where
   pub same_change : change ≡ page.change
   pub in_order : AreInOrder (length page.slots) 0 actions
-  pub prefixes : (root : ℕ) → is_root page.slots root ≡ true → HasFront w horizon page.slots (action_of actions) root
+  pub prefixes : (root : ℕ) → is_root page.slots root ≡ true → HasPrefix w horizon page.slots (action_of actions) root
   pub others : (n : ℕ) (a : Action) → action_of actions n ≡ Some a → IsAccounted w page.slots n a

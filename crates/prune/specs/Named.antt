@@ -16,7 +16,7 @@ abbrev pub named_at : List (Option Action) → ℕ → Option Action
 named_at named n = slice_index_or named n None
 
 -- the first so many of these slots are named, and the next one isn't
-pub record IsNamedFront (named : List (Option Action)) (numbers : List ℕ) (prefix : ℕ) : Type 0 where
+pub record IsNamedPrefix (named : List (Option Action)) (numbers : List ℕ) (prefix : ℕ) : Type 0 where
   pub within : prefix ≤ length numbers
   pub all : (i : ℕ) → i < prefix → IsSome (named_at named (slice_index numbers i))
   pub next : prefix < length numbers → named_at named (slice_index numbers prefix) ≡ None

@@ -5,8 +5,8 @@ ghost use Rattle.hot_chain.specs.Chain.{is_root};
 ghost use Rattle.prune.specs.Actions.{AreInOrder, CanApply, action_of};
 ghost use Rattle.prune.specs.Pruning.{orphan_action};
 ghost use Rattle.prune.specs.Marks.{AreNumbers};
-ghost use Rattle.prune.specs.Checks.{HasFront, Checks};
-ghost use Rattle.prune.specs.Named.{named_at, IsNamedFront, BecomesUnused, IsLooseRight};
+ghost use Rattle.prune.specs.Checks.{HasPrefix, Checks};
+ghost use Rattle.prune.specs.Named.{named_at, IsNamedPrefix, BecomesUnused, IsLooseRight};
 ghost use Rattle.tuple_header.specs.declared.version.TheConstants.{MOST_SLOTS};
 
 use crate::action::{Action, PrunePlan};
@@ -54,9 +54,9 @@ fn named_by(actions: &[(u16, Action)]) -> Named
 }
 
 /// How many of the first of these slots are named, up to one that isn't.
-fn front_of(named: &Named, numbers: &[u16]) -> usize
+fn prefix_of(named: &Named, numbers: &[u16]) -> usize
     requires { AreNumbers numbers.now }
-    ensures { IsNamedFront named.now numbers.now result }
+    ensures { IsNamedPrefix named.now numbers.now result }
 {
     for (i, number) in numbers.iter().enumerate() {
         if named[usize::from(*number)].is_none() {
@@ -117,15 +117,15 @@ fn are_same(a: Option<Action>, b: Option<Action>) -> bool
 }
 
 /// Whether of a root's chain a prefix is named that pruning would cut too, and becomes what goes with the first that is kept.
-fn has_front(page: &Page, named: &Named, root: u16, table: &StatusTable, horizon: Xid) -> bool
+fn has_prefix(page: &Page, named: &Named, root: u16, table: &StatusTable, horizon: Xid) -> bool
     requires number { root < 292 }
     ensures { IsTrue result
-        ↔ HasFront table.now horizon.0 page.now.slots (named_at named.now) root }
+        ↔ HasPrefix table.now horizon.0 page.now.slots (named_at named.now) root }
 {
     let _limit = page.slots();
     let slots = chain(page, root, table);
     let numbers = slots.as_slice();
-    let prefix = front_of(named, numbers);
+    let prefix = prefix_of(named, numbers);
     if !are_unnamed(named, &numbers[prefix..]) {
         return false;
     }
@@ -139,14 +139,14 @@ fn has_front(page: &Page, named: &Named, root: u16, table: &StatusTable, horizon
 }
 
 /// Whether each root's chain has such a prefix.
-fn have_fronts(page: &Page, named: &Named, table: &StatusTable, horizon: Xid) -> bool
+fn have_prefixes(page: &Page, named: &Named, table: &StatusTable, horizon: Xid) -> bool
     ensures { IsTrue result
         ↔
         ((root : ℕ) → is_root page.now.slots root ≡ true
-        → HasFront table.now horizon.0 page.now.slots (named_at named.now) root) }
+        → HasPrefix table.now horizon.0 page.now.slots (named_at named.now) root) }
 {
     for root in 1..page.slots() + 1 {
-        if is_root(page, root) && !has_front(page, named, root, table, horizon) {
+        if is_root(page, root) && !has_prefix(page, named, root, table, horizon) {
             return false;
         }
     }
@@ -197,5 +197,5 @@ pub fn check_plan(page: &Page, plan: &PrunePlan, table: &StatusTable, horizon: X
     let named = named_by(&plan.actions);
     let mut marks = [PruneVerdict::Orphan; 292];
     mark_page(&mut marks, page, table, horizon);
-    have_fronts(page, &named, table, horizon) && are_accounted(page, &marks, &named, table)
+    have_prefixes(page, &named, table, horizon) && are_accounted(page, &marks, &named, table)
 }

@@ -25,7 +25,7 @@ use Rattle.index_lookup.specs.Pages.{slots_on, version_in}
 use Rattle.heap_write.specs.Heap.{HeapView, slots_of}
 use Rattle.heap_write.specs.Writes.{Prunes}
 use Rattle.table_integrity.specs.Table.{SoundTable}
-use Rattle.table_integrity.proofs.Standing.{RemovesOn, prunes-stand}
+use Rattle.table_integrity.proofs.Places.{RemovesOn, prunes-stand}
 use Rattle.table_integrity.proofs.Keeping.{pruned-stays}
 use Rattle.history.specs.World.{World}
 use Rattle.refinement.specs.declared.step.Step.TheVariants.{Prune}

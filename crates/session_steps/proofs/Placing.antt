@@ -15,7 +15,7 @@ use Rattle.visibility.proofs.Makers.{is-inserter, is-deleter, committed-to, acti
 use Rattle.heap_write.specs.Heap.{HeapView}
 use Rattle.table_integrity.specs.Table.{MayDelete}
 use Rattle.table_integrity.specs.Laws.{WritesUnder}
-use Rattle.table_integrity.proofs.Standing.{AddsAt, AltersAt, IsNewBy, taken_version}
+use Rattle.table_integrity.proofs.Places.{AddsAt, AltersAt, IsNewBy, taken_version}
 use Rattle.history.specs.World.{World}
 use Rattle.visibility.specs.Seeing.{deleter}
 use Rattle.refinement.specs.Changes as change

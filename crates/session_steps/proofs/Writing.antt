@@ -14,7 +14,7 @@ use Rattle.heap_write.specs.declared.heap.WriteFault.TheVariants as fault
 use Rattle.heap_write.specs.Heap.{HeapView, SameIds, Keeps, slots_of}
 use Rattle.heap_write.specs.Writes.{TakesIds, PrunesIfFull, Inserts, Updates, Deletes}
 use Rattle.heap_write.specs.Refusals.{LacksForInsert, FailsUpdate, FailsDelete, VersionIsThere}
-use Rattle.table_integrity.proofs.Standing.{readies-stand, version-on, root-new, root_version, free_place, taken_version, inserts-stand, deletes-stand, updates-ready, updates-stand}
+use Rattle.table_integrity.proofs.Places.{readies-stand, version-on, root-new, root_version, free_place, taken_version, inserts-stand, deletes-stand, updates-ready, updates-stand}
 use Rattle.table_integrity.proofs.Keeping.{kept-stays, readied-stays, ready-come, given-stays}
 use Rattle.table_integrity.proofs.InUse.{stays-then}
 use Rattle.table_integrity.proofs.Writing.{inserted-stays, updated-stays, deleted-stays}

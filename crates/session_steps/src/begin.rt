@@ -27,10 +27,10 @@ fn take_snapshot(
     ensures ok { IfOk result (λ s. s ≡ taken next.0 (owns_of sessions.now)) }
     ensures err { OnErr result (8 < length (taken next.0 (owns_of sessions.now)).listed) }
 {
-    let mut snapshot = Snapshot::at(alloc, next);
+    let mut snapshot = Snapshot::empty(alloc, next);
     for session in sessions {
         if let Some(session) = session {
-            snapshot.list(&session.own)?;
+            snapshot.add_transaction(&session.own)?;
         }
     }
     Ok(snapshot)

@@ -42,7 +42,7 @@ impl Model for Snapshot {
 
 impl Snapshot {
     /// The snapshot that is taken where no transaction is open and `next` is the next id.
-    pub fn at(alloc: Global, next: Xid) -> Self
+    pub fn empty(alloc: Global, next: Xid) -> Self
         requires { IsNormal next.0 }
         ensures { result ≡ empty_at next.0 }
     {
@@ -94,9 +94,9 @@ impl Snapshot {
         self.has_finished(tested)
     }
 
-    /// Lists an open transaction by its own ids: the topmost one, and the others where they are at most 64. A
+    /// Adds an open transaction by its own ids: the topmost one, and the others where they are at most 64. A
     /// transaction that has no id yet is not listed. It takes memory only where it is listed, and more than 8 ids are then.
-    pub fn list(&mut self, own: &OwnIds) -> Result<(), AllocError>
+    pub fn add_transaction(&mut self, own: &OwnIds) -> Result<(), AllocError>
         ensures listed { OnOk result (self.new ≡ listing self.old own.now.ids) }
         ensures refused { OnErr result (self.new ≡ self.old) }
         ensures no_memory { OnErr result (8 < length (listing self.old own.now.ids).listed) }

@@ -36,7 +36,7 @@ use Rattle.heap_write.specs.declared.heap.WriteFault.TheVariants as fault
 use Rattle.table_integrity.specs.Table.{SoundTable, StaysSoundTable}
 use Rattle.table_integrity.specs.Laws.{FinishesInTable}
 use Rattle.table_integrity.specs.Readers.{FindsAt, FindsRowAt, FindsTheSame}
-use Rattle.table_integrity.proofs.Standing.{slots_on-page_on, version-on, free_place, root_version, root-puts, root-stands, away-puts, here-puts, by-root-still, prunes-on, prunes-puts}
+use Rattle.table_integrity.proofs.Places.{slots_on-page_on, version-on, free_place, root_version, root-puts, root-stands, away-puts, here-puts, by-root-still, prunes-on, prunes-puts}
 use Rattle.table_integrity.proofs.InUse.{used-by, same-in, enters-used, enters-adds, index-sound, table-stays}
 use Rattle.root_index.specs.declared.progress.Progress.{Progress}
 use Rattle.root_index.specs.declared.progress.Progress.TheVariants.{Done}

@@ -22,7 +22,7 @@ use Rattle.index_lookup.specs.Pages.{slots_on, slot_in, version_in}
 use Rattle.table_indexes.specs.Indexes.{entries_in, IsInUse}
 use Rattle.heap_write.specs.Heap.{HeapView, slots_of}
 use Rattle.heap_write.specs.Writes.{Prunes}
-use Rattle.table_integrity.proofs.Standing.{prunes-on, prunes-puts}
+use Rattle.table_integrity.proofs.Places.{prunes-on, prunes-puts}
 use Rattle.vacuum_passes.specs.declared.vacuum.Mode.{Mode}
 use Rattle.vacuum_passes.specs.declared.vacuum.Mode.TheVariants.{Aggressive}
 use Rattle.vacuum_passes.specs.declared.vacuum.Piece.{Piece}

@@ -24,7 +24,7 @@ use Rattle.heap_write.specs.Refusals.{AfterPruning, FailsUpdate, VersionIsThere}
 use Rattle.heap_write.specs.declared.heap.WriteFault.{WriteFault}
 use Rattle.heap_write.specs.declared.heap.WriteFault.TheVariants as fault
 use Rattle.heap_write.proofs.IdLemmas.{same-status}
-use Rattle.table_integrity.proofs.Standing.{free_place}
+use Rattle.table_integrity.proofs.Places.{free_place}
 use Rattle.sound_vacuum.specs.Maps.{MapsAreTrue, flagged_as}
 use Rattle.sound_vacuum.specs.Cleaning.{IsNoVisit}
 use Rattle.sound_vacuum.specs.Between.{StepsBetween}

@@ -7,7 +7,7 @@ use Rattle.tuple_header.specs.Version.{Version}
 use Rattle.tuple_header.specs.declared.version.Header.{Header}
 use Rattle.tuple_header.specs.declared.version.Row.{Row}
 use Rattle.table_integrity.specs.Readers.{FindsAt}
-use Rattle.table_integrity.proofs.Standing.{AddsAt, AltersAt}
+use Rattle.table_integrity.proofs.Places.{AddsAt, AltersAt}
 
 pub both : {A B C : Type 0} → (A ↔ B) → (B ↔ C) → A ↔ C
 both f g = (λ a. g.0 (f.0 a), λ c. f.1 (g.1 c))

@@ -23,7 +23,7 @@ use Rattle.heap_write.specs.Writes.{TakesIds, Inserts, Updates, Deletes, Prunes}
 use Rattle.table_integrity.specs.Table.{SoundTable, MayDelete}
 use Rattle.table_integrity.specs.Laws.{WritesUnder}
 use Rattle.table_integrity.specs.Readers.{FindsAt, FindsRowAt, IsTableReader, FindsTheSame, IsAuthor, FindsOneMore, Elsewhere}
-use Rattle.table_integrity.proofs.Standing.{RemovesOn, Replaced, taken_version, free_place, root_version, root-new, prunes-stand, readies-stand, inserts-stand, deletes-stand, updates-ready, updates-stand}
+use Rattle.table_integrity.proofs.Places.{RemovesOn, Replaced, taken_version, free_place, root_version, root-new, prunes-stand, readies-stand, inserts-stand, deletes-stand, updates-ready, updates-stand}
 use Rattle.table_integrity.proofs.Finding.{both, SameSight, adds-unseen, adds-seen, alters-same, alters-hidden}
 use Rattle.table_integrity.proofs.TakenIds.{takes-ids, takes-versions, takes-active, takes-mine}
 use Rattle.table_integrity.proofs.Sights.{active-unread, new-unseen, new-seen, taken-same, taken-unseen, author-sight}

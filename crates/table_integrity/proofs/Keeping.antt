@@ -33,7 +33,7 @@ use Rattle.table_integrity.specs.Table.{SoundTable, StaysSoundTable}
 use Rattle.table_integrity.specs.Laws.{FinishesInTable}
 use Rattle.table_integrity.proofs.Memory.{same-status, same-sound}
 use Rattle.table_integrity.proofs.TakenIds.{under-keeps, takes-mine, takes-active}
-use Rattle.table_integrity.proofs.Standing.{prunes-on, prunes-puts}
+use Rattle.table_integrity.proofs.Places.{prunes-on, prunes-puts}
 use Rattle.table_integrity.proofs.InUse.{OnlyCome, same-come, index-sound, same-stays, stays-then}
 
 -- A page is pruned.

@@ -21,7 +21,7 @@ use Rattle.heap_write.specs.Heap.{HeapView, slots_of}
 use Rattle.heap_write.specs.Writes.{TakesIds}
 use Rattle.table_integrity.specs.Readers.{IsAuthor}
 use Rattle.table_integrity.proofs.TakenIds.{takes-ids, takes-more, takes-old}
-use Rattle.table_integrity.proofs.Standing.{IsNewBy, taken_version}
+use Rattle.table_integrity.proofs.Places.{IsNewBy, taken_version}
 
 -- Who does not own an id in progress doesn't read it.
 pub active-unread : (w : Window) (s : Snap) (own : List ℕ) (x : ℕ) → IsActive w x → ¬ Contains own x → ¬ ReadsIn w s own x

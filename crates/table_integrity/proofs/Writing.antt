@@ -21,7 +21,7 @@ use Rattle.heap_write.specs.Heap.{HeapView, slots_of, page_on}
 use Rattle.heap_write.specs.Writes.{PutsRoot, SetsXmax, HotUpdates, ColdUpdates, KeepsValues, UpdatesOnPage, Replaces, Inserts, Updates, Deletes}
 use Rattle.table_integrity.specs.Table.{SoundTable, StaysSoundTable, MayDelete}
 use Rattle.table_integrity.specs.Laws.{WritesUnder}
-use Rattle.table_integrity.proofs.Standing.{slots_on-page_on, row-there, free_place, root_version, root-puts, away-puts, here-puts, root-stands, by-root-still, updates-ready}
+use Rattle.table_integrity.proofs.Places.{slots_on-page_on, row-there, free_place, root_version, root-puts, away-puts, here-puts, root-stands, by-root-still, updates-ready}
 use Rattle.table_integrity.proofs.InUse.{used-by, enters-used, enters-adds, enters-come, index-sound, table-stays, same-stays, stays-then}
 use Rattle.table_integrity.proofs.TakenIds.{takes-status}
 use Rattle.table_integrity.proofs.Keeping.{with_table, given-stays, ready-come, ready-stays}

@@ -83,7 +83,7 @@ pub fn empty(alloc: Global, stop_age: u16, max_pages: u16, indexed: [bool; 4]) -
 
 /// What one sees that begins when this id is the next.
 pub fn begun(alloc: Global, next: u32) -> Snapshot {
-    Snapshot::at(alloc, normal(next))
+    Snapshot::empty(alloc, normal(next))
 }
 
 fn is_known(heap: &HeapState, own: &OwnIds) -> bool

@@ -75,5 +75,5 @@ pub fn owner(alloc: Global, x: u32) -> OwnIds {
 
 /// What one sees that begins when this id is the next.
 pub fn begun(alloc: Global, next: u32) -> Snapshot {
-    Snapshot::at(alloc, normal(next))
+    Snapshot::empty(alloc, normal(next))
 }

@@ -111,7 +111,7 @@ fn finish_all(table: &mut StatusTable, first: u32, last: u32, status: Status) {
 
 fn beside(alloc: Global, table: &StatusTable, own: &OwnIds) -> Result<Snapshot, AllocError> {
     let mut snapshot = begun(alloc, next_id(table));
-    snapshot.list(own)?;
+    snapshot.add_transaction(own)?;
     Ok(snapshot)
 }
 

@@ -26,7 +26,7 @@ fn version_of(life: Life) -> Option<Tuple> {
 /// What is seen beside the session of id 5.
 fn beside_5(alloc: Global, table: &StatusTable) -> Option<Snapshot> {
     let mut snapshot = begun(alloc, next_id(table));
-    match snapshot.list(&owner(alloc, 5)) {
+    match snapshot.add_transaction(&owner(alloc, 5)) {
         Ok(()) => Some(snapshot),
         Err(_) => None,
     }

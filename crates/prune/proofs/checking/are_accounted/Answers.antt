@@ -1,6 +1,6 @@
 use Rattle.std.proofs.Common.{◌≤◌, arith}
 use Rattle.prune.specs.Named.{IsLooseRight}
-use Rattle.prune.proofs.Fronts.{refused, taken, off-because}
+use Rattle.prune.proofs.Prefixes.{refused, taken, off-because}
 use Rattle.prune.proofs.NamedLemmas.{so-far}
 use Rattle.prune.proofs.checking.are_accounted.Goals as goal
 

@@ -1,7 +1,7 @@
 use Rattle.std.proofs.Common.{sym}
 use Rattle.visibility.specs.Visible.{IsDead}
 use Rattle.prune.proofs.Cuts.{dead-there, made-known}
-use Rattle.prune.proofs.Fronts.{taken, refused}
+use Rattle.prune.proofs.Prefixes.{taken, refused}
 use Rattle.prune.proofs.dead.unaborted_after.Goals as goal
 
 pub returns-then-is_past : goal.returns-then-is_past

@@ -3,7 +3,7 @@ use Rattle.arrayvec.specs.ArrayVec.{ArrayVec}
 use Rattle.prune.specs.declared.action.Action.{Action}
 use Rattle.prune.specs.Checks.{Checks}
 use Rattle.prune.specs.Pruning.{IsPlan}
-use Rattle.prune.proofs.Fronts.{refused}
+use Rattle.prune.proofs.Prefixes.{refused}
 use Rattle.prune.proofs.Idle.{idle-plan}
 use Rattle.prune.proofs.PlanChecks.{plan-checks}
 use Rattle.prune.proofs.planning.plan.Goals.{then-has_dead, else-has_dead}

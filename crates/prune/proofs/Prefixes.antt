@@ -11,8 +11,8 @@ use Rattle.prune.specs.declared.action.Action.{Action}
 use Rattle.prune.specs.Cutting.{IsCutCount}
 use Rattle.prune.specs.Pruning.{root_action}
 use Rattle.prune.specs.Marks.{AreNumbers}
-use Rattle.prune.specs.Checks.{IsFront, HasFront}
-use Rattle.prune.specs.Named.{named_at, IsNamedFront, BecomesUnused}
+use Rattle.prune.specs.Checks.{IsPrefix, HasPrefix}
+use Rattle.prune.specs.Named.{named_at, IsNamedPrefix, BecomesUnused}
 
 -- Answers of tests.
 
@@ -38,15 +38,15 @@ pub record IsRest (xs rest : List ℕ) (from : ℕ) : Type 0 where
   pub size : length rest ≡ length xs - from
   pub each : (i : ℕ) → i < length rest → get_or rest i 0 ≡ get_or xs (from + i) 0
 
-prefix-same : (w : Window) (horizon : ℕ) (slots : List Slot) (named : List (Option Action)) (root : ℕ) (chain : List ℕ) (a b : ℕ) → IsNamedFront named chain a
-    → IsFront w horizon slots (named_at named) root chain b → b ≡ a
+prefix-same : (w : Window) (horizon : ℕ) (slots : List Slot) (named : List (Option Action)) (root : ℕ) (chain : List ℕ) (a b : ℕ) → IsNamedPrefix named chain a
+    → IsPrefix w horizon slots (named_at named) root chain b → b ≡ a
 prefix-same w horizon slots named root chain a b n f = ⊎_elim
     (λ lt. absurd (some-not_none (named_at named (get_or chain a 0)) ((f.removed a (let h = f.within in omega arith)).1 lt) (n.next (let h = f.within in omega arith))))
     (λ ge. ⊎_elim (λ gt. absurd (let h = (f.removed b (let l = n.within in omega arith)).0 (n.all b gt) in omega arith)) (λ le. omega arith) (cases_lt b a))
     (cases_lt a b)
 
 pub prefix-within_cut : (w : Window) (horizon : ℕ) (slots : List Slot) (named : List (Option Action)) (root : ℕ) (chain : List ℕ) (prefix cut : ℕ)
-    → IsChain (has_aborted w) slots root chain → IsNamedFront named chain prefix → IsCutCount w horizon slots chain cut → cut < prefix → ¬ HasFront w horizon slots (named_at named) root
+    → IsChain (has_aborted w) slots root chain → IsNamedPrefix named chain prefix → IsCutCount w horizon slots chain cut → cut < prefix → ¬ HasPrefix w horizon slots (named_at named) root
 prefix-within_cut w horizon slots named root chain prefix cut c n count lt has =
     let f = has chain c in
     let same = prefix-same w horizon slots named root chain prefix f.0 n f.1 in
@@ -54,12 +54,12 @@ prefix-within_cut w horizon slots named root chain prefix cut c n count lt has =
     count.none_after d.0 (let le = d.1 in omega arith) d.2 d.3
 
 pub prefix-right : (w : Window) (horizon : ℕ) (slots : List Slot) (named : List (Option Action)) (root : ℕ) (chain rest : List ℕ) (prefix cut : ℕ) (b : Bool)
-    → IsChain (has_aborted w) slots root chain → IsNamedFront named chain prefix → IsRest chain rest prefix → IsCutCount w horizon slots chain cut → prefix ≤ cut
+    → IsChain (has_aborted w) slots root chain → IsNamedPrefix named chain prefix → IsRest chain rest prefix → IsCutCount w horizon slots chain cut → prefix ≤ cut
     → ((i : ℕ) → i < length rest → named_at named (get_or rest i 0) ≡ None)
     → ((i : ℕ) → i < length (take prefix chain) → BecomesUnused slots named (get_or (take prefix chain) i 0))
-    → (IsTrue b ↔ (named_at named root ≡ root_action prefix (slice_get chain prefix))) → IsTrue b ↔ HasFront w horizon slots (named_at named) root
+    → (IsTrue b ↔ (named_at named root ≡ root_action prefix (slice_get chain prefix))) → IsTrue b ↔ HasPrefix w horizon slots (named_at named) root
 prefix-right w horizon slots named root chain rest prefix cut b c n r count le unnamed unused same = (
-  λ t d other. subst (λ l. (f : ℕ) × IsFront w horizon slots (named_at named) root l f) (chain-one (has_aborted w) slots root chain d c other) (
+  λ t d other. subst (λ l. (f : ℕ) × IsPrefix w horizon slots (named_at named) root l f) (chain-one (has_aborted w) slots root chain d c other) (
     prefix,
     record {
       within = n.within;

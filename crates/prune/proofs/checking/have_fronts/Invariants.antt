@@ -1,8 +1,0 @@
-use Rattle.std.proofs.Common.{◌≡◌, ℕ, ◌<◌, true}
-use Rattle.hot_chain.specs.Chain.{is_root}
-use Rattle.prune.specs.Named.{named_at}
-use Rattle.prune.specs.Checks.{HasFront}
-use Rattle.prune.proofs.checking.have_fronts.Given as goal
-
-abbrev pub invariant-loop-root : goal.invariant-loop-root
-invariant-loop-root l = (r : ℕ) → r < l.root → is_root l.page.slots r ≡ true → HasFront l.table l.horizon.0 l.page.slots (named_at l.named) r
