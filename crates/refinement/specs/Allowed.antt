@@ -6,11 +6,11 @@ use Rattle.history.specs.Cursors.{keys_of, IsOver, HandsOutPart}
 use Rattle.history.specs.Moves.{stepped, begun, change, with_row, without_row, as_failed, with_savepoint, rolled_back_to, without_savepoint, aborted, committed_by, with_index_cursor, with_heap_cursor, with_taken, without_cursor}
 use Rattle.history.specs.Laws.{FirstCommitterWins, HeldInTime, HeldOnce}
 use Rattle.refinement.specs.declared.step.Step.{Step}
-use Rattle.refinement.specs.declared.step.Step.TheVariants.{Begin, Get, Insert, Update, Delete, Savepoint, RollbackTo, Release, Commit, Abort, OpenIndex, OpenHeap, Next, Close, Prune}
+use Rattle.refinement.specs.declared.step.Step.TheVariants.{Begin, Get, Insert, Update, Delete, Savepoint, RollbackTo, Release, Commit, Abort, OpenIndex, OpenHeap, Next, Close, Prune, VacuumBegin, VacuumStep, VacuumCancel}
 use Rattle.refinement.specs.declared.reply.Reply.{Reply}
-use Rattle.refinement.specs.declared.reply.Reply.TheVariants.{Done, Found, Committed, RolledBack, Rows, End, Refused}
+use Rattle.refinement.specs.declared.reply.Reply.TheVariants.{Done, Found, Committed, RolledBack, Rows, End, Worked, Ended, Refused}
 use Rattle.refinement.specs.declared.reply.Refusal.{Refusal}
-use Rattle.refinement.specs.declared.reply.Refusal.TheVariants.{NotOpen, AlreadyOpen, Failed, AlreadyThere, NotThere, Conflict, Busy, CursorOpen, NoCursor, TooDeep, NoSavepoint, TooLarge, NoRoom, NeedsFreeze, NoMemory, NoSuchPage, NoSuchIndex, NoSuchSession, BadBounds}
+use Rattle.refinement.specs.declared.reply.Refusal.TheVariants.{NotOpen, AlreadyOpen, Failed, AlreadyThere, NotThere, Conflict, Busy, CursorOpen, NoCursor, TooDeep, NoSavepoint, TooLarge, NoRoom, NeedsFreeze, NoMemory, VacuumRunning, NoVacuum, NoSuchPage, NoSuchIndex, NoSuchSession, BadBounds}
 use Rattle.refinement.specs.Words.{FitsRow, row_of}
 use Rattle.refinement.specs.Writes.{WriteStep, inserts, updates, deletes, key_of, IsPut, Asks}
 use Rattle.snapshot.specs.declared.own.TheConstants.{MOST_SAVEPOINTS}
@@ -35,6 +35,16 @@ session_of (OpenHeap s) = Some s
 session_of (Next s n) = Some s
 session_of (Close s) = Some s
 session_of (Prune p) = None
+session_of (VacuumBegin mode) = None
+session_of VacuumStep = None
+session_of VacuumCancel = None
+
+-- whether it is a vacuum's
+abbrev pub is_vacuum_step : Step → Bool
+is_vacuum_step (VacuumBegin mode) = true
+is_vacuum_step VacuumStep = true
+is_vacuum_step VacuumCancel = true
+is_vacuum_step step = false
 
 -- the write suits the session: it may write, and what it reads of the key is what the write asks for
 pub record Suits (w : World) (s : ℕ) (write : WriteStep) (m : OpenSession) : Type 0 where
@@ -136,6 +146,13 @@ Allows w (Close s) (Refused refusal) = AllowsBare w s refusal
 Allows w (Prune p) Done = Unit {0}
 Allows w (Prune p) (Refused NoSuchPage) = Unit {0}
 Allows w (Prune p) (Refused NoMemory) = Unit {0}
+Allows w (VacuumBegin mode) Done = Unit {0}
+Allows w (VacuumBegin mode) (Refused VacuumRunning) = Unit {0}
+Allows w VacuumStep (Worked piece) = Unit {0}
+Allows w VacuumStep (Ended first) = Unit {0}
+Allows w VacuumStep (Refused NoVacuum) = Unit {0}
+Allows w VacuumCancel Done = Unit {0}
+Allows w VacuumCancel (Refused NoVacuum) = Unit {0}
 Allows w step reply = ⊥
 
 -- a step that reads or is refused only ends the session's own wait

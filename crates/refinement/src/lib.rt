@@ -9,8 +9,10 @@ pub mod laws;
 mod reply;
 mod settings;
 mod step;
+mod vacuum;
 
 pub use reply::{Refusal, Reply};
 pub use settings::{Settings, SettingsFault};
 pub use step::{RowIn, Step};
 pub use tuple_header::Row;
+pub use vacuum::{Mode, Piece};

@@ -1,5 +1,6 @@
 //! The replies to steps.
 
+use crate::vacuum::Piece;
 use tuple_header::Row;
 
 /// Why a step was not done. After each, the history and every session's rows are as they were; `Conflict` makes the
@@ -37,6 +38,10 @@ pub enum Refusal {
     NeedsFreeze,
     /// Memory was refused.
     NoMemory,
+    /// A vacuum is running.
+    VacuumRunning,
+    /// No vacuum is running.
+    NoVacuum,
     /// There are no more pages in use than the number that was named.
     NoSuchPage,
     /// There is no index of that number.
@@ -62,6 +67,10 @@ pub enum Reply {
     Rows(Vec<Row>),
     /// The cursor has handed out all its rows. It stays open.
     End,
+    /// The vacuum did this, and goes on.
+    Worked(Piece),
+    /// The vacuum has ended. The oldest id that is remembered now.
+    Ended(u32),
     /// The step was not done.
     Refused(Refusal),
 }

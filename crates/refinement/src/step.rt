@@ -1,9 +1,10 @@
-//! The steps that sessions may take.
+//! The steps of sessions, and of those who clean the table.
 
 ghost use Rattle.std.specs.Prelude.{◌≡◌, ◌<◌, length, IfOk, OnErr};
 ghost use Rattle.refinement.specs.Bounds.{HasBounds};
 ghost use Rattle.refinement.specs.Writes.{HasBody};
 
+use crate::vacuum::Mode;
 use std::alloc::{AllocError, Global};
 use std::marker::Model;
 
@@ -61,6 +62,13 @@ pub enum Step {
     Close(u8),
     /// Takes from a page, counted from 0, what nobody can see any more.
     Prune(u32),
+    /// Begins a vacuum, of which one runs at a time.
+    VacuumBegin(Mode),
+    /// Does the next step of the vacuum: it visits one page, goes through one piece of an index, or frees the collected slots of
+    /// one page. Where nothing is left to do it ends.
+    VacuumStep,
+    /// Drops the vacuum. What it did stays.
+    VacuumCancel,
 }
 
 /// An equal body. An empty one takes no memory.
@@ -121,6 +129,9 @@ impl Step {
             Step::Next(s, count) => Ok(Step::Next(*s, *count)),
             Step::Close(s) => Ok(Step::Close(*s)),
             Step::Prune(page) => Ok(Step::Prune(*page)),
+            Step::VacuumBegin(mode) => Ok(Step::VacuumBegin(*mode)),
+            Step::VacuumStep => Ok(Step::VacuumStep),
+            Step::VacuumCancel => Ok(Step::VacuumCancel),
         }
     }
 }

@@ -7,6 +7,7 @@ pub mod Tests
 pub mod Replies
 pub mod Changes
 pub mod Writes
+pub mod Vacuums
 pub mod Takes
 pub mod Exact
 pub mod Follows

@@ -15,4 +15,5 @@ mod sweeping;
 mod vacuum;
 mod visiting;
 
-pub use vacuum::{Mode, Phase, Piece, Vacuum};
+pub use refinement::{Mode, Piece};
+pub use vacuum::{Phase, Vacuum};

@@ -12,9 +12,10 @@ ghost use Rattle.vacuum_passes.specs.Working.{StoreIsInUse};
 
 use crate::freeing::{after_freeing, free_from};
 use crate::sweeping::sweep_piece;
-use crate::vacuum::{Mode, Phase, Piece, Vacuum};
+use crate::vacuum::{Phase, Vacuum};
 use crate::visiting::visit_and_collect;
 use heap_write::HeapState;
+use refinement::{Mode, Piece};
 use root_index::Entry;
 use xid_circle::Xid;
 

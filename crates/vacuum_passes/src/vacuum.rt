@@ -4,29 +4,10 @@ ghost use Rattle.std.specs.Prelude.{◌≡◌, ◌<◌, ◌≤◌};
 ghost use Rattle.xid_circle.specs.Circle.{IsNormal};
 ghost use Rattle.vacuum_passes.specs.View.{new_vacuum, disturbed};
 
+use refinement::Mode;
 use root_index::{DeadSet, Entry};
 use std::marker::Model;
 use xid_circle::Xid;
-
-/// Which pages a vacuum passes over.
-#[derive(Clone, Copy, Debug, PartialEq, Eq)]
-pub enum Mode {
-    /// Those that are all-visible.
-    Normal,
-    /// Only those that are all-frozen. At its end old ids are forgotten.
-    Aggressive,
-}
-
-/// What one step did.
-#[derive(Clone, Copy, Debug, PartialEq, Eq)]
-pub enum Piece {
-    /// Visited this page: pruned it, froze it, and collected dead slots.
-    Heap(u32),
-    /// Removed entries to collected slots from a piece of this index.
-    Index(u8),
-    /// Made the collected slots of this page unused.
-    Free(u32),
-}
 
 /// What a vacuum does next.
 #[derive(Clone, Copy, Debug, PartialEq, Eq)]
