@@ -9,7 +9,7 @@ pub mod Removing
 pub mod Unshared
 pub mod Unseen
 pub mod NamedLemmas
-pub mod Fronts
+pub mod Prefixes
 pub mod CheckLemmas
 pub mod PlanChecks
 pub mod Raising

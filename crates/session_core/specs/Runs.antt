@@ -10,25 +10,27 @@ use Rattle.refinement.specs.Writes.{HasBody}
 use Rattle.refinement.specs.Allowed.{after}
 use Rattle.session_core.specs.declared.runs.RunFault.{RunFault}
 use Rattle.session_core.specs.declared.runs.RunFault.TheVariants as fault
-use Rattle.session_core.specs.View.{EngineView}
-use Rattle.session_steps.specs.Agrees.{Agrees, Follows}
-use Rattle.session_steps.specs.Exact.{Exact}
-use Rattle.session_steps.specs.New.{IsNew}
+use Rattle.vacuum_engine.specs.State.{EngineView}
+use Rattle.vacuum_engine.specs.Exact.{EngineExact}
+use Rattle.vacuum_engine.specs.Agrees.{EngineAgrees}
+use Rattle.vacuum_engine.specs.Clauses.{EngineFollows}
+use Rattle.vacuum_engine.specs.New.{IsNewEngine}
 
 -- the engine's states one after another: by each step and its reply it follows the history, and does what the history leaves
 -- to it exactly
 abbrev pub RepliesLead : EngineView → List Step → List Reply → EngineView → Type 0
 RepliesLead old [] [] new = old ≡ new
-RepliesLead old (step ∷ steps) (reply ∷ replies) new = (e : EngineView) × Follows old.core step reply e.core × Exact old.core step reply e.core × RepliesLead e steps replies new
+RepliesLead old (step ∷ steps) (reply ∷ replies) new = (e : EngineView)
+    × EngineFollows old step reply e × EngineExact old step reply e × RepliesLead e steps replies new
 RepliesLead old steps replies new = ⊥
 
 -- a new engine of these settings did the steps, and gave these replies
 pub record Ran (settings : Settings) (steps : List Step) (replies : List Reply) : Type 0 where
   pub first : EngineView
-  pub new : IsNew settings first.core
+  pub new : IsNewEngine settings first
   pub last : EngineView
   pub leads : RepliesLead first steps replies last
-  pub agrees : Agrees last.core (after (beginning settings.indexed) steps replies)
+  pub agrees : EngineAgrees last (after (beginning settings.indexed) steps replies)
 
 -- What had to grow, where memory was refused: the list of the replies, before the first step, or the copy of a step with a body,
 -- when those before it were done.
@@ -39,7 +41,7 @@ pub data WantsMemory (old : EngineView) (steps : List Step) (new : EngineView) :
 -- memory was refused to a new engine, or when there was one
 pub data WantsToRun (settings : Settings) (steps : List Step) : Type 0 where
   for_engine : AreSettings settings → WantsToRun settings steps
-  for_steps : (first last : EngineView) → IsNew settings first.core → AreSettings settings → WantsMemory first steps last → WantsToRun settings steps
+  for_steps : (first last : EngineView) → IsNewEngine settings first → AreSettings settings → WantsMemory first steps last → WantsToRun settings steps
 
 -- a setting is the first out of its range, or all are in theirs and memory was refused
 abbrev pub FirstRunFault : Settings → List Step → RunFault → Type 0

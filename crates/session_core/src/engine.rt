@@ -1,68 +1,104 @@
 //! The engine as its callers have it.
 
-ghost use Rattle.std.specs.Prelude.{◌≡◌, slice_get, option_copied, IfOk, IfErr, OnOk, MatchResult, Some};
+ghost use Rattle.std.specs.Prelude.{◌≡◌, slice_get, option_copied, IfOk, IfErr, OnOk, MatchResult, Some, false};
 ghost use Rattle.std.specs.Option.{option_map};
 ghost use Rattle.commit_status.specs.Window.{next_id};
 ghost use Rattle.history.specs.World.{World, OpenSession, view};
-ghost use Rattle.refinement.specs.Allowed.{AllowsClosed};
+ghost use Rattle.refinement.specs.Allowed.{AllowsClosed, is_vacuum_step};
 ghost use Rattle.refinement.specs.Words.{AreSettings, FirstFault};
-ghost use Rattle.session_steps.specs.State.{engine_index};
-ghost use Rattle.session_steps.specs.Agrees.{Agrees, Follows};
-ghost use Rattle.session_steps.specs.Exact.{Exact};
-ghost use Rattle.session_steps.specs.New.{IsNew};
+ghost use Rattle.session_steps.specs.State.{engine_index, bits_of};
+ghost use Rattle.session_steps.specs.Agrees.{Agrees};
+ghost use Rattle.vacuum_engine.specs.State.{is_session};
+ghost use Rattle.vacuum_engine.specs.Exact.{EngineExact};
+ghost use Rattle.vacuum_engine.specs.Clauses.{EngineFollows};
+ghost use Rattle.vacuum_engine.specs.New.{IsNewEngine};
 
 use page_slots::Page;
 use refinement::{Refusal, Reply, Row, Settings, SettingsFault, Step};
 use root_index::RootIndex;
+use session_steps::SessionEngine;
 use std::alloc::Global;
 use std::marker::Model;
+use vacuum_passes::Vacuum;
 use xid_circle::Xid;
 
-/// A table with its sessions, of which there may be 64 open at a time.
+/// A table with its sessions, of which there may be 64 open at a time, and a vacuum.
 #[derive(Drop)]
 pub struct Engine {
-    core: session_steps::SessionEngine,
+    pub(crate) core: SessionEngine,
+    pub(crate) vacuum: Option<Vacuum>,
 }
 
 impl Model for Engine {
-    ghost use Rattle.session_core.specs.View.{EngineView};
+    ghost use Rattle.vacuum_engine.specs.State.{EngineView};
 
     ghost Value = { EngineView };
 
-    ghost view = { λ e. record { core = e.core } };
+    ghost view = { λ e. record { core = e.core; vacuum = e.vacuum } };
+}
+
+/// Whether a step is a session's, be that open or not.
+fn is_session(step: &Step) -> bool
+    ensures { result ≡ is_session step.now }
+{
+    match step {
+        Step::Prune(_) | Step::VacuumBegin(_) | Step::VacuumStep | Step::VacuumCancel => false,
+        _ => true,
+    }
 }
 
 impl Engine {
-    /// An engine of these settings, without sessions, pages or entries. The fault names the first setting that is out of its
-    /// range, or memory.
+    /// An engine of these settings, without sessions, pages, entries or a vacuum. The fault names the first setting that is out of
+    /// its range, or memory.
     pub fn new(alloc: Global, settings: Settings) -> Result<Engine, SettingsFault>
-        ensures new { IfOk result (λ e. IsNew settings e.core) }
+        ensures new { IfOk result (λ e. IsNewEngine settings e) }
         ensures fault { IfErr result (λ fault. FirstFault settings fault) }
         ensures valid { OnOk result (AreSettings settings) }
     {
-        match session_steps::SessionEngine::new(alloc, settings) {
-            Ok(core) => Ok(Engine { core }),
+        match SessionEngine::new(alloc, settings) {
+            Ok(core) => Ok(Engine { core, vacuum: None }),
             Err(fault) => Err(fault),
         }
     }
 
-    /// Does one step, and gives its reply: whatever world of the history the engine agrees with, the history allows
-    /// the reply, and the engine agrees with the next world. A step that is refused names the first reason that holds, in the order
-    /// of the table in docs/rules.md, or NoMemory, as is said below that table.
+    /// Does one step, and gives its reply: whatever world of the history the engine agrees with, the history allows the reply, and
+    /// the engine agrees with the next world; no index entry leads to a slot that was given to another row; and a vacuum that ends
+    /// leaves nothing that was dead when it began. A step that is refused names the first reason that holds, in the order of the
+    /// table in docs/rules.md, or NoMemory, as is said below that table.
     pub fn step(&mut self, step: Step) -> Reply
-        ensures follows { Follows self.old.core step result self.new.core }
-        ensures exact { Exact self.old.core step result self.new.core }
+        ensures follows { EngineFollows self.old step result self.new }
+        ensures exact { EngineExact self.old step result self.new }
     {
-        self.core.step(step)
+        let mut reply = Reply::Done;
+        self.step_into(step, &mut reply);
+        reply
     }
 
     /// Does one step as [`Engine::step`] does, and puts its reply in the place of an earlier one. A reply has room for a row, over a
     /// kilobyte; who does many steps needs one alone. The earlier one is dropped only when the new one is there, so the rows of two
     /// answers of a cursor may be in memory at once.
     pub fn step_into(&mut self, step: Step, reply: &mut Reply)
-        ensures follows { Follows self.old.core step reply.new self.new.core }
-        ensures exact { Exact self.old.core step reply.new self.new.core }
+        ensures follows { EngineFollows self.old step reply.new self.new }
+        ensures exact { EngineExact self.old step reply.new self.new }
     {
+        self.core.is_set_up();
+        match step {
+            Step::VacuumBegin(mode) => self.begin_vacuum(mode, reply),
+            Step::VacuumStep => self.step_vacuum(reply),
+            Step::VacuumCancel => self.cancel_vacuum(reply),
+            step => self.step_beside(step, reply),
+        }
+    }
+
+    /// Does a step that is no vacuum's. A vacuum that is running is disturbed by it.
+    fn step_beside(&mut self, step: Step, reply: &mut Reply)
+        requires { is_vacuum_step step ≡ false }
+        ensures follows { EngineFollows self.old step reply.new self.new }
+        ensures exact { EngineExact self.old step reply.new self.new }
+    {
+        if let Some(vacuum) = &mut self.vacuum {
+            vacuum.disturbed(is_session(&step));
+        }
         self.core.step_into(step, reply)
     }
 
@@ -99,9 +135,9 @@ impl Engine {
         self.core.index(number)
     }
 
-    /// The visibility map's bits of the page, if it is in use: 0, since no step sets one yet.
+    /// The visibility map's bits of the page, if it is in use: 1 where it is all-visible, 2 where it is all-frozen too, else 0.
     pub fn page_bits(&self, number: u32) -> Option<u8>
-        ensures { result ≡ option_map (λ _. 0) (slice_get self.now.core.heap.pages.pages number) }
+        ensures { result ≡ option_map bits_of (slice_get self.now.core.heap.pages.marks number) }
     {
         self.core.page_bits(number)
     }

@@ -12,5 +12,6 @@ pub record IsNew (asked : Settings) (st : State) : Type 0 where
   pub first : st.heap.table.first ≡ asked.first_xid
   pub ids : st.heap.table.entries ≡ []
   pub pages : st.heap.pages.pages ≡ []
+  pub marks : st.heap.pages.marks ≡ []
   pub indexes : (n : ℕ) → entries_at st.heap.indexes n ≡ new_entries asked.indexed n
   pub agrees : Agrees st (beginning asked.indexed)

@@ -5,6 +5,8 @@ use Rattle.snapshot.specs.Snap.{Sees, earliest}
 use Rattle.commit_status.specs.Window.{Window, next_id}
 use Rattle.visibility.specs.Visible.{state_of}
 use Rattle.page_slots.specs.declared.slot.Slot.{Slot}
+use Rattle.space_maps.specs.declared.mark.Mark.{Mark}
+use Rattle.space_maps.specs.declared.mark.Mark.TheVariants.{Nothing, AllVisible, AllFrozen}
 use Rattle.root_index.specs.View.{IndexView}
 use Rattle.table_indexes.specs.Indexes as indexes
 use Rattle.index_lookup.specs.Pages.{version_in}
@@ -29,6 +31,12 @@ session_at st s = option_flatten (slice_get st.sessions s)
 -- the index of this number, if there is one
 abbrev pub engine_index : State → ℕ → Option IndexView
 engine_index st number = indexes.index_at st.heap.indexes number
+
+-- the bits of a mark of the visibility map: all-visible, and all-frozen too
+abbrev pub bits_of : Mark → ℕ
+bits_of Nothing = 0
+bits_of AllVisible = 1
+bits_of AllFrozen = 2
 
 -- how far the cursor has got, as the relation has it
 abbrev pub seen_position : Option IndexPosition → Option relation.RowPosition

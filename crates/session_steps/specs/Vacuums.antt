@@ -8,7 +8,6 @@ use Rattle.refinement.specs.declared.vacuum.Mode.{Mode}
 use Rattle.refinement.specs.declared.vacuum.Piece.{Piece}
 use Rattle.vacuum_passes.specs.View.{VacuumView, new_vacuum}
 use Rattle.vacuum_passes.specs.Steps.{Steps}
-use Rattle.vacuum_passes.specs.Working.{StoreIsInUse}
 use Rattle.session_steps.specs.declared.session.Session.{Session}
 use Rattle.session_steps.specs.State.{State, session_at, horizon_of}
 
@@ -27,11 +26,10 @@ abbrev pub vacuum_begun : Mode → State → VacuumView
 vacuum_begun mode st = new_vacuum mode (horizon_of st) (cutoff_of st)
     (length st.heap.pages.pages) (all_entries st.heap.indexes) st.settings.dead_limit
 
--- A vacuum does its next step, at the present horizon, and nothing but the heap changes. (That the collected slots are on pages in
--- use is so of an engine that agrees with any world.)
+-- a vacuum does its next step, at the present horizon, and nothing but the heap changes
 pub record VacuumWorks (old new : State) (v : VacuumView) (after : Option VacuumView)
     (did : Option Piece) : Type 0 where
-  pub steps : StoreIsInUse old.heap v → Steps old.heap new.heap v (horizon_of old) after did
+  pub steps : Steps old.heap new.heap v (horizon_of old) after did
   pub is : new ≡ record old { heap = new.heap }
 
 -- Old ids can be forgotten: the cutoff is remembered or the next id, and no open session has an id before it. So it is wherever the

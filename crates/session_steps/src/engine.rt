@@ -4,12 +4,13 @@ ghost use Rattle.std.specs.Prelude.{◌≡◌, ◌≢◌, ◌<◌, slice_get, op
 ghost use Rattle.std.specs.Option.{option_map};
 ghost use Rattle.refinement.specs.Words.{AreSettings, FirstFault};
 ghost use Rattle.commit_status.specs.Window.{next_id};
-ghost use Rattle.session_steps.specs.State.{session_at, engine_index};
+ghost use Rattle.session_steps.specs.State.{session_at, engine_index, bits_of};
 ghost use Rattle.session_steps.specs.Changes.{Opens, Closes};
 ghost use Rattle.session_steps.specs.Refuses.{Refuses, RefusesReady, RefusesFree, MayAct, RefusesBare};
 ghost use Rattle.session_steps.specs.New.{IsNew};
 ghost use Rattle.session_steps.specs.declared.sessions.TheConstants.{MOST_SESSIONS};
 
+use crate::checked::CheckedSettings;
 use crate::cursor::Cursor;
 use crate::session::Session;
 use crate::sessions::Sessions;
@@ -19,6 +20,7 @@ use page_slots::Page;
 use refinement::{Refusal, Settings, SettingsFault};
 use root_index::RootIndex;
 use snapshot::{OwnIds, Snapshot};
+use space_maps::Mark;
 use std::alloc::Global;
 use std::marker::Model;
 use xid_circle::Xid;
@@ -27,7 +29,7 @@ use xid_circle::Xid;
 #[derive(Drop)]
 pub struct SessionEngine {
     pub(crate) alloc: Global,
-    pub(crate) settings: Settings,
+    pub(crate) settings: CheckedSettings,
     pub(crate) heap: HeapState,
     pub(crate) sessions: Sessions,
 }
@@ -41,6 +43,17 @@ impl Model for SessionEngine {
     ghost view = { λ e. record { settings = e.settings; heap = e.heap; sessions = e.sessions } };
 
     ghost invariant = { λ e. EngineKeeps e.sessions e.heap.table };
+}
+
+/// The bits of a mark, as they are shown.
+fn bits_of(mark: Mark) -> u8
+    ensures { result ≡ bits_of mark }
+{
+    match mark {
+        Mark::Nothing => 0,
+        Mark::AllVisible => 1,
+        Mark::AllFrozen => 2,
+    }
 }
 
 impl SessionEngine {
@@ -61,7 +74,7 @@ impl SessionEngine {
         let first = Xid(settings.first_xid);
         Ok(SessionEngine {
             alloc,
-            settings,
+            settings: CheckedSettings::new(settings),
             heap: HeapState::new(
                 alloc,
                 first,
@@ -97,12 +110,12 @@ impl SessionEngine {
         self.heap.index(number)
     }
 
-    /// The visibility map's bits of the page, if it is in use: 0, since there is no visibility map yet.
+    /// The visibility map's bits of the page, if it is in use: 1 where it is all-visible, 2 where it is all-frozen too, else 0.
     pub fn page_bits(&self, number: u32) -> Option<u8>
-        ensures { result ≡ option_map (λ _. 0) (slice_get self.now.heap.pages.pages number) }
+        ensures { result ≡ option_map bits_of (slice_get self.now.heap.pages.marks number) }
     {
-        match self.page(number) {
-            Some(_) => Some(0),
+        match self.heap.mark(number) {
+            Some(mark) => Some(bits_of(mark)),
             None => None,
         }
     }

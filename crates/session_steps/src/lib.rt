@@ -8,6 +8,7 @@
 #![tactic(auto)]
 
 mod begin;
+mod checked;
 mod checks;
 mod commit;
 mod cursor;
@@ -25,6 +26,7 @@ mod session;
 mod sessions;
 mod step;
 mod update;
+mod vacuuming;
 
 pub use engine::SessionEngine;
 pub use page_slots::Page;

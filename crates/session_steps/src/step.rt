@@ -1,8 +1,8 @@
 //! A step of the engine.
 
-ghost use Rattle.std.specs.Prelude.{◌≡◌, MatchResult, Some};
+ghost use Rattle.std.specs.Prelude.{◌≡◌, MatchResult, Some, false};
 ghost use Rattle.history.specs.World.{World, OpenSession, view};
-ghost use Rattle.refinement.specs.Allowed.{AllowsClosed};
+ghost use Rattle.refinement.specs.Allowed.{AllowsClosed, is_vacuum_step};
 ghost use Rattle.session_steps.specs.Agrees.{Agrees, Follows};
 ghost use Rattle.session_steps.specs.Exact.{Exact};
 
@@ -12,22 +12,13 @@ use crate::outcome::put_reply;
 use refinement::{Refusal, Reply, Row, Step};
 
 impl SessionEngine {
-    /// Does one step, and gives its reply: whatever world of the history the engine agrees with, the history allows
-    /// the reply, and the engine agrees with the next world. A step that is refused names the first reason that holds, in the order
-    /// of the table in docs/rules.md, or NoMemory, as is said below that table.
-    pub fn step(&mut self, step: Step) -> Reply
-        ensures follows { Follows self.old step result self.new }
-        ensures exact { Exact self.old step result self.new }
-    {
-        let mut reply = Reply::Done;
-        self.step_into(step, &mut reply);
-        reply
-    }
-
-    /// Does one step as [`SessionEngine::step`] does, and puts its reply in the place of an earlier one. A reply has room for a row, over a
-    /// kilobyte; who does many steps needs one alone. The earlier one is dropped only when the new one is there, so the rows of two
-    /// answers of a cursor may stand in memory at once.
+    /// Does one step, which is no vacuum's, and puts its reply in the place of an earlier one: whatever world of the history the
+    /// engine agrees with, the history allows the reply, and the engine agrees with the next world. A step that is refused names
+    /// the first reason that holds, in the order of the table in docs/rules.md, or NoMemory, as is said below that table. A reply
+    /// has room for a row, over a kilobyte; who does many steps needs one alone. The earlier one is dropped only when the new one
+    /// is there, so the rows of two answers of a cursor may be in memory at once.
     pub fn step_into(&mut self, step: Step, reply: &mut Reply)
+        requires { is_vacuum_step step ≡ false }
         ensures follows { Follows self.old step reply.new self.new }
         ensures exact { Exact self.old step reply.new self.new }
     {
@@ -48,6 +39,7 @@ impl SessionEngine {
             Step::Commit(s) => self.commit(s),
             Step::Abort(s) => self.abort(s),
             Step::Prune(page) => self.prune(page),
+            Step::VacuumBegin(_) | Step::VacuumStep | Step::VacuumCancel => unreachable!(),
         };
         put_reply(answer, reply)
     }

@@ -47,6 +47,7 @@ use Rattle.sound_vacuum.proofs.Visited.{freezes-put, visits-page, visited-settle
 use Rattle.sound_vacuum.proofs.Collected.{steps-keep, freed-others}
 use Rattle.sound_vacuum.proofs.Cleaned.{steps-end, stays-clean, stays-young, visit-stays_clean, visit-stays_young, pass-clean, pass-young, all-done, some-page}
 use Rattle.sound_vacuum.proofs.Growing.{steps-grow, steps-upto}
+use Rattle.vacuum_passes.proofs.OnePage.{never-drops}
 use Rattle.sound_vacuum.proofs.Behind.{nothing-behind, piece-behind, index-behind, all-behind, steps-behind, steps-all}
 use Rattle.sound_vacuum.proofs.Settled.{settled-idle, freed-visible}
 use Rattle.sound_vacuum.proofs.Stepping.{first-cutoff, the-cutoff, active-late, active-young, skipped-visible, skipped-frozen, notes-marks, notes-same, notes-slots, notes-version, notes-count, notes-page, visit-table, visit-marks, visit-safe, sweep-table, sweep-safe, free-table, free-marks, free-safe, same-safe}
@@ -59,6 +60,7 @@ steps-safe h h' v horizon _ _ can keeps (Steps.visits p v' is next visit) = visi
 steps-safe h h' v horizon _ _ can keeps (Steps.begins_index v' is over some s) = sweep-safe h h' 0 v.store None s.progress s.sweeps horizon can keeps.dead
 steps-safe h h' v horizon _ _ can keeps (Steps.sweeps i from v' is s) = sweep-safe h h' i v.store from s.progress s.sweeps horizon can keeps.dead
 steps-safe h h' v horizon _ _ can keeps (Steps.frees p v' is f) = free-safe h h' v v' horizon p can f (subst (KeepsSwept h v.store) is keeps.swept)
+steps-safe h h' v horizon _ _ can keeps (Steps.drops p v' is d) = absurd (never-drops h h' v v' p keeps.dead d)
 steps-safe h h' v horizon _ _ can keeps (Steps.ends is over none same) = same-safe h h' horizon can same
 
 -- A visit.
@@ -408,6 +410,7 @@ steps-on h h' v _ horizon _ can keeps i (Steps.sweeps k from v' is s) =
     let swept = subst (KeepsSwept h v.store) is keeps.swept in
     sweep-keeps h h' v v' k from horizon keeps s.progress s.sweeps v.next i swept.0 swept.1 keeps.clean keeps.young (λ quiet none mode p below. (keeps.quiet quiet none).ready mode p below) s.next s.same
 steps-on h h' v _ horizon _ can keeps i (Steps.frees p v' is f) = free-keeps h h' v v' horizon p can keeps (subst (KeepsSwept h v.store) is keeps.swept) f i
+steps-on h h' v _ horizon _ can keeps i (Steps.drops p v' is d) = absurd (never-drops h h' v v' p keeps.dead d)
 
 pub steps-go_on : (h h' : HeapView) (v v' : VacuumView) (horizon : ℕ) (piece : Piece) → CanVacuum h horizon → KeepsVacuum h horizon v → Steps h h' v horizon (Some v') (Some piece)
     → KeepsVacuum h' horizon v'

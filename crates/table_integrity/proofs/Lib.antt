@@ -1,6 +1,6 @@
 pub mod Memory
 pub mod TakenIds
-pub mod Standing
+pub mod Places
 pub mod InUse
 pub mod Keeping
 pub mod Writing

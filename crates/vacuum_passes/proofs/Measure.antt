@@ -25,12 +25,12 @@ use Rattle.vacuum_passes.specs.declared.vacuum.Phase.TheVariants as phase
 use Rattle.vacuum_passes.specs.View.{VacuumView, places, space, phase_with, collected, at_end, with_phase, counted, new_vacuum, bound}
 use Rattle.root_index.specs.Pieces.{RemovesPiece}
 use Rattle.vacuum_passes.specs.Visits.{Visits, IsNextPage}
-use Rattle.vacuum_passes.specs.Steps.{Steps, PhaseAfter, Sweeps, Frees, off_page, phase_left}
+use Rattle.vacuum_passes.specs.Steps.{Steps, PhaseAfter, Sweeps, Frees, Drops, off_page, phase_left}
 use Rattle.vacuum_passes.specs.Keeps.{KeepsStore}
 use Rattle.vacuum_passes.specs.Bound.{count_on, count_from, slots_left, pieces_in, pieces_of, pieces_from, all_pieces, pieces_after, whole_round, round_left, left, KeepsBound, IsWithin, CanCount}
 use Rattle.table_indexes.specs.Indexes.{HasIndexes, all_entries}
 use Rattle.vacuum_passes.proofs.ListLemmas.{pairs-take, in-taken, in-filter, in-mapped, in-mapping}
-use Rattle.vacuum_passes.proofs.OnePage.{SetsPage, visits-set, visits-count, visits-unused, frees-set}
+use Rattle.vacuum_passes.proofs.OnePage.{SetsPage, visits-set, visits-count, visits-unused, frees-set, never-drops}
 use Rattle.vacuum_passes.proofs.SlotCounts.{counts-unused, counts-among, counts-live, counts-less, Takes, count-taken, count-less, pages-less, pages-split, pages-most}
 use Rattle.vacuum_passes.proofs.PieceCounts.{piece-less, removed-fewer, piece-some, pieces-in_use, pieces-fewer, all-fewer, pieces-later, pieces-few}
 
@@ -368,6 +368,7 @@ steps-lower h h' v _ horizon _ c few (Steps.sweeps i from v' is s) =
     let same = ap (λ ph. round_left h.indexes v.store ph) is in
     sweep-lower h h' v v' i from s c.indexes (round_left h.indexes v.store v.phase) (omega (arith, same)) v.next (slots_left h v) (omega arith) (omega arith)
 steps-lower h h' v _ horizon _ c few (Steps.frees p v' is f) = free-lower h h' v v' horizon p c is f
+steps-lower h h' v _ horizon _ c few (Steps.drops p v' is d) = absurd (never-drops h h' v v' p c.dead d)
 
 -- no entry comes
 steps-pieces : (h h' : HeapView) (v v' : VacuumView) (horizon : ℕ) (piece : Piece) → CanCount h v → Steps h h' v horizon (Some v') (Some piece) → all_pieces h'.indexes ≤ all_pieces h.indexes
@@ -375,6 +376,7 @@ steps-pieces h h' v _ horizon _ c (Steps.visits p v' is next visit) = let e = vi
 steps-pieces h h' v _ horizon _ c (Steps.begins_index v' is over some s) = sweep-pieces h h' (at_end v) v' 0 None s
 steps-pieces h h' v _ horizon _ c (Steps.sweeps i from v' is s) = sweep-pieces h h' v v' i from s
 steps-pieces h h' v _ horizon _ c (Steps.frees p v' is f) = let e = free-pieces h h' v v' horizon p c is f in omega (arith, e)
+steps-pieces h h' v _ horizon _ c (Steps.drops p v' is d) = absurd (never-drops h h' v v' p c.dead d)
 
 -- what its beginning fixed stays, and it counts one step
 record GoesOn (v v' : VacuumView) : Type 0 where
@@ -395,6 +397,8 @@ steps-on h h' v _ horizon _ (Steps.visits p v' is next visit) = subst (λ (u : V
 steps-on h h' v _ horizon _ (Steps.begins_index v' is over some s) = subst (λ (u : VacuumView). GoesOn v (counted u)) (sym s.same) (counted-on v (with_phase (at_end v) v'.phase) refl refl refl refl)
 steps-on h h' v _ horizon _ (Steps.sweeps i from v' is s) = subst (λ (u : VacuumView). GoesOn v (counted u)) (sym s.same) (counted-on v (with_phase v v'.phase) refl refl refl refl)
 steps-on h h' v _ horizon _ (Steps.frees p v' is f) = subst (λ (u : VacuumView). GoesOn v (counted u)) (sym f.is)
+    (counted-on v (record v { store = off_page p v.store; phase = phase_left (off_page p v.store) }) refl refl refl refl)
+steps-on h h' v _ horizon _ (Steps.drops p v' is d) = subst (λ (u : VacuumView). GoesOn v (counted u)) (sym d.is)
     (counted-on v (record v { store = off_page p v.store; phase = phase_left (off_page p v.store) }) refl refl refl refl)
 
 pub steps-within : (h h' : HeapView) (v v' : VacuumView) (horizon : ℕ) (piece : Piece) → CanCount h v → IsWithin h v → Steps h h' v horizon (Some v') (Some piece) → IsWithin h' v'

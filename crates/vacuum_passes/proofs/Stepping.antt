@@ -1,5 +1,5 @@
 -- What a vacuum holds after a step, as it is seen.
-use Rattle.std.proofs.Common.{◌≡◌, ◌≢◌, ℕ, zero, suc, ◌+◌, ◌-◌, ◌<◌, ◌≤◌, ◌==◌, nat_lt, true, false, List, [], ◌∷◌, ◌++◌, length, map, take, drop, Option, Some, None, if◌then◌else◌, arith, refl, sym, ap, ◌∙◌, subst, ⊎_elim, Contains, slice_get}
+use Rattle.std.proofs.Common.{◌≡◌, ◌≢◌, ℕ, zero, suc, ◌+◌, ◌-◌, ◌<◌, ◌≤◌, ◌==◌, nat_lt, true, false, List, [], ◌∷◌, ◌++◌, length, map, take, drop, Option, Some, None, if◌then◌else◌, inl, inr, ◌⊎◌, arith, refl, sym, ap, ◌∙◌, subst, ⊎_elim, Contains, slice_get}
 use Rattle.std.proofs.lemmas.Bool.{cases_lt, eqb-true, eqb-false}
 use Rattle.std.proofs.lemmas.List.{drop_all, length-drop, nil_from_length}
 use Rattle.xid_circle.specs.declared.Tid.{Tid}
@@ -14,13 +14,13 @@ use Rattle.vacuum_passes.specs.declared.vacuum.Phase.{Phase}
 use Rattle.vacuum_passes.specs.declared.vacuum.Phase.TheVariants as phase
 use Rattle.vacuum_passes.specs.View.{VacuumView, skips, places, space, phase_with, collected}
 use Rattle.root_index.specs.Places.{IsBefore, AreAscending}
-use Rattle.vacuum_passes.specs.Steps.{PhaseAfter, Frees, IsLowest, on_page, off_page, phase_left}
+use Rattle.vacuum_passes.specs.Steps.{PhaseAfter, Frees, Drops, IsLowest, on_page, off_page, phase_left}
 use Rattle.vacuum_passes.proofs.FreedPlaces.{on-places}
 use Rattle.vacuum_passes.proofs.ListLemmas.{pairs-tail}
 use Rattle.vacuum_passes.specs.Keeps.{IsVacuum, KeepsStore}
 use Rattle.heap_write.specs.Heap.{HeapView}
 use Rattle.vacuum_passes.specs.Visits.{ListsDead, Visits}
-use Rattle.vacuum_passes.specs.Working.{FreesLast, CleansPage, FreesPage, StoreIsInUse}
+use Rattle.vacuum_passes.specs.Working.{FreesLast, CleansPage, FreesPage}
 use Rattle.vacuum_passes.proofs.VacuumLemmas.{index-kept, off-kept}
 
 -- Marks.
@@ -136,10 +136,6 @@ freed-off-kept v p ys after is to_phase keeps = subst IsVacuum (sym (freed-is v 
 pub free-some : (v : VacuumView) → IsVacuum v → v.phase ≡ phase.Free → v.store ≢ []
 free-some v keeps is = subst (KeepsStore v) is keeps.store
 
--- The lowest page is in use where all collected slots are.
-pub lowest-in-use : (store : List Tid) (p count : ℕ) → IsLowest store p → ((tid : Tid) → Contains store tid → tid.page < count) → p < count
-lowest-in-use store p count low used = let lt = used low.some.0 low.some.1 in let e = low.some.2 in omega (arith, lt, e)
-
 -- Whether anything is collected.
 
 pub shown-none : (freed : ℕ) (xs shown : List Tid) → freed ≡ 0 → shown ≡ drop freed xs → (length xs == 0) ≡ true → shown ≡ []
@@ -148,13 +144,12 @@ shown-none freed xs shown none is empty = is ∙ held freed xs none ∙ nil_from
 pub shown-some : (freed : ℕ) (xs shown : List Tid) → freed ≡ 0 → shown ≡ drop freed xs → (length xs == 0) ≡ false → shown ≢ []
 shown-some freed xs shown none is some e = eqb-false (length xs) 0 some (ap (λ (ys : List Tid). length ys) (sym (is ∙ held freed xs none) ∙ e))
 
+-- the lowest page is in use and its slots become free, or it is not
 pub free-says : (h h' : HeapView) (v w v' : VacuumView) (horizon p : ℕ) → v ≡ w → (ys : List Tid) (after : Phase) → IsLowest v.store p
-    → (p < length h.pages.pages → FreesPage h h' horizon p (on_page p v.store)) → ys ≡ off_page p v.store → after ≡ phase_left ys
-    → v' ≡ record v { store = ys; phase = after } → StoreIsInUse h w → Frees h h' w v' horizon p
-free-says h h' v w v' horizon p same ys after low frees left to_phase is used =
-    let here = subst (λ (u : VacuumView). StoreIsInUse h u) (sym same) used in
-    let page = frees (lowest-in-use v.store p (length h.pages.pages) low here) in
-    subst (λ (u : VacuumView). Frees h h' u v' horizon p) same (record {
+    → (p < length h.pages.pages → FreesPage h h' horizon p (on_page p v.store)) → (length h.pages.pages ≤ p → h' ≡ h) → ys ≡ off_page p v.store → after ≡ phase_left ys
+    → v' ≡ record v { store = ys; phase = after } → Frees h h' w v' horizon p ⊎ Drops h h' w v' p
+free-says h h' v w v' horizon p same ys after low frees drops left to_phase is = ⊎_elim
+    (λ within. let page = frees within in inl (subst (λ (u : VacuumView). Frees h h' u v' horizon p) same (record {
       lowest = low;
       numbers = map (λ (tid : Tid). tid.slot) (on_page p v.store);
       are = on-places p v.store;
@@ -162,4 +157,6 @@ free-says h h' v w v' horizon p same ys after low frees left to_phase is used =
       frees = page.frees;
       notes = page.notes;
       is = is ∙ freed-is v p ys after left to_phase;
-    })
+    })))
+    (λ past. inr (subst (λ (u : VacuumView). Drops h h' u v' p) same (record { lowest = low; unused = past; same = drops past; is = is ∙ freed-is v p ys after left to_phase })))
+    (cases_lt p (length h.pages.pages))

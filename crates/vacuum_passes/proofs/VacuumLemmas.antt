@@ -170,6 +170,7 @@ steps-kept h h' v _ horizon _ i (Steps.begins_index v' is over some s) = counted
 steps-kept h h' v _ horizon _ i (Steps.sweeps k from v' is s) = counted-kept v'
     (swept-kept h h' v v' k from i.within i.some i.few i.ascending i.passed (some-stored v k from i is) s)
 steps-kept h h' v _ horizon _ i (Steps.frees p v' is f) = counted-kept v' (freed-kept h h' v v' horizon p i f)
+steps-kept h h' v _ horizon _ i (Steps.drops p v' is d) = counted-kept v' (subst IsVacuum (sym d.is) (off-kept v p i))
 
 pub begun-kept : (v : VacuumView) → v.store ≡ [] → v.phase ≡ phase.Heap → v.next ≡ 0 → 0 < v.limit → IsVacuum v
 begun-kept v none is first some = record {

@@ -1,5 +1,5 @@
 -- What each step of a vacuum does: the first of these that applies.
-use Rattle.std.specs.Prelude.{◌≡◌, ◌≢◌, ◌<◌, ◌≤◌, ℕ, ◌==◌, not, List, [], ◌∷◌, Option, Some, None, Contains}
+use Rattle.std.specs.Prelude.{◌≡◌, ◌≢◌, ◌<◌, ◌≤◌, ℕ, ◌==◌, not, List, [], ◌∷◌, length, Option, Some, None, Contains}
 use Rattle.std.specs.List.{filter}
 use Rattle.xid_circle.specs.declared.Tid.{Tid}
 use Rattle.root_index.specs.declared.entry.Entry.{Entry}
@@ -62,6 +62,13 @@ pub record Frees (h h' : HeapView) (v v' : VacuumView) (horizon p : ℕ) : Type 
   pub notes : Notes freed h' p horizon
   pub is : v' ≡ record v { store = off_page p v.store; phase = phase_left (off_page p v.store) }
 
+-- it is not in use, as no page is that has a collected slot which is dead: nothing is freed
+pub record Drops (h h' : HeapView) (v v' : VacuumView) (p : ℕ) : Type 0 where
+  pub lowest : IsLowest v.store p
+  pub unused : length h.pages.pages ≤ p
+  pub same : h' ≡ h
+  pub is : v' ≡ record v { store = off_page p v.store; phase = phase_left (off_page p v.store) }
+
 -- A step: the heap before and after, the vacuum before, the present horizon, the vacuum after, and what was done; none where
 -- it has ended. (An aggressive one then lets the engine forget old ids.)
 pub data Steps (h h' : HeapView) (v : VacuumView) (horizon : ℕ) : Option VacuumView → Option Piece
@@ -76,6 +83,8 @@ pub data Steps (h h' : HeapView) (v : VacuumView) (horizon : ℕ) : Option Vacuu
       → Sweeps h h' v v' i from
       → Steps h h' v horizon (Some (counted v')) (Some (piece.Index i))
   frees : (p : ℕ) (v' : VacuumView) → v.phase ≡ phase.Free → Frees h h' v v' horizon p
+      → Steps h h' v horizon (Some (counted v')) (Some (piece.Free p))
+  drops : (p : ℕ) (v' : VacuumView) → v.phase ≡ phase.Free → Drops h h' v v' p
       → Steps h h' v horizon (Some (counted v')) (Some (piece.Free p))
   ends : v.phase ≡ phase.Heap → NoPageLeft h v → v.store ≡ [] → h' ≡ h
       → Steps h h' v horizon None None

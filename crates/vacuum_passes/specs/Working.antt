@@ -15,12 +15,6 @@ use Rattle.vacuum_passes.specs.View.{VacuumView, places, phase_with}
 use Rattle.vacuum_passes.specs.Visits.{ListsDead, VisitsAt}
 use Rattle.vacuum_passes.specs.Steps.{PhaseAfter}
 
--- What a step rests on.
-
--- the collected slots are on pages that are in use
-abbrev pub StoreIsInUse : HeapView → VacuumView → Type 0
-StoreIsInUse h v = (tid : Tid) → Contains v.store tid → tid.page < length h.pages.pages
-
 -- only while slots are freed are some of the places that the vacuum holds those of freed ones
 abbrev pub FreesLast : Phase → ℕ → Type 0
 FreesLast phase.Heap freed = freed ≡ 0

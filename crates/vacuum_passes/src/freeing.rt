@@ -29,6 +29,7 @@ pub(crate) fn free_from(
     ensures left { drop (freed + result.1) store.now ≡ off_page result.0 (drop freed store.now) }
     ensures frees { result.0 < length heap.old.pages.pages
         → FreesPage heap.old heap.new horizon.0 result.0 (on_page result.0 (drop freed store.now)) }
+    ensures drops { length heap.old.pages.pages ≤ result.0 → heap.new ≡ heap.old }
 {
     store.is_ascending();
     let _limit = store.len();
@@ -63,6 +64,7 @@ fn free_lowest(heap: &mut HeapState, places: &[Tid], horizon: Xid) -> (u32, usiz
     ensures left { drop result.1 places.now ≡ off_page result.0 places.now }
     ensures frees { result.0 < length heap.old.pages.pages
         → FreesPage heap.old heap.new horizon.0 result.0 (on_page result.0 places.now) }
+    ensures drops { length heap.old.pages.pages ≤ result.0 → heap.new ≡ heap.old }
 {
     let page = lowest_page(places);
     let count = count_on(places, page);

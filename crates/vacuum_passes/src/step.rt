@@ -1,14 +1,13 @@
 //! The next step of a vacuum.
 
-ghost use Rattle.std.specs.Prelude.{◌≡◌, ◌≢◌, [], None, MatchOption};
+ghost use Rattle.std.specs.Prelude.{◌≡◌, ◌≢◌, ◌⊎◌, [], None, MatchOption};
 ghost use Rattle.std.specs.Option.{option_map};
 ghost use Rattle.xid_circle.specs.Circle.{IsNormal};
 ghost use Rattle.space_maps.specs.View.{mark_on};
 ghost use Rattle.vacuum_passes.specs.declared.vacuum.Phase.TheVariants as phase;
 ghost use Rattle.vacuum_passes.specs.View.{skips, counted, at_end};
 ghost use Rattle.vacuum_passes.specs.Visits.{IsNextPage, NoPageLeft, Visits};
-ghost use Rattle.vacuum_passes.specs.Steps.{Steps, Sweeps, Frees};
-ghost use Rattle.vacuum_passes.specs.Working.{StoreIsInUse};
+ghost use Rattle.vacuum_passes.specs.Steps.{Steps, Sweeps, Frees, Drops};
 
 use crate::freeing::{after_freeing, free_from};
 use crate::sweeping::sweep_piece;
@@ -20,11 +19,10 @@ use root_index::Entry;
 use xid_circle::Xid;
 
 impl Vacuum {
-    /// Does the next step at the present horizon, a normal id, and answers what it did; nothing where the vacuum has ended. The collected
-    /// slots are on pages that are in use: that is so of the table that it was begun on, from which no page goes.
+    /// Does the next step at the present horizon, a normal id, and answers what it did; nothing where the vacuum has ended.
     pub fn step(&mut self, heap: &mut HeapState, horizon: Xid) -> Option<Piece>
         requires { IsNormal horizon.0 }
-        ensures { StoreIsInUse heap.old self.old → Steps heap.old heap.new self.old horizon.0
+        ensures { Steps heap.old heap.new self.old horizon.0
             (option_map (λ _. self.new) result) result }
     {
         match self.work(heap, horizon) {
@@ -39,7 +37,7 @@ impl Vacuum {
     /// Does the next step, and doesn't count it.
     fn work(&mut self, heap: &mut HeapState, horizon: Xid) -> Option<Piece>
         requires { IsNormal horizon.0 }
-        ensures { StoreIsInUse heap.old self.old → Steps heap.old heap.new self.old horizon.0
+        ensures { Steps heap.old heap.new self.old horizon.0
             (option_map (λ _. counted self.new) result) result }
     {
         match self.phase {
@@ -146,12 +144,12 @@ impl Vacuum {
         self.phase = sweep_piece(heap, &self.store, index, from);
     }
 
-    /// Makes the collected slots of the lowest page unused. It answers the page.
+    /// Makes the collected slots of the lowest page unused, if that is in use. It answers the page.
     fn free(&mut self, heap: &mut HeapState, horizon: Xid) -> u32
         requires phase { self.old.phase ≡ phase.Free }
         requires normal { IsNormal horizon.0 }
-        ensures { StoreIsInUse heap.old self.old
-            → Frees heap.old heap.new self.old self.new horizon.0 result }
+        ensures { Frees heap.old heap.new self.old self.new horizon.0 result
+            ⊎ Drops heap.old heap.new self.old self.new result }
     {
         let (page, count) = free_from(heap, &self.store, self.freed, horizon);
         let (freed, phase) = after_freeing(&mut self.store, self.freed + count);

@@ -1,6 +1,7 @@
 //! A vacuum in progress.
 
-ghost use Rattle.std.specs.Prelude.{◌≡◌, ◌<◌, ◌≤◌};
+ghost use Rattle.std.specs.Prelude.{◌≡◌, ◌<◌, ◌≤◌, MatchOption};
+ghost use Rattle.refinement.specs.declared.vacuum.Mode.TheVariants.{Normal, Aggressive};
 ghost use Rattle.xid_circle.specs.Circle.{IsNormal};
 ghost use Rattle.vacuum_passes.specs.View.{new_vacuum, disturbed};
 
@@ -102,6 +103,17 @@ impl Vacuum {
             alone: true,
             quiet: true,
             steps: 0,
+        }
+    }
+
+    /// The id before which old ids are forgotten at its end, if it is aggressive.
+    pub fn forgets_before(&self) -> Option<Xid>
+        ensures { MatchOption result (self.now.mode ≡ Normal)
+            (λ x. (self.now.mode ≡ Aggressive) × (x.0 ≡ self.now.cutoff) × IsNormal x.0) }
+    {
+        match self.mode {
+            Mode::Normal => None,
+            Mode::Aggressive => Some(self.cutoff),
         }
     }
 

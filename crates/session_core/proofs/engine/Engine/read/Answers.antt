@@ -3,7 +3,7 @@ use Rattle.std.specs.Prelude.{MatchResult}
 use Rattle.history.specs.World.{World, OpenSession, view}
 use Rattle.refinement.specs.Allowed.{AllowsClosed}
 use Rattle.session_steps.specs.Agrees.{Agrees}
-use Rattle.session_core.specs.View.{EngineView}
+use Rattle.vacuum_engine.specs.State.{EngineView}
 use Rattle.session_core.proofs.engine.Engine.read.Goals as goal
 
 pub returns : goal.returns

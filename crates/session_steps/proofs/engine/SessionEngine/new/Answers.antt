@@ -15,6 +15,7 @@ returns-clause-new c = record {
   first = c.new-2.ensures.first;
   ids = c.new-2.ensures.entries;
   pages = c.new-2.ensures.pages;
+  marks = c.new-2.ensures.marks;
   indexes = c.new-2.ensures.indexes;
   agrees = Agrees-new _ c.new-2.ensures.pages c.new-2.ensures.indexes c.new-2.ensures.entries c.new-2.ensures.window c.new-2.ensures.max_pages c.new-2.ensures.stop_age c.in-Ok.ensures;
 }

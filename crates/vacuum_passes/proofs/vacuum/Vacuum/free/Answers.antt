@@ -20,7 +20,7 @@ invariant_of-self c = (
 )
 
 pub returns : goal.returns
-returns c used =
+returns c =
     free-says c.args.heap.now c.free_from-page.new.heap _ c.args.self.now _ c.args.horizon.0 c.free_from-page.result.0 c.self.view_is _ c.after_freeing-freed.result.1
-    c.free_from-page.ensures.lowest c.free_from-page.ensures.frees (c.after_freeing-freed.ensures.shown ∙ c.free_from-page.ensures.left)
-    (c.after_freeing-freed.ensures.phase ∙ ap phase_left (sym c.after_freeing-freed.ensures.shown)) refl used
+    c.free_from-page.ensures.lowest c.free_from-page.ensures.frees c.free_from-page.ensures.drops (c.after_freeing-freed.ensures.shown ∙ c.free_from-page.ensures.left)
+    (c.after_freeing-freed.ensures.phase ∙ ap phase_left (sym c.after_freeing-freed.ensures.shown)) refl

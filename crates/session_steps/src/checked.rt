@@ -1,0 +1,50 @@
+//! Settings that an engine can have.
+
+ghost use Rattle.std.specs.Prelude.{◌≡◌, ◌<◌, ◌≤◌};
+ghost use Rattle.refinement.specs.Words.{AreSettings};
+
+use refinement::Settings;
+use std::marker::Model;
+
+/// Settings that are in their ranges.
+#[derive(Drop)]
+pub(crate) struct CheckedSettings {
+    settings: Settings,
+}
+
+impl Model for CheckedSettings {
+    ghost use Rattle.refinement.specs.declared.settings.Settings.{Settings};
+    ghost use Rattle.refinement.specs.Words.{AreSettings};
+
+    ghost Value = { Settings };
+
+    ghost view = { λ c. c.settings };
+
+    ghost invariant = { λ c. AreSettings c.settings };
+}
+
+impl CheckedSettings {
+    /// These settings, each of which is in its range.
+    pub(crate) fn new(settings: Settings) -> Self
+        requires { AreSettings settings }
+        ensures { result ≡ settings }
+    {
+        CheckedSettings { settings }
+    }
+
+    /// How many dead slots a vacuum collects at most.
+    pub(crate) fn dead_limit(&self) -> u32
+        ensures value { result ≡ self.now.dead_limit }
+        ensures some { 0 < result }
+        ensures few { result ≤ 4096 }
+    {
+        self.settings.dead_limit
+    }
+
+    /// How old an id has to be before it is frozen.
+    pub(crate) fn freeze_min_age(&self) -> u32
+        ensures { result ≡ self.now.freeze_min_age }
+    {
+        self.settings.freeze_min_age
+    }
+}

@@ -1,0 +1,135 @@
+//! A vacuum of the engine's table: its beginning, its steps, and what is forgotten at its end.
+
+ghost use Rattle.std.specs.Prelude.{◌≡◌, ℕ, IsTrue, ◌↔◌, Some, Contains};
+ghost use Rattle.std.specs.Option.{option_map};
+ghost use Rattle.xid_circle.specs.Circle.{IsNormal, Precedes};
+ghost use Rattle.commit_status.specs.Changes.{numbers};
+ghost use Rattle.commit_status.specs.Window.{IsUpToNext};
+ghost use Rattle.forgetting.specs.Cutoffs.{aged, cutoff_at};
+ghost use Rattle.session_steps.specs.declared.session.Session.{Session as OpenSession};
+ghost use Rattle.session_steps.specs.Keeps.{open_at};
+ghost use Rattle.session_steps.specs.Vacuums.{IsSetUp, vacuum_begun, VacuumWorks, MayForget, Forgets};
+
+use crate::engine::SessionEngine;
+use crate::session::Session;
+use commit_status::StatusTable;
+use refinement::{Mode, Piece};
+use snapshot::earlier;
+use vacuum_passes::Vacuum;
+use xid_circle::{Xid, precedes};
+
+/// The id given so long before the next one; a number that is no transaction's counts as 3.
+fn aged(next: Xid, age: u32) -> Xid
+    ensures value { result.0 ≡ aged next.0 age }
+    ensures normal { IsNormal result.0 }
+{
+    Xid(next.0.wrapping_sub(age).max(3))
+}
+
+/// What a vacuum marks as frozen was made before this id: the earlier of the horizon and of the id given so long before the next
+/// one, and never before the first, the oldest that is remembered. (vacuum_freeze_min_age in the manual's "Routine Vacuuming".)
+fn cutoff(first: Xid, next: Xid, horizon: Xid, age: u32) -> Xid
+    requires normal { IsNormal first.0 }
+    requires normal_too { IsNormal horizon.0 }
+    ensures value { result.0 ≡ cutoff_at first.0 next.0 horizon.0 age }
+    ensures normal { IsNormal result.0 }
+{
+    let cutoff = earlier(horizon, aged(next, age));
+    if precedes(cutoff, first) { first } else { cutoff }
+}
+
+/// Whether the id is remembered or the next.
+fn is_up_to_next(table: &StatusTable, x: Xid) -> bool
+    requires { IsNormal x.0 }
+    ensures { IsTrue result ↔ IsUpToNext table.now x.0 }
+{
+    x == table.next() || table.remembers(x)
+}
+
+/// Whether none of these ids precedes the cutoff.
+fn are_from(ids: &[Xid], cutoff: Xid) -> bool
+    requires normal { (x : ℕ) → Contains (numbers ids.now) x → IsNormal x }
+    requires normal_too { IsNormal cutoff.0 }
+    ensures { IsTrue result
+        ↔ ((x : ℕ) → Contains (numbers ids.now) x → ¬ Precedes x cutoff.0) }
+{
+    for x in ids {
+        if precedes(*x, cutoff) {
+            return false;
+        }
+    }
+    true
+}
+
+/// Whether no open session has an id that precedes the cutoff.
+fn own_from(sessions: &[Option<Session>], cutoff: Xid) -> bool
+    requires normal { (s : ℕ) (e : OpenSession) (x : ℕ) → open_at sessions.now s ≡ Some e
+        → Contains e.own.ids x → IsNormal x }
+    requires normal_too { IsNormal cutoff.0 }
+    ensures { IsTrue result ↔ ((s : ℕ) (e : OpenSession) (x : ℕ)
+        → open_at sessions.now s ≡ Some e → Contains e.own.ids x → ¬ Precedes x cutoff.0) }
+{
+    for session in sessions {
+        if let Some(session) = session {
+            if !are_from(session.own.as_slice(), cutoff) {
+                return false;
+            }
+        }
+    }
+    true
+}
+
+impl SessionEngine {
+    /// That its settings are in their ranges, and its indexes are those that it was made with. It does nothing; its contract is the
+    /// fact.
+    pub fn is_set_up(&self)
+        ensures { IsSetUp self.now }
+    {
+        self.heap.has_indexes();
+        let _limit = self.settings.dead_limit();
+    }
+
+    /// A vacuum that begins now: it visits the pages that are in use, and freezes what committed before the cutoff of this moment.
+    pub fn new_vacuum(&self, mode: Mode) -> Vacuum
+        ensures { result ≡ vacuum_begun mode self.now }
+    {
+        let horizon = self.horizon();
+        let table = self.heap.table();
+        let age = self.settings.freeze_min_age();
+        Vacuum::new(
+            mode,
+            horizon,
+            cutoff(table.frozen_below(), table.next(), horizon, age),
+            self.heap.page_count(),
+            self.heap.entries(),
+            self.settings.dead_limit(),
+        )
+    }
+
+    /// Does the next step of the vacuum, and answers what it did; nothing where the vacuum has ended. It takes no memory.
+    pub fn vacuum_step(&mut self, vacuum: &mut Vacuum) -> Option<Piece>
+        ensures { VacuumWorks self.old self.new vacuum.old
+            (option_map (λ _. vacuum.new) result) result }
+    {
+        let horizon = self.horizon();
+        vacuum.step(&mut self.heap, horizon)
+    }
+
+    /// Whether the ids before this one can be forgotten.
+    fn may_forget(&self, cutoff: Xid) -> bool
+        requires { IsNormal cutoff.0 }
+        ensures { IsTrue result ↔ MayForget self.now cutoff.0 }
+    {
+        is_up_to_next(self.heap.table(), cutoff) && own_from(self.sessions.used(), cutoff)
+    }
+
+    /// Forgets the ids before the cutoff, a normal id, where they can be forgotten, as they can at the end of each aggressive vacuum.
+    pub fn forget(&mut self, cutoff: Xid)
+        requires { IsNormal cutoff.0 }
+        ensures { Forgets self.old self.new cutoff.0 }
+    {
+        if self.may_forget(cutoff) {
+            self.heap.forget(cutoff);
+        }
+    }
+}
