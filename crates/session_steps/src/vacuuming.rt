@@ -43,7 +43,8 @@ fn is_up_to_next(table: &StatusTable, x: Xid) -> bool
     requires { IsNormal x.0 }
     ensures { IsTrue result ↔ IsUpToNext table.now x.0 }
 {
-    x == table.next() || table.remembers(x)
+    table.is_window();
+    x.0 == table.next().0 || table.remembers(x)
 }
 
 /// Whether none of these ids precedes the cutoff.
@@ -69,8 +70,8 @@ fn own_from(sessions: &[Option<Session>], cutoff: Xid) -> bool
     ensures { IsTrue result ↔ ((s : ℕ) (e : OpenSession) (x : ℕ)
         → open_at sessions.now s ≡ Some e → Contains e.own.ids x → ¬ Precedes x cutoff.0) }
 {
-    for session in sessions {
-        if let Some(session) = session {
+    for s in 0..sessions.len() {
+        if let Some(session) = &sessions[s] {
             if !are_from(session.own.as_slice(), cutoff) {
                 return false;
             }
