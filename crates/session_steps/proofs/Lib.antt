@@ -24,7 +24,7 @@ pub mod Reading
 pub mod Cleaned
 pub mod Giving
 pub mod Writing
-pub mod Vacuuming
+pub mod Forgetting
 pub mod Trying
 pub mod Noting
 pub mod Hindering
