@@ -1,15 +1,23 @@
 -- What a vacuum asks of the engine's ids.
-use Rattle.std.proofs.Common.{◌≡◌, ℕ, ◌<◌, ◌≤◌, ◌⊎◌, ◌↔◌, List, length, Option, Some, arith, refl, sym, ap, ◌∙◌, subst, ⊎_elim}
+use Rattle.std.proofs.Common.{◌≡◌, ℕ, ◌<◌, ◌≤◌, ◌⊎◌, ◌↔◌, Bool, true, false, IsTrue, List, length, get_or, ◌+◌, Option, Some, arith, refl, sym, ap, ◌∙◌, subst, ⊎_elim}
 use Rattle.std.specs.Prelude.{Contains}
+use Rattle.std.specs.Option.{option_flatten}
+use Rattle.std.proofs.lemmas.Option.{slice_get-get_or}
 use Rattle.std.proofs.lemmas.Bool.{cases_lt}
+use Rattle.xid_circle.specs.declared.Xid.{Xid}
 use Rattle.xid_circle.specs.Circle.{Precedes, given}
 use Rattle.commit_status.specs.Window.{Window, IsWindow, IsGiven, IsActive, IsUpToNext, place, next_id, turns}
 use Rattle.commit_status.specs.Changes.{Truncates}
 use Rattle.commit_status.proofs.Places.{upto-next, upto-given, given-upto, place-from_at, is-from_some, some-from_is, place-lt, at-from_place, precedes-turns}
 use Rattle.forgetting.proofs.Stays.{stays-known, place-stays}
+use Rattle.heap_write.specs.Heap.{HeapView}
+use Rattle.refinement.specs.declared.vacuum.Piece.{Piece}
+use Rattle.vacuum_passes.specs.View.{VacuumView}
+use Rattle.vacuum_passes.specs.Steps.{Steps}
 use Rattle.session_steps.specs.declared.session.Session.{Session}
 use Rattle.session_steps.specs.Keeps.{open_at, OwnIdsKeep, EngineKeeps}
 use Rattle.session_steps.specs.State.{State, session_at}
+use Rattle.session_steps.specs.Sessions.{HoldsOpen}
 use Rattle.session_steps.specs.Vacuums.{MayForget}
 
 -- An id is remembered or the next.
@@ -27,7 +35,22 @@ upto-to w x window upto off = ⊎_elim
     sym (given-upto w x window upto) ∙ ap (given w.first) last)
     (cases_lt (turns w.first x) (length w.entries))
 
+pub remembered : (w : Window) (x : ℕ) (b : Bool) → IsWindow w → IsUpToNext w x → ¬ (x ≡ next_id w) → (IsGiven w x → IsTrue b) → IsTrue b
+remembered w x true window upto off there = refl
+remembered w x false window upto off there = absurd (off (upto-to w x window upto (λ given_. let e = there given_ in cc)))
+
 -- Own ids.
+
+-- what is so of none of the first ids, nor of the next, is so of none of one more
+pub none-more : (ids : List Xid) (P : ℕ → Type 0) (i : ℕ) → ((k : ℕ) → k < i → ¬ P (get_or ids k (record { 0 = 0 })).0) → ¬ P (get_or ids i (record { 0 = 0 })).0
+    → (k : ℕ) → k < i + 1 → ¬ P (get_or ids k (record { 0 = 0 })).0
+none-more ids P i none last k lt = ⊎_elim
+    (λ before. none k before)
+    (λ past. let here : i ≡ k = omega (arith, past, lt) in subst (λ n. ¬ P (get_or ids n (record { 0 = 0 })).0) here last)
+    (cases_lt k i)
+
+pub open-there : (xs : List (Option Session)) (s : ℕ) (o : Option Session) (e : Session) → s < length xs → o ≡ get_or xs s o → o ≡ Some e → open_at xs s ≡ Some e
+open-there xs s o e within is some = ap option_flatten (slice_get-get_or xs s o within) ∙ sym is ∙ some
 
 -- whose ids are at or after the cutoff
 abbrev pub AreFrom : List (Option Session) → ℕ → Type 0
@@ -50,6 +73,14 @@ module _ (xs : List (Option Session)) (w : Window) (window : IsWindow w) (keeps 
         let le = late s e x at mine in
         omega (arith, less, le)
 
+-- what is asked of the sessions that are looked through tells whether ids can be forgotten
+pub may-forget : (st : State) (used : List (Option Session)) (cutoff : ℕ) (b : Bool) → IsWindow st.heap.table → EngineKeeps st.sessions st.heap.table → IsUpToNext st.heap.table cutoff
+    → HoldsOpen used st.sessions → (IsTrue b ↔ AreFrom used cutoff) → (IsTrue b ↔ MayForget st cutoff)
+may-forget st used cutoff b window keeps upto holds says = (
+  λ t. record { upto = upto; unowned = from-late st.sessions st.heap.table window keeps cutoff upto (λ s e x at. says.0 t s e x (holds.each s ∙ at)) },
+  λ may. says.1 (λ s e x at. late-from st.sessions st.heap.table window keeps cutoff upto may.unowned s e x (sym (holds.each s) ∙ at)),
+)
+
 -- Forgetting.
 
 pub keeps-forget : (xs : List (Option Session)) (w v : Window) (c : ℕ) → IsWindow w → IsWindow v → Truncates w v c → IsUpToNext w c
@@ -71,3 +102,14 @@ keeps-forget xs w v c is iv t up late keeps = record {
         keeps.own.owned x (record { is_given = known.0; unfinished = sym known.1 ∙ active.unfinished });
   };
 }
+
+-- Steps of a vacuum leave the ids as they are.
+
+pub steps-table : (h h' : HeapView) (v : VacuumView) (horizon : ℕ) (after : Option VacuumView) (did : Option Piece) → Steps h h' v horizon after did → h'.table ≡ h.table
+steps-table h h' v horizon _ _ (Steps.visits p v' is next visit) = ap (λ (g : HeapView). g.table) visit.notes.is ∙ ap (λ (g : HeapView). g.table) visit.visits.freezes.is
+    ∙ ap (λ (g : HeapView). g.table) visit.visits.prunes.is
+steps-table h h' v horizon _ _ (Steps.begins_index v' is over some s) = ap (λ (g : HeapView). g.table) s.sweeps.is
+steps-table h h' v horizon _ _ (Steps.sweeps i from v' is s) = ap (λ (g : HeapView). g.table) s.sweeps.is
+steps-table h h' v horizon _ _ (Steps.frees p v' is f) = ap (λ (g : HeapView). g.table) f.notes.is ∙ ap (λ (g : HeapView). g.table) f.frees.is
+steps-table h h' v horizon _ _ (Steps.drops p v' is d) = ap (λ (g : HeapView). g.table) d.same
+steps-table h h' v horizon _ _ (Steps.ends is over none same) = ap (λ (g : HeapView). g.table) same

@@ -121,7 +121,9 @@ impl SessionEngine {
         requires { IsNormal cutoff.0 }
         ensures { IsTrue result ↔ MayForget self.now cutoff.0 }
     {
-        is_up_to_next(self.heap.table(), cutoff) && own_from(self.sessions.used(), cutoff)
+        let table = self.heap.table();
+        table.is_window();
+        is_up_to_next(table, cutoff) && own_from(self.sessions.used(), cutoff)
     }
 
     /// Forgets the ids before the cutoff, a normal id, where they can be forgotten, as they can at the end of each aggressive vacuum.
@@ -129,6 +131,7 @@ impl SessionEngine {
         requires { IsNormal cutoff.0 }
         ensures { Forgets self.old self.new cutoff.0 }
     {
+        self.heap.table().is_window();
         if self.may_forget(cutoff) {
             self.heap.forget(cutoff);
         }

@@ -1,0 +1,9 @@
+use Rattle.std.proofs.Common.{◌≡◌, ℕ, ◌<◌, Some}
+use Rattle.std.specs.Prelude.{Contains}
+use Rattle.xid_circle.specs.Circle.{Precedes}
+use Rattle.session_steps.specs.declared.session.Session.{Session}
+use Rattle.session_steps.specs.Keeps.{open_at}
+use Rattle.session_steps.proofs.vacuuming.own_from.Given as goal
+
+abbrev pub invariant-loop-s : goal.invariant-loop-s
+invariant-loop-s l = (s : ℕ) (e : Session) (x : ℕ) → s < l.s → open_at l.sessions s ≡ Some e → Contains e.own.ids x → ¬ Precedes x l.cutoff.0
