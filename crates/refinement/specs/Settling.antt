@@ -1,14 +1,14 @@
 -- What freezing and forgetting do to what readers see.
-use Rattle.std.specs.Prelude.{◌≡◌, ◌⊎◌, ℕ, Option, Some, None}
+use Rattle.std.specs.Prelude.{◌≡◌, ◌≢◌, ◌⊎◌, ◌↔◌, ℕ, Option, Some, None}
 use Rattle.xid_circle.specs.declared.Tid.{Tid}
 use Rattle.tuple_header.specs.Version.{Version}
 use Rattle.commit_status.specs.declared.status.Status.{Status}
+use Rattle.commit_status.specs.declared.status.Status.TheVariants.{Aborted}
 use Rattle.snapshot.specs.Snap.{Snap}
 use Rattle.history.specs.World.{World}
 use Rattle.refinement.specs.Heap.{SeenSession, Heap}
 use Rattle.visibility.specs.Seeing.{HasCommitted, HasAborted, IsRunning, Touches, inserter, deleter}
 use Rattle.refinement.specs.Visible.{At}
-use Rattle.refinement.specs.Changes.{SameSight}
 use Rattle.refinement.specs.Agrees.{HeapAgrees}
 
 -- the inserter stays, or counts for everybody: it committed, and every open session sees it
@@ -33,12 +33,14 @@ pub record Settles (h : Heap) (store' : Tid → Option Version) : Type 0 where
 abbrev pub SettlingIsUnseen : Type 1
 SettlingIsUnseen = (h : Heap) (w : World) (store' : Tid → Option Version) → Settles h store' → HeapAgrees h w → HeapAgrees (record h { version = store' }) w
 
--- ids are forgotten that no version there and no session needs, and of those that stay the same is seen
+-- Ids are forgotten that no version there and no session needs, and of those that stay the same is seen. (Nobody asks whether a
+-- snapshot sees an id that was rolled back.)
 pub record ForgetsIds (h : Heap) (status' : ℕ → Option Status) (sees' : Snap → ℕ → Type 0) : Type 1 where
   pub each : (x : ℕ) → (status' x ≡ h.status x) ⊎ (status' x ≡ None)
   pub touched : (p : Tid) (v : Version) (x : ℕ) → At h.version p v → Touches x v.header → status' x ≡ h.status x
   pub active : (x : ℕ) → IsRunning h.status x → status' x ≡ h.status x
-  pub sight : (s : ℕ) (e : SeenSession) → h.session s ≡ Some e → SameSight status' (h.sees e.snapshot) (sees' e.snapshot)
+  pub sight : (s : ℕ) (e : SeenSession) → h.session s ≡ Some e → (x : ℕ) (status : Status)
+      → status ≢ Aborted → status' x ≡ Some status → h.sees e.snapshot x ↔ sees' e.snapshot x
 
 abbrev pub ForgettingIsUnseen : Type 1
 ForgettingIsUnseen = (h : Heap) (w : World) (status' : ℕ → Option Status) (sees' : Snap → ℕ → Type 0) → ForgetsIds h status' sees' → HeapAgrees h w

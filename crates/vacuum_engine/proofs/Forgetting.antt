@@ -1,0 +1,325 @@
+-- An engine whose old ids are forgotten at the end of an aggressive vacuum.
+use Rattle.std.proofs.Common.{◌≡◌, ◌≢◌, ◌⊎◌, ◌↔◌, ℕ, zero, suc, ◌<◌, ◌≤◌, Bool, true, false, List, length, Option, Some, None, IsSome, arith, refl, sym, ap, ◌∙◌, subst, inl, inr, ⊎_elim, slice_get}
+use Rattle.std.specs.Prelude.{Contains}
+use Rattle.std.specs.Option.{option_map}
+use Rattle.std.proofs.lemmas.Bool.{cases_Bool}
+use Rattle.std.proofs.lemmas.Option.{slice_get_within, get_or_from_slice_get}
+use Rattle.xid_circle.specs.declared.Tid.{Tid}
+use Rattle.xid_circle.specs.Following.{ReachesIn}
+use Rattle.tuple_header.specs.Version.{Version}
+use Rattle.page_slots.specs.declared.slot.Slot.{Slot}
+use Rattle.page_slots.specs.Slots.{version_at}
+use Rattle.page_slots.specs.View.{PageView}
+use Rattle.commit_status.specs.declared.status.Status.{Status}
+use Rattle.commit_status.specs.declared.status.Status.TheVariants.{InProgress, Committed, Aborted}
+use Rattle.commit_status.specs.Window.{Window, IsWindow, IsGiven, IsActive, IsCommitted, IsAborted, IsUpToNext, place, status_of, top_of, next_id, turns}
+use Rattle.commit_status.specs.Changes.{Truncates}
+use Rattle.commit_status.proofs.Places.{at-from_place, some-from_is, is-from_some, upto-next}
+use Rattle.commit_status.proofs.Giving.{finished-place}
+use Rattle.commit_status.proofs.Ancestors.{top-before}
+use Rattle.commit_status.proofs.Tables.{window_of, table-dropped}
+use Rattle.snapshot.specs.Snap.{Snap, Sees, earliest}
+use Rattle.snapshot.proofs.Sights.{sees-top}
+use Rattle.visibility.specs.Visible.{IsFrozen, state_of}
+use Rattle.visibility.specs.Seeing.{IsRunning, Touches}
+use Rattle.visibility.proofs.Makers.{touch-cases, state-some, state-is, active-to, active-from}
+use Rattle.hot_chain.specs.Chain.{has_aborted}
+use Rattle.sound_page.specs.Links.{link}
+use Rattle.sound_page.specs.Sound.{IsIn, SoundPage}
+use Rattle.sound_page.proofs.Links.{link-of}
+use Rattle.sound_page.proofs.Undone.{has-aborted, aborted-has}
+use Rattle.tuple_writes.proofs.Statuses.{successor-from, replaced-live}
+use Rattle.forgetting.specs.Truncating.{ForgetsFor, IsWellTopped}
+use Rattle.forgetting.specs.Pages.{AreYoung}
+use Rattle.forgetting.proofs.Stays.{place-stays, stays-known, stays-next}
+use Rattle.forgetting.proofs.Tops.{TopAfter, top-stays, tops-kept, same-sight, window-kept}
+use Rattle.forgetting.proofs.PageLemmas.{forgetting-sound}
+use Rattle.freeze.specs.Visiting.{IsYoung, SettlesOn}
+use Rattle.freeze.proofs.Visiting.{true-on}
+use Rattle.history.specs.Cursors.{value_in}
+use Rattle.index_lookup.specs.Pages.{slots_on, slot_in, version_in}
+use Rattle.index_lookup.proofs.PageLists.{slots-there}
+use Rattle.sound_entries.specs.Entries.{SoundEntries}
+use Rattle.sound_entries.proofs.Going.{PageGoesOn, page-same, stay-sound, stays-same}
+use Rattle.table_indexes.specs.Indexes.{entries_in, IsInUse}
+use Rattle.table_integrity.specs.Table.{SoundTable}
+use Rattle.table_integrity.proofs.InUse.{used-by}
+use Rattle.heap_write.specs.Heap.{HeapView, slots_of}
+use Rattle.heap_write.specs.Cleaning.{ForgetsBefore}
+use Rattle.history.specs.World.{World}
+use Rattle.refinement.specs.Heap as relation
+use Rattle.refinement.specs.Visible.{At}
+use Rattle.refinement.specs.Agrees as relation_agrees
+use Rattle.refinement.specs.Settling.{ForgetsIds}
+use Rattle.refinement.proofs.ForgettingLemmas.{Agrees-forgets}
+use Rattle.refinement.specs.declared.vacuum.Mode.TheVariants.{Aggressive}
+use Rattle.session_steps.specs.declared.session.Session.{Session}
+use Rattle.session_steps.specs.State.{State, session_at, seen, seen_in, reader_of, horizon_of, held_back}
+use Rattle.session_steps.specs.Agrees.{SessionKeeps, Agrees, KeepsAllTargets}
+use Rattle.session_steps.proofs.InUse.{agree}
+use Rattle.session_steps.proofs.Owns.{reader-is, reader-at}
+use Rattle.session_steps.proofs.Horizons.{below-xmin}
+use Rattle.vacuum_passes.specs.View.{VacuumView}
+use Rattle.sound_vacuum.specs.Maps.{MapsAreTrue}
+use Rattle.sound_vacuum.specs.Vacuuming.{KeepsVacuum, IsVacuumed}
+use Rattle.vacuum_engine.specs.Laws.{TrueMaps, with_heap}
+use Rattle.vacuum_engine.proofs.Agreeing.{active-late, given-from}
+
+first-among : (ids : List ℕ) (x : ℕ) → slice_get ids 0 ≡ Some x → Contains ids x
+first-among ids x at = (0, slice_get_within ids 0 x at, get_or_from_slice_get ids 0 x x at)
+
+-- Ids.
+
+committed-ended : Committed ≢ InProgress
+committed-ended e = absurd (cc)
+
+aborted-ended : Aborted ≢ InProgress
+aborted-ended e = absurd (cc)
+
+aborted-some : (w : Window) (x : ℕ) → IsAborted w x → x ≢ 0
+aborted-some w x gone same = let e : Aborted ≡ InProgress = sym gone ∙ ap (status_of w) same in aborted-ended e
+
+-- what is left of a window is one
+truncated-window : (w v : Window) (c : ℕ) → IsWindow w → Truncates w v c → IsUpToNext w c → IsWindow v
+truncated-window w v c is t up =
+    let dropped = table-dropped w.first w.stop_age w.entries v.entries w.spare v.spare (next_id w) c (turns w.first c) (record { window = is; normal = (upto-next w is).normal; next_is = refl }) up refl t.entries in
+    subst (λ f. IsWindow (window_of f v.stop_age v.entries v.spare)) (sym t.first) (subst (λ s. IsWindow (window_of c s v.entries v.spare)) (sym t.stop_age) dropped.window)
+
+module _ (w v : Window) (c : ℕ) (is : IsWindow w) (iv : IsWindow v) (t : Truncates w v c) (up : IsUpToNext w c) where
+  -- an id that is not before the cutoff stays
+  given-stays : (x : ℕ) → IsGiven w x → turns w.first c ≤ turns w.first x → IsGiven v x
+  given-stays x there late =
+      let i = some-from_is (place w x) there in
+      let turn = (at-from_place w.first (length w.entries) x i.0 i.1).turn in
+      is-from_some (place v x) _ (place-stays w v c is iv t up x i.0 i.1 (omega (arith, turn, late)))
+
+  -- what is known of an id that stays
+  state-same : (x : ℕ) → IsGiven v x → state_of v x ≡ state_of w x
+  state-same x there =
+      let known = stays-known w v c x is iv t up there in
+      state-is v x (status_of w x) there known.1 ∙ sym (state-is w x (status_of w x) known.0 refl)
+
+  state-cases : (x : ℕ) → (state_of v x ≡ state_of w x) ⊎ (state_of v x ≡ None)
+  state-cases x = by (place v x) refl
+    where
+      by : (o : Option ℕ) → place v x ≡ o → (state_of v x ≡ state_of w x) ⊎ (state_of v x ≡ None)
+      by None none = inr (ap (option_map (λ _. status_of v x)) none)
+      by (Some i) at = inl (state-same x (is-from_some (place v x) i at))
+
+  -- what had finished and stays has its status
+  ended-stays : (x : ℕ) (status : Status) → status_of w x ≡ status → status ≢ InProgress → turns w.first c ≤ turns w.first x → status_of v x ≡ status
+  ended-stays x status e ended late =
+      let at = finished-place w x (λ active. ended (sym e ∙ active)) in
+      (stays-known w v c x is iv t up (given-stays x (is-from_some (place w x) at.0 at.1) late)).1 ∙ e
+
+  -- where the topmost parent stays, it is the same
+  top-same : (x : ℕ) → IsGiven v x → IsGiven w (top_of w x) → turns w.first c ≤ turns w.first (top_of w x) → top_of v x ≡ top_of w x
+  top-same x there top late = by (top-stays w v c is iv t up x there)
+    where
+      by : TopAfter w v c x → top_of v x ≡ top_of w x
+      by (TopAfter.same s) = s
+      by (TopAfter.forgotten i at less on) =
+          let j = some-from_is (place w (top_of w x)) top in
+          let turn = (at-from_place w.first (length w.entries) (top_of w x) j.0 j.1).turn in
+          let before = top-before w (top_of v x) i j.0 is at (ap (place w) (sym on) ∙ j.1) in
+          absurd (omega (arith, turn, before, less, late))
+
+-- Chains.
+
+-- Where each deleter that was rolled back stays so, no link comes.
+module _ (w v : Window) (slots : List Slot) (aborted : (n : ℕ) (t : Version) → version_at slots n ≡ Some t → IsAborted w t.header.xmax.0 → IsAborted v t.header.xmax.0) where
+  link-back : (n k : ℕ) → link v slots n ≡ Some k → link w slots n ≡ Some k
+  link-back n k next =
+      let l = link-of (has_aborted v) slots n k next in
+      let live : has_aborted w l.old.header.xmax.0 ≡ false = ⊎_elim
+          (λ gone. let too = aborted-has v l.old.header.xmax.0 (aborted n l.old l.from (has-aborted w l.old.header.xmax.0 gone)) in let alive = l.live in absurd (cc))
+          (λ e. e) (cases_Bool (has_aborted w l.old.header.xmax.0)) in
+      successor-from (has_aborted w) slots n k l.old l.new l.from l.to (replaced-live (has_aborted v) (has_aborted w) l.old.header l.replaced live) l.place l.heap_only l.made
+
+  along-back : (i n k : ℕ) → ReachesIn (link v slots) i n k → ReachesIn (link w slots) i n k
+  along-back zero n k same = same
+  along-back (suc i) n k along = (along.0, link-back n along.0 along.1, along-back i along.0 k along.2)
+
+  in-back : (root n : ℕ) → IsIn v slots root n → IsIn w slots root n
+  in-back root n i = record { entry = i.entry; leads = i.leads; later = record { turns = i.later.turns; along = along-back i.later.turns i.entry n i.later.along } }
+
+-- The engine.
+
+module _ (st : State) (u : Window) (w : World) (v : VacuumView) (agrees : Agrees st w) (maps : TrueMaps st) (keeps : KeepsVacuum st.heap (horizon_of st) v)
+    (young : (p : Tid) (t : Version) → version_in (slots_of st.heap) p ≡ Some t → IsYoung st.heap.table v.cutoff t.header) (t : Truncates st.heap.table u v.cutoff) where
+  abbrev before : Window
+  before = st.heap.table
+
+  abbrev c : ℕ
+  c = v.cutoff
+
+  abbrev after : HeapView
+  after = record st.heap { table = u }
+
+  is : IsWindow before
+  is = agrees.sound.window
+
+  up : IsUpToNext before c
+  up = keeps.cutoff
+
+  iv : IsWindow u
+  iv = truncated-window before u c is t up
+
+  low : turns before.first c ≤ turns before.first (horizon_of st)
+  low = let a = keeps.cutoff_first in let b = keeps.horizon_first in omega (arith, a, b)
+
+  -- ids in progress stay,
+  active-after : (x : ℕ) → IsActive before x → turns before.first c ≤ turns before.first x
+  active-after x active = let late = active-late st w agrees x active in let l = low in omega (arith, late, l)
+
+  active-stays : (x : ℕ) → IsActive before x → IsGiven u x
+  active-stays x active = given-stays before u c is iv t up x active.is_given (active-after x active)
+
+  -- and so do their topmost parents, which are in progress too
+  own-active : (s : ℕ) (e : Session) → session_at st s ≡ Some e → (x : ℕ) → Contains e.own.ids x → IsActive before x
+  own-active s e at x mine = active-to before x ((agrees.found.opened s (reader_of e) (reader-is st s e at)).2.own_active x mine)
+
+  own-top : (s : ℕ) (e : Session) → session_at st s ≡ Some e → (x : ℕ) → Contains e.own.ids x → top_of u x ≡ top_of before x
+  own-top s e at x mine =
+      let first = (agrees.sound.sessions s e at).topmost x mine in
+      let top = own-active s e at (top_of before x) (first-among e.own.ids (top_of before x) first) in
+      top-same before u c is iv t up x (active-stays x (own-active s e at x mine)) top.is_given (active-after (top_of before x) top)
+
+  -- Pages.
+
+  abbrev pages : List (List Slot)
+  pages = slots_of st.heap
+
+  young-on : (n : ℕ) → AreYoung before c (slots_on pages n)
+  young-on n = record {
+    makers = λ k r at thawed. (young (record { page = n; slot = k }) r at).inserter thawed;
+    deleters = λ k r at some. (young (record { page = n; slot = k }) r at).deleter some;
+  }
+
+  aborted-stays : (n k : ℕ) (r : Version) → version_at (slots_on pages n) k ≡ Some r → IsAborted before r.header.xmax.0 → IsAborted u r.header.xmax.0
+  aborted-stays n k r at gone = ended-stays before u c is iv t up r.header.xmax.0 Aborted gone aborted-ended ((young-on n).deleters k r at (aborted-some before r.header.xmax.0 gone))
+
+  heap-sound : (n : ℕ) → SoundPage u (horizon_of st) (slots_on pages n)
+  heap-sound n = forgetting-sound before u c (horizon_of st) (slots_on pages n) is iv t up (young-on n) (agrees.sound.table.heap n)
+
+  table-sound : SoundTable after (horizon_of st)
+  table-sound = record {
+    heap = heap-sound;
+    indexes = λ n used. stay-sound (value_in n) before u pages pages (entries_in st.heap.indexes n) (agrees.sound.table.indexes n used)
+        (λ m. page-same (value_in n) before u (slots_on pages m) (λ k. ⊥) (in-back before u (slots_on pages m) (aborted-stays m)));
+  }
+
+  -- Readers.
+
+  touched : (p : Tid) (r : Version) (x : ℕ) → version_in pages p ≡ Some r → Touches x r.header → state_of u x ≡ state_of before x
+  touched p r x at touch =
+      let there = given-from (place before x) (status_of before x) (agrees.found.given p x r at touch) in
+      let late : turns before.first c ≤ turns before.first x = ⊎_elim
+          (λ made. subst (λ y. turns before.first c ≤ turns before.first y) made.1 ((young p r at).inserter made.0))
+          (λ gone. subst (λ y. turns before.first c ≤ turns before.first y) gone.1 ((young p r at).deleter gone.0))
+          (touch-cases r.header x touch) in
+      state-same before u c is iv t up x (given-stays before u c is iv t up x there late)
+
+  forgets-for : (s : ℕ) (e : Session) → session_at st s ≡ Some e → ForgetsFor before u c e.snapshot
+  forgets-for s e at = record {
+    before = is;
+    after = iv;
+    truncates = t;
+    upto = up;
+    low = let a = low in let b = below-xmin st w agrees s e at in omega (arith, a, b);
+  }
+
+  sight-by : (s : ℕ) (e : Session) → session_at st s ≡ Some e → (x : ℕ) (status : Status) → status ≢ Aborted → state_of u x ≡ Some status → Sees e.snapshot before x ↔ Sees e.snapshot u x
+  sight-by s e at x InProgress ended now =
+      let there = (state-some u x InProgress now).0 in
+      let running : IsRunning (state_of before) x = sym (state-same before u c is iv t up x there) ∙ now in
+      let by = agrees.found.owned x running in
+      let o = reader-at st by.0 by.1 by.2 in
+      let top = own-top by.0 o.0 o.1 x (subst (λ (r : relation.SeenSession). Contains r.own x) (sym o.2) by.3) in
+      (sees-top e.snapshot u before x top, sees-top e.snapshot before u x (sym top))
+  sight-by s e at x Committed ended now =
+      let k = state-some u x Committed now in
+      let known = stays-known before u c x is iv t up k.0 in
+      same-sight before u c e.snapshot (forgets-for s e at) (agrees.sound.sessions s e at).snapshot x k.0 (agrees.sound.tops x (sym known.1 ∙ k.1))
+  sight-by s e at x Aborted ended now = absurd (ended refl)
+
+  forgets-ids : ForgetsIds (seen st) (state_of u) (λ s x. Sees s u x)
+  forgets-ids = record {
+    each = state-cases before u c is iv t up;
+    touched = touched;
+    active = λ x running. state-same before u c is iv t up x (active-stays x (active-to before x running));
+    sight = λ s r at x status ended now.
+        let e = reader-at st s r at in
+        subst (λ (r : relation.SeenSession). Sees r.snapshot before x ↔ Sees r.snapshot u x) e.2 (sight-by s e.0 e.1 x status ended now);
+  }
+
+  found : relation_agrees.HeapAgrees (seen_in pages u st.sessions) w
+  found = Agrees-forgets (seen st) (state_of u) (λ s x. Sees s u x) forgets-ids w agrees.found
+
+  session-keeps : (s : ℕ) (e : Session) → session_at st s ≡ Some e → SessionKeeps u e
+  session-keeps s e at =
+      let k = agrees.sound.sessions s e at in
+      record {
+        snapshot = window-kept before u c e.snapshot (forgets-for s e at) k.snapshot;
+        topmost = λ x mine. k.topmost x mine ∙ ap Some (sym (own-top s e at x mine));
+        prefixes = k.prefixes;
+        distinct = k.distinct;
+      }
+
+  tops : (x : ℕ) → IsCommitted u x → IsWellTopped u x
+  tops x done =
+      let i = finished-place u x (λ active. committed-ended (sym done ∙ active)) in
+      let there = is-from_some (place u x) i.0 i.1 in
+      let known = stays-known before u c x is iv t up there in
+      tops-kept before u c is iv t up x there (agrees.sound.tops x (sym known.1 ∙ done))
+
+  -- the horizon is the same number
+  horizon-same : horizon_of st ≡ horizon_of (with_heap st after)
+  horizon-same = ap (λ n. earliest n (held_back st.sessions)) (sym (stays-next before u c is iv t up))
+
+  pub forgotten-agrees : Agrees (with_heap st after) w
+  forgotten-agrees = agree agrees refl refl found (record {
+    count = agrees.sound.count;
+    max_pages = agrees.sound.max_pages;
+    stop_age = t.stop_age ∙ agrees.sound.stop_age;
+    window = iv;
+    sessions = session-keeps;
+    tops = tops;
+    indexes = agrees.sound.indexes;
+    cursors = agrees.sound.cursors;
+    table = subst (λ n. SoundTable after n) horizon-same table-sound;
+  })
+
+  -- What was noted of pages.
+
+  settles-on : (n : ℕ) (page : PageView) → slice_get st.heap.pages.pages n ≡ Some page → SettlesOn before u (horizon_of st) (horizon_of st) page.slots
+  settles-on n page at = record {
+    committed = λ k r there thawed done. ended-stays before u c is iv t up r.header.xmin.0 Committed done committed-ended
+        ((young-on n).makers k r (ap (λ slots. version_at slots k) (slots-there st.heap.pages.pages n page at) ∙ there) thawed);
+    past = λ x done early. early;
+  }
+
+  pub forgotten-maps : TrueMaps (with_heap st after)
+  forgotten-maps = subst (λ n. MapsAreTrue u n st.heap.pages.pages st.heap.pages.marks) horizon-same (record {
+    count = maps.count;
+    true_marks = λ n page at. true-on before u (horizon_of st) (horizon_of st) page.slots (settles-on n page at) _ (maps.true_marks n page at);
+    true_flags = maps.true_flags;
+  })
+
+  -- no slot is another
+  pub forgotten-led : KeepsAllTargets st (with_heap st after)
+  forgotten-led n e there among = stays-same (slot_in pages e.tid) ((agrees.sound.table.indexes n (used-by st.heap.indexes n e there)).leads e there)
+
+-- An aggressive vacuum that ends lets old ids be forgotten.
+pub forgetting-led : (st : State) (h : HeapView) (w : World) (v : VacuumView) → Agrees st w → TrueMaps st → KeepsVacuum st.heap (horizon_of st) v
+    → IsVacuumed st.heap (horizon_of st) v → v.mode ≡ Aggressive → ForgetsBefore st.heap h v.cutoff → KeepsAllTargets st (with_heap st h)
+forgetting-led st h w v agrees maps keeps vacuumed mode f =
+    subst (λ (g : HeapView). KeepsAllTargets st (with_heap st g)) (sym f.is) (forgotten-led st h.table w v agrees maps keeps (vacuumed.young mode) f.truncates)
+
+pub forgetting-agrees : (st : State) (h : HeapView) (w : World) (v : VacuumView) → Agrees st w → TrueMaps st → KeepsVacuum st.heap (horizon_of st) v
+    → IsVacuumed st.heap (horizon_of st) v → v.mode ≡ Aggressive → ForgetsBefore st.heap h v.cutoff → Agrees (with_heap st h) w × TrueMaps (with_heap st h)
+forgetting-agrees st h w v agrees maps keeps vacuumed mode f =
+    subst (λ (g : HeapView). Agrees (with_heap st g) w × TrueMaps (with_heap st g)) (sym f.is) (
+      forgotten-agrees st h.table w v agrees maps keeps (vacuumed.young mode) f.truncates,
+      forgotten-maps st h.table w v agrees maps keeps (vacuumed.young mode) f.truncates,
+    )
