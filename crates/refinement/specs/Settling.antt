@@ -33,8 +33,8 @@ pub record Settles (h : Heap) (store' : Tid → Option Version) : Type 0 where
 abbrev pub SettlingIsUnseen : Type 1
 SettlingIsUnseen = (h : Heap) (w : World) (store' : Tid → Option Version) → Settles h store' → HeapAgrees h w → HeapAgrees (record h { version = store' }) w
 
--- Ids are forgotten that no version there and no session needs, and of those that stay the same is seen. (Nobody asks whether a
--- snapshot sees an id that was rolled back.)
+-- Ids are forgotten that no version there and no session needs, and of those that stay the same is
+-- seen. (Nobody asks whether a snapshot sees an id that was rolled back.)
 pub record ForgetsIds (h : Heap) (status' : ℕ → Option Status) (sees' : Snap → ℕ → Type 0) : Type 1 where
   pub each : (x : ℕ) → (status' x ≡ h.status x) ⊎ (status' x ≡ None)
   pub touched : (p : Tid) (v : Version) (x : ℕ) → At h.version p v → Touches x v.header → status' x ≡ h.status x

@@ -132,8 +132,8 @@ module _ (w v : Window) (slots : List Slot) (aborted : (n : ℕ) (t : Version) �
   link-back n k next =
       let l = link-of (has_aborted v) slots n k next in
       let live : has_aborted w l.old.header.xmax.0 ≡ false = ⊎_elim
-          (λ gone. let too = aborted-has v l.old.header.xmax.0 (aborted n l.old l.from (has-aborted w l.old.header.xmax.0 gone)) in let alive = l.live in absurd (cc))
-          (λ e. e) (cases_Bool (has_aborted w l.old.header.xmax.0)) in
+      (λ gone. let too = aborted-has v l.old.header.xmax.0 (aborted n l.old l.from (has-aborted w l.old.header.xmax.0 gone)) in let alive = l.live in absurd (cc))
+      (λ e. e) (cases_Bool (has_aborted w l.old.header.xmax.0)) in
       successor-from (has_aborted w) slots n k l.old l.new l.from l.to (replaced-live (has_aborted v) (has_aborted w) l.old.header l.replaced live) l.place l.heap_only l.made
 
   along-back : (i n k : ℕ) → ReachesIn (link v slots) i n k → ReachesIn (link w slots) i n k
@@ -215,9 +215,9 @@ module _ (st : State) (u : Window) (w : World) (v : VacuumView) (agrees : Agrees
   touched p r x at touch =
       let there = given-from (place before x) (status_of before x) (agrees.found.given p x r at touch) in
       let late : turns before.first c ≤ turns before.first x = ⊎_elim
-          (λ made. subst (λ y. turns before.first c ≤ turns before.first y) made.1 ((young p r at).inserter made.0))
-          (λ gone. subst (λ y. turns before.first c ≤ turns before.first y) gone.1 ((young p r at).deleter gone.0))
-          (touch-cases r.header x touch) in
+      (λ made. subst (λ y. turns before.first c ≤ turns before.first y) made.1 ((young p r at).inserter made.0))
+      (λ gone. subst (λ y. turns before.first c ≤ turns before.first y) gone.1 ((young p r at).deleter gone.0))
+      (touch-cases r.header x touch) in
       state-same before u c is iv t up x (given-stays before u c is iv t up x there late)
 
   forgets-for : (s : ℕ) (e : Session) → session_at st s ≡ Some e → ForgetsFor before u c e.snapshot
