@@ -1,5 +1,5 @@
 -- An engine whose old ids are forgotten at the end of an aggressive vacuum.
-use Rattle.std.proofs.Common.{◌≡◌, ◌≢◌, ◌⊎◌, ◌↔◌, ℕ, zero, suc, ◌<◌, ◌≤◌, Bool, true, false, List, length, Option, Some, None, IsSome, arith, refl, sym, ap, ◌∙◌, subst, inl, inr, ⊎_elim, slice_get}
+use Rattle.std.proofs.Common.{◌≡◌, ◌≢◌, ◌⊎◌, ◌↔◌, ℕ, zero, suc, ◌≤◌, false, List, length, Option, Some, None, arith, refl, sym, ap, ◌∙◌, subst, inl, inr, ⊎_elim, slice_get}
 use Rattle.std.specs.Prelude.{Contains}
 use Rattle.std.specs.Option.{option_map}
 use Rattle.std.proofs.lemmas.Bool.{cases_Bool}
@@ -18,11 +18,11 @@ use Rattle.commit_status.proofs.Places.{at-from_place, some-from_is, is-from_som
 use Rattle.commit_status.proofs.Giving.{finished-place}
 use Rattle.commit_status.proofs.Ancestors.{top-before}
 use Rattle.commit_status.proofs.Tables.{window_of, table-dropped}
-use Rattle.snapshot.specs.Snap.{Snap, Sees, earliest}
+use Rattle.snapshot.specs.Snap.{Sees, earliest}
 use Rattle.snapshot.proofs.Sights.{sees-top}
-use Rattle.visibility.specs.Visible.{IsFrozen, state_of}
+use Rattle.visibility.specs.Visible.{state_of}
 use Rattle.visibility.specs.Seeing.{IsRunning, Touches}
-use Rattle.visibility.proofs.Makers.{touch-cases, state-some, state-is, active-to, active-from}
+use Rattle.visibility.proofs.Makers.{touch-cases, state-some, state-is, active-to}
 use Rattle.hot_chain.specs.Chain.{has_aborted}
 use Rattle.sound_page.specs.Links.{link}
 use Rattle.sound_page.specs.Sound.{IsIn, SoundPage}
@@ -39,16 +39,14 @@ use Rattle.freeze.proofs.Visiting.{true-on}
 use Rattle.history.specs.Cursors.{value_in}
 use Rattle.index_lookup.specs.Pages.{slots_on, slot_in, version_in}
 use Rattle.index_lookup.proofs.PageLists.{slots-there}
-use Rattle.sound_entries.specs.Entries.{SoundEntries}
-use Rattle.sound_entries.proofs.Going.{PageGoesOn, page-same, stay-sound, stays-same}
-use Rattle.table_indexes.specs.Indexes.{entries_in, IsInUse}
+use Rattle.sound_entries.proofs.Going.{page-same, stay-sound, stays-same}
+use Rattle.table_indexes.specs.Indexes.{entries_in}
 use Rattle.table_integrity.specs.Table.{SoundTable}
 use Rattle.table_integrity.proofs.InUse.{used-by}
 use Rattle.heap_write.specs.Heap.{HeapView, slots_of}
 use Rattle.heap_write.specs.Cleaning.{ForgetsBefore}
 use Rattle.history.specs.World.{World}
 use Rattle.refinement.specs.Heap as relation
-use Rattle.refinement.specs.Visible.{At}
 use Rattle.refinement.specs.Agrees as relation_agrees
 use Rattle.refinement.specs.Settling.{ForgetsIds}
 use Rattle.refinement.proofs.ForgettingLemmas.{Agrees-forgets}
