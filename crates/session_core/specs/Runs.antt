@@ -1,5 +1,5 @@
 -- Runs of the engine.
-use Rattle.std.specs.Prelude.{List, [], ◌∷◌, ◌++◌, ◌≡◌, ◌<◌, ℕ, length}
+use Rattle.std.specs.Prelude.{List, [], ◌∷◌, ◌++◌, ◌≡◌, ◌<◌, length}
 use Rattle.history.specs.World.{beginning}
 use Rattle.refinement.specs.declared.settings.Settings.{Settings}
 use Rattle.refinement.specs.declared.settings.SettingsFault.TheVariants as setting

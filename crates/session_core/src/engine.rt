@@ -8,6 +8,7 @@ ghost use Rattle.refinement.specs.Allowed.{AllowsClosed, is_vacuum_step};
 ghost use Rattle.refinement.specs.Words.{AreSettings, FirstFault};
 ghost use Rattle.session_steps.specs.State.{engine_index, bits_of};
 ghost use Rattle.session_steps.specs.Agrees.{Agrees};
+ghost use Rattle.vacuum_passes.specs.View.{disturbed};
 ghost use Rattle.vacuum_engine.specs.State.{is_session};
 ghost use Rattle.vacuum_engine.specs.Exact.{EngineExact};
 ghost use Rattle.vacuum_engine.specs.Clauses.{EngineFollows};
@@ -90,15 +91,24 @@ impl Engine {
         }
     }
 
+    /// Notes in the vacuum that is running, if one is, that a step came which is not its own.
+    fn disturb(&mut self, step: &Step)
+        ensures core { self.new.core ≡ self.old.core }
+        ensures vacuum { self.new.vacuum
+            ≡ option_map (disturbed (is_session step.now)) self.old.vacuum }
+    {
+        if let Some(vacuum) = &mut self.vacuum {
+            vacuum.disturbed(is_session(step));
+        }
+    }
+
     /// Does a step that is no vacuum's. A vacuum that is running is disturbed by it.
     fn step_beside(&mut self, step: Step, reply: &mut Reply)
         requires { is_vacuum_step step ≡ false }
         ensures follows { EngineFollows self.old step reply.new self.new }
         ensures exact { EngineExact self.old step reply.new self.new }
     {
-        if let Some(vacuum) = &mut self.vacuum {
-            vacuum.disturbed(is_session(&step));
-        }
+        self.disturb(&step);
         self.core.step_into(step, reply)
     }
 

@@ -1,11 +1,13 @@
 //! The steps of a vacuum.
 
-ghost use Rattle.vacuum_engine.specs.Exact.{ExactVacuumBegin, ExactVacuumStep, ExactVacuumCancel, DoesEnd};
-ghost use Rattle.std.specs.Prelude.{◌≡◌, ◌×◌, Some};
-ghost use Rattle.vacuum_engine.specs.State.{vacuum_horizon};
+ghost use Rattle.std.specs.Prelude.{◌≡◌, None, IfSome, MatchOption};
+ghost use Rattle.xid_circle.specs.Circle.{IsNormal};
+ghost use Rattle.session_steps.specs.Vacuums.{Forgets};
+ghost use Rattle.vacuum_engine.specs.Exact.{ExactVacuumBegin, ExactVacuumStep, ExactVacuumCancel};
 
 use crate::engine::Engine;
 use refinement::{Mode, Refusal, Reply};
+use xid_circle::Xid;
 
 impl Engine {
     /// Begins a vacuum of this mode. It fixes the horizon, the cutoff, the pages that it visits and how many entries the indexes have.
@@ -30,26 +32,28 @@ impl Engine {
             *reply = Reply::Refused(Refusal::NoVacuum);
             return;
         };
+        let cutoff = vacuum.forgets_before();
         match self.core.vacuum_step(vacuum) {
             Some(piece) => *reply = Reply::Worked(piece),
-            None => self.end_vacuum(reply),
+            None => *reply = Reply::Ended(self.end_vacuum(cutoff)),
         }
     }
 
-    /// Drops the vacuum, which has ended. An aggressive one lets old ids be forgotten.
-    fn end_vacuum(&mut self, reply: &mut Reply)
-        ensures { ExactVacuumEnd self.old reply.new self.new }
+    /// Drops the vacuum, which has ended, and forgets the ids before the cutoff, if there is one. It answers the oldest that is
+    /// remembered then.
+    fn end_vacuum(&mut self, cutoff: Option<Xid>) -> u32
+        requires { IfSome cutoff (λ x. IsNormal x.0) }
+        ensures none { self.new.vacuum ≡ None }
+        ensures core { MatchOption cutoff (self.new.core ≡ self.old.core)
+            (λ x. Forgets self.old.core self.new.core x.0) }
+        ensures first { result ≡ self.new.core.heap.table.first }
     {
-        let cutoff = match &self.vacuum {
-            Some(vacuum) => vacuum.forgets_before(),
-            None => None,
-        };
         self.vacuum = None;
         if let Some(cutoff) = cutoff {
             self.core.forget(cutoff);
         }
         let (_, first) = self.core.ids();
-        *reply = Reply::Ended(first.0);
+        first.0
     }
 
     /// Drops the vacuum. What it did stays. Refusals: NoVacuum. It takes no memory.

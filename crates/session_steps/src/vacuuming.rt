@@ -35,7 +35,11 @@ fn cutoff(first: Xid, next: Xid, horizon: Xid, age: u32) -> Xid
     ensures normal { IsNormal result.0 }
 {
     let cutoff = earlier(horizon, aged(next, age));
-    if precedes(cutoff, first) { first } else { cutoff }
+    if precedes(cutoff, first) {
+        first
+    } else {
+        cutoff
+    }
 }
 
 /// Whether the id is remembered or the next.

@@ -1,7 +1,7 @@
 use Rattle.std.proofs.Common.{rules}
 use Rattle.history.specs.World.{beginning}
 use Rattle.refinement.proofs.Runs.{lawful}
-use Rattle.session_core.specs.Runs.{for_engine, for_steps}
+use Rattle.session_core.specs.Runs.{for_engine}
 use Rattle.session_core.proofs.Running.{Leads-run, Leads-ran}
 use Rattle.session_core.proofs.runs.run.Goals as goal
 

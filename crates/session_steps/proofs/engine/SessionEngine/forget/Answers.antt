@@ -8,6 +8,6 @@ use Rattle.session_steps.proofs.engine.SessionEngine.forget.Goals as goal
 pub invariant_of-self : goal.invariant_of-self
 invariant_of-self c =
     let may : MayForget (record { settings = c.self.inside.settings; heap = c.self.inside.heap; sessions = c.self.inside.sessions }) c.args.cutoff.0 =
-        subst (λ (st : State). MayForget st c.args.cutoff.0) (sym c.self.view_is) (c.may_forget.ensures.0 c.if-may_forget.true) in
+    subst (λ (st : State). MayForget st c.args.cutoff.0) (sym c.self.view_is) (c.may_forget.ensures.0 c.if-may_forget.true) in
     keeps-forget c.self.inside.sessions c.self.inside.heap.table c.forget.new.self.table c.args.cutoff.0 (subst IsWindow c.table.ensures c.is_window.ensures) c.forget.ensures.window
     c.forget.ensures.forgets.truncates may.upto may.unowned c.self.invariant

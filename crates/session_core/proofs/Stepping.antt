@@ -1,0 +1,62 @@
+-- A step that is no vacuum's, beside one that may be running.
+use Rattle.std.proofs.Common.{◌≡◌, ℕ, false, Option, Some, None, sym, ap, ◌∙◌, subst, ⊎_elim}
+use Rattle.std.specs.Prelude.{MatchOption}
+use Rattle.xid_circle.specs.Circle.{IsNormal}
+use Rattle.xid_circle.specs.declared.Xid.{Xid}
+use Rattle.heap_write.specs.Heap.{HeapView}
+use Rattle.refinement.specs.declared.vacuum.Mode.TheVariants.{Normal, Aggressive}
+use Rattle.session_steps.specs.State.{State}
+use Rattle.session_steps.specs.Vacuums.{VacuumWorks, Forgets}
+use Rattle.vacuum_passes.specs.View.{VacuumView}
+use Rattle.vacuum_passes.specs.Steps.{Steps}
+use Rattle.refinement.specs.declared.step.Step.{Step}
+use Rattle.refinement.specs.declared.step.Step.TheVariants.{VacuumBegin, VacuumStep, VacuumCancel}
+use Rattle.refinement.specs.declared.reply.Reply.{Reply}
+use Rattle.refinement.specs.Allowed.{is_vacuum_step}
+use Rattle.vacuum_engine.specs.State.{EngineView, vacuum_horizon}
+use Rattle.vacuum_engine.specs.Exact.{ExactBesideVacuum, EngineExact, DoesEnd}
+
+pub beside-exact : (old new : EngineView) (step : Step) (reply : Reply) → is_vacuum_step step ≡ false → ExactBesideVacuum old step reply new → EngineExact old step reply new
+beside-exact old new (VacuumBegin mode) reply off exact = absurd (cc off)
+beside-exact old new VacuumStep reply off exact = absurd (cc off)
+beside-exact old new VacuumCancel reply off exact = absurd (cc off)
+beside-exact old new step reply off exact = exact
+
+-- Its end.
+
+-- where nothing is left to do nothing changes
+ended-same : (h h' : HeapView) (v : VacuumView) (horizon : ℕ) → Steps h h' v horizon None None → h' ≡ h
+ended-same h h' v horizon (Steps.ends is over none same) = same
+
+module _ (old new : EngineView) (v : VacuumView) (mid : State) (running : old.vacuum ≡ Some v) (works : VacuumWorks old.core mid v None None) (gone : new.vacuum ≡ None) where
+  heap-same : mid.heap ≡ old.core.heap
+  heap-same = ended-same old.core.heap mid.heap v (vacuum_horizon old) works.steps
+
+  mid-same : mid ≡ old.core
+  mid-same = works.is ∙ ap (λ (h : HeapView). record old.core { heap = h }) heap-same
+
+  steps-same : Steps old.core.heap old.core.heap v (vacuum_horizon old) None None
+  steps-same = subst (λ (h : HeapView). Steps old.core.heap h v (vacuum_horizon old) None None) heap-same works.steps
+
+  pub ended : (cutoff : Option Xid) → MatchOption cutoff (v.mode ≡ Normal) (λ x. (v.mode ≡ Aggressive) × (x.0 ≡ v.cutoff) × IsNormal x.0)
+      → MatchOption cutoff (new.core ≡ mid) (λ x. Forgets mid new.core x.0) → DoesEnd old new
+  ended None normal same = record {
+    vacuum = v;
+    running = running;
+    steps = steps-same;
+    none = gone;
+    core = let is = same ∙ mid-same in is ∙ ap (λ (st : State). record old.core { heap = st.heap }) (sym is);
+    forgets = λ aggressive may. absurd (let f : Normal ≡ Aggressive = sym normal ∙ aggressive in cc);
+    keeps = λ either. ap (λ (st : State). st.heap) (same ∙ mid-same);
+  }
+  ended (Some x) aggressive f =
+      let forgets = subst (λ (st : State). Forgets st new.core v.cutoff) mid-same (subst (λ c. Forgets mid new.core c) aggressive.1 f) in
+      record {
+        vacuum = v;
+        running = running;
+        steps = steps-same;
+        none = gone;
+        core = forgets.is;
+        forgets = λ mode may. forgets.forgets may;
+        keeps = λ either. ⊎_elim (λ normal. absurd (let g : Normal ≡ Aggressive = sym normal ∙ aggressive.0 in cc)) (λ may_not. forgets.keeps may_not) either;
+      }
