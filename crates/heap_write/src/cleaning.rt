@@ -14,7 +14,7 @@ ghost use Rattle.heap_write.specs.Cleaning.{FreezesAt, Notes, SweepsAt, FreesSlo
 use crate::heap::HeapState;
 use freeze::{freeze_page, mark_of};
 use page_slots::Page;
-use root_index::{DeadSet, Entry, Progress};
+use root_index::{DeadSet, Entry, PositionHint, Progress};
 use space_maps::Mark;
 use xid_circle::{Tid, Xid};
 
@@ -62,12 +62,19 @@ impl HeapState {
     }
 
     /// Goes through a piece of the index of this number, which is in use: of its entries after `from`, or of all, those go that
-    /// lead to a dead place. It answers where the piece ended.
-    pub fn sweep(&mut self, number: u8, dead: &DeadSet, from: Option<Entry>) -> Progress
+    /// lead to a dead place. It answers where the piece ended, and takes where the one before did, as
+    /// [`root_index::RootIndex::remove_where`] does.
+    pub fn sweep(
+        &mut self,
+        number: u8,
+        dead: &DeadSet,
+        from: Option<Entry>,
+        near: PositionHint,
+    ) -> (Progress, PositionHint)
         requires { IsInUse self.old.indexes number }
-        ensures { SweepsAt self.old self.new number dead.now from result }
+        ensures { SweepsAt self.old self.new number dead.now from result.0 }
     {
-        self.indexes.sweep(number, dead, from)
+        self.indexes.sweep(number, dead, from, near)
     }
 
     /// The first index in use after that of this number, if there is one.

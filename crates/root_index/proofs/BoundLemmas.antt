@@ -1,22 +1,22 @@
 -- Bounds of pages: what lies between them, and what does not.
-use Rattle.std.proofs.Common.{◌≡◌, ◌∙◌, ℕ, ◌+◌, ◌-◌, ◌<◌, ◌≤◌, inl, inr, List, [], ◌∷◌, length, get_or, take, drop, ◌++◌, Bool, true, Some, slice_get, sym, ap, refl, arith, Contains}
+use Rattle.std.proofs.Common.{◌≡◌, ◌∙◌, ℕ, ◌+◌, ◌-◌, ◌<◌, ◌≤◌, inl, inr, List, [], ◌∷◌, length, get_or, take, drop, ◌++◌, Bool, cond, Some, slice_get, sym, ap, refl, subst, arith, Contains}
 use Rattle.std.specs.List.{insert, filter}
 use Rattle.std.specs.Ordering.{nat_cmp}
 use Rattle.std.specs.declared.cmp.Ordering.TheVariants.{Less, Equal}
 use Rattle.std.proofs.lemmas.Bool.{cases_lt}
 use Rattle.std.proofs.lemmas.Cmp.{ranked}
-use Rattle.std.proofs.lemmas.List.{take-append-drop, take_all, drop_all, append-nil}
-use Rattle.std.proofs.lemmas.List.Elements.{All-cons, All-head, All-tail, All-weaker, All-more, All-drop}
+use Rattle.std.proofs.lemmas.List.{take-append-drop, take_all, drop_all, append-nil, get_or-take, get_or-drop, length-drop, length-take-le}
+use Rattle.std.proofs.lemmas.List.Elements.{All-cons, All-head, All-tail, All-weaker, All-more, All-drop, Contains-append_left, Contains-append_right}
 use Rattle.std.proofs.lemmas.List.Sorted.{IsPermutation-insert, All-permutation}
-use Rattle.std.proofs.lemmas.Option.{slice_get-get_or}
+use Rattle.std.proofs.lemmas.Option.{slice_get-get_or, get_or_from_slice_get}
 use Rattle.xid_circle.specs.declared.Tid.{Tid}
 use Rattle.root_index.specs.declared.entry.Entry.{Entry}
 use Rattle.root_index.specs.declared.page_bounds.PageBounds.{PageBounds}
-use Rattle.root_index.specs.Bounds.{IsOn, AreOn, AreBeside}
+use Rattle.root_index.specs.Bounds.{IsOn, AreOn, AreBeside, IsFirstFrom, IsPartOn}
 use Rattle.root_index.specs.Lists.{stays}
 use Rattle.root_index.specs.Places.{IsBefore, AreAscending}
 use Rattle.root_index.proofs.PlaceLemmas.{ascending-at, same_number}
-use Rattle.root_index.proofs.SetLemmas.{less_both, stays-is}
+use Rattle.root_index.proofs.SetLemmas.{less_both, stays-is, same_test}
 
 -- Ascending places are on ascending pages.
 
@@ -41,6 +41,94 @@ from_first xs first up at t there = let p = number_of xs t there in pages_at xs 
 pub to_last : (xs : List Tid) (last : Tid) → AreAscending xs → slice_get xs (length xs - 1) ≡ Some last → (t : Tid) → Contains xs t → t.page ≤ last.page
 to_last xs last up at t there = let p = number_of xs t there in pages_at xs p.0 (length xs - 1) t last up (omega (arith, p.1)) p.2 at
 
+-- the places before low are before the page, and those from high on are not
+pub record IsPageBetween (tids : List Tid) (page low high : ℕ) : Type 0 where
+  pub order : low ≤ high
+  pub in_range : high ≤ length tids
+  pub before : (k : ℕ) (t : Tid) → k < low → slice_get tids k ≡ Some t → t.page < page
+  pub from : (k : ℕ) (t : Tid) → high ≤ k → slice_get tids k ≡ Some t → page ≤ t.page
+
+pub page_before : (xs : List Tid) (page low high i : ℕ) (d : Tid) → AreAscending xs → IsPageBetween xs page low high → i < high → (get_or xs i d).page < page
+    → IsPageBetween xs page (i + 1) high
+page_before xs page low high i d up around within less = record {
+  order = omega arith;
+  in_range = around.in_range;
+  before = λ k t lt at.
+      let le = pages_at xs k i t (get_or xs i d) up (omega arith) at (slice_get-get_or xs i d (omega (arith, within, around.in_range))) in
+      omega (arith, le, less);
+  from = around.from;
+}
+
+pub page_from : (xs : List Tid) (page low high i : ℕ) (d : Tid) → AreAscending xs → IsPageBetween xs page low high → low ≤ i → i < high → page ≤ (get_or xs i d).page
+    → IsPageBetween xs page low i
+page_from xs page low high i d up around from_low within le = record {
+  order = from_low;
+  in_range = omega (arith, within, around.in_range);
+  before = around.before;
+  from = λ k t behind at.
+      let later = pages_at xs i k (get_or xs i d) t up behind (slice_get-get_or xs i d (omega (arith, within, around.in_range))) at in
+      omega (arith, later, le);
+}
+
+-- A part of ascending places.
+
+ascending_drop : (n : ℕ) (xs : List Tid) → n ≤ length xs → AreAscending xs → AreAscending (drop n xs)
+ascending_drop n xs short up i j d lt within =
+    let long = length-drop n xs in
+    subst (λ a. IsBefore a (get_or (drop n xs) j d)) (sym (get_or-drop n xs i d))
+    (subst (λ b. IsBefore (get_or xs (n + i) d) b) (sym (get_or-drop n xs j d)) (up (n + i) (n + j) d (omega (arith, lt)) (omega (arith, within, long, short))))
+
+ascending_take : (n : ℕ) (xs : List Tid) → n ≤ length xs → AreAscending xs → AreAscending (take n xs)
+ascending_take n xs short up i j d lt within =
+    let long = length-take-le n xs short in
+    subst (λ a. IsBefore a (get_or (take n xs) j d)) (sym (get_or-take n xs i d (omega (arith, lt, within, long))))
+    (subst (λ b. IsBefore (get_or xs i d) b) (sym (get_or-take n xs j d (omega (arith, within, long)))) (up i j d lt (omega (arith, within, long, short))))
+
+-- a part of a part
+pub part_of_part : (b : PageBounds) (xs ys zs : List Tid) → IsPartOn b xs ys → IsPartOn b ys zs → IsPartOn b xs zs
+part_of_part b xs ys zs first next = record {
+  ascending = next.ascending;
+  none_new = λ t there. first.none_new t (next.none_new t there);
+  all_on = λ t there on. next.all_on t (first.all_on t there on) on;
+}
+
+-- where all are beside the pages it is none of them
+pub none_on : (b : PageBounds) (xs : List Tid) → AreBeside b xs → IsPartOn b xs []
+none_on b xs beside = record {
+  ascending = λ i j d lt within. absurd (omega (arith, within));
+  none_new = λ t there. absurd (omega (arith, there.1));
+  all_on = λ t there on. absurd (beside t there on);
+}
+
+pub part_behind : (b : PageBounds) (xs : List Tid) (n : ℕ) → AreAscending xs → IsFirstFrom xs b.least n → IsPartOn b xs (drop n xs)
+part_behind b xs n up first = record {
+  ascending = ascending_drop n xs first.in_range up;
+  none_new = λ t there. subst (λ (ys : List Tid). Contains ys t) (take-append-drop n xs) (Contains-append_right (take n xs) (drop n xs) t there);
+  all_on = λ t there on.
+      let p = number_of xs t there in
+      elim (cases_lt p.0 n) [
+        | inl before ↦ absurd (let less = first.before p.0 t before p.2 in omega (arith, on.0, less))
+        | inr behind ↦
+            let long = length-drop n xs in
+            let same : n + (p.0 - n) ≡ p.0 = omega (arith, behind) in
+            (p.0 - n, omega (arith, p.1, behind, long), get_or-drop n xs (p.0 - n) t ∙ ap (λ k. get_or xs k t) same ∙ get_or_from_slice_get xs p.0 t t p.2)
+      ];
+}
+
+pub part_before : (b : PageBounds) (xs : List Tid) (n : ℕ) → AreAscending xs → IsFirstFrom xs (b.greatest + 1) n → IsPartOn b xs (take n xs)
+part_before b xs n up first = record {
+  ascending = ascending_take n xs first.in_range up;
+  none_new = λ t there. subst (λ (ys : List Tid). Contains ys t) (take-append-drop n xs) (Contains-append_left (take n xs) (drop n xs) t there);
+  all_on = λ t there on.
+      let p = number_of xs t there in
+      elim (cases_lt p.0 n) [
+        | inl before ↦
+            let long = length-take-le n xs first.in_range in
+            (p.0, omega (arith, before, long), get_or-take n xs p.0 t before ∙ get_or_from_slice_get xs p.0 t t p.2)
+        | inr behind ↦ absurd (let more = first.from p.0 t behind p.2 in omega (arith, on.1, more))
+      ];
+}
+
 -- Entries between bounds.
 
 pub on_inserted : (b b' : PageBounds) (xs : List Entry) (i : ℕ) (y : Entry) → AreOn b xs → ((t : Tid) → IsOn b t → IsOn b' t) → IsOn b' y.tid → AreOn b' (insert xs i y)
@@ -53,17 +141,33 @@ pub on_more : (b b' : PageBounds) (xs : List Entry) (i : ℕ) (y : Entry) → i 
 on_more b b' xs i y within on wider here =
     All-more (λ e. IsOn b' e.tid) xs i y within (All-weaker (λ e. IsOn b e.tid) (λ e. IsOn b' e.tid) (λ e. wider e.tid) (take i xs) on) here
 
-all_stay : (b : PageBounds) (dead : List Tid) (xs : List Entry) → AreOn b xs → AreBeside b dead → filter (stays dead) xs ≡ xs
-all_stay b dead [] on beside = refl
-all_stay b dead (x ∷ xs) on beside =
-    let here : stays dead x ≡ true = (stays-is dead x).1 (λ there. beside x.tid there (All-head (λ e. IsOn b e.tid) x xs on)) in
-    rw here (ap (λ r. x ∷ r) (all_stay b dead xs (All-tail (λ e. IsOn b e.tid) x xs on) beside))
-
-pub none_goes : (b : PageBounds) (dead : List Tid) (xs : List Entry) (from : ℕ) → AreOn b xs → AreBeside b dead → xs ≡ take from xs ++ filter (stays dead) (drop from xs)
-none_goes b dead xs from on beside =
-    sym (take-append-drop from xs) ∙ ap (λ ys. take from xs ++ ys) (sym (all_stay b dead (drop from xs) (All-drop (λ e. IsOn b e.tid) from xs on) beside))
-
 -- at the end all stay
 pub at_end : (test : Entry → Bool) (xs : List Entry) (n : ℕ) → length xs ≤ n → take n xs ++ filter test (drop n xs) ≡ xs
 at_end test xs n past =
     ap (λ ys. take n xs ++ filter test ys) (drop_all n xs past) ∙ append-nil (take n xs) ∙ take_all n xs past
+
+-- no entry leads to one of no places
+pub none_dead : (dead : List Tid) (xs : List Entry) (from : ℕ) → length dead ≡ 0
+    → take (length xs) xs ++ filter (stays dead) (drop (length xs) xs) ≡ take from xs ++ filter (stays dead) (drop from xs)
+none_dead (t ∷ dead) xs from none = absurd (omega (arith, none))
+none_dead [] xs from none =
+    at_end (stays []) xs (length xs) (omega arith) ∙ sym (take-append-drop from xs) ∙ ap (λ ys. take from xs ++ ys) (sym (all_stay (drop from xs)))
+  where
+    all_stay : (xs : List Entry) → filter (stays []) xs ≡ xs
+    all_stay [] = refl
+    all_stay (x ∷ xs) = ap (λ r. x ∷ r) (all_stay xs)
+
+-- which entries stay is told by the places on their pages alone
+part_stays : (b : PageBounds) (dead part : List Tid) (xs : List Entry) → AreOn b xs → IsPartOn b dead part → filter (stays part) xs ≡ filter (stays dead) xs
+part_stays b dead part [] on is = refl
+part_stays b dead part (x ∷ xs) on is =
+    let test : stays part x ≡ stays dead x = same_test (stays part x) (stays dead x) (
+      λ h. (stays-is dead x).1 (λ there. (stays-is part x).0 h (is.all_on x.tid there (All-head (λ e. IsOn b e.tid) x xs on))),
+      λ h. (stays-is part x).1 (λ there. (stays-is dead x).0 h (is.none_new x.tid there)),
+    ) in
+    let rest = part_stays b dead part xs (All-tail (λ e. IsOn b e.tid) x xs on) is in
+    ap (λ t. cond t (x ∷ filter (stays part) xs) (filter (stays part) xs)) test ∙ ap (λ r. cond (stays dead x) (x ∷ r) r) rest
+
+pub part_left : (b : PageBounds) (dead part : List Tid) (xs : List Entry) (from : ℕ) → AreOn b xs → IsPartOn b dead part
+    → take from xs ++ filter (stays part) (drop from xs) ≡ take from xs ++ filter (stays dead) (drop from xs)
+part_left b dead part xs from on is = ap (λ ys. take from xs ++ ys) (part_stays b dead part (drop from xs) (All-drop (λ e. IsOn b e.tid) from xs on) is)

@@ -6,10 +6,10 @@ use Rattle.std.proofs.lemmas.List.Elements.{All-tail}
 use Rattle.root_index.specs.declared.entry.Entry.{Entry}
 use Rattle.root_index.specs.declared.node.Half.{Half}
 use Rattle.root_index.specs.declared.node.Half.TheVariants.{Lower, Upper}
-use Rattle.root_index.specs.declared.nodes.Spot.{Spot}
+use Rattle.root_index.specs.declared.nodes.TreePosition.{TreePosition}
 use Rattle.root_index.specs.Halves.{IsHalf, rank_half}
 use Rattle.root_index.specs.Lists.{concatenated}
-use Rattle.root_index.specs.Nodes.{all, inner_rank, rank_in, IsSpotIn}
+use Rattle.root_index.specs.Nodes.{all, inner_rank, rank_in, IsPositionIn}
 use Rattle.root_index.proofs.JoinedLemmas.{start}
 use Rattle.root_index.proofs.RowLemmas.{length-lists}
 
@@ -67,43 +67,43 @@ module _ {N S : Type 0} (entries : N → List Entry) (rank : N → S → ℕ) (l
       let here : inner_rank rank (slice_get (l ++ u) node) inner ≡ inner_rank rank (slice_get u (node - n)) inner = ap (λ o. inner_rank rank o inner) (get_back l u node n size past) in
       omega arith
 
-module _ {N S : Type 0} (IsSpot : N → S → Type 0) (l u : List N) (node : ℕ) (inner : S) (in_range : IsSpotIn IsSpot (l ++ u) (record { node = node; inner = inner })) where
-  pub spot_front : node < length l → IsSpotIn IsSpot l (record { node = node; inner = inner })
-  spot_front within = record {
+module _ {N S : Type 0} (IsPosition : N → S → Type 0) (l u : List N) (node : ℕ) (inner : S) (in_range : IsPositionIn IsPosition (l ++ u) (record { node = node; inner = inner })) where
+  pub position_front : node < length l → IsPositionIn IsPosition l (record { node = node; inner = inner })
+  position_front within = record {
     node = λ some. within;
-    inner = subst (λ (o : Option N). IfSome o (λ n. IsSpot n inner)) (get_front l u node within) in_range.inner;
+    inner = subst (λ (o : Option N). IfSome o (λ n. IsPosition n inner)) (get_front l u node within) in_range.inner;
   }
 
-  pub spot_back : (n : ℕ) → length l ≡ n → n ≤ node → IsSpotIn IsSpot u (record { node = node - n; inner = inner })
-  spot_back n size past =
+  pub position_back : (n : ℕ) → length l ≡ n → n ≤ node → IsPositionIn IsPosition u (record { node = node - n; inner = inner })
+  position_back n size past =
       let whole = length-append l u in
       record {
         node = λ some. let within = in_range.node (omega (arith, some)) in omega (arith, within);
-        inner = subst (λ (o : Option N). IfSome o (λ n. IsSpot n inner)) (get_back l u node n size past) in_range.inner;
+        inner = subst (λ (o : Option N). IfSome o (λ n. IsPosition n inner)) (get_back l u node n size past) in_range.inner;
       }
 
--- where a spot is in the halves of a branch
-module _ {N S : Type 0} (entries : N → List Entry) (rank : N → S → ℕ) (IsSpot : N → S → Type 0) (l u whole : List N) (spot : Spot S) (result : Half (Spot S)) (is : l ++ u ≡ whole) where
-  pub half_front : result ≡ Lower spot → IsSpotIn IsSpot whole spot → spot.node < length l → IsHalf (λ b s. IsSpotIn IsSpot b s) l u result
+-- where a position is in the halves of a branch
+module _ {N S : Type 0} (entries : N → List Entry) (rank : N → S → ℕ) (IsPosition : N → S → Type 0) (l u whole : List N) (position : TreePosition S) (result : Half (TreePosition S)) (is : l ++ u ≡ whole) where
+  pub half_front : result ≡ Lower position → IsPositionIn IsPosition whole position → position.node < length l → IsHalf (λ b s. IsPositionIn IsPosition b s) l u result
   half_front lower in_range within =
-      let there = subst (λ (b : List N). IsSpotIn IsSpot b spot) (sym is) in_range in
-      subst (IsHalf (λ b s. IsSpotIn IsSpot b s) l u) (sym lower) (spot_front IsSpot l u spot.node spot.inner there within)
+      let there = subst (λ (b : List N). IsPositionIn IsPosition b position) (sym is) in_range in
+      subst (IsHalf (λ b s. IsPositionIn IsPosition b s) l u) (sym lower) (position_front IsPosition l u position.node position.inner there within)
 
-  pub half_back : (n : ℕ) → result ≡ Upper (record { node = spot.node - n; inner = spot.inner }) → IsSpotIn IsSpot whole spot → length l ≡ n → n ≤ spot.node
-      → IsHalf (λ b s. IsSpotIn IsSpot b s) l u result
+  pub half_back : (n : ℕ) → result ≡ Upper (record { node = position.node - n; inner = position.inner }) → IsPositionIn IsPosition whole position → length l ≡ n → n ≤ position.node
+      → IsHalf (λ b s. IsPositionIn IsPosition b s) l u result
   half_back n upper in_range size past =
-      let there = subst (λ (b : List N). IsSpotIn IsSpot b spot) (sym is) in_range in
-      subst (IsHalf (λ b s. IsSpotIn IsSpot b s) l u) (sym upper) (spot_back IsSpot l u spot.node spot.inner there n size past)
+      let there = subst (λ (b : List N). IsPositionIn IsPosition b position) (sym is) in_range in
+      subst (IsHalf (λ b s. IsPositionIn IsPosition b s) l u) (sym upper) (position_back IsPosition l u position.node position.inner there n size past)
 
-  pub rank_half_front : result ≡ Lower spot → spot.node < length l → rank_half (λ b. all entries b) (λ b s. rank_in entries rank b s) l u result ≡ rank_in entries rank whole spot
+  pub rank_half_front : result ≡ Lower position → position.node < length l → rank_half (λ b. all entries b) (λ b s. rank_in entries rank b s) l u result ≡ rank_in entries rank whole position
   rank_half_front lower within =
       ap (rank_half (λ b. all entries b) (λ b s. rank_in entries rank b s) l u) lower
-      ∙ sym (rank_front entries rank l u spot.node spot.inner within)
-      ∙ ap (λ (b : List N). rank_in entries rank b spot) is
+      ∙ sym (rank_front entries rank l u position.node position.inner within)
+      ∙ ap (λ (b : List N). rank_in entries rank b position) is
 
-  pub rank_half_back : (n : ℕ) → result ≡ Upper (record { node = spot.node - n; inner = spot.inner }) → length l ≡ n → n ≤ spot.node
-      → rank_half (λ b. all entries b) (λ b s. rank_in entries rank b s) l u result ≡ rank_in entries rank whole spot
+  pub rank_half_back : (n : ℕ) → result ≡ Upper (record { node = position.node - n; inner = position.inner }) → length l ≡ n → n ≤ position.node
+      → rank_half (λ b. all entries b) (λ b s. rank_in entries rank b s) l u result ≡ rank_in entries rank whole position
   rank_half_back n upper size past =
       ap (rank_half (λ b. all entries b) (λ b s. rank_in entries rank b s) l u) upper
-      ∙ sym (rank_back entries rank l u spot.node spot.inner n size past)
-      ∙ ap (λ (b : List N). rank_in entries rank b spot) is
+      ∙ sym (rank_back entries rank l u position.node position.inner n size past)
+      ∙ ap (λ (b : List N). rank_in entries rank b position) is

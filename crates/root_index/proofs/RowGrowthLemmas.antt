@@ -5,7 +5,7 @@ use Rattle.std.proofs.lemmas.List.{length-append, append_assoc, map-set}
 use Rattle.std.proofs.lemmas.List.Elements.{All-cons, All-head, All-tail}
 use Rattle.std.proofs.lemmas.Option.{slice_get_within}
 use Rattle.root_index.specs.declared.entry.Entry.{Entry}
-use Rattle.root_index.specs.declared.nodes.Spot.{Spot}
+use Rattle.root_index.specs.declared.nodes.TreePosition.{TreePosition}
 use Rattle.root_index.specs.Lists.{concatenated, list_of}
 use Rattle.root_index.specs.Nodes.{all, inner_rank, rank_in, IsOpened}
 use Rattle.root_index.specs.Rows.{inner_is}
@@ -72,43 +72,43 @@ module _ {N : Type 0} (entries : N → List Entry) where
   all_set_same (m ∷ nodes) zero n put at is = let same : n ≡ m = cc at in ap (λ es. es ++ all entries nodes) (is ∙ ap entries same)
   all_set_same (m ∷ nodes) (suc i) n put at is = ap (λ r. entries m ++ r) (all_set_same nodes i n put at is)
 
-  module _ {S : Type 0} (size : N → ℕ) (rank : N → S → ℕ) (IsSpot : N → S → Type 0) where
-    module _ (nodes : List N) (spot : Spot S) (n l u : N) (inner : S) (at : slice_get nodes spot.node ≡ Some n) (is : entries l ++ entries u ≡ entries n) where
-      pub opened_low : size l < 128 → IsSpot l inner → rank l inner ≡ rank n spot.inner
-          → IsOpened entries size rank IsSpot nodes (split_to nodes spot.node l u) spot (record { node = spot.node; inner = inner })
+  module _ {S : Type 0} (size : N → ℕ) (rank : N → S → ℕ) (IsPosition : N → S → Type 0) where
+    module _ (nodes : List N) (position : TreePosition S) (n l u : N) (inner : S) (at : slice_get nodes position.node ≡ Some n) (is : entries l ++ entries u ≡ entries n) where
+      pub opened_low : size l < 128 → IsPosition l inner → rank l inner ≡ rank n position.inner
+          → IsOpened entries size rank IsPosition nodes (split_to nodes position.node l u) position (record { node = position.node; inner = inner })
       opened_low few low ranked =
-          let low_at = get_low nodes spot.node l u (slice_get_within nodes spot.node n at) in
-          let prefix = start_split nodes spot.node l u in
-          let there : inner_rank rank (slice_get (split_to nodes spot.node l u) spot.node) inner ≡ rank l inner = ap (λ o. inner_rank rank o inner) low_at in
-          let was = inner_is rank nodes spot n at in
+          let low_at = get_low nodes position.node l u (slice_get_within nodes position.node n at) in
+          let prefix = start_split nodes position.node l u in
+          let there : inner_rank rank (slice_get (split_to nodes position.node l u) position.node) inner ≡ rank l inner = ap (λ o. inner_rank rank o inner) low_at in
+          let was = inner_is rank nodes position n at in
           record {
-            same = entries_split nodes spot.node n l u at is;
+            same = entries_split nodes position.node n l u at is;
             before = omega arith;
-            room = subst (λ (o : Option N). IsSomeAnd o (λ n. (size n < 128) × IsSpot n inner)) (sym low_at) (few, low);
+            room = subst (λ (o : Option N). IsSomeAnd o (λ n. (size n < 128) × IsPosition n inner)) (sym low_at) (few, low);
           }
 
-      pub opened_high : size u < 128 → IsSpot u inner → length (entries l) + rank u inner ≡ rank n spot.inner
-          → IsOpened entries size rank IsSpot nodes (split_to nodes spot.node l u) spot (record { node = spot.node + 1; inner = inner })
+      pub opened_high : size u < 128 → IsPosition u inner → length (entries l) + rank u inner ≡ rank n position.inner
+          → IsOpened entries size rank IsPosition nodes (split_to nodes position.node l u) position (record { node = position.node + 1; inner = inner })
       opened_high few high ranked =
-          let within = slice_get_within nodes spot.node n at in
-          let high_at = get_high nodes spot.node l u within in
-          let prefix = start_split nodes spot.node l u in
-          let next = count_next entries (split_to nodes spot.node l u) spot.node l (get_low nodes spot.node l u within) in
-          let there : inner_rank rank (slice_get (split_to nodes spot.node l u) (spot.node + 1)) inner ≡ rank u inner = ap (λ o. inner_rank rank o inner) high_at in
-          let was = inner_is rank nodes spot n at in
+          let within = slice_get_within nodes position.node n at in
+          let high_at = get_high nodes position.node l u within in
+          let prefix = start_split nodes position.node l u in
+          let next = count_next entries (split_to nodes position.node l u) position.node l (get_low nodes position.node l u within) in
+          let there : inner_rank rank (slice_get (split_to nodes position.node l u) (position.node + 1)) inner ≡ rank u inner = ap (λ o. inner_rank rank o inner) high_at in
+          let was = inner_is rank nodes position n at in
           record {
-            same = entries_split nodes spot.node n l u at is;
+            same = entries_split nodes position.node n l u at is;
             before = omega arith;
-            room = subst (λ (o : Option N). IsSomeAnd o (λ n. (size n < 128) × IsSpot n inner)) (sym high_at) (few, high);
+            room = subst (λ (o : Option N). IsSomeAnd o (λ n. (size n < 128) × IsPosition n inner)) (sym high_at) (few, high);
           }
 
     -- An entry that is put into a node with room.
 
-    module _ (within : (n : N) (s : S) → IsSpot n s → rank n s ≤ length (entries n)) (old new : List N) (was is : Spot S) (b put : N) (opened : IsOpened entries size rank IsSpot old new was is)
+    module _ (within : (n : N) (s : S) → IsPosition n s → rank n s ≤ length (entries n)) (old new : List N) (was is : TreePosition S) (b put : N) (opened : IsOpened entries size rank IsPosition old new was is)
         (at : slice_get new is.node ≡ Some b) where
       pub put_in : (x : Entry) → entries put ≡ insert (entries b) (rank b is.inner) x → all entries (slice_set new is.node put) ≡ insert (all entries old) (rank_in entries rank old was) x
       put_in x made =
-          let room = subst (λ (o : Option N). IsSomeAnd o (λ n. (size n < 128) × IsSpot n is.inner)) at opened.room in
+          let room = subst (λ (o : Option N). IsSomeAnd o (λ n. (size n < 128) × IsPosition n is.inner)) at opened.room in
           let short = within b is.inner room.1 in
           let leaf = list_is entries new is.node b at in
           let size : length (list_of (map entries new) is.node) ≡ length (entries b) = ap length leaf in

@@ -4,11 +4,11 @@ use Rattle.std.specs.List.{All}
 use Rattle.std.proofs.lemmas.List.{length-map}
 use Rattle.std.proofs.lemmas.Option.{slice_get-map, slice_get-get_or, slice_get_within, get_or_from_slice_get}
 use Rattle.root_index.specs.declared.entry.Entry.{Entry}
-use Rattle.root_index.specs.declared.nodes.Spot.{Spot}
+use Rattle.root_index.specs.declared.nodes.TreePosition.{TreePosition}
 use Rattle.root_index.specs.Order.{IsAscending}
 use Rattle.root_index.specs.Sets.{IsAt, IsGapFor}
 use Rattle.root_index.specs.Lists.{list_of, IsLastBetween}
-use Rattle.root_index.specs.Nodes.{all, AreNeat, spot_place, rank_in, inner_rank, IsSpotIn}
+use Rattle.root_index.specs.Nodes.{all, AreNeat, list_place, rank_in, inner_rank, IsPositionIn}
 use Rattle.root_index.specs.Rows.{inner_is}
 use Rattle.root_index.proofs.JoinedLemmas.{IsFilled, IsPlaceIn, start, start_next, start_within, found_joined, absent_joined, entry_in_list, entry_in_next, none_behind, ascending_list}
 
@@ -56,51 +56,51 @@ module _ {N : Type 0} (entries : N → List Entry) where
       (start_within (map entries nodes) i (list_within nodes i n at))
 
   module _ {S : Type 0} (rank : N → S → ℕ) where
-    pub found_in : (nodes : List N) (x : Entry) (spot : Spot S) (n : N) → slice_get nodes spot.node ≡ Some n → IsAt (entries n) x (rank n spot.inner)
-        → IsAt (all entries nodes) x (rank_in entries rank nodes spot)
-    found_in nodes x spot n at found =
-        let there : IsAt (list_of (map entries nodes) spot.node) x (inner_rank rank (slice_get nodes spot.node) spot.inner) =
-        subst (λ (l : List Entry). IsAt l x (inner_rank rank (slice_get nodes spot.node) spot.inner)) (sym (list_is nodes spot.node n at))
-        (subst (IsAt (entries n) x) (sym (inner_is rank nodes spot n at)) found) in
-        let joined = found_joined (map entries nodes) x (spot_place rank nodes spot) (list_within nodes spot.node n at) there in
+    pub found_in : (nodes : List N) (x : Entry) (position : TreePosition S) (n : N) → slice_get nodes position.node ≡ Some n → IsAt (entries n) x (rank n position.inner)
+        → IsAt (all entries nodes) x (rank_in entries rank nodes position)
+    found_in nodes x position n at found =
+        let there : IsAt (list_of (map entries nodes) position.node) x (inner_rank rank (slice_get nodes position.node) position.inner) =
+        subst (λ (l : List Entry). IsAt l x (inner_rank rank (slice_get nodes position.node) position.inner)) (sym (list_is nodes position.node n at))
+        (subst (IsAt (entries n) x) (sym (inner_is rank nodes position n at)) found) in
+        let joined = found_joined (map entries nodes) x (list_place rank nodes position) (list_within nodes position.node n at) there in
         joined.at
 
-    pub gap_in : (nodes : List N) (x : Entry) (spot : Spot S) (n : N) → IsFilled (map entries nodes) → IsAscending (all entries nodes)
-        → IsLastBetween (map entries nodes) x spot.node (spot.node + 1) → slice_get nodes spot.node ≡ Some n → IsGapFor (entries n) x (rank n spot.inner)
-        → IsGapFor (all entries nodes) x (rank_in entries rank nodes spot)
-    gap_in nodes x spot n filled up between at gap =
-        let there : IsGapFor (list_of (map entries nodes) spot.node) x (inner_rank rank (slice_get nodes spot.node) spot.inner) =
-        subst (λ (l : List Entry). IsGapFor l x (inner_rank rank (slice_get nodes spot.node) spot.inner)) (sym (list_is nodes spot.node n at))
-        (subst (IsGapFor (entries n) x) (sym (inner_is rank nodes spot n at)) gap) in
-        let joined = absent_joined (map entries nodes) x (spot_place rank nodes spot) (record { ascending = up; filled = filled }) between there in
+    pub gap_in : (nodes : List N) (x : Entry) (position : TreePosition S) (n : N) → IsFilled (map entries nodes) → IsAscending (all entries nodes)
+        → IsLastBetween (map entries nodes) x position.node (position.node + 1) → slice_get nodes position.node ≡ Some n → IsGapFor (entries n) x (rank n position.inner)
+        → IsGapFor (all entries nodes) x (rank_in entries rank nodes position)
+    gap_in nodes x position n filled up between at gap =
+        let there : IsGapFor (list_of (map entries nodes) position.node) x (inner_rank rank (slice_get nodes position.node) position.inner) =
+        subst (λ (l : List Entry). IsGapFor l x (inner_rank rank (slice_get nodes position.node) position.inner)) (sym (list_is nodes position.node n at))
+        (subst (IsGapFor (entries n) x) (sym (inner_is rank nodes position n at)) gap) in
+        let joined = absent_joined (map entries nodes) x (list_place rank nodes position) (record { ascending = up; filled = filled }) between there in
         joined.gap
 
-    -- The entry at a spot: in its node, or the first of the next, or none.
+    -- The entry at a position: in its node, or the first of the next, or none.
 
-    module _ (IsSpot : N → S → Type 0) (within : (n : N) (s : S) → IsSpot n s → rank n s ≤ length (entries n)) where
-      pub place_in : (nodes : List N) (spot : Spot S) (n : N) → slice_get nodes spot.node ≡ Some n → IsSpotIn IsSpot nodes spot → IsPlaceIn (map entries nodes) (spot_place rank nodes spot)
-      place_in nodes spot n at in_range =
-          let inner : IsSpot n spot.inner = subst (λ (o : Option N). IfSome o (λ n. IsSpot n spot.inner)) at in_range.inner in
-          let short = within n spot.inner inner in
-          let is = inner_is rank nodes spot n at in
-          let size : length (list_of (map entries nodes) spot.node) ≡ length (entries n) = ap length (list_is nodes spot.node n at) in
-          record { list = λ some. list_within nodes spot.node n at; entry = omega arith }
+    module _ (IsPosition : N → S → Type 0) (within : (n : N) (s : S) → IsPosition n s → rank n s ≤ length (entries n)) where
+      pub place_in : (nodes : List N) (position : TreePosition S) (n : N) → slice_get nodes position.node ≡ Some n → IsPositionIn IsPosition nodes position → IsPlaceIn (map entries nodes) (list_place rank nodes position)
+      place_in nodes position n at in_range =
+          let inner : IsPosition n position.inner = subst (λ (o : Option N). IfSome o (λ n. IsPosition n position.inner)) at in_range.inner in
+          let short = within n position.inner inner in
+          let is = inner_is rank nodes position n at in
+          let size : length (list_of (map entries nodes) position.node) ≡ length (entries n) = ap length (list_is nodes position.node n at) in
+          record { list = λ some. list_within nodes position.node n at; entry = omega arith }
 
-      pub entry_here : (nodes : List N) (spot : Spot S) (n : N) (e : Entry) → slice_get nodes spot.node ≡ Some n → slice_get (entries n) (rank n spot.inner) ≡ Some e
-          → slice_get (all entries nodes) (rank_in entries rank nodes spot) ≡ Some e
-      entry_here nodes spot n e at is =
-          entry_in_list (map entries nodes) (spot_place rank nodes spot) (entries n) e (list_at nodes spot.node n at) (ap (slice_get (entries n)) (inner_is rank nodes spot n at) ∙ is)
+      pub entry_here : (nodes : List N) (position : TreePosition S) (n : N) (e : Entry) → slice_get nodes position.node ≡ Some n → slice_get (entries n) (rank n position.inner) ≡ Some e
+          → slice_get (all entries nodes) (rank_in entries rank nodes position) ≡ Some e
+      entry_here nodes position n e at is =
+          entry_in_list (map entries nodes) (list_place rank nodes position) (entries n) e (list_at nodes position.node n at) (ap (slice_get (entries n)) (inner_is rank nodes position n at) ∙ is)
 
-      pub entry_next : (nodes : List N) (spot : Spot S) (n m : N) → IsFilled (map entries nodes) → IsSpotIn IsSpot nodes spot → slice_get nodes spot.node ≡ Some n
-          → slice_get (entries n) (rank n spot.inner) ≡ None → slice_get nodes (spot.node + 1) ≡ Some m
-          → slice_get (all entries nodes) (rank_in entries rank nodes spot) ≡ slice_get (entries m) 0
-      entry_next nodes spot n m filled in_range at none next =
-          entry_in_next (map entries nodes) (spot_place rank nodes spot) (entries n) (entries m) filled (place_in nodes spot n at in_range) (list_at nodes spot.node n at)
-          (ap (slice_get (entries n)) (inner_is rank nodes spot n at) ∙ none) (list_at nodes (spot.node + 1) m next)
+      pub entry_next : (nodes : List N) (position : TreePosition S) (n m : N) → IsFilled (map entries nodes) → IsPositionIn IsPosition nodes position → slice_get nodes position.node ≡ Some n
+          → slice_get (entries n) (rank n position.inner) ≡ None → slice_get nodes (position.node + 1) ≡ Some m
+          → slice_get (all entries nodes) (rank_in entries rank nodes position) ≡ slice_get (entries m) 0
+      entry_next nodes position n m filled in_range at none next =
+          entry_in_next (map entries nodes) (list_place rank nodes position) (entries n) (entries m) filled (place_in nodes position n at in_range) (list_at nodes position.node n at)
+          (ap (slice_get (entries n)) (inner_is rank nodes position n at) ∙ none) (list_at nodes (position.node + 1) m next)
 
-      pub entry_last : (nodes : List N) (spot : Spot S) (n : N) → IsSpotIn IsSpot nodes spot → slice_get nodes spot.node ≡ Some n
-          → slice_get (entries n) (rank n spot.inner) ≡ None → slice_get nodes (spot.node + 1) ≡ None
-          → slice_get (all entries nodes) (rank_in entries rank nodes spot) ≡ None
-      entry_last nodes spot n in_range at none last =
-          none_behind (map entries nodes) (spot_place rank nodes spot) (entries n) (place_in nodes spot n at in_range) (list_at nodes spot.node n at)
-          (ap (slice_get (entries n)) (inner_is rank nodes spot n at) ∙ none) (list_none nodes (spot.node + 1) last)
+      pub entry_last : (nodes : List N) (position : TreePosition S) (n : N) → IsPositionIn IsPosition nodes position → slice_get nodes position.node ≡ Some n
+          → slice_get (entries n) (rank n position.inner) ≡ None → slice_get nodes (position.node + 1) ≡ None
+          → slice_get (all entries nodes) (rank_in entries rank nodes position) ≡ None
+      entry_last nodes position n in_range at none last =
+          none_behind (map entries nodes) (list_place rank nodes position) (entries n) (place_in nodes position n at in_range) (list_at nodes position.node n at)
+          (ap (slice_get (entries n)) (inner_is rank nodes position n at) ∙ none) (list_none nodes (position.node + 1) last)

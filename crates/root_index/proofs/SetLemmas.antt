@@ -222,7 +222,7 @@ stays-is dead e =
     let negated = not_true (is_among dead e.tid) in
     (λ h there. negated.0 h (test.1 there), λ h. negated.1 (λ yes. h (test.0 yes)))
 
-same_test : (a b : Bool) → ((a ≡ true) ↔ (b ≡ true)) → a ≡ b
+pub same_test : (a b : Bool) → ((a ≡ true) ↔ (b ≡ true)) → a ≡ b
 same_test true true h = refl
 same_test true false h = sym (h.0 refl)
 same_test false true h = h.1 refl

@@ -6,7 +6,7 @@ use Rattle.std.proofs.lemmas.List.Edits.{length-insert}
 use Rattle.root_index.specs.declared.entry.Entry.{Entry}
 use Rattle.root_index.specs.Order.{IsAscending}
 use Rattle.root_index.specs.Sets.{AddsEntry, IsAt, IsGapFor, IsLeast}
-use Rattle.root_index.specs.declared.nodes.Spot.{Spot}
+use Rattle.root_index.specs.declared.nodes.TreePosition.{TreePosition}
 use Rattle.root_index.specs.Nodes.{all, rank_in, AreNeat, IsStartIn}
 use Rattle.root_index.specs.Trees.{IsSoundIndex}
 use Rattle.root_index.proofs.SetLemmas.{ascending-insert, adds-inserted, first_is_least}
@@ -106,21 +106,21 @@ pub ascending_there : (trees there : List Tree) → there ≡ trees → IsAscend
 ascending_there trees there is up = subst (λ (ts : List Tree). IsAscending (among ts)) (sym is) up
 
 -- the first entry from where those begin that a look-up asks for
-pub least_found : {N S : Type 0} (entries : N → List Entry) (rank : N → S → ℕ) (IsSpot : N → S → Type 0) (nodes there here : List N) (P : Entry → Type 0) (spot : Spot S) (found : Option Entry)
-    → there ≡ nodes → here ≡ nodes → IsAscending (all entries nodes) → IsStartIn entries rank IsSpot there P spot
-    → found ≡ slice_get (all entries here) (rank_in entries rank here spot) → IsLeast (all entries nodes) P found
-least_found {N} entries rank IsSpot nodes there here P spot found is is_too up start at =
-    let begins = (subst (λ (ns : List N). IsStartIn entries rank IsSpot ns P spot) is start).start in
-    let first = first_is_least (all entries nodes) P (rank_in entries rank nodes spot) up begins in
-    subst (IsLeast (all entries nodes) P) (sym (at ∙ ap (λ (ns : List N). slice_get (all entries ns) (rank_in entries rank ns spot)) is_too)) first
+pub least_found : {N S : Type 0} (entries : N → List Entry) (rank : N → S → ℕ) (IsPosition : N → S → Type 0) (nodes there here : List N) (P : Entry → Type 0) (position : TreePosition S) (found : Option Entry)
+    → there ≡ nodes → here ≡ nodes → IsAscending (all entries nodes) → IsStartIn entries rank IsPosition there P position
+    → found ≡ slice_get (all entries here) (rank_in entries rank here position) → IsLeast (all entries nodes) P found
+least_found {N} entries rank IsPosition nodes there here P position found is is_too up start at =
+    let begins = (subst (λ (ns : List N). IsStartIn entries rank IsPosition ns P position) is start).start in
+    let first = first_is_least (all entries nodes) P (rank_in entries rank nodes position) up begins in
+    subst (IsLeast (all entries nodes) P) (sym (at ∙ ap (λ (ns : List N). slice_get (all entries ns) (rank_in entries rank ns position)) is_too)) first
 
-pub found_there : {N S : Type 0} (entries : N → List Entry) (rank : N → S → ℕ) (nodes there : List N) (x : Entry) (spot : Spot S) → there ≡ nodes
-    → IsAt (all entries there) x (rank_in entries rank there spot) → IsAt (all entries nodes) x (rank_in entries rank nodes spot)
-found_there {N} entries rank nodes there x spot is found = subst (λ (ns : List N). IsAt (all entries ns) x (rank_in entries rank ns spot)) is found
+pub found_there : {N S : Type 0} (entries : N → List Entry) (rank : N → S → ℕ) (nodes there : List N) (x : Entry) (position : TreePosition S) → there ≡ nodes
+    → IsAt (all entries there) x (rank_in entries rank there position) → IsAt (all entries nodes) x (rank_in entries rank nodes position)
+found_there {N} entries rank nodes there x position is found = subst (λ (ns : List N). IsAt (all entries ns) x (rank_in entries rank ns position)) is found
 
-pub gap_there : {N S : Type 0} (entries : N → List Entry) (rank : N → S → ℕ) (nodes there : List N) (x : Entry) (spot : Spot S) → there ≡ nodes
-    → IsGapFor (all entries there) x (rank_in entries rank there spot) → IsGapFor (all entries nodes) x (rank_in entries rank nodes spot)
-gap_there {N} entries rank nodes there x spot is gap = subst (λ (ns : List N). IsGapFor (all entries ns) x (rank_in entries rank ns spot)) is gap
+pub gap_there : {N S : Type 0} (entries : N → List Entry) (rank : N → S → ℕ) (nodes there : List N) (x : Entry) (position : TreePosition S) → there ≡ nodes
+    → IsGapFor (all entries there) x (rank_in entries rank there position) → IsGapFor (all entries nodes) x (rank_in entries rank nodes position)
+gap_there {N} entries rank nodes there x position is gap = subst (λ (ns : List N). IsGapFor (all entries ns) x (rank_in entries rank ns position)) is gap
 
 pub adds_in_gap : (old new : List Entry) (x : Entry) (rank : ℕ) → IsAscending old → IsGapFor old x rank → new ≡ insert old rank x → AddsEntry old new x
 adds_in_gap old new x rank up gap made = subst (λ (xs : List Entry). AddsEntry old xs x) (sym made) (adds-inserted old x rank up gap)

@@ -13,11 +13,11 @@ use Rattle.root_index.specs.declared.entry.Entry.{Entry}
 use Rattle.root_index.specs.declared.node.Swept.{Swept}
 use Rattle.root_index.specs.declared.progress.Progress.{Progress}
 use Rattle.root_index.specs.declared.progress.Progress.TheVariants.{More, Done}
-use Rattle.root_index.specs.declared.nodes.Spot.{Spot}
+use Rattle.root_index.specs.declared.nodes.TreePosition.{TreePosition}
 use Rattle.root_index.specs.Order.{EntryPrecedes, IsAscending}
 use Rattle.root_index.specs.Sets.{IsAfter, IsStart}
 use Rattle.root_index.specs.Lists.{concatenated, stays}
-use Rattle.root_index.specs.Nodes.{all, rank_in, before_node, AreNeat, AreNeatBut, IsSpotIn, IsStartIn, IsBehindIn}
+use Rattle.root_index.specs.Nodes.{all, rank_in, before_node, AreNeat, AreNeatBut, IsPositionIn, IsStartIn, IsBehindIn}
 use Rattle.root_index.specs.Rows.{inner_is, some_with, none_without}
 use Rattle.root_index.specs.Sweeps.{IsSwept}
 use Rattle.root_index.specs.Trees.{IsSoundIndex}
@@ -79,7 +79,7 @@ module _ {N : Type 0} (entries : N → List Entry) where
     some_behind some (m ∷ nodes) (suc i) neat within = some_behind some nodes i (λ k d lt. neat (suc k) d (omega arith)) (omega arith)
 
 -- what is swept in the middle is swept in all
-pub swept_among : (es es' prefix back : List Entry) (rank : ℕ) (dead : List Tid) (swept now : Swept) → IsSwept es es' rank dead swept
+pub swept_among : {S T : Type 0} (es es' prefix back : List Entry) (rank : ℕ) (dead : List Tid) (swept : Swept S) (now : Swept T) → IsSwept es es' rank dead swept
     → now.last ≡ swept.last → now.removed ≡ swept.removed → ((now.more ≡ true) ↔ ((swept.more ≡ true) ⊎ (0 < length back)))
     → IsSwept (prefix ++ (es ++ back)) (prefix ++ (es' ++ back)) (length prefix + rank) dead now
 swept_among es es' prefix back rank dead swept now s last removed more = record {
@@ -107,18 +107,18 @@ swept_among es es' prefix back rank dead swept now s last removed more = record 
         ∙ sym (append_assoc prefix s.prefix (here ++ (s.back ++ back)))
 
 module _ {N S : Type 0} (entries : N → List Entry) (rank : N → S → ℕ) where
-  pub rank_among : (nodes : List N) (spot : Spot S) (n : N) → slice_get nodes spot.node ≡ Some n
-      → length (entries_before entries nodes spot.node) + rank n spot.inner ≡ rank_in entries rank nodes spot
-  rank_among nodes spot n at = ap (λ k. before_node entries nodes spot.node + k) (sym (inner_is rank nodes spot n at))
+  pub rank_among : (nodes : List N) (position : TreePosition S) (n : N) → slice_get nodes position.node ≡ Some n
+      → length (entries_before entries nodes position.node) + rank n position.inner ≡ rank_in entries rank nodes position
+  rank_among nodes position n at = ap (λ k. before_node entries nodes position.node + k) (sym (inner_is rank nodes position n at))
 
   -- a node that was swept, and then taken out if it is empty
-  pub swept_one : (IsNeat : N → Type 0) (size : N → ℕ) (some : (n : N) → IsNeat n → 0 < size n → 0 < length (entries n)) (nodes new : List N) (spot : Spot S) (n m : N) (dead : List Tid)
-      (swept now : Swept) (others : Bool) → AreNeat IsNeat size nodes → slice_get nodes spot.node ≡ Some n → IsSwept (entries n) (entries m) (rank n spot.inner) dead swept
-      → all entries new ≡ all entries (slice_set nodes spot.node m) → now.last ≡ swept.last → now.removed ≡ swept.removed
-      → ((now.more ≡ true) ↔ ((swept.more ≡ true) ⊎ (others ≡ true))) → ((others ≡ true) ↔ (spot.node + 1 < length nodes))
-      → IsSwept (all entries nodes) (all entries new) (rank_in entries rank nodes spot) dead now
-  swept_one IsNeat size some nodes new spot n m dead swept now others neat at s same last removed more is_other =
-      let i = spot.node in
+  pub swept_one : (IsNeat : N → Type 0) (size : N → ℕ) (some : (n : N) → IsNeat n → 0 < size n → 0 < length (entries n)) (nodes new : List N) (position : TreePosition S) (n m : N) (dead : List Tid)
+      (swept : Swept S) (now : Swept (TreePosition S)) (others : Bool) → AreNeat IsNeat size nodes → slice_get nodes position.node ≡ Some n → IsSwept (entries n) (entries m) (rank n position.inner) dead swept
+      → all entries new ≡ all entries (slice_set nodes position.node m) → now.last ≡ swept.last → now.removed ≡ swept.removed
+      → ((now.more ≡ true) ↔ ((swept.more ≡ true) ⊎ (others ≡ true))) → ((others ≡ true) ↔ (position.node + 1 < length nodes))
+      → IsSwept (all entries nodes) (all entries new) (rank_in entries rank nodes position) dead now
+  swept_one IsNeat size some nodes new position n m dead swept now others neat at s same last removed more is_other =
+      let i = position.node in
       let within = slice_get_within nodes i n at in
       let behind = behind_node entries nodes i in
       let there : (others ≡ true) ↔ (0 < length behind) = (
@@ -129,49 +129,49 @@ module _ {N S : Type 0} (entries : N → List Entry) (rank : N → S → ℕ) wh
         ],
       ) in
       let whole : IsSwept (entries_before entries nodes i ++ (entries n ++ behind)) (entries_before entries nodes i ++ (entries m ++ behind))
-      (length (entries_before entries nodes i) + rank n spot.inner) dead now =
-      swept_among (entries n) (entries m) (entries_before entries nodes i) behind (rank n spot.inner) dead swept now s last removed (
+      (length (entries_before entries nodes i) + rank n position.inner) dead now =
+      swept_among (entries n) (entries m) (entries_before entries nodes i) behind (rank n position.inner) dead swept now s last removed (
         λ h. ⊎_elim (λ inner. inl inner) (λ outer. inr (there.0 outer)) (more.0 h),
         λ h. more.1 (⊎_elim (λ inner. inl inner) (λ outer. inr (there.1 outer)) h),
       ) in
-      subst (λ (xs : List Entry). IsSwept xs (all entries new) (rank_in entries rank nodes spot) dead now) (sym (around entries nodes i n at))
-      (subst (λ (xs : List Entry). IsSwept (entries_before entries nodes i ++ (entries n ++ behind)) xs (rank_in entries rank nodes spot) dead now)
+      subst (λ (xs : List Entry). IsSwept xs (all entries new) (rank_in entries rank nodes position) dead now) (sym (around entries nodes i n at))
+      (subst (λ (xs : List Entry). IsSwept (entries_before entries nodes i ++ (entries n ++ behind)) xs (rank_in entries rank nodes position) dead now)
       (sym (same ∙ around_set entries nodes i m within))
-      (subst (λ k. IsSwept (entries_before entries nodes i ++ (entries n ++ behind)) (entries_before entries nodes i ++ (entries m ++ behind)) k dead now) (rank_among nodes spot n at) whole))
+      (subst (λ k. IsSwept (entries_before entries nodes i ++ (entries n ++ behind)) (entries_before entries nodes i ++ (entries m ++ behind)) k dead now) (rank_among nodes position n at) whole))
 
   -- behind all of a node is before the next one
-  pub rank_next : (IsSpot : N → S → Type 0) (within : (n : N) (s : S) → IsSpot n s → rank n s ≤ length (entries n)) (nodes : List N) (spot : Spot S) → spot.node < length nodes
-      → IsSpotIn IsSpot nodes spot → IsBehindIn entries rank nodes spot → before_node entries nodes (spot.node + 1) ≡ rank_in entries rank nodes spot
-  rank_next IsSpot within nodes spot there in_range behind = by_node (slice_get nodes spot.node) refl
+  pub rank_next : (IsPosition : N → S → Type 0) (within : (n : N) (s : S) → IsPosition n s → rank n s ≤ length (entries n)) (nodes : List N) (position : TreePosition S) → position.node < length nodes
+      → IsPositionIn IsPosition nodes position → IsBehindIn entries rank nodes position → before_node entries nodes (position.node + 1) ≡ rank_in entries rank nodes position
+  rank_next IsPosition within nodes position there in_range behind = by_node (slice_get nodes position.node) refl
     where
-      by_node : (o : Option N) → slice_get nodes spot.node ≡ o → before_node entries nodes (spot.node + 1) ≡ rank_in entries rank nodes spot
-      by_node None none = absurd (let n = slice_get_past_not nodes spot.node there in n none)
+      by_node : (o : Option N) → slice_get nodes position.node ≡ o → before_node entries nodes (position.node + 1) ≡ rank_in entries rank nodes position
+      by_node None none = absurd (let n = slice_get_past_not nodes position.node there in n none)
       by_node (Some n) at =
-          let inner : IsSpot n spot.inner = subst (λ (o : Option N). IfSome o (λ n. IsSpot n spot.inner)) at in_range.inner in
-          let past : length (entries n) ≤ rank n spot.inner = subst (λ (o : Option N). IfSome o (λ n. length (entries n) ≤ rank n spot.inner)) at behind in
-          let next = count_next entries nodes spot.node n at in
-          let here = rank_among nodes spot n at in
-          omega (arith, within n spot.inner inner, past, next, here)
+          let inner : IsPosition n position.inner = subst (λ (o : Option N). IfSome o (λ n. IsPosition n position.inner)) at in_range.inner in
+          let past : length (entries n) ≤ rank n position.inner = subst (λ (o : Option N). IfSome o (λ n. length (entries n) ≤ rank n position.inner)) at behind in
+          let next = count_next entries nodes position.node n at in
+          let here = rank_among nodes position n at in
+          omega (arith, within n position.inner inner, past, next, here)
 
-  pub behind_in : (nodes : List N) (spot : Spot S) (n : N) → slice_get nodes spot.node ≡ Some n → length (entries n) ≤ rank n spot.inner → IsBehindIn entries rank nodes spot
-  behind_in nodes spot n at past = subst (λ (o : Option N). IfSome o (λ n. length (entries n) ≤ rank n spot.inner)) (sym at) past
+  pub behind_in : (nodes : List N) (position : TreePosition S) (n : N) → slice_get nodes position.node ≡ Some n → length (entries n) ≤ rank n position.inner → IsBehindIn entries rank nodes position
+  behind_in nodes position n at past = subst (λ (o : Option N). IfSome o (λ n. length (entries n) ≤ rank n position.inner)) (sym at) past
 
   -- the next node is swept where nothing follows in the first
-  pub swept_next : (nodes there : List N) (new : List Entry) (spot : Spot S) (dead : List Tid) (result : Option Swept) → there ≡ nodes
-      → before_node entries nodes (spot.node + 1) ≡ rank_in entries rank nodes spot
-      → IfSome result (IsSwept (all entries there) new (before_node entries there (spot.node + 1)) dead)
-      → IfSome result (IsSwept (all entries nodes) new (rank_in entries rank nodes spot) dead)
-  swept_next nodes there new spot dead result same next swept =
+  pub swept_next : (nodes there : List N) (new : List Entry) (position : TreePosition S) (dead : List Tid) (result : Option (Swept (TreePosition S))) → there ≡ nodes
+      → before_node entries nodes (position.node + 1) ≡ rank_in entries rank nodes position
+      → IfSome result (IsSwept (all entries there) new (before_node entries there (position.node + 1)) dead)
+      → IfSome result (IsSwept (all entries nodes) new (rank_in entries rank nodes position) dead)
+  swept_next nodes there new position dead result same next swept =
       subst (λ k. IfSome result (IsSwept (all entries nodes) new k dead)) next
-      (subst (λ (ns : List N). IfSome result (IsSwept (all entries ns) new (before_node entries ns (spot.node + 1)) dead)) same swept)
+      (subst (λ (ns : List N). IfSome result (IsSwept (all entries ns) new (before_node entries ns (position.node + 1)) dead)) same swept)
 
-  pub past_all : (nodes there : List N) (spot : Spot S) → there ≡ nodes → before_node entries nodes (spot.node + 1) ≡ rank_in entries rank nodes spot
-      → length there ≤ spot.node + 1 → length (all entries nodes) ≤ rank_in entries rank nodes spot
-  past_all nodes there spot same next past =
+  pub past_all : (nodes there : List N) (position : TreePosition S) → there ≡ nodes → before_node entries nodes (position.node + 1) ≡ rank_in entries rank nodes position
+      → length there ≤ position.node + 1 → length (all entries nodes) ≤ rank_in entries rank nodes position
+  past_all nodes there position same next past =
       let size = length-lists entries nodes in
       let long : length there ≡ length nodes = ap length same in
-      let end : before_node entries nodes (spot.node + 1) ≡ length (all entries nodes) =
-      ap (λ ls. length (concatenated ls)) (take_all (spot.node + 1) (map entries nodes) (omega arith)) in
+      let end : before_node entries nodes (position.node + 1) ≡ length (all entries nodes) =
+      ap (λ ls. length (concatenated ls)) (take_all (position.node + 1) (map entries nodes) (omega arith)) in
       omega (arith, end, next)
 
 pub none_weaker : {T : Type 0} {P Q : Type 0} (result : Option T) → (P → Q) → IfNone result P → IfNone result Q
@@ -206,7 +206,7 @@ module _ {N : Type 0} (IsNeat : N → Type 0) (size : N → ℕ) (nodes : List N
 -- In a leaf.
 
 -- the rest of a leaf
-pub swept_leaf : (xs new : List Entry) (from : ℕ) (dead : List Tid) (swept : Swept) → from < length xs → new ≡ take from xs ++ filter (stays dead) (drop from xs)
+pub swept_leaf : {S : Type 0} (xs new : List Entry) (from : ℕ) (dead : List Tid) (swept : Swept S) → from < length xs → new ≡ take from xs ++ filter (stays dead) (drop from xs)
     → slice_get xs (length xs - 1) ≡ Some swept.last → swept.removed + length new ≡ length xs → swept.more ≡ false → IsSwept xs new from dead swept
 swept_leaf xs new from dead swept within is last removed more =
     let long = length-drop from xs in
@@ -357,7 +357,7 @@ empty_back : (xs : List Entry) → ¬ (0 < length xs) → xs ≡ []
 empty_back [] none = refl
 empty_back (x ∷ xs) none = absurd (none (omega arith))
 
-pub removes_swept : (old new : List Entry) (rank : ℕ) (dead : List Tid) (swept : Swept) (from : Option Entry) (progress : Progress) → IsAscending old → IsStart old (IsAfter from) rank
+pub removes_swept : {S : Type 0} (old new : List Entry) (rank : ℕ) (dead : List Tid) (swept : Swept S) (from : Option Entry) (progress : Progress) → IsAscending old → IsStart old (IsAfter from) rank
     → IsSwept old new rank dead swept → (swept.more ≡ true → progress ≡ More swept.last) → (swept.more ≡ false → progress ≡ Done) → RemovesPiece old new dead from progress
 removes_swept old new rank dead swept from progress up start s more done =
     let up_parts = subst IsAscending s.was up in
@@ -375,9 +375,9 @@ removes_swept old new rank dead swept from progress up start s more done =
         (removes_last s.prefix s.piece s.back dead up from start (empty_back s.back (λ some. let yes = s.more.1 some in absurd (cc (yes, is)))))
 
 -- what a look-up found through a reference
-pub start_there : {N S : Type 0} (entries : N → List Entry) (rank : N → S → ℕ) (IsSpot : N → S → Type 0) (nodes seen : List N) (P : Entry → Type 0) (spot : Spot S) → seen ≡ nodes
-    → IsStartIn entries rank IsSpot seen P spot → IsStart (all entries nodes) P (rank_in entries rank nodes spot)
-start_there {N} entries rank IsSpot nodes seen P spot is start = (subst (λ (ns : List N). IsStartIn entries rank IsSpot ns P spot) is start).start
+pub start_there : {N S : Type 0} (entries : N → List Entry) (rank : N → S → ℕ) (IsPosition : N → S → Type 0) (nodes seen : List N) (P : Entry → Type 0) (position : TreePosition S) → seen ≡ nodes
+    → IsStartIn entries rank IsPosition seen P position → IsStart (all entries nodes) P (rank_in entries rank nodes position)
+start_there {N} entries rank IsPosition nodes seen P position is start = (subst (λ (ns : List N). IsStartIn entries rank IsPosition ns P position) is start).start
 
 -- where no entry follows
 pub removes_none : (old new : List Entry) (rank : ℕ) (dead : List Tid) (from : Option Entry) → IsAscending old → IsStart old (IsAfter from) rank → length old ≤ rank → new ≡ old
@@ -392,7 +392,7 @@ removes_none old new rank dead from up start past same = subst (λ (xs : List En
 })
 
 -- what is left of the entries
-module _ (old new : List Entry) (rank : ℕ) (dead : List Tid) (swept : Swept) (is : IsSwept old new rank dead swept) where
+module _ {S : Type 0} (old new : List Entry) (rank : ℕ) (dead : List Tid) (swept : Swept S) (is : IsSwept old new rank dead swept) where
   pub some_swept : 0 < length old
   some_swept =
       let within = slice_get_within is.piece (length is.piece - 1) swept.last is.last in
@@ -416,8 +416,8 @@ some_nodes entries (n ∷ nodes) some = omega arith
 abbrev pub IsPromisedAfter : ℕ → ℕ → ℕ → Type 0
 IsPromisedAfter nodes promised promised' = (0 < nodes → promised' ≡ promised) × (nodes ≡ 0 → promised' ≡ max promised 1)
 
-pub sound_swept : {N : Type 0} (entries : N → List Entry) (IsNeat : N → Type 0) (size : N → ℕ) (nodes new : List N) (room room' spare spare' : ℕ) (HasLeft HasLeft' : ℕ → Type 0)
-    (Places Places' : Type 0) (count count' promised promised' rank : ℕ) (dead : List Tid) (swept : Swept) → IsSoundIndex entries IsNeat size nodes room spare HasLeft Places count promised
+pub sound_swept : {N S : Type 0} (entries : N → List Entry) (IsNeat : N → Type 0) (size : N → ℕ) (nodes new : List N) (room room' spare spare' : ℕ) (HasLeft HasLeft' : ℕ → Type 0)
+    (Places Places' : Type 0) (count count' promised promised' rank : ℕ) (dead : List Tid) (swept : Swept S) → IsSoundIndex entries IsNeat size nodes room spare HasLeft Places count promised
     → IsSwept (all entries nodes) (all entries new) rank dead swept → AreNeat IsNeat size new → room ≤ room' → spare ≤ spare' → ((k : ℕ) → HasLeft k → HasLeft' k) → (Places → Places')
     → (length new ≡ 0 → Places → (1 ≤ room') × (1 ≤ spare') × HasLeft' 1) → count' ≡ count - swept.removed → IsPromisedAfter (length new) promised promised'
     → IsSoundIndex entries IsNeat size new room' spare' HasLeft' Places' count' promised'
@@ -474,7 +474,7 @@ places_more (suc m) zero promised zero le more some = absurd (omega (arith, some
 places_more (suc m) zero promised (suc promised') le more some = omega arith
 places_more (suc m) (suc n) promised promised' le more some = omega (arith, le)
 
-pub room_swept : (old new : List Entry) (rank : ℕ) (dead : List Tid) (swept : Swept) (nodes promised promised' : ℕ) → IsSwept old new rank dead swept
+pub room_swept : {S : Type 0} (old new : List Entry) (rank : ℕ) (dead : List Tid) (swept : Swept S) (nodes promised promised' : ℕ) → IsSwept old new rank dead swept
     → (0 < nodes → 0 < length new) → IsPromisedAfter nodes promised promised'
     → (promised ≤ promised') × (max promised (free_places (length old) promised) ≤ max promised' (free_places (length new) promised'))
 room_swept old new rank dead swept nodes promised promised' is some after =

@@ -6,10 +6,10 @@ use Rattle.root_index.specs.declared.node.Half.TheVariants.{Lower, Upper}
 
 -- where an entry may be put, in one half
 abbrev pub IsHalf : {N S : Type 0} → (N → S → Type 0) → N → N → Half S → Type 0
-IsHalf IsSpot lower upper (Lower spot) = IsSpot lower spot
-IsHalf IsSpot lower upper (Upper spot) = IsSpot upper spot
+IsHalf IsPosition lower upper (Lower position) = IsPosition lower position
+IsHalf IsPosition lower upper (Upper position) = IsPosition upper position
 
--- the number of entries before the spot, in both halves
+-- the number of entries before the position, in both halves
 abbrev pub rank_half : {N S : Type 0} → (N → List Entry) → (N → S → ℕ) → N → N → Half S → ℕ
-rank_half entries rank lower upper (Lower spot) = rank lower spot
-rank_half entries rank lower upper (Upper spot) = length (entries lower) + rank upper spot
+rank_half entries rank lower upper (Lower position) = rank lower position
+rank_half entries rank lower upper (Upper position) = length (entries lower) + rank upper position

@@ -4,9 +4,9 @@ use Rattle.std.proofs.lemmas.List.{length-append}
 use Rattle.std.proofs.lemmas.List.Elements.{All-tail}
 use Rattle.std.proofs.lemmas.Option.{slice_get_within}
 use Rattle.root_index.specs.declared.entry.Entry.{Entry}
-use Rattle.root_index.specs.declared.nodes.Spot.{Spot}
+use Rattle.root_index.specs.declared.nodes.TreePosition.{TreePosition}
 use Rattle.root_index.specs.Lists.{concatenated}
-use Rattle.root_index.specs.Nodes.{all, AreNeat, inner_rank, rank_in, IsSpotIn, IsEntryIn}
+use Rattle.root_index.specs.Nodes.{all, AreNeat, inner_rank, rank_in, IsPositionIn, IsEntryIn}
 
 pub none_without : {N : Type 0} (entries : N → List Entry) (nodes : List N) → length nodes ≡ 0 → all entries nodes ≡ []
 none_without entries [] none = refl
@@ -31,30 +31,30 @@ many_with entries IsNeat size some (n ∷ nodes) neat =
     let whole = length-append (entries n) (all entries nodes) in
     omega arith
 
--- A spot in a node is one among all.
+-- A position in a node is one among all.
 
-pub inner_is : {N S : Type 0} (rank : N → S → ℕ) (nodes : List N) (spot : Spot S) (n : N) → slice_get nodes spot.node ≡ Some n
-    → inner_rank rank (slice_get nodes spot.node) spot.inner ≡ rank n spot.inner
-inner_is rank nodes spot n at = ap (λ o. inner_rank rank o spot.inner) at
+pub inner_is : {N S : Type 0} (rank : N → S → ℕ) (nodes : List N) (position : TreePosition S) (n : N) → slice_get nodes position.node ≡ Some n
+    → inner_rank rank (slice_get nodes position.node) position.inner ≡ rank n position.inner
+inner_is rank nodes position n at = ap (λ o. inner_rank rank o position.inner) at
 
-pub spot_in : {N S : Type 0} (IsSpot : N → S → Type 0) (nodes : List N) (spot : Spot S) (n : N) → slice_get nodes spot.node ≡ Some n → IsSpot n spot.inner → IsSpotIn IsSpot nodes spot
-spot_in {N} IsSpot nodes spot n at inner = record {
-  node = λ some. slice_get_within nodes spot.node n at;
-  inner = subst (λ (o : Option N). IfSome o (λ n. IsSpot n spot.inner)) (sym at) inner;
+pub position_in : {N S : Type 0} (IsPosition : N → S → Type 0) (nodes : List N) (position : TreePosition S) (n : N) → slice_get nodes position.node ≡ Some n → IsPosition n position.inner → IsPositionIn IsPosition nodes position
+position_in {N} IsPosition nodes position n at inner = record {
+  node = λ some. slice_get_within nodes position.node n at;
+  inner = subst (λ (o : Option N). IfSome o (λ n. IsPosition n position.inner)) (sym at) inner;
 }
 
-pub is_entry_in : {N S : Type 0} (IsEntry : N → S → Type 0) (nodes : List N) (spot : Spot S) (n : N) → slice_get nodes spot.node ≡ Some n → IsEntry n spot.inner → IsEntryIn IsEntry nodes spot
-is_entry_in {N} IsEntry nodes spot n at inner = subst (λ (o : Option N). IsSomeAnd o (λ n. IsEntry n spot.inner)) (sym at) inner
+pub is_entry_in : {N S : Type 0} (IsEntry : N → S → Type 0) (nodes : List N) (position : TreePosition S) (n : N) → slice_get nodes position.node ≡ Some n → IsEntry n position.inner → IsEntryIn IsEntry nodes position
+is_entry_in {N} IsEntry nodes position n at inner = subst (λ (o : Option N). IsSomeAnd o (λ n. IsEntry n position.inner)) (sym at) inner
 
-pub entry_is_spot : {N S : Type 0} (IsSpot IsEntry : N → S → Type 0) (before : (n : N) (s : S) → IsEntry n s → IsSpot n s) (nodes : List N) (spot : Spot S)
-    → IsEntryIn IsEntry nodes spot → IsSpotIn IsSpot nodes spot
-entry_is_spot {N} IsSpot IsEntry before nodes spot entry = by_node (slice_get nodes spot.node) refl entry
+pub entry_is_position : {N S : Type 0} (IsPosition IsEntry : N → S → Type 0) (before : (n : N) (s : S) → IsEntry n s → IsPosition n s) (nodes : List N) (position : TreePosition S)
+    → IsEntryIn IsEntry nodes position → IsPositionIn IsPosition nodes position
+entry_is_position {N} IsPosition IsEntry before nodes position entry = by_node (slice_get nodes position.node) refl entry
   where
-    by_node : (o : Option N) → slice_get nodes spot.node ≡ o → IsSomeAnd o (λ n. IsEntry n spot.inner) → IsSpotIn IsSpot nodes spot
+    by_node : (o : Option N) → slice_get nodes position.node ≡ o → IsSomeAnd o (λ n. IsEntry n position.inner) → IsPositionIn IsPosition nodes position
     by_node None at entry = absurd entry
-    by_node (Some n) at entry = spot_in IsSpot nodes spot n at (before n spot.inner entry)
+    by_node (Some n) at entry = position_in IsPosition nodes position n at (before n position.inner entry)
 
--- a spot is among the entries, or right behind the last
+-- a position is among the entries, or right behind the last
 
 front_short : {N : Type 0} (entries : N → List Entry) (nodes : List N) (i : ℕ) → length (concatenated (take i (map entries nodes))) ≤ length (all entries nodes)
 front_short entries nodes zero = omega arith
@@ -80,17 +80,17 @@ front_and entries (m ∷ nodes) (suc i) k n at short =
     let rest = front_and entries nodes i k n at short in
     omega arith
 
-pub rank_within : {N S : Type 0} (entries : N → List Entry) (rank : N → S → ℕ) (IsSpot : N → S → Type 0) (within : (n : N) (s : S) → IsSpot n s → rank n s ≤ length (entries n))
-    (nodes : List N) (spot : Spot S) → IsSpotIn IsSpot nodes spot → rank_in entries rank nodes spot ≤ length (all entries nodes)
-rank_within {N} {S} entries rank IsSpot within nodes spot in_range = by_node (slice_get nodes spot.node) refl
+pub rank_within : {N S : Type 0} (entries : N → List Entry) (rank : N → S → ℕ) (IsPosition : N → S → Type 0) (within : (n : N) (s : S) → IsPosition n s → rank n s ≤ length (entries n))
+    (nodes : List N) (position : TreePosition S) → IsPositionIn IsPosition nodes position → rank_in entries rank nodes position ≤ length (all entries nodes)
+rank_within {N} {S} entries rank IsPosition within nodes position in_range = by_node (slice_get nodes position.node) refl
   where
-    by_node : (o : Option N) → slice_get nodes spot.node ≡ o → rank_in entries rank nodes spot ≤ length (all entries nodes)
+    by_node : (o : Option N) → slice_get nodes position.node ≡ o → rank_in entries rank nodes position ≤ length (all entries nodes)
     by_node None none =
-        let is : inner_rank rank (slice_get nodes spot.node) spot.inner ≡ 0 = ap (λ o. inner_rank rank o spot.inner) none in
-        let prefix = front_short entries nodes spot.node in
+        let is : inner_rank rank (slice_get nodes position.node) position.inner ≡ 0 = ap (λ o. inner_rank rank o position.inner) none in
+        let prefix = front_short entries nodes position.node in
         omega arith
     by_node (Some n) at =
-        let is = inner_is rank nodes spot n at in
-        let inner : IsSpot n spot.inner = subst (λ (o : Option N). IfSome o (λ n. IsSpot n spot.inner)) at in_range.inner in
-        let short : inner_rank rank (slice_get nodes spot.node) spot.inner ≤ length (entries n) = omega (arith, is, within n spot.inner inner) in
-        front_and entries nodes spot.node (inner_rank rank (slice_get nodes spot.node) spot.inner) n at short
+        let is = inner_is rank nodes position n at in
+        let inner : IsPosition n position.inner = subst (λ (o : Option N). IfSome o (λ n. IsPosition n position.inner)) at in_range.inner in
+        let short : inner_rank rank (slice_get nodes position.node) position.inner ≤ length (entries n) = omega (arith, is, within n position.inner inner) in
+        front_and entries nodes position.node (inner_rank rank (slice_get nodes position.node) position.inner) n at short

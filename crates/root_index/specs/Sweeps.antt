@@ -7,7 +7,8 @@ use Rattle.root_index.specs.declared.node.Swept.{Swept}
 use Rattle.root_index.specs.Lists.{stays}
 
 -- some entries from this place on were looked at, and those of them that lead to dead places are gone
-pub record IsSwept (old new : List Entry) (rank : ℕ) (dead : List Tid) (swept : Swept) : Type 0 where
+pub record IsSwept {S : Type 0} (old new : List Entry) (rank : ℕ) (dead : List Tid)
+    (swept : Swept S) : Type 0 where
   -- the entries before the place, those that were looked at, and those behind
   pub prefix : List Entry
   pub piece : List Entry

@@ -2,13 +2,13 @@
 
 ghost use Rattle.std.specs.Prelude.{◌≡◌, ◌≤◌, ◌++◌, [], suc, length, sum_by, vec_len, vec_capacity};
 ghost use Rattle.std.proofs.Common.{arith};
-ghost use Rattle.root_index.specs.Rows.{none_without, some_with, many_with, rank_within, entry_is_spot};
-ghost use Rattle.root_index.specs.Nodes.{all, rank_in, AreNeat, IsSpotIn, IsEntryIn, AreLeft, HavePlaces};
+ghost use Rattle.root_index.specs.Rows.{none_without, some_with, many_with, rank_within, entry_is_position};
+ghost use Rattle.root_index.specs.Nodes.{all, rank_in, AreNeat, IsPositionIn, IsEntryIn, AreLeft, HavePlaces};
 
 use crate::dead_set::DeadSet;
 use crate::entry::Entry;
 use crate::node::{HALF, Half, MAX_PARTS, Node, Swept};
-use crate::nodes::{self, Spares, Spot};
+use crate::nodes::{self, Spares, TreePosition};
 use std::alloc::{AllocError, Global};
 use std::marker::Model;
 
@@ -30,7 +30,7 @@ impl<N> Model for Branch<N> {
 }
 
 impl<N: Node> Node for Branch<N> {
-    type Spot = Spot<N::Spot>;
+    type Position = TreePosition<N::Position>;
 
     type Spares = Spares<N, N::Spares>;
 
@@ -42,11 +42,11 @@ impl<N: Node> Node for Branch<N> {
 
     ghost IsNeat = { λ b. AreNeat N.IsNeat N.size b };
 
-    ghost IsSpot = { λ b spot. IsSpotIn N.IsSpot b spot };
+    ghost IsPosition = { λ b position. IsPositionIn N.IsPosition b position };
 
-    ghost IsEntry = { λ b spot. IsEntryIn N.IsEntry b spot };
+    ghost IsEntry = { λ b position. IsEntryIn N.IsEntry b position };
 
-    ghost rank = { λ b spot. rank_in N.entries N.rank b spot };
+    ghost rank = { λ b position. rank_in N.entries N.rank b position };
 
     ghost HasLeft = { λ spares k. AreLeft N.HasLeft (vec_len spares.nodes) spares.below k };
 
@@ -72,34 +72,41 @@ impl<N: Node> Node for Branch<N> {
         }
     }
 
-    fn search(&self, sought: &Entry) -> Result<Spot<N::Spot>, Spot<N::Spot>> {
+    fn search(
+        &self,
+        sought: &Entry,
+    ) -> Result<TreePosition<N::Position>, TreePosition<N::Position>> {
         nodes::search(&self.nodes, sought)
     }
 
-    fn stands_at(&self, sought: &Entry, spot: Spot<N::Spot>) -> bool {
-        nodes::stands_at(&self.nodes, sought, spot)
+    fn stands_at(&self, sought: &Entry, position: TreePosition<N::Position>) -> bool {
+        nodes::stands_at(&self.nodes, sought, position)
     }
 
-    fn first() -> Spot<N::Spot> {
+    fn first() -> TreePosition<N::Position> {
         nodes::first::<N>()
     }
 
-    fn behind(spot: Spot<N::Spot>) -> Spot<N::Spot> {
-        nodes::behind::<N>(spot)
+    fn behind(position: TreePosition<N::Position>) -> TreePosition<N::Position> {
+        nodes::behind::<N>(position)
     }
 
-    fn entry_at(&self, spot: Spot<N::Spot>) -> Option<Entry> {
-        nodes::entry_at(&self.nodes, spot)
+    fn entry_at(&self, position: TreePosition<N::Position>) -> Option<Entry> {
+        nodes::entry_at(&self.nodes, position)
     }
 
-    fn split(&mut self, upper: &mut Self, spot: Spot<N::Spot>) -> Half<Spot<N::Spot>> {
+    fn split(
+        &mut self,
+        upper: &mut Self,
+        position: TreePosition<N::Position>,
+    ) -> Half<TreePosition<N::Position>> {
         move_half(&mut self.nodes, &mut upper.nodes);
-        if spot.node < HALF {
-            Half::Lower(spot)
+        if position.node < HALF {
+            Half::Lower(position)
         } else {
-            Half::Upper(Spot {
-                node: spot.node - HALF,
-                inner: spot.inner,
+            Half::Upper(TreePosition {
+                node: position.node - HALF,
+                inner: position.inner,
             })
         }
     }
@@ -107,19 +114,20 @@ impl<N: Node> Node for Branch<N> {
     fn insert(
         &mut self,
         spares: &mut Spares<N, N::Spares>,
-        spot: Spot<N::Spot>,
+        position: TreePosition<N::Position>,
         entry: Entry,
     ) -> Result<(), AllocError> {
-        nodes::insert(&mut self.nodes, spares, spot, entry)
+        nodes::insert(&mut self.nodes, spares, position, entry)
     }
 
+    #[inline(always)]
     fn sweep_from(
         &mut self,
         spares: &mut Spares<N, N::Spares>,
-        spot: Spot<N::Spot>,
+        position: TreePosition<N::Position>,
         dead: &DeadSet,
-    ) -> Option<Swept> {
-        nodes::sweep_from(&mut self.nodes, spares, spot, dead)
+    ) -> Option<Swept<TreePosition<N::Position>>> {
+        nodes::sweep_from(&mut self.nodes, spares, position, dead)
     }
 
     fn no_spares(alloc: Global) -> Spares<N, N::Spares> {
@@ -149,9 +157,9 @@ impl<N: Node> Node for Branch<N> {
 
     ghost itself = { λ b. omega arith };
 
-    ghost before = { λ b spot entry. entry_is_spot N.IsSpot N.IsEntry N.before b spot entry };
+    ghost before = { λ b position entry. entry_is_position N.IsPosition N.IsEntry N.before b position entry };
 
-    ghost within = { λ b spot in_range. rank_within N.entries N.rank N.IsSpot N.within b spot in_range };
+    ghost within = { λ b position in_range. rank_within N.entries N.rank N.IsPosition N.within b position in_range };
 
     ghost fewer = { λ spares k left. (omega (arith, left.0), N.fewer spares.below k left.1) };
 }

@@ -6,7 +6,7 @@ ghost use Rattle.std.specs.List.{All};
 ghost use Rattle.arrayvec.specs.ArrayVec.{array_vec_len};
 ghost use Rattle.xid_circle.specs.declared.Tid.{Tid as Place};
 ghost use Rattle.root_index.specs.Places.{IsBefore, AreAscending, AddsPlace, IsRoomFor};
-ghost use Rattle.root_index.specs.Bounds.{AreBeside};
+ghost use Rattle.root_index.specs.Bounds.{AreBeside, IsFirstFrom, IsPartOn};
 
 use crate::entry::compare_places;
 use crate::page_bounds::PageBounds;
@@ -108,11 +108,11 @@ impl DeadSet {
         is_among(self.tids.as_slice(), &tid)
     }
 
-    /// Whether no place can lie on one of these pages: all are before them, or all behind.
-    pub(crate) fn is_beside(&self, pages: PageBounds) -> bool
-        ensures { OnTrue result (AreBeside pages self.now) }
+    /// The places on these pages, in their order.
+    pub(crate) fn on_pages(&self, pages: PageBounds) -> &[Tid]
+        ensures { IsPartOn pages self.now result.now }
     {
-        are_beside(self.tids.as_slice(), pages)
+        part_on(self.tids.as_slice(), pages)
     }
 
     /// Adds a place. One that is there already stays there once. It takes constant time where the place is above all others.
@@ -157,6 +157,58 @@ fn are_beside(tids: &[Tid], pages: PageBounds) -> bool
     }
 }
 
+/// Those of them on these pages.
+fn part_on(tids: &[Tid], pages: PageBounds) -> &[Tid]
+    requires { AreAscending tids.now }
+    ensures { IsPartOn pages tids.now result.now }
+{
+    // most pages have no dead places near them
+    if are_beside(tids, pages) {
+        return &tids[..0];
+    }
+    let from = part_from(tids, pages);
+    if are_beside(from, pages) {
+        return &from[..0];
+    }
+    part_to(from, pages)
+}
+
+/// Those of them that are not before these pages.
+fn part_from(tids: &[Tid], pages: PageBounds) -> &[Tid]
+    requires { AreAscending tids.now }
+    ensures { IsPartOn pages tids.now result.now }
+{
+    let first = first_from(tids, pages.least as u64);
+    &tids[first..]
+}
+
+/// Those of them that are not behind these pages.
+fn part_to(tids: &[Tid], pages: PageBounds) -> &[Tid]
+    requires { AreAscending tids.now }
+    ensures { IsPartOn pages tids.now result.now }
+{
+    let end = first_from(tids, pages.greatest as u64 + 1);
+    &tids[..end]
+}
+
+/// The number of the first of them that is not before this page; how many they are, where all are.
+fn first_from(tids: &[Tid], page: u64) -> usize
+    requires { AreAscending tids.now }
+    ensures { IsFirstFrom tids.now page result }
+{
+    let mut low = 0;
+    let mut high = tids.len();
+    while low < high {
+        let middle = low + (high - low) / 2;
+        if (tids[middle].page as u64) < page {
+            low = middle + 1;
+        } else {
+            high = middle;
+        }
+    }
+    low
+}
+
 /// Whether all of them are before this page.
 fn ends_before(tids: &[Tid], page: u32) -> bool
     requires { AreAscending tids.now }
@@ -188,7 +240,7 @@ fn search(tids: &[Tid], sought: &Tid) -> Result<usize, usize>
 }
 
 /// Whether the place is one of these.
-fn is_among(tids: &[Tid], tid: &Tid) -> bool
+pub(crate) fn is_among(tids: &[Tid], tid: &Tid) -> bool
     requires { AreAscending tids.now }
     ensures { IsTrue result ↔ Contains tids.now tid.now }
 {

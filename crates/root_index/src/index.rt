@@ -1,19 +1,20 @@
 //! The index.
 
-ghost use Rattle.std.specs.Prelude.{◌≡◌, ◌<◌, ◌≤◌, ◌+◌, ◌^◌, [], length, OnOk, OnErr, Some, Contains, vec_len, vec_capacity};
+ghost use Rattle.std.specs.Prelude.{◌≡◌, ◌<◌, ◌≤◌, ◌+◌, ◌^◌, [], length, OnOk, OnErr, Some, Contains, vec_len, vec_capacity, true, false};
 ghost use Rattle.std.specs.Option.{option_map};
 ghost use Rattle.root_index.specs.Order.{IsAscending};
 ghost use Rattle.root_index.specs.Sets.{AddsEntry, IsLeast, IsAfter, IsBelow};
 ghost use Rattle.root_index.specs.View.{free_places, room_in};
 ghost use Rattle.root_index.specs.Pieces.{RemovesPiece};
+ghost use Rattle.root_index.specs.declared.progress.Progress.TheVariants.{More, Done};
 
 use crate::branch::Branch;
 use crate::dead_set::DeadSet;
 use crate::entry::Entry;
 use crate::leaf::Leaf;
 use crate::look_ups;
-use crate::node::Node;
-use crate::nodes::{self, Spares, Spot};
+use crate::node::{Node, Swept};
+use crate::nodes::{self, Spares, TreePosition};
 use crate::progress::Progress;
 use std::alloc::{AllocError, Global};
 use std::marker::Model;
@@ -25,7 +26,7 @@ type Tree = Branch<Branch<Leaf>>;
 /// the next is searched for.
 #[derive(Clone, Copy, Debug, Default, PartialEq, Eq)]
 pub struct PositionHint {
-    spot: Spot<Spot<Spot<usize>>>,
+    position: TreePosition<TreePosition<TreePosition<usize>>>,
 }
 
 /// An ordered set of entries.
@@ -136,15 +137,15 @@ impl RootIndex {
         ensures memory { OnErr result ((room_in self.old ≡ 0) × ¬ Contains self.old.entries entry) }
         ensures err { OnErr result (self.new.entries ≡ self.old.entries) }
     {
-        let spot = match nodes::search(&self.trees, &entry) {
+        let position = match nodes::search(&self.trees, &entry) {
             Ok(_) => return Ok(()),
-            Err(spot) => spot,
+            Err(position) => position,
         };
         // one more could not be counted
         if self.count == u64::MAX {
             return ask_for_too_much(&mut self.trees);
         }
-        nodes::insert(&mut self.trees, &mut self.spares, spot, entry)?;
+        nodes::insert(&mut self.trees, &mut self.spares, position, entry)?;
         self.count += 1;
         self.promised = nodes::still_promised(&self.trees, &self.spares, self.count, self.promised);
         Ok(())
@@ -154,8 +155,8 @@ impl RootIndex {
     pub fn next_after(&self, from: Option<Entry>) -> Option<Entry>
         ensures { IsLeast self.now.entries (IsAfter from) result }
     {
-        let spot = look_ups::spot_after(&self.trees, from);
-        nodes::entry_at(&self.trees, spot)
+        let position = look_ups::position_after(&self.trees, from);
+        nodes::entry_at(&self.trees, position)
     }
 
     /// The first entry after this one, and where it stood. Where the other still stands at the place that is given, that is
@@ -164,9 +165,9 @@ impl RootIndex {
         ensures { IsLeast self.now.entries (IsAfter (Some from))
             (option_map (λ found. found.0) result) }
     {
-        let spot = look_ups::spot_near(&self.trees, from, near.spot);
-        match nodes::entry_at(&self.trees, spot) {
-            Some(entry) => Some((entry, PositionHint { spot })),
+        let position = look_ups::position_near(&self.trees, Some(from), near.position);
+        match nodes::entry_at(&self.trees, position) {
+            Some(entry) => Some((entry, PositionHint { position })),
             None => None,
         }
     }
@@ -175,31 +176,48 @@ impl RootIndex {
     pub fn first_from(&self, value: i128, key: u64) -> Option<Entry>
         ensures { IsLeast self.now.entries (λ e. ¬ IsBelow value key e) result }
     {
-        let spot = look_ups::spot_from(&self.trees, value, key);
-        nodes::entry_at(&self.trees, spot)
+        let position = look_ups::position_from(&self.trees, value, key);
+        nodes::entry_at(&self.trees, position)
     }
 
     /// Goes over the entries after this one, or over all, as far as the leaf goes that holds the first of them, and removes those
-    /// to dead places. Says how far it came, so that the next call goes on from there. It takes no memory, and keeps all room: the
-    /// last nodes that are emptied are set aside.
-    pub fn remove_where(&mut self, dead: &DeadSet, from: Option<Entry>) -> Progress
-        ensures piece { RemovesPiece self.old.entries self.new.entries dead.now from result }
+    /// to dead places. Says how far it came, so that the next call goes on from there, and where the entry stood to which it came:
+    /// where that still stands there, the next call doesn't search for it. It takes no memory, and keeps all room: the last nodes
+    /// that are emptied are set aside.
+    pub fn remove_where(
+        &mut self,
+        dead: &DeadSet,
+        from: Option<Entry>,
+        near: PositionHint,
+    ) -> (Progress, PositionHint)
+        ensures piece { RemovesPiece self.old.entries self.new.entries dead.now from result.0 }
         ensures spare { self.old.spare ≤ self.new.spare }
         ensures room { room_in self.old ≤ room_in self.new }
     {
-        let spot = look_ups::spot_after(&self.trees, from);
-        match nodes::sweep_from(&mut self.trees, &mut self.spares, spot, dead) {
+        let position = look_ups::position_near(&self.trees, from, near.position);
+        match nodes::sweep_from(&mut self.trees, &mut self.spares, position, dead) {
             Some(swept) => {
                 self.count -= swept.removed;
                 self.promised = nodes::promised_after_sweep(&self.trees, self.promised);
-                if swept.more {
-                    Progress::More(swept.last)
-                } else {
-                    Progress::Done
-                }
+                came_to(swept)
             }
-            None => Progress::Done,
+            None => (Progress::Done, PositionHint::default()),
         }
+    }
+}
+
+/// How far a sweep came, and where the entry stands to which it came.
+fn came_to(
+    swept: Swept<TreePosition<TreePosition<TreePosition<usize>>>>,
+) -> (Progress, PositionHint)
+    ensures more { swept.more ≡ true → result.0 ≡ More swept.last }
+    ensures done { swept.more ≡ false → result.0 ≡ Done }
+{
+    let near = PositionHint { position: swept.at };
+    if swept.more {
+        (Progress::More(swept.last), near)
+    } else {
+        (Progress::Done, near)
     }
 }
 

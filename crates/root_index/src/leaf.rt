@@ -6,9 +6,9 @@ ghost use Rattle.std.specs.List.{insert, filter};
 ghost use Rattle.root_index.specs.Order.{IsAscending};
 ghost use Rattle.root_index.specs.Sets.{IsAt, IsGapFor};
 ghost use Rattle.root_index.specs.Lists.{IsFirst, stays};
-ghost use Rattle.root_index.specs.Bounds.{AreOn};
+ghost use Rattle.root_index.specs.Places.{AreAscending};
 
-use crate::dead_set::DeadSet;
+use crate::dead_set::{DeadSet, is_among};
 use crate::entry::{Entry, compare};
 use crate::node::{HALF, Half, MAX_PARTS, Node, Swept};
 use crate::page_bounds::{NO_PAGES, PageBounds, bounds_of, widened};
@@ -45,7 +45,7 @@ impl Model for Leaf {
 }
 
 impl Node for Leaf {
-    type Spot = usize;
+    type Position = usize;
 
     type Spares = ();
 
@@ -57,11 +57,11 @@ impl Node for Leaf {
 
     ghost IsNeat = { λ l. Unit {0} };
 
-    ghost IsSpot = { λ l spot. spot ≤ length l };
+    ghost IsPosition = { λ l position. position ≤ length l };
 
-    ghost IsEntry = { λ l spot. (spot < length l) × (spot < 128) };
+    ghost IsEntry = { λ l position. (position < length l) × (position < 128) };
 
-    ghost rank = { λ l spot. spot };
+    ghost rank = { λ l position. position };
 
     ghost HasLeft = { λ spares k. Unit {0} };
 
@@ -101,8 +101,8 @@ impl Node for Leaf {
         search(&self.entries, sought, guess)
     }
 
-    fn stands_at(&self, sought: &Entry, spot: usize) -> bool {
-        match entry_in(&self.entries, spot) {
+    fn stands_at(&self, sought: &Entry, position: usize) -> bool {
+        match entry_in(&self.entries, position) {
             Some(entry) => compare(&entry, sought).is_eq(),
             None => false,
         }
@@ -112,17 +112,17 @@ impl Node for Leaf {
         0
     }
 
-    fn behind(spot: usize) -> usize {
+    fn behind(position: usize) -> usize {
         // no leaf has more than 128 entries
-        spot.saturating_add(1)
+        position.saturating_add(1)
     }
 
-    fn entry_at(&self, spot: usize) -> Option<Entry> {
-        entry_in(&self.entries, spot)
+    fn entry_at(&self, position: usize) -> Option<Entry> {
+        entry_in(&self.entries, position)
     }
 
-    fn split(&mut self, upper: &mut Self, spot: usize) -> Half<usize> {
-        let kept = kept_with(spot);
+    fn split(&mut self, upper: &mut Self, position: usize) -> Half<usize> {
+        let kept = kept_with(position);
         refill(&mut upper.entries, &self.entries[kept..]);
         self.entries.truncate(kept);
         upper.first = first_or(&upper.entries, self.first);
@@ -131,41 +131,55 @@ impl Node for Leaf {
         self.pages = bounds_of(&self.entries);
         upper.spread = spread_of(&upper.entries);
         self.spread = spread_of(&self.entries);
-        if spot < HALF {
-            Half::Lower(spot)
+        if position < HALF {
+            Half::Lower(position)
         } else {
-            Half::Upper(spot - HALF)
+            Half::Upper(position - HALF)
         }
     }
 
-    fn insert(&mut self, _spares: &mut (), spot: usize, entry: Entry) -> Result<(), AllocError> {
-        put(&mut self.entries, spot, entry);
+    fn insert(
+        &mut self,
+        _spares: &mut (),
+        position: usize,
+        entry: Entry,
+    ) -> Result<(), AllocError> {
+        put(&mut self.entries, position, entry);
         self.first = first_or(&self.entries, entry);
         self.pages = widened(self.pages, entry.tid);
-        if spot == 0 || spot + 1 == self.entries.len() {
+        if position == 0 || position + 1 == self.entries.len() {
             self.spread = spread_of(&self.entries);
         }
         Ok(())
     }
 
-    fn sweep_from(&mut self, _spares: &mut (), spot: usize, dead: &DeadSet) -> Option<Swept> {
-        let last = last_from(&self.entries, spot)?;
+    #[inline(always)]
+    fn sweep_from(
+        &mut self,
+        _spares: &mut (),
+        position: usize,
+        dead: &DeadSet,
+    ) -> Option<Swept<usize>> {
+        let last = last_from(&self.entries, position)?;
         let count = self.entries.len();
-        let goes = next_to_go(&self.entries, self.pages, spot, dead);
+        let near = dead.on_pages(self.pages);
+        let goes = next_to_go(&self.entries, position, near);
         if goes == count {
             return Some(Swept {
                 last,
+                at: count - 1,
                 removed: 0,
                 more: false,
             });
         }
-        remove_from(&mut self.entries, goes, dead);
+        remove_from(&mut self.entries, goes, near);
         self.first = first_or(&self.entries, self.first);
         self.pages = bounds_of(&self.entries);
         self.spread = spread_of(&self.entries);
         let removed = (count - self.entries.len()) as u64;
         Some(Swept {
             last,
+            at: self.entries.len().saturating_sub(1),
             removed,
             more: false,
         })
@@ -189,20 +203,20 @@ impl Node for Leaf {
 
     ghost itself = { λ l. omega arith };
 
-    ghost before = { λ l spot entry. omega (arith, entry.0) };
+    ghost before = { λ l position entry. omega (arith, entry.0) };
 
-    ghost within = { λ l spot within. within };
+    ghost within = { λ l position within. within };
 
     ghost fewer = { λ spares k enough. tt };
 }
 
-/// How many entries a full leaf keeps when it is split for one more at this spot: the first 64 of all stay, be the new one among
+/// How many entries a full leaf keeps when it is split for one more at this position: the first 64 of all stay, be the new one among
 /// them or not.
-fn kept_with(spot: usize) -> usize
-    ensures among { spot < HALF → result + 1 ≡ HALF }
-    ensures behind { HALF ≤ spot → result ≡ HALF }
+fn kept_with(position: usize) -> usize
+    ensures among { position < HALF → result + 1 ≡ HALF }
+    ensures behind { HALF ≤ position → result ≡ HALF }
 {
-    if spot < HALF { HALF - 1 } else { HALF }
+    if position < HALF { HALF - 1 } else { HALF }
 }
 
 /// Puts these entries in the place of all others. There is room for them in memory.
@@ -306,17 +320,16 @@ fn last_from(entries: &[Entry], from: usize) -> Option<Entry>
     entries.last().copied()
 }
 
-/// The first place, from this one on, of an entry that leads to a dead place; the end, where none does. All entries lead to these
-/// pages.
-fn next_to_go(entries: &[Entry], pages: PageBounds, from: usize, dead: &DeadSet) -> usize
+/// The first place, from this one on, of an entry that leads to a dead place; the end, where none does.
+fn next_to_go(entries: &[Entry], from: usize, dead: &[Tid]) -> usize
     requires in_range { from ≤ length entries.now }
-    requires on { AreOn pages entries.now }
+    requires ascending { AreAscending dead.now }
     ensures in_range { result ≤ length entries.now }
     ensures kept { take result entries.now ++ filter (stays dead.now) (drop result entries.now)
         ≡ take from entries.now ++ filter (stays dead.now) (drop from entries.now) }
 {
     // the entries of most leaves lead to other pages
-    if dead.is_beside(pages) {
+    if dead.is_empty() {
         return entries.len();
     }
     for place in from..entries.len() {
@@ -329,8 +342,9 @@ fn next_to_go(entries: &[Entry], pages: PageBounds, from: usize, dead: &DeadSet)
 }
 
 /// Removes the entries to dead places from this place on, and moves those behind them up.
-fn remove_from(entries: &mut Vec<Entry>, from: usize, dead: &DeadSet)
-    requires { from ≤ vec_len entries.old }
+fn remove_from(entries: &mut Vec<Entry>, from: usize, dead: &[Tid])
+    requires in_range { from ≤ vec_len entries.old }
+    requires ascending { AreAscending dead.now }
     ensures items { entries.new.items
         ≡ take from entries.old.items ++ filter (stays dead.now) (drop from entries.old.items) }
     ensures shorter { vec_len entries.new ≤ vec_len entries.old }
@@ -348,8 +362,9 @@ fn remove_from(entries: &mut Vec<Entry>, from: usize, dead: &DeadSet)
 }
 
 /// Whether the entry leads to a dead place.
-fn is_dead(dead: &DeadSet, entry: Entry) -> bool
+fn is_dead(dead: &[Tid], entry: Entry) -> bool
+    requires { AreAscending dead.now }
     ensures { result ≡ not (stays dead.now entry) }
 {
-    dead.contains(entry.tid)
+    is_among(dead, &entry.tid)
 }

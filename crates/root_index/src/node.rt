@@ -20,7 +20,7 @@ pub(crate) const MAX_PARTS: usize = 128;
 /// Where a full node is split, so many parts stay in it, counting an entry that it is split for.
 pub(crate) const HALF: usize = 64;
 
-/// Where a spot is when its node was split.
+/// Where a position is when its node was split.
 #[derive(Clone, Copy, Debug)]
 pub(crate) enum Half<S> {
     Lower(S),
@@ -29,9 +29,11 @@ pub(crate) enum Half<S> {
 
 /// What a sweep did.
 #[derive(Clone, Copy, Debug)]
-pub(crate) struct Swept {
+pub(crate) struct Swept<S> {
     /// The entry that it looked at last, removed or not.
     pub(crate) last: Entry,
+    /// Where that entry stands, if it was not removed. It is no more than a hint.
+    pub(crate) at: S,
     /// The number of entries that it removed.
     pub(crate) removed: u64,
     /// Whether an entry follows the last one.
@@ -41,7 +43,7 @@ pub(crate) struct Swept {
 /// A leaf, whose parts are entries, or a branch, whose parts are smaller nodes: at most 128, in order.
 pub(crate) trait Node: Drop {
     /// Where an entry stands, or where it would.
-    type Spot: Copy;
+    type Position: Copy;
 
     /// The nodes that splits of its parts take.
     type Spares: Drop;
@@ -59,13 +61,13 @@ pub(crate) trait Node: Drop {
     ghost IsNeat: { Self → Type 0 };
 
     // where an entry may be put
-    ghost IsSpot: { Self → Self.Spot → Type 0 };
+    ghost IsPosition: { Self → Self.Position → Type 0 };
 
     // where an entry stands
-    ghost IsEntry: { Self → Self.Spot → Type 0 };
+    ghost IsEntry: { Self → Self.Position → Type 0 };
 
-    // the number of entries before the spot
-    ghost rank: { Self → Self.Spot → ℕ };
+    // the number of entries before the position
+    ghost rank: { Self → Self.Position → ℕ };
 
     // enough for so many inserts
     ghost HasLeft: { Self.Spares → ℕ → Type 0 };
@@ -94,64 +96,66 @@ pub(crate) trait Node: Drop {
         ensures { result ≡ begins_after sought.now (entries self.now) };
 
     /// Where the entry stands, or where it would.
-    fn search(&self, sought: &Entry) -> Result<Self::Spot, Self::Spot>
+    fn search(&self, sought: &Entry) -> Result<Self::Position, Self::Position>
         requires neat { IsNeat self.now }
         requires ascending { IsAscending (entries self.now) }
         ensures entry { IfOk result (IsEntry self.now) }
         ensures found { IfOk result
-            (λ spot. IsAt (entries self.now) sought.now (rank self.now spot)) }
-        ensures spot { IfErr result (IsSpot self.now) }
+            (λ position. IsAt (entries self.now) sought.now (rank self.now position)) }
+        ensures position { IfErr result (IsPosition self.now) }
         ensures absent { IfErr result
-            (λ spot. IsGapFor (entries self.now) sought.now (rank self.now spot)) };
+            (λ position. IsGapFor (entries self.now) sought.now (rank self.now position)) };
 
-    /// Whether this entry stands at this spot.
-    fn stands_at(&self, sought: &Entry, spot: Self::Spot) -> bool
-        ensures entry { OnTrue result (IsEntry self.now spot) }
-        ensures found { OnTrue result (IsAt (entries self.now) sought.now (rank self.now spot)) };
+    /// Whether this entry stands at this position.
+    fn stands_at(&self, sought: &Entry, position: Self::Position) -> bool
+        ensures entry { OnTrue result (IsEntry self.now position) }
+        ensures found { OnTrue result
+            (IsAt (entries self.now) sought.now (rank self.now position)) };
 
-    /// The first spot of any node.
-    fn first() -> Self::Spot
-        ensures spot { (node : Self) → IsNeat node → IsSpot node result }
+    /// The first position of any node.
+    fn first() -> Self::Position
+        ensures position { (node : Self) → IsNeat node → IsPosition node result }
         ensures rank { (node : Self) → rank node result ≡ 0 };
 
-    /// The spot right behind an entry's.
-    fn behind(spot: Self::Spot) -> Self::Spot
-        ensures spot { (node : Self) → IsEntry node spot → IsSpot node result }
-        ensures rank { (node : Self) → IsEntry node spot → rank node result ≡ rank node spot + 1 };
+    /// The position right behind an entry's.
+    fn behind(position: Self::Position) -> Self::Position
+        ensures position { (node : Self) → IsEntry node position → IsPosition node result }
+        ensures rank { (node : Self) → IsEntry node position
+            → rank node result ≡ rank node position + 1 };
 
-    /// The entry at this spot, if there is one.
-    fn entry_at(&self, spot: Self::Spot) -> Option<Entry>
+    /// The entry at this position, if there is one.
+    fn entry_at(&self, position: Self::Position) -> Option<Entry>
         requires neat { IsNeat self.now }
-        requires spot { IsSpot self.now spot }
-        ensures { result ≡ slice_get (entries self.now) (rank self.now spot) };
+        requires position { IsPosition self.now position }
+        ensures { result ≡ slice_get (entries self.now) (rank self.now position) };
 
-    /// Moves the upper parts of a full node to one without any, and says where the spot is then. It takes no memory.
-    fn split(&mut self, upper: &mut Self, spot: Self::Spot) -> Half<Self::Spot>
+    /// Moves the upper parts of a full node to one without any, and says where the position is then. It takes no memory.
+    fn split(&mut self, upper: &mut Self, position: Self::Position) -> Half<Self::Position>
         requires full { size self.old ≡ MAX_PARTS }
         requires none { size upper.old ≡ 0 }
         requires neat { IsNeat self.old }
-        requires spot { IsSpot self.old spot }
+        requires position { IsPosition self.old position }
         ensures entries { entries self.new ++ entries upper.new ≡ entries self.old }
         ensures part { (0 < size self.new) × (size self.new < MAX_PARTS) }
         ensures part_too { (0 < size upper.new) × (size upper.new < MAX_PARTS) }
         ensures neat { IsNeat self.new }
         ensures neat_too { IsNeat upper.new }
         ensures nodes { nodes self.new + nodes upper.new ≡ nodes self.old + 1 }
-        ensures spot { IsHalf IsSpot self.new upper.new result }
-        ensures rank { rank_half entries rank self.new upper.new result ≡ rank self.old spot };
+        ensures position { IsHalf IsPosition self.new upper.new result }
+        ensures rank { rank_half entries rank self.new upper.new result ≡ rank self.old position };
 
-    /// Puts an entry at this spot. Where memory is refused, the entries stay as they are.
+    /// Puts an entry at this position. Where memory is refused, the entries stay as they are.
     fn insert(
         &mut self,
         spares: &mut Self::Spares,
-        spot: Self::Spot,
+        position: Self::Position,
         entry: Entry,
     ) -> Result<(), AllocError>
         requires room { size self.old < MAX_PARTS }
         requires neat { IsNeat self.old }
-        requires spot { IsSpot self.old spot }
+        requires position { IsPosition self.old position }
         ensures entries { OnOk result
-            (entries self.new ≡ insert (entries self.old) (rank self.old spot) entry) }
+            (entries self.new ≡ insert (entries self.old) (rank self.old position) entry) }
         ensures some { OnOk result (0 < size self.new) }
         ensures kept { size self.old ≤ size self.new }
         ensures neat { IsNeat self.new }
@@ -167,19 +171,19 @@ pub(crate) trait Node: Drop {
         ensures full { OnErr result
             ((size self.old ≡ 0) ⊎ (MAX_PARTS ≤ length (entries self.old))) };
 
-    /// Removes entries to dead places, from this spot on as far as its leaf goes. The parts that are left without any are set
+    /// Removes entries to dead places, from this position on as far as its leaf goes. The parts that are left without any are set
     /// aside, if there is a place for them. It does nothing where no entry follows.
     fn sweep_from(
         &mut self,
         spares: &mut Self::Spares,
-        spot: Self::Spot,
+        position: Self::Position,
         dead: &DeadSet,
-    ) -> Option<Swept>
+    ) -> Option<Swept<Self::Position>>
         requires neat { IsNeat self.old }
-        requires spot { IsSpot self.old spot }
+        requires position { IsPosition self.old position }
         ensures swept { IfSome result
-            (IsSwept (entries self.old) (entries self.new) (rank self.old spot) dead.now) }
-        ensures none { IfNone result (length (entries self.old) ≤ rank self.old spot) }
+            (IsSwept (entries self.old) (entries self.new) (rank self.old position) dead.now) }
+        ensures none { IfNone result (length (entries self.old) ≤ rank self.old position) }
         ensures same { IfNone result (self.new ≡ self.old) }
         ensures neat { IsNeat self.new }
         ensures spares { (k : ℕ) → HasLeft spares.old k → HasLeft spares.new k }
@@ -213,10 +217,10 @@ pub(crate) trait Node: Drop {
     ghost itself: { (node : Self) → 0 < nodes node };
 
     // where an entry stands another may be put
-    ghost before: { (node : Self) (spot : Self.Spot) → IsEntry node spot → IsSpot node spot };
+    ghost before: { (node : Self) (position : Self.Position) → IsEntry node position → IsPosition node position };
 
-    // a spot is in the node, or right after its last entry
-    ghost within: { (node : Self) (spot : Self.Spot) → IsSpot node spot → rank node spot ≤ length (entries node) };
+    // a position is in the node, or right after its last entry
+    ghost within: { (node : Self) (position : Self.Position) → IsPosition node position → rank node position ≤ length (entries node) };
 
     // what is enough is enough for fewer
     ghost fewer: { (spares : Self.Spares) (k : ℕ) → HasLeft spares (k + 1) → HasLeft spares k };

@@ -1,12 +1,12 @@
-//! Nodes, one after another: looking for an entry's spot, putting one there, and removing entries from all of them.
+//! Nodes, one after another: looking for an entry's position, putting one there, and removing entries from all of them.
 
-ghost use Rattle.std.specs.Prelude.{◌≡◌, ◌<◌, ◌≤◌, ◌+◌, ◌-◌, ◌⊎◌, ℕ, [], length, map, max, sum_by, ◌↔◌, ◌^◌, IsTrue, IfOk, IfErr, IfSome, IfNone, OnOk, OnErr, vec_len, vec_capacity, slice_get, option_copied};
+ghost use Rattle.std.specs.Prelude.{◌≡◌, ◌<◌, ◌≤◌, ◌+◌, ◌-◌, ◌⊎◌, ℕ, [], length, map, max, sum_by, true, ◌↔◌, ◌^◌, IsTrue, IfOk, IfErr, IfSome, IfNone, OnOk, OnErr, vec_len, vec_capacity, slice_get, option_copied};
 ghost use Rattle.std.specs.Bool.{OnTrue};
 ghost use Rattle.std.specs.List.{insert};
 ghost use Rattle.root_index.specs.Order.{IsAscending};
 ghost use Rattle.root_index.specs.Sets.{IsAt, IsGapFor};
 ghost use Rattle.root_index.specs.Lists.{IsLastBetween};
-ghost use Rattle.root_index.specs.Nodes.{all, rank_in, before_node, AreNeat, AreNeatBut, IsSpotIn, IsEntryIn, IsBehindIn, IsOpened, IsUnspent, AreKept, AreLeft, HavePlaces, KeepsSpares};
+ghost use Rattle.root_index.specs.Nodes.{all, rank_in, before_node, AreNeat, AreNeatBut, IsPositionIn, IsEntryIn, IsBehindIn, IsOpened, IsUnspent, AreKept, AreLeft, HavePlaces, KeepsSpares};
 ghost use Rattle.root_index.specs.Sweeps.{IsSwept};
 
 use crate::dead_set::DeadSet;
@@ -16,7 +16,7 @@ use std::alloc::AllocError;
 
 /// A place among nodes.
 #[derive(Clone, Copy, Debug, Default, PartialEq, Eq)]
-pub(crate) struct Spot<S> {
+pub(crate) struct TreePosition<S> {
     /// The node's number, counted from 0.
     pub(crate) node: usize,
     /// The place in the node.
@@ -57,76 +57,85 @@ fn node_for<N: Node>(nodes: &[N], sought: &Entry) -> usize
     low
 }
 
-/// The first spot.
-pub(crate) fn first<N: Node>() -> Spot<N::Spot>
-    ensures spot { (nodes : _) → AreNeat N.IsNeat N.size nodes → IsSpotIn N.IsSpot nodes result }
+/// The first position.
+pub(crate) fn first<N: Node>() -> TreePosition<N::Position>
+    ensures position { (nodes : _) → AreNeat N.IsNeat N.size nodes
+        → IsPositionIn N.IsPosition nodes result }
     ensures rank { (nodes : _) → rank_in N.entries N.rank nodes result ≡ 0 }
 {
-    Spot {
+    TreePosition {
         node: 0,
         inner: N::first(),
     }
 }
 
-/// The spot right behind an entry's.
-pub(crate) fn behind<N: Node>(spot: Spot<N::Spot>) -> Spot<N::Spot>
-    ensures spot { (nodes : _) → IsEntryIn N.IsEntry nodes spot → IsSpotIn N.IsSpot nodes result }
-    ensures rank { (nodes : _) → IsEntryIn N.IsEntry nodes spot
-        → rank_in N.entries N.rank nodes result ≡ rank_in N.entries N.rank nodes spot + 1 }
+/// The position right behind an entry's.
+pub(crate) fn behind<N: Node>(position: TreePosition<N::Position>) -> TreePosition<N::Position>
+    ensures position { (nodes : _) → IsEntryIn N.IsEntry nodes position
+        → IsPositionIn N.IsPosition nodes result }
+    ensures rank { (nodes : _) → IsEntryIn N.IsEntry nodes position
+        → rank_in N.entries N.rank nodes result ≡ rank_in N.entries N.rank nodes position + 1 }
 {
-    Spot {
-        node: spot.node,
-        inner: N::behind(spot.inner),
+    TreePosition {
+        node: position.node,
+        inner: N::behind(position.inner),
     }
 }
 
 /// Where the entry stands, or where it would.
-pub(crate) fn search<N: Node>(nodes: &[N], sought: &Entry) -> Result<Spot<N::Spot>, Spot<N::Spot>>
+pub(crate) fn search<N: Node>(
+    nodes: &[N],
+    sought: &Entry,
+) -> Result<TreePosition<N::Position>, TreePosition<N::Position>>
     requires neat { AreNeat N.IsNeat N.size nodes.now }
     requires ascending { IsAscending (all N.entries nodes.now) }
     ensures entry { IfOk result (IsEntryIn N.IsEntry nodes.now) }
     ensures found { IfOk result
-        (λ spot. IsAt (all N.entries nodes.now) sought.now
-        (rank_in N.entries N.rank nodes.now spot)) }
-    ensures spot { IfErr result (IsSpotIn N.IsSpot nodes.now) }
+        (λ position. IsAt (all N.entries nodes.now) sought.now
+        (rank_in N.entries N.rank nodes.now position)) }
+    ensures position { IfErr result (IsPositionIn N.IsPosition nodes.now) }
     ensures absent { IfErr result
-        (λ spot. IsGapFor (all N.entries nodes.now) sought.now
-        (rank_in N.entries N.rank nodes.now spot)) }
+        (λ position. IsGapFor (all N.entries nodes.now) sought.now
+        (rank_in N.entries N.rank nodes.now position)) }
 {
     if nodes.is_empty() {
         return Err(first::<N>());
     }
     let node = node_for(nodes, sought);
     match nodes[node].search(sought) {
-        Ok(inner) => Ok(Spot { node, inner }),
-        Err(inner) => Err(Spot { node, inner }),
+        Ok(inner) => Ok(TreePosition { node, inner }),
+        Err(inner) => Err(TreePosition { node, inner }),
     }
 }
 
-/// Whether this entry stands at this spot.
-pub(crate) fn stands_at<N: Node>(nodes: &[N], sought: &Entry, spot: Spot<N::Spot>) -> bool
-    ensures entry { OnTrue result (IsEntryIn N.IsEntry nodes.now spot) }
+/// Whether this entry stands at this position.
+pub(crate) fn stands_at<N: Node>(
+    nodes: &[N],
+    sought: &Entry,
+    position: TreePosition<N::Position>,
+) -> bool
+    ensures entry { OnTrue result (IsEntryIn N.IsEntry nodes.now position) }
     ensures found { OnTrue result
-        (IsAt (all N.entries nodes.now) sought.now (rank_in N.entries N.rank nodes.now spot)) }
+        (IsAt (all N.entries nodes.now) sought.now (rank_in N.entries N.rank nodes.now position)) }
 {
-    match node_of(nodes, spot.node) {
-        Some(node) => node.stands_at(sought, spot.inner),
+    match node_of(nodes, position.node) {
+        Some(node) => node.stands_at(sought, position.inner),
         None => false,
     }
 }
 
-/// The entry at this spot; behind a node's last, the first of the next node.
-pub(crate) fn entry_at<N: Node>(nodes: &[N], spot: Spot<N::Spot>) -> Option<Entry>
+/// The entry at this position; behind a node's last, the first of the next node.
+pub(crate) fn entry_at<N: Node>(nodes: &[N], position: TreePosition<N::Position>) -> Option<Entry>
     requires neat { AreNeat N.IsNeat N.size nodes.now }
-    requires spot { IsSpotIn N.IsSpot nodes.now spot }
+    requires position { IsPositionIn N.IsPosition nodes.now position }
     ensures { result
-        ≡ slice_get (all N.entries nodes.now) (rank_in N.entries N.rank nodes.now spot) }
+        ≡ slice_get (all N.entries nodes.now) (rank_in N.entries N.rank nodes.now position) }
 {
-    let node = node_of(nodes, spot.node)?;
-    if let Some(entry) = node.entry_at(spot.inner) {
+    let node = node_of(nodes, position.node)?;
+    if let Some(entry) = node.entry_at(position.inner) {
         return Some(entry);
     }
-    node_of(nodes, spot.node + 1)?.entry_at(N::first())
+    node_of(nodes, position.node + 1)?.entry_at(N::first())
 }
 
 /// A node without parts: a spare one, or else a new one.
@@ -158,46 +167,51 @@ pub(crate) fn put_node<N: Node>(nodes: &mut Vec<N>, number: usize, node: N)
     let _done = nodes.insert(number, node);
 }
 
-/// Splits the spot's node, which is full, and says where the spot is then. It takes no memory.
-fn split<N: Node>(nodes: &mut Vec<N>, mut upper: N, spot: Spot<N::Spot>) -> Spot<N::Spot>
+/// Splits the position's node, which is full, and says where the position is then. It takes no memory.
+fn split<N: Node>(
+    nodes: &mut Vec<N>,
+    mut upper: N,
+    position: TreePosition<N::Position>,
+) -> TreePosition<N::Position>
     requires room { vec_len nodes.old < vec_capacity nodes.old }
     requires none { N.size upper ≡ 0 }
     requires neat { AreNeat N.IsNeat N.size nodes.old.items }
-    requires node { spot.node < length nodes.old.items }
-    requires spot { IsSpotIn N.IsSpot nodes.old.items spot }
-    requires full { IfSome (slice_get nodes.old.items spot.node) (λ node. N.size node ≡ MAX_PARTS) }
-    ensures opened { IsOpened N.entries N.size N.rank N.IsSpot nodes.old.items nodes.new.items spot
-        result }
+    requires node { position.node < length nodes.old.items }
+    requires position { IsPositionIn N.IsPosition nodes.old.items position }
+    requires full { IfSome (slice_get nodes.old.items position.node)
+        (λ node. N.size node ≡ MAX_PARTS) }
+    ensures opened { IsOpened N.entries N.size N.rank N.IsPosition nodes.old.items nodes.new.items
+        position result }
     ensures neat { AreNeat N.IsNeat N.size nodes.new.items }
     ensures nodes { sum_by N.nodes nodes.new.items ≡ sum_by N.nodes nodes.old.items + 1 }
     ensures count { vec_len nodes.new ≡ vec_len nodes.old + 1 }
     ensures capacity { vec_capacity nodes.old ≤ vec_capacity nodes.new }
 {
-    let half = nodes[spot.node].split(&mut upper, spot.inner);
-    put_node(nodes, spot.node + 1, upper);
+    let half = nodes[position.node].split(&mut upper, position.inner);
+    put_node(nodes, position.node + 1, upper);
     match half {
-        Half::Lower(inner) => Spot {
-            node: spot.node,
+        Half::Lower(inner) => TreePosition {
+            node: position.node,
             inner,
         },
-        Half::Upper(inner) => Spot {
-            node: spot.node + 1,
+        Half::Upper(inner) => TreePosition {
+            node: position.node + 1,
             inner,
         },
     }
 }
 
-/// Splits the spot's node if it is full, and says where the spot is then.
+/// Splits the position's node if it is full, and says where the position is then.
 fn open<N: Node>(
     nodes: &mut Vec<N>,
     spare: &mut Vec<N>,
-    spot: Spot<N::Spot>,
-) -> Result<Spot<N::Spot>, AllocError>
+    position: TreePosition<N::Position>,
+) -> Result<TreePosition<N::Position>, AllocError>
     requires neat { AreNeat N.IsNeat N.size nodes.old.items }
-    requires node { spot.node < length nodes.old.items }
-    requires spot { IsSpotIn N.IsSpot nodes.old.items spot }
+    requires node { position.node < length nodes.old.items }
+    requires position { IsPositionIn N.IsPosition nodes.old.items position }
     ensures opened { IfOk result
-        (IsOpened N.entries N.size N.rank N.IsSpot nodes.old.items nodes.new.items spot) }
+        (IsOpened N.entries N.size N.rank N.IsPosition nodes.old.items nodes.new.items position) }
     ensures neat { AreNeat N.IsNeat N.size nodes.new.items }
     ensures room { (vec_capacity nodes.old - vec_len nodes.old)
         ≤ (vec_capacity nodes.new - vec_len nodes.new) + 1 }
@@ -218,12 +232,12 @@ fn open<N: Node>(
         (sum_by N.nodes nodes.new.items ≡ sum_by N.nodes nodes.old.items
         → vec_len spare.old ≤ vec_len spare.new) }
 {
-    if nodes[spot.node].len() < MAX_PARTS {
-        return Ok(spot);
+    if nodes[position.node].len() < MAX_PARTS {
+        return Ok(position);
     }
     nodes.try_reserve(1)?;
     let upper = take_node(spare)?;
-    Ok(split(nodes, upper, spot))
+    Ok(split(nodes, upper, position))
 }
 
 /// Reserves a place to set a node aside, if there is none.
@@ -273,19 +287,19 @@ fn insert_first<N: Node>(
     Ok(())
 }
 
-/// Puts an entry at its spot. Where memory is refused, the entries stay as they are.
+/// Puts an entry at its position. Where memory is refused, the entries stay as they are.
 pub(crate) fn insert<N: Node>(
     nodes: &mut Vec<N>,
     spares: &mut Spares<N, N::Spares>,
-    spot: Spot<N::Spot>,
+    position: TreePosition<N::Position>,
     entry: Entry,
 ) -> Result<(), AllocError>
     requires neat { AreNeat N.IsNeat N.size nodes.old.items }
-    requires spot { IsSpotIn N.IsSpot nodes.old.items spot }
+    requires position { IsPositionIn N.IsPosition nodes.old.items position }
     ensures entries { OnOk result
         (all N.entries nodes.new.items
         ≡ insert (all N.entries nodes.old.items)
-        (rank_in N.entries N.rank nodes.old.items spot) entry) }
+        (rank_in N.entries N.rank nodes.old.items position) entry) }
     ensures neat { AreNeat N.IsNeat N.size nodes.new.items }
     ensures room { (vec_capacity nodes.old - vec_len nodes.old)
         ≤ (vec_capacity nodes.new - vec_len nodes.new) + 1 }
@@ -315,8 +329,8 @@ pub(crate) fn insert<N: Node>(
     if nodes.is_empty() {
         return insert_first(nodes, spares, entry);
     }
-    let spot = open(nodes, &mut spares.nodes, spot)?;
-    nodes[spot.node].insert(&mut spares.below, spot.inner, entry)
+    let position = open(nodes, &mut spares.nodes, position)?;
+    nodes[position.node].insert(&mut spares.below, position.inner, entry)
 }
 
 /// Whether so many inserts take no memory, whatever they split, and can be counted where there are `count` entries.
@@ -385,6 +399,7 @@ pub(crate) fn add_nodes<N: Node>(spare: &mut Vec<N>, count: usize) -> Result<(),
 }
 
 /// Takes the node of this number out if it has no parts, and sets it aside if there is a place for it.
+#[inline(always)]
 fn drop_empty<N: Node>(nodes: &mut Vec<N>, spare: &mut Vec<N>, number: usize)
     requires in_range { number < length nodes.old.items }
     requires neat { AreNeatBut N.IsNeat N.size nodes.old.items number }
@@ -418,20 +433,37 @@ fn keep_node<N: Node>(spare: &mut Vec<N>, node: N)
     }
 }
 
-/// Sweeps the spot's node alone, and takes it out if that leaves it without parts.
+/// What a sweep of the node of this number says of all nodes, if others follow or not.
+#[inline(always)]
+fn of_all<S: Copy>(swept: Swept<S>, node: usize, others: bool) -> Swept<TreePosition<S>>
+    ensures last { result.last ≡ swept.last }
+    ensures removed { result.removed ≡ swept.removed }
+    ensures more { (result.more ≡ true) ↔ ((swept.more ≡ true) ⊎ (others ≡ true)) }
+{
+    let inner = swept.at;
+    Swept {
+        last: swept.last,
+        at: TreePosition { node, inner },
+        removed: swept.removed,
+        more: swept.more || others,
+    }
+}
+
+/// Sweeps the position's node alone, and takes it out if that leaves it without parts.
+#[inline(always)]
 fn sweep_one<N: Node>(
     nodes: &mut Vec<N>,
     spares: &mut Spares<N, N::Spares>,
-    spot: Spot<N::Spot>,
+    position: TreePosition<N::Position>,
     dead: &DeadSet,
-) -> Option<Swept>
+) -> Option<Swept<TreePosition<N::Position>>>
     requires neat { AreNeat N.IsNeat N.size nodes.old.items }
-    requires node { spot.node < length nodes.old.items }
-    requires spot { IsSpotIn N.IsSpot nodes.old.items spot }
+    requires node { position.node < length nodes.old.items }
+    requires position { IsPositionIn N.IsPosition nodes.old.items position }
     ensures swept { IfSome result
         (IsSwept (all N.entries nodes.old.items) (all N.entries nodes.new.items)
-        (rank_in N.entries N.rank nodes.old.items spot) dead.now) }
-    ensures none { IfNone result (IsBehindIn N.entries N.rank nodes.old.items spot) }
+        (rank_in N.entries N.rank nodes.old.items position) dead.now) }
+    ensures none { IfNone result (IsBehindIn N.entries N.rank nodes.old.items position) }
     ensures same { IfNone result (nodes.new.items ≡ nodes.old.items) }
     ensures neat { AreNeat N.IsNeat N.size nodes.new.items }
     ensures shorter { vec_len nodes.new ≤ vec_len nodes.old }
@@ -445,35 +477,33 @@ fn sweep_one<N: Node>(
         → HavePlaces N.HasPlaces (vec_capacity spares.old.nodes) spares.old.below
         → AreLeft N.HasLeft (vec_len spares.new.nodes) spares.new.below 1 }
 {
-    let others = spot.node + 1 < nodes.len();
-    match nodes[spot.node].sweep_from(&mut spares.below, spot.inner, dead) {
+    let others = position.node + 1 < nodes.len();
+    match nodes[position.node].sweep_from(&mut spares.below, position.inner, dead) {
         Some(swept) => {
-            drop_empty(nodes, &mut spares.nodes, spot.node);
-            Some(Swept {
-                last: swept.last,
-                removed: swept.removed,
-                more: swept.more || others,
-            })
+            drop_empty(nodes, &mut spares.nodes, position.node);
+            Some(of_all(swept, position.node, others))
         }
         None => None,
     }
 }
 
-/// Removes entries to dead places, from this spot on as far as its leaf goes. The nodes that are left without any are set aside,
+/// Removes entries to dead places, from this position on as far as its leaf goes. The nodes that are left without any are set aside,
 /// if there is a place for them. It does nothing where no entry follows.
+#[inline(always)]
 pub(crate) fn sweep_from<N: Node>(
     nodes: &mut Vec<N>,
     spares: &mut Spares<N, N::Spares>,
-    spot: Spot<N::Spot>,
+    position: TreePosition<N::Position>,
     dead: &DeadSet,
-) -> Option<Swept>
+) -> Option<Swept<TreePosition<N::Position>>>
     requires neat { AreNeat N.IsNeat N.size nodes.old.items }
-    requires spot { IsSpotIn N.IsSpot nodes.old.items spot }
+    requires position { IsPositionIn N.IsPosition nodes.old.items position }
     ensures swept { IfSome result
         (IsSwept (all N.entries nodes.old.items) (all N.entries nodes.new.items)
-        (rank_in N.entries N.rank nodes.old.items spot) dead.now) }
+        (rank_in N.entries N.rank nodes.old.items position) dead.now) }
     ensures none { IfNone result
-        (length (all N.entries nodes.old.items) ≤ rank_in N.entries N.rank nodes.old.items spot) }
+        (length (all N.entries nodes.old.items)
+        ≤ rank_in N.entries N.rank nodes.old.items position) }
     ensures same { IfNone result (nodes.new.items ≡ nodes.old.items) }
     ensures neat { AreNeat N.IsNeat N.size nodes.new.items }
     ensures shorter { vec_len nodes.new ≤ vec_len nodes.old }
@@ -488,22 +518,23 @@ pub(crate) fn sweep_from<N: Node>(
         → AreLeft N.HasLeft (vec_len spares.new.nodes) spares.new.below 1 }
 {
     // where there are no nodes
-    if spot.node >= nodes.len() {
+    if position.node >= nodes.len() {
         return None;
     }
-    match sweep_one(nodes, spares, spot, dead) {
+    match sweep_one(nodes, spares, position, dead) {
         Some(swept) => Some(swept),
-        None => sweep_next(nodes, spares, spot.node + 1, dead),
+        None => sweep_next(nodes, spares, position.node + 1, dead),
     }
 }
 
 /// Sweeps the node of this number from its first entry on, if there is such a node.
+#[inline(always)]
 fn sweep_next<N: Node>(
     nodes: &mut Vec<N>,
     spares: &mut Spares<N, N::Spares>,
     number: usize,
     dead: &DeadSet,
-) -> Option<Swept>
+) -> Option<Swept<TreePosition<N::Position>>>
     requires neat { AreNeat N.IsNeat N.size nodes.old.items }
     ensures swept { IfSome result
         (IsSwept (all N.entries nodes.old.items) (all N.entries nodes.new.items)
@@ -529,7 +560,7 @@ fn sweep_next<N: Node>(
     sweep_one(
         nodes,
         spares,
-        Spot {
+        TreePosition {
             node: number,
             inner,
         },

@@ -1,5 +1,5 @@
 -- A change of all indexes, one after another by their numbers.
-use Rattle.std.proofs.Common.{◌≡◌, ℕ, zero, suc, ◌+◌, ◌-◌, ◌<◌, ◌≤◌, true, inl, inr, ⊎_elim, Bor, List, [], ◌∷◌, length, get_or, set, Option, Some, None, IsSome, ℤ, pos, nat_abs, sym, ap, subst, refl, ◌∙◌, arith}
+use Rattle.std.proofs.Common.{◌≡◌, ◌↔◌, ℕ, zero, suc, ◌+◌, ◌-◌, ◌<◌, ◌≤◌, true, inl, inr, ⊎_elim, Bor, List, [], ◌∷◌, length, get_or, set, Option, Some, None, IsSome, ℤ, pos, nat_abs, sym, ap, subst, refl, ◌∙◌, arith}
 use Rattle.std.specs.Prelude.{is_some, option_copied}
 use Rattle.std.specs.Option.{unwrap_or}
 use Rattle.std.proofs.lemmas.Bool.{cases_lt, cases_eq, true≢false}
@@ -182,3 +182,20 @@ swept-column before cols key old new dead from progress n view_is some within re
     (subst (λ v. RemovesPiece (entries_in v (suc (n - 1))) (entries_in (key ∷ set cols (n - 1) new) (suc (n - 1))) dead from progress) view_is
     (subst (λ o. RemovesPiece (unwrap_or (entries_of (get_or cols (n - 1) None)) []) (unwrap_or (entries_of o) []) dead from progress) (sym (get_or-set_same cols (n - 1) new None within))
     (subst (λ o. RemovesPiece (unwrap_or (entries_of o) []) (unwrap_or (entries_of new) []) dead from progress) (get_or_default cols (n - 1) old None within) removes)))
+
+pub swept-in_use : (before cols : List (Option IndexView)) (key new : Option IndexView) (n : ℕ) → key ∷ cols ≡ before → 1 ≤ n → n - 1 < length cols → IsInUse before n
+    → IsSome (entries_of new) → (m : ℕ) → IsInUse before m ↔ IsInUse (key ∷ set cols (n - 1) new) m
+swept-in_use before cols key new n view_is some within used is m = subst (λ v. IsInUse v m ↔ IsInUse (key ∷ set cols (n - 1) new) m) view_is (here m)
+  where
+    here : (m : ℕ) → IsInUse (key ∷ cols) m ↔ IsInUse (key ∷ set cols (n - 1) new) m
+    here zero = (λ h. h, λ h. h)
+    here (suc k) = elim (cases_eq k (n - 1)) [
+      | inl same ↦
+          let number : n ≡ suc k = omega (arith, same, some) in (
+            λ _. subst (λ j. IsSome (entries_of (get_or (set cols (n - 1) new) j None))) (sym same) (subst (λ o. IsSome (entries_of o)) (sym (get_or-set_same cols (n - 1) new None within)) is),
+            λ _. subst (λ j. IsInUse (key ∷ cols) j) number (subst (λ v. IsInUse v n) (sym view_is) used),
+          )
+      | inr other ↦
+          let e = get_or-set_other cols (n - 1) k new None other in
+          (λ h. subst (λ o. IsSome (entries_of o)) (sym e) h, λ h. subst (λ o. IsSome (entries_of o)) e h)
+    ]

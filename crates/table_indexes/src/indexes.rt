@@ -9,7 +9,7 @@ ghost use Rattle.root_index.specs.View.{room_in};
 ghost use Rattle.history.specs.Cursors.{value_in};
 ghost use Rattle.table_indexes.specs.Indexes.{IsInUse, HasIndexes, IsNextIndex, all_entries, index_at, entries_of, entries_at, entries_in, new_entries, without_body, SameValues, SameEntries, AddsAny, Enters, HasEntry, HasEntries, LacksEntry, NeedsEntry};
 
-use root_index::{DeadSet, Entry, Progress, RootIndex};
+use root_index::{DeadSet, Entry, PositionHint, Progress, RootIndex};
 use std::alloc::{AllocError, Global};
 use std::marker::Model;
 use tuple_header::{Row, RowRef};
@@ -107,18 +107,25 @@ impl Indexes {
     }
 
     /// Goes through a piece of the index of this number, which is in use: of its entries after `from`, or of all, those go that
-    /// lead to a dead place. It answers where the piece ended, as [`RootIndex::remove_where`] does, and takes no memory.
-    pub fn sweep(&mut self, number: u8, dead: &DeadSet, from: Option<Entry>) -> Progress
+    /// lead to a dead place. It answers where the piece ended, and takes where the one before did, as
+    /// [`RootIndex::remove_where`] does. It takes no memory.
+    pub fn sweep(
+        &mut self,
+        number: u8,
+        dead: &DeadSet,
+        from: Option<Entry>,
+        near: PositionHint,
+    ) -> (Progress, PositionHint)
         requires { IsInUse self.old number }
         ensures removes { RemovesPiece (entries_in self.old number) (entries_in self.new number)
-            dead.now from result }
+            dead.now from result.0 }
         ensures others { (n : ℕ) → n ≢ number → entries_at self.new n ≡ entries_at self.old n }
         ensures in_use { (n : ℕ) → IsInUse self.old n ↔ IsInUse self.new n }
     {
         if number == 0 {
-            self.by_key.remove_where(dead, from)
+            self.by_key.remove_where(dead, from, near)
         } else {
-            sweep_column(&mut self.by_column[number as usize - 1], dead, from)
+            sweep_column(&mut self.by_column[number as usize - 1], dead, from, near)
         }
     }
 
@@ -186,14 +193,19 @@ fn count(index: &Option<RootIndex>) -> u128
 }
 
 /// Goes through a piece of the index by a column, which is in use.
-fn sweep_column(index: &mut Option<RootIndex>, dead: &DeadSet, from: Option<Entry>) -> Progress
+fn sweep_column(
+    index: &mut Option<RootIndex>,
+    dead: &DeadSet,
+    from: Option<Entry>,
+    near: PositionHint,
+) -> (Progress, PositionHint)
     requires { IsSome (entries_of index.old) }
     ensures removes { RemovesPiece (unwrap_or (entries_of index.old) [])
-        (unwrap_or (entries_of index.new) []) dead.now from result }
+        (unwrap_or (entries_of index.new) []) dead.now from result.0 }
     ensures in_use { IsSome (entries_of index.new) }
 {
     match index {
-        Some(index) => index.remove_where(dead, from),
+        Some(index) => index.remove_where(dead, from, near),
         None => unreachable!(),
     }
 }

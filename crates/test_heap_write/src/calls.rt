@@ -156,7 +156,8 @@ pub fn sweeps(heap: &mut HeapState, place: Place) -> bool {
     let mut dead = DeadSet::new();
     dead.insert(tid(place));
     heap.has_indexes();
-    matches!(heap.sweep(0, &dead, None), Progress::Done)
+    let near = PositionHint::default();
+    matches!(heap.sweep(0, &dead, None, near).0, Progress::Done)
 }
 
 fn is_known_or_next(heap: &HeapState, x: Xid) -> bool

@@ -106,9 +106,11 @@ fn dead_set(tids: &[Tid]) -> DeadSet {
 /// Removes all entries that lead to one of these places, piece by piece.
 fn remove(index: &mut RootIndex, dead: &[Tid]) {
     let dead = dead_set(dead);
-    let mut from = None;
+    let (mut from, mut near) = (None, PositionHint::default());
     for _ in 0..u64::MAX {
-        match index.remove_where(&dead, from) {
+        let (progress, came_to) = index.remove_where(&dead, from, near);
+        near = came_to;
+        match progress {
             Progress::More(last) => from = Some(last),
             Progress::Done => return,
         }
@@ -117,7 +119,8 @@ fn remove(index: &mut RootIndex, dead: &[Tid]) {
 
 /// How far one piece of that comes.
 fn remove_piece(index: &mut RootIndex, dead: &[Tid], from: Option<Parts>) -> Option<Parts> {
-    match index.remove_where(&dead_set(dead), from.map(entry)) {
+    let near = PositionHint::default();
+    match index.remove_where(&dead_set(dead), from.map(entry), near).0 {
         Progress::More(last) => Some(parts(last)),
         Progress::Done => None,
     }

@@ -133,7 +133,9 @@ impl Vacuum {
         ensures { Sweeps heap.old heap.new (at_end self.old) self.new 0 None }
     {
         self.next = self.pages;
-        self.phase = sweep_piece(heap, &self.store, 0, None);
+        let (phase, near) = sweep_piece(heap, &self.store, 0, None, self.near);
+        self.phase = phase;
+        self.near = near;
     }
 
     /// Goes through the next piece of an index.
@@ -141,7 +143,9 @@ impl Vacuum {
         requires { self.old.phase ≡ phase.Index index from }
         ensures { Sweeps heap.old heap.new self.old self.new index from }
     {
-        self.phase = sweep_piece(heap, &self.store, index, from);
+        let (phase, near) = sweep_piece(heap, &self.store, index, from, self.near);
+        self.phase = phase;
+        self.near = near;
     }
 
     /// Makes the collected slots of the lowest page unused, if that is in use. It answers the page.

@@ -7,32 +7,47 @@ ghost use Rattle.vacuum_passes.specs.Working.{SweepsPiece};
 
 use crate::vacuum::Phase;
 use heap_write::HeapState;
-use root_index::{DeadSet, Entry, Progress};
+use root_index::{DeadSet, Entry, PositionHint, Progress};
 
 /// Goes through a piece of the index of this number, after `from`, or from its beginning: its entries to dead places go. It answers
-/// what comes next.
+/// what comes next, and where the piece ended, from where the next one goes on without a search.
 pub(crate) fn sweep_piece(
     heap: &mut HeapState,
     dead: &DeadSet,
     index: u8,
     from: Option<Entry>,
-) -> Phase
-    ensures { SweepsPiece heap.old heap.new dead.now index from result }
+    near: PositionHint,
+) -> (Phase, PositionHint)
+    ensures { SweepsPiece heap.old heap.new dead.now index from result.0 }
 {
-    match sweep(heap, dead, index, from) {
-        Progress::More(last) => Phase::Index(index, Some(last)),
-        Progress::Done => phase_after(heap, index),
-    }
+    let (progress, near) = sweep(heap, dead, index, from, near);
+    (phase_after_piece(heap, index, progress), near)
 }
 
 /// Goes through a piece of an index. In one that is not in use there is nothing to go through.
-fn sweep(heap: &mut HeapState, dead: &DeadSet, index: u8, from: Option<Entry>) -> Progress
-    ensures { SweepsAt heap.old heap.new index dead.now from result }
+fn sweep(
+    heap: &mut HeapState,
+    dead: &DeadSet,
+    index: u8,
+    from: Option<Entry>,
+    near: PositionHint,
+) -> (Progress, PositionHint)
+    ensures { SweepsAt heap.old heap.new index dead.now from result.0 }
 {
     if heap.index(index).is_none() {
-        return Progress::Done;
+        return (Progress::Done, near);
     }
-    heap.sweep(index, dead, from)
+    heap.sweep(index, dead, from, near)
+}
+
+/// What comes after a piece of an index that ended so.
+fn phase_after_piece(heap: &HeapState, index: u8, progress: Progress) -> Phase
+    ensures { PhaseAfter heap.now.indexes index progress result }
+{
+    match progress {
+        Progress::More(last) => Phase::Index(index, Some(last)),
+        Progress::Done => phase_after(heap, index),
+    }
 }
 
 /// What comes after an index: the next one, or the dead slots become unused.

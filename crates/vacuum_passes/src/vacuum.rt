@@ -6,7 +6,7 @@ ghost use Rattle.xid_circle.specs.Circle.{IsNormal};
 ghost use Rattle.vacuum_passes.specs.View.{new_vacuum, disturbed};
 
 use refinement::Mode;
-use root_index::{DeadSet, Entry};
+use root_index::{DeadSet, Entry, PositionHint};
 use std::marker::Model;
 use xid_circle::Xid;
 
@@ -31,6 +31,8 @@ pub struct Vacuum {
     pub(crate) entries: u128,
     pub(crate) limit: u32,
     pub(crate) phase: Phase,
+    // where in its index the last piece ended
+    pub(crate) near: PositionHint,
     pub(crate) next: u32,
     pub(crate) store: DeadSet,
     // how many of these are unused by now
@@ -97,6 +99,7 @@ impl Vacuum {
             entries,
             limit,
             phase: Phase::Heap,
+            near: PositionHint::default(),
             next: 0,
             store: DeadSet::new(),
             freed: 0,

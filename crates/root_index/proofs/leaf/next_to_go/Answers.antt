@@ -1,9 +1,8 @@
-use Rattle.std.proofs.Common.{◌∙◌, length, arith}
-use Rattle.root_index.specs.Lists.{stays}
-use Rattle.root_index.proofs.BoundLemmas.{none_goes, at_end}
+use Rattle.std.proofs.Common.{arith}
+use Rattle.std.proofs.lemmas.Bool.Decides.{nat_tests}
+use Rattle.root_index.proofs.BoundLemmas.{none_dead}
 use Rattle.root_index.proofs.leaf.next_to_go.Goals as goal
 
-pub returns-then-is_beside-clause-kept : goal.returns-then-is_beside-clause-kept
-returns-then-is_beside-clause-kept c =
-    at_end (stays c.args.dead.now) c.args.entries.now (length c.args.entries.now) (omega arith)
-    ∙ none_goes c.args.pages c.args.dead.now c.args.entries.now c.args.from c.requires.on c.if-is_beside.ensures
+pub returns-then-is_empty-clause-kept : goal.returns-then-is_empty-clause-kept
+returns-then-is_empty-clause-kept c =
+    none_dead c.args.dead.now c.args.entries.now c.args.from (grind (arith, nat_tests, c.if-is_empty.true, c.is_empty.ensures))

@@ -1,7 +1,6 @@
 use Rattle.std.proofs.Common.{◌<◌, ◌≤◌, inr, length, subst, arith}
 use Rattle.std.proofs.lemmas.Option.{slice_get_within}
 use Rattle.std.proofs.lemmas.Result.{on_ok_weaker, on_err_weaker}
-use Rattle.root_index.specs.Nodes.{all}
 use Rattle.root_index.proofs.FullLemmas.{full_below}
 use Rattle.root_index.proofs.RowGrowthLemmas.{put_in, kept_in, opened_at}
 use Rattle.root_index.proofs.NodeLemmas.{count_put}
@@ -10,20 +9,20 @@ use Rattle.root_index.proofs.nodes.insert.Goals as goal
 pub returns-clause-entries : goal.returns-clause-entries
 returns-clause-entries g c =
     let new = c.open.new.nodes.items in
-    let opened = c.in_ok-spot.ensures.opened in
-    let at = opened_at (λ n. (g.N.Node.size n < 128) × g.N.Node.IsSpot n c.in_ok-spot.spot.inner) new c.in_ok-spot.spot.node c.index_mut.result.now opened.room c.index_mut.ensures.value in
+    let opened = c.in_ok-position.ensures.opened in
+    let at = opened_at (λ n. (g.N.Node.size n < 128) × g.N.Node.IsPosition n c.in_ok-position.position.inner) new c.in_ok-position.position.node c.index_mut.result.now opened.room c.index_mut.ensures.value in
     on_ok_weaker c.insert.result
-    (λ made. put_in g.N.Node.entries g.N.Node.size g.N.Node.rank g.N.Node.IsSpot g.met.N.Node.within c.args.nodes.now.items new c.args.spot c.in_ok-spot.spot c.index_mut.result.now
+    (λ made. put_in g.N.Node.entries g.N.Node.size g.N.Node.rank g.N.Node.IsPosition g.met.N.Node.within c.args.nodes.now.items new c.args.position c.in_ok-position.position c.index_mut.result.now
     c.insert.new.self opened at c.args.entry made)
     c.insert.ensures.entries
 
 pub returns-clause-err : goal.returns-clause-err
 returns-clause-err g c =
     let new = c.open.new.nodes.items in
-    let opened = c.in_ok-spot.ensures.opened in
-    let at = opened_at (λ n. (g.N.Node.size n < 128) × g.N.Node.IsSpot n c.in_ok-spot.spot.inner) new c.in_ok-spot.spot.node c.index_mut.result.now opened.room c.index_mut.ensures.value in
+    let opened = c.in_ok-position.ensures.opened in
+    let at = opened_at (λ n. (g.N.Node.size n < 128) × g.N.Node.IsPosition n c.in_ok-position.position.inner) new c.in_ok-position.position.node c.index_mut.result.now opened.room c.index_mut.ensures.value in
     on_err_weaker c.insert.result
-    (λ same. kept_in g.N.Node.entries g.N.Node.size g.N.Node.rank g.N.Node.IsSpot g.met.N.Node.within c.args.nodes.now.items new c.args.spot c.in_ok-spot.spot c.index_mut.result.now
+    (λ same. kept_in g.N.Node.entries g.N.Node.size g.N.Node.rank g.N.Node.IsPosition g.met.N.Node.within c.args.nodes.now.items new c.args.position c.in_ok-position.position c.index_mut.result.now
     c.insert.new.self opened at same)
     c.insert.ensures.err
 
@@ -31,10 +30,10 @@ returns-clause-err g c =
 pub returns-clause-full : goal.returns-clause-full
 returns-clause-full g c =
     let new = c.open.new.nodes.items in
-    let opened = c.in_ok-spot.ensures.opened in
-    let at = opened_at (λ n. (g.N.Node.size n < 128) × g.N.Node.IsSpot n c.in_ok-spot.spot.inner) new c.in_ok-spot.spot.node c.index_mut.result.now opened.room c.index_mut.ensures.value in
+    let opened = c.in_ok-position.ensures.opened in
+    let at = opened_at (λ n. (g.N.Node.size n < 128) × g.N.Node.IsPosition n c.in_ok-position.position.inner) new c.in_ok-position.position.node c.index_mut.result.now opened.room c.index_mut.ensures.value in
     on_err_weaker c.insert.result
-    (λ full. inr (subst (λ es. 128 ≤ length es) opened.same (full_below g.N.Node.entries g.N.Node.IsNeat g.N.Node.size new c.in_ok-spot.spot.node c.index_mut.result.now c.open.ensures.neat at full)))
+    (λ full. inr (subst (λ es. 128 ≤ length es) opened.same (full_below g.N.Node.entries g.N.Node.IsNeat g.N.Node.size new c.in_ok-position.position.node c.index_mut.result.now c.open.ensures.neat at full)))
     c.insert.ensures.full
 
 -- nodes that were set aside are taken only where there are more nodes then
@@ -42,23 +41,23 @@ returns-clause-full g c =
 pub returns-clause-grown : goal.returns-clause-grown
 returns-clause-grown g c =
     let new = c.open.new.nodes.items in
-    let at = opened_at (λ n. (g.N.Node.size n < 128) × g.N.Node.IsSpot n c.in_ok-spot.spot.inner) new c.in_ok-spot.spot.node c.index_mut.result.now c.in_ok-spot.ensures.opened.room c.index_mut.ensures.value in
-    let within = slice_get_within new c.in_ok-spot.spot.node c.index_mut.result.now at in
-    let put = count_put g.N.Node.nodes new c.in_ok-spot.spot.node c.index_mut.result.now within c.index_mut.ensures.value c.insert.new.self in
+    let at = opened_at (λ n. (g.N.Node.size n < 128) × g.N.Node.IsPosition n c.in_ok-position.position.inner) new c.in_ok-position.position.node c.index_mut.result.now c.in_ok-position.ensures.opened.room c.index_mut.ensures.value in
+    let within = slice_get_within new c.in_ok-position.position.node c.index_mut.result.now at in
+    let put = count_put g.N.Node.nodes new c.in_ok-position.position.node c.index_mut.result.now within c.index_mut.ensures.value c.insert.new.self in
     omega (arith, put, c.insert.ensures.grown, c.open.ensures.grown)
 
 pub returns-clause-unspent : goal.returns-clause-unspent
 returns-clause-unspent g c =
     let new = c.open.new.nodes.items in
-    let at = opened_at (λ n. (g.N.Node.size n < 128) × g.N.Node.IsSpot n c.in_ok-spot.spot.inner) new c.in_ok-spot.spot.node c.index_mut.result.now c.in_ok-spot.ensures.opened.room c.index_mut.ensures.value in
-    let within = slice_get_within new c.in_ok-spot.spot.node c.index_mut.result.now at in
-    let put = count_put g.N.Node.nodes new c.in_ok-spot.spot.node c.index_mut.result.now within c.index_mut.ensures.value c.insert.new.self in
+    let at = opened_at (λ n. (g.N.Node.size n < 128) × g.N.Node.IsPosition n c.in_ok-position.position.inner) new c.in_ok-position.position.node c.index_mut.result.now c.in_ok-position.ensures.opened.room c.index_mut.ensures.value in
+    let within = slice_get_within new c.in_ok-position.position.node c.index_mut.result.now at in
+    let put = count_put g.N.Node.nodes new c.in_ok-position.position.node c.index_mut.result.now within c.index_mut.ensures.value c.insert.new.self in
     let grown = c.insert.ensures.grown in
     let opened = c.open.ensures.grown in
     on_ok_weaker c.insert.result
     (λ unspent same. record {
-      in_list = c.in_ok-spot.ensures.unspent_list (omega (arith, put, grown, opened, same));
-      nodes = c.in_ok-spot.ensures.unspent_nodes (omega (arith, put, grown, opened, same));
+      in_list = c.in_ok-position.ensures.unspent_list (omega (arith, put, grown, opened, same));
+      nodes = c.in_ok-position.ensures.unspent_nodes (omega (arith, put, grown, opened, same));
       below = unspent (omega (arith, put, grown, opened, same));
     })
     c.insert.ensures.unspent

@@ -1,6 +1,6 @@
 use Rattle.std.proofs.Common.{arith}
 use Rattle.root_index.proofs.RowLemmas.{item, ascending_in, found_in, gap_in, lists_filled, length-lists}
-use Rattle.root_index.specs.Rows.{is_entry_in, spot_in}
+use Rattle.root_index.specs.Rows.{is_entry_in, position_in}
 use Rattle.root_index.proofs.nodes.search.Goals as goal
 
 pub search-requires-clause-ascending : goal.search-requires-clause-ascending
@@ -22,11 +22,11 @@ returns-in-Ok-clause-found g c =
     found_in g.N.Node.entries g.N.Node.rank c.args.nodes.now c.args.sought.now (record { node = c.node_for-node.result; inner = c.in-Ok.inner }) c.index-nodes-node.result at
     c.in-Ok.ensures.found
 
-pub returns-in-Err-clause-spot : goal.returns-in-Err-clause-spot
-returns-in-Err-clause-spot g c =
+pub returns-in-Err-clause-position : goal.returns-in-Err-clause-position
+returns-in-Err-clause-position g c =
     let size = length-lists g.N.Node.entries c.args.nodes.now in
     let at = item c.args.nodes.now c.node_for-node.result c.index-nodes-node.result (omega (arith, c.node_for-node.ensures.in_range)) c.index-nodes-node.is in
-    spot_in g.N.Node.IsSpot c.args.nodes.now (record { node = c.node_for-node.result; inner = c.in-Err.inner }) c.index-nodes-node.result at c.in-Err.ensures.spot
+    position_in g.N.Node.IsPosition c.args.nodes.now (record { node = c.node_for-node.result; inner = c.in-Err.inner }) c.index-nodes-node.result at c.in-Err.ensures.position
 
 pub returns-in-Err-clause-absent : goal.returns-in-Err-clause-absent
 returns-in-Err-clause-absent g c =

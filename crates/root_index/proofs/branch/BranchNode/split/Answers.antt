@@ -3,7 +3,7 @@ use Rattle.std.proofs.lemmas.List.Sums.{sum_by-append}
 use Rattle.root_index.specs.Nodes.{AreNeat}
 use Rattle.root_index.proofs.RowEditLemmas.{all_back, half_front, half_back, rank_half_front, rank_half_back}
 use Rattle.root_index.proofs.branch.BranchNode.split.Goals as goal
-use Rattle.root_index.proofs.branch.BranchNode.split.Goals.{then-spot-lt-HALF, else-spot-lt-HALF}
+use Rattle.root_index.proofs.branch.BranchNode.split.Goals.{then-position-lt-HALF, else-position-lt-HALF}
 
 pub returns-clause-neat_too : goal.returns-clause-neat_too
 returns-clause-neat_too g c =
@@ -11,30 +11,30 @@ returns-clause-neat_too g c =
     let whole = subst (AreNeat g.N.Node.IsNeat g.N.Node.size) (sym is) c.requires.neat in
     all_back (λ n. g.N.Node.IsNeat n × (0 < g.N.Node.size n)) c.move_half.new.lower.items c.move_half.new.upper.items whole
 
-pub returns-clause-spot : goal.returns-clause-spot
-returns-clause-spot g c =
+pub returns-clause-position : goal.returns-clause-position
+returns-clause-position g c =
     let is : c.move_half.new.lower.items ++ c.move_half.new.upper.items ≡ c.args.self.now = c.move_half.ensures.nodes ∙ c.self.view_is in
     let half = c.move_half.ensures.half in
-    elim c.if-spot-lt-HALF.branch [
-      | then-spot-lt-HALF w ↦
-          half_front g.N.Node.entries g.N.Node.rank g.N.Node.IsSpot c.move_half.new.lower.items c.move_half.new.upper.items c.args.self.now c.args.spot c.if-spot-lt-HALF.result is
-          w.result-is c.requires.spot (omega (arith, w.if-spot-lt-HALF.true))
-      | else-spot-lt-HALF w ↦
-          half_back g.N.Node.entries g.N.Node.rank g.N.Node.IsSpot c.move_half.new.lower.items c.move_half.new.upper.items c.args.self.now c.args.spot c.if-spot-lt-HALF.result is
-          64 w.result-is c.requires.spot half (omega (arith, w.if-spot-lt-HALF.false))
+    elim c.if-position-lt-HALF.branch [
+      | then-position-lt-HALF w ↦
+          half_front g.N.Node.entries g.N.Node.rank g.N.Node.IsPosition c.move_half.new.lower.items c.move_half.new.upper.items c.args.self.now c.args.position c.if-position-lt-HALF.result is
+          w.result-is c.requires.position (omega (arith, w.if-position-lt-HALF.true))
+      | else-position-lt-HALF w ↦
+          half_back g.N.Node.entries g.N.Node.rank g.N.Node.IsPosition c.move_half.new.lower.items c.move_half.new.upper.items c.args.self.now c.args.position c.if-position-lt-HALF.result is
+          64 w.result-is c.requires.position half (omega (arith, w.if-position-lt-HALF.false))
     ]
 
 pub returns-clause-rank : goal.returns-clause-rank
 returns-clause-rank g c =
     let is : c.move_half.new.lower.items ++ c.move_half.new.upper.items ≡ c.args.self.now = c.move_half.ensures.nodes ∙ c.self.view_is in
     let half = c.move_half.ensures.half in
-    elim c.if-spot-lt-HALF.branch [
-      | then-spot-lt-HALF w ↦
-          rank_half_front g.N.Node.entries g.N.Node.rank g.N.Node.IsSpot c.move_half.new.lower.items c.move_half.new.upper.items c.args.self.now c.args.spot c.if-spot-lt-HALF.result is
-          w.result-is (omega (arith, w.if-spot-lt-HALF.true))
-      | else-spot-lt-HALF w ↦
-          rank_half_back g.N.Node.entries g.N.Node.rank g.N.Node.IsSpot c.move_half.new.lower.items c.move_half.new.upper.items c.args.self.now c.args.spot c.if-spot-lt-HALF.result is
-          64 w.result-is half (omega (arith, w.if-spot-lt-HALF.false))
+    elim c.if-position-lt-HALF.branch [
+      | then-position-lt-HALF w ↦
+          rank_half_front g.N.Node.entries g.N.Node.rank g.N.Node.IsPosition c.move_half.new.lower.items c.move_half.new.upper.items c.args.self.now c.args.position c.if-position-lt-HALF.result is
+          w.result-is (omega (arith, w.if-position-lt-HALF.true))
+      | else-position-lt-HALF w ↦
+          rank_half_back g.N.Node.entries g.N.Node.rank g.N.Node.IsPosition c.move_half.new.lower.items c.move_half.new.upper.items c.args.self.now c.args.position c.if-position-lt-HALF.result is
+          64 w.result-is half (omega (arith, w.if-position-lt-HALF.false))
     ]
 
 pub returns-clause-nodes : goal.returns-clause-nodes

@@ -6,12 +6,12 @@ use Rattle.root_index.specs.Sets.{IsBelow, IsLeast}
 use Rattle.root_index.proofs.SoundLemmas.{among, ascending_there, least_found}
 use Rattle.root_index.proofs.index.RootIndex.first_from.Goals as goal
 
-pub spot_from-spot-requires-clause-ascending : goal.spot_from-spot-requires-clause-ascending
-spot_from-spot-requires-clause-ascending c = ascending_there c.self.inside.trees.items c.deref.result.now c.deref.ensures.value c.self.invariant.ascending
+pub position_from-position-requires-clause-ascending : goal.position_from-position-requires-clause-ascending
+position_from-position-requires-clause-ascending c = ascending_there c.self.inside.trees.items c.deref.result.now c.deref.ensures.value c.self.invariant.ascending
 
 pub returns : goal.returns
 returns c =
     subst (λ (v : IndexView). IsLeast v.entries (λ e. ¬ IsBelow c.args.value c.args.key e) c.entry_at.result) c.self.view_is
     (subst (λ (v : ℤ). IsLeast (among c.self.inside.trees.items) (λ e. ¬ IsBelow v c.args.key e) c.entry_at.result) (to_z-of_z w128 c.args.value c.ranges.value)
-    (least_found _ _ _ c.self.inside.trees.items c.deref.result.now c.deref-2.result.now _ c.spot_from-spot.result c.entry_at.result
-    c.deref.ensures.value c.deref-2.ensures.value c.self.invariant.ascending c.spot_from-spot.ensures c.entry_at.ensures))
+    (least_found _ _ _ c.self.inside.trees.items c.deref.result.now c.deref-2.result.now _ c.position_from-position.result c.entry_at.result
+    c.deref.ensures.value c.deref-2.ensures.value c.self.invariant.ascending c.position_from-position.ensures c.entry_at.ensures))

@@ -20,7 +20,7 @@ returns-in-Ok-clause-adds c =
 pub returns-then-self-clause-memory : goal.returns-then-self-clause-memory
 returns-then-self-clause-memory c =
     let trees = c.self.inside.trees.items in
-    let gap = gap_there _ _ trees c.deref.result.now c.args.entry c.in-Err.spot c.deref.ensures.value c.in-Err.ensures.absent in
+    let gap = gap_there _ _ trees c.deref.result.now c.args.entry c.in-Err.position c.deref.ensures.value c.in-Err.ensures.absent in
     let none = none_countable _ _ _ _ _ _ _ _ _ _ c.self.invariant (omega (arith, c.if-self.true)) in
     let counted : c.self.inside.count ≡ length (among trees) = c.self.invariant.counted in
     on_err c.ask_for_too_much.result ((room_in c.args.self.now ≡ 0) × (¬ Contains c.args.self.now.entries c.args.entry))
@@ -30,7 +30,7 @@ returns-then-self-clause-memory c =
 pub returns-in_err-insert-clause-memory : goal.returns-in_err-insert-clause-memory
 returns-in_err-insert-clause-memory c =
     let trees = c.self.inside.trees.items in
-    let gap = gap_there _ _ trees c.deref.result.now c.args.entry c.in-Err.spot c.deref.ensures.value c.in-Err.ensures.absent in
+    let gap = gap_there _ _ trees c.deref.result.now c.args.entry c.in-Err.position c.deref.ensures.value c.in-Err.ensures.absent in
     let none = none_promised _ _ _ _ _ _ _ _ _ _ c.self.invariant (λ k left. (omega (arith, left.0), (omega (arith, left.1.0), tt))) c.in_err-insert.ensures.refused in
     on_err c.from_residual.result ((room_in c.args.self.now ≡ 0) × (¬ Contains c.args.self.now.entries c.args.entry))
     (subst (λ (v : IndexView). (room_in v ≡ 0) × (¬ Contains v.entries c.args.entry)) c.self.view_is
@@ -39,7 +39,7 @@ returns-in_err-insert-clause-memory c =
 -- it goes to its place
 pub invariant_of-self-2 : goal.invariant_of-self-2
 invariant_of-self-2 c =
-    let gap = gap_there _ _ c.self.inside.trees.items c.deref.result.now c.args.entry c.in-Err.spot c.deref.ensures.value c.in-Err.ensures.absent in
+    let gap = gap_there _ _ c.self.inside.trees.items c.deref.result.now c.args.entry c.in-Err.position c.deref.ensures.value c.in-Err.ensures.absent in
     let now = c.in_ok-insert.ensures in
     let places = places_after c.self.inside.trees.items c.self.inside.count _ _ c.self.invariant.neat c.self.invariant.counted c.self.invariant.places now.places now.first in
     elim c.still_promised-self-inside.ensures.fewer [
@@ -54,13 +54,13 @@ invariant_of-self-2 c =
 
 pub returns-clause-adds : goal.returns-clause-adds
 returns-clause-adds c =
-    let gap = gap_there _ _ c.self.inside.trees.items c.deref.result.now c.args.entry c.in-Err.spot c.deref.ensures.value c.in-Err.ensures.absent in
+    let gap = gap_there _ _ c.self.inside.trees.items c.deref.result.now c.args.entry c.in-Err.position c.deref.ensures.value c.in-Err.ensures.absent in
     subst (λ (v : IndexView). AddsEntry v.entries (among c.insert.new.nodes.items) c.args.entry) c.self.view_is
     (adds_in_gap (among c.self.inside.trees.items) (among c.insert.new.nodes.items) c.args.entry _ c.self.invariant.ascending gap c.in_ok-insert.ensures.entries)
 
 pub returns-clause-spare_kept : goal.returns-clause-spare_kept
 returns-clause-spare_kept c there =
-    let gap = gap_there _ _ c.self.inside.trees.items c.deref.result.now c.args.entry c.in-Err.spot c.deref.ensures.value c.in-Err.ensures.absent in
+    let gap = gap_there _ _ c.self.inside.trees.items c.deref.result.now c.args.entry c.in-Err.position c.deref.ensures.value c.in-Err.ensures.absent in
     absurd (absent_in_gap (among c.self.inside.trees.items) c.args.entry _ gap (subst (λ (v : IndexView). Contains v.entries c.args.entry) (sym c.self.view_is) there))
 
 still_less : (promised still : ℕ) (P : Type 0) → (still ≡ promised - 1) ⊎ (P × (still ≡ promised)) → promised - 1 ≤ still
@@ -72,7 +72,7 @@ returns-clause-room c =
     let trees = c.self.inside.trees.items in
     let new = c.insert.new.nodes.items in
     let still = c.still_promised-self-inside.result in
-    let gap = gap_there _ _ trees c.deref.result.now c.args.entry c.in-Err.spot c.deref.ensures.value c.in-Err.ensures.absent in
+    let gap = gap_there _ _ trees c.deref.result.now c.args.entry c.in-Err.position c.deref.ensures.value c.in-Err.ensures.absent in
     let longer : length (among new) ≡ length (among trees) + 1 =
     ap length c.in_ok-insert.ensures.entries ∙ length-insert (among trees) _ c.args.entry gap.in_range in
     subst (λ (v : IndexView). room_in v ≤ max still (free_places (length (among new)) still) + 1) c.self.view_is
@@ -85,7 +85,7 @@ returns-clause-unspent c =
     let new = c.insert.new.nodes.items in
     let still = c.still_promised-self-inside.result in
     let sound = c.self.invariant in
-    let gap = gap_there _ _ trees c.deref.result.now c.args.entry c.in-Err.spot c.deref.ensures.value c.in-Err.ensures.absent in
+    let gap = gap_there _ _ trees c.deref.result.now c.args.entry c.in-Err.position c.deref.ensures.value c.in-Err.ensures.absent in
     let longer : length (among new) ≡ length (among trees) + 1 =
     ap length c.in_ok-insert.ensures.entries ∙ length-insert (among trees) _ c.args.entry gap.in_range in
     let counted : c.self.inside.count ≡ length (among trees) = sound.counted in

@@ -4,17 +4,17 @@ use Rattle.root_index.specs.Sets.{IsAfter, IsLeast}
 use Rattle.root_index.proofs.SoundLemmas.{ascending_there, least_found}
 use Rattle.root_index.proofs.index.RootIndex.next_near.Goals as goal
 
-pub spot_near-spot-requires-clause-ascending : goal.spot_near-spot-requires-clause-ascending
-spot_near-spot-requires-clause-ascending c = ascending_there c.self.inside.trees.items c.deref.result.now c.deref.ensures.value c.self.invariant.ascending
+pub position_near-position-requires-clause-ascending : goal.position_near-position-requires-clause-ascending
+position_near-position-requires-clause-ascending c = ascending_there c.self.inside.trees.items c.deref.result.now c.deref.ensures.value c.self.invariant.ascending
 
 pub returns-in-Some : goal.returns-in-Some
 returns-in-Some c =
     subst (λ (v : IndexView). IsLeast v.entries (IsAfter (Some c.args.from)) (Some c.in-Some.entry)) c.self.view_is
-    (least_found _ _ _ c.self.inside.trees.items c.deref.result.now c.deref-2.result.now (IsAfter (Some c.args.from)) c.spot_near-spot.result (Some c.in-Some.entry)
-    c.deref.ensures.value c.deref-2.ensures.value c.self.invariant.ascending c.spot_near-spot.ensures (sym c.in-Some.is ∙ c.entry_at.ensures))
+    (least_found _ _ _ c.self.inside.trees.items c.deref.result.now c.deref-2.result.now (IsAfter (Some c.args.from)) c.position_near-position.result (Some c.in-Some.entry)
+    c.deref.ensures.value c.deref-2.ensures.value c.self.invariant.ascending c.position_near-position.ensures (sym c.in-Some.is ∙ c.entry_at.ensures))
 
 pub returns-in-None : goal.returns-in-None
 returns-in-None c =
     subst (λ (v : IndexView). IsLeast v.entries (IsAfter (Some c.args.from)) None) c.self.view_is
-    (least_found _ _ _ c.self.inside.trees.items c.deref.result.now c.deref-2.result.now (IsAfter (Some c.args.from)) c.spot_near-spot.result None
-    c.deref.ensures.value c.deref-2.ensures.value c.self.invariant.ascending c.spot_near-spot.ensures (sym c.in-None.is ∙ c.entry_at.ensures))
+    (least_found _ _ _ c.self.inside.trees.items c.deref.result.now c.deref-2.result.now (IsAfter (Some c.args.from)) c.position_near-position.result None
+    c.deref.ensures.value c.deref-2.ensures.value c.self.invariant.ascending c.position_near-position.ensures (sym c.in-None.is ∙ c.entry_at.ensures))

@@ -5,7 +5,6 @@ use Rattle.root_index.proofs.SoundLemmas.{tree_entries, among}
 use Rattle.root_index.proofs.FullLemmas.{some_among}
 use Rattle.root_index.proofs.SweepLemmas.{start_there, removes_swept, removes_none, sound_swept, some_swept, some_nodes, room_swept}
 use Rattle.root_index.proofs.index.RootIndex.remove_where.Goals as goal
-use Rattle.root_index.proofs.index.RootIndex.remove_where.Goals.{then-swept, else-swept}
 
 -- where no node is left the last ones are set aside
 pub invariant_of-self : goal.invariant_of-self
@@ -19,26 +18,24 @@ invariant_of-self c =
     (omega (arith, empty, c.sweep_from.ensures.room (omega (arith, empty, some))), left.0, left.1))
     refl (c.promised_after_sweep-self-inside.ensures.left, c.promised_after_sweep-self-inside.ensures.emptied)
 
-pub returns-after-swept-clause-piece : goal.returns-after-swept-clause-piece
-returns-after-swept-clause-piece c =
-    let start = start_there _ _ _ c.self.inside.trees.items c.deref.result.now _ c.spot_after-spot.result c.deref.ensures.value c.spot_after-spot.ensures in
-    subst (λ (v : IndexView). RemovesPiece v.entries (among c.sweep_from.new.nodes.items) c.args.dead.now c.args.from c.if-swept.result) c.self.view_is
-    (removes_swept (among c.self.inside.trees.items) (among c.sweep_from.new.nodes.items) _ c.args.dead.now c.in-Some.swept c.args.from c.if-swept.result c.self.invariant.ascending start
-    c.in-Some.ensures.swept
-    (λ more. elim c.if-swept.branch [ then-swept w ↦ w.result-is | else-swept w ↦ absurd (cc (more, w.if-swept.false)) ])
-    (λ none. elim c.if-swept.branch [ then-swept w ↦ absurd (cc (none, w.if-swept.true)) | else-swept w ↦ w.result-is ]))
+pub returns-in-Some-clause-piece : goal.returns-in-Some-clause-piece
+returns-in-Some-clause-piece c =
+    let start = start_there _ _ _ c.self.inside.trees.items c.deref.result.now _ c.position_near-position.result c.deref.ensures.value c.position_near-position.ensures in
+    subst (λ (v : IndexView). RemovesPiece v.entries (among c.sweep_from.new.nodes.items) c.args.dead.now c.args.from c.came_to.result.0) c.self.view_is
+    (removes_swept (among c.self.inside.trees.items) (among c.sweep_from.new.nodes.items) _ c.args.dead.now c.in-Some.swept c.args.from c.came_to.result.0 c.self.invariant.ascending start
+    c.in-Some.ensures.swept c.came_to.ensures.more c.came_to.ensures.done)
 
 -- so there is as much room as before, and as many nodes are set aside
 
-pub returns-after-swept-clause-spare : goal.returns-after-swept-clause-spare
-returns-after-swept-clause-spare c =
+pub returns-in-Some-clause-spare : goal.returns-in-Some-clause-spare
+returns-in-Some-clause-spare c =
     let after = c.promised_after_sweep-self-inside.ensures in
     let more = room_swept (among c.self.inside.trees.items) (among c.sweep_from.new.nodes.items) _ c.args.dead.now c.in-Some.swept (length c.sweep_from.new.nodes.items) c.self.inside.promised
     c.promised_after_sweep-self-inside.result c.in-Some.ensures.swept (some_among c.sweep_from.new.nodes.items c.in-Some.ensures.neat) (after.left, after.emptied) in
     subst (λ (v : IndexView). v.spare ≤ c.promised_after_sweep-self-inside.result) c.self.view_is more.0
 
-pub returns-after-swept-clause-room : goal.returns-after-swept-clause-room
-returns-after-swept-clause-room c =
+pub returns-in-Some-clause-room : goal.returns-in-Some-clause-room
+returns-in-Some-clause-room c =
     let after = c.promised_after_sweep-self-inside.ensures in
     let promised = c.promised_after_sweep-self-inside.result in
     let more = room_swept (among c.self.inside.trees.items) (among c.sweep_from.new.nodes.items) _ c.args.dead.now c.in-Some.swept (length c.sweep_from.new.nodes.items) c.self.inside.promised
@@ -47,7 +44,7 @@ returns-after-swept-clause-room c =
 
 pub returns-in-None-clause-piece : goal.returns-in-None-clause-piece
 returns-in-None-clause-piece c =
-    let start = start_there _ _ _ c.self.inside.trees.items c.deref.result.now _ c.spot_after-spot.result c.deref.ensures.value c.spot_after-spot.ensures in
+    let start = start_there _ _ _ c.self.inside.trees.items c.deref.result.now _ c.position_near-position.result c.deref.ensures.value c.position_near-position.ensures in
     subst (λ (v : IndexView). RemovesPiece v.entries (among c.sweep_from.new.nodes.items) c.args.dead.now c.args.from _) c.self.view_is
     (removes_none (among c.self.inside.trees.items) (among c.sweep_from.new.nodes.items) _ c.args.dead.now c.args.from c.self.invariant.ascending start c.in-None.ensures.none
     (ap among c.in-None.ensures.same))

@@ -1,4 +1,4 @@
-use Rattle.std.proofs.Common.{refl, arith}
+use Rattle.std.proofs.Common.{arith}
 use Rattle.root_index.proofs.SoundLemmas.{sound_roomier}
 use Rattle.root_index.proofs.index.RootIndex.set_aside.Goals as goal
 
