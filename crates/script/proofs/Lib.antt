@@ -1,3 +1,4 @@
 pub mod PiecesLemmas
 pub mod RunLemmas
+pub mod FinishLemmas
 pub mod FirstLemmas

@@ -5,12 +5,15 @@ use Rattle.std.specs.List.{AllByRecursion}
 use Rattle.std.proofs.lemmas.List.{append-nil, length-take-le}
 use Rattle.std.proofs.lemmas.Grind.{flat_map-append}
 use Rattle.std.specs.Io.KnownBytes.{Appends}
-use Rattle.script.specs.Engine.{World, EngineView, next, IsRun, Agrees}
+use Rattle.script.specs.Engine.{World, EngineView, next, IsRun, after, EngineAgrees}
 use Rattle.script_text.specs.Grammar.{IsAllowed, Fits, spelling, with_feed}
 use Rattle.script.specs.Pieces.{TakesText, GivesText, HasNoLine}
-use Rattle.script.specs.Script.{Event, did, showed_ids, showed_page, showed_entries, line_of, answer_of, steps_of, replies_of, lines_of, answers_of, Moves, EventsLead, IsBadLine, WritesBeginning}
+use Rattle.script.specs.Script.{Event, did, finished, vacuum_steps, vacuum_replies, showed_ids, showed_page, showed_entries, line_of, answer_of, steps_of, replies_of, lines_of, answers_of, Moves, EventsLead, IsBadLine, WritesBeginning}
 use Rattle.script.specs.Refusals.{Refusals, IsRefused, IsCaused}
 use Rattle.script.specs.Steps.{EndsLines, Advance, Uses, DoesLine}
+use Rattle.refinement.specs.declared.step.Step.{Step}
+use Rattle.refinement.specs.declared.reply.Reply.{Reply}
+use Rattle.session_core.proofs.Running.{Leads-run as Replies-run}
 use Rattle.script_text.specs.declared.line.Line.{Line}
 use Rattle.script.specs.declared.fault.ShellFault.{ShellFault}
 use Rattle.script.specs.declared.fault.ShellFault.TheVariants.{BadLine, Input, Output, NoMemory, TooManyLines}
@@ -52,15 +55,26 @@ Leads-push : (old : EngineView) (events : List Event) (mid : EngineView) (e : Ev
 Leads-push old [] mid e new led moves = (new, subst (λ (st : EngineView). Moves st e new) (sym led) moves, refl)
 Leads-push old (x ∷ xs) mid e new led moves = (led.0, led.1, Leads-push led.0 xs mid e new led.2 moves)
 
+-- one run after another is a run
+IsRun-append : (w : World) (steps more : List Step) (replies others : List Reply) → IsRun w steps replies → IsRun (after w steps replies) more others → IsRun w (steps ++ more) (replies ++ others)
+IsRun-append w [] more [] others h k = k
+IsRun-append w [] more (r ∷ rs) others h k = absurd h
+IsRun-append w (s ∷ ss) more [] others h k = absurd h
+IsRun-append w (s ∷ ss) more (r ∷ rs) others h k = (h.0, IsRun-append (next w s r) ss more rs others h.1 k)
+
 -- of an engine that agrees with a world, the steps and replies are a run from there
-pub Leads-run : (w : World) (old : EngineView) (events : List Event) (new : EngineView) → Agrees old.core w → EventsLead old events new → IsRun w (steps_of events) (replies_of events)
+pub Leads-run : (w : World) (old : EngineView) (events : List Event) (new : EngineView) → EngineAgrees old w → EventsLead old events new → IsRun w (steps_of events) (replies_of events)
 Leads-run w old [] new agrees led = tt
 Leads-run w old (did step reply ∷ events) new agrees led =
     let now = led.1.0 w agrees in
     (now.0, Leads-run (next w step reply) led.0 events new now.1 led.2)
-Leads-run w old (showed_ids n below ∷ events) new agrees led = Leads-run w led.0 events new (subst (λ (st : EngineView). Agrees st.core w) led.1.0 agrees) led.2
-Leads-run w old (showed_page p shown ∷ events) new agrees led = Leads-run w led.0 events new (subst (λ (st : EngineView). Agrees st.core w) led.1.0 agrees) led.2
-Leads-run w old (showed_entries i entries ∷ events) new agrees led = Leads-run w led.0 events new (subst (λ (st : EngineView). Agrees st.core w) led.1.0 agrees) led.2
+Leads-run w old (finished pieces last ∷ events) new agrees led =
+    let now = Replies-run w old (vacuum_steps pieces) (vacuum_replies pieces last) led.0 agrees led.1.0 in
+    IsRun-append w (vacuum_steps pieces) (steps_of events) (vacuum_replies pieces last) (replies_of events) now.0
+    (Leads-run (after w (vacuum_steps pieces) (vacuum_replies pieces last)) led.0 events new now.1 led.2)
+Leads-run w old (showed_ids n below ∷ events) new agrees led = Leads-run w led.0 events new (subst (λ (st : EngineView). EngineAgrees st w) led.1.0 agrees) led.2
+Leads-run w old (showed_page p shown ∷ events) new agrees led = Leads-run w led.0 events new (subst (λ (st : EngineView). EngineAgrees st w) led.1.0 agrees) led.2
+Leads-run w old (showed_entries i entries ∷ events) new agrees led = Leads-run w led.0 events new (subst (λ (st : EngineView). EngineAgrees st w) led.1.0 agrees) led.2
 
 pub allowed-push : (events : List Event) (e : Event) → AllByRecursion (λ e. IsAllowed (line_of e)) events → IsAllowed (line_of e) → AllByRecursion (λ e. IsAllowed (line_of e)) (events ++ e ∷ [])
 allowed-push [] e h k = (k, tt)

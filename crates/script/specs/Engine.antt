@@ -1,12 +1,15 @@
 -- What the shell speaks of in the engine: which replies the history allows to which steps, and what the engine holds.
 pub use Rattle.history.specs.World.{World, beginning}
 pub use Rattle.refinement.specs.Words.{FirstFault}
-pub use Rattle.refinement.specs.Allowed.{next, IsRun}
-pub use Rattle.session_core.specs.View.{EngineView}
-pub use Rattle.session_steps.specs.State.{engine_index}
-pub use Rattle.session_steps.specs.Agrees.{Agrees, Follows}
-pub use Rattle.session_steps.specs.Exact.{Exact}
-pub use Rattle.session_steps.specs.New.{IsNew}
+pub use Rattle.refinement.specs.Allowed.{next, IsRun, after}
+pub use Rattle.session_steps.specs.State.{engine_index, bits_of}
+pub use Rattle.vacuum_engine.specs.State.{EngineView}
+pub use Rattle.vacuum_engine.specs.Agrees.{EngineAgrees}
+pub use Rattle.vacuum_engine.specs.Clauses.{EngineFollows}
+pub use Rattle.vacuum_engine.specs.Exact.{EngineExact}
+pub use Rattle.vacuum_engine.specs.New.{IsNewEngine}
+pub use Rattle.session_core.specs.Runs.{RepliesLead}
+pub use Rattle.page_slots.specs.View.{PageView}
 pub use Rattle.commit_status.specs.Window.{next_id}
 pub use Rattle.refinement.specs.declared.settings.SettingsFault.{SettingsFault}
 pub use Rattle.refinement.specs.declared.settings.SettingsFault.TheVariants.{MaxPages, StopAge, FreezeMinAge, FirstXid, DeadLimit, NoMemory as NoMemoryForSettings}

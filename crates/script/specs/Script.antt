@@ -1,45 +1,58 @@
 -- Whole scripts: the lines that were read, the run of the history that they make, and what is written.
-use Rattle.std.specs.Prelude.{◌≡◌, ℕ, ◌+◌, ◌<◌, ◌≤◌, ◌⊎◌, List, [], ◌∷◌, ◌++◌, length, slice_get, Option, Ok, Err, Result}
+use Rattle.std.specs.Prelude.{◌≡◌, ℕ, ◌+◌, ◌<◌, ◌≤◌, ◌⊎◌, List, [], ◌∷◌, ◌++◌, length, map, slice_get, Option, Some, None, Ok, Err, Result}
 use Rattle.std.specs.Option.{option_map}
 use Rattle.std.specs.List.{flat_map, AllByRecursion}
 use Rattle.std.specs.Io.KnownBytes.{Appends}
-use Rattle.script_text.specs.Names.{Settings, AreSettings, Step, Reply, Entry}
-use Rattle.script.specs.Engine.{EngineView, IsNew, Follows, Exact, beginning, engine_index, next_id, IsRun}
+use Rattle.script_text.specs.Names.{Settings, AreSettings, Step, VacuumStep, Reply, Worked, Piece, Entry}
+use Rattle.script.specs.Engine.{EngineView, PageView, IsNewEngine, EngineFollows, EngineExact, RepliesLead, beginning, engine_index, bits_of, next_id, IsRun}
 use Rattle.script.specs.Pieces.{GivesText}
 use Rattle.script_text.specs.Grammar.{heading, spelling, with_feed, IsAllowed}
 use Rattle.script_text.specs.Answers.{reply_text, ids_text, Shown, shown_text, index_text}
 use Rattle.script_text.specs.declared.line.Line.{Line}
-use Rattle.script_text.specs.declared.line.Line.TheVariants.{Do, Ids, Page, Entries}
+use Rattle.script_text.specs.declared.line.Line.TheVariants.{Do, VacuumFinish, Ids, Page, Entries}
 use Rattle.script.specs.declared.fault.ShellFault.{ShellFault}
 use Rattle.script.specs.declared.fault.ShellFault.TheVariants.{BadLine, TooManyLines}
 use Rattle.script_text.specs.declared.line.TheConstants.{MAX_LINE}
 
--- a line that was read and answered: a step with its reply, or a look at the ids, a page or an index with what it showed
+-- A line that was read and answered: a step with its reply; steps that finish a vacuum, with what each but the last did and the
+-- last's reply; or a look at the ids, a page or an index with what it showed.
 pub data Event : Type 0 where
   did : Step → Reply → Event
+  finished : List Piece → Reply → Event
   showed_ids : ℕ → ℕ → Event
   showed_page : ℕ → Option Shown → Event
   showed_entries : ℕ → Option (List Entry) → Event
 
 abbrev pub line_of : Event → Line
 line_of (did step reply) = Do step
+line_of (finished pieces last) = VacuumFinish
 line_of (showed_ids next frozen_below) = Ids
 line_of (showed_page p shown) = Page p
 line_of (showed_entries i entries) = Entries i
 
 abbrev pub answer_of : Event → List ℕ
 answer_of (did step reply) = reply_text reply
+answer_of (finished pieces last) = reply_text last
 answer_of (showed_ids next frozen_below) = ids_text next frozen_below
 answer_of (showed_page p shown) = shown_text p shown
 answer_of (showed_entries i entries) = index_text i entries
 
+-- a step of the vacuum for each of these pieces, and one more
+abbrev pub vacuum_steps : List Piece → List Step
+vacuum_steps pieces = map (λ piece. VacuumStep) pieces ++ VacuumStep ∷ []
+
+abbrev pub vacuum_replies : List Piece → Reply → List Reply
+vacuum_replies pieces last = map (λ piece. Worked piece) pieces ++ last ∷ []
+
 -- looks are no steps of the history
 abbrev pub steps_in : Event → List Step
 steps_in (did step reply) = step ∷ []
+steps_in (finished pieces last) = vacuum_steps pieces
 steps_in look = []
 
 abbrev pub replies_in : Event → List Reply
 replies_in (did step reply) = reply ∷ []
+replies_in (finished pieces last) = vacuum_replies pieces last
 replies_in look = []
 
 abbrev pub steps_of : List Event → List Step
@@ -55,13 +68,25 @@ lines_of events = flat_map (λ e. with_feed (spelling (line_of e))) events
 abbrev pub answers_of : List Event → List ℕ
 answers_of events = flat_map (λ e. with_feed (answer_of e)) events
 
--- what a page, if it is in use, is shown as: there is no visibility map yet
-abbrev pub shown_of : EngineView → ℕ → Option Shown
-shown_of st p = option_map (λ page. record { change = page.change; visible = 0; slots = page.slots }) (slice_get st.core.heap.pages.pages p)
+-- a page with the bits that are noted of it
+abbrev pub shown_with : Option PageView → Option ℕ → Option Shown
+shown_with (Some page) (Some bits) = Some (record { change = page.change; visible = bits; slots = page.slots })
+shown_with page bits = None
 
--- a step leads the engine on, as the history allows, and in what that leaves open exactly; a look shows what is there
+-- what a page, if it is in use, is shown as, with its bits of the visibility map
+abbrev pub shown_of : EngineView → ℕ → Option Shown
+shown_of st p = shown_with (slice_get st.core.heap.pages.pages p) (option_map bits_of (slice_get st.core.heap.pages.marks p))
+
+-- the steps of a vacuum end at the first that did no work, of 2^64 - 1 at most
+abbrev pub EndsVacuum : List Piece → Reply → Type 0
+EndsVacuum pieces last = (length pieces < 18446744073709551615)
+    × ((piece : Piece) → last ≡ Worked piece → length pieces + 1 ≡ 18446744073709551615)
+
+-- a step leads the engine on, as the history allows, and in what that leaves open exactly, and so does each that finishes a vacuum;
+-- a look shows what is there
 abbrev pub Moves : EngineView → Event → EngineView → Type 0
-Moves old (did step reply) new = Follows old.core step reply new.core × Exact old.core step reply new.core
+Moves old (did step reply) new = EngineFollows old step reply new × EngineExact old step reply new
+Moves old (finished pieces last) new = RepliesLead old (vacuum_steps pieces) (vacuum_replies pieces last) new × EndsVacuum pieces last
 Moves old (showed_ids next frozen_below) new = (old ≡ new) × (next ≡ next_id old.core.heap.table) × (frozen_below ≡ old.core.heap.table.first)
 Moves old (showed_page p shown) new = (old ≡ new) × (shown ≡ shown_of old p)
 Moves old (showed_entries i entries) new = (old ≡ new) × (entries ≡ option_map (λ index. index.entries) (engine_index old.core i))
@@ -79,7 +104,7 @@ pub record IsScriptRun (settings : Settings) (events : List Event) : Type 0 wher
   pub allowed : AllByRecursion (λ e. IsAllowed (line_of e)) events
   pub run : IsRun (beginning settings.indexed) (steps_of events) (replies_of events)
   pub first : EngineView
-  pub new : IsNew settings first.core
+  pub new : IsNewEngine settings first
   pub last : EngineView
   pub leads : EventsLead first events last
 

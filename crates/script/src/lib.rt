@@ -8,6 +8,7 @@
 #![tactic(auto)]
 
 mod fault;
+mod finish;
 mod input;
 mod inspect;
 mod io_log;

@@ -4,7 +4,7 @@ ghost use Rattle.std.specs.Prelude.{◌≡◌, ◌++◌, List, ℕ, [], length, 
 ghost use Rattle.std.specs.Bool.{OnTrue, OnFalse};
 ghost use Rattle.std.specs.Io.KnownBytes.{Appends};
 ghost use Rattle.script_text.specs.Names.{Settings, AreSettings};
-ghost use Rattle.script.specs.Engine.{IsNew};
+ghost use Rattle.script.specs.Engine.{IsNewEngine};
 ghost use Rattle.script_text.specs.Grammar.{Fits, spelling, heading, with_feed};
 ghost use Rattle.script.specs.Script.{ScriptOutcome, WritesBeginning};
 ghost use Rattle.script.specs.Refusals.{IsRefused, IsCaused};
@@ -14,6 +14,7 @@ ghost use Rattle.script.specs.Steps.{Advances, DoesLine, Uses, MatchesHeading};
 ghost use Rattle.script_text.specs.declared.line.Line.{Line};
 
 use crate::fault::ShellFault;
+use crate::finish::finish_vacuum;
 use crate::input::Pending;
 use crate::inspect::{show_ids, show_index, show_page};
 use crate::io_log::IoLog;
@@ -91,6 +92,11 @@ fn do_line(
     match line_at(alloc, line)? {
         Some(Line::Do(step)) => {
             engine.step_into(step, reply);
+            tell_reply(text, reply)?;
+            Ok(true)
+        }
+        Some(Line::VacuumFinish) => {
+            finish_vacuum(engine, reply);
             tell_reply(text, reply)?;
             Ok(true)
         }
@@ -195,7 +201,7 @@ fn first_line<R: Read, W: Write>(
 ) -> Result<Engine, ShellFault>
     requires { (pending.old ≡ []) × (text.old.items ≡ []) }
     ensures begins { IfOk result
-        (λ e. (s : Settings) × IsNew s e.core × AreSettings s × (length s.indexed ≡ 4)
+        (λ e. (s : Settings) × IsNewEngine s e × AreSettings s × (length s.indexed ≡ 4)
         × Uses (R.remaining reader.old) (R.remaining reader.new) []
         (with_feed (heading s)) pending.new) }
     ensures quiet { Appends (W.contents writer.old) (W.contents writer.new) [] }

@@ -11,11 +11,11 @@ use Rattle.std.proofs.lemmas.Bool.Decides.{nat_tests}
 use Rattle.std.proofs.lemmas.Slice.Eq.{bytes_eq-Decides}
 use Rattle.std.proofs.lemmas.Bool.{lt-leb, cases_lt, and_right}
 use Rattle.std.proofs.lemmas.List.{nil_from_length, append-nil}
-use Rattle.script_text.specs.Names.{Begin, Get, Insert, Update, Delete, Savepoint, RollbackTo, Release, Commit, Abort, OpenIndex, OpenHeap, Next, Close, Prune, RowText}
+use Rattle.script_text.specs.Names.{Begin, Get, Insert, Update, Delete, Savepoint, RollbackTo, Release, Commit, Abort, OpenIndex, OpenHeap, Next, Close, Prune, VacuumBegin, VacuumStep, VacuumCancel, Normal, Aggressive, RowText}
 use Rattle.script_text.specs.declared.line.Line.{Line}
-use Rattle.script_text.specs.declared.line.Line.TheVariants.{Do, Ids, Page, Entries}
+use Rattle.script_text.specs.declared.line.Line.TheVariants.{Do, VacuumFinish, Ids, Page, Entries}
 use Rattle.script_text.specs.Grammar.{Fits, Spells, KeyFits, RowFits, RangeFits, spelling, spaced, hex_text, body_text, row_text, key_words, row_words, range_words}
-use Rattle.script_text.specs.Reading.{Verbs, usual_verbs, other_verbs, line_in, line_at, cut, number_of, number_then, column_then, bound_of, bound_then, nibble_of, pair_and, pairs_of, body_of, row_words_of, key_words_of, count_words_of, range_words_of}
+use Rattle.script_text.specs.Reading.{Verbs, usual_verbs, other_verbs, vacuum_line_of, line_in, line_at, cut, number_of, number_then, column_then, bound_of, bound_then, nibble_of, pair_and, pairs_of, body_of, row_words_of, key_words_of, count_words_of, range_words_of}
 use Rattle.script_text.proofs.ByteLemmas.{Free, Free-append, free_text}
 use Rattle.script_text.proofs.NumberLaws.{guarded, bound, mapped, both_true, cut_says, cut-free, number_of_says, number_of-decimal, number_then_says, number_then-decimal, decimal_free}
 use Rattle.script_text.proofs.SignedLaws.{signed_free, column_then_says, column_then-signed, bound_free, bound_of_says, bound_of-signed, bound_then_says, bound_then-signed}
@@ -245,6 +245,23 @@ page_spelled = number_verb (codes "page") 4294967295 (λ p. Page p) (omega arith
 entries_spelled : IsSpelled (codes "entries", λ rest. option_map (λ i. Entries i) (number_of 255 rest))
 entries_spelled = number_verb (codes "entries") 255 (λ i. Entries i) (omega arith) (λ i h. omega (arith, h)) (λ i. refl)
 
+-- one phrase, and else what other phrases say
+phrase_says : (words phrase : List ℕ) (line : Line) (others : Option Line) (l : Line) → cond (bytes_eq words phrase) (Some line) others ≡ Some l → Fits line × (codes "vacuum" ++ spaced phrase ≡ spelling line)
+    → (others ≡ Some l → Fits l × (codes "vacuum" ++ spaced words ≡ spelling l)) → Fits l × (codes "vacuum" ++ spaced words ≡ spelling l)
+phrase_says words phrase line others l h says more = elim (chosen (bytes_eq words phrase) (Some line) others (Some l) h) [
+  | inl a ↦ rw (← same_Some line l a.1) (says.0, ap (λ w. codes "vacuum" ++ spaced w) (verb_is words phrase a.0) ∙ says.1)
+  | inr a ↦ more a.1
+]
+
+vacuum_spelled : IsSpelled (codes "vacuum", vacuum_line_of)
+vacuum_spelled words l h =
+    phrase_says words (codes "step") (Do VacuumStep) _ l h (tt, refl) (λ h1.
+    phrase_says words (codes "finish") VacuumFinish _ l h1 (tt, refl) (λ h2.
+    phrase_says words (codes "begin normal") (Do (VacuumBegin Normal)) _ l h2 (tt, refl) (λ h3.
+    phrase_says words (codes "begin aggressive") (Do (VacuumBegin Aggressive)) _ l h3 (tt, refl) (λ h4.
+    phrase_says words (codes "cancel") (Do VacuumCancel) None l h4 (tt, refl) (λ h5.
+    absurd (none-some l h5))))))
+
 -- a verb and a session alone
 session_verb : (verb : List ℕ) (make : ℕ → Line) → ((s : ℕ) → s < 2 ^ 8 → Fits (make s)) → ((s : ℕ) → verb ++ spaced (decimal s) ≡ spelling (make s))
     → IsSpelled (verb, λ rest. option_map make (number_of 255 rest))
@@ -254,7 +271,7 @@ usual_spelled : AllByRecursion IsSpelled usual_verbs
 usual_spelled = (get_spelled, (session_verb (codes "begin") (λ s. Do (Begin s)) (λ s h. h) (λ s. refl), (session_verb (codes "commit") (λ s. Do (Commit s)) (λ s h. h) (λ s. refl), (insert_spelled, (update_spelled, (delete_spelled, (next_spelled, (session_verb (codes "abort") (λ s. Do (Abort s)) (λ s h. h) (λ s. refl), tt))))))))
 
 other_spelled : AllByRecursion IsSpelled other_verbs
-other_spelled = (session_verb (codes "savepoint") (λ s. Do (Savepoint s)) (λ s h. h) (λ s. refl), (session_verb (codes "rollbackto") (λ s. Do (RollbackTo s)) (λ s h. h) (λ s. refl), (session_verb (codes "release") (λ s. Do (Release s)) (λ s h. h) (λ s. refl), (openindex_spelled, (session_verb (codes "openheap") (λ s. Do (OpenHeap s)) (λ s h. h) (λ s. refl), (session_verb (codes "close") (λ s. Do (Close s)) (λ s h. h) (λ s. refl), (prune_spelled, (page_spelled, (entries_spelled, tt)))))))))
+other_spelled = (session_verb (codes "savepoint") (λ s. Do (Savepoint s)) (λ s h. h) (λ s. refl), (session_verb (codes "rollbackto") (λ s. Do (RollbackTo s)) (λ s h. h) (λ s. refl), (session_verb (codes "release") (λ s. Do (Release s)) (λ s h. h) (λ s. refl), (openindex_spelled, (session_verb (codes "openheap") (λ s. Do (OpenHeap s)) (λ s h. h) (λ s. refl), (session_verb (codes "close") (λ s. Do (Close s)) (λ s h. h) (λ s. refl), (prune_spelled, (vacuum_spelled, (page_spelled, (entries_spelled, tt))))))))))
 
 All-append : (xs ys : Verbs) → AllByRecursion IsSpelled xs → AllByRecursion IsSpelled ys → AllByRecursion IsSpelled (xs ++ ys)
 All-append [] ys h k = k
@@ -373,6 +390,11 @@ line_at-spelling (Do (Close s)) h =
     with_verb (codes "close") (decimal s) _ (free_text 32 (codes "close") refl) refl (ap (λ (o : Option ℕ). option_map (λ s. Do (Close s)) o) (number_of-decimal 255 s (omega arith) (omega arith)))
 line_at-spelling (Do (Prune p)) h =
     with_verb (codes "prune") (decimal p) _ (free_text 32 (codes "prune") refl) refl (ap (λ (o : Option ℕ). option_map (λ p. Do (Prune p)) o) (number_of-decimal 4294967295 p (omega arith) (omega arith)))
+line_at-spelling (Do (VacuumBegin Normal)) h = with_verb (codes "vacuum") (codes "begin normal") _ (free_text 32 (codes "vacuum") refl) refl refl
+line_at-spelling (Do (VacuumBegin Aggressive)) h = with_verb (codes "vacuum") (codes "begin aggressive") _ (free_text 32 (codes "vacuum") refl) refl refl
+line_at-spelling (Do VacuumStep) h = with_verb (codes "vacuum") (codes "step") _ (free_text 32 (codes "vacuum") refl) refl refl
+line_at-spelling (Do VacuumCancel) h = with_verb (codes "vacuum") (codes "cancel") _ (free_text 32 (codes "vacuum") refl) refl refl
+line_at-spelling VacuumFinish h = with_verb (codes "vacuum") (codes "finish") _ (free_text 32 (codes "vacuum") refl) refl refl
 line_at-spelling Ids h = ids_line
 line_at-spelling (Page p) h =
     with_verb (codes "page") (decimal p) _ (free_text 32 (codes "page") refl) refl (ap (λ (o : Option ℕ). option_map (λ p. Page p) o) (number_of-decimal 4294967295 p (omega arith) (omega arith)))
@@ -449,6 +471,11 @@ Free-spelling (Do (OpenHeap s)) h = Free-append 10 (codes "openheap") (spaced (d
 Free-spelling (Do (Next s n)) h = Free-append 10 (codes "next") (spaced (key_words s n)) (free_text 10 (codes "next") refl) (key_words_free s n (h.0, omega (arith, h.1)))
 Free-spelling (Do (Close s)) h = Free-append 10 (codes "close") (spaced (decimal s)) (free_text 10 (codes "close") refl) (one_free s (omega arith))
 Free-spelling (Do (Prune p)) h = Free-append 10 (codes "prune") (spaced (decimal p)) (free_text 10 (codes "prune") refl) (one_free p (omega arith))
+Free-spelling (Do (VacuumBegin Normal)) h = free_text 10 (codes "vacuum begin normal") refl
+Free-spelling (Do (VacuumBegin Aggressive)) h = free_text 10 (codes "vacuum begin aggressive") refl
+Free-spelling (Do VacuumStep) h = free_text 10 (codes "vacuum step") refl
+Free-spelling (Do VacuumCancel) h = free_text 10 (codes "vacuum cancel") refl
+Free-spelling VacuumFinish h = free_text 10 (codes "vacuum finish") refl
 Free-spelling Ids h = (refl, (refl, (refl, tt)))
 Free-spelling (Page p) h = Free-append 10 (codes "page") (spaced (decimal p)) (free_text 10 (codes "page") refl) (one_free p (omega arith))
 Free-spelling (Entries i) h = Free-append 10 (codes "entries") (spaced (decimal i)) (free_text 10 (codes "entries") refl) (one_free i (omega arith))

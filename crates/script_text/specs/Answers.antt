@@ -6,7 +6,7 @@ use Rattle.tuple_header.specs.declared.version.Row.{Row}
 use Rattle.page_slots.specs.declared.slot.Slot.{Slot}
 use Rattle.page_slots.specs.declared.slot.Slot.TheVariants.{Unused, Normal, Redirect, Dead}
 use Rattle.page_slots.specs.Slots.{slot_at}
-use Rattle.script_text.specs.Names.{Reply, Done, Found, Committed, RolledBack, Rows, End, Refused, Refusal, NotOpen, AlreadyOpen, Failed, AlreadyThere, NotThere, Conflict, Busy, CursorOpen, NoCursor, TooDeep, NoSavepoint, TooLarge, NoRoom, NeedsFreeze, NoMemory, NoSuchPage, NoSuchIndex, NoSuchSession, BadBounds, Entry}
+use Rattle.script_text.specs.Names.{Reply, Done, Found, Committed, RolledBack, Rows, End, Worked, Ended, Refused, Piece, Heap, Index, Free, Refusal, NotOpen, AlreadyOpen, Failed, AlreadyThere, NotThere, Conflict, Busy, CursorOpen, NoCursor, TooDeep, NoSavepoint, TooLarge, NoRoom, NeedsFreeze, NoMemory, VacuumRunning, NoVacuum, NoSuchPage, NoSuchIndex, NoSuchSession, BadBounds, Entry}
 use Rattle.script_text.specs.Grammar.{spaced, row_text}
 
 -- the number and the name of a refusal
@@ -26,6 +26,8 @@ refusal_text TooLarge = codes "13 TooLarge"
 refusal_text NoRoom = codes "14 NoRoom"
 refusal_text NeedsFreeze = codes "15 NeedsFreeze"
 refusal_text NoMemory = codes "16 NoMemory"
+refusal_text VacuumRunning = codes "17 VacuumRunning"
+refusal_text NoVacuum = codes "18 NoVacuum"
 refusal_text NoSuchPage = codes "19 NoSuchPage"
 refusal_text NoSuchIndex = codes "20 NoSuchIndex"
 refusal_text NoSuchSession = codes "23 NoSuchSession"
@@ -43,6 +45,12 @@ found_text row = codes "row" ++ spaced (row_text row.key row.cols row.body.items
 abbrev pub row_lines : List Row → List ℕ
 row_lines rows = flat_map (λ row. 10 ∷ found_text row) rows
 
+-- what a step of a vacuum did: the page that it visited, the index that it went through, or the page whose slots it freed
+abbrev pub piece_text : Piece → List ℕ
+piece_text (Heap p) = labelled (codes "heap") p
+piece_text (Index i) = labelled (codes "index") i
+piece_text (Free p) = labelled (codes "free") p
+
 -- what is written for a reply
 abbrev pub reply_text : Reply → List ℕ
 reply_text Done = codes "ok"
@@ -52,6 +60,8 @@ reply_text Committed = codes "committed"
 reply_text RolledBack = codes "rolled back"
 reply_text (Rows rows) = labelled (codes "rows") (length rows.items) ++ row_lines rows.items
 reply_text End = codes "end"
+reply_text (Worked piece) = piece_text piece
+reply_text (Ended first) = labelled (codes "ended") first
 reply_text (Refused r) = codes "error" ++ spaced (refusal_text r)
 
 -- the next id, and that below which all are frozen

@@ -3,9 +3,9 @@ use Rattle.std.specs.Prelude.{◌≡◌, ℕ, ℤ, ◌/◌, ◌%◌, ◌^◌, �
 use Rattle.std.specs.Int.{w64, w128}
 use Rattle.std.specs.List.{flat_map, AllByRecursion}
 use Rattle.std.specs.Fmt.{decimal, signed_decimal, digit_glyph}
-use Rattle.script_text.specs.Names.{Settings, RowText, Step, Begin, Get, Insert, Update, Delete, Savepoint, RollbackTo, Release, Commit, Abort, OpenIndex, OpenHeap, Next, Close, Prune}
+use Rattle.script_text.specs.Names.{Settings, RowText, Step, Begin, Get, Insert, Update, Delete, Savepoint, RollbackTo, Release, Commit, Abort, OpenIndex, OpenHeap, Next, Close, Prune, VacuumBegin, VacuumStep, VacuumCancel, Mode, Normal, Aggressive}
 use Rattle.script_text.specs.declared.line.Line.{Line}
-use Rattle.script_text.specs.declared.line.Line.TheVariants.{Do, Ids, Page, Entries}
+use Rattle.script_text.specs.declared.line.Line.TheVariants.{Do, VacuumFinish, Ids, Page, Entries}
 use Rattle.script_text.specs.declared.line.TheConstants.{MAX_LINE}
 
 -- a space, and then a word: one space separates words
@@ -64,6 +64,11 @@ abbrev pub SpellsSettings : List ℕ → Option Settings → Type 0
 SpellsSettings text (Some s) = SettingsFit s × (text ≡ heading s)
 SpellsSettings text None = (s : Settings) → SettingsFit s → text ≡ heading s → ⊥
 
+-- which pages a vacuum passes over
+abbrev pub mode_text : Mode → List ℕ
+mode_text Normal = codes "normal"
+mode_text Aggressive = codes "aggressive"
+
 -- a line that asks for a step
 abbrev pub step_text : Step → List ℕ
 step_text (Begin s) = codes "begin" ++ spaced (decimal s)
@@ -81,10 +86,14 @@ step_text (OpenHeap s) = codes "openheap" ++ spaced (decimal s)
 step_text (Next s n) = codes "next" ++ spaced (key_words s n)
 step_text (Close s) = codes "close" ++ spaced (decimal s)
 step_text (Prune p) = codes "prune" ++ spaced (decimal p)
+step_text (VacuumBegin mode) = codes "vacuum begin" ++ spaced (mode_text mode)
+step_text VacuumStep = codes "vacuum step"
+step_text VacuumCancel = codes "vacuum cancel"
 
 -- any line but the first
 abbrev pub spelling : Line → List ℕ
 spelling (Do step) = step_text step
+spelling VacuumFinish = codes "vacuum finish"
 spelling Ids = codes "ids"
 spelling (Page p) = codes "page" ++ spaced (decimal p)
 spelling (Entries i) = codes "entries" ++ spaced (decimal i)
@@ -119,10 +128,14 @@ StepFits (OpenHeap s) = s < 2 ^ 8
 StepFits (Next s n) = (s < 2 ^ 8) × (n < 2 ^ 16)
 StepFits (Close s) = s < 2 ^ 8
 StepFits (Prune p) = p < 2 ^ 32
+StepFits (VacuumBegin mode) = Unit {0}
+StepFits VacuumStep = Unit {0}
+StepFits VacuumCancel = Unit {0}
 
 -- and each number of a line
 abbrev pub Fits : Line → Type 0
 Fits (Do step) = StepFits step
+Fits VacuumFinish = Unit {0}
 Fits Ids = Unit {0}
 Fits (Page p) = p < 2 ^ 32
 Fits (Entries i) = i < 2 ^ 8

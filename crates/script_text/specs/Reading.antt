@@ -3,9 +3,9 @@ use Rattle.std.specs.Prelude.{ℕ, ℤ, pos, negsuc, ◌+◌, ◌-◌, ◌*◌, 
 use Rattle.std.specs.Option.{option_map}
 use Rattle.std.specs.Char.{is_ascii_digit}
 use Rattle.std.specs.Str.{bytes_eq}
-use Rattle.script_text.specs.Names.{Settings, RowText, Begin, Get, Insert, Update, Delete, Savepoint, RollbackTo, Release, Commit, Abort, OpenIndex, OpenHeap, Next, Close, Prune}
+use Rattle.script_text.specs.Names.{Settings, RowText, Begin, Get, Insert, Update, Delete, Savepoint, RollbackTo, Release, Commit, Abort, OpenIndex, OpenHeap, Next, Close, Prune, VacuumBegin, VacuumStep, VacuumCancel, Normal, Aggressive}
 use Rattle.script_text.specs.declared.line.Line.{Line}
-use Rattle.script_text.specs.declared.line.Line.TheVariants.{Do, Ids, Page, Entries}
+use Rattle.script_text.specs.declared.line.Line.TheVariants.{Do, VacuumFinish, Ids, Page, Entries}
 
 infixl 10 ◌>>=◌
 abbrev pub ◌>>=◌ : {A B : Type 0} → Option A → (A → Option B) → Option B
@@ -136,6 +136,15 @@ heading_of xs = do
 unfoldable pub settings_at : List ℕ → Option Settings
 settings_at line = cut line >>= λ parts. if bytes_eq parts.0 (codes "heap") then heading_of parts.1 else None
 
+-- what a line that begins with `vacuum` asks for by the words behind it
+abbrev pub vacuum_line_of : List ℕ → Option Line
+vacuum_line_of words = if bytes_eq words (codes "step") then Some (Do VacuumStep)
+    else if bytes_eq words (codes "finish") then Some VacuumFinish
+    else if bytes_eq words (codes "begin normal") then Some (Do (VacuumBegin Normal))
+    else if bytes_eq words (codes "begin aggressive") then Some (Do (VacuumBegin Aggressive))
+    else if bytes_eq words (codes "cancel") then Some (Do VacuumCancel)
+    else None
+
 -- verbs, the first words of lines with several words: each is spelled so, and asks for this with the words behind it
 abbrev pub Verbs : Type 0
 Verbs = List (List ℕ × (List ℕ → Option Line))
@@ -162,6 +171,7 @@ other_verbs =
     ∷ (codes "openheap", λ rest. option_map (λ s. Do (OpenHeap s)) (number_of 255 rest))
     ∷ (codes "close", λ rest. option_map (λ s. Do (Close s)) (number_of 255 rest))
     ∷ (codes "prune", λ rest. option_map (λ p. Do (Prune p)) (number_of 4294967295 rest))
+    ∷ (codes "vacuum", vacuum_line_of)
     ∷ (codes "page", λ rest. option_map (λ p. Page p) (number_of 4294967295 rest))
     ∷ (codes "entries", λ rest. option_map (λ i. Entries i) (number_of 255 rest))
     ∷ []

@@ -4,12 +4,12 @@ ghost use Rattle.std.specs.Prelude.{◌≡◌, ◌+◌, ◌<◌, ◌/◌, ◌%�
 ghost use Rattle.std.specs.List.{flat_map};
 ghost use Rattle.std.specs.Fmt.{decimal, signed_decimal, digit_glyph};
 ghost use Rattle.script_text.specs.Grammar.{spaced, hex_text, body_text, row_text, with_feed};
-ghost use Rattle.script_text.specs.Answers.{refusal_text, found_text, row_lines, reply_text};
+ghost use Rattle.script_text.specs.Answers.{refusal_text, found_text, row_lines, piece_text, reply_text};
 
 use crate::growth::{RefusedGrowth, extend, push};
 use crate::page::label;
 use itoa::Buffer;
-use refinement::{Refusal, Reply, Row};
+use refinement::{Piece, Refusal, Reply, Row};
 
 pub(crate) fn unsigned(out: &mut Vec<u8>, n: u64) -> Result<(), RefusedGrowth>
     ensures { OnOk result (out.new.items ≡ out.old.items ++ decimal n) }
@@ -120,10 +120,23 @@ fn refusal(out: &mut Vec<u8>, refusal: Refusal) -> Result<(), RefusedGrowth>
         Refusal::NoRoom => extend(out, b"14 NoRoom"),
         Refusal::NeedsFreeze => extend(out, b"15 NeedsFreeze"),
         Refusal::NoMemory => extend(out, b"16 NoMemory"),
+        Refusal::VacuumRunning => extend(out, b"17 VacuumRunning"),
+        Refusal::NoVacuum => extend(out, b"18 NoVacuum"),
         Refusal::NoSuchPage => extend(out, b"19 NoSuchPage"),
         Refusal::NoSuchIndex => extend(out, b"20 NoSuchIndex"),
         Refusal::NoSuchSession => extend(out, b"23 NoSuchSession"),
         Refusal::BadBounds => extend(out, b"24 BadBounds"),
+    }
+}
+
+// What a step of a vacuum did.
+fn piece(out: &mut Vec<u8>, piece: Piece) -> Result<(), RefusedGrowth>
+    ensures { OnOk result (out.new.items ≡ out.old.items ++ piece_text piece) }
+{
+    match piece {
+        Piece::Heap(page) => label(out, b"heap", u64::from(page)),
+        Piece::Index(index) => label(out, b"index", u64::from(index)),
+        Piece::Free(page) => label(out, b"free", u64::from(page)),
     }
 }
 
@@ -141,6 +154,8 @@ fn text(out: &mut Vec<u8>, reply: &Reply) -> Result<(), RefusedGrowth>
             rows(out, found.as_slice())
         }
         Reply::End => extend(out, b"end"),
+        Reply::Worked(done) => piece(out, *done),
+        Reply::Ended(first) => label(out, b"ended", u64::from(*first)),
         Reply::Refused(r) => {
             extend(out, b"error ")?;
             refusal(out, *r)

@@ -3,11 +3,11 @@
 ghost use Rattle.std.specs.Prelude.{◌≡◌, ◌++◌, IfOk};
 ghost use Rattle.std.specs.Option.{option_map};
 ghost use Rattle.script_text.specs.Grammar.{Spells};
-ghost use Rattle.script_text.specs.Reading.{number_of, row_words_of, key_words_of, count_words_of, range_words_of, line_in, usual_verbs, other_verbs, line_at as line_at_of};
+ghost use Rattle.script_text.specs.Reading.{number_of, row_words_of, key_words_of, count_words_of, range_words_of, vacuum_line_of, line_in, usual_verbs, other_verbs, line_at as line_at_of};
 
 use crate::growth::RefusedGrowth;
 use crate::words::{body, bound, bound_then, column_then, cut, number, number_then};
-use refinement::{RowIn, Step};
+use refinement::{Mode, RowIn, Step};
 use std::alloc::Global;
 
 /// The longest line, its line feed not counted.
@@ -18,6 +18,8 @@ pub const MAX_LINE: usize = 4096;
 pub enum Line {
     /// A step of the engine.
     Do(Step),
+    /// Steps of the vacuum, until one does no work.
+    VacuumFinish,
     /// The next id, and that below which all are frozen.
     Ids,
     /// The slots of a page.
@@ -107,6 +109,25 @@ fn page(word: &[u8]) -> Option<u32>
     Some(p as u32)
 }
 
+// What a line asks for that begins with `vacuum`.
+fn vacuum_line(words: &[u8]) -> Option<Line>
+    ensures { result ≡ vacuum_line_of words.now }
+{
+    if words == b"step".as_slice() {
+        Some(Line::Do(Step::VacuumStep))
+    } else if words == b"finish".as_slice() {
+        Some(Line::VacuumFinish)
+    } else if words == b"begin normal".as_slice() {
+        Some(Line::Do(Step::VacuumBegin(Mode::Normal)))
+    } else if words == b"begin aggressive".as_slice() {
+        Some(Line::Do(Step::VacuumBegin(Mode::Aggressive)))
+    } else if words == b"cancel".as_slice() {
+        Some(Line::Do(Step::VacuumCancel))
+    } else {
+        None
+    }
+}
+
 // What a line asks for that begins with this word, one of those that are asked for less often.
 fn other_line(word: &[u8], rest: &[u8]) -> Option<Line>
     ensures { result ≡ line_in other_verbs word.now rest.now }
@@ -125,6 +146,8 @@ fn other_line(word: &[u8], rest: &[u8]) -> Option<Line>
         number8(rest).map(|s| Line::Do(Step::Close(s)))
     } else if word == b"prune".as_slice() {
         page(rest).map(|p| Line::Do(Step::Prune(p)))
+    } else if word == b"vacuum".as_slice() {
+        vacuum_line(rest)
     } else if word == b"page".as_slice() {
         page(rest).map(|p| Line::Page(p))
     } else if word == b"entries".as_slice() {

@@ -36,7 +36,7 @@ fn line_ends_so(
 }
 
 // Lines with what they and the `begin 0` before them are answered.
-static ALLOWED: [(&[u8], &[u8]); 46] = [
+static ALLOWED: [(&[u8], &[u8]); 55] = [
     (b"begin 63", b"ok\nok\n"),
     (b"begin 0", b"ok\nerror 2 AlreadyOpen\n"),
     (b"begin 255", b"ok\nerror 23 NoSuchSession\n"),
@@ -97,6 +97,27 @@ static ALLOWED: [(&[u8], &[u8]); 46] = [
         b"insert 0 2 5 0 0 0 -\ninsert 0 1 6 -7 0 0 00ff\nopenheap 0\nopenheap 0\nsavepoint 0\nnext 0 1\nnext 0 1\nclose 0\nnext 0 1",
         b"ok\nok\nok\nok\nerror 9 CursorOpen\nerror 9 CursorOpen\nrows 2\nrow 2 5 0 0 0 -\nrow 1 6 -7 0 0 00ff\nend\nok\nerror 10 NoCursor\n",
     ),
+    (b"vacuum begin normal", b"ok\nok\n"),
+    (b"vacuum begin aggressive", b"ok\nok\n"),
+    (b"vacuum step", b"ok\nerror 18 NoVacuum\n"),
+    (b"vacuum finish", b"ok\nerror 18 NoVacuum\n"),
+    (b"vacuum cancel", b"ok\nerror 18 NoVacuum\n"),
+    (
+        b"vacuum begin normal\nvacuum begin aggressive\nvacuum cancel\nvacuum cancel\nvacuum begin normal\nvacuum finish\nvacuum finish",
+        b"ok\nok\nerror 17 VacuumRunning\nok\nerror 18 NoVacuum\nok\nended 3\nerror 18 NoVacuum\n",
+    ),
+    (
+        b"insert 0 1 5 0 0 0 -\nabort 0\nvacuum begin normal\nvacuum step\nvacuum step\nvacuum step\nvacuum step\npage 0\nentries 0",
+        b"ok\nok\nrolled back\nok\nheap 0\nindex 0\nfree 0\nended 3\npage 0 change 3 visible 2 slots 1\n1 unused\nentries 0 0\n",
+    ),
+    (
+        b"insert 0 1 5 0 0 0 -\nabort 0\nvacuum begin aggressive\nvacuum finish\npage 0\nids",
+        b"ok\nok\nrolled back\nok\nended 4\npage 0 change 3 visible 2 slots 1\n1 unused\nnext 4 frozen_below 4\n",
+    ),
+    (
+        b"insert 0 1 5 0 0 0 -\ncommit 0\nvacuum begin normal\nvacuum step\nvacuum finish\npage 0",
+        b"ok\nok\ncommitted\nok\nheap 0\nended 3\npage 0 change 2 visible 2 slots 1\n1 normal 3 0 1\n",
+    ),
     (b"entries 0", b"ok\nentries 0 0\n"),
     (b"entries 255", b"ok\nerror 20 NoSuchIndex\n"),
     (
@@ -137,7 +158,7 @@ fn allowed_lines(rt: HostRuntime) -> Result<(), Fail> {
 }
 
 // Lines that are not allowed.
-static BAD: [&[u8]; 108] = [
+static BAD: [&[u8]; 120] = [
     b"",
     b" ",
     b"begin",
@@ -181,7 +202,19 @@ static BAD: [&[u8]; 108] = [
     b"prune",
     b"prune 4294967296",
     b"prune 0 0",
-    b"vacuum finish",
+    b"vacuum",
+    b"vacuum ",
+    b"vacuum begin",
+    b"vacuum begin ",
+    b"vacuum begin full",
+    b"vacuum begin normal ",
+    b"vacuum begin  normal",
+    b"vacuum  begin normal",
+    b"vacuum step 0",
+    b"vacuum finish 1",
+    b"vacuum Cancel",
+    b"vacuumstep",
+    b"vacuums step",
     b"heap 4 1000 0 3 64 0000",
     b"update",
     b"update 256 1 5 0 0 0 -",

@@ -6,10 +6,14 @@
 #[cfg(test)]
 mod cursors;
 #[cfg(test)]
+mod leaves;
+#[cfg(test)]
 mod savepoints;
 #[cfg(test)]
 mod table;
 #[cfg(test)]
 mod updates;
+#[cfg(test)]
+mod vacuums;
 #[cfg(test)]
 mod worked;

@@ -4,6 +4,7 @@ use crate::cursors::CURSORS;
 use crate::savepoints::SAVEPOINTS;
 use crate::table::{CASES, Case};
 use crate::updates::{CHAINS, PAGES};
+use crate::vacuums::VACUUMS;
 use script::run_script;
 use std::alloc::{AllocError, Global};
 use std::test::Fail;
@@ -94,6 +95,11 @@ fn worked_savepoints(rt: HostRuntime) -> Result<(), Fail> {
 #[test]
 fn worked_cursors(rt: HostRuntime) -> Result<(), Fail> {
     run_all(rt.alloc(), &CURSORS)
+}
+
+#[test]
+fn worked_vacuums(rt: HostRuntime) -> Result<(), Fail> {
+    run_all(rt.alloc(), &VACUUMS)
 }
 
 #[test]

@@ -1,13 +1,19 @@
 use Rattle.std.proofs.Common.{refl}
 use Rattle.std.specs.Option.{option_map}
 use Rattle.script.specs.Engine.{engine_index, next_id}
-use Rattle.script.specs.Script.{did, showed_ids, showed_page, showed_entries, shown_of}
+use Rattle.script.specs.Script.{did, finished, showed_ids, showed_page, showed_entries, shown_of}
 use Rattle.script.proofs.run.do_line.Goals as goal
 
 pub returns-in_ok-tell_reply-in-Some-Do-clause-done : goal.returns-in_ok-tell_reply-in-Some-Do-clause-done
 returns-in_ok-tell_reply-in-Some-Do-clause-done c =
     let says = rw (c.in-Some-Do.is, c.in-Some-Do.field-0-is) at c.in_ok-step.ensures in
     (did c.in-Some-Do.step c.step_into.new.reply, says.0, says.1, (c.step_into.ensures.follows, c.step_into.ensures.exact), c.in_ok-tell_reply-in-Some-Do.ensures)
+
+pub returns-in_ok-tell_reply-in-Some-VacuumFinish-clause-done : goal.returns-in_ok-tell_reply-in-Some-VacuumFinish-clause-done
+returns-in_ok-tell_reply-in-Some-VacuumFinish-clause-done c =
+    let says = rw c.in-Some-VacuumFinish.is at c.in_ok-step.ensures in
+    let ends = c.finish_vacuum.ensures in
+    (finished ends.0 c.finish_vacuum.new.reply, says.0, says.1, ends.1, c.in_ok-tell_reply-in-Some-VacuumFinish.ensures)
 
 pub returns-in_ok-show_ids-in-Some-Ids-clause-done : goal.returns-in_ok-show_ids-in-Some-Ids-clause-done
 returns-in_ok-show_ids-in-Some-Ids-clause-done c =

@@ -1,0 +1,108 @@
+//! The worked scripts of a vacuum that goes through an index of several leaves, piece by piece.
+//!
+//! The keys 1 to 300 lie on three pages of 107, 107 and 86 rows, and in leaves of 64, 64, 64 and 108 entries.
+
+use script::run_script;
+use std::alloc::{AllocError, Global};
+use std::test::Fail;
+
+// A script that grows, beside what it has to answer.
+#[derive(Drop)]
+struct Growing {
+    script: Vec<u8>,
+    answers: Vec<u8>,
+}
+
+fn begun(alloc: Global) -> Result<Growing, AllocError> {
+    let mut script = Vec::new(alloc);
+    script.extend_from_slice(b"heap 4 1000 0 3 64 0000\n")?;
+    Ok(Growing {
+        script,
+        answers: Vec::new(alloc),
+    })
+}
+
+// Lines, with the lines that they are answered.
+fn add(to: &mut Growing, lines: &[u8], answers: &[u8]) -> Result<(), AllocError> {
+    to.script.extend_from_slice(lines)?;
+    to.answers.extend_from_slice(answers)
+}
+
+// A transaction that inserts the keys from one to another.
+fn add_keys(alloc: Global, to: &mut Growing, first: u64, last: u64) -> Result<(), AllocError> {
+    add(to, b"begin 0\n", b"ok\n")?;
+    for key in first..=last {
+        let line = format!(in alloc; "insert 0 {key} 0 0 0 0 -\n")?;
+        add(to, line.as_bytes(), b"ok\n")?;
+    }
+    add(to, b"commit 0\n", b"committed\n")
+}
+
+// A look at a page, whose slots have so many keys in their order, as one transaction inserted them.
+fn add_page(
+    alloc: Global,
+    to: &mut Growing,
+    page: u32,
+    before: u64,
+    count: u64,
+) -> Result<(), AllocError> {
+    let line = format!(in alloc; "page {page}\n")?;
+    let head = format!(in alloc; "page {page} change {count} visible 0 slots {count}\n")?;
+    add(to, line.as_bytes(), head.as_bytes())?;
+    for slot in 1..=count {
+        let key = before + slot;
+        let row = format!(in alloc; "{slot} normal 3 0 {key}\n")?;
+        to.answers.extend_from_slice(row.as_bytes())?;
+    }
+    Ok(())
+}
+
+// Three pages of keys, of which the first is deleted; a vacuum begins, and visits them.
+fn visited(alloc: Global) -> Result<Growing, AllocError> {
+    let mut to = begun(alloc)?;
+    add_keys(alloc, &mut to, 1, 300)?;
+    add_page(alloc, &mut to, 0, 0, 107)?;
+    add_page(alloc, &mut to, 1, 107, 107)?;
+    add_page(alloc, &mut to, 2, 214, 86)?;
+    add(&mut to, b"begin 0\ndelete 0 1\ncommit 0\nvacuum begin normal\n", b"ok\nok\ncommitted\nok\n")?;
+    add(&mut to, b"vacuum step\nvacuum step\nvacuum step\n", b"heap 0\nheap 1\nheap 2\n")?;
+    Ok(to)
+}
+
+// A step of the vacuum for each leaf.
+fn add_pieces(to: &mut Growing, leaves: usize) -> Result<(), AllocError> {
+    for _ in 0..leaves {
+        add(to, b"vacuum step\n", b"index 0\n")?;
+    }
+    Ok(())
+}
+
+// Fails if the script is answered otherwise.
+fn answered(alloc: Global, to: &Growing) -> Result<(), Fail> {
+    let mut reader = to.script.as_slice();
+    let mut answers: Vec<u8> = Vec::new(alloc);
+    let (ended, _) = run_script(alloc, &mut reader, &mut answers);
+    if ended.is_err() || answers.as_slice() != to.answers.as_slice() {
+        return Err(Fail::new(format_args!("the script is answered otherwise")));
+    }
+    Ok(())
+}
+
+#[test]
+fn index_in_four_pieces(rt: HostRuntime) -> Result<(), Fail> {
+    let mut to = visited(rt.alloc())?;
+    add_pieces(&mut to, 4)?;
+    add(&mut to, b"vacuum step\nvacuum step\n", b"free 0\nended 3\n")?;
+    answered(rt.alloc(), &to)
+}
+
+// The last leaf splits while the vacuum has gone through the first alone: its halves are two pieces.
+#[test]
+fn split_between_two_pieces(rt: HostRuntime) -> Result<(), Fail> {
+    let mut to = visited(rt.alloc())?;
+    add_pieces(&mut to, 1)?;
+    add_keys(rt.alloc(), &mut to, 301, 321)?;
+    add_pieces(&mut to, 4)?;
+    add(&mut to, b"vacuum step\nvacuum step\n", b"free 0\nended 3\n")?;
+    answered(rt.alloc(), &to)
+}
