@@ -64,8 +64,16 @@ fn visited(alloc: Global) -> Result<Growing, AllocError> {
     add_page(alloc, &mut to, 0, 0, 107)?;
     add_page(alloc, &mut to, 1, 107, 107)?;
     add_page(alloc, &mut to, 2, 214, 86)?;
-    add(&mut to, b"begin 0\ndelete 0 1\ncommit 0\nvacuum begin normal\n", b"ok\nok\ncommitted\nok\n")?;
-    add(&mut to, b"vacuum step\nvacuum step\nvacuum step\n", b"heap 0\nheap 1\nheap 2\n")?;
+    add(
+        &mut to,
+        b"begin 0\ndelete 0 1\ncommit 0\nvacuum begin normal\n",
+        b"ok\nok\ncommitted\nok\n",
+    )?;
+    add(
+        &mut to,
+        b"vacuum step\nvacuum step\nvacuum step\n",
+        b"heap 0\nheap 1\nheap 2\n",
+    )?;
     Ok(to)
 }
 

@@ -11,7 +11,7 @@ returns-in_ok-tell_reply-in-Some-Do-clause-done c =
 
 pub returns-in_ok-tell_reply-in-Some-VacuumFinish-clause-done : goal.returns-in_ok-tell_reply-in-Some-VacuumFinish-clause-done
 returns-in_ok-tell_reply-in-Some-VacuumFinish-clause-done c =
-    let says = rw c.in-Some-VacuumFinish.is at c.in_ok-step.ensures in
+    let says = rw (c.in-Some-VacuumFinish.is, c.in-Some-VacuumFinish.field-0-is) at c.in_ok-step.ensures in
     let ends = c.finish_vacuum.ensures in
     (finished ends.0 c.finish_vacuum.new.reply, says.0, says.1, ends.1, c.in_ok-tell_reply-in-Some-VacuumFinish.ensures)
 
