@@ -38,19 +38,19 @@ fn add_keys(alloc: Global, to: &mut Growing, first: u64, last: u64) -> Result<()
     add(to, b"commit 0\n", b"committed\n")
 }
 
-// A look at a page, whose slots have so many keys in their order, as one transaction inserted them.
+// A look at a page, whose slots have so many keys behind those before, in their order, as one transaction inserted them.
 fn add_page(
     alloc: Global,
     to: &mut Growing,
     page: u32,
-    before: u64,
-    count: u64,
+    before: u32,
+    count: u32,
 ) -> Result<(), AllocError> {
     let line = format!(in alloc; "page {page}\n")?;
     let head = format!(in alloc; "page {page} change {count} visible 0 slots {count}\n")?;
     add(to, line.as_bytes(), head.as_bytes())?;
     for slot in 1..=count {
-        let key = before + slot;
+        let key = u64::from(before) + u64::from(slot);
         let row = format!(in alloc; "{slot} normal 3 0 {key}\n")?;
         to.answers.extend_from_slice(row.as_bytes())?;
     }
