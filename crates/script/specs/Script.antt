@@ -14,8 +14,9 @@ use Rattle.script.specs.declared.fault.ShellFault.{ShellFault}
 use Rattle.script.specs.declared.fault.ShellFault.TheVariants.{BadLine, TooManyLines}
 use Rattle.script_text.specs.declared.line.TheConstants.{MAX_LINE}
 
--- A line that was read and answered: a step with its reply; steps that finish a vacuum, with what each but the last did and the
--- last's reply; or a look at the ids, a page or an index with what it showed.
+-- A line that was read and answered: a step with its reply; steps that finish a vacuum, with what
+-- each but the last did and the last's reply; or a look at the ids, a page or an index with what it
+-- showed.
 pub data Event : Type 0 where
   did : Step → Reply → Event
   finished : List Piece → Reply → Event
@@ -70,23 +71,26 @@ answers_of events = flat_map (λ e. with_feed (answer_of e)) events
 
 -- a page with the bits that are noted of it
 abbrev pub shown_with : Option PageView → Option ℕ → Option Shown
-shown_with (Some page) (Some bits) = Some (record { change = page.change; visible = bits; slots = page.slots })
+shown_with (Some page) (Some bits) =
+    Some (record { change = page.change; visible = bits; slots = page.slots })
 shown_with page bits = None
 
 -- what a page, if it is in use, is shown as, with its bits of the visibility map
 abbrev pub shown_of : EngineView → ℕ → Option Shown
-shown_of st p = shown_with (slice_get st.core.heap.pages.pages p) (option_map bits_of (slice_get st.core.heap.pages.marks p))
+shown_of st p = shown_with (slice_get st.core.heap.pages.pages p)
+    (option_map bits_of (slice_get st.core.heap.pages.marks p))
 
 -- the steps of a vacuum end at the first that did no work, of 2^64 - 1 at most
 abbrev pub EndsVacuum : List Piece → Reply → Type 0
 EndsVacuum pieces last = (length pieces < 18446744073709551615)
     × ((piece : Piece) → last ≡ Worked piece → length pieces + 1 ≡ 18446744073709551615)
 
--- a step leads the engine on, as the history allows, and in what that leaves open exactly, and so does each that finishes a vacuum;
--- a look shows what is there
+-- a step leads the engine on, as the history allows, and in what that leaves open exactly, and so
+-- does each step that finishes a vacuum; a look shows what is there
 abbrev pub Moves : EngineView → Event → EngineView → Type 0
 Moves old (did step reply) new = EngineFollows old step reply new × EngineExact old step reply new
-Moves old (finished pieces last) new = RepliesLead old (vacuum_steps pieces) (vacuum_replies pieces last) new × EndsVacuum pieces last
+Moves old (finished pieces last) new =
+    RepliesLead old (vacuum_steps pieces) (vacuum_replies pieces last) new × EndsVacuum pieces last
 Moves old (showed_ids next frozen_below) new = (old ≡ new) × (next ≡ next_id old.core.heap.table) × (frozen_below ≡ old.core.heap.table.first)
 Moves old (showed_page p shown) new = (old ≡ new) × (shown ≡ shown_of old p)
 Moves old (showed_entries i entries) new = (old ≡ new) × (entries ≡ option_map (λ index. index.entries) (engine_index old.core i))

@@ -45,7 +45,8 @@ found_text row = codes "row" ++ spaced (row_text row.key row.cols row.body.items
 abbrev pub row_lines : List Row → List ℕ
 row_lines rows = flat_map (λ row. 10 ∷ found_text row) rows
 
--- what a step of a vacuum did: the page that it visited, the index that it went through, or the page whose slots it freed
+-- what a step of a vacuum did: the page that it visited, the index that it went through a piece of,
+-- or the page whose collected slots it freed
 abbrev pub piece_text : Piece → List ℕ
 piece_text (Heap p) = labelled (codes "heap") p
 piece_text (Index i) = labelled (codes "index") i

@@ -1,4 +1,5 @@
--- What lines and answers speak of: settings, steps, their rows and a vacuum's mode, replies and refusals, and the entries of an index.
+-- What lines and answers speak of: settings, steps, their rows and modes, replies, pieces and
+-- refusals, and the entries of an index.
 pub use Rattle.refinement.specs.Words.{RowText, AreSettings}
 pub use Rattle.refinement.specs.declared.settings.Settings.{Settings}
 pub use Rattle.refinement.specs.declared.step.Step.{Step}

@@ -18,7 +18,7 @@ pub const MAX_LINE: usize = 4096;
 pub enum Line {
     /// A step of the engine.
     Do(Step),
-    /// Steps of the vacuum, until one does no work.
+    /// Steps of the vacuum until one does no work, 2^64 - 1 at most.
     VacuumFinish,
     /// The next id, and that below which all are frozen.
     Ids,
