@@ -4,7 +4,7 @@ ghost use Rattle.std.specs.Prelude.{◌≡◌, ◌<◌, ◌≤◌, ◌+◌, ◌�
 ghost use Rattle.std.specs.Int.{next_multiple_of};
 
 use arrayvec::ArrayVec;
-use session_core::{RowIn, Step};
+use session_core::{Mode, RowIn, Step};
 use std::alloc::{AllocError, Global};
 use tuple_header::Row;
 
@@ -90,6 +90,9 @@ pub enum Ask {
     Next(u8, u16),
     Close(u8),
     Prune(u32),
+    VacuumBegin(Mode),
+    VacuumStep,
+    VacuumCancel,
 }
 
 impl Ask {
@@ -111,6 +114,9 @@ impl Ask {
             Ask::Next(s, count) => Step::Next(s, count),
             Ask::Close(s) => Step::Close(s),
             Ask::Prune(page) => Step::Prune(page),
+            Ask::VacuumBegin(mode) => Step::VacuumBegin(mode),
+            Ask::VacuumStep => Step::VacuumStep,
+            Ask::VacuumCancel => Step::VacuumCancel,
         })
     }
 
@@ -128,7 +134,7 @@ impl Ask {
             | Ask::OpenHeap(s)
             | Ask::Next(s, _)
             | Ask::Close(s) => Some(s),
-            Ask::Prune(_) => None,
+            Ask::Prune(_) | Ask::VacuumBegin(_) | Ask::VacuumStep | Ask::VacuumCancel => None,
             _ => self.writer(),
         }
     }

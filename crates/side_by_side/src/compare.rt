@@ -68,6 +68,8 @@ pub(crate) fn same_reply(a: &Reply, b: &Reply) -> bool
         (Reply::RolledBack, Reply::RolledBack) => true,
         (Reply::Rows(a), Reply::Rows(b)) => same_rows(a.as_slice(), b.as_slice()),
         (Reply::End, Reply::End) => true,
+        (Reply::Worked(a), Reply::Worked(b)) => *a == *b,
+        (Reply::Ended(a), Reply::Ended(b)) => *a == *b,
         (Reply::Refused(a), Reply::Refused(b)) => same_refusal(*a, *b),
         _ => false,
     }

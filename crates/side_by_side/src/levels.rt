@@ -1,13 +1,49 @@
-//! Which levels of a session have ids of their own.
+//! Which levels of a session have ids of their own, and which ids hold the horizon back.
 
 use crate::ask::Ask;
 use arrayvec::ArrayVec;
+use xid_circle::{Xid, precedes};
 
 /// The levels of an open session: it has one, and one more for each savepoint.
 #[derive(Drop)]
 pub(crate) struct Levels {
     // How many ids each level has, the lowest level first.
     ids: ArrayVec<u32, 33>,
+    // The session's first id, once it has one.
+    first: Option<Xid>,
+    // While the session is open: its snapshot's xmin.
+    xmin: Option<Xid>,
+}
+
+/// The earlier of two ids.
+pub(crate) fn earlier(a: Xid, b: Xid) -> Xid {
+    if a.is_normal() && b.is_normal() && precedes(b, a) {
+        b
+    } else {
+        a
+    }
+}
+
+/// The xmin of a snapshot that is taken now: the earliest first id of an open session, or else the next id.
+pub(crate) fn xmin_of(sessions: &[Levels], next: Xid) -> Xid {
+    let mut xmin = next;
+    for levels in sessions {
+        if let Some(first) = levels.first {
+            xmin = earlier(xmin, first);
+        }
+    }
+    xmin
+}
+
+/// The horizon: the earliest xmin of an open session's snapshot, or else the next id. A session's own ids come after its xmin.
+pub(crate) fn horizon_of(sessions: &[Levels], next: Xid) -> Xid {
+    let mut horizon = next;
+    for levels in sessions {
+        if let Some(xmin) = levels.xmin {
+            horizon = earlier(horizon, xmin);
+        }
+    }
+    horizon
 }
 
 impl Levels {
@@ -15,7 +51,11 @@ impl Levels {
     pub(crate) fn new() -> Levels {
         let mut ids = ArrayVec::new();
         let _ = ids.try_push(0);
-        Levels { ids }
+        Levels {
+            ids,
+            first: None,
+            xmin: None,
+        }
     }
 
     /// How many levels have no id.
@@ -36,8 +76,21 @@ impl Levels {
         all.saturating_sub(1)
     }
 
-    // A write gives an id to each level that has none.
-    fn fill(&mut self) {
+    /// The session begins, with a snapshot of this xmin.
+    pub(crate) fn begin(&mut self, xmin: Xid) {
+        self.xmin = Some(xmin);
+    }
+
+    /// Whether the session is open.
+    pub(crate) fn is_open(&self) -> bool {
+        self.xmin.is_some()
+    }
+
+    // A write gives an id to each level that has none, the lowest first: the first id of a session is that of its lowest level.
+    fn fill(&mut self, next: Xid) {
+        if self.first.is_none() {
+            self.first = Some(next);
+        }
         for count in self.ids.as_mut_slice().iter_mut() {
             if *count == 0 {
                 *count = 1;
@@ -53,8 +106,8 @@ impl Levels {
         self.ids.pop().unwrap_or(0)
     }
 
-    /// Follows a step of the session that was done, and says how many ids it gives.
-    pub(crate) fn follow(&mut self, ask: Ask) -> usize {
+    /// Follows a step of the session that was done, where this was the next id, and says how many ids it gives.
+    pub(crate) fn follow(&mut self, ask: Ask, next: Xid) -> usize {
         match ask {
             Ask::Begin(_) | Ask::Commit(_) | Ask::Abort(_) => *self = Levels::new(),
             Ask::Savepoint(_) => self.push(0),
@@ -69,7 +122,7 @@ impl Levels {
             }
             Ask::Insert(_, _) | Ask::Update(_, _) | Ask::Delete(_, _) => {
                 let lacking = self.lacking();
-                self.fill();
+                self.fill(next);
                 return lacking;
             }
             _ => {}

@@ -8,11 +8,13 @@ ghost use Rattle.xid_circle.specs.Circle.{IsNormal, distance_of};
 use crate::ask::{Ask, Bodies};
 use crate::compare::{same_found, same_reply};
 use crate::cursors::{Cursor, hand_out};
-use crate::levels::Levels;
+use crate::levels::{Levels, horizon_of, xmin_of};
+use crate::look::{are_all_visible, count_slots, first_astray, first_misnoted};
 use crate::plain_side::{all_rows, answer, answer_without_writing, refusal_of, refused_or};
+use crate::vacuum::{RunningVacuum, expected_of_vacuum};
 use page_slots::Page;
 use plain_history::{PlainHistory, Refused};
-use session_core::{Engine, Refusal, Reply, Row, Settings};
+use session_core::{Engine, Mode, Refusal, Reply, Row, Settings};
 use std::alloc::{AllocError, Global};
 use xid_circle::{Xid, distance, next};
 
@@ -25,6 +27,12 @@ pub enum Difference {
     Ids((Xid, Xid), (Xid, Xid)),
     /// What this session reads of this key.
     View(u8, u64),
+    /// What is noted of this page, and what is on it.
+    Noted(u32),
+    /// The entries of this index, and the roots that they have to lead to.
+    Entries(u8),
+    /// What a vacuum that nobody disturbed left, and the rows.
+    NotBare,
     /// No view of a session was compared.
     NoView,
     /// There was no memory to make the comparison.
@@ -69,6 +77,8 @@ pub struct Pair {
     levels: Vec<Levels>,
     // That of each session.
     cursors: Vec<Cursor>,
+    // The one that runs, if one does.
+    vacuum: Option<RunningVacuum>,
 }
 
 // What was so before a step.
@@ -177,6 +187,7 @@ impl Pair {
             views: Views { views: 0, rows: 0 },
             levels,
             cursors,
+            vacuum: None,
         })
     }
 
@@ -215,6 +226,32 @@ impl Pair {
             self.cursors.get(s as usize),
             Some(Cursor::Index | Cursor::Heap(_))
         )
+    }
+
+    /// Whether the session is open.
+    pub fn is_open(&self, s: u8) -> bool {
+        self.levels(s).map_or(false, |levels| levels.is_open())
+    }
+
+    /// Whether a vacuum runs.
+    pub fn has_vacuum(&self) -> bool {
+        self.vacuum.is_some()
+    }
+
+    /// The engine's next id.
+    pub fn next_id(&self) -> Xid {
+        self.engine.ids().0
+    }
+
+    /// How many slots there are on all pages.
+    pub fn slots(&self) -> u64 {
+        let mut slots: u64 = 0;
+        for number in 0..self.settings.max_pages {
+            if let Some(page) = self.engine.page(number) {
+                slots = slots.saturating_add(u64::from(page.slots()));
+            }
+        }
+        slots
     }
 
     // Whether the step would need ids, and not as many may be given.
@@ -322,6 +359,9 @@ impl Pair {
                     Some(Reply::Refused(Refusal::NoSuchPage))
                 }
             }
+            Ask::VacuumBegin(_) | Ask::VacuumStep | Ask::VacuumCancel => {
+                expected_of_vacuum(self.vacuum, before.ids.1, ask, reply)
+            }
             Ask::Next(s, _) => self.expected_of_next(alloc, bodies, s, ask, reply),
             _ => answer(&mut self.plain, bodies, ask),
         }
@@ -347,16 +387,44 @@ impl Pair {
         }
     }
 
-    // The ids that there have to be. A write that is done gives an id to each level of its session that has none, and no
-    // other step changes them.
+    // The ids that there have to be. A write that is done gives an id to each level of its session that has none, at the end of an
+    // aggressive vacuum old ones are forgotten, and no other step changes them.
     fn expected_ids(&mut self, ask: Ask, before: Before, reply: &Reply) -> (Xid, Xid) {
         let mut given = 0;
         if let (true, Some(s)) = (is_done(reply), ask.session()) {
             if let Some(levels) = self.levels.get_mut(s as usize) {
-                given = levels.follow(ask);
+                given = levels.follow(ask, before.ids.0);
             }
         }
-        (after(before.ids.0, given), before.ids.1)
+        let first = match (reply, self.vacuum) {
+            (Reply::Ended(_), Some(vacuum)) => vacuum.first_after(before.ids.1),
+            _ => before.ids.1,
+        };
+        (after(before.ids.0, given), first)
+    }
+
+    // A session that begins keeps the horizon back to its snapshot's xmin.
+    fn note_snapshot(&mut self, ask: Ask, reply: &Reply) {
+        if let (Ask::Begin(s), Reply::Done) = (ask, reply) {
+            let xmin = xmin_of(self.levels.as_slice(), self.engine.ids().0);
+            if let Some(levels) = self.levels.get_mut(s as usize) {
+                levels.begin(xmin);
+            }
+        }
+    }
+
+    fn new_vacuum(&self, mode: Mode) -> RunningVacuum {
+        let ids = self.engine.ids();
+        let horizon = horizon_of(self.levels.as_slice(), ids.0);
+        RunningVacuum::new(mode, ids, horizon, self.settings.freeze_min_age)
+    }
+
+    fn note_vacuum(&mut self, ask: Ask, reply: &Reply) {
+        match (ask, reply) {
+            (Ask::VacuumBegin(mode), Reply::Done) => self.vacuum = Some(self.new_vacuum(mode)),
+            (Ask::VacuumCancel, _) | (_, Reply::Ended(_)) => self.vacuum = None,
+            _ => {}
+        }
     }
 
     /// Does the step on both sides, and gives the reply, where it is as it has to be.
@@ -382,7 +450,44 @@ impl Pair {
             return Err(Difference::Ids(ids, expected_ids));
         }
         self.note_cursor(alloc, ask, &reply);
+        self.note_snapshot(ask, &reply);
+        self.note_vacuum(ask, &reply);
+        if let Ask::VacuumStep = ask {
+            self.look()?;
+        }
         Ok(reply)
+    }
+
+    /// Looks at what is noted of the pages, and at the entries of the indexes, beside the pages.
+    pub fn look(&self) -> Result<(), Difference> {
+        let pages = self.settings.max_pages;
+        if let Some(number) = first_misnoted(&self.engine, pages) {
+            return Err(Difference::Noted(number));
+        }
+        match first_astray(&self.engine, count_slots(&self.engine, pages)) {
+            Some(number) => Err(Difference::Entries(number)),
+            None => Ok(()),
+        }
+    }
+
+    /// Compares the pages with the rows that the session reads, which began after an aggressive vacuum had ended, where nobody else did
+    /// a step meanwhile and no session was open: there is one version for each row, no slot is dead, and all pages are all-visible.
+    pub fn compare_bare(&mut self, s: u8) -> Result<(), Difference> {
+        let mut rows: u64 = 0;
+        for key in self.keys {
+            if let Ok(Some(_)) = self.plain.get(s, *key) {
+                rows = rows.saturating_add(1);
+            }
+        }
+        let pages = self.settings.max_pages;
+        let counts = count_slots(&self.engine, pages);
+        if self.vacuum.is_some() {
+            return Err(Difference::NotBare);
+        }
+        if counts.versions != rows || counts.dead > 0 || !are_all_visible(&self.engine, pages) {
+            return Err(Difference::NotBare);
+        }
+        Ok(())
     }
 
     // What the session reads of the key on both sides.

@@ -92,7 +92,7 @@ fn without_wait(
 }
 
 /// Does the step, whose row is not too large. Nothing is answered where the engine has no word for the answer, and to
-/// the pruning of a page, of which the history knows nothing.
+/// the pruning of a page and the steps of a vacuum, of which the history knows nothing.
 pub(crate) fn answer(plain: &mut PlainHistory, bodies: &Bodies, ask: Ask) -> Option<Reply> {
     match ask {
         Ask::Begin(s) => done(plain.begin(s)),
@@ -118,7 +118,7 @@ pub(crate) fn answer(plain: &mut PlainHistory, bodies: &Bodies, ask: Ask) -> Opt
         Ask::OpenHeap(s) => done(plain.open_heap(s)),
         Ask::Next(s, count) => handed(plain.next(s, count)),
         Ask::Close(s) => done(plain.close(s)),
-        Ask::Prune(_) => None,
+        Ask::Prune(_) | Ask::VacuumBegin(_) | Ask::VacuumStep | Ask::VacuumCancel => None,
     }
 }
 

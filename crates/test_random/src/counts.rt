@@ -3,13 +3,13 @@
 ghost use Rattle.std.specs.Prelude.{◌<◌, IfSome};
 
 use page_slots::{Page, Slot};
-use session_core::{Refusal, Reply};
-use side_by_side::Views;
+use session_core::{Piece, Refusal, Reply};
+use side_by_side::{Ask, Views};
 use std::io;
 use tuple_header::Tuple;
 
 /// How many kinds there are.
-pub(crate) const KINDS: usize = 31;
+pub(crate) const KINDS: usize = 41;
 
 const NAMES: [&str; KINDS] = [
     "Done",
@@ -43,17 +43,36 @@ const NAMES: [&str; KINDS] = [
     "heap-only versions",
     "versions whose successor is on another page",
     "begun beside more than 64 children of one session",
+    "VacuumRunning",
+    "NoVacuum",
+    "Worked, visited a page",
+    "Worked, removed entries",
+    "Worked, freed slots",
+    "Ended",
+    "vacuums that were broken off",
+    "versions put in a slot that was used before",
+    "engines whose ids begin near the turn",
+    "engines whose ids passed it, after a vacuum had lifted NeedsFreeze",
 ];
 
-/// Counts of all kinds, and of the views that were compared.
+const NEAR: usize = 39;
+
+// Of all that begin near the turn.
+const PASSED: usize = 40;
+
+// How many engines have to pass the turn.
+const MANY: u64 = 1000;
+
+/// Counts of all steps, of all kinds, and of the views that were compared.
 #[derive(Drop)]
 pub(crate) struct Counts {
+    steps: u64,
     counts: [u64; KINDS],
     views: Views,
 }
 
 fn place_of_refusal(refusal: Refusal) -> Option<usize>
-    ensures { IfSome result (λ place. place < 31) }
+    ensures { IfSome result (λ place. place < 41) }
 {
     match refusal {
         Refusal::NotOpen => Some(7),
@@ -74,12 +93,14 @@ fn place_of_refusal(refusal: Refusal) -> Option<usize>
         Refusal::NoSuchIndex => Some(22),
         Refusal::NoSuchSession => Some(23),
         Refusal::BadBounds => Some(24),
+        Refusal::VacuumRunning => Some(31),
+        Refusal::NoVacuum => Some(32),
         Refusal::NoMemory => None,
     }
 }
 
 fn place_of_reply(reply: &Reply) -> Option<usize>
-    ensures { IfSome result (λ place. place < 31) }
+    ensures { IfSome result (λ place. place < 41) }
 {
     match reply {
         Reply::Done => Some(0),
@@ -89,12 +110,16 @@ fn place_of_reply(reply: &Reply) -> Option<usize>
         Reply::RolledBack => Some(4),
         Reply::Rows(_) => Some(5),
         Reply::End => Some(6),
+        Reply::Worked(Piece::Heap(_)) => Some(33),
+        Reply::Worked(Piece::Index(_)) => Some(34),
+        Reply::Worked(Piece::Free(_)) => Some(35),
+        Reply::Ended(_) => Some(36),
         Reply::Refused(refusal) => place_of_refusal(*refusal),
     }
 }
 
 fn place_of_version(version: &Tuple, page: u32) -> Option<usize>
-    ensures { IfSome result (λ place. place < 31) }
+    ensures { IfSome result (λ place. place < 41) }
 {
     if version.header.ctid.page != page {
         Some(29)
@@ -106,7 +131,7 @@ fn place_of_version(version: &Tuple, page: u32) -> Option<usize>
 }
 
 fn place_of_slot(slot: &Slot, page: u32) -> Option<usize>
-    ensures { IfSome result (λ place. place < 31) }
+    ensures { IfSome result (λ place. place < 41) }
 {
     match slot {
         Slot::Unused => Some(25),
@@ -120,6 +145,7 @@ impl Counts {
     /// Nothing is counted yet.
     pub(crate) fn new() -> Counts {
         Counts {
+            steps: 0,
             counts: [0; KINDS],
             views: Views { views: 0, rows: 0 },
         }
@@ -135,17 +161,39 @@ impl Counts {
         self.views
     }
 
+    /// The steps of all runs.
+    pub(crate) fn steps(&self) -> u64 {
+        self.steps
+    }
+
     fn add(&mut self, place: Option<usize>)
-        requires { IfSome place (λ place. place < 31) }
+        requires { IfSome place (λ place. place < 41) }
     {
         if let Some(place) = place {
             self.counts[place] = self.counts[place].saturating_add(1);
         }
     }
 
-    /// Counts a reply.
-    pub(crate) fn add_reply(&mut self, reply: &Reply) {
+    /// Counts a step with its reply.
+    pub(crate) fn add_step(&mut self, ask: Ask, reply: &Reply) {
+        self.steps = self.steps.saturating_add(1);
         self.add(place_of_reply(reply));
+        if let (Ask::VacuumCancel, Reply::Done) = (ask, reply) {
+            self.add(Some(37));
+        }
+    }
+
+    /// Counts a version that was put in a slot that was used before.
+    pub(crate) fn add_reused(&mut self) {
+        self.add(Some(38));
+    }
+
+    /// Counts an engine whose ids begin near the turn, and whether they passed it.
+    pub(crate) fn add_turning(&mut self, passed: bool) {
+        self.add(Some(NEAR));
+        if passed {
+            self.add(Some(PASSED));
+        }
     }
 
     /// Counts a session that began beside one with so many children: the snapshot names them where they are at most 64.
@@ -164,12 +212,16 @@ impl Counts {
         }
     }
 
-    /// The name of a kind that never came, if there is one.
+    /// The name of a kind that never came, or too seldom, if there is one.
     pub(crate) fn missing(&self) -> Option<&'static str> {
         for place in 0..KINDS {
             if self.counts[place] == 0 {
                 return Some(NAMES[place]);
             }
+        }
+        let passed = self.counts[PASSED];
+        if passed < MANY || passed < self.counts[NEAR] {
+            return Some(NAMES[PASSED]);
         }
         None
     }

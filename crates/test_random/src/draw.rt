@@ -3,6 +3,7 @@
 ghost use Rattle.std.specs.Prelude.{◌⊎◌, ◌≤◌, Contains};
 
 use crate::generator::Generator;
+use session_core::Mode;
 use side_by_side::{Ask, Bodies, Standing, Written};
 use std::alloc::{AllocError, Global};
 
@@ -96,6 +97,23 @@ fn draw_write(generator: &mut Generator, s: u8, key: u64, reads: bool, length: u
         Ask::Delete(s, key)
     } else {
         Ask::Update(s, draw_row(generator, key, length))
+    }
+}
+
+/// A write of the key that the session can do, with an empty body: it deletes the row, or inserts one.
+pub(crate) fn write_of(s: u8, key: u64, reads: bool) -> Ask {
+    if reads {
+        Ask::Delete(s, key)
+    } else {
+        Ask::Insert(
+            s,
+            Written {
+                key,
+                cols: [0; 4],
+                from: 0,
+                length: 0,
+            },
+        )
     }
 }
 
@@ -218,5 +236,26 @@ pub(crate) fn draw_step_in_levels(
         Standing::Failed => Ask::RollbackTo(s),
         Standing::Reads => draw_in_level(generator, s, key, true, lacks_id),
         Standing::ReadsNone => draw_in_level(generator, s, key, false, lacks_id),
+    }
+}
+
+// Two of three vacuums are aggressive.
+fn draw_mode(generator: &mut Generator) -> Mode {
+    if generator.below(3) == 0 {
+        Mode::Normal
+    } else {
+        Mode::Aggressive
+    }
+}
+
+/// A step of a vacuum: mostly the next of the one that runs, or a beginning where none does. Now and then it is broken off, or the step is
+/// refused.
+pub(crate) fn draw_vacuum(generator: &mut Generator, is_running: bool) -> Ask {
+    match generator.below(64) {
+        0 => Ask::VacuumCancel,
+        1 => Ask::VacuumBegin(draw_mode(generator)),
+        2 => Ask::VacuumStep,
+        _ if is_running => Ask::VacuumStep,
+        _ => Ask::VacuumBegin(draw_mode(generator)),
     }
 }

@@ -9,25 +9,27 @@
 mod counts;
 mod draw;
 mod generator;
+mod passage;
 mod run;
 
 use counts::Counts;
 use draw::draw_bodies;
 use generator::Generator;
-use run::{RUNS, do_run, steps_of};
+use run::{RUNS, do_run};
 use side_by_side::Views;
 use std::alloc::Global;
 use std::io;
 use std::process::ExitCode;
 
 // Whether each kind came.
-fn report(rt: &impl Print, counts: &Counts, steps: u64) -> io::Result<bool> {
+fn report(rt: &impl Print, counts: &Counts) -> io::Result<bool> {
+    let steps = counts.steps();
     println!(rt; "{steps} steps, each reply as the history has it")?;
     let Views { views, rows } = counts.views();
     println!(rt; "{views} views of sessions with {rows} rows, each as the history has it")?;
     counts.print(rt)?;
     if let Some(name) = counts.missing() {
-        println!(rt; "never: {name}")?;
+        println!(rt; "never, or too seldom: {name}")?;
         return Ok(false);
     }
     Ok(true)
@@ -37,15 +39,13 @@ fn report(rt: &impl Print, counts: &Counts, steps: u64) -> io::Result<bool> {
 fn do_all_runs(rt: &impl Print, alloc: Global) -> io::Result<bool> {
     let bodies = draw_bodies(alloc, &mut Generator::new(RUNS))?;
     let mut counts = Counts::new();
-    let mut steps: u64 = 0;
     for run in 0..RUNS {
         if let Err(failure) = do_run(alloc, &bodies, run, &mut counts) {
             println!(rt; "run {run}: {failure:?}")?;
             return Ok(false);
         }
-        steps = steps.saturating_add(steps_of(run));
     }
-    report(rt, &counts, steps)
+    report(rt, &counts)
 }
 
 fn main(rt: HostRuntime) -> ExitCode {

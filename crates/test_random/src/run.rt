@@ -1,20 +1,31 @@
 //! Runs of steps on a new engine.
 
 use crate::counts::Counts;
-use crate::draw::{KEYS, draw_key, draw_key_of_few, draw_session, draw_step, draw_step_in_levels};
+use crate::draw::{
+    KEYS, draw_key, draw_key_of_few, draw_session, draw_step, draw_step_in_levels, draw_vacuum,
+    write_of,
+};
 use crate::generator::Generator;
-use session_core::{Reply, Settings};
-use side_by_side::{Ask, Bodies, Difference, Pair};
+use crate::passage::{HALF, Passage};
+use session_core::{Mode, Reply, Settings};
+use side_by_side::{Ask, Bodies, Difference, Pair, Standing};
 use std::alloc::Global;
+use xid_circle::Xid;
 
 /// How many runs there are.
-pub(crate) const RUNS: u64 = 2600;
+pub(crate) const RUNS: u64 = 110;
 
 // A few sessions, also the last ones. Of more than eight writers a snapshot asks for memory.
 const SESSIONS: [u8; 12] = [0, 63, 1, 2, 3, 62, 4, 5, 6, 31, 32, 33];
 
 // The session that makes many levels, in the runs where one does.
 const NESTING: u8 = 7;
+
+// So many transactions that write pass the turn.
+const MOST_TRANSACTIONS: usize = 100;
+
+// A vacuum of so few pages, that nobody disturbs, takes fewer steps.
+const MOST_VACUUM_STEPS: u32 = 20_000;
 
 // The ids end in the runs of the second: the next one after them is 3.
 const FIRST_IDS: [u32; 4] = [3, 4_294_967_290, 2_147_483_640, 1000];
@@ -32,6 +43,40 @@ fn is_nested(run: u64) -> bool {
     run % 10 == 9
 }
 
+// Whether the ids of the run begin shortly before the end of the circle or its half, and few may be given before old ones are frozen.
+fn is_turning(run: u64) -> bool {
+    run % 11 < 4 && !is_nested(run)
+}
+
+fn first_xid_of(run: u64) -> u32 {
+    let before = 1 + (run % 10) as u32;
+    match (is_turning(run), run / 11 % 2) {
+        (true, 0) => u32::MAX - before,
+        (true, _) => HALF - before,
+        _ => FIRST_IDS[(run / 4 % 4) as usize],
+    }
+}
+
+fn stop_age_of(run: u64) -> u32 {
+    match run % 7 {
+        _ if is_turning(run) => 6 + (run % 13) as u32,
+        5 => 10,
+        6 => 25,
+        _ => 1_000_000,
+    }
+}
+
+fn freeze_min_age_of(run: u64) -> u32 {
+    match run % 5 {
+        0 if is_turning(run) => 2,
+        _ if is_turning(run) => 0,
+        0 => 3,
+        1 => 7,
+        2 => 1_000_000_000,
+        _ => 0,
+    }
+}
+
 fn settings_of(run: u64) -> Settings {
     Settings {
         // The session that makes many levels keeps old rows from being pruned.
@@ -40,20 +85,17 @@ fn settings_of(run: u64) -> Settings {
         } else {
             1 + (run % 4) as u32
         },
-        stop_age: match run % 7 {
-            5 => 10,
-            6 => 25,
-            _ => 1_000_000,
-        },
-        freeze_min_age: 0,
-        first_xid: FIRST_IDS[(run / 4 % 4) as usize],
-        dead_limit: 64,
+        stop_age: stop_age_of(run),
+        freeze_min_age: freeze_min_age_of(run),
+        first_xid: first_xid_of(run),
+        dead_limit: [64, 1, 3, 4096][(run / 3 % 4) as usize],
         indexed: [run % 3 == 1, run % 3 == 2, false, run % 6 == 1],
     }
 }
 
 fn sessions_of(run: u64) -> &'static [u8] {
     match run / 16 % 5 {
+        3 | 4 if is_turning(run) => &SESSIONS[..3],
         0 => &SESSIONS[..2],
         1 => &SESSIONS[..3],
         2 => &SESSIONS[..5],
@@ -62,24 +104,25 @@ fn sessions_of(run: u64) -> &'static [u8] {
     }
 }
 
-/// How many steps the run has: 200 to 600.
-pub(crate) fn steps_of(run: u64) -> u64 {
-    200 + run % 5 * 100
+// How many steps are drawn in the run: 200 to 600.
+fn steps_of(run: u64) -> u64 {
+    if is_turning(run) {
+        500
+    } else {
+        200 + run % 5 * 100
+    }
 }
 
-fn compare_views(pair: &mut Pair, sessions: &[u8], step: u64) -> Result<(), Failure> {
-    match pair.compare_views(sessions) {
-        Ok(()) => Ok(()),
-        Err(difference) => Err(Failure {
-            step,
-            ask: None,
-            difference,
-        }),
-    }
+// How many of a hundred steps are a vacuum's.
+fn vacuum_share(run: u64) -> u32 {
+    if is_turning(run) { 25 } else { 10 }
 }
 
 // The next step: whose it is, and what the session asks for as it stands.
 fn draw_ask(generator: &mut Generator, pair: &mut Pair, run: u64) -> Ask {
+    if generator.below(100) < vacuum_share(run) {
+        return draw_vacuum(generator, pair.has_vacuum());
+    }
     if is_nested(run) && generator.below(4) > 0 {
         let key = draw_key_of_few(generator);
         let standing = pair.standing(NESTING, key);
@@ -87,41 +130,14 @@ fn draw_ask(generator: &mut Generator, pair: &mut Pair, run: u64) -> Ask {
         return draw_step_in_levels(generator, NESTING, key, standing, lacks_id);
     }
     let s = draw_session(generator, sessions_of(run));
+    if is_turning(run) && generator.below(4) == 0 {
+        return Ask::Commit(s);
+    }
     let key = draw_key(generator);
     let standing = pair.standing(s, key);
     let has_cursor = pair.has_cursor(s);
     let pages = settings_of(run).max_pages;
     draw_step(generator, s, key, standing, has_cursor, pages)
-}
-
-fn count(counts: &mut Counts, pair: &Pair, ask: Ask, reply: &Reply) {
-    counts.add_reply(reply);
-    if let (Ask::Begin(_), Reply::Done) = (ask, reply) {
-        counts.add_begun(pair.children(NESTING));
-    }
-}
-
-fn count_pages(pair: &Pair, pages: u32, counts: &mut Counts) {
-    for number in 0..pages {
-        if let Some(page) = pair.page(number) {
-            counts.add_page(page, number);
-        }
-    }
-}
-
-// Each run has sessions, so that a view was compared in each.
-fn count_views(pair: &Pair, step: u64, counts: &mut Counts) -> Result<(), Failure> {
-    match pair.views() {
-        Ok(views) => {
-            counts.add_views(views);
-            Ok(())
-        }
-        Err(difference) => Err(Failure {
-            step,
-            ask: None,
-            difference,
-        }),
-    }
 }
 
 fn new_pair(alloc: Global, settings: Settings) -> Result<Pair, Failure> {
@@ -135,33 +151,198 @@ fn new_pair(alloc: Global, settings: Settings) -> Result<Pair, Failure> {
     }
 }
 
-/// Does the steps of the run, and compares each reply, and every 50 steps what all sessions read.
+/// A run: what it is done on, and how far it has come.
+#[derive(Drop)]
+struct Run {
+    number: u64,
+    pair: Pair,
+    step: u64,
+    passage: Passage,
+}
+
+impl Run {
+    fn new(alloc: Global, number: u64) -> Result<Run, Failure> {
+        let settings = settings_of(number);
+        Ok(Run {
+            number,
+            pair: new_pair(alloc, settings)?,
+            step: 0,
+            passage: Passage::new(Xid(settings.first_xid)),
+        })
+    }
+
+    fn failed(&self, ask: Option<Ask>, difference: Difference) -> Failure {
+        Failure {
+            step: self.step,
+            ask,
+            difference,
+        }
+    }
+
+    fn count(&mut self, counts: &mut Counts, ask: Ask, reply: &Reply, slots: u64) {
+        counts.add_step(ask, reply);
+        self.passage.follow(reply, self.pair.next_id());
+        match (ask, reply) {
+            (Ask::Begin(_), Reply::Done) => counts.add_begun(self.pair.children(NESTING)),
+            (Ask::Insert(_, _) | Ask::Update(_, _), Reply::Done) => {
+                if self.pair.slots() == slots {
+                    counts.add_reused();
+                }
+            }
+            _ => {}
+        }
+    }
+
+    // Does the step, compares its reply and counts it.
+    fn do_step(
+        &mut self,
+        alloc: Global,
+        bodies: &Bodies,
+        counts: &mut Counts,
+        ask: Ask,
+    ) -> Result<(), Failure> {
+        let slots = self.pair.slots();
+        match self.pair.step(alloc, bodies, ask) {
+            Ok(reply) => self.count(counts, ask, &reply, slots),
+            Err(difference) => return Err(self.failed(Some(ask), difference)),
+        }
+        self.step = self.step.saturating_add(1);
+        Ok(())
+    }
+
+    // Compares what all sessions read, and looks at the maps and the indexes.
+    fn compare(&mut self, sessions: &[u8]) -> Result<(), Failure> {
+        if let Err(difference) = self.pair.compare_views(sessions) {
+            return Err(self.failed(None, difference));
+        }
+        match self.pair.look() {
+            Ok(()) => Ok(()),
+            Err(difference) => Err(self.failed(None, difference)),
+        }
+    }
+
+    // Does the steps that are drawn, and every 50 steps compares what all sessions read.
+    fn do_drawn(
+        &mut self,
+        alloc: Global,
+        bodies: &Bodies,
+        counts: &mut Counts,
+    ) -> Result<(), Failure> {
+        let mut generator = Generator::new(self.number);
+        for step in 0..steps_of(self.number) {
+            let ask = draw_ask(&mut generator, &mut self.pair, self.number);
+            self.do_step(alloc, bodies, counts, ask)?;
+            if step % 50 == 49 {
+                self.compare(sessions_of(self.number))?;
+                self.compare(&[NESTING])?;
+            }
+        }
+        Ok(())
+    }
+
+    // Ends all sessions, and the vacuum that runs.
+    fn end_all(
+        &mut self,
+        alloc: Global,
+        bodies: &Bodies,
+        counts: &mut Counts,
+    ) -> Result<(), Failure> {
+        for s in 0..64u8 {
+            if self.pair.is_open(s) {
+                self.do_step(alloc, bodies, counts, Ask::Abort(s))?;
+            }
+        }
+        self.do_step(alloc, bodies, counts, Ask::VacuumCancel)
+    }
+
+    // Does a whole vacuum while no session is open, and compares what it leaves with the rows.
+    fn clear(
+        &mut self,
+        alloc: Global,
+        bodies: &Bodies,
+        counts: &mut Counts,
+    ) -> Result<(), Failure> {
+        self.do_step(alloc, bodies, counts, Ask::VacuumBegin(Mode::Aggressive))?;
+        for _ in 0..MOST_VACUUM_STEPS {
+            if self.pair.has_vacuum() {
+                self.do_step(alloc, bodies, counts, Ask::VacuumStep)?;
+            }
+        }
+        self.do_step(alloc, bodies, counts, Ask::Begin(0))?;
+        if let Err(difference) = self.pair.compare_bare(0) {
+            return Err(self.failed(None, difference));
+        }
+        self.compare(&[0])?;
+        self.do_step(alloc, bodies, counts, Ask::Commit(0))
+    }
+
+    // A transaction of session 0 that writes the key, and so takes an id.
+    fn do_transaction(
+        &mut self,
+        alloc: Global,
+        bodies: &Bodies,
+        counts: &mut Counts,
+        key: u64,
+    ) -> Result<(), Failure> {
+        self.do_step(alloc, bodies, counts, Ask::Begin(0))?;
+        let reads = matches!(self.pair.standing(0, key), Standing::Reads);
+        self.do_step(alloc, bodies, counts, write_of(0, key, reads))?;
+        self.do_step(alloc, bodies, counts, Ask::Commit(0))
+    }
+
+    // Takes ids until they have passed the turn, and vacuums where no more are given. No session is open before and after.
+    fn pass_turn(
+        &mut self,
+        alloc: Global,
+        bodies: &Bodies,
+        counts: &mut Counts,
+    ) -> Result<(), Failure> {
+        for i in 0..MOST_TRANSACTIONS {
+            if !self.passage.is_whole() {
+                self.do_transaction(alloc, bodies, counts, KEYS[i % 12])?;
+            }
+            if self.passage.is_stopped() {
+                self.clear(alloc, bodies, counts)?;
+            }
+        }
+        Ok(())
+    }
+
+    fn count_pages(&self, counts: &mut Counts) {
+        for number in 0..settings_of(self.number).max_pages {
+            if let Some(page) = self.pair.page(number) {
+                counts.add_page(page, number);
+            }
+        }
+    }
+
+    // Each run has sessions, so that a view was compared in each.
+    fn count_views(&self, counts: &mut Counts) -> Result<(), Failure> {
+        match self.pair.views() {
+            Ok(views) => {
+                counts.add_views(views);
+                Ok(())
+            }
+            Err(difference) => Err(self.failed(None, difference)),
+        }
+    }
+}
+
+/// Does the steps of the run, and compares each reply. At its end the table is vacuumed while no session is open.
 pub(crate) fn do_run(
     alloc: Global,
     bodies: &Bodies,
-    run: u64,
+    number: u64,
     counts: &mut Counts,
 ) -> Result<(), Failure> {
-    let settings = settings_of(run);
-    let mut generator = Generator::new(run);
-    let mut pair = new_pair(alloc, settings)?;
-    for step in 0..steps_of(run) {
-        let ask = draw_ask(&mut generator, &mut pair, run);
-        match pair.step(alloc, bodies, ask) {
-            Ok(reply) => count(counts, &pair, ask, &reply),
-            Err(difference) => {
-                return Err(Failure {
-                    step,
-                    ask: Some(ask),
-                    difference,
-                });
-            }
-        }
-        if step % 50 == 49 {
-            compare_views(&mut pair, sessions_of(run), step)?;
-            compare_views(&mut pair, &[NESTING], step)?;
-        }
+    let mut run = Run::new(alloc, number)?;
+    run.do_drawn(alloc, bodies, counts)?;
+    run.count_pages(counts);
+    run.end_all(alloc, bodies, counts)?;
+    run.clear(alloc, bodies, counts)?;
+    if is_turning(number) {
+        run.pass_turn(alloc, bodies, counts)?;
+        counts.add_turning(run.passage.is_whole());
     }
-    count_pages(&pair, settings.max_pages, counts);
-    count_views(&pair, steps_of(run), counts)
+    run.count_views(counts)
 }

@@ -1,7 +1,9 @@
 //! Tables of steps, each beside what it has to answer.
 
 use page_slots::{Page, Slot};
-use session_core::{Engine, Refusal, Reply, Row, RowIn, Settings, SettingsFault, Step, run};
+use session_core::{
+    Engine, Mode, Piece, Refusal, Reply, Row, RowIn, Settings, SettingsFault, Step, run,
+};
 use std::alloc::{AllocError, Global};
 use std::test::Fail;
 
@@ -29,6 +31,9 @@ pub enum Ask {
     Commit(u8),
     Abort(u8),
     Prune(u32),
+    VacuumBegin(Mode),
+    VacuumStep,
+    VacuumCancel,
     /// Reads the row of a key, which is no step, nor is what follows.
     Read(u8, u64),
     /// The next id to be given, and the oldest that is remembered.
@@ -59,6 +64,10 @@ pub enum Answer {
     /// Rows of these keys, with the columns of [`SAMPLE`], in this order.
     Keys(&'static [u64]),
     End,
+    /// The step of a vacuum did this.
+    Worked(Piece),
+    /// The vacuum has ended, and this is the oldest id that is remembered.
+    Ended(u32),
     Committed,
     RolledBack,
     Refused(Refusal),
@@ -122,6 +131,9 @@ fn step_of(alloc: Global, ask: Ask) -> Result<Option<Step>, AllocError> {
         Ask::Commit(s) => Step::Commit(s),
         Ask::Abort(s) => Step::Abort(s),
         Ask::Prune(page) => Step::Prune(page),
+        Ask::VacuumBegin(mode) => Step::VacuumBegin(mode),
+        Ask::VacuumStep => Step::VacuumStep,
+        Ask::VacuumCancel => Step::VacuumCancel,
         _ => return Ok(None),
     }))
 }
@@ -205,9 +217,25 @@ fn is_answer(reply: &Reply, ask: Ask, answer: Answer) -> bool {
             _ => false,
         },
         Reply::End => matches!(answer, Answer::End),
+        Reply::Worked(piece) => is_worked(*piece, answer),
+        Reply::Ended(first) => is_ended(*first, answer),
         Reply::Committed => matches!(answer, Answer::Committed),
         Reply::RolledBack => matches!(answer, Answer::RolledBack),
         Reply::Refused(refusal) => is_refusal(*refusal, answer),
+    }
+}
+
+fn is_worked(piece: Piece, answer: Answer) -> bool {
+    match answer {
+        Answer::Worked(told) => piece == told,
+        _ => false,
+    }
+}
+
+fn is_ended(first: u32, answer: Answer) -> bool {
+    match answer {
+        Answer::Ended(told) => first == told,
+        _ => false,
     }
 }
 

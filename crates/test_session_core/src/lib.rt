@@ -20,3 +20,5 @@ mod pages;
 mod runs;
 #[cfg(test)]
 mod steps;
+#[cfg(test)]
+mod vacuums;

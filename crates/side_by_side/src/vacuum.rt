@@ -1,0 +1,81 @@
+//! The vacuum that runs, of which the history knows nothing.
+
+use crate::ask::Ask;
+use crate::levels::earlier;
+use session_core::{Mode, Refusal, Reply};
+use xid_circle::{Xid, precedes};
+
+/// A vacuum that is running.
+#[derive(Clone, Copy)]
+pub(crate) struct RunningVacuum {
+    // An aggressive one lets the ids before this one be forgotten at its end.
+    cutoff: Option<Xid>,
+}
+
+// The id given so long before the next one. The numbers 0, 1 and 2 count as ids that were given, and none of them is answered.
+fn aged(next: Xid, age: u32) -> Xid {
+    let id = Xid(next.0.wrapping_sub(age));
+    if id.is_normal() {
+        id
+    } else {
+        Xid::FIRST_NORMAL
+    }
+}
+
+// The earlier of the horizon and of the id given so long ago, but none before the first that is remembered.
+fn cutoff_of(ids: (Xid, Xid), horizon: Xid, age: u32) -> Xid {
+    let (next, first) = ids;
+    let cutoff = earlier(horizon, aged(next, age));
+    if cutoff.is_normal() && first.is_normal() && precedes(cutoff, first) {
+        first
+    } else {
+        cutoff
+    }
+}
+
+impl RunningVacuum {
+    /// One of this mode that begins: with these ids, the next and the oldest that is remembered, at this horizon, and where ids are
+    /// frozen when they are so old.
+    pub(crate) fn new(mode: Mode, ids: (Xid, Xid), horizon: Xid, age: u32) -> RunningVacuum {
+        RunningVacuum {
+            cutoff: match mode {
+                Mode::Normal => None,
+                Mode::Aggressive => Some(cutoff_of(ids, horizon, age)),
+            },
+        }
+    }
+
+    /// The oldest id that is remembered after its end, where this one is before.
+    pub(crate) fn first_after(self, first: Xid) -> Xid {
+        match self.cutoff {
+            Some(cutoff) => cutoff,
+            None => first,
+        }
+    }
+}
+
+// What has to be replied to the next step of a vacuum, where the engine has replied this: which work comes next, and when there is none
+// left, is the vacuum's own.
+fn expected_of_step(vacuum: RunningVacuum, first: Xid, reply: &Reply) -> Reply {
+    match reply {
+        Reply::Worked(piece) => Reply::Worked(*piece),
+        _ => Reply::Ended(vacuum.first_after(first).0),
+    }
+}
+
+/// What has to be replied to a vacuum's step, where the engine has replied this: with the vacuum that runs, if one does, and the oldest
+/// id that is remembered. Nothing to any other step.
+pub(crate) fn expected_of_vacuum(
+    running: Option<RunningVacuum>,
+    first: Xid,
+    ask: Ask,
+    reply: &Reply,
+) -> Option<Reply> {
+    match (ask, running) {
+        (Ask::VacuumBegin(_), None) | (Ask::VacuumCancel, Some(_)) => Some(Reply::Done),
+        (Ask::VacuumBegin(_), Some(_)) => Some(Reply::Refused(Refusal::VacuumRunning)),
+        (Ask::VacuumStep, Some(vacuum)) => Some(expected_of_step(vacuum, first, reply)),
+        (Ask::VacuumStep | Ask::VacuumCancel, None) => Some(Reply::Refused(Refusal::NoVacuum)),
+        _ => None,
+    }
+}
