@@ -12,7 +12,7 @@
  *
  * MEMORY comes from the program's malloc, realloc and free. Where that is refused, the call says SANDPIPER_NO_MEMORY and has changed
  * nothing; it may be repeated. sandpiper_get, _rollback_to, _release, _commit, _abort, _prune, _close, _open_heap, _open_keys,
- * _open_index, _close_cursor, _row_at and _slot_at ask for none.
+ * _open_index, _close_cursor, _row_at, _slot_at, _vacuum_begin, _vacuum_step and _vacuum_cancel ask for none.
  *
  * STATUSES. Each call returns one of those below. From 16 on something was refused. Whatever the status is, also where nobody reads
  * it, the table is whole and usable. A refused call leaves everything as it was, but for two: after SANDPIPER_CONFLICT the
@@ -36,9 +36,9 @@ struct sandpiper {
 struct sandpiper_settings {
     uint32_t max_pages;      /* how many pages, of 8168 bytes for rows, the table may have: 1 to 65536 */
     uint32_t stop_age;       /* how far from the oldest id that is remembered no id is given any more: 1 to 2144483648 */
-    uint32_t freeze_min_age; /* 0 to 1000000000; without effect until there is a vacuum */
+    uint32_t freeze_min_age; /* how old an id is when a vacuum freezes what it wrote: 0 to 1000000000 */
     uint32_t first_xid;      /* the first transaction's id: 3 to 4294967295 */
-    uint32_t dead_limit;     /* 1 to 4096; without effect until there is a vacuum */
+    uint32_t dead_limit;     /* how many dead slots a vacuum collects before it goes through the indexes: 1 to 4096 */
     bool indexed[4];         /* which of the columns have an index */
 };
 
@@ -65,6 +65,8 @@ enum sandpiper_status {
     SANDPIPER_ROLLED_BACK = 4,        /* by an abort, or by the commit of a transaction that had failed */
     SANDPIPER_ROWS = 5,               /* the cursor hands out rows: sandpiper_row_at reads them */
     SANDPIPER_END = 6,                /* it has handed out all, and stays open */
+    SANDPIPER_WORKED = 7,             /* the vacuum did a part of its work, and goes on */
+    SANDPIPER_ENDED = 8,              /* the vacuum has ended */
     /* refusals */
     SANDPIPER_NOT_OPEN = 16,          /* the session is not open */
     SANDPIPER_ALREADY_OPEN = 17,      /* it is open already */
@@ -78,12 +80,14 @@ enum sandpiper_status {
     SANDPIPER_NO_SAVEPOINT = 25,
     SANDPIPER_TOO_LARGE = 26,         /* the body has more than 1024 bytes */
     SANDPIPER_NO_ROOM = 27,           /* no page has room, and max_pages are in use */
-    SANDPIPER_NEEDS_FREEZE = 28,      /* no id can be given any more: see stop_age */
+    SANDPIPER_NEEDS_FREEZE = 28,      /* no id can be given until an aggressive vacuum has ended: see stop_age */
     SANDPIPER_BAD_BOUNDS = 29,        /* the lower bound is over the upper */
     SANDPIPER_NO_MEMORY = 30,
     SANDPIPER_NO_SUCH_PAGE = 31,
     SANDPIPER_NO_SUCH_INDEX = 32,
     SANDPIPER_NO_SUCH_SESSION = 33,   /* its number is over 63 */
+    SANDPIPER_VACUUM_RUNNING = 34,    /* sandpiper_vacuum_begin: one is running already */
+    SANDPIPER_NO_VACUUM = 35,
     SANDPIPER_NO_ENGINE = 48,         /* the handle has no table */
     SANDPIPER_HAS_ENGINE = 49,        /* sandpiper_open: it has one already */
     /* sandpiper_open: the first setting that is out of its range */
@@ -136,6 +140,29 @@ uint32_t sandpiper_row_at(struct sandpiper *table, uint32_t number, struct sandp
 
 /* Takes from a page, counted from 0, the versions that no session can see any more. */
 uint32_t sandpiper_prune(struct sandpiper *table, uint32_t page);
+
+/* A part of a vacuum's work. */
+enum sandpiper_piece_kind {
+    SANDPIPER_NO_PIECE = 0,        /* the vacuum has ended */
+    SANDPIPER_VISITED_PAGE = 1,    /* it pruned page `number`, froze it, and collected dead slots */
+    SANDPIPER_REMOVED_ENTRIES = 2, /* it removed entries to collected slots from a part of index `number` */
+    SANDPIPER_FREED_SLOTS = 3      /* it made the collected slots of page `number` unused */
+};
+
+/* What its kind has not is 0. */
+struct sandpiper_piece {
+    uint32_t kind;
+    uint32_t number;
+    uint32_t oldest; /* once the vacuum has ended: the oldest id that is remembered */
+};
+
+/* A vacuum, of which one runs at a time, beside the sessions. It frees what no session can see any more, and freezes what is old. An
+ * aggressive one passes over no page that has anything to freeze, and at its end old ids are forgotten, so that more can be given. Its
+ * steps are small: one page, or one part of an index. A step answers WORKED and writes what it did, or ENDED. cancel drops the
+ * vacuum, and what it did stays. */
+uint32_t sandpiper_vacuum_begin(struct sandpiper *table, bool aggressive);
+uint32_t sandpiper_vacuum_step(struct sandpiper *table, struct sandpiper_piece *piece);
+uint32_t sandpiper_vacuum_cancel(struct sandpiper *table);
 
 /* What is in a slot of a page, for who wants to see versions and chains. */
 enum sandpiper_kind {

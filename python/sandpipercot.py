@@ -38,6 +38,8 @@ class Status(enum.IntEnum):
     ROLLED_BACK = 4
     ROWS = 5
     END = 6
+    WORKED = 7
+    ENDED = 8
     NOT_OPEN = 16
     ALREADY_OPEN = 17
     FAILED = 18
@@ -56,6 +58,8 @@ class Status(enum.IntEnum):
     NO_SUCH_PAGE = 31
     NO_SUCH_INDEX = 32
     NO_SUCH_SESSION = 33
+    VACUUM_RUNNING = 34
+    NO_VACUUM = 35
     NO_ENGINE = 48
     HAS_ENGINE = 49
     BAD_MAX_PAGES = 64
@@ -73,6 +77,15 @@ class Kind(enum.IntEnum):
     NORMAL = 1
     REDIRECT = 2
     DEAD = 3
+
+
+class PieceKind(enum.IntEnum):
+    """A part of a vacuum's work."""
+
+    NO_PIECE = 0
+    VISITED_PAGE = 1
+    REMOVED_ENTRIES = 2
+    FREED_SLOTS = 3
 
 
 class RolledBack(Exception):
@@ -161,7 +174,7 @@ class NoRoom(Refused):
 
 
 class NeedsFreeze(Refused):
-    """no id can be given before old ids are frozen"""
+    """no id can be given until an aggressive vacuum has ended"""
 
     status = Status.NEEDS_FREEZE
 
@@ -194,6 +207,18 @@ class NoSuchSession(Refused):
     """the session's number is over 63"""
 
     status = Status.NO_SUCH_SESSION
+
+
+class VacuumRunning(Refused):
+    """a vacuum is running already"""
+
+    status = Status.VACUUM_RUNNING
+
+
+class NoVacuum(Refused):
+    """no vacuum is running"""
+
+    status = Status.NO_VACUUM
 
 
 class NoEngine(Refused):
@@ -273,6 +298,14 @@ class Slot(NamedTuple):
     key: int
 
 
+class Piece(NamedTuple):
+    """What a step of a vacuum did, to the page or index of this number; where it has ended, the oldest id that is remembered."""
+
+    kind: PieceKind
+    number: int
+    oldest: int
+
+
 class _Handle(Structure):
     _fields_ = [("held", c_void_p), ("is_open", c_bool)]
 
@@ -296,6 +329,10 @@ class _Slot(Structure):
     _fields_ = [("kind", c_uint32), ("target", c_uint32), ("xmin", c_uint32), ("xmax", c_uint32), ("key", c_uint64)]
 
 
+class _Piece(Structure):
+    _fields_ = [("kind", c_uint32), ("number", c_uint32), ("oldest", c_uint32)]
+
+
 _HANDLE, _SESSION, _ROW = POINTER(_Handle), c_uint8, POINTER(_Row)
 _ARGUMENTS: Dict[str, List[Any]] = {
     "open": [POINTER(_Settings), _HANDLE],
@@ -317,6 +354,9 @@ _ARGUMENTS: Dict[str, List[Any]] = {
     "close_cursor": [_HANDLE, _SESSION],
     "row_at": [_HANDLE, c_uint32, _ROW],
     "prune": [_HANDLE, c_uint32],
+    "vacuum_begin": [_HANDLE, c_bool],
+    "vacuum_step": [_HANDLE, POINTER(_Piece)],
+    "vacuum_cancel": [_HANDLE],
     "slot_at": [_HANDLE, c_uint32, c_uint16, POINTER(_Slot)],
 }
 
@@ -408,6 +448,28 @@ class Table:
     def prune(self, page: int) -> None:
         """Takes from a page, counted from 0, the versions that no session can see any more. Refusal: NoSuchPage."""
         self._call("prune", _fits(page, 32))
+
+    def vacuum_begin(self, aggressive: bool = False) -> None:
+        """Begins a vacuum, which runs beside the sessions; at the end of an aggressive one old ids are forgotten. Refusal:
+        VacuumRunning."""
+        self._call("vacuum_begin", bool(aggressive))
+
+    def vacuum_step(self) -> Piece:
+        """Does the next step of the vacuum; the last one answers NO_PIECE. Refusal: NoVacuum."""
+        piece = _Piece()
+        self._call("vacuum_step", byref(piece))
+        return Piece(PieceKind(piece.kind), piece.number, piece.oldest)
+
+    def vacuum_cancel(self) -> None:
+        """Drops the vacuum; what it did stays. Refusal: NoVacuum."""
+        self._call("vacuum_cancel")
+
+    def vacuum(self, aggressive: bool = False) -> int:
+        """A whole vacuum, and the oldest id that is remembered after it. Refusal: VacuumRunning."""
+        self.vacuum_begin(aggressive)
+        while (piece := self.vacuum_step()).kind != PieceKind.NO_PIECE:
+            pass
+        return piece.oldest
 
     def slots(self, page: int) -> Iterator[Slot]:
         """The slots of a page, counted from 0: slot 1, 2 and so on. Of a page that is not in use there are none."""

@@ -83,6 +83,7 @@ static void check_rows(void) {
 /* The calls that ask for no memory, as the header says. */
 static void ask_for_none(void) {
     struct sandpiper_slot slot;
+    struct sandpiper_piece piece;
     DOES(sandpiper_begin(&t, 3));
     DOES(sandpiper_savepoint(&t, 3));
     DOES(sandpiper_begin(&t, 4));
@@ -94,6 +95,10 @@ static void ask_for_none(void) {
     CHECK(sandpiper_open_index(&t, 3, 1, 1, 2) == SANDPIPER_DONE && sandpiper_row_at(&t, 0, place) == SANDPIPER_NO_ROW);
     CHECK(sandpiper_commit(&t, 3) == SANDPIPER_COMMITTED && sandpiper_abort(&t, 4) == SANDPIPER_ROLLED_BACK);
     CHECK(sandpiper_prune(&t, 0) == SANDPIPER_DONE && sandpiper_slot_at(&t, 0, 1, &slot) == SANDPIPER_FOUND);
+    CHECK(sandpiper_vacuum_begin(&t, false) == SANDPIPER_DONE && sandpiper_vacuum_cancel(&t) == SANDPIPER_DONE);
+    CHECK(sandpiper_vacuum_begin(&t, true) == SANDPIPER_DONE);
+    while (sandpiper_vacuum_step(&t, &piece) == SANDPIPER_WORKED) continue;
+    CHECK(piece.kind == SANDPIPER_NO_PIECE);
     CHECK(asked == before);
 }
 

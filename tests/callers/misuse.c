@@ -8,6 +8,7 @@ static const struct sandpiper_settings widest = SANDPIPER_WIDEST;
 /* Every call on a handle that has no table. */
 static void check_closed(void) {
     struct sandpiper_slot slot = {.kind = 77};
+    struct sandpiper_piece piece = {.kind = 77};
     place->key = 77;
     CHECK(sandpiper_begin(&t, 0) == SANDPIPER_NO_ENGINE && sandpiper_commit(&t, 0) == SANDPIPER_NO_ENGINE);
     CHECK(sandpiper_abort(&t, 0) == SANDPIPER_NO_ENGINE && sandpiper_savepoint(&t, 0) == SANDPIPER_NO_ENGINE);
@@ -19,6 +20,8 @@ static void check_closed(void) {
     CHECK(sandpiper_next(&t, 0, 1) == SANDPIPER_NO_ENGINE && sandpiper_close_cursor(&t, 0) == SANDPIPER_NO_ENGINE);
     CHECK(sandpiper_row_at(&t, 0, place) == SANDPIPER_NO_ROW && place->key == 77);
     CHECK(sandpiper_prune(&t, 0) == SANDPIPER_NO_ENGINE);
+    CHECK(sandpiper_vacuum_begin(&t, true) == SANDPIPER_NO_ENGINE && sandpiper_vacuum_cancel(&t) == SANDPIPER_NO_ENGINE);
+    CHECK(sandpiper_vacuum_step(&t, &piece) == SANDPIPER_NO_ENGINE && piece.kind == 77);
     CHECK(sandpiper_slot_at(&t, 0, 1, &slot) == SANDPIPER_NO_ROW && slot.kind == 77);
     CHECK(sandpiper_close(&t) == SANDPIPER_NO_ENGINE && !t.is_open && !t.held);
 }
@@ -71,12 +74,13 @@ static uint32_t below(uint32_t limit) {
 /* Calls in no order, on keys below 1000, of which nobody reads what they answer. */
 static void call_at_random(int calls) {
     struct sandpiper_slot slot;
+    struct sandpiper_piece piece;
     for (int i = 0; i < calls; i++) {
         uint8_t session = (uint8_t)below(below(8) ? 8 : 256);
         uint64_t key = below(1000);
         set_row(row, key, (int64_t)below(100), "");
         row->length = (uint16_t)below(below(8) ? 200 : 65536);
-        switch (below(16)) {
+        switch (below(20)) {
         case 0: sandpiper_commit(&t, session); break;
         case 1: sandpiper_abort(&t, session); break;
         case 2: sandpiper_savepoint(&t, session); break;
@@ -92,6 +96,12 @@ static void call_at_random(int calls) {
         case 12: sandpiper_close_cursor(&t, session); break;
         case 13: sandpiper_prune(&t, below(64)); break;
         case 14: sandpiper_slot_at(&t, below(64), (uint16_t)below(400), &slot); break;
+        case 15: sandpiper_vacuum_begin(&t, below(2)); break;
+        case 16:
+            if (below(64) == 0) sandpiper_vacuum_cancel(&t);
+            break;
+        case 17:
+        case 18: sandpiper_vacuum_step(&t, &piece); break;
         default: sandpiper_begin(&t, session);
         }
         sandpiper_row_at(&t, below(4), place);

@@ -6,6 +6,7 @@
 static struct sandpiper t;
 static struct sandpiper_settings settings;
 static struct sandpiper_row row;
+static struct sandpiper_piece piece;
 
 /* The status of opening a second table, of these settings. */
 static uint32_t opened(void) {
@@ -36,6 +37,10 @@ static uint32_t bad_bounds(void) { return sandpiper_open_keys(&t, 0, 2, 1); }
 static uint32_t no_such_page(void) { return sandpiper_prune(&t, 1); }
 static uint32_t no_such_index(void) { return sandpiper_open_index(&t, 0, 1, 0, 0); }
 static uint32_t no_such_session(void) { return sandpiper_begin(&t, SANDPIPER_SESSIONS); }
+static uint32_t no_vacuum(void) { return sandpiper_vacuum_cancel(&t); }
+static uint32_t vacuum_running(void) { return sandpiper_vacuum_begin(&t, false), sandpiper_vacuum_begin(&t, true); }
+static uint32_t worked(void) { return sandpiper_vacuum_begin(&t, false), sandpiper_vacuum_step(&t, &piece); }
+static uint32_t ended(void) { return worked(), sandpiper_vacuum_step(&t, &piece); }
 static uint32_t no_engine(void) { return sandpiper_close(&t), sandpiper_begin(&t, 0); }
 static uint32_t has_engine(void) { return sandpiper_open(&settings, &t); }
 static uint32_t bad_max_pages(void) { return settings.max_pages = 65537, opened(); }
@@ -98,11 +103,13 @@ static const struct {
     uint32_t (*call)(void);
 } cases[] = {
     CASE(DONE, done), CASE(FOUND, found), CASE(NO_ROW, no_row), CASE(COMMITTED, committed), CASE(ROLLED_BACK, rolled_back),
-    CASE(ROWS, rows), CASE(END, end), CASE(NOT_OPEN, not_open), CASE(ALREADY_OPEN, already_open), CASE(FAILED, failed),
+    CASE(ROWS, rows), CASE(END, end), CASE(WORKED, worked), CASE(ENDED, ended),
+    CASE(NOT_OPEN, not_open), CASE(ALREADY_OPEN, already_open), CASE(FAILED, failed),
     CASE(ALREADY_THERE, already_there), CASE(NOT_THERE, not_there), CASE(CONFLICT, conflict), CASE(CURSOR_OPEN, cursor_open),
     CASE(NO_CURSOR, no_cursor), CASE(TOO_DEEP, too_deep), CASE(NO_SAVEPOINT, no_savepoint), CASE(TOO_LARGE, too_large),
     CASE(NO_ROOM, no_room), CASE(NEEDS_FREEZE, needs_freeze), CASE(BAD_BOUNDS, bad_bounds), CASE(NO_MEMORY, no_memory),
     CASE(NO_SUCH_PAGE, no_such_page), CASE(NO_SUCH_INDEX, no_such_index), CASE(NO_SUCH_SESSION, no_such_session),
+    CASE(VACUUM_RUNNING, vacuum_running), CASE(NO_VACUUM, no_vacuum),
     CASE(NO_ENGINE, no_engine), CASE(HAS_ENGINE, has_engine), CASE(BAD_MAX_PAGES, bad_max_pages), CASE(BAD_STOP_AGE, bad_stop_age),
     CASE(BAD_FREEZE_MIN_AGE, bad_freeze_min_age), CASE(BAD_FIRST_XID, bad_first_xid), CASE(BAD_DEAD_LIMIT, bad_dead_limit),
     CASE(BUSY, busy),

@@ -5,6 +5,7 @@ _Static_assert(sizeof(struct sandpiper) == 2 * sizeof(void *), "a pointer and a 
 _Static_assert(sizeof(struct sandpiper_row) == 1072, "8 + 32 + 2 + 1024 bytes, and 6 that fill up");
 _Static_assert(sizeof(struct sandpiper_settings) == 24, "six words");
 _Static_assert(sizeof(struct sandpiper_slot) == 24, "six words");
+_Static_assert(sizeof(struct sandpiper_piece) == 12, "three words");
 
 static struct sandpiper t;
 static struct sandpiper_row *row, *place;
@@ -141,6 +142,40 @@ static void pages_can_be_looked_into(void) {
     close_table();
 }
 
+static void does(uint32_t kind, uint32_t number) {
+    struct sandpiper_piece piece;
+    CHECK(sandpiper_vacuum_step(&t, &piece) == SANDPIPER_WORKED);
+    CHECK(piece.kind == kind && piece.number == number && piece.oldest == 0);
+}
+
+/* A deleted row's slot is freed step by step, and given to the next row. */
+static void a_vacuum_frees_slots(void) {
+    struct sandpiper_piece piece = {77, 77, 77};
+    struct sandpiper_slot slot;
+    open_table();
+    CHECK(sandpiper_begin(&t, 1) == SANDPIPER_DONE && sandpiper_delete(&t, 1, 4) == SANDPIPER_DONE);
+    CHECK(sandpiper_commit(&t, 1) == SANDPIPER_COMMITTED);
+    CHECK(sandpiper_vacuum_step(&t, &piece) == SANDPIPER_NO_VACUUM && piece.kind == 77 && piece.number == 77 && piece.oldest == 77);
+    CHECK(sandpiper_vacuum_cancel(&t) == SANDPIPER_NO_VACUUM);
+    CHECK(sandpiper_vacuum_begin(&t, true) == SANDPIPER_DONE && sandpiper_vacuum_begin(&t, false) == SANDPIPER_VACUUM_RUNNING);
+    does(SANDPIPER_VISITED_PAGE, 0);
+    CHECK(sandpiper_slot_at(&t, 0, 4, &slot) == SANDPIPER_FOUND && slot.kind == SANDPIPER_DEAD);
+    CHECK(sandpiper_vacuum_cancel(&t) == SANDPIPER_DONE);
+
+    /* begun again, it goes over the page, and over both indexes */
+    CHECK(sandpiper_vacuum_begin(&t, true) == SANDPIPER_DONE);
+    does(SANDPIPER_VISITED_PAGE, 0);
+    does(SANDPIPER_REMOVED_ENTRIES, 0);
+    does(SANDPIPER_REMOVED_ENTRIES, 1);
+    does(SANDPIPER_FREED_SLOTS, 0);
+    CHECK(sandpiper_slot_at(&t, 0, 4, &slot) == SANDPIPER_FOUND && slot.kind == SANDPIPER_UNUSED);
+    CHECK(sandpiper_vacuum_step(&t, &piece) == SANDPIPER_ENDED);
+    CHECK(piece.kind == SANDPIPER_NO_PIECE && piece.number == 0 && piece.oldest == 5);
+    CHECK(sandpiper_begin(&t, 1) == SANDPIPER_DONE && sandpiper_insert(&t, 1, set_row(row, 11, 110, "")) == SANDPIPER_DONE);
+    CHECK(sandpiper_slot_at(&t, 0, 4, &slot) == SANDPIPER_FOUND && slot.kind == SANDPIPER_NORMAL && slot.key == 11);
+    close_table();
+}
+
 /* The handle may move, and be opened again; a session and a cursor that are open at its end do no harm. */
 static void a_handle_may_move(void) {
     struct sandpiper moved;
@@ -163,6 +198,7 @@ int main(void) {
     cursors_hand_out_what_the_session_reads();
     savepoints_take_back();
     pages_can_be_looked_into();
+    a_vacuum_frees_slots();
     a_handle_may_move();
     free(row);
     free(place);

@@ -32,6 +32,14 @@ public:
     void insert(std::uint8_t session, const sandpiper_row &row) { told(sandpiper_insert(&handle, session, &row)); }
     void update(std::uint8_t session, const sandpiper_row &row) { told(sandpiper_update(&handle, session, &row)); }
 
+    // A whole vacuum: the oldest id that is remembered after it.
+    std::uint32_t vacuum(bool aggressive) {
+        sandpiper_piece piece;
+        told(sandpiper_vacuum_begin(&handle, aggressive));
+        while (told(sandpiper_vacuum_step(&handle, &piece)) == SANDPIPER_WORKED) continue;
+        return piece.oldest;
+    }
+
     bool get(std::uint8_t session, std::uint64_t key, sandpiper_row &row) {
         return told(sandpiper_get(&handle, session, key, &row)) == SANDPIPER_FOUND;
     }
@@ -77,6 +85,7 @@ int main() {
         check(refused.status == SANDPIPER_CONFLICT, "by a conflict");
     }
     check(!table.commit(0), "which rolls back");
+    check(table.vacuum(false) == 3 && table.vacuum(true) == 5, "ids 3 and 4 were given, and are forgotten by an aggressive vacuum");
     table.begin(0);
     check(table.column(0, 1) == std::vector<std::int64_t>{-5, -4, -2, -1, 20}, "a new session reads the update");
     try {

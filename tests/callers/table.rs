@@ -27,6 +27,14 @@ struct Row {
     body: [u8; 1024],
 }
 
+#[repr(C)]
+#[derive(Debug, Default, PartialEq)]
+struct Piece {
+    kind: u32,
+    number: u32,
+    oldest: u32,
+}
+
 unsafe extern "C" {
     fn sandpiper_open(settings: &Settings, table: &mut Handle) -> u32;
     fn sandpiper_close(table: &mut Handle) -> u32;
@@ -40,13 +48,19 @@ unsafe extern "C" {
     fn sandpiper_next(table: &mut Handle, session: u8, most: u16) -> u32;
     fn sandpiper_row_at(table: &mut Handle, number: u32, row: &mut Row) -> u32;
     fn sandpiper_close_cursor(table: &mut Handle, session: u8) -> u32;
+    fn sandpiper_vacuum_begin(table: &mut Handle, aggressive: bool) -> u32;
+    fn sandpiper_vacuum_step(table: &mut Handle, piece: &mut Piece) -> u32;
+    fn sandpiper_vacuum_cancel(table: &mut Handle) -> u32;
 }
 
 const FOUND: u32 = 1;
 const COMMITTED: u32 = 3;
 const ROWS: u32 = 5;
+const WORKED: u32 = 7;
 const FIRST_REFUSAL: u32 = 16;
 const CONFLICT: Refused = Refused(21);
+const VACUUM_RUNNING: Refused = Refused(34);
+const NO_VACUUM: Refused = Refused(35);
 const BAD_MAX_PAGES: Refused = Refused(64);
 
 /// A table that ends with its scope. The pointer in it makes it neither `Send` nor `Sync`, which is right: a handle stays on its
@@ -92,6 +106,27 @@ impl Table {
         let mut row = row_of(0, 0);
         let status = told(unsafe { sandpiper_get(&mut self.0, session, key, &mut row) })?;
         Ok((status == FOUND).then_some(row))
+    }
+
+    fn vacuum_begin(&mut self, aggressive: bool) -> Result<u32, Refused> {
+        told(unsafe { sandpiper_vacuum_begin(&mut self.0, aggressive) })
+    }
+
+    fn vacuum_cancel(&mut self) -> Result<u32, Refused> {
+        told(unsafe { sandpiper_vacuum_cancel(&mut self.0) })
+    }
+
+    /// The steps of the vacuum that runs, until it has ended.
+    fn vacuum_steps(&mut self) -> Result<Vec<Piece>, Refused> {
+        let mut pieces = Vec::new();
+        loop {
+            let mut piece = Piece::default();
+            let status = told(unsafe { sandpiper_vacuum_step(&mut self.0, &mut piece) })?;
+            pieces.push(piece);
+            if status != WORKED {
+                return Ok(pieces);
+            }
+        }
     }
 
     fn keys(&mut self, session: u8, low: u64, high: u64) -> Result<Vec<u64>, Refused> {
@@ -146,6 +181,13 @@ fn main() -> Result<(), Refused> {
     assert_eq!(table.get(0, 1)?.map(|row| row.cols[0]), Some(20));
     assert!(table.get(0, 3)?.is_none());
     assert_eq!(table.keys(0, 0, u64::MAX)?, [1, 2, 4, 5]);
+    assert!(table.commit(0)?);
+
+    assert_eq!(table.vacuum_cancel(), Err(NO_VACUUM));
+    table.vacuum_begin(true)?;
+    assert_eq!(table.vacuum_begin(true), Err(VACUUM_RUNNING));
+    let pieces = [(1, 0, 0), (2, 0, 0), (3, 0, 0), (0, 0, 5)];
+    assert_eq!(table.vacuum_steps()?, pieces.map(|(kind, number, oldest)| Piece { kind, number, oldest }));
     println!("all right");
     Ok(())
 }

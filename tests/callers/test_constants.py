@@ -22,7 +22,13 @@ def enumeration(header: str, name: str) -> Dict[str, int]:
 
 def check_layouts(folder: pathlib.Path) -> None:
     """The size of each struct, and the place and size of each field, are those that a C program prints."""
-    structs = {"sandpiper": sp._Handle, "sandpiper_settings": sp._Settings, "sandpiper_row": sp._Row, "sandpiper_slot": sp._Slot}
+    structs = {
+        "sandpiper": sp._Handle,
+        "sandpiper_settings": sp._Settings,
+        "sandpiper_row": sp._Row,
+        "sandpiper_slot": sp._Slot,
+        "sandpiper_piece": sp._Piece,
+    }
     lines, ours = ["#include <sandpipercot.h>", "#include <stddef.h>", "#include <stdio.h>", "int main(void) {"], []
     for name, struct in structs.items():
         lines.append(f'printf("{name} %zu\\n", sizeof(struct {name}));')
@@ -44,6 +50,7 @@ def main() -> None:
     statuses = enumeration(header, "sandpiper_status")
     assert {it.name: it.value for it in sp.Status} == statuses, statuses
     assert {it.name: it.value for it in sp.Kind} == enumeration(header, "sandpiper_kind")
+    assert {it.name: it.value for it in sp.PieceKind} == enumeration(header, "sandpiper_piece_kind")
     answered: Set[str] = set(pathlib.Path(sys.argv[2]).read_text().split())
     assert answered == set(statuses), answered ^ set(statuses)
 
@@ -59,7 +66,7 @@ def main() -> None:
     assert set(re.findall(r"^uint32_t sandpiper_(\w+)\(", header, re.M)) == set(sp._ARGUMENTS)
     with tempfile.TemporaryDirectory() as folder:
         check_layouts(pathlib.Path(folder))
-    print(f"{len(statuses)} statuses, each answered by the library; 4 structs, {len(sp._ARGUMENTS)} calls: all as the header has them")
+    print(f"{len(statuses)} statuses, each answered by the library; 5 structs, {len(sp._ARGUMENTS)} calls: all as the header has them")
 
 
 if __name__ == "__main__":

@@ -110,6 +110,8 @@ def main(rounds: int = 2000, seed: Optional[int] = None) -> None:
                 reader, view = table.begin(1), dict(committed)
             if draw.randrange(10) == 0:
                 table.prune(0)
+            if draw.randrange(20) == 0:
+                table.vacuum(draw.randrange(2) == 0)
     print(f"{rounds} sessions, all as the dictionary")
 
 

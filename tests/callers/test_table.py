@@ -166,6 +166,33 @@ class TableTest(unittest.TestCase):
         self.assertEqual(list(self.table.slots(1)), [])
         self.assertRaises(sp.NoSuchPage, self.table.prune, 1)
 
+    def test_a_vacuum_frees_slots(self) -> None:
+        with self.table.begin() as session:
+            session.delete(4)
+        self.assertRaises(sp.NoVacuum, self.table.vacuum_step)
+        self.assertRaises(sp.NoVacuum, self.table.vacuum_cancel)
+        self.table.vacuum_begin()
+        self.assertRaises(sp.VacuumRunning, self.table.vacuum_begin, True)
+        self.assertEqual(self.table.vacuum_step(), sp.Piece(sp.PieceKind.VISITED_PAGE, 0, 0))
+        self.table.vacuum_cancel()
+        self.table.vacuum_begin(aggressive=True)
+        did = [self.table.vacuum_step() for _ in range(5)]
+        self.assertEqual(
+            did,
+            [
+                sp.Piece(sp.PieceKind.VISITED_PAGE, 0, 0),
+                sp.Piece(sp.PieceKind.REMOVED_ENTRIES, 0, 0),
+                sp.Piece(sp.PieceKind.REMOVED_ENTRIES, 1, 0),
+                sp.Piece(sp.PieceKind.FREED_SLOTS, 0, 0),
+                sp.Piece(sp.PieceKind.NO_PIECE, 0, 5),
+            ],
+        )
+        self.assertEqual(list(self.table.slots(0))[3].kind, sp.Kind.UNUSED)
+        with self.table.begin() as session:
+            session.insert(row(11))
+        self.assertEqual(list(self.table.slots(0))[3].key, 11)
+        self.assertEqual(self.table.vacuum(), 5)
+
     def test_what_does_not_fit_is_refused(self) -> None:
         with self.table.begin() as session:
             for key in (-1, 2**64):
@@ -190,6 +217,17 @@ class TableTest(unittest.TestCase):
         self.assertFalse(self.table.is_open or session.is_open)
         self.assertRaises(sp.NoEngine, session.get, 1)
         self.assertRaises(sp.NoEngine, self.table.begin)
+
+    def test_an_aggressive_vacuum_lets_ids_be_given(self) -> None:
+        with Table(stop_age=1, first_xid=4294967295) as table:
+            with table.begin() as session:
+                session.insert(row(1))
+            with table.begin() as session:
+                self.assertRaises(sp.NeedsFreeze, session.insert, row(2))
+            self.assertEqual(table.vacuum(), 4294967295)
+            self.assertEqual(table.vacuum(aggressive=True), 3)
+            with table.begin() as session:
+                session.insert(row(2))
 
     def test_settings_are_refused(self) -> None:
         for name, value, refusal in [

@@ -10,12 +10,14 @@ use Rattle.sandpiper_c.specs.CallStatus.{number_of_status, NumbersDiffer, Refusa
 -- all statuses but Busy, in the order of their numbers
 abbrev listed : List CallStatus
 listed = status.Done ∷ status.Found ∷ status.NoRow ∷ status.Committed ∷ status.RolledBack ∷ status.Rows ∷ status.End
+    ∷ status.Worked ∷ status.Ended
     ∷ status.Refused refusal.NotOpen ∷ status.Refused refusal.AlreadyOpen ∷ status.Refused refusal.Failed
     ∷ status.Refused refusal.AlreadyThere ∷ status.Refused refusal.NotThere ∷ status.Refused refusal.Conflict
     ∷ status.Refused refusal.CursorOpen ∷ status.Refused refusal.NoCursor ∷ status.Refused refusal.TooDeep
     ∷ status.Refused refusal.NoSavepoint ∷ status.Refused refusal.TooLarge ∷ status.Refused refusal.NoRoom
     ∷ status.Refused refusal.NeedsFreeze ∷ status.Refused refusal.BadBounds ∷ status.Refused refusal.NoMemory
     ∷ status.Refused refusal.NoSuchPage ∷ status.Refused refusal.NoSuchIndex ∷ status.Refused refusal.NoSuchSession
+    ∷ status.Refused refusal.VacuumRunning ∷ status.Refused refusal.NoVacuum
     ∷ status.NoEngine ∷ status.HasEngine ∷ status.BadMaxPages ∷ status.BadStopAge ∷ status.BadFreezeMinAge
     ∷ status.BadFirstXid ∷ status.BadDeadLimit ∷ []
 

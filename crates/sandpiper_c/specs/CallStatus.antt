@@ -9,7 +9,7 @@ use Rattle.refinement.specs.declared.settings.SettingsFault.TheVariants as fault
 use Rattle.sandpiper_c.specs.declared.status.CallStatus.{CallStatus}
 use Rattle.sandpiper_c.specs.declared.status.CallStatus.TheVariants as status
 
--- the status of a reply: all that it says but its rows
+-- the status of a reply: all that it says but its rows, and what a vacuum did
 abbrev pub status_of_reply : Reply → CallStatus
 status_of_reply reply.Done = status.Done
 status_of_reply (reply.Found (Some row)) = status.Found
@@ -18,6 +18,8 @@ status_of_reply reply.Committed = status.Committed
 status_of_reply reply.RolledBack = status.RolledBack
 status_of_reply (reply.Rows rows) = status.Rows
 status_of_reply reply.End = status.End
+status_of_reply (reply.Worked piece) = status.Worked
+status_of_reply (reply.Ended oldest) = status.Ended
 status_of_reply (reply.Refused r) = status.Refused r
 
 -- the status of a fault of the settings; that memory was refused is one status, whatever it was for
@@ -48,6 +50,8 @@ number_of_refusal refusal.NoMemory = 30
 number_of_refusal refusal.NoSuchPage = 31
 number_of_refusal refusal.NoSuchIndex = 32
 number_of_refusal refusal.NoSuchSession = 33
+number_of_refusal refusal.VacuumRunning = 34
+number_of_refusal refusal.NoVacuum = 35
 -- the other session is in the lower byte
 number_of_refusal (refusal.Busy session) = 256 + session
 
@@ -59,6 +63,8 @@ number_of_status status.Committed = 3
 number_of_status status.RolledBack = 4
 number_of_status status.Rows = 5
 number_of_status status.End = 6
+number_of_status status.Worked = 7
+number_of_status status.Ended = 8
 number_of_status (status.Refused r) = number_of_refusal r
 number_of_status status.NoEngine = 48
 number_of_status status.HasEngine = 49
@@ -81,6 +87,8 @@ is_refused status.Committed = false
 is_refused status.RolledBack = false
 is_refused status.Rows = false
 is_refused status.End = false
+is_refused status.Worked = false
+is_refused status.Ended = false
 is_refused s = true
 
 -- that is so exactly where the number is 16 or more

@@ -4,3 +4,4 @@ pub mod CallStatus
 pub mod Rows
 pub mod Calls
 pub mod Pages
+pub mod Pieces

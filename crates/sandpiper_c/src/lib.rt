@@ -16,6 +16,7 @@ mod rows;
 mod settings;
 mod status;
 mod steps;
+mod vacuum;
 mod writes;
 
 pub use status::{numbers_differ, refusals_are_high};

@@ -2,7 +2,7 @@
 
 ghost use Rattle.std.specs.Prelude.{IfOk, IfErr};
 ghost use Rattle.refinement.specs.Words.{FirstFault};
-ghost use Rattle.session_steps.specs.New.{IsNew};
+ghost use Rattle.vacuum_engine.specs.New.{IsNewEngine};
 ghost use Rattle.sandpiper_c.specs.Calls.{settings_of, OpensTable, ClosesTable};
 
 use crate::database::Sandpiper;
@@ -14,7 +14,7 @@ use std::alloc::Global;
 
 /// An engine of these settings, on the heap.
 fn new_held(alloc: Global, settings: &SandpiperSettings) -> Result<Box<Held>, SettingsFault>
-    ensures new { IfOk result (λ b. IsNew (settings_of settings.now) b.value.engine.core) }
+    ensures new { IfOk result (λ b. IsNewEngine (settings_of settings.now) b.value.engine) }
     ensures fault { IfErr result (λ fault. FirstFault (settings_of settings.now) fault) }
 {
     let engine = Engine::new(alloc, settings::of(settings))?;

@@ -24,6 +24,10 @@ pub enum CallStatus {
     Rows,
     /// The cursor has handed out all its rows.
     End,
+    /// The vacuum did a part of its work, and goes on.
+    Worked,
+    /// The vacuum has ended.
+    Ended,
     /// The step was not done.
     Refused(Refusal),
     /// The handle has no engine.
@@ -65,6 +69,8 @@ fn of_refusal(refusal: Refusal) -> u32
         Refusal::NoSuchPage => 31,
         Refusal::NoSuchIndex => 32,
         Refusal::NoSuchSession => 33,
+        Refusal::VacuumRunning => 34,
+        Refusal::NoVacuum => 35,
         Refusal::Busy(session) => 256 + session as u32,
     }
 }
@@ -82,6 +88,8 @@ impl CallStatus {
             Reply::RolledBack => CallStatus::RolledBack,
             Reply::Rows(_) => CallStatus::Rows,
             Reply::End => CallStatus::End,
+            Reply::Worked(_) => CallStatus::Worked,
+            Reply::Ended(_) => CallStatus::Ended,
             Reply::Refused(refusal) => CallStatus::Refused(*refusal),
         }
     }
@@ -112,6 +120,8 @@ impl CallStatus {
             CallStatus::RolledBack => 4,
             CallStatus::Rows => 5,
             CallStatus::End => 6,
+            CallStatus::Worked => 7,
+            CallStatus::Ended => 8,
             CallStatus::Refused(refusal) => of_refusal(refusal),
             CallStatus::NoEngine => 48,
             CallStatus::HasEngine => 49,

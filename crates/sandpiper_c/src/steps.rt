@@ -11,7 +11,7 @@ use session_core::{Reply, Step};
 use std::alloc::Global;
 
 /// Does the step on what is held. All that a step answers goes through here.
-fn held_step(held: &mut Held, step: Step) -> u32
+pub(crate) fn held_step(held: &mut Held, step: Step) -> u32
     ensures { Stepped held.old step result held.new }
 {
     held.engine.step_into(step, &mut held.reply);

@@ -13,7 +13,7 @@ use std::alloc::Global;
 use xid_circle::Xid;
 
 /// How many runs there are.
-pub(crate) const RUNS: u64 = 110;
+pub(crate) const RUNS: u64 = 4400;
 
 // A few sessions, also the last ones. Of more than eight writers a snapshot asks for memory.
 const SESSIONS: [u8; 12] = [0, 63, 1, 2, 3, 62, 4, 5, 6, 31, 32, 33];
