@@ -1,33 +1,45 @@
 //! A look at what is noted of the pages, and at the entries of the indexes, beside the pages themselves.
 
+ghost use Rattle.std.specs.Prelude.{◌≡◌, ◌↔◌, ℕ, IsTrue};
+ghost use Rattle.page_slots.specs.Slots.{slot_at};
+ghost use Rattle.side_by_side.specs.Noted.{KeepsNote, IsAsNoted};
+
 use page_slots::Page;
 use root_index::{Entry, RootIndex};
 use session_core::Engine;
 use tuple_header::RowRef;
-use xid_circle::Xid;
 
-// Whether the slot is as it has to be on a page that is all-visible, or all-frozen: it is not dead, and nobody has deleted a version, or
-// every version is frozen besides.
-fn is_settled(page: &Page, number: u16, is_frozen: bool) -> bool {
+// Whether the slot is as it has to be on a page that is all-visible, or all-frozen.
+fn keeps_note(page: &Page, number: u16, is_frozen: bool) -> bool
+    ensures { IsTrue result ↔ KeepsNote is_frozen (slot_at page.now.slots number) }
+{
     match page.header(number) {
-        Some(header) => header.xmax == Xid::INVALID && (!is_frozen || header.is_frozen()),
+        Some(header) => header.xmax.0 == 0 && (!is_frozen || header.is_frozen()),
         None => !page.is_dead(number),
     }
 }
 
-// Whether the page is as these bits of the visibility map and its own flag say.
-fn is_as_noted(page: &Page, bits: u8) -> bool {
-    if page.flag() != (bits > 0) {
-        return false;
-    }
-    if bits > 0 {
-        for number in 1..page.slots() + 1 {
-            if !is_settled(page, number, bits == 2) {
-                return false;
-            }
+// Whether each slot is so.
+fn all_keep_note(page: &Page, is_frozen: bool) -> bool
+    ensures { IsTrue result
+        ↔ ((n : ℕ) → KeepsNote is_frozen (slot_at page.now.slots n)) }
+{
+    for number in 1..page.slots() + 1 {
+        if !keeps_note(page, number, is_frozen) {
+            return false;
         }
     }
     true
+}
+
+// Whether the page is as these bits of the visibility map and its own flag say.
+fn is_as_noted(page: &Page, bits: u8) -> bool
+    ensures { IsTrue result ↔ IsAsNoted page.now bits }
+{
+    if bits == 0 {
+        return !page.flag();
+    }
+    page.flag() && all_keep_note(page, bits == 2)
 }
 
 /// The first of so many pages that is not as is noted of it, if there is one.
