@@ -36,7 +36,7 @@ struct sandpiper {
 struct sandpiper_settings {
     uint32_t max_pages;      /* how many pages, of 8168 bytes for rows, the table may have: 1 to 65536 */
     uint32_t stop_age;       /* how far from the oldest id that is remembered no id is given any more: 1 to 2144483648 */
-    uint32_t freeze_min_age; /* how old an id is when a vacuum freezes what it wrote: 0 to 1000000000 */
+    uint32_t freeze_min_age; /* a vacuum freezes what an id more numbers than this before the next one wrote: 0 to 1000000000 */
     uint32_t first_xid;      /* the first transaction's id: 3 to 4294967295 */
     uint32_t dead_limit;     /* how many dead slots a vacuum collects before it goes through the indexes: 1 to 4096 */
     bool indexed[4];         /* which of the columns have an index */

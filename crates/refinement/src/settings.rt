@@ -12,11 +12,11 @@ pub struct Settings {
     pub max_pages: u32,
     /// How far from the oldest remembered id no id is given any more: 1 to 2,144,483,648.
     pub stop_age: u32,
-    /// How old an id has to be before it is frozen: 0 to 1,000,000,000. Without effect until vacuum is built.
+    /// A vacuum freezes what was made by an id more numbers than this before the next one: 0 to 1,000,000,000.
     pub freeze_min_age: u32,
     /// The first id that is given: 3 to 4,294,967,295.
     pub first_xid: u32,
-    /// How many dead slots a vacuum collects at most: 1 to 4096. Without effect until vacuum is built.
+    /// How many dead slots a vacuum collects before it goes through the indexes: 1 to 4096.
     pub dead_limit: u32,
     /// Which columns have an index.
     pub indexed: [bool; 4],
