@@ -7,6 +7,7 @@ ghost use Rattle.script.specs.Script.{finished, Moves};
 use session_core::{Engine, Reply, Step};
 
 // Does steps of the vacuum until one does no work, 2^64 - 1 at most. The reply of the last is put in the place of an earlier one.
+#[inline(never)]
 pub(crate) fn finish_vacuum(engine: &mut Engine, reply: &mut Reply)
     ensures { (pieces : List Piece) × Moves engine.old (finished pieces reply.new) engine.new }
 {

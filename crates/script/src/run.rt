@@ -35,6 +35,7 @@ enum Next {
 }
 
 // Finds the next line. Before it reads, it writes what is to be written, so that nobody waits for an answer.
+#[inline(always)]
 fn next_line<R: Read, W: Write>(
     log: &mut IoLog<R, W>,
     pending: &mut Pending,

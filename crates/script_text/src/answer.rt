@@ -21,6 +21,10 @@ pub(crate) fn unsigned(out: &mut Vec<u8>, n: u64) -> Result<(), RefusedGrowth>
 fn column(out: &mut Vec<u8>, c: i64) -> Result<(), RefusedGrowth>
     ensures { OnOk result (out.new.items ≡ out.old.items ++ spaced (signed_decimal c)) }
 {
+    // a column that is not used
+    if c == 0 {
+        return extend(out, b" 0");
+    }
     let mut buffer = Buffer::new();
     push(out, b' ')?;
     extend(out, buffer.format(c).as_bytes())

@@ -78,6 +78,7 @@ impl Engine {
     /// Does one step as [`Engine::step`] does, and puts its reply in the place of an earlier one. A reply has room for a row, over a
     /// kilobyte; who does many steps needs one alone. The earlier one is dropped only when the new one is there, so the rows of two
     /// answers of a cursor may be in memory at once.
+    #[inline(always)]
     pub fn step_into(&mut self, step: Step, reply: &mut Reply)
         ensures follows { EngineFollows self.old step reply.new self.new }
         ensures exact { EngineExact self.old step reply.new self.new }

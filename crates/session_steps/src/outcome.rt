@@ -33,9 +33,13 @@ pub(crate) fn write_answer(tried: Result<Xid, WriteFault>) -> Result<Ack, Refusa
 pub(crate) fn put_reply(answer: Result<Ack, Refusal>, reply: &mut Reply)
     ensures { reply.new ≡ reply_to answer }
 {
-    // each is made where it stays
+    // each is made where it stays, and one that is there is not made again: the place of a row would be cleared
     match answer {
-        Ok(Ack::Done) => *reply = Reply::Done,
+        Ok(Ack::Done) => {
+            if !matches!(reply, Reply::Done) {
+                *reply = Reply::Done;
+            }
+        }
         Ok(Ack::Committed) => *reply = Reply::Committed,
         Ok(Ack::RolledBack) => *reply = Reply::RolledBack,
         Err(refusal) => *reply = Reply::Refused(refusal),
