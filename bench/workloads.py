@@ -120,6 +120,7 @@ WORKLOADS = {
     "gets by key": ("0000", loaded, gets),
     "HOT updates": ("0000", spaced, hot_updates),
     "updates with pruning": ("0000", spaced, pruned_updates),
+    "updates on full pages": ("0000", loaded, hot_updates),
     "index scans of 100 rows": ("1000", loaded, scans),
     "64 sessions": ("0000", loaded, many_sessions),
 }
