@@ -9,9 +9,9 @@ ghost use Rattle.root_index.specs.Lists.{IsLastBetween};
 ghost use Rattle.root_index.specs.Nodes.{all, rank_in, before_node, AreNeat, AreNeatBut, IsPositionIn, IsEntryIn, IsBehindIn, IsOpened, IsUnspent, AreKept, AreLeft, HavePlaces, KeepsSpares};
 ghost use Rattle.root_index.specs.Sweeps.{IsSwept};
 
-use crate::dead_set::DeadSet;
 use crate::entry::Entry;
 use crate::node::{Half, MAX_PARTS, Node, Swept};
+use dead_places::DeadSet;
 use std::alloc::AllocError;
 
 /// A place among nodes.
