@@ -374,7 +374,7 @@ pub(crate) fn still_promised<N: Node>(
 }
 
 /// How many inserts are promised after a sweep: one at least where no node is left, since the last ones are set aside then.
-pub(crate) fn promised_after_sweep<N: Node>(nodes: &Vec<N>, promised: usize) -> usize
+pub(crate) fn promised_after_sweep<N>(nodes: &Vec<N>, promised: usize) -> usize
     ensures left { 0 < length nodes.now.items → result ≡ promised }
     ensures emptied { length nodes.now.items ≡ 0 → result ≡ max promised 1 }
 {
