@@ -12,9 +12,10 @@ ghost use Rattle.table_indexes.specs.Indexes.{IsInUse, HasIndexes, IsNextIndex, 
 ghost use Rattle.heap_write.specs.Cleaning.{FreezesAt, Notes, SweepsAt, FreesSlots, FreesAt, ForgetsBefore};
 
 use crate::heap::HeapState;
+use dead_places::DeadSet;
 use freeze::{freeze_page, mark_of};
 use page_slots::Page;
-use root_index::{DeadSet, Entry, PositionHint, Progress};
+use root_index::{Entry, PositionHint, Progress};
 use space_maps::Mark;
 use xid_circle::{Tid, Xid};
 

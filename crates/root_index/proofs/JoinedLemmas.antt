@@ -12,7 +12,8 @@ use Rattle.root_index.specs.declared.entry.Entry.{Entry}
 use Rattle.root_index.specs.Order.{comparison, EntryPrecedes, IsAscending}
 use Rattle.root_index.specs.Sets.{IsAt, IsGapFor}
 use Rattle.root_index.specs.Lists.{concatenated, list_of, rank, begins_after, Place, IsLastBetween}
-use Rattle.root_index.proofs.OrderLemmas.{comparison_total, Precedes-trans, same-from_tied, less_from_test}
+use Rattle.dead_places.proofs.PlaceLemmas.{less_from_test}
+use Rattle.root_index.proofs.OrderLemmas.{comparison_total, Precedes-trans, same-from_tied}
 use Rattle.root_index.proofs.SetLemmas.{ascending-at, lowest, same_place}
 
 -- How lists stand, and places in them.

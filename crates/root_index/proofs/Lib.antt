@@ -6,7 +6,6 @@ pub mod JoinedLemmas
 pub mod LookUpLemmas
 pub mod NodeLemmas
 pub mod OrderLemmas
-pub mod PlaceLemmas
 pub mod RowEditLemmas
 pub mod RowGrowthLemmas
 pub mod RowLemmas

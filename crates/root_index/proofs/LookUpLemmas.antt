@@ -9,7 +9,8 @@ use Rattle.std.specs.Cmp.{IsTotalOrder}
 use Rattle.root_index.specs.declared.entry.Entry.{Entry}
 use Rattle.root_index.specs.Order.{comparison, EntryPrecedes, IsAscending}
 use Rattle.root_index.specs.Sets.{IsLeast, IsAfter, IsBelow, IsOf, IsStart}
-use Rattle.root_index.proofs.OrderLemmas.{comparison_total, Precedes-not_back, same-from_tied, equal_both}
+use Rattle.dead_places.proofs.PlaceLemmas.{equal_both}
+use Rattle.root_index.proofs.OrderLemmas.{comparison_total, Precedes-not_back, same-from_tied}
 use Rattle.root_index.proofs.SetLemmas.{first_is_least, start_after, lowest, precedes-below}
 
 -- One is found, and in turn all of them.

@@ -1,11 +1,11 @@
 -- The order of entries is total, and ascending lists are determined by their members.
-use Rattle.std.proofs.Common.{◌≡◌, ◌∙◌, ℕ, suc, true, ⊎_elim, List, [], ◌∷◌, sym, refl, subst, arith, Contains}
+use Rattle.std.proofs.Common.{◌≡◌, ◌∙◌, ℕ, suc, ⊎_elim, List, [], ◌∷◌, sym, refl, subst, arith, Contains}
 use Rattle.std.specs.Cmp.{IsTotalOrder}
-use Rattle.std.specs.Ordering.{nat_cmp, ordering_then, is_lt}
-use Rattle.std.specs.declared.cmp.Ordering.{Ordering}
-use Rattle.std.specs.declared.cmp.Ordering.TheVariants.{Less, Equal, Greater}
+use Rattle.std.specs.Ordering.{nat_cmp}
+use Rattle.std.specs.declared.cmp.Ordering.TheVariants.{Equal}
 use Rattle.std.proofs.lemmas.Cmp.{then_total, on_total, nat_cmp_total, int_cmp_total, ranked, int_ranked, tied_itself}
 use Rattle.xid_circle.proofs.Members.{Contains-first, Contains-rest, Contains-cases, Contains-none}
+use Rattle.dead_places.proofs.PlaceLemmas.{equal_both}
 use Rattle.root_index.specs.declared.entry.Entry.{Entry}
 use Rattle.root_index.specs.Order.{comparison, EntryPrecedes, IsAscending, MembersDetermine}
 
@@ -22,16 +22,6 @@ Precedes-trans a b c = comparison_total.trans a b c
 
 pub Precedes-not_back : (a b : Entry) → EntryPrecedes a b → ¬ EntryPrecedes b a
 Precedes-not_back a b h back = not_before_itself a (Precedes-trans a b a h back)
-
-pub equal_both : (o p : Ordering) → ordering_then o p ≡ Equal → (o ≡ Equal) × (p ≡ Equal)
-equal_both Less p e = absurd (cc e)
-equal_both Equal p e = (refl, e)
-equal_both Greater p e = absurd (cc e)
-
-pub less_from_test : (o : Ordering) → is_lt o ≡ true → o ≡ Less
-less_from_test Less h = refl
-less_from_test Equal h = absurd (cc h)
-less_from_test Greater h = absurd (cc h)
 
 nat_tied : (x y : ℕ) → nat_cmp x y ≡ Equal → x ≡ y
 nat_tied x y e = ranked x y Equal (sym e)

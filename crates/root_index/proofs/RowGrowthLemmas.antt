@@ -130,3 +130,17 @@ opened_at {N} P nodes i n some is = by_node (slice_get nodes i) refl some
     by_node : (o : Option N) → slice_get nodes i ≡ o → IsSomeAnd o P → slice_get nodes i ≡ Some n
     by_node None none some = absurd some
     by_node (Some m) at some = item nodes i n (slice_get_within nodes i m at) is
+
+-- and what is known of it
+pub there_with : {N : Type 0} (P : N → Type 0) (nodes : List N) (i : ℕ) (n : N) → IsSomeAnd (slice_get nodes i) P → n ≡ slice_index_or nodes i n → (slice_get nodes i ≡ Some n) × P n
+there_with {N} P nodes i n some is =
+    let at = opened_at P nodes i n some is in
+    (at, subst (λ (o : Option N). IsSomeAnd o P) at some)
+
+-- there is such a node
+pub some_within : {N : Type 0} (P : N → Type 0) (nodes : List N) (i : ℕ) → IsSomeAnd (slice_get nodes i) P → i < length nodes
+some_within {N} P nodes i some = by_node (slice_get nodes i) refl some
+  where
+    by_node : (o : Option N) → slice_get nodes i ≡ o → IsSomeAnd o P → i < length nodes
+    by_node None at some = absurd some
+    by_node (Some n) at some = slice_get_within nodes i n at

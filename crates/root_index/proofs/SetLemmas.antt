@@ -1,9 +1,8 @@
 -- What a search finds in an ascending list, and what an edit at that place does to the set.
-use Rattle.std.proofs.Common.{◌≡◌, ◌∙◌, ℕ, zero, suc, ◌+◌, ◌<◌, ℤ, ◌⊎◌, inl, inr, ⊎_elim, ◌↔◌, List, [], ◌∷◌, get_or, Bool, true, false, not, ◌==◌, ◌&&◌, IsTrue, Option, Some, None, slice_get, sym, ap, refl, subst, arith, Contains}
+use Rattle.std.proofs.Common.{◌≡◌, ◌∙◌, ℕ, zero, suc, ◌+◌, ◌<◌, ℤ, inl, inr, ⊎_elim, ◌↔◌, List, [], ◌∷◌, get_or, Bool, true, false, not, ◌==◌, ◌&&◌, IsTrue, Option, Some, None, slice_get, sym, ap, refl, subst, arith, Contains}
 use Rattle.std.specs.List.{insert, filter, All}
 use Rattle.std.specs.Ordering.{nat_cmp, int_cmp, ordering_then}
-use Rattle.std.specs.declared.cmp.Ordering.{Ordering}
-use Rattle.std.specs.declared.cmp.Ordering.TheVariants.{Less, Equal, Greater}
+use Rattle.std.specs.declared.cmp.Ordering.TheVariants.{Less, Equal}
 use Rattle.std.proofs.lemmas.Bool.{cases_lt, or_cases, or_right}
 use Rattle.std.proofs.lemmas.Bool.Decides.{nat_tests}
 use Rattle.std.proofs.lemmas.Cmp.{ranked, int_ranked}
@@ -15,6 +14,7 @@ use Rattle.std.proofs.lemmas.List.Elements.{All-cons}
 use Rattle.std.proofs.lemmas.List.Kept.{AllPairs-cons}
 use Rattle.std.proofs.lemmas.List.Sorted.{Contains-permutation, IsPermutation-insert, IsPermutation-sym, All-permutation}
 use Rattle.std.specs.Cmp.{int_cmp_is, nat_cmp_is}
+use Rattle.dead_places.proofs.PlaceLemmas.{less_both}
 use Rattle.root_index.specs.declared.entry.Entry.{Entry}
 use Rattle.root_index.specs.Order.{EntryPrecedes, IsAscending}
 use Rattle.root_index.specs.Sets.{AddsEntry, IsLeast, IsAfter, IsBelow, IsAt, IsGapFor, IsStart}
@@ -83,11 +83,6 @@ start_after_gap xs from i gap = record {
 }
 
 -- Where the entries begin that are not below a value and a key: at the lowest entry of these, which has place (0, 0).
-
-pub less_both : (o p : Ordering) → ordering_then o p ≡ Less → (o ≡ Less) ⊎ ((o ≡ Equal) × (p ≡ Less))
-less_both Less p e = inl refl
-less_both Equal p e = inr (refl, e)
-less_both Greater p e = absurd (cc e)
 
 none_below_nought : (n : ℕ) → ¬ (nat_cmp n 0 ≡ Less)
 none_below_nought n e = let lt : n < 0 = ranked n 0 Less (sym e) in absurd (omega arith)

@@ -4,7 +4,6 @@ pub mod Lists
 pub mod Nodes
 pub mod Order
 pub mod Pieces
-pub mod Places
 pub mod Rows
 pub mod Sets
 pub mod Sweeps

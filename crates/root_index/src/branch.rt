@@ -5,10 +5,10 @@ ghost use Rattle.std.proofs.Common.{arith};
 ghost use Rattle.root_index.specs.Rows.{none_without, some_with, many_with, rank_within, entry_is_position};
 ghost use Rattle.root_index.specs.Nodes.{all, rank_in, AreNeat, IsPositionIn, IsEntryIn, AreLeft, HavePlaces};
 
-use crate::dead_set::DeadSet;
 use crate::entry::Entry;
 use crate::node::{HALF, Half, MAX_PARTS, Node, Swept};
 use crate::nodes::{self, Spares, TreePosition};
+use dead_places::DeadSet;
 use std::alloc::{AllocError, Global};
 use std::marker::Model;
 

@@ -2,8 +2,8 @@
 
 ghost use Rattle.std.specs.Prelude.{◌≡◌};
 ghost use Rattle.root_index.specs.Order.{comparison, MembersDetermine};
-ghost use Rattle.root_index.specs.Places.{place_order};
 
+use dead_places::compare_places;
 use std::cmp::Ordering;
 use xid_circle::Tid;
 
@@ -31,16 +31,6 @@ pub(crate) fn compare(a: &Entry, b: &Entry) -> Ordering
         return a.key.cmp(&b.key);
     }
     compare_places(&a.tid, &b.tid)
-}
-
-/// How two places compare: by page, then slot.
-pub(crate) fn compare_places(a: &Tid, b: &Tid) -> Ordering
-    ensures { result ≡ place_order a.now b.now }
-{
-    if a.page != b.page {
-        return a.page.cmp(&b.page);
-    }
-    a.slot.cmp(&b.slot)
 }
 
 /// The law of ordered sets: two ascending lists with the same entries are the same list. It does nothing; its contract is

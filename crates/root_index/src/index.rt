@@ -9,13 +9,13 @@ ghost use Rattle.root_index.specs.Pieces.{RemovesPiece};
 ghost use Rattle.root_index.specs.declared.progress.Progress.TheVariants.{More, Done};
 
 use crate::branch::Branch;
-use crate::dead_set::DeadSet;
 use crate::entry::Entry;
 use crate::leaf::Leaf;
 use crate::look_ups;
 use crate::node::{Node, Swept};
 use crate::nodes::{self, Spares, TreePosition};
 use crate::progress::Progress;
+use dead_places::DeadSet;
 use std::alloc::{AllocError, Global};
 use std::marker::Model;
 

@@ -6,12 +6,12 @@ ghost use Rattle.std.specs.List.{insert, filter};
 ghost use Rattle.root_index.specs.Order.{IsAscending};
 ghost use Rattle.root_index.specs.Sets.{IsAt, IsGapFor};
 ghost use Rattle.root_index.specs.Lists.{IsFirst, stays};
-ghost use Rattle.root_index.specs.Places.{AreAscending};
+ghost use Rattle.root_index.specs.Bounds.{AreOn};
+ghost use Rattle.dead_places.specs.Places.{AreAscending};
 
-use crate::dead_set::{DeadSet, is_among};
 use crate::entry::{Entry, compare};
 use crate::node::{HALF, Half, MAX_PARTS, Node, Swept};
-use crate::page_bounds::{NO_PAGES, PageBounds, bounds_of, widened};
+use dead_places::{DeadSet, NO_PAGES, PageBounds, is_among, widened};
 use std::alloc::{AllocError, Global};
 use std::cmp::Ordering;
 use std::marker::Model;
@@ -240,6 +240,18 @@ fn put(entries: &mut Vec<Entry>, place: usize, entry: Entry)
 {
     // never refused, since there is room
     let _done = entries.insert(place, entry);
+}
+
+/// The pages that these entries lead to.
+fn bounds_of(entries: &[Entry]) -> PageBounds
+    ensures { AreOn result entries.now }
+{
+    let mut bounds = NO_PAGES;
+    for place in 0..entries.len() {
+        let entry = entries[place];
+        bounds = widened(bounds, entry.tid);
+    }
+    bounds
 }
 
 /// How far the last value is behind the first, where that is less than 2^64.

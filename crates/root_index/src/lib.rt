@@ -12,22 +12,19 @@
 //! what look-ups find one after another.
 //!
 //! Entries to dead places go piece by piece ([`RootIndex::remove_where`], `specs/Pieces.antt`): a piece goes from an entry on as far
-//! as its leaf, and says where it ended, so that entries may come and go between two pieces. The dead places are a [`DeadSet`]. A
+//! as its leaf, and says where it ended, so that entries may come and go between two pieces. The dead places are a `DeadSet` of `dead_places`. A
 //! leaf keeps bounds of the pages that its entries lead to, so that one that leads to none of the dead places' pages is passed over.
 #![tactic(auto)]
 
 mod branch;
-mod dead_set;
 mod entry;
 mod index;
 mod leaf;
 mod look_ups;
 mod node;
 mod nodes;
-mod page_bounds;
 mod progress;
 
-pub use dead_set::DeadSet;
 pub use entry::{Entry, members_determine};
 pub use index::{PositionHint, RootIndex};
 pub use progress::Progress;

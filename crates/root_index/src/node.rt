@@ -10,8 +10,8 @@ ghost use Rattle.root_index.specs.Lists.{begins_after};
 ghost use Rattle.root_index.specs.Halves.{IsHalf, rank_half};
 ghost use Rattle.root_index.specs.Sweeps.{IsSwept};
 
-use crate::dead_set::DeadSet;
 use crate::entry::Entry;
+use dead_places::DeadSet;
 use std::alloc::{AllocError, Global};
 
 /// A node has at most so many parts.

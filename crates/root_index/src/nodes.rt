@@ -9,9 +9,9 @@ ghost use Rattle.root_index.specs.Lists.{IsLastBetween};
 ghost use Rattle.root_index.specs.Nodes.{all, rank_in, before_node, AreNeat, AreNeatBut, IsPositionIn, IsEntryIn, IsBehindIn, IsOpened, IsUnspent, AreKept, AreLeft, HavePlaces, KeepsSpares};
 ghost use Rattle.root_index.specs.Sweeps.{IsSwept};
 
-use crate::dead_set::DeadSet;
 use crate::entry::Entry;
 use crate::node::{Half, MAX_PARTS, Node, Swept};
+use dead_places::DeadSet;
 use std::alloc::AllocError;
 
 /// A place among nodes.
@@ -374,7 +374,7 @@ pub(crate) fn still_promised<N: Node>(
 }
 
 /// How many inserts are promised after a sweep: one at least where no node is left, since the last ones are set aside then.
-pub(crate) fn promised_after_sweep<N: Node>(nodes: &Vec<N>, promised: usize) -> usize
+pub(crate) fn promised_after_sweep<N>(nodes: &Vec<N>, promised: usize) -> usize
     ensures left { 0 < length nodes.now.items → result ≡ promised }
     ensures emptied { length nodes.now.items ≡ 0 → result ≡ max promised 1 }
 {

@@ -9,7 +9,8 @@ ghost use Rattle.root_index.specs.View.{room_in};
 ghost use Rattle.history.specs.Cursors.{value_in};
 ghost use Rattle.table_indexes.specs.Indexes.{IsInUse, HasIndexes, IsNextIndex, all_entries, index_at, entries_of, entries_at, entries_in, new_entries, without_body, SameValues, SameEntries, AddsAny, Enters, HasEntry, HasEntries, LacksEntry, NeedsEntry};
 
-use root_index::{DeadSet, Entry, PositionHint, Progress, RootIndex};
+use dead_places::DeadSet;
+use root_index::{Entry, PositionHint, Progress, RootIndex};
 use std::alloc::{AllocError, Global};
 use std::marker::Model;
 use tuple_header::{Row, RowRef};

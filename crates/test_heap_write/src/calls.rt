@@ -7,8 +7,9 @@ ghost use Rattle.snapshot.specs.Own.{current_xid};
 
 use arrayvec::ArrayVec;
 use commit_status::Status;
+use dead_places::DeadSet;
 use heap_write::{HeapState, IndexPosition, IndexRange, PruneFault, WriteFault};
-use root_index::{DeadSet, Entry, PositionHint, Progress};
+use root_index::{Entry, PositionHint, Progress};
 use snapshot::{OwnIds, Snapshot};
 use std::alloc::Global;
 use tuple_header::Row;

@@ -1,7 +1,8 @@
 //! Sets of entries, each reckoned by hand.
 
 use crate::steps::{Step, run};
-use root_index::{DeadSet, Entry, PositionHint, Progress, RootIndex, members_determine};
+use dead_places::DeadSet;
+use root_index::{Entry, PositionHint, Progress, RootIndex, members_determine};
 use std::alloc::{AllocError, Global};
 use std::test::Fail;
 use xid_circle::Tid;

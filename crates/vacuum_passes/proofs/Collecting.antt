@@ -12,7 +12,7 @@ use Rattle.page_slots.specs.declared.slot.Slot.{Slot}
 use Rattle.page_slots.specs.declared.slot.Slot.TheVariants.{Unused, Normal, Redirect, Dead}
 use Rattle.page_slots.specs.Slots.{slot_at, the_slot, is_dead}
 use Rattle.page_slots.proofs.SlotLemmas.{slot_at-there, the_slot-from_slot_at}
-use Rattle.root_index.specs.Places.{IsBefore}
+use Rattle.dead_places.specs.Places.{IsBefore}
 use Rattle.vacuum_passes.specs.View.{places}
 use Rattle.vacuum_passes.specs.Visits.{ListsDead}
 use Rattle.vacuum_passes.specs.Working.{CollectsSlot, Collects}

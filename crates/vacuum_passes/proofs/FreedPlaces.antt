@@ -11,8 +11,8 @@ use Rattle.std.proofs.lemmas.List.Kept.{AllPairs-cons, AllPairs-filter}
 use Rattle.std.proofs.lemmas.Option.{same_Some}
 use Rattle.xid_circle.specs.declared.Tid.{Tid}
 use Rattle.xid_circle.proofs.Members.{Contains-first, Contains-rest, Contains-cases, Contains-none}
-use Rattle.root_index.specs.Places.{IsBefore, AreAscending}
-use Rattle.root_index.proofs.SetLemmas.{less_both}
+use Rattle.dead_places.specs.Places.{IsBefore, AreAscending}
+use Rattle.dead_places.proofs.PlaceLemmas.{less_both}
 use Rattle.vacuum_passes.specs.View.{places}
 use Rattle.vacuum_passes.specs.Steps.{on_page, off_page}
 use Rattle.vacuum_passes.proofs.ListLemmas.{all-from, pairs-head, pairs-tail, in-mapped}

@@ -13,7 +13,7 @@ use Rattle.refinement.specs.declared.vacuum.Mode.TheVariants.{Normal, Aggressive
 use Rattle.vacuum_passes.specs.declared.vacuum.Phase.{Phase}
 use Rattle.vacuum_passes.specs.declared.vacuum.Phase.TheVariants as phase
 use Rattle.vacuum_passes.specs.View.{VacuumView, skips, places, space, phase_with, collected}
-use Rattle.root_index.specs.Places.{IsBefore, AreAscending}
+use Rattle.dead_places.specs.Places.{IsBefore, AreAscending}
 use Rattle.vacuum_passes.specs.Steps.{PhaseAfter, Frees, Drops, IsLowest, on_page, off_page, phase_left}
 use Rattle.vacuum_passes.proofs.FreedPlaces.{on-places}
 use Rattle.vacuum_passes.proofs.ListLemmas.{pairs-tail}

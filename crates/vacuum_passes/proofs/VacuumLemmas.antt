@@ -12,7 +12,7 @@ use Rattle.std.proofs.lemmas.List.Kept.{AllPairs-filter}
 use Rattle.xid_circle.specs.declared.Tid.{Tid}
 use Rattle.xid_circle.proofs.Members.{Contains-none}
 use Rattle.root_index.specs.declared.entry.Entry.{Entry}
-use Rattle.root_index.specs.Places.{IsBefore}
+use Rattle.dead_places.specs.Places.{IsBefore}
 use Rattle.root_index.specs.View.{IndexView}
 use Rattle.heap_write.specs.Heap.{HeapView}
 use Rattle.refinement.specs.declared.vacuum.Piece.{Piece}

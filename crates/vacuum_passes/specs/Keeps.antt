@@ -1,7 +1,7 @@
 -- What a vacuum keeps that rests on nothing but what it does itself.
 use Rattle.std.specs.Prelude.{◌≢◌, ◌<◌, ◌≤◌, ℕ, [], length, Some, Contains}
 use Rattle.xid_circle.specs.declared.Tid.{Tid}
-use Rattle.root_index.specs.Places.{AreAscending}
+use Rattle.dead_places.specs.Places.{AreAscending}
 use Rattle.heap_write.specs.Heap.{HeapView}
 use Rattle.refinement.specs.declared.vacuum.Piece.{Piece}
 use Rattle.vacuum_passes.specs.declared.vacuum.Phase.{Phase}

@@ -4,13 +4,13 @@ ghost use Rattle.std.specs.Prelude.{◌≡◌, ◌≢◌, ◌<◌, ◌≤◌, �
 ghost use Rattle.std.specs.List.{AllPairs};
 ghost use Rattle.xid_circle.specs.declared.Tid.{Tid as Place};
 ghost use Rattle.xid_circle.specs.Circle.{IsNormal};
-ghost use Rattle.root_index.specs.Places.{AreAscending};
+ghost use Rattle.dead_places.specs.Places.{AreAscending};
 ghost use Rattle.vacuum_passes.specs.Steps.{on_page, off_page, phase_left, IsLowest};
 ghost use Rattle.vacuum_passes.specs.Working.{FreesPage, FreesLast};
 
 use crate::vacuum::Phase;
+use dead_places::DeadSet;
 use heap_write::HeapState;
-use root_index::DeadSet;
 use xid_circle::{Tid, Xid};
 
 /// Makes those of the places from this number on unused that are on the lowest page, and notes what is so of that page then. It answers

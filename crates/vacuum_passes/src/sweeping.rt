@@ -6,8 +6,9 @@ ghost use Rattle.vacuum_passes.specs.Steps.{PhaseAfter};
 ghost use Rattle.vacuum_passes.specs.Working.{SweepsPiece};
 
 use crate::vacuum::Phase;
+use dead_places::DeadSet;
 use heap_write::HeapState;
-use root_index::{DeadSet, Entry, PositionHint, Progress};
+use root_index::{Entry, PositionHint, Progress};
 
 /// Goes through a piece of the index of this number, after `from`, or from its beginning: its entries to dead places go. It answers
 /// what comes next, and where the piece ended, from where the next one goes on without a search.

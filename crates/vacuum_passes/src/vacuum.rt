@@ -5,8 +5,9 @@ ghost use Rattle.refinement.specs.declared.vacuum.Mode.TheVariants.{Normal, Aggr
 ghost use Rattle.xid_circle.specs.Circle.{IsNormal};
 ghost use Rattle.vacuum_passes.specs.View.{new_vacuum, disturbed};
 
+use dead_places::DeadSet;
 use refinement::Mode;
-use root_index::{DeadSet, Entry, PositionHint};
+use root_index::{Entry, PositionHint};
 use std::marker::Model;
 use xid_circle::Xid;
 

@@ -4,14 +4,14 @@ ghost use Rattle.std.specs.Prelude.{◌≡◌, ◌<◌, ◌≤◌, ◌+◌, leng
 ghost use Rattle.std.specs.List.{All};
 ghost use Rattle.xid_circle.specs.declared.Tid.{Tid as Place};
 ghost use Rattle.xid_circle.specs.Circle.{IsNormal};
-ghost use Rattle.root_index.specs.Places.{IsBefore};
+ghost use Rattle.dead_places.specs.Places.{IsBefore};
 ghost use Rattle.vacuum_passes.specs.View.{phase_with};
 ghost use Rattle.vacuum_passes.specs.Working.{CleansPage, VisitsFrom, CollectsSlot, Collects, CollectsOn};
 
 use crate::vacuum::Phase;
+use dead_places::DeadSet;
 use heap_write::HeapState;
 use page_slots::Page;
-use root_index::DeadSet;
 use xid_circle::{Tid, Xid};
 
 /// Visits the page of this number, and collects its dead slots, up to so many places in all. It answers which page and which phase

@@ -1,7 +1,7 @@
 use Rattle.std.proofs.Common.{◌≡◌, ◌≢◌, ◌∙◌, List, [], length, drop, sym, ap, arith, subst}
 use Rattle.std.proofs.lemmas.List.{drop-drop}
 use Rattle.xid_circle.specs.declared.Tid.{Tid}
-use Rattle.root_index.specs.Places.{AreAscending}
+use Rattle.dead_places.specs.Places.{AreAscending}
 use Rattle.vacuum_passes.specs.Steps.{on_page, off_page, IsLowest}
 use Rattle.vacuum_passes.specs.Working.{FreesPage}
 use Rattle.vacuum_passes.proofs.Stepping.{drop-some, pairs-drop}

@@ -5,10 +5,10 @@ ghost use Rattle.std.specs.Bool.{OnTrue};
 ghost use Rattle.std.specs.List.{All};
 ghost use Rattle.arrayvec.specs.ArrayVec.{array_vec_len};
 ghost use Rattle.xid_circle.specs.declared.Tid.{Tid as Place};
-ghost use Rattle.root_index.specs.Places.{IsBefore, AreAscending, AddsPlace, IsRoomFor};
-ghost use Rattle.root_index.specs.Bounds.{AreBeside, IsFirstFrom, IsPartOn};
+ghost use Rattle.dead_places.specs.Places.{IsBefore, AreAscending, AddsPlace, IsRoomFor};
+ghost use Rattle.dead_places.specs.Bounds.{AreBeside, IsFirstFrom, IsPartOn};
 
-use crate::entry::compare_places;
+use crate::order::compare_places;
 use crate::page_bounds::PageBounds;
 use arrayvec::ArrayVec;
 use std::cmp::Ordering;
@@ -24,7 +24,7 @@ pub struct DeadSet {
 impl Model for DeadSet {
     ghost use Rattle.std.specs.Prelude.{List};
     ghost use Rattle.xid_circle.specs.declared.Tid.{Tid as Seen};
-    ghost use Rattle.root_index.specs.Places.{AreAscending};
+    ghost use Rattle.dead_places.specs.Places.{AreAscending};
 
     ghost Value = { List Seen };
 
@@ -109,7 +109,7 @@ impl DeadSet {
     }
 
     /// The places on these pages, in their order.
-    pub(crate) fn on_pages(&self, pages: PageBounds) -> &[Tid]
+    pub fn on_pages(&self, pages: PageBounds) -> &[Tid]
         ensures { IsPartOn pages self.now result.now }
     {
         part_on(self.tids.as_slice(), pages)
@@ -240,7 +240,7 @@ fn search(tids: &[Tid], sought: &Tid) -> Result<usize, usize>
 }
 
 /// Whether the place is one of these.
-pub(crate) fn is_among(tids: &[Tid], tid: &Tid) -> bool
+pub fn is_among(tids: &[Tid], tid: &Tid) -> bool
     requires { AreAscending tids.now }
     ensures { IsTrue result ↔ Contains tids.now tid.now }
 {

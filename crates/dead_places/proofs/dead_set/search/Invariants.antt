@@ -1,6 +1,6 @@
 use Rattle.std.proofs.Common.{◌-◌}
-use Rattle.root_index.proofs.PlaceLemmas.{IsAround}
-use Rattle.root_index.proofs.dead_set.search.Given as goal
+use Rattle.dead_places.proofs.PlaceLemmas.{IsAround}
+use Rattle.dead_places.proofs.dead_set.search.Given as goal
 
 -- the place stands between low and high, if it is there
 abbrev pub invariant-loop-low : goal.invariant-loop-low

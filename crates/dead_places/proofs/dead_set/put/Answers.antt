@@ -1,8 +1,8 @@
 use Rattle.std.proofs.Common.{◌∙◌, List, sym, subst}
 use Rattle.xid_circle.specs.declared.Tid.{Tid}
-use Rattle.root_index.specs.Places.{AddsPlace, IsRoomFor}
-use Rattle.root_index.proofs.PlaceLemmas.{adds-inserted, inserted_last}
-use Rattle.root_index.proofs.dead_set.put.Goals as goal
+use Rattle.dead_places.specs.Places.{AddsPlace, IsRoomFor}
+use Rattle.dead_places.proofs.PlaceLemmas.{adds-inserted, inserted_last}
+use Rattle.dead_places.proofs.dead_set.put.Goals as goal
 
 pub returns-in-Some-clause-adds : goal.returns-in-Some-clause-adds
 returns-in-Some-clause-adds c =

@@ -1,6 +1,6 @@
 use Rattle.std.proofs.Common.{◌∙◌, sym, arith}
-use Rattle.root_index.proofs.PlaceLemmas.{looked_less, looked_greater}
-use Rattle.root_index.proofs.dead_set.search.Goals as goal
+use Rattle.dead_places.proofs.PlaceLemmas.{looked_less, looked_greater}
+use Rattle.dead_places.proofs.dead_set.search.Goals as goal
 
 pub loop-low-preserved-in-Less : goal.loop-low-preserved-in-Less
 loop-low-preserved-in-Less c =

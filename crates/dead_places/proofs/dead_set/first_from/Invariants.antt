@@ -1,6 +1,6 @@
 use Rattle.std.proofs.Common.{◌-◌}
-use Rattle.root_index.proofs.BoundLemmas.{IsPageBetween}
-use Rattle.root_index.proofs.dead_set.first_from.Given as goal
+use Rattle.dead_places.proofs.BoundLemmas.{IsPageBetween}
+use Rattle.dead_places.proofs.dead_set.first_from.Given as goal
 
 -- the number stands between low and high
 abbrev pub invariant-loop-low : goal.invariant-loop-low

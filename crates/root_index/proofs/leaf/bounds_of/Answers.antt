@@ -2,7 +2,7 @@ use Rattle.std.proofs.Common.{subst, arith}
 use Rattle.std.proofs.lemmas.List.{take_all}
 use Rattle.root_index.specs.Bounds.{AreOn}
 use Rattle.root_index.proofs.BoundLemmas.{on_more}
-use Rattle.root_index.proofs.page_bounds.bounds_of.Goals as goal
+use Rattle.root_index.proofs.leaf.bounds_of.Goals as goal
 
 pub returns : goal.returns
 returns c = subst (AreOn c.loop-place.bounds) (take_all c.loop-place.place c.args.entries.now (omega (arith, c.loop-place-test.false))) c.loop-place.invariant

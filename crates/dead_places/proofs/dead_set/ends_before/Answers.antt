@@ -1,8 +1,8 @@
 use Rattle.std.proofs.Common.{◌<◌, nat_lt, sym, arith}
 use Rattle.std.proofs.lemmas.Bool.{OnTrue_from}
 use Rattle.std.proofs.lemmas.Bool.Decides.{nat_tests}
-use Rattle.root_index.proofs.BoundLemmas.{to_last}
-use Rattle.root_index.proofs.dead_set.ends_before.Goals as goal
+use Rattle.dead_places.proofs.BoundLemmas.{to_last}
+use Rattle.dead_places.proofs.dead_set.ends_before.Goals as goal
 
 pub returns-in-Some : goal.returns-in-Some
 returns-in-Some c =

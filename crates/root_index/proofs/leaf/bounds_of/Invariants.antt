@@ -1,6 +1,6 @@
 use Rattle.std.proofs.Common.{take}
 use Rattle.root_index.specs.Bounds.{AreOn}
-use Rattle.root_index.proofs.page_bounds.bounds_of.Given as goal
+use Rattle.root_index.proofs.leaf.bounds_of.Given as goal
 
 -- the entries so far lie between the bounds
 abbrev pub invariant-loop-place : goal.invariant-loop-place

@@ -1,8 +1,7 @@
 use Rattle.std.proofs.Common.{◌∙◌, sym}
 use Rattle.std.proofs.lemmas.Bool.{OnTrue_from}
-use Rattle.root_index.proofs.OrderLemmas.{less_from_test}
-use Rattle.root_index.proofs.PlaceLemmas.{room_behind}
-use Rattle.root_index.proofs.dead_set.is_above.Goals as goal
+use Rattle.dead_places.proofs.PlaceLemmas.{less_from_test, room_behind}
+use Rattle.dead_places.proofs.dead_set.is_above.Goals as goal
 
 pub returns-in-Some : goal.returns-in-Some
 returns-in-Some c =

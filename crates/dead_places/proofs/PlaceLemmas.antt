@@ -1,7 +1,8 @@
 -- The order of places is total; what a search finds in an ascending list of them, and what an edit there does.
-use Rattle.std.proofs.Common.{◌≡◌, ◌∙◌, ℕ, zero, suc, ◌+◌, ◌-◌, ◌<◌, ◌≤◌, inl, inr, ⊎_elim, List, [], ◌∷◌, ◌++◌, length, get_or, Some, slice_get, sym, ap, refl, subst, arith, Contains}
+use Rattle.std.proofs.Common.{◌≡◌, ◌∙◌, ℕ, zero, suc, ◌+◌, ◌-◌, ◌<◌, ◌≤◌, ◌⊎◌, true, inl, inr, ⊎_elim, List, [], ◌∷◌, ◌++◌, length, get_or, Some, slice_get, sym, ap, refl, subst, arith, Contains}
 use Rattle.std.specs.Cmp.{IsTotalOrder}
-use Rattle.std.specs.Ordering.{nat_cmp, ordering_reverse}
+use Rattle.std.specs.Ordering.{nat_cmp, ordering_reverse, ordering_then, is_lt}
+use Rattle.std.specs.declared.cmp.Ordering.{Ordering}
 use Rattle.std.specs.declared.cmp.Ordering.TheVariants.{Less, Equal, Greater}
 use Rattle.std.specs.List.{insert, All}
 use Rattle.std.proofs.lemmas.Bool.{cases_lt}
@@ -14,8 +15,26 @@ use Rattle.std.proofs.lemmas.Option.{slice_get-get_or, slice_get_within, get_or_
 use Rattle.xid_circle.specs.declared.Tid.{Tid}
 use Rattle.xid_circle.proofs.Members.{Contains-first, Contains-rest, Contains-cases}
 use Rattle.xid_circle.proofs.Tids.{same-tid}
-use Rattle.root_index.specs.Places.{place_order, IsBefore, AreAscending, AddsPlace, IsRoomFor}
-use Rattle.root_index.proofs.OrderLemmas.{equal_both}
+use Rattle.dead_places.specs.Places.{place_order, IsBefore, AreAscending, AddsPlace, IsRoomFor}
+
+-- Two comparisons, the second where the first finds nothing.
+
+pub less_both : (o p : Ordering) → ordering_then o p ≡ Less → (o ≡ Less) ⊎ ((o ≡ Equal) × (p ≡ Less))
+less_both Less p e = inl refl
+less_both Equal p e = inr (refl, e)
+less_both Greater p e = absurd (cc e)
+
+pub equal_both : (o p : Ordering) → ordering_then o p ≡ Equal → (o ≡ Equal) × (p ≡ Equal)
+equal_both Less p e = absurd (cc e)
+equal_both Equal p e = (refl, e)
+equal_both Greater p e = absurd (cc e)
+
+pub less_from_test : (o : Ordering) → is_lt o ≡ true → o ≡ Less
+less_from_test Less h = refl
+less_from_test Equal h = absurd (cc h)
+less_from_test Greater h = absurd (cc h)
+
+-- The order.
 
 pub place_total : IsTotalOrder place_order
 place_total = then_total (on_total (λ (t : Tid). t.page) nat_cmp_total) (on_total (λ (t : Tid). t.slot) nat_cmp_total)

@@ -1,7 +1,7 @@
 use Rattle.std.proofs.Common.{sym, arith}
 use Rattle.std.proofs.lemmas.Bool.{OnTrue_at, OnTrue_from}
-use Rattle.root_index.proofs.BoundLemmas.{from_first}
-use Rattle.root_index.proofs.dead_set.are_beside.Goals as goal
+use Rattle.dead_places.proofs.BoundLemmas.{from_first}
+use Rattle.dead_places.proofs.dead_set.are_beside.Goals as goal
 
 pub returns-in-Some : goal.returns-in-Some
 returns-in-Some c =

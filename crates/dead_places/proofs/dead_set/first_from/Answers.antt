@@ -1,6 +1,6 @@
 use Rattle.std.proofs.Common.{arith}
-use Rattle.root_index.proofs.BoundLemmas.{page_before, page_from}
-use Rattle.root_index.proofs.dead_set.first_from.Goals as goal
+use Rattle.dead_places.proofs.BoundLemmas.{page_before, page_from}
+use Rattle.dead_places.proofs.dead_set.first_from.Goals as goal
 
 pub loop-low-preserved-then-tids-middle : goal.loop-low-preserved-then-tids-middle
 loop-low-preserved-then-tids-middle c =

@@ -1,9 +1,9 @@
 use Rattle.std.proofs.Common.{List, sym, subst}
 use Rattle.std.proofs.lemmas.List.{take_rest}
 use Rattle.xid_circle.specs.declared.Tid.{Tid}
-use Rattle.root_index.specs.Bounds.{IsPartOn}
-use Rattle.root_index.proofs.BoundLemmas.{part_behind}
-use Rattle.root_index.proofs.dead_set.part_from.Goals as goal
+use Rattle.dead_places.specs.Bounds.{IsPartOn}
+use Rattle.dead_places.proofs.BoundLemmas.{part_behind}
+use Rattle.dead_places.proofs.dead_set.part_from.Goals as goal
 
 pub returns : goal.returns
 returns c =
