@@ -254,7 +254,11 @@ impl StatusTable {
             return None;
         }
         let turn = turns(self.first, x);
-        if turn as usize <= self.entries.len() { Some(turn) } else { None }
+        if turn as usize <= self.entries.len() {
+            Some(turn)
+        } else {
+            None
+        }
     }
 
     fn entry(&self, x: Xid) -> Option<&StatusEntry>

@@ -123,16 +123,29 @@ impl PruneHints {
         ensures reaches { count ≤ length self.old.turns + self.old.spare → count ≤ length self.new.turns }
     {
         let end = count.min(self.hints.capacity());
-        for _ in self.hints.len()..end {
-            self.hints.push_reserved(PruneHint {
-                epoch: self.epoch,
-                turn: None,
-            });
+        if self.hints.len() < end {
+            self.fill_up(end);
         }
     }
 
-    // Each of these changes what is known of pages as it says.
+    // Adds hints that say nothing, up to so many.
+    fn fill_up(&mut self, count: usize)
+        requires more { length self.old.turns ≤ count }
+        requires room { count ≤ length self.old.turns + self.old.spare }
+        ensures each { (n : ℕ) → turn_on self.new.turns n ≡ turn_on self.old.turns n }
+        ensures count { length self.new.turns ≡ count }
+        ensures spare { count + self.new.spare ≡ length self.old.turns + self.old.spare }
+    {
+        let nothing = PruneHint {
+            epoch: self.epoch,
+            turn: None,
+        };
+        for _ in self.hints.len()..count {
+            self.hints.push_reserved(nothing);
+        }
+    }
 
+    // Says this of a page, where it has a hint.
     fn put(&mut self, number: u32, turn: Option<u32>)
         ensures turns { self.new.turns ≡ slice_set self.old.turns number turn }
         ensures spare { self.new.spare ≡ self.old.spare }
@@ -146,13 +159,14 @@ impl PruneHints {
         }
     }
 
+    // The same as a new epoch, where there are no more numbers for one.
     fn end_each(&mut self)
         ensures none { (n : ℕ) → turn_on self.new.turns n ≡ None }
         ensures count { length self.new.turns ≡ length self.old.turns }
         ensures spare { self.new.spare ≡ self.old.spare }
     {
-        for number in 0..self.hints.len() {
-            self.hints[number].turn = None;
-        }
+        let count = self.hints.len();
+        self.hints.clear();
+        self.fill_up(count);
     }
 }
