@@ -79,10 +79,7 @@ impl PruneHints {
         ensures turns { self.new.turns ≡ slice_set self.old.turns number (lowered (turn_on self.old.turns number) turn) }
         ensures spare { self.new.spare ≡ self.old.spare }
     {
-        let lowest = match self.turn(number) {
-            Some(known) => Some(known.min(turn)),
-            None => None,
-        };
+        let lowest = self.turn(number).map(|known| known.min(turn));
         self.put(number, lowest);
     }
 
@@ -117,9 +114,12 @@ impl PruneHints {
         self.hints.try_reserve(count)
     }
 
-    /// There are hints on the first `count` pages, as far as room was made. Nothing is known of those that it adds.
+    /// There are hints on the first `count` pages, as far as room was made: it takes no memory. Nothing is known of the pages that
+    /// it adds.
     pub fn cover(&mut self, count: usize)
         ensures each { (n : ℕ) → turn_on self.new.turns n ≡ turn_on self.old.turns n }
+        ensures keeps { length self.old.turns ≤ length self.new.turns }
+        ensures spare { length self.new.turns + self.new.spare ≡ length self.old.turns + self.old.spare }
         ensures reaches { count ≤ length self.old.turns + self.old.spare → count ≤ length self.new.turns }
     {
         let end = count.min(self.hints.capacity());
@@ -128,7 +128,7 @@ impl PruneHints {
         }
     }
 
-    // Adds hints that say nothing, up to so many.
+    // Adds hints that say nothing, until there are so many.
     fn fill_up(&mut self, count: usize)
         requires more { length self.old.turns ≤ count }
         requires room { count ≤ length self.old.turns + self.old.spare }
