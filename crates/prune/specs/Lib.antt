@@ -1,5 +1,6 @@
 pub mod Cutting
 pub mod Actions
+pub mod Deaths
 pub mod Pruning
 pub mod Checks
 pub mod Laws

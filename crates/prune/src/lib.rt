@@ -25,5 +25,5 @@ mod planning;
 pub use action::{Action, PrunePlan};
 pub use applying::{apply, prune};
 pub use checking::check_plan;
-pub use dead::has_dead;
+pub use dead::{first_death, has_dead};
 pub use planning::plan;
