@@ -9,3 +9,5 @@ pub mod Updating
 pub mod IdlePages
 pub mod GivenIds
 pub mod Freeing
+pub mod Dying
+pub mod HintLemmas

@@ -13,6 +13,7 @@
 mod cleaning;
 mod delete;
 mod heap;
+mod hints;
 mod ids;
 mod insert;
 mod lookup;

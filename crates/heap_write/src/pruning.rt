@@ -1,6 +1,6 @@
 //! A page is cleaned.
 
-ghost use Rattle.std.specs.Prelude.{◌≡◌, ◌<◌, length, OnOk, OnErr, IfErr, IsFalse};
+ghost use Rattle.std.specs.Prelude.{◌≡◌, ◌<◌, length, OnOk, OnErr, IfErr, IsFalse, IsTrue};
 ghost use Rattle.xid_circle.specs.Circle.{IsNormal};
 ghost use Rattle.heap_write.specs.Heap.{page_on};
 ghost use Rattle.heap_write.specs.Writes.{Prunes};
@@ -8,7 +8,7 @@ ghost use Rattle.heap_write.specs.Refusals.{Unpruned};
 ghost use Rattle.heap_write.specs.Steps.{HasNoneDead};
 
 use crate::heap::HeapState;
-use prune::{has_dead, prune};
+use prune::{first_death, prune};
 use thiserror::Error;
 use xid_circle::Xid;
 
@@ -39,17 +39,53 @@ impl HeapState {
         Ok(())
     }
 
-    /// Whether a version on the page of this number is dead. Where none is, pruning leaves the page as it is.
-    pub(crate) fn has_dead(&self, number: u32, horizon: Xid) -> bool
-        requires { IsNormal horizon.0 }
-        ensures { IsFalse result → HasNoneDead self.now number horizon.0 }
+    /// Whether a version on the page of this number is dead. Where none is, pruning leaves the page as it is. The page is
+    /// looked through only where that isn't known from the last time.
+    pub(crate) fn has_dead(&mut self, number: u32, horizon: Xid) -> bool
+        ensures none { IsFalse result → HasNoneDead self.old number horizon.0 }
+        ensures same { self.new ≡ self.old }
     {
-        match self.pages.page(number) {
-            Some(page) => {
+        if self.is_known_alive(number, horizon) {
+            return false;
+        }
+        self.find_dead(number, horizon)
+    }
+
+    /// Whether it is known that no version on the page of this number is dead: since the page was looked through, the horizon
+    /// came to none who deleted one.
+    fn is_known_alive(&self, number: u32, horizon: Xid) -> bool
+        ensures { IsTrue result → HasNoneDead self.now number horizon.0 }
+    {
+        self.table.is_window();
+        match (
+            self.pages.page(number),
+            self.hints.turn(number),
+            self.table.turn_of(horizon),
+        ) {
+            (Some(page), Some(known), Some(turn)) => {
                 let _limit = page.slots();
-                has_dead(page, &self.table, horizon)
+                turn <= known
             }
-            None => false,
+            _ => false,
+        }
+    }
+
+    /// Looks through the page of this number for a dead version, and notes from when on one may be dead if none is.
+    fn find_dead(&mut self, number: u32, horizon: Xid) -> bool
+        ensures none { IsFalse result → HasNoneDead self.old number horizon.0 }
+        ensures same { self.new ≡ self.old }
+    {
+        let page = match self.pages.page(number) {
+            Some(page) => page,
+            None => return false,
+        };
+        let _limit = page.slots();
+        match first_death(page, &self.table, horizon) {
+            Some(turn) => {
+                self.hints.note(number, turn);
+                false
+            }
+            None => true,
         }
     }
 
@@ -63,5 +99,6 @@ impl HeapState {
     {
         let table = &self.table;
         self.pages.edit(number, |page| prune(page, table, horizon));
+        self.hints.end(number);
     }
 }

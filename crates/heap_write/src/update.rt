@@ -14,6 +14,7 @@ ghost use Rattle.heap_write.specs.Growth.{HasIds, HasSlot, GrowsPage, IsReserved
 ghost use Rattle.heap_write.specs.Steps.{IsChosen, FailsAfterPruning};
 
 use crate::heap::{HeapState, WriteFault};
+use crate::hints::expect_write;
 use crate::ids::{needs_freeze, reserve_ids, take_ids};
 use crate::target::{Target, reserve_place, reserve_slot};
 use snapshot::OwnIds;
@@ -191,7 +192,13 @@ impl HeapState {
     {
         reserve_ids(&mut self.table, own)?;
         self.indexes.make_room()?;
-        reserve_place(self.alloc, &mut self.pages, size, self.max_pages)
+        reserve_place(
+            self.alloc,
+            &mut self.pages,
+            &mut self.hints,
+            size,
+            self.max_pages,
+        )
     }
 
     /// Updates a version whose page has no room for the row, and is pruned once memory is made ready.
@@ -386,6 +393,7 @@ impl HeapState {
         let _slot = self.pages.write(place.page, |page| {
             hot_update(page, place.page, place.slot, x, row)
         });
+        expect_write(&mut self.hints, &self.table, place.page, x);
         x
     }
 
@@ -410,6 +418,7 @@ impl HeapState {
             place.page,
             |page| mark_cold_updated(page, place.slot, x, successor),
         );
+        expect_write(&mut self.hints, &self.table, place.page, x);
         x
     }
 }
