@@ -126,7 +126,7 @@ impl HeapState {
         self.table.is_window();
         match status {
             Status::Aborted => self.hints.end_all(),
-            Status::InProgress | Status::Committed => {}
+            _ => {}
         }
     }
 }
