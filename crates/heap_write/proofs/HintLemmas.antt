@@ -4,28 +4,33 @@ use Rattle.std.proofs.Math.Nat.{min-le_left, min-le_right}
 use Rattle.std.proofs.Math.ListN.{get_or-map}
 use Rattle.std.proofs.Math.Seq.{map-set_same, get_or-append_seam}
 use Rattle.std.proofs.lemmas.Bool.{cases_lt, cases_eq}
-use Rattle.std.proofs.lemmas.Option.{same_Some, none-some, slice_get-get_or, get_or_from_slice_get}
+use Rattle.std.proofs.lemmas.Option.{same_Some, none-some, slice_get_within, get_or_from_slice_get}
 use Rattle.std.proofs.lemmas.List.{get_or_past, get_or-set_same, get_or-set_other, get_or_append_left, length-set, length_push}
 use Rattle.std.specs.Prelude.{slice_get}
 use Rattle.xid_circle.specs.declared.Tid.{Tid}
 use Rattle.tuple_header.specs.declared.version.Row.{Row}
+use Rattle.tuple_writes.specs.Writes.{with_updated}
 use Rattle.page_slots.specs.declared.slot.Slot.{Slot}
 use Rattle.page_slots.specs.View.{PageView}
 use Rattle.page_slots.specs.Slots.{IsNormalAt}
 use Rattle.commit_status.specs.declared.status.Status.{Status}
 use Rattle.commit_status.specs.declared.status.Status.TheVariants.{Aborted}
-use Rattle.commit_status.specs.Window.{Window, IsWindow, IsAborted, turns}
+use Rattle.commit_status.specs.Window.{Window, IsWindow, IsAborted, IsUpToNext, turns}
 use Rattle.commit_status.specs.Changes.{Finishes}
 use Rattle.snapshot.specs.Own.{Own, current_xid}
 use Rattle.space_maps.specs.Hints.{turn_on, lowered}
 use Rattle.heap_pages.specs.View.{PagesView}
 use Rattle.prune.specs.Deaths.{NothingDiesBefore}
-use Rattle.heap_write.specs.Heap.{HeapView, unused_page, page_on, SameIds, PutsPage}
+use Rattle.heap_write.specs.Heap.{HeapView, unused_page, SameIds, PutsPage}
 use Rattle.heap_write.specs.Heap.PutsPage.{in_use, after_all}
-use Rattle.heap_write.specs.Growth.{page_in, SamePages}
-use Rattle.heap_write.specs.Writes.{TakesIds, PutsRoot, SetsXmax, HotUpdates}
+use Rattle.heap_write.specs.Growth.{page_in, SamePages, PutsVersion}
+use Rattle.heap_write.specs.Writes.{TakesIds}
+use Rattle.heap_write.specs.Steps.{HasNoneDead}
 use Rattle.heap_write.specs.Hints.{AreTrueHints, IsLowered, ExpectsWrite}
-use Rattle.heap_write.proofs.Dying.{AgesOn, dies-on, ages-given, ages-finished, ages-same, dies-earlier, dies-root, dies-replaced, dies-updated}
+use Rattle.heap_write.proofs.Dying.{AgesOn, dies-on, ages-given, ages-finished, ages-same, none-dead, dies-earlier, dies-root, dies-replaced, dies-updated}
+use Rattle.heap_write.proofs.PageLemmas.{page-at}
+use Rattle.heap_write.proofs.Writing.{MarksColdUpdated}
+use Rattle.heap_write.proofs.IdlePages.{idle-at}
 
 -- No version comes, and none is aborted.
 
@@ -167,39 +172,66 @@ put-other pages pages' n m page other (after_all over is marks) = ap (λ ps. pag
     past-off : (ps : List PageView) (p : PageView) (k : ℕ) → length ps ≤ k → k ≢ length ps → length (ps ++ p ∷ []) ≡ length ps + 1 → length (ps ++ p ∷ []) ≤ k
     past-off ps p k past off long = omega arith
 
-hints-put : (w : Window) (x n : ℕ) (pages pages' : PagesView) (page : PageView) (hints hints' : List (Option ℕ)) → PutsPage pages pages' n page
-    → ((turn : ℕ) → ¬ IsAborted w x → turn ≤ turns w.first x → NothingDiesBefore w turn (page_in pages.pages n).slots → NothingDiesBefore w turn page.slots)
-    → ExpectsWrite w x n hints hints' → AreTrueHints w pages.pages hints → AreTrueHints w pages'.pages hints'
-hints-put w x n pages pages' page hints hints' puts write expects are = record {
+hints-written : (w : Window) (x n : ℕ) (pages pages' : List PageView) (page : PageView) (hints hints' : List (Option ℕ)) → page_in pages' n ≡ page
+    → ((m : ℕ) → m ≢ n → page_in pages' m ≡ page_in pages m)
+    → ((turn : ℕ) → ¬ IsAborted w x → turn ≤ turns w.first x → NothingDiesBefore w turn (page_in pages n).slots → NothingDiesBefore w turn page.slots)
+    → ExpectsWrite w x n hints hints' → AreTrueHints w pages hints → AreTrueHints w pages' hints'
+hints-written w x n pages pages' page hints hints' is same write expects are = record {
   each = λ m turn known. ⊎_elim
       (λ here.
       let l = expects.here turn (ap (turn_on hints') (sym here) ∙ known) in
-      let was = dies-earlier w l.was turn (page_in pages.pages n).slots l.earlier (are.each n l.was l.is_known) in
-      let is : page_in pages'.pages m ≡ page = ap (page_in pages'.pages) here ∙ put-here pages pages' n page puts in
-      subst (λ (p : PageView). NothingDiesBefore w turn p.slots) (sym is) (write turn l.live l.later was))
+      let was = dies-earlier w l.was turn (page_in pages n).slots l.earlier (are.each n l.was l.is_known) in
+      subst (λ (p : PageView). NothingDiesBefore w turn p.slots) (sym (ap (page_in pages') here ∙ is)) (write turn l.live l.later was))
       (λ other.
-      subst (λ (p : PageView). NothingDiesBefore w turn p.slots) (sym (put-other pages pages' n m page other puts)) (are.each m turn (sym (expects.others m other) ∙ known)))
+      subst (λ (p : PageView). NothingDiesBefore w turn p.slots) (sym (same m other)) (are.each m turn (sym (expects.others m other) ∙ known)))
       (cases_eq m n);
 }
 
-pub hints-root : (w : Window) (h h' : HeapView) (updated : Bool) (x : ℕ) (row : Row) (n : ℕ) (hints hints' : List (Option ℕ)) → PutsRoot h h' updated x row n
-    → ExpectsWrite w x n hints hints' → AreTrueHints w h.pages.pages hints → AreTrueHints w h'.pages.pages hints'
-hints-root w h h' updated x row n hints hints' root =
-    hints-put w x n h.pages h'.pages root.page hints hints' root.puts
-    (λ turn live later dies. subst (NothingDiesBefore w turn) (sym root.slots) (dies-root w turn x n (page_on h n).slots updated row live dies))
+-- x makes a root
+pub hints-root : (w : Window) (pages pages' : PagesView) (updated : Bool) (x : ℕ) (row : Row) (n : ℕ) (hints hints' : List (Option ℕ)) → PutsVersion pages pages' updated x row n
+    → ExpectsWrite w x n hints hints' → AreTrueHints w pages.pages hints → AreTrueHints w pages'.pages hints'
+hints-root w pages pages' updated x row n hints hints' root =
+    hints-written w x n pages.pages pages'.pages root.page hints hints' (put-here pages pages' n root.page root.puts) (λ m other. put-other pages pages' n m root.page other root.puts)
+    (λ turn live later dies. subst (NothingDiesBefore w turn) (sym root.slots) (dies-root w turn x n (page_in pages.pages n).slots updated row live dies))
 
-pub hints-xmax : (w : Window) (h h' : HeapView) (place successor : Tid) (x : ℕ) (hints hints' : List (Option ℕ)) → SetsXmax h h' place x successor
-    → IsNormalAt (page_on h place.page).slots place.slot
-    → ExpectsWrite w x place.page hints hints' → AreTrueHints w h.pages.pages hints → AreTrueHints w h'.pages.pages hints'
-hints-xmax w h h' place successor x hints hints' away normal =
-    hints-put w x place.page h.pages h'.pages away.page hints hints' away.puts
+-- x changes the page that was there
+hints-changed : (w : Window) (x n : ℕ) (pages pages' : List PageView) (before after : PageView) (hints hints' : List (Option ℕ)) → slice_get pages n ≡ Some before → pages' ≡ set pages n after
+    → ((turn : ℕ) → ¬ IsAborted w x → turn ≤ turns w.first x → NothingDiesBefore w turn before.slots → NothingDiesBefore w turn after.slots)
+    → ExpectsWrite w x n hints hints' → AreTrueHints w pages hints → AreTrueHints w pages' hints'
+hints-changed w x n pages pages' before after hints hints' at is write =
+    let was : page_in pages n ≡ before = page-at pages n before at in
+    hints-written w x n pages pages' after hints hints'
+    (ap (λ ps. page_in ps n) is ∙ get_or-set_same pages n after unused_page (slice_get_within pages n before at))
+    (λ m other. ap (λ ps. page_in ps m) is ∙ get_or-set_other pages n m after unused_page other)
+    (λ turn live later dies. write turn live later (subst (λ (p : PageView). NothingDiesBefore w turn p.slots) was dies))
+
+-- it takes a version away
+pub hints-taken_away : (w : Window) (x : ℕ) (place successor : Tid) (pages pages' : List PageView) (before after : PageView) (hints hints' : List (Option ℕ))
+    → slice_get pages place.page ≡ Some before → pages' ≡ set pages place.page after → MarksColdUpdated before after place successor x → IsNormalAt before.slots place.slot
+    → ExpectsWrite w x place.page hints hints' → AreTrueHints w pages hints → AreTrueHints w pages' hints'
+hints-taken_away w x place successor pages pages' before after hints hints' at is away normal =
+    hints-changed w x place.page pages pages' before after hints hints' at is
     (λ turn live later dies. subst (NothingDiesBefore w turn) (sym away.slots)
-    (dies-replaced w turn place.slot x successor.page successor.slot false (page_on h place.page).slots later normal dies))
+    (dies-replaced w turn place.slot x successor.page successor.slot false before.slots later normal dies))
 
-pub hints-hot : (w : Window) (h h' : HeapView) (place : Tid) (x : ℕ) (row : Row) (hints hints' : List (Option ℕ)) → HotUpdates h h' place x row
-    → IsNormalAt (page_on h place.page).slots place.slot
-    → ExpectsWrite w x place.page hints hints' → AreTrueHints w h.pages.pages hints → AreTrueHints w h'.pages.pages hints'
-hints-hot w h h' place x row hints hints' hot normal =
-    hints-put w x place.page h.pages h'.pages hot.page hints hints' hot.puts
-    (λ turn live later dies. subst (NothingDiesBefore w turn) (sym hot.slots)
-    (dies-updated w turn place.slot x place.page (page_on h place.page).slots row live later normal dies))
+-- or replaces it on the page
+pub hints-replaced : (w : Window) (x : ℕ) (place : Tid) (row : Row) (pages pages' : List PageView) (before after : PageView) (hints hints' : List (Option ℕ))
+    → slice_get pages place.page ≡ Some before → pages' ≡ set pages place.page after → after.slots ≡ with_updated before.slots place.slot x place.page row
+    → IsNormalAt before.slots place.slot → ExpectsWrite w x place.page hints hints' → AreTrueHints w pages hints → AreTrueHints w pages' hints'
+hints-replaced w x place row pages pages' before after hints hints' at is slots normal =
+    hints-changed w x place.page pages pages' before after hints hints' at is
+    (λ turn live later dies. subst (NothingDiesBefore w turn) (sym slots) (dies-updated w turn place.slot x place.page before.slots row live later normal dies))
+
+-- there are hints on more pages
+pub hints-covered : (w : Window) (pages : List PageView) (hints hints' : List (Option ℕ)) → ((n : ℕ) → turn_on hints' n ≡ turn_on hints n) → AreTrueHints w pages hints
+    → AreTrueHints w pages hints'
+hints-covered w pages hints hints' same are = record { each = λ n turn known. are.each n turn (sym (same n) ∙ known) }
+
+-- A look at a page.
+
+pub known-alive : (h : HeapView) (hints : List (Option ℕ)) (n horizon known turn : ℕ) (page : PageView) → IsWindow h.table → AreTrueHints h.table h.pages.pages hints
+    → slice_get h.pages.pages n ≡ Some page → length page.slots ≤ 291 → turn_on hints n ≡ Some known → IsUpToNext h.table horizon → turn ≡ turns h.table.first horizon → turn ≤ known
+    → HasNoneDead h n horizon
+known-alive h hints n horizon known turn page is are at few noted up turn_is early =
+    let dies : NothingDiesBefore h.table known page.slots = subst (λ (p : PageView). NothingDiesBefore h.table known p.slots) (page-at h.pages.pages n page at) (are.each n known noted) in
+    idle-at h n horizon page at few (none-dead h.table known horizon page.slots is up (subst (λ t. t ≤ known) turn_is early) dies)
