@@ -7,11 +7,11 @@ use Rattle.space_maps.specs.Hints.{turn_on, turn_in}
 use Rattle.space_maps.specs.declared.prune_hints.PruneHint.{PruneHint}
 
 -- what a hint says in this epoch, and what all of them do
-abbrev pub turn_of : ℕ → PruneHint → Option ℕ
-turn_of now hint = turn_in now hint.epoch hint.turn
+abbrev pub says : ℕ → PruneHint → Option ℕ
+says now hint = turn_in now hint.epoch hint.turn
 
-abbrev pub turns_of : ℕ → List PruneHint → List (Option ℕ)
-turns_of now hints = map (turn_of now) hints
+abbrev pub turns_in : ℕ → List PruneHint → List (Option ℕ)
+turns_in now hints = map (says now) hints
 
 -- a hint that says nothing
 abbrev pub nothing : ℕ → PruneHint
@@ -25,9 +25,9 @@ turn_in-later now epoch turn before = rw (ne_eqb epoch now (λ e. omega (arith, 
 
 -- the hint of a page is replaced by one of this epoch
 pub turns-set : (now : ℕ) (hints : List PruneHint) (n : ℕ) (turn : Option ℕ)
-    → turns_of now (set hints n (record { epoch = now; turn = turn })) ≡ set (turns_of now hints) n turn
+    → turns_in now (set hints n (record { epoch = now; turn = turn })) ≡ set (turns_in now hints) n turn
 turns-set now hints n turn =
-    map-set (turn_of now) hints n (record { epoch = now; turn = turn }) ∙ ap (set (turns_of now hints) n) (turn_in-now now turn)
+    map-set (says now) hints n (record { epoch = now; turn = turn }) ∙ ap (set (turns_in now hints) n) (turn_in-now now turn)
 
 unknown-added : (turns : List (Option ℕ)) (n : ℕ) → turn_on (turns ++ None ∷ []) n ≡ turn_on turns n
 unknown-added [] zero = refl
@@ -37,17 +37,17 @@ unknown-added (t ∷ ts) (suc n) = unknown-added ts n
 
 -- one that says nothing is added
 pub turns-push : (now : ℕ) (hints : List PruneHint) (n : ℕ)
-    → turn_on (turns_of now (hints ++ nothing now ∷ [])) n ≡ turn_on (turns_of now hints) n
+    → turn_on (turns_in now (hints ++ nothing now ∷ [])) n ≡ turn_on (turns_in now hints) n
 turns-push now hints n =
-    ap (λ turns. turn_on turns n) (map-append (turn_of now) hints (nothing now ∷ []) ∙ ap (λ t. turns_of now hints ++ t ∷ []) (turn_in-now now None))
-    ∙ unknown-added (turns_of now hints) n
+    ap (λ turns. turn_on turns n) (map-append (says now) hints (nothing now ∷ []) ∙ ap (λ t. turns_in now hints ++ t ∷ []) (turn_in-now now None))
+    ∙ unknown-added (turns_in now hints) n
 
 -- in a later epoch all say nothing
 pub turns-later : (now later : ℕ) (hints : List PruneHint) → now < later → All (λ (hint : PruneHint). hint.epoch ≤ now) hints
-    → (n : ℕ) → turn_on (turns_of later hints) n ≡ None
+    → (n : ℕ) → turn_on (turns_in later hints) n ≡ None
 turns-later now later hints lt within n =
     elim (cases_lt n (length hints)) [
-      | inl below ↦ get_or-map (turn_of later) hints n (nothing 0) None below
+      | inl below ↦ get_or-map (says later) hints n (nothing 0) None below
           ∙ turn_in-later later _ _ (let le = within n (nothing 0) below in omega arith)
-      | inr past ↦ get_or_past (turns_of later hints) n None (subst (λ k. k ≤ n) (sym (length-map hints (turn_of later))) past)
+      | inr past ↦ get_or_past (turns_in later hints) n None (subst (λ k. k ≤ n) (sym (length-map hints (says later))) past)
     ]

@@ -76,7 +76,8 @@ impl PruneHints {
 
     /// Lowers what is known of a page to this turn, where that is earlier. Where nothing is known, nothing is after it.
     pub fn lower(&mut self, number: u32, turn: u32)
-        ensures turns { self.new.turns ≡ slice_set self.old.turns number (lowered (turn_on self.old.turns number) turn) }
+        ensures turns { self.new.turns
+            ≡ slice_set self.old.turns number (lowered (turn_on self.old.turns number) turn) }
         ensures spare { self.new.spare ≡ self.old.spare }
     {
         let lowest = self.turn(number).map(|known| known.min(turn));
@@ -119,8 +120,10 @@ impl PruneHints {
     pub fn cover(&mut self, count: usize)
         ensures each { (n : ℕ) → turn_on self.new.turns n ≡ turn_on self.old.turns n }
         ensures keeps { length self.old.turns ≤ length self.new.turns }
-        ensures spare { length self.new.turns + self.new.spare ≡ length self.old.turns + self.old.spare }
-        ensures reaches { count ≤ length self.old.turns + self.old.spare → count ≤ length self.new.turns }
+        ensures spare { length self.new.turns + self.new.spare
+            ≡ length self.old.turns + self.old.spare }
+        ensures reaches { count ≤ length self.old.turns + self.old.spare
+            → count ≤ length self.new.turns }
     {
         let end = count.min(self.hints.capacity());
         if self.hints.len() < end {

@@ -1,4 +1,4 @@
-//! Tests of what a table is stored in: ids and their statuses, versions and their bytes, pages with their hints, and indexes.
+//! Tests of what a table is stored in: ids and their statuses, versions and their bytes, pages and hints on them, and indexes.
 //!
 //! Each value was reckoned by hand, and not taken from the program. They stand apart from the crates that they test, so that
 //! those are not checked a second time for their sake.
@@ -9,11 +9,11 @@ mod entries;
 #[cfg(test)]
 mod headers;
 #[cfg(test)]
-mod hints;
-#[cfg(test)]
 mod ids;
 #[cfg(test)]
 mod pages;
+#[cfg(test)]
+mod prune_hints;
 #[cfg(test)]
 mod slots;
 #[cfg(test)]
