@@ -24,6 +24,9 @@ fn live_turn(table: &StatusTable, x: Xid) -> Option<u32>
 pub(crate) fn expect_write(hints: &mut PruneHints, table: &StatusTable, number: u32, x: Xid)
     ensures { ExpectsWrite table.now x.0 number hints.old.turns hints.new.turns }
 {
+    if hints.turn(number).is_none() {
+        return;
+    }
     match live_turn(table, x) {
         Some(turn) => hints.lower(number, turn),
         None => hints.end(number),

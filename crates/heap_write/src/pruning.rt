@@ -40,20 +40,20 @@ impl HeapState {
     }
 
     /// Whether a version on the page of this number is dead. Where none is, pruning leaves the page as it is. The page is
-    /// looked through only where that isn't known from the last time.
+    /// looked through only where it isn't known already that none is.
     pub(crate) fn has_dead(&mut self, number: u32, horizon: Xid) -> bool
         ensures none { IsFalse result → HasNoneDead self.old number horizon.0 }
         ensures same { self.new ≡ self.old }
     {
-        if self.is_known_alive(number, horizon) {
+        if self.knows_none_dead(number, horizon) {
             return false;
         }
-        self.find_dead(number, horizon)
+        self.look_for_dead(number, horizon)
     }
 
-    /// Whether it is known that no version on the page of this number is dead: since the page was looked through, the horizon
-    /// came to none who deleted one.
-    fn is_known_alive(&self, number: u32, horizon: Xid) -> bool
+    /// Whether it is known that no version on the page of this number is dead: the horizon isn't after the turn from which on one
+    /// may be.
+    fn knows_none_dead(&self, number: u32, horizon: Xid) -> bool
         ensures { IsTrue result → HasNoneDead self.now number horizon.0 }
     {
         self.table.is_window();
@@ -70,8 +70,8 @@ impl HeapState {
         }
     }
 
-    /// Looks through the page of this number for a dead version, and notes from when on one may be dead if none is.
-    fn find_dead(&mut self, number: u32, horizon: Xid) -> bool
+    /// Looks through the page of this number for a dead version. Where there is none, it notes from when on there may be one.
+    fn look_for_dead(&mut self, number: u32, horizon: Xid) -> bool
         ensures none { IsFalse result → HasNoneDead self.old number horizon.0 }
         ensures same { self.new ≡ self.old }
     {

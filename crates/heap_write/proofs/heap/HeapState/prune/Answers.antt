@@ -10,4 +10,3 @@ returns-then-not-has_dead-clause-ok c =
     let within : c.args.number < length (the_view c.self.inside).pages.pages = omega (arith, c.len.ensures.count, c.if-number-len.false) in
     subst (λ (h : HeapView). Prunes c.args.self.now h c.args.number c.args.horizon.0) (sym c.has_dead.ensures.same)
     (idle-prunes c.args.self.now c.args.number c.args.horizon.0 (subst (λ (h : HeapView). c.args.number < length h.pages.pages) c.self.view_is within) (c.has_dead.ensures.none c.if-not-has_dead.true))
-

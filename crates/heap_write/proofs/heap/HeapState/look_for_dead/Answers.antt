@@ -5,7 +5,7 @@ use Rattle.heap_write.specs.Steps.{HasNoneDead}
 use Rattle.heap_write.specs.contracts.heap.HeapState.{the_view}
 use Rattle.heap_write.proofs.IdlePages.{idle-at, idle-unused}
 use Rattle.heap_write.proofs.HintLemmas.{hints-noted}
-use Rattle.heap_write.proofs.heap.HeapState.find_dead.Goals as goal
+use Rattle.heap_write.proofs.heap.HeapState.look_for_dead.Goals as goal
 
 pub returns-in-None-clause-none : goal.returns-in-None-clause-none
 returns-in-None-clause-none c = λ none.
