@@ -1,26 +1,23 @@
 -- Before which turn nothing on a page dies: how it is used, and what writes, ids and more memory leave of it.
-use Rattle.std.proofs.Common.{◌≡◌, ◌≢◌, ◌⊎◌, ◌↔◌, ℕ, zero, suc, ◌<◌, ◌≤◌, Bool, true, false, List, [], length, Option, Some, None, IsSome, inl, inr, ⊎_elim, sym, ap, subst, refl, ◌∙◌, arith}
-use Rattle.std.specs.Prelude.{Contains}
+use Rattle.std.proofs.Common.{◌≡◌, ◌≢◌, ℕ, ◌<◌, ◌≤◌, Bool, true, false, List, [], length, Option, IsSome, inl, inr, ⊎_elim, sym, ap, subst, refl, ◌∙◌, arith}
 use Rattle.std.specs.Option.{option_and_then}
-use Rattle.std.proofs.lemmas.Option.{same_Some, none-some}
+use Rattle.std.proofs.lemmas.Option.{same_Some}
 use Rattle.std.proofs.lemmas.Bool.{cases_lt}
-use Rattle.xid_circle.specs.Circle.{Precedes}
 use Rattle.page_slots.specs.declared.slot.Slot.{Slot}
 use Rattle.page_slots.specs.declared.slot.Slot.TheVariants.{Normal}
-use Rattle.page_slots.specs.Slots.{slot_at, version_at, version_of, with_added, free_number, IsNormalAt}
+use Rattle.page_slots.specs.Slots.{version_at, version_of, with_added, free_number, IsNormalAt}
 use Rattle.page_slots.proofs.SlotLemmas.{normal_at, same_or_other, slot_at-with_added, slot_at-with_added_other, version_at-none, version_at-from_slot_at}
 use Rattle.tuple_header.specs.Version.{Version}
 use Rattle.tuple_header.specs.declared.version.Header.{Header}
 use Rattle.tuple_header.specs.declared.version.Row.{Row}
-use Rattle.tuple_header.specs.Marks.{is_frozen}
 use Rattle.commit_status.specs.declared.status.Status.{Status}
 use Rattle.commit_status.specs.declared.status.Status.TheVariants.{InProgress, Committed, Aborted}
-use Rattle.commit_status.specs.Window.{Window, IsWindow, IsGiven, IsAborted, IsCommitted, IsUpToNext, turns, place, status_of}
+use Rattle.commit_status.specs.Window.{Window, IsWindow, IsGiven, IsAborted, IsCommitted, IsUpToNext, turns, place}
 use Rattle.commit_status.specs.Changes.{Finishes}
 use Rattle.commit_status.proofs.Places.{at-from_place, some-from_is, is-from_some, precedes-turns}
 use Rattle.commit_status.proofs.Giving.{finished-place}
 use Rattle.commit_status.proofs.ChangesLemmas.{finishes-place}
-use Rattle.visibility.specs.Visible.{IsDead, IsFrozen}
+use Rattle.visibility.specs.Visible.{IsDead}
 use Rattle.visibility.proofs.Dead.{committed-upto}
 use Rattle.sound_page.specs.Dead.{HasDead}
 use Rattle.prune.specs.Deaths.{MayDieFrom, NothingDiesBefore}

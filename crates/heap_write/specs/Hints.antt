@@ -1,7 +1,7 @@
 -- What is known of when versions on the pages may be dead. It changes no answer, only how much is looked at for one.
 use Rattle.std.specs.Prelude.{◌≡◌, ◌≢◌, ℕ, ◌≤◌, List, Option, Some, slice_index_or}
 use Rattle.page_slots.specs.View.{PageView}
-use Rattle.commit_status.specs.Window.{Window, IsAborted, IsUpToNext, turns}
+use Rattle.commit_status.specs.Window.{Window, IsAborted, turns}
 use Rattle.space_maps.specs.Hints.{turn_on}
 use Rattle.prune.specs.Deaths.{NothingDiesBefore}
 use Rattle.heap_write.specs.Heap.{unused_page}
