@@ -18,6 +18,7 @@ mod action;
 mod applying;
 mod checking;
 mod dead;
+mod glance;
 pub mod laws;
 mod marks;
 mod planning;
