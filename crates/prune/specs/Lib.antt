@@ -7,3 +7,4 @@ pub mod Laws
 pub mod Marks
 pub mod Glances
 pub mod Named
+pub mod Room

@@ -22,9 +22,11 @@ mod glance;
 pub mod laws;
 mod marks;
 mod planning;
+mod room;
 
 pub use action::{Action, PrunePlan};
 pub use applying::{apply, prune};
 pub use checking::check_plan;
 pub use dead::{first_death, has_dead};
 pub use planning::plan;
+pub use room::room_after;
