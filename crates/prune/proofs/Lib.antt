@@ -20,3 +20,4 @@ pub mod Single
 pub mod Gaps
 pub mod Quiet
 pub mod Glancing
+pub mod RoomLemmas
