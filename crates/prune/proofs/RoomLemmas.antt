@@ -1,5 +1,5 @@
 -- The free bytes of a page, and whether a slot is unused, as a plan is applied to it.
-use Rattle.std.proofs.Common.{◌≡◌, ◌≢◌, ℕ, ◌+◌, ◌-◌, ◌*◌, ◌<◌, ◌≤◌, ◌||◌, ◌==◌, Bool, true, false, nat_lt, if◌then◌else◌, List, [], ◌∷◌, length, get_or, set, sum_by, Option, Some, None, arith, inl, inr, ⊎_elim, sym, ap, ◌∙◌, refl, subst, eq-eqb}
+use Rattle.std.proofs.Common.{◌≡◌, ◌≢◌, ℕ, suc, ◌+◌, ◌-◌, ◌*◌, ◌<◌, ◌≤◌, ◌||◌, ◌==◌, Bool, true, false, nat_le, nat_lt, if◌then◌else◌, List, [], ◌∷◌, length, get_or, set, sum_by, Option, Some, None, arith, inl, inr, ⊎_elim, sym, ap, ◌∙◌, refl, subst, eq-eqb}
 use Rattle.std.proofs.lemmas.Bool.{cases_Bool, true≢false, ltb-true, ltb-false, ne_eqb, cond-true, cond-false}
 use Rattle.std.proofs.lemmas.List.{length-set, get_or-set_same, get_or-set_other}
 use Rattle.std.proofs.lemmas.List.Sums.{fails_before_first, passes_at_first, sum_by-set}
@@ -9,7 +9,7 @@ use Rattle.tuple_header.specs.declared.version.TheConstants.{MOST_SLOTS}
 use Rattle.page_slots.specs.declared.slot.Slot.{Slot}
 use Rattle.page_slots.specs.declared.slot.Slot.TheVariants.{Unused, Normal, Redirect, Dead}
 use Rattle.page_slots.specs.View.{PageView}
-use Rattle.page_slots.specs.Slots.{is_unused, bytes_taken, slot_at, version_at, the_slot, has_unused, free_bytes, room_of}
+use Rattle.page_slots.specs.Slots.{is_unused, bytes_taken, slot_at, version_at, the_slot, has_unused, free_number, free_bytes, room_of}
 use Rattle.page_slots.proofs.SlotLemmas.{the_slot-from_slot_at, slot_at-from_version_at, same_or_other}
 use Rattle.commit_status.specs.Window.{Window}
 use Rattle.hot_chain.specs.Chain.{has_aborted, is_root, is_root_in}
@@ -63,6 +63,13 @@ unused-set slots i s within used =
     (cases_Bool (is_unused s)))
     (cases_Bool (has_unused slots))
 
+-- where the free number is one of a slot, that one is unused
+pub number-there : (slots : List Slot) (number count : ℕ) → number ≡ free_number slots → count ≡ length slots → nat_le number count ≡ has_unused slots
+number-there slots number count n c =
+    let first : ℕ = position_or_len is_unused slots in
+    let next : number ≡ suc first = omega arith in
+    ap (λ k. nat_le k count) next ∙ ap (λ k. nat_le (suc first) k) c
+
 -- What a plan names is not unused.
 
 version-used : (slots : List Slot) (n : ℕ) (t : Version) → version_at slots n ≡ Some t → is_unused (the_slot slots n) ≡ false
@@ -93,6 +100,12 @@ made-takes_none : (a : Action) → bytes_taken (made_by a) ≡ 0
 made-takes_none action.Unuse = refl
 made-takes_none action.Kill = refl
 made-takes_none (action.Redirect k) = refl
+
+-- Only one action makes a slot unused.
+pub made-used : (a : Action) → ¬ (a ≡ action.Unuse) → is_unused (made_by a) ≡ false
+made-used action.Unuse other = absurd (other refl)
+made-used action.Kill other = refl
+made-used (action.Redirect k) other = refl
 
 -- What is reckoned while these actions are left: all that stands at the numbers over `low` stands there as before.
 pub record IsReckoned (rest : List (ℕ × Action)) (before after : PageView) (free : ℕ) (unused : Bool) : Type 0 where
@@ -126,6 +139,7 @@ reckoned-start w horizon actions page free unused p can free_is unused_is = reco
   unused_is = unused_is;
 }
 
+-- the next action
 pub reckoned-step : (x : ℕ × Action) (rest : List (ℕ × Action)) (before after : PageView) (free : ℕ) (unused : Bool) → IsReckoned (x ∷ rest) before after free unused
     → IsReckoned rest before after (free + bytes_taken (the_slot before.slots x.0)) (unused || is_unused (made_by x.1))
 reckoned-step x rest before after free unused r =
