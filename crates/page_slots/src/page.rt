@@ -4,6 +4,7 @@ ghost use Rattle.std.specs.Prelude.{◌≡◌, ◌⊎◌, ◌≤◌, ◌<◌, �
 ghost use Rattle.tuple_header.specs.Version.{rounded_size_of};
 ghost use Rattle.tuple_header.specs.Faults.{header_fault};
 ghost use Rattle.page_slots.specs.Store.{stored_slot, is_bare};
+ghost use Rattle.page_slots.specs.declared.packing.TheConstants.{MOST_BYTES};
 ghost use Rattle.page_slots.specs.Slots.{is_unused, is_dead, leads_to, slot_at, header_at, row_at, key_at, redirect_at, SlotIsThere, IsNormalAt, the_slot, with_slot, with_header_at, has_unused, free_number, with_added, bytes_taken, free_bytes, room_of, next_change, change_unless, differs_in_hints_alone};
 
 use crate::hints::differ_in_hints_alone;
@@ -178,7 +179,7 @@ impl Page {
     pub fn free_bytes(&self) -> usize
         ensures value { result ≡ free_bytes self.now.slots }
         ensures all { result + (4 * length self.now.slots + sum_by bytes_taken self.now.slots)
-            ≡ 8168 }
+            ≡ MOST_BYTES }
     {
         MOST_BYTES - (4 * self.slots.len() + self.taken_bytes)
     }
