@@ -5,4 +5,6 @@ pub mod Pruning
 pub mod Checks
 pub mod Laws
 pub mod Marks
+pub mod Glances
 pub mod Named
+pub mod Room

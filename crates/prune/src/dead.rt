@@ -14,12 +14,14 @@ use tuple_header::Header;
 use visibility::{Fate, fate_of};
 use xid_circle::Xid;
 
+#[inline(always)]
 fn is_aborted(x: Xid, table: &StatusTable) -> bool
     ensures { IsTrue result ↔ IsAborted table.now x.0 }
 {
     matches!(table.status(x), Status::Aborted)
 }
 
+#[inline(always)]
 fn is_committed(x: Xid, table: &StatusTable) -> bool
     ensures { IsTrue result ↔ IsCommitted table.now x.0 }
 {
@@ -37,6 +39,7 @@ pub(crate) fn is_dead_at(page: &Page, number: u16, table: &StatusTable, horizon:
 }
 
 /// The earliest turn of the deleters so far and of this one, if it is remembered, unless it committed before the horizon.
+#[inline(always)]
 fn earliest_deletion(deleter: Xid, turn: u32, table: &StatusTable, horizon: Xid) -> Option<u32>
     ensures { MatchOption result
         (IsCommitted table.now deleter.0 × Precedes deleter.0 horizon.0)
@@ -56,6 +59,7 @@ fn earliest_deletion(deleter: Xid, turn: u32, table: &StatusTable, horizon: Xid)
 }
 
 /// An id that was not aborted, unless the version was rolled back: its inserter, or the one that is known to be such an id.
+#[inline(always)]
 fn unaborted(header: &Header, known: Xid, table: &StatusTable) -> Option<Xid>
     requires { ¬ IsAborted table.now known.0 }
     ensures { MatchOption result (¬ IsFrozen header.now × IsAborted table.now header.now.xmin.0)
@@ -75,15 +79,16 @@ fn unaborted(header: &Header, known: Xid, table: &StatusTable) -> Option<Xid>
 
 /// What the versions so far tell, if none of them is dead.
 #[derive(Clone, Copy, Debug)]
-struct Outlook {
+pub(crate) struct Outlook {
     /// An id that was not aborted. Neighbours mostly have one inserter, whose status is so looked up once.
-    known: Xid,
+    pub(crate) known: Xid,
     /// No deleter that is remembered was given before this turn.
-    turn: u32,
+    pub(crate) turn: u32,
 }
 
 /// What they tell with one more, unless that is dead.
-fn outlook_with(
+#[inline(always)]
+pub(crate) fn outlook_with(
     header: &Header,
     so_far: Outlook,
     table: &StatusTable,
@@ -101,6 +106,7 @@ fn outlook_with(
 }
 
 /// The same of the version in a slot, if there is one.
+#[inline(always)]
 fn outlook_after(
     page: &Page,
     number: u16,

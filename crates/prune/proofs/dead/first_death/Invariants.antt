@@ -1,4 +1,3 @@
-use Rattle.std.proofs.Common.{length, ◌≤◌}
 use Rattle.commit_status.specs.Window.{IsAborted}
 use Rattle.prune.proofs.Cuts.{LiveBelow}
 use Rattle.prune.proofs.dead.first_death.Given as goal
