@@ -11,3 +11,4 @@ pub mod GivenIds
 pub mod Freeing
 pub mod Dying
 pub mod HintLemmas
+pub mod Plans

@@ -18,7 +18,7 @@ use table_indexes::Indexes;
 use thiserror::Error;
 use xid_circle::Xid;
 
-/// Why a write was not done. An insert tests NoRoom before it asks for memory; an update asks for all that it may need before it
+/// Why a write was not done. An insert tests NoRoom before it asks for memory; an update asks for all that it needs before it
 /// prunes, and finds only then that the version went or that there is no room.
 #[derive(Clone, Copy, Debug, PartialEq, Eq, Error)]
 pub enum WriteFault {

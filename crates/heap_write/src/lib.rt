@@ -12,6 +12,7 @@
 
 mod cleaning;
 mod delete;
+mod full_page;
 mod heap;
 mod hints;
 mod ids;

@@ -1,14 +1,15 @@
 //! A page is cleaned.
 
-ghost use Rattle.std.specs.Prelude.{◌≡◌, ◌<◌, length, OnOk, OnErr, IfErr, IsFalse, IsTrue};
+ghost use Rattle.std.specs.Prelude.{◌≡◌, ◌<◌, length, OnOk, OnErr, IfErr, IsTrue};
 ghost use Rattle.xid_circle.specs.Circle.{IsNormal};
 ghost use Rattle.heap_write.specs.Heap.{page_on};
 ghost use Rattle.heap_write.specs.Writes.{Prunes};
 ghost use Rattle.heap_write.specs.Refusals.{Unpruned};
-ghost use Rattle.heap_write.specs.Steps.{HasNoneDead};
+ghost use Rattle.prune.specs.Actions.{CanApply};
+ghost use Rattle.heap_write.specs.Steps.{HasNoneDead, with_applied};
 
 use crate::heap::HeapState;
-use prune::{first_death, prune};
+use prune::{PrunePlan, apply, first_death, plan};
 use thiserror::Error;
 use xid_circle::Xid;
 
@@ -32,28 +33,15 @@ impl HeapState {
         if number >= self.pages.len() {
             return Err(PruneFault::NoSuchPage);
         }
-        if !self.has_dead(number, horizon) {
-            return Ok(());
+        if !self.knows_none_dead(number, horizon) {
+            self.prune_page(number, horizon);
         }
-        self.prune_page(number, horizon);
         Ok(())
-    }
-
-    /// Whether a version on the page of this number is dead. Where none is, pruning leaves the page as it is. The page is
-    /// looked through only where it isn't known already that none is.
-    pub(crate) fn has_dead(&mut self, number: u32, horizon: Xid) -> bool
-        ensures none { IsFalse result → HasNoneDead self.old number horizon.0 }
-        ensures same { self.new ≡ self.old }
-    {
-        if self.knows_none_dead(number, horizon) {
-            return false;
-        }
-        self.look_for_dead(number, horizon)
     }
 
     /// Whether it is known that no version on the page of this number is dead: the horizon isn't after the turn from which on one
     /// may be.
-    fn knows_none_dead(&self, number: u32, horizon: Xid) -> bool
+    pub(crate) fn knows_none_dead(&self, number: u32, horizon: Xid) -> bool
         ensures { IsTrue result → HasNoneDead self.now number horizon.0 }
     {
         self.table.is_window();
@@ -70,35 +58,44 @@ impl HeapState {
         }
     }
 
-    /// Looks through the page of this number for a dead version. Where there is none, it notes from when on there may be one.
-    fn look_for_dead(&mut self, number: u32, horizon: Xid) -> bool
-        ensures none { IsFalse result → HasNoneDead self.old number horizon.0 }
-        ensures same { self.new ≡ self.old }
+    /// Notes from when on there may be a dead version on the page of this number, where there is none.
+    pub(crate) fn note_first_death(&mut self, number: u32, horizon: Xid)
+        ensures { self.new ≡ self.old }
     {
-        let page = match self.pages.page(number) {
-            Some(page) => page,
-            None => return false,
-        };
-        let _limit = page.slots();
-        match first_death(page, &self.table, horizon) {
-            Some(turn) => {
+        if let Some(page) = self.pages.page(number) {
+            if let Some(turn) = first_death(page, &self.table, horizon) {
                 self.hints.note(number, turn);
-                false
             }
-            None => true,
         }
     }
 
-    /// Prunes the page of this number, which is in use.
-    pub(crate) fn prune_page(&mut self, number: u32, horizon: Xid)
+    /// Prunes the page of this number, which is in use. It stands alone, so that the plan's array is cleared only where it is
+    /// made.
+    #[inline(never)]
+    fn prune_page(&mut self, number: u32, horizon: Xid)
         requires within { number < length self.old.pages.pages }
-        requires normal { IsNormal horizon.0 }
-        ensures prunes { Prunes self.old self.new number horizon.0 }
-        ensures spare { (page_on self.new number).spare ≡ (page_on self.old number).spare }
-        ensures table { self.new.table ≡ self.old.table }
+        ensures { Prunes self.old self.new number horizon.0 }
     {
-        let table = &self.table;
-        self.pages.edit(number, |page| prune(page, table, horizon));
+        let page = match self.pages.page(number) {
+            Some(page) => page,
+            None => return,
+        };
+        let plan = plan(page, &self.table, horizon);
+        if plan.actions.is_empty() {
+            self.note_first_death(number, horizon);
+            return;
+        }
+        self.apply_plan(number, &plan);
+    }
+
+    /// Does what a plan names on the page of this number, which is in use.
+    pub(crate) fn apply_plan(&mut self, number: u32, plan: &PrunePlan)
+        requires within { number < length self.old.pages.pages }
+        requires can_apply { CanApply (length (page_on self.old number).slots)
+            plan.now.actions.items }
+        ensures { self.new ≡ with_applied self.old number plan.now.actions.items }
+    {
+        self.pages.edit(number, |page| apply(page, plan));
         self.hints.end(number);
     }
 }
