@@ -1,6 +1,6 @@
 //! The table of ids.
 
-ghost use Rattle.std.specs.Prelude.{◌≡◌, ℕ, ◌+◌, ◌^◌, ◌∷◌, ◌-◌, ◌<◌, ◌≤◌, ◌↔◌, [], drop, option_copied, IsTrue, IfSome, IfOk, OnOk, OnErr, vec_len, vec_capacity, Contains};
+ghost use Rattle.std.specs.Prelude.{◌≡◌, ℕ, ◌+◌, ◌^◌, ◌∷◌, ◌-◌, ◌<◌, ◌≤◌, ◌↔◌, [], drop, option_copied, IsTrue, IfSome, IfOk, MatchOption, OnOk, OnErr, vec_len, vec_capacity, Contains};
 ghost use Rattle.std.specs.Option.{option_map};
 ghost use Rattle.xid_circle.specs.Circle.{IsNormal, distance_of, given};
 ghost use Rattle.commit_status.specs.Window.{next_id, turns, place_in, entry_of, status_of, parent_of, top_of, IsGiven, IsActive, IsUpToNext, IsWindow};
@@ -243,6 +243,22 @@ impl StatusTable {
         ensures { IsTrue result ↔ IsGiven self.now x.0 }
     {
         place_in(self.first, self.entries.len(), x).is_some()
+    }
+
+    /// How many turns after the oldest id that is remembered an id is given, if it is remembered or the next one.
+    pub fn turn_of(&self, x: Xid) -> Option<u32>
+        ensures { MatchOption result (¬ IsUpToNext self.now x.0)
+            (λ turn. IsUpToNext self.now x.0 × (turn ≡ turns self.now.first x.0)) }
+    {
+        if x.0 < 3 {
+            return None;
+        }
+        let turn = turns(self.first, x);
+        if turn as usize <= self.entries.len() {
+            Some(turn)
+        } else {
+            None
+        }
     }
 
     fn entry(&self, x: Xid) -> Option<&StatusEntry>

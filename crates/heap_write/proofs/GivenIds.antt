@@ -44,7 +44,7 @@ pub given-first : (xs : List ℕ) (w v : Window) (parent : Option ℕ) → Gives
 given-first [] w v parent g = ap (λ (w : Window). w.first) g
 given-first (x ∷ xs) w v parent g = given-first xs g.0 v (Some x) g.3 ∙ g.2.first
 
-given-longer : (xs : List ℕ) (w v : Window) (parent : Option ℕ) → GivesUnder w parent xs v → length w.entries ≤ length v.entries
+pub given-longer : (xs : List ℕ) (w v : Window) (parent : Option ℕ) → GivesUnder w parent xs v → length w.entries ≤ length v.entries
 given-longer [] w v parent g = subst (λ n. n ≤ length v.entries) (ap (λ (w : Window). length w.entries) g) (omega arith)
 given-longer (x ∷ xs) w v parent g = let long = gives-length w g.0 parent g.2 in let rest = given-longer xs g.0 v (Some x) g.3 in omega arith
 

@@ -9,3 +9,6 @@ pub mod Updating
 pub mod IdlePages
 pub mod GivenIds
 pub mod Freeing
+pub mod Dying
+pub mod HintLemmas
+pub mod Plans

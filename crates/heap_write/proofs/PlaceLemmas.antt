@@ -101,17 +101,6 @@ place-set pages limit size m q place within same (nowhere none over full is) =
     nowhere (none-set pages (Promises size) m q within same.byte.1 none) (subst (λ (c : ℕ). limit ≤ c) (sym (length-set pages m q)) over)
     (none-set pages (HasRoom size) m q within same.room.1 full) is
 
--- a page has grown in memory alone, and the version goes where it went
-pub place-back : (pages : List PageView) (limit size m : ℕ) (grown : PageView) (place : Placement) → m < length pages → grown.slots ≡ (page_in pages m).slots
-    → IsPlaceFor (set pages m grown) limit size place → IsPlaceFor pages limit size place
-place-back pages limit size m grown place within same goes =
-    let before = page_in pages m in
-    let after = set pages m grown in
-    let back : set after m before ≡ pages = set-set pages m grown before ∙ set-get_or pages m unused_page in
-    let slots : before.slots ≡ (page_in after m).slots = sym same ∙ ap (λ (p : PageView). p.slots) (sym (page-set pages m grown within)) in
-    subst (λ (ps : List PageView). IsPlaceFor ps limit size place) back
-    (place-set after limit size m before place (subst (λ count. m < count) (sym (length-set pages m grown)) within) (alike-same size (page_in after m) before slots) goes)
-
 -- What a place says.
 
 same-number : (n k : ℕ) → Page n ≡ Page k → n ≡ k

@@ -81,46 +81,6 @@ insert-refused h own row (Ok x) free room no_memory needs = no_memory
 insert-refused h own row (Err fault) free room no_memory needs =
     subst (λ f. LacksForInsert h own row f) (sym no_memory) (free, room, ⊎_elim RootNeedsMemory.for_entry RootNeedsMemory.for_ids needs)
 
--- A page without room is not the one that was chosen.
-
-not-chosen : (pages : List PageView) (limit size n m : ℕ) → IsPlaceFor pages limit size (to.Page n) → ¬ HasRoom size (page_in pages m) → m ≢ n
-not-chosen pages limit size n m chosen full same = full (subst (λ k. HasRoom size (page_in pages k)) (sym same) (page-place pages limit size n chosen).1)
-
--- what a new root needs after a page without room has grown in memory, it needed before
-pub needs-before : (h : HeapView) (own : Own) (size m : ℕ) (grown : PageView) → m < length h.pages.pages → grown.slots ≡ (page_on h m).slots → ¬ HasRoom size (page_on h m)
-    → PlaceNeedsMemory (set h.pages.pages m grown) h.max_pages size → RootNeedsMemory h own size
-needs-before h own size m grown within same full (PlaceNeedsMemory.for_page chosen) =
-    RootNeedsMemory.for_page (place-back h.pages.pages h.max_pages size m grown to.NewPage within same chosen)
-needs-before h own size m grown within same full (PlaceNeedsMemory.for_slot n chosen needs) =
-    let pages = h.pages.pages in
-    let before = place-back pages h.max_pages size m grown (to.Page n) within same chosen in
-    let other : n ≢ m = λ e. not-chosen pages h.max_pages size n m before full (sym e) in
-    RootNeedsMemory.for_slot n before (subst (λ p. NeedsSlot p) (page-set_other pages m n grown other) needs)
-
-chosen-before : (h h1 : HeapView) (size m : ℕ) (grown : GrowsPage h.pages h1.pages m) → h1.max_pages ≡ h.max_pages → (place : Placement) → IsPlaceFor h1.pages.pages h1.max_pages size place
-    → IsPlaceFor (set h.pages.pages m grown.page) h.max_pages size place
-chosen-before h h1 size m grown max_pages place chosen =
-    subst (λ (p : PagesView). IsPlaceFor p.pages h.max_pages size place) grown.pages_are (subst (λ limit. IsPlaceFor h1.pages.pages limit size place) max_pages chosen)
-
--- what a new root needs after a slot was made on a page without room, it needed before
-pub root-before : (h h1 : HeapView) (own : Own) (size m : ℕ) → m < length h.pages.pages → GrowsPage h.pages h1.pages m → h1.table ≡ h.table → h1.indexes ≡ h.indexes
-    → h1.max_pages ≡ h.max_pages → ¬ HasRoom size (page_on h m) → RootNeedsMemory h1 own size → RootNeedsMemory h own size
-root-before h h1 own size m within grown table indexes max_pages full (RootNeedsMemory.for_ids needs) =
-    RootNeedsMemory.for_ids (subst (λ (w : Window). (w.spare < unassigned_levels own.ids own.saved) ⊎ (own.spare < unassigned_levels own.ids own.saved)) table needs)
-root-before h h1 own size m within grown table indexes max_pages full (RootNeedsMemory.for_entry needs) = RootNeedsMemory.for_entry (subst (λ xs. NeedsEntry xs) indexes needs)
-root-before h h1 own size m within grown table indexes max_pages full (RootNeedsMemory.for_page chosen) =
-    needs-before h own size m grown.page within grown.same.slots full (PlaceNeedsMemory.for_page (chosen-before h h1 size m grown max_pages to.NewPage chosen))
-root-before h h1 own size m within grown table indexes max_pages full (RootNeedsMemory.for_slot n chosen needs) =
-    needs-before h own size m grown.page within grown.same.slots full
-    (PlaceNeedsMemory.for_slot n (chosen-before h h1 size m grown max_pages (to.Page n) chosen) (subst (λ (p : PagesView). NeedsSlot (page_in p.pages n)) grown.pages_are needs))
-
-pub unchosen-kept : (pages pages' : PagesView) (limit size m : ℕ) (found : Option Target) → Reserves pages pages' limit size found → ¬ HasRoom size (page_in pages.pages m)
-    → page_in pages'.pages m ≡ page_in pages.pages m
-unchosen-kept pages pages' limit size m None (chosen, same) full = ap (λ (p : PagesView). page_in p.pages m) same
-unchosen-kept pages pages' limit size m (Some (Page n)) (chosen, grown) full =
-    ap (λ (p : PagesView). page_in p.pages m) grown.pages_are ∙ page-set_other pages.pages n m grown.page (not-chosen pages.pages limit size n m chosen full)
-unchosen-kept pages pages' limit size m (Some (New page)) (chosen, (same, marks)) full = ap (λ ps. page_in ps m) same
-
 -- what was chosen before its page grew is chosen after
 pub reserves-chosen : (pages : PagesView) (h : HeapView) (size : ℕ) (found : Option Target) → Reserves pages h.pages h.max_pages size found → IsChosen h size found
 reserves-chosen pages h size None (chosen, same) = subst (λ (p : PagesView). IsPlaceFor p.pages h.max_pages size to.Nowhere) (sym same) chosen

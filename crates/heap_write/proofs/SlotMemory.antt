@@ -18,9 +18,8 @@ use Rattle.prune.specs.declared.action.Action.TheVariants as action
 use Rattle.prune.specs.Actions.{acted}
 use Rattle.prune.specs.Pruning.{root_action, loose_in, PrunesSlot, by_root, by_none, IsPruned}
 use Rattle.heap_write.specs.Heap.{HeapView, page_on}
-use Rattle.heap_write.specs.Writes.{Prunes}
 use Rattle.heap_write.specs.Growth.{HasSlot, GrowsPage, page_in}
-use Rattle.heap_write.proofs.PageLemmas.{page-at, page-set}
+use Rattle.heap_write.proofs.PageLemmas.{page-set}
 
 -- some slot is unused where this one is
 has-unused : (slots : List Slot) (n : ℕ) → slot_at slots n ≡ Some Unused → has_unused slots ≡ true
@@ -63,22 +62,10 @@ unused-pruned w horizon slots after pruned some =
     let slot = pruned.each n (there-from_slot_at slots n Unused at) in
     has-unused after n (slot.is ∙ ap (λ o. acted o slot.answer) at ∙ does-same w horizon slots n slot.answer at slot.does)
 
-pub slot-pruned : (h ready : HeapView) (n horizon : ℕ) → Prunes h ready n horizon → (page_on ready n).spare ≡ (page_on h n).spare → HasSlot (page_on h n) → HasSlot (page_on ready n)
-slot-pruned h ready n horizon p spare has =
-    let within = slice_get_within h.pages.pages n p.before p.at in
-    let old : page_on h n ≡ p.before = page-at h.pages.pages n p.before p.at in
-    let new : page_on ready n ≡ p.after = ap (λ (v : HeapView). page_on v n) p.is ∙ page-set h.pages.pages n p.after within in
-    elim has [
-      | inl some ↦
-          let before = subst (λ (q : PageView). has_unused q.slots ≡ true) old some in
-          inl (subst (λ (q : PageView). has_unused q.slots ≡ true) (sym new) (unused-pruned h.table horizon p.before.slots p.after.slots p.pruned before))
-      | inr more ↦ elim more [
-        | inl memory ↦ inr (inl (subst (λ s. 0 < s) (sym spare) memory))
-        | inr many ↦
-            let before = subst (λ (q : PageView). 291 ≤ length q.slots) old many in
-            inr (inr (subst (λ (q : PageView). 291 ≤ length q.slots) (sym new) (subst (λ count. 291 ≤ count) (sym p.pruned.count) before)))
-      ]
-    ]
+pub slot-pruned : (w : Window) (horizon : ℕ) (before after : PageView) → IsPruned w horizon before.slots after.slots → after.spare ≡ before.spare → HasSlot before → HasSlot after
+slot-pruned w horizon before after pruned spare (inl some) = inl (unused-pruned w horizon before.slots after.slots pruned some)
+slot-pruned w horizon before after pruned spare (inr (inl memory)) = inr (inl (subst (λ s. 0 < s) (sym spare) memory))
+slot-pruned w horizon before after pruned spare (inr (inr many)) = inr (inr (subst (λ count. 291 ≤ count) (sym pruned.count) many))
 
 -- a slot stands ready on a page that has grown in memory alone
 pub slot-grown : (h h1 : HeapView) (n : ℕ) → n < length h.pages.pages → GrowsPage h.pages h1.pages n → HasSlot (page_on h1 n)

@@ -1,9 +1,9 @@
 -- An update that prunes first, put together.
-use Rattle.std.proofs.Common.{◌≡◌, ℕ, ◌<◌, ◌≤◌, inr, List, [], get_or, set, Option, Some, None, Result, Ok, Err, sym, ap, subst, refl, ◌∙◌, arith}
-use Rattle.std.specs.Prelude.{IfErr, IfOk, IfSome, OnErr}
+use Rattle.std.proofs.Common.{◌≡◌, ◌⊎◌, ℕ, ◌<◌, ◌≤◌, Bool, inl, inr, List, [], get_or, Option, Some, None, Result, Ok, Err, sym, ap, subst, refl, ◌∙◌, arith}
+use Rattle.std.specs.Prelude.{IfErr, IfOk, IfSome, IsFalse, IsTrue, OnErr, ◌↔◌}
+use Rattle.std.proofs.lemmas.Bool.{true≢false}
 use Rattle.xid_circle.specs.declared.Xid.{Xid}
 use Rattle.std.proofs.Math.ListN.{get_or-map}
-use Rattle.std.proofs.lemmas.Option.{slice_get_within}
 use Rattle.xid_circle.specs.declared.Tid.{Tid}
 use Rattle.tuple_header.specs.declared.version.Row.{Row}
 use Rattle.tuple_header.specs.Version.{rounded_size_of}
@@ -13,23 +13,17 @@ use Rattle.page_slots.specs.Slots.{room_of}
 use Rattle.heap_pages.specs.Choice.{HasRoom}
 use Rattle.commit_status.specs.Window.{Window}
 use Rattle.snapshot.specs.Own.{Own, unassigned_levels}
-use Rattle.heap_write.specs.declared.target.Target.{Target}
 use Rattle.heap_write.specs.declared.heap.WriteFault.{WriteFault}
 use Rattle.heap_write.specs.declared.heap.WriteFault.TheVariants.{Gone, NeedsFreeze as needs_freeze, NoRoom, NoMemory}
 use Rattle.heap_write.specs.Heap.{HeapView, unused_page, page_on, Keeps}
-use Rattle.heap_write.specs.Writes.{NeedsFreeze, TakesIds, SameOwn, Prunes, UpdatesOnPage, Replaces, Updates}
+use Rattle.heap_write.specs.Writes.{NeedsFreeze, TakesIds, SameOwn, KeepsValues, Prunes, UpdatesOnPage, Replaces, Updates}
 use Rattle.heap_write.specs.Writes.PrunesIfFull.{has_room, is_pruned}
 use Rattle.heap_write.specs.Writes.Replaces.{on_page}
-use Rattle.heap_write.specs.Refusals.{VersionIsThere, UpdateNeedsMemory, AfterPruning, FailsUpdate}
-use Rattle.heap_write.specs.Growth.{page_in, IsReserved}
-use Rattle.heap_write.specs.Steps.{IsChosen, FailsAfterPruning}
-use Rattle.heap_write.proofs.PageLemmas.{page-set, keeps-all}
+use Rattle.table_indexes.specs.Indexes.{NeedsEntry}
+use Rattle.heap_write.specs.Refusals.{NeedsIds, NeedsSlot, VersionIsThere, UpdateNeedsMemory, AfterPruning, FailsUpdate}
+use Rattle.heap_write.specs.Steps.{FailsAfterPruning}
+use Rattle.heap_write.proofs.PageLemmas.{keeps-all}
 use Rattle.heap_write.proofs.IdLemmas.{takes-grown}
-use Rattle.heap_write.proofs.Reserving.{chosen-set, ready-set}
-
-pub both-err : {T E : Type 0} {A C : E → Type 0} {B : Type 0} (r : Result T E) → ((e : E) → A e → B → C e) → IfErr r A → OnErr r B → IfErr r C
-both-err (Ok x) f a b = a
-both-err (Err e) f a b = f e a b
 
 pub some-weaker : {A : Type 0} (o : Option A) (P Q : A → Type 0) → ((a : A) → P a → Q a) → IfSome o P → IfSome o Q
 some-weaker (Some a) P Q f h = f a h
@@ -47,22 +41,6 @@ kept-slots h h1 n keeps =
 
 pub kept-full : (h h1 : HeapView) (n size : ℕ) → Keeps h h1 → room_of (page_on h n).slots < size → ¬ HasRoom size (page_on h1 n)
 kept-full h h1 n size keeps full = no-room size (room_of (page_on h1 n).slots) (subst (λ slots. room_of slots < size) (sym (kept-slots h h1 n keeps)) full)
-
--- Where a new version goes after the pruning of a page that had no room for it.
-
-pub pruned-chosen : (h ready : HeapView) (n horizon size : ℕ) (found : Option Target) → Prunes h ready n horizon → ¬ HasRoom size (page_on h n)
-    → IsChosen h size found → room_of (page_on ready n).slots < size → IsChosen ready size found
-pruned-chosen h ready n horizon size found p full chosen still =
-    let within = slice_get_within h.pages.pages n p.before p.at in
-    let pages : ready.pages.pages ≡ set h.pages.pages n p.after = ap (λ (v : HeapView). v.pages.pages) p.is in
-    let after = ap (λ ps. page_in ps n) pages ∙ page-set h.pages.pages n p.after within in
-    chosen-set h ready size n p.after found within pages (ap (λ (v : HeapView). v.max_pages) p.is) full
-    (no-room size (room_of p.after.slots) (subst (λ (q : PageView). room_of q.slots < size) after still)) chosen
-
-pub pruned-ready : (h ready : HeapView) (n horizon size : ℕ) (target : Target) → Prunes h ready n horizon → ¬ HasRoom size (page_on h n)
-    → IsReserved h.pages size target → IsReserved ready.pages size target
-pruned-ready h ready n horizon size target p full is_ready =
-    ready-set h.pages ready.pages size n p.after target (ap (λ (v : HeapView). v.pages.pages) p.is) (ap (λ (v : HeapView). v.pages.spare) p.is) full is_ready
 
 -- The update of a version whose page has room.
 
@@ -122,3 +100,26 @@ fails h grown ready h' own place row horizon fault there free full keeps prunes 
     by needs_freeze never = absurd never
     by NoRoom has = when _ has
     by NoMemory never = absurd never
+
+-- The same of whatever it answers.
+
+pub updates-all : (h grown ready h' : HeapView) (own grown_own own' : Own) (place : Tid) (row : Row) (horizon : ℕ) (r : Result Xid WriteFault) → ¬ NeedsFreeze h.table own
+    → room_of (page_on h place.page).slots < rounded_size_of row → Keeps h grown → SameOwn own grown_own → (unassigned_levels own.ids own.saved ≡ 0 → grown.table ≡ h.table) → Prunes grown ready place.page horizon
+    → IfOk r (λ x. TakesIds ready.table h'.table grown_own own' x.0) → IfOk r (λ x. VersionIsThere ready place) → IfOk r (λ x. Replaces ready h' place x.0 row) → h'.max_pages ≡ ready.max_pages
+    → IfOk r (λ x. Updates h h' own own' place row horizon x.0)
+updates-all h grown ready h' own grown_own own' place row horizon (Ok x) free full keeps same none prunes takes there replaces max_pages =
+    updates h grown ready h' own grown_own own' place row horizon x.0 free full keeps same none prunes takes there replaces max_pages
+updates-all h grown ready h' own grown_own own' place row horizon (Err fault) free full keeps same none prunes takes there replaces max_pages = takes
+
+pub fails-all : (h grown ready h' : HeapView) (own : Own) (place : Tid) (row : Row) (horizon : ℕ) (r : Result Xid WriteFault) → VersionIsThere h place → ¬ NeedsFreeze h.table own
+    → room_of (page_on h place.page).slots < rounded_size_of row → Keeps h grown → Prunes grown ready place.page horizon → OnErr r (h' ≡ ready)
+    → IfErr r (λ fault. FailsAfterPruning ready place (rounded_size_of row) fault) → IfErr r (λ fault. FailsUpdate h h' own place row horizon fault)
+fails-all h grown ready h' own place row horizon (Ok x) there free full keeps prunes same failed = failed
+fails-all h grown ready h' own place row horizon (Err fault) there free full keeps prunes same failed = fails h grown ready h' own place row horizon fault there free full keeps prunes same failed
+
+-- what memory an update on the page asked for
+pub on_page-needs : (h : HeapView) (own : Own) (place : Tid) (row : Row) (heap_only : Bool) → (IsTrue heap_only ↔ KeepsValues h place row)
+    → NeedsIds h own ⊎ NeedsSlot (page_on h place.page) ⊎ IsFalse heap_only × NeedsEntry h.indexes → UpdateNeedsMemory h own place row
+on_page-needs h own place row heap_only says (inl ids) = UpdateNeedsMemory.for_ids ids
+on_page-needs h own place row heap_only says (inr (inl slot)) = UpdateNeedsMemory.for_slot slot
+on_page-needs h own place row heap_only says (inr (inr entry)) = UpdateNeedsMemory.for_entry (λ keeps. true≢false (sym (says.1 keeps) ∙ entry.0)) entry.1

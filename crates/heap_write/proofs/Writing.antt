@@ -92,6 +92,10 @@ here-grown h h1 h' place x row grown here = record {
 
 -- whether the values in the indexes change
 
+pub values-on : (h h1 : HeapView) (place : Tid) (row : Row) → row_at (page_on h1 place.page).slots place.slot ≡ row_at (page_on h place.page).slots place.slot
+    → SameEntries h.indexes h1.indexes → KeepsValues h place row → KeepsValues h1 place row
+values-on h h1 place row same entries keeps old at = values-grown h.indexes h1.indexes old row entries (keeps old (sym same ∙ at))
+
 pub values-kept : (h h1 : HeapView) (place : Tid) (row : Row) → (page_on h1 place.page).slots ≡ (page_on h place.page).slots → SameEntries h.indexes h1.indexes
     → KeepsValues h place row → KeepsValues h1 place row
 values-kept h h1 place row slots entries keeps old at =

@@ -4,3 +4,4 @@ pub mod Refusals
 pub mod Growth
 pub mod Steps
 pub mod Cleaning
+pub mod Hints

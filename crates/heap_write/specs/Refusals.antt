@@ -44,8 +44,8 @@ abbrev pub VersionIsThere : HeapView → Tid → Type 0
 VersionIsThere h place = IsNormalAt (page_on h place.page).slots place.slot
 
 -- Something has to grow for an update: the ids, the page's list of slots, or an index where a value in one changes. Where the
--- row has no room on the page, pruning may make it there or not, so both are made ready before: a slot on the page, and
--- whatever a new root takes.
+-- row has no room on the page, it may be whatever a new root takes. Either is asked for alone: the plan of the page's pruning
+-- tells before whether it makes room.
 pub data UpdateNeedsMemory (h : HeapView) (own : Own) (place : Tid) (row : Row) : Type 0 where
   for_ids : NeedsIds h own → UpdateNeedsMemory h own place row
   for_slot : NeedsSlot (page_on h place.page) → UpdateNeedsMemory h own place row

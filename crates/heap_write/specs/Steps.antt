@@ -1,11 +1,15 @@
 -- What stands between the steps of an update.
-use Rattle.std.specs.Prelude.{ℕ, ◌≤◌, Option, length}
+use Rattle.std.specs.Prelude.{ℕ, ◌≤◌, Option, List, length}
 use Rattle.xid_circle.specs.declared.Tid.{Tid}
 use Rattle.heap_pages.specs.Choice.{IsPlaceFor}
 use Rattle.heap_write.specs.declared.heap.WriteFault.{WriteFault}
 use Rattle.heap_write.specs.declared.heap.WriteFault.TheVariants as fault
 use Rattle.heap_write.specs.declared.target.Target.{Target}
 use Rattle.sound_page.specs.Dead.{HasDead}
+use Rattle.prune.specs.declared.action.Action.{Action}
+use Rattle.prune.specs.Actions.{applied}
+use Rattle.prune.specs.Pruning.{IsPlan}
+use Rattle.heap_pages.specs.View.{with_page}
 use Rattle.heap_write.specs.Heap.{HeapView, page_on}
 use Rattle.heap_write.specs.Growth.{place_of_target}
 use Rattle.heap_write.specs.Writes.{TableIsFull}
@@ -27,3 +31,11 @@ FailsAfterPruning h place size fault.NoMemory = ⊥
 pub record HasNoneDead (h : HeapView) (number horizon : ℕ) : Type 0 where
   pub few : length (page_on h number).slots ≤ MOST_SLOTS
   pub none : ¬ HasDead h.table horizon (page_on h number).slots
+
+-- the actions are those of pruning the page of this number at a horizon
+abbrev pub IsPlanOn : HeapView → ℕ → ℕ → List (ℕ × Action) → Type 0
+IsPlanOn h number horizon actions = IsPlan h.table horizon (page_on h number).slots actions
+
+-- they are done on the page of this number, and nothing else changes
+abbrev pub with_applied : HeapView → ℕ → List (ℕ × Action) → HeapView
+with_applied h number actions = record h { pages = with_page h.pages number (applied actions (page_on h number)) }

@@ -37,6 +37,7 @@ impl HeapState {
         let table = &self.table;
         self.pages
             .edit(number, |page| freeze_page(page, number, cutoff, table));
+        self.hints.end(number);
     }
 
     /// Notes what is so of the page of this number, which is in use, at the horizon, a normal id: in the visibility map, and in
@@ -60,6 +61,7 @@ impl HeapState {
         ensures { FreesAt self.old self.new number (map (λ (tid : Place). tid.slot) places.now) }
     {
         self.pages.edit(number, |page| free_slots(page, places));
+        self.hints.end(number);
     }
 
     /// Goes through a piece of the index of this number, which is in use: of its entries after `from`, or of all, those go that
@@ -108,6 +110,7 @@ impl HeapState {
     {
         self.table.truncate(x);
         self.table.is_window();
+        self.hints.end_all();
     }
 }
 

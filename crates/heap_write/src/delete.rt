@@ -7,6 +7,7 @@ ghost use Rattle.heap_write.specs.Writes.{NewestIsGiven, SameOwn, Deletes};
 ghost use Rattle.heap_write.specs.Refusals.{FailsDelete, VersionIsThere};
 
 use crate::heap::{HeapState, WriteFault};
+use crate::hints::expect_write;
 use crate::ids::{needs_freeze, reserve_ids, take_ids};
 use snapshot::OwnIds;
 use tuple_writes::delete_version;
@@ -42,6 +43,7 @@ impl HeapState {
             place.page,
             |page| delete_version(page, place.page, place.slot, x),
         );
+        expect_write(&mut self.hints, &self.table, place.page, x);
         Ok(x)
     }
 

@@ -11,13 +11,14 @@ use commit_status::{Status, StatusTable};
 use heap_pages::Pages;
 use page_slots::Page;
 use root_index::RootIndex;
+use space_maps::PruneHints;
 use std::alloc::Global;
 use std::marker::Model;
 use table_indexes::Indexes;
 use thiserror::Error;
 use xid_circle::Xid;
 
-/// Why a write was not done. An insert tests NoRoom before it asks for memory; an update asks for all that it may need before it
+/// Why a write was not done. An insert tests NoRoom before it asks for memory; an update asks for all that it needs before it
 /// prunes, and finds only then that the version went or that there is no room.
 #[derive(Clone, Copy, Debug, PartialEq, Eq, Error)]
 pub enum WriteFault {
@@ -41,6 +42,8 @@ pub struct HeapState {
     pub(crate) alloc: Global,
     pub(crate) pages: Pages,
     pub(crate) table: StatusTable,
+    // from which turn on a version on a page may be dead, as far as it is known: it changes no answer
+    pub(crate) hints: PruneHints,
     pub(crate) indexes: Indexes,
     pub(crate) max_pages: u32,
 }
@@ -48,13 +51,15 @@ pub struct HeapState {
 impl Model for HeapState {
     ghost use Rattle.std.specs.Prelude.{◌≤◌};
     ghost use Rattle.heap_write.specs.Heap.{HeapView};
+    ghost use Rattle.heap_write.specs.Hints.{AreTrueHints};
     ghost use Rattle.heap_pages.specs.declared.pages.TheConstants.{MAX_PAGES};
 
     ghost Value = { HeapView };
 
     ghost view = { λ h. record { pages = h.pages; table = h.table; indexes = h.indexes; max_pages = h.max_pages } };
 
-    ghost invariant = { λ h. h.max_pages ≤ MAX_PAGES };
+    ghost invariant = { λ h.
+        (h.max_pages ≤ MAX_PAGES) × AreTrueHints h.table h.pages.pages h.hints.turns };
 }
 
 impl HeapState {
@@ -80,6 +85,7 @@ impl HeapState {
             alloc,
             pages: Pages::new(alloc),
             table,
+            hints: PruneHints::new(alloc),
             indexes: Indexes::new(alloc, indexed),
             max_pages,
         }
@@ -118,5 +124,9 @@ impl HeapState {
     {
         self.table.finish(ids, status);
         self.table.is_window();
+        match status {
+            Status::Aborted => self.hints.end_all(),
+            _ => {}
+        }
     }
 }

@@ -13,6 +13,7 @@ ghost use Rattle.heap_write.specs.Growth.{IsReserved, target_number};
 ghost use Rattle.tuple_header.specs.declared.version.TheConstants.{MOST_SLOTS};
 
 use crate::heap::{HeapState, WriteFault};
+use crate::hints::expect_write;
 use crate::ids::{needs_freeze, reserve_ids, take_ids};
 use crate::target::{Target, put_version, reserve_place};
 use snapshot::OwnIds;
@@ -38,7 +39,13 @@ impl HeapState {
         if needs_freeze(&self.table, own) {
             return Err(WriteFault::NeedsFreeze);
         }
-        match reserve_place(self.alloc, &mut self.pages, row_size(row), self.max_pages) {
+        match reserve_place(
+            self.alloc,
+            &mut self.pages,
+            &mut self.hints,
+            row_size(row),
+            self.max_pages,
+        ) {
             Ok(Some(target)) => self.insert_at(target, own, row),
             Ok(None) => Err(WriteFault::NoRoom),
             Err(_) => Err(WriteFault::NoMemory),
@@ -87,6 +94,8 @@ impl HeapState {
         let (key, cols) = (row.key, row.cols);
         let tid = put_version(&mut self.pages, target, updated, x, row);
         self.indexes.enter(key, &cols, tid);
+        expect_write(&mut self.hints, &self.table, tid.page, x);
+        self.hints.cover(self.pages.len() as usize);
         tid
     }
 }

@@ -12,7 +12,9 @@
 
 mod cleaning;
 mod delete;
+mod full_page;
 mod heap;
+mod hints;
 mod ids;
 mod insert;
 mod lookup;

@@ -1,14 +1,15 @@
 //! A page is cleaned.
 
-ghost use Rattle.std.specs.Prelude.{◌≡◌, ◌<◌, length, OnOk, OnErr, IfErr, IsFalse};
+ghost use Rattle.std.specs.Prelude.{◌≡◌, ◌<◌, length, OnOk, OnErr, IfErr, IsTrue};
 ghost use Rattle.xid_circle.specs.Circle.{IsNormal};
 ghost use Rattle.heap_write.specs.Heap.{page_on};
 ghost use Rattle.heap_write.specs.Writes.{Prunes};
 ghost use Rattle.heap_write.specs.Refusals.{Unpruned};
-ghost use Rattle.heap_write.specs.Steps.{HasNoneDead};
+ghost use Rattle.prune.specs.Actions.{CanApply};
+ghost use Rattle.heap_write.specs.Steps.{HasNoneDead, with_applied};
 
 use crate::heap::HeapState;
-use prune::{has_dead, prune};
+use prune::{PrunePlan, apply, first_death, plan};
 use thiserror::Error;
 use xid_circle::Xid;
 
@@ -32,36 +33,69 @@ impl HeapState {
         if number >= self.pages.len() {
             return Err(PruneFault::NoSuchPage);
         }
-        if !self.has_dead(number, horizon) {
-            return Ok(());
+        if !self.knows_none_dead(number, horizon) {
+            self.prune_page(number, horizon);
         }
-        self.prune_page(number, horizon);
         Ok(())
     }
 
-    /// Whether a version on the page of this number is dead. Where none is, pruning leaves the page as it is.
-    pub(crate) fn has_dead(&self, number: u32, horizon: Xid) -> bool
-        requires { IsNormal horizon.0 }
-        ensures { IsFalse result → HasNoneDead self.now number horizon.0 }
+    /// Whether it is known that no version on the page of this number is dead: the horizon isn't after the turn from which on one
+    /// may be.
+    pub(crate) fn knows_none_dead(&self, number: u32, horizon: Xid) -> bool
+        ensures { IsTrue result → HasNoneDead self.now number horizon.0 }
     {
-        match self.pages.page(number) {
-            Some(page) => {
+        self.table.is_window();
+        match (
+            self.pages.page(number),
+            self.hints.turn(number),
+            self.table.turn_of(horizon),
+        ) {
+            (Some(page), Some(known), Some(turn)) => {
                 let _limit = page.slots();
-                has_dead(page, &self.table, horizon)
+                turn <= known
             }
-            None => false,
+            _ => false,
         }
     }
 
-    /// Prunes the page of this number, which is in use.
-    pub(crate) fn prune_page(&mut self, number: u32, horizon: Xid)
-        requires within { number < length self.old.pages.pages }
-        requires normal { IsNormal horizon.0 }
-        ensures prunes { Prunes self.old self.new number horizon.0 }
-        ensures spare { (page_on self.new number).spare ≡ (page_on self.old number).spare }
-        ensures table { self.new.table ≡ self.old.table }
+    /// Notes from when on there may be a dead version on the page of this number, where there is none.
+    pub(crate) fn note_first_death(&mut self, number: u32, horizon: Xid)
+        ensures { self.new ≡ self.old }
     {
-        let table = &self.table;
-        self.pages.edit(number, |page| prune(page, table, horizon));
+        if let Some(page) = self.pages.page(number) {
+            if let Some(turn) = first_death(page, &self.table, horizon) {
+                self.hints.note(number, turn);
+            }
+        }
+    }
+
+    /// Prunes the page of this number, which is in use. It stands alone, so that the plan's array is cleared only where it is
+    /// made.
+    #[inline(never)]
+    fn prune_page(&mut self, number: u32, horizon: Xid)
+        requires within { number < length self.old.pages.pages }
+        ensures { Prunes self.old self.new number horizon.0 }
+    {
+        let page = match self.pages.page(number) {
+            Some(page) => page,
+            None => return,
+        };
+        let plan = plan(page, &self.table, horizon);
+        if plan.actions.is_empty() {
+            self.note_first_death(number, horizon);
+            return;
+        }
+        self.apply_plan(number, &plan);
+    }
+
+    /// Does what a plan names on the page of this number, which is in use.
+    pub(crate) fn apply_plan(&mut self, number: u32, plan: &PrunePlan)
+        requires within { number < length self.old.pages.pages }
+        requires can_apply { CanApply (length (page_on self.old number).slots)
+            plan.now.actions.items }
+        ensures { self.new ≡ with_applied self.old number plan.now.actions.items }
+    {
+        self.pages.edit(number, |page| apply(page, plan));
+        self.hints.end(number);
     }
 }

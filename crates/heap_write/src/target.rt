@@ -11,6 +11,7 @@ ghost use Rattle.heap_pages.specs.declared.pages.TheConstants.{MAX_PAGES};
 
 use heap_pages::{Pages, Placement};
 use page_slots::Page;
+use space_maps::PruneHints;
 use std::alloc::{AllocError, Global};
 use tuple_header::{MOST_SLOTS, Row};
 use tuple_writes::{add_cold_version, insert_version};
@@ -58,11 +59,29 @@ fn fresh_page(alloc: Global) -> Result<Page, AllocError>
     }
 }
 
+/// Makes room in memory for one more page and the hint on it, and answers the page.
+fn reserve_page(
+    alloc: Global,
+    pages: &mut Pages,
+    hints: &mut PruneHints,
+) -> Result<Page, AllocError>
+    ensures fresh { IfOk result (λ page. IsFreshPage page) }
+    ensures room { OnOk result (0 < pages.new.spare) }
+    ensures pages { pages.new.pages ≡ pages.old.pages }
+    ensures marks { pages.new.marks ≡ pages.old.marks }
+    ensures hints { hints.new.turns ≡ hints.old.turns }
+{
+    pages.make_room(1)?;
+    hints.make_room(1)?;
+    fresh_page(alloc)
+}
+
 /// Makes room in memory for a new root of this size where it goes while at most `limit` pages may be in use, and answers
 /// where that is, if it goes anywhere.
 pub(crate) fn reserve_place(
     alloc: Global,
     pages: &mut Pages,
+    hints: &mut PruneHints,
     size: usize,
     limit: u32,
 ) -> Result<Option<Target>, AllocError>
@@ -73,17 +92,15 @@ pub(crate) fn reserve_place(
     ensures ready { IfOk result
         (λ found. IfSome found (λ target. IsReserved pages.new size target)) }
     ensures needs { OnErr result (PlaceNeedsMemory pages.old.pages limit size) }
+    ensures hints { hints.new.turns ≡ hints.old.turns }
 {
     match pages.place_for(size, limit) {
         Placement::Page(number) => match reserve_slot(pages, number) {
             Ok(()) => Ok(Some(Target::Page(number))),
             Err(fault) => Err(fault),
         },
-        Placement::NewPage => match pages.make_room(1) {
-            Ok(()) => match fresh_page(alloc) {
-                Ok(page) => Ok(Some(Target::New(page))),
-                Err(fault) => Err(fault),
-            },
+        Placement::NewPage => match reserve_page(alloc, pages, hints) {
+            Ok(page) => Ok(Some(Target::New(page))),
             Err(fault) => Err(fault),
         },
         Placement::Nowhere => Ok(None),

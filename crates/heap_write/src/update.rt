@@ -14,8 +14,9 @@ ghost use Rattle.heap_write.specs.Growth.{HasIds, HasSlot, GrowsPage, IsReserved
 ghost use Rattle.heap_write.specs.Steps.{IsChosen, FailsAfterPruning};
 
 use crate::heap::{HeapState, WriteFault};
+use crate::hints::expect_write;
 use crate::ids::{needs_freeze, reserve_ids, take_ids};
-use crate::target::{Target, reserve_place, reserve_slot};
+use crate::target::{Target, reserve_slot};
 use snapshot::OwnIds;
 use std::alloc::AllocError;
 use tuple_header::{Row, row_size};
@@ -76,7 +77,7 @@ impl HeapState {
     }
 
     /// Whether in each index in use the row has the value that the version at a place has.
-    fn keeps_values(&self, place: Tid, row: &Row) -> bool
+    pub(crate) fn keeps_values(&self, place: Tid, row: &Row) -> bool
         ensures { IsTrue result ↔ KeepsValues self.now place row.now }
     {
         match self.pages.page(place.page) {
@@ -115,7 +116,7 @@ impl HeapState {
     }
 
     /// Makes room in memory for an update on the page of this number, with entries if it is not heap-only.
-    fn reserve_on_page(
+    pub(crate) fn reserve_on_page(
         &mut self,
         own: &mut OwnIds,
         number: u32,
@@ -138,215 +139,8 @@ impl HeapState {
         reserve_slot(&mut self.pages, number)
     }
 
-    /// Updates a version whose page has no room for the row. Where no version on the page is dead, pruning would leave it as it
-    /// is, so it isn't tried, and memory is made ready for a new root alone.
-    fn update_full(
-        &mut self,
-        own: &mut OwnIds,
-        place: Tid,
-        row: &Row,
-        horizon: Xid,
-    ) -> Result<Xid, WriteFault>
-        requires newest { NewestIsGiven self.old.table own.old }
-        requires horizon { IsNormal horizon.0 }
-        requires free { ¬ NeedsFreeze self.old.table own.old }
-        requires there { VersionIsThere self.old place }
-        requires room { room_of (page_on self.old place.page).slots < rounded_size_of row.now }
-        ensures ok { IfOk result
-            (λ x. Updates self.old self.new own.old own.new place row.now horizon.0 x.0) }
-        ensures fault { IfErr result
-            (λ fault. FailsUpdate self.old self.new own.old place row.now horizon.0 fault) }
-        ensures own { OnErr result (SameOwn own.old own.new) }
-        ensures window { IsWindow self.new.table }
-        ensures normal { IfOk result (λ x. IsNormal x.0) }
-    {
-        if self.has_dead(place.page, horizon) {
-            return self.update_with_pruning(own, place, row, horizon);
-        }
-        let reserved = self.reserve_root(own, row_size(row));
-        self.table.is_window();
-        match reserved {
-            Ok(target) => self.update_elsewhere(own, place, row, target),
-            Err(_) => Err(WriteFault::NoMemory),
-        }
-    }
-
-    /// Makes room in memory for a new root of this size, with its entries and an id for each level that lacks one, and answers where it
-    /// goes, if anywhere.
-    fn reserve_root(&mut self, own: &mut OwnIds, size: usize) -> Result<Option<Target>, AllocError>
-        requires { size ≤ 8164 }
-        ensures keeps { Keeps self.old self.new }
-        ensures none { unassigned_levels own.old.ids own.old.saved ≡ 0
-            → self.new.table ≡ self.old.table }
-        ensures own { SameOwn own.old own.new }
-        ensures has_ids { OnOk result (HasIds self.new.table own.new) }
-        ensures has_entries { OnOk result (HasEntries self.new.indexes) }
-        ensures chosen { IfOk result (λ found. IsChosen self.new size found) }
-        ensures ready { IfOk result
-            (λ found. IfSome found (λ target. IsReserved self.new.pages size target)) }
-        ensures unchosen { OnOk result
-            ((n : ℕ) → room_of (page_on self.old n).slots < size
-            → page_on self.new n ≡ page_on self.old n) }
-        ensures needs { OnErr result (RootNeedsMemory self.old own.old size) }
-    {
-        reserve_ids(&mut self.table, own)?;
-        self.indexes.make_room()?;
-        reserve_place(self.alloc, &mut self.pages, size, self.max_pages)
-    }
-
-    /// Updates a version whose page has no room for the row, and is pruned once memory is made ready.
-    fn update_with_pruning(
-        &mut self,
-        own: &mut OwnIds,
-        place: Tid,
-        row: &Row,
-        horizon: Xid,
-    ) -> Result<Xid, WriteFault>
-        requires newest { NewestIsGiven self.old.table own.old }
-        requires horizon { IsNormal horizon.0 }
-        requires free { ¬ NeedsFreeze self.old.table own.old }
-        requires there { VersionIsThere self.old place }
-        requires room { room_of (page_on self.old place.page).slots < rounded_size_of row.now }
-        ensures ok { IfOk result
-            (λ x. Updates self.old self.new own.old own.new place row.now horizon.0 x.0) }
-        ensures fault { IfErr result
-            (λ fault. FailsUpdate self.old self.new own.old place row.now horizon.0 fault) }
-        ensures own { OnErr result (SameOwn own.old own.new) }
-        ensures window { IsWindow self.new.table }
-        ensures normal { IfOk result (λ x. IsNormal x.0) }
-    {
-        let reserved = self.reserve_update(own, place.page, row_size(row));
-        self.table.is_window();
-        match reserved {
-            Ok(target) => {
-                self.prune_page(place.page, horizon);
-                self.update_after_pruning(own, place, row, target)
-            }
-            Err(_) => Err(WriteFault::NoMemory),
-        }
-    }
-
-    /// Makes room in memory for whatever an update of a version on the page of this number may need.
-    fn reserve_update(
-        &mut self,
-        own: &mut OwnIds,
-        number: u32,
-        size: usize,
-    ) -> Result<Option<Target>, AllocError>
-        requires within { number < length self.old.pages.pages }
-        requires fits { size ≤ 8164 }
-        requires room { room_of (page_on self.old number).slots < size }
-        ensures keeps { Keeps self.old self.new }
-        ensures none { unassigned_levels own.old.ids own.old.saved ≡ 0
-            → self.new.table ≡ self.old.table }
-        ensures own { SameOwn own.old own.new }
-        ensures has_ids { OnOk result (HasIds self.new.table own.new) }
-        ensures has_slot { OnOk result (HasSlot (page_on self.new number)) }
-        ensures has_entries { OnOk result (HasEntries self.new.indexes) }
-        ensures chosen { IfOk result (λ found. IsChosen self.new size found) }
-        ensures ready { IfOk result
-            (λ found. IfSome found (λ target. IsReserved self.new.pages size target)) }
-        ensures needs { OnErr result
-            (NeedsSlot (page_on self.old number) ⊎ RootNeedsMemory self.old own.old size) }
-    {
-        match self.reserve_slot_on(number) {
-            Ok(()) => self.reserve_root(own, size),
-            Err(fault) => Err(fault),
-        }
-    }
-
-    /// Makes room in memory for one more slot on the page of this number.
-    fn reserve_slot_on(&mut self, number: u32) -> Result<(), AllocError>
-        requires { number < length self.old.pages.pages }
-        ensures keeps { Keeps self.old self.new }
-        ensures table { self.new.table ≡ self.old.table }
-        ensures indexes { self.new.indexes ≡ self.old.indexes }
-        ensures max_pages { self.new.max_pages ≡ self.old.max_pages }
-        ensures grows { OnOk result (GrowsPage self.old.pages self.new.pages number) }
-        ensures needs { OnErr result (NeedsSlot (page_on self.old number)) }
-    {
-        reserve_slot(&mut self.pages, number)
-    }
-
-    /// Updates a version, if it is still there, on its page where that has room for the row now, else where a new root goes,
-    /// if that is anywhere.
-    fn update_after_pruning(
-        &mut self,
-        own: &mut OwnIds,
-        place: Tid,
-        row: &Row,
-        target: Option<Target>,
-    ) -> Result<Xid, WriteFault>
-        requires newest { NewestIsGiven self.old.table own.old }
-        requires free { ¬ NeedsFreeze self.old.table own.old }
-        requires has_ids { HasIds self.old.table own.old }
-        requires has_slot { HasSlot (page_on self.old place.page) }
-        requires has_entries { HasEntries self.old.indexes }
-        requires chosen { room_of (page_on self.old place.page).slots < rounded_size_of row.now
-            → IsChosen self.old (rounded_size_of row.now) target }
-        requires ready { IfSome target
-            (λ t. IsReserved self.old.pages (rounded_size_of row.now) t) }
-        ensures takes { IfOk result
-            (λ x. TakesIds self.old.table self.new.table own.old own.new x.0) }
-        ensures there { IfOk result (λ x. VersionIsThere self.old place) }
-        ensures replaces { IfOk result (λ x. Replaces self.old self.new place x.0 row.now) }
-        ensures max_pages { self.new.max_pages ≡ self.old.max_pages }
-        ensures fault { IfErr result
-            (λ fault. FailsAfterPruning self.old place (rounded_size_of row.now) fault) }
-        ensures err { OnErr result (self.new ≡ self.old) }
-        ensures own { OnErr result (SameOwn own.old own.new) }
-        ensures window { IsWindow self.new.table }
-        ensures normal { IfOk result (λ x. IsNormal x.0) }
-    {
-        self.table.is_window();
-        if !self.is_there(place) {
-            return Err(WriteFault::Gone);
-        }
-        if self.has_room(place.page, row) {
-            let heap_only = self.keeps_values(place, row);
-            return Ok(self.update_on_page(own, place, row, heap_only));
-        }
-        self.update_elsewhere(own, place, row, target)
-    }
-
-    /// Updates a version whose page has no room for the row where a new root goes, if that is anywhere.
-    fn update_elsewhere(
-        &mut self,
-        own: &mut OwnIds,
-        place: Tid,
-        row: &Row,
-        target: Option<Target>,
-    ) -> Result<Xid, WriteFault>
-        requires newest { NewestIsGiven self.old.table own.old }
-        requires free { ¬ NeedsFreeze self.old.table own.old }
-        requires has_ids { HasIds self.old.table own.old }
-        requires has_entries { HasEntries self.old.indexes }
-        requires there { VersionIsThere self.old place }
-        requires room { room_of (page_on self.old place.page).slots < rounded_size_of row.now }
-        requires chosen { IsChosen self.old (rounded_size_of row.now) target }
-        requires ready { IfSome target
-            (λ t. IsReserved self.old.pages (rounded_size_of row.now) t) }
-        ensures takes { IfOk result
-            (λ x. TakesIds self.old.table self.new.table own.old own.new x.0) }
-        ensures there { IfOk result (λ x. VersionIsThere self.old place) }
-        ensures replaces { IfOk result (λ x. Replaces self.old self.new place x.0 row.now) }
-        ensures max_pages { self.new.max_pages ≡ self.old.max_pages }
-        ensures fault { IfErr result
-            (λ fault. FailsAfterPruning self.old place (rounded_size_of row.now) fault) }
-        ensures err { OnErr result (self.new ≡ self.old) }
-        ensures own { OnErr result (SameOwn own.old own.new) }
-        ensures window { IsWindow self.new.table }
-        ensures normal { IfOk result (λ x. IsNormal x.0) }
-    {
-        self.table.is_window();
-        match target {
-            Some(target) => Ok(self.cold_update(own, place, row, target)),
-            None => Err(WriteFault::NoRoom),
-        }
-    }
-
     /// Replaces a version by one on its page, which has room and memory for it: a heap-only one, or a root.
-    fn update_on_page(&mut self, own: &mut OwnIds, place: Tid, row: &Row, heap_only: bool) -> Xid
+    pub(crate) fn update_on_page(&mut self, own: &mut OwnIds, place: Tid, row: &Row, heap_only: bool) -> Xid
         requires newest { NewestIsGiven self.old.table own.old }
         requires free { ¬ NeedsFreeze self.old.table own.old }
         requires has_ids { HasIds self.old.table own.old }
@@ -386,11 +180,12 @@ impl HeapState {
         let _slot = self.pages.write(place.page, |page| {
             hot_update(page, place.page, place.slot, x, row)
         });
+        expect_write(&mut self.hints, &self.table, place.page, x);
         x
     }
 
     /// Replaces a version by a root where one goes, with room and memory for it and its entries.
-    fn cold_update(&mut self, own: &mut OwnIds, place: Tid, row: &Row, target: Target) -> Xid
+    pub(crate) fn cold_update(&mut self, own: &mut OwnIds, place: Tid, row: &Row, target: Target) -> Xid
         requires newest { NewestIsGiven self.old.table own.old }
         requires free { ¬ NeedsFreeze self.old.table own.old }
         requires has_ids { HasIds self.old.table own.old }
@@ -410,6 +205,7 @@ impl HeapState {
             place.page,
             |page| mark_cold_updated(page, place.slot, x, successor),
         );
+        expect_write(&mut self.hints, &self.table, place.page, x);
         x
     }
 }

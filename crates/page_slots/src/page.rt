@@ -1,10 +1,11 @@
 //! Pages.
 
-ghost use Rattle.std.specs.Prelude.{◌≡◌, ◌⊎◌, ◌≤◌, ◌<◌, ◌+◌, [], true, false, length, OnOk, OnErr, IfOk, IfSome, IsSome, IsTrue, ◌↔◌, Some, None, MatchOption};
+ghost use Rattle.std.specs.Prelude.{◌≡◌, ◌⊎◌, ◌≤◌, ◌<◌, ◌+◌, ◌*◌, sum_by, [], true, false, length, OnOk, OnErr, IfOk, IfSome, IsSome, IsTrue, ◌↔◌, Some, None, MatchOption};
 ghost use Rattle.tuple_header.specs.Version.{rounded_size_of};
 ghost use Rattle.tuple_header.specs.Faults.{header_fault};
 ghost use Rattle.page_slots.specs.Store.{stored_slot, is_bare};
-ghost use Rattle.page_slots.specs.Slots.{is_unused, is_dead, leads_to, slot_at, header_at, row_at, key_at, redirect_at, SlotIsThere, IsNormalAt, the_slot, with_slot, with_header_at, has_unused, free_number, with_added, room_of, next_change, change_unless, differs_in_hints_alone};
+ghost use Rattle.page_slots.specs.declared.packing.TheConstants.{MOST_BYTES};
+ghost use Rattle.page_slots.specs.Slots.{is_unused, is_dead, leads_to, slot_at, header_at, row_at, key_at, redirect_at, SlotIsThere, IsNormalAt, the_slot, with_slot, with_header_at, has_unused, free_number, with_added, bytes_taken, free_bytes, room_of, next_change, change_unless, differs_in_hints_alone};
 
 use crate::hints::differ_in_hints_alone;
 use crate::item::Item;
@@ -166,6 +167,23 @@ impl Page {
         self.free as u16 + 1
     }
 
+    /// How many bytes the version in the slot of this number takes, which is there: 0 where it holds none.
+    pub fn taken(&self, number: u16) -> usize
+        requires { SlotIsThere self.now.slots number }
+        ensures { result ≡ bytes_taken (the_slot self.now.slots number) }
+    {
+        self.slots.taken(usize::from(number) - 1)
+    }
+
+    /// What of 8168 bytes neither versions nor pointers of 4 bytes take.
+    pub fn free_bytes(&self) -> usize
+        ensures value { result ≡ free_bytes self.now.slots }
+        ensures all { result + (4 * length self.now.slots + sum_by bytes_taken self.now.slots)
+            ≡ MOST_BYTES }
+    {
+        MOST_BYTES - (4 * self.slots.len() + self.taken_bytes)
+    }
+
     /// The largest size of a version that fits, in bytes, as if versions were moved together: of 8168 bytes what neither
     /// versions nor pointers of 4 bytes take, less 4 for a new slot where none is unused.
     #[tactic(auto, using(crate::proofs::SlotLemmas::first_within))]
@@ -175,7 +193,7 @@ impl Page {
         ensures place { 0 < result → free_number self.now.slots ≤ MOST_SLOTS }
     {
         let count = self.slots.len();
-        let free_bytes = MOST_BYTES - (4 * count + self.taken_bytes);
+        let free_bytes = self.free_bytes();
         if self.free < count {
             free_bytes
         } else if count < usize::from(MOST_SLOTS) {

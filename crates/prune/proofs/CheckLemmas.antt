@@ -16,15 +16,15 @@ use Rattle.prune.specs.declared.marks.PruneVerdict.{PruneVerdict}
 use Rattle.prune.specs.declared.marks.PruneVerdict.TheVariants.{Orphan}
 use Rattle.prune.specs.Cutting.{IsCut, RemovesVersions}
 use Rattle.prune.specs.Actions.{AreInOrder, HasTarget, CanApply, action_of, applied, acted}
-use Rattle.prune.specs.Pruning.{root_action, orphan_action}
-use Rattle.prune.specs.Marks.{mark_at, IsVerdict}
+use Rattle.prune.specs.Pruning.{root_action, orphan_action, IsInChainOf, PrunesSlot, by_root, by_none}
+use Rattle.prune.specs.Marks.{mark_at, IsVerdict, NoneDead}
 use Rattle.prune.specs.Checks.{IsPrefix, HasPrefix, IsAccounted, Checks}
 use Rattle.prune.specs.Named.{named_at, IsLooseRight}
 use Rattle.prune.proofs.Marking.{held-not_loose}
 use Rattle.sound_page.proofs.Links.{member-there, member-version}
 use Rattle.prune.proofs.Listing.{named-there, applied-slot}
 use Rattle.sound_page.proofs.ChainPlaces.{place-of, root-leads, first-normal, chain-first, reaches-places}
-use Rattle.prune.proofs.CutPlaces.{of-not_loose}
+use Rattle.prune.proofs.Idle.{spared-does}
 use Rattle.prune.proofs.Removing.{acted-version, by-answer, lost-from, lost-cut, root-cut}
 use Rattle.sound_page.proofs.SoundChains.{plain-root}
 
@@ -35,33 +35,53 @@ order-more a b low (x ∷ rest) h o = (o.0, (let le = o.1 in omega arith), order
 same-names : (f g : ℕ → Option Action) → ((n : ℕ) → f n ≡ g n) → f ≡ g
 same-names f g e = λ i n. e n i
 
-accounted : (w : Window) (horizon : ℕ) (slots : List Slot) (n : ℕ) (a : Action) (mark : PruneVerdict) → IsVerdict w horizon slots n mark
-    → (mark ≡ Orphan → orphan_action w slots n ≡ Some a) → IsAccounted w slots n a
-accounted w horizon slots n a mark (IsVerdict.held root chain cut o c e) right = IsAccounted.of_root root chain o
-accounted w horizon slots n a mark (IsVerdict.loose l e) right = IsAccounted.lost l (right e)
+does-accounted : (w : Window) (horizon : ℕ) (slots : List Slot) (n : ℕ) (a : Action) (o : Option Action) → PrunesSlot w horizon slots n o → o ≡ Some a → IsAccounted w slots n a
+does-accounted w horizon slots n a o (by_root root chain cut i c f) e = IsAccounted.of_root root chain i
+does-accounted w horizon slots n a o (by_none l f) e = IsAccounted.lost l (sym f ∙ e)
 
-loose-right : (w : Window) (horizon : ℕ) (slots : List Slot) (n : ℕ) (a : Action) (mark : PruneVerdict) → IsVerdict w horizon slots n mark → mark ≡ Orphan → IsAccounted w slots n a
-    → orphan_action w slots n ≡ Some a
-loose-right w horizon slots n a mark m is (IsAccounted.lost l e) = e
-loose-right w horizon slots n a mark (IsVerdict.held r c cut o d e) is (IsAccounted.of_root root chain i) = absurd (held-not_loose _ (sym e ∙ is))
-loose-right w horizon slots n a mark (IsVerdict.loose l e) is (IsAccounted.of_root root chain i) = absurd (of-not_loose (has_aborted w) slots root n chain i l)
+-- no slot is named of a chain that holds no dead version
+spared-unnamed : (w : Window) (horizon : ℕ) (slots : List Slot) (named : ℕ → Option Action) (n root : ℕ) (chain : List ℕ) (a : Action)
+    → (prefix : ℕ) × IsPrefix w horizon slots named root chain prefix → IsInChainOf (has_aborted w) slots root chain n → NoneDead w horizon slots chain → named n ≡ Some a → ⊥
+spared-unnamed w horizon slots named n root chain a f i none e = ⊎_elim
+    (λ same. at-start (root-cut f.0 (slice_get chain f.0) a (sym f.1.leads ∙ ap named (sym same) ∙ e)))
+    (λ holds.
+    let p = place-of n chain holds in
+    let is_named : IsSome (named (get_or chain p.0 0)) = subst (λ k. IsSome (named k)) (sym p.2) (subst IsSome (sym e) refl) in
+    let before = (f.1.removed p.0 p.1).0 is_named in
+    at-start (omega arith)) i.holds
+  where
+    at-start : 0 < f.0 → ⊥
+    at-start some = let d = f.1.cut 0 some in none d.0 d.2 d.3
+
+accounted : (w : Window) (horizon : ℕ) (slots : List Slot) (n : ℕ) (a : Action) (mark : PruneVerdict) → length slots ≤ 291 → IsVerdict w horizon slots n mark
+    → (mark ≡ Orphan → orphan_action w slots n ≡ Some a) → IsAccounted w slots n a
+accounted w horizon slots n a mark few (IsVerdict.held root chain cut o c e) right = IsAccounted.of_root root chain o
+accounted w horizon slots n a mark few (IsVerdict.spared s e) right = does-accounted w horizon slots n a (orphan_action w slots n) (spared-does w horizon slots n few s) (right e)
+
+loose-right : (w : Window) (horizon : ℕ) (slots : List Slot) (named : ℕ → Option Action) (n : ℕ) (a : Action) (mark : PruneVerdict)
+    → ((root : ℕ) → is_root slots root ≡ true → HasPrefix w horizon slots named root) → IsVerdict w horizon slots n mark → mark ≡ Orphan → named n ≡ Some a
+    → IsAccounted w slots n a → orphan_action w slots n ≡ Some a
+loose-right w horizon slots named n a mark prefixes m is e (IsAccounted.lost l f) = f
+loose-right w horizon slots named n a mark prefixes (IsVerdict.held r c cut o d f) is e (IsAccounted.of_root root chain i) = absurd (held-not_loose _ (sym f ∙ is))
+loose-right w horizon slots named n a mark prefixes (IsVerdict.spared s f) is e (IsAccounted.of_root root chain i) =
+    absurd (spared-unnamed w horizon slots named n root chain a (prefixes root i.starts chain i.is_chain) i (s root chain i) e)
 
 pub checked : (w : Window) (horizon : ℕ) (page : PageView) (change : ℕ) (actions : List (ℕ × Action)) (named : List (Option Action)) (marks : List PruneVerdict) (b : Bool)
-    → change ≡ page.change → AreInOrder (length page.slots) 0 actions → ((n : ℕ) → named_at named n ≡ action_of actions n)
+    → length page.slots ≤ 291 → change ≡ page.change → AreInOrder (length page.slots) 0 actions → ((n : ℕ) → named_at named n ≡ action_of actions n)
     → ((n : ℕ) → IsVerdict w horizon page.slots n (mark_at marks n))
     → ((root : ℕ) → is_root page.slots root ≡ true → HasPrefix w horizon page.slots (named_at named) root)
     → (IsTrue b ↔ ((n : ℕ) → 1 ≤ n → n ≤ length page.slots → IsLooseRight w page.slots marks named n)) → IsTrue b ↔ Checks w horizon page change actions
-checked w horizon page change actions named marks b same order names marked prefixes t = (
+checked w horizon page change actions named marks b few same order names marked prefixes t = (
   λ yes. record {
     same_change = same;
     in_order = order;
     prefixes = λ root starts. subst (λ f. HasPrefix w horizon page.slots f root) (same-names (named_at named) (action_of actions) names) (prefixes root starts);
     others = λ n a e.
         let there = named-there (length page.slots) 0 n actions a order e in
-        accounted w horizon page.slots n a (mark_at marks n) (marked n)
+        accounted w horizon page.slots n a (mark_at marks n) few (marked n)
         (λ is. t.0 yes n there.0 there.1 is a (names n ∙ e));
   },
-  λ c. t.1 (λ n from within is a e. loose-right w horizon page.slots n a (mark_at marks n) (marked n) is (c.others n a (sym (names n) ∙ e))),
+  λ c. t.1 (λ n from within is a e. loose-right w horizon page.slots (named_at named) n a (mark_at marks n) prefixes (marked n) is e (c.others n a (sym (names n) ∙ e))),
 )
 
 -- It can be applied.

@@ -1,17 +1,20 @@
--- Dead versions: one of which a header tells, and the last of a list.
-use Rattle.std.proofs.Common.{◌≡◌, ◌⊎◌, ℕ, ◌-◌, ◌<◌, ◌≤◌, List, get_or, Option, Some, None, inl, inr, sym, ap, ◌∙◌, refl, subst}
+-- Dead versions: one of which a header tells, and the last of a list; and versions that are not dead yet.
+use Rattle.std.proofs.Common.{◌≡◌, ◌⊎◌, ℕ, ◌+◌, ◌-◌, ◌<◌, ◌≤◌, List, length, get_or, Option, Some, None, arith, inl, inr, ⊎_elim, sym, ap, ◌∙◌, refl, subst}
 use Rattle.std.specs.Prelude.{MatchOption}
+use Rattle.std.proofs.lemmas.Bool.{cases_lt}
 use Rattle.std.proofs.lemmas.Option.{same_Some}
 use Rattle.xid_circle.specs.Circle.{Precedes}
-use Rattle.xid_circle.specs.declared.Xid.{Xid}
 use Rattle.page_slots.specs.declared.slot.Slot.{Slot}
-use Rattle.page_slots.specs.Slots.{version_at, header_at}
+use Rattle.page_slots.specs.Slots.{version_at, header_at, SlotIsThere}
 use Rattle.std.specs.Option.{option_map}
 use Rattle.tuple_header.specs.Version.{Version}
 use Rattle.tuple_header.specs.declared.version.Header.{Header}
 use Rattle.commit_status.specs.Window.{Window, IsAborted, IsCommitted}
 use Rattle.visibility.specs.Visible.{IsFrozen, IsDead}
-use Rattle.sound_page.specs.Dead.{IsDeadAt}
+use Rattle.sound_page.specs.Dead.{IsDeadAt, HasDead}
+use Rattle.sound_page.proofs.Links.{version-there}
+use Rattle.prune.specs.Deaths.{MayDieFrom, NothingDiesBefore, LivesAt}
+use Rattle.prune.specs.declared.dead.Outlook.{Outlook}
 
 -- of the first `prefix` of a chain
 pub record IsCutPrefix (w : Window) (horizon : ℕ) (slots : List Slot) (chain : List ℕ) (prefix cut : ℕ) : Type 0 where
@@ -45,10 +48,51 @@ not-dead : (w : Window) (horizon : ℕ) (slots : List Slot) (n : ℕ) (h : Heade
     → ¬ (IsCommitted w h.xmax.0 × Precedes h.xmax.0 horizon) → ¬ IsDeadAt w horizon slots n
 not-dead w horizon slots n h at made kept dead = alive w horizon h made kept (dead-here w horizon slots n h at dead)
 
--- what is found out of its inserter, where its deleter does not make it dead
-pub made-known : (w : Window) (horizon : ℕ) (slots : List Slot) (n : ℕ) (h : Header) (o : Option Xid) → header_at slots n ≡ Some h
-    → ¬ (IsCommitted w h.xmax.0 × Precedes h.xmax.0 horizon)
-    → MatchOption o (¬ IsFrozen h × IsAborted w h.xmin.0) (λ x. (IsFrozen h ⊎ ¬ IsAborted w h.xmin.0) × ¬ IsAborted w x.0)
-    → MatchOption o (IsDeadAt w horizon slots n) (λ x. ¬ IsDeadAt w horizon slots n × ¬ IsAborted w x.0)
-made-known w horizon slots n h None at kept undone = dead-there w horizon slots n h at (IsDead.never_was undone.0 undone.1)
-made-known w horizon slots n h (Some x) at kept found = (not-dead w horizon slots n h at found.0 kept, found.1)
+-- what a header tells of the version that is there
+pub header-of : (slots : List Slot) (n : ℕ) (h : Header) (t : Version) → header_at slots n ≡ Some h → version_at slots n ≡ Some t → h ≡ t.header
+header-of slots n h t at there = sym (same_Some t.header h (sym (ap (option_map (λ (v : Version). v.header)) there) ∙ at))
+
+pub lives-there : (w : Window) (horizon turn : ℕ) (slots : List Slot) (n : ℕ) (h : Header) → header_at slots n ≡ Some h → ¬ IsDead w horizon h → MayDieFrom w turn h
+    → LivesAt w horizon turn slots n
+lives-there w horizon turn slots n h at alive later =
+    ((λ dead. alive (dead-here w horizon slots n h at dead)), (λ t there. subst (MayDieFrom w turn) (header-of slots n h t at there) later))
+
+pub outlook-there : (w : Window) (horizon turn : ℕ) (slots : List Slot) (n : ℕ) (h : Header) (o : Option Outlook) → header_at slots n ≡ Some h
+    → MatchOption o (IsDead w horizon h) (λ u. (¬ IsDead w horizon h) × MayDieFrom w u.turn h × (u.turn ≤ turn) × ¬ IsAborted w u.known.0)
+    → MatchOption o (IsDeadAt w horizon slots n) (λ u. LivesAt w horizon u.turn slots n × (u.turn ≤ turn) × ¬ IsAborted w u.known.0)
+outlook-there w horizon turn slots n h None at dead = dead-there w horizon slots n h at dead
+outlook-there w horizon turn slots n h (Some u) at found = (lives-there w horizon u.turn slots n h at found.0 found.1, found.2, found.3)
+
+-- the versions below a slot are not dead, and may be from this turn on, which is no later than that of the next id
+pub record LiveBelow (w : Window) (horizon : ℕ) (slots : List Slot) (bound turn : ℕ) : Type 0 where
+  pub reached : turn ≤ length w.entries
+  pub each : (n : ℕ) → n < bound → LivesAt w horizon turn slots n
+
+lives-longer : (w : Window) (horizon more turn : ℕ) (slots : List Slot) (n : ℕ) → turn ≤ more → LivesAt w horizon more slots n → LivesAt w horizon turn slots n
+lives-longer w horizon more turn slots n le l = (
+  l.0,
+  λ t there.
+      let m = l.1 t there in
+      record { kept = m.kept; later = λ given. let later = m.later given in omega arith },
+)
+
+no-slot : (w : Window) (horizon turn : ℕ) (slots : List Slot) (n : ℕ) → ¬ SlotIsThere slots n → LivesAt w horizon turn slots n
+no-slot w horizon turn slots n none = ((λ dead. none (version-there slots n dead.version dead.there)), (λ t there. absurd (none (version-there slots n t there))))
+
+pub live-none : (w : Window) (horizon : ℕ) (slots : List Slot) (turn : ℕ) → turn ≤ length w.entries → LiveBelow w horizon slots 1 turn
+live-none w horizon slots turn reached = record { reached = reached; each = λ n h. no-slot w horizon turn slots n (λ there. let from = there.0 in absurd (omega arith)) }
+
+pub live-more : (w : Window) (horizon : ℕ) (slots : List Slot) (bound more turn : ℕ) → turn ≤ more → LiveBelow w horizon slots bound more → LivesAt w horizon turn slots bound
+    → LiveBelow w horizon slots (bound + 1) turn
+live-more w horizon slots bound more turn le l at = record {
+  reached = let r = l.reached in omega arith;
+  each = λ n h. ⊎_elim (λ lt. lives-longer w horizon more turn slots n le (l.each n lt))
+      (λ ge. let same : n ≡ bound = omega arith in subst (LivesAt w horizon turn slots) (sym same) at) (cases_lt n bound);
+}
+
+pub live-all : (w : Window) (horizon : ℕ) (slots : List Slot) (bound turn : ℕ) → length slots < bound → LiveBelow w horizon slots bound turn
+    → (¬ HasDead w horizon slots) × NothingDiesBefore w turn slots
+live-all w horizon slots bound turn all l = (
+  (λ h. let there = version-there slots h.number h.dead.version h.dead.there in let within = there.1 in (l.each h.number (omega arith)).0 h.dead),
+  record { reached = l.reached; each = λ n t at. let there = version-there slots n t at in let within = there.1 in (l.each n (omega arith)).1 t at },
+)

@@ -17,3 +17,7 @@ pub mod Spared
 pub mod SoundAfter
 pub mod Idle
 pub mod Single
+pub mod Gaps
+pub mod Quiet
+pub mod Glancing
+pub mod RoomLemmas

@@ -59,6 +59,17 @@ listed-skip count answer acts bound l e = record {
       (λ ge. let at : n ≡ bound = omega arith in below-none bound n acts l.below ge ∙ e ∙ ap answer (sym at)) (cases_lt n bound);
 }
 
+-- none of the slots in between has an action
+pub listed-jump : (count : ℕ) (answer : ℕ → Option Action) (acts : List (ℕ × Action)) (bound more : ℕ) → AreListed count answer acts bound → bound ≤ more
+    → ((n : ℕ) → bound ≤ n → n < more → answer n ≡ None) → AreListed count answer acts more
+listed-jump count answer acts bound more l le none = record {
+  can = l.can;
+  in_order = l.in_order;
+  below = below-more bound more acts l.below le;
+  each = λ n from lt. ⊎_elim (λ below. l.each n from below)
+      (λ ge. below-none bound n acts l.below ge ∙ sym (none n ge lt)) (cases_lt n bound);
+}
+
 pub listed-push : (count : ℕ) (answer : ℕ → Option Action) (acts : List (ℕ × Action)) (bound : ℕ) (a : Action) → AreListed count answer acts bound
     → 1 ≤ bound → bound ≤ count → HasTarget count a → Some a ≡ answer bound → AreListed count answer (acts ++ (bound, a) ∷ []) (bound + 1)
 listed-push count answer acts bound a l from within target e = record {

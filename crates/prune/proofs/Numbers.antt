@@ -1,5 +1,5 @@
 -- The numbers in a chain are those of slots.
-use Rattle.std.proofs.Common.{◌≡◌, ℕ, ◌≤◌, Bool, List, length, take, get_or, arith}
+use Rattle.std.proofs.Common.{◌≡◌, ℕ, ◌≤◌, Bool, List, length, take, arith}
 use Rattle.page_slots.specs.declared.slot.Slot.{Slot}
 use Rattle.std.proofs.lemmas.List.{length-take-le, get_or-take}
 use Rattle.prune.specs.Marks.{AreNumbers}

@@ -1,39 +1,36 @@
 -- The marks after the walks along the chains of the first roots.
-use Rattle.std.proofs.Common.{◌≡◌, ◌≢◌, ℕ, zero, suc, ◌+◌, ◌<◌, Bool, true, false, nat_eq, if◌then◌else◌, ◌||◌, List, length, get_or, replicate, arith, inl, inr, ⊎_elim, sym, ap, ◌∙◌, refl, subst}
+use Rattle.std.proofs.Common.{◌≡◌, ℕ, zero, suc, ◌+◌, ◌<◌, Bool, true, false, nat_eq, if◌then◌else◌, ◌||◌, List, length, get_or, replicate, [], ◌∷◌, ◌≤◌, drop, drop-cons, add-one, arith, inl, inr, ⊎_elim, ap, ◌∙◌, refl, subst}
 use Rattle.std.specs.List.{list_any, Contains}
 use Rattle.std.proofs.lemmas.Bool.{cases_lt, cases_Bool, or_cases, eqb-true, eqb-false, or_parts}
 use Rattle.page_slots.specs.declared.slot.Slot.{Slot}
 use Rattle.commit_status.specs.Window.{Window}
-use Rattle.hot_chain.specs.Chain.{has_aborted, is_root, LeadsTo}
+use Rattle.hot_chain.specs.Chain.{has_aborted, is_root}
 use Rattle.hot_chain.proofs.Chains.{chain-one, any-contains, contains-any, root-there}
 use Rattle.prune.specs.declared.marks.PruneVerdict.{PruneVerdict}
 use Rattle.prune.specs.declared.marks.PruneVerdict.TheVariants.{Orphan}
 use Rattle.prune.specs.Cutting.{IsCutCount}
 use Rattle.prune.specs.Pruning.{IsInChainOf, chain_action}
-use Rattle.prune.specs.Marks.{verdict_of, mark_at, MarksChain, IsVerdict, held, loose}
+use Rattle.prune.specs.Marks.{verdict_of, mark_at, MarksChain, IsVerdict, held, spared, NoneDead, IsQuiet, ListsAllBut}
+use Rattle.prune.proofs.Quiet.{quiet-none_dead}
 
 pub data IsMarkSoFar (w : Window) (horizon : ℕ) (slots : List Slot) (bound n : ℕ) (mark : PruneVerdict) : Type 0 where
   by_chain : (root : ℕ) (chain : List ℕ) (cut : ℕ) → IsInChainOf (has_aborted w) slots root chain n → IsCutCount w horizon slots chain cut
       → mark ≡ verdict_of (chain_action root chain cut n) → IsMarkSoFar w horizon slots bound n mark
-  by_none : ((root : ℕ) → root < bound → is_root slots root ≡ true → n ≢ root) → ((root : ℕ) → root < bound → ¬ LeadsTo (has_aborted w) slots root n)
+  by_none : ((root : ℕ) (chain : List ℕ) → root < bound → IsInChainOf (has_aborted w) slots root chain n → NoneDead w horizon slots chain)
       → mark ≡ Orphan → IsMarkSoFar w horizon slots bound n mark
-
-no-zero : (slots : List Slot) (root : ℕ) → root < 1 → is_root slots root ≡ true → ⊥
-no-zero slots root h starts = let there = (root-there slots root starts).0 in absurd (omega arith)
 
 pub so_far-none : (w : Window) (horizon : ℕ) (slots : List Slot) (n : ℕ) (mark : PruneVerdict) → mark ≡ Orphan → IsMarkSoFar w horizon slots 1 n mark
 so_far-none w horizon slots n mark e =
-    IsMarkSoFar.by_none (λ root h starts. absurd (no-zero slots root h starts)) (λ root h l. no-zero slots root h l.starts) e
+    IsMarkSoFar.by_none (λ root chain h i. let there = (root-there slots root i.starts).0 in absurd (omega arith)) e
 
-pub so_far-skip : (w : Window) (horizon : ℕ) (slots : List Slot) (bound n : ℕ) (mark : PruneVerdict) → is_root slots bound ≡ false
-    → IsMarkSoFar w horizon slots bound n mark → IsMarkSoFar w horizon slots (bound + 1) n mark
-so_far-skip w horizon slots bound n mark none (IsMarkSoFar.by_chain root chain cut o c e) = IsMarkSoFar.by_chain root chain cut o c e
-so_far-skip w horizon slots bound n mark none (IsMarkSoFar.by_none f g e) = IsMarkSoFar.by_none
-    (λ root h starts. ⊎_elim (λ lt. f root lt starts) (λ ge. absurd (not-root root (omega arith) starts)) (cases_lt root bound))
-    (λ root h l. ⊎_elim (λ lt. g root lt l) (λ ge. not-root root (omega arith) l.starts) (cases_lt root bound)) e
-  where
-    not-root : (root : ℕ) → root ≡ bound → is_root slots root ≡ true → ⊥
-    not-root root same starts = let at = ap (is_root slots) same in absurd (cc)
+-- the slots from one bound to another are no roots, or quiet
+pub so_far-jump : (w : Window) (horizon : ℕ) (slots : List Slot) (bound more n : ℕ) (mark : PruneVerdict)
+    → ((root : ℕ) → bound ≤ root → root < more → is_root slots root ≡ true → IsQuiet w horizon slots root)
+    → IsMarkSoFar w horizon slots bound n mark → IsMarkSoFar w horizon slots more n mark
+so_far-jump w horizon slots bound more n mark quiet (IsMarkSoFar.by_chain root chain cut o c e) = IsMarkSoFar.by_chain root chain cut o c e
+so_far-jump w horizon slots bound more n mark quiet (IsMarkSoFar.by_none f e) = IsMarkSoFar.by_none
+    (λ root chain h i. ⊎_elim (λ lt. f root chain lt i)
+    (λ ge. quiet-none_dead w horizon slots root chain (quiet root ge h i.starts) i.is_chain) (cases_lt root bound)) e
 
 pub so_far-chain : (w : Window) (horizon : ℕ) (slots : List Slot) (root n : ℕ) (before after : List PruneVerdict) → MarksChain w horizon slots root before after
     → is_root slots root ≡ true → IsMarkSoFar w horizon slots root n (mark_at before n) → IsMarkSoFar w horizon slots (root + 1) n (mark_at after n)
@@ -52,18 +49,21 @@ so_far-chain w horizon slots root n before after m starts old = ⊎_elim in-chai
 
     same : nat_eq n root || list_any (nat_eq n) m.chain ≡ false → IsMarkSoFar w horizon slots root n (mark_at before n) → IsMarkSoFar w horizon slots (root + 1) n (mark_at after n)
     same off (IsMarkSoFar.by_chain r chain cut o c e) = IsMarkSoFar.by_chain r chain cut o c (chosen false off ∙ e)
-    same off (IsMarkSoFar.by_none f g e) =
-        let apart = or_parts (nat_eq n root) (list_any (nat_eq n) m.chain) off in
+    same off (IsMarkSoFar.by_none f e) =
         IsMarkSoFar.by_none
-        (λ r h s. ⊎_elim (λ lt. f r lt s) (λ ge. let at : r ≡ root = omega arith in subst (λ k. n ≢ k) (sym at) (eqb-false n root apart.0)) (cases_lt r root))
-        (λ r h l. ⊎_elim (λ lt. g r lt l) (λ ge. let at : r ≡ root = omega arith in not-held (subst (λ k. LeadsTo (has_aborted w) slots k n) at l) apart.1) (cases_lt r root))
+        (λ r chain h i. ⊎_elim (λ lt. f r chain lt i)
+        (λ ge. let at : r ≡ root = omega arith in absurd (not-held (subst (λ k. IsInChainOf (has_aborted w) slots k chain n) at i))) (cases_lt r root))
         (chosen false off ∙ e)
       where
-        not-held : LeadsTo (has_aborted w) slots root n → list_any (nat_eq n) m.chain ≡ false → ⊥
-        not-held l none =
-            let one = chain-one (has_aborted w) slots root l.chain m.chain l.is_chain m.is_chain in
-            let some = contains-any n m.chain (subst (λ c. Contains c n) one l.holds) in
-            absurd (cc)
+        not-held : {chain : List ℕ} → IsInChainOf (has_aborted w) slots root chain n → ⊥
+        not-held {chain} i =
+            let apart = or_parts (nat_eq n root) (list_any (nat_eq n) m.chain) off in
+            ⊎_elim (λ same. eqb-false n root apart.0 same)
+            (λ holds.
+            let one = chain-one (has_aborted w) slots root chain m.chain i.is_chain m.is_chain in
+            let some = contains-any n m.chain (subst (λ c. Contains c n) one holds) in
+            let none = apart.1 in
+            absurd (cc)) i.holds
 
     elsewhere : nat_eq n root || list_any (nat_eq n) m.chain ≡ false → IsMarkSoFar w horizon slots (root + 1) n (mark_at after n)
     elsewhere off = same off old
@@ -71,13 +71,61 @@ so_far-chain w horizon slots root n before after m starts old = ⊎_elim in-chai
 pub so_far-all : (w : Window) (horizon : ℕ) (slots : List Slot) (bound n : ℕ) (mark : PruneVerdict) → length slots < bound
     → IsMarkSoFar w horizon slots bound n mark → IsVerdict w horizon slots n mark
 so_far-all w horizon slots bound n mark all (IsMarkSoFar.by_chain root chain cut o c e) = held root chain cut o c e
-so_far-all w horizon slots bound n mark all (IsMarkSoFar.by_none f g e) = loose (record {
-  no_root = ⊎_elim (λ starts. absurd (f n (below n starts) starts refl)) (λ off. off) (cases_Bool (is_root slots n));
-  unreached = λ root l. g root (below root l.starts) l;
-}) e
+so_far-all w horizon slots bound n mark all (IsMarkSoFar.by_none f e) =
+    spared (λ root chain i. let there = (root-there slots root i.starts).1 in f root chain (omega arith) i) e
+
+-- The marks after the first `i` of the slots that are listed: of those up to `low` each is marked, or quiet.
+pub record IsMarkingPage (w : Window) (horizon : ℕ) (slots : List Slot) (busy : List ℕ) (marks : List PruneVerdict) (i : ℕ) : Type 0 where
+  pub low : ℕ
+  pub left : ListsAllBut (IsQuiet w horizon slots) low (drop i busy) (length slots + 1)
+  pub marked : (n : ℕ) → IsMarkSoFar w horizon slots (low + 1) n (mark_at marks n)
+
+-- the next one that is listed
+pub record IsNext (w : Window) (horizon : ℕ) (slots : List Slot) (busy : List ℕ) (low i : ℕ) : Type 0 where
+  pub over : low < get_or busy i 0
+  pub within : get_or busy i 0 ≤ length slots
+  pub between : (n : ℕ) → low < n → n < get_or busy i 0 → IsQuiet w horizon slots n
+  pub left : ListsAllBut (IsQuiet w horizon slots) (get_or busy i 0) (drop (i + 1) busy) (length slots + 1)
+
+pub next-listed : (w : Window) (horizon : ℕ) (slots : List Slot) (busy : List ℕ) (low i : ℕ) → i < length busy
+    → ListsAllBut (IsQuiet w horizon slots) low (drop i busy) (length slots + 1) → IsNext w horizon slots busy low i
+next-listed w horizon slots busy low i within l =
+    let more : ListsAllBut (IsQuiet w horizon slots) low (get_or busy i 0 ∷ drop (i + 1) busy) (length slots + 1) =
+    subst (λ xs. ListsAllBut (IsQuiet w horizon slots) low xs (length slots + 1)) (next-of busy i within) l in
+    record { over = more.0; within = let lt = more.1 in omega arith; between = more.2; left = more.3 }
   where
-    below : (root : ℕ) → is_root slots root ≡ true → root < bound
-    below root starts = let there = (root-there slots root starts).1 in omega arith
+    next-of : (xs : List ℕ) (i : ℕ) → i < length xs → drop i xs ≡ get_or xs i 0 ∷ drop (i + 1) xs
+    next-of xs i within = rw add-one (drop-cons xs i 0 within)
+
+pub marking-root : (w : Window) (horizon : ℕ) (slots : List Slot) (busy : List ℕ) (before after : List PruneVerdict) (i : ℕ) (m : IsMarkingPage w horizon slots busy before i)
+    → i < length busy → is_root slots (get_or busy i 0) ≡ true → MarksChain w horizon slots (get_or busy i 0) before after → IsMarkingPage w horizon slots busy after (i + 1)
+marking-root w horizon slots busy before after i m within starts c =
+    let x = next-listed w horizon slots busy m.low i within m.left in
+    record {
+      low = get_or busy i 0;
+      left = x.left;
+      marked = λ n. so_far-chain w horizon slots (get_or busy i 0) n before after c starts
+          (so_far-jump w horizon slots (m.low + 1) (get_or busy i 0) n _ (λ r h lt _. x.between r (omega arith) lt) (m.marked n));
+    }
+
+pub marking-other : (w : Window) (horizon : ℕ) (slots : List Slot) (busy : List ℕ) (marks : List PruneVerdict) (i : ℕ) (m : IsMarkingPage w horizon slots busy marks i)
+    → i < length busy → is_root slots (get_or busy i 0) ≡ false → IsMarkingPage w horizon slots busy marks (i + 1)
+marking-other w horizon slots busy marks i m within off =
+    let x = next-listed w horizon slots busy m.low i within m.left in
+    record {
+      low = get_or busy i 0;
+      left = x.left;
+      marked = λ n. so_far-jump w horizon slots (m.low + 1) (get_or busy i 0 + 1) n _
+          (λ r h lt starts. ⊎_elim (λ below. x.between r (omega arith) below)
+          (λ ge. let same : r ≡ get_or busy i 0 = omega arith in absurd (let at = ap (is_root slots) same in cc)) (cases_lt r (get_or busy i 0))) (m.marked n);
+    }
+
+pub marking-all : (w : Window) (horizon : ℕ) (slots : List Slot) (busy : List ℕ) (marks : List PruneVerdict) (i : ℕ) → IsMarkingPage w horizon slots busy marks i
+    → drop i busy ≡ [] → (n : ℕ) → IsVerdict w horizon slots n (mark_at marks n)
+marking-all w horizon slots busy marks i m none n =
+    let l : ListsAllBut (IsQuiet w horizon slots) m.low [] (length slots + 1) = subst (λ xs. ListsAllBut (IsQuiet w horizon slots) m.low xs (length slots + 1)) none m.left in
+    so_far-all w horizon slots (length slots + 1) n _ (omega arith)
+    (so_far-jump w horizon slots (m.low + 1) (length slots + 1) n _ (λ r h lt _. l r (omega arith) lt) (m.marked n))
 
 pub loose-everywhere : (count n : ℕ) → get_or (replicate count Orphan) n Orphan ≡ Orphan
 loose-everywhere zero n = refl

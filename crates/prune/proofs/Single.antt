@@ -16,7 +16,7 @@ use Rattle.prune.specs.Cutting.{IsCutCount}
 use Rattle.prune.specs.Marks.{IsSingle}
 use Rattle.prune.proofs.Cuts.{some-version, dead-there, dead-here}
 
-leads-nowhere : (aborted : ℕ → Bool) (slots : List Slot) (h : Header) → is_hot_updated h ≡ false → successor aborted slots h ≡ None
+pub leads-nowhere : (aborted : ℕ → Bool) (slots : List Slot) (h : Header) → is_hot_updated h ≡ false → successor aborted slots h ≡ None
 leads-nowhere aborted slots h off = rw off refl
 
 distinct-alone : (n : ℕ) → IsDistinct nat_eq (n ∷ [])

@@ -1,5 +1,5 @@
 -- What stays of a sound page is not cut.
-use Rattle.std.proofs.Common.{◌≡◌, ℕ, zero, suc, ◌+◌, ◌-◌, ◌<◌, ◌≤◌, ◌==◌, ◌&&◌, Bool, true, false, not, nat_eq, if◌then◌else◌, List, length, get_or, take, Option, Some, None, arith, ⊎_elim, sym, ap, ◌∙◌, refl, subst, slice_get}
+use Rattle.std.proofs.Common.{◌≡◌, ℕ, zero, suc, ◌+◌, ◌<◌, ◌≤◌, ◌==◌, ◌&&◌, Bool, true, false, not, nat_eq, if◌then◌else◌, List, length, get_or, take, Option, Some, None, arith, ⊎_elim, sym, ap, ◌∙◌, refl, subst, slice_get}
 use Rattle.std.specs.List.{list_any}
 use Rattle.std.specs.Option.{option_map}
 use Rattle.std.proofs.lemmas.Bool.{cases_lt, cases_Bool, eqb-true, eq-eqb, cond-true, cond-false}

@@ -1,7 +1,10 @@
 pub mod Cutting
 pub mod Actions
+pub mod Deaths
 pub mod Pruning
 pub mod Checks
 pub mod Laws
 pub mod Marks
+pub mod Glances
 pub mod Named
+pub mod Room

@@ -1,15 +1,19 @@
 -- The marks that a walk along each root's chain leaves.
-use Rattle.std.specs.Prelude.{◌≡◌, ◌<◌, ◌||◌, ◌==◌, ℕ, nat_eq, Bool, IsTrue, ◌↔◌, List, [], ◌∷◌, Option, Some, None, length, slice_index, slice_index_or, if◌then◌else◌}
+use Rattle.std.specs.Prelude.{◌≡◌, ◌<◌, ◌||◌, ◌==◌, ℕ, nat_eq, Bool, false, IsTrue, ◌↔◌, List, [], ◌∷◌, Option, Some, None, length, slice_index, slice_index_or, if◌then◌else◌}
 use Rattle.std.specs.List.{list_any}
 use Rattle.page_slots.specs.declared.slot.Slot.{Slot}
 use Rattle.commit_status.specs.Window.{Window}
-use Rattle.hot_chain.specs.Chain.{has_aborted, IsChain}
+use Rattle.hot_chain.specs.Chain.{has_aborted, first_of, IsChain}
+use Rattle.page_slots.specs.Slots.{header_at}
+use Rattle.tuple_header.specs.declared.version.Header.{Header}
+use Rattle.tuple_header.specs.Marks.{is_hot_updated}
+use Rattle.visibility.specs.Visible.{IsDead}
 use Rattle.prune.specs.declared.action.Action.{Action}
 use Rattle.prune.specs.declared.marks.PruneVerdict.{PruneVerdict}
 use Rattle.prune.specs.declared.marks.PruneVerdict.TheVariants.{Orphan, Kept, Goes}
 use Rattle.sound_page.specs.Dead.{IsDeadAt}
 use Rattle.prune.specs.Cutting.{IsCutCount}
-use Rattle.prune.specs.Pruning.{IsInChainOf, IsLoose, chain_action, orphan_action}
+use Rattle.prune.specs.Pruning.{IsInChainOf, chain_action, orphan_action}
 
 -- all are numbers that a slot may have
 abbrev pub AreNumbers : List ℕ → Type 0
@@ -39,11 +43,28 @@ pub record IsSingle (w : Window) (horizon : ℕ) (slots : List Slot) (root start
   pub is_chain : IsChain (has_aborted w) slots root (start ∷ [])
   pub is_dead : IsTrue dead ↔ IsDeadAt w horizon slots start
 
--- a mark is right: of a slot of a root's chain, or of a root, it says what becomes of it
+-- none of these slots holds a dead version
+abbrev pub NoneDead : Window → ℕ → List Slot → List ℕ → Type 0
+NoneDead w horizon slots chain = (j : ℕ) → j < length chain → ¬ IsDeadAt w horizon slots (slice_index chain j)
+
+-- No chain that holds the slot, nor its own if it is a root, holds a dead version.
+abbrev pub IsSpared : Window → ℕ → List Slot → ℕ → Type 0
+IsSpared w horizon slots n = (root : ℕ) (chain : List ℕ) → IsInChainOf (has_aborted w) slots root chain n → NoneDead w horizon slots chain
+
+-- a mark is right: of a slot of a root's chain, or of a root, it says what becomes of it, unless each such chain is spared
 pub data IsVerdict (w : Window) (horizon : ℕ) (slots : List Slot) (n : ℕ) (mark : PruneVerdict) : Type 0 where
   held : (root : ℕ) (chain : List ℕ) (cut : ℕ) → IsInChainOf (has_aborted w) slots root chain n → IsCutCount w horizon slots chain cut
       → mark ≡ verdict_of (chain_action root chain cut n) → IsVerdict w horizon slots n mark
-  loose : IsLoose (has_aborted w) slots n → mark ≡ Orphan → IsVerdict w horizon slots n mark
+  spared : IsSpared w horizon slots n → mark ≡ Orphan → IsVerdict w horizon slots n mark
+
+-- no later version replaced the first one of the slot's chain, and that one is not dead
+abbrev pub IsQuiet : Window → ℕ → List Slot → ℕ → Type 0
+IsQuiet w horizon slots n = (start : ℕ) (h : Header) → first_of slots n ≡ Some start → header_at slots start ≡ Some h → (is_hot_updated h ≡ false) × ¬ IsDead w horizon h
+
+-- The numbers ascend, all of them over `low` and below a bound; and of each other number between these Q is so.
+abbrev pub ListsAllBut : (ℕ → Type 0) → ℕ → List ℕ → ℕ → Type 0
+ListsAllBut Q low [] bound = (n : ℕ) → low < n → n < bound → Q n
+ListsAllBut Q low (x ∷ rest) bound = (low < x) × (x < bound) × ((n : ℕ) → low < n → n < x → Q n) × ListsAllBut Q x rest bound
 
 -- what becomes of a slot with this mark
 abbrev pub planned : Window → List Slot → ℕ → PruneVerdict → Option Action

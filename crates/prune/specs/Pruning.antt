@@ -4,7 +4,6 @@
 use Rattle.std.specs.Prelude.{◌≡◌, ◌⊎◌, ℕ, zero, suc, ◌==◌, ◌&&◌, not, Bool, true, false, nat_eq, List, length, take, Option, Some, None, slice_get, if◌then◌else◌, Contains}
 use Rattle.std.specs.List.{list_any}
 use Rattle.page_slots.specs.declared.slot.Slot.{Slot}
-use Rattle.page_slots.specs.declared.slot.Slot.TheVariants.{Redirect}
 use Rattle.page_slots.specs.Slots.{slot_at, header_at, SlotIsThere}
 use Rattle.tuple_header.specs.declared.version.Header.{Header}
 use Rattle.tuple_header.specs.Marks.{is_frozen, is_heap_only}

@@ -1,6 +1,6 @@
 //! A plan's changes of a page.
 
-ghost use Rattle.std.specs.Prelude.{◌≡◌, length, ℕ};
+ghost use Rattle.std.specs.Prelude.{◌≡◌, ◌+◌, length, ℕ};
 ghost use Rattle.hot_chain.specs.Chain.{has_aborted};
 ghost use Rattle.prune.specs.Actions.{CanDo, CanApply, after_action, applied};
 ghost use Rattle.prune.specs.Cutting.{RemovesVersions};
@@ -10,8 +10,10 @@ ghost use Rattle.prune.specs.Pruning.{IsPruned};
 ghost use Rattle.sound_page.specs.Sound.{KeepsRoots, SoundPage};
 ghost use Rattle.sound_page.specs.Readers.{KeepsFound};
 ghost use Rattle.prune.specs.Laws.{IsPrunedPage};
+ghost use Rattle.prune.specs.Marks.{IsQuiet, ListsAllBut};
 
 use crate::action::{Action, PrunePlan};
+use crate::glance::{Numbers, list_busy};
 use crate::planning::list_actions;
 use arrayvec::ArrayVec;
 use commit_status::StatusTable;
@@ -41,17 +43,32 @@ pub fn apply(page: &mut Page, plan: &PrunePlan)
     }
 }
 
-/// Prunes a page by the chains of its roots. It stands alone, so that its arrays are cleared only where it is called.
+/// Prunes a page, of whose slots only these need more than a glance. It stands alone, so that its list is cleared only where it
+/// is called.
 #[inline(never)]
-fn prune_by_chains(page: &mut Page, table: &StatusTable, horizon: Xid)
+fn prune_busy(page: &mut Page, busy: &[u16], table: &StatusTable, horizon: Xid)
+    requires busy { ListsAllBut
+        (IsQuiet table.now horizon.0 page.old.slots) 0 busy.now (length page.old.slots + 1) }
     ensures { IsPrunedPage table.now horizon.0 page.old page.new }
 {
     let mut plan = PrunePlan {
         change: page.change(),
         actions: ArrayVec::new(),
     };
-    list_actions(&mut plan.actions, page, table, horizon);
+    list_actions(&mut plan.actions, busy, page, table, horizon);
     apply(page, &plan);
+}
+
+/// Prunes a page by its plan.
+fn prune_by_plan(page: &mut Page, table: &StatusTable, horizon: Xid)
+    ensures { IsPrunedPage table.now horizon.0 page.old page.new }
+{
+    let _limit = page.slots();
+    let mut busy: Numbers = ArrayVec::new();
+    list_busy(&mut busy, page, table, horizon);
+    if !busy.is_empty() {
+        prune_busy(page, busy.as_slice(), table, horizon);
+    }
 }
 
 /// Prunes a page at this horizon. Where no version is dead, which [`has_dead`](crate::has_dead) tells at less cost,
@@ -69,5 +86,5 @@ pub fn prune(page: &mut Page, table: &StatusTable, horizon: Xid)
     ensures flag { page.new.flag ≡ page.old.flag }
     ensures spare { page.new.spare ≡ page.old.spare }
 {
-    prune_by_chains(page, table, horizon);
+    prune_by_plan(page, table, horizon);
 }

@@ -10,8 +10,10 @@ ghost use Rattle.prune.specs.Named.{named_at, IsNamedPrefix, BecomesUnused, IsLo
 ghost use Rattle.tuple_header.specs.declared.version.TheConstants.{MOST_SLOTS};
 
 use crate::action::{Action, PrunePlan};
+use crate::glance::{Numbers, list_busy};
 use crate::marks::{Marks, PruneVerdict, cut_count, mark_page, root_action};
 use crate::planning::orphan_action;
+use arrayvec::ArrayVec;
 use commit_status::StatusTable;
 use hot_chain::{chain, is_root};
 use page_slots::Page;
@@ -196,6 +198,8 @@ pub fn check_plan(page: &Page, plan: &PrunePlan, table: &StatusTable, horizon: X
     }
     let named = named_by(&plan.actions);
     let mut marks = [PruneVerdict::Orphan; 292];
-    mark_page(&mut marks, page, table, horizon);
+    let mut busy: Numbers = ArrayVec::new();
+    list_busy(&mut busy, page, table, horizon);
+    mark_page(&mut marks, busy.as_slice(), page, table, horizon);
     have_prefixes(page, &named, table, horizon) && are_accounted(page, &marks, &named, table)
 }

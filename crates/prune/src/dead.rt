@@ -1,10 +1,11 @@
 //! Which slots of a page hold dead versions.
 
-ghost use Rattle.std.specs.Prelude.{◌↔◌, ◌⊎◌, IsTrue, MatchOption};
+ghost use Rattle.std.specs.Prelude.{◌↔◌, ◌⊎◌, ◌≤◌, IsTrue, MatchOption};
 ghost use Rattle.xid_circle.specs.Circle.{Precedes};
 ghost use Rattle.commit_status.specs.Window.{IsAborted, IsCommitted};
-ghost use Rattle.visibility.specs.Visible.{IsFrozen};
+ghost use Rattle.visibility.specs.Visible.{IsFrozen, IsDead};
 ghost use Rattle.sound_page.specs.Dead.{IsDeadAt, HasDead};
+ghost use Rattle.prune.specs.Deaths.{IsNoLaterThan, MayDieFrom, NothingDiesBefore, LivesAt};
 
 use commit_status::{Status, StatusTable};
 use page_slots::Page;
@@ -13,10 +14,18 @@ use tuple_header::Header;
 use visibility::{Fate, fate_of};
 use xid_circle::Xid;
 
+#[inline(always)]
 fn is_aborted(x: Xid, table: &StatusTable) -> bool
     ensures { IsTrue result ↔ IsAborted table.now x.0 }
 {
     matches!(table.status(x), Status::Aborted)
+}
+
+#[inline(always)]
+fn is_committed(x: Xid, table: &StatusTable) -> bool
+    ensures { IsTrue result ↔ IsCommitted table.now x.0 }
+{
+    matches!(table.status(x), Status::Committed)
 }
 
 /// Whether a slot holds a dead version.
@@ -29,15 +38,28 @@ pub(crate) fn is_dead_at(page: &Page, number: u16, table: &StatusTable, horizon:
     }
 }
 
-/// Whether a version's deleter committed before the horizon.
-fn is_past(header: &Header, table: &StatusTable, horizon: Xid) -> bool
-    ensures { IsTrue result
-        ↔ IsCommitted table.now header.now.xmax.0 × Precedes header.now.xmax.0 horizon.0 }
+/// The earliest turn of the deleters so far and of this one, if it is remembered, unless it committed before the horizon.
+#[inline(always)]
+fn earliest_deletion(deleter: Xid, turn: u32, table: &StatusTable, horizon: Xid) -> Option<u32>
+    ensures { MatchOption result
+        (IsCommitted table.now deleter.0 × Precedes deleter.0 horizon.0)
+        (λ earliest. (¬ (IsCommitted table.now deleter.0 × Precedes deleter.0 horizon.0))
+        × (earliest ≤ turn) × IsNoLaterThan table.now earliest deleter.0) }
 {
-    matches!(table.status(header.xmax), Status::Committed) && stands_before(header.xmax, horizon)
+    if deleter.0 == 0 {
+        return Some(turn);
+    }
+    if stands_before(deleter, horizon) && is_committed(deleter, table) {
+        return None;
+    }
+    match table.turn_of(deleter) {
+        Some(own) if own < turn => Some(own),
+        _ => Some(turn),
+    }
 }
 
 /// An id that was not aborted, unless the version was rolled back: its inserter, or the one that is known to be such an id.
+#[inline(always)]
 fn unaborted(header: &Header, known: Xid, table: &StatusTable) -> Option<Xid>
     requires { ¬ IsAborted table.now known.0 }
     ensures { MatchOption result (¬ IsFrozen header.now × IsAborted table.now header.now.xmin.0)
@@ -55,28 +77,74 @@ fn unaborted(header: &Header, known: Xid, table: &StatusTable) -> Option<Xid>
     }
 }
 
-/// The same, unless the slot holds a dead version. Neighbours mostly have one inserter, whose status is so looked up once.
-fn unaborted_after(
-    page: &Page,
-    number: u16,
-    known: Xid,
+/// What the versions so far tell, if none of them is dead.
+#[derive(Clone, Copy, Debug)]
+pub(crate) struct Outlook {
+    /// An id that was not aborted. Neighbours mostly have one inserter, whose status is so looked up once.
+    pub(crate) known: Xid,
+    /// No deleter that is remembered was given before this turn.
+    pub(crate) turn: u32,
+}
+
+/// What they tell with one more, unless that is dead.
+#[inline(always)]
+pub(crate) fn outlook_with(
+    header: &Header,
+    so_far: Outlook,
     table: &StatusTable,
     horizon: Xid,
-) -> Option<Xid>
-    requires known { ¬ IsAborted table.now known.0 }
+) -> Option<Outlook>
+    requires known { ¬ IsAborted table.now so_far.known.0 }
+    ensures { MatchOption result (IsDead table.now horizon.0 header.now)
+        (λ outlook. (¬ IsDead table.now horizon.0 header.now)
+        × MayDieFrom table.now outlook.turn header.now
+        × (outlook.turn ≤ so_far.turn) × ¬ IsAborted table.now outlook.known.0) }
+{
+    let turn = earliest_deletion(header.xmax, so_far.turn, table, horizon)?;
+    let known = unaborted(header, so_far.known, table)?;
+    Some(Outlook { known, turn })
+}
+
+/// The same of the version in a slot, if there is one.
+#[inline(always)]
+fn outlook_after(
+    page: &Page,
+    number: u16,
+    so_far: Outlook,
+    table: &StatusTable,
+    horizon: Xid,
+) -> Option<Outlook>
+    requires known { ¬ IsAborted table.now so_far.known.0 }
     ensures { MatchOption result (IsDeadAt table.now horizon.0 page.now.slots number)
-        (λ x. ¬ IsDeadAt table.now horizon.0 page.now.slots number × ¬ IsAborted table.now x.0) }
+        (λ outlook. LivesAt table.now horizon.0 outlook.turn page.now.slots number
+        × (outlook.turn ≤ so_far.turn) × ¬ IsAborted table.now outlook.known.0) }
 {
     match page.header(number) {
-        Some(header) => {
-            if is_past(&header, table, horizon) {
-                None
-            } else {
-                unaborted(&header, known, table)
-            }
-        }
-        None => Some(known),
+        Some(header) => outlook_with(&header, so_far, table, horizon),
+        None => Some(so_far),
     }
+}
+
+/// From which turn on a version of a page may be dead: None where one is dead at this horizon, else the earliest turn of a
+/// deleter that is remembered, or that of the next id where there is none. As long as the horizon has not come past that
+/// turn, and none of the inserters is rolled back, no version is dead. It takes no memory.
+pub fn first_death(page: &Page, table: &StatusTable, horizon: Xid) -> Option<u32>
+    ensures { MatchOption result (HasDead table.now horizon.0 page.now.slots)
+        (λ turn. (¬ HasDead table.now horizon.0 page.now.slots)
+        × NothingDiesBefore table.now turn page.now.slots) }
+{
+    // 0 is no id, so it was not aborted.
+    let mut outlook = Outlook {
+        known: Xid(0),
+        turn: table.turn_of(table.next()).unwrap_or(0),
+    };
+    for number in 1..page.slots() + 1 {
+        match outlook_after(page, number, outlook, table, horizon) {
+            Some(next) => outlook = next,
+            None => return None,
+        }
+    }
+    Some(outlook.turn)
 }
 
 /// Whether any slot of a page holds a dead version at this horizon. Where none does, pruning changes nothing, so no
@@ -84,13 +152,5 @@ fn unaborted_after(
 pub fn has_dead(page: &Page, table: &StatusTable, horizon: Xid) -> bool
     ensures { IsTrue result ↔ HasDead table.now horizon.0 page.now.slots }
 {
-    // 0 is no id, so it was not aborted.
-    let mut known = Xid(0);
-    for number in 1..page.slots() + 1 {
-        match unaborted_after(page, number, known, table, horizon) {
-            Some(x) => known = x,
-            None => return true,
-        }
-    }
-    false
+    first_death(page, table, horizon).is_none()
 }

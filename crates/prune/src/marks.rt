@@ -1,15 +1,16 @@
 //! What pruning makes of each slot, noted in a fixed array: by one walk along the chain of each root, but for those that
 //! a header tells to be of one version.
 
-ghost use Rattle.std.specs.Prelude.{◌≡◌, ◌≤◌, ◌<◌, ℕ, None, Some, IfSome, Bool, [], ◌∷◌, length, nat_eq, slice_get, if◌then◌else◌};
+ghost use Rattle.std.specs.Prelude.{◌≡◌, ◌≤◌, ◌<◌, ◌+◌, ℕ, None, Some, IfSome, Bool, [], ◌∷◌, length, nat_eq, slice_get, if◌then◌else◌};
 ghost use Rattle.std.specs.List.{list_any};
 ghost use Rattle.hot_chain.specs.Chain.{has_aborted, IsChain};
 ghost use Rattle.prune.specs.Cutting.{IsCutCount};
 ghost use Rattle.prune.specs.Pruning.{root_action};
-ghost use Rattle.prune.specs.Marks.{AreNumbers, verdict_of, mark_at, marked, MarksChain, IsVerdict, IsSingle};
+ghost use Rattle.prune.specs.Marks.{AreNumbers, verdict_of, mark_at, marked, MarksChain, IsVerdict, IsSingle, IsQuiet, ListsAllBut};
 
 use crate::action::Action;
 use crate::dead::is_dead_at;
+use crate::glance::Numbers;
 use arrayvec::ArrayVec;
 use commit_status::StatusTable;
 use hot_chain::{is_root, list_chain};
@@ -42,9 +43,6 @@ impl PruneVerdict {
 
 /// A mark for each number from 0 to 291.
 pub(crate) type Marks = [PruneVerdict; 292];
-
-/// The slots of a chain.
-type Listed = ArrayVec<u16, 292>;
 
 /// How many of these versions end with the last dead one.
 pub(crate) fn cut_count(page: &Page, chain: &[u16], table: &StatusTable, horizon: Xid) -> usize
@@ -142,7 +140,7 @@ fn mark_chain(
 /// Notes what becomes of a root and of the slots of its chain, which is listed only where it may have more than one.
 fn mark_root(
     marks: &mut Marks,
-    listed: &mut Listed,
+    listed: &mut Numbers,
     page: &Page,
     root: u16,
     table: &StatusTable,
@@ -161,15 +159,25 @@ fn mark_root(
     }
 }
 
-/// Notes the mark of each slot. Nothing is noted before.
-pub(crate) fn mark_page(marks: &mut Marks, page: &Page, table: &StatusTable, horizon: Xid)
+/// Notes the mark of each slot whose chain holds a dead version. Of a root that is not listed a glance tells that its chain
+/// holds none. Nothing is noted before.
+pub(crate) fn mark_page(
+    marks: &mut Marks,
+    busy: &[u16],
+    page: &Page,
+    table: &StatusTable,
+    horizon: Xid,
+)
     requires blank { (n : ℕ) → mark_at marks.old n ≡ PruneVerdict.Orphan }
+    requires busy { ListsAllBut
+        (IsQuiet table.now horizon.0 page.now.slots) 0 busy.now (length page.now.slots + 1) }
     ensures { (n : ℕ) → IsVerdict table.now horizon.0 page.now.slots n (mark_at marks.new n) }
 {
-    let mut listed: Listed = ArrayVec::new();
-    for root in 1..page.slots() + 1 {
-        if is_root(page, root) {
-            mark_root(marks, &mut listed, page, root, table, horizon);
+    let _limit = page.slots();
+    let mut listed: Numbers = ArrayVec::new();
+    for root in busy {
+        if is_root(page, *root) {
+            mark_root(marks, &mut listed, page, *root, table, horizon);
         }
     }
 }

@@ -1,15 +1,15 @@
 //! The plan of a page's pruning.
 
-ghost use Rattle.std.specs.Prelude.{◌≡◌, ◌<◌, [], length};
+ghost use Rattle.std.specs.Prelude.{◌≡◌, ◌<◌, ◌+◌, [], length};
 ghost use Rattle.prune.specs.Actions.{CanApply};
 ghost use Rattle.prune.specs.Pruning.{orphan_action, IsPlan};
 ghost use Rattle.hot_chain.specs.Chain.{has_aborted};
 ghost use Rattle.sound_page.specs.Links.{NoSharedSlots};
 ghost use Rattle.prune.specs.Checks.{Checks};
-ghost use Rattle.prune.specs.Marks.{mark_at, planned};
+ghost use Rattle.prune.specs.Marks.{mark_at, planned, IsQuiet, ListsAllBut};
 
 use crate::action::{Action, Actions, PrunePlan};
-use crate::dead::has_dead;
+use crate::glance::{Numbers, list_busy};
 use crate::marks::{Marks, PruneVerdict, mark_page};
 use arrayvec::ArrayVec;
 use commit_status::{Status, StatusTable};
@@ -41,17 +41,28 @@ fn action_at(page: &Page, marks: &Marks, number: u16, table: &StatusTable) -> Op
     }
 }
 
-/// Lists the changes of pruning a page, by a walk along the chain of each root. The list is empty before.
-pub(crate) fn list_actions(actions: &mut Actions, page: &Page, table: &StatusTable, horizon: Xid)
+/// Lists the changes of pruning a page, of whose slots only these need more than a glance. The list is empty before. It stands
+/// alone, so that its arrays are cleared only where it is called.
+#[inline(never)]
+pub(crate) fn list_actions(
+    actions: &mut Actions,
+    busy: &[u16],
+    page: &Page,
+    table: &StatusTable,
+    horizon: Xid,
+)
     requires blank { actions.old.items ≡ [] }
+    requires busy { ListsAllBut
+        (IsQuiet table.now horizon.0 page.now.slots) 0 busy.now (length page.now.slots + 1) }
     ensures can_apply { CanApply (length page.now.slots) actions.new.items }
     ensures exact { IsPlan table.now horizon.0 page.now.slots actions.new.items }
 {
+    let _limit = page.slots();
     let mut marks = [PruneVerdict::Orphan; 292];
-    mark_page(&mut marks, page, table, horizon);
-    for number in 1..page.slots() + 1 {
-        if let Some(action) = action_at(page, &marks, number, table) {
-            actions.push((number, action));
+    mark_page(&mut marks, busy, page, table, horizon);
+    for number in busy {
+        if let Some(action) = action_at(page, &marks, *number, table) {
+            actions.push((*number, action));
         }
     }
 }
@@ -68,8 +79,10 @@ pub fn plan(page: &Page, table: &StatusTable, horizon: Xid) -> PrunePlan
 {
     let _limit = page.slots();
     let mut actions = ArrayVec::new();
-    if has_dead(page, table, horizon) {
-        list_actions(&mut actions, page, table, horizon);
+    let mut busy: Numbers = ArrayVec::new();
+    list_busy(&mut busy, page, table, horizon);
+    if !busy.is_empty() {
+        list_actions(&mut actions, busy.as_slice(), page, table, horizon);
     }
     PrunePlan {
         change: page.change(),

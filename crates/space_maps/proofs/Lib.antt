@@ -1,1 +1,2 @@
 pub mod FreeSpaceLemmas
+pub mod HintsLemmas

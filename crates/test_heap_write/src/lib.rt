@@ -12,6 +12,8 @@ mod cleaning;
 #[cfg(test)]
 mod columns;
 #[cfg(test)]
+mod full_pages;
+#[cfg(test)]
 mod levels;
 #[cfg(test)]
 mod places;

@@ -106,6 +106,75 @@ fn an_update_that_prunes_has_room(rt: HostRuntime) -> Result<(), Fail> {
     run_heap(rt.alloc(), (1000, 2, FIRST), &PRUNED_FOR_A_ROOT)
 }
 
+/// Key 8 is dead, and takes 72 bytes. What the update of key 1 takes is more than that leaves, so it goes elsewhere, if anywhere.
+static TOO_LITTLE_GOES: [Line; 7] = [
+    (0, HeapStep::InsertSeven),
+    (NOBODY, HeapStep::Finish(Xid(3), Status::Committed)),
+    (1, HeapStep::Insert((8, [0; 4], 0), Ok(Xid(4)))),
+    (1, HeapStep::Delete((0, 8), Ok(Xid(4)))),
+    (NOBODY, HeapStep::Finish(Xid(4), Status::Committed)),
+    (
+        2,
+        HeapStep::Update((0, 1), (1, [5, 0, 0, 0], 1024), 5, Err(WriteFault::NoRoom)),
+    ),
+    (NOBODY, HeapStep::Page(0, Some((8, 460, 10)))),
+];
+
+static TOO_LITTLE_GOES_ELSEWHERE: [Line; 8] = [
+    (0, HeapStep::InsertSeven),
+    (NOBODY, HeapStep::Finish(Xid(3), Status::Committed)),
+    (1, HeapStep::Insert((8, [0; 4], 0), Ok(Xid(4)))),
+    (1, HeapStep::Delete((0, 8), Ok(Xid(4)))),
+    (NOBODY, HeapStep::Finish(Xid(4), Status::Committed)),
+    (
+        2,
+        HeapStep::Update((0, 1), (1, [5, 0, 0, 0], 1024), 5, Ok(Xid(5))),
+    ),
+    (NOBODY, HeapStep::Page(0, Some((8, 460, 11)))),
+    (NOBODY, HeapStep::Page(1, Some((1, 7064, 1)))),
+];
+
+#[test]
+fn an_update_whose_page_stays_full_moves(rt: HostRuntime) -> Result<(), Fail> {
+    run_heap(rt.alloc(), (1000, 1, BY_KEY), &TOO_LITTLE_GOES)?;
+    run_heap(rt.alloc(), (1000, 2, BY_KEY), &TOO_LITTLE_GOES_ELSEWHERE)
+}
+
+/// The version of key 8 itself is dead, whether the page has room for its update then, as for one of 416 bytes, or not.
+static GOES_ITSELF: [Line; 8] = [
+    (0, HeapStep::InsertSeven),
+    (NOBODY, HeapStep::Finish(Xid(3), Status::Committed)),
+    (1, HeapStep::Insert((8, [0; 4], 0), Ok(Xid(4)))),
+    (1, HeapStep::Delete((0, 8), Ok(Xid(4)))),
+    (NOBODY, HeapStep::Finish(Xid(4), Status::Committed)),
+    (
+        2,
+        HeapStep::Update((0, 8), (8, [5, 0, 0, 0], 350), 5, Err(WriteFault::Gone)),
+    ),
+    (NOBODY, HeapStep::Page(0, Some((8, 460, 10)))),
+    (NOBODY, HeapStep::Page(1, None)),
+];
+
+static GOES_ITSELF_IN_VAIN: [Line; 8] = [
+    (0, HeapStep::InsertSeven),
+    (NOBODY, HeapStep::Finish(Xid(3), Status::Committed)),
+    (1, HeapStep::Insert((8, [0; 4], 0), Ok(Xid(4)))),
+    (1, HeapStep::Delete((0, 8), Ok(Xid(4)))),
+    (NOBODY, HeapStep::Finish(Xid(4), Status::Committed)),
+    (
+        2,
+        HeapStep::Update((0, 8), (8, [5, 0, 0, 0], 1024), 5, Err(WriteFault::Gone)),
+    ),
+    (NOBODY, HeapStep::Page(0, Some((8, 460, 10)))),
+    (NOBODY, HeapStep::Page(1, None)),
+];
+
+#[test]
+fn a_version_goes_when_its_update_prunes(rt: HostRuntime) -> Result<(), Fail> {
+    run_heap(rt.alloc(), (1000, 2, BY_KEY), &GOES_ITSELF)?;
+    run_heap(rt.alloc(), (1000, 2, BY_KEY), &GOES_ITSELF_IN_VAIN)
+}
+
 static ABORTED_UPDATE: [Line; 14] = [
     (0, HeapStep::Insert((1, [10, 0, 0, 0], 0), Ok(Xid(3)))),
     (NOBODY, HeapStep::Finish(Xid(3), Status::Committed)),

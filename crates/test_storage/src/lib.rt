@@ -1,4 +1,4 @@
-//! Tests of what a table is stored in: ids and their statuses, versions and their bytes, pages, and indexes.
+//! Tests of what a table is stored in: ids and their statuses, versions and their bytes, pages and hints on them, and indexes.
 //!
 //! Each value was reckoned by hand, and not taken from the program. They stand apart from the crates that they test, so that
 //! those are not checked a second time for their sake.
@@ -12,6 +12,8 @@ mod headers;
 mod ids;
 #[cfg(test)]
 mod pages;
+#[cfg(test)]
+mod prune_hints;
 #[cfg(test)]
 mod slots;
 #[cfg(test)]

@@ -24,6 +24,10 @@ enum PageStep {
     SetHeader(u16, u16, Xid),
     SetFlag(bool),
     Room(usize),
+    /// What neither versions nor pointers take.
+    FreeBytes(usize),
+    /// How many bytes the version in a slot takes.
+    Taken(u16, usize),
     /// The number that the next version gets.
     FreeNumber(u16),
     /// How often a slot was changed.
@@ -82,6 +86,14 @@ fn set_unused(page: &mut Page, number: u16) {
 fn set_redirect(page: &mut Page, number: u16, target: u16) {
     if 1 <= number && number <= page.slots() && 1 <= target && target <= page.slots() {
         page.set_redirect(number, target);
+    }
+}
+
+fn taken(page: &Page, number: u16) -> Option<usize> {
+    if 1 <= number && number <= page.slots() {
+        Some(page.taken(number))
+    } else {
+        None
     }
 }
 
@@ -164,6 +176,8 @@ impl PageStep {
     fn is_seen(self, page: &Page) -> bool {
         match self {
             PageStep::Room(room) => page.room() == room,
+            PageStep::FreeBytes(bytes) => page.free_bytes() == bytes,
+            PageStep::Taken(number, bytes) => taken(page, number) == Some(bytes),
             PageStep::FreeNumber(number) => page.free_number() == number,
             PageStep::Change(change) => page.change() == change,
             PageStep::State(slots, flag) => page.slots() == slots && page.flag() == flag,
@@ -193,7 +207,8 @@ impl Step for PageStep {
     }
 }
 
-static ROOM: [PageStep; 15] = [
+static ROOM: [PageStep; 20] = [
+    PageStep::FreeBytes(8168),
     // 8168 less a new pointer's 4
     PageStep::Room(8164),
     PageStep::Add(1, 1024, Ok(1)),
@@ -203,12 +218,17 @@ static ROOM: [PageStep; 15] = [
     PageStep::Add(1, 1024, Ok(5)),
     PageStep::Add(1, 1024, Ok(6)),
     PageStep::Add(1, 1024, Ok(7)),
-    // 8168 - 7 * (1096 + 4) - 4
+    // 66 + 1024, rounded up to a multiple of 8
+    PageStep::Taken(7, 1096),
+    // 8168 - 7 * (1096 + 4), and 4 less
+    PageStep::FreeBytes(468),
     PageStep::Room(464),
     PageStep::Add(1, 1024, Err(AddFault::Full)),
     // 66 + 398 is 464
     PageStep::Add(1, 399, Err(AddFault::Full)),
     PageStep::Add(1, 398, Ok(8)),
+    PageStep::Taken(8, 464),
+    PageStep::FreeBytes(0),
     PageStep::Room(0),
     PageStep::State(8, false),
     PageStep::Change(8),
@@ -219,7 +239,7 @@ fn room_of_a_page(rt: HostRuntime) -> Result<(), Fail> {
     run(rt.alloc(), Page::new(rt.alloc()), &ROOM)
 }
 
-static NUMBERS_AND_CHANGES: [PageStep; 35] = [
+static NUMBERS_AND_CHANGES: [PageStep; 36] = [
     PageStep::MakeRoom(5),
     PageStep::State(0, false),
     PageStep::Change(0),
@@ -243,6 +263,7 @@ static NUMBERS_AND_CHANGES: [PageStep; 35] = [
     PageStep::FreeNumber(2),
     PageStep::Unused(2),
     PageStep::Dead(1),
+    PageStep::Taken(1, 0),
     PageStep::Row(4, 4, 0),
     PageStep::Add(5, 0, Ok(2)),
     PageStep::Change(8),

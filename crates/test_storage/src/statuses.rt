@@ -23,6 +23,8 @@ enum TableStep {
     Truncate(Xid),
     CanGive(u32, bool),
     Remembers(Xid, bool),
+    /// So many turns after the oldest it is given.
+    Turn(Xid, Option<u32>),
     Status(Xid, Status),
     /// The second is the topmost parent of the first that is known.
     Top(Xid, Xid),
@@ -71,6 +73,7 @@ impl TableStep {
         match self {
             TableStep::CanGive(count, can) => table.can_give(count) == can,
             TableStep::Remembers(x, given) => table.remembers(x) == given,
+            TableStep::Turn(x, turn) => table.turn_of(x) == turn,
             TableStep::Status(x, status) => table.status(x) == status,
             TableStep::Top(x, top) => table.top_of(x) == top,
             TableStep::Ends(next, oldest) => ends(table) == (next, oldest),
@@ -96,7 +99,7 @@ impl Step for TableStep {
 }
 
 /// Three numbers are no ids, and those that are not remembered count as in progress.
-static IDS_GO_ROUND: [TableStep; 13] = [
+static IDS_GO_ROUND: [TableStep; 18] = [
     TableStep::MakeRoom(3),
     TableStep::Give(Ok(Xid(4294967294))),
     TableStep::Give(Ok(Xid(4294967295))),
@@ -110,6 +113,11 @@ static IDS_GO_ROUND: [TableStep; 13] = [
     TableStep::Status(Xid(2), Status::InProgress),
     TableStep::Status(Xid(4), Status::InProgress),
     TableStep::Remembers(Xid(4294967293), false),
+    TableStep::Turn(Xid(4294967294), Some(0)),
+    TableStep::Turn(Xid(3), Some(2)),
+    TableStep::Turn(Xid(4), Some(3)),
+    TableStep::Turn(Xid(5), None),
+    TableStep::Turn(Xid(2), None),
 ];
 
 #[test]

@@ -16,7 +16,7 @@ const EARLY: [(u16, Action); 1] = [(1, Action::Redirect(2))];
 
 const LATE: [(u16, Action); 2] = [(1, Action::Redirect(3)), (2, Action::Unuse)];
 
-static A_CHAIN_OF_THREE: [PageStep; 42] = [
+static A_CHAIN_OF_THREE: [PageStep; 48] = [
     PageStep::Finish(&[3, 4, 5, 6, 7], Status::Committed),
     PageStep::Put((3, 4, 2, 0x4000, 0)),
     PageStep::Put((4, 5, 3, 0xc000, 0)),
@@ -26,6 +26,11 @@ static A_CHAIN_OF_THREE: [PageStep; 42] = [
     PageStep::Plan(4, &[]),
     PageStep::Plan(5, &EARLY),
     PageStep::Plan(6, &LATE),
+    // 8168 - 3 * (72 + 4) - 4; the root's 72 bytes more; both versions' 144 more, and a slot is unused
+    PageStep::Room(7936),
+    PageStep::RoomAfter(4, 7936),
+    PageStep::RoomAfter(5, 8008),
+    PageStep::RoomAfter(6, 8084),
     PageStep::Checks(3, &[], 4),
     PageStep::Fails(2, &[], 4),
     PageStep::Fails(3, &EARLY, 4),
@@ -51,12 +56,14 @@ static A_CHAIN_OF_THREE: [PageStep; 42] = [
     PageStep::Prune(5),
     PageStep::Change(4),
     PageStep::Redirect(1, 2),
+    PageStep::Room(8008),
     PageStep::Header(3, (5, 0, 3, 0x8000, 0x0800)),
     PageStep::Plan(6, &LATE),
     // the redirect's own target
     PageStep::Fails(4, &EARLY, 6),
     PageStep::Prune(6),
     PageStep::Change(6),
+    PageStep::Room(8084),
     PageStep::Flag(true),
     PageStep::Redirect(1, 3),
     PageStep::Unused(2),

@@ -10,7 +10,7 @@ use arrayvec::ArrayVec;
 use commit_status::{Status, StatusTable};
 use hot_chain::{chain, fetch, first_seen, is_root, list_chain, root_of};
 use page_slots::{Page, Slot};
-use prune::{Action, PrunePlan, apply, check_plan, plan, prune};
+use prune::{Action, PrunePlan, apply, check_plan, plan, prune, room_after};
 use std::alloc::Global;
 use std::test::Fail;
 use tuple_header::{Header, Row, Tuple, fault_of};
@@ -64,6 +64,9 @@ pub enum PageStep {
     FirstSeen(&'static [u16], Option<u16>),
     /// What the plan at a horizon names.
     Plan(u32, Actions),
+    /// The room once that plan is applied.
+    RoomAfter(u32, usize),
+    Room(usize),
     /// A plan for a page that was changed so often checks at a horizon.
     Checks(u64, Actions, u32),
     /// It does not.
@@ -197,6 +200,11 @@ fn plan_at(page: &Page, table: &StatusTable, horizon: u32) -> PrunePlan {
     plan(page, table, normal(horizon))
 }
 
+fn room_once_pruned(page: &Page, table: &StatusTable, horizon: u32) -> usize {
+    let plan = plan(page, table, normal(horizon));
+    room_after(page, &plan)
+}
+
 fn apply_checked(page: &mut Page, plan: &PrunePlan, table: &StatusTable, horizon: u32) -> bool {
     let is_fresh = check_plan(page, plan, table, normal(horizon));
     if is_fresh {
@@ -260,6 +268,7 @@ impl PageStep {
             PageStep::Slots(slots) => page.slots() == slots,
             PageStep::Change(change) => page.change() == change,
             PageStep::Flag(flag) => page.flag() == flag,
+            PageStep::Room(room) => page.room() == room,
             PageStep::Header(slot, life) => page.header(slot) == Some(header_of(0, life)),
             PageStep::HeaderOn(number, slot, life) => {
                 page.header(slot) == Some(header_of(number, life))
@@ -296,6 +305,7 @@ impl PageStep {
             PageStep::Plan(horizon, named) => {
                 plan_at(page, table, horizon).actions.as_slice() == named
             }
+            PageStep::RoomAfter(horizon, room) => room_once_pruned(page, table, horizon) == room,
             PageStep::Checks(change, named, horizon) => {
                 checks(page, &plan_of(change, named), table, horizon)
             }

@@ -8,31 +8,31 @@ use Rattle.prune.proofs.Spared.{pruned-none_dead}
 use Rattle.prune.proofs.applying.prune.Goals as goal
 
 pub returns-clause-pruned : goal.returns-clause-pruned
-returns-clause-pruned c = plan-pruned c.args.table.now c.args.horizon.0 c.args.page.now c.prune_by_chains.new.page c.prune_by_chains.ensures
+returns-clause-pruned c = plan-pruned c.args.table.now c.args.horizon.0 c.args.page.now c.prune_by_plan.new.page c.prune_by_plan.ensures
 
 pub returns-clause-removes : goal.returns-clause-removes
 returns-clause-removes c =
-    pruned-removes c.args.table.now c.args.horizon.0 c.args.page.now.slots c.prune_by_chains.new.page.slots
-    (plan-pruned c.args.table.now c.args.horizon.0 c.args.page.now c.prune_by_chains.new.page c.prune_by_chains.ensures)
+    pruned-removes c.args.table.now c.args.horizon.0 c.args.page.now.slots c.prune_by_plan.new.page.slots
+    (plan-pruned c.args.table.now c.args.horizon.0 c.args.page.now c.prune_by_plan.new.page c.prune_by_plan.ensures)
 
 pub returns-clause-roots : goal.returns-clause-roots
 returns-clause-roots c = λ apart.
-    pruned-keeps_roots c.args.table.now c.args.horizon.0 c.args.page.now.slots c.prune_by_chains.new.page.slots apart
-    (plan-pruned c.args.table.now c.args.horizon.0 c.args.page.now c.prune_by_chains.new.page c.prune_by_chains.ensures)
+    pruned-keeps_roots c.args.table.now c.args.horizon.0 c.args.page.now.slots c.prune_by_plan.new.page.slots apart
+    (plan-pruned c.args.table.now c.args.horizon.0 c.args.page.now c.prune_by_plan.new.page c.prune_by_plan.ensures)
 
 pub returns-clause-flag : goal.returns-clause-flag
-returns-clause-flag c = ap (λ (p : PageView). p.flag) c.prune_by_chains.ensures.is ∙ applied-flag c.prune_by_chains.ensures.actions c.args.page.now
+returns-clause-flag c = ap (λ (p : PageView). p.flag) c.prune_by_plan.ensures.is ∙ applied-flag c.prune_by_plan.ensures.actions c.args.page.now
 
 pub returns-clause-spare : goal.returns-clause-spare
-returns-clause-spare c = ap (λ (p : PageView). p.spare) c.prune_by_chains.ensures.is ∙ applied-spare c.prune_by_chains.ensures.actions c.args.page.now
+returns-clause-spare c = ap (λ (p : PageView). p.spare) c.prune_by_plan.ensures.is ∙ applied-spare c.prune_by_plan.ensures.actions c.args.page.now
 
 pub returns-clause-never_seen : goal.returns-clause-never_seen
 returns-clause-never_seen c = λ sound.
-    removed-keeps_found c.args.table.now c.args.horizon.0 c.args.page.now.slots c.prune_by_chains.new.page.slots sound
-    (pruned-removes c.args.table.now c.args.horizon.0 c.args.page.now.slots c.prune_by_chains.new.page.slots
-    (plan-pruned c.args.table.now c.args.horizon.0 c.args.page.now c.prune_by_chains.new.page c.prune_by_chains.ensures))
+    removed-keeps_found c.args.table.now c.args.horizon.0 c.args.page.now.slots c.prune_by_plan.new.page.slots sound
+    (pruned-removes c.args.table.now c.args.horizon.0 c.args.page.now.slots c.prune_by_plan.new.page.slots
+    (plan-pruned c.args.table.now c.args.horizon.0 c.args.page.now c.prune_by_plan.new.page c.prune_by_plan.ensures))
 
 pub returns-clause-none_dead : goal.returns-clause-none_dead
 returns-clause-none_dead c = λ sound.
-    pruned-none_dead c.args.table.now c.args.horizon.0 c.args.page.now.slots c.prune_by_chains.new.page.slots sound
-    (plan-pruned c.args.table.now c.args.horizon.0 c.args.page.now c.prune_by_chains.new.page c.prune_by_chains.ensures)
+    pruned-none_dead c.args.table.now c.args.horizon.0 c.args.page.now.slots c.prune_by_plan.new.page.slots sound
+    (plan-pruned c.args.table.now c.args.horizon.0 c.args.page.now c.prune_by_plan.new.page c.prune_by_plan.ensures)

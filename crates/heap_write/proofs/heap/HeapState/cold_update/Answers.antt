@@ -7,6 +7,7 @@ use Rattle.heap_pages.specs.View.{PagesView}
 use Rattle.heap_write.specs.Heap.{HeapView}
 use Rattle.heap_write.proofs.PageLemmas.{there-within}
 use Rattle.heap_write.proofs.Writing.{MarksColdUpdated, moves, puts-within, stays-there}
+use Rattle.heap_write.proofs.HintLemmas.{hints-taken, hints-taken_away}
 use Rattle.heap_write.proofs.heap.HeapState.cold_update.Goals as goal
 
 pub write-requires-clause-within : goal.write-requires-clause-within
@@ -40,3 +41,26 @@ returns-clause-replaces c =
     (sym (ap (λ (h : HeapView). slice_get h.pages.pages place.page) c.self-2.view_is) ∙ e.2) away
     (ap (λ (p : PagesView). p.pages) e.4 ∙ ap (λ (h : HeapView). set h.pages.pages place.page e.1) c.self-2.view_is)
     (ap (λ (p : PagesView). p.marks) e.4 ∙ ap (λ (h : HeapView). set h.pages.marks place.page Nothing) c.self-2.view_is) (ap (λ (h : HeapView). h.indexes) c.self-2.view_is)
+
+pub invariant_of-self : goal.invariant_of-self
+invariant_of-self c =
+    let taken = c.take_ids-x in (
+      c.self.invariant.0,
+      hints-taken c.self.inside.table taken.new.table c.args.own.now taken.new.own taken.result.0 c.self.inside.pages.pages c.self.inside.hints.turns taken.ensures.takes taken.ensures.window
+          c.self.invariant.1,
+    )
+
+pub invariant_of-self-2 : goal.invariant_of-self-2
+invariant_of-self-2 c =
+    let place = c.args.place in
+    let x = c.take_ids-x.result.0 in
+    let successor = c.put_root-successor.result in
+    let e = c.write.ensures.writes in
+    let away : MarksColdUpdated e.0 e.1 place successor x = search rules in
+    let at = sym (ap (λ (h : HeapView). slice_get h.pages.pages place.page) c.self-2.view_is) ∙ e.2 in
+    let normal = stays-there c.args.self.now (record { pages = c.self.inside.pages; table = c.take_ids-x.new.table; indexes = c.self.inside.indexes; max_pages = c.self.inside.max_pages }) c.put_root-successor.new.self
+    place x c.args.row.now successor.page e.0 (ap (λ (h : HeapView). h.pages) c.self.view_is) c.requires.there c.put_root-successor.ensures.root at in (
+      c.self-2.invariant.0,
+      hints-taken_away c.self-2.inside.table x place successor c.self-2.inside.pages.pages c.write.new.self.pages e.0 e.1 c.self-2.inside.hints.turns c.expect_write.new.hints.turns e.2
+          (ap (λ (p : PagesView). p.pages) e.4) away normal c.expect_write.ensures c.self-2.invariant.1,
+    )

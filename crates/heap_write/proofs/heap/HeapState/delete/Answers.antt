@@ -1,4 +1,7 @@
-use Rattle.std.proofs.Common.{rules, ap, refl, subst}
+use Rattle.std.proofs.Common.{◌≡◌, rules, slice_get, Some, ap, sym, refl, subst}
+use Rattle.std.proofs.iter.Serving.{serving}
+use Rattle.page_slots.specs.View.{PageView}
+use Rattle.page_slots.specs.Slots.{IsNormalAt}
 use Rattle.std.proofs.lemmas.Bool.{iff_false}
 use Rattle.heap_pages.specs.View.{PagesView}
 use Rattle.heap_write.specs.Heap.{HeapView}
@@ -7,6 +10,8 @@ use Rattle.heap_write.specs.Refusals.{VersionIsThere}
 use Rattle.heap_write.specs.contracts.heap.HeapState.{the_view}
 use Rattle.heap_write.proofs.IdLemmas.{takes-grown}
 use Rattle.heap_write.proofs.Writing.{MarksColdUpdated, deletes}
+use Rattle.heap_write.proofs.PageLemmas.{there-at}
+use Rattle.heap_write.proofs.HintLemmas.{hints-same_ids, hints-taken, hints-taken_away}
 use Rattle.heap_write.proofs.heap.HeapState.delete.Goals as goal
 
 pub returns-clause-ok : goal.returns-clause-ok
@@ -22,3 +27,34 @@ returns-clause-ok c =
     let h' : HeapView = record { pages = c.write.new.self; table = c.take_ids-x.new.table; indexes = c.self.inside.indexes; max_pages = c.self.inside.max_pages } in
     subst (λ (v : HeapView). VersionIsThere v c.args.place → Deletes v h' own c.take_ids-x.new.own c.args.place x) c.self.view_is
     (λ there. deletes h h' own c.take_ids-x.new.own c.args.place x e.0 e.1 free takes there e.2 away (ap (λ (p : PagesView). p.pages) e.4) (ap (λ (p : PagesView). p.marks) e.4) (λ n. refl) refl) (c.is_there.ensures.0 c.if-not-is_there.false)
+
+pub invariant_of-self : goal.invariant_of-self
+invariant_of-self c = (
+  c.self.invariant.0,
+  hints-same_ids c.self.inside.table c.reserve_ids.new.table c.self.inside.pages.pages c.self.inside.hints.turns c.reserve_ids.ensures.ids c.self.invariant.1,
+)
+
+pub write-requires-clause-ready : goal.write-requires-clause-ready
+write-requires-clause-ready c =
+    let place = c.args.place in
+    let there : VersionIsThere (the_view c.self.inside) place = subst (λ (h : HeapView). VersionIsThere h place) (sym c.self.view_is) (c.is_there.ensures.0 c.if-not-is_there.false) in
+    let version : (page : PageView) → slice_get c.self.inside.pages.pages place.page ≡ Some page → IsNormalAt page.slots place.slot = λ page at. there-at (the_view c.self.inside) place page there at in
+    grind serving
+
+pub invariant_of-self-2 : goal.invariant_of-self-2
+invariant_of-self-2 c =
+    let place = c.args.place in
+    let taken = c.take_ids-x in
+    let x = taken.result.0 in
+    let reserved = c.reserve_ids in
+    let e = c.write.ensures.writes in
+    let pages = c.self.inside.pages.pages in
+    let hints = c.self.inside.hints.turns in
+    let away : MarksColdUpdated e.0 e.1 place place x = search rules in
+    let there : VersionIsThere (the_view c.self.inside) place = subst (λ (h : HeapView). VersionIsThere h place) (sym c.self.view_is) (c.is_there.ensures.0 c.if-not-is_there.false) in
+    let ready = hints-same_ids c.self.inside.table reserved.new.table pages hints reserved.ensures.ids c.self.invariant.1 in
+    let given = hints-taken reserved.new.table taken.new.table reserved.new.own taken.new.own x pages hints taken.ensures.takes taken.ensures.window ready in (
+      c.self.invariant.0,
+      hints-taken_away taken.new.table x place place pages c.write.new.self.pages e.0 e.1 hints c.expect_write.new.hints.turns e.2 (ap (λ (p : PagesView). p.pages) e.4) away
+          (there-at (the_view c.self.inside) place e.0 there e.2) c.expect_write.ensures given,
+    )

@@ -13,6 +13,7 @@ use Rattle.std.proofs.lemmas.Result.{on_err_weaker}
 use Rattle.std.proofs.lemmas.Bool.{iff_false}
 use Rattle.heap_write.proofs.IdLemmas.{same-ids}
 use Rattle.heap_write.proofs.PageLemmas.{keeps-viewed, keeps-then}
+use Rattle.heap_write.proofs.HintLemmas.{hints-grown}
 use Rattle.heap_write.proofs.heap.HeapState.insert.Goals as goal
 
 pub returns-in-Ok-Some-clause-ok : goal.returns-in-Ok-Some-clause-ok
@@ -49,3 +50,19 @@ returns-in-Ok-Some-clause-err c =
     let h = the_view c.self.inside in
     let reserved = keeps-viewed h c.args.self.now _ c.self.view_is c.reserve_place.ensures.same (same-ids c.self.inside.table) (λ n. refl) refl in
     on_err_weaker c.insert_at.result (λ kept. keeps-then c.args.self.now _ c.insert_at.new.self reserved kept) c.insert_at.ensures.err
+
+pub invariant_of-self : goal.invariant_of-self
+invariant_of-self c =
+    let placed = c.reserve_place in (
+      c.self.invariant.0,
+      hints-grown c.self.inside.table c.self.inside.table c.self.inside.pages placed.new.pages c.self.inside.hints.turns placed.new.hints.turns (same-ids c.self.inside.table) placed.ensures.same
+          placed.ensures.hints c.self.invariant.1,
+    )
+
+pub invariant_of-self-in-Err : goal.invariant_of-self-in-Err
+invariant_of-self-in-Err c =
+    let placed = c.reserve_place in (
+      c.self.invariant.0,
+      hints-grown c.self.inside.table c.self.inside.table c.self.inside.pages placed.new.pages c.self.inside.hints.turns placed.new.hints.turns (same-ids c.self.inside.table) placed.ensures.same
+          placed.ensures.hints c.self.invariant.1,
+    )

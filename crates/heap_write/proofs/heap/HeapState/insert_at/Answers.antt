@@ -9,6 +9,7 @@ use Rattle.commit_status.specs.Window.{Window}
 use Rattle.heap_write.specs.Heap.{HeapView}
 use Rattle.heap_write.specs.Writes.{TakesIds}
 use Rattle.heap_write.proofs.IdLemmas.{takes-grown}
+use Rattle.heap_write.proofs.HintLemmas.{hints-same_ids, hints-taken}
 use Rattle.heap_write.proofs.heap.HeapState.insert_at.Goals as goal
 use Rattle.heap_write.proofs.heap.HeapState.insert_at.Goals.{then-is_err-via-then-is_err, then-is_err-via-else-is_err+then-is_err-2}
 
@@ -34,3 +35,24 @@ returns-then-is_err-clause-needs c =
       | then-is_err-via-then-is_err w ↦ inl (refusal c.make_room.result (NeedsEntry h.indexes) (sym c.is_err.ensures.value ∙ w.if-is_err.true) c.make_room.ensures.refused)
       | then-is_err-via-else-is_err+then-is_err-2 w ↦ inr (refusal w.reserve_ids.result (NeedsIds h c.args.own.now) (sym w.is_err-else-is_err.ensures.value ∙ w.if-is_err-2.true) w.reserve_ids.ensures.refused)
     ])
+
+pub invariant_of-self : goal.invariant_of-self
+invariant_of-self c =
+    let pages = c.self.inside.pages.pages in
+    let hints = c.self.inside.hints.turns in
+    elim c.then-is_err.branch [
+      | then-is_err-via-then-is_err w ↦ rw w.self-inside-is c.self.invariant
+      | then-is_err-via-else-is_err+then-is_err-2 w ↦ rw w.self-inside-is (
+        c.self.invariant.0,
+        hints-same_ids c.self.inside.table w.reserve_ids.new.table pages hints w.reserve_ids.ensures.ids c.self.invariant.1,
+      )
+    ]
+
+pub invariant_of-self-2 : goal.invariant_of-self-2
+invariant_of-self-2 c =
+    let taken = c.take_ids-x in
+    let reserved = c.reserve_ids in
+    let pages = c.self.inside.pages.pages in
+    let hints = c.self.inside.hints.turns in
+    let ready = hints-same_ids c.self.inside.table reserved.new.table pages hints reserved.ensures.ids c.self.invariant.1 in
+    (c.self.invariant.0, hints-taken reserved.new.table taken.new.table reserved.new.own taken.new.own taken.result.0 pages hints taken.ensures.takes taken.ensures.window ready)

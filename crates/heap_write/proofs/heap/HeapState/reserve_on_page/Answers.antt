@@ -7,6 +7,7 @@ use Rattle.heap_write.specs.Refusals.{NeedsIds, NeedsSlot}
 use Rattle.heap_write.specs.Growth.{GrowsPage}
 use Rattle.heap_write.specs.contracts.heap.HeapState.{the_view}
 use Rattle.heap_write.proofs.PageLemmas.{keeps-viewed}
+use Rattle.heap_write.proofs.HintLemmas.{hints-same_ids, hints-grown}
 use Rattle.heap_write.proofs.heap.HeapState.reserve_on_page.Goals as goal
 
 pub returns-clause-keeps : goal.returns-clause-keeps
@@ -22,3 +23,22 @@ returns-clause-needs c =
     let n = c.args.number in
     let Needs : HeapView → Type 0 = λ h. NeedsIds h own ⊎ NeedsSlot (page_on h n) ⊎ IsFalse c.args.heap_only × NeedsEntry h.indexes in
     subst (λ (h : HeapView). OnErr c.reserve_slot.result (Needs h)) c.self.view_is (on_err_weaker c.reserve_slot.result (λ needs. inr (inl needs)) c.reserve_slot.ensures.needs)
+
+pub invariant_of-self : goal.invariant_of-self
+invariant_of-self c = (
+  c.self.invariant.0,
+  hints-same_ids c.self.inside.table c.reserve_ids.new.table c.self.inside.pages.pages c.self.inside.hints.turns c.reserve_ids.ensures.ids c.self.invariant.1,
+)
+
+pub invariant_of-self-in_err-make_room_for : goal.invariant_of-self-in_err-make_room_for
+invariant_of-self-in_err-make_room_for c = (
+  c.self.invariant.0,
+  hints-same_ids c.self.inside.table c.reserve_ids.new.table c.self.inside.pages.pages c.self.inside.hints.turns c.reserve_ids.ensures.ids c.self.invariant.1,
+)
+
+pub invariant_of-self-2 : goal.invariant_of-self-2
+invariant_of-self-2 c = (
+  c.self.invariant.0,
+  hints-grown c.self.inside.table c.reserve_ids.new.table c.self.inside.pages c.reserve_slot.new.pages c.self.inside.hints.turns c.self.inside.hints.turns c.reserve_ids.ensures.ids c.reserve_slot.ensures.same
+      refl c.self.invariant.1,
+)

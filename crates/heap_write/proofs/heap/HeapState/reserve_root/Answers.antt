@@ -1,15 +1,14 @@
-use Rattle.std.proofs.Common.{◌≡◌, ◌<◌, ℕ, refl, subst}
-use Rattle.std.specs.Prelude.{OnOk, OnErr}
+use Rattle.std.proofs.Common.{refl, subst}
+use Rattle.std.specs.Prelude.{OnErr}
 use Rattle.std.proofs.lemmas.Result.{IfOk-weaker, on_err_weaker}
-use Rattle.page_slots.specs.Slots.{room_of}
-use Rattle.heap_write.specs.Heap.{HeapView, page_on}
+use Rattle.heap_write.specs.Heap.{HeapView}
 use Rattle.heap_write.specs.Refusals.{RootNeedsMemory}
-use Rattle.heap_write.specs.Growth.{page_in, Reserves}
+use Rattle.heap_write.specs.Growth.{Reserves}
 use Rattle.heap_write.specs.Steps.{IsChosen}
 use Rattle.heap_write.specs.contracts.heap.HeapState.{the_view}
 use Rattle.heap_write.proofs.PageLemmas.{keeps-viewed}
-use Rattle.heap_write.proofs.Reserving.{reserves-chosen, unchosen-kept, needs-memory}
-use Rattle.heap_write.proofs.Updating.{no-room}
+use Rattle.heap_write.proofs.Reserving.{reserves-chosen, needs-memory}
+use Rattle.heap_write.proofs.HintLemmas.{hints-same_ids, hints-grown}
 use Rattle.heap_write.proofs.heap.HeapState.reserve_root.Goals as goal
 
 pub returns-clause-keeps : goal.returns-clause-keeps
@@ -26,13 +25,22 @@ returns-clause-needs c =
     subst (λ (h : HeapView). OnErr c.reserve_place.result (RootNeedsMemory h c.args.own.now c.args.size)) c.self.view_is
     (on_err_weaker c.reserve_place.result (λ needs. (needs-memory (the_view c.self.inside) c.args.own.now c.args.size needs).1) c.reserve_place.ensures.needs)
 
-pub returns-clause-unchosen : goal.returns-clause-unchosen
-returns-clause-unchosen c =
-    let pages = c.self.inside.pages in
-    let after = c.reserve_place.new.pages in
-    let limit = c.self.inside.max_pages in
-    let size = c.args.size in
-    let Unchosen : HeapView → Type 0 = λ h. (n : ℕ) → room_of (page_on h n).slots < size → page_in after.pages n ≡ page_on h n in
-    subst (λ (h : HeapView). OnOk c.reserve_place.result (Unchosen h)) c.self.view_is
-    (IfOk-weaker c.reserve_place.result (λ found. Reserves pages after limit size found) (λ found. Unchosen (the_view c.self.inside))
-    (λ found reserves n small. unchosen-kept pages after limit size n found reserves (no-room size (room_of (page_in pages.pages n).slots) small)) c.reserve_place.ensures.reserves)
+pub invariant_of-self : goal.invariant_of-self
+invariant_of-self c = (
+  c.self.invariant.0,
+  hints-same_ids c.self.inside.table c.reserve_ids.new.table c.self.inside.pages.pages c.self.inside.hints.turns c.reserve_ids.ensures.ids c.self.invariant.1,
+)
+
+pub invariant_of-self-in_err-make_room : goal.invariant_of-self-in_err-make_room
+invariant_of-self-in_err-make_room c = (
+  c.self.invariant.0,
+  hints-same_ids c.self.inside.table c.reserve_ids.new.table c.self.inside.pages.pages c.self.inside.hints.turns c.reserve_ids.ensures.ids c.self.invariant.1,
+)
+
+pub invariant_of-self-2 : goal.invariant_of-self-2
+invariant_of-self-2 c =
+    let placed = c.reserve_place in (
+      c.self.invariant.0,
+      hints-grown c.self.inside.table c.reserve_ids.new.table c.self.inside.pages placed.new.pages c.self.inside.hints.turns placed.new.hints.turns c.reserve_ids.ensures.ids placed.ensures.same
+          placed.ensures.hints c.self.invariant.1,
+    )

@@ -1,4 +1,4 @@
-use Rattle.std.proofs.Common.{◌≡◌, ◌≤◌, get_or, ap, arith}
+use Rattle.std.proofs.Common.{◌≤◌, get_or, ap, arith}
 use Rattle.space_maps.proofs.FreeSpaceLemmas.{low-promises_not, found-promises}
 use Rattle.space_maps.proofs.free_map.FreeMap.find.Goals as goal
 

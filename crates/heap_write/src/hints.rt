@@ -1,0 +1,34 @@
+//! What is known of when versions on a page may be dead, before a write.
+
+ghost use Rattle.std.specs.Prelude.{◌≡◌, IfSome};
+ghost use Rattle.commit_status.specs.Window.{IsAborted, turns};
+ghost use Rattle.heap_write.specs.Hints.{ExpectsWrite};
+
+use commit_status::{Status, StatusTable};
+use space_maps::PruneHints;
+use xid_circle::Xid;
+
+/// The turn of an id, if it is known and the id was not aborted.
+fn live_turn(table: &StatusTable, x: Xid) -> Option<u32>
+    ensures { IfSome result
+        (λ turn. ¬ IsAborted table.now x.0 × (turn ≡ turns table.now.first x.0)) }
+{
+    match table.status(x) {
+        Status::Aborted => None,
+        Status::InProgress | Status::Committed => table.turn_of(x),
+    }
+}
+
+/// Lowers what is known of the page of this number, on which x writes: what x deletes may be dead from its turn on, and what
+/// an aborted id makes is dead at once.
+pub(crate) fn expect_write(hints: &mut PruneHints, table: &StatusTable, number: u32, x: Xid)
+    ensures { ExpectsWrite table.now x.0 number hints.old.turns hints.new.turns }
+{
+    if hints.turn(number).is_none() {
+        return;
+    }
+    match live_turn(table, x) {
+        Some(turn) => hints.lower(number, turn),
+        None => hints.end(number),
+    }
+}

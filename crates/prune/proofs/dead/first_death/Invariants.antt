@@ -1,0 +1,6 @@
+use Rattle.commit_status.specs.Window.{IsAborted}
+use Rattle.prune.proofs.Cuts.{LiveBelow}
+use Rattle.prune.proofs.dead.first_death.Given as goal
+
+abbrev pub invariant-loop-number : goal.invariant-loop-number
+invariant-loop-number l = LiveBelow l.table l.horizon.0 l.page.slots l.number l.outlook.turn × (IsAborted l.table l.outlook.known.0 → ⊥)
