@@ -18,5 +18,5 @@ pub mod SoundAfter
 pub mod Idle
 pub mod Single
 pub mod Gaps
-pub mod Quiet
+pub mod Stays
 pub mod Glancing

@@ -6,7 +6,7 @@ use Rattle.tuple_header.specs.declared.version.Header.{Header}
 use Rattle.tuple_header.specs.Marks.{is_hot_updated, is_heap_only}
 use Rattle.commit_status.specs.Window.{Window}
 use Rattle.sound_page.specs.Dead.{IsDeadAt}
-use Rattle.prune.specs.Marks.{IsQuiet}
+use Rattle.prune.specs.Marks.{PlainlyStays}
 
 abbrev pub is_end_in : Option Header → Bool
 is_end_in None = false
@@ -20,6 +20,6 @@ is_end_at slots n = is_end_in (header_at slots n)
 abbrev pub AreEndsLive : Window → ℕ → List Slot → Type 0
 AreEndsLive w horizon slots = (n : ℕ) → is_end_at slots n ≡ true → ¬ IsDeadAt w horizon slots n
 
--- where none is, the slot is quiet
-abbrev pub IsQuietByEnds : Window → ℕ → List Slot → ℕ → Type 0
-IsQuietByEnds w horizon slots n = AreEndsLive w horizon slots → IsQuiet w horizon slots n
+-- where none is, the slot plainly stays
+abbrev pub StaysByEnds : Window → ℕ → List Slot → ℕ → Type 0
+StaysByEnds w horizon slots n = AreEndsLive w horizon slots → PlainlyStays w horizon slots n

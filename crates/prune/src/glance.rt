@@ -1,10 +1,10 @@
 //! Which slots of a page need more than a glance before pruning: few on most pages, and only those are gone over again.
 
-ghost use Rattle.std.specs.Prelude.{◌≡◌, ◌+◌, [], IfSome, IsTrue, length};
+ghost use Rattle.std.specs.Prelude.{◌≡◌, [], IfSome, IsTrue};
 ghost use Rattle.commit_status.specs.Window.{IsAborted};
 ghost use Rattle.sound_page.specs.Dead.{IsDeadAt};
-ghost use Rattle.prune.specs.Marks.{IsQuiet, ListsAllBut};
-ghost use Rattle.prune.specs.Glances.{is_end_at, AreEndsLive, IsQuietByEnds};
+ghost use Rattle.prune.specs.Marks.{PlainlyStays, ListsDoubtful};
+ghost use Rattle.prune.specs.Glances.{is_end_at, AreEndsLive, StaysByEnds};
 
 use crate::dead::{Outlook, outlook_with};
 use arrayvec::ArrayVec;
@@ -27,8 +27,8 @@ fn is_end_at(page: &Page, number: u16) -> bool
     }
 }
 
-/// What the versions so far tell with that of a slot, unless the slot needs a closer look. A redirect needs none where it leads
-/// to the end of a chain, as long as no such version is dead.
+/// What the versions so far tell with that of a slot, unless the slot needs a closer look. It needs none where the version is not
+/// dead and no later one replaced it. Nor does a redirect that leads to the end of a chain, as long as no such end is dead.
 #[inline(always)]
 fn glance(
     page: &Page,
@@ -39,7 +39,7 @@ fn glance(
 ) -> Option<Outlook>
     requires known { ¬ IsAborted table.now so_far.known.0 }
     ensures { IfSome result
-        (λ outlook. IsQuietByEnds table.now horizon.0 page.now.slots number
+        (λ outlook. StaysByEnds table.now horizon.0 page.now.slots number
         × (¬ IsDeadAt table.now horizon.0 page.now.slots number)
         × ¬ IsAborted table.now outlook.known.0) }
 {
@@ -53,13 +53,12 @@ fn glance(
     }
 }
 
-/// Lists the slots that need a closer look, and answers whether all others were told at a glance: none of the versions at the
-/// end of a chain is dead. The list is empty before.
-fn list_at_a_glance(busy: &mut Numbers, page: &Page, table: &StatusTable, horizon: Xid) -> bool
-    requires blank { busy.old.items ≡ [] }
+/// Lists the slots that need a closer look, and answers whether all others plainly stay: where none of the ends of chains is
+/// dead. The list is empty before.
+fn list_at_a_glance(doubtful: &mut Numbers, page: &Page, table: &StatusTable, horizon: Xid) -> bool
+    requires blank { doubtful.old.items ≡ [] }
     ensures { IsTrue result
-        → ListsAllBut (IsQuiet table.now horizon.0 page.now.slots)
-        0 busy.new.items (length page.now.slots + 1) }
+        → ListsDoubtful table.now horizon.0 page.now.slots doubtful.new.items }
 {
     // 0 is no id, so it was not aborted.
     let mut outlook = Outlook {
@@ -71,7 +70,7 @@ fn list_at_a_glance(busy: &mut Numbers, page: &Page, table: &StatusTable, horizo
         match glance(page, number, outlook, table, horizon) {
             Some(next) => outlook = next,
             None => {
-                busy.push(number);
+                doubtful.push(number);
                 are_ends_live = are_ends_live && !is_end_at(page, number);
             }
         }
@@ -79,10 +78,10 @@ fn list_at_a_glance(busy: &mut Numbers, page: &Page, table: &StatusTable, horizo
     are_ends_live
 }
 
-/// Whether a slot is told to be left as it is by the version in it, or where it leads: no later version replaced that, and it is
-/// not dead.
-fn is_quiet(page: &Page, number: u16, table: &StatusTable, horizon: Xid) -> bool
-    ensures { IsTrue result → IsQuiet table.now horizon.0 page.now.slots number }
+/// Whether pruning leaves a slot as it is by what its version tells, or the one where it leads: no later version replaced that, and
+/// it is not dead.
+fn plainly_stays(page: &Page, number: u16, table: &StatusTable, horizon: Xid) -> bool
+    ensures { IsTrue result → PlainlyStays table.now horizon.0 page.now.slots number }
 {
     let start = page.redirect(number).unwrap_or(number);
     match page.header(start) {
@@ -93,27 +92,26 @@ fn is_quiet(page: &Page, number: u16, table: &StatusTable, horizon: Xid) -> bool
     }
 }
 
-/// Lists the slots that are not told so. The list is empty before.
-fn list_by_starts(busy: &mut Numbers, page: &Page, table: &StatusTable, horizon: Xid)
-    requires blank { busy.old.items ≡ [] }
-    ensures { ListsAllBut
-        (IsQuiet table.now horizon.0 page.now.slots) 0 busy.new.items (length page.now.slots + 1) }
+/// Lists the slots of which that is not told. The list is empty before.
+fn list_by_starts(doubtful: &mut Numbers, page: &Page, table: &StatusTable, horizon: Xid)
+    requires blank { doubtful.old.items ≡ [] }
+    ensures { ListsDoubtful table.now horizon.0 page.now.slots doubtful.new.items }
 {
     for number in 1..page.slots() + 1 {
-        if !is_quiet(page, number, table, horizon) {
-            busy.push(number);
+        if !plainly_stays(page, number, table, horizon) {
+            doubtful.push(number);
         }
     }
 }
 
-/// Lists the slots of a page of which it is not told that pruning leaves them as they are. The list is empty before.
-pub(crate) fn list_busy(busy: &mut Numbers, page: &Page, table: &StatusTable, horizon: Xid)
-    requires blank { busy.old.items ≡ [] }
-    ensures { ListsAllBut
-        (IsQuiet table.now horizon.0 page.now.slots) 0 busy.new.items (length page.now.slots + 1) }
+/// Lists the slots of a page that do not plainly stay: few where pruning finds little, and none where no version is dead or
+/// replaced. The list is empty before.
+pub(crate) fn list_doubtful(doubtful: &mut Numbers, page: &Page, table: &StatusTable, horizon: Xid)
+    requires blank { doubtful.old.items ≡ [] }
+    ensures { ListsDoubtful table.now horizon.0 page.now.slots doubtful.new.items }
 {
-    if !list_at_a_glance(busy, page, table, horizon) {
-        busy.clear();
-        list_by_starts(busy, page, table, horizon);
+    if !list_at_a_glance(doubtful, page, table, horizon) {
+        doubtful.clear();
+        list_by_starts(doubtful, page, table, horizon);
     }
 }

@@ -1,5 +1,5 @@
 use Rattle.std.proofs.Common.{sym, ◌∙◌}
-use Rattle.prune.proofs.Quiet.{quiet-redirect, no-header_alive}
+use Rattle.prune.proofs.Stays.{stays-redirect, no-header_alive}
 use Rattle.prune.proofs.Glancing.{told-version}
 use Rattle.prune.proofs.glance.glance.Goals as goal
 
@@ -10,7 +10,7 @@ returns-in-Some-2 c =
 
 pub returns-in_default : goal.returns-in_default
 returns-in_default c = (
-  quiet-redirect c.args.table.now c.args.horizon.0 c.args.page.now.slots c.args.number c.in-Some-redirect.target (sym c.in-Some-redirect.ensures.value)
+  stays-redirect c.args.table.now c.args.horizon.0 c.args.page.now.slots c.args.number c.in-Some-redirect.target (sym c.in-Some-redirect.ensures.value)
       (sym c.is_end_at.ensures ∙ c.if-not-is_end_at.false),
   no-header_alive c.args.table.now c.args.horizon.0 c.args.page.now.slots c.args.number (sym c.in-None.ensures.value),
   c.requires.known,
