@@ -101,26 +101,13 @@ guarded true x y e = same_Some x y e
 guarded false x y e = absurd (cc)
 
 -- where its chain starts
-first-start : (slots : List Slot) (n start : ℕ) (o : Option Slot) → slot_at slots n ≡ o → option_and_then (start_in slots n) o ≡ Some start
+pub first-start : (slots : List Slot) (n start : ℕ) (o : Option Slot) → slot_at slots n ≡ o → option_and_then (start_in slots n) o ≡ Some start
     → (unwrap_or (option_and_then target_of o) n) ≡ start
 first-start slots n start None at e = absurd (cc)
 first-start slots n start (Some Unused) at e = absurd (cc)
 first-start slots n start (Some (Normal t)) at e = same_Some n start e
 first-start slots n start (Some (Redirect k)) at e = guarded (is_some (version_at slots k)) k start e
 first-start slots n start (Some Dead) at e = absurd (cc)
-
-pub stays-start : (w : Window) (horizon : ℕ) (slots : List Slot) (n start : ℕ) (h : Header) → start ≡ unwrap_or (redirect_at slots n) n → header_at slots start ≡ Some h
-    → is_hot_updated h ≡ false → ¬ IsDead w horizon h → PlainlyStays w horizon slots n
-stays-start w horizon slots n start h e at off alive first k is there =
-    let at_first : start ≡ first = e ∙ first-start slots n first (slot_at slots n) refl is in
-    let same : h ≡ k = same_Some h k (sym at ∙ ap (header_at slots) at_first ∙ there) in
-    (ap is_hot_updated (sym same) ∙ off, subst (λ x. ¬ IsDead w horizon x) same alive)
-
-pub stays-no_start : (w : Window) (horizon : ℕ) (slots : List Slot) (n start : ℕ) → start ≡ unwrap_or (redirect_at slots n) n → header_at slots start ≡ None
-    → PlainlyStays w horizon slots n
-stays-no_start w horizon slots n start e none first k is there =
-    let at_first : start ≡ first = e ∙ first-start slots n first (slot_at slots n) refl is in
-    absurd (let f : None ≡ Some k = sym none ∙ ap (header_at slots) at_first ∙ there in cc)
 
 -- where it leads to the end of a chain
 pub stays-redirect : (w : Window) (horizon : ℕ) (slots : List Slot) (n target : ℕ) → redirect_at slots n ≡ Some target → is_end_at slots target ≡ true
@@ -133,13 +120,6 @@ stays-redirect w horizon slots n target leads end live first k is there =
   where
     end-parts : (h : Header) → is_end_in (Some h) ≡ true → is_hot_updated h ≡ false
     end-parts h e = not-true (is_hot_updated h) (and_parts (is_heap_only h) (not (is_hot_updated h)) e).1
-
-pub no-header_alive : (w : Window) (horizon : ℕ) (slots : List Slot) (n : ℕ) → header_at slots n ≡ None → ¬ IsDeadAt w horizon slots n
-no-header_alive w horizon slots n none dead =
-    absurd (let f : None ≡ Some dead.version.header = sym none ∙ version-header slots n dead.version dead.there in cc)
-
-pub header-alive : (w : Window) (horizon : ℕ) (slots : List Slot) (n : ℕ) (h : Header) → header_at slots n ≡ Some h → ¬ IsDead w horizon h → ¬ IsDeadAt w horizon slots n
-header-alive w horizon slots n h at alive dead = alive (dead-here w horizon slots n h at dead)
 
 -- the ends of chains below a slot are live
 abbrev pub AreEndsLiveBelow : Window → ℕ → List Slot → ℕ → Type 0

@@ -1,20 +1,21 @@
 //! Which slots of a page need more than a glance before pruning: few on most pages, and only those are gone over again.
 
-ghost use Rattle.std.specs.Prelude.{◌≡◌, [], IfSome, IsTrue};
+ghost use Rattle.std.specs.Prelude.{◌≡◌, ◌+◌, ◌<◌, [], IfSome, IsTrue, IsFalse, length};
 ghost use Rattle.commit_status.specs.Window.{IsAborted};
-ghost use Rattle.sound_page.specs.Dead.{IsDeadAt};
-ghost use Rattle.prune.specs.Marks.{PlainlyStays, ListsDoubtful};
-ghost use Rattle.prune.specs.Glances.{is_end_at, AreEndsLive, StaysByEnds};
+ghost use Rattle.prune.specs.Marks.{ListsAllBut, ListsDoubtful};
+ghost use Rattle.prune.specs.Glances.{is_end_at, StaysByEnds, IsPlainAt, ArePlainOrNoted, LeadsToNoneNoted};
 
 use crate::dead::{Outlook, outlook_with};
 use arrayvec::ArrayVec;
 use commit_status::StatusTable;
 use page_slots::Page;
-use visibility::{Fate, fate_of};
 use xid_circle::Xid;
 
 /// Numbers of slots, in order. A page has at most 291.
 pub(crate) type Numbers = ArrayVec<u16, 292>;
+
+/// For each number from 0 to 291, whether its slot is noted.
+type Noted = [bool; 292];
 
 /// Whether a slot holds a heap-only version that no later one replaced: the end of a chain of more than one, mostly.
 #[inline(always)]
@@ -40,7 +41,7 @@ fn glance(
     requires known { ¬ IsAborted table.now so_far.known.0 }
     ensures { IfSome result
         (λ outlook. StaysByEnds table.now horizon.0 page.now.slots number
-        × (¬ IsDeadAt table.now horizon.0 page.now.slots number)
+        × IsPlainAt table.now horizon.0 page.now.slots number
         × ¬ IsAborted table.now outlook.known.0) }
 {
     match page.header(number) {
@@ -53,12 +54,19 @@ fn glance(
     }
 }
 
-/// Lists the slots that need a closer look, and answers whether all others plainly stay: where none of the ends of chains is
-/// dead. The list is empty before.
-fn list_at_a_glance(doubtful: &mut Numbers, page: &Page, table: &StatusTable, horizon: Xid) -> bool
+/// Lists and notes the slots that need a closer look, and answers whether all others plainly stay: where none of the ends of
+/// chains is dead. The list is empty before.
+fn list_at_a_glance(
+    doubtful: &mut Numbers,
+    noted: &mut Noted,
+    page: &Page,
+    table: &StatusTable,
+    horizon: Xid,
+) -> bool
     requires blank { doubtful.old.items ≡ [] }
-    ensures { IsTrue result
+    ensures stay { IsTrue result
         → ListsDoubtful table.now horizon.0 page.now.slots doubtful.new.items }
+    ensures noted { ArePlainOrNoted table.now horizon.0 page.now.slots noted.new }
 {
     // 0 is no id, so it was not aborted.
     let mut outlook = Outlook {
@@ -71,6 +79,7 @@ fn list_at_a_glance(doubtful: &mut Numbers, page: &Page, table: &StatusTable, ho
             Some(next) => outlook = next,
             None => {
                 doubtful.push(number);
+                noted[usize::from(number)] = true;
                 are_ends_live = are_ends_live && !is_end_at(page, number);
             }
         }
@@ -78,27 +87,29 @@ fn list_at_a_glance(doubtful: &mut Numbers, page: &Page, table: &StatusTable, ho
     are_ends_live
 }
 
-/// Whether pruning leaves a slot as it is by what its version tells, or the one where it leads: no later version replaced that, and
-/// it is not dead.
-fn plainly_stays(page: &Page, number: u16, table: &StatusTable, horizon: Xid) -> bool
-    ensures { IsTrue result → PlainlyStays table.now horizon.0 page.now.slots number }
+/// Whether a slot is noted, or leads to one that is.
+fn leads_to_noted(page: &Page, noted: &Noted, number: u16) -> bool
+    requires { number < 292 }
+    ensures { IsFalse result → LeadsToNoneNoted page.now.slots noted.now number }
 {
-    let start = page.redirect(number).unwrap_or(number);
-    match page.header(start) {
-        Some(header) => {
-            !header.is_hot_updated() && matches!(fate_of(&header, horizon, table), Fate::Kept)
-        }
-        None => true,
+    if noted[usize::from(number)] {
+        return true;
+    }
+    match page.redirect(number) {
+        Some(target) if target < 292 => noted[usize::from(target)],
+        _ => false,
     }
 }
 
-/// Lists the slots of which that is not told. The list is empty before.
-fn list_by_starts(doubtful: &mut Numbers, page: &Page, table: &StatusTable, horizon: Xid)
+/// Lists the slots that are noted, or lead to one that is. The list is empty before.
+fn list_noted(doubtful: &mut Numbers, noted: &Noted, page: &Page)
     requires blank { doubtful.old.items ≡ [] }
-    ensures { ListsDoubtful table.now horizon.0 page.now.slots doubtful.new.items }
+    ensures { ListsAllBut
+        (LeadsToNoneNoted page.now.slots noted.now) 0 doubtful.new.items
+        (length page.now.slots + 1) }
 {
     for number in 1..page.slots() + 1 {
-        if !plainly_stays(page, number, table, horizon) {
+        if leads_to_noted(page, noted, number) {
             doubtful.push(number);
         }
     }
@@ -110,8 +121,9 @@ pub(crate) fn list_doubtful(doubtful: &mut Numbers, page: &Page, table: &StatusT
     requires blank { doubtful.old.items ≡ [] }
     ensures { ListsDoubtful table.now horizon.0 page.now.slots doubtful.new.items }
 {
-    if !list_at_a_glance(doubtful, page, table, horizon) {
+    let mut noted = [false; 292];
+    if !list_at_a_glance(doubtful, &mut noted, page, table, horizon) {
         doubtful.clear();
-        list_by_starts(doubtful, page, table, horizon);
+        list_noted(doubtful, &noted, page);
     }
 }

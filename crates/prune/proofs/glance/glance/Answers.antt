@@ -1,6 +1,6 @@
 use Rattle.std.proofs.Common.{sym, ◌∙◌}
-use Rattle.prune.proofs.Stays.{stays-redirect, no-header_alive}
-use Rattle.prune.proofs.Glancing.{told-version}
+use Rattle.prune.proofs.Stays.{stays-redirect}
+use Rattle.prune.proofs.Glancing.{told-version, no-header_plain}
 use Rattle.prune.proofs.glance.glance.Goals as goal
 
 pub returns-in-Some-2 : goal.returns-in-Some-2
@@ -12,6 +12,6 @@ pub returns-in_default : goal.returns-in_default
 returns-in_default c = (
   stays-redirect c.args.table.now c.args.horizon.0 c.args.page.now.slots c.args.number c.in-Some-redirect.target (sym c.in-Some-redirect.ensures.value)
       (sym c.is_end_at.ensures ∙ c.if-not-is_end_at.false),
-  no-header_alive c.args.table.now c.args.horizon.0 c.args.page.now.slots c.args.number (sym c.in-None.ensures.value),
+  no-header_plain c.args.table.now c.args.horizon.0 c.args.page.now.slots c.args.number (sym c.in-None.ensures.value),
   c.requires.known,
 )
