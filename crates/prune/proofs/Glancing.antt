@@ -9,7 +9,7 @@ use Rattle.page_slots.specs.declared.slot.Slot.{Slot}
 use Rattle.page_slots.specs.Slots.{slot_at, version_at, header_at, redirect_at}
 use Rattle.tuple_header.specs.Version.{Version}
 use Rattle.tuple_header.specs.declared.version.Header.{Header}
-use Rattle.tuple_header.specs.Marks.{is_hot_updated}
+use Rattle.hot_chain.specs.Chain.{has_aborted, is_replaced}
 use Rattle.commit_status.specs.Window.{Window, IsAborted}
 use Rattle.visibility.specs.Visible.{IsDead}
 use Rattle.sound_page.specs.Dead.{IsDeadAt}
@@ -26,13 +26,13 @@ use Rattle.prune.proofs.Stays.{AreEndsLiveBelow, ends-more, ends-all, stays-vers
 abbrev pub IsTold : Window → ℕ → List Slot → ℕ → Outlook → Type 0
 IsTold w horizon slots n u = StaysByEnds w horizon slots n × IsPlainAt w horizon slots n × ¬ IsAborted w u.known.0
 
-pub told-version : (w : Window) (horizon turn : ℕ) (slots : List Slot) (n : ℕ) (h : Header) (o : Option Outlook) → header_at slots n ≡ Some h → is_hot_updated h ≡ false
+pub told-version : (w : Window) (horizon turn : ℕ) (slots : List Slot) (n : ℕ) (h : Header) (o : Option Outlook) → header_at slots n ≡ Some h → is_replaced (has_aborted w) h ≡ false
     → MatchOption o (IsDead w horizon h) (λ u. (¬ IsDead w horizon h) × MayDieFrom w u.turn h × (u.turn ≤ turn) × ¬ IsAborted w u.known.0)
     → IfSome o (λ u. IsTold w horizon slots n u)
 told-version w horizon turn slots n h None at off found = tt
 told-version w horizon turn slots n h (Some u) at off found = (
   (λ live. stays-version w horizon slots n h at off found.0),
-  (λ k there. let same : h ≡ k = same_Some h k (sym at ∙ there) in (ap is_hot_updated (sym same) ∙ off, subst (λ x. ¬ IsDead w horizon x) same found.0)),
+  (λ k there. let same : h ≡ k = same_Some h k (sym at ∙ there) in (ap (is_replaced (has_aborted w)) (sym same) ∙ off, subst (λ x. ¬ IsDead w horizon x) same found.0)),
   found.3,
 )
 
@@ -80,7 +80,7 @@ pub noted-room : (noted : List Bool) (i number : ℕ) → length (set noted i tr
 noted-room noted i number long small = let same = length-set noted i true in omega (arith, same, long, small)
 
 pub glancing-push : (w : Window) (horizon : ℕ) (slots : List Slot) (doubtful : List ℕ) (noted : List Bool) (known : ℕ) (live after : Bool) (number : ℕ) → number ≤ length slots
-    → number < length noted → (after ≡ true → (live ≡ true) × (is_end_at slots number ≡ false)) → IsGlancing w horizon slots doubtful noted known live number
+    → number < length noted → (after ≡ true → (live ≡ true) × (is_end_at w slots number ≡ false)) → IsGlancing w horizon slots doubtful noted known live number
     → IsGlancing w horizon slots (doubtful ++ number ∷ []) (set noted number true) known after (number + 1)
 glancing-push w horizon slots doubtful noted known live after number within small e g = record {
   from = omega arith;
@@ -116,7 +116,7 @@ noted-stays : (w : Window) (horizon : ℕ) (slots : List Slot) (noted : List Boo
 noted-stays w horizon slots noted n others none start h first at =
     by (redirect_at slots n) refl (first-start slots n start (slot_at slots n) refl first)
   where
-    by : (o : Option ℕ) → redirect_at slots n ≡ o → unwrap_or o n ≡ start → (is_hot_updated h ≡ false) × ¬ IsDead w horizon h
+    by : (o : Option ℕ) → redirect_at slots n ≡ o → unwrap_or o n ≡ start → (is_replaced (has_aborted w) h ≡ false) × ¬ IsDead w horizon h
     by None leads same = others n none.0 h (ap (header_at slots) same ∙ at)
     by (Some t) leads same = others t (none.1 t leads) h (ap (header_at slots) same ∙ at)
 

@@ -10,7 +10,7 @@ use Rattle.tuple_header.specs.Version.{Version}
 use Rattle.tuple_header.specs.declared.version.Header.{Header}
 use Rattle.commit_status.specs.Window.{Window}
 use Rattle.visibility.specs.Visible.{IsDead}
-use Rattle.hot_chain.specs.Chain.{has_aborted, first_of, next_in_chain, successor, start_in, IsChain}
+use Rattle.hot_chain.specs.Chain.{has_aborted, is_replaced, first_of, next_in_chain, successor, start_in, IsChain}
 use Rattle.hot_chain.proofs.Chains.{chain-one}
 use Rattle.prune.specs.declared.action.Action.TheVariants as action
 use Rattle.sound_page.specs.Dead.{IsDeadAt, HasDead}
@@ -21,7 +21,7 @@ use Rattle.prune.specs.Pruning.{chain_action, root_action, IsInChainOf}
 use Rattle.prune.specs.Marks.{NoneDead, PlainlyStays, ListsAllBut}
 use Rattle.prune.proofs.Cuts.{some-version, dead-there, dead-here}
 use Rattle.prune.specs.Glances.{is_end_in, is_end_at, AreEndsLive, StaysByEnds}
-use Rattle.tuple_header.specs.Marks.{is_hot_updated, is_heap_only}
+use Rattle.tuple_header.specs.Marks.{is_heap_only}
 use Rattle.std.proofs.lemmas.Option.{same_Some}
 use Rattle.prune.proofs.Single.{single-chain, leads-nowhere}
 
@@ -88,13 +88,13 @@ stays-chain_none w horizon slots n root cut chain stays i o = ⊎_elim
 
 -- How a glance tells it.
 
-pub stays-version : (w : Window) (horizon : ℕ) (slots : List Slot) (n : ℕ) (h : Header) → header_at slots n ≡ Some h → is_hot_updated h ≡ false → ¬ IsDead w horizon h
+pub stays-version : (w : Window) (horizon : ℕ) (slots : List Slot) (n : ℕ) (h : Header) → header_at slots n ≡ Some h → is_replaced (has_aborted w) h ≡ false → ¬ IsDead w horizon h
     → PlainlyStays w horizon slots n
 stays-version w horizon slots n h at off alive start k first there =
     let v = some-version (version_at slots n) h at in
     let e : Some n ≡ Some start = sym (first-normal slots n v.0 v.1) ∙ first in
     let same : h ≡ k = same_Some h k (sym at ∙ ap (header_at slots) (same_Some n start e) ∙ there) in
-    (ap is_hot_updated (sym same) ∙ off, subst (λ x. ¬ IsDead w horizon x) same alive)
+    (ap (is_replaced (has_aborted w)) (sym same) ∙ off, subst (λ x. ¬ IsDead w horizon x) same alive)
 
 guarded : (b : Bool) (x y : ℕ) → (if b then Some x else None) ≡ Some y → x ≡ y
 guarded true x y e = same_Some x y e
@@ -110,26 +110,26 @@ first-start slots n start (Some (Redirect k)) at e = guarded (is_some (version_a
 first-start slots n start (Some Dead) at e = absurd (cc)
 
 -- where it leads to the end of a chain
-pub stays-redirect : (w : Window) (horizon : ℕ) (slots : List Slot) (n target : ℕ) → redirect_at slots n ≡ Some target → is_end_at slots target ≡ true
+pub stays-redirect : (w : Window) (horizon : ℕ) (slots : List Slot) (n target : ℕ) → redirect_at slots n ≡ Some target → is_end_at w slots target ≡ true
     → StaysByEnds w horizon slots n
 stays-redirect w horizon slots n target leads end live first k is there =
     let at_first : target ≡ first = ap (λ o. unwrap_or o n) (sym leads) ∙ first-start slots n first (slot_at slots n) refl is in
     let at : header_at slots target ≡ Some k = ap (header_at slots) at_first ∙ there in
-    let parts = end-parts k (ap is_end_in (sym at) ∙ end) in
+    let parts = end-parts k (ap (is_end_in w) (sym at) ∙ end) in
     (parts, λ dead. live target end (dead-there w horizon slots target k at dead))
   where
-    end-parts : (h : Header) → is_end_in (Some h) ≡ true → is_hot_updated h ≡ false
-    end-parts h e = not-true (is_hot_updated h) (and_parts (is_heap_only h) (not (is_hot_updated h)) e).1
+    end-parts : (h : Header) → is_end_in w (Some h) ≡ true → is_replaced (has_aborted w) h ≡ false
+    end-parts h e = not-true (is_replaced (has_aborted w) h) (and_parts (is_heap_only h) (not (is_replaced (has_aborted w) h)) e).1
 
 -- the ends of chains below a slot are live
 abbrev pub AreEndsLiveBelow : Window → ℕ → List Slot → ℕ → Type 0
-AreEndsLiveBelow w horizon slots bound = (n : ℕ) → n < bound → is_end_at slots n ≡ true → ¬ IsDeadAt w horizon slots n
+AreEndsLiveBelow w horizon slots bound = (n : ℕ) → n < bound → is_end_at w slots n ≡ true → ¬ IsDeadAt w horizon slots n
 
-pub ends-more : (w : Window) (horizon : ℕ) (slots : List Slot) (bound : ℕ) → AreEndsLiveBelow w horizon slots bound → (is_end_at slots bound ≡ true → ¬ IsDeadAt w horizon slots bound)
+pub ends-more : (w : Window) (horizon : ℕ) (slots : List Slot) (bound : ℕ) → AreEndsLiveBelow w horizon slots bound → (is_end_at w slots bound ≡ true → ¬ IsDeadAt w horizon slots bound)
     → AreEndsLiveBelow w horizon slots (bound + 1)
 ends-more w horizon slots bound live here n lt end = ⊎_elim (λ below. live n below end)
     (λ ge. let same : n ≡ bound = omega arith in
-    subst (λ k. is_end_at slots k ≡ true → ¬ IsDeadAt w horizon slots k) (sym same) here end) (cases_lt n bound)
+    subst (λ k. is_end_at w slots k ≡ true → ¬ IsDeadAt w horizon slots k) (sym same) here end) (cases_lt n bound)
 
 pub ends-all : (w : Window) (horizon : ℕ) (slots : List Slot) (bound : ℕ) → length slots < bound → AreEndsLiveBelow w horizon slots bound → AreEndsLive w horizon slots
 ends-all w horizon slots bound past live n end dead =

@@ -3,10 +3,9 @@ use Rattle.std.specs.Prelude.{◌≡◌, ◌+◌, ◌<◌, ◌||◌, ◌==◌, �
 use Rattle.std.specs.List.{list_any}
 use Rattle.page_slots.specs.declared.slot.Slot.{Slot}
 use Rattle.commit_status.specs.Window.{Window}
-use Rattle.hot_chain.specs.Chain.{has_aborted, first_of, IsChain}
+use Rattle.hot_chain.specs.Chain.{has_aborted, is_replaced, first_of, IsChain}
 use Rattle.page_slots.specs.Slots.{header_at}
 use Rattle.tuple_header.specs.declared.version.Header.{Header}
-use Rattle.tuple_header.specs.Marks.{is_hot_updated}
 use Rattle.visibility.specs.Visible.{IsDead}
 use Rattle.prune.specs.declared.action.Action.{Action}
 use Rattle.prune.specs.declared.marks.PruneVerdict.{PruneVerdict}
@@ -59,7 +58,7 @@ pub data IsVerdict (w : Window) (horizon : ℕ) (slots : List Slot) (n : ℕ) (m
 
 -- The first version of the slot's chain tells that nothing of it goes: no later one replaced it, and it is not dead.
 abbrev pub PlainlyStays : Window → ℕ → List Slot → ℕ → Type 0
-PlainlyStays w horizon slots n = (start : ℕ) (h : Header) → first_of slots n ≡ Some start → header_at slots start ≡ Some h → (is_hot_updated h ≡ false) × ¬ IsDead w horizon h
+PlainlyStays w horizon slots n = (start : ℕ) (h : Header) → first_of slots n ≡ Some start → header_at slots start ≡ Some h → (is_replaced (has_aborted w) h ≡ false) × ¬ IsDead w horizon h
 
 -- The numbers ascend, all of them over `low` and below a bound; and of each other number between these Q is so.
 abbrev pub ListsAllBut : (ℕ → Type 0) → ℕ → List ℕ → ℕ → Type 0

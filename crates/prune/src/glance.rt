@@ -2,13 +2,15 @@
 
 ghost use Rattle.std.specs.Prelude.{◌≡◌, ◌+◌, ◌<◌, [], IfSome, IsTrue, IsFalse, length};
 ghost use Rattle.commit_status.specs.Window.{IsAborted};
+ghost use Rattle.hot_chain.specs.Chain.{has_aborted, is_replaced};
 ghost use Rattle.prune.specs.Marks.{ListsAllBut, ListsDoubtful};
 ghost use Rattle.prune.specs.Glances.{is_end_at, StaysByEnds, IsPlainAt, ArePlainOrNoted, LeadsToNoneNoted};
 
 use crate::dead::{Outlook, outlook_with};
 use arrayvec::ArrayVec;
-use commit_status::StatusTable;
+use commit_status::{Status, StatusTable};
 use page_slots::Page;
+use tuple_header::Header;
 use xid_circle::Xid;
 
 /// Numbers of slots, in order. A page has at most 291.
@@ -17,13 +19,28 @@ pub(crate) type Numbers = ArrayVec<u16, 292>;
 /// For each number from 0 to 291, whether its slot is noted.
 type Noted = [bool; 292];
 
+#[inline(always)]
+fn has_aborted(x: Xid, table: &StatusTable) -> bool
+    ensures { result ≡ has_aborted table.now x.0 }
+{
+    matches!(table.status(x), Status::Aborted)
+}
+
+/// Whether a later version of its row replaced a version, by an update that may count.
+#[inline(always)]
+fn is_replaced(header: &Header, table: &StatusTable) -> bool
+    ensures { result ≡ is_replaced (has_aborted table.now) header.now }
+{
+    header.is_hot_updated() && header.xmax.0 != 0 && !has_aborted(header.xmax, table)
+}
+
 /// Whether a slot holds a heap-only version that no later one replaced: the end of a chain of more than one, mostly.
 #[inline(always)]
-fn is_end_at(page: &Page, number: u16) -> bool
-    ensures { result ≡ is_end_at page.now.slots number }
+fn is_end_at(page: &Page, number: u16, table: &StatusTable) -> bool
+    ensures { result ≡ is_end_at table.now page.now.slots number }
 {
     match page.header(number) {
-        Some(header) => header.is_heap_only() && !header.is_hot_updated(),
+        Some(header) => header.is_heap_only() && !is_replaced(&header, table),
         None => false,
     }
 }
@@ -45,10 +62,10 @@ fn glance(
         × ¬ IsAborted table.now outlook.known.0) }
 {
     match page.header(number) {
-        Some(header) if header.is_hot_updated() => None,
+        Some(header) if is_replaced(&header, table) => None,
         Some(header) => outlook_with(&header, so_far, table, horizon),
         None => match page.redirect(number) {
-            Some(target) if !is_end_at(page, target) => None,
+            Some(target) if !is_end_at(page, target, table) => None,
             _ => Some(so_far),
         },
     }
@@ -80,7 +97,7 @@ fn list_at_a_glance(
             None => {
                 doubtful.push(number);
                 noted[usize::from(number)] = true;
-                are_ends_live = are_ends_live && !is_end_at(page, number);
+                are_ends_live = are_ends_live && !is_end_at(page, number, table);
             }
         }
     }

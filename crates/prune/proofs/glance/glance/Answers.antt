@@ -6,7 +6,7 @@ use Rattle.prune.proofs.glance.glance.Goals as goal
 pub returns-in-Some-2 : goal.returns-in-Some-2
 returns-in-Some-2 c =
     told-version c.args.table.now c.args.horizon.0 c.args.so_far.turn c.args.page.now.slots c.args.number c.in-Some.header c.outlook_with.result
-    (sym c.in-Some.ensures.value) (sym c.is_hot_updated.ensures ∙ c.if-is_hot_updated.false) c.outlook_with.ensures
+    (sym c.in-Some.ensures.value) (sym c.is_replaced.ensures ∙ c.if-is_replaced.false) c.outlook_with.ensures
 
 pub returns-in_default : goal.returns-in_default
 returns-in_default c = (
