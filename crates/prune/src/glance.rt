@@ -85,7 +85,7 @@ fn list_at_a_glance(
         → ListsDoubtful table.now horizon.0 page.now.slots doubtful.new.items }
     ensures noted { ArePlainOrNoted table.now horizon.0 page.now.slots noted.new }
 {
-    // 0 is no id, so it was not aborted.
+    // 0 is no id, so it was not aborted; and of the deleters' turns nothing is asked here.
     let mut outlook = Outlook {
         known: Xid(0),
         turn: 0,

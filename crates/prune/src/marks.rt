@@ -1,5 +1,5 @@
-//! What pruning makes of each slot, noted in a fixed array: by one walk along the chain of each root, but for those that
-//! a header tells to be of one version.
+//! What pruning makes of each slot, noted in a fixed array: by one walk along the chain of each root that may lose a version,
+//! but for those that a header tells to be of one version.
 
 ghost use Rattle.std.specs.Prelude.{◌≡◌, ◌≤◌, ◌<◌, ◌+◌, ℕ, None, Some, IfSome, Bool, [], ◌∷◌, length, nat_eq, slice_get, if◌then◌else◌};
 ghost use Rattle.std.specs.List.{list_any};
