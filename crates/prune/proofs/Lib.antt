@@ -18,6 +18,6 @@ pub mod SoundAfter
 pub mod Idle
 pub mod Single
 pub mod Gaps
-pub mod Quiet
+pub mod Stays
 pub mod Glancing
 pub mod RoomLemmas

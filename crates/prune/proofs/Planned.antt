@@ -13,12 +13,12 @@ use Rattle.prune.specs.declared.action.Action.TheVariants as action
 use Rattle.prune.specs.declared.marks.PruneVerdict.{PruneVerdict}
 use Rattle.prune.specs.Actions.{HasTarget, action_of}
 use Rattle.prune.specs.Pruning.{root_action, loose_in, PrunesSlot, by_root, by_none, IsPlan, IsPruned}
-use Rattle.prune.specs.Marks.{verdict_of, mark_at, IsVerdict, IsQuiet, ListsAllBut, planned}
+use Rattle.prune.specs.Marks.{verdict_of, mark_at, IsVerdict, PlainlyStays, ListsAllBut, planned}
 use Rattle.prune.specs.Laws.{IsPrunedPage}
 use Rattle.sound_page.proofs.Links.{member-there}
 use Rattle.prune.proofs.Listing.{AreListed, listed-skip, listed-push, listed-jump, applied-slot, applied-count}
 use Rattle.prune.proofs.Idle.{spared-does, nothing-lost}
-use Rattle.prune.proofs.Quiet.{quiet-alive, quiet-chain_none}
+use Rattle.prune.proofs.Stays.{stays-alive, stays-chain_none}
 use Rattle.prune.proofs.Roots.{IsNext, next-listed}
 
 planned-held : (w : Window) (slots : List Slot) (n : ℕ) (o : Option Action) → planned w slots n (verdict_of o) ≡ o
@@ -30,13 +30,13 @@ pub marked-does : (w : Window) (horizon : ℕ) (slots : List Slot) (n : ℕ) (ma
 marked-does w horizon slots n mark few (IsVerdict.held root chain cut o c e) = by_root root chain cut o c (ap (planned w slots n) e ∙ planned-held w slots n _)
 marked-does w horizon slots n mark few (IsVerdict.spared s e) = subst (PrunesSlot w horizon slots n) (sym (ap (planned w slots n) e)) (spared-does w horizon slots n few s)
 
--- nothing is planned for a quiet slot
-quiet-planned : (w : Window) (horizon : ℕ) (slots : List Slot) (n : ℕ) (mark : PruneVerdict) → IsQuiet w horizon slots n → IsVerdict w horizon slots n mark
+-- nothing is planned for a slot that plainly stays
+stays-planned : (w : Window) (horizon : ℕ) (slots : List Slot) (n : ℕ) (mark : PruneVerdict) → PlainlyStays w horizon slots n → IsVerdict w horizon slots n mark
     → planned w slots n mark ≡ None
-quiet-planned w horizon slots n mark quiet (IsVerdict.held root chain cut o c e) =
-    ap (planned w slots n) e ∙ planned-held w slots n _ ∙ quiet-chain_none w horizon slots n root cut chain quiet o c
-quiet-planned w horizon slots n mark quiet (IsVerdict.spared s e) =
-    ap (planned w slots n) e ∙ nothing-lost w horizon slots n (quiet-alive w horizon slots n quiet)
+stays-planned w horizon slots n mark stays (IsVerdict.held root chain cut o c e) =
+    ap (planned w slots n) e ∙ planned-held w slots n _ ∙ stays-chain_none w horizon slots n root cut chain stays o c
+stays-planned w horizon slots n mark stays (IsVerdict.spared s e) =
+    ap (planned w slots n) e ∙ nothing-lost w horizon slots n (stays-alive w horizon slots n stays)
 
 abbrev Target : ℕ → Option Action → Type 0
 Target count None = Unit {0}
@@ -72,52 +72,52 @@ pub does-has_target : (w : Window) (horizon : ℕ) (slots : List Slot) (n : ℕ)
 does-has_target w horizon slots n o a d e = subst (Target (length slots)) e (does-target w horizon slots n o d)
 
 -- The actions of the first `i` of the slots that are listed: of the others up to `low` none has one.
-pub record IsListing (w : Window) (horizon : ℕ) (slots : List Slot) (busy : List ℕ) (marks : List PruneVerdict) (acts : List (ℕ × Action)) (i : ℕ) : Type 0 where
+pub record IsListing (w : Window) (horizon : ℕ) (slots : List Slot) (doubtful : List ℕ) (marks : List PruneVerdict) (acts : List (ℕ × Action)) (i : ℕ) : Type 0 where
   pub low : ℕ
   pub within : low ≤ length slots
-  pub left : ListsAllBut (IsQuiet w horizon slots) low (drop i busy) (length slots + 1)
+  pub left : ListsAllBut (PlainlyStays w horizon slots) low (drop i doubtful) (length slots + 1)
   pub listed : AreListed (length slots) (λ n. planned w slots n (mark_at marks n)) acts (low + 1)
 
 -- up to the next one that is listed
-pub listing-next : (w : Window) (horizon : ℕ) (slots : List Slot) (busy : List ℕ) (marks : List PruneVerdict) (acts : List (ℕ × Action)) (i : ℕ)
-    → ((n : ℕ) → IsVerdict w horizon slots n (mark_at marks n)) → (l : IsListing w horizon slots busy marks acts i) → i < length busy
-    → IsNext w horizon slots busy l.low i × AreListed (length slots) (λ n. planned w slots n (mark_at marks n)) acts (get_or busy i 0)
-listing-next w horizon slots busy marks acts i marked l within =
-    let x = next-listed w horizon slots busy l.low i within l.left in
+pub listing-next : (w : Window) (horizon : ℕ) (slots : List Slot) (doubtful : List ℕ) (marks : List PruneVerdict) (acts : List (ℕ × Action)) (i : ℕ)
+    → ((n : ℕ) → IsVerdict w horizon slots n (mark_at marks n)) → (l : IsListing w horizon slots doubtful marks acts i) → i < length doubtful
+    → IsNext w horizon slots doubtful l.low i × AreListed (length slots) (λ n. planned w slots n (mark_at marks n)) acts (get_or doubtful i 0)
+listing-next w horizon slots doubtful marks acts i marked l within =
+    let x = next-listed w horizon slots doubtful l.low i within l.left in
     let over = x.over in (
       x,
-      listed-jump (length slots) _ acts (l.low + 1) (get_or busy i 0) l.listed (omega arith)
-          (λ n from lt. quiet-planned w horizon slots n (mark_at marks n) (x.between n (omega arith) lt) (marked n)),
+      listed-jump (length slots) _ acts (l.low + 1) (get_or doubtful i 0) l.listed (omega arith)
+          (λ n from lt. stays-planned w horizon slots n (mark_at marks n) (x.between n (omega arith) lt) (marked n)),
     )
 
-pub listing-skip : (w : Window) (horizon : ℕ) (slots : List Slot) (busy : List ℕ) (marks : List PruneVerdict) (acts : List (ℕ × Action)) (i : ℕ)
-    → ((n : ℕ) → IsVerdict w horizon slots n (mark_at marks n)) → IsListing w horizon slots busy marks acts i → i < length busy
-    → None ≡ planned w slots (get_or busy i 0) (mark_at marks (get_or busy i 0)) → IsListing w horizon slots busy marks acts (i + 1)
-listing-skip w horizon slots busy marks acts i marked l within e =
-    let x = listing-next w horizon slots busy marks acts i marked l within in
-    record { low = get_or busy i 0; within = x.0.within; left = x.0.left; listed = listed-skip (length slots) _ acts (get_or busy i 0) x.1 e }
+pub listing-skip : (w : Window) (horizon : ℕ) (slots : List Slot) (doubtful : List ℕ) (marks : List PruneVerdict) (acts : List (ℕ × Action)) (i : ℕ)
+    → ((n : ℕ) → IsVerdict w horizon slots n (mark_at marks n)) → IsListing w horizon slots doubtful marks acts i → i < length doubtful
+    → None ≡ planned w slots (get_or doubtful i 0) (mark_at marks (get_or doubtful i 0)) → IsListing w horizon slots doubtful marks acts (i + 1)
+listing-skip w horizon slots doubtful marks acts i marked l within e =
+    let x = listing-next w horizon slots doubtful marks acts i marked l within in
+    record { low = get_or doubtful i 0; within = x.0.within; left = x.0.left; listed = listed-skip (length slots) _ acts (get_or doubtful i 0) x.1 e }
 
-pub listing-push : (w : Window) (horizon : ℕ) (slots : List Slot) (busy : List ℕ) (marks : List PruneVerdict) (acts : List (ℕ × Action)) (i : ℕ) (a : Action) → length slots ≤ 291
-    → ((n : ℕ) → IsVerdict w horizon slots n (mark_at marks n)) → IsListing w horizon slots busy marks acts i → i < length busy
-    → Some a ≡ planned w slots (get_or busy i 0) (mark_at marks (get_or busy i 0)) → IsListing w horizon slots busy marks (acts ++ (get_or busy i 0, a) ∷ []) (i + 1)
-listing-push w horizon slots busy marks acts i a few marked l within e =
-    let n = get_or busy i 0 in
-    let x = listing-next w horizon slots busy marks acts i marked l within in
+pub listing-push : (w : Window) (horizon : ℕ) (slots : List Slot) (doubtful : List ℕ) (marks : List PruneVerdict) (acts : List (ℕ × Action)) (i : ℕ) (a : Action) → length slots ≤ 291
+    → ((n : ℕ) → IsVerdict w horizon slots n (mark_at marks n)) → IsListing w horizon slots doubtful marks acts i → i < length doubtful
+    → Some a ≡ planned w slots (get_or doubtful i 0) (mark_at marks (get_or doubtful i 0)) → IsListing w horizon slots doubtful marks (acts ++ (get_or doubtful i 0, a) ∷ []) (i + 1)
+listing-push w horizon slots doubtful marks acts i a few marked l within e =
+    let n = get_or doubtful i 0 in
+    let x = listing-next w horizon slots doubtful marks acts i marked l within in
     let over = x.0.over in
     let target = does-has_target w horizon slots n _ a (marked-does w horizon slots n (mark_at marks n) few (marked n)) (sym e) in
     record { low = n; within = x.0.within; left = x.0.left; listed = listed-push (length slots) _ acts n a x.1 (omega arith) x.0.within target e }
 
-pub listing-plan : (w : Window) (horizon : ℕ) (slots : List Slot) (busy : List ℕ) (marks : List PruneVerdict) (acts : List (ℕ × Action)) (i : ℕ) → length slots ≤ 291
-    → ((n : ℕ) → IsVerdict w horizon slots n (mark_at marks n)) → IsListing w horizon slots busy marks acts i → drop i busy ≡ [] → IsPlan w horizon slots acts
-listing-plan w horizon slots busy marks acts i few marked l none = record {
+pub listing-plan : (w : Window) (horizon : ℕ) (slots : List Slot) (doubtful : List ℕ) (marks : List PruneVerdict) (acts : List (ℕ × Action)) (i : ℕ) → length slots ≤ 291
+    → ((n : ℕ) → IsVerdict w horizon slots n (mark_at marks n)) → IsListing w horizon slots doubtful marks acts i → drop i doubtful ≡ [] → IsPlan w horizon slots acts
+listing-plan w horizon slots doubtful marks acts i few marked l none = record {
   in_order = l.listed.in_order;
   exact = λ n there.
-      let gap : ListsAllBut (IsQuiet w horizon slots) l.low [] (length slots + 1) =
-      subst (λ xs. ListsAllBut (IsQuiet w horizon slots) l.low xs (length slots + 1)) none l.left in
+      let gap : ListsAllBut (PlainlyStays w horizon slots) l.low [] (length slots + 1) =
+      subst (λ xs. ListsAllBut (PlainlyStays w horizon slots) l.low xs (length slots + 1)) none l.left in
       let high = there.1 in
       let low_is = l.within in
       let all = listed-jump (length slots) _ acts (l.low + 1) (length slots + 1) l.listed (omega arith)
-      (λ k from lt. quiet-planned w horizon slots k (mark_at marks k) (gap k (omega arith) lt) (marked k)) in
+      (λ k from lt. stays-planned w horizon slots k (mark_at marks k) (gap k (omega arith) lt) (marked k)) in
       subst (PrunesSlot w horizon slots n) (sym (all.each n there.0 (omega arith))) (marked-does w horizon slots n (mark_at marks n) few (marked n));
 }
 

@@ -10,8 +10,8 @@ use Rattle.prune.specs.declared.marks.PruneVerdict.{PruneVerdict}
 use Rattle.prune.specs.declared.marks.PruneVerdict.TheVariants.{Orphan}
 use Rattle.prune.specs.Cutting.{IsCutCount}
 use Rattle.prune.specs.Pruning.{IsInChainOf, chain_action}
-use Rattle.prune.specs.Marks.{verdict_of, mark_at, MarksChain, IsVerdict, held, spared, NoneDead, IsQuiet, ListsAllBut}
-use Rattle.prune.proofs.Quiet.{quiet-none_dead}
+use Rattle.prune.specs.Marks.{verdict_of, mark_at, MarksChain, IsVerdict, held, spared, NoneDead, PlainlyStays, ListsAllBut}
+use Rattle.prune.proofs.Stays.{stays-none_dead}
 
 pub data IsMarkSoFar (w : Window) (horizon : ℕ) (slots : List Slot) (bound n : ℕ) (mark : PruneVerdict) : Type 0 where
   by_chain : (root : ℕ) (chain : List ℕ) (cut : ℕ) → IsInChainOf (has_aborted w) slots root chain n → IsCutCount w horizon slots chain cut
@@ -23,14 +23,14 @@ pub so_far-none : (w : Window) (horizon : ℕ) (slots : List Slot) (n : ℕ) (ma
 so_far-none w horizon slots n mark e =
     IsMarkSoFar.by_none (λ root chain h i. let there = (root-there slots root i.starts).0 in absurd (omega arith)) e
 
--- the slots from one bound to another are no roots, or quiet
+-- the slots from one bound to another are no roots, or plainly stay
 pub so_far-jump : (w : Window) (horizon : ℕ) (slots : List Slot) (bound more n : ℕ) (mark : PruneVerdict)
-    → ((root : ℕ) → bound ≤ root → root < more → is_root slots root ≡ true → IsQuiet w horizon slots root)
+    → ((root : ℕ) → bound ≤ root → root < more → is_root slots root ≡ true → PlainlyStays w horizon slots root)
     → IsMarkSoFar w horizon slots bound n mark → IsMarkSoFar w horizon slots more n mark
-so_far-jump w horizon slots bound more n mark quiet (IsMarkSoFar.by_chain root chain cut o c e) = IsMarkSoFar.by_chain root chain cut o c e
-so_far-jump w horizon slots bound more n mark quiet (IsMarkSoFar.by_none f e) = IsMarkSoFar.by_none
+so_far-jump w horizon slots bound more n mark stays (IsMarkSoFar.by_chain root chain cut o c e) = IsMarkSoFar.by_chain root chain cut o c e
+so_far-jump w horizon slots bound more n mark stays (IsMarkSoFar.by_none f e) = IsMarkSoFar.by_none
     (λ root chain h i. ⊎_elim (λ lt. f root chain lt i)
-    (λ ge. quiet-none_dead w horizon slots root chain (quiet root ge h i.starts) i.is_chain) (cases_lt root bound)) e
+    (λ ge. stays-none_dead w horizon slots root chain (stays root ge h i.starts) i.is_chain) (cases_lt root bound)) e
 
 pub so_far-chain : (w : Window) (horizon : ℕ) (slots : List Slot) (root n : ℕ) (before after : List PruneVerdict) → MarksChain w horizon slots root before after
     → is_root slots root ≡ true → IsMarkSoFar w horizon slots root n (mark_at before n) → IsMarkSoFar w horizon slots (root + 1) n (mark_at after n)
@@ -74,56 +74,56 @@ so_far-all w horizon slots bound n mark all (IsMarkSoFar.by_chain root chain cut
 so_far-all w horizon slots bound n mark all (IsMarkSoFar.by_none f e) =
     spared (λ root chain i. let there = (root-there slots root i.starts).1 in f root chain (omega arith) i) e
 
--- The marks after the first `i` of the slots that are listed: of those up to `low` each is marked, or quiet.
-pub record IsMarkingPage (w : Window) (horizon : ℕ) (slots : List Slot) (busy : List ℕ) (marks : List PruneVerdict) (i : ℕ) : Type 0 where
+-- The marks after the first `i` of the slots that are listed: of those up to `low` each is marked, or plainly stays.
+pub record IsMarkingPage (w : Window) (horizon : ℕ) (slots : List Slot) (doubtful : List ℕ) (marks : List PruneVerdict) (i : ℕ) : Type 0 where
   pub low : ℕ
-  pub left : ListsAllBut (IsQuiet w horizon slots) low (drop i busy) (length slots + 1)
+  pub left : ListsAllBut (PlainlyStays w horizon slots) low (drop i doubtful) (length slots + 1)
   pub marked : (n : ℕ) → IsMarkSoFar w horizon slots (low + 1) n (mark_at marks n)
 
 -- the next one that is listed
-pub record IsNext (w : Window) (horizon : ℕ) (slots : List Slot) (busy : List ℕ) (low i : ℕ) : Type 0 where
-  pub over : low < get_or busy i 0
-  pub within : get_or busy i 0 ≤ length slots
-  pub between : (n : ℕ) → low < n → n < get_or busy i 0 → IsQuiet w horizon slots n
-  pub left : ListsAllBut (IsQuiet w horizon slots) (get_or busy i 0) (drop (i + 1) busy) (length slots + 1)
+pub record IsNext (w : Window) (horizon : ℕ) (slots : List Slot) (doubtful : List ℕ) (low i : ℕ) : Type 0 where
+  pub over : low < get_or doubtful i 0
+  pub within : get_or doubtful i 0 ≤ length slots
+  pub between : (n : ℕ) → low < n → n < get_or doubtful i 0 → PlainlyStays w horizon slots n
+  pub left : ListsAllBut (PlainlyStays w horizon slots) (get_or doubtful i 0) (drop (i + 1) doubtful) (length slots + 1)
 
-pub next-listed : (w : Window) (horizon : ℕ) (slots : List Slot) (busy : List ℕ) (low i : ℕ) → i < length busy
-    → ListsAllBut (IsQuiet w horizon slots) low (drop i busy) (length slots + 1) → IsNext w horizon slots busy low i
-next-listed w horizon slots busy low i within l =
-    let more : ListsAllBut (IsQuiet w horizon slots) low (get_or busy i 0 ∷ drop (i + 1) busy) (length slots + 1) =
-    subst (λ xs. ListsAllBut (IsQuiet w horizon slots) low xs (length slots + 1)) (next-of busy i within) l in
+pub next-listed : (w : Window) (horizon : ℕ) (slots : List Slot) (doubtful : List ℕ) (low i : ℕ) → i < length doubtful
+    → ListsAllBut (PlainlyStays w horizon slots) low (drop i doubtful) (length slots + 1) → IsNext w horizon slots doubtful low i
+next-listed w horizon slots doubtful low i within l =
+    let more : ListsAllBut (PlainlyStays w horizon slots) low (get_or doubtful i 0 ∷ drop (i + 1) doubtful) (length slots + 1) =
+    subst (λ xs. ListsAllBut (PlainlyStays w horizon slots) low xs (length slots + 1)) (next-of doubtful i within) l in
     record { over = more.0; within = let lt = more.1 in omega arith; between = more.2; left = more.3 }
   where
     next-of : (xs : List ℕ) (i : ℕ) → i < length xs → drop i xs ≡ get_or xs i 0 ∷ drop (i + 1) xs
     next-of xs i within = rw add-one (drop-cons xs i 0 within)
 
-pub marking-root : (w : Window) (horizon : ℕ) (slots : List Slot) (busy : List ℕ) (before after : List PruneVerdict) (i : ℕ) (m : IsMarkingPage w horizon slots busy before i)
-    → i < length busy → is_root slots (get_or busy i 0) ≡ true → MarksChain w horizon slots (get_or busy i 0) before after → IsMarkingPage w horizon slots busy after (i + 1)
-marking-root w horizon slots busy before after i m within starts c =
-    let x = next-listed w horizon slots busy m.low i within m.left in
+pub marking-root : (w : Window) (horizon : ℕ) (slots : List Slot) (doubtful : List ℕ) (before after : List PruneVerdict) (i : ℕ) (m : IsMarkingPage w horizon slots doubtful before i)
+    → i < length doubtful → is_root slots (get_or doubtful i 0) ≡ true → MarksChain w horizon slots (get_or doubtful i 0) before after → IsMarkingPage w horizon slots doubtful after (i + 1)
+marking-root w horizon slots doubtful before after i m within starts c =
+    let x = next-listed w horizon slots doubtful m.low i within m.left in
     record {
-      low = get_or busy i 0;
+      low = get_or doubtful i 0;
       left = x.left;
-      marked = λ n. so_far-chain w horizon slots (get_or busy i 0) n before after c starts
-          (so_far-jump w horizon slots (m.low + 1) (get_or busy i 0) n _ (λ r h lt _. x.between r (omega arith) lt) (m.marked n));
+      marked = λ n. so_far-chain w horizon slots (get_or doubtful i 0) n before after c starts
+          (so_far-jump w horizon slots (m.low + 1) (get_or doubtful i 0) n _ (λ r h lt _. x.between r (omega arith) lt) (m.marked n));
     }
 
-pub marking-other : (w : Window) (horizon : ℕ) (slots : List Slot) (busy : List ℕ) (marks : List PruneVerdict) (i : ℕ) (m : IsMarkingPage w horizon slots busy marks i)
-    → i < length busy → is_root slots (get_or busy i 0) ≡ false → IsMarkingPage w horizon slots busy marks (i + 1)
-marking-other w horizon slots busy marks i m within off =
-    let x = next-listed w horizon slots busy m.low i within m.left in
+pub marking-other : (w : Window) (horizon : ℕ) (slots : List Slot) (doubtful : List ℕ) (marks : List PruneVerdict) (i : ℕ) (m : IsMarkingPage w horizon slots doubtful marks i)
+    → i < length doubtful → is_root slots (get_or doubtful i 0) ≡ false → IsMarkingPage w horizon slots doubtful marks (i + 1)
+marking-other w horizon slots doubtful marks i m within off =
+    let x = next-listed w horizon slots doubtful m.low i within m.left in
     record {
-      low = get_or busy i 0;
+      low = get_or doubtful i 0;
       left = x.left;
-      marked = λ n. so_far-jump w horizon slots (m.low + 1) (get_or busy i 0 + 1) n _
+      marked = λ n. so_far-jump w horizon slots (m.low + 1) (get_or doubtful i 0 + 1) n _
           (λ r h lt starts. ⊎_elim (λ below. x.between r (omega arith) below)
-          (λ ge. let same : r ≡ get_or busy i 0 = omega arith in absurd (let at = ap (is_root slots) same in cc)) (cases_lt r (get_or busy i 0))) (m.marked n);
+          (λ ge. let same : r ≡ get_or doubtful i 0 = omega arith in absurd (let at = ap (is_root slots) same in cc)) (cases_lt r (get_or doubtful i 0))) (m.marked n);
     }
 
-pub marking-all : (w : Window) (horizon : ℕ) (slots : List Slot) (busy : List ℕ) (marks : List PruneVerdict) (i : ℕ) → IsMarkingPage w horizon slots busy marks i
-    → drop i busy ≡ [] → (n : ℕ) → IsVerdict w horizon slots n (mark_at marks n)
-marking-all w horizon slots busy marks i m none n =
-    let l : ListsAllBut (IsQuiet w horizon slots) m.low [] (length slots + 1) = subst (λ xs. ListsAllBut (IsQuiet w horizon slots) m.low xs (length slots + 1)) none m.left in
+pub marking-all : (w : Window) (horizon : ℕ) (slots : List Slot) (doubtful : List ℕ) (marks : List PruneVerdict) (i : ℕ) → IsMarkingPage w horizon slots doubtful marks i
+    → drop i doubtful ≡ [] → (n : ℕ) → IsVerdict w horizon slots n (mark_at marks n)
+marking-all w horizon slots doubtful marks i m none n =
+    let l : ListsAllBut (PlainlyStays w horizon slots) m.low [] (length slots + 1) = subst (λ xs. ListsAllBut (PlainlyStays w horizon slots) m.low xs (length slots + 1)) none m.left in
     so_far-all w horizon slots (length slots + 1) n _ (omega arith)
     (so_far-jump w horizon slots (m.low + 1) (length slots + 1) n _ (λ r h lt _. l r (omega arith) lt) (m.marked n))
 

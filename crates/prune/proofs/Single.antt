@@ -10,13 +10,16 @@ use Rattle.tuple_header.specs.declared.version.Header.{Header}
 use Rattle.tuple_header.specs.Marks.{is_hot_updated}
 use Rattle.commit_status.specs.Window.{Window}
 use Rattle.visibility.specs.Visible.{IsDead}
-use Rattle.hot_chain.specs.Chain.{has_aborted, successor, start_in, first_of, IsChain, IsEnd}
+use Rattle.hot_chain.specs.Chain.{has_aborted, is_replaced, successor, start_in, first_of, IsChain, IsEnd}
 use Rattle.sound_page.specs.Dead.{IsDeadAt}
 use Rattle.prune.specs.Cutting.{IsCutCount}
 use Rattle.prune.specs.Marks.{IsSingle}
 use Rattle.prune.proofs.Cuts.{some-version, dead-there, dead-here}
 
-pub leads-nowhere : (aborted : ℕ → Bool) (slots : List Slot) (h : Header) → is_hot_updated h ≡ false → successor aborted slots h ≡ None
+not-replaced : (aborted : ℕ → Bool) (h : Header) → is_hot_updated h ≡ false → is_replaced aborted h ≡ false
+not-replaced aborted h off = rw off refl
+
+pub leads-nowhere : (aborted : ℕ → Bool) (slots : List Slot) (h : Header) → is_replaced aborted h ≡ false → successor aborted slots h ≡ None
 leads-nowhere aborted slots h off = rw off refl
 
 distinct-alone : (n : ℕ) → IsDistinct nat_eq (n ∷ [])
@@ -24,7 +27,7 @@ unfolding IsDistinct
 distinct-alone n = (tt, tt)
 
 pub single-chain : (aborted : ℕ → Bool) (slots : List Slot) (n start : ℕ) (h : Header) → first_of slots n ≡ Some start → header_at slots start ≡ Some h
-    → is_hot_updated h ≡ false → IsChain aborted slots n (start ∷ [])
+    → is_replaced aborted h ≡ false → IsChain aborted slots n (start ∷ [])
 single-chain aborted slots n start h first at off = record {
   start = sym first;
   linked = λ i more. absurd (omega arith);
@@ -62,6 +65,6 @@ first-there slots n h e = first-in slots n h (slot_at slots n) refl e
 pub single-is : (w : Window) (horizon : ℕ) (slots : List Slot) (root start : ℕ) (h : Header) (dead : Bool) → start ≡ unwrap_or (redirect_at slots root) root
     → header_at slots start ≡ Some h → is_hot_updated h ≡ false → IsTrue dead ↔ IsDead w horizon h → IsSingle w horizon slots root start dead
 single-is w horizon slots root start h dead e at off t = record {
-  is_chain = single-chain (has_aborted w) slots root start h (first-there slots root h (ap (header_at slots) (sym e) ∙ at) ∙ ap Some (sym e)) at off;
+  is_chain = single-chain (has_aborted w) slots root start h (first-there slots root h (ap (header_at slots) (sym e) ∙ at) ∙ ap Some (sym e)) at (not-replaced (has_aborted w) h off);
   is_dead = (λ yes. dead-there w horizon slots start h at (t.0 yes), λ d. t.1 (dead-here w horizon slots start h at d));
 }

@@ -1,12 +1,11 @@
 -- The marks that a walk along each root's chain leaves.
-use Rattle.std.specs.Prelude.{◌≡◌, ◌<◌, ◌||◌, ◌==◌, ℕ, nat_eq, Bool, false, IsTrue, ◌↔◌, List, [], ◌∷◌, Option, Some, None, length, slice_index, slice_index_or, if◌then◌else◌}
+use Rattle.std.specs.Prelude.{◌≡◌, ◌+◌, ◌<◌, ◌||◌, ◌==◌, ℕ, nat_eq, Bool, false, IsTrue, ◌↔◌, List, [], ◌∷◌, Option, Some, None, length, slice_index, slice_index_or, if◌then◌else◌}
 use Rattle.std.specs.List.{list_any}
 use Rattle.page_slots.specs.declared.slot.Slot.{Slot}
 use Rattle.commit_status.specs.Window.{Window}
-use Rattle.hot_chain.specs.Chain.{has_aborted, first_of, IsChain}
+use Rattle.hot_chain.specs.Chain.{has_aborted, is_replaced, first_of, IsChain}
 use Rattle.page_slots.specs.Slots.{header_at}
 use Rattle.tuple_header.specs.declared.version.Header.{Header}
-use Rattle.tuple_header.specs.Marks.{is_hot_updated}
 use Rattle.visibility.specs.Visible.{IsDead}
 use Rattle.prune.specs.declared.action.Action.{Action}
 use Rattle.prune.specs.declared.marks.PruneVerdict.{PruneVerdict}
@@ -57,14 +56,18 @@ pub data IsVerdict (w : Window) (horizon : ℕ) (slots : List Slot) (n : ℕ) (m
       → mark ≡ verdict_of (chain_action root chain cut n) → IsVerdict w horizon slots n mark
   spared : IsSpared w horizon slots n → mark ≡ Orphan → IsVerdict w horizon slots n mark
 
--- no later version replaced the first one of the slot's chain, and that one is not dead
-abbrev pub IsQuiet : Window → ℕ → List Slot → ℕ → Type 0
-IsQuiet w horizon slots n = (start : ℕ) (h : Header) → first_of slots n ≡ Some start → header_at slots start ≡ Some h → (is_hot_updated h ≡ false) × ¬ IsDead w horizon h
+-- The first version of the slot's chain tells that nothing of it goes: no later one replaced it, and it is not dead.
+abbrev pub PlainlyStays : Window → ℕ → List Slot → ℕ → Type 0
+PlainlyStays w horizon slots n = (start : ℕ) (h : Header) → first_of slots n ≡ Some start → header_at slots start ≡ Some h → (is_replaced (has_aborted w) h ≡ false) × ¬ IsDead w horizon h
 
 -- The numbers ascend, all of them over `low` and below a bound; and of each other number between these Q is so.
 abbrev pub ListsAllBut : (ℕ → Type 0) → ℕ → List ℕ → ℕ → Type 0
 ListsAllBut Q low [] bound = (n : ℕ) → low < n → n < bound → Q n
 ListsAllBut Q low (x ∷ rest) bound = (low < x) × (x < bound) × ((n : ℕ) → low < n → n < x → Q n) × ListsAllBut Q x rest bound
+
+-- the slots of a page, in order, but for those that plainly stay
+abbrev pub ListsDoubtful : Window → ℕ → List Slot → List ℕ → Type 0
+ListsDoubtful w horizon slots doubtful = ListsAllBut (PlainlyStays w horizon slots) 0 doubtful (length slots + 1)
 
 -- what becomes of a slot with this mark
 abbrev pub planned : Window → List Slot → ℕ → PruneVerdict → Option Action

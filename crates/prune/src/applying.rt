@@ -10,10 +10,10 @@ ghost use Rattle.prune.specs.Pruning.{IsPruned};
 ghost use Rattle.sound_page.specs.Sound.{KeepsRoots, SoundPage};
 ghost use Rattle.sound_page.specs.Readers.{KeepsFound};
 ghost use Rattle.prune.specs.Laws.{IsPrunedPage};
-ghost use Rattle.prune.specs.Marks.{IsQuiet, ListsAllBut};
+ghost use Rattle.prune.specs.Marks.{ListsDoubtful};
 
 use crate::action::{Action, PrunePlan};
-use crate::glance::{Numbers, list_busy};
+use crate::glance::{Numbers, list_doubtful};
 use crate::planning::list_actions;
 use arrayvec::ArrayVec;
 use commit_status::StatusTable;
@@ -46,16 +46,15 @@ pub fn apply(page: &mut Page, plan: &PrunePlan)
 /// Prunes a page, of whose slots only these need more than a glance. It stands alone, so that its list is cleared only where it
 /// is called.
 #[inline(never)]
-fn prune_busy(page: &mut Page, busy: &[u16], table: &StatusTable, horizon: Xid)
-    requires busy { ListsAllBut
-        (IsQuiet table.now horizon.0 page.old.slots) 0 busy.now (length page.old.slots + 1) }
+fn prune_doubtful(page: &mut Page, doubtful: &[u16], table: &StatusTable, horizon: Xid)
+    requires doubtful { ListsDoubtful table.now horizon.0 page.old.slots doubtful.now }
     ensures { IsPrunedPage table.now horizon.0 page.old page.new }
 {
     let mut plan = PrunePlan {
         change: page.change(),
         actions: ArrayVec::new(),
     };
-    list_actions(&mut plan.actions, busy, page, table, horizon);
+    list_actions(&mut plan.actions, doubtful, page, table, horizon);
     apply(page, &plan);
 }
 
@@ -64,10 +63,10 @@ fn prune_by_plan(page: &mut Page, table: &StatusTable, horizon: Xid)
     ensures { IsPrunedPage table.now horizon.0 page.old page.new }
 {
     let _limit = page.slots();
-    let mut busy: Numbers = ArrayVec::new();
-    list_busy(&mut busy, page, table, horizon);
-    if !busy.is_empty() {
-        prune_busy(page, busy.as_slice(), table, horizon);
+    let mut doubtful: Numbers = ArrayVec::new();
+    list_doubtful(&mut doubtful, page, table, horizon);
+    if !doubtful.is_empty() {
+        prune_doubtful(page, doubtful.as_slice(), table, horizon);
     }
 }
 

@@ -10,7 +10,7 @@ ghost use Rattle.prune.specs.Named.{named_at, IsNamedPrefix, BecomesUnused, IsLo
 ghost use Rattle.tuple_header.specs.declared.version.TheConstants.{MOST_SLOTS};
 
 use crate::action::{Action, PrunePlan};
-use crate::glance::{Numbers, list_busy};
+use crate::glance::{Numbers, list_doubtful};
 use crate::marks::{Marks, PruneVerdict, cut_count, mark_page, root_action};
 use crate::planning::orphan_action;
 use arrayvec::ArrayVec;
@@ -198,8 +198,8 @@ pub fn check_plan(page: &Page, plan: &PrunePlan, table: &StatusTable, horizon: X
     }
     let named = named_by(&plan.actions);
     let mut marks = [PruneVerdict::Orphan; 292];
-    let mut busy: Numbers = ArrayVec::new();
-    list_busy(&mut busy, page, table, horizon);
-    mark_page(&mut marks, busy.as_slice(), page, table, horizon);
+    let mut doubtful: Numbers = ArrayVec::new();
+    list_doubtful(&mut doubtful, page, table, horizon);
+    mark_page(&mut marks, doubtful.as_slice(), page, table, horizon);
     have_prefixes(page, &named, table, horizon) && are_accounted(page, &marks, &named, table)
 }

@@ -49,7 +49,7 @@ fn earliest_deletion(deleter: Xid, turn: u32, table: &StatusTable, horizon: Xid)
     if deleter.0 == 0 {
         return Some(turn);
     }
-    if stands_before(deleter, horizon) && is_committed(deleter, table) {
+    if is_committed(deleter, table) && stands_before(deleter, horizon) {
         return None;
     }
     match table.turn_of(deleter) {

@@ -1,34 +1,52 @@
 //! Which slots of a page need more than a glance before pruning: few on most pages, and only those are gone over again.
 
-ghost use Rattle.std.specs.Prelude.{◌≡◌, ◌+◌, [], IfSome, IsTrue, length};
+ghost use Rattle.std.specs.Prelude.{◌≡◌, ◌+◌, ◌<◌, [], IfSome, IsTrue, IsFalse, length};
 ghost use Rattle.commit_status.specs.Window.{IsAborted};
-ghost use Rattle.sound_page.specs.Dead.{IsDeadAt};
-ghost use Rattle.prune.specs.Marks.{IsQuiet, ListsAllBut};
-ghost use Rattle.prune.specs.Glances.{is_end_at, AreEndsLive, IsQuietByEnds};
+ghost use Rattle.hot_chain.specs.Chain.{has_aborted, is_replaced};
+ghost use Rattle.prune.specs.Marks.{ListsAllBut, ListsDoubtful};
+ghost use Rattle.prune.specs.Glances.{is_end_at, StaysByEnds, IsPlainAt, ArePlainOrNoted, LeadsToNoneNoted};
 
 use crate::dead::{Outlook, outlook_with};
 use arrayvec::ArrayVec;
-use commit_status::StatusTable;
+use commit_status::{Status, StatusTable};
 use page_slots::Page;
-use visibility::{Fate, fate_of};
+use tuple_header::Header;
 use xid_circle::Xid;
 
 /// Numbers of slots, in order. A page has at most 291.
 pub(crate) type Numbers = ArrayVec<u16, 292>;
 
+/// For each number from 0 to 291, whether its slot is noted.
+type Noted = [bool; 292];
+
+#[inline(always)]
+fn has_aborted(x: Xid, table: &StatusTable) -> bool
+    ensures { result ≡ has_aborted table.now x.0 }
+{
+    matches!(table.status(x), Status::Aborted)
+}
+
+/// Whether a later version of its row replaced a version, by an update that may count.
+#[inline(always)]
+fn is_replaced(header: &Header, table: &StatusTable) -> bool
+    ensures { result ≡ is_replaced (has_aborted table.now) header.now }
+{
+    header.is_hot_updated() && header.xmax.0 != 0 && !has_aborted(header.xmax, table)
+}
+
 /// Whether a slot holds a heap-only version that no later one replaced: the end of a chain of more than one, mostly.
 #[inline(always)]
-fn is_end_at(page: &Page, number: u16) -> bool
-    ensures { result ≡ is_end_at page.now.slots number }
+fn is_end_at(page: &Page, number: u16, table: &StatusTable) -> bool
+    ensures { result ≡ is_end_at table.now page.now.slots number }
 {
     match page.header(number) {
-        Some(header) => header.is_heap_only() && !header.is_hot_updated(),
+        Some(header) => header.is_heap_only() && !is_replaced(&header, table),
         None => false,
     }
 }
 
-/// What the versions so far tell with that of a slot, unless the slot needs a closer look. A redirect needs none where it leads
-/// to the end of a chain, as long as no such version is dead.
+/// What the versions so far tell with that of a slot, unless the slot needs a closer look. It needs none where the version is not
+/// dead and no later one replaced it. Nor does a redirect that leads to the end of a chain, as long as no such end is dead.
 #[inline(always)]
 fn glance(
     page: &Page,
@@ -39,29 +57,35 @@ fn glance(
 ) -> Option<Outlook>
     requires known { ¬ IsAborted table.now so_far.known.0 }
     ensures { IfSome result
-        (λ outlook. IsQuietByEnds table.now horizon.0 page.now.slots number
-        × (¬ IsDeadAt table.now horizon.0 page.now.slots number)
+        (λ outlook. StaysByEnds table.now horizon.0 page.now.slots number
+        × IsPlainAt table.now horizon.0 page.now.slots number
         × ¬ IsAborted table.now outlook.known.0) }
 {
     match page.header(number) {
-        Some(header) if header.is_hot_updated() => None,
+        Some(header) if is_replaced(&header, table) => None,
         Some(header) => outlook_with(&header, so_far, table, horizon),
         None => match page.redirect(number) {
-            Some(target) if !is_end_at(page, target) => None,
+            Some(target) if !is_end_at(page, target, table) => None,
             _ => Some(so_far),
         },
     }
 }
 
-/// Lists the slots that need a closer look, and answers whether all others were told at a glance: none of the versions at the
-/// end of a chain is dead. The list is empty before.
-fn list_at_a_glance(busy: &mut Numbers, page: &Page, table: &StatusTable, horizon: Xid) -> bool
-    requires blank { busy.old.items ≡ [] }
-    ensures { IsTrue result
-        → ListsAllBut (IsQuiet table.now horizon.0 page.now.slots)
-        0 busy.new.items (length page.now.slots + 1) }
+/// Lists and notes the slots that need a closer look, and answers whether all others plainly stay: where none of the ends of
+/// chains is dead. The list is empty before.
+fn list_at_a_glance(
+    doubtful: &mut Numbers,
+    noted: &mut Noted,
+    page: &Page,
+    table: &StatusTable,
+    horizon: Xid,
+) -> bool
+    requires blank { doubtful.old.items ≡ [] }
+    ensures stay { IsTrue result
+        → ListsDoubtful table.now horizon.0 page.now.slots doubtful.new.items }
+    ensures noted { ArePlainOrNoted table.now horizon.0 page.now.slots noted.new }
 {
-    // 0 is no id, so it was not aborted.
+    // 0 is no id, so it was not aborted; and of the deleters' turns nothing is asked here.
     let mut outlook = Outlook {
         known: Xid(0),
         turn: 0,
@@ -71,49 +95,52 @@ fn list_at_a_glance(busy: &mut Numbers, page: &Page, table: &StatusTable, horizo
         match glance(page, number, outlook, table, horizon) {
             Some(next) => outlook = next,
             None => {
-                busy.push(number);
-                are_ends_live = are_ends_live && !is_end_at(page, number);
+                doubtful.push(number);
+                noted[usize::from(number)] = true;
+                are_ends_live = are_ends_live && !is_end_at(page, number, table);
             }
         }
     }
     are_ends_live
 }
 
-/// Whether a slot is told to be left as it is by the version in it, or where it leads: no later version replaced that, and it is
-/// not dead.
-fn is_quiet(page: &Page, number: u16, table: &StatusTable, horizon: Xid) -> bool
-    ensures { IsTrue result → IsQuiet table.now horizon.0 page.now.slots number }
+/// Whether a slot is noted, or leads to one that is.
+fn leads_to_noted(page: &Page, noted: &Noted, number: u16) -> bool
+    requires { number < 292 }
+    ensures { IsFalse result → LeadsToNoneNoted page.now.slots noted.now number }
 {
-    let start = page.redirect(number).unwrap_or(number);
-    match page.header(start) {
-        Some(header) => {
-            !header.is_hot_updated() && matches!(fate_of(&header, horizon, table), Fate::Kept)
-        }
-        None => true,
+    if noted[usize::from(number)] {
+        return true;
+    }
+    match page.redirect(number) {
+        Some(target) if target < 292 => noted[usize::from(target)],
+        _ => false,
     }
 }
 
-/// Lists the slots that are not told so. The list is empty before.
-fn list_by_starts(busy: &mut Numbers, page: &Page, table: &StatusTable, horizon: Xid)
-    requires blank { busy.old.items ≡ [] }
+/// Lists the slots that are noted, or lead to one that is. The list is empty before.
+fn list_noted(doubtful: &mut Numbers, noted: &Noted, page: &Page)
+    requires blank { doubtful.old.items ≡ [] }
     ensures { ListsAllBut
-        (IsQuiet table.now horizon.0 page.now.slots) 0 busy.new.items (length page.now.slots + 1) }
+        (LeadsToNoneNoted page.now.slots noted.now) 0 doubtful.new.items
+        (length page.now.slots + 1) }
 {
     for number in 1..page.slots() + 1 {
-        if !is_quiet(page, number, table, horizon) {
-            busy.push(number);
+        if leads_to_noted(page, noted, number) {
+            doubtful.push(number);
         }
     }
 }
 
-/// Lists the slots of a page of which it is not told that pruning leaves them as they are. The list is empty before.
-pub(crate) fn list_busy(busy: &mut Numbers, page: &Page, table: &StatusTable, horizon: Xid)
-    requires blank { busy.old.items ≡ [] }
-    ensures { ListsAllBut
-        (IsQuiet table.now horizon.0 page.now.slots) 0 busy.new.items (length page.now.slots + 1) }
+/// Lists the slots of a page that do not plainly stay: few where pruning finds little, and none where no version is dead or
+/// replaced. The list is empty before.
+pub(crate) fn list_doubtful(doubtful: &mut Numbers, page: &Page, table: &StatusTable, horizon: Xid)
+    requires blank { doubtful.old.items ≡ [] }
+    ensures { ListsDoubtful table.now horizon.0 page.now.slots doubtful.new.items }
 {
-    if !list_at_a_glance(busy, page, table, horizon) {
-        busy.clear();
-        list_by_starts(busy, page, table, horizon);
+    let mut noted = [false; 292];
+    if !list_at_a_glance(doubtful, &mut noted, page, table, horizon) {
+        doubtful.clear();
+        list_noted(doubtful, &noted, page);
     }
 }

@@ -7,8 +7,9 @@
 //!
 //! [`plan`] says what is to be done without changing the page, [`check_plan`] whether a plan may be applied, whoever made
 //! it, and when, [`apply`] does what it names and nothing else, and [`prune`] is the first and the last of these. Where no
-//! version on the page is dead, there is nothing to do, and no chain has to be walked: [`has_dead`] tells. What room the page has
-//! once a plan is applied, [`room_after`] tells before.
+//! version on the page is dead, there is nothing to do: [`has_dead`] tells, and [`first_death`] from which turn on one may be.
+//! All of them go over the headers once (`glance.rt`), and walk only the chains that may hold a dead version (`marks.rt`). What
+//! room the page has once a plan is applied, [`room_after`] tells before.
 //! `specs/Cutting.antt` defines what is cut, by a chain's list on any page and by its links, `specs/Pruning.antt` what
 //! becomes of each slot, `specs/Checks.antt` which plans check; `Sound` and `Readers` of `sound_page`, on which pages no
 //! reader misses anything. Those who see a page as a list of slots use `Removes` (what goes would be cut), `IsPruned` (the

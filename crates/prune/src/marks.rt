@@ -1,12 +1,12 @@
-//! What pruning makes of each slot, noted in a fixed array: by one walk along the chain of each root, but for those that
-//! a header tells to be of one version.
+//! What pruning makes of each slot, noted in a fixed array: by one walk along the chain of each root that may lose a version,
+//! but for those that a header tells to be of one version.
 
 ghost use Rattle.std.specs.Prelude.{◌≡◌, ◌≤◌, ◌<◌, ◌+◌, ℕ, None, Some, IfSome, Bool, [], ◌∷◌, length, nat_eq, slice_get, if◌then◌else◌};
 ghost use Rattle.std.specs.List.{list_any};
 ghost use Rattle.hot_chain.specs.Chain.{has_aborted, IsChain};
 ghost use Rattle.prune.specs.Cutting.{IsCutCount};
 ghost use Rattle.prune.specs.Pruning.{root_action};
-ghost use Rattle.prune.specs.Marks.{AreNumbers, verdict_of, mark_at, marked, MarksChain, IsVerdict, IsSingle, IsQuiet, ListsAllBut};
+ghost use Rattle.prune.specs.Marks.{AreNumbers, verdict_of, mark_at, marked, MarksChain, IsVerdict, IsSingle, ListsDoubtful};
 
 use crate::action::Action;
 use crate::dead::is_dead_at;
@@ -163,19 +163,18 @@ fn mark_root(
 /// holds none. Nothing is noted before.
 pub(crate) fn mark_page(
     marks: &mut Marks,
-    busy: &[u16],
+    doubtful: &[u16],
     page: &Page,
     table: &StatusTable,
     horizon: Xid,
 )
     requires blank { (n : ℕ) → mark_at marks.old n ≡ PruneVerdict.Orphan }
-    requires busy { ListsAllBut
-        (IsQuiet table.now horizon.0 page.now.slots) 0 busy.now (length page.now.slots + 1) }
+    requires doubtful { ListsDoubtful table.now horizon.0 page.now.slots doubtful.now }
     ensures { (n : ℕ) → IsVerdict table.now horizon.0 page.now.slots n (mark_at marks.new n) }
 {
     let _limit = page.slots();
     let mut listed: Numbers = ArrayVec::new();
-    for root in busy {
+    for root in doubtful {
         if is_root(page, *root) {
             mark_root(marks, &mut listed, page, *root, table, horizon);
         }

@@ -6,10 +6,10 @@ ghost use Rattle.prune.specs.Pruning.{orphan_action, IsPlan};
 ghost use Rattle.hot_chain.specs.Chain.{has_aborted};
 ghost use Rattle.sound_page.specs.Links.{NoSharedSlots};
 ghost use Rattle.prune.specs.Checks.{Checks};
-ghost use Rattle.prune.specs.Marks.{mark_at, planned, IsQuiet, ListsAllBut};
+ghost use Rattle.prune.specs.Marks.{mark_at, planned, ListsDoubtful};
 
 use crate::action::{Action, Actions, PrunePlan};
-use crate::glance::{Numbers, list_busy};
+use crate::glance::{Numbers, list_doubtful};
 use crate::marks::{Marks, PruneVerdict, mark_page};
 use arrayvec::ArrayVec;
 use commit_status::{Status, StatusTable};
@@ -46,21 +46,20 @@ fn action_at(page: &Page, marks: &Marks, number: u16, table: &StatusTable) -> Op
 #[inline(never)]
 pub(crate) fn list_actions(
     actions: &mut Actions,
-    busy: &[u16],
+    doubtful: &[u16],
     page: &Page,
     table: &StatusTable,
     horizon: Xid,
 )
     requires blank { actions.old.items ≡ [] }
-    requires busy { ListsAllBut
-        (IsQuiet table.now horizon.0 page.now.slots) 0 busy.now (length page.now.slots + 1) }
+    requires doubtful { ListsDoubtful table.now horizon.0 page.now.slots doubtful.now }
     ensures can_apply { CanApply (length page.now.slots) actions.new.items }
     ensures exact { IsPlan table.now horizon.0 page.now.slots actions.new.items }
 {
     let _limit = page.slots();
     let mut marks = [PruneVerdict::Orphan; 292];
-    mark_page(&mut marks, busy, page, table, horizon);
-    for number in busy {
+    mark_page(&mut marks, doubtful, page, table, horizon);
+    for number in doubtful {
         if let Some(action) = action_at(page, &marks, *number, table) {
             actions.push((*number, action));
         }
@@ -79,10 +78,10 @@ pub fn plan(page: &Page, table: &StatusTable, horizon: Xid) -> PrunePlan
 {
     let _limit = page.slots();
     let mut actions = ArrayVec::new();
-    let mut busy: Numbers = ArrayVec::new();
-    list_busy(&mut busy, page, table, horizon);
-    if !busy.is_empty() {
-        list_actions(&mut actions, busy.as_slice(), page, table, horizon);
+    let mut doubtful: Numbers = ArrayVec::new();
+    list_doubtful(&mut doubtful, page, table, horizon);
+    if !doubtful.is_empty() {
+        list_actions(&mut actions, doubtful.as_slice(), page, table, horizon);
     }
     PrunePlan {
         change: page.change(),

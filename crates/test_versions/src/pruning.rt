@@ -16,13 +16,16 @@ const EARLY: [(u16, Action); 1] = [(1, Action::Redirect(2))];
 
 const LATE: [(u16, Action); 2] = [(1, Action::Redirect(3)), (2, Action::Unuse)];
 
-static A_CHAIN_OF_THREE: [PageStep; 48] = [
+static A_CHAIN_OF_THREE: [PageStep; 51] = [
     PageStep::Finish(&[3, 4, 5, 6, 7], Status::Committed),
     PageStep::Put((3, 4, 2, 0x4000, 0)),
     PageStep::Put((4, 5, 3, 0xc000, 0)),
     PageStep::Put((5, 0, 3, 0x8000, 0x0800)),
     PageStep::SetFlag,
     PageStep::Slots(3),
+    // 4, whose turn is 1, deleted the first version
+    PageStep::FirstDeath(4, Some(1)),
+    PageStep::FirstDeath(5, None),
     PageStep::Plan(4, &[]),
     PageStep::Plan(5, &EARLY),
     PageStep::Plan(6, &LATE),
@@ -69,6 +72,7 @@ static A_CHAIN_OF_THREE: [PageStep; 48] = [
     PageStep::Unused(2),
     PageStep::Header(3, (5, 0, 3, 0x8000, 0x0800)),
     PageStep::Plan(6, &[]),
+    PageStep::FirstDeath(6, Some(5)),
     PageStep::Slots(3),
 ];
 
@@ -140,6 +144,29 @@ static STARTED_OVER: [PageStep; 8] = [
 #[test]
 fn a_redirect_and_ids_that_started_over(rt: HostRuntime) -> Result<(), Fail> {
     run_page(rt.alloc(), 4294967294, &STARTED_OVER)
+}
+
+/// A row behind a redirect is deleted, and another redirect leads to a dead version that isn't heap-only.
+static BEHIND_REDIRECTS: [PageStep; 14] = [
+    PageStep::Finish(&[3, 4, 5, 6], Status::Committed),
+    PageStep::Put((3, 0, 1, 0, 0x0800)),
+    PageStep::Put((4, 5, 2, 0x8000, 0)),
+    PageStep::SetRedirect(1, 2),
+    PageStep::FirstDeath(5, Some(2)),
+    PageStep::Plan(5, &[]),
+    PageStep::Plan(6, &[(1, Action::Kill), (2, Action::Unuse)]),
+    PageStep::Put((3, 6, 3, 0, 0)),
+    PageStep::Put((3, 0, 4, 0, 0x0800)),
+    PageStep::SetRedirect(4, 3),
+    PageStep::Prune(7),
+    PageStep::Dead(1),
+    PageStep::Dead(3),
+    PageStep::Dead(4),
+];
+
+#[test]
+fn versions_behind_redirects(rt: HostRuntime) -> Result<(), Fail> {
+    run_page(rt.alloc(), 3, &BEHIND_REDIRECTS)
 }
 
 static APPLIED_ONCE: [PageStep; 8] = [

@@ -10,7 +10,7 @@ use arrayvec::ArrayVec;
 use commit_status::{Status, StatusTable};
 use hot_chain::{chain, fetch, first_seen, is_root, list_chain, root_of};
 use page_slots::{Page, Slot};
-use prune::{Action, PrunePlan, apply, check_plan, plan, prune, room_after};
+use prune::{Action, PrunePlan, apply, check_plan, first_death, plan, prune, room_after};
 use std::alloc::Global;
 use std::test::Fail;
 use tuple_header::{Header, Row, Tuple, fault_of};
@@ -62,6 +62,8 @@ pub enum PageStep {
     Fetch(u16, Option<(u32, u32)>),
     /// The first of these slots whose version the owner of id 3 sees.
     FirstSeen(&'static [u16], Option<u16>),
+    /// From which turn on a version may be dead, unless one is at a horizon.
+    FirstDeath(u32, Option<u32>),
     /// What the plan at a horizon names.
     Plan(u32, Actions),
     /// The room once that plan is applied.
@@ -302,6 +304,9 @@ impl PageStep {
             PageStep::IsRoot(slot, leads) => is_root(page, slot) == leads,
             PageStep::Fetch(slot, found) => fetched(alloc, page, slot, table) == found,
             PageStep::FirstSeen(slots, first) => first_of(alloc, page, slots, table) == first,
+            PageStep::FirstDeath(horizon, turn) => {
+                first_death(page, table, normal(horizon)) == turn
+            }
             PageStep::Plan(horizon, named) => {
                 plan_at(page, table, horizon).actions.as_slice() == named
             }

@@ -2,7 +2,7 @@ use Rattle.std.proofs.Common.{◌≡◌, ◌≤◌, ◌+◌, ℕ, arith, List, l
 use Rattle.prune.specs.declared.action.Action.{Action}
 use Rattle.prune.specs.Actions.{AreInOrder, action_of}
 use Rattle.prune.specs.Named.{named_at}
-use Rattle.prune.specs.Marks.{IsQuiet, ListsAllBut}
+use Rattle.prune.specs.Marks.{PlainlyStays, ListsAllBut}
 use Rattle.prune.proofs.Prefixes.{taken}
 use Rattle.prune.proofs.CheckLemmas.{order-more, checked, checks-can_apply}
 use Rattle.prune.proofs.Roots.{loose-everywhere}
@@ -11,8 +11,8 @@ use Rattle.prune.proofs.checking.check_plan.Goals as goal
 pub mark_page-requires : goal.mark_page-requires
 mark_page-requires c = record {
   blank = λ n. loose-everywhere 292 n;
-  busy = subst (λ (xs : List ℕ). ListsAllBut (IsQuiet c.args.table.now c.args.horizon.0 c.args.page.now.slots) 0 xs (length c.args.page.now.slots + 1))
-      (sym c.as_slice.ensures.value) c.list_busy.ensures;
+  doubtful = subst (λ (xs : List ℕ). ListsAllBut (PlainlyStays c.args.table.now c.args.horizon.0 c.args.page.now.slots) 0 xs (length c.args.page.now.slots + 1))
+      (sym c.as_slice.ensures.value) c.list_doubtful.ensures;
 }
 
 pub named_by-named-requires : goal.named_by-named-requires

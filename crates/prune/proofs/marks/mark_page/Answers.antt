@@ -11,15 +11,15 @@ loop-root-preserved c =
     let slots = c.args.page.now.slots in
     let i : ℕ = c.loop-root.root-index in
     elim c.if-is_root.branch [
-      | then-is_root b ↦ subst (λ (m : List PruneVerdict). IsMarkingPage w c.args.horizon.0 slots c.args.busy.now m (i + 1)) (sym b.marks-is)
-          (marking-root w c.args.horizon.0 slots c.args.busy.now c.loop-root.marks _ i c.loop-root.invariant c.loop-root-test.true
+      | then-is_root b ↦ subst (λ (m : List PruneVerdict). IsMarkingPage w c.args.horizon.0 slots c.args.doubtful.now m (i + 1)) (sym b.marks-is)
+          (marking-root w c.args.horizon.0 slots c.args.doubtful.now c.loop-root.marks _ i c.loop-root.invariant c.loop-root-test.true
           (sym c.is_root.ensures ∙ b.if-is_root.true) b.mark_root.ensures)
-      | else-is_root b ↦ subst (λ (m : List PruneVerdict). IsMarkingPage w c.args.horizon.0 slots c.args.busy.now m (i + 1)) (sym b.marks-is)
-          (marking-other w c.args.horizon.0 slots c.args.busy.now _ i c.loop-root.invariant c.loop-root-test.true (sym c.is_root.ensures ∙ b.if-is_root.false))
+      | else-is_root b ↦ subst (λ (m : List PruneVerdict). IsMarkingPage w c.args.horizon.0 slots c.args.doubtful.now m (i + 1)) (sym b.marks-is)
+          (marking-other w c.args.horizon.0 slots c.args.doubtful.now _ i c.loop-root.invariant c.loop-root-test.true (sym c.is_root.ensures ∙ b.if-is_root.false))
     ]
 
 pub returns : goal.returns
 returns c =
-    let past : length c.args.busy.now ≤ c.loop-root.root-index = omega (arith, c.loop-root-test.false) in
-    marking-all c.args.table.now c.args.horizon.0 c.args.page.now.slots c.args.busy.now c.loop-root.marks c.loop-root.root-index c.loop-root.invariant
-    (drop_all c.loop-root.root-index c.args.busy.now past)
+    let past : length c.args.doubtful.now ≤ c.loop-root.root-index = omega (arith, c.loop-root-test.false) in
+    marking-all c.args.table.now c.args.horizon.0 c.args.page.now.slots c.args.doubtful.now c.loop-root.marks c.loop-root.root-index c.loop-root.invariant
+    (drop_all c.loop-root.root-index c.args.doubtful.now past)

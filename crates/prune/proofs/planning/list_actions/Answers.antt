@@ -9,7 +9,7 @@ use Rattle.prune.proofs.Roots.{loose-everywhere}
 use Rattle.prune.proofs.planning.list_actions.Goals as goal
 
 pub mark_page-requires : goal.mark_page-requires
-mark_page-requires c = record { blank = λ n. loose-everywhere 292 n; busy = c.requires.busy }
+mark_page-requires c = record { blank = λ n. loose-everywhere 292 n; doubtful = c.requires.doubtful }
 
 pub push-requires : goal.push-requires
 push-requires c =
@@ -29,21 +29,21 @@ loop-number-preserved c =
     elim c.match-action_at.branch [
       | in-Some b ↦
           let a : Action = b.in-Some.action in
-          let items : c.match-action_at.actions.items ≡ acts ++ (get_or c.args.busy.now i 0, a) ∷ [] =
+          let items : c.match-action_at.actions.items ≡ acts ++ (get_or c.args.doubtful.now i 0, a) ∷ [] =
           ap (λ (v : ArrayVec (ℕ × Action)). v.items) b.actions-is ∙ b.push.ensures.items in
-          subst (λ (l : List (ℕ × Action)). IsListing w c.args.horizon.0 slots c.args.busy.now marks l (i + 1)) (sym items)
-          (listing-push w c.args.horizon.0 slots c.args.busy.now marks acts i a few c.mark_page.ensures c.loop-number.invariant c.loop-number-test.true
+          subst (λ (l : List (ℕ × Action)). IsListing w c.args.horizon.0 slots c.args.doubtful.now marks l (i + 1)) (sym items)
+          (listing-push w c.args.horizon.0 slots c.args.doubtful.now marks acts i a few c.mark_page.ensures c.loop-number.invariant c.loop-number-test.true
           (sym b.in-Some.is ∙ c.action_at.ensures))
       | in_default b ↦
           let items : c.match-action_at.actions.items ≡ acts = ap (λ (v : ArrayVec (ℕ × Action)). v.items) b.actions-is in
-          subst (λ (l : List (ℕ × Action)). IsListing w c.args.horizon.0 slots c.args.busy.now marks l (i + 1)) (sym items)
-          (listing-skip w c.args.horizon.0 slots c.args.busy.now marks acts i c.mark_page.ensures c.loop-number.invariant c.loop-number-test.true
+          subst (λ (l : List (ℕ × Action)). IsListing w c.args.horizon.0 slots c.args.doubtful.now marks l (i + 1)) (sym items)
+          (listing-skip w c.args.horizon.0 slots c.args.doubtful.now marks acts i c.mark_page.ensures c.loop-number.invariant c.loop-number-test.true
           (sym b.in_default.is ∙ c.action_at.ensures))
     ]
 
 pub returns-clause-exact : goal.returns-clause-exact
 returns-clause-exact c =
     let few : length c.args.page.now.slots ≤ 291 = omega (arith, c.slots-limit.ensures.count, c.slots-limit.ensures.limit) in
-    let past : length c.args.busy.now ≤ c.loop-number.number-index = omega (arith, c.loop-number-test.false) in
-    listing-plan c.args.table.now c.args.horizon.0 c.args.page.now.slots c.args.busy.now c.mark_page.new.marks c.loop-number.actions.items c.loop-number.number-index
-    few c.mark_page.ensures c.loop-number.invariant (drop_all c.loop-number.number-index c.args.busy.now past)
+    let past : length c.args.doubtful.now ≤ c.loop-number.number-index = omega (arith, c.loop-number-test.false) in
+    listing-plan c.args.table.now c.args.horizon.0 c.args.page.now.slots c.args.doubtful.now c.mark_page.new.marks c.loop-number.actions.items c.loop-number.number-index
+    few c.mark_page.ensures c.loop-number.invariant (drop_all c.loop-number.number-index c.args.doubtful.now past)

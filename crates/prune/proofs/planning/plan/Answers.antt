@@ -3,7 +3,7 @@ use Rattle.arrayvec.specs.ArrayVec.{ArrayVec}
 use Rattle.prune.specs.declared.action.Action.{Action}
 use Rattle.prune.specs.Checks.{Checks}
 use Rattle.prune.specs.Pruning.{IsPlan}
-use Rattle.prune.proofs.Quiet.{quiet-none}
+use Rattle.prune.proofs.Stays.{stays-none}
 use Rattle.prune.proofs.Idle.{idle-plan}
 use Rattle.prune.proofs.PlanChecks.{plan-checks}
 use Rattle.prune.proofs.planning.plan.Goals.{then-not-is_empty, else-not-is_empty}
@@ -18,7 +18,7 @@ returns-clause-exact c =
       | then-not-is_empty b ↦ subst (λ (v : ArrayVec (ℕ × Action)). IsPlan w c.args.horizon.0 slots v.items) (sym b.actions-is) b.list_actions.ensures.exact
       | else-not-is_empty b ↦ subst (IsPlan w c.args.horizon.0 slots) (sym (ap (λ (v : ArrayVec (ℕ × Action)). v.items) b.actions-is ∙ c.new-actions.ensures))
           (idle-plan w c.args.horizon.0 slots few
-          (quiet-none w c.args.horizon.0 slots c.list_busy.new.busy.items (sym c.is_empty.ensures ∙ b.if-not-is_empty.false) c.list_busy.ensures))
+          (stays-none w c.args.horizon.0 slots c.list_doubtful.new.doubtful.items (sym c.is_empty.ensures ∙ b.if-not-is_empty.false) c.list_doubtful.ensures))
     ]
 
 pub returns-clause-checks : goal.returns-clause-checks
