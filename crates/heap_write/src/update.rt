@@ -65,7 +65,7 @@ impl HeapState {
     }
 
     /// Whether the row has room on the page of this number. A page that is not in use has room for any row.
-    fn has_room(&self, number: u32, row: &Row) -> bool
+    pub fn has_room(&self, number: u32, row: &Row) -> bool
         ensures { IsTrue result
             ↔ (rounded_size_of row.now ≤ room_of (page_on self.now number).slots) }
     {

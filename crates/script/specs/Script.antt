@@ -4,7 +4,7 @@ use Rattle.std.specs.Option.{option_map}
 use Rattle.std.specs.List.{flat_map, AllByRecursion}
 use Rattle.std.specs.Io.KnownBytes.{Appends}
 use Rattle.script_text.specs.Names.{Settings, AreSettings, Step, VacuumStep, Reply, Worked, Piece, Entry}
-use Rattle.script.specs.Engine.{EngineView, PageView, IsNewEngine, EngineFollows, EngineExact, RepliesLead, beginning, engine_index, bits_of, next_id, IsRun}
+use Rattle.script.specs.Engine.{EngineView, IsNewEngine, EngineFollows, EngineExact, RepliesLead, beginning, engine_index, bits_of, mark_on, next_id, IsRun}
 use Rattle.script.specs.Pieces.{GivesText}
 use Rattle.script_text.specs.Grammar.{heading, spelling, with_feed, IsAllowed}
 use Rattle.script_text.specs.Answers.{reply_text, ids_text, Shown, shown_text, index_text}
@@ -69,16 +69,13 @@ lines_of events = flat_map (λ e. with_feed (spelling (line_of e))) events
 abbrev pub answers_of : List Event → List ℕ
 answers_of events = flat_map (λ e. with_feed (answer_of e)) events
 
--- a page with the bits that are noted of it
-abbrev pub shown_with : Option PageView → Option ℕ → Option Shown
-shown_with (Some page) (Some bits) =
-    Some (record { change = page.change; visible = bits; slots = page.slots })
-shown_with page bits = None
-
 -- what a page, if it is in use, is shown as, with its bits of the visibility map
 abbrev pub shown_of : EngineView → ℕ → Option Shown
-shown_of st p = shown_with (slice_get st.core.heap.pages.pages p)
-    (option_map bits_of (slice_get st.core.heap.pages.marks p))
+shown_of st p = option_map (λ page. record {
+  change = page.change;
+  visible = bits_of (mark_on st.core.heap.pages.marks p);
+  slots = page.slots;
+}) (slice_get st.core.heap.pages.pages p)
 
 -- the steps of a vacuum end at the first that did no work, of 2^64 - 1 at most
 abbrev pub EndsVacuum : List Piece → Reply → Type 0

@@ -3,6 +3,7 @@
 ghost use Rattle.std.specs.Prelude.{◌≡◌, slice_get, option_copied, IfOk, IfErr, OnOk, MatchResult, Some, false};
 ghost use Rattle.std.specs.Option.{option_map};
 ghost use Rattle.commit_status.specs.Window.{next_id};
+ghost use Rattle.space_maps.specs.View.{mark_on};
 ghost use Rattle.history.specs.World.{World, OpenSession, view};
 ghost use Rattle.refinement.specs.Allowed.{AllowsClosed, is_vacuum_step};
 ghost use Rattle.refinement.specs.Words.{AreSettings, FirstFault};
@@ -148,7 +149,9 @@ impl Engine {
 
     /// The visibility map's bits of the page, if it is in use: 1 where it is all-visible, 2 where it is all-frozen too, else 0.
     pub fn page_bits(&self, number: u32) -> Option<u8>
-        ensures { result ≡ option_map bits_of (slice_get self.now.core.heap.pages.marks number) }
+        ensures { result
+            ≡ option_map (λ _. bits_of (mark_on self.now.core.heap.pages.marks number))
+            (slice_get self.now.core.heap.pages.pages number) }
     {
         self.core.page_bits(number)
     }

@@ -21,7 +21,6 @@ use Rattle.history.specs.World.{World, OpenSession, joined, view}
 use Rattle.visibility.specs.Seeing.{HasCommitted, VisibleBy, by_itself, by_others}
 use Rattle.refinement.specs.Visible.{ReaderSees}
 use Rattle.refinement.specs.Agrees as relation
-use Rattle.refinement.proofs.Follows as theory
 use Rattle.refinement.proofs.Readers.{Levels-top}
 use Rattle.visibility.specs.Visible.{state_of}
 use Rattle.session_steps.specs.State.{State, seen, reader_of, horizon_of}

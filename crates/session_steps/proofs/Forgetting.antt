@@ -6,17 +6,17 @@ use Rattle.std.proofs.lemmas.Option.{slice_get-get_or}
 use Rattle.std.proofs.lemmas.Bool.{cases_lt}
 use Rattle.xid_circle.specs.declared.Xid.{Xid}
 use Rattle.xid_circle.specs.Circle.{Precedes, given}
-use Rattle.commit_status.specs.Window.{Window, IsWindow, IsGiven, IsActive, IsUpToNext, place, next_id, turns}
+use Rattle.commit_status.specs.Window.{Window, IsWindow, IsGiven, IsUpToNext, place, next_id, turns}
 use Rattle.commit_status.specs.Changes.{Truncates}
-use Rattle.commit_status.proofs.Places.{upto-next, upto-given, given-upto, place-from_at, is-from_some, some-from_is, place-lt, at-from_place, precedes-turns}
+use Rattle.commit_status.proofs.Places.{upto-next, upto-given, given-upto, place-from_at, is-from_some, some-from_is, at-from_place, precedes-turns}
 use Rattle.forgetting.proofs.Stays.{stays-known, place-stays}
 use Rattle.heap_write.specs.Heap.{HeapView}
 use Rattle.refinement.specs.declared.vacuum.Piece.{Piece}
 use Rattle.vacuum_passes.specs.View.{VacuumView}
 use Rattle.vacuum_passes.specs.Steps.{Steps}
 use Rattle.session_steps.specs.declared.session.Session.{Session}
-use Rattle.session_steps.specs.Keeps.{open_at, OwnIdsKeep, EngineKeeps}
-use Rattle.session_steps.specs.State.{State, session_at}
+use Rattle.session_steps.specs.Keeps.{open_at, EngineKeeps}
+use Rattle.session_steps.specs.State.{State}
 use Rattle.session_steps.specs.Sessions.{HoldsOpen}
 use Rattle.session_steps.specs.Vacuums.{MayForget}
 

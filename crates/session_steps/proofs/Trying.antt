@@ -1,6 +1,6 @@
 -- A write that a session tries: what it changes, or why it is not done.
-use Rattle.std.proofs.Common.{◌≡◌, ℕ, List, set, Option, Some, None, refl, sym, ap, ◌∙◌, subst, inl, inr}
-use Rattle.std.specs.Prelude.{Result, Ok, Err, IfOk, IfErr, OnErr, Contains}
+use Rattle.std.proofs.Common.{◌≡◌, ℕ, List, set, Option, Some, None, refl, sym, ap, ◌∙◌, arith, subst, inl, inr}
+use Rattle.std.specs.Prelude.{◌⊎◌, ◌≤◌, Result, Ok, Err, IfOk, IfErr, OnErr, Contains}
 use Rattle.std.proofs.lemmas.Option.{same_Some}
 use Rattle.xid_circle.specs.declared.Tid.{Tid}
 use Rattle.xid_circle.specs.declared.Xid.{Xid}
@@ -11,9 +11,10 @@ use Rattle.snapshot.specs.Own.{Own, current_xid, ArePrefixes}
 use Rattle.snapshot.proofs.Levels.{level-among}
 use Rattle.heap_write.specs.declared.heap.WriteFault.{WriteFault}
 use Rattle.heap_write.specs.declared.heap.WriteFault.TheVariants as fault
-use Rattle.heap_write.specs.Heap.{HeapView, SameIds, Keeps}
-use Rattle.heap_write.specs.Writes.{SameOwn, PrunesIfFull, Inserts, Updates, Deletes}
-use Rattle.heap_write.specs.Refusals.{LacksForInsert, FailsUpdate, FailsDelete}
+use Rattle.page_slots.specs.Slots.{room_of}
+use Rattle.heap_write.specs.Heap.{HeapView, page_on, SameIds, Keeps}
+use Rattle.heap_write.specs.Writes.{SameOwn, TableIsFull, Prunes, PrunesIfFull, Inserts, Updates, Deletes}
+use Rattle.heap_write.specs.Refusals.{VersionIsThere, AfterPruning, LacksForInsert, FailsUpdate, FailsDelete}
 use Rattle.session_steps.specs.declared.session.Session.{Session}
 use Rattle.session_steps.specs.State.{State, session_at, horizon_of}
 use Rattle.session_steps.specs.Keeps.{open_at, EngineKeeps}
@@ -83,6 +84,49 @@ pub tries-delete : (h h' : HeapView) (e : Session) (own : Own) (place : Tid) (r 
 tries-delete h h' e own place (Ok x) ok fails same = record { is = refl; x = x.0; change = ok }
 tries-delete h h' e own place (Err f) ok fails same = record { same = record { snapshot = refl; own = same; failed = refl; cursor = refl }; fault = fails }
 
+-- Where the row has room on the page of the old version nothing is pruned, so no horizon counts.
+
+abbrev pub AnyHorizon : HeapView → Tid → Row → ℕ → ℕ → Type 0
+AnyHorizon h place row x horizon = (rounded_size_of row ≤ room_of (page_on h place.page).slots) ⊎ (x ≡ horizon)
+
+readies-at : (h ready : HeapView) (place : Tid) (row : Row) (x horizon : ℕ) → AnyHorizon h place row x horizon → PrunesIfFull h ready place.page x (rounded_size_of row) → PrunesIfFull h ready place.page horizon (rounded_size_of row)
+readies-at h ready place row x horizon any (PrunesIfFull.has_room room is) = PrunesIfFull.has_room room is
+readies-at h ready place row x horizon (inl room) (PrunesIfFull.is_pruned full grown grows prunes) = absurd (omega (arith, room, full))
+readies-at h ready place row x horizon (inr same) (PrunesIfFull.is_pruned full grown grows prunes) = PrunesIfFull.is_pruned full grown grows (subst (λ y. Prunes grown ready place.page y) same prunes)
+
+after-at : (h h' : HeapView) (own : Own) (place : Tid) (row : Row) (x horizon : ℕ) (P : HeapView → Type 0) → AnyHorizon h place row x horizon → AfterPruning h h' own place x (rounded_size_of row) P → AfterPruning h h' own place horizon (rounded_size_of row) P
+after-at h h' own place row x horizon P any after = record {
+  there = after.there;
+  free = after.free;
+  ready = after.ready;
+  readies = readies-at h after.ready place row x horizon any after.readies;
+  has = after.has;
+  keeps = after.keeps;
+}
+
+fails-at : (h h' : HeapView) (own : Own) (place : Tid) (row : Row) (x horizon : ℕ) (f : WriteFault) → AnyHorizon h place row x horizon → FailsUpdate h h' own place row x f → FailsUpdate h h' own place row horizon f
+fails-at h h' own place row x horizon fault.NeedsFreeze any fails = fails
+fails-at h h' own place row x horizon fault.NoRoom any fails = after-at h h' own place row x horizon (λ ready. VersionIsThere ready place × TableIsFull ready (rounded_size_of row)) any fails
+fails-at h h' own place row x horizon fault.NoMemory any fails = fails
+fails-at h h' own place row x horizon fault.Gone any (inl gone) = inl gone
+fails-at h h' own place row x horizon fault.Gone any (inr went) = inr (after-at h h' own place row x horizon (λ ready. ¬ VersionIsThere ready place) any went)
+
+pub tries-at : (h h' : HeapView) (e e' : Session) (place : Tid) (row : Row) (x horizon : ℕ) (r : Result (Unit {0}) WriteFault) → AnyHorizon h place row x horizon → TriesUpdate h h' e e' place row x r → TriesUpdate h h' e e' place row horizon r
+tries-at h h' e e' place row x horizon (Ok u) any tries = record {
+  is = tries.is;
+  x = tries.x;
+  change = record {
+    free = tries.change.free;
+    takes_ids = tries.change.takes_ids;
+    ready = tries.change.ready;
+    readies = readies-at h tries.change.ready place row x horizon any tries.change.readies;
+    there = tries.change.there;
+    replaces = tries.change.replaces;
+    max_pages = tries.change.max_pages;
+  };
+}
+tries-at h h' e e' place row x horizon (Err f) any tries = record { same = tries.same; fault = fails-at h h' e.own place row x horizon f any tries.fault }
+
 -- The engine afterwards.
 
 abbrev pub with_session : State → HeapView → ℕ → Session → State
@@ -97,12 +141,12 @@ pub insert-tried : (st : State) (h : HeapView) (s : ℕ) (e now : Session) (row 
     → InsertTried st (with_session st h s now) s row r
 insert-tried st h s e now row r may there tries = record { may = may; tried = tried-of st h s may.session e now (λ h h' e e'. TriesInsert h h' e e' row r) may.reads.at there tries }
 
-pub update-tried : (st : State) (h : HeapView) (s : ℕ) (e now : Session) (place : Tid) (row : Row) (horizon : ℕ) (r : Result (Unit {0}) WriteFault) → MayWriteKey st s row.key (Some place) → horizon ≡ horizon_of st
-    → session_at st s ≡ Some e → TriesUpdate st.heap h e now place row horizon r → UpdateTried st (with_session st h s now) s row r
-update-tried st h s e now place row horizon r may is there tries = record {
+pub update-tried : (st : State) (h : HeapView) (s : ℕ) (e now : Session) (place : Tid) (row : Row) (r : Result (Unit {0}) WriteFault) → MayWriteKey st s row.key (Some place) → session_at st s ≡ Some e
+    → TriesUpdate st.heap h e now place row (horizon_of st) r → UpdateTried st (with_session st h s now) s row r
+update-tried st h s e now place row r may there tries = record {
   place = place;
   may = may;
-  tried = tried-of st h s may.session e now (λ h h' e e'. TriesUpdate h h' e e' place row (horizon_of st) r) may.reads.at there (subst (λ x. TriesUpdate st.heap h e now place row x r) is tries);
+  tried = tried-of st h s may.session e now (λ h h' e e'. TriesUpdate h h' e e' place row (horizon_of st) r) may.reads.at there tries;
 }
 
 pub delete-tried : (st : State) (h : HeapView) (s key : ℕ) (e now : Session) (place : Tid) (r : Result (Unit {0}) WriteFault) → MayWriteKey st s key (Some place) → session_at st s ≡ Some e → TriesDelete st.heap h e now place r

@@ -1,18 +1,16 @@
 -- What the steps of the table of ids change of what readers see.
 use Rattle.std.proofs.Common.{◌≡◌, ◌≢◌, ℕ, ◌<◌, ◌≤◌, List, [], ◌∷◌, Option, Some, None, refl, sym, ap, ◌∙◌, subst, ◌⊎◌, inl, inr, arith}
-use Rattle.std.specs.Prelude.{IsSome, Contains}
+use Rattle.std.specs.Prelude.{Contains}
 use Rattle.std.specs.Option.{option_map}
 use Rattle.std.proofs.lemmas.Bool.{cases_Bool}
-use Rattle.std.proofs.lemmas.Option.{same_Some, none-some}
 use Rattle.xid_circle.specs.Circle.{Precedes}
 use Rattle.xid_circle.proofs.Members.{Contains-cases, Contains-none}
 use Rattle.commit_status.specs.declared.status.Status.{Status}
-use Rattle.commit_status.specs.declared.status.Status.TheVariants.{InProgress, Committed}
 use Rattle.commit_status.specs.Window.{Window, IsWindow, IsGiven, IsUpToNext, place, status_of, next_id, turns}
 use Rattle.commit_status.specs.Window as window
 use Rattle.commit_status.specs.Changes as change
-use Rattle.commit_status.proofs.Places.{next-none, upto-next, precedes-turns, is-from_some}
-use Rattle.commit_status.proofs.Giving.{gives-place_old, gives-place_cases, gives-status, gives-active_next, finished-place}
+use Rattle.commit_status.proofs.Places.{next-none, upto-next, precedes-turns}
+use Rattle.commit_status.proofs.Giving.{gives-place_old, gives-place_cases, gives-status, gives-active_next}
 use Rattle.commit_status.proofs.Finishing.{finishes-top, finishes-given}
 use Rattle.commit_status.proofs.ChangesLemmas.{finishes-place}
 use Rattle.snapshot.specs.Snap.{Snap, Sees, SeesAlone, tested, is_before}
@@ -23,7 +21,6 @@ use Rattle.visibility.specs.Visible.{state_of}
 use Rattle.visibility.proofs.Makers.{state-some, state-is, active-from}
 use Rattle.heap_write.specs.Writes.{GivesUnder}
 use Rattle.heap_write.proofs.GivenIds.{given-window, given-first, given-upto, given-top_old, next-turn}
-use Rattle.visibility.specs.Seeing.{HasCommitted, IsRunning}
 use Rattle.refinement.specs.Changes.{GivesNext, GivesEach, FinishesIds, SameSight}
 use Rattle.refinement.proofs.Steps.{cases_Contains}
 

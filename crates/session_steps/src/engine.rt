@@ -4,6 +4,7 @@ ghost use Rattle.std.specs.Prelude.{◌≡◌, ◌≢◌, ◌<◌, slice_get, op
 ghost use Rattle.std.specs.Option.{option_map};
 ghost use Rattle.refinement.specs.Words.{AreSettings, FirstFault};
 ghost use Rattle.commit_status.specs.Window.{next_id};
+ghost use Rattle.space_maps.specs.View.{mark_on};
 ghost use Rattle.session_steps.specs.State.{session_at, engine_index, bits_of};
 ghost use Rattle.session_steps.specs.Changes.{Opens, Closes};
 ghost use Rattle.session_steps.specs.Refuses.{Refuses, RefusesReady, RefusesFree, MayAct, RefusesBare};
@@ -112,10 +113,11 @@ impl SessionEngine {
 
     /// The visibility map's bits of the page, if it is in use: 1 where it is all-visible, 2 where it is all-frozen too, else 0.
     pub fn page_bits(&self, number: u32) -> Option<u8>
-        ensures { result ≡ option_map bits_of (slice_get self.now.heap.pages.marks number) }
+        ensures { result ≡ option_map (λ _. bits_of (mark_on self.now.heap.pages.marks number))
+            (slice_get self.now.heap.pages.pages number) }
     {
-        match self.heap.mark(number) {
-            Some(mark) => Some(bits_of(mark)),
+        match self.page(number) {
+            Some(_) => Some(bits_of(self.heap.mark(number).unwrap_or(Mark::Nothing))),
             None => None,
         }
     }

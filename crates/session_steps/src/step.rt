@@ -1,10 +1,10 @@
 //! A step of the engine.
 
-ghost use Rattle.std.specs.Prelude.{◌≡◌, MatchResult, Some, false};
+ghost use Rattle.std.specs.Prelude.{◌≡◌, MatchResult, Some, true, false};
 ghost use Rattle.history.specs.World.{World, OpenSession, view};
 ghost use Rattle.refinement.specs.Allowed.{AllowsClosed, is_vacuum_step};
-ghost use Rattle.session_steps.specs.Agrees.{Agrees, Follows};
-ghost use Rattle.session_steps.specs.Exact.{Exact};
+ghost use Rattle.session_steps.specs.Agrees.{Agrees};
+ghost use Rattle.session_steps.specs.Exact.{AnswersStep};
 
 use crate::engine::SessionEngine;
 use crate::get::copy_of;
@@ -12,15 +12,17 @@ use crate::outcome::put_reply;
 use refinement::{Refusal, Reply, Row, Step};
 
 impl SessionEngine {
-    /// Does one step, which is no vacuum's, and puts its reply in the place of an earlier one: whatever world of the history the
-    /// engine agrees with, the history allows the reply, and the engine agrees with the next world. A step that is refused names
-    /// the first reason that holds, in the order of the table in docs/rules.md, or NoMemory, as is said below that table. A reply
-    /// has room for a row, over a kilobyte; who does many steps needs one alone. The earlier one is dropped only when the new one
-    /// is there, so the rows of two answers of a cursor may be in memory at once.
+    /// Does one step, and puts its reply in the place of an earlier one: whatever world of the history the engine agrees with, the
+    /// history allows the reply, and the engine agrees with the next world. A step that is refused names the first reason that
+    /// holds, in the order of the table in docs/rules.md, or NoMemory, as is said below that table. A vacuum's step, which is
+    /// done above the sessions, changes nothing, and leaves the earlier reply. A reply has room for a row, over a kilobyte; who
+    /// does many steps needs one alone. The earlier one is dropped only when the new one is there, so the rows of two answers of
+    /// a cursor may be in memory at once.
     pub fn step_into(&mut self, step: Step, reply: &mut Reply)
-        requires { is_vacuum_step step ≡ false }
-        ensures follows { Follows self.old step reply.new self.new }
-        ensures exact { Exact self.old step reply.new self.new }
+        ensures answers { is_vacuum_step step ≡ false
+            → AnswersStep self.old step reply.new self.new }
+        ensures stays { is_vacuum_step step ≡ true
+            → (reply.new ≡ reply.old) × (self.new ≡ self.old) }
     {
         step.has_bounds();
         let answer = match step {
@@ -39,7 +41,7 @@ impl SessionEngine {
             Step::Commit(s) => self.commit(s),
             Step::Abort(s) => self.abort(s),
             Step::Prune(page) => self.prune(page),
-            Step::VacuumBegin(_) | Step::VacuumStep | Step::VacuumCancel => unreachable!(),
+            Step::VacuumBegin(_) | Step::VacuumStep | Step::VacuumCancel => return,
         };
         put_reply(answer, reply)
     }

@@ -1,7 +1,12 @@
 //! A session writes another row of a key that has one.
 
-ghost use Rattle.std.specs.Prelude.{Some};
+ghost use Rattle.std.specs.Prelude.{◌≡◌, ◌≤◌, ◌⊎◌, Some};
+ghost use Rattle.xid_circle.specs.Circle.{IsNormal};
+ghost use Rattle.tuple_header.specs.Version.{rounded_size_of};
+ghost use Rattle.page_slots.specs.Slots.{room_of};
+ghost use Rattle.heap_write.specs.Heap.{page_on};
 ghost use Rattle.refinement.specs.declared.step.Step.{Step};
+ghost use Rattle.session_steps.specs.State.{horizon_of};
 ghost use Rattle.session_steps.specs.Exact.{ExactUpdate, AnswersStep};
 ghost use Rattle.session_steps.specs.Replies.{reply_to};
 ghost use Rattle.session_steps.specs.Follows.{FollowsUpdate};
@@ -11,9 +16,23 @@ use crate::checks::table_row;
 use crate::engine::SessionEngine;
 use crate::outcome::{Ack, write_answer};
 use refinement::{Refusal, Row, RowIn};
-use xid_circle::Tid;
+use xid_circle::{Tid, Xid};
 
 impl SessionEngine {
+    /// The horizon at which an update to the row prunes the page of the version at a place. Where the row has room there nothing is
+    /// pruned: any id will do then, and the sessions aren't looked at.
+    fn update_horizon(&self, place: Tid, row: &Row) -> Xid
+        ensures value { (rounded_size_of row.now ≤ room_of (page_on self.now.heap place.page).slots)
+            ⊎ (result.0 ≡ horizon_of self.now) }
+        ensures normal { IsNormal result.0 }
+    {
+        if self.heap.has_room(place.page, row) {
+            self.heap.table().next()
+        } else {
+            self.horizon()
+        }
+    }
+
     /// Updates the version at a place to the row, which nothing keeps the session from writing, under the id of its
     /// newest level.
     fn replace(&mut self, s: u8, place: Tid, row: &Row) -> Result<Ack, Refusal>
@@ -21,7 +40,7 @@ impl SessionEngine {
         ensures follows { FollowsUpdate self.old s row.now (reply_to result) self.new }
         ensures exact { ExactUpdate self.old s row.now (reply_to result) self.new }
     {
-        let horizon = self.horizon();
+        let horizon = self.update_horizon(place, row);
         let session = self.sessions.open_mut(s);
         // an id of its levels is one of its own ids
         session.own.are_prefixes();

@@ -1,4 +1,4 @@
-use Rattle.std.proofs.Common.{ℕ, refl, sym, subst, arith}
+use Rattle.std.proofs.Common.{refl, sym, subst, arith}
 use Rattle.xid_circle.specs.Circle.{Precedes}
 use Rattle.commit_status.proofs.ChangesLemmas.{numbers-contain}
 use Rattle.snapshot.proofs.Marks.{nowhere}

@@ -1,4 +1,4 @@
-use Rattle.std.proofs.Common.{◌∙◌, ap, sym, inl, inr}
+use Rattle.std.proofs.Common.{◌∙◌, sym, inl, inr}
 use Rattle.std.proofs.lemmas.Bool.{eq-eqb}
 use Rattle.session_steps.proofs.Forgetting.{upto-from, remembered}
 use Rattle.session_steps.proofs.vacuuming.is_up_to_next.Goals as goal

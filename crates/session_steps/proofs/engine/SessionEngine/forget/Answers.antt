@@ -1,5 +1,5 @@
-use Rattle.std.proofs.Common.{◌↔◌, IsTrue, sym, ◌∙◌, subst}
-use Rattle.commit_status.specs.Window.{Window, IsWindow}
+use Rattle.std.proofs.Common.{sym, subst}
+use Rattle.commit_status.specs.Window.{IsWindow}
 use Rattle.session_steps.specs.State.{State}
 use Rattle.session_steps.specs.Vacuums.{MayForget}
 use Rattle.session_steps.proofs.Forgetting.{keeps-forget}

@@ -1,4 +1,4 @@
-use Rattle.std.proofs.Common.{length, Option, None, ap, refl, sym, ◌∙◌, subst}
+use Rattle.std.proofs.Common.{length, Option, None, ap, sym, ◌∙◌, subst}
 use Rattle.std.proofs.lemmas.List.{length-replicate}
 use Rattle.history.specs.World.{beginning}
 use Rattle.refinement.specs.declared.settings.Settings.{Settings}

@@ -1,4 +1,4 @@
-use Rattle.std.proofs.Common.{◌∙◌, Some, sym, ap, subst}
+use Rattle.std.proofs.Common.{◌∙◌, Some, sym, subst}
 use Rattle.std.proofs.lemmas.Option.{none-some}
 use Rattle.refinement.specs.declared.reply.Reply.{Reply}
 use Rattle.session_steps.specs.declared.session.Session.{Session}
@@ -8,7 +8,7 @@ use Rattle.session_steps.specs.Writes.{outcome_of}
 use Rattle.session_steps.specs.Replies.{reply_to}
 use Rattle.session_steps.specs.Exact.{ExactUpdate}
 use Rattle.session_steps.specs.Follows.{FollowsUpdate}
-use Rattle.session_steps.proofs.Trying.{with_session, newest-given, tries-update, keeps-updated, update-tried, exact-updated}
+use Rattle.session_steps.proofs.Trying.{with_session, newest-given, tries-update, AnyHorizon, tries-at, keeps-updated, update-tried, exact-updated}
 use Rattle.session_steps.proofs.Writing.{Follows-updated}
 use Rattle.session_steps.proofs.engine.SessionEngine.replace.Goals as goal
 
@@ -27,38 +27,28 @@ pub invariant_of-self : goal.invariant_of-self
 invariant_of-self c =
     let e = c.open_mut-session.result.now in
     let r = c.update in
-    let horizon = c.horizon-horizon.result.0 in
+    let horizon = c.update_horizon-horizon.result.0 in
     let tries = tries-update c.self.inside.heap r.new.self e r.new.own c.args.place c.args.row.now horizon r.result r.ensures.ok r.ensures.fault r.ensures.own in
     keeps-updated c.self.inside.sessions c.self.inside.heap r.new.self c.args.s e (record e { own = r.new.own }) c.args.place c.args.row.now horizon (outcome_of r.result) c.open_mut-session.ensures.value tries r.ensures.window c.self.invariant
 
-pub returns-clause-follows : goal.returns-clause-follows
-returns-clause-follows c =
+pub returns : goal.returns
+returns c =
     let before : State = record { settings = c.self.inside.settings; heap = c.self.inside.heap; sessions = c.self.inside.sessions } in
     let M : State → Type 0 = λ st. MayWriteKey st c.args.s c.args.row.now.key (Some c.args.place) in
     let may = subst M (sym c.self.view_is) c.requires in
     let e = c.open_mut-session.result.now in
     let r = c.update in
-    let horizon = c.horizon-horizon.result.0 in
+    let horizon = c.update_horizon-horizon.result.0 in
     let now : Session = record e { own = r.new.own } in
-    let tries = tries-update before.heap r.new.self e r.new.own c.args.place c.args.row.now horizon r.result r.ensures.ok r.ensures.fault r.ensures.own in
-    let tried = update-tried before r.new.self c.args.s e now c.args.place c.args.row.now horizon (outcome_of r.result) may (c.horizon-horizon.ensures.value ∙ ap horizon_of (sym c.self.view_is)) c.open_mut-session.ensures.value tries in
+    let any = subst (λ (st : State). AnyHorizon st.heap c.args.place c.args.row.now horizon (horizon_of st)) (sym c.self.view_is) c.update_horizon-horizon.ensures.value in
+    let tries = tries-at before.heap r.new.self e now c.args.place c.args.row.now horizon (horizon_of before) (outcome_of r.result) any
+    (tries-update before.heap r.new.self e r.new.own c.args.place c.args.row.now horizon r.result r.ensures.ok r.ensures.fault r.ensures.own) in
+    let tried = update-tried before r.new.self c.args.s e now c.args.place c.args.row.now (outcome_of r.result) may c.open_mut-session.ensures.value tries in
     let after = with_session before r.new.self c.args.s now in
-    let P : State → Type 0 = λ st. FollowsUpdate st c.args.s c.args.row.now (reply_to c.write_answer.result) after in
-    let R : Reply → Type 0 = λ reply. FollowsUpdate before c.args.s c.args.row.now reply after in
-    subst P c.self.view_is (subst R (sym c.write_answer.ensures) (Follows-updated before after c.args.s c.args.row.now (outcome_of r.result) tried r.ensures.window))
-
-pub returns-clause-exact : goal.returns-clause-exact
-returns-clause-exact c =
-    let before : State = record { settings = c.self.inside.settings; heap = c.self.inside.heap; sessions = c.self.inside.sessions } in
-    let M : State → Type 0 = λ st. MayWriteKey st c.args.s c.args.row.now.key (Some c.args.place) in
-    let may = subst M (sym c.self.view_is) c.requires in
-    let e = c.open_mut-session.result.now in
-    let r = c.update in
-    let horizon = c.horizon-horizon.result.0 in
-    let now : Session = record e { own = r.new.own } in
-    let tries = tries-update before.heap r.new.self e r.new.own c.args.place c.args.row.now horizon r.result r.ensures.ok r.ensures.fault r.ensures.own in
-    let tried = update-tried before r.new.self c.args.s e now c.args.place c.args.row.now horizon (outcome_of r.result) may (c.horizon-horizon.ensures.value ∙ ap horizon_of (sym c.self.view_is)) c.open_mut-session.ensures.value tries in
-    let after = with_session before r.new.self c.args.s now in
-    let P : State → Type 0 = λ st. ExactUpdate st c.args.s c.args.row.now (reply_to c.write_answer.result) after in
-    let R : Reply → Type 0 = λ reply. ExactUpdate before c.args.s c.args.row.now reply after in
-    subst P c.self.view_is (subst R (sym c.write_answer.ensures) (exact-updated before after c.args.s c.args.row.now (outcome_of r.result) tried))
+    let F : State → Reply → Type 0 = λ st reply. FollowsUpdate st c.args.s c.args.row.now reply after in
+    let E : State → Reply → Type 0 = λ st reply. ExactUpdate st c.args.s c.args.row.now reply after in
+    let replied = sym c.write_answer.ensures in
+    record {
+      follows = subst (λ st. F st (reply_to c.write_answer.result)) c.self.view_is (subst (λ reply. F before reply) replied (Follows-updated before after c.args.s c.args.row.now (outcome_of r.result) tried r.ensures.window));
+      exact = subst (λ st. E st (reply_to c.write_answer.result)) c.self.view_is (subst (λ reply. E before reply) replied (exact-updated before after c.args.s c.args.row.now (outcome_of r.result) tried));
+    }
