@@ -3,8 +3,8 @@
 
 Runs the command (`rt ci --anew` if none is given) at the top of the repository, looks at the processor time of each of the prover's
 processes twice a second, and prints a table in processor minutes: each crate's proof (with its build), its tests and its edits (the
-second proof that they begin with counts there), and what the whole run took by its own count. Other runs of `rt` beside it are counted
-too, so let there be none. Needs Linux's /proc. Ends with the command's status.
+second proof that they begin with counts there), and what the whole run took by its own count. Needs Linux's /proc. Ends with the
+command's status.
 """
 import os
 import re
@@ -16,13 +16,26 @@ import time
 TICK = os.sysconf("SC_CLK_TCK")
 
 
-def processes():
-    """Each process of the prover that runs now: its number and birth, its crate and kind, and its seconds so far."""
+def parent(number):
+    """The number of a process's parent, 0 where there is none."""
+    with open(f"/proc/{number}/stat", encoding="utf-8") as file:
+        return int(file.read().rpartition(")")[2].split()[1])
+
+
+def is_below(number, root):
+    """Whether a process was begun by another, or by one that it began."""
+    while number not in (0, root):
+        number = parent(number)
+    return number == root
+
+
+def processes(root):
+    """Each process of the prover that runs now below another: its number and birth, its crate and kind, and its seconds so far."""
     for number in filter(str.isdigit, os.listdir("/proc")):
         try:
             with open(f"/proc/{number}/cmdline", "rb") as file:
                 words = file.read().decode(errors="replace").split("\0")
-            if "--crate-name" not in words or not re.fullmatch(r"rattle.*", os.path.basename(words[0])):
+            if "--crate-name" not in words or not re.fullmatch(r"rattle.*", os.path.basename(words[0])) or not is_below(int(number), root):
                 continue
             with open(f"/proc/{number}/stat", encoding="utf-8") as file:
                 fields = file.read().rpartition(")")[2].split()
@@ -40,13 +53,13 @@ def main():
 
     def watch():
         while not over.is_set():
-            for process, what, seconds in processes():
+            for process, what, seconds in processes(started.pid):
                 seen[process] = (what, seconds)
             over.wait(0.5)
 
+    started = subprocess.Popen(command)
     watcher = threading.Thread(target=watch)
     watcher.start()
-    started = subprocess.Popen(command)
     _, status, used = os.wait4(started.pid, 0)
     over.set()
     watcher.join()
