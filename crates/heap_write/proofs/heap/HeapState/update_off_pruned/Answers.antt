@@ -1,5 +1,4 @@
-use Rattle.std.proofs.Common.{◌<◌, List, length, inr, sym, subst}
-use Rattle.std.specs.Prelude.{IfSome}
+use Rattle.std.proofs.Common.{◌<◌, List, inr, sym, subst}
 use Rattle.tuple_header.specs.Version.{rounded_size_of}
 use Rattle.page_slots.specs.declared.slot.Slot.{Slot}
 use Rattle.page_slots.specs.Slots.{room_of}
