@@ -8,7 +8,7 @@ use Rattle.page_slots.specs.Slots.{IsNormalAt}
 use Rattle.commit_status.specs.Window.{Window}
 use Rattle.visibility.specs.Visible.{IsDead}
 use Rattle.sound_page.specs.Dead.{HasDead}
-use Rattle.heap_write.specs.Heap.{HeapView, page_on, SameIds, Keeps}
+use Rattle.heap_write.specs.Heap.{HeapView, SameIds, Keeps}
 use Rattle.heap_write.specs.Refusals.{VersionIsThere}
 use Rattle.heap_write.specs.Steps.{HasNoneDead}
 use Rattle.heap_write.proofs.PageLemmas.{page-at}

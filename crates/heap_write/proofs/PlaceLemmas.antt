@@ -2,7 +2,7 @@
 use Rattle.std.proofs.Common.{◌≡◌, ◌≢◌, ◌↔◌, ℕ, ◌*◌, ◌/◌, ◌<◌, ◌≤◌, inl, inr, List, [], length, set, Some, slice_get, sym, ap, subst, ◌∙◌, arith}
 use Rattle.std.proofs.lemmas.Bool.{cases_eq}
 use Rattle.std.proofs.lemmas.Option.{slice_get-get_or, slice_get_within, same_Some}
-use Rattle.std.proofs.lemmas.List.{length-set, set-set, set-get_or}
+use Rattle.std.proofs.lemmas.List.{length-set}
 use Rattle.std.proofs.Math.Nat.{min-le_left}
 use Rattle.page_slots.specs.View.{PageView}
 use Rattle.page_slots.specs.Slots.{room_of}
@@ -14,7 +14,7 @@ use Rattle.heap_pages.specs.View.{PagesView}
 use Rattle.heap_pages.proofs.PageLemmas.{page-with_page, page-with_page_other}
 use Rattle.heap_write.specs.Heap.{unused_page}
 use Rattle.heap_write.specs.Growth.{page_in}
-use Rattle.heap_write.proofs.PageLemmas.{page-at, page-set}
+use Rattle.heap_write.proofs.PageLemmas.{page-at}
 
 -- What the choice goes by.
 

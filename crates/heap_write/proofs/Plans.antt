@@ -19,7 +19,7 @@ use Rattle.prune.specs.declared.action.Action.{Action}
 use Rattle.prune.specs.declared.action.Action.TheVariants as action
 use Rattle.prune.specs.Actions.{CanApply, made_by, after_action, applied}
 use Rattle.prune.specs.Cutting.{IsCutCount, RemovesVersions}
-use Rattle.prune.specs.Pruning.{loose_in, orphan_action, IsInChainOf, IsLoose, PrunesSlot, by_root, by_none, IsPlan, IsPruned}
+use Rattle.prune.specs.Pruning.{loose_in, IsInChainOf, IsLoose, PrunesSlot, by_root, by_none, IsPlan, IsPruned}
 use Rattle.prune.specs.Room.{IsPlanOf}
 use Rattle.prune.specs.Laws.{IsPrunedPage}
 use Rattle.prune.proofs.Idle.{idle-plan}
@@ -34,7 +34,6 @@ use Rattle.heap_write.specs.Growth.{HasSlot, IsReserved}
 use Rattle.heap_write.specs.Refusals.{VersionIsThere}
 use Rattle.heap_write.specs.declared.target.Target.{Target}
 use Rattle.heap_write.proofs.PageLemmas.{page-at, page-back, page-set, there-within}
-use Rattle.heap_write.proofs.IdLemmas.{same-status}
 use Rattle.heap_write.proofs.IdlePages.{dead-back, kept-there}
 use Rattle.heap_write.proofs.Reserving.{chosen-set, ready-set}
 use Rattle.heap_write.proofs.SlotMemory.{slot-pruned}

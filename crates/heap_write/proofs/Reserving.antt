@@ -7,13 +7,11 @@ use Rattle.std.specs.Prelude.{IfErr, OnOk, OnErr, is_err}
 use Rattle.xid_circle.specs.declared.Xid.{Xid}
 use Rattle.tuple_header.specs.declared.version.Row.{Row}
 use Rattle.tuple_header.specs.Version.{rounded_size_of}
-use Rattle.commit_status.specs.Window.{Window}
-use Rattle.snapshot.specs.Own.{Own, unassigned_levels}
+use Rattle.snapshot.specs.Own.{Own}
 use Rattle.page_slots.specs.View.{PageView}
 use Rattle.page_slots.specs.Slots.{room_of}
 use Rattle.heap_pages.specs.View.{PagesView, with_page}
 use Rattle.heap_pages.specs.Choice.{HasRoom, IsPlaceFor}
-use Rattle.heap_pages.specs.declared.pages.Placement.{Placement}
 use Rattle.heap_pages.specs.declared.pages.Placement.TheVariants as to
 use Rattle.table_indexes.specs.Indexes.{NeedsEntry}
 use Rattle.heap_write.specs.declared.target.Target.{Target}
@@ -26,7 +24,7 @@ use Rattle.heap_write.specs.Refusals.{NeedsSlot, NeedsIds, RootNeedsMemory, Lack
 use Rattle.heap_write.specs.Growth.{page_in, HasSlot, SamePage, GrowsPage, place_of_target, IsReserved, Reserves, PlaceNeedsMemory}
 use Rattle.heap_write.specs.Steps.{IsChosen}
 use Rattle.heap_write.proofs.PageLemmas.{page-at, page-set, page-set_other}
-use Rattle.heap_write.proofs.PlaceLemmas.{alike-same, alike-full, place-set, place-back, page-place, new-place}
+use Rattle.heap_write.proofs.PlaceLemmas.{alike-same, alike-full, place-set, page-place, new-place}
 
 -- The page that was chosen has grown.
 

@@ -97,7 +97,12 @@ impl HeapState {
     }
 
     /// Updates a version whose page has no room for the row, and would be left as it is by pruning: a new root goes elsewhere.
-    fn update_unpruned(&mut self, own: &mut OwnIds, place: Tid, row: &Row) -> Result<Xid, WriteFault>
+    fn update_unpruned(
+        &mut self,
+        own: &mut OwnIds,
+        place: Tid,
+        row: &Row,
+    ) -> Result<Xid, WriteFault>
         requires newest { NewestIsGiven self.old.table own.old }
         requires free { ¬ NeedsFreeze self.old.table own.old }
         requires there { VersionIsThere self.old place }
@@ -176,8 +181,7 @@ impl HeapState {
         requires room { room_of (page_on self.old place.page).slots < rounded_size_of row.now }
         requires can_apply { CanApply (length (page_on self.old place.page).slots)
             plan.now.actions.items }
-        requires still {
-            room_of (applied plan.now.actions.items (page_on self.old place.page)).slots
+        requires full { room_of (applied plan.now.actions.items (page_on self.old place.page)).slots
             < rounded_size_of row.now }
         ensures ok { (horizon : ℕ)
             → IsPlanOn self.old place.page horizon plan.now.actions.items

@@ -140,7 +140,13 @@ impl HeapState {
     }
 
     /// Replaces a version by one on its page, which has room and memory for it: a heap-only one, or a root.
-    pub(crate) fn update_on_page(&mut self, own: &mut OwnIds, place: Tid, row: &Row, heap_only: bool) -> Xid
+    pub(crate) fn update_on_page(
+        &mut self,
+        own: &mut OwnIds,
+        place: Tid,
+        row: &Row,
+        heap_only: bool,
+    ) -> Xid
         requires newest { NewestIsGiven self.old.table own.old }
         requires free { ¬ NeedsFreeze self.old.table own.old }
         requires has_ids { HasIds self.old.table own.old }
@@ -185,7 +191,13 @@ impl HeapState {
     }
 
     /// Replaces a version by a root where one goes, with room and memory for it and its entries.
-    pub(crate) fn cold_update(&mut self, own: &mut OwnIds, place: Tid, row: &Row, target: Target) -> Xid
+    pub(crate) fn cold_update(
+        &mut self,
+        own: &mut OwnIds,
+        place: Tid,
+        row: &Row,
+        target: Target,
+    ) -> Xid
         requires newest { NewestIsGiven self.old.table own.old }
         requires free { ¬ NeedsFreeze self.old.table own.old }
         requires has_ids { HasIds self.old.table own.old }

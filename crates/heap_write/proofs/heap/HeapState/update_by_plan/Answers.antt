@@ -87,8 +87,8 @@ update_off_pruned-requires-clause-can_apply c =
     let at : slice_get h.pages.pages n ≡ Some page = subst (λ (v : HeapView). slice_get v.pages.pages n ≡ Some page) c.self.view_is (sym c.page.ensures ∙ ap option_copied c.in-Some.is) in
     can-at h n page actions at c.plan-plan.ensures.can_apply
 
-pub update_off_pruned-requires-clause-still : goal.update_off_pruned-requires-clause-still
-update_off_pruned-requires-clause-still c =
+pub update_off_pruned-requires-clause-full : goal.update_off_pruned-requires-clause-full
+update_off_pruned-requires-clause-full c =
     let h = c.args.self.now in
     let n = c.args.place.page in
     let page = c.in-Some.page.now in

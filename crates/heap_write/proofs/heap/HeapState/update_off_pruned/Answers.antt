@@ -1,5 +1,4 @@
-use Rattle.std.proofs.Common.{◌<◌, List, length, inr, sym, subst}
-use Rattle.std.specs.Prelude.{IfSome}
+use Rattle.std.proofs.Common.{◌<◌, List, inr, sym, subst}
 use Rattle.tuple_header.specs.Version.{rounded_size_of}
 use Rattle.page_slots.specs.declared.slot.Slot.{Slot}
 use Rattle.page_slots.specs.Slots.{room_of}
@@ -29,7 +28,7 @@ update_elsewhere_if_there-requires-clause-room c =
     let keeps = c.reserve_root-reserved.ensures.keeps in
     let within = there-within grown c.args.place (kept-there h grown c.args.place keeps c.requires.there) in
     subst (λ (l : List Slot). room_of l < rounded_size_of c.args.row.now)
-    (sym (planned-slots h grown c.apply_plan.new.self c.args.place.page c.args.plan.now.actions.items within keeps c.apply_plan.ensures)) c.requires.still
+    (sym (planned-slots h grown c.apply_plan.new.self c.args.place.page c.args.plan.now.actions.items within keeps c.apply_plan.ensures)) c.requires.full
 
 pub update_elsewhere_if_there-requires-clause-chosen : goal.update_elsewhere_if_there-requires-clause-chosen
 update_elsewhere_if_there-requires-clause-chosen c =
@@ -39,7 +38,7 @@ update_elsewhere_if_there-requires-clause-chosen c =
     let within = there-within grown c.args.place (kept-there h grown c.args.place keeps c.requires.there) in
     let chosen = subst (λ n. IsChosen grown n c.in-Ok.target) c.row_size.ensures.value c.in-Ok.ensures.chosen in
     applied-chosen h grown c.apply_plan.new.self c.args.place.page (rounded_size_of c.args.row.now) c.args.plan.now.actions.items c.in-Ok.target within keeps c.apply_plan.ensures
-    c.requires.room c.requires.still chosen
+    c.requires.room c.requires.full chosen
 
 pub update_elsewhere_if_there-requires-clause-ready : goal.update_elsewhere_if_there-requires-clause-ready
 update_elsewhere_if_there-requires-clause-ready c =
