@@ -1,5 +1,5 @@
 -- The pages of a table by their numbers, and what keeps them.
-use Rattle.std.proofs.Common.{◌≡◌, ◌≢◌, ℕ, zero, suc, ◌<◌, ◌≤◌, inl, inr, List, [], length, set, Some, None, slice_get, sym, ap, subst, refl, ◌∙◌, arith}
+use Rattle.std.proofs.Common.{◌≡◌, ◌≢◌, ℕ, zero, suc, ◌<◌, ◌≤◌, inl, inr, List, [], ◌∷◌, length, set, Some, None, slice_get, sym, ap, subst, refl, ◌∙◌, arith}
 use Rattle.std.proofs.lemmas.Bool.{cases_lt, true≢false}
 use Rattle.std.proofs.lemmas.Option.{slice_get-get_or, slice_get_within, get_or_from_slice_get, same_Some}
 use Rattle.std.proofs.lemmas.List.{get_or_past, get_or-set_same, get_or-set_other, set-get_or, set-set, length-set}
@@ -8,6 +8,7 @@ use Rattle.xid_circle.specs.declared.Tid.{Tid}
 use Rattle.page_slots.specs.View.{PageView}
 use Rattle.space_maps.specs.declared.mark.Mark.TheVariants.{Nothing}
 use Rattle.heap_pages.specs.View.{PagesView, with_page}
+use Rattle.page_slots.specs.declared.slot.Slot.{Slot}
 use Rattle.page_slots.specs.Slots.{IsNormalAt, row_at, room_of}
 use Rattle.table_indexes.specs.Indexes.{SameEntries}
 use Rattle.heap_write.specs.Heap.{HeapView, unused_page, SameIds, Keeps, PutsPage}
@@ -39,6 +40,10 @@ nothing-at (suc i) h = true≢false (sym h)
 pub nothing-there : (h : HeapView) (place : Tid) → slice_get h.pages.pages place.page ≡ None → ¬ VersionIsThere h place
 nothing-there h place none there =
     nothing-at place.slot (subst (λ (p : PageView). IsNormalAt p.slots place.slot) (page-none h.pages.pages place.page none) there)
+
+pub no-version : (slots : List Slot) (slot : ℕ) → length slots ≡ 0 → ¬ IsNormalAt slots slot
+no-version [] slot none = nothing-at slot
+no-version (first ∷ rest) slot none = absurd (omega (arith, none))
 
 no-row : (slot : ℕ) (old : Row) → row_at [] slot ≢ Some old
 no-row zero old = λ e. cc

@@ -1,11 +1,12 @@
 -- The plan of a page's pruning: it stays one when there is more memory, and the page is pruned once it is applied.
-use Rattle.std.proofs.Common.{◌≡◌, ℕ, ◌<◌, ◌&&◌, ◌==◌, not, Bool, true, if◌then◌else◌, List, [], ◌∷◌, length, Option, Some, None, slice_get, sym, ap, subst, refl, ◌∙◌, arith}
+use Rattle.std.proofs.Common.{◌≡◌, ◌⊎◌, ℕ, ◌<◌, ◌≤◌, ◌&&◌, ◌==◌, not, Bool, true, if◌then◌else◌, List, [], ◌∷◌, length, Option, Some, None, slice_get, sym, ap, subst, refl, ◌∙◌, arith}
 use Rattle.std.proofs.lemmas.Option.{slice_get-get_or}
 use Rattle.std.proofs.lemmas.Bool.{true≢false, eqb-true}
-use Rattle.std.specs.Prelude.{IsSome}
+use Rattle.std.specs.Prelude.{IsSome, IsFalse, IsTrue, ◌↔◌}
 use Rattle.std.specs.Option.{option_map}
 use Rattle.xid_circle.specs.declared.Tid.{Tid}
-use Rattle.tuple_header.specs.Version.{Version}
+use Rattle.tuple_header.specs.declared.version.Row.{Row}
+use Rattle.tuple_header.specs.Version.{Version, rounded_size_of}
 use Rattle.tuple_header.specs.declared.version.Header.{Header}
 use Rattle.tuple_header.specs.Marks.{is_frozen, is_heap_only}
 use Rattle.page_slots.specs.View.{PageView}
@@ -26,18 +27,20 @@ use Rattle.prune.proofs.Idle.{idle-plan}
 use Rattle.prune.proofs.Listing.{applied-flag, applied-spare}
 use Rattle.prune.proofs.Planned.{plan-pruned}
 use Rattle.prune.proofs.Removing.{pruned-removes}
+use Rattle.table_indexes.specs.Indexes.{NeedsEntry}
 use Rattle.heap_write.specs.Heap.{HeapView, unused_page, page_on, SameIds, Keeps}
 use Rattle.snapshot.specs.Own.{Own}
-use Rattle.heap_write.specs.Writes.{NeedsFreeze, SameOwn, Prunes}
+use Rattle.heap_write.specs.Writes.{NeedsFreeze, SameOwn, KeepsValues, Prunes, PrunesIfFull}
+use Rattle.heap_write.specs.Writes.PrunesIfFull.{is_pruned}
 use Rattle.heap_write.specs.Steps.{HasNoneDead, IsChosen, IsPlanOn, with_applied}
 use Rattle.heap_write.specs.Growth.{HasSlot, IsReserved}
-use Rattle.heap_write.specs.Refusals.{VersionIsThere}
+use Rattle.heap_write.specs.Refusals.{NeedsIds, NeedsSlot, RootNeedsMemory, UpdateNeedsMemory, VersionIsThere}
 use Rattle.heap_write.specs.declared.target.Target.{Target}
-use Rattle.heap_write.proofs.PageLemmas.{page-at, page-back, page-set, there-within}
+use Rattle.heap_write.proofs.PageLemmas.{keeps-all, page-at, page-back, page-set, there-within}
 use Rattle.heap_write.proofs.IdlePages.{dead-back, kept-there}
 use Rattle.heap_write.proofs.Reserving.{chosen-set, ready-set}
 use Rattle.heap_write.proofs.SlotMemory.{slot-pruned}
-use Rattle.heap_write.proofs.Updating.{kept-slots, kept-full, no-room}
+use Rattle.heap_write.proofs.Updating.{kept-slots, kept-full, no-room, on_page-needs}
 
 -- More memory for ids changes no plan.
 
@@ -123,6 +126,34 @@ pub applied-ready : (h h1 h' : HeapView) (n size : ℕ) (actions : List (ℕ × 
     → room_of (page_on h n).slots < size → IsReserved h1.pages size target → IsReserved h'.pages size target
 applied-ready h h1 h' n size actions target keeps is full =
     ready-set h1.pages h'.pages size n (applied actions (page_on h1 n)) target (ap (λ (v : HeapView). v.pages.pages) is) (ap (λ (v : HeapView). v.pages.spare) is) (kept-full h h1 n size keeps full)
+
+-- What memory was needed, where the plan makes room and where not.
+
+planned-readies : (h : HeapView) (n horizon size : ℕ) (actions : List (ℕ × Action)) → n < length h.pages.pages → room_of (page_on h n).slots < size → IsPlanOn h n horizon actions
+    → PrunesIfFull h (with_applied h n actions) n horizon size
+planned-readies h n horizon size actions within full plan = is_pruned full h (keeps-all h) (applied-prunes h (with_applied h n actions) n horizon actions within plan refl)
+
+planned-room : (h : HeapView) (n : ℕ) (actions : List (ℕ × Action)) → n < length h.pages.pages → room_of (page_on (with_applied h n actions) n).slots ≡ room_of (applied actions (page_on h n)).slots
+planned-room h n actions within = ap (λ (p : PageView). room_of p.slots) (applied-page h (with_applied h n actions) n actions within refl)
+
+pub stays-needs : (h : HeapView) (own : Own) (place : Tid) (row : Row) (horizon : ℕ) (actions : List (ℕ × Action)) (heap_only : Bool) → VersionIsThere h place
+    → room_of (page_on h place.page).slots < rounded_size_of row → IsPlanOn h place.page horizon actions → rounded_size_of row ≤ room_of (applied actions (page_on h place.page)).slots
+    → (IsTrue heap_only ↔ KeepsValues h place row) → NeedsIds h own ⊎ NeedsSlot (page_on h place.page) ⊎ IsFalse heap_only × NeedsEntry h.indexes
+    → UpdateNeedsMemory h own place row horizon
+stays-needs h own place row horizon actions heap_only there full plan fits says needs =
+    let n = place.page in
+    let within = there-within h place there in
+    on_page-needs h (with_applied h n actions) own place row horizon heap_only there (planned-readies h n horizon (rounded_size_of row) actions within full plan)
+    (subst (λ room. rounded_size_of row ≤ room) (sym (planned-room h n actions within)) fits) says needs
+
+pub moves-needs : (h : HeapView) (own : Own) (place : Tid) (row : Row) (horizon size : ℕ) (actions : List (ℕ × Action)) → VersionIsThere h place
+    → room_of (page_on h place.page).slots < rounded_size_of row → IsPlanOn h place.page horizon actions → room_of (applied actions (page_on h place.page)).slots < rounded_size_of row
+    → size ≡ rounded_size_of row → RootNeedsMemory h own size → UpdateNeedsMemory h own place row horizon
+moves-needs h own place row horizon size actions there full plan still is needs =
+    let n = place.page in
+    let within = there-within h place there in
+    UpdateNeedsMemory.for_root (with_applied h n actions) (planned-readies h n horizon (rounded_size_of row) actions within full plan)
+    (subst (λ room. room < rounded_size_of row) (sym (planned-room h n actions within)) still) (subst (λ size. RootNeedsMemory h own size) is needs)
 
 -- What stays on the page.
 

@@ -16,13 +16,13 @@ use Rattle.snapshot.specs.Own.{Own, unassigned_levels}
 use Rattle.heap_write.specs.declared.heap.WriteFault.{WriteFault}
 use Rattle.heap_write.specs.declared.heap.WriteFault.TheVariants.{Gone, NeedsFreeze as needs_freeze, NoRoom, NoMemory}
 use Rattle.heap_write.specs.Heap.{HeapView, unused_page, page_on, Keeps}
-use Rattle.heap_write.specs.Writes.{NeedsFreeze, TakesIds, SameOwn, KeepsValues, Prunes, UpdatesOnPage, Replaces, Updates}
+use Rattle.heap_write.specs.Writes.{NeedsFreeze, TakesIds, SameOwn, KeepsValues, Prunes, PrunesIfFull, UpdatesOnPage, Replaces, Updates}
 use Rattle.heap_write.specs.Writes.PrunesIfFull.{has_room, is_pruned}
 use Rattle.heap_write.specs.Writes.Replaces.{on_page}
 use Rattle.table_indexes.specs.Indexes.{NeedsEntry}
 use Rattle.heap_write.specs.Refusals.{NeedsIds, NeedsSlot, VersionIsThere, UpdateNeedsMemory, AfterPruning, FailsUpdate}
 use Rattle.heap_write.specs.Steps.{FailsAfterPruning}
-use Rattle.heap_write.proofs.PageLemmas.{keeps-all}
+use Rattle.heap_write.proofs.PageLemmas.{keeps-all, no-version}
 use Rattle.heap_write.proofs.IdLemmas.{takes-grown}
 
 pub some-weaker : {A : Type 0} (o : Option A) (P Q : A → Type 0) → ((a : A) → P a → Q a) → IfSome o P → IfSome o Q
@@ -59,7 +59,7 @@ updates-here h h' own own' place row horizon (Ok x) free there room max_pages ta
 updates-here h h' own own' place row horizon (Err fault) free there room max_pages takes replaces = takes
 
 pub here-fails : (h h' : HeapView) (own : Own) (place : Tid) (row : Row) (horizon : ℕ) (r : Result Xid WriteFault) → VersionIsThere h place → ¬ NeedsFreeze h.table own
-    → IfErr r (λ fault. fault ≡ NoMemory) → OnErr r (UpdateNeedsMemory h own place row) → OnErr r (Keeps h h')
+    → IfErr r (λ fault. fault ≡ NoMemory) → OnErr r (UpdateNeedsMemory h own place row horizon) → OnErr r (Keeps h h')
     → IfErr r (λ fault. FailsUpdate h h' own place row horizon fault)
 here-fails h h' own place row horizon (Ok x) there free no_memory needs keeps = no_memory
 here-fails h h' own place row horizon (Err fault) there free no_memory needs keeps =
@@ -118,8 +118,10 @@ fails-all h grown ready h' own place row horizon (Ok x) there free full keeps pr
 fails-all h grown ready h' own place row horizon (Err fault) there free full keeps prunes same failed = fails h grown ready h' own place row horizon fault there free full keeps prunes same failed
 
 -- what memory an update on the page asked for
-pub on_page-needs : (h : HeapView) (own : Own) (place : Tid) (row : Row) (heap_only : Bool) → (IsTrue heap_only ↔ KeepsValues h place row)
-    → NeedsIds h own ⊎ NeedsSlot (page_on h place.page) ⊎ IsFalse heap_only × NeedsEntry h.indexes → UpdateNeedsMemory h own place row
-on_page-needs h own place row heap_only says (inl ids) = UpdateNeedsMemory.for_ids ids
-on_page-needs h own place row heap_only says (inr (inl slot)) = UpdateNeedsMemory.for_slot slot
-on_page-needs h own place row heap_only says (inr (inr entry)) = UpdateNeedsMemory.for_entry (λ keeps. true≢false (sym (says.1 keeps) ∙ entry.0)) entry.1
+pub on_page-needs : (h ready : HeapView) (own : Own) (place : Tid) (row : Row) (horizon : ℕ) (heap_only : Bool) → VersionIsThere h place
+    → PrunesIfFull h ready place.page horizon (rounded_size_of row) → rounded_size_of row ≤ room_of (page_on ready place.page).slots → (IsTrue heap_only ↔ KeepsValues h place row)
+    → NeedsIds h own ⊎ NeedsSlot (page_on h place.page) ⊎ IsFalse heap_only × NeedsEntry h.indexes → UpdateNeedsMemory h own place row horizon
+on_page-needs h ready own place row horizon heap_only there readies room says (inl ids) = UpdateNeedsMemory.for_ids ids
+on_page-needs h ready own place row horizon heap_only there readies room says (inr (inl slot)) = absurd (no-version (page_on h place.page).slots place.slot slot.none there)
+on_page-needs h ready own place row horizon heap_only there readies room says (inr (inr entry)) =
+    UpdateNeedsMemory.for_entry ready readies room (λ keeps. true≢false (sym (says.1 keeps) ∙ entry.0)) entry.1

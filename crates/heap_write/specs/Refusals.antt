@@ -43,15 +43,17 @@ LacksForInsert h own row fault.Gone = ⊥
 abbrev pub VersionIsThere : HeapView → Tid → Type 0
 VersionIsThere h place = IsNormalAt (page_on h place.page).slots place.slot
 
--- Something has to grow for an update: the ids, the page's list of slots, or an index where a value in one changes. Where the
--- row has no room on the page, it may be whatever a new root takes. Either is asked for alone: the plan of the page's pruning
--- tells before whether it makes room.
-pub data UpdateNeedsMemory (h : HeapView) (own : Own) (place : Tid) (row : Row) : Type 0 where
-  for_ids : NeedsIds h own → UpdateNeedsMemory h own place row
-  for_slot : NeedsSlot (page_on h place.page) → UpdateNeedsMemory h own place row
-  for_entry : ¬ KeepsValues h place row → NeedsEntry h.indexes → UpdateNeedsMemory h own place row
-  to_prune : room_of (page_on h place.page).slots < rounded_size_of row
-      → NeedsSlot (page_on h place.page) ⊎ RootNeedsMemory h own (rounded_size_of row) → UpdateNeedsMemory h own place row
+-- Something has to grow for an update: the ids; or, where the row has room on its page once that is pruned if it is full, an index
+-- where a value in one changes; or, where it has none there, whatever a new root takes. The page has a version, so memory for each
+-- slot that it may have.
+pub data UpdateNeedsMemory (h : HeapView) (own : Own) (place : Tid) (row : Row) (horizon : ℕ) : Type 0 where
+  for_ids : NeedsIds h own → UpdateNeedsMemory h own place row horizon
+  for_entry : (ready : HeapView) → PrunesIfFull h ready place.page horizon (rounded_size_of row)
+      → rounded_size_of row ≤ room_of (page_on ready place.page).slots → ¬ KeepsValues h place row → NeedsEntry h.indexes
+      → UpdateNeedsMemory h own place row horizon
+  for_root : (ready : HeapView) → PrunesIfFull h ready place.page horizon (rounded_size_of row)
+      → room_of (page_on ready place.page).slots < rounded_size_of row → RootNeedsMemory h own (rounded_size_of row)
+      → UpdateNeedsMemory h own place row horizon
 
 -- the page of the old version was made ready, and this is so then
 pub record AfterPruning (h h' : HeapView) (own : Own) (place : Tid) (horizon size : ℕ) (P : HeapView → Type 0) : Type 0 where
@@ -67,7 +69,7 @@ FailsUpdate h h' own place row horizon fault.NeedsFreeze = VersionIsThere h plac
 FailsUpdate h h' own place row horizon fault.NoRoom =
     AfterPruning h h' own place horizon (rounded_size_of row) (λ ready. VersionIsThere ready place × TableIsFull ready (rounded_size_of row))
 FailsUpdate h h' own place row horizon fault.NoMemory =
-    VersionIsThere h place × (¬ NeedsFreeze h.table own) × UpdateNeedsMemory h own place row × Keeps h h'
+    VersionIsThere h place × (¬ NeedsFreeze h.table own) × UpdateNeedsMemory h own place row horizon × Keeps h h'
 FailsUpdate h h' own place row horizon fault.Gone =
     ((¬ VersionIsThere h place) × Keeps h h') ⊎ AfterPruning h h' own place horizon (rounded_size_of row) (λ ready. ¬ VersionIsThere ready place)
 

@@ -100,7 +100,8 @@ impl HeapState {
         ensures replaces { IfOk result (λ x. UpdatesOnPage self.old self.new place x.0 row.now) }
         ensures max_pages { self.new.max_pages ≡ self.old.max_pages }
         ensures fault { IfErr result (λ fault. fault ≡ WriteFault.NoMemory) }
-        ensures needs { OnErr result (UpdateNeedsMemory self.old own.old place row.now) }
+        ensures needs { (horizon : ℕ)
+            → OnErr result (UpdateNeedsMemory self.old own.old place row.now horizon) }
         ensures err { OnErr result (Keeps self.old self.new) }
         ensures own { OnErr result (SameOwn own.old own.new) }
         ensures window { IsWindow self.new.table }

@@ -14,7 +14,7 @@ use Rattle.heap_write.specs.declared.heap.WriteFault.TheVariants as fault
 use Rattle.page_slots.specs.Slots.{room_of}
 use Rattle.heap_write.specs.Heap.{HeapView, page_on, SameIds, Keeps}
 use Rattle.heap_write.specs.Writes.{SameOwn, TableIsFull, Prunes, PrunesIfFull, Inserts, Updates, Deletes}
-use Rattle.heap_write.specs.Refusals.{VersionIsThere, AfterPruning, LacksForInsert, FailsUpdate, FailsDelete}
+use Rattle.heap_write.specs.Refusals.{VersionIsThere, UpdateNeedsMemory, AfterPruning, LacksForInsert, FailsUpdate, FailsDelete}
 use Rattle.session_steps.specs.declared.session.Session.{Session}
 use Rattle.session_steps.specs.State.{State, session_at, horizon_of}
 use Rattle.session_steps.specs.Keeps.{open_at, EngineKeeps}
@@ -104,10 +104,16 @@ after-at h h' own place row x horizon P any after = record {
   keeps = after.keeps;
 }
 
+needs-at : (h : HeapView) (own : Own) (place : Tid) (row : Row) (x horizon : ℕ) → AnyHorizon h place row x horizon → UpdateNeedsMemory h own place row x → UpdateNeedsMemory h own place row horizon
+needs-at h own place row x horizon any (UpdateNeedsMemory.for_ids ids) = UpdateNeedsMemory.for_ids ids
+needs-at h own place row x horizon any (UpdateNeedsMemory.for_entry ready readies room changes entry) =
+    UpdateNeedsMemory.for_entry ready (readies-at h ready place row x horizon any readies) room changes entry
+needs-at h own place row x horizon any (UpdateNeedsMemory.for_root ready readies full root) = UpdateNeedsMemory.for_root ready (readies-at h ready place row x horizon any readies) full root
+
 fails-at : (h h' : HeapView) (own : Own) (place : Tid) (row : Row) (x horizon : ℕ) (f : WriteFault) → AnyHorizon h place row x horizon → FailsUpdate h h' own place row x f → FailsUpdate h h' own place row horizon f
 fails-at h h' own place row x horizon fault.NeedsFreeze any fails = fails
 fails-at h h' own place row x horizon fault.NoRoom any fails = after-at h h' own place row x horizon (λ ready. VersionIsThere ready place × TableIsFull ready (rounded_size_of row)) any fails
-fails-at h h' own place row x horizon fault.NoMemory any fails = fails
+fails-at h h' own place row x horizon fault.NoMemory any fails = (fails.0, fails.1, needs-at h own place row x horizon any fails.2, fails.3)
 fails-at h h' own place row x horizon fault.Gone any (inl gone) = inl gone
 fails-at h h' own place row x horizon fault.Gone any (inr went) = inr (after-at h h' own place row x horizon (λ ready. ¬ VersionIsThere ready place) any went)
 

@@ -19,4 +19,4 @@ returns-then-has_room-clause-fault c =
     let done = c.update_at_once.ensures in
     let free = subst (λ (h : HeapView). ¬ NeedsFreeze h.table own) c.self.view_is (iff_false c.needs_freeze.ensures c.if-needs_freeze.false) in
     here-fails c.args.self.now c.update_at_once.new.self own c.args.place c.args.row.now c.args.horizon.0 c.update_at_once.result
-    (c.is_there.ensures.0 c.if-not-is_there.false) free done.fault done.needs done.err
+    (c.is_there.ensures.0 c.if-not-is_there.false) free done.fault (done.needs c.args.horizon.0) done.err

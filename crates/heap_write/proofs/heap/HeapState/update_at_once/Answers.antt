@@ -1,10 +1,11 @@
-use Rattle.std.proofs.Common.{◌≤◌, sym, subst}
+use Rattle.std.proofs.Common.{◌≤◌, refl, sym, subst}
 use Rattle.tuple_header.specs.Version.{rounded_size_of}
 use Rattle.page_slots.specs.Slots.{room_of}
+use Rattle.heap_write.specs.Writes.PrunesIfFull.{has_room}
 use Rattle.heap_write.proofs.IdLemmas.{takes-grown}
 use Rattle.heap_write.proofs.PageLemmas.{there-within}
 use Rattle.heap_write.proofs.Writing.{values-kept, values-back, grown-page, on_page-grown}
-use Rattle.heap_write.proofs.Updating.{kept-slots}
+use Rattle.heap_write.proofs.Updating.{kept-slots, on_page-needs}
 use Rattle.heap_write.proofs.SlotMemory.{slot-grown}
 use Rattle.heap_write.proofs.heap.HeapState.update_at_once.Goals as goal
 
@@ -41,3 +42,9 @@ returns-in-Ok-clause-replaces c =
     let n = c.args.place.page in
     let grown = grown-page h h1 n (there-within h c.args.place c.requires.there) c.in-Ok.ensures.grows c.reserve_on_page-reserved.ensures.keeps.entries in
     on_page-grown h h1 c.update_on_page.new.self c.args.place c.update_on_page.result.0 c.args.row.now grown c.update_on_page.ensures.replaces
+
+pub returns-in-Err-clause-needs : goal.returns-in-Err-clause-needs
+returns-in-Err-clause-needs c = λ horizon.
+    let h = c.args.self.now in
+    on_page-needs h h c.args.own.now c.args.place c.args.row.now horizon c.keeps_values-heap_only.result c.requires.there (has_room c.requires.room refl) c.requires.room
+    c.keeps_values-heap_only.ensures c.in-Err.ensures.needs

@@ -1,15 +1,13 @@
-use Rattle.std.proofs.Common.{◌<◌, List, inr, sym, subst}
+use Rattle.std.proofs.Common.{◌<◌, List, sym, subst}
 use Rattle.tuple_header.specs.Version.{rounded_size_of}
 use Rattle.page_slots.specs.declared.slot.Slot.{Slot}
 use Rattle.page_slots.specs.Slots.{room_of}
 use Rattle.heap_write.specs.Growth.{IsReserved}
 use Rattle.heap_write.specs.Steps.{IsChosen}
-use Rattle.heap_write.specs.Refusals.{RootNeedsMemory}
-use Rattle.heap_write.specs.Refusals.UpdateNeedsMemory.{to_prune}
 use Rattle.heap_write.proofs.PageLemmas.{there-within}
 use Rattle.heap_write.proofs.IdlePages.{kept-there}
 use Rattle.heap_write.proofs.Updating.{some-weaker, updates-all, fails-all}
-use Rattle.heap_write.proofs.Plans.{can-kept, plan-kept, planned-slots, applied-chosen, applied-ready, applied-prunes}
+use Rattle.heap_write.proofs.Plans.{can-kept, plan-kept, planned-slots, applied-chosen, applied-ready, applied-prunes, moves-needs}
 use Rattle.heap_write.proofs.heap.HeapState.update_off_pruned.Goals as goal
 
 pub apply_plan-requires-clause-within : goal.apply_plan-requires-clause-within
@@ -80,6 +78,7 @@ pub returns-in-Err-clause-fault : goal.returns-in-Err-clause-fault
 returns-in-Err-clause-fault c = λ horizon plan. (
   c.requires.there,
   c.requires.free,
-  to_prune c.requires.room (inr (subst (λ n. RootNeedsMemory c.args.self.now c.args.own.now n) c.row_size.ensures.value c.in-Err.ensures.needs)),
+  moves-needs c.args.self.now c.args.own.now c.args.place c.args.row.now horizon c.row_size.result c.args.plan.now.actions.items c.requires.there c.requires.room plan c.requires.full
+      c.row_size.ensures.value c.in-Err.ensures.needs,
   c.reserve_root-reserved.ensures.keeps,
 )

@@ -9,8 +9,8 @@ use Rattle.heap_write.proofs.PageLemmas.{there-within}
 use Rattle.heap_write.proofs.IdlePages.{kept-there}
 use Rattle.heap_write.proofs.SlotMemory.{slot-grown}
 use Rattle.heap_write.proofs.Writing.{values-on}
-use Rattle.heap_write.proofs.Updating.{kept-slots, updates-all, fails-all, on_page-needs}
-use Rattle.heap_write.proofs.Plans.{free-kept, can-kept, plan-kept, planned-slots, applied-slot_ready, applied-row, applied-prunes}
+use Rattle.heap_write.proofs.Updating.{kept-slots, updates-all, fails-all}
+use Rattle.heap_write.proofs.Plans.{free-kept, can-kept, plan-kept, planned-slots, applied-slot_ready, applied-row, applied-prunes, stays-needs}
 use Rattle.heap_write.proofs.heap.HeapState.update_on_pruned.Goals as goal
 
 pub apply_plan-requires-clause-can_apply : goal.apply_plan-requires-clause-can_apply
@@ -88,6 +88,7 @@ pub returns-in-Err-clause-fault : goal.returns-in-Err-clause-fault
 returns-in-Err-clause-fault c = λ horizon plan. (
   c.requires.there,
   c.requires.free,
-  on_page-needs c.args.self.now c.args.own.now c.args.place c.args.row.now c.keeps_values-heap_only.result c.keeps_values-heap_only.ensures c.in-Err.ensures.needs,
+  stays-needs c.args.self.now c.args.own.now c.args.place c.args.row.now horizon c.args.plan.now.actions.items c.keeps_values-heap_only.result c.requires.there c.requires.room plan
+      c.requires.fits c.keeps_values-heap_only.ensures c.in-Err.ensures.needs,
   c.reserve_on_page-reserved.ensures.keeps,
 )

@@ -1,12 +1,10 @@
-use Rattle.std.proofs.Common.{◌<◌, List, inr, sym, subst}
+use Rattle.std.proofs.Common.{◌<◌, List, [], sym, subst}
 use Rattle.tuple_header.specs.Version.{rounded_size_of}
 use Rattle.page_slots.specs.declared.slot.Slot.{Slot}
 use Rattle.page_slots.specs.Slots.{room_of}
-use Rattle.heap_write.specs.Refusals.{RootNeedsMemory}
-use Rattle.heap_write.specs.Refusals.UpdateNeedsMemory.{to_prune}
 use Rattle.heap_write.proofs.Updating.{kept-slots, updates-all, fails-all}
 use Rattle.heap_write.proofs.IdlePages.{kept-there}
-use Rattle.heap_write.proofs.Plans.{kept-prunes}
+use Rattle.heap_write.proofs.Plans.{kept-prunes, moves-needs}
 use Rattle.heap_write.proofs.heap.HeapState.update_unpruned.Goals as goal
 
 pub update_elsewhere-requires-clause-there : goal.update_elsewhere-requires-clause-there
@@ -39,6 +37,7 @@ pub returns-in-Err-clause-fault : goal.returns-in-Err-clause-fault
 returns-in-Err-clause-fault c = λ horizon plan. (
   c.requires.there,
   c.requires.free,
-  to_prune c.requires.room (inr (subst (λ n. RootNeedsMemory c.args.self.now c.args.own.now n) c.row_size.ensures.value c.in-Err.ensures.needs)),
+  moves-needs c.args.self.now c.args.own.now c.args.place c.args.row.now horizon c.row_size.result [] c.requires.there c.requires.room plan c.requires.room c.row_size.ensures.value
+      c.in-Err.ensures.needs,
   c.reserve_root-reserved.ensures.keeps,
 )
