@@ -9,7 +9,7 @@ use Rattle.std.proofs.lemmas.List.{get_or_past, get_or-set_same, get_or-set_othe
 use Rattle.std.specs.Prelude.{slice_get}
 use Rattle.xid_circle.specs.declared.Tid.{Tid}
 use Rattle.tuple_header.specs.declared.version.Row.{Row}
-use Rattle.tuple_writes.specs.Writes.{with_updated}
+use Rattle.tuple_writes.specs.Writes.{with_root, with_updated}
 use Rattle.page_slots.specs.declared.slot.Slot.{Slot}
 use Rattle.page_slots.specs.View.{PageView}
 use Rattle.page_slots.specs.Slots.{IsNormalAt}
@@ -26,7 +26,7 @@ use Rattle.heap_write.specs.Heap.PutsPage.{in_use, after_all}
 use Rattle.heap_write.specs.Growth.{page_in, SamePages, PutsVersion}
 use Rattle.heap_write.specs.Writes.{TakesIds}
 use Rattle.heap_write.specs.Steps.{HasNoneDead}
-use Rattle.heap_write.specs.Hints.{AreTrueHints, IsLowered, ExpectsWrite}
+use Rattle.heap_write.specs.Hints.{AreTrueHints, IsLowered, ExpectsRoot, ExpectsWrite}
 use Rattle.heap_write.proofs.Dying.{AgesOn, dies-on, ages-given, ages-finished, ages-same, none-dead, dies-earlier, dies-root, dies-replaced, dies-updated}
 use Rattle.heap_write.proofs.PageLemmas.{page-at}
 use Rattle.heap_write.proofs.Writing.{MarksColdUpdated}
@@ -154,6 +154,14 @@ expects-lowered w x n turn_of hints hints' live is low = record {
   others = λ m other. ap (λ (hs : List (Option ℕ)). turn_on hs m) low ∙ get_or-set_other hints n m (lowered (turn_on hints n) turn_of) None other;
 }
 
+-- x makes a root, of what is known of its page.
+
+pub roots-ended : (w : Window) (x n : ℕ) (hints hints' : List (Option ℕ)) → hints' ≡ set hints n None → ExpectsRoot w x n hints hints'
+roots-ended w x n hints hints' end = record {
+  here = λ turn known. absurd (none-some turn (sym (ended hints n) ∙ (ap (λ (hs : List (Option ℕ)). turn_on hs n) (sym end) ∙ known)));
+  others = λ m other. ap (λ (hs : List (Option ℕ)). turn_on hs m) end ∙ get_or-set_other hints n m None None other;
+}
+
 put-here : (pages pages' : PagesView) (n : ℕ) (page : PageView) → PutsPage pages pages' n page → page_in pages'.pages n ≡ page
 put-here pages pages' n page (in_use within is marks) = ap (λ ps. page_in ps n) is ∙ get_or-set_same pages.pages n page unused_page within
 put-here pages pages' n page (after_all over is marks) =
@@ -189,10 +197,19 @@ hints-written w x n pages pages' page hints hints' is same write expects are = r
 
 -- x makes a root
 pub hints-root : (w : Window) (pages pages' : PagesView) (updated : Bool) (x : ℕ) (row : Row) (n : ℕ) (hints hints' : List (Option ℕ)) → PutsVersion pages pages' updated x row n
-    → ExpectsWrite w x n hints hints' → AreTrueHints w pages.pages hints → AreTrueHints w pages'.pages hints'
-hints-root w pages pages' updated x row n hints hints' root =
-    hints-written w x n pages.pages pages'.pages root.page hints hints' (put-here pages pages' n root.page root.puts) (λ m other. put-other pages pages' n m root.page other root.puts)
-    (λ turn live later dies. subst (NothingDiesBefore w turn) (sym root.slots) (dies-root w turn x n (page_in pages.pages n).slots updated row live dies))
+    → ExpectsRoot w x n hints hints' → AreTrueHints w pages.pages hints → AreTrueHints w pages'.pages hints'
+hints-root w pages pages' updated x row n hints hints' root expects are = record {
+  each = λ m turn known. ⊎_elim
+      (λ here.
+      let e = expects.here turn (ap (turn_on hints') (sym here) ∙ known) in
+      let dies = dies-root w turn x n (page_in pages.pages n).slots updated row e.0 (are.each n turn e.1) in
+      let is : (page_in pages'.pages m).slots ≡ with_root (page_in pages.pages n).slots updated x n row =
+      ap (λ k. (page_in pages'.pages k).slots) here ∙ (ap (λ (p : PageView). p.slots) (put-here pages pages' n root.page root.puts) ∙ root.slots) in
+      subst (NothingDiesBefore w turn) (sym is) dies)
+      (λ other.
+      subst (λ (p : PageView). NothingDiesBefore w turn p.slots) (sym (put-other pages pages' n m root.page other root.puts)) (are.each m turn (sym (expects.others m other) ∙ known)))
+      (cases_eq m n);
+}
 
 -- x changes the page that was there
 hints-changed : (w : Window) (x n : ℕ) (pages pages' : List PageView) (before after : PageView) (hints hints' : List (Option ℕ)) → slice_get pages n ≡ Some before → pages' ≡ set pages n after

@@ -22,3 +22,8 @@ pub record IsLowered (w : Window) (x turn : ℕ) (known : Option ℕ) : Type 0 w
 pub record ExpectsWrite (w : Window) (x n : ℕ) (hints hints' : List (Option ℕ)) : Type 0 where
   pub here : (turn : ℕ) → turn_on hints' n ≡ Some turn → IsLowered w x turn (turn_on hints n)
   pub others : (m : ℕ) → m ≢ n → turn_on hints' m ≡ turn_on hints m
+
+-- what is known of page n stays when x, which is not aborted, makes a root on it, for that has no deleter; and nothing else changes
+pub record ExpectsRoot (w : Window) (x n : ℕ) (hints hints' : List (Option ℕ)) : Type 0 where
+  pub here : (turn : ℕ) → turn_on hints' n ≡ Some turn → (¬ IsAborted w x) × (turn_on hints n ≡ Some turn)
+  pub others : (m : ℕ) → m ≢ n → turn_on hints' m ≡ turn_on hints m

@@ -2,7 +2,7 @@
 
 ghost use Rattle.std.specs.Prelude.{◌≡◌, IfSome};
 ghost use Rattle.commit_status.specs.Window.{IsAborted, turns};
-ghost use Rattle.heap_write.specs.Hints.{ExpectsWrite};
+ghost use Rattle.heap_write.specs.Hints.{ExpectsRoot, ExpectsWrite};
 
 use commit_status::{Status, StatusTable};
 use space_maps::PruneHints;
@@ -30,5 +30,19 @@ pub(crate) fn expect_write(hints: &mut PruneHints, table: &StatusTable, number: 
     match live_turn(table, x) {
         Some(turn) => hints.lower(number, turn),
         None => hints.end(number),
+    }
+}
+
+/// Ends what is known of the page of this number, on which x makes a root, where x was aborted: then the root is dead at once. Else
+/// it has no deleter, and nothing may be dead earlier by it.
+pub(crate) fn expect_root(hints: &mut PruneHints, table: &StatusTable, number: u32, x: Xid)
+    ensures { ExpectsRoot table.now x.0 number hints.old.turns hints.new.turns }
+{
+    if hints.turn(number).is_none() {
+        return;
+    }
+    match table.status(x) {
+        Status::Aborted => hints.end(number),
+        Status::InProgress | Status::Committed => (),
     }
 }

@@ -13,7 +13,7 @@ ghost use Rattle.heap_write.specs.Growth.{IsReserved, target_number};
 ghost use Rattle.tuple_header.specs.declared.version.TheConstants.{MOST_SLOTS};
 
 use crate::heap::{HeapState, WriteFault};
-use crate::hints::expect_write;
+use crate::hints::expect_root;
 use crate::ids::{needs_freeze, reserve_ids, take_ids};
 use crate::target::{Target, put_version, reserve_place};
 use snapshot::OwnIds;
@@ -94,7 +94,7 @@ impl HeapState {
         let (key, cols) = (row.key, row.cols);
         let tid = put_version(&mut self.pages, target, updated, x, row);
         self.indexes.enter(key, &cols, tid);
-        expect_write(&mut self.hints, &self.table, tid.page, x);
+        expect_root(&mut self.hints, &self.table, tid.page, x);
         self.hints.cover(self.pages.len() as usize);
         tid
     }

@@ -6,6 +6,10 @@
 //! is said in `table_indexes`. Whatever has to grow is grown before the first change, so that nothing is left half done
 //! (`specs/Growth.antt`). What a step looks for by key is found through the index by key; a cursor goes along any.
 //!
+//! Of each page that was looked through it is kept from when on a version on it may be dead, its prune hint: an update of a full page
+//! looks for dead versions only where there may be some. No answer depends on hints, and that they are true is part of the type
+//! (`specs/Hints.antt`).
+//!
 //! A vacuum prunes, freezes and notes pages, removes entries and makes dead slots unused (`specs/Cleaning.antt`). Whether and when
 //! that is safe is no matter of these calls: `sound_vacuum` says so.
 #![tactic(auto)]

@@ -5,7 +5,7 @@ pub invariant_of-self : goal.invariant_of-self
 invariant_of-self c =
     let w = c.self.inside.table in
     let hints = c.self.inside.hints.turns in
-    let lowered = c.expect_write.new.hints.turns in
+    let kept = c.expect_root.new.hints.turns in
     let placed = c.put_version-tid in
-    let root = hints-root w c.self.inside.pages placed.new.pages c.args.updated c.args.x.0 c.args.row.now placed.result.page hints lowered placed.ensures.puts c.expect_write.ensures c.self.invariant.1 in
-    (c.self.invariant.0, hints-covered w placed.new.pages.pages lowered c.cover.new.self.turns c.cover.ensures.each root)
+    let root = hints-root w c.self.inside.pages placed.new.pages c.args.updated c.args.x.0 c.args.row.now placed.result.page hints kept placed.ensures.puts c.expect_root.ensures c.self.invariant.1 in
+    (c.self.invariant.0, hints-covered w placed.new.pages.pages kept c.cover.new.self.turns c.cover.ensures.each root)
