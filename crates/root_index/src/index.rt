@@ -97,6 +97,10 @@ impl RootIndex {
         ensures entries { self.new.entries ≡ self.old.entries }
         ensures err { OnErr result (self.new ≡ self.old) }
     {
+        // so most of the time: only a split uses up what was set aside
+        if count <= self.promised {
+            return Ok(());
+        }
         if count as u64 <= free_places(self.count, self.promised) {
             return Ok(());
         }
