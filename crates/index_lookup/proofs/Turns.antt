@@ -2,6 +2,7 @@
 use Rattle.std.proofs.Common.{◌≡◌, ◌⊎◌, ℕ, ℤ, ◌+◌, ◌≤◌, List, length, Option, Some, None, refl, sym, ap, ◌∙◌, subst, ⊎_elim, inl, inr, arith, slice_get}
 use Rattle.std.specs.List.{Contains}
 use Rattle.std.specs.Prelude.{MatchOption}
+use Rattle.std.specs.Option.{option_map}
 use Rattle.std.specs.Ordering.{ordering_reverse}
 use Rattle.std.specs.declared.cmp.Ordering.{Ordering}
 use Rattle.std.specs.declared.cmp.Ordering.TheVariants.{Less, Equal, Greater}
@@ -46,6 +47,17 @@ pub after-only : (xs : List Entry) (value : ℤ) (key : ℕ) (from : Entry) (fou
     → IsOnly value key found answer → IsNextOf xs value key (Some from) answer
 after-only xs value key from found None of least only = after-none xs value key from found of least only
 after-only xs value key from found (Some n) of least only = after-some xs value key from n (subst (IsLeast xs (IsAfter (Some from))) only.0 least) only.1
+
+-- what was found comes with where it stood
+abbrev pub entry_of : {Hint : Type 0} → Option (Entry × Hint) → Option Entry
+entry_of = option_map (λ found. found.0)
+
+pub only-entry : {Hint : Type 0} (value : ℤ) (key : ℕ) (found answer : Option (Entry × Hint))
+    → MatchOption answer ((f : Entry × Hint) → found ≡ Some f → ¬ IsOf value key f.0) (λ f. (found ≡ Some f) × IsOf value key f.0)
+    → IsOnly value key (entry_of found) (entry_of answer)
+only-entry value key None None not = λ e is. absurd (none-some e is)
+only-entry value key (Some f) None not = λ e is of. not f refl (subst (IsOf value key) (same_Some e f.0 (sym is)) of)
+only-entry value key found (Some f) only = (ap (option_map (λ f. f.0)) only.0, only.1)
 
 -- Turns.
 

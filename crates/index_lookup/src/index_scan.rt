@@ -132,22 +132,12 @@ fn past_all(
     Some((entry, near))
 }
 
-/// The first entry that is not below the span's low value.
-fn from_low(index: &RootIndex, span: &IndexRange) -> Option<Entry>
-    ensures { IsLeast index.now.entries (λ e. ¬ IsBelow span.now.low 0 e) result }
-{
-    index.first_from(span.low(), 0)
-}
-
-/// The same, as if it stood at the front.
-fn found_from_low(index: &RootIndex, span: &IndexRange) -> Option<(Entry, PositionHint)>
+/// The first entry that is not below the span's low value, and where it stood.
+fn from_low(index: &RootIndex, span: &IndexRange) -> Option<(Entry, PositionHint)>
     ensures { IsLeast index.now.entries (λ e. ¬ IsBelow span.now.low 0 e)
         (option_map (λ found. found.0) result) }
 {
-    match from_low(index, span) {
-        Some(entry) => Some((entry, PositionHint::default())),
-        None => None,
-    }
+    index.first_from(span.low(), 0)
 }
 
 /// The first entry that is not below the span's low value, and comes after its last place, and where it stood.
@@ -156,7 +146,7 @@ fn entry_from(index: &RootIndex, span: &IndexRange) -> Option<(Entry, PositionHi
 {
     match &span.last {
         Some(last) if span.begins_by(last) => after_mark(index, last),
-        _ => found_from_low(index, span),
+        _ => from_low(index, span),
     }
 }
 
@@ -200,7 +190,7 @@ pub fn next_row<'a>(
             None => return None,
             Some((entry, near)) => {
                 let mark = mark_of(&entry, near);
-                if let Some(row) = row_from(table, entry, reader) {
+                if let Some(row) = row_from(table, entry, near, reader) {
                     return Some((mark, row));
                 }
                 left.last = Some(mark);

@@ -13,18 +13,22 @@ use crate::reader::{Reader, TableView};
 use arrayvec::ArrayVec;
 use heap_pages::Pages;
 use hot_chain::{first_seen, list_chain};
-use root_index::{Entry, RootIndex};
+use root_index::{Entry, PositionHint, RootIndex};
 use tuple_header::RowRef;
 use visibility::visible_header;
 use xid_circle::Tid;
 
-/// An entry, if it is of this value and this key.
-fn only_of(found: Option<Entry>, value: i128, key: u64) -> Option<Entry>
-    ensures { MatchOption result ((e : _) → found ≡ Some e → ¬ IsOf value key e)
-        (λ e. (found ≡ Some e) × IsOf value key e) }
+/// An entry, if it is of this value and this key, and where it stood.
+fn only_of(
+    found: Option<(Entry, PositionHint)>,
+    value: i128,
+    key: u64,
+) -> Option<(Entry, PositionHint)>
+    ensures { MatchOption result ((f : _) → found ≡ Some f → ¬ IsOf value key f.0)
+        (λ f. (found ≡ Some f) × IsOf value key f.0) }
 {
     match found {
-        Some(entry) if entry.value == value && entry.key == key => Some(entry),
+        Some((entry, near)) if entry.value == value && entry.key == key => Some((entry, near)),
         _ => None,
     }
 }
@@ -36,19 +40,21 @@ fn has_value(entry: &Entry)
     let _value = entry.value;
 }
 
-/// The first entry of this value and this key that comes after another one of these, or the first of all.
+/// The first entry of this value and this key that comes after another one of these, or the first of all; and where it stood.
+/// Where the other still stands at the place that is given, that is found without a search.
 pub(crate) fn next_of(
     index: &RootIndex,
     value: i128,
     key: u64,
-    from: Option<Entry>,
-) -> Option<Entry>
-    requires { IfSome from (IsOf value key) }
-    ensures { IsNextOf index.now.entries value key from result }
+    from: Option<(Entry, PositionHint)>,
+) -> Option<(Entry, PositionHint)>
+    requires { IfSome from (λ found. IsOf value key found.0) }
+    ensures { IsNextOf index.now.entries value key (option_map (λ found. found.0) from)
+        (option_map (λ found. found.0) result) }
 {
     match from {
         None => only_of(index.first_from(value, key), value, key),
-        Some(_) => only_of(index.next_after(from), value, key),
+        Some((entry, near)) => only_of(index.next_near(entry, near), value, key),
     }
 }
 
@@ -79,8 +85,14 @@ fn seen_at(pages: &Pages, place: Tid, reader: &Reader<'_>) -> Option<Tid>
 }
 
 /// The place of the first version that the reader sees, along the entries of the value and the key of this one in their
-/// order, and along the chain of each. Who knows the first of these entries spares the search for it. It takes no memory.
-pub fn place_from(table: &TableView<'_>, first: Entry, reader: &Reader<'_>) -> Option<Tid>
+/// order, and along the chain of each. Who knows the first of these entries, and where it stands, spares the search for it and
+/// for those behind it. It takes no memory.
+pub fn place_from(
+    table: &TableView<'_>,
+    first: Entry,
+    near: PositionHint,
+    reader: &Reader<'_>,
+) -> Option<Tid>
     requires { IsFirstOf table.now.index.now.entries first }
     ensures { FirstPlace reader.now.statuses.now (IsSeenBy reader.now)
         (page_slots_of table.now.pages.now) table.now.index.now.entries
@@ -88,15 +100,15 @@ pub fn place_from(table: &TableView<'_>, first: Entry, reader: &Reader<'_>) -> O
 {
     table.index.is_ascending();
     has_value(&first);
-    let mut next = Some(first);
+    let mut next = Some((first, near));
     for _ in 0..table.index.len() {
         match next {
             None => return None,
-            Some(entry) => {
+            Some((entry, near)) => {
                 if let Some(place) = seen_at(table.pages, entry.tid, reader) {
                     return Some(place);
                 }
-                next = next_of(table.index, first.value, first.key, Some(entry));
+                next = next_of(table.index, first.value, first.key, Some((entry, near)));
             }
         }
     }
@@ -111,7 +123,7 @@ pub fn place_of(table: &TableView<'_>, value: i128, key: u64, reader: &Reader<'_
         value key result }
 {
     match next_of(table.index, value, key, None) {
-        Some(first) => place_from(table, first, reader),
+        Some((first, near)) => place_from(table, first, near, reader),
         None => None,
     }
 }
@@ -146,13 +158,18 @@ pub fn row_of<'a>(
 
 /// The row, where it stands, of the first version that the reader sees, as [`place_from`] finds its place. It takes no
 /// memory.
-pub fn row_from<'a>(table: &TableView<'a>, first: Entry, reader: &Reader<'_>) -> Option<RowRef<'a>>
+pub fn row_from<'a>(
+    table: &TableView<'a>,
+    first: Entry,
+    near: PositionHint,
+    reader: &Reader<'_>,
+) -> Option<RowRef<'a>>
     requires { IsFirstOf table.now.index.now.entries first }
     ensures { FirstFound reader.now.statuses.now (IsSeenBy reader.now)
         (page_slots_of table.now.pages.now) table.now.index.now.entries
         first.value first.key result }
 {
-    match place_from(table, first, reader) {
+    match place_from(table, first, near, reader) {
         Some(place) => row_at(table.pages, place),
         None => None,
     }

@@ -125,9 +125,9 @@ pub fn check_write(table: &TableView<'_>, value: i128, key: u64, reader: &Reader
     for _ in 0..table.index.len() {
         match next {
             None => return standing,
-            Some(entry) => {
+            Some((entry, near)) => {
                 standing = standing_at(standing, table.pages, entry.tid, reader);
-                next = next_of(table.index, value, key, Some(entry));
+                next = next_of(table.index, value, key, Some((entry, near)));
             }
         }
     }

@@ -176,12 +176,16 @@ impl RootIndex {
         }
     }
 
-    /// The first entry of this value and this key; or else the first of a higher key, or of a higher value.
-    pub fn first_from(&self, value: i128, key: u64) -> Option<Entry>
-        ensures { IsLeast self.now.entries (λ e. ¬ IsBelow value key e) result }
+    /// The first entry of this value and this key; or else the first of a higher key, or of a higher value. And where it stood.
+    pub fn first_from(&self, value: i128, key: u64) -> Option<(Entry, PositionHint)>
+        ensures { IsLeast self.now.entries (λ e. ¬ IsBelow value key e)
+            (option_map (λ found. found.0) result) }
     {
         let position = look_ups::position_from(&self.trees, value, key);
-        nodes::entry_at(&self.trees, position)
+        match nodes::entry_at(&self.trees, position) {
+            Some(entry) => Some((entry, PositionHint { position })),
+            None => None,
+        }
     }
 
     /// Goes over the entries after this one, or over all, as far as the leaf goes that holds the first of them, and removes those

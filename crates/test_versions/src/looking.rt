@@ -12,7 +12,7 @@ use index_lookup::{
     Reader, TableView, WriteCheck, check_write, place_from, place_of, row_from, row_of,
 };
 use page_slots::Page;
-use root_index::{Entry, RootIndex};
+use root_index::{Entry, PositionHint, RootIndex};
 use sound_entries::laws::{
     aborting_keeps_entries, adding_keeps_entries, committing_keeps_entries, entries_go_sound,
     foreign_is_on_heap, found_by_index, found_is_on_heap, giving_keeps_entries,
@@ -103,13 +103,13 @@ fn three_of_a_key(alloc: Global) -> Pages {
     pages
 }
 
-/// The first entry of a key, if it has one.
-fn first_of(index: &RootIndex, key: u64) -> Option<Entry>
-    ensures { IfSome result (IsFirstOf index.now.entries) }
+/// The first entry of a key, if it has one, and where it stands.
+fn first_of(index: &RootIndex, key: u64) -> Option<(Entry, PositionHint)>
+    ensures { IfSome result (λ found. IsFirstOf index.now.entries found.0) }
 {
     let value = i128::from(key);
     match index.first_from(value, key) {
-        Some(entry) if entry.value == value && entry.key == key => Some(entry),
+        Some((entry, near)) if entry.value == value && entry.key == key => Some((entry, near)),
         _ => None,
     }
 }
@@ -137,9 +137,9 @@ fn seen(table: &TableView<'_>, key: u64, reader: &Reader<'_>) -> Seen {
 
 fn seen_from_first(table: &TableView<'_>, key: u64, reader: &Reader<'_>) -> Seen {
     match first_of(table.index, key) {
-        Some(first) => {
-            let place = place_from(table, first, reader);
-            let row = row_from(table, first, reader);
+        Some((first, near)) => {
+            let place = place_from(table, first, near, reader);
+            let row = row_from(table, first, near, reader);
             (pair(place), column(row))
         }
         None => (None, None),

@@ -11,9 +11,9 @@ returns-in-Some c =
 
 pub returns-in_default : goal.returns-in_default
 returns-in_default c =
-    starts-from c.args.index.now.entries c.args.span.now (option_map (λ found. found.0) c.found_from_low.result)
+    starts-from c.args.index.now.entries c.args.span.now (option_map (λ found. found.0) c.from_low.result)
     (elim c.in_default.branch [
       | in_default-via-in-Some+else-begins_by w ↦ all-after_lower c.args.span.now w.in-Some.last w.in-Some.is (λ le. true≢false (sym (w.begins_by.ensures.1 le) ∙ w.if-begins_by.false))
       | in_default-via-in_default w ↦ all-after_none c.args.span.now w.in_default.is
     ])
-    c.found_from_low.ensures
+    c.from_low.ensures
