@@ -9,7 +9,7 @@ ghost use Rattle.root_index.specs.Lists.{IsFirst, stays};
 ghost use Rattle.root_index.specs.Bounds.{AreOn};
 ghost use Rattle.dead_places.specs.Places.{AreAscending};
 
-use crate::entry::{Entry, compare};
+use crate::entry::{Entry, compare, is_before};
 use crate::node::{HALF, Half, MAX_PARTS, Node, Swept};
 use dead_places::{DeadSet, NO_PAGES, PageBounds, is_among, widened};
 use std::alloc::{AllocError, Global};
@@ -93,7 +93,7 @@ impl Node for Leaf {
     }
 
     fn begins_after(&self, sought: &Entry) -> bool {
-        !self.entries.is_empty() && compare(sought, &self.first).is_lt()
+        !self.entries.is_empty() && is_before(sought, &self.first)
     }
 
     fn search(&self, sought: &Entry) -> Result<usize, usize> {
@@ -297,7 +297,7 @@ fn search(entries: &[Entry], sought: &Entry, guess: usize) -> Result<usize, usiz
                 place = high.saturating_sub(((high - low) / 2).min(reach) + 1);
             }
         }
-        reach = reach.saturating_mul(4).saturating_add(3);
+        reach = reach.wrapping_mul(4).wrapping_add(3);
     }
     Err(low)
 }

@@ -45,13 +45,14 @@ fn node_for<N: Node>(nodes: &[N], sought: &Entry) -> usize
     ensures { IsLastBetween (map N.entries nodes.now) sought.now result (result + 1) }
 {
     let mut low = 0;
-    let mut high = nodes.len();
-    while high - low > 1 {
-        let middle = low + (high - low) / 2;
-        if nodes[middle].begins_after(sought) {
-            high = middle;
+    let mut count = nodes.len();
+    while count > 1 {
+        let half = count / 2;
+        if nodes[low + half].begins_after(sought) {
+            count = half;
         } else {
-            low = middle;
+            low += half;
+            count -= half;
         }
     }
     low

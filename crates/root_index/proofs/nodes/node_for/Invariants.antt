@@ -1,10 +1,10 @@
-use Rattle.std.proofs.Common.{◌-◌, map}
+use Rattle.std.proofs.Common.{◌+◌, map}
 use Rattle.root_index.specs.Lists.{IsLastBetween}
 use Rattle.root_index.proofs.nodes.node_for.Given as goal
 
--- the node stands between these two
-abbrev pub invariant-loop-high : goal.invariant-loop-high
-invariant-loop-high g l = IsLastBetween (map g.N.Node.entries l.nodes) l.sought l.low l.high
+-- the node stands among so many from this one on
+abbrev pub invariant-loop-count : goal.invariant-loop-count
+invariant-loop-count g l = IsLastBetween (map g.N.Node.entries l.nodes) l.sought l.low (l.low + l.count)
 
-abbrev pub decreases-loop-high : goal.decreases-loop-high
-decreases-loop-high g l = l.high - l.low
+abbrev pub decreases-loop-count : goal.decreases-loop-count
+decreases-loop-count g l = l.count
