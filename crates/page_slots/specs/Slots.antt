@@ -1,5 +1,5 @@
 -- The slots of a page. They are numbered from 1 (PostgreSQL manual, Database Page Layout: item identifiers).
-use Rattle.std.specs.Prelude.{ℕ, zero, suc, ◌+◌, ◌-◌, ◌*◌, ◌%◌, ◌^◌, ◌≤◌, ◌==◌, Bool, true, false, if◌then◌else◌, List, [], ◌∷◌, ◌++◌, length, sum_by, nat_lt, Option, Some, None, IsSome, slice_get, slice_set, slice_index_or}
+use Rattle.std.specs.Prelude.{ℕ, zero, suc, ◌+◌, ◌-◌, ◌*◌, ◌%◌, ◌^◌, ◌≤◌, ◌==◌, ◌&&◌, Bool, true, false, if◌then◌else◌, List, [], ◌∷◌, ◌++◌, length, sum_by, nat_lt, Option, Some, None, IsSome, slice_get, slice_set, slice_index_or}
 use Rattle.std.specs.Option.{option_map, option_and_then}
 use Rattle.std.specs.List.{position_or_len}
 use Rattle.page_slots.specs.declared.slot.Slot.{Slot}
@@ -30,6 +30,13 @@ leads_to n Unused = false
 leads_to n (Normal t) = false
 leads_to n (Redirect target) = target == n
 leads_to n Dead = false
+
+-- whether it is a version of this inserter, which nobody deleted
+abbrev pub is_undeleted_by : ℕ → Slot → Bool
+is_undeleted_by x Unused = false
+is_undeleted_by x (Normal t) = (t.header.xmin.0 == x) && (t.header.xmax.0 == 0)
+is_undeleted_by x (Redirect target) = false
+is_undeleted_by x Dead = false
 
 -- the version in a slot, if it is normal
 abbrev pub version_of : Slot → Option Version

@@ -3,12 +3,13 @@
 ghost use Rattle.std.specs.Prelude.{◌≡◌, ◌≤◌, ◌+◌, ℕ, List, IfSome, None, true, length, take, drop};
 ghost use Rattle.std.specs.Option.{option_map};
 ghost use Rattle.tuple_header.specs.Faults.{header_fault};
-ghost use Rattle.page_slots.specs.Slots.{is_unused, is_dead, leads_to, version_of, target_of, bytes_taken};
+ghost use Rattle.page_slots.specs.Slots.{is_unused, is_dead, leads_to, is_undeleted_by, version_of, target_of, bytes_taken};
 ghost use Rattle.page_slots.specs.Store.{stored_slot, stored_version, stored_with_header, fits};
 
 use crate::slot::Slot;
 use std::marker::Model;
 use tuple_header::{Header, RowRef, Tuple};
+use xid_circle::Xid;
 
 /// A version but for its body, and the part of its page's bytes in which that stands.
 #[derive(Debug, Drop)]
@@ -85,6 +86,20 @@ impl Item {
     {
         match self {
             Item::Redirect(target) => *target == number,
+            _ => false,
+        }
+    }
+
+    /// Whether it is a version of this inserter, which nobody deleted.
+    #[inline(always)]
+    pub(crate) fn is_undeleted_by(&self, inserter: Xid) -> bool
+        ensures { (bytes : List ℕ)
+            → result ≡ is_undeleted_by inserter.0 (stored_slot bytes self.now) }
+    {
+        match self {
+            Item::Normal(stored) => {
+                stored.header.xmin.0 == inserter.0 && stored.header.xmax.0 == 0
+            }
             _ => false,
         }
     }

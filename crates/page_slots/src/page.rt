@@ -1,11 +1,11 @@
 //! Pages.
 
-ghost use Rattle.std.specs.Prelude.{◌≡◌, ◌⊎◌, ◌≤◌, ◌<◌, ◌+◌, ◌*◌, sum_by, [], true, false, length, OnOk, OnErr, IfOk, IfSome, IsSome, IsTrue, ◌↔◌, Some, None, MatchOption};
+ghost use Rattle.std.specs.Prelude.{◌≡◌, ◌⊎◌, ◌≤◌, ◌<◌, ◌+◌, ◌*◌, ℕ, sum_by, [], true, false, length, OnOk, OnErr, IfOk, IfSome, IsSome, IsTrue, ◌↔◌, Some, None, MatchOption};
 ghost use Rattle.tuple_header.specs.Version.{rounded_size_of};
 ghost use Rattle.tuple_header.specs.Faults.{header_fault};
 ghost use Rattle.page_slots.specs.Store.{stored_slot, is_bare};
 ghost use Rattle.page_slots.specs.declared.packing.TheConstants.{MOST_BYTES};
-ghost use Rattle.page_slots.specs.Slots.{is_unused, is_dead, leads_to, slot_at, header_at, row_at, key_at, redirect_at, SlotIsThere, IsNormalAt, the_slot, with_slot, with_header_at, has_unused, free_number, with_added, bytes_taken, free_bytes, room_of, next_change, change_unless, differs_in_hints_alone};
+ghost use Rattle.page_slots.specs.Slots.{is_unused, is_dead, leads_to, is_undeleted_by, slot_at, header_at, row_at, key_at, redirect_at, SlotIsThere, IsNormalAt, the_slot, with_slot, with_header_at, has_unused, free_number, with_added, bytes_taken, free_bytes, room_of, next_change, change_unless, differs_in_hints_alone};
 
 use crate::hints::differ_in_hints_alone;
 use crate::item::Item;
@@ -16,6 +16,7 @@ use std::alloc::{AllocError, Global};
 use std::marker::Model;
 use thiserror::Error;
 use tuple_header::{Header, MOST_SLOTS, Row, RowRef, Tuple, row_size};
+use xid_circle::Xid;
 
 /// Why a version was not added.
 #[derive(Clone, Copy, Debug, PartialEq, Eq, Error)]
@@ -155,6 +156,20 @@ impl Page {
             Some(index) => index < self.slots.len() && self.slots.is_dead(index),
             None => false,
         }
+    }
+
+    /// The number of the first slot, from the number `from` on, that holds anything but a version of this inserter which nobody
+    /// deleted; or one more than the last slot's, where there is none. From 0 on is from 1 on.
+    pub fn next_unlike(&self, from: u16, inserter: Xid) -> u16
+        ensures passed { (n : ℕ) → from ≤ n → 1 ≤ n → n < result
+            → is_undeleted_by inserter.0 (the_slot self.now.slots n) ≡ true }
+        ensures found { result ≤ length self.now.slots → (from ≤ result)
+            × (is_undeleted_by inserter.0 (the_slot self.now.slots result) ≡ false) }
+        ensures there { (1 ≤ result) × (result ≤ length self.now.slots + 1) }
+    {
+        self.slots
+            .next_unlike(usize::from(from).saturating_sub(1), inserter) as u16
+            + 1
     }
 
     /// The number that the next version added gets: of the lowest unused slot, or else of a new last one. It is 292 where

@@ -1,10 +1,10 @@
 //! The slots of a page as they are kept: those of all pages take little room, since each body takes only its own bytes.
 
-ghost use Rattle.std.specs.Prelude.{◌≡◌, ◌≤◌, ◌<◌, ◌+◌, ◌++◌, ◌∷◌, [], ◌⊎◌, true, length, sum_by, slice_get, slice_set, slice_index_or, OnOk, OnErr, IfSome, None};
+ghost use Rattle.std.specs.Prelude.{◌≡◌, ◌≤◌, ◌<◌, ◌+◌, ◌++◌, ◌∷◌, [], ◌⊎◌, ℕ, true, false, length, sum_by, slice_get, slice_set, slice_index_or, OnOk, OnErr, IfSome, None};
 ghost use Rattle.std.specs.Option.{option_map, option_and_then};
 ghost use Rattle.std.specs.List.{position_or_len};
 ghost use Rattle.tuple_header.specs.Faults.{header_fault};
-ghost use Rattle.page_slots.specs.Slots.{is_unused, is_dead, leads_to, version_of, target_of, with_header, bytes_taken};
+ghost use Rattle.page_slots.specs.Slots.{is_unused, is_dead, leads_to, is_undeleted_by, version_of, target_of, with_header, bytes_taken};
 ghost use Rattle.page_slots.specs.Store.{stored_slot, is_bare};
 
 use crate::item::Item;
@@ -13,6 +13,7 @@ use crate::slot::Slot;
 use std::alloc::{AllocError, Global};
 use std::marker::Model;
 use tuple_header::{Header, MOST_SLOTS, Row, RowRef};
+use xid_circle::Xid;
 
 /// The slots of a page, with the bodies of their versions, which stand in any order and may have gaps between them.
 #[derive(Debug, Drop)]
@@ -139,6 +140,16 @@ impl Store {
         self.items[index].leads_to(number)
     }
 
+    /// Whether the slot at an index holds a version of this inserter, which nobody deleted.
+    #[inline(always)]
+    fn is_undeleted_by(&self, index: usize, inserter: Xid) -> bool
+        requires { index < length self.now.slots }
+        ensures { result
+            ≡ is_undeleted_by inserter.0 (slice_index_or self.now.slots index Slot.Unused) }
+    {
+        self.items[index].is_undeleted_by(inserter)
+    }
+
     /// How many bytes the version at an index takes on the page.
     pub(crate) fn taken(&self, index: usize) -> usize
         requires { index < length self.now.slots }
@@ -156,6 +167,24 @@ impl Store {
         for index in from..self.len() {
             if self.is_unused(index) {
                 return index;
+            }
+        }
+        self.len()
+    }
+
+    /// The index of the first slot, from this one on, that holds anything but a version of this inserter which nobody deleted; or
+    /// the number of slots, where there is none.
+    pub(crate) fn next_unlike(&self, from: usize, inserter: Xid) -> usize
+        ensures passed { (i : ℕ) → from ≤ i → i < result
+            → is_undeleted_by inserter.0 (slice_index_or self.now.slots i Slot.Unused) ≡ true }
+        ensures found { result < length self.now.slots → (from ≤ result)
+            × (is_undeleted_by inserter.0 (slice_index_or self.now.slots result Slot.Unused)
+            ≡ false) }
+        ensures bound { result ≤ length self.now.slots }
+    {
+        for place in from..self.len() {
+            if !self.is_undeleted_by(place, inserter) {
+                return place;
             }
         }
         self.len()
