@@ -1,5 +1,5 @@
 -- Glances at the first slots of a page, and a closer look at those that are noted.
-use Rattle.std.proofs.Common.{◌≡◌, ℕ, zero, suc, ◌+◌, ◌<◌, ◌≤◌, Bool, true, false, List, [], ◌∷◌, ◌++◌, length, get_or, set, Option, Some, None, arith, ⊎_elim, sym, ap, ◌∙◌, refl, subst}
+use Rattle.std.proofs.Common.{◌≡◌, ℕ, zero, suc, ◌+◌, ◌-◌, ◌<◌, ◌≤◌, Bool, true, false, List, [], ◌∷◌, ◌++◌, length, get_or, set, Option, Some, None, arith, ⊎_elim, sym, ap, ◌∙◌, refl, subst}
 use Rattle.std.specs.Prelude.{MatchOption, IfSome}
 use Rattle.std.specs.Option.{option_map, unwrap_or}
 use Rattle.std.proofs.lemmas.Bool.{cases_lt}
@@ -19,6 +19,7 @@ use Rattle.prune.specs.Deaths.{MayDieFrom}
 use Rattle.prune.specs.Marks.{PlainlyStays, ListsAllBut, ListsDoubtful}
 use Rattle.prune.specs.Glances.{is_end_at, StaysByEnds, IsPlainAt, is_noted, ArePlainOrNoted, LeadsToNoneNoted}
 use Rattle.prune.proofs.Cuts.{some-version}
+use Rattle.prune.proofs.Passed.{ArePassed, passed-stays}
 use Rattle.prune.proofs.Gaps.{gaps-none, gaps-skip, gaps-push, gaps-map}
 use Rattle.prune.proofs.Stays.{AreEndsLiveBelow, ends-more, ends-all, stays-version, first-start}
 
@@ -64,17 +65,45 @@ glancing-none w horizon slots noted known unaborted = record {
   unaborted = unaborted;
 }
 
-pub glancing-skip : (w : Window) (horizon : ℕ) (slots : List Slot) (doubtful : List ℕ) (noted : List Bool) (known : ℕ) (live : Bool) (number : ℕ) (u : Outlook) → number ≤ length slots
-    → IsGlancing w horizon slots doubtful noted known live number → IsTold w horizon slots number u → IsGlancing w horizon slots doubtful noted u.known.0 live (number + 1)
-glancing-skip w horizon slots doubtful noted known live number u within g told = record {
+glancing-more : (w : Window) (horizon : ℕ) (slots : List Slot) (doubtful : List ℕ) (noted : List Bool) (known : ℕ) (live : Bool) (number : ℕ) → number ≤ length slots
+    → IsGlancing w horizon slots doubtful noted known live number → StaysByEnds w horizon slots number × IsPlainAt w horizon slots number
+    → IsGlancing w horizon slots doubtful noted known live (number + 1)
+glancing-more w horizon slots doubtful noted known live number within g told = record {
   from = omega arith;
   upto = omega arith;
   listed = gaps-skip (StaysByEnds w horizon slots) 0 number doubtful g.listed told.0;
   others = λ n lt off. ⊎_elim (λ below. g.others n below off)
       (λ ge. let same : n ≡ number = omega arith in subst (IsPlainAt w horizon slots) (sym same) told.1) (cases_lt n number);
   ends = λ all. ends-more w horizon slots number (g.ends all) (λ _. plain-alive w horizon slots number told.1);
-  unaborted = told.2;
+  unaborted = g.unaborted;
 }
+
+pub glancing-skip : (w : Window) (horizon : ℕ) (slots : List Slot) (doubtful : List ℕ) (noted : List Bool) (known : ℕ) (live : Bool) (number : ℕ) (u : Outlook) → number ≤ length slots
+    → IsGlancing w horizon slots doubtful noted known live number → IsTold w horizon slots number u → IsGlancing w horizon slots doubtful noted u.known.0 live (number + 1)
+glancing-skip w horizon slots doubtful noted known live number u within g told =
+    let more = glancing-more w horizon slots doubtful noted known live number within g (told.0, told.1) in
+    record { from = more.from; upto = more.upto; listed = more.listed; others = more.others; ends = more.ends; unaborted = told.2 }
+
+glancing-steps : (w : Window) (horizon : ℕ) (slots : List Slot) (doubtful : List ℕ) (noted : List Bool) (known : ℕ) (live : Bool) (number k : ℕ) → number + k ≤ length slots + 1
+    → ArePassed slots known number (number + k) → IsGlancing w horizon slots doubtful noted known live number → IsGlancing w horizon slots doubtful noted known live (number + k)
+glancing-steps w horizon slots doubtful noted known live number zero within p g =
+    let same : number ≡ number + 0 = omega arith in subst (IsGlancing w horizon slots doubtful noted known live) same g
+glancing-steps w horizon slots doubtful noted known live number (suc k) within p g =
+    let from = g.from in
+    let told = passed-stays w horizon slots number known g.unaborted (from, (omega arith)) (p number (omega arith) from (omega arith)) in
+    let same : (number + 1) + k ≡ number + suc k = omega arith in
+    subst (IsGlancing w horizon slots doubtful noted known live) same
+    (glancing-steps w horizon slots doubtful noted known live (number + 1) k (omega arith) (λ n over one below. p n (omega arith) one (omega arith))
+    (glancing-more w horizon slots doubtful noted known live number (omega arith) g told))
+
+-- slots that are passed over
+pub glancing-passed : (w : Window) (horizon : ℕ) (slots : List Slot) (doubtful : List ℕ) (noted : List Bool) (known : ℕ) (live : Bool) (number next : ℕ) → number ≤ next
+    → next ≤ length slots + 1 → ArePassed slots known number next → IsGlancing w horizon slots doubtful noted known live number
+    → IsGlancing w horizon slots doubtful noted known live next
+glancing-passed w horizon slots doubtful noted known live number next forward within p g =
+    let same : number + (next - number) ≡ next = omega arith in
+    subst (IsGlancing w horizon slots doubtful noted known live) same
+    (glancing-steps w horizon slots doubtful noted known live number (next - number) (omega arith) (λ n over one below. p n over one (omega arith)) g)
 
 pub noted-room : (noted : List Bool) (i number : ℕ) → length (set noted i true) ≡ 292 → number < 292 → number < length noted
 noted-room noted i number long small = let same = length-set noted i true in omega (arith, same, long, small)

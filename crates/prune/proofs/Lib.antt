@@ -19,5 +19,6 @@ pub mod Idle
 pub mod Single
 pub mod Gaps
 pub mod Stays
+pub mod Passed
 pub mod Glancing
 pub mod RoomLemmas

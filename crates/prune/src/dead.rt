@@ -138,11 +138,14 @@ pub fn first_death(page: &Page, table: &StatusTable, horizon: Xid) -> Option<u32
         known: Xid(0),
         turn: table.turn_of(table.next()).unwrap_or(0),
     };
-    for number in 1..page.slots() + 1 {
+    let mut number = 1;
+    while number <= page.slots() {
         match outlook_after(page, number, outlook, table, horizon) {
             Some(next) => outlook = next,
             None => return None,
         }
+        // A version of an inserter that was not aborted, which nobody deleted, is not dead.
+        number = page.next_unlike(number + 1, outlook.known);
     }
     Some(outlook.turn)
 }

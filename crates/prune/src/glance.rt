@@ -91,7 +91,8 @@ fn list_at_a_glance(
         turn: 0,
     };
     let mut are_ends_live = true;
-    for number in 1..page.slots() + 1 {
+    let mut number = 1;
+    while number <= page.slots() {
         match glance(page, number, outlook, table, horizon) {
             Some(next) => outlook = next,
             None => {
@@ -100,6 +101,8 @@ fn list_at_a_glance(
                 are_ends_live = are_ends_live && !is_end_at(page, number, table);
             }
         }
+        // A version of an inserter that was not aborted, which nobody deleted, is neither dead nor replaced.
+        number = page.next_unlike(number + 1, outlook.known);
     }
     are_ends_live
 }

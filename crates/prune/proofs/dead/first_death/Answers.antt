@@ -1,16 +1,26 @@
-use Rattle.std.proofs.Common.{◌<◌, length, arith}
+use Rattle.std.proofs.Common.{ℕ, ◌+◌, ◌<◌, ◌≤◌, length, arith}
 use Rattle.prune.proofs.Cuts.{live-more, live-all}
+use Rattle.prune.proofs.Passed.{next-forward, live-passed}
 use Rattle.prune.proofs.dead.first_death.Goals as goal
 
 pub loop-number-preserved : goal.loop-number-preserved
 loop-number-preserved c =
-    let found = c.in-Some.ensures in (
-      live-more c.args.table.now c.args.horizon.0 c.args.page.now.slots c.loop-number.number c.loop-number.outlook.turn c.in-Some.next.turn
-          found.1 c.loop-number.invariant.0 found.0,
+    let found = c.in-Some.ensures in
+    let w = c.args.table.now in
+    let slots = c.args.page.now.slots in
+    let number : ℕ = c.loop-number.number in
+    let within : number ≤ length slots = omega (arith, c.slots.ensures.count, c.loop-number-test.true) in
+    let next : ℕ = c.next_unlike-number.result in
+    let there = c.next_unlike-number.ensures.there in
+    let forward : number + 1 ≤ next = next-forward (number + 1) (length slots) next (omega arith) (λ is. (c.next_unlike-number.ensures.found is).0) in
+    let below = live-more w c.args.horizon.0 slots number c.loop-number.outlook.turn c.in-Some.next.turn found.1 c.loop-number.invariant.0 found.0 in (
+      live-passed w c.args.horizon.0 slots c.in-Some.next.turn c.in-Some.next.known.0 (number + 1) next found.2 (omega arith) forward there.1 c.next_unlike-number.ensures.passed below,
       found.2,
+      there.0,
+      there.1,
     )
 
 pub returns : goal.returns
 returns c =
-    let past : length c.args.page.now.slots < c.loop-number.number = omega (arith, c.slots-number-end.ensures.count) in
+    let past : length c.args.page.now.slots < c.loop-number.number = omega (arith, c.slots.ensures.count, c.loop-number-test.false) in
     live-all c.args.table.now c.args.horizon.0 c.args.page.now.slots c.loop-number.number c.loop-number.outlook.turn past c.loop-number.invariant.0

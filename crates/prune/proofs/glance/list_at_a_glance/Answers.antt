@@ -1,7 +1,8 @@
 use Rattle.std.proofs.Common.{ℕ, ◌+◌, ◌<◌, ◌≤◌, length, arith, sym, ap, ◌∙◌}
 use Rattle.std.proofs.lemmas.Bool.{not-true}
 use Rattle.prune.proofs.Gaps.{gaps-length}
-use Rattle.prune.proofs.Glancing.{noted-room, glancing-skip, glancing-push, glancing-all, glancing-noted}
+use Rattle.prune.proofs.Passed.{next-forward}
+use Rattle.prune.proofs.Glancing.{IsGlancing, noted-room, glancing-skip, glancing-push, glancing-passed, glancing-all, glancing-noted}
 use Rattle.prune.proofs.glance.list_at_a_glance.Goals.{in-Some, in-None+then-are_ends_live, in-None+else-are_ends_live}
 use Rattle.prune.proofs.glance.list_at_a_glance.Goals as goal
 
@@ -10,8 +11,8 @@ push-requires c =
     let g = c.loop-number.invariant in
     let from = g.from in
     let count : ℕ = length c.args.page.now.slots in
-    let few : count ≤ 291 = omega (arith, c.slots-number-end.ensures.count, c.slots-number-end.ensures.limit) in
-    let within : c.loop-number.number ≤ count = omega (arith, c.slots-number-end.ensures.count, c.loop-number-test.true) in
+    let few : count ≤ 291 = omega (arith, c.slots.ensures.count, c.slots.ensures.limit) in
+    let within : c.loop-number.number ≤ count = omega (arith, c.slots.ensures.count, c.loop-number-test.true) in
     let listed : 0 + length c.loop-number.doubtful.items < c.loop-number.number = gaps-length _ 0 c.loop-number.number c.loop-number.doubtful.items (omega arith) g.listed in
     (omega arith, omega arith)
 
@@ -20,8 +21,11 @@ loop-number-preserved c =
     let w = c.args.table.now in
     let slots = c.args.page.now.slots in
     let number : ℕ = c.loop-number.number in
-    let within : number ≤ length slots = omega (arith, c.slots-number-end.ensures.count, c.loop-number-test.true) in
-    let few : length slots ≤ 291 = omega (arith, c.slots-number-end.ensures.count, c.slots-number-end.ensures.limit) in
+    let within : number ≤ length slots = omega (arith, c.slots.ensures.count, c.loop-number-test.true) in
+    let few : length slots ≤ 291 = omega (arith, c.slots.ensures.count, c.slots.ensures.limit) in
+    let next : ℕ = c.next_unlike-number.result in
+    let forward : number + 1 ≤ next = next-forward (number + 1) (length slots) next (omega arith) (λ there. (c.next_unlike-number.ensures.found there).0) in
+    let glanced : IsGlancing w c.args.horizon.0 slots c.match-glance.doubtful.items c.match-glance.noted c.match-glance.outlook.known.0 c.match-glance.are_ends_live (number + 1) =
     elim c.match-glance.branch [
       | in-Some b ↦ rw (b.doubtful-is, b.noted-is, b.outlook-is, b.are_ends_live-is)
           (glancing-skip w c.args.horizon.0 slots c.loop-number.doubtful.items c.loop-number.noted c.loop-number.outlook.known.0 c.loop-number.are_ends_live number b.in-Some.next within c.loop-number.invariant b.in-Some.ensures)
@@ -35,16 +39,18 @@ loop-number-preserved c =
           rw (b.doubtful-is, b.noted-is, b.from.ensures, b.outlook-is, b.are_ends_live-is, b.push.ensures.items)
           (glancing-push w c.args.horizon.0 slots c.loop-number.doubtful.items c.loop-number.noted c.loop-number.outlook.known.0 c.loop-number.are_ends_live _ number within small
           (λ all. absurd (let off = b.if-are_ends_live.false in cc)) c.loop-number.invariant)
-    ]
+    ] in
+    glancing-passed w c.args.horizon.0 slots c.match-glance.doubtful.items c.match-glance.noted c.match-glance.outlook.known.0 c.match-glance.are_ends_live (number + 1) next forward
+    c.next_unlike-number.ensures.there.1 c.next_unlike-number.ensures.passed glanced
 
 pub returns-clause-stay : goal.returns-clause-stay
 returns-clause-stay c = λ yes.
-    let past : length c.args.page.now.slots < c.loop-number.number = omega (arith, c.slots-number-end.ensures.count) in
+    let past : length c.args.page.now.slots < c.loop-number.number = omega (arith, c.slots.ensures.count) in
     glancing-all c.args.table.now c.args.horizon.0 c.args.page.now.slots c.loop-number.doubtful.items c.loop-number.noted c.loop-number.outlook.known.0 c.loop-number.are_ends_live c.loop-number.number
     past c.loop-number.invariant yes
 
 pub returns-clause-noted : goal.returns-clause-noted
 returns-clause-noted c =
-    let past : length c.args.page.now.slots < c.loop-number.number = omega (arith, c.slots-number-end.ensures.count) in
+    let past : length c.args.page.now.slots < c.loop-number.number = omega (arith, c.slots.ensures.count) in
     glancing-noted c.args.table.now c.args.horizon.0 c.args.page.now.slots c.loop-number.doubtful.items c.loop-number.noted c.loop-number.outlook.known.0
     c.loop-number.are_ends_live c.loop-number.number past c.loop-number.invariant
