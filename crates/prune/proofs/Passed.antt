@@ -1,5 +1,5 @@
 -- Slots that are passed over: versions of an inserter that was not aborted, which nobody deleted.
-use Rattle.std.proofs.Common.{◌≡◌, ◌⊎◌, ℕ, zero, suc, ◌+◌, ◌-◌, ◌<◌, ◌≤◌, ◌&&◌, ◌==◌, not, Bool, true, false, List, [], length, Some, IsSome, arith, inr, ⊎_elim, refl, sym, ap, ◌∙◌, subst}
+use Rattle.std.proofs.Common.{◌≡◌, ℕ, zero, suc, ◌+◌, ◌-◌, ◌<◌, ◌≤◌, ◌&&◌, ◌==◌, not, Bool, true, false, List, length, Some, arith, inr, ⊎_elim, refl, sym, ap, ◌∙◌, subst}
 use Rattle.std.proofs.lemmas.Bool.{eqb-true, cases_lt}
 use Rattle.page_slots.specs.declared.slot.Slot.{Slot}
 use Rattle.page_slots.specs.declared.slot.Slot.TheVariants.{Unused, Normal, Redirect, Dead}
@@ -10,8 +10,8 @@ use Rattle.tuple_header.specs.Version.{Version}
 use Rattle.tuple_header.specs.declared.version.Header.{Header}
 use Rattle.tuple_header.specs.Marks.{is_hot_updated}
 use Rattle.hot_chain.specs.Chain.{has_aborted, is_replaced}
-use Rattle.commit_status.specs.Window.{Window, IsAborted, IsCommitted, IsGiven, place, status_of}
-use Rattle.visibility.specs.Visible.{IsFrozen, IsDead}
+use Rattle.commit_status.specs.Window.{Window, IsAborted, IsCommitted, IsGiven}
+use Rattle.visibility.specs.Visible.{IsDead}
 use Rattle.prune.specs.Deaths.{MayDieFrom, LivesAt}
 use Rattle.prune.specs.Glances.{StaysByEnds, IsPlainAt}
 use Rattle.prune.proofs.Cuts.{lives-there, header-of, LiveBelow, live-more}
@@ -76,7 +76,7 @@ passed-stays w horizon slots n x good there e =
     let off = kept-unreplaced w k.version.header k.kept in (
       (λ live. stays-version w horizon slots n k.version.header at off (kept-alive w horizon x k.version.header good k.made k.kept)),
       (λ h is. let same : k.version.header ≡ h = sym (header-of slots n h k.version is k.there) in
-      (ap (is_replaced (has_aborted w)) (sym same) ∙ off, subst (λ g. ¬ IsDead w horizon g) same (kept-alive w horizon x k.version.header good k.made k.kept))),
+          (ap (is_replaced (has_aborted w)) (sym same) ∙ off, subst (λ g. ¬ IsDead w horizon g) same (kept-alive w horizon x k.version.header good k.made k.kept))),
     )
 
 passed-lives : (w : Window) (horizon turn : ℕ) (slots : List Slot) (n x : ℕ) → ¬ IsAborted w x → SlotIsThere slots n → is_undeleted_by x (the_slot slots n) ≡ true

@@ -1,15 +1,14 @@
 -- The free bytes of a page, and whether a slot is unused, as a plan is applied to it.
-use Rattle.std.proofs.Common.{◌≡◌, ◌≢◌, ℕ, suc, ◌+◌, ◌-◌, ◌*◌, ◌<◌, ◌||◌, ◌==◌, Bool, true, false, nat_le, nat_lt, if◌then◌else◌, List, [], ◌∷◌, length, get_or, set, sum_by, Option, Some, None, arith, ⊎_elim, sym, ap, ◌∙◌, refl, eq-eqb}
+use Rattle.std.proofs.Common.{◌≡◌, ◌≢◌, ℕ, suc, ◌+◌, ◌-◌, ◌*◌, ◌<◌, ◌||◌, ◌==◌, Bool, true, false, nat_le, List, ◌∷◌, length, get_or, set, sum_by, Option, Some, None, arith, ⊎_elim, sym, ap, ◌∙◌, refl, eq-eqb}
 use Rattle.std.proofs.lemmas.Bool.{cases_Bool, true≢false, ltb-true, ltb-false, ne_eqb, cond-true, cond-false}
 use Rattle.std.proofs.lemmas.List.{length-set, get_or-set_same, get_or-set_other}
 use Rattle.std.proofs.lemmas.List.Sums.{fails_before_first, passes_at_first, sum_by-set}
 use Rattle.std.specs.List.{position_or_len}
 use Rattle.tuple_header.specs.Version.{Version}
-use Rattle.tuple_header.specs.declared.version.TheConstants.{MOST_SLOTS}
 use Rattle.page_slots.specs.declared.slot.Slot.{Slot}
 use Rattle.page_slots.specs.declared.slot.Slot.TheVariants.{Unused, Normal, Redirect, Dead}
 use Rattle.page_slots.specs.View.{PageView}
-use Rattle.page_slots.specs.Slots.{is_unused, bytes_taken, slot_at, version_at, the_slot, has_unused, free_number, free_bytes, room_of}
+use Rattle.page_slots.specs.Slots.{is_unused, bytes_taken, slot_at, version_at, the_slot, has_unused, free_number}
 use Rattle.page_slots.proofs.SlotLemmas.{the_slot-from_slot_at, slot_at-from_version_at, same_or_other}
 use Rattle.commit_status.specs.Window.{Window}
 use Rattle.hot_chain.specs.Chain.{has_aborted, is_root, is_root_in}
@@ -173,13 +172,3 @@ reckoned-step x rest before after free unused r =
       free_is = omega arith;
       unused_is = ap (λ b. b || is_unused s) r.unused_is ∙ sym (unused-set slots place s within used);
     }
-
-pub reckoned-end : (before after : PageView) (free : ℕ) (unused : Bool) → IsReckoned [] before after free unused
-    → (if unused then free else (if nat_lt (length before.slots) MOST_SLOTS then free - 4 else 0)) ≡ room_of after.slots
-reckoned-end before after free unused r =
-    let free_was = r.free_is in
-    let bytes : free ≡ free_bytes r.page.slots = omega arith in
-    ap (λ n. if unused then n else (if nat_lt (length before.slots) MOST_SLOTS then n - 4 else 0)) bytes
-    ∙ ap (λ b. if b then free_bytes r.page.slots else (if nat_lt (length before.slots) MOST_SLOTS then free_bytes r.page.slots - 4 else 0)) r.unused_is
-    ∙ ap (λ n. if has_unused r.page.slots then free_bytes r.page.slots else (if nat_lt n MOST_SLOTS then free_bytes r.page.slots - 4 else 0)) (sym r.count)
-    ∙ ap (λ (p : PageView). room_of p.slots) r.left

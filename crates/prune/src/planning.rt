@@ -77,14 +77,14 @@ pub fn plan(page: &Page, table: &StatusTable, horizon: Xid) -> PrunePlan
         → Checks table.now horizon.0 page.now result.change result.actions.items }
 {
     let _limit = page.slots();
-    let mut actions = ArrayVec::new();
+    let mut plan = PrunePlan {
+        change: page.change(),
+        actions: ArrayVec::new(),
+    };
     let mut doubtful: Numbers = ArrayVec::new();
     list_doubtful(&mut doubtful, page, table, horizon);
     if !doubtful.is_empty() {
-        list_actions(&mut actions, doubtful.as_slice(), page, table, horizon);
+        list_actions(&mut plan.actions, doubtful.as_slice(), page, table, horizon);
     }
-    PrunePlan {
-        change: page.change(),
-        actions,
-    }
+    plan
 }
