@@ -30,6 +30,8 @@ enum PageStep {
     Taken(u16, usize),
     /// The number that the next version gets.
     FreeNumber(u16),
+    /// From a number on, the first slot that holds anything but a version of this inserter which nobody deleted.
+    NextUnlike(u16, Xid, u16),
     /// How often a slot was changed.
     Change(u64),
     /// How many slots there are, and the flag.
@@ -179,6 +181,7 @@ impl PageStep {
             PageStep::FreeBytes(bytes) => page.free_bytes() == bytes,
             PageStep::Taken(number, bytes) => taken(page, number) == Some(bytes),
             PageStep::FreeNumber(number) => page.free_number() == number,
+            PageStep::NextUnlike(from, inserter, next) => page.next_unlike(from, inserter) == next,
             PageStep::Change(change) => page.change() == change,
             PageStep::State(slots, flag) => page.slots() == slots && page.flag() == flag,
             _ => self.is_in_slot(page),
@@ -239,7 +242,7 @@ fn room_of_a_page(rt: HostRuntime) -> Result<(), Fail> {
     run(rt.alloc(), Page::new(rt.alloc()), &ROOM)
 }
 
-static NUMBERS_AND_CHANGES: [PageStep; 36] = [
+static NUMBERS_AND_CHANGES: [PageStep; 40] = [
     PageStep::MakeRoom(5),
     PageStep::State(0, false),
     PageStep::Change(0),
@@ -270,6 +273,11 @@ static NUMBERS_AND_CHANGES: [PageStep; 36] = [
     PageStep::Add(6, 0, Ok(3)),
     PageStep::Add(7, 0, Ok(5)),
     PageStep::Change(10),
+    // slot 1 is dead, and all others hold versions of 3
+    PageStep::NextUnlike(0, Xid(3), 1),
+    PageStep::NextUnlike(2, Xid(3), 6),
+    PageStep::NextUnlike(2, Xid(4), 2),
+    PageStep::NextUnlike(9, Xid(3), 6),
     PageStep::SetRedirect(1, 2),
     PageStep::Change(11),
     PageStep::SetRedirect(1, 2),
@@ -285,14 +293,16 @@ fn numbers_of_slots_and_changes(rt: HostRuntime) -> Result<(), Fail> {
 }
 
 /// A hint, then both marks of the inserter, then a deleter, then a hint.
-static CHANGES_OF_A_HEADER: [PageStep; 9] = [
+static CHANGES_OF_A_HEADER: [PageStep; 11] = [
     PageStep::Add(8, 2, Ok(1)),
     PageStep::SetHeader(1, 0x0900, Xid(0)),
     PageStep::Change(1),
     PageStep::SetHeader(1, 0x0b00, Xid(0)),
     PageStep::Change(2),
+    PageStep::NextUnlike(1, Xid(3), 2),
     PageStep::SetHeader(1, 0x0300, Xid(4)),
     PageStep::Change(3),
+    PageStep::NextUnlike(1, Xid(3), 1),
     PageStep::SetHeader(1, 0x0700, Xid(4)),
     PageStep::Change(3),
 ];
