@@ -66,10 +66,7 @@ impl<N: Node> Node for Branch<N> {
     }
 
     fn begins_after(&self, sought: &Entry) -> bool {
-        match self.nodes.first() {
-            Some(first) => first.begins_after(sought),
-            None => false,
-        }
+        self.nodes[0].begins_after(sought)
     }
 
     fn search(

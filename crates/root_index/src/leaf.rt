@@ -93,7 +93,7 @@ impl Node for Leaf {
     }
 
     fn begins_after(&self, sought: &Entry) -> bool {
-        !self.entries.is_empty() && is_before(sought, &self.first)
+        is_before(sought, &self.first)
     }
 
     fn search(&self, sought: &Entry) -> Result<usize, usize> {

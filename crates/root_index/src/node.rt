@@ -93,6 +93,7 @@ pub(crate) trait Node: Drop {
     /// Whether the entry precedes the first of the node.
     fn begins_after(&self, sought: &Entry) -> bool
         requires neat { IsNeat self.now }
+        requires some { 0 < size self.now }
         ensures { result ≡ begins_after sought.now (entries self.now) };
 
     /// Where the entry stands, or where it would.
