@@ -1,19 +1,21 @@
 -- Dead versions: one of which a header tells, and the last of a list; and versions that are not dead yet.
-use Rattle.std.proofs.Common.{◌≡◌, ◌⊎◌, ℕ, ◌+◌, ◌-◌, ◌<◌, ◌≤◌, List, length, get_or, Option, Some, None, arith, inl, inr, ⊎_elim, sym, ap, ◌∙◌, refl, subst}
+use Rattle.std.proofs.Common.{◌≡◌, ◌⊎◌, ℕ, ◌+◌, ◌-◌, ◌<◌, ◌≤◌, ◌^◌, List, length, get_or, Option, Some, None, arith, inl, inr, ⊎_elim, sym, ap, ◌∙◌, refl, subst}
 use Rattle.std.specs.Prelude.{MatchOption}
 use Rattle.std.proofs.lemmas.Bool.{cases_lt}
 use Rattle.std.proofs.lemmas.Option.{same_Some}
 use Rattle.xid_circle.specs.Circle.{Precedes}
 use Rattle.page_slots.specs.declared.slot.Slot.{Slot}
 use Rattle.page_slots.specs.Slots.{version_at, header_at, SlotIsThere}
-use Rattle.std.specs.Option.{option_map}
+use Rattle.std.specs.Option.{option_map, unwrap_or}
 use Rattle.tuple_header.specs.Version.{Version}
 use Rattle.tuple_header.specs.declared.version.Header.{Header}
-use Rattle.commit_status.specs.Window.{Window, IsAborted, IsCommitted}
+use Rattle.commit_status.specs.Window.{Window, IsWindow, IsAborted, IsCommitted, IsUpToNext, turns, next_id}
+use Rattle.commit_status.proofs.Turns.{turns-given}
+use Rattle.commit_status.proofs.Places.{upto-next}
 use Rattle.visibility.specs.Visible.{IsFrozen, IsDead}
 use Rattle.sound_page.specs.Dead.{IsDeadAt, HasDead}
 use Rattle.sound_page.proofs.Links.{version-there}
-use Rattle.prune.specs.Deaths.{MayDieFrom, NothingDiesBefore, LivesAt}
+use Rattle.prune.specs.Deaths.{IsTurnOf, IsTurnThere, MayDieFrom, NothingDiesBefore, LivesAt}
 use Rattle.prune.specs.declared.dead.Outlook.{Outlook}
 
 -- of the first `prefix` of a chain
@@ -57,11 +59,39 @@ pub lives-there : (w : Window) (horizon turn : ℕ) (slots : List Slot) (n : ℕ
 lives-there w horizon turn slots n h at alive later =
     ((λ dead. alive (dead-here w horizon slots n h at dead)), (λ t there. subst (MayDieFrom w turn) (header-of slots n h t at there) later))
 
+-- where no header is
+pub lives-nowhere : (w : Window) (horizon turn : ℕ) (slots : List Slot) (n : ℕ) → header_at slots n ≡ None → LivesAt w horizon turn slots n
+lives-nowhere w horizon turn slots n none = (
+  (λ dead. absurd (let e : None ≡ Some dead.version.header = sym none ∙ ap (option_map (λ (v : Version). v.header)) dead.there in cc)),
+  (λ t there. absurd (let e : None ≡ Some t.header = sym none ∙ ap (option_map (λ (v : Version). v.header)) there in cc)),
+)
+
+-- the turn of the next id
+pub next-turn : (w : Window) (x : ℕ) (o : Option ℕ) (turn : ℕ) → IsWindow w → x ≡ next_id w
+    → MatchOption o (¬ IsUpToNext w x) (λ k. IsUpToNext w x × (k ≡ turns w.first x)) → turn ≡ unwrap_or o 0 → turn ≡ length w.entries
+next-turn w x None turn is same none e = absurd (none (subst (IsUpToNext w) (sym same) (upto-next w is)))
+next-turn w x (Some k) turn is same some e =
+    let limit = is.limit in
+    let short = is.short in
+    let small : length w.entries < 2 ^ 32 - 3 = omega arith in
+    e ∙ some.1 ∙ ap (turns w.first) same ∙ turns-given w.first (length w.entries) is.normal is.fits small
+
+-- a turn that is kept, or is that of a deleter that is there
+turn-there : (w : Window) (turn turn' : ℕ) (slots : List Slot) (n : ℕ) (h : Header) → header_at slots n ≡ Some h → (turn' ≡ turn) ⊎ IsTurnOf w turn' h.xmax.0
+    → IsTurnThere w turn slots → IsTurnThere w turn' slots
+turn-there w turn turn' slots n h at (inl same) before = subst (λ k. IsTurnThere w k slots) (sym same) before
+turn-there w turn turn' slots n h at (inr own) before =
+    let v = some-version (version_at slots n) h at in
+    IsTurnThere.of_deleter n v.0 v.1 (subst (λ (g : Header). IsTurnOf w turn' g.xmax.0) (sym v.2) own)
+
 pub outlook-there : (w : Window) (horizon turn : ℕ) (slots : List Slot) (n : ℕ) (h : Header) (o : Option Outlook) → header_at slots n ≡ Some h
-    → MatchOption o (IsDead w horizon h) (λ u. (¬ IsDead w horizon h) × MayDieFrom w u.turn h × (u.turn ≤ turn) × ¬ IsAborted w u.known.0)
-    → MatchOption o (IsDeadAt w horizon slots n) (λ u. LivesAt w horizon u.turn slots n × (u.turn ≤ turn) × ¬ IsAborted w u.known.0)
+    → MatchOption o (IsDead w horizon h)
+    (λ u. (¬ IsDead w horizon h) × MayDieFrom w u.turn h × (u.turn ≤ turn) × (¬ IsAborted w u.known.0) × ((u.turn ≡ turn) ⊎ IsTurnOf w u.turn h.xmax.0))
+    → MatchOption o (IsDeadAt w horizon slots n)
+    (λ u. LivesAt w horizon u.turn slots n × (u.turn ≤ turn) × (¬ IsAborted w u.known.0) × (IsTurnThere w turn slots → IsTurnThere w u.turn slots))
 outlook-there w horizon turn slots n h None at dead = dead-there w horizon slots n h at dead
-outlook-there w horizon turn slots n h (Some u) at found = (lives-there w horizon u.turn slots n h at found.0 found.1, found.2, found.3)
+outlook-there w horizon turn slots n h (Some u) at found =
+    (lives-there w horizon u.turn slots n h at found.0 found.1, found.2, found.3, turn-there w turn u.turn slots n h at found.4)
 
 -- the versions below a slot are not dead, and may be from this turn on, which is no later than that of the next id
 pub record LiveBelow (w : Window) (horizon : ℕ) (slots : List Slot) (bound turn : ℕ) : Type 0 where

@@ -1,5 +1,5 @@
 -- Glances at the first slots of a page, and a closer look at those that are noted.
-use Rattle.std.proofs.Common.{◌≡◌, ℕ, zero, suc, ◌+◌, ◌-◌, ◌<◌, ◌≤◌, Bool, true, false, List, [], ◌∷◌, ◌++◌, length, get_or, set, Option, Some, None, arith, ⊎_elim, sym, ap, ◌∙◌, refl, subst}
+use Rattle.std.proofs.Common.{◌≡◌, ◌⊎◌, ℕ, zero, suc, ◌+◌, ◌-◌, ◌<◌, ◌≤◌, Bool, true, false, List, [], ◌∷◌, ◌++◌, length, get_or, set, Option, Some, None, arith, ⊎_elim, sym, ap, ◌∙◌, refl, subst}
 use Rattle.std.specs.Prelude.{MatchOption, IfSome}
 use Rattle.std.specs.Option.{option_map, unwrap_or}
 use Rattle.std.proofs.lemmas.Bool.{cases_lt}
@@ -15,7 +15,7 @@ use Rattle.visibility.specs.Visible.{IsDead}
 use Rattle.sound_page.specs.Dead.{IsDeadAt}
 use Rattle.sound_page.proofs.Links.{version-there}
 use Rattle.prune.specs.declared.dead.Outlook.{Outlook}
-use Rattle.prune.specs.Deaths.{MayDieFrom}
+use Rattle.prune.specs.Deaths.{IsTurnOf, MayDieFrom}
 use Rattle.prune.specs.Marks.{PlainlyStays, ListsAllBut, ListsDoubtful}
 use Rattle.prune.specs.Glances.{is_end_at, StaysByEnds, IsPlainAt, is_noted, ArePlainOrNoted, LeadsToNoneNoted}
 use Rattle.prune.proofs.Cuts.{some-version}
@@ -28,7 +28,8 @@ abbrev pub IsTold : Window → ℕ → List Slot → ℕ → Outlook → Type 0
 IsTold w horizon slots n u = StaysByEnds w horizon slots n × IsPlainAt w horizon slots n × ¬ IsAborted w u.known.0
 
 pub told-version : (w : Window) (horizon turn : ℕ) (slots : List Slot) (n : ℕ) (h : Header) (o : Option Outlook) → header_at slots n ≡ Some h → is_replaced (has_aborted w) h ≡ false
-    → MatchOption o (IsDead w horizon h) (λ u. (¬ IsDead w horizon h) × MayDieFrom w u.turn h × (u.turn ≤ turn) × ¬ IsAborted w u.known.0)
+    → MatchOption o (IsDead w horizon h)
+    (λ u. (¬ IsDead w horizon h) × MayDieFrom w u.turn h × (u.turn ≤ turn) × (¬ IsAborted w u.known.0) × ((u.turn ≡ turn) ⊎ IsTurnOf w u.turn h.xmax.0))
     → IfSome o (λ u. IsTold w horizon slots n u)
 told-version w horizon turn slots n h None at off found = tt
 told-version w horizon turn slots n h (Some u) at off found = (

@@ -5,7 +5,7 @@ use Rattle.page_slots.specs.declared.slot.Slot.{Slot}
 use Rattle.page_slots.specs.Slots.{version_at}
 use Rattle.tuple_header.specs.Version.{Version}
 use Rattle.tuple_header.specs.declared.version.Header.{Header}
-use Rattle.commit_status.specs.Window.{Window, IsAborted, IsGiven, turns}
+use Rattle.commit_status.specs.Window.{Window, IsAborted, IsGiven, IsUpToNext, turns}
 use Rattle.visibility.specs.Visible.{IsFrozen}
 use Rattle.sound_page.specs.Dead.{IsDeadAt}
 
@@ -18,6 +18,15 @@ pub record MayDieFrom (w : Window) (turn : ℕ) (h : Header) : Type 0 where
 pub record NothingDiesBefore (w : Window) (turn : ℕ) (slots : List Slot) : Type 0 where
   pub reached : turn ≤ length w.entries
   pub each : (n : ℕ) (t : Version) → version_at slots n ≡ Some t → MayDieFrom w turn t.header
+
+-- the turn is that of this id, which is remembered or is given next
+abbrev pub IsTurnOf : Window → ℕ → ℕ → Type 0
+IsTurnOf w turn x = IsUpToNext w x × (turn ≡ turns w.first x)
+
+-- the turn is that of the next id, or else that of a version's deleter: so it is no earlier than the page tells
+pub data IsTurnThere (w : Window) (turn : ℕ) (slots : List Slot) : Type 0 where
+  of_next : turn ≡ length w.entries → IsTurnThere w turn slots
+  of_deleter : (n : ℕ) (t : Version) → version_at slots n ≡ Some t → IsTurnOf w turn t.header.xmax.0 → IsTurnThere w turn slots
 
 -- the id, if it is remembered, was not given before this turn
 abbrev pub IsNoLaterThan : Window → ℕ → ℕ → Type 0

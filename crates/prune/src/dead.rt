@@ -1,11 +1,11 @@
 //! Which slots of a page hold dead versions.
 
-ghost use Rattle.std.specs.Prelude.{◌↔◌, ◌⊎◌, ◌≤◌, IsTrue, MatchOption};
+ghost use Rattle.std.specs.Prelude.{◌≡◌, ◌↔◌, ◌⊎◌, ◌≤◌, IsTrue, MatchOption};
 ghost use Rattle.xid_circle.specs.Circle.{Precedes};
 ghost use Rattle.commit_status.specs.Window.{IsAborted, IsCommitted};
 ghost use Rattle.visibility.specs.Visible.{IsFrozen, IsDead};
 ghost use Rattle.sound_page.specs.Dead.{IsDeadAt, HasDead};
-ghost use Rattle.prune.specs.Deaths.{IsNoLaterThan, MayDieFrom, NothingDiesBefore, LivesAt};
+ghost use Rattle.prune.specs.Deaths.{IsNoLaterThan, IsTurnOf, IsTurnThere, MayDieFrom, NothingDiesBefore, LivesAt};
 
 use commit_status::{Status, StatusTable};
 use page_slots::Page;
@@ -44,7 +44,8 @@ fn earliest_deletion(deleter: Xid, turn: u32, table: &StatusTable, horizon: Xid)
     ensures { MatchOption result
         (IsCommitted table.now deleter.0 × Precedes deleter.0 horizon.0)
         (λ earliest. (¬ (IsCommitted table.now deleter.0 × Precedes deleter.0 horizon.0))
-        × (earliest ≤ turn) × IsNoLaterThan table.now earliest deleter.0) }
+        × (earliest ≤ turn) × IsNoLaterThan table.now earliest deleter.0
+        × ((earliest ≡ turn) ⊎ IsTurnOf table.now earliest deleter.0)) }
 {
     if deleter.0 == 0 {
         return Some(turn);
@@ -98,7 +99,8 @@ pub(crate) fn outlook_with(
     ensures { MatchOption result (IsDead table.now horizon.0 header.now)
         (λ outlook. (¬ IsDead table.now horizon.0 header.now)
         × MayDieFrom table.now outlook.turn header.now
-        × (outlook.turn ≤ so_far.turn) × ¬ IsAborted table.now outlook.known.0) }
+        × (outlook.turn ≤ so_far.turn) × ¬ IsAborted table.now outlook.known.0
+        × ((outlook.turn ≡ so_far.turn) ⊎ IsTurnOf table.now outlook.turn header.now.xmax.0)) }
 {
     let turn = earliest_deletion(header.xmax, so_far.turn, table, horizon)?;
     let known = unaborted(header, so_far.known, table)?;
@@ -117,7 +119,9 @@ fn outlook_after(
     requires known { ¬ IsAborted table.now so_far.known.0 }
     ensures { MatchOption result (IsDeadAt table.now horizon.0 page.now.slots number)
         (λ outlook. LivesAt table.now horizon.0 outlook.turn page.now.slots number
-        × (outlook.turn ≤ so_far.turn) × ¬ IsAborted table.now outlook.known.0) }
+        × (outlook.turn ≤ so_far.turn) × ¬ IsAborted table.now outlook.known.0
+        × (IsTurnThere table.now so_far.turn page.now.slots
+        → IsTurnThere table.now outlook.turn page.now.slots)) }
 {
     match page.header(number) {
         Some(header) => outlook_with(&header, so_far, table, horizon),
@@ -131,8 +135,10 @@ fn outlook_after(
 pub fn first_death(page: &Page, table: &StatusTable, horizon: Xid) -> Option<u32>
     ensures { MatchOption result (HasDead table.now horizon.0 page.now.slots)
         (λ turn. (¬ HasDead table.now horizon.0 page.now.slots)
-        × NothingDiesBefore table.now turn page.now.slots) }
+        × NothingDiesBefore table.now turn page.now.slots
+        × IsTurnThere table.now turn page.now.slots) }
 {
+    table.is_window();
     // 0 is no id, so it was not aborted.
     let mut outlook = Outlook {
         known: Xid(0),

@@ -1,7 +1,19 @@
 use Rattle.std.proofs.Common.{ℕ, ◌+◌, ◌<◌, ◌≤◌, length, arith}
-use Rattle.prune.proofs.Cuts.{live-more, live-all}
+use Rattle.prune.specs.Deaths.{IsTurnThere}
+use Rattle.prune.proofs.Cuts.{live-none, live-more, live-all, next-turn}
 use Rattle.prune.proofs.Passed.{next-forward, live-passed}
 use Rattle.prune.proofs.dead.first_death.Goals as goal
+
+pub loop-number-init : goal.loop-number-init
+loop-number-init c =
+    let w = c.args.table.now in
+    let turn = next-turn w c.next.result.0 c.turn_of.result c.unwrap_or.result c.is_window.ensures c.next.ensures.value c.turn_of.ensures c.unwrap_or.ensures in (
+      live-none w c.args.horizon.0 c.args.page.now.slots c.unwrap_or.result (omega arith),
+      (λ e. absurd (cc)),
+      (omega arith),
+      (omega arith),
+      IsTurnThere.of_next turn,
+    )
 
 pub loop-number-preserved : goal.loop-number-preserved
 loop-number-preserved c =
@@ -18,9 +30,11 @@ loop-number-preserved c =
       found.2,
       there.0,
       there.1,
+      found.3 c.loop-number.invariant.4,
     )
 
 pub returns : goal.returns
 returns c =
     let past : length c.args.page.now.slots < c.loop-number.number = omega (arith, c.slots.ensures.count, c.loop-number-test.false) in
-    live-all c.args.table.now c.args.horizon.0 c.args.page.now.slots c.loop-number.number c.loop-number.outlook.turn past c.loop-number.invariant.0
+    let live = live-all c.args.table.now c.args.horizon.0 c.args.page.now.slots c.loop-number.number c.loop-number.outlook.turn past c.loop-number.invariant.0 in
+    (live.0, live.1, c.loop-number.invariant.4)
