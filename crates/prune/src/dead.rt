@@ -1,9 +1,10 @@
 //! Which slots of a page hold dead versions.
 
-ghost use Rattle.std.specs.Prelude.{◌≡◌, ◌↔◌, ◌⊎◌, ◌≤◌, IsTrue, MatchOption};
+ghost use Rattle.std.specs.Prelude.{◌≡◌, ◌↔◌, ◌⊎◌, ◌+◌, ◌≤◌, ◌<◌, ℕ, true, length, IsTrue, MatchOption};
 ghost use Rattle.xid_circle.specs.Circle.{Precedes};
 ghost use Rattle.commit_status.specs.Window.{IsAborted, IsCommitted};
 ghost use Rattle.visibility.specs.Visible.{IsFrozen, IsDead};
+ghost use Rattle.page_slots.specs.Slots.{SlotIsThere, the_slot, is_undeleted_by};
 ghost use Rattle.sound_page.specs.Dead.{IsDeadAt, HasDead};
 ghost use Rattle.prune.specs.Deaths.{IsNoLaterThan, IsTurnOf, IsTurnThere, MayDieFrom, NothingDiesBefore, LivesAt};
 
@@ -129,6 +130,23 @@ fn outlook_after(
     }
 }
 
+/// Which slot is to be looked at after this one. Where it gave no other id that was not aborted, its neighbours may have that inserter
+/// too: such a version, if nobody deleted it, is neither dead nor replaced, so a row of them is passed over.
+#[inline(always)]
+pub(crate) fn number_after(page: &Page, number: u16, before: Xid, known: Xid) -> u16
+    requires there { SlotIsThere page.now.slots number }
+    ensures forward { number + 1 ≤ result }
+    ensures upto { result ≤ length page.now.slots + 1 }
+    ensures passed { (n : ℕ) → number + 1 ≤ n → 1 ≤ n → n < result
+        → is_undeleted_by known.0 (the_slot page.now.slots n) ≡ true }
+{
+    let _limit = page.slots();
+    if known.0 == 0 || known.0 != before.0 {
+        return number + 1;
+    }
+    page.next_unlike(number + 1, known)
+}
+
 /// From which turn on a version of a page may be dead: None where one is dead at this horizon, else the earliest turn of a
 /// deleter that is remembered, or that of the next id where there is none. As long as the horizon has not come past that
 /// turn, and none of the inserters is rolled back, no version is dead. It takes no memory.
@@ -146,12 +164,12 @@ pub fn first_death(page: &Page, table: &StatusTable, horizon: Xid) -> Option<u32
     };
     let mut number = 1;
     while number <= page.slots() {
+        let before = outlook.known;
         match outlook_after(page, number, outlook, table, horizon) {
             Some(next) => outlook = next,
             None => return None,
         }
-        // A version of an inserter that was not aborted, which nobody deleted, is not dead.
-        number = page.next_unlike(number + 1, outlook.known);
+        number = number_after(page, number, before, outlook.known);
     }
     Some(outlook.turn)
 }

@@ -6,7 +6,7 @@ ghost use Rattle.hot_chain.specs.Chain.{has_aborted, is_replaced};
 ghost use Rattle.prune.specs.Marks.{ListsAllBut, ListsDoubtful};
 ghost use Rattle.prune.specs.Glances.{is_end_at, StaysByEnds, IsPlainAt, ArePlainOrNoted, LeadsToNoneNoted};
 
-use crate::dead::{Outlook, outlook_with};
+use crate::dead::{Outlook, number_after, outlook_with};
 use arrayvec::ArrayVec;
 use commit_status::{Status, StatusTable};
 use page_slots::Page;
@@ -93,6 +93,7 @@ fn list_at_a_glance(
     let mut are_ends_live = true;
     let mut number = 1;
     while number <= page.slots() {
+        let before = outlook.known;
         match glance(page, number, outlook, table, horizon) {
             Some(next) => outlook = next,
             None => {
@@ -101,8 +102,7 @@ fn list_at_a_glance(
                 are_ends_live = are_ends_live && !is_end_at(page, number, table);
             }
         }
-        // A version of an inserter that was not aborted, which nobody deleted, is neither dead nor replaced.
-        number = page.next_unlike(number + 1, outlook.known);
+        number = number_after(page, number, before, outlook.known);
     }
     are_ends_live
 }

@@ -1,7 +1,7 @@
 use Rattle.std.proofs.Common.{ℕ, ◌+◌, ◌<◌, ◌≤◌, length, arith}
 use Rattle.prune.specs.Deaths.{IsTurnThere}
 use Rattle.prune.proofs.Cuts.{live-none, live-more, live-all, next-turn}
-use Rattle.prune.proofs.Passed.{next-forward, live-passed}
+use Rattle.prune.proofs.Passed.{live-passed}
 use Rattle.prune.proofs.dead.first_death.Goals as goal
 
 pub loop-number-init : goal.loop-number-init
@@ -22,14 +22,14 @@ loop-number-preserved c =
     let slots = c.args.page.now.slots in
     let number : ℕ = c.loop-number.number in
     let within : number ≤ length slots = omega (arith, c.slots.ensures.count, c.loop-number-test.true) in
-    let next : ℕ = c.next_unlike-number.result in
-    let there = c.next_unlike-number.ensures.there in
-    let forward : number + 1 ≤ next = next-forward (number + 1) (length slots) next (omega arith) (λ is. (c.next_unlike-number.ensures.found is).0) in
+    let next : ℕ = c.number_after-number.result in
+    let forward = c.number_after-number.ensures.forward in
+    let upto = c.number_after-number.ensures.upto in
     let below = live-more w c.args.horizon.0 slots number c.loop-number.outlook.turn c.in-Some.next.turn found.1 c.loop-number.invariant.0 found.0 in (
-      live-passed w c.args.horizon.0 slots c.in-Some.next.turn c.in-Some.next.known.0 (number + 1) next found.2 (omega arith) forward there.1 c.next_unlike-number.ensures.passed below,
+      live-passed w c.args.horizon.0 slots c.in-Some.next.turn c.in-Some.next.known.0 (number + 1) next found.2 (omega arith) forward upto c.number_after-number.ensures.passed below,
       found.2,
-      there.0,
-      there.1,
+      (omega arith),
+      upto,
       found.3 c.loop-number.invariant.4,
     )
 

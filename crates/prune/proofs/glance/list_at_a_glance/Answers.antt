@@ -1,7 +1,6 @@
 use Rattle.std.proofs.Common.{ℕ, ◌+◌, ◌<◌, ◌≤◌, length, arith, sym, ap, ◌∙◌}
 use Rattle.std.proofs.lemmas.Bool.{not-true}
 use Rattle.prune.proofs.Gaps.{gaps-length}
-use Rattle.prune.proofs.Passed.{next-forward}
 use Rattle.prune.proofs.Glancing.{IsGlancing, noted-room, glancing-skip, glancing-push, glancing-passed, glancing-all, glancing-noted}
 use Rattle.prune.proofs.glance.list_at_a_glance.Goals.{in-Some, in-None+then-are_ends_live, in-None+else-are_ends_live}
 use Rattle.prune.proofs.glance.list_at_a_glance.Goals as goal
@@ -23,8 +22,7 @@ loop-number-preserved c =
     let number : ℕ = c.loop-number.number in
     let within : number ≤ length slots = omega (arith, c.slots.ensures.count, c.loop-number-test.true) in
     let few : length slots ≤ 291 = omega (arith, c.slots.ensures.count, c.slots.ensures.limit) in
-    let next : ℕ = c.next_unlike-number.result in
-    let forward : number + 1 ≤ next = next-forward (number + 1) (length slots) next (omega arith) (λ there. (c.next_unlike-number.ensures.found there).0) in
+    let next : ℕ = c.number_after-number.result in
     let glanced : IsGlancing w c.args.horizon.0 slots c.match-glance.doubtful.items c.match-glance.noted c.match-glance.outlook.known.0 c.match-glance.are_ends_live (number + 1) =
     elim c.match-glance.branch [
       | in-Some b ↦ rw (b.doubtful-is, b.noted-is, b.outlook-is, b.are_ends_live-is)
@@ -40,8 +38,8 @@ loop-number-preserved c =
           (glancing-push w c.args.horizon.0 slots c.loop-number.doubtful.items c.loop-number.noted c.loop-number.outlook.known.0 c.loop-number.are_ends_live _ number within small
           (λ all. absurd (let off = b.if-are_ends_live.false in cc)) c.loop-number.invariant)
     ] in
-    glancing-passed w c.args.horizon.0 slots c.match-glance.doubtful.items c.match-glance.noted c.match-glance.outlook.known.0 c.match-glance.are_ends_live (number + 1) next forward
-    c.next_unlike-number.ensures.there.1 c.next_unlike-number.ensures.passed glanced
+    glancing-passed w c.args.horizon.0 slots c.match-glance.doubtful.items c.match-glance.noted c.match-glance.outlook.known.0 c.match-glance.are_ends_live (number + 1) next
+    c.number_after-number.ensures.forward c.number_after-number.ensures.upto c.number_after-number.ensures.passed glanced
 
 pub returns-clause-stay : goal.returns-clause-stay
 returns-clause-stay c = λ yes.
