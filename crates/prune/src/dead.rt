@@ -130,8 +130,8 @@ fn outlook_after(
     }
 }
 
-/// Which slot is to be looked at after this one. Where it gave no other id that was not aborted, its neighbours may have that inserter
-/// too: such a version, if nobody deleted it, is neither dead nor replaced, so a row of them is passed over.
+/// Which slot is to be looked at after this one. Where its version has the inserter of one before, its neighbours may have it too:
+/// such a version, if nobody deleted it, is neither dead nor replaced, so a row of them is passed over.
 #[inline(always)]
 pub(crate) fn number_after(page: &Page, number: u16, before: Xid, known: Xid) -> u16
     requires there { SlotIsThere page.now.slots number }
@@ -141,7 +141,7 @@ pub(crate) fn number_after(page: &Page, number: u16, before: Xid, known: Xid) ->
         → is_undeleted_by known.0 (the_slot page.now.slots n) ≡ true }
 {
     let _limit = page.slots();
-    if known.0 == 0 || known.0 != before.0 {
+    if known.0 != before.0 || page.header(number).is_none() {
         return number + 1;
     }
     page.next_unlike(number + 1, known)
