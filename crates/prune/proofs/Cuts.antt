@@ -3,16 +3,15 @@ use Rattle.std.proofs.Common.{◌≡◌, ◌⊎◌, ℕ, ◌+◌, ◌-◌, ◌<�
 use Rattle.std.specs.Prelude.{MatchOption}
 use Rattle.std.proofs.lemmas.Bool.{cases_lt}
 use Rattle.std.proofs.lemmas.Option.{same_Some}
-use Rattle.xid_circle.specs.Circle.{Precedes}
 use Rattle.page_slots.specs.declared.slot.Slot.{Slot}
 use Rattle.page_slots.specs.Slots.{version_at, header_at, SlotIsThere}
 use Rattle.std.specs.Option.{option_map, unwrap_or}
 use Rattle.tuple_header.specs.Version.{Version}
 use Rattle.tuple_header.specs.declared.version.Header.{Header}
-use Rattle.commit_status.specs.Window.{Window, IsWindow, IsAborted, IsCommitted, IsUpToNext, turns, next_id}
+use Rattle.commit_status.specs.Window.{Window, IsWindow, IsAborted, IsUpToNext, turns, next_id}
 use Rattle.commit_status.proofs.Turns.{turns-given}
 use Rattle.commit_status.proofs.Places.{upto-next}
-use Rattle.visibility.specs.Visible.{IsFrozen, IsDead}
+use Rattle.visibility.specs.Visible.{IsDead}
 use Rattle.sound_page.specs.Dead.{IsDeadAt, HasDead}
 use Rattle.sound_page.proofs.Links.{version-there}
 use Rattle.prune.specs.Deaths.{IsTurnOf, IsTurnThere, MayDieFrom, NothingDiesBefore, LivesAt}
@@ -34,21 +33,10 @@ dead-there w horizon slots n h e dead =
     let v = some-version (version_at slots n) h e in
     record { version = v.0; there = v.1; dead = subst (IsDead w horizon) (sym v.2) dead }
 
--- a header that is there, of a version that is not dead
-alive : (w : Window) (horizon : ℕ) (h : Header) → IsFrozen h ⊎ ¬ IsAborted w h.xmin.0 → ¬ (IsCommitted w h.xmax.0 × Precedes h.xmax.0 horizon)
-    → IsDead w horizon h → ⊥
-alive w horizon h (inl frozen) kept (IsDead.never_was thawed undone) = thawed frozen
-alive w horizon h (inr made) kept (IsDead.never_was thawed undone) = made undone
-alive w horizon h made kept (IsDead.is_past deleted past) = kept (deleted, past)
-
 pub dead-here : (w : Window) (horizon : ℕ) (slots : List Slot) (n : ℕ) (h : Header) → header_at slots n ≡ Some h → IsDeadAt w horizon slots n → IsDead w horizon h
 dead-here w horizon slots n h at dead =
     let same : dead.version.header ≡ h = same_Some dead.version.header h (sym (ap (option_map (λ (t : Version). t.header)) dead.there) ∙ at) in
     subst (IsDead w horizon) same dead.dead
-
-not-dead : (w : Window) (horizon : ℕ) (slots : List Slot) (n : ℕ) (h : Header) → header_at slots n ≡ Some h → IsFrozen h ⊎ ¬ IsAborted w h.xmin.0
-    → ¬ (IsCommitted w h.xmax.0 × Precedes h.xmax.0 horizon) → ¬ IsDeadAt w horizon slots n
-not-dead w horizon slots n h at made kept dead = alive w horizon h made kept (dead-here w horizon slots n h at dead)
 
 -- what a header tells of the version that is there
 pub header-of : (slots : List Slot) (n : ℕ) (h : Header) (t : Version) → header_at slots n ≡ Some h → version_at slots n ≡ Some t → h ≡ t.header

@@ -1,6 +1,6 @@
 -- Slots that are passed over: versions of an inserter that was not aborted, which nobody deleted.
-use Rattle.std.proofs.Common.{◌≡◌, ℕ, zero, suc, ◌+◌, ◌-◌, ◌<◌, ◌≤◌, ◌&&◌, ◌==◌, not, Bool, true, false, List, length, Some, arith, inr, ⊎_elim, refl, sym, ap, ◌∙◌, subst}
-use Rattle.std.proofs.lemmas.Bool.{eqb-true, cases_lt}
+use Rattle.std.proofs.Common.{◌≡◌, ℕ, zero, suc, ◌+◌, ◌-◌, ◌<◌, ◌≤◌, ◌&&◌, ◌==◌, not, Bool, true, false, List, length, Some, arith, inr, refl, sym, ap, ◌∙◌, subst}
+use Rattle.std.proofs.lemmas.Bool.{eqb-true}
 use Rattle.page_slots.specs.declared.slot.Slot.{Slot}
 use Rattle.page_slots.specs.declared.slot.Slot.TheVariants.{Unused, Normal, Redirect, Dead}
 use Rattle.page_slots.specs.Slots.{slot_at, version_at, header_at, the_slot, SlotIsThere, is_undeleted_by}
@@ -106,7 +106,3 @@ live-passed w horizon slots turn x bound next good from forward within p l =
     let same : bound + (next - bound) ≡ next = omega arith in
     subst (λ b. LiveBelow w horizon slots b turn) same
     (live-steps w horizon slots turn x bound (next - bound) good from (omega arith) (λ n over one_at below. p n over one_at (omega arith)) l)
-
--- the next number is no earlier than that from which it is looked for
-pub next-forward : (from count next : ℕ) → from ≤ count + 1 → (next ≤ count → from ≤ next) → from ≤ next
-next-forward from count next within found = ⊎_elim (λ past. omega arith) found (cases_lt count next)
