@@ -4,6 +4,8 @@ use Rattle.std.specs.Option.{option_map, option_and_then}
 use Rattle.std.specs.List.{position_or_len}
 use Rattle.page_slots.specs.declared.slot.Slot.{Slot}
 use Rattle.page_slots.specs.declared.slot.Slot.TheVariants.{Unused, Normal, Redirect, Dead}
+use Rattle.page_slots.specs.declared.slot.SlotHead.{SlotHead}
+use Rattle.page_slots.specs.declared.slot.SlotHead.TheVariants as head
 use Rattle.page_slots.specs.Hints.{same_but_hints}
 use Rattle.tuple_header.specs.Version.{Version, rounded_size_of}
 use Rattle.tuple_header.specs.declared.version.Header.{Header}
@@ -51,6 +53,13 @@ target_of Unused = None
 target_of (Normal t) = None
 target_of (Redirect target) = Some target
 target_of Dead = None
+
+-- what a slot tells without its row
+abbrev pub head_of : Slot → SlotHead
+head_of Unused = head.Bare
+head_of (Normal t) = head.Version t.header
+head_of (Redirect target) = head.Redirect target
+head_of Dead = head.Bare
 
 -- What stands at a number.
 

@@ -3,10 +3,10 @@
 ghost use Rattle.std.specs.Prelude.{◌≡◌, ◌≤◌, ◌+◌, ℕ, List, IfSome, None, true, length, take, drop};
 ghost use Rattle.std.specs.Option.{option_map};
 ghost use Rattle.tuple_header.specs.Faults.{header_fault};
-ghost use Rattle.page_slots.specs.Slots.{is_unused, is_dead, leads_to, is_undeleted_by, version_of, target_of, bytes_taken};
+ghost use Rattle.page_slots.specs.Slots.{is_unused, is_dead, leads_to, is_undeleted_by, head_of, version_of, target_of, bytes_taken};
 ghost use Rattle.page_slots.specs.Store.{stored_slot, stored_version, stored_with_header, fits};
 
-use crate::slot::Slot;
+use crate::slot::{Slot, SlotHead};
 use std::marker::Model;
 use tuple_header::{Header, RowRef, Tuple};
 use xid_circle::Xid;
@@ -123,6 +123,20 @@ impl Item {
         match self {
             Item::Normal(stored) => Some(stored.header),
             _ => None,
+        }
+    }
+
+    /// What it tells without its row.
+    #[inline(always)]
+    pub(crate) fn head(&self) -> SlotHead
+        ensures { (bytes : List ℕ) → result ≡ head_of (stored_slot bytes self.now) }
+    {
+        match self {
+            Item::Normal(stored) => SlotHead::Version(stored.header),
+            _ => match self {
+                Item::Redirect(target) => SlotHead::Redirect(*target),
+                _ => SlotHead::Bare,
+            },
         }
     }
 

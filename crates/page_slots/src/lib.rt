@@ -22,4 +22,4 @@ mod slot;
 mod store;
 
 pub use page::{AddFault, Page};
-pub use slot::Slot;
+pub use slot::{Slot, SlotHead};

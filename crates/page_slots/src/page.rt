@@ -5,12 +5,12 @@ ghost use Rattle.tuple_header.specs.Version.{rounded_size_of};
 ghost use Rattle.tuple_header.specs.Faults.{header_fault};
 ghost use Rattle.page_slots.specs.Store.{stored_slot, is_bare};
 ghost use Rattle.page_slots.specs.declared.packing.TheConstants.{MOST_BYTES};
-ghost use Rattle.page_slots.specs.Slots.{is_unused, is_dead, leads_to, is_undeleted_by, slot_at, header_at, row_at, key_at, redirect_at, SlotIsThere, IsNormalAt, the_slot, with_slot, with_header_at, has_unused, free_number, with_added, bytes_taken, free_bytes, room_of, next_change, change_unless, differs_in_hints_alone};
+ghost use Rattle.page_slots.specs.Slots.{is_unused, is_dead, leads_to, is_undeleted_by, head_of, slot_at, header_at, row_at, key_at, redirect_at, SlotIsThere, IsNormalAt, the_slot, with_slot, with_header_at, has_unused, free_number, with_added, bytes_taken, free_bytes, room_of, next_change, change_unless, differs_in_hints_alone};
 
 use crate::hints::differ_in_hints_alone;
 use crate::item::Item;
 use crate::packing::MOST_BYTES;
-use crate::slot::Slot;
+use crate::slot::{Slot, SlotHead};
 use crate::store::Store;
 use std::alloc::{AllocError, Global};
 use std::marker::Model;
@@ -122,6 +122,15 @@ impl Page {
         self.slots.header(index_of(number)?)
     }
 
+    /// What the slot of this number, which is there, tells without its row, by one look.
+    #[inline(always)]
+    pub fn head(&self, number: u16) -> SlotHead
+        requires { SlotIsThere self.now.slots number }
+        ensures { result ≡ head_of (the_slot self.now.slots number) }
+    {
+        self.slots.head(usize::from(number) - 1)
+    }
+
     /// The key of the version in the slot of this number, if that is there and normal.
     pub fn key(&self, number: u16) -> Option<u64>
         ensures value { result ≡ key_at self.now.slots number }
@@ -170,6 +179,20 @@ impl Page {
         self.slots
             .next_unlike(usize::from(from).saturating_sub(1), inserter) as u16
             + 1
+    }
+
+    /// The number of the last slot, up to the number `upto`, which is not over the last slot's, that holds anything but a version
+    /// of this inserter which nobody deleted; or 0, where there is none.
+    #[inline(always)]
+    pub fn last_unlike(&self, upto: u16, inserter: Xid) -> u16
+        requires { upto ≤ length self.now.slots }
+        ensures passed { (n : ℕ) → result < n → n ≤ upto
+            → is_undeleted_by inserter.0 (the_slot self.now.slots n) ≡ true }
+        ensures found { 1 ≤ result
+            → is_undeleted_by inserter.0 (the_slot self.now.slots result) ≡ false }
+        ensures bound { result ≤ upto }
+    {
+        self.slots.last_unlike(usize::from(upto), inserter) as u16
     }
 
     /// The number that the next version added gets: of the lowest unused slot, or else of a new last one. It is 292 where

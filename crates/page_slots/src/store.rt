@@ -1,15 +1,15 @@
 //! The slots of a page as they are kept: those of all pages take little room, since each body takes only its own bytes.
 
-ghost use Rattle.std.specs.Prelude.{◌≡◌, ◌≤◌, ◌<◌, ◌+◌, ◌++◌, ◌∷◌, [], ◌⊎◌, ℕ, true, false, length, sum_by, slice_get, slice_set, slice_index_or, OnOk, OnErr, IfSome, None};
+ghost use Rattle.std.specs.Prelude.{◌≡◌, ◌≤◌, ◌<◌, ◌+◌, ◌-◌, ◌++◌, ◌∷◌, [], ◌⊎◌, ℕ, true, false, length, sum_by, slice_get, slice_set, slice_index_or, OnOk, OnErr, IfSome, None};
 ghost use Rattle.std.specs.Option.{option_map, option_and_then};
 ghost use Rattle.std.specs.List.{position_or_len};
 ghost use Rattle.tuple_header.specs.Faults.{header_fault};
-ghost use Rattle.page_slots.specs.Slots.{is_unused, is_dead, leads_to, is_undeleted_by, version_of, target_of, with_header, bytes_taken};
+ghost use Rattle.page_slots.specs.Slots.{is_unused, is_dead, leads_to, is_undeleted_by, head_of, version_of, target_of, with_header, bytes_taken};
 ghost use Rattle.page_slots.specs.Store.{stored_slot, is_bare};
 
 use crate::item::Item;
 use crate::packing::{MOST_BYTES, keep_version};
-use crate::slot::Slot;
+use crate::slot::{Slot, SlotHead};
 use std::alloc::{AllocError, Global};
 use std::marker::Model;
 use tuple_header::{Header, MOST_SLOTS, Row, RowRef};
@@ -80,6 +80,15 @@ impl Store {
             Some(item) => item.header(),
             None => None,
         }
+    }
+
+    /// What the slot at an index tells without its row.
+    #[inline(always)]
+    pub(crate) fn head(&self, index: usize) -> SlotHead
+        requires { index < length self.now.slots }
+        ensures { result ≡ head_of (slice_index_or self.now.slots index Slot.Unused) }
+    {
+        self.items[index].head()
     }
 
     /// The key of the version at an index, if there is one.
@@ -188,6 +197,28 @@ impl Store {
             }
         }
         self.len()
+    }
+
+    /// How many of the first `count` slots are left without those at their end that hold a version of this inserter which nobody
+    /// deleted.
+    #[inline(always)]
+    pub(crate) fn last_unlike(&self, count: usize, inserter: Xid) -> usize
+        requires { count ≤ length self.now.slots }
+        ensures passed { (i : ℕ) → result ≤ i → i < count
+            → is_undeleted_by inserter.0 (slice_index_or self.now.slots i Slot.Unused) ≡ true }
+        ensures found { 1 ≤ result
+            → is_undeleted_by inserter.0 (slice_index_or self.now.slots (result - 1) Slot.Unused)
+            ≡ false }
+        ensures bound { result ≤ count }
+    {
+        let mut left = count;
+        while left > 0 {
+            if !self.is_undeleted_by(left - 1, inserter) {
+                return left;
+            }
+            left -= 1;
+        }
+        0
     }
 
     /// Makes room in memory for `count` more slots, and for all bodies. The list of slots gets room for as many as a page may
