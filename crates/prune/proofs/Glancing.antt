@@ -1,156 +1,98 @@
--- Glances at the first slots of a page, and a closer look at those that are noted.
-use Rattle.std.proofs.Common.{◌≡◌, ◌⊎◌, ℕ, zero, suc, ◌+◌, ◌-◌, ◌<◌, ◌≤◌, Bool, true, false, List, [], ◌∷◌, ◌++◌, length, get_or, set, Option, Some, None, arith, ⊎_elim, sym, ap, ◌∙◌, refl, subst}
-use Rattle.std.specs.Prelude.{MatchOption, IfSome}
-use Rattle.std.specs.Option.{option_map, unwrap_or}
+-- Glances at the slots of a page, from the last to the first.
+use Rattle.std.proofs.Common.{◌≡◌, ℕ, zero, suc, ◌+◌, ◌-◌, ◌<◌, ◌≤◌, Bool, true, false, List, [], ◌∷◌, ◌++◌, length, reverse, get_or, set, Some, arith, ⊎_elim, sym, ap, ◌∙◌, refl, subst, length-append}
 use Rattle.std.proofs.lemmas.Bool.{cases_lt}
-use Rattle.std.proofs.lemmas.List.{get_or-set_same, get_or-set_other, length-set}
+use Rattle.std.proofs.lemmas.List.{get_or-set_same, get_or-set_other, length-set, reverse-append}
 use Rattle.std.proofs.lemmas.Option.{same_Some}
 use Rattle.page_slots.specs.declared.slot.Slot.{Slot}
-use Rattle.page_slots.specs.Slots.{slot_at, version_at, header_at, redirect_at}
-use Rattle.tuple_header.specs.Version.{Version}
+use Rattle.page_slots.specs.Slots.{version_at, header_at, the_slot, SlotIsThere, is_undeleted_by}
 use Rattle.tuple_header.specs.declared.version.Header.{Header}
-use Rattle.hot_chain.specs.Chain.{has_aborted, is_replaced}
 use Rattle.commit_status.specs.Window.{Window, IsAborted}
-use Rattle.visibility.specs.Visible.{IsDead}
-use Rattle.sound_page.specs.Dead.{IsDeadAt}
-use Rattle.sound_page.proofs.Links.{version-there}
-use Rattle.prune.specs.declared.dead.Outlook.{Outlook}
-use Rattle.prune.specs.Deaths.{IsTurnOf, MayDieFrom}
+use Rattle.sound_page.proofs.ChainPlaces.{first-normal}
 use Rattle.prune.specs.Marks.{PlainlyStays, ListsAllBut, ListsDoubtful}
-use Rattle.prune.specs.Glances.{is_end_at, StaysByEnds, IsPlainAt, is_noted, ArePlainOrNoted, LeadsToNoneNoted}
+use Rattle.prune.specs.Glances.{IsPlain, IsPlainAt, StartsPlainly, ArePlainOrNotedOver}
 use Rattle.prune.proofs.Cuts.{some-version}
-use Rattle.prune.proofs.Passed.{ArePassed, passed-stays}
-use Rattle.prune.proofs.Gaps.{gaps-none, gaps-skip, gaps-push, gaps-map}
-use Rattle.prune.proofs.Stays.{AreEndsLiveBelow, ends-more, ends-all, stays-version, first-start}
+use Rattle.prune.proofs.Passed.{kept-there, kept-alive, kept-unreplaced, kept-header}
+use Rattle.prune.proofs.Gaps.{gaps-before, gaps-put, gaps-map}
 
--- what is told of a slot that needs no closer look
-abbrev pub IsTold : Window → ℕ → List Slot → ℕ → Outlook → Type 0
-IsTold w horizon slots n u = StaysByEnds w horizon slots n × IsPlainAt w horizon slots n × ¬ IsAborted w u.known.0
+-- What a glance tells.
 
-pub told-version : (w : Window) (horizon turn : ℕ) (slots : List Slot) (n : ℕ) (h : Header) (o : Option Outlook) → header_at slots n ≡ Some h → is_replaced (has_aborted w) h ≡ false
-    → MatchOption o (IsDead w horizon h)
-    (λ u. (¬ IsDead w horizon h) × MayDieFrom w u.turn h × (u.turn ≤ turn) × (¬ IsAborted w u.known.0) × ((u.turn ≡ turn) ⊎ IsTurnOf w u.turn h.xmax.0))
-    → IfSome o (λ u. IsTold w horizon slots n u)
-told-version w horizon turn slots n h None at off found = tt
-told-version w horizon turn slots n h (Some u) at off found = (
-  (λ live. stays-version w horizon slots n h at off found.0),
-  (λ k there. let same : h ≡ k = same_Some h k (sym at ∙ there) in (ap (is_replaced (has_aborted w)) (sym same) ∙ off, subst (λ x. ¬ IsDead w horizon x) same found.0)),
-  found.3,
-)
+pub starts-stays : (w : Window) (horizon : ℕ) (slots : List Slot) (n : ℕ) → StartsPlainly w slots n → PlainlyStays w horizon slots n
+starts-stays w horizon slots n plain start h first at =
+    let p = plain start first h at in
+    (kept-unreplaced w h p.0, kept-alive w horizon h.xmin.0 h p.1 refl p.0)
 
-pub no-header_plain : (w : Window) (horizon : ℕ) (slots : List Slot) (n : ℕ) → header_at slots n ≡ None → IsPlainAt w horizon slots n
-no-header_plain w horizon slots n none h at = absurd (let e : None ≡ Some h = sym none ∙ at in cc)
+pub starts-version : (w : Window) (slots : List Slot) (n : ℕ) (h : Header) → header_at slots n ≡ Some h → IsPlain w h → StartsPlainly w slots n
+starts-version w slots n h at plain start first k there =
+    let v = some-version (version_at slots n) h at in
+    let e : Some n ≡ Some start = sym (first-normal slots n v.0 v.1) ∙ first in
+    let same : h ≡ k = same_Some h k (sym at ∙ ap (header_at slots) (same_Some n start e) ∙ there) in
+    subst (IsPlain w) same plain
 
-plain-alive : (w : Window) (horizon : ℕ) (slots : List Slot) (n : ℕ) → IsPlainAt w horizon slots n → ¬ IsDeadAt w horizon slots n
-plain-alive w horizon slots n plain dead = (plain dead.version.header (ap (option_map (λ (v : Version). v.header)) dead.there)).1 dead.dead
+-- a version is the first of its chain
+starts-plain : (w : Window) (slots : List Slot) (n : ℕ) → StartsPlainly w slots n → IsPlainAt w slots n
+starts-plain w slots n plain h at =
+    let v = some-version (version_at slots n) h at in
+    plain n (first-normal slots n v.0 v.1) h at
 
-pub record IsGlancing (w : Window) (horizon : ℕ) (slots : List Slot) (doubtful : List ℕ) (noted : List Bool) (known : ℕ) (live : Bool) (number : ℕ) : Type 0 where
-  pub from : 1 ≤ number
-  pub upto : number ≤ length slots + 1
-  pub listed : ListsAllBut (StaysByEnds w horizon slots) 0 doubtful number
-  pub others : (n : ℕ) → n < number → is_noted noted n ≡ false → IsPlainAt w horizon slots n
-  pub ends : live ≡ true → AreEndsLiveBelow w horizon slots number
+-- one that is passed over
+passed-starts : (w : Window) (slots : List Slot) (n x : ℕ) → ¬ IsAborted w x → SlotIsThere slots n → is_undeleted_by x (the_slot slots n) ≡ true → StartsPlainly w slots n
+passed-starts w slots n x good there e =
+    let k = kept-there slots n x there e in
+    starts-version w slots n k.version.header (kept-header slots n x k) (k.kept, subst (λ y. ¬ IsAborted w y) (sym k.made) good)
+
+-- The slots over a number.
+
+pub record IsGlancing (w : Window) (slots : List Slot) (doubtful : List ℕ) (noted : List Bool) (known number : ℕ) : Type 0 where
+  pub few : number + length doubtful ≤ length slots
+  pub listed : ListsAllBut (StartsPlainly w slots) number (reverse doubtful) (length slots + 1)
+  pub others : ArePlainOrNotedOver w slots noted number
   pub unaborted : ¬ IsAborted w known
+  pub long : length noted ≡ 292
 
-no-slot_0 : (w : Window) (horizon : ℕ) (slots : List Slot) (n : ℕ) → n < 1 → IsPlainAt w horizon slots n
-no-slot_0 w horizon slots zero h = no-header_plain w horizon slots 0 refl
-no-slot_0 w horizon slots (suc n) h = absurd (omega arith)
-
-pub glancing-none : (w : Window) (horizon : ℕ) (slots : List Slot) (noted : List Bool) (known : ℕ) → ¬ IsAborted w known → IsGlancing w horizon slots [] noted known true 1
-glancing-none w horizon slots noted known unaborted = record {
-  from = omega arith;
-  upto = omega arith;
-  listed = gaps-none (StaysByEnds w horizon slots);
-  others = λ n h _. no-slot_0 w horizon slots n h;
-  ends = λ _ n h _. plain-alive w horizon slots n (no-slot_0 w horizon slots n h);
-  unaborted = unaborted;
+pub glancing-more : (w : Window) (slots : List Slot) (doubtful : List ℕ) (noted : List Bool) (known x number : ℕ) → IsGlancing w slots doubtful noted known number
+    → StartsPlainly w slots number → ¬ IsAborted w x → IsGlancing w slots doubtful noted x (number - 1)
+glancing-more w slots doubtful noted known x number g plain good = record {
+  few = let few = g.few in omega arith;
+  listed = gaps-before (StartsPlainly w slots) number (length slots + 1) (reverse doubtful) g.listed plain;
+  others = λ n over off. ⊎_elim (λ lt. g.others n lt off)
+      (λ ge. let same : n ≡ number = omega arith in subst (IsPlainAt w slots) (sym same) (starts-plain w slots number plain)) (cases_lt number n);
+  unaborted = good;
+  long = g.long;
 }
 
-glancing-more : (w : Window) (horizon : ℕ) (slots : List Slot) (doubtful : List ℕ) (noted : List Bool) (known : ℕ) (live : Bool) (number : ℕ) → number ≤ length slots
-    → IsGlancing w horizon slots doubtful noted known live number → StaysByEnds w horizon slots number × IsPlainAt w horizon slots number
-    → IsGlancing w horizon slots doubtful noted known live (number + 1)
-glancing-more w horizon slots doubtful noted known live number within g told = record {
-  from = omega arith;
-  upto = omega arith;
-  listed = gaps-skip (StaysByEnds w horizon slots) 0 number doubtful g.listed told.0;
-  others = λ n lt off. ⊎_elim (λ below. g.others n below off)
-      (λ ge. let same : n ≡ number = omega arith in subst (IsPlainAt w horizon slots) (sym same) told.1) (cases_lt n number);
-  ends = λ all. ends-more w horizon slots number (g.ends all) (λ _. plain-alive w horizon slots number told.1);
-  unaborted = g.unaborted;
-}
-
-pub glancing-skip : (w : Window) (horizon : ℕ) (slots : List Slot) (doubtful : List ℕ) (noted : List Bool) (known : ℕ) (live : Bool) (number : ℕ) (u : Outlook) → number ≤ length slots
-    → IsGlancing w horizon slots doubtful noted known live number → IsTold w horizon slots number u → IsGlancing w horizon slots doubtful noted u.known.0 live (number + 1)
-glancing-skip w horizon slots doubtful noted known live number u within g told =
-    let more = glancing-more w horizon slots doubtful noted known live number within g (told.0, told.1) in
-    record { from = more.from; upto = more.upto; listed = more.listed; others = more.others; ends = more.ends; unaborted = told.2 }
-
-glancing-steps : (w : Window) (horizon : ℕ) (slots : List Slot) (doubtful : List ℕ) (noted : List Bool) (known : ℕ) (live : Bool) (number k : ℕ) → number + k ≤ length slots + 1
-    → ArePassed slots known number (number + k) → IsGlancing w horizon slots doubtful noted known live number → IsGlancing w horizon slots doubtful noted known live (number + k)
-glancing-steps w horizon slots doubtful noted known live number zero within p g =
-    let same : number ≡ number + 0 = omega arith in subst (IsGlancing w horizon slots doubtful noted known live) same g
-glancing-steps w horizon slots doubtful noted known live number (suc k) within p g =
-    let from = g.from in
-    let told = passed-stays w horizon slots number known g.unaborted (from, (omega arith)) (p number (omega arith) from (omega arith)) in
-    let same : (number + 1) + k ≡ number + suc k = omega arith in
-    subst (IsGlancing w horizon slots doubtful noted known live) same
-    (glancing-steps w horizon slots doubtful noted known live (number + 1) k (omega arith) (λ n over one below. p n (omega arith) one (omega arith))
-    (glancing-more w horizon slots doubtful noted known live number (omega arith) g told))
-
--- slots that are passed over
-pub glancing-passed : (w : Window) (horizon : ℕ) (slots : List Slot) (doubtful : List ℕ) (noted : List Bool) (known : ℕ) (live : Bool) (number next : ℕ) → number ≤ next
-    → next ≤ length slots + 1 → ArePassed slots known number next → IsGlancing w horizon slots doubtful noted known live number
-    → IsGlancing w horizon slots doubtful noted known live next
-glancing-passed w horizon slots doubtful noted known live number next forward within p g =
-    let same : number + (next - number) ≡ next = omega arith in
-    subst (IsGlancing w horizon slots doubtful noted known live) same
-    (glancing-steps w horizon slots doubtful noted known live number (next - number) (omega arith) (λ n over one below. p n over one (omega arith)) g)
-
-pub noted-room : (noted : List Bool) (i number : ℕ) → length (set noted i true) ≡ 292 → number < 292 → number < length noted
-noted-room noted i number long small = let same = length-set noted i true in omega (arith, same, long, small)
-
-pub glancing-push : (w : Window) (horizon : ℕ) (slots : List Slot) (doubtful : List ℕ) (noted : List Bool) (known : ℕ) (live after : Bool) (number : ℕ) → number ≤ length slots
-    → number < length noted → (after ≡ true → (live ≡ true) × (is_end_at w slots number ≡ false)) → IsGlancing w horizon slots doubtful noted known live number
-    → IsGlancing w horizon slots (doubtful ++ number ∷ []) (set noted number true) known after (number + 1)
-glancing-push w horizon slots doubtful noted known live after number within small e g = record {
-  from = omega arith;
-  upto = omega arith;
-  listed = gaps-push (StaysByEnds w horizon slots) 0 number doubtful (let f = g.from in omega arith) g.listed;
-  others = λ n lt off. ⊎_elim (λ below. g.others n below (sym (get_or-set_other noted number n true false (λ same. omega arith)) ∙ off))
+pub glancing-push : (w : Window) (slots : List Slot) (doubtful : List ℕ) (noted : List Bool) (known number : ℕ) → 1 ≤ number → number < length noted
+    → IsGlancing w slots doubtful noted known number → IsGlancing w slots (doubtful ++ number ∷ []) (set noted number true) known (number - 1)
+glancing-push w slots doubtful noted known number from small g = record {
+  few = let few = g.few in let long : length (doubtful ++ number ∷ []) ≡ length doubtful + 1 = rw length-append refl in omega arith;
+  listed = let few = g.few in
+      subst (λ xs. ListsAllBut (StartsPlainly w slots) (number - 1) xs (length slots + 1)) (sym (reverse-append doubtful (number ∷ [])))
+      (gaps-put (StartsPlainly w slots) number (length slots + 1) (reverse doubtful) from (omega arith) g.listed);
+  others = λ n over off. ⊎_elim (λ lt. g.others n lt (sym (get_or-set_other noted number n true false (λ same. omega arith)) ∙ off))
       (λ ge. let same : n ≡ number = omega arith in
       let on = get_or-set_same noted number true false small in
-      absurd (let f : true ≡ false = sym on ∙ ap (λ k. get_or (set noted number true) k false) (sym same) ∙ off in cc)) (cases_lt n number);
-  ends = λ all. ends-more w horizon slots number (g.ends (e all).0) (λ end. absurd (let off = (e all).1 in cc));
+      absurd (let f : true ≡ false = sym on ∙ ap (λ k. get_or (set noted number true) k false) (sym same) ∙ off in cc)) (cases_lt number n);
   unaborted = g.unaborted;
+  long = length-set noted number true ∙ g.long;
 }
 
-pub glancing-all : (w : Window) (horizon : ℕ) (slots : List Slot) (doubtful : List ℕ) (noted : List Bool) (known : ℕ) (live : Bool) (number : ℕ) → length slots < number
-    → IsGlancing w horizon slots doubtful noted known live number → live ≡ true → ListsAllBut (PlainlyStays w horizon slots) 0 doubtful (length slots + 1)
-glancing-all w horizon slots doubtful noted known live number past g sure =
-    let upto = g.upto in
-    let last : number ≡ length slots + 1 = omega arith in
-    subst (ListsAllBut (PlainlyStays w horizon slots) 0 doubtful) last
-    (gaps-map (StaysByEnds w horizon slots) (PlainlyStays w horizon slots) 0 number doubtful (λ n q. q (ends-all w horizon slots number past (g.ends sure))) g.listed)
+glancing-steps : (w : Window) (slots : List Slot) (doubtful : List ℕ) (noted : List Bool) (known next k : ℕ)
+    → ((n : ℕ) → next < n → n ≤ next + k → is_undeleted_by known (the_slot slots n) ≡ true) → IsGlancing w slots doubtful noted known (next + k) → IsGlancing w slots doubtful noted known next
+glancing-steps w slots doubtful noted known next zero p g = let same : next + 0 ≡ next = omega arith in subst (IsGlancing w slots doubtful noted known) same g
+glancing-steps w slots doubtful noted known next (suc k) p g =
+    let few = g.few in
+    let same : (next + suc k) - 1 ≡ next + k = omega arith in
+    let plain = passed-starts w slots (next + suc k) known g.unaborted (omega arith, omega arith) (p (next + suc k) (omega arith) (omega arith)) in
+    glancing-steps w slots doubtful noted known next k (λ n over upto. p n over (omega arith))
+    (subst (IsGlancing w slots doubtful noted known) same (glancing-more w slots doubtful noted known known (next + suc k) g plain g.unaborted))
 
-pub glancing-noted : (w : Window) (horizon : ℕ) (slots : List Slot) (doubtful : List ℕ) (noted : List Bool) (known : ℕ) (live : Bool) (number : ℕ) → length slots < number
-    → IsGlancing w horizon slots doubtful noted known live number → ArePlainOrNoted w horizon slots noted
-glancing-noted w horizon slots doubtful noted known live number past g n off h at =
-    let v = some-version (version_at slots n) h at in
-    let there = version-there slots n v.0 v.1 in
-    let within = there.1 in
-    g.others n (omega arith) off h at
+-- slots that are passed over
+pub glancing-passed : (w : Window) (slots : List Slot) (doubtful : List ℕ) (noted : List Bool) (known number next : ℕ) → next ≤ number
+    → ((n : ℕ) → next < n → n ≤ number → is_undeleted_by known (the_slot slots n) ≡ true) → IsGlancing w slots doubtful noted known number → IsGlancing w slots doubtful noted known next
+glancing-passed w slots doubtful noted known number next le p g =
+    let same : number ≡ next + (number - next) = omega arith in
+    glancing-steps w slots doubtful noted known next (number - next) (λ n over upto. p n over (omega arith)) (subst (IsGlancing w slots doubtful noted known) same g)
 
--- A closer look at the slots that are noted, and those that lead to them.
-noted-stays : (w : Window) (horizon : ℕ) (slots : List Slot) (noted : List Bool) (n : ℕ) → ArePlainOrNoted w horizon slots noted → LeadsToNoneNoted slots noted n
-    → PlainlyStays w horizon slots n
-noted-stays w horizon slots noted n others none start h first at =
-    by (redirect_at slots n) refl (first-start slots n start (slot_at slots n) refl first)
-  where
-    by : (o : Option ℕ) → redirect_at slots n ≡ o → unwrap_or o n ≡ start → (is_replaced (has_aborted w) h ≡ false) × ¬ IsDead w horizon h
-    by None leads same = others n none.0 h (ap (header_at slots) same ∙ at)
-    by (Some t) leads same = others t (none.1 t leads) h (ap (header_at slots) same ∙ at)
-
-pub noted-doubtful : (w : Window) (horizon : ℕ) (slots : List Slot) (noted : List Bool) (doubtful : List ℕ) → ArePlainOrNoted w horizon slots noted
-    → ListsAllBut (LeadsToNoneNoted slots noted) 0 doubtful (length slots + 1) → ListsDoubtful w horizon slots doubtful
-noted-doubtful w horizon slots noted doubtful others l =
-    gaps-map (LeadsToNoneNoted slots noted) (PlainlyStays w horizon slots) 0 (length slots + 1) doubtful (λ n none. noted-stays w horizon slots noted n others none) l
+pub listed-doubtful : (w : Window) (horizon : ℕ) (slots : List Slot) (doubtful : List ℕ) → ListsAllBut (StartsPlainly w slots) 0 doubtful (length slots + 1)
+    → ListsDoubtful w horizon slots doubtful
+listed-doubtful w horizon slots doubtful l =
+    gaps-map (StartsPlainly w slots) (PlainlyStays w horizon slots) 0 (length slots + 1) doubtful (λ n plain. starts-stays w horizon slots n plain) l

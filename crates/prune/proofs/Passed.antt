@@ -1,5 +1,5 @@
 -- Slots that are passed over: versions of an inserter that was not aborted, which nobody deleted.
-use Rattle.std.proofs.Common.{◌≡◌, ℕ, zero, suc, ◌+◌, ◌-◌, ◌<◌, ◌≤◌, ◌&&◌, ◌==◌, not, Bool, true, false, List, length, Some, arith, inr, refl, sym, ap, ◌∙◌, subst}
+use Rattle.std.proofs.Common.{◌≡◌, ℕ, zero, suc, ◌+◌, ◌-◌, ◌<◌, ◌≤◌, ◌&&◌, ◌==◌, not, Bool, true, false, List, length, Some, arith, inr, refl, ap, subst}
 use Rattle.std.proofs.lemmas.Bool.{eqb-true}
 use Rattle.page_slots.specs.declared.slot.Slot.{Slot}
 use Rattle.page_slots.specs.declared.slot.Slot.TheVariants.{Unused, Normal, Redirect, Dead}
@@ -13,9 +13,7 @@ use Rattle.hot_chain.specs.Chain.{has_aborted, is_replaced}
 use Rattle.commit_status.specs.Window.{Window, IsAborted, IsCommitted, IsGiven}
 use Rattle.visibility.specs.Visible.{IsDead}
 use Rattle.prune.specs.Deaths.{MayDieFrom, LivesAt}
-use Rattle.prune.specs.Glances.{StaysByEnds, IsPlainAt}
-use Rattle.prune.proofs.Cuts.{lives-there, header-of, LiveBelow, live-more}
-use Rattle.prune.proofs.Stays.{stays-version}
+use Rattle.prune.proofs.Cuts.{lives-there, LiveBelow, live-more}
 
 both : (a b : Bool) → (a && b) ≡ true → (a ≡ true) × (b ≡ true)
 both true b e = (refl, e)
@@ -28,7 +26,7 @@ pub record IsKept (slots : List Slot) (n x : ℕ) : Type 0 where
   pub made : version.header.xmin.0 ≡ x
   pub kept : version.header.xmax.0 ≡ 0
 
-kept-there : (slots : List Slot) (n x : ℕ) → SlotIsThere slots n → is_undeleted_by x (the_slot slots n) ≡ true → IsKept slots n x
+pub kept-there : (slots : List Slot) (n x : ℕ) → SlotIsThere slots n → is_undeleted_by x (the_slot slots n) ≡ true → IsKept slots n x
 kept-there slots n x there e = by (the_slot slots n) (slot_at-there slots n there) e
   where
     by : (s : Slot) → slot_at slots n ≡ Some s → is_undeleted_by x s ≡ true → IsKept slots n x
@@ -46,7 +44,7 @@ none-committed w e = absurd (cc)
 none-given : (w : Window) → IsGiven w 0 → ⊥
 none-given w e = absurd (cc)
 
-kept-alive : (w : Window) (horizon x : ℕ) (h : Header) → ¬ IsAborted w x → h.xmin.0 ≡ x → h.xmax.0 ≡ 0 → IsDead w horizon h → ⊥
+pub kept-alive : (w : Window) (horizon x : ℕ) (h : Header) → ¬ IsAborted w x → h.xmin.0 ≡ x → h.xmax.0 ≡ 0 → IsDead w horizon h → ⊥
 kept-alive w horizon x h good made kept (IsDead.never_was thawed undone) = good (subst (IsAborted w) made undone)
 kept-alive w horizon x h good made kept (IsDead.is_past deleted past) = none-committed w (subst (IsCommitted w) kept deleted)
 
@@ -61,24 +59,13 @@ unreplaced true true c e = refl
 unreplaced false true c e = refl
 unreplaced a false c e = absurd (cc)
 
-kept-unreplaced : (w : Window) (h : Header) → h.xmax.0 ≡ 0 → is_replaced (has_aborted w) h ≡ false
+pub kept-unreplaced : (w : Window) (h : Header) → h.xmax.0 ≡ 0 → is_replaced (has_aborted w) h ≡ false
 kept-unreplaced w h kept = unreplaced (is_hot_updated h) (h.xmax.0 == 0) (not (has_aborted w h.xmax.0)) (ap (λ k. k == 0) kept)
 
-kept-header : (slots : List Slot) (n x : ℕ) (k : IsKept slots n x) → header_at slots n ≡ Some k.version.header
+pub kept-header : (slots : List Slot) (n x : ℕ) (k : IsKept slots n x) → header_at slots n ≡ Some k.version.header
 kept-header slots n x k = ap (option_map (λ (v : Version). v.header)) k.there
 
--- it plainly stays
-pub passed-stays : (w : Window) (horizon : ℕ) (slots : List Slot) (n x : ℕ) → ¬ IsAborted w x → SlotIsThere slots n → is_undeleted_by x (the_slot slots n) ≡ true
-    → StaysByEnds w horizon slots n × IsPlainAt w horizon slots n
-passed-stays w horizon slots n x good there e =
-    let k = kept-there slots n x there e in
-    let at = kept-header slots n x k in
-    let off = kept-unreplaced w k.version.header k.kept in (
-      (λ live. stays-version w horizon slots n k.version.header at off (kept-alive w horizon x k.version.header good k.made k.kept)),
-      (λ h is. let same : k.version.header ≡ h = sym (header-of slots n h k.version is k.there) in
-          (ap (is_replaced (has_aborted w)) (sym same) ∙ off, subst (λ g. ¬ IsDead w horizon g) same (kept-alive w horizon x k.version.header good k.made k.kept))),
-    )
-
+-- it is not dead, and may be from any turn on
 passed-lives : (w : Window) (horizon turn : ℕ) (slots : List Slot) (n x : ℕ) → ¬ IsAborted w x → SlotIsThere slots n → is_undeleted_by x (the_slot slots n) ≡ true
     → LivesAt w horizon turn slots n
 passed-lives w horizon turn slots n x good there e =

@@ -1,16 +1,13 @@
 -- Slots that plainly stay as they are.
-use Rattle.std.proofs.Common.{◌≡◌, ℕ, zero, suc, ◌+◌, ◌-◌, ◌<◌, ◌==◌, not, is_some, Bool, true, false, nat_eq, if◌then◌else◌, List, [], ◌∷◌, length, get_or, take, Option, Some, None, arith, ⊎_elim, sym, ap, ◌∙◌, refl, subst, slice_get}
+use Rattle.std.proofs.Common.{◌≡◌, ℕ, zero, suc, ◌+◌, ◌-◌, ◌==◌, true, nat_eq, if◌then◌else◌, List, [], ◌∷◌, length, get_or, take, Some, None, arith, ⊎_elim, sym, ap, ◌∙◌, refl, subst, slice_get}
 use Rattle.std.specs.List.{list_any}
-use Rattle.std.specs.Option.{option_map, option_and_then, unwrap_or}
-use Rattle.std.proofs.lemmas.Bool.{cases_lt, cases_Bool, eqb-true, cond-true, cond-false, and_parts, not-true}
+use Rattle.std.specs.Option.{option_map, option_and_then}
+use Rattle.std.proofs.lemmas.Bool.{cases_lt, cases_Bool, eqb-true, cond-true, cond-false}
 use Rattle.page_slots.specs.declared.slot.Slot.{Slot}
-use Rattle.page_slots.specs.declared.slot.Slot.TheVariants.{Unused, Normal, Redirect, Dead}
-use Rattle.page_slots.specs.Slots.{slot_at, version_at, header_at, redirect_at, target_of}
+use Rattle.page_slots.specs.Slots.{version_at, header_at}
 use Rattle.tuple_header.specs.Version.{Version}
-use Rattle.tuple_header.specs.declared.version.Header.{Header}
 use Rattle.commit_status.specs.Window.{Window}
-use Rattle.visibility.specs.Visible.{IsDead}
-use Rattle.hot_chain.specs.Chain.{has_aborted, is_replaced, first_of, next_in_chain, successor, start_in, IsChain}
+use Rattle.hot_chain.specs.Chain.{has_aborted, first_of, next_in_chain, successor, IsChain}
 use Rattle.hot_chain.proofs.Chains.{chain-one}
 use Rattle.prune.specs.declared.action.Action.TheVariants as action
 use Rattle.sound_page.specs.Dead.{IsDeadAt, HasDead}
@@ -19,10 +16,7 @@ use Rattle.sound_page.proofs.ChainPlaces.{first-normal, place-in_front}
 use Rattle.prune.specs.Cutting.{IsCutCount}
 use Rattle.prune.specs.Pruning.{chain_action, root_action, IsInChainOf}
 use Rattle.prune.specs.Marks.{NoneDead, PlainlyStays, ListsAllBut}
-use Rattle.prune.proofs.Cuts.{some-version, dead-there, dead-here}
-use Rattle.prune.specs.Glances.{is_end_in, is_end_at, AreEndsLive, StaysByEnds}
-use Rattle.tuple_header.specs.Marks.{is_heap_only}
-use Rattle.std.proofs.lemmas.Option.{same_Some}
+use Rattle.prune.proofs.Cuts.{dead-here}
 use Rattle.prune.proofs.Single.{single-chain, leads-nowhere}
 
 version-header : (slots : List Slot) (n : ℕ) (t : Version) → version_at slots n ≡ Some t → header_at slots n ≡ Some t.header
@@ -85,57 +79,6 @@ stays-chain_none w horizon slots n root cut chain stays i o = ⊎_elim
     (λ rest. cond-false (list_any (nat_eq n) (take cut chain)) (Some action.Unuse) None rest)
     (cases_Bool (list_any (nat_eq n) (take cut chain))))
     (cases_Bool (n == root))
-
--- How a glance tells it.
-
-pub stays-version : (w : Window) (horizon : ℕ) (slots : List Slot) (n : ℕ) (h : Header) → header_at slots n ≡ Some h → is_replaced (has_aborted w) h ≡ false → ¬ IsDead w horizon h
-    → PlainlyStays w horizon slots n
-stays-version w horizon slots n h at off alive start k first there =
-    let v = some-version (version_at slots n) h at in
-    let e : Some n ≡ Some start = sym (first-normal slots n v.0 v.1) ∙ first in
-    let same : h ≡ k = same_Some h k (sym at ∙ ap (header_at slots) (same_Some n start e) ∙ there) in
-    (ap (is_replaced (has_aborted w)) (sym same) ∙ off, subst (λ x. ¬ IsDead w horizon x) same alive)
-
-guarded : (b : Bool) (x y : ℕ) → (if b then Some x else None) ≡ Some y → x ≡ y
-guarded true x y e = same_Some x y e
-guarded false x y e = absurd (cc)
-
--- where its chain starts
-pub first-start : (slots : List Slot) (n start : ℕ) (o : Option Slot) → slot_at slots n ≡ o → option_and_then (start_in slots n) o ≡ Some start
-    → (unwrap_or (option_and_then target_of o) n) ≡ start
-first-start slots n start None at e = absurd (cc)
-first-start slots n start (Some Unused) at e = absurd (cc)
-first-start slots n start (Some (Normal t)) at e = same_Some n start e
-first-start slots n start (Some (Redirect k)) at e = guarded (is_some (version_at slots k)) k start e
-first-start slots n start (Some Dead) at e = absurd (cc)
-
--- where it leads to the end of a chain
-pub stays-redirect : (w : Window) (horizon : ℕ) (slots : List Slot) (n target : ℕ) → redirect_at slots n ≡ Some target → is_end_at w slots target ≡ true
-    → StaysByEnds w horizon slots n
-stays-redirect w horizon slots n target leads end live first k is there =
-    let at_first : target ≡ first = ap (λ o. unwrap_or o n) (sym leads) ∙ first-start slots n first (slot_at slots n) refl is in
-    let at : header_at slots target ≡ Some k = ap (header_at slots) at_first ∙ there in
-    let parts = end-parts k (ap (is_end_in w) (sym at) ∙ end) in
-    (parts, λ dead. live target end (dead-there w horizon slots target k at dead))
-  where
-    end-parts : (h : Header) → is_end_in w (Some h) ≡ true → is_replaced (has_aborted w) h ≡ false
-    end-parts h e = not-true (is_replaced (has_aborted w) h) (and_parts (is_heap_only h) (not (is_replaced (has_aborted w) h)) e).1
-
--- the ends of chains below a slot are live
-abbrev pub AreEndsLiveBelow : Window → ℕ → List Slot → ℕ → Type 0
-AreEndsLiveBelow w horizon slots bound = (n : ℕ) → n < bound → is_end_at w slots n ≡ true → ¬ IsDeadAt w horizon slots n
-
-pub ends-more : (w : Window) (horizon : ℕ) (slots : List Slot) (bound : ℕ) → AreEndsLiveBelow w horizon slots bound → (is_end_at w slots bound ≡ true → ¬ IsDeadAt w horizon slots bound)
-    → AreEndsLiveBelow w horizon slots (bound + 1)
-ends-more w horizon slots bound live here n lt end = ⊎_elim (λ below. live n below end)
-    (λ ge. let same : n ≡ bound = omega arith in
-    subst (λ k. is_end_at w slots k ≡ true → ¬ IsDeadAt w horizon slots k) (sym same) here end) (cases_lt n bound)
-
-pub ends-all : (w : Window) (horizon : ℕ) (slots : List Slot) (bound : ℕ) → length slots < bound → AreEndsLiveBelow w horizon slots bound → AreEndsLive w horizon slots
-ends-all w horizon slots bound past live n end dead =
-    let there = version-there slots n dead.version dead.there in
-    let within = there.1 in
-    live n (omega arith) end dead
 
 -- where all plainly stay, no version is dead
 pub stays-none : (w : Window) (horizon : ℕ) (slots : List Slot) (doubtful : List ℕ) → length doubtful == 0 ≡ true → ListsAllBut (PlainlyStays w horizon slots) 0 doubtful (length slots + 1)

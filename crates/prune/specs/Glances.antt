@@ -1,42 +1,34 @@
 -- What a glance at a slot tells.
-use Rattle.std.specs.Prelude.{◌≡◌, ℕ, ◌&&◌, not, Bool, true, false, List, slice_index_or, Option, Some, None}
+use Rattle.std.specs.Prelude.{◌≡◌, ℕ, ◌<◌, Bool, false, List, slice_index_or, Some}
 use Rattle.page_slots.specs.declared.slot.Slot.{Slot}
-use Rattle.page_slots.specs.Slots.{header_at, redirect_at}
+use Rattle.page_slots.specs.Slots.{header_at}
 use Rattle.tuple_header.specs.declared.version.Header.{Header}
-use Rattle.tuple_header.specs.Marks.{is_heap_only}
-use Rattle.hot_chain.specs.Chain.{has_aborted, is_replaced}
-use Rattle.commit_status.specs.Window.{Window}
-use Rattle.visibility.specs.Visible.{IsDead}
-use Rattle.sound_page.specs.Dead.{IsDeadAt}
-use Rattle.prune.specs.Marks.{PlainlyStays}
+use Rattle.hot_chain.specs.Chain.{first_of}
+use Rattle.commit_status.specs.Window.{Window, IsAborted}
+use Rattle.prune.specs.declared.glance.Glance.{Glance}
+use Rattle.prune.specs.declared.glance.Glance.TheVariants.{Doubtful, Stays, Holds}
 
-abbrev pub is_end_in : Window → Option Header → Bool
-is_end_in w None = false
-is_end_in w (Some h) = is_heap_only h && not (is_replaced (has_aborted w) h)
+-- nobody deleted the version, and its inserter was not aborted
+abbrev pub IsPlain : Window → Header → Type 0
+IsPlain w h = (h.xmax.0 ≡ 0) × ¬ IsAborted w h.xmin.0
 
--- the slot holds a heap-only version that no later one replaced
-abbrev pub is_end_at : Window → List Slot → ℕ → Bool
-is_end_at w slots n = is_end_in w (header_at slots n)
+-- so it is of the version in the slot, if there is one
+abbrev pub IsPlainAt : Window → List Slot → ℕ → Type 0
+IsPlainAt w slots n = (h : Header) → header_at slots n ≡ Some h → IsPlain w h
 
--- none of these is dead
-abbrev pub AreEndsLive : Window → ℕ → List Slot → Type 0
-AreEndsLive w horizon slots = (n : ℕ) → is_end_at w slots n ≡ true → ¬ IsDeadAt w horizon slots n
-
--- where none is, the slot plainly stays
-abbrev pub StaysByEnds : Window → ℕ → List Slot → ℕ → Type 0
-StaysByEnds w horizon slots n = AreEndsLive w horizon slots → PlainlyStays w horizon slots n
-
--- no later version replaced the one in the slot, if there is one, and it is not dead
-abbrev pub IsPlainAt : Window → ℕ → List Slot → ℕ → Type 0
-IsPlainAt w horizon slots n = (h : Header) → header_at slots n ≡ Some h → (is_replaced (has_aborted w) h ≡ false) × ¬ IsDead w horizon h
+-- and of the first version of the slot's chain
+abbrev pub StartsPlainly : Window → List Slot → ℕ → Type 0
+StartsPlainly w slots n = (start : ℕ) → first_of slots n ≡ Some start → IsPlainAt w slots start
 
 abbrev pub is_noted : List Bool → ℕ → Bool
 is_noted noted n = slice_index_or noted n false
 
--- so it is in each slot that is not noted
-abbrev pub ArePlainOrNoted : Window → ℕ → List Slot → List Bool → Type 0
-ArePlainOrNoted w horizon slots noted = (n : ℕ) → is_noted noted n ≡ false → IsPlainAt w horizon slots n
+-- each slot over this one is so, or is noted
+abbrev pub ArePlainOrNotedOver : Window → List Slot → List Bool → ℕ → Type 0
+ArePlainOrNotedOver w slots noted low = (n : ℕ) → low < n → is_noted noted n ≡ false → IsPlainAt w slots n
 
--- neither is the slot noted, nor where it leads
-abbrev pub LeadsToNoneNoted : List Slot → List Bool → ℕ → Type 0
-LeadsToNoneNoted slots noted n = (is_noted noted n ≡ false) × ((target : ℕ) → redirect_at slots n ≡ Some target → is_noted noted target ≡ false)
+-- the glance is right
+abbrev pub IsGlance : Window → List Slot → ℕ → Glance → Type 0
+IsGlance w slots n Doubtful = Unit {0}
+IsGlance w slots n Stays = StartsPlainly w slots n
+IsGlance w slots n (Holds x) = StartsPlainly w slots n × ¬ IsAborted w x.0

@@ -16,7 +16,7 @@ use visibility::{Fate, fate_of};
 use xid_circle::Xid;
 
 #[inline(always)]
-fn is_aborted(x: Xid, table: &StatusTable) -> bool
+pub(crate) fn is_aborted(x: Xid, table: &StatusTable) -> bool
     ensures { IsTrue result ↔ IsAborted table.now x.0 }
 {
     matches!(table.status(x), Status::Aborted)
@@ -90,7 +90,7 @@ pub(crate) struct Outlook {
 
 /// What they tell with one more, unless that is dead.
 #[inline(always)]
-pub(crate) fn outlook_with(
+fn outlook_with(
     header: &Header,
     so_far: Outlook,
     table: &StatusTable,
@@ -131,9 +131,9 @@ fn outlook_after(
 }
 
 /// Which slot is to be looked at after this one. Where its version has the inserter of one before, its neighbours may have it too:
-/// such a version, if nobody deleted it, is neither dead nor replaced, so a row of them is passed over.
+/// such a version, if nobody deleted it, is neither dead nor replaced, so a run of them is passed over.
 #[inline(always)]
-pub(crate) fn number_after(page: &Page, number: u16, before: Xid, known: Xid) -> u16
+fn number_after(page: &Page, number: u16, before: Xid, known: Xid) -> u16
     requires there { SlotIsThere page.now.slots number }
     ensures forward { number + 1 ≤ result }
     ensures upto { result ≤ length page.now.slots + 1 }

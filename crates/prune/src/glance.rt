@@ -1,15 +1,15 @@
 //! Which slots of a page need more than a glance before pruning: few on most pages, and only those are gone over again.
 
-ghost use Rattle.std.specs.Prelude.{◌≡◌, ◌+◌, ◌<◌, [], IfSome, IsTrue, IsFalse, length};
+ghost use Rattle.std.specs.Prelude.{◌≡◌, ◌+◌, ◌<◌, [], IsTrue, length, reverse};
 ghost use Rattle.commit_status.specs.Window.{IsAborted};
-ghost use Rattle.hot_chain.specs.Chain.{has_aborted, is_replaced};
+ghost use Rattle.page_slots.specs.Slots.{SlotIsThere};
 ghost use Rattle.prune.specs.Marks.{ListsAllBut, ListsDoubtful};
-ghost use Rattle.prune.specs.Glances.{is_end_at, StaysByEnds, IsPlainAt, ArePlainOrNoted, LeadsToNoneNoted};
+ghost use Rattle.prune.specs.Glances.{IsPlain, IsPlainAt, StartsPlainly, ArePlainOrNotedOver, IsGlance};
 
-use crate::dead::{Outlook, number_after, outlook_with};
+use crate::dead::is_aborted;
 use arrayvec::ArrayVec;
-use commit_status::{Status, StatusTable};
-use page_slots::Page;
+use commit_status::StatusTable;
+use page_slots::{Page, SlotHead};
 use tuple_header::Header;
 use xid_circle::Xid;
 
@@ -19,131 +19,121 @@ pub(crate) type Numbers = ArrayVec<u16, 292>;
 /// For each number from 0 to 291, whether its slot is noted.
 type Noted = [bool; 292];
 
-#[inline(always)]
-fn has_aborted(x: Xid, table: &StatusTable) -> bool
-    ensures { result ≡ has_aborted table.now x.0 }
-{
-    matches!(table.status(x), Status::Aborted)
+/// What a glance at a slot tells.
+#[derive(Clone, Copy, Debug)]
+pub(crate) enum Glance {
+    /// The slot needs a closer look.
+    Doubtful,
+    /// It plainly stays.
+    Stays,
+    /// It plainly stays, with a version of this inserter, which was not aborted.
+    Holds(Xid),
 }
 
-/// Whether a later version of its row replaced a version, by an update that may count.
+/// Whether nobody deleted a version, and its inserter was not aborted: so it is neither dead nor replaced at any horizon. Neighbours
+/// mostly have one inserter, so of one that is known as not aborted no status is looked up.
 #[inline(always)]
-fn is_replaced(header: &Header, table: &StatusTable) -> bool
-    ensures { result ≡ is_replaced (has_aborted table.now) header.now }
+fn is_plain(header: &Header, known: Xid, table: &StatusTable) -> bool
+    requires known { ¬ IsAborted table.now known.0 }
+    ensures { IsTrue result → IsPlain table.now header.now }
 {
-    header.is_hot_updated() && header.xmax.0 != 0 && !has_aborted(header.xmax, table)
+    header.xmax.0 == 0 && (header.xmin.0 == known.0 || !is_aborted(header.xmin, table))
 }
 
-/// Whether a slot holds a heap-only version that no later one replaced: the end of a chain of more than one, mostly.
-#[inline(always)]
-fn is_end_at(page: &Page, number: u16, table: &StatusTable) -> bool
-    ensures { result ≡ is_end_at table.now page.now.slots number }
+/// Whether the version in a slot is so, if there is one.
+#[inline(never)]
+fn is_plain_at(page: &Page, number: u16, table: &StatusTable) -> bool
+    ensures { IsTrue result → IsPlainAt table.now page.now.slots number }
 {
     match page.header(number) {
-        Some(header) => header.is_heap_only() && !is_replaced(&header, table),
-        None => false,
+        Some(header) => is_plain(&header, Xid(0), table),
+        None => true,
     }
 }
 
-/// What the versions so far tell with that of a slot, unless the slot needs a closer look. It needs none where the version is not
-/// dead and no later one replaced it. Nor does a redirect that leads to the end of a chain, as long as no such end is dead.
+/// Whether the version is so in the slot where this one leads. The slots over this one are noted, if they are not, and redirects
+/// mostly lead there: so the version is seldom looked at.
 #[inline(always)]
-fn glance(
-    page: &Page,
-    number: u16,
-    so_far: Outlook,
-    table: &StatusTable,
-    horizon: Xid,
-) -> Option<Outlook>
-    requires known { ¬ IsAborted table.now so_far.known.0 }
-    ensures { IfSome result
-        (λ outlook. StaysByEnds table.now horizon.0 page.now.slots number
-        × IsPlainAt table.now horizon.0 page.now.slots number
-        × ¬ IsAborted table.now outlook.known.0) }
+fn leads_plainly(page: &Page, number: u16, target: u16, noted: &Noted, table: &StatusTable) -> bool
+    requires noted { ArePlainOrNotedOver table.now page.now.slots noted.now number }
+    ensures { IsTrue result → IsPlainAt table.now page.now.slots target }
 {
-    match page.header(number) {
-        Some(header) if is_replaced(&header, table) => None,
-        Some(header) => outlook_with(&header, so_far, table, horizon),
-        None => match page.redirect(number) {
-            Some(target) if !is_end_at(page, target, table) => None,
-            _ => Some(so_far),
-        },
+    let _limit = page.slots();
+    if target <= number {
+        is_plain_at(page, target, table)
+    } else if target < 292 {
+        !noted[usize::from(target)]
+    } else {
+        true
     }
 }
 
-/// Lists and notes the slots that need a closer look, and answers whether all others plainly stay: where none of the ends of
-/// chains is dead. The list is empty before.
-fn list_at_a_glance(
-    doubtful: &mut Numbers,
-    noted: &mut Noted,
-    page: &Page,
-    table: &StatusTable,
-    horizon: Xid,
-) -> bool
-    requires blank { doubtful.old.items ≡ [] }
-    ensures stay { IsTrue result
-        → ListsDoubtful table.now horizon.0 page.now.slots doubtful.new.items }
-    ensures noted { ArePlainOrNoted table.now horizon.0 page.now.slots noted.new }
+/// What a glance tells of a slot, if those over it that need a closer look are noted.
+#[inline(always)]
+fn glance_at(page: &Page, number: u16, noted: &Noted, known: Xid, table: &StatusTable) -> Glance
+    requires there { SlotIsThere page.now.slots number }
+    requires known { ¬ IsAborted table.now known.0 }
+    requires noted { ArePlainOrNotedOver table.now page.now.slots noted.now number }
+    ensures { IsGlance table.now page.now.slots number result }
 {
-    // 0 is no id, so it was not aborted; and of the deleters' turns nothing is asked here.
-    let mut outlook = Outlook {
-        known: Xid(0),
-        turn: 0,
-    };
-    let mut are_ends_live = true;
-    let mut number = 1;
-    while number <= page.slots() {
-        let before = outlook.known;
-        match glance(page, number, outlook, table, horizon) {
-            Some(next) => outlook = next,
-            None => {
-                doubtful.push(number);
-                noted[usize::from(number)] = true;
-                are_ends_live = are_ends_live && !is_end_at(page, number, table);
+    match page.head(number) {
+        SlotHead::Version(header) => {
+            if is_plain(&header, known, table) {
+                Glance::Holds(header.xmin)
+            } else {
+                Glance::Doubtful
             }
         }
-        number = number_after(page, number, before, outlook.known);
-    }
-    are_ends_live
-}
-
-/// Whether a slot is noted, or leads to one that is.
-fn leads_to_noted(page: &Page, noted: &Noted, number: u16) -> bool
-    requires { number < 292 }
-    ensures { IsFalse result → LeadsToNoneNoted page.now.slots noted.now number }
-{
-    if noted[usize::from(number)] {
-        return true;
-    }
-    match page.redirect(number) {
-        Some(target) if target < 292 => noted[usize::from(target)],
-        _ => false,
+        SlotHead::Redirect(target) => {
+            if leads_plainly(page, number, target, noted, table) {
+                Glance::Stays
+            } else {
+                Glance::Doubtful
+            }
+        }
+        SlotHead::Bare => Glance::Stays,
     }
 }
 
-/// Lists the slots that are noted, or lead to one that is. The list is empty before.
-fn list_noted(doubtful: &mut Numbers, noted: &Noted, page: &Page)
+/// Lists the slots that need a closer look, from the last to the first: so a redirect mostly comes after the slot where it leads.
+/// The list is empty before.
+#[inline(always)]
+fn list_backwards(doubtful: &mut Numbers, page: &Page, table: &StatusTable)
     requires blank { doubtful.old.items ≡ [] }
     ensures { ListsAllBut
-        (LeadsToNoneNoted page.now.slots noted.now) 0 doubtful.new.items
+        (StartsPlainly table.now page.now.slots) 0 (reverse doubtful.new.items)
         (length page.now.slots + 1) }
 {
-    for number in 1..page.slots() + 1 {
-        if leads_to_noted(page, noted, number) {
-            doubtful.push(number);
+    let mut noted = [false; 292];
+    // 0 is no id, so it was not aborted.
+    let mut known = Xid(0);
+    let mut number = page.slots();
+    while number > 0 {
+        match glance_at(page, number, &noted, known, table) {
+            Glance::Stays => number -= 1,
+            Glance::Holds(inserter) => {
+                if inserter.0 == known.0 {
+                    number = page.last_unlike(number - 1, known);
+                } else {
+                    known = inserter;
+                    number -= 1;
+                }
+            }
+            Glance::Doubtful => {
+                doubtful.push(number);
+                noted[usize::from(number)] = true;
+                number -= 1;
+            }
         }
     }
 }
 
-/// Lists the slots of a page that do not plainly stay: few where pruning finds little, and none where no version is dead or
-/// replaced. The list is empty before.
+/// Lists the slots of a page that do not plainly stay: few where pruning finds little, and none where each version is undeleted
+/// and not rolled back. The list is empty before.
 pub(crate) fn list_doubtful(doubtful: &mut Numbers, page: &Page, table: &StatusTable, horizon: Xid)
     requires blank { doubtful.old.items ≡ [] }
     ensures { ListsDoubtful table.now horizon.0 page.now.slots doubtful.new.items }
 {
-    let mut noted = [false; 292];
-    if !list_at_a_glance(doubtful, &mut noted, page, table, horizon) {
-        doubtful.clear();
-        list_noted(doubtful, &noted, page);
-    }
+    list_backwards(doubtful, page, table);
+    doubtful.as_mut_slice().reverse();
 }
