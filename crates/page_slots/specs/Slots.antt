@@ -56,10 +56,10 @@ target_of Dead = None
 
 -- what a slot tells without its row
 abbrev pub head_of : Slot → SlotHead
-head_of Unused = head.Bare
+head_of Unused = head.Empty
 head_of (Normal t) = head.Version t.header
 head_of (Redirect target) = head.Redirect target
-head_of Dead = head.Bare
+head_of Dead = head.Empty
 
 -- What stands at a number.
 

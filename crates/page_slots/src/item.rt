@@ -135,7 +135,7 @@ impl Item {
             Item::Normal(stored) => SlotHead::Version(stored.header),
             _ => match self {
                 Item::Redirect(target) => SlotHead::Redirect(*target),
-                _ => SlotHead::Bare,
+                _ => SlotHead::Empty,
             },
         }
     }

@@ -23,5 +23,5 @@ pub enum SlotHead {
     /// Where it leads.
     Redirect(u16),
     /// That it holds nothing, and leads nowhere.
-    Bare,
+    Empty,
 }

@@ -6,7 +6,7 @@ use Rattle.tuple_header.specs.declared.version.Header.{Header}
 use Rattle.hot_chain.specs.Chain.{first_of}
 use Rattle.commit_status.specs.Window.{Window, IsAborted}
 use Rattle.prune.specs.declared.glance.Glance.{Glance}
-use Rattle.prune.specs.declared.glance.Glance.TheVariants.{Doubtful, Stays, Holds}
+use Rattle.prune.specs.declared.glance.Glance.TheVariants.{Doubtful, Stays, PlainVersion}
 
 -- nobody deleted the version, and its inserter was not aborted
 abbrev pub IsPlain : Window → Header → Type 0
@@ -31,4 +31,4 @@ ArePlainOrNotedOver w slots noted low = (n : ℕ) → low < n → is_noted noted
 abbrev pub IsGlance : Window → List Slot → ℕ → Glance → Type 0
 IsGlance w slots n Doubtful = Unit {0}
 IsGlance w slots n Stays = StartsPlainly w slots n
-IsGlance w slots n (Holds x) = StartsPlainly w slots n × ¬ IsAborted w x.0
+IsGlance w slots n (PlainVersion x) = StartsPlainly w slots n × ¬ IsAborted w x.0

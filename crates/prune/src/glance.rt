@@ -27,7 +27,7 @@ pub(crate) enum Glance {
     /// It plainly stays.
     Stays,
     /// It plainly stays, with a version of this inserter, which was not aborted.
-    Holds(Xid),
+    PlainVersion(Xid),
 }
 
 /// Whether nobody deleted a version, and its inserter was not aborted: so it is neither dead nor replaced at any horizon. Neighbours
@@ -79,7 +79,7 @@ fn glance_at(page: &Page, number: u16, noted: &Noted, known: Xid, table: &Status
     match page.head(number) {
         SlotHead::Version(header) => {
             if is_plain(&header, known, table) {
-                Glance::Holds(header.xmin)
+                Glance::PlainVersion(header.xmin)
             } else {
                 Glance::Doubtful
             }
@@ -91,7 +91,7 @@ fn glance_at(page: &Page, number: u16, noted: &Noted, known: Xid, table: &Status
                 Glance::Doubtful
             }
         }
-        SlotHead::Bare => Glance::Stays,
+        SlotHead::Empty => Glance::Stays,
     }
 }
 
@@ -111,7 +111,7 @@ fn list_backwards(doubtful: &mut Numbers, page: &Page, table: &StatusTable)
     while number > 0 {
         match glance_at(page, number, &noted, known, table) {
             Glance::Stays => number -= 1,
-            Glance::Holds(inserter) => {
+            Glance::PlainVersion(inserter) => {
                 if inserter.0 == known.0 {
                     number = page.last_unlike(number - 1, known);
                 } else {

@@ -15,12 +15,12 @@ loop-number-preserved-then-inserter-known c =
     let slots = c.args.page.now.slots in
     glancing-passed w slots c.loop-number.doubtful.items c.loop-number.noted c.loop-number.known.0 (c.loop-number.number - 1) c.last_unlike-number.result
     c.last_unlike-number.ensures.bound c.last_unlike-number.ensures.passed
-    (glancing-more w slots c.loop-number.doubtful.items c.loop-number.noted c.loop-number.known.0 c.loop-number.known.0 c.loop-number.number g c.in-Holds.ensures.0 g.unaborted)
+    (glancing-more w slots c.loop-number.doubtful.items c.loop-number.noted c.loop-number.known.0 c.loop-number.known.0 c.loop-number.number g c.in-PlainVersion.ensures.0 g.unaborted)
 
 pub loop-number-preserved-else-inserter-known : goal.loop-number-preserved-else-inserter-known
 loop-number-preserved-else-inserter-known c =
-    glancing-more c.args.table.now c.args.page.now.slots c.loop-number.doubtful.items c.loop-number.noted c.loop-number.known.0 c.in-Holds.inserter.0 c.loop-number.number
-    c.loop-number.invariant c.in-Holds.ensures.0 c.in-Holds.ensures.1
+    glancing-more c.args.table.now c.args.page.now.slots c.loop-number.doubtful.items c.loop-number.noted c.loop-number.known.0 c.in-PlainVersion.inserter.0 c.loop-number.number
+    c.loop-number.invariant c.in-PlainVersion.ensures.0 c.in-PlainVersion.ensures.1
 
 pub loop-number-preserved : goal.loop-number-preserved
 loop-number-preserved c =
