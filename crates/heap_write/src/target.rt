@@ -1,6 +1,6 @@
 //! Where a new root goes, with the memory that it takes.
 
-ghost use Rattle.std.specs.Prelude.{◌≡◌, ◌≤◌, ◌<◌, length, IfOk, IfSome, OnOk, OnErr};
+ghost use Rattle.std.specs.Prelude.{◌≡◌, ◌≤◌, ◌<◌, length, IsTrue, IsFalse, IfOk, IfSome, OnOk, OnErr};
 ghost use Rattle.xid_circle.specs.Circle.{IsNormal};
 ghost use Rattle.page_slots.specs.Slots.{room_of, free_number, next_change};
 ghost use Rattle.tuple_writes.specs.Writes.{with_root};
@@ -22,20 +22,27 @@ use xid_circle::{Tid, Xid};
 pub(crate) enum Target {
     /// On the page of this number.
     Page(u32),
-    /// On this page, which is to come after all others.
-    New(Page),
+    /// On this page, which is to come after all others. It is boxed, for mostly there is none: so a target is moved at no cost.
+    New(Box<Page>),
 }
 
-/// Makes room in memory for one more slot where none is unused, and there may be one more.
-fn make_slot(page: &mut Page) -> Result<(), AllocError>
+/// Makes room in memory for the slots of a page that has none.
+fn make_slots(page: &mut Page) -> Result<(), AllocError>
+    requires none { length page.old.slots ≡ 0 }
     ensures same { SamePage page.old page.new }
     ensures room { OnOk result (HasSlot page.new) }
     ensures needs { OnErr result (NeedsSlot page.old) }
 {
-    if page.free_number() <= page.slots() || page.slots() >= MOST_SLOTS {
-        return Ok(());
-    }
     page.make_room(1)
+}
+
+/// Whether a page has a slot, and so memory for all that it may have.
+fn has_slots(page: &Page) -> bool
+    ensures some { IsTrue result → HasSlot page.now }
+    ensures none { IsFalse result → length page.now.slots ≡ 0 }
+{
+    page.has_memory();
+    page.slots() > 0
 }
 
 /// Makes room in memory for one more slot on the page of this number, which is in use.
@@ -45,18 +52,19 @@ pub(crate) fn reserve_slot(pages: &mut Pages, number: u32) -> Result<(), AllocEr
     ensures grows { OnOk result (GrowsPage pages.old pages.new number) }
     ensures needs { OnErr result (NeedsSlot (page_in pages.old.pages number)) }
 {
-    pages.edit(number, |page| make_slot(page))
+    match pages.page(number) {
+        Some(page) if has_slots(page) => Ok(()),
+        _ => pages.edit(number, |page| make_slots(page)),
+    }
 }
 
 /// A page that was never used, with room in memory for a slot.
-fn fresh_page(alloc: Global) -> Result<Page, AllocError>
-    ensures { IfOk result (λ page. IsFreshPage page) }
+fn fresh_page(alloc: Global) -> Result<Box<Page>, AllocError>
+    ensures { IfOk result (λ page. IsFreshPage page.value) }
 {
     let mut page = Page::new(alloc);
-    match page.make_room(1) {
-        Ok(()) => Ok(page),
-        Err(fault) => Err(fault),
-    }
+    page.make_room(1)?;
+    Ok(Box::new(alloc, page)?)
 }
 
 /// Makes room in memory for one more page and the hint on it, and answers the page.
@@ -64,8 +72,8 @@ fn reserve_page(
     alloc: Global,
     pages: &mut Pages,
     hints: &mut PruneHints,
-) -> Result<Page, AllocError>
-    ensures fresh { IfOk result (λ page. IsFreshPage page) }
+) -> Result<Box<Page>, AllocError>
+    ensures fresh { IfOk result (λ page. IsFreshPage page.value) }
     ensures room { OnOk result (0 < pages.new.spare) }
     ensures pages { pages.new.pages ≡ pages.old.pages }
     ensures marks { pages.new.marks ≡ pages.old.marks }
@@ -145,7 +153,8 @@ pub(crate) fn put_version(
             let slot = pages.write(number, |page| add_root(page, number, updated, x, row));
             Tid { page: number, slot }
         }
-        Target::New(mut page) => {
+        Target::New(page) => {
+            let mut page = Box::into_inner(page);
             let number = pages.len();
             let slot = add_root(&mut page, number, updated, x, row);
             pages.push_page(page);

@@ -340,6 +340,14 @@ impl Page {
         self.slots.make_room(count)
     }
 
+    /// That a page with a slot has memory for all that it may have. It does nothing; its contract is the fact.
+    pub fn has_memory(&self)
+        ensures { 0 < length self.now.slots
+            → (0 < self.now.spare) ⊎ (MOST_SLOTS ≤ length self.now.slots) }
+    {
+        self.slots.has_memory()
+    }
+
     /// Gives the version in the slot of this number, which is there and normal, another header, which has no fault. The
     /// change number is raised where the header differs otherwise than in hints.
     pub fn set_header(&mut self, number: u16, header: Header)

@@ -221,6 +221,14 @@ impl Store {
         0
     }
 
+    /// That with a slot there is memory for all that a page may have. It does nothing; its contract is the fact.
+    pub(crate) fn has_memory(&self)
+        ensures { 0 < length self.now.slots
+            → (0 < self.now.spare) ⊎ (MOST_SLOTS ≤ length self.now.slots) }
+    {
+        let (_items, _bytes) = (self.items.len(), self.bytes.len());
+    }
+
     /// Makes room in memory for `count` more slots, and for all bodies. The list of slots gets room for as many as a page may
     /// have at once, so that it is not copied when it grows, and nothing more is asked for once there is a slot.
     pub(crate) fn make_room(&mut self, count: usize) -> Result<(), AllocError>
