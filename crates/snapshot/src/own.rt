@@ -25,16 +25,16 @@ pub enum SaveFault {
 }
 
 /// The ids of an open transaction that are not rolled back, in order of giving: the first is the topmost. Marks
-/// remember how many there were at each savepoint.
+/// remember how many there were at each savepoint. The first four ids, and the first four marks, take no memory.
 #[derive(Drop)]
 pub struct OwnIds {
-    ids: Vec<Xid>,
+    ids: SmallVec<Xid, 4>,
     // how many ids there were at each savepoint, the oldest first
     marks: SmallVec<usize, 4>,
 }
 
 impl Model for OwnIds {
-    ghost use Rattle.std.specs.Prelude.{◌-◌, ◌≤◌, length, reverse, vec_len, vec_capacity};
+    ghost use Rattle.std.specs.Prelude.{◌-◌, ◌≤◌, length, reverse};
     ghost use Rattle.commit_status.specs.Changes.{numbers};
     ghost use Rattle.snapshot.specs.Own.{Own, prefixes, AreMarks, AreNormal};
     ghost use Rattle.snapshot.specs.declared.own.TheConstants.{MOST_SAVEPOINTS};
@@ -44,7 +44,7 @@ impl Model for OwnIds {
     ghost view = { λ o. record {
       ids = numbers o.ids.items;
       saved = prefixes (numbers o.ids.items) (reverse o.marks.items);
-      spare = vec_capacity o.ids - vec_len o.ids;
+      spare = o.ids.capacity - length o.ids.items;
       spare_marks = o.marks.capacity - length o.marks.items;
     } };
 
@@ -56,10 +56,11 @@ impl OwnIds {
     pub fn new(alloc: Global) -> Self
         ensures ids { result.ids ≡ [] }
         ensures saved { result.saved ≡ [] }
+        ensures spare { result.spare ≡ 4 }
         ensures spare_marks { result.spare_marks ≡ 4 }
     {
         OwnIds {
-            ids: Vec::new(alloc),
+            ids: SmallVec::new(alloc),
             marks: SmallVec::new(alloc),
         }
     }
@@ -102,6 +103,8 @@ impl OwnIds {
         ensures saved { self.new.saved ≡ self.old.saved }
         ensures spare_marks { self.new.spare_marks ≡ self.old.spare_marks }
     {
+        // it says that the ids fit
+        let _ = self.ids.len();
         self.ids.reserve(count)
     }
 

@@ -10,8 +10,8 @@
 ghost use Rattle.std.specs.Prelude.{◌≡◌, IsTrue, ◌↔◌};
 ghost use Rattle.xid_circle.specs.Circle.{distance_of, IsNormal, next_of, Precedes, OrderIsThatOfGiving};
 
-/// A transaction id. 0, 1 and 2 are no ids of transactions; all others are normal.
-#[derive(Clone, Copy, Debug, PartialEq, Eq)]
+/// A transaction id. 0, 1 and 2 are no ids of transactions; all others are normal. The default is 0, [`Xid::INVALID`].
+#[derive(Clone, Copy, Debug, Default, PartialEq, Eq)]
 pub struct Xid(pub u32);
 
 impl Xid {

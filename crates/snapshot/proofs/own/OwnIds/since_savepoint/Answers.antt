@@ -10,7 +10,7 @@ returns c =
     let ids = c.self.inside.ids.items in
     let count = c.newest_mark-count.result in
     let rest : numbers (take (length c.deref.result.now - count) (drop count c.deref.result.now)) ≡ drop count c.args.self.now.ids =
-    ap numbers (take_rest c.deref.result.now count) ∙ ap (λ xs. numbers (drop count xs)) c.deref.ensures.value
+    ap numbers (take_rest c.deref.result.now count) ∙ ap (λ xs. numbers (drop count xs)) c.deref.ensures
     ∙ sym (drop-map (λ (x : Xid). x.0) count ids) ∙ ap (λ (o : Own). drop count o.ids) c.self.view_is in
     sym (take-append-drop count c.args.self.now.ids)
     ∙ ap (λ xs. xs ++ drop count c.args.self.now.ids) (sym c.newest_mark-count.ensures.value)
