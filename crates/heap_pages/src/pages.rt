@@ -163,9 +163,11 @@ impl Pages {
 
     /// The first page whose free-space byte promises room for a version of this size, if there is one; else a new page is
     /// needed, or a page whose exact room is enough. The size is in bytes, as [`tuple_header::row_size`] counts them. It
-    /// looks at the free space map alone: at its 256 groups at most, and at the 256 bytes of one.
-    pub fn page_for(&self, size: usize) -> Option<u32>
-        ensures { FindsFirstPage self.now.pages (Promises size) result }
+    /// looks at the free space map alone: at its 256 groups at most, and at the bytes of two. The map remembers where the
+    /// look-up ended; nothing else changes.
+    pub fn page_for(&mut self, size: usize) -> Option<u32>
+        ensures found { FindsFirstPage self.old.pages (Promises size) result }
+        ensures same { self.new ≡ self.old }
     {
         self.free.find(size)
     }
@@ -180,9 +182,10 @@ impl Pages {
 
     /// Where a new version of this size goes, where at most `limit` pages may be in use: to the first page whose free-space
     /// byte promises the room; else to a new page; else, where there may be none, to the first page in which it fits. The
-    /// size is in bytes, as [`tuple_header::row_size`] counts them.
-    pub fn place_for(&self, size: usize, limit: u32) -> Placement
-        ensures { IsPlaceFor self.now.pages limit size result }
+    /// size is in bytes, as [`tuple_header::row_size`] counts them. Nothing changes but what the map remembers.
+    pub fn place_for(&mut self, size: usize, limit: u32) -> Placement
+        ensures place { IsPlaceFor self.old.pages limit size result }
+        ensures same { self.new ≡ self.old }
     {
         if let Some(number) = self.page_for(size) {
             return Placement::Page(number);

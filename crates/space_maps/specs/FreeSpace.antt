@@ -23,6 +23,11 @@ pub record IsMap (tops bytes : List ℕ) : Type 0 where
 abbrev pub NoByte : List ℕ → ℕ → ℕ → ℕ → Type 0
 NoByte bytes from to least = (k : ℕ) → from ≤ k → k < to → slice_index bytes k < least
 
+-- what the map remembers of its last look-up: all bytes before that of this page are below this one
+pub record IsPassed (bytes : List ℕ) (before least : ℕ) : Type 0 where
+  pub within : before ≤ length bytes
+  pub none : NoByte bytes 0 before least
+
 -- the first of these numbers whose byte isn't below this one
 pub record IsNextByte (bytes : List ℕ) (from to least n : ℕ) : Type 0 where
   pub after : from ≤ n

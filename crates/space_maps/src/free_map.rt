@@ -19,23 +19,27 @@ const RUN: usize = 16;
 
 /// A byte for each of at most 65536 pages. The next one that is large enough is found by a look at 256 groups at most, and at
 /// the bytes of that in which it begins and of that which has it, in runs. PostgreSQL keeps a tree of such bytes
-/// (src/backend/storage/freespace/README); this one has two levels, as many as 65536 pages need.
+/// (src/backend/storage/freespace/README); this one has two levels, as many as 65536 pages need. As PostgreSQL remembers the page
+/// that took a table's last version (RelationGetTargetBlock), the map remembers where its last look-up ended.
 #[derive(Debug, Drop)]
 pub struct FreeMap {
     bytes: Vec<u8>,
     // the greatest byte of each group, 0 where it has none
     tops: [u8; 256],
+    // No byte before that of the page `before` is `least` or more: one memory for all sizes.
+    before: u32,
+    least: u8,
 }
 
 impl Model for FreeMap {
     ghost use Rattle.std.specs.Prelude.{◌-◌, vec_len, vec_capacity};
-    ghost use Rattle.space_maps.specs.FreeSpace.{FreeView, IsMap};
+    ghost use Rattle.space_maps.specs.FreeSpace.{FreeView, IsMap, IsPassed};
 
     ghost Value = { FreeView };
 
     ghost view = { λ m. record { bytes = m.bytes.items; spare = vec_capacity m.bytes - vec_len m.bytes } };
 
-    ghost invariant = { λ m. IsMap m.tops m.bytes.items };
+    ghost invariant = { λ m. IsMap m.tops m.bytes.items × IsPassed m.bytes.items m.before m.least };
 }
 
 impl FreeMap {
@@ -46,6 +50,8 @@ impl FreeMap {
         FreeMap {
             bytes: Vec::new(alloc),
             tops: [0; 256],
+            before: 0,
+            least: 0,
         }
     }
 
@@ -85,6 +91,9 @@ impl FreeMap {
         ensures bytes { self.new.bytes ≡ slice_set self.old.bytes number byte }
         ensures spare { self.new.spare ≡ self.old.spare }
     {
+        if byte >= self.least && number < self.before {
+            self.before = number;
+        }
         let index = number as usize;
         let group = index / GROUP;
         let half = self.tops[group] / 2;
@@ -99,16 +108,53 @@ impl FreeMap {
     }
 
     /// The first page whose byte promises room for a version of this size in bytes: that it holds 32 bytes as often as the size
-    /// needs.
-    pub fn find(&self, size: usize) -> Option<u32>
-        ensures { FindsRoom self.now.bytes size result }
+    /// needs. No byte changes. It begins where the last look-up ended, if that was for a version as large or smaller, else at
+    /// page 0: so where two sizes alternate, every second look-up does.
+    pub fn find(&mut self, size: usize) -> Option<u32>
+        ensures found { FindsRoom self.old.bytes size result }
+        ensures same { self.new ≡ self.old }
     {
         let _bytes = self.bytes.len();
         let least = size.div_ceil(UNIT);
         if least > MOST {
             return None;
         }
-        self.next(0, least as u8)
+        self.find_byte(least as u8)
+    }
+
+    // The first page whose byte is `least` or more, if there is one. The next look-up begins there.
+    fn find_byte(&mut self, least: u8) -> Option<u32>
+        ensures found { FindsNextByte self.old.bytes 0 (length self.old.bytes) least result }
+        ensures same { self.new ≡ self.old }
+    {
+        let found = self.next_at_once(self.start_of(least), least);
+        self.remember(least, found);
+        found
+    }
+
+    // Where a look-up begins: no page before that has a byte that is `least` or more.
+    fn start_of(&self, least: u8) -> u32
+        ensures { NoByte self.now.bytes 0 result least }
+    {
+        if least < self.least { 0 } else { self.before }
+    }
+
+    // The same as `next`, in a few instructions where the page of this number is the one.
+    fn next_at_once(&self, from: u32, least: u8) -> Option<u32>
+        ensures { FindsNextByte self.now.bytes from (length self.now.bytes) least result }
+    {
+        match self.byte(from) {
+            Some(byte) if byte >= least => Some(from),
+            _ => self.next(from, least),
+        }
+    }
+
+    fn remember(&mut self, least: u8, found: Option<u32>)
+        requires { FindsNextByte self.old.bytes 0 (length self.old.bytes) least found }
+        ensures { self.new ≡ self.old }
+    {
+        self.before = found.unwrap_or(self.bytes.len() as u32);
+        self.least = least;
     }
 
     /// The first page from this number on whose byte is `least` or more, if there is one.

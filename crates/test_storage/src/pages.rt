@@ -105,7 +105,7 @@ fn page_at(pages: &Pages, number: u32) -> Option<(bool, u8)> {
 
 impl PagesStep {
     /// What of the pages is asked for.
-    fn is_seen(self, pages: &Pages) -> bool {
+    fn is_seen(self, pages: &mut Pages) -> bool {
         match self {
             PagesStep::Count(count) => pages.len() == count,
             PagesStep::Page(number, page) => page_at(pages, number) == page,
