@@ -149,6 +149,7 @@ impl FreeMap {
         }
     }
 
+    // Notes how a look-up for `least` ended.
     fn remember(&mut self, least: u8, found: Option<u32>)
         requires { FindsNextByte self.old.bytes 0 (length self.old.bytes) least found }
         ensures { self.new ≡ self.old }
