@@ -8,7 +8,7 @@ ghost use Rattle.index_lookup.specs.Pages.{page_slots_of};
 ghost use Rattle.index_lookup.specs.Reading.{IsSeenBy};
 ghost use Rattle.index_lookup.specs.Walking.{ComesAfter, last_at, StartsIn, LiesIn, NextRow};
 
-use crate::lookup::row_from;
+use crate::lookup::{row_from, with_hint};
 use crate::reader::{Reader, TableView};
 use root_index::{Entry, PositionHint, RootIndex};
 use tuple_header::RowRef;
@@ -137,7 +137,7 @@ fn from_low(index: &RootIndex, span: &IndexRange) -> Option<(Entry, PositionHint
     ensures { IsLeast index.now.entries (λ e. ¬ IsBelow span.now.low 0 e)
         (option_map (λ found. found.0) result) }
 {
-    index.first_from(span.low(), 0)
+    with_hint(index.first_from(span.low(), 0))
 }
 
 /// The first entry that is not below the span's low value, and comes after its last place, and where it stood.

@@ -13,10 +13,20 @@ use crate::reader::{Reader, TableView};
 use arrayvec::ArrayVec;
 use heap_pages::Pages;
 use hot_chain::{first_seen, list_chain};
-use root_index::{Entry, PositionHint, RootIndex};
+use root_index::{Entry, LookUp, PositionHint, RootIndex};
 use tuple_header::RowRef;
 use visibility::visible_header;
 use xid_circle::Tid;
+
+/// The entry that a look-up found, if it found one, and where it stood.
+pub(crate) fn with_hint(look_up: LookUp) -> Option<(Entry, PositionHint)>
+    ensures { option_map (λ found. found.0) result ≡ look_up.found }
+{
+    match look_up.found {
+        Some(entry) => Some((entry, look_up.near)),
+        None => None,
+    }
+}
 
 /// An entry, if it is of this value and this key, and where it stood.
 fn only_of(
@@ -53,7 +63,7 @@ pub(crate) fn next_of(
         (option_map (λ found. found.0) result) }
 {
     match from {
-        None => only_of(index.first_from(value, key), value, key),
+        None => only_of(with_hint(index.first_from(value, key)), value, key),
         Some((entry, near)) => only_of(index.next_near(entry, near), value, key),
     }
 }

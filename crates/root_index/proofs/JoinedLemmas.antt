@@ -165,7 +165,7 @@ none_there [] i none = omega arith
 none_there (x ∷ xs) zero none = absurd (cc none)
 none_there (x ∷ xs) (suc i) none = let rest = none_there xs i none in omega arith
 
-behind_list : (ls : List (List Entry)) (p : Place) (l : List Entry) → IsPlaceIn ls p → slice_get ls p.list ≡ Some l → slice_get l p.entry ≡ None
+pub behind_list : (ls : List (List Entry)) (p : Place) (l : List Entry) → IsPlaceIn ls p → slice_get ls p.list ≡ Some l → slice_get l p.entry ≡ None
     → rank ls p ≡ start ls (p.list + 1)
 behind_list ls p l in_range at none =
     let within = slice_get_within ls p.list l at in

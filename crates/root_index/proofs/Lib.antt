@@ -1,6 +1,7 @@
 pub mod BoundLemmas
 pub mod BracketLemmas
 pub mod EditLemmas
+pub mod EndLemmas
 pub mod FullLemmas
 pub mod JoinedLemmas
 pub mod LookUpLemmas

@@ -1,5 +1,5 @@
 -- What calls do to the set of entries, and what they look for in it.
-use Rattle.std.specs.Prelude.{◌≡◌, ◌↔◌, ◌⊎◌, ◌<◌, ◌<ℤ◌, ℕ, ℤ, List, ◌≤◌, length, slice_get, Option, Some, None, Contains}
+use Rattle.std.specs.Prelude.{◌≡◌, ◌↔◌, ◌⊎◌, ◌<◌, ◌<ℤ◌, ◌+◌, ℕ, ℤ, List, ◌≤◌, length, slice_get, Option, Some, None, IsSomeAnd, Contains}
 use Rattle.xid_circle.specs.declared.Tid.{Tid}
 use Rattle.root_index.specs.declared.entry.Entry.{Entry}
 use Rattle.root_index.specs.Order.{EntryPrecedes, IsAscending}
@@ -32,11 +32,19 @@ IsBelow value key e = (e.value <ℤ value) ⊎ ((e.value ≡ value) × (e.key < 
 abbrev pub IsOf : ℤ → ℕ → Entry → Type 0
 IsOf value key e = (e.value ≡ value) × (e.key ≡ key)
 
+-- no other entry of its value and its key comes after this one
+abbrev pub IsLastOf : List Entry → Entry → Type 0
+IsLastOf entries last = (e : Entry) → Contains entries e → IsOf last.value last.key e → ¬ EntryPrecedes last e
+
 -- Places in the list, counted from 0.
 
 -- the entry stands at this place
 abbrev pub IsAt : List Entry → Entry → ℕ → Type 0
 IsAt entries entry i = slice_get entries i ≡ Some entry
+
+-- the one behind this place is of another value or another key than this entry
+abbrev pub IsEndAt : List Entry → Entry → ℕ → Type 0
+IsEndAt entries entry i = IsSomeAnd (slice_get entries (i + 1)) (λ next. ¬ IsOf entry.value entry.key next)
 
 -- the entries from this place on have P, and none before it has
 pub record IsStart (entries : List Entry) (P : Entry → Type 0) (i : ℕ) : Type 0 where

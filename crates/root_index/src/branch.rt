@@ -92,6 +92,10 @@ impl<N: Node> Node for Branch<N> {
         nodes::entry_at(&self.nodes, position)
     }
 
+    fn look_at(&self, position: TreePosition<N::Position>) -> Option<(Entry, bool)> {
+        nodes::look_at(&self.nodes, position)
+    }
+
     fn split(
         &mut self,
         upper: &mut Self,

@@ -1,9 +1,9 @@
 //! The index.
 
-ghost use Rattle.std.specs.Prelude.{◌≡◌, ◌<◌, ◌≤◌, ◌+◌, ◌^◌, [], length, OnOk, OnErr, Some, Contains, vec_len, vec_capacity, true, false};
+ghost use Rattle.std.specs.Prelude.{◌≡◌, ◌<◌, ◌≤◌, ◌+◌, ◌^◌, [], length, OnOk, OnErr, Some, IfSome, IsTrue, Contains, vec_len, vec_capacity, true, false};
 ghost use Rattle.std.specs.Option.{option_map};
 ghost use Rattle.root_index.specs.Order.{IsAscending};
-ghost use Rattle.root_index.specs.Sets.{AddsEntry, IsLeast, IsAfter, IsBelow};
+ghost use Rattle.root_index.specs.Sets.{AddsEntry, IsLeast, IsAfter, IsBelow, IsLastOf};
 ghost use Rattle.root_index.specs.View.{free_places, room_in};
 ghost use Rattle.root_index.specs.Pieces.{RemovesPiece};
 ghost use Rattle.root_index.specs.declared.progress.Progress.TheVariants.{More, Done};
@@ -27,6 +27,17 @@ type Tree = Branch<Branch<Leaf>>;
 #[derive(Clone, Copy, Debug, Default, PartialEq, Eq)]
 pub struct PositionHint {
     position: TreePosition<TreePosition<TreePosition<usize>>>,
+}
+
+/// What a look-up of a value and a key found.
+#[derive(Clone, Copy, Debug, PartialEq, Eq)]
+pub struct LookUp {
+    /// The first entry that is not below them, if there is one.
+    pub found: Option<Entry>,
+    /// Where it stood, or where it would stand.
+    pub near: PositionHint,
+    /// Whether it is known that no other entry of its value and its key comes after it. That is so too where none was found.
+    pub is_last: bool,
 }
 
 /// An ordered set of entries.
@@ -176,15 +187,25 @@ impl RootIndex {
         }
     }
 
-    /// The first entry of this value and this key; or else the first of a higher key, or of a higher value. And where it stood.
-    pub fn first_from(&self, value: i128, key: u64) -> Option<(Entry, PositionHint)>
-        ensures { IsLeast self.now.entries (λ e. ¬ IsBelow value key e)
-            (option_map (λ found. found.0) result) }
+    /// The first entry of this value and this key; or else the first of a higher key, or of a higher value. And where it stood. It is
+    /// not known to be the last of its value and key where it is the last of its leaf.
+    pub fn first_from(&self, value: i128, key: u64) -> LookUp
+        ensures found { IsLeast self.now.entries (λ e. ¬ IsBelow value key e) result.found }
+        ensures last { IsTrue result.is_last → IfSome result.found (IsLastOf self.now.entries) }
     {
         let position = look_ups::position_from(&self.trees, value, key);
-        match nodes::entry_at(&self.trees, position) {
-            Some(entry) => Some((entry, PositionHint { position })),
-            None => None,
+        let near = PositionHint { position };
+        match nodes::look_at(&self.trees, position) {
+            Some((entry, is_last)) => LookUp {
+                found: Some(entry),
+                near,
+                is_last,
+            },
+            None => LookUp {
+                found: None,
+                near,
+                is_last: true,
+            },
         }
     }
 

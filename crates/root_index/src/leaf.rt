@@ -1,10 +1,11 @@
 //! A leaf: entries that stand together in memory.
 
-ghost use Rattle.std.specs.Prelude.{◌≡◌, ◌<◌, ◌≤◌, ◌+◌, ◌-◌, ◌++◌, [], ◌∷◌, refl, length, take, drop, not, IfOk, IfErr, IfSome, IfNone, Some, slice_get, vec_len, vec_capacity};
+ghost use Rattle.std.specs.Prelude.{◌≡◌, ◌<◌, ◌≤◌, ◌+◌, ◌-◌, ◌++◌, [], ◌∷◌, refl, length, take, drop, not, IfOk, IfErr, IfSome, IfNone, IsTrue, Some, slice_get, vec_len, vec_capacity};
 ghost use Rattle.std.proofs.Common.{arith};
 ghost use Rattle.std.specs.List.{insert, filter};
+ghost use Rattle.std.specs.Option.{option_map};
 ghost use Rattle.root_index.specs.Order.{IsAscending};
-ghost use Rattle.root_index.specs.Sets.{IsAt, IsGapFor};
+ghost use Rattle.root_index.specs.Sets.{IsAt, IsEndAt, IsGapFor};
 ghost use Rattle.root_index.specs.Lists.{IsFirst, stays};
 ghost use Rattle.root_index.specs.Bounds.{AreOn};
 ghost use Rattle.dead_places.specs.Places.{AreAscending};
@@ -119,6 +120,10 @@ impl Node for Leaf {
 
     fn entry_at(&self, position: usize) -> Option<Entry> {
         entry_in(&self.entries, position)
+    }
+
+    fn look_at(&self, position: usize) -> Option<(Entry, bool)> {
+        look_at(&self.entries, position)
     }
 
     fn split(&mut self, upper: &mut Self, position: usize) -> Half<usize> {
@@ -307,6 +312,29 @@ fn entry_in(entries: &[Entry], place: usize) -> Option<Entry>
     ensures { result ≡ slice_get entries.now place }
 {
     entries.get(place).copied()
+}
+
+/// The entry at this place, if there is one; and whether another of these stands behind it, of another value or another key.
+fn look_at(entries: &[Entry], place: usize) -> Option<(Entry, bool)>
+    ensures entry { option_map (λ found. found.0) result ≡ slice_get entries.now place }
+    ensures end { IfSome result (λ found. IsTrue found.1 → IsEndAt entries.now found.0 place) }
+{
+    match entry_in(entries, place) {
+        Some(entry) => Some((entry, is_end(entries, entry, place))),
+        None => None,
+    }
+}
+
+/// Whether another of these entries stands behind this place, of another value or another key than this one.
+fn is_end(entries: &[Entry], entry: Entry, place: usize) -> bool
+    ensures { IsTrue result → IsEndAt entries.now entry place }
+{
+    let behind = place.saturating_add(1);
+    if behind >= entries.len() {
+        return false;
+    }
+    let next = entries[behind];
+    next.value != entry.value || next.key != entry.key
 }
 
 /// The first of these entries, or another where there is none.

@@ -26,5 +26,5 @@ mod nodes;
 mod progress;
 
 pub use entry::{Entry, members_determine};
-pub use index::{PositionHint, RootIndex};
+pub use index::{LookUp, PositionHint, RootIndex};
 pub use progress::Progress;

@@ -3,9 +3,10 @@
 ghost use Rattle.std.specs.Prelude.{◌≡◌, ◌<◌, ◌≤◌, ◌+◌, ◌++◌, ◌⊎◌, ℕ, List, [], length, slice_get, IfOk, IfErr, IfSome, IfNone, IsTrue, OnOk, OnErr, ◌↔◌};
 ghost use Rattle.std.specs.Bool.{OnTrue};
 ghost use Rattle.std.specs.List.{insert};
+ghost use Rattle.std.specs.Option.{option_map};
 ghost use Rattle.root_index.specs.declared.entry.Entry.{Entry as Seen};
 ghost use Rattle.root_index.specs.Order.{IsAscending};
-ghost use Rattle.root_index.specs.Sets.{IsAt, IsGapFor};
+ghost use Rattle.root_index.specs.Sets.{IsAt, IsEndAt, IsGapFor};
 ghost use Rattle.root_index.specs.Lists.{begins_after};
 ghost use Rattle.root_index.specs.Halves.{IsHalf, rank_half};
 ghost use Rattle.root_index.specs.Sweeps.{IsSwept};
@@ -129,6 +130,16 @@ pub(crate) trait Node: Drop {
         requires neat { IsNeat self.now }
         requires position { IsPosition self.now position }
         ensures { result ≡ slice_get (entries self.now) (rank self.now position) };
+
+    /// The entry at this position, if there is one; and whether it is known that the next is of another value or another key. Of
+    /// the last entry of a leaf nothing is known.
+    fn look_at(&self, position: Self::Position) -> Option<(Entry, bool)>
+        requires neat { IsNeat self.now }
+        requires position { IsPosition self.now position }
+        ensures entry { option_map (λ found. found.0) result
+            ≡ slice_get (entries self.now) (rank self.now position) }
+        ensures end { IfSome result
+            (λ found. IsTrue found.1 → IsEndAt (entries self.now) found.0 (rank self.now position)) };
 
     /// Moves the upper parts of a full node to one without any, and says where the position is then. It takes no memory.
     fn split(&mut self, upper: &mut Self, position: Self::Position) -> Half<Self::Position>

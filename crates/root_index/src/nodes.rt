@@ -3,8 +3,9 @@
 ghost use Rattle.std.specs.Prelude.{◌≡◌, ◌<◌, ◌≤◌, ◌+◌, ◌-◌, ◌⊎◌, ℕ, [], length, map, max, sum_by, true, ◌↔◌, ◌^◌, IsTrue, IfOk, IfErr, IfSome, IfNone, OnOk, OnErr, vec_len, vec_capacity, slice_get, option_copied};
 ghost use Rattle.std.specs.Bool.{OnTrue};
 ghost use Rattle.std.specs.List.{insert};
+ghost use Rattle.std.specs.Option.{option_map};
 ghost use Rattle.root_index.specs.Order.{IsAscending};
-ghost use Rattle.root_index.specs.Sets.{IsAt, IsGapFor};
+ghost use Rattle.root_index.specs.Sets.{IsAt, IsEndAt, IsGapFor};
 ghost use Rattle.root_index.specs.Lists.{IsLastBetween};
 ghost use Rattle.root_index.specs.Nodes.{all, rank_in, before_node, AreNeat, AreNeatBut, IsPositionIn, IsEntryIn, IsBehindIn, IsOpened, IsUnspent, AreKept, AreLeft, HavePlaces, KeepsSpares};
 ghost use Rattle.root_index.specs.Sweeps.{IsSwept};
@@ -137,6 +138,27 @@ pub(crate) fn entry_at<N: Node>(nodes: &[N], position: TreePosition<N::Position>
         return Some(entry);
     }
     node_of(nodes, position.node + 1)?.entry_at(N::first())
+}
+
+/// The entry at this position; behind a node's last, the first of the next node. And whether it is known that the next is of another
+/// value or another key.
+pub(crate) fn look_at<N: Node>(
+    nodes: &[N],
+    position: TreePosition<N::Position>,
+) -> Option<(Entry, bool)>
+    requires neat { AreNeat N.IsNeat N.size nodes.now }
+    requires position { IsPositionIn N.IsPosition nodes.now position }
+    ensures entry { option_map (λ found. found.0) result
+        ≡ slice_get (all N.entries nodes.now) (rank_in N.entries N.rank nodes.now position) }
+    ensures end { IfSome result
+        (λ found. IsTrue found.1 → IsEndAt (all N.entries nodes.now) found.0
+        (rank_in N.entries N.rank nodes.now position)) }
+{
+    let node = node_of(nodes, position.node)?;
+    if let Some((entry, is_end)) = node.look_at(position.inner) {
+        return Some((entry, is_end));
+    }
+    node_of(nodes, position.node + 1)?.look_at(N::first())
 }
 
 /// A node without parts: a spare one, or else a new one.

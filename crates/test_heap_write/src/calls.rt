@@ -223,8 +223,7 @@ pub fn entry_after(heap: &HeapState, number: u8, from: Option<Parts>) -> Option<
 
 /// The first entry of the key, or of a higher one.
 pub fn from_key(heap: &HeapState, key: u64) -> Option<Parts> {
-    let (first, _near) = heap.index(0)?.first_from(i128::from(key), key)?;
-    parts(Some(first))
+    parts(heap.index(0)?.first_from(i128::from(key), key).found)
 }
 
 /// How many slots a page has, its room, and how often it was changed, if it is in use.

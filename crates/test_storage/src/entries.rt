@@ -132,7 +132,7 @@ fn after(index: &RootIndex, from: Option<Parts>) -> Option<Parts> {
 }
 
 fn from(index: &RootIndex, value: i128, key: u64) -> Option<Parts> {
-    Some(parts(index.first_from(value, key)?.0))
+    Some(parts(index.first_from(value, key).found?))
 }
 
 /// What comes behind the second, where the place of what comes behind the first is given.

@@ -108,8 +108,9 @@ fn first_of(index: &RootIndex, key: u64) -> Option<(Entry, PositionHint)>
     ensures { IfSome result (λ found. IsFirstOf index.now.entries found.0) }
 {
     let value = i128::from(key);
-    match index.first_from(value, key) {
-        Some((entry, near)) if entry.value == value && entry.key == key => Some((entry, near)),
+    let look_up = index.first_from(value, key);
+    match look_up.found {
+        Some(entry) if entry.value == value && entry.key == key => Some((entry, look_up.near)),
         _ => None,
     }
 }

@@ -12,10 +12,11 @@ use Rattle.index_lookup.proofs.lookup.next_of.Goals as goal
 pub returns-in-None : goal.returns-in-None
 returns-in-None c =
     let same = to_z-of_z w128 c.args.value c.ranges.value in
-    let found = entry_of c.first_from.result in
+    let found = entry_of c.with_hint.result in
     let answer = entry_of c.only_of.result in
-    let least = subst (λ (v : ℤ). IsLeast c.args.index.now.entries (λ e. ¬ IsBelow v c.args.key e) found) same c.first_from.ensures in
-    let only = subst (λ (v : ℤ). IsOnly v c.args.key found answer) same (only-entry _ c.args.key c.first_from.result c.only_of.result c.only_of.ensures) in
+    let least = subst (IsLeast c.args.index.now.entries (λ e. ¬ IsBelow c.args.value c.args.key e)) (sym c.with_hint.ensures)
+    (subst (λ (v : ℤ). IsLeast c.args.index.now.entries (λ e. ¬ IsBelow v c.args.key e) c.first_from.result.found) same c.first_from.ensures.found) in
+    let only = subst (λ (v : ℤ). IsOnly v c.args.key found answer) same (only-entry _ c.args.key c.with_hint.result c.only_of.result c.only_of.ensures) in
     subst (λ (f : Option (Entry × PositionHint)). IsNextOf c.args.index.now.entries c.args.value c.args.key (entry_of f) answer) (sym c.in-None.is)
     (first-only c.args.index.now.entries c.args.value c.args.key found answer least only)
 
