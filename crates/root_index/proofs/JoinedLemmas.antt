@@ -54,7 +54,7 @@ start_next ls i within =
     ∙ length-append (concatenated (take i ls)) (list_of ls i ++ [])
     ∙ ap (λ l. start ls i + length l) (append-nil (list_of ls i))
 
-start_end : (ls : List (List Entry)) (i : ℕ) → length ls ≤ i → start ls i ≡ length (concatenated ls)
+pub start_end : (ls : List (List Entry)) (i : ℕ) → length ls ≤ i → start ls i ≡ length (concatenated ls)
 start_end ls i past = ap (λ xs. length (concatenated xs)) (take_all i ls past)
 
 pub start_within : (ls : List (List Entry)) (i : ℕ) → i < length ls → start ls i + length (list_of ls i) ≤ length (concatenated ls)
@@ -74,7 +74,7 @@ first_joined ls i f within at =
     let is : start ls i ≡ start ls i + 0 = omega arith in
     ap (slice_get (concatenated ls)) is ∙ joined_get ls i 0 within (slice_get_within (list_of ls i) 0 f at) ∙ at
 
-in_list : (ls : List (List Entry)) (i k : ℕ) (e : Entry) → i < length ls → start ls i ≤ k → k < start ls i + length (list_of ls i)
+pub in_list : (ls : List (List Entry)) (i k : ℕ) (e : Entry) → i < length ls → start ls i ≤ k → k < start ls i + length (list_of ls i)
     → slice_get (concatenated ls) k ≡ Some e → slice_get (list_of ls i) (k - start ls i) ≡ Some e
 in_list ls i k e within low high at =
     let is : start ls i + (k - start ls i) ≡ k = omega arith in
@@ -160,7 +160,7 @@ entry_in_list ls p l e at in_l =
     let there : slice_get (list_of ls p.list) p.entry ≡ Some e = ap (λ m. slice_get m p.entry) (list_is ls p.list l at) ∙ in_l in
     joined_get ls p.list p.entry (slice_get_within ls p.list l at) (slice_get_within (list_of ls p.list) p.entry e there) ∙ there
 
-none_there : {X : Type 0} (xs : List X) (i : ℕ) → slice_get xs i ≡ None → length xs ≤ i
+pub none_there : {X : Type 0} (xs : List X) (i : ℕ) → slice_get xs i ≡ None → length xs ≤ i
 none_there [] i none = omega arith
 none_there (x ∷ xs) zero none = absurd (cc none)
 none_there (x ∷ xs) (suc i) none = let rest = none_there xs i none in omega arith

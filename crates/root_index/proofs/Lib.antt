@@ -3,6 +3,7 @@ pub mod BracketLemmas
 pub mod EditLemmas
 pub mod EndLemmas
 pub mod FullLemmas
+pub mod GapLemmas
 pub mod JoinedLemmas
 pub mod LookUpLemmas
 pub mod NodeLemmas

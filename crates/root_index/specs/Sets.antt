@@ -1,5 +1,5 @@
 -- What calls do to the set of entries, and what they look for in it.
-use Rattle.std.specs.Prelude.{◌≡◌, ◌↔◌, ◌⊎◌, ◌<◌, ◌<ℤ◌, ◌+◌, ℕ, ℤ, List, ◌≤◌, length, slice_get, Option, Some, None, IsSomeAnd, Contains}
+use Rattle.std.specs.Prelude.{◌≡◌, ◌↔◌, ◌⊎◌, ◌<◌, ◌<ℤ◌, ◌+◌, ℕ, ℤ, Bool, IsTrue, List, ◌≤◌, length, slice_get, Option, Some, None, IsSomeAnd, Contains}
 use Rattle.xid_circle.specs.declared.Tid.{Tid}
 use Rattle.root_index.specs.declared.entry.Entry.{Entry}
 use Rattle.root_index.specs.Order.{EntryPrecedes, IsAscending}
@@ -57,3 +57,14 @@ pub record IsGapFor (entries : List Entry) (entry : Entry) (i : ℕ) : Type 0 wh
   pub in_range : i ≤ length entries
   pub before : (k : ℕ) (e : Entry) → k < i → slice_get entries k ≡ Some e → EntryPrecedes e entry
   pub after : (k : ℕ) (e : Entry) → i ≤ k → slice_get entries k ≡ Some e → EntryPrecedes entry e
+
+-- some entries stand before this place, and all of them precede the entry
+pub record GoesBehind (entries : List Entry) (entry : Entry) (i : ℕ) : Type 0 where
+  pub some : 0 < i
+  pub in_range : i ≤ length entries
+  pub before : (k : ℕ) (e : Entry) → k < i → slice_get entries k ≡ Some e → EntryPrecedes e entry
+
+-- the entry precedes all from this place on, and some stand there unless no others follow the list
+pub record GoesBefore (entries : List Entry) (entry : Entry) (is_last : Bool) (i : ℕ) : Type 0 where
+  pub after : (k : ℕ) (e : Entry) → i ≤ k → slice_get entries k ≡ Some e → EntryPrecedes entry e
+  pub more : (i < length entries) ⊎ IsTrue is_last

@@ -96,6 +96,15 @@ impl<N: Node> Node for Branch<N> {
         nodes::look_at(&self.nodes, position)
     }
 
+    fn gap_near(
+        &self,
+        sought: &Entry,
+        near: TreePosition<N::Position>,
+        is_last: bool,
+    ) -> Option<TreePosition<N::Position>> {
+        nodes::gap_near(&self.nodes, sought, near, is_last)
+    }
+
     fn split(
         &mut self,
         upper: &mut Self,

@@ -53,6 +53,8 @@ pub struct RootIndex {
     count: u64,
     /// So many more entries take no memory.
     promised: usize,
+    /// Where the next insert looks first, if it was told so.
+    expected: Option<TreePosition<TreePosition<TreePosition<usize>>>>,
 }
 
 impl Model for RootIndex {
@@ -81,6 +83,7 @@ impl RootIndex {
             },
             count: 0,
             promised: 0,
+            expected: None,
         }
     }
 
@@ -152,7 +155,8 @@ impl RootIndex {
         ensures memory { OnErr result ((room_in self.old ≡ 0) × ¬ Contains self.old.entries entry) }
         ensures err { OnErr result (self.new.entries ≡ self.old.entries) }
     {
-        let position = match nodes::search(&self.trees, &entry) {
+        let expected = self.expected.take();
+        let position = match look_ups::position_for(&self.trees, &entry, expected) {
             Ok(_) => return Ok(()),
             Err(position) => position,
         };
@@ -207,6 +211,14 @@ impl RootIndex {
                 is_last: true,
             },
         }
+    }
+
+    /// Says that the next entry that is inserted goes right before or right behind this position. So it is looked for there first, and
+    /// searched for only where it goes elsewhere.
+    pub fn expect(&mut self, near: PositionHint)
+        ensures { self.new ≡ self.old }
+    {
+        self.expected = Some(near.position);
     }
 
     /// Goes over the entries after this one, or over all, as far as the leaf goes that holds the first of them, and removes those

@@ -5,7 +5,7 @@ ghost use Rattle.std.proofs.Common.{arith};
 ghost use Rattle.std.specs.List.{insert, filter};
 ghost use Rattle.std.specs.Option.{option_map};
 ghost use Rattle.root_index.specs.Order.{IsAscending};
-ghost use Rattle.root_index.specs.Sets.{IsAt, IsEndAt, IsGapFor};
+ghost use Rattle.root_index.specs.Sets.{IsAt, IsEndAt, IsGapFor, GoesBehind, GoesBefore};
 ghost use Rattle.root_index.specs.Lists.{IsFirst, stays};
 ghost use Rattle.root_index.specs.Bounds.{AreOn};
 ghost use Rattle.dead_places.specs.Places.{AreAscending};
@@ -124,6 +124,10 @@ impl Node for Leaf {
 
     fn look_at(&self, position: usize) -> Option<(Entry, bool)> {
         look_at(&self.entries, position)
+    }
+
+    fn gap_near(&self, sought: &Entry, near: usize, is_last: bool) -> Option<usize> {
+        gap_near(&self.entries, sought, near, is_last)
     }
 
     fn split(&mut self, upper: &mut Self, position: usize) -> Half<usize> {
@@ -335,6 +339,55 @@ fn is_end(entries: &[Entry], entry: Entry, place: usize) -> bool
     }
     let next = entries[behind];
     next.value != entry.value || next.key != entry.key
+}
+
+/// Where the entry goes, if that is right before or right behind this place, and between two of these entries; or at the end of the
+/// last leaf.
+fn gap_near(entries: &[Entry], sought: &Entry, near: usize, is_last: bool) -> Option<usize>
+    requires { IsAscending entries.now }
+    ensures in_range { IfSome result (λ place. place ≤ length entries.now) }
+    ensures behind { IfSome result (GoesBehind entries.now sought.now) }
+    ensures before { IfSome result (GoesBefore entries.now sought.now is_last) }
+{
+    let place = place_beside(entries, sought, near);
+    if goes_behind(entries, sought, place) && goes_before(entries, sought, place, is_last) {
+        Some(place)
+    } else {
+        None
+    }
+}
+
+/// This place or the next, by whether the entry at it comes before the sought one. It is no more than a hint.
+fn place_beside(entries: &[Entry], sought: &Entry, near: usize) -> usize {
+    match entries.get(near) {
+        Some(entry) if is_before(entry, sought) => near.saturating_add(1),
+        _ => near,
+    }
+}
+
+/// Whether an entry stands right before this place, and before the sought one.
+fn goes_behind(entries: &[Entry], sought: &Entry, place: usize) -> bool
+    requires { IsAscending entries.now }
+    ensures { IsTrue result → GoesBehind entries.now sought.now place }
+{
+    if place == 0 {
+        return false;
+    }
+    match entry_in(entries, place - 1) {
+        Some(before) => is_before(&before, sought),
+        None => false,
+    }
+}
+
+/// Whether the sought entry comes before the one at this place; or whether the leaf is the last, where none is there.
+fn goes_before(entries: &[Entry], sought: &Entry, place: usize, is_last: bool) -> bool
+    requires { IsAscending entries.now }
+    ensures { IsTrue result → GoesBefore entries.now sought.now is_last place }
+{
+    match entry_in(entries, place) {
+        Some(behind) => is_before(sought, &behind),
+        None => is_last,
+    }
 }
 
 /// The first of these entries, or another where there is none.

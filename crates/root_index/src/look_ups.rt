@@ -1,9 +1,9 @@
-//! Where among nodes a look-up finds its first entry.
+//! Where among nodes a look-up finds its first entry, and where an insert puts one.
 
-ghost use Rattle.std.specs.Prelude.{Some};
+ghost use Rattle.std.specs.Prelude.{Some, IfOk, IfErr};
 ghost use Rattle.root_index.specs.Order.{IsAscending};
-ghost use Rattle.root_index.specs.Sets.{IsAfter, IsBelow};
-ghost use Rattle.root_index.specs.Nodes.{all, AreNeat, IsStartIn};
+ghost use Rattle.root_index.specs.Sets.{IsAfter, IsAt, IsBelow, IsGapFor};
+ghost use Rattle.root_index.specs.Nodes.{all, rank_in, AreNeat, IsEntryIn, IsPositionIn, IsStartIn};
 
 use crate::entry::Entry;
 use crate::node::Node;
@@ -73,5 +73,52 @@ pub(crate) fn position_from<N: Node>(
     match nodes::search(nodes, &Entry { value, key, tid }) {
         Ok(position) => position,
         Err(position) => position,
+    }
+}
+
+/// Where the entry stands, or where it would. It is not searched for where it goes right before or right behind the position that is
+/// given, if one is.
+pub(crate) fn position_for<N: Node>(
+    nodes: &[N],
+    sought: &Entry,
+    near: Option<TreePosition<N::Position>>,
+) -> Result<TreePosition<N::Position>, TreePosition<N::Position>>
+    requires neat { AreNeat N.IsNeat N.size nodes.now }
+    requires ascending { IsAscending (all N.entries nodes.now) }
+    ensures entry { IfOk result (IsEntryIn N.IsEntry nodes.now) }
+    ensures found { IfOk result
+        (λ position. IsAt (all N.entries nodes.now) sought.now
+        (rank_in N.entries N.rank nodes.now position)) }
+    ensures position { IfErr result (IsPositionIn N.IsPosition nodes.now) }
+    ensures absent { IfErr result
+        (λ position. IsGapFor (all N.entries nodes.now) sought.now
+        (rank_in N.entries N.rank nodes.now position)) }
+{
+    match near {
+        Some(near) => position_beside(nodes, sought, near),
+        None => nodes::search(nodes, sought),
+    }
+}
+
+/// Where the entry stands, or where it would. It is not searched for where it goes right before or right behind this position.
+fn position_beside<N: Node>(
+    nodes: &[N],
+    sought: &Entry,
+    near: TreePosition<N::Position>,
+) -> Result<TreePosition<N::Position>, TreePosition<N::Position>>
+    requires neat { AreNeat N.IsNeat N.size nodes.now }
+    requires ascending { IsAscending (all N.entries nodes.now) }
+    ensures entry { IfOk result (IsEntryIn N.IsEntry nodes.now) }
+    ensures found { IfOk result
+        (λ position. IsAt (all N.entries nodes.now) sought.now
+        (rank_in N.entries N.rank nodes.now position)) }
+    ensures position { IfErr result (IsPositionIn N.IsPosition nodes.now) }
+    ensures absent { IfErr result
+        (λ position. IsGapFor (all N.entries nodes.now) sought.now
+        (rank_in N.entries N.rank nodes.now position)) }
+{
+    match nodes::gap_near(nodes, sought, near, true) {
+        Some(position) => Err(position),
+        None => nodes::search(nodes, sought),
     }
 }

@@ -6,7 +6,7 @@ ghost use Rattle.std.specs.List.{insert};
 ghost use Rattle.std.specs.Option.{option_map};
 ghost use Rattle.root_index.specs.declared.entry.Entry.{Entry as Seen};
 ghost use Rattle.root_index.specs.Order.{IsAscending};
-ghost use Rattle.root_index.specs.Sets.{IsAt, IsEndAt, IsGapFor};
+ghost use Rattle.root_index.specs.Sets.{IsAt, IsEndAt, IsGapFor, GoesBehind, GoesBefore};
 ghost use Rattle.root_index.specs.Lists.{begins_after};
 ghost use Rattle.root_index.specs.Halves.{IsHalf, rank_half};
 ghost use Rattle.root_index.specs.Sweeps.{IsSwept};
@@ -139,7 +139,24 @@ pub(crate) trait Node: Drop {
         ensures entry { option_map (λ found. found.0) result
             ≡ slice_get (entries self.now) (rank self.now position) }
         ensures end { IfSome result
-            (λ found. IsTrue found.1 → IsEndAt (entries self.now) found.0 (rank self.now position)) };
+            (λ found. IsTrue found.1
+            → IsEndAt (entries self.now) found.0 (rank self.now position)) };
+
+    /// Where the entry goes, if that is right before or right behind this position, and between two entries of one leaf; or at the end,
+    /// where no entries follow the node, which `is_last` says.
+    fn gap_near(
+        &self,
+        sought: &Entry,
+        near: Self::Position,
+        is_last: bool,
+    ) -> Option<Self::Position>
+        requires { IsAscending (entries self.now) }
+        ensures position { IfSome result (IsPosition self.now) }
+        ensures behind { IfSome result
+            (λ position. GoesBehind (entries self.now) sought.now (rank self.now position)) }
+        ensures before { IfSome result
+            (λ position. GoesBefore (entries self.now) sought.now is_last
+            (rank self.now position)) };
 
     /// Moves the upper parts of a full node to one without any, and says where the position is then. It takes no memory.
     fn split(&mut self, upper: &mut Self, position: Self::Position) -> Half<Self::Position>

@@ -5,7 +5,7 @@ ghost use Rattle.std.specs.Bool.{OnTrue};
 ghost use Rattle.std.specs.List.{insert};
 ghost use Rattle.std.specs.Option.{option_map};
 ghost use Rattle.root_index.specs.Order.{IsAscending};
-ghost use Rattle.root_index.specs.Sets.{IsAt, IsEndAt, IsGapFor};
+ghost use Rattle.root_index.specs.Sets.{IsAt, IsEndAt, IsGapFor, GoesBehind, GoesBefore};
 ghost use Rattle.root_index.specs.Lists.{IsLastBetween};
 ghost use Rattle.root_index.specs.Nodes.{all, rank_in, before_node, AreNeat, AreNeatBut, IsPositionIn, IsEntryIn, IsBehindIn, IsOpened, IsUnspent, AreKept, AreLeft, HavePlaces, KeepsSpares};
 ghost use Rattle.root_index.specs.Sweeps.{IsSwept};
@@ -159,6 +159,42 @@ pub(crate) fn look_at<N: Node>(
         return Some((entry, is_end));
     }
     node_of(nodes, position.node + 1)?.look_at(N::first())
+}
+
+/// Where the entry goes, if that is right before or right behind this position, and between two entries of one leaf; or at the end,
+/// where no entries follow these nodes, which `is_last` says.
+pub(crate) fn gap_near<N: Node>(
+    nodes: &[N],
+    sought: &Entry,
+    near: TreePosition<N::Position>,
+    is_last: bool,
+) -> Option<TreePosition<N::Position>>
+    requires { IsAscending (all N.entries nodes.now) }
+    ensures position { IfSome result (IsPositionIn N.IsPosition nodes.now) }
+    ensures behind { IfSome result
+        (λ position. GoesBehind (all N.entries nodes.now) sought.now
+        (rank_in N.entries N.rank nodes.now position)) }
+    ensures before { IfSome result
+        (λ position. GoesBefore (all N.entries nodes.now) sought.now is_last
+        (rank_in N.entries N.rank nodes.now position)) }
+{
+    let node = node_of(nodes, near.node)?;
+    let is_last = is_last_of(nodes, near.node, is_last);
+    match node.gap_near(sought, near.inner, is_last) {
+        Some(inner) => Some(TreePosition {
+            node: near.node,
+            inner,
+        }),
+        None => None,
+    }
+}
+
+/// Whether no entries follow the node of this number, where `is_last` says so of all nodes.
+fn is_last_of<N: Node>(nodes: &[N], number: usize, is_last: bool) -> bool
+    requires { number < length nodes.now }
+    ensures { IsTrue result → (number + 1 ≡ length nodes.now) × IsTrue is_last }
+{
+    is_last && number + 1 == nodes.len()
 }
 
 /// A node without parts: a spare one, or else a new one.

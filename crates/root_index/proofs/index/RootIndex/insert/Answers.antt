@@ -7,14 +7,14 @@ use Rattle.root_index.proofs.SoundLemmas.{among, ascending_there, found_there, g
 use Rattle.root_index.proofs.FullLemmas.{on_err, full_among, no_room, room_less, places_after, nodes_of}
 use Rattle.root_index.proofs.index.RootIndex.insert.Goals as goal
 
-pub search-requires-clause-ascending : goal.search-requires-clause-ascending
-search-requires-clause-ascending c = ascending_there c.self.inside.trees.items c.deref.result.now c.deref.ensures.value c.self.invariant.ascending
+pub position_for-requires-clause-ascending : goal.position_for-requires-clause-ascending
+position_for-requires-clause-ascending c = ascending_there c.self.inside.trees.items c.deref.result.now c.deref.ensures.value c.self.invariant.ascending
 
 -- the entry is there
 pub returns-in-Ok-clause-adds : goal.returns-in-Ok-clause-adds
 returns-in-Ok-clause-adds c =
     let found = found_there _ _ c.self.inside.trees.items c.deref.result.now c.args.entry c.in-Ok.field-0 c.deref.ensures.value c.in-Ok.ensures.found in
-    subst (λ (v : IndexView). AddsEntry v.entries v.entries c.args.entry) c.self.view_is (adds-there (among c.self.inside.trees.items) c.args.entry _ c.self.invariant.ascending found)
+    subst (λ (v : IndexView). AddsEntry v.entries (among c.self.inside.trees.items) c.args.entry) c.self.view_is (adds-there (among c.self.inside.trees.items) c.args.entry _ c.self.invariant.ascending found)
 
 -- memory is refused only where there is no room, and the entry is not there
 pub returns-then-self-clause-memory : goal.returns-then-self-clause-memory
