@@ -168,6 +168,13 @@ impl Indexes {
         self.make_room()
     }
 
+    /// Says that the next entry by key goes right before or right behind this position, as [`RootIndex::expect`] does.
+    pub fn expect(&mut self, near: PositionHint)
+        ensures { self.new ≡ self.old }
+    {
+        self.by_key.expect(near);
+    }
+
     /// Adds an entry to each index in use, for a version at a place of a row with this key and these columns. It takes no
     /// memory.
     pub fn enter(&mut self, key: u64, cols: &[i64; 4], place: Tid)
