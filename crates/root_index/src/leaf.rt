@@ -1,6 +1,6 @@
 //! A leaf: entries that stand together in memory.
 
-ghost use Rattle.std.specs.Prelude.{◌≡◌, ◌<◌, ◌≤◌, ◌+◌, ◌-◌, ◌++◌, [], ◌∷◌, refl, length, take, drop, not, IfOk, IfErr, IfSome, IfNone, IsTrue, Some, slice_get, vec_len, vec_capacity};
+ghost use Rattle.std.specs.Prelude.{◌≡◌, ◌<◌, ◌≤◌, ◌+◌, ◌-◌, ◌++◌, [], ◌∷◌, ◌↔◌, refl, length, take, drop, not, IfOk, IfErr, IfSome, IfNone, IsTrue, Some, slice_get, vec_len, vec_capacity};
 ghost use Rattle.std.proofs.Common.{arith};
 ghost use Rattle.std.specs.List.{insert, filter};
 ghost use Rattle.std.specs.Option.{option_map};
@@ -14,7 +14,6 @@ use crate::entry::{Entry, compare, is_before};
 use crate::node::{HALF, Half, MAX_PARTS, Node, Swept};
 use dead_places::{DeadSet, NO_PAGES, PageBounds, is_among, widened};
 use std::alloc::{AllocError, Global};
-use std::cmp::Ordering;
 use std::marker::Model;
 use xid_circle::Tid;
 
@@ -103,10 +102,7 @@ impl Node for Leaf {
     }
 
     fn stands_at(&self, sought: &Entry, position: usize) -> bool {
-        match entry_in(&self.entries, position) {
-            Some(entry) => compare(&entry, sought).is_eq(),
-            None => false,
-        }
+        is_at(&self.entries, sought, position)
     }
 
     fn first() -> usize {
@@ -295,20 +291,30 @@ fn search(entries: &[Entry], sought: &Entry, guess: usize) -> Result<usize, usiz
     let mut place = guess.min(high.saturating_sub(1));
     let mut reach = 0;
     while low < high {
-        match compare(&entries[place], sought) {
-            Ordering::Equal => return Ok(place),
-            Ordering::Less => {
-                low = place + 1;
-                place = low + ((high - low) / 2).min(reach);
-            }
-            Ordering::Greater => {
-                high = place;
-                place = high.saturating_sub(((high - low) / 2).min(reach) + 1);
-            }
+        if is_before(&entries[place], sought) {
+            low = place + 1;
+            place = low + ((high - low) / 2).min(reach);
+        } else {
+            high = place;
+            place = high.saturating_sub(((high - low) / 2).min(reach) + 1);
         }
         reach = reach.wrapping_mul(4).wrapping_add(3);
     }
-    Err(low)
+    if is_at(entries, sought, low) {
+        Ok(low)
+    } else {
+        Err(low)
+    }
+}
+
+/// Whether this entry stands at this place.
+fn is_at(entries: &[Entry], sought: &Entry, place: usize) -> bool
+    ensures { IsTrue result ↔ IsAt entries.now sought.now place }
+{
+    match entry_in(entries, place) {
+        Some(entry) => compare(&entry, sought).is_eq(),
+        None => false,
+    }
 }
 
 /// The entry at this place, if there is one.
