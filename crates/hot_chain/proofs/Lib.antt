@@ -1,3 +1,4 @@
 pub mod Walks
 pub mod Chains
 pub mod Seen
+pub mod Alone
