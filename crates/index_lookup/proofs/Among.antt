@@ -1,5 +1,5 @@
 -- Ids that made or deleted a version: in a chain, and along the entries.
-use Rattle.std.proofs.Common.{◌≡◌, ◌⊎◌, ℕ, ℤ, ◌+◌, ◌<◌, List, get_or, map, Option, Some, None, sym, ap, ◌∙◌, subst, ⊎_elim, arith, slice_get}
+use Rattle.std.proofs.Common.{◌≡◌, ◌⊎◌, ℕ, ℤ, ◌+◌, ◌<◌, List, length, get_or, map, Option, Some, None, sym, ap, ◌∙◌, subst, ⊎_elim, arith, slice_get}
 use Rattle.std.specs.List.{Contains}
 use Rattle.std.specs.Option.{option_map}
 use Rattle.std.proofs.lemmas.Bool.{cases_lt}
@@ -11,7 +11,7 @@ use Rattle.tuple_header.specs.declared.version.Header.{Header}
 use Rattle.page_slots.specs.declared.slot.Slot.{Slot}
 use Rattle.page_slots.specs.Slots.{version_at, header_at}
 use Rattle.page_slots.specs.View.{PageView}
-use Rattle.page_slots.proofs.SlotLemmas.{version_at-none}
+use Rattle.page_slots.proofs.SlotLemmas.{version_at-none, version-from_header}
 use Rattle.commit_status.specs.Window.{Window}
 use Rattle.visibility.proofs.Makers.{touch-cases}
 use Rattle.visibility.specs.Visible.{IsFrozen}
@@ -34,25 +34,36 @@ none-touched h P inserter deleter x touch p = ⊎_elim
 
 -- Slots one after another.
 
-abbrev pub NoneTo : (ℕ → Header → Type 0) → List Slot → List ℕ → ℕ → Type 0
-NoneTo P slots chain i = (x j : ℕ) (u : Version) → j < i → version_at slots (get_or chain j 0) ≡ Some u → P x u.header → ⊥
+-- no version in this slot has P
+abbrev pub NoneIn : (Header → Type 0) → List Slot → ℕ → Type 0
+NoneIn P slots n = (u : Version) → version_at slots n ≡ Some u → ¬ P u.header
 
-pub none-more : (P : ℕ → Header → Type 0) (slots : List Slot) (chain : List ℕ) (i : ℕ) → NoneTo P slots chain i
-    → ((u : Version) → version_at slots (get_or chain i 0) ≡ Some u → (x : ℕ) → P x u.header → ⊥) → NoneTo P slots chain (i + 1)
-none-more P slots chain i below here x j u within at has = ⊎_elim
-    (λ lt. below x j u lt at has)
-    (λ ge. let same : j ≡ i = omega arith in here u (ap (λ k. version_at slots (get_or chain k 0)) (sym same) ∙ at) x has)
+-- none does in the first i of these slots
+abbrev pub NoneTo : (Header → Type 0) → List Slot → List ℕ → ℕ → Type 0
+NoneTo P slots chain i = (j : ℕ) (u : Version) → j < i → version_at slots (get_or chain j 0) ≡ Some u → ¬ P u.header
+
+pub none-yet : (P : Header → Type 0) (slots : List Slot) (chain : List ℕ) → NoneTo P slots chain 0
+none-yet P slots chain j u before at = absurd (omega arith)
+
+pub none-more : (P : Header → Type 0) (slots : List Slot) (chain : List ℕ) (i : ℕ) → NoneTo P slots chain i → NoneIn P slots (get_or chain i 0) → NoneTo P slots chain (i + 1)
+none-more P slots chain i below here j u within at has = ⊎_elim
+    (λ lt. below j u lt at has)
+    (λ ge. let same : j ≡ i = omega arith in here u (ap (λ k. version_at slots (get_or chain k 0)) (sym same) ∙ at) has)
     (cases_lt j i)
 
-pub none-here : (P : ℕ → Header → Type 0) (slots : List Slot) (n : ℕ) (h : Header) (r : Option Header) → r ≡ header_at slots n → r ≡ Some h → ((x : ℕ) → P x h → ⊥)
-    → (u : Version) → version_at slots n ≡ Some u → (x : ℕ) → P x u.header → ⊥
-none-here P slots n h r value is none u at x has =
-    let same : u.header ≡ h = same_Some u.header h (sym (ap (option_map (λ (t : Version). t.header)) at) ∙ sym value ∙ is) in
-    none x (subst (P x) same has)
+pub none-here : (P : Header → Type 0) (slots : List Slot) (n : ℕ) (h : Header) → header_at slots n ≡ Some h → ¬ P h → NoneIn P slots n
+none-here P slots n h is none u at has =
+    let same : u.header ≡ h = same_Some u.header h (sym (ap (option_map (λ (t : Version). t.header)) at) ∙ is) in
+    none (subst P same has)
 
-pub none-other : (P : ℕ → Header → Type 0) (slots : List Slot) (n : ℕ) (r : Option Header) → r ≡ header_at slots n → r ≡ None
-    → (u : Version) → version_at slots n ≡ Some u → (x : ℕ) → P x u.header → ⊥
-none-other P slots n r value is u at x has = none-some u.header (sym is ∙ value ∙ ap (option_map (λ (t : Version). t.header)) at)
+pub none-other : (P : Header → Type 0) (slots : List Slot) (n : ℕ) → header_at slots n ≡ None → NoneIn P slots n
+none-other P slots n is u at has = none-some u.header (sym is ∙ ap (option_map (λ (t : Version). t.header)) at)
+
+-- the version in the slot at this place of the list
+pub some-here : (P : Header → Type 0) (slots : List Slot) (chain : List ℕ) (i : ℕ) (h : Header) → i < length chain → header_at slots (get_or chain i 0) ≡ Some h → P h → SomeAmong P slots chain
+some-here P slots chain i h within is has =
+    let t = version-from_header slots (get_or chain i 0) h is in
+    record { place = i; version = t.0; within = within; there = t.1; has = subst P t.2 has }
 
 -- The chain of a place.
 

@@ -6,3 +6,4 @@ pub mod Searching
 pub mod SpanLemmas
 pub mod WalkLemmas
 pub mod SeenLemmas
+pub mod Versions

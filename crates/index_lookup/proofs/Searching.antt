@@ -9,20 +9,16 @@ use Rattle.tuple_header.specs.declared.version.Header.{Header}
 use Rattle.page_slots.specs.declared.slot.Slot.{Slot}
 use Rattle.page_slots.specs.View.{PageView}
 use Rattle.commit_status.specs.Window.{Window}
-use Rattle.hot_chain.specs.Chain.{has_aborted, IsChain, NoneSeen, IsSeenIn}
+use Rattle.hot_chain.specs.Chain.{has_aborted, IsChain, IsSeenIn}
 use Rattle.root_index.specs.declared.entry.Entry.{Entry}
 use Rattle.root_index.specs.Order.{EntryPrecedes, IsAscending}
 use Rattle.root_index.specs.Sets.{IsOf}
-use Rattle.index_lookup.specs.Looking.{IsNextOf, FetchedAt, IsSeenAt, SeenAt, IsFirstPlace, FirstPlace, SomeAt, SomeOf, IsIdAt, IsIdOf}
+use Rattle.index_lookup.specs.Looking.{IsKept, IsPlaceAmong, IsNextOf, FetchedAt, IsSeenAt, SeenAt, IsFirstPlace, FirstPlace, SomeAt, SomeOf, IsIdAt, IsIdOf}
 use Rattle.index_lookup.specs.declared.write_check.WriteCheck.{WriteCheck}
 use Rattle.index_lookup.proofs.Among.{none-of}
 use Rattle.index_lookup.proofs.PageLists.{slots-there}
 use Rattle.index_lookup.proofs.Fetching.{none-on_page}
 use Rattle.index_lookup.proofs.Turns.{Looked, looked-first, looked-next, looked-end, looked-none, looked-before}
-
--- what was found before stays; where nothing was, this is said of the answer
-abbrev pub IsKept : {A : Type 0} → Option A → (Option A → Type 0) → Option A → Type 0
-IsKept before Here after = MatchOption before (Here after) (λ x. after ≡ Some x)
 
 pub kept-same : {A : Type 0} (before : Option A) (Here : Option A → Type 0) → Here None → IsKept before Here before
 kept-same None Here here = here
@@ -39,8 +35,7 @@ none-before (Some x) after Here kept none = absurd (none-some x (sym none ∙ ke
 -- the place in a chain, on its page
 pub place-on_page : (w : Window) (seen : Header → Type 0) (pages : List PageView) (p : Tid) (page : PageView) (chain : List ℕ) (answer : Option Tid) → slice_get pages p.page ≡ Some page
     → IsChain (has_aborted w) page.slots p.slot chain
-    → MatchOption answer (NoneSeen seen page.slots chain) (λ q. (q.page ≡ p.page) × IsSeenIn seen page.slots chain q.slot)
-    → SeenAt w seen (map (λ (q : PageView). q.slots) pages) p answer
+    → IsPlaceAmong seen p.page page.slots chain answer → SeenAt w seen (map (λ (q : PageView). q.slots) pages) p answer
 place-on_page w seen pages p page chain None at is none = none-on_page w seen pages p page chain at is none
 place-on_page w seen pages p page chain (Some q) at is found =
     let same = slots-there pages p.page page at in

@@ -8,7 +8,7 @@ use Rattle.tuple_header.specs.declared.version.Row.{Row}
 use Rattle.page_slots.specs.declared.slot.Slot.{Slot}
 use Rattle.page_slots.specs.Slots.{version_at}
 use Rattle.commit_status.specs.Window.{Window}
-use Rattle.hot_chain.specs.Chain.{has_aborted, IsChain, IsSeenIn, Fetched}
+use Rattle.hot_chain.specs.Chain.{has_aborted, IsChain, NoneSeen, IsSeenIn, Fetched}
 use Rattle.root_index.specs.declared.entry.Entry.{Entry}
 use Rattle.root_index.specs.Order.{EntryPrecedes}
 use Rattle.root_index.specs.Sets.{IsLeast, IsAfter, IsOf}
@@ -54,6 +54,18 @@ pub record IsSeenAt (w : Window) (seen : Header → Type 0) (pages : List (List 
 abbrev pub SeenAt : Window → (Header → Type 0) → List (List Slot) → Tid → Option Tid → Type 0
 SeenAt w seen pages p answer = MatchOption answer (FetchedAt w seen pages p None) (IsSeenAt w seen pages p)
 
+-- the place of the first of these slots, on the page of this number, whose version is seen, if there is one
+abbrev pub IsPlaceAmong : (Header → Type 0) → ℕ → List Slot → List ℕ → Option Tid → Type 0
+IsPlaceAmong seen number slots chain answer = MatchOption answer (NoneSeen seen slots chain) (λ q. (q.page ≡ number) × IsSeenIn seen slots chain q.slot)
+
+-- the place of the first version that is seen in the chain of p's slot, on its page, if there is one
+abbrev pub IsPlaceAlong : Window → (Header → Type 0) → List Slot → Tid → Option Tid → Type 0
+IsPlaceAlong w seen slots p answer = (chain : List ℕ) × IsChain (has_aborted w) slots p.slot chain × IsPlaceAmong seen p.page slots chain answer
+
+-- the place of this version, if it is seen
+abbrev pub IsPlaceIn : (Header → Type 0) → Tid → Header → Option Tid → Type 0
+IsPlaceIn seen place h answer = MatchOption answer (¬ seen h) (λ q. (q ≡ place) × seen h)
+
 -- the place of the first version that is seen, by the entries in their order, and by the chain of each
 pub record IsFirstPlace (w : Window) (seen : Header → Type 0) (pages : List (List Slot)) (entries : List Entry) (value : ℤ) (key : ℕ) (q : Tid) : Type 0 where
   pub entry : Entry
@@ -90,6 +102,9 @@ pub record SomeOf (w : Window) (P : Header → Type 0) (pages : List (List Slot)
 
 -- An id is answered that P says of a version there, or there is none.
 
+abbrev pub IsIdIn : (ℕ → Header → Type 0) → Header → Option Xid → Type 0
+IsIdIn P h answer = MatchOption answer ((x : ℕ) → ¬ P x h) (λ x. P x.0 h)
+
 abbrev pub IsIdAmong : (ℕ → Header → Type 0) → List Slot → List ℕ → Option Xid → Type 0
 IsIdAmong P slots chain answer = MatchOption answer ((x : ℕ) → ¬ SomeAmong (P x) slots chain) (λ x. SomeAmong (P x.0) slots chain)
 
@@ -100,3 +115,7 @@ abbrev pub IsIdOf : Window → (ℕ → Header → Type 0) → List (List Slot) 
 IsIdOf w P pages entries value key answer = MatchOption answer
     ((x : ℕ) → ¬ SomeOf w (P x) pages entries value key)
     (λ x. SomeOf w (P x.0) pages entries value key)
+
+-- what was found before stays; where nothing was, this is said of the answer
+abbrev pub IsKept : {A : Type 0} → Option A → (Option A → Type 0) → Option A → Type 0
+IsKept before Here after = MatchOption before (Here after) (λ x. after ≡ Some x)

@@ -3,18 +3,20 @@
 ghost use Rattle.std.specs.Prelude.{◌≡◌, IfSome, MatchOption, None, Some, FitsSigned};
 ghost use Rattle.std.specs.Int.{w128};
 ghost use Rattle.std.specs.Option.{option_map};
+ghost use Rattle.tuple_header.specs.Faults.{header_fault};
 ghost use Rattle.root_index.specs.Sets.{IsOf};
 ghost use Rattle.index_lookup.specs.Pages.{version_in, page_slots_of};
 ghost use Rattle.index_lookup.specs.Reading.{IsSeenBy};
-ghost use Rattle.index_lookup.specs.Looking.{IsNextOf, IsFirstOf, FirstFound, SeenAt, FirstPlace};
+ghost use Rattle.index_lookup.specs.Looking.{IsNextOf, IsFirstOf, FirstFound, SeenAt, FirstPlace, IsPlaceIn, IsPlaceAlong};
 ghost use Rattle.index_lookup.specs.Walking.{SeenRow};
 
 use crate::reader::{Reader, TableView};
 use arrayvec::ArrayVec;
 use heap_pages::Pages;
 use hot_chain::{first_seen, list_chain};
+use page_slots::Page;
 use root_index::{Entry, LookUp, PositionHint, RootIndex};
-use tuple_header::RowRef;
+use tuple_header::{Header, RowRef};
 use visibility::visible_header;
 use xid_circle::Tid;
 
@@ -68,15 +70,23 @@ pub(crate) fn next_of(
     }
 }
 
-/// The place of the first version that the reader sees in the chain of a place. A page that is not in use has no chains.
-fn seen_at(pages: &Pages, place: Tid, reader: &Reader<'_>) -> Option<Tid>
-    ensures { SeenAt reader.now.statuses.now (IsSeenBy reader.now)
-        (page_slots_of pages.now) place result }
+/// The place of the version of this header, if the reader sees it.
+pub(crate) fn place_in(place: Tid, header: &Header, reader: &Reader<'_>) -> Option<Tid>
+    requires { header_fault header.now ≡ None }
+    ensures { IsPlaceIn (IsSeenBy reader.now) place header.now result }
 {
-    let page = match pages.page(place.page) {
-        Some(page) => page,
-        None => return None,
-    };
+    if visible_header(header, reader.snapshot, reader.own, reader.statuses) {
+        Some(place)
+    } else {
+        None
+    }
+}
+
+/// The place of the first version that the reader sees in the chain that a slot of this page leads to.
+fn seen_along(page: &Page, place: Tid, reader: &Reader<'_>) -> Option<Tid>
+    ensures { IsPlaceAlong reader.now.statuses.now (IsSeenBy reader.now) page.now.slots place
+        result }
+{
     let mut slots: ArrayVec<u16, 292> = ArrayVec::new();
     list_chain(page, place.slot, reader.statuses, &mut slots);
     match first_seen(
@@ -91,6 +101,22 @@ fn seen_at(pages: &Pages, place: Tid, reader: &Reader<'_>) -> Option<Tid>
             slot,
         }),
         None => None,
+    }
+}
+
+/// The place of the first version that the reader sees in the chain of a place. A page that is not in use has no chains.
+fn seen_at(pages: &Pages, place: Tid, reader: &Reader<'_>) -> Option<Tid>
+    ensures { SeenAt reader.now.statuses.now (IsSeenBy reader.now)
+        (page_slots_of pages.now) place result }
+{
+    let page = match pages.page(place.page) {
+        Some(page) => page,
+        None => return None,
+    };
+    match page.header(place.slot) {
+        // it is its whole chain, which need not be listed
+        Some(header) if !header.is_hot_updated() => place_in(place, &header, reader),
+        _ => seen_along(page, place, reader),
     }
 }
 

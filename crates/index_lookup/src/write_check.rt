@@ -1,18 +1,19 @@
 //! What a session that is about to write a key has to know of its versions. Nothing here takes memory.
 
-ghost use Rattle.std.specs.Prelude.{◌≡◌, MatchOption, None, Some};
-ghost use Rattle.hot_chain.specs.Chain.{NoneSeen, IsSeenIn};
+ghost use Rattle.std.specs.Prelude.{◌≡◌, ◌↔◌, IsTrue, None};
+ghost use Rattle.tuple_header.specs.Faults.{header_fault};
 ghost use Rattle.index_lookup.specs.Pages.{page_slots_of};
-ghost use Rattle.index_lookup.specs.Reading.{IsSeenBy, IsOtherWriterFor, IsNewerCommitFor};
-ghost use Rattle.index_lookup.specs.Looking.{SeenAt, FirstPlace, IsIdAmong, IsIdAt, IsIdOf};
+ghost use Rattle.index_lookup.specs.Reading.{IsSeenBy, IsOtherWriterFor, IsNewerCommitFor, IsPlain};
+ghost use Rattle.index_lookup.specs.Looking.{SeenAt, FirstPlace, IsIdIn, IsIdAmong, IsIdAt, IsIdOf, IsPlaceIn, IsPlaceAmong, IsKept};
 
-use crate::conflicts::{newer_commit_among, other_writer_among};
-use crate::lookup::next_of;
+use crate::conflicts::{newer_commit_in, other_writer_in, sees_committed};
+use crate::lookup::{next_of, place_in};
 use crate::reader::{Reader, TableView};
 use arrayvec::ArrayVec;
 use heap_pages::Pages;
-use hot_chain::{first_seen, list_chain};
+use hot_chain::list_chain;
 use page_slots::Page;
+use tuple_header::Header;
 use xid_circle::{Tid, Xid};
 
 /// What a session that is about to write a key has to know of its versions.
@@ -26,79 +27,126 @@ pub struct WriteCheck {
     pub other_writer: Option<Xid>,
 }
 
-/// What was found before, or else the place of the first of these slots, on the page of this number, whose version the
-/// reader sees.
-fn place_among(
-    before: Option<Tid>,
+/// Whether nobody deleted the version, and it is frozen, or its inserter is committed and the reader's snapshot sees it. Then the
+/// reader sees it, and it has no newer commit and no other writer: one look at its inserter tells all.
+fn is_plain(header: &Header, reader: &Reader<'_>) -> bool
+    requires { header_fault header.now ≡ None }
+    ensures { IsTrue result ↔ IsPlain reader.now header.now }
+{
+    header.xmax.0 == 0 && (header.is_frozen() || sees_committed(header.xmin, reader))
+}
+
+/// What was found before, or else the place of this version, if the reader sees it.
+fn place_or(before: Option<Tid>, place: Tid, header: &Header, reader: &Reader<'_>) -> Option<Tid>
+    requires { header_fault header.now ≡ None }
+    ensures { IsKept before (IsPlaceIn (IsSeenBy reader.now) place header.now) result }
+{
+    match before {
+        Some(_) => before,
+        None => place_in(place, header, reader),
+    }
+}
+
+/// What was found before, or else the id of a newer commit in this version.
+fn newer_commit_or(before: Option<Xid>, header: &Header, reader: &Reader<'_>) -> Option<Xid>
+    requires { header_fault header.now ≡ None }
+    ensures { IsKept before (IsIdIn (IsNewerCommitFor reader.now) header.now) result }
+{
+    match before {
+        Some(_) => before,
+        None => newer_commit_in(header, reader),
+    }
+}
+
+/// What was found before, or else another writer in this version.
+fn other_writer_or(before: Option<Xid>, header: &Header, reader: &Reader<'_>) -> Option<Xid>
+    requires { header_fault header.now ≡ None }
+    ensures { IsKept before (IsIdIn (IsOtherWriterFor reader.now) header.now) result }
+{
+    match before {
+        Some(_) => before,
+        None => other_writer_in(header, reader),
+    }
+}
+
+/// What was found before, and for each part of which nothing was, what the version of this header, at this place, has of it.
+fn with_version(before: WriteCheck, place: Tid, header: &Header, reader: &Reader<'_>) -> WriteCheck
+    requires { header_fault header.now ≡ None }
+    ensures place { IsKept before.place
+        (IsPlaceIn (IsSeenBy reader.now) place header.now) result.place }
+    ensures newer_commit { IsKept before.newer_commit
+        (IsIdIn (IsNewerCommitFor reader.now) header.now) result.newer_commit }
+    ensures other_writer { IsKept before.other_writer
+        (IsIdIn (IsOtherWriterFor reader.now) header.now) result.other_writer }
+{
+    if is_plain(header, reader) {
+        return WriteCheck {
+            place: before.place.or(Some(place)),
+            newer_commit: before.newer_commit,
+            other_writer: before.other_writer,
+        };
+    }
+    WriteCheck {
+        place: place_or(before.place, place, header, reader),
+        newer_commit: newer_commit_or(before.newer_commit, header, reader),
+        other_writer: other_writer_or(before.other_writer, header, reader),
+    }
+}
+
+/// What was found before, and for each part of which nothing was, what the versions in these slots, on the page of this
+/// number, have of it.
+fn with_versions(
+    before: WriteCheck,
     number: u32,
     page: &Page,
     slots: &[u16],
     reader: &Reader<'_>,
-) -> Option<Tid>
-    ensures { MatchOption before
-        (MatchOption result
-        (NoneSeen (IsSeenBy reader.now) page.now.slots slots.now)
-        (λ q. (q.page ≡ number)
-        × IsSeenIn (IsSeenBy reader.now) page.now.slots slots.now q.slot))
-        (λ q. result ≡ Some q) }
+) -> WriteCheck
+    ensures place { IsKept before.place
+        (IsPlaceAmong (IsSeenBy reader.now) number page.now.slots slots.now) result.place }
+    ensures newer_commit { IsKept before.newer_commit
+        (IsIdAmong (IsNewerCommitFor reader.now) page.now.slots slots.now) result.newer_commit }
+    ensures other_writer { IsKept before.other_writer
+        (IsIdAmong (IsOtherWriterFor reader.now) page.now.slots slots.now) result.other_writer }
 {
-    match before {
-        Some(_) => before,
-        None => match first_seen(page, slots, reader.snapshot, reader.own, reader.statuses) {
-            Some(slot) => Some(Tid { page: number, slot }),
-            None => None,
-        },
+    let mut standing = before;
+    for slot in slots {
+        if let Some(header) = page.header(*slot) {
+            let place = Tid {
+                page: number,
+                slot: *slot,
+            };
+            standing = with_version(standing, place, &header, reader);
+        }
     }
-}
-
-/// What was found before, or else the id of a newer commit in these slots.
-fn missed_or(before: Option<Xid>, page: &Page, slots: &[u16], reader: &Reader<'_>) -> Option<Xid>
-    ensures { MatchOption before
-        (IsIdAmong (IsNewerCommitFor reader.now) page.now.slots slots.now result)
-        (λ x. result ≡ Some x) }
-{
-    match before {
-        Some(_) => before,
-        None => newer_commit_among(page, slots, reader),
-    }
-}
-
-/// What was found before, or else another writer in these slots.
-fn holder_or(before: Option<Xid>, page: &Page, slots: &[u16], reader: &Reader<'_>) -> Option<Xid>
-    ensures { MatchOption before
-        (IsIdAmong (IsOtherWriterFor reader.now) page.now.slots slots.now result)
-        (λ x. result ≡ Some x) }
-{
-    match before {
-        Some(_) => before,
-        None => other_writer_among(page, slots, reader),
-    }
+    standing
 }
 
 /// What was found before, and for each part of which nothing was, what the chain of this root has of it. A page that is not
 /// in use has no chains.
 fn standing_at(before: WriteCheck, pages: &Pages, root: Tid, reader: &Reader<'_>) -> WriteCheck
-    ensures place { MatchOption before.place
+    ensures place { IsKept before.place
         (SeenAt reader.now.statuses.now (IsSeenBy reader.now)
-        (page_slots_of pages.now) root result.place) (λ q. result.place ≡ Some q) }
-    ensures newer_commit { MatchOption before.newer_commit
+        (page_slots_of pages.now) root) result.place }
+    ensures newer_commit { IsKept before.newer_commit
         (IsIdAt reader.now.statuses.now (IsNewerCommitFor reader.now)
-        (page_slots_of pages.now) root result.newer_commit) (λ x. result.newer_commit ≡ Some x) }
-    ensures other_writer { MatchOption before.other_writer
+        (page_slots_of pages.now) root) result.newer_commit }
+    ensures other_writer { IsKept before.other_writer
         (IsIdAt reader.now.statuses.now (IsOtherWriterFor reader.now)
-        (page_slots_of pages.now) root result.other_writer) (λ x. result.other_writer ≡ Some x) }
+        (page_slots_of pages.now) root) result.other_writer }
 {
     let page = match pages.page(root.page) {
         Some(page) => page,
         None => return before,
     };
-    let mut listed: ArrayVec<u16, 292> = ArrayVec::new();
-    list_chain(page, root.slot, reader.statuses, &mut listed);
-    let slots = listed.as_slice();
-    WriteCheck {
-        place: place_among(before.place, root.page, page, slots, reader),
-        newer_commit: missed_or(before.newer_commit, page, slots, reader),
-        other_writer: holder_or(before.other_writer, page, slots, reader),
+    match page.header(root.slot) {
+        // it is its whole chain, which need not be listed
+        Some(header) if !header.is_hot_updated() => with_version(before, root, &header, reader),
+        _ => {
+            let mut listed: ArrayVec<u16, 292> = ArrayVec::new();
+            list_chain(page, root.slot, reader.statuses, &mut listed);
+            with_versions(before, root.page, page, listed.as_slice(), reader)
+        }
     }
 }
 

@@ -4,8 +4,8 @@ use Rattle.visibility.specs.Seeing.{HasCommitted}
 use Rattle.visibility.specs.Visible.{state_of}
 use Rattle.snapshot.specs.Snap.{Sees}
 use Rattle.index_lookup.proofs.Among.{none-touched}
-use Rattle.index_lookup.proofs.conflicts.missed_in.Goals as goal
-use Rattle.index_lookup.proofs.conflicts.missed_in.Goals.{else-not-is_frozen-via-then-not-is_frozen+else-misses, else-not-is_frozen-via-else-not-is_frozen, else-header-ne0-via-then-header-ne0+else-misses-2, else-header-ne0-via-else-header-ne0}
+use Rattle.index_lookup.proofs.conflicts.newer_commit_in.Goals as goal
+use Rattle.index_lookup.proofs.conflicts.newer_commit_in.Goals.{else-not-is_frozen-via-then-not-is_frozen+else-misses, else-not-is_frozen-via-else-not-is_frozen, else-header-ne0-via-then-header-ne0+else-misses-2, else-header-ne0-via-else-header-ne0}
 
 pub returns : goal.returns
 returns c =

@@ -4,8 +4,8 @@ use Rattle.std.proofs.lemmas.Bool.{iff_false}
 use Rattle.visibility.specs.Seeing.{IsRunning}
 use Rattle.visibility.specs.Visible.{state_of}
 use Rattle.index_lookup.proofs.Among.{none-touched}
-use Rattle.index_lookup.proofs.conflicts.foreign_in.Goals as goal
-use Rattle.index_lookup.proofs.conflicts.foreign_in.Goals.{else-not-is_frozen-via-then-not-is_frozen+else-is_foreign, else-not-is_frozen-via-else-not-is_frozen, else-header-ne0-via-then-header-ne0+else-is_foreign-2, else-header-ne0-via-else-header-ne0}
+use Rattle.index_lookup.proofs.conflicts.other_writer_in.Goals as goal
+use Rattle.index_lookup.proofs.conflicts.other_writer_in.Goals.{else-not-is_frozen-via-then-not-is_frozen+else-is_foreign, else-not-is_frozen-via-else-not-is_frozen, else-header-ne0-via-then-header-ne0+else-is_foreign-2, else-header-ne0-via-else-header-ne0}
 
 pub returns : goal.returns
 returns c =

@@ -1,54 +1,74 @@
-use Rattle.std.proofs.Common.{◌≡◌, ℕ, List, Option, sym, subst}
-use Rattle.std.specs.Prelude.{MatchOption}
-use Rattle.xid_circle.specs.declared.Tid.{Tid}
-use Rattle.hot_chain.specs.Chain.{NoneSeen, IsSeenIn}
+use Rattle.std.proofs.Common.{ℕ, List, sym, subst, ◌∙◌}
 use Rattle.index_lookup.specs.Pages.{page_slots_of}
 use Rattle.index_lookup.specs.Reading.{IsSeenBy, IsOtherWriterFor, IsNewerCommitFor}
-use Rattle.index_lookup.specs.Looking.{SeenAt, IsIdAmong, IsIdAt}
+use Rattle.index_lookup.specs.Looking.{SeenAt, IsPlaceIn, IsPlaceAmong, IsIdIn, IsIdAmong, IsIdAt, IsKept}
 use Rattle.index_lookup.proofs.Among.{at-page, at-nowhere}
 use Rattle.index_lookup.proofs.Fetching.{fetched-nowhere}
-use Rattle.index_lookup.proofs.Searching.{IsKept, kept-same, kept-map, place-on_page}
+use Rattle.index_lookup.proofs.Searching.{kept-same, kept-map, place-on_page}
+use Rattle.index_lookup.proofs.Versions.{place-alone, id-alone}
 use Rattle.index_lookup.proofs.write_check.standing_at.Goals as goal
 
-pub returns-in-None-clause-place : goal.returns-in-None-clause-place
-returns-in-None-clause-place c =
+pub returns-in-None : goal.returns-in-None
+returns-in-None c =
+    let w = c.args.reader.now.statuses.now in
     let seen = IsSeenBy c.args.reader.now in
-    kept-same c.args.before.place (SeenAt c.args.reader.now.statuses.now seen (page_slots_of c.args.pages.now) c.args.root)
-    (fetched-nowhere c.args.reader.now.statuses.now seen c.args.pages.now.pages c.args.root (sym c.in-None.ensures))
+    let Missed = IsNewerCommitFor c.args.reader.now in
+    let Foreign = IsOtherWriterFor c.args.reader.now in
+    let pages = c.args.pages.now in
+    let none = sym c.in-None.ensures in
+    record {
+      place = kept-same c.args.before.place (SeenAt w seen (page_slots_of pages) c.args.root) (fetched-nowhere w seen pages.pages c.args.root none);
+      newer_commit = kept-same c.args.before.newer_commit (IsIdAt w Missed (page_slots_of pages) c.args.root) (at-nowhere w Missed pages.pages c.args.root none);
+      other_writer = kept-same c.args.before.other_writer (IsIdAt w Foreign (page_slots_of pages) c.args.root) (at-nowhere w Foreign pages.pages c.args.root none);
+    }
 
-pub returns-in-None-clause-newer_commit : goal.returns-in-None-clause-newer_commit
-returns-in-None-clause-newer_commit c =
-    let P = IsNewerCommitFor c.args.reader.now in
-    kept-same c.args.before.newer_commit (IsIdAt c.args.reader.now.statuses.now P (page_slots_of c.args.pages.now) c.args.root)
-    (at-nowhere c.args.reader.now.statuses.now P c.args.pages.now.pages c.args.root (sym c.in-None.ensures))
-
-pub returns-in-None-clause-other_writer : goal.returns-in-None-clause-other_writer
-returns-in-None-clause-other_writer c =
-    let P = IsOtherWriterFor c.args.reader.now in
-    kept-same c.args.before.other_writer (IsIdAt c.args.reader.now.statuses.now P (page_slots_of c.args.pages.now) c.args.root)
-    (at-nowhere c.args.reader.now.statuses.now P c.args.pages.now.pages c.args.root (sym c.in-None.ensures))
-
-pub returns-clause-place : goal.returns-clause-place
-returns-clause-place c =
+-- the version at the root is the whole chain
+pub returns-in-Some-header : goal.returns-in-Some-header
+returns-in-Some-header c =
+    let w = c.args.reader.now.statuses.now in
     let seen = IsSeenBy c.args.reader.now in
+    let Missed = IsNewerCommitFor c.args.reader.now in
+    let Foreign = IsOtherWriterFor c.args.reader.now in
+    let pages = c.args.pages.now in
+    let root = c.args.root in
     let page = c.in-Some.page.now in
-    let On : List ℕ → Option Tid → Type 0 = λ chain answer. MatchOption answer (NoneSeen seen page.slots chain) (λ q. (q.page ≡ c.args.root.page) × IsSeenIn seen page.slots chain q.slot) in
-    let found = subst (λ (chain : List ℕ). IsKept c.args.before.place (On chain) c.place_among.result) c.as_slice-slots.ensures.value c.place_among.ensures in
-    kept-map c.args.before.place c.place_among.result (On c.list_chain.new.visited.items) (SeenAt c.args.reader.now.statuses.now seen (page_slots_of c.args.pages.now) c.args.root)
-    (place-on_page c.args.reader.now.statuses.now seen c.args.pages.now.pages c.args.root page c.list_chain.new.visited.items c.place_among.result (sym c.in-Some.ensures) c.list_chain.ensures) found
+    let h = c.in-Some-header.header in
+    let there = sym c.in-Some.ensures in
+    let at = sym c.header.ensures.value ∙ c.in-Some-header.is in
+    let alone = sym c.is_hot_updated.ensures ∙ c.if-not-is_hot_updated.true in
+    let after = c.with_version.result in
+    record {
+      place = kept-map c.args.before.place after.place (IsPlaceIn seen root h) (SeenAt w seen (page_slots_of pages) root) (place-alone w seen pages.pages root page h after.place there at alone)
+          c.with_version.ensures.place;
+      newer_commit = kept-map c.args.before.newer_commit after.newer_commit (IsIdIn Missed h) (IsIdAt w Missed (page_slots_of pages) root)
+          (id-alone w Missed pages.pages root page h after.newer_commit there at alone) c.with_version.ensures.newer_commit;
+      other_writer = kept-map c.args.before.other_writer after.other_writer (IsIdIn Foreign h) (IsIdAt w Foreign (page_slots_of pages) root)
+          (id-alone w Foreign pages.pages root page h after.other_writer there at alone) c.with_version.ensures.other_writer;
+    }
 
-pub returns-clause-newer_commit : goal.returns-clause-newer_commit
-returns-clause-newer_commit c =
-    let P = IsNewerCommitFor c.args.reader.now in
+-- the chain is listed
+pub returns-in_default : goal.returns-in_default
+returns-in_default c =
+    let w = c.args.reader.now.statuses.now in
+    let seen = IsSeenBy c.args.reader.now in
+    let Missed = IsNewerCommitFor c.args.reader.now in
+    let Foreign = IsOtherWriterFor c.args.reader.now in
+    let pages = c.args.pages.now in
+    let root = c.args.root in
     let page = c.in-Some.page.now in
-    let found = subst (λ (chain : List ℕ). IsKept c.args.before.newer_commit (IsIdAmong P page.slots chain) c.missed_or.result) c.as_slice-slots.ensures.value c.missed_or.ensures in
-    kept-map c.args.before.newer_commit c.missed_or.result (IsIdAmong P page.slots c.list_chain.new.visited.items) (IsIdAt c.args.reader.now.statuses.now P (page_slots_of c.args.pages.now) c.args.root)
-    (at-page c.args.reader.now.statuses.now P c.args.pages.now.pages c.args.root page c.list_chain.new.visited.items c.missed_or.result (sym c.in-Some.ensures) c.list_chain.ensures) found
-
-pub returns-clause-other_writer : goal.returns-clause-other_writer
-returns-clause-other_writer c =
-    let P = IsOtherWriterFor c.args.reader.now in
-    let page = c.in-Some.page.now in
-    let found = subst (λ (chain : List ℕ). IsKept c.args.before.other_writer (IsIdAmong P page.slots chain) c.holder_or.result) c.as_slice-slots.ensures.value c.holder_or.ensures in
-    kept-map c.args.before.other_writer c.holder_or.result (IsIdAmong P page.slots c.list_chain.new.visited.items) (IsIdAt c.args.reader.now.statuses.now P (page_slots_of c.args.pages.now) c.args.root)
-    (at-page c.args.reader.now.statuses.now P c.args.pages.now.pages c.args.root page c.list_chain.new.visited.items c.holder_or.result (sym c.in-Some.ensures) c.list_chain.ensures) found
+    let there = sym c.in-Some.ensures in
+    let chain = c.list_chain.new.visited.items in
+    let before = c.args.before in
+    let after = c.with_versions.result in
+    let listed = c.as_slice.ensures.value in
+    record {
+      place = kept-map before.place after.place (IsPlaceAmong seen root.page page.slots chain) (SeenAt w seen (page_slots_of pages) root)
+          (place-on_page w seen pages.pages root page chain after.place there c.list_chain.ensures)
+          (subst (λ (slots : List ℕ). IsKept before.place (IsPlaceAmong seen root.page page.slots slots) after.place) listed c.with_versions.ensures.place);
+      newer_commit = kept-map before.newer_commit after.newer_commit (IsIdAmong Missed page.slots chain) (IsIdAt w Missed (page_slots_of pages) root)
+          (at-page w Missed pages.pages root page chain after.newer_commit there c.list_chain.ensures)
+          (subst (λ (slots : List ℕ). IsKept before.newer_commit (IsIdAmong Missed page.slots slots) after.newer_commit) listed c.with_versions.ensures.newer_commit);
+      other_writer = kept-map before.other_writer after.other_writer (IsIdAmong Foreign page.slots chain) (IsIdAt w Foreign (page_slots_of pages) root)
+          (at-page w Foreign pages.pages root page chain after.other_writer there c.list_chain.ensures)
+          (subst (λ (slots : List ℕ). IsKept before.other_writer (IsIdAmong Foreign page.slots slots) after.other_writer) listed c.with_versions.ensures.other_writer);
+    }
