@@ -1,7 +1,7 @@
 -- A search goes from one entry of a value and a key to the next.
 use Rattle.std.proofs.Common.{◌≡◌, ◌⊎◌, ℕ, ℤ, ◌+◌, ◌≤◌, List, length, Option, Some, None, refl, sym, ap, ◌∙◌, subst, ⊎_elim, inl, inr, arith, slice_get}
 use Rattle.std.specs.List.{Contains}
-use Rattle.std.specs.Prelude.{MatchOption}
+use Rattle.std.specs.Prelude.{MatchOption, IfSome}
 use Rattle.std.specs.Option.{option_map}
 use Rattle.std.specs.Ordering.{ordering_reverse}
 use Rattle.std.specs.declared.cmp.Ordering.{Ordering}
@@ -10,7 +10,7 @@ use Rattle.std.proofs.lemmas.Bool.{cases_lt}
 use Rattle.std.proofs.lemmas.Option.{slice_get_within, none-some, same_Some}
 use Rattle.root_index.specs.declared.entry.Entry.{Entry}
 use Rattle.root_index.specs.Order.{comparison, EntryPrecedes, IsAscending}
-use Rattle.root_index.specs.Sets.{IsLeast, IsAfter, IsBelow, IsOf}
+use Rattle.root_index.specs.Sets.{IsLeast, IsAfter, IsBelow, IsOf, IsLastOf}
 use Rattle.root_index.proofs.OrderLemmas.{comparison_total, same-from_tied}
 use Rattle.root_index.proofs.SetLemmas.{place_of, start_after}
 use Rattle.root_index.proofs.LookUpLemmas as look
@@ -47,6 +47,14 @@ pub after-only : (xs : List Entry) (value : ℤ) (key : ℕ) (from : Entry) (fou
     → IsOnly value key found answer → IsNextOf xs value key (Some from) answer
 after-only xs value key from found None of least only = after-none xs value key from found of least only
 after-only xs value key from found (Some n) of least only = after-some xs value key from n (subst (IsLeast xs (IsAfter (Some from))) only.0 least) only.1
+
+-- the first one is the last one too
+pub last-only : (xs : List Entry) (value : ℤ) (key : ℕ) (found answer : Option Entry) → IsOnly value key found answer → IfSome found (IsLastOf xs) → IfSome answer (IsLastOf xs)
+last-only xs value key found None only last = tt
+last-only xs value key found (Some f) only last = subst (λ (o : Option Entry). IfSome o (IsLastOf xs)) only.0 last
+
+pub none-after : (xs : List Entry) (value : ℤ) (key : ℕ) (from : Entry) → IsOf value key from → IsLastOf xs from → IsNextOf xs value key (Some from) None
+none-after xs value key from of last e there is = last e there (is.0.0 ∙ sym of.0, is.0.1 ∙ sym of.1) is.1
 
 -- what was found comes with where it stood
 abbrev pub entry_of : {Hint : Type 0} → Option (Entry × Hint) → Option Entry

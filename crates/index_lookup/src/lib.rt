@@ -11,6 +11,7 @@ mod conflicts;
 mod index_scan;
 mod lookup;
 mod reader;
+mod turn;
 mod write_check;
 
 pub use index_scan::{IndexPosition, IndexRange, next_row};

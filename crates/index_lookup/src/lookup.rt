@@ -1,6 +1,6 @@
 //! Looking along the entries of one value and one key, and at one place. Nothing here takes memory.
 
-ghost use Rattle.std.specs.Prelude.{◌≡◌, IfSome, MatchOption, None, Some, FitsSigned};
+ghost use Rattle.std.specs.Prelude.{◌≡◌, None, Some, FitsSigned};
 ghost use Rattle.std.specs.Int.{w128};
 ghost use Rattle.std.specs.Option.{option_map};
 ghost use Rattle.tuple_header.specs.Faults.{header_fault};
@@ -11,11 +11,12 @@ ghost use Rattle.index_lookup.specs.Looking.{IsNextOf, IsFirstOf, FirstFound, Se
 ghost use Rattle.index_lookup.specs.Walking.{SeenRow};
 
 use crate::reader::{Reader, TableView};
+use crate::turn::{first_turn, next_of};
 use arrayvec::ArrayVec;
 use heap_pages::Pages;
 use hot_chain::{first_seen, list_chain};
 use page_slots::Page;
-use root_index::{Entry, LookUp, PositionHint, RootIndex};
+use root_index::{Entry, LookUp, PositionHint};
 use tuple_header::{Header, RowRef};
 use visibility::visible_header;
 use xid_circle::Tid;
@@ -30,44 +31,11 @@ pub(crate) fn with_hint(look_up: LookUp) -> Option<(Entry, PositionHint)>
     }
 }
 
-/// An entry, if it is of this value and this key, and where it stood.
-fn only_of(
-    found: Option<(Entry, PositionHint)>,
-    value: i128,
-    key: u64,
-) -> Option<(Entry, PositionHint)>
-    ensures { MatchOption result ((f : _) → found ≡ Some f → ¬ IsOf value key f.0)
-        (λ f. (found ≡ Some f) × IsOf value key f.0) }
-{
-    match found {
-        Some((entry, near)) if entry.value == value && entry.key == key => Some((entry, near)),
-        _ => None,
-    }
-}
-
 /// That the value of an entry is in range. It does nothing; its contract is the fact.
 fn has_value(entry: &Entry)
     ensures { FitsSigned w128 entry.now.value }
 {
     let _value = entry.value;
-}
-
-/// The first entry of this value and this key that comes after another one of these, or the first of all; and where it stood.
-/// Where the other still stands at the place that is given, that is found without a search.
-pub(crate) fn next_of(
-    index: &RootIndex,
-    value: i128,
-    key: u64,
-    from: Option<(Entry, PositionHint)>,
-) -> Option<(Entry, PositionHint)>
-    requires { IfSome from (λ found. IsOf value key found.0) }
-    ensures { IsNextOf index.now.entries value key (option_map (λ found. found.0) from)
-        (option_map (λ found. found.0) result) }
-{
-    match from {
-        None => only_of(with_hint(index.first_from(value, key)), value, key),
-        Some((entry, near)) => only_of(index.next_near(entry, near), value, key),
-    }
 }
 
 /// The place of the version of this header, if the reader sees it.
@@ -144,7 +112,7 @@ pub fn place_from(
                 if let Some(place) = seen_at(table.pages, entry.tid, reader) {
                     return Some(place);
                 }
-                next = next_of(table.index, first.value, first.key, Some((entry, near)));
+                next = next_of(table.index, first.value, first.key, entry, near);
             }
         }
     }
@@ -158,8 +126,9 @@ pub fn place_of(table: &TableView<'_>, value: i128, key: u64, reader: &Reader<'_
         (page_slots_of table.now.pages.now) table.now.index.now.entries
         value key result }
 {
-    match next_of(table.index, value, key, None) {
-        Some((first, near)) => place_from(table, first, near, reader),
+    let first = first_turn(table.index, value, key);
+    match first.next {
+        Some(entry) => place_from(table, entry, first.near, reader),
         None => None,
     }
 }

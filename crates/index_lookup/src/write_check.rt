@@ -7,12 +7,14 @@ ghost use Rattle.index_lookup.specs.Reading.{IsSeenBy, IsOtherWriterFor, IsNewer
 ghost use Rattle.index_lookup.specs.Looking.{SeenAt, FirstPlace, IsIdIn, IsIdAmong, IsIdAt, IsIdOf, IsPlaceIn, IsPlaceAmong, IsKept};
 
 use crate::conflicts::{newer_commit_in, other_writer_in, sees_committed};
-use crate::lookup::{next_of, place_in};
+use crate::lookup::place_in;
 use crate::reader::{Reader, TableView};
+use crate::turn::{first_turn, turn_after};
 use arrayvec::ArrayVec;
 use heap_pages::Pages;
 use hot_chain::list_chain;
 use page_slots::Page;
+use root_index::PositionHint;
 use tuple_header::Header;
 use xid_circle::{Tid, Xid};
 
@@ -151,17 +153,23 @@ fn standing_at(before: WriteCheck, pages: &Pages, root: Tid, reader: &Reader<'_>
 }
 
 /// How the versions of this value and this key stand to a session, along the entries in their order, and along the chain of
-/// each: it goes along these once. It takes no memory.
-pub fn check_write(table: &TableView<'_>, value: i128, key: u64, reader: &Reader<'_>) -> WriteCheck
+/// each: it goes along these once. And where the last of the entries stood, or where one would stand if there is none: a hint to
+/// who adds another. It takes no memory.
+pub fn check_write(
+    table: &TableView<'_>,
+    value: i128,
+    key: u64,
+    reader: &Reader<'_>,
+) -> (WriteCheck, PositionHint)
     ensures place { FirstPlace reader.now.statuses.now (IsSeenBy reader.now)
         (page_slots_of table.now.pages.now) table.now.index.now.entries
-        value key result.place }
+        value key result.0.place }
     ensures newer_commit { IsIdOf reader.now.statuses.now (IsNewerCommitFor reader.now)
         (page_slots_of table.now.pages.now) table.now.index.now.entries
-        value key result.newer_commit }
+        value key result.0.newer_commit }
     ensures other_writer { IsIdOf reader.now.statuses.now (IsOtherWriterFor reader.now)
         (page_slots_of table.now.pages.now) table.now.index.now.entries
-        value key result.other_writer }
+        value key result.0.other_writer }
 {
     table.index.is_ascending();
     let mut standing = WriteCheck {
@@ -169,15 +177,15 @@ pub fn check_write(table: &TableView<'_>, value: i128, key: u64, reader: &Reader
         newer_commit: None,
         other_writer: None,
     };
-    let mut next = next_of(table.index, value, key, None);
+    let mut turn = first_turn(table.index, value, key);
     for _ in 0..table.index.len() {
-        match next {
-            None => return standing,
-            Some((entry, near)) => {
+        match turn.next {
+            None => return (standing, turn.near),
+            Some(entry) => {
                 standing = standing_at(standing, table.pages, entry.tid, reader);
-                next = next_of(table.index, value, key, Some((entry, near)));
+                turn = turn_after(turn, entry, table.index, value, key);
             }
         }
     }
-    standing
+    (standing, turn.near)
 }

@@ -150,7 +150,7 @@ fn seen_from_first(table: &TableView<'_>, key: u64, reader: &Reader<'_>) -> Seen
 /// What a session has to know of a key before it writes it.
 fn standing(table: &TableView<'_>, key: u64, reader: &Reader<'_>) -> WriteCheck {
     let value = i128::from(key);
-    check_write(table, value, key, reader)
+    check_write(table, value, key, reader).0
 }
 
 /// Whether this is found of a key, however it is looked for.

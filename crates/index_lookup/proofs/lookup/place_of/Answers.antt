@@ -1,11 +1,10 @@
-use Rattle.std.proofs.Common.{None, ap, subst, to_z, of_z}
+use Rattle.std.proofs.Common.{None, subst, to_z, of_z}
 use Rattle.std.specs.Int.{w128}
 use Rattle.std.proofs.lemmas.Int.{to_z-of_z}
 use Rattle.index_lookup.specs.Pages.{page_slots_of}
 use Rattle.index_lookup.specs.Reading.{IsSeenBy}
 use Rattle.index_lookup.specs.Looking.{IsNextOf}
 use Rattle.index_lookup.proofs.Fetching.{place-from_first, no-place}
-use Rattle.index_lookup.proofs.Turns.{entry_of}
 use Rattle.index_lookup.proofs.lookup.place_of.Goals as goal
 
 pub returns-in-Some : goal.returns-in-Some
@@ -13,8 +12,8 @@ returns-in-Some c =
     let seen = IsSeenBy c.args.reader.now in
     let entries = c.args.table.now.index.now.entries in
     let stored = to_z w128 (of_z w128 c.args.value) in
-    let least = subst (IsNextOf entries stored c.args.key None) (ap entry_of c.in-Some.is) c.next_of.ensures in
-    place-from_first c.args.reader.now.statuses.now seen (page_slots_of c.args.table.now.pages.now) entries stored c.args.value c.args.key c.in-Some.first c.place_from.result
+    let least = subst (IsNextOf entries stored c.args.key None) c.in-Some.is c.first_turn-first.ensures.next in
+    place-from_first c.args.reader.now.statuses.now seen (page_slots_of c.args.table.now.pages.now) entries stored c.args.value c.args.key c.in-Some.entry c.place_from.result
     (to_z-of_z w128 c.args.value c.ranges.value) least c.place_from.ensures
 
 pub returns-in-None : goal.returns-in-None
@@ -23,4 +22,4 @@ returns-in-None c =
     let entries = c.args.table.now.index.now.entries in
     let stored = to_z w128 (of_z w128 c.args.value) in
     no-place c.args.reader.now.statuses.now seen (page_slots_of c.args.table.now.pages.now) entries stored c.args.value c.args.key (to_z-of_z w128 c.args.value c.ranges.value)
-    (subst (IsNextOf entries stored c.args.key None) (ap entry_of c.in-None.is) c.next_of.ensures)
+    (subst (IsNextOf entries stored c.args.key None) c.in-None.is c.first_turn-first.ensures.next)

@@ -1,0 +1,97 @@
+//! The turns of a search along the entries of one value and one key. Nothing here takes memory.
+
+ghost use Rattle.std.specs.Prelude.{◌≡◌, IfSome, IsTrue, MatchOption, None, Some};
+ghost use Rattle.std.specs.Option.{option_map};
+ghost use Rattle.root_index.specs.Sets.{IsOf, IsLastOf};
+ghost use Rattle.index_lookup.specs.Looking.{IsNextOf};
+
+use root_index::{Entry, PositionHint, RootIndex};
+
+/// Where a search along the entries of one value and one key has come.
+#[derive(Clone, Copy)]
+pub(crate) struct Turn {
+    /// The entry that comes next, if there is one.
+    pub(crate) next: Option<Entry>,
+    /// Where it stood; if there is none, where the last one stood, or where the first would stand.
+    pub(crate) near: PositionHint,
+    /// Whether it is known that no entry comes after that one.
+    pub(crate) is_last: bool,
+}
+
+/// An entry, if it is of this value and this key.
+fn entry_of_key(found: Option<Entry>, value: i128, key: u64) -> Option<Entry>
+    ensures { MatchOption result ((e : Entry) → found ≡ Some e → ¬ IsOf value key e)
+        (λ e. (found ≡ Some e) × IsOf value key e) }
+{
+    match found {
+        Some(entry) if entry.value == value && entry.key == key => Some(entry),
+        _ => None,
+    }
+}
+
+/// An entry, if it is of this value and this key, and where it stood.
+fn only_of(
+    found: Option<(Entry, PositionHint)>,
+    value: i128,
+    key: u64,
+) -> Option<(Entry, PositionHint)>
+    ensures { MatchOption result ((f : _) → found ≡ Some f → ¬ IsOf value key f.0)
+        (λ f. (found ≡ Some f) × IsOf value key f.0) }
+{
+    match found {
+        Some((entry, near)) if entry.value == value && entry.key == key => Some((entry, near)),
+        _ => None,
+    }
+}
+
+/// The first entry of this value and this key that comes after another one of these, and where it stood. Where the other still stands
+/// at the place that is given, that is found without a search.
+pub(crate) fn next_of(
+    index: &RootIndex,
+    value: i128,
+    key: u64,
+    from: Entry,
+    near: PositionHint,
+) -> Option<(Entry, PositionHint)>
+    requires { IsOf value key from }
+    ensures { IsNextOf index.now.entries value key (Some from)
+        (option_map (λ found. found.0) result) }
+{
+    only_of(index.next_near(from, near), value, key)
+}
+
+/// The first turn: at the first entry of this value and this key.
+pub(crate) fn first_turn(index: &RootIndex, value: i128, key: u64) -> Turn
+    ensures next { IsNextOf index.now.entries value key None result.next }
+    ensures last { IsTrue result.is_last → IfSome result.next (IsLastOf index.now.entries) }
+{
+    let first = index.first_from(value, key);
+    Turn {
+        next: entry_of_key(first.found, value, key),
+        near: first.near,
+        is_last: first.is_last,
+    }
+}
+
+/// The turn after that at this entry. Where that is known to be the last, the index is not looked at.
+pub(crate) fn turn_after(at: Turn, entry: Entry, index: &RootIndex, value: i128, key: u64) -> Turn
+    requires of { IsOf value key entry }
+    requires last { IsTrue at.is_last → IsLastOf index.now.entries entry }
+    ensures next { IsNextOf index.now.entries value key (Some entry) result.next }
+    ensures last { IsTrue result.is_last → IfSome result.next (IsLastOf index.now.entries) }
+{
+    if !at.is_last {
+        if let Some((next, near)) = next_of(index, value, key, entry, at.near) {
+            return Turn {
+                next: Some(next),
+                near,
+                is_last: false,
+            };
+        }
+    }
+    Turn {
+        next: None,
+        near: at.near,
+        is_last: true,
+    }
+}
