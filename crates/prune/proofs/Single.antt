@@ -1,6 +1,5 @@
--- A version that no later one replaced is the last of its chain; where it is the first too, it is alone.
-use Rattle.std.proofs.Common.{IsTrue, ◌↔◌, ◌≡◌, ℕ, if◌then◌else◌, Bool, true, false, nat_eq, List, [], ◌∷◌, get_or, Option, Some, None, arith, sym, ap, ◌∙◌, refl, subst}
-use Rattle.std.specs.List.{IsDistinct}
+-- A chain of one version: how many of its versions are cut, and where it starts.
+use Rattle.std.proofs.Common.{IsTrue, ◌↔◌, ◌≡◌, ℕ, if◌then◌else◌, Bool, true, false, List, [], ◌∷◌, get_or, Option, Some, None, arith, sym, ap, ◌∙◌, refl, subst}
 use Rattle.std.specs.Option.{option_and_then, option_map, unwrap_or}
 use Rattle.page_slots.specs.declared.slot.Slot.{Slot}
 use Rattle.page_slots.specs.declared.slot.Slot.TheVariants.{Unused, Normal, Redirect, Dead}
@@ -10,30 +9,12 @@ use Rattle.tuple_header.specs.declared.version.Header.{Header}
 use Rattle.tuple_header.specs.Marks.{is_hot_updated}
 use Rattle.commit_status.specs.Window.{Window}
 use Rattle.visibility.specs.Visible.{IsDead}
-use Rattle.hot_chain.specs.Chain.{has_aborted, is_replaced, successor, start_in, first_of, IsChain, IsEnd}
+use Rattle.hot_chain.specs.Chain.{has_aborted, start_in, first_of}
+use Rattle.hot_chain.proofs.Alone.{not-replaced, single-chain}
 use Rattle.sound_page.specs.Dead.{IsDeadAt}
 use Rattle.prune.specs.Cutting.{IsCutCount}
 use Rattle.prune.specs.Marks.{IsSingle}
 use Rattle.prune.proofs.Cuts.{some-version, dead-there, dead-here}
-
-not-replaced : (aborted : ℕ → Bool) (h : Header) → is_hot_updated h ≡ false → is_replaced aborted h ≡ false
-not-replaced aborted h off = rw off refl
-
-pub leads-nowhere : (aborted : ℕ → Bool) (slots : List Slot) (h : Header) → is_replaced aborted h ≡ false → successor aborted slots h ≡ None
-leads-nowhere aborted slots h off = rw off refl
-
-distinct-alone : (n : ℕ) → IsDistinct nat_eq (n ∷ [])
-unfolding IsDistinct
-distinct-alone n = (tt, tt)
-
-pub single-chain : (aborted : ℕ → Bool) (slots : List Slot) (n start : ℕ) (h : Header) → first_of slots n ≡ Some start → header_at slots start ≡ Some h
-    → is_replaced aborted h ≡ false → IsChain aborted slots n (start ∷ [])
-single-chain aborted slots n start h first at off = record {
-  start = sym first;
-  linked = λ i more. absurd (omega arith);
-  distinct = distinct-alone start;
-  end = λ some. subst (IsEnd (start ∷ [])) (sym (ap (option_and_then (successor aborted slots)) at ∙ leads-nowhere aborted slots h off)) tt;
-}
 
 -- so many of its versions are cut
 pub single-cut : (w : Window) (horizon : ℕ) (slots : List Slot) (start : ℕ) (dead : Bool) → IsTrue dead ↔ IsDeadAt w horizon slots start

@@ -17,7 +17,7 @@ use Rattle.prune.specs.Cutting.{IsCutCount}
 use Rattle.prune.specs.Pruning.{chain_action, root_action, IsInChainOf}
 use Rattle.prune.specs.Marks.{NoneDead, PlainlyStays, ListsAllBut}
 use Rattle.prune.proofs.Cuts.{dead-here}
-use Rattle.prune.proofs.Single.{single-chain, leads-nowhere}
+use Rattle.hot_chain.proofs.Alone.{single-chain, leads-nowhere}
 
 version-header : (slots : List Slot) (n : ℕ) (t : Version) → version_at slots n ≡ Some t → header_at slots n ≡ Some t.header
 version-header slots n t at = ap (option_map (λ (v : Version). v.header)) at
