@@ -13,6 +13,7 @@ use index_lookup::{
     IndexPosition, IndexRange, Reader, TableView, WriteCheck, check_write, next_row, row_of,
     seen_row,
 };
+use root_index::PositionHint;
 use snapshot::{OwnIds, Snapshot};
 use tuple_header::RowRef;
 use xid_circle::Tid;
@@ -36,15 +37,23 @@ impl HeapState {
         row_of(&table, value, key, &reader)
     }
 
-    /// How the versions of the key stand to a session that is about to write it.
-    pub fn check_write(&self, key: u64, snapshot: &Snapshot, own: &OwnIds) -> WriteCheck
+    /// How the versions of the key stand to a session that is about to write it; and where the key's last entry stands, or would,
+    /// as a hint for [`HeapState::expect_entry`].
+    pub fn check_write(
+        &self,
+        key: u64,
+        snapshot: &Snapshot,
+        own: &OwnIds,
+    ) -> (WriteCheck, PositionHint)
         ensures place { FirstPlace self.now.table
             (IsVisible self.now.table snapshot.now own.now.ids) (slots_of self.now)
-            (entries_in self.now.indexes 0) (pos key) key result.place }
+            (entries_in self.now.indexes 0) (pos key) key result.0.place }
         ensures newer_commit { IsIdOf self.now.table (IsNewerCommitIn self.now.table snapshot.now)
-            (slots_of self.now) (entries_in self.now.indexes 0) (pos key) key result.newer_commit }
+            (slots_of self.now) (entries_in self.now.indexes 0) (pos key) key
+            result.0.newer_commit }
         ensures other_writer { IsIdOf self.now.table (IsOtherWriterIn self.now.table own.now.ids)
-            (slots_of self.now) (entries_in self.now.indexes 0) (pos key) key result.other_writer }
+            (slots_of self.now) (entries_in self.now.indexes 0) (pos key) key
+            result.0.other_writer }
     {
         let value = i128::from(key);
         let reader = Reader {
@@ -57,6 +66,13 @@ impl HeapState {
             index: self.indexes.by_key(),
         };
         check_write(&table, value, key, &reader)
+    }
+
+    /// Where the entry by key of the next new root is looked for first. A wrong hint costs two looks, and changes no answer.
+    pub fn expect_entry(&mut self, near: PositionHint)
+        ensures { self.new ≡ self.old }
+    {
+        self.indexes.expect(near)
     }
 
     /// The first place of the span, in the order of the index, where the reader sees a row, and that row, where it stands.

@@ -21,24 +21,24 @@ use Rattle.hot_chain.proofs.Alone.{alone-chain}
 use Rattle.hot_chain.proofs.Seen.{seen-here}
 use Rattle.index_lookup.specs.declared.reader.Reader.{Reader}
 use Rattle.index_lookup.specs.declared.write_check.WriteCheck.{WriteCheck}
-use Rattle.index_lookup.specs.Reading.{IsSeenBy, IsNewerCommitFor, IsOtherWriterFor, IsPlain}
+use Rattle.index_lookup.specs.Reading.{IsSeenBy, IsNewerCommitFor, IsOtherWriterFor, IsPlainFor}
 use Rattle.index_lookup.specs.Looking.{SomeAmong, SeenAt, IsIdIn, IsIdAmong, IsIdAt, IsPlaceIn, IsPlaceAmong, IsKept}
 use Rattle.index_lookup.proofs.Among.{NoneTo, none-touched, none-yet, none-more, none-here, none-other, some-here, at-page}
 use Rattle.index_lookup.proofs.Searching.{kept-same, kept-map, place-on_page}
 
 -- A plain version.
 
-pub plain-seen : (r : Reader) (h : Header) → IsPlain r h → IsSeenBy r h
+pub plain-seen : (r : Reader) (h : Header) → IsPlainFor r h → IsSeenBy r h
 plain-seen r h p =
     visible-of (ReadsIn r.statuses.now r.snapshot.now r.own.now.ids) h (⊎_elim (λ frozen. inl frozen) (λ reads. inr (Reads.by_others reads.1 reads.0)) p.made)
     (λ some. absurd (some p.undeleted))
 
-pub plain-no_newer_commit : (r : Reader) (h : Header) → IsPlain r h → (x : ℕ) → ¬ IsNewerCommitFor r x h
+pub plain-no_newer_commit : (r : Reader) (h : Header) → IsPlainFor r h → (x : ℕ) → ¬ IsNewerCommitFor r x h
 plain-no_newer_commit r h p x newer =
     let P : ℕ → Type 0 = λ x. HasCommitted (state_of r.statuses.now) x × (Sees r.snapshot.now r.statuses.now x → ⊥) in
     none-touched h P (⊎_elim (λ frozen. inl frozen) (λ reads. inr (λ missed. missed.1 reads.1)) p.made) (inl p.undeleted) x newer.0 (newer.1, newer.2)
 
-pub plain-no_other_writer : (r : Reader) (h : Header) → IsPlain r h → (x : ℕ) → ¬ IsOtherWriterFor r x h
+pub plain-no_other_writer : (r : Reader) (h : Header) → IsPlainFor r h → (x : ℕ) → ¬ IsOtherWriterFor r x h
 plain-no_other_writer r h p x other =
     let P : ℕ → Type 0 = λ x. IsRunning (state_of r.statuses.now) x × (Contains r.own.now.ids x → ⊥) in
     none-touched h P

@@ -19,6 +19,6 @@ abbrev pub IsOtherWriterFor : Reader → ℕ → Header → Type 0
 IsOtherWriterFor r x h = IsOtherWriterIn r.statuses.now r.own.now.ids x h
 
 -- nobody deleted the version, and it is frozen, or its inserter is committed and the snapshot sees it
-pub record IsPlain (r : Reader) (h : Header) : Type 0 where
+pub record IsPlainFor (r : Reader) (h : Header) : Type 0 where
   pub undeleted : h.xmax.0 ≡ 0
   pub made : IsFrozen h ⊎ (HasCommitted (state_of r.statuses.now) h.xmin.0 × Sees r.snapshot.now r.statuses.now h.xmin.0)

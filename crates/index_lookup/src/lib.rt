@@ -11,7 +11,7 @@ mod conflicts;
 mod index_scan;
 mod lookup;
 mod reader;
-mod turn;
+mod search;
 mod write_check;
 
 pub use index_scan::{IndexPosition, IndexRange, next_row};

@@ -11,7 +11,7 @@ ghost use Rattle.index_lookup.specs.Looking.{IsNextOf, IsFirstOf, FirstFound, Se
 ghost use Rattle.index_lookup.specs.Walking.{SeenRow};
 
 use crate::reader::{Reader, TableView};
-use crate::turn::{first_turn, next_of};
+use crate::search::{begin_search, next_of};
 use arrayvec::ArrayVec;
 use heap_pages::Pages;
 use hot_chain::{first_seen, list_chain};
@@ -126,7 +126,7 @@ pub fn place_of(table: &TableView<'_>, value: i128, key: u64, reader: &Reader<'_
         (page_slots_of table.now.pages.now) table.now.index.now.entries
         value key result }
 {
-    let first = first_turn(table.index, value, key);
+    let first = begin_search(table.index, value, key);
     match first.next {
         Some(entry) => place_from(table, entry, first.near, reader),
         None => None,

@@ -3,13 +3,13 @@
 ghost use Rattle.std.specs.Prelude.{◌≡◌, ◌↔◌, IsTrue, None};
 ghost use Rattle.tuple_header.specs.Faults.{header_fault};
 ghost use Rattle.index_lookup.specs.Pages.{page_slots_of};
-ghost use Rattle.index_lookup.specs.Reading.{IsSeenBy, IsOtherWriterFor, IsNewerCommitFor, IsPlain};
+ghost use Rattle.index_lookup.specs.Reading.{IsSeenBy, IsOtherWriterFor, IsNewerCommitFor, IsPlainFor};
 ghost use Rattle.index_lookup.specs.Looking.{SeenAt, FirstPlace, IsIdIn, IsIdAmong, IsIdAt, IsIdOf, IsPlaceIn, IsPlaceAmong, IsKept};
 
 use crate::conflicts::{newer_commit_in, other_writer_in, sees_committed};
 use crate::lookup::place_in;
 use crate::reader::{Reader, TableView};
-use crate::turn::{first_turn, turn_after};
+use crate::search::{begin_search, go_on};
 use arrayvec::ArrayVec;
 use heap_pages::Pages;
 use hot_chain::list_chain;
@@ -33,7 +33,7 @@ pub struct WriteCheck {
 /// reader sees it, and it has no newer commit and no other writer: one look at its inserter tells all.
 fn is_plain(header: &Header, reader: &Reader<'_>) -> bool
     requires { header_fault header.now ≡ None }
-    ensures { IsTrue result ↔ IsPlain reader.now header.now }
+    ensures { IsTrue result ↔ IsPlainFor reader.now header.now }
 {
     header.xmax.0 == 0 && (header.is_frozen() || sees_committed(header.xmin, reader))
 }
@@ -177,15 +177,15 @@ pub fn check_write(
         newer_commit: None,
         other_writer: None,
     };
-    let mut turn = first_turn(table.index, value, key);
+    let mut search = begin_search(table.index, value, key);
     for _ in 0..table.index.len() {
-        match turn.next {
-            None => return (standing, turn.near),
+        match search.next {
+            None => return (standing, search.near),
             Some(entry) => {
                 standing = standing_at(standing, table.pages, entry.tid, reader);
-                turn = turn_after(turn, entry, table.index, value, key);
+                search = go_on(search, entry, table.index, value, key);
             }
         }
     }
-    (standing, turn.near)
+    (standing, search.near)
 }

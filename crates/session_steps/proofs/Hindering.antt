@@ -4,6 +4,7 @@ use Rattle.std.specs.Option.{option_map}
 use Rattle.std.specs.Prelude.{MatchResult}
 use Rattle.std.proofs.lemmas.Result.{MatchResult-at_err}
 use Rattle.xid_circle.specs.declared.Tid.{Tid}
+use Rattle.root_index.specs.declared.index.PositionHint.{PositionHint}
 use Rattle.tuple_header.specs.declared.version.Row.{Row}
 use Rattle.history.specs.World.{World}
 use Rattle.refinement.specs.declared.step.Step.TheVariants.{Begin, Insert, Delete}
@@ -150,6 +151,6 @@ pub hinders-insert : (st : State) (s key : ℕ) (e : Session) {A : Type 0} (r : 
     → ((s : ℕ) → MayAct st s e → MatchResult r (λ _. MayWriteKey st s key None) (λ refusal. RefusesInsertOfKey st s key refusal)) → RefusesInsertOfKey st s key refusal
 hinders-insert st s key e r refusal is acts says = MatchResult-at_err (λ _. MayWriteKey st s key None) (λ refusal. RefusesInsertOfKey st s key refusal) refusal is (says s acts)
 
-pub hinders-change : (st : State) (s key : ℕ) (e : Session) (r : Result Tid Refusal) (refusal : Refusal) → r ≡ Err refusal → MayAct st s e
-    → ((s : ℕ) → MayAct st s e → MatchResult r (λ place. MayWriteKey st s key (Some place)) (λ refusal. RefusesChangeOfKey st s key refusal)) → RefusesChangeOfKey st s key refusal
-hinders-change st s key e r refusal is acts says = MatchResult-at_err (λ place. MayWriteKey st s key (Some place)) (λ refusal. RefusesChangeOfKey st s key refusal) refusal is (says s acts)
+pub hinders-change : (st : State) (s key : ℕ) (e : Session) (r : Result (Tid × PositionHint) Refusal) (refusal : Refusal) → r ≡ Err refusal → MayAct st s e
+    → ((s : ℕ) → MayAct st s e → MatchResult r (λ found. MayWriteKey st s key (Some found.0)) (λ refusal. RefusesChangeOfKey st s key refusal)) → RefusesChangeOfKey st s key refusal
+hinders-change st s key e r refusal is acts says = MatchResult-at_err (λ found. MayWriteKey st s key (Some found.0)) (λ refusal. RefusesChangeOfKey st s key refusal) refusal is (says s acts)

@@ -142,7 +142,7 @@ delayed-change st s key e p _ reads delays = absurd delays
 
 -- What a session that may act, and reads this of the key, may do.
 
-pub may-insert : (st : State) (s key : ℕ) (e : Session) (r : Result (Unit {0}) Refusal) → tests.ReadsPlace st s e key None → MatchResult r (λ _. IsUncontested st e key) (λ refusal. ConflictsWrite st e key refusal)
+pub may-insert : {A : Type 0} (st : State) (s key : ℕ) (e : Session) (r : Result A Refusal) → tests.ReadsPlace st s e key None → MatchResult r (λ _. IsUncontested st e key) (λ refusal. ConflictsWrite st e key refusal)
     → MatchResult r (λ _. tests.MayWriteKey st s key None) (λ refusal. RefusesInsertOfKey st s key refusal)
 may-insert st s key e (Ok u) reads free = record { session = e; reads = reads; free = free }
 may-insert st s key e (Err refusal) reads delays = delayed-insert st s key e refusal reads delays

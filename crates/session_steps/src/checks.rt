@@ -1,6 +1,6 @@
 //! What every write of a session asks first, and what it answers.
 
-ghost use Rattle.std.specs.Prelude.{◌≡◌, ◌≢◌, ◌<◌, ◌≤◌, ℕ, length, MatchOption, MatchResult, Some, None, Contains, Err};
+ghost use Rattle.std.specs.Prelude.{◌≡◌, ◌≢◌, ◌<◌, ◌≤◌, ℕ, length, MatchOption, MatchResult, OnOk, IfErr, Some, None, Contains, Err};
 ghost use Rattle.refinement.specs.Words.{FitsRow, row_of};
 ghost use Rattle.session_steps.specs.Keeps.{open_at};
 ghost use Rattle.session_steps.specs.Refuses.{MayAct};
@@ -13,21 +13,30 @@ use crate::outcome::Ack;
 use crate::session::Session;
 use arrayvec::ArrayVec;
 use refinement::{Refusal, Row, RowIn};
+use root_index::PositionHint;
 use xid_circle::{Tid, Xid};
 
-/// The row of the table, unless the body has more than 1024 bytes.
-pub(crate) fn table_row(row: &RowIn) -> Option<Row>
-    ensures { MatchOption result (1024 < length row.now.body)
-        (λ r. FitsRow row.now × (r ≡ row_of row.now)) }
+/// A row of the table without a body, to be filled: it has over a kilobyte, and is made where it stays.
+pub(crate) fn empty_row() -> Row {
+    Row {
+        key: 0,
+        cols: [0; 4],
+        body: ArrayVec::new(),
+    }
+}
+
+/// Writes the row of the table in the place of another, unless the body has more than 1024 bytes. Refusals: TooLarge.
+pub(crate) fn fill_row(place: &mut Row, row: &RowIn) -> Result<(), Refusal>
+    ensures filled { OnOk result (FitsRow row.now × (place.new ≡ row_of row.now)) }
+    ensures fault { IfErr result
+        (λ refusal. (refusal ≡ Refusal.TooLarge) × (1024 < length row.now.body)) }
 {
-    let mut body = ArrayVec::new();
-    match body.try_extend_from_slice(row.body.as_slice()) {
-        Ok(()) => Some(Row {
-            key: row.key,
-            cols: row.cols,
-            body,
-        }),
-        Err(_) => None,
+    place.key = row.key;
+    place.cols = row.cols;
+    place.body.clear();
+    match place.body.try_extend_from_slice(row.body.as_slice()) {
+        Ok(()) => Ok(()),
+        Err(_) => Err(Refusal::TooLarge),
     }
 }
 
@@ -49,14 +58,18 @@ fn owner(sessions: &[Option<Session>], x: Xid) -> Option<u8>
 }
 
 impl SessionEngine {
-    /// The place of the version of the key that a session reads, and what keeps it from writing the key, whatever it reads
-    /// of it. Tests in order: Conflict, Busy.
-    fn write_conflict(&self, session: &Session, key: u64) -> (Option<Tid>, Result<(), Refusal>)
+    /// The place of the version of the key that a session reads; and where the key's last entry stands, or would, as a hint, or what
+    /// keeps it from writing the key, whatever it reads of it. Tests in order: Conflict, Busy.
+    fn write_conflict(
+        &self,
+        session: &Session,
+        key: u64,
+    ) -> (Option<Tid>, Result<PositionHint, Refusal>)
         ensures place { FindsPlace self.now.heap session.now key result.0 }
         ensures write_conflict { MatchResult result.1 (λ _. IsUncontested self.now session.now key)
             (λ refusal. ConflictsWrite self.now session.now key refusal) }
     {
-        let check = self.heap.check_write(key, &session.snapshot, &session.own);
+        let (check, near) = self.heap.check_write(key, &session.snapshot, &session.own);
         if let Some(_) = check.newer_commit {
             return (check.place, Err(Refusal::Conflict));
         }
@@ -66,12 +79,13 @@ impl SessionEngine {
                 // each id in progress is an open session's
                 None => unreachable!(),
             },
-            None => (check.place, Ok(())),
+            None => (check.place, Ok(near)),
         }
     }
 
-    /// What keeps a session that may act from inserting a row of the key. Tests in order: AlreadyThere, Conflict, Busy.
-    pub(crate) fn check_insert(&self, session: &Session, key: u64) -> Result<(), Refusal>
+    /// What keeps a session that may act from inserting a row of the key; else a hint where its entry goes. Tests in order:
+    /// AlreadyThere, Conflict, Busy.
+    pub(crate) fn check_insert(&self, session: &Session, key: u64) -> Result<PositionHint, Refusal>
         ensures { (s : ℕ) → MayAct self.now s session.now
             → MatchResult result (λ _. MayWriteKey self.now s key None)
             (λ refusal. RefusesInsertOfKey self.now s key refusal) }
@@ -83,21 +97,32 @@ impl SessionEngine {
         }
     }
 
-    /// The place of the version of the key that a session which may act reads, and may update or delete. Tests in order:
-    /// NotThere, Conflict, Busy.
-    pub(crate) fn check_update(&self, session: &Session, key: u64) -> Result<Tid, Refusal>
+    /// The place of the version of the key that a session which may act reads, and may update or delete, and a hint where another
+    /// entry of it goes. Tests in order: NotThere, Conflict, Busy.
+    pub(crate) fn check_update(
+        &self,
+        session: &Session,
+        key: u64,
+    ) -> Result<(Tid, PositionHint), Refusal>
         ensures { (s : ℕ) → MayAct self.now s session.now
-            → MatchResult result (λ place. MayWriteKey self.now s key (Some place))
+            → MatchResult result (λ found. MayWriteKey self.now s key (Some found.0))
             (λ refusal. RefusesChangeOfKey self.now s key refusal) }
     {
         let (place, write_conflict) = self.write_conflict(session, key);
         match place {
             None => Err(Refusal::NotThere),
             Some(place) => {
-                write_conflict?;
-                Ok(place)
+                let near = write_conflict?;
+                Ok((place, near))
             }
         }
+    }
+
+    /// Where the entry by key of the next new root is looked for first: a hint.
+    pub(crate) fn expect_entry(&mut self, near: PositionHint)
+        ensures { self.new ≡ self.old }
+    {
+        self.heap.expect_entry(near)
     }
 
     /// Answers the refusal of a write. A conflict makes the session fail: it can only be rolled back.

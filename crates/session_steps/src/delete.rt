@@ -30,7 +30,7 @@ impl SessionEngine {
     {
         let session = self.free(s)?;
         match self.check_update(session, key) {
-            Ok(place) => self.take_away(s, key, place),
+            Ok((place, _)) => self.take_away(s, key, place),
             Err(refusal) => self.refuse(s, refusal),
         }
     }

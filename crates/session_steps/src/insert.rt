@@ -7,7 +7,7 @@ ghost use Rattle.session_steps.specs.Replies.{reply_to};
 ghost use Rattle.session_steps.specs.Follows.{FollowsInsert};
 ghost use Rattle.session_steps.specs.Tests.{MayWriteKey};
 
-use crate::checks::table_row;
+use crate::checks::{empty_row, fill_row};
 use crate::engine::SessionEngine;
 use crate::outcome::{Ack, write_answer};
 use refinement::{Refusal, Row, RowIn};
@@ -32,13 +32,14 @@ impl SessionEngine {
         ensures { AnswersStep self.old (Step.Insert s row) (reply_to result) self.new }
     {
         let session = self.free(s)?;
-        // the row is not moved: it has over a kilobyte
-        match table_row(&row) {
-            Some(row) => match self.check_insert(session, row.key) {
-                Ok(()) => self.add(s, &row),
-                Err(refusal) => self.refuse(s, refusal),
-            },
-            None => Err(Refusal::TooLarge),
+        let mut written = empty_row();
+        fill_row(&mut written, &row)?;
+        match self.check_insert(session, row.key) {
+            Ok(near) => {
+                self.expect_entry(near);
+                self.add(s, &written)
+            }
+            Err(refusal) => self.refuse(s, refusal),
         }
     }
 }

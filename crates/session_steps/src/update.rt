@@ -12,7 +12,7 @@ ghost use Rattle.session_steps.specs.Replies.{reply_to};
 ghost use Rattle.session_steps.specs.Follows.{FollowsUpdate};
 ghost use Rattle.session_steps.specs.Tests.{MayWriteKey};
 
-use crate::checks::table_row;
+use crate::checks::{empty_row, fill_row};
 use crate::engine::SessionEngine;
 use crate::outcome::{Ack, write_answer};
 use refinement::{Refusal, Row, RowIn};
@@ -54,13 +54,14 @@ impl SessionEngine {
         ensures { AnswersStep self.old (Step.Update s row) (reply_to result) self.new }
     {
         let session = self.free(s)?;
-        // the row is not moved: it has over a kilobyte
-        match table_row(&row) {
-            Some(row) => match self.check_update(session, row.key) {
-                Ok(place) => self.replace(s, place, &row),
-                Err(refusal) => self.refuse(s, refusal),
-            },
-            None => Err(Refusal::TooLarge),
+        let mut written = empty_row();
+        fill_row(&mut written, &row)?;
+        match self.check_update(session, row.key) {
+            Ok((place, near)) => {
+                self.expect_entry(near);
+                self.replace(s, place, &written)
+            }
+            Err(refusal) => self.refuse(s, refusal),
         }
     }
 }

@@ -187,7 +187,7 @@ pub fn check_write(
     snapshot: &Snapshot,
     own: &OwnIds,
 ) -> (Option<Place>, Option<Xid>, Option<Xid>) {
-    let check_write = heap.check_write(key, snapshot, own);
+    let (check_write, _near) = heap.check_write(key, snapshot, own);
     (
         pair(check_write.place),
         check_write.newer_commit,

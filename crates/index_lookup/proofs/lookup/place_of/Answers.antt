@@ -12,7 +12,7 @@ returns-in-Some c =
     let seen = IsSeenBy c.args.reader.now in
     let entries = c.args.table.now.index.now.entries in
     let stored = to_z w128 (of_z w128 c.args.value) in
-    let least = subst (IsNextOf entries stored c.args.key None) c.in-Some.is c.first_turn-first.ensures.next in
+    let least = subst (IsNextOf entries stored c.args.key None) c.in-Some.is c.begin_search-first.ensures.next in
     place-from_first c.args.reader.now.statuses.now seen (page_slots_of c.args.table.now.pages.now) entries stored c.args.value c.args.key c.in-Some.entry c.place_from.result
     (to_z-of_z w128 c.args.value c.ranges.value) least c.place_from.ensures
 
@@ -22,4 +22,4 @@ returns-in-None c =
     let entries = c.args.table.now.index.now.entries in
     let stored = to_z w128 (of_z w128 c.args.value) in
     no-place c.args.reader.now.statuses.now seen (page_slots_of c.args.table.now.pages.now) entries stored c.args.value c.args.key (to_z-of_z w128 c.args.value c.ranges.value)
-    (subst (IsNextOf entries stored c.args.key None) c.in-None.is c.first_turn-first.ensures.next)
+    (subst (IsNextOf entries stored c.args.key None) c.in-None.is c.begin_search-first.ensures.next)

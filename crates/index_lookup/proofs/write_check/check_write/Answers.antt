@@ -12,12 +12,12 @@ use Rattle.index_lookup.proofs.write_check.check_write.Goals as goal
 pub loop-init : goal.loop-init
 loop-init c = record {
   standing = standing-first c.args.reader.now.statuses.now (IsSeenBy c.args.reader.now) (IsNewerCommitFor c.args.reader.now) (IsOtherWriterFor c.args.reader.now)
-      (page_slots_of c.args.table.now.pages.now) c.args.table.now.index.now.entries (to_z w128 (of_z w128 c.args.value)) c.args.key c.first_turn-turn.result.next c.first_turn-turn.ensures.next;
-  last = c.first_turn-turn.ensures.last;
+      (page_slots_of c.args.table.now.pages.now) c.args.table.now.index.now.entries (to_z w128 (of_z w128 c.args.value)) c.args.key c.begin_search-search.result.next c.begin_search-search.ensures.next;
+  last = c.begin_search-search.ensures.last;
 }
 
-pub turn_after-turn-requires : goal.turn_after-turn-requires
-turn_after-turn-requires c = record {
+pub go_on-search-requires : goal.go_on-search-requires
+go_on-search-requires c = record {
   of = c.loop.invariant.standing.place.looked.of c.in-Some.entry c.in-Some.is;
   last = λ yes. subst (λ (next : Option Entry). IfSome next (IsLastOf c.args.table.now.index.now.entries)) c.in-Some.is (c.loop.invariant.last yes);
 }
@@ -25,10 +25,10 @@ turn_after-turn-requires c = record {
 pub loop-preserved : goal.loop-preserved
 loop-preserved c =
     let found = c.standing_at-standing.ensures in
-    let on = c.turn_after-turn in
+    let on = c.go_on-search in
     record {
       standing = standing-next c.args.reader.now.statuses.now (IsSeenBy c.args.reader.now) (IsNewerCommitFor c.args.reader.now) (IsOtherWriterFor c.args.reader.now)
-          (page_slots_of c.args.table.now.pages.now) c.args.table.now.index.now.entries (to_z w128 (of_z w128 c.args.value)) c.args.key c.loop.counter c.loop.turn.next c.in-Some.entry
+          (page_slots_of c.args.table.now.pages.now) c.args.table.now.index.now.entries (to_z w128 (of_z w128 c.args.value)) c.args.key c.loop.counter c.loop.search.next c.in-Some.entry
           on.result.next c.loop.standing c.standing_at-standing.result c.is_ascending.ensures c.loop.invariant.standing c.in-Some.is on.ensures.next found.place found.newer_commit found.other_writer;
       last = on.ensures.last;
     }
@@ -36,19 +36,19 @@ loop-preserved c =
 pub returns-in-None-clause-place : goal.returns-in-None-clause-place
 returns-in-None-clause-place c =
     standing-place c.args.reader.now.statuses.now (IsSeenBy c.args.reader.now) (IsNewerCommitFor c.args.reader.now) (IsOtherWriterFor c.args.reader.now)
-    (page_slots_of c.args.table.now.pages.now) c.args.table.now.index.now.entries (to_z w128 (of_z w128 c.args.value)) c.args.value c.args.key c.loop.counter c.loop.turn.next c.loop.standing (to_z-of_z w128 c.args.value c.ranges.value)
+    (page_slots_of c.args.table.now.pages.now) c.args.table.now.index.now.entries (to_z w128 (of_z w128 c.args.value)) c.args.value c.args.key c.loop.counter c.loop.search.next c.loop.standing (to_z-of_z w128 c.args.value c.ranges.value)
     c.loop.invariant.standing (inr c.in-None.is)
 
 pub returns-in-None-clause-newer_commit : goal.returns-in-None-clause-newer_commit
 returns-in-None-clause-newer_commit c =
     standing-newer_commit c.args.reader.now.statuses.now (IsSeenBy c.args.reader.now) (IsNewerCommitFor c.args.reader.now) (IsOtherWriterFor c.args.reader.now)
-    (page_slots_of c.args.table.now.pages.now) c.args.table.now.index.now.entries (to_z w128 (of_z w128 c.args.value)) c.args.value c.args.key c.loop.counter c.loop.turn.next c.loop.standing (to_z-of_z w128 c.args.value c.ranges.value)
+    (page_slots_of c.args.table.now.pages.now) c.args.table.now.index.now.entries (to_z w128 (of_z w128 c.args.value)) c.args.value c.args.key c.loop.counter c.loop.search.next c.loop.standing (to_z-of_z w128 c.args.value c.ranges.value)
     c.loop.invariant.standing (inr c.in-None.is)
 
 pub returns-in-None-clause-other_writer : goal.returns-in-None-clause-other_writer
 returns-in-None-clause-other_writer c =
     standing-other_writer c.args.reader.now.statuses.now (IsSeenBy c.args.reader.now) (IsNewerCommitFor c.args.reader.now) (IsOtherWriterFor c.args.reader.now)
-    (page_slots_of c.args.table.now.pages.now) c.args.table.now.index.now.entries (to_z w128 (of_z w128 c.args.value)) c.args.value c.args.key c.loop.counter c.loop.turn.next c.loop.standing (to_z-of_z w128 c.args.value c.ranges.value)
+    (page_slots_of c.args.table.now.pages.now) c.args.table.now.index.now.entries (to_z w128 (of_z w128 c.args.value)) c.args.value c.args.key c.loop.counter c.loop.search.next c.loop.standing (to_z-of_z w128 c.args.value c.ranges.value)
     c.loop.invariant.standing (inr c.in-None.is)
 
 pub returns-clause-place : goal.returns-clause-place
@@ -57,7 +57,7 @@ returns-clause-place c =
     let over = c.loop-test.false in
     let all : length c.args.table.now.index.now.entries ≤ c.loop.counter = omega arith in
     standing-place c.args.reader.now.statuses.now (IsSeenBy c.args.reader.now) (IsNewerCommitFor c.args.reader.now) (IsOtherWriterFor c.args.reader.now)
-    (page_slots_of c.args.table.now.pages.now) c.args.table.now.index.now.entries (to_z w128 (of_z w128 c.args.value)) c.args.value c.args.key c.loop.counter c.loop.turn.next c.loop.standing (to_z-of_z w128 c.args.value c.ranges.value)
+    (page_slots_of c.args.table.now.pages.now) c.args.table.now.index.now.entries (to_z w128 (of_z w128 c.args.value)) c.args.value c.args.key c.loop.counter c.loop.search.next c.loop.standing (to_z-of_z w128 c.args.value c.ranges.value)
     c.loop.invariant.standing (inl all)
 
 pub returns-clause-newer_commit : goal.returns-clause-newer_commit
@@ -66,7 +66,7 @@ returns-clause-newer_commit c =
     let over = c.loop-test.false in
     let all : length c.args.table.now.index.now.entries ≤ c.loop.counter = omega arith in
     standing-newer_commit c.args.reader.now.statuses.now (IsSeenBy c.args.reader.now) (IsNewerCommitFor c.args.reader.now) (IsOtherWriterFor c.args.reader.now)
-    (page_slots_of c.args.table.now.pages.now) c.args.table.now.index.now.entries (to_z w128 (of_z w128 c.args.value)) c.args.value c.args.key c.loop.counter c.loop.turn.next c.loop.standing (to_z-of_z w128 c.args.value c.ranges.value)
+    (page_slots_of c.args.table.now.pages.now) c.args.table.now.index.now.entries (to_z w128 (of_z w128 c.args.value)) c.args.value c.args.key c.loop.counter c.loop.search.next c.loop.standing (to_z-of_z w128 c.args.value c.ranges.value)
     c.loop.invariant.standing (inl all)
 
 pub returns-clause-other_writer : goal.returns-clause-other_writer
@@ -75,5 +75,5 @@ returns-clause-other_writer c =
     let over = c.loop-test.false in
     let all : length c.args.table.now.index.now.entries ≤ c.loop.counter = omega arith in
     standing-other_writer c.args.reader.now.statuses.now (IsSeenBy c.args.reader.now) (IsNewerCommitFor c.args.reader.now) (IsOtherWriterFor c.args.reader.now)
-    (page_slots_of c.args.table.now.pages.now) c.args.table.now.index.now.entries (to_z w128 (of_z w128 c.args.value)) c.args.value c.args.key c.loop.counter c.loop.turn.next c.loop.standing (to_z-of_z w128 c.args.value c.ranges.value)
+    (page_slots_of c.args.table.now.pages.now) c.args.table.now.index.now.entries (to_z w128 (of_z w128 c.args.value)) c.args.value c.args.key c.loop.counter c.loop.search.next c.loop.standing (to_z-of_z w128 c.args.value c.ranges.value)
     c.loop.invariant.standing (inl all)

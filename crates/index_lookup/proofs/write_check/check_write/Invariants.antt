@@ -8,6 +8,6 @@ use Rattle.index_lookup.proofs.write_check.check_write.Given as goal
 abbrev pub invariant-loop : goal.invariant-loop
 invariant-loop l = record {
   standing : IsStanding l.reader.statuses.now (IsSeenBy l.reader) (IsNewerCommitFor l.reader) (IsOtherWriterFor l.reader) (page_slots_of l.table.pages.now) l.table.index.now.entries l.value l.key
-      l.counter l.turn.next l.standing;
-  last : IsTrue l.turn.is_last → IfSome l.turn.next (IsLastOf l.table.index.now.entries);
+      l.counter l.search.next l.standing;
+  last : IsTrue l.search.is_last → IfSome l.search.next (IsLastOf l.table.index.now.entries);
 }

@@ -2,7 +2,7 @@ use Rattle.std.proofs.Common.{ℤ, subst}
 use Rattle.std.specs.Int.{w128}
 use Rattle.std.proofs.lemmas.Int.{to_z-of_z}
 use Rattle.index_lookup.proofs.Turns.{IsOnly, entry_of, only-entry, after-only}
-use Rattle.index_lookup.proofs.turn.next_of.Goals as goal
+use Rattle.index_lookup.proofs.search.next_of.Goals as goal
 
 pub returns : goal.returns
 returns c =

@@ -3,7 +3,7 @@ use Rattle.std.specs.Int.{w128}
 use Rattle.std.proofs.lemmas.Int.{to_z-of_z}
 use Rattle.root_index.specs.Sets.{IsLeast, IsBelow}
 use Rattle.index_lookup.proofs.Turns.{IsOnly, first-only, last-only}
-use Rattle.index_lookup.proofs.turn.first_turn.Goals as goal
+use Rattle.index_lookup.proofs.search.begin_search.Goals as goal
 
 pub returns : goal.returns
 returns c =

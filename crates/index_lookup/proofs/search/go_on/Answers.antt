@@ -6,8 +6,8 @@ use Rattle.root_index.specs.declared.entry.Entry.{Entry}
 use Rattle.root_index.specs.declared.index.PositionHint.{PositionHint}
 use Rattle.index_lookup.specs.Looking.{IsNextOf}
 use Rattle.index_lookup.proofs.Turns.{entry_of, none-after}
-use Rattle.index_lookup.proofs.turn.turn_after.Goals as goal
-use Rattle.index_lookup.proofs.turn.turn_after.Goals.{then-not-at+in_default, else-not-at}
+use Rattle.index_lookup.proofs.search.go_on.Goals as goal
+use Rattle.index_lookup.proofs.search.go_on.Goals.{then-not-at+in_default, else-not-at}
 
 pub next_of-requires : goal.next_of-requires
 next_of-requires c = (c.requires.of.0 ∙ sym (to_z-of_z w128 c.args.value c.ranges.value), c.requires.of.1)

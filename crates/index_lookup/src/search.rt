@@ -1,4 +1,4 @@
-//! The turns of a search along the entries of one value and one key. Nothing here takes memory.
+//! A search along the entries of one value and one key. Nothing here takes memory.
 
 ghost use Rattle.std.specs.Prelude.{◌≡◌, IfSome, IsTrue, MatchOption, None, Some};
 ghost use Rattle.std.specs.Option.{option_map};
@@ -9,7 +9,7 @@ use root_index::{Entry, PositionHint, RootIndex};
 
 /// Where a search along the entries of one value and one key has come.
 #[derive(Clone, Copy)]
-pub(crate) struct Turn {
+pub(crate) struct Search {
     /// The entry that comes next, if there is one.
     pub(crate) next: Option<Entry>,
     /// Where it stood; if there is none, where the last one stood, or where the first would stand.
@@ -60,21 +60,21 @@ pub(crate) fn next_of(
     only_of(index.next_near(from, near), value, key)
 }
 
-/// The first turn: at the first entry of this value and this key.
-pub(crate) fn first_turn(index: &RootIndex, value: i128, key: u64) -> Turn
+/// Begins a search: at the first entry of this value and this key.
+pub(crate) fn begin_search(index: &RootIndex, value: i128, key: u64) -> Search
     ensures next { IsNextOf index.now.entries value key None result.next }
     ensures last { IsTrue result.is_last → IfSome result.next (IsLastOf index.now.entries) }
 {
     let first = index.first_from(value, key);
-    Turn {
+    Search {
         next: entry_of_key(first.found, value, key),
         near: first.near,
         is_last: first.is_last,
     }
 }
 
-/// The turn after that at this entry. Where that is known to be the last, the index is not looked at.
-pub(crate) fn turn_after(at: Turn, entry: Entry, index: &RootIndex, value: i128, key: u64) -> Turn
+/// Goes on behind this entry, at which the search is. Where that is known to be the last, the index is not looked at.
+pub(crate) fn go_on(at: Search, entry: Entry, index: &RootIndex, value: i128, key: u64) -> Search
     requires of { IsOf value key entry }
     requires last { IsTrue at.is_last → IsLastOf index.now.entries entry }
     ensures next { IsNextOf index.now.entries value key (Some entry) result.next }
@@ -82,14 +82,14 @@ pub(crate) fn turn_after(at: Turn, entry: Entry, index: &RootIndex, value: i128,
 {
     if !at.is_last {
         if let Some((next, near)) = next_of(index, value, key, entry, at.near) {
-            return Turn {
+            return Search {
                 next: Some(next),
                 near,
                 is_last: false,
             };
         }
     }
-    Turn {
+    Search {
         next: None,
         near: at.near,
         is_last: true,
