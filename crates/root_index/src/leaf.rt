@@ -355,19 +355,19 @@ fn gap_near(entries: &[Entry], sought: &Entry, near: usize, is_last: bool) -> Op
     ensures behind { IfSome result (GoesBehind entries.now sought.now) }
     ensures before { IfSome result (GoesBefore entries.now sought.now is_last) }
 {
-    let place = place_beside(entries, sought, near);
-    if goes_behind(entries, sought, place) && goes_before(entries, sought, place, is_last) {
+    // behind what stands there, or before it
+    let next = near.saturating_add(1);
+    let place = if goes_behind(entries, sought, next) {
+        next
+    } else if goes_behind(entries, sought, near) {
+        near
+    } else {
+        return None;
+    };
+    if goes_before(entries, sought, place, is_last) {
         Some(place)
     } else {
         None
-    }
-}
-
-/// This place or the next, by whether the entry at it comes before the sought one. It is no more than a hint.
-fn place_beside(entries: &[Entry], sought: &Entry, near: usize) -> usize {
-    match entries.get(near) {
-        Some(entry) if is_before(entry, sought) => near.saturating_add(1),
-        _ => near,
     }
 }
 
