@@ -22,6 +22,7 @@ use visibility::visible_header;
 use xid_circle::Tid;
 
 /// The entry that a look-up found, if it found one, and where it stood.
+#[inline(always)]
 pub(crate) fn with_hint(look_up: LookUp) -> Option<(Entry, PositionHint)>
     ensures { option_map (λ found. found.0) result ≡ look_up.found }
 {

@@ -92,6 +92,7 @@ impl<N: Node> Node for Branch<N> {
         nodes::entry_at(&self.nodes, position)
     }
 
+    #[inline(always)]
     fn look_at(&self, position: TreePosition<N::Position>) -> Option<(Entry, bool)> {
         nodes::look_at(&self.nodes, position)
     }

@@ -193,6 +193,7 @@ impl RootIndex {
 
     /// The first entry of this value and this key; or else the first of a higher key, or of a higher value. And where it stood. It is
     /// not known to be the last of its value and key where it is the last of its leaf.
+    #[inline(always)]
     pub fn first_from(&self, value: i128, key: u64) -> LookUp
         ensures found { IsLeast self.now.entries (λ e. ¬ IsBelow value key e) result.found }
         ensures last { IsTrue result.is_last → IfSome result.found (IsLastOf self.now.entries) }

@@ -118,6 +118,7 @@ impl Node for Leaf {
         entry_in(&self.entries, position)
     }
 
+    #[inline(always)]
     fn look_at(&self, position: usize) -> Option<(Entry, bool)> {
         look_at(&self.entries, position)
     }
@@ -325,6 +326,7 @@ fn entry_in(entries: &[Entry], place: usize) -> Option<Entry>
 }
 
 /// The entry at this place, if there is one; and whether another of these stands behind it, of another value or another key.
+#[inline(always)]
 fn look_at(entries: &[Entry], place: usize) -> Option<(Entry, bool)>
     ensures entry { option_map (λ found. found.0) result ≡ slice_get entries.now place }
     ensures end { IfSome result (λ found. IsTrue found.1 → IsEndAt entries.now found.0 place) }
@@ -336,6 +338,7 @@ fn look_at(entries: &[Entry], place: usize) -> Option<(Entry, bool)>
 }
 
 /// Whether another of these entries stands behind this place, of another value or another key than this one.
+#[inline(always)]
 fn is_end(entries: &[Entry], entry: Entry, place: usize) -> bool
     ensures { IsTrue result → IsEndAt entries.now entry place }
 {

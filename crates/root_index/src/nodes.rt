@@ -142,6 +142,7 @@ pub(crate) fn entry_at<N: Node>(nodes: &[N], position: TreePosition<N::Position>
 
 /// The entry at this position; behind a node's last, the first of the next node. And whether it is known that the next is of another
 /// value or another key.
+#[inline(always)]
 pub(crate) fn look_at<N: Node>(
     nodes: &[N],
     position: TreePosition<N::Position>,
