@@ -72,6 +72,7 @@ fn other_writer_or(before: Option<Xid>, header: &Header, reader: &Reader<'_>) ->
 }
 
 /// What was found before, and for each part of which nothing was, what the version of this header, at this place, has of it.
+#[inline(always)]
 fn with_version(before: WriteCheck, place: Tid, header: &Header, reader: &Reader<'_>) -> WriteCheck
     requires { header_fault header.now ≡ None }
     ensures place { IsKept before.place
