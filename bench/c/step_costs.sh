@@ -20,9 +20,9 @@ cost() {
     echo "$what: $((whole / count)) instructions, of $most"
     [ $((whole / count)) -lt "$most" ] || status=1
 }
-cost get 1000 "a get by key"
-cost full 4500 "an update on a full page from which nothing can go"
-cost prunes 5000 "an update that prunes one dead version first"
+cost get 850 "a get by key"
+cost full 3000 "an update on a full page from which nothing can go"
+cost prunes 4500 "an update that prunes one dead version first"
 cost prune 300 "a pruning of a page whose one version stays"
 cost pruned 1500 "a pruning of a page whose one version goes"
 exit $status
