@@ -29,7 +29,7 @@ pub record FreezesAt (h h' : HeapView) (p cutoff : ℕ) : Type 0 where
   pub is : h' ≡ record h { pages = record h.pages { pages = slice_set h.pages.pages p after } }
   pub freezes : FreezesPage h.table cutoff p before after
 
--- what is so of one page at a horizon is noted in the map, and in the page's flag; nothing else changes
+-- the exact mark of one page at a horizon is noted in the map, and in the page's flag; nothing else changes
 pub record Notes (h h' : HeapView) (p horizon : ℕ) : Type 0 where
   pub page : PageView
   pub at : slice_get h.pages.pages p ≡ Some page

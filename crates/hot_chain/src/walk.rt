@@ -29,7 +29,7 @@ fn first(page: &Page, number: u16) -> Option<u16>
     }
 }
 
-/// Whether a later version of its row replaced a version, by an update that may count.
+/// Whether a HOT update that has not aborted replaced this version.
 fn is_replaced(header: &Header, table: &StatusTable) -> bool
     ensures { result ≡ is_replaced (has_aborted table.now) header.now }
 {

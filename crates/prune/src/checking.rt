@@ -118,7 +118,7 @@ fn are_same(a: Option<Action>, b: Option<Action>) -> bool
     a == b
 }
 
-/// Whether of a root's chain a prefix is named that pruning would cut too, and becomes what goes with the first that is kept.
+/// Whether the plan cuts, of this root's chain, a prefix that pruning would cut too, and sets the root accordingly.
 fn has_prefix(page: &Page, named: &Named, root: u16, table: &StatusTable, horizon: Xid) -> bool
     requires number { root < 292 }
     ensures { IsTrue result

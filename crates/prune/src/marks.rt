@@ -57,7 +57,7 @@ pub(crate) fn cut_count(page: &Page, chain: &[u16], table: &StatusTable, horizon
     cut
 }
 
-/// What becomes of a root of whose chain so many versions are cut.
+/// The action for a root when the first `cut` versions of its chain go.
 pub(crate) fn root_action(cut: usize, chain: &[u16]) -> Option<Action>
     requires { cut ≤ length chain.now }
     ensures { result ≡ root_action cut (slice_get chain.now cut) }

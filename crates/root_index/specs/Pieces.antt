@@ -1,4 +1,4 @@
--- Entries to dead places are removed piece by piece. How long a piece is, is left open here: it ends with a leaf.
+-- Entries to dead places are removed piece by piece. How long a piece is, is left open here. In the code it ends with a leaf.
 use Rattle.std.specs.Prelude.{◌↔◌, List, Option, Contains}
 use Rattle.xid_circle.specs.declared.Tid.{Tid}
 use Rattle.root_index.specs.declared.entry.Entry.{Entry}

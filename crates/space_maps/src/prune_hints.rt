@@ -115,8 +115,7 @@ impl PruneHints {
         self.hints.try_reserve(count)
     }
 
-    /// There are hints on the first `count` pages, as far as room was made: it takes no memory. Nothing is known of the pages that
-    /// it adds.
+    /// Extends the hints to the first `count` pages, within the memory set aside. Nothing is known of the pages that it adds.
     pub fn cover(&mut self, count: usize)
         ensures each { (n : ℕ) → turn_on self.new.turns n ≡ turn_on self.old.turns n }
         ensures keeps { length self.old.turns ≤ length self.new.turns }

@@ -38,18 +38,20 @@ pub fn delete_is_found()
     ensures { DeleteIsFound }
 {}
 
-/// Who has inserted a row, and found none of its key before, finds it alone of its key, and all other keys as before.
+/// After an insert the writer reads the new row and no other of its key, if it read none of the key before. All other keys it
+/// reads as before.
 pub fn insert_puts_row()
     ensures { InsertPutsRow }
 {}
 
-/// Who has updated a version to a row of its key, and found no other of the key before, finds the row alone of its key, and
-/// all other keys as before.
+/// After an update the writer reads the new row and no other of its key, if it read no
+/// version of the key but the old one before. All other keys it reads as before.
 pub fn update_puts_row()
     ensures { UpdatePutsRow }
 {}
 
-/// Who has deleted a version, and found no other of its key before, finds none of the key, and all other keys as before.
+/// After a delete the writer reads no row of the key, if it read no other version of it before. All other keys it reads as
+/// before.
 pub fn delete_takes_row()
     ensures { DeleteTakesRow }
 {}

@@ -66,7 +66,7 @@ pub enum HeapStep {
     Marks(u16, Option<(bool, bool, Place)>),
     /// A page is frozen at a cutoff.
     Freeze(u32, u32),
-    /// What is so of a page at a horizon is noted.
+    /// The exact mark of a page at a horizon is noted.
     Note(u32, u32),
     /// What is noted of a page.
     Noted(u32, Option<Mark>),

@@ -37,7 +37,7 @@ pub record VisitsAt (h h' : HeapView) (horizon cutoff p : ℕ) : Type 0 where
   pub prunes : Prunes h pruned p horizon
   pub freezes : FreezesAt pruned h' p cutoff
 
--- the page is visited at the present horizon, its dead slots are collected, and what is so of it is noted
+-- the page is visited at the present horizon, its dead slots are collected, and its exact mark is noted
 pub record Visits (h h' : HeapView) (v v' : VacuumView) (horizon p : ℕ) : Type 0 where
   pub visited : HeapView
   pub visits : VisitsAt h visited horizon v.cutoff p

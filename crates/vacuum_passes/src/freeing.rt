@@ -13,7 +13,7 @@ use dead_places::DeadSet;
 use heap_write::HeapState;
 use xid_circle::{Tid, Xid};
 
-/// Makes those of the places from this number on unused that are on the lowest page, and notes what is so of that page then. It answers
+/// Makes those of the places from this number on unused that are on the lowest page, and then notes that page's exact mark. It answers
 /// the page, and how many places are on it.
 pub(crate) fn free_from(
     heap: &mut HeapState,
@@ -53,7 +53,7 @@ pub(crate) fn after_freeing(store: &mut DeadSet, freed: usize) -> (usize, Phase)
     (freed, Phase::Free)
 }
 
-/// Makes those of these places unused that are on the lowest page, and notes what is so of that page then. It answers the page, and how
+/// Makes those of these places unused that are on the lowest page, and then notes that page's exact mark. It answers the page, and how
 /// many places are on it.
 fn free_lowest(heap: &mut HeapState, places: &[Tid], horizon: Xid) -> (u32, usize)
     requires some { places.now ≢ [] }
@@ -87,7 +87,7 @@ fn lowest_page(places: &[Tid]) -> u32
     }
 }
 
-/// Makes these slots of the page of this number unused, those that are dead, and notes what is so of the page then.
+/// Makes these slots of the page of this number unused, those that are dead, and then notes the page's exact mark.
 fn free_page(heap: &mut HeapState, number: u32, places: &[Tid], horizon: Xid)
     requires in_use { number < length heap.old.pages.pages }
     requires ascending { AllPairs (λ a b. a < b) (map (λ (tid : Place). tid.slot) places.now) }

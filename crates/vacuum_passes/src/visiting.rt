@@ -58,7 +58,7 @@ fn phase_after(store: &DeadSet, limit: usize) -> Phase
     }
 }
 
-/// Prunes the page of this number, freezes it, and notes what is so of it then.
+/// Prunes the page of this number, freezes it, and then notes its exact mark.
 fn visit_page(heap: &mut HeapState, number: u32, horizon: Xid, cutoff: Xid)
     requires in_use { number < length heap.old.pages.pages }
     requires normal { IsNormal horizon.0 }
