@@ -1,15 +1,20 @@
 #!/usr/bin/env python3
-"""Says where the code builds an error of the allocator by hand, or answers NoMemory where no call was refused memory.
+"""Says where the code makes an error of the allocator by hand, or keeps memory that nobody can give back.
 
 A contract can say that more was asked for than there was room for, but not that memory was really lacking: the allocator alone
-knows. So such an error has to come from a call. This reads crates/*/src/*.rt, but for the crates of tests (test_*), the modules
-under #[cfg(test)], comments, and ghost and contract lines. It refuses
+knows. So such an error has to come from a call. Nor can a contract say that what is let go is given back. This reads
+crates/*/src/*.rt, but for the crates of tests (test_*), the modules under #[cfg(test)], comments, and ghost and contract lines. It
+refuses
 
 - `AllocError` as an expression, as in `Err(AllocError)`, `=> AllocError` or `return AllocError`: pass on what the call answered,
   by `?` or by `Err(error) => return Err(error)`;
 - the NoMemory of an enum as an expression, unless it answers a call that failed: in the arm of an `Err(..)`, in a `map_err(..)`,
   in a block behind `is_err()` or behind the `else` of a `let Ok(..)`, in an `impl From<AllocError>`, or as one NoMemory turned
   into another's. (`no_memory` of crates/script/src/io_log.rt makes one for its callers, which call it where a call failed.)
+- `mem::forget`, `ManuallyDrop`, `leak` and `into_raw`, by which memory is never given back. (`Block` of
+  crates/sandpiper_c/src/block.rt takes a box apart, and makes it again.)
+- a `reserve` or `try_reserve` of a fixed number over 99999, or of the largest of a type: no memory has so much, so it is refused.
+  (`ask_for_too_much` of crates/root_index/src/index.rt does that where more entries than a u64 can count are asked for.)
 
 Run it at the top of the repository, with no words: python3 tools/alloc_errors.py. It prints a line for each place, and ends
 with status 1 where there is one.
@@ -23,6 +28,10 @@ GHOST = re.compile(r"\s*(ghost|requires|ensures)\b")
 BY_HAND = re.compile(r"(\(|=>|=|\breturn|\{|^)\s*(\w+::)*AllocError\s*(\(\s*\))?\s*(\)|,|;|\}|$)")
 VALUE = re.compile(r"\b[A-Z]\w*::NoMemory\b(?!\s*\)*\s*(=>|\|))")
 FAILED = re.compile(r"\bErr\((_|\w+|[\w:]+::NoMemory)\)(\s+if\b[^>]*)?\s*=>|\bNoMemory\b\)*\s*=>|map_err\(|\.is_err\(\)|\blet\s+.*\bOk\(.*\belse\b")
+KEPT = re.compile(r"\bmem::(\{[^}]*\b)?forget\b|\bManuallyDrop\b|\bleak\(|\binto_raw\(")
+KEEPS = "crates/sandpiper_c/src/block.rt"
+TOO_MUCH = re.compile(r"reserve\w*\([^;]*(\b\w+::MAX\b|\b[\d_]{6,}\b|<<)")
+ASKS_TOO_MUCH = re.compile(r"\bfn ask_for_too_much\b")
 MAKES = re.compile(r"\bimpl\b.*\bFrom<AllocError>|\bfn no_memory\b")
 
 
@@ -68,16 +77,26 @@ def is_wrong(line, heads):
     return bool(VALUE.search(line)) and not FAILED.search(line) and not FAILED.search(near + " {")
 
 
+def is_kept(path, line, heads):
+    """Whether the line lets go of memory that is never given back, or asks for more than there is."""
+    if KEPT.search(line):
+        return path != KEEPS
+    if TOO_MUCH.search(line):
+        return not any(ASKS_TOO_MUCH.search(head) for head in heads)
+    return "ask_for_too_much(" in line and not ASKS_TOO_MUCH.search(line) and "u64::MAX" not in (heads[-1] if heads else "")
+
+
 def main():
     top = pathlib.Path(__file__).resolve().parent.parent
     wrong = []
     for path in sorted(top.glob("crates/*/src/**/*.rt")):
         if path.relative_to(top).parts[1].startswith("test_"):
             continue
+        name = str(path.relative_to(top))
         for number, line, heads in with_heads(bare(path.read_text(encoding="utf-8"))):
-            if is_wrong(line, heads):
-                wrong.append(f"{path.relative_to(top)}:{number}: {line.strip()}")
-    print("\n".join(wrong) if wrong else "no error of the allocator is built by hand")
+            if is_wrong(line, heads) or not GHOST.match(line) and is_kept(name, line, heads):
+                wrong.append(f"{name}:{number}: {line.strip()}")
+    print("\n".join(wrong) if wrong else "no error of the allocator is made by hand, and no memory is kept for good")
     return 1 if wrong else 0
 
 
