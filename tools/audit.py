@@ -7,8 +7,8 @@ at most once, and judges each edit by the line that `rt check` prints for the fu
 that function itself is not proved. One that changes no single function (a definition, a constant), and one whose function was
 only not reached ("it calls .."), is tried alone. Prints the edits that were not refused, and exits 1 if there are any.
 
-"By form alone" says that a hand-written answer names a part of the old body and nothing else failed, so that the contract may
-not have been tried: such an edit is to be written closer to the body.
+"By form alone" says that a hand-written answer names a part of the old body and nothing else failed, and that no goal was found to be
+false, so that the contract may not have been tried: such an edit is to be written closer to the body.
 """
 import argparse
 import glob
@@ -21,7 +21,14 @@ import tempfile
 import threading
 import time
 
-HEAD = re.compile(r"^(\s*)(?:pub(?:\([a-z]+\))?\s+)?(?:const\s+|unsafe\s+)*fn\s+(\w+)")
+HEAD = re.compile(r"^(\s*)(?:pub(?:\([a-z]+\))?\s+)?(?:const\s+|unsafe\s+)*(?:extern\s+\"C\"\s+)?fn\s+(\w+)")
+# an error in a proof file, with the lines that go on with it; and one that only misses a name of the old body
+ERROR = re.compile(r"^\./proofs/(\S+)/(?:Answers|Invariants|Proof)\.antt:\d+:\d+: error: (.*(?:\n[ \t]+.*)*)", re.M)
+MISSES_A_NAME = re.compile(r"has no (field )?`|can be named|is no name that rattle asks for")
+# a goal that is false of the new body, whatever its proof file names
+IS_FALSE = re.compile(r"^note: src/.*it is not proved that.*allow values at which this goal is false", re.M)
+# what `rt check` says of a function that was not reached, since one that it calls has no proof
+NOT_REACHED = ("no proof: it calls", "no proof: the borrow checker's part in its proof is not made yet: a call of")
 
 
 def text_of(path):
@@ -92,10 +99,13 @@ class Said:
         self.functions = {m[1]: m[2] for m in re.finditer(r"^fn (\S+): (.*)$", said, re.M)}
         self.unread = re.findall(r"^.*error\[.*$", said, re.M)[:3]
         wrong = {}
-        for m in re.finditer(r"\./proofs/(\S+)/Answers\.antt:\d+:\d+: error: (.*)", said):
-            wrong.setdefault(f"{name}::" + m[1].replace("/", "::"), []).append(m[2])
-        self.by_form = {f for f, errors in wrong.items() if all(re.search(r"has no (field )?`|can be named", error) for error in errors)}
-        self.by_form = {f for f in self.by_form if self.functions.get(f, "").startswith("not proved")}
+        for path, error in ERROR.findall(said):
+            wrong.setdefault(f"{name}::" + path.replace("/", "::"), []).append(error)
+        # (what is said of a function stands before the line with its verdict)
+        of = {m[2]: m[1] for m in re.finditer(r"((?:^(?!fn ).*\n)*)^fn (\S+): not proved", said, re.M)}
+        self.by_form = {
+            f for f, errors in wrong.items() if f in of and all(map(MISSES_A_NAME.search, errors)) and not IS_FALSE.search(of[f])
+        }
 
 
 def changed(crate, edits):
@@ -130,7 +140,7 @@ def next_round(todo):
 def verdict_of(edit, made, said, names):
     """Whether an edit of a round was refused, or None where the round doesn't tell."""
     lost = {f for f in names if not said.functions.get(f, "absent").startswith("proved")}
-    own = {f for f in lost if not said.functions.get(f, "absent").startswith("no proof: it calls")}
+    own = {f for f in lost if not said.functions.get(f, "absent").startswith(NOT_REACHED)}
     if said.unread:
         return f"BAD: {said.unread[0].strip()}" if len(made) == 1 else None
     if edit["of"] is None:
