@@ -22,12 +22,14 @@ import sys
 
 WIDTH = 140
 PROMISE = 25
+# The page whose table has the notation of contracts.
+NOTATION = "docs/reading.md"
 
 # Words that are none of ours: of Rust, of the kit and its libraries, of the shell.
 OTHERS = """
 AllocError Err Global None Ok Option Result SmallVec Some String Vec ensures requires unwrap
 arrayvec byteorder itoa smallvec thiserror mremap sqlite3
-bool malloc realloc rattle_alloc rattle_realloc rattle_dealloc
+std mem bool malloc realloc rattle_alloc rattle_realloc rattle_dealloc
 """.split()
 # A word in capitals is to be replaced by another, as in `rt ci NAME`, or is of SQL.
 PLACEHOLDER = r"[A-Z][A-Z0-9]*"
@@ -284,7 +286,7 @@ def faults(names, page):
                 wrong = bad_link(page, target)
                 if wrong:
                     yield number, wrong
-            if page.startswith("examples/") and line.startswith("|"):
+            if line.startswith("|") and (page.startswith("examples/") or page == NOTATION):
                 continue
             for word in re.findall(r"`([^`]+)`", line):
                 wrong = unknown(names, word)
