@@ -35,8 +35,8 @@ struct sandpiper {
 
 struct sandpiper_settings {
     uint32_t max_pages;      /* how many pages, of 8168 bytes for rows, the table may have: 1 to 65536 */
-    uint32_t stop_age;       /* how far from the oldest id that is remembered no id is given any more: 1 to 2144483648 */
-    uint32_t freeze_min_age; /* a vacuum freezes what an id more numbers than this before the next one wrote: 0 to 1000000000 */
+    uint32_t stop_age;       /* a write that needs an id is refused once the next one is this far from the oldest: 1 to 2144483648 */
+    uint32_t freeze_min_age; /* a vacuum freezes versions whose id is more than this many ids old: 0 to 1000000000 */
     uint32_t first_xid;      /* the first transaction's id: 3 to 4294967295 */
     uint32_t dead_limit;     /* how many dead slots a vacuum collects before it goes through the indexes: 1 to 4096 */
     bool indexed[4];         /* which of the columns have an index */
@@ -149,7 +149,7 @@ enum sandpiper_piece_kind {
     SANDPIPER_FREED_SLOTS = 3      /* it made the collected slots of page `number` unused */
 };
 
-/* What its kind has not is 0. */
+/* Fields that do not apply to the kind are 0. */
 struct sandpiper_piece {
     uint32_t kind;
     uint32_t number;
@@ -172,7 +172,7 @@ enum sandpiper_kind {
     SANDPIPER_DEAD = 3      /* nothing, but kept while an index leads to it */
 };
 
-/* What its kind has not is 0. */
+/* Fields that do not apply to the kind are 0. */
 struct sandpiper_slot {
     uint32_t kind;
     uint32_t target;

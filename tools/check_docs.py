@@ -1,7 +1,7 @@
 #!/usr/bin/env python3
 """Checks the documents against the repository: tools/check_docs.py [HEAPSH]
 
-Reads README.md, CONTRIBUTING.md and the pages of docs/, bench/ and examples/, and says where
+Reads README.md, CONTRIBUTING.md and the pages of docs/, bench/, examples/ and crates/, and says where
 
 - a link leads to no file of the repository, or to no heading of one;
 - a name in backticks or in a block of code is none of the repository's: no file, crate, module, definition, type, function, field,
@@ -9,7 +9,8 @@ Reads README.md, CONTRIBUTING.md and the pages of docs/, bench/ and examples/, a
 - a block of code behind a comment `<!-- from examples/NAME -->` is no part of that example's page, line by line and answer by answer;
 - a row of a table in docs/guarantees.md has a promise of more than 25 words, or a definition or an edit of a crate that neither its
   heading nor the lines below that name;
-- a line has 140 columns or more.
+- a line has 140 columns or more, or a sentence more than 30 words (tools/sentences.py);
+- a figure is not what the repository has: lines of definitions, layers, sizes, edits, calls (tools/figures.py).
 
 With a path to the program, it also compares its answers with those on the examples' pages, as examples/check.py does.
 Run it at the top of the repository. It prints what is wrong, one place a line, and ends with status 1 where anything is.
@@ -20,14 +21,19 @@ import re
 import subprocess
 import sys
 
+import figures
+import sentences
+
 WIDTH = 140
 PROMISE = 25
+# The page whose table has the notation of contracts.
+NOTATION = "docs/reading.md"
 
 # Words that are none of ours: of Rust, of the kit and its libraries, of the shell.
 OTHERS = """
-AllocError Err Global None Ok Option Result SmallVec Some String Vec ensures requires unwrap
+AllocError Err Global None Ok Option Result SmallVec Some String Vec IfSome ensures requires unwrap
 arrayvec byteorder itoa smallvec thiserror mremap sqlite3
-bool malloc realloc rattle_alloc rattle_realloc rattle_dealloc
+std mem bool malloc realloc rattle_alloc rattle_realloc rattle_dealloc
 """.split()
 # A word in capitals is to be replaced by another, as in `rt ci NAME`, or is of SQL.
 PLACEHOLDER = r"[A-Z][A-Z0-9]*"
@@ -70,8 +76,8 @@ class Names:
                     self.read_code(path, parts[1])
             elif path.endswith(".py"):
                 self.all |= set(re.findall(rf"\b(?:def|class) ({IDENTIFIER})", text_of(path)))
-            elif path.endswith(".h"):
-                self.all |= set(re.findall(rf"\b(?:sandpiper|SANDPIPER)_\w+", text_of(path)))
+            elif path.endswith((".h", ".c")):
+                self.all |= set(re.findall(r"\b(?:sandpiper_\w+|[A-Z]+_[A-Z_]+)\b", text_of(path)))
 
     def add(self, name, *owners):
         self.all.add(name)
@@ -264,6 +270,7 @@ def faults(names, page):
     text, block, began, example = text_of(page), [], 0, ""
     if page == "docs/guarantees.md":
         yield from promises(names, text)
+    yield from sentences.long_sentences(pieces(text))
     for number, line in enumerate(text.split("\n"), 1):
         if len(line) >= WIDTH:
             yield number, f"the line has {len(line)} columns"
@@ -284,7 +291,7 @@ def faults(names, page):
                 wrong = bad_link(page, target)
                 if wrong:
                     yield number, wrong
-            if page.startswith("examples/") and line.startswith("|"):
+            if line.startswith("|") and (page.startswith("examples/") or page == NOTATION):
                 continue
             for word in re.findall(r"`([^`]+)`", line):
                 wrong = unknown(names, word)
@@ -293,17 +300,17 @@ def faults(names, page):
 
 
 def pages():
-    folders = ("docs", "bench", "examples")
+    folders = ("docs", "bench", "bench/c", "examples", "crates/*")
     return ["README.md", "CONTRIBUTING.md"] + [path for folder in folders for path in sorted(glob.glob(f"{folder}/*.md"))]
 
 
 def main():
     names = Names(tracked())
-    count = 0
-    for page in filter(os.path.exists, pages()):
-        for number, what in sorted(set(faults(names, page))):
-            print(f"{page}:{number}: {what}")
-            count += 1
+    wrong = [(page, *fault) for page in filter(os.path.exists, pages()) for fault in sorted(set(faults(names, page)))]
+    wrong += figures.wrong()
+    for page, number, what in wrong:
+        print(f"{page}:{number}: {what}")
+    count = len(wrong)
     if sys.argv[1:]:
         count += subprocess.run([sys.executable, "examples/check.py", sys.argv[1]], check=False).returncode != 0
     print(f"{count} wrong" if count else "the documents agree with the repository")

@@ -12,6 +12,8 @@ import sys
 
 START = re.compile(r"^(?:abbrev |unfoldable )?pub (?:record |data |abbrev )?([^\s:(){}]+)")
 WORD = re.compile(r"[^\s(){}\[\],;]+")
+# The crates whose contracts a caller reads.
+PUBLIC = ["session_core", "session_steps"]
 
 
 def modules():
@@ -103,8 +105,8 @@ def roots(known, crate):
                     yield resolve(known, *names[word])
 
 
-def main():
-    known, words = modules(), sys.argv[1:] or ["session_core", "session_steps"]
+def counted(known, words):
+    """For each crate, in the order of crates.txt, how many lines of definitions are reached from what is named, and their modules."""
     named = [tuple(word.rsplit(".", 1)) for word in words if "." in word]
     todo, reached = named or [it for word in words for it in roots(known, word) if it], set()
     while todo:
@@ -119,15 +121,23 @@ def main():
                     todo.append(there)
     with open("crates.txt", encoding="utf-8") as file:
         order = [line.split(":")[0].split()[0] for line in file if ":" in line]
-    print("| crate | lines | in |\n|---|---:|---|")
-    whole = 0
-    for name in order:
-        mine = [(m.split(".")[1], len(known[m]["definitions"][n])) for m, n in reached if m.split(".")[0] == name]
+    for crate in order:
+        mine = [(m.split(".")[1], len(known[m]["definitions"][n])) for m, n in reached if m.split(".")[0] == crate]
         if mine:
-            lines = sum(count for _, count in mine)
-            whole += lines
-            print(f"| `{name}` | {lines} | {', '.join(f'`{m}`' for m in sorted({m for m, _ in mine}))} |")
-    print(f"| all | {whole:,} | |")
+            yield crate, sum(lines for _, lines in mine), sorted({module for module, _ in mine})
 
 
-main()
+def table(known, words):
+    """The rows of the table that is printed, and of docs/trust.md."""
+    rows = list(counted(known, words))
+    yield from (f"| `{crate}` | {lines} | {', '.join(f'`{m}`' for m in modules)} |" for crate, lines, modules in rows)
+    yield f"| all | {sum(lines for _, lines, _ in rows):,} | |"
+
+
+def main():
+    print("| crate | lines | in |\n|---|---:|---|")
+    print("\n".join(table(modules(), sys.argv[1:] or PUBLIC)))
+
+
+if __name__ == "__main__":
+    main()

@@ -1,0 +1,152 @@
+"""Figures of the documents that the repository can be asked for. tools/check_docs.py compares them; each says where it is wrong.
+
+The places: docs/trust.md (lines of definitions), README.md (the bands of the picture, the star), docs/gate.md (edits of each crate, and
+the most that there may be), docs/callers.md (the calls of the header), and docs/DECISIONS.md (how large a crate may be, and those that
+may be larger until they are cut).
+"""
+import glob
+import re
+
+import affected
+import definitions
+
+EMPTY = re.compile(r"\{\}\s*$", re.M)
+FUNCTION = re.compile(r"^\s*(?:pub(?:\(\w+\))? )?(?:const )?fn ", re.M)
+WORDS = "zero one two three four five six seven eight nine ten eleven twelve".split()
+
+
+def text_of(path):
+    with open(path, encoding="utf-8") as file:
+        return file.read()
+
+
+def line_of(text, at):
+    return text.count("\n", 0, at) + 1
+
+
+def number(word):
+    """A number in digits, with commas or without, or in words."""
+    return WORDS.index(word.lower()) if word.lower() in WORDS else int(word.replace(",", ""))
+
+
+def code_of(crate):
+    """The code of a crate, without comments."""
+    paths = glob.glob(f"crates/{crate}/src/**/*.rt", recursive=True)
+    return re.sub(r"^\s*//.*\n", "", "\n".join(map(text_of, paths)), flags=re.M)
+
+
+def is_of_laws(code):
+    """Whether each function of a crate does nothing."""
+    return len(FUNCTION.findall(code)) == len(EMPTY.findall(code))
+
+
+def edits_of(crate, folder="*"):
+    return len(glob.glob(f"crates/{crate}/{folder}/*.edit"))
+
+
+def trust():
+    """docs/trust.md: its table, and before each command of tools/definitions.py the lines that this prints."""
+    page, known = text_of("docs/trust.md"), definitions.modules()
+    begin = page.index("| crate | lines | in |")
+    rows = page[begin:].split("\n\n")[0].split("\n")[2:]
+    for at, (row, want) in enumerate(zip([*rows, ""], definitions.table(known, definitions.PUBLIC))):
+        if row != want:
+            yield line_of(page, begin) + 2 + at, f"tools/definitions.py prints {want}"
+            break
+    said = 0
+    for command in re.finditer(r"`python3 tools/definitions.py ([^`]*)`", page):
+        text, said = page[said : command.start()], command.end()
+        counts = {crate: lines for crate, lines, _ in definitions.counted(known, command[1].split())}
+        wholes = re.findall(r"\b([\d,]+) lines", text)
+        figures = [(n, crate, counts.get(crate)) for n, crate in re.findall(r"\b(\d+)\s+in\s+`(\w+)`", text)]
+        for n, what, want in figures + [(n, "all", sum(counts.values())) for n in wholes[-1:]]:
+            if number(n) != want:
+                yield line_of(page, command.start()), f"{n} lines of {what}: tools/definitions.py prints {want}"
+        if not wholes:
+            yield line_of(page, command.start()), "no number of lines stands before this command"
+
+
+def picture(page, uses):
+    """The bands of the picture in README.md, from the highest: each with its crates, and whether a star is beside them."""
+    bands = []
+    for line in page[page.index("## The layers") :].split("```")[1].strip("\n").split("\n"):
+        if not line.startswith(" "):
+            bands.append({})
+        for cell in re.split(r"\s{2,}", line):
+            crate = re.match(r"(\w+)(?: ?(\*))?(?= |$)", cell)
+            if crate and crate[1] in uses:
+                bands[-1][crate[1]] = crate[2] is not None
+    return bands
+
+
+def layers():
+    """README.md: each crate is there, uses its band and those below, but as it is said, and has a star where it has laws alone."""
+    page, uses = text_of("README.md"), affected.crates()
+    bands, at = picture(page, uses), line_of(page, page.index("## The layers"))
+    below = page[page.index("\nA crate uses") :].partition("\n\n")[0]
+    level = {crate: n for n, band in enumerate(bands) for crate in band if crate in uses}
+    upward = {(crate, low) for crate in level for low in uses[crate] if level.get(low, len(bands)) < level[crate]}
+    named = re.findall(r"((?:`\w+`(?:,\s+|\s+and\s+)?)+)\s+uses?\s+`(\w+)`", below)
+    said = {(crate, low) for crates, low in named for crate in re.findall(r"`(\w+)`", crates)}
+    for crate, low in sorted(upward ^ said):
+        yield at, f"`{crate}` " + (f"uses `{low}`, of a higher band" if (crate, low) in upward else f"uses no `{low}` above it")
+    starred = {crate for band in bands for crate, star in band.items() if star}
+    besides = re.findall(r"`(\w+)`", (re.search(r"A star.*?\.", below, re.S) or [""])[0])
+    for crate in uses:
+        if crate.startswith("test_"):
+            continue
+        if crate not in level and f"`{crate}`" not in below:
+            yield at, f"`{crate}` is neither in the picture nor below it"
+        elif crate in level and (crate in starred) != is_of_laws(code_of(crate)) and crate not in besides:
+            yield at, f"`{crate}` has laws and definitions alone and no star, or the other way round"
+
+
+def sizes():
+    """docs/DECISIONS.md: no crate has more lines of code than it says, but for those that it names, which have no more than it says."""
+    page = text_of("docs/DECISIONS.md")
+    rule = re.search(r"- \*\*A crate's size.*?(?=\n- |\n\n)", page, re.S)
+    most = number(re.search(r"([\d,]+) lines of code", rule[0])[1])
+    may = {crate: number(n) for crate, n in re.findall(r"`(\w+)`\s+\(([\d,]+)\)", rule[0])}
+    for crate in affected.crates():
+        lines = sum(bool(line.strip()) for line in code_of(crate).split("\n"))
+        if lines > may.get(crate, most) or crate in may and lines <= most:
+            yield line_of(page, rule.start()), f"`{crate}` has {lines} lines of code"
+
+
+def edits():
+    """docs/gate.md: the edits of each crate, and the most that the gate tries."""
+    page, left = text_of("docs/gate.md"), set(affected.crates())
+    one, most = re.search(r"at most (\d+) edits in `must-fail/`, the repository (\d+)", page).groups()
+    tried = {crate: edits_of(crate, "must-fail") for crate in left}
+    for crate, count in [*sorted(tried.items()), ("all", sum(tried.values()))]:
+        if count > number(most if crate == "all" else one):
+            yield 1, f"{crate}: {count} edits in must-fail/"
+    rows = [(found.start(), found[1], found[2]) for found in re.finditer(r"^\| (.*?) \|(?:[^|\n]*\|){4} *(\d*) \|", page, re.M)]
+    for at, first, count in [row for row in rows if "`" in row[1]] + [row for row in rows if "`" not in row[1] and row[1] != "crate"]:
+        crates = re.findall(r"`(\w+)`", first)
+        if not crates:
+            crates = [it for it in left if "tests" in first and it.startswith("test_") or "laws" in first and is_of_laws(code_of(it))]
+            if first != "all" and number(first.split()[0]) != len(crates):
+                yield line_of(page, at), f"these are {len(crates)}"
+        left -= set(crates)
+        want = sum(map(edits_of, affected.crates() if first == "all" else crates))
+        if number(count or "0") != want:
+            yield line_of(page, at), f"{first} has {want} edits"
+    if left:
+        yield 1, f"no row has {', '.join(sorted(left))}"
+
+
+def calls():
+    """docs/callers.md: how many calls the header declares."""
+    count = len(re.findall(r"^uint32_t sandpiper_\w+\(", text_of("include/sandpipercot.h"), re.M))
+    page = text_of("docs/callers.md")
+    for said in re.finditer(r"(\w+) calls\b", page):
+        if (said[1].isdigit() or said[1] in WORDS) and number(said[1]) != count:
+            yield line_of(page, said.start()), f"the header declares {count} calls"
+
+
+def wrong():
+    """Each figure that is wrong: the page, the line, and what to say."""
+    places = {"docs/trust.md": trust, "README.md": layers, "docs/DECISIONS.md": sizes, "docs/gate.md": edits, "docs/callers.md": calls}
+    for page, asked in places.items():
+        yield from ((page, *found) for found in asked())
