@@ -3,7 +3,6 @@
 ghost use Rattle.std.specs.Prelude.{◌≡◌, ◌<◌, ℕ, [], ◌∷◌, Some, MatchOption, Contains, length, map, slice_get};
 ghost use Rattle.std.specs.List.{AllPairs};
 ghost use Rattle.xid_circle.specs.declared.Tid.{Tid as Place};
-ghost use Rattle.xid_circle.specs.Circle.{IsNormal};
 ghost use Rattle.page_slots.specs.declared.slot.Slot.TheVariants.{Dead};
 ghost use Rattle.page_slots.specs.Slots.{slot_at, next_change};
 ghost use Rattle.commit_status.specs.Window.{IsWindow, IsUpToNext};
@@ -27,11 +26,10 @@ impl HeapState {
         self.pages.mark(number)
     }
 
-    /// Freezes the page of this number, which is in use, at the cutoff, a normal id, as [`freeze_page`] does. (The manual's
-    /// "Preventing Transaction ID Wraparound Failures".)
+    /// Freezes the page of this number, which is in use, at the cutoff, as [`freeze_page`] does. (The manual's "Preventing
+    /// Transaction ID Wraparound Failures".)
     pub fn freeze(&mut self, number: u32, cutoff: Xid)
         requires within { number < length self.old.pages.pages }
-        requires normal { IsNormal cutoff.0 }
         ensures { FreezesAt self.old self.new number cutoff.0 }
     {
         let table = &self.table;
@@ -40,11 +38,10 @@ impl HeapState {
         self.hints.end(number);
     }
 
-    /// Notes what is so of the page of this number, which is in use, at the horizon, a normal id: in the visibility map, and in
-    /// the page's flag.
+    /// Notes what is so of the page of this number, which is in use, at the horizon: in the visibility map, and in the page's
+    /// flag.
     pub fn note(&mut self, number: u32, horizon: Xid)
         requires within { number < length self.old.pages.pages }
-        requires normal { IsNormal horizon.0 }
         ensures { Notes self.old self.new number horizon.0 }
     {
         if let Some(page) = self.pages.page(number) {

@@ -38,7 +38,6 @@ impl HeapState {
         horizon: Xid,
     ) -> Result<Xid, WriteFault>
         requires newest { NewestIsGiven self.old.table own.old }
-        requires horizon { IsNormal horizon.0 }
         requires free { ¬ NeedsFreeze self.old.table own.old }
         requires there { VersionIsThere self.old place }
         requires room { room_of (page_on self.old place.page).slots < rounded_size_of row.now }

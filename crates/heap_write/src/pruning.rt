@@ -1,7 +1,6 @@
 //! A page is cleaned.
 
 ghost use Rattle.std.specs.Prelude.{◌≡◌, ◌<◌, length, OnOk, OnErr, IfErr, IsTrue};
-ghost use Rattle.xid_circle.specs.Circle.{IsNormal};
 ghost use Rattle.heap_write.specs.Heap.{page_on};
 ghost use Rattle.heap_write.specs.Writes.{Prunes};
 ghost use Rattle.heap_write.specs.Refusals.{Unpruned};
@@ -25,7 +24,6 @@ impl HeapState {
     /// Takes from the page of this number, counted from 0, what nobody can see any more at the horizon. It takes
     /// no memory, and the fault leaves all as it was. (The manual's "Heap-Only Tuples"; README.HOT, "Pruning".)
     pub fn prune(&mut self, number: u32, horizon: Xid) -> Result<(), PruneFault>
-        requires { IsNormal horizon.0 }
         ensures ok { OnOk result (Prunes self.old self.new number horizon.0) }
         ensures fault { IfErr result (λ fault. Unpruned self.old number fault) }
         ensures err { OnErr result (self.new ≡ self.old) }

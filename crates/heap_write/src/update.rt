@@ -41,7 +41,6 @@ impl HeapState {
         horizon: Xid,
     ) -> Result<Xid, WriteFault>
         requires newest { NewestIsGiven self.old.table own.old }
-        requires horizon { IsNormal horizon.0 }
         ensures ok { IfOk result
             (λ x. Updates self.old self.new own.old own.new place row.now horizon.0 x.0) }
         ensures fault { IfErr result
