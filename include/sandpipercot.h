@@ -12,7 +12,8 @@
  *
  * MEMORY comes from the program's malloc, realloc and free. Where that is refused, the call says SANDPIPER_NO_MEMORY and has changed
  * nothing; it may be repeated. sandpiper_get, _rollback_to, _release, _commit, _abort, _prune, _close, _open_heap, _open_keys,
- * _open_index, _close_cursor, _row_at, _slot_at, _vacuum_begin, _vacuum_step and _vacuum_cancel ask for none.
+ * _open_index, _close_cursor, _row_at, _slot_at, _page_at, _state, _vacuum_begin, _vacuum_step and
+ * _vacuum_cancel ask for none.
  *
  * STATUSES. Each call returns one of those below. From 16 on something was refused. Whatever the status is, also where nobody reads
  * it, the table is whole and usable. A refused call leaves everything as it was, but for two: after SANDPIPER_CONFLICT the
@@ -23,6 +24,10 @@
 
 #include <stdbool.h>
 #include <stdint.h>
+
+#define SANDPIPER_VERSION "0.2"
+#define SANDPIPER_VERSION_MAJOR 0
+#define SANDPIPER_VERSION_MINOR 2
 
 #ifdef __cplusplus
 extern "C" {
@@ -58,38 +63,38 @@ struct sandpiper_row {
 };
 
 enum sandpiper_status {
-    SANDPIPER_DONE = 0,
-    SANDPIPER_FOUND = 1,              /* the row was written to the place that was named */
+    SANDPIPER_DONE = 0,               /* it was done */
+    SANDPIPER_FOUND = 1,              /* it was found, and written to the place that was named */
     SANDPIPER_NO_ROW = 2,             /* there is none, and the place is as it was */
-    SANDPIPER_COMMITTED = 3,
-    SANDPIPER_ROLLED_BACK = 4,        /* by an abort, or by the commit of a transaction that had failed */
+    SANDPIPER_COMMITTED = 3,          /* what the session wrote was committed */
+    SANDPIPER_ROLLED_BACK = 4,        /* what the session wrote was rolled back: by an abort, or since its transaction had failed */
     SANDPIPER_ROWS = 5,               /* the cursor hands out rows: sandpiper_row_at reads them */
-    SANDPIPER_END = 6,                /* it has handed out all, and stays open */
+    SANDPIPER_END = 6,                /* the cursor has handed out all, and stays open */
     SANDPIPER_WORKED = 7,             /* the vacuum did a part of its work, and goes on */
     SANDPIPER_ENDED = 8,              /* the vacuum has ended */
     /* refusals */
     SANDPIPER_NOT_OPEN = 16,          /* the session is not open */
-    SANDPIPER_ALREADY_OPEN = 17,      /* it is open already */
-    SANDPIPER_FAILED = 18,            /* its transaction has failed: roll back to a savepoint, or abort */
-    SANDPIPER_ALREADY_THERE = 19,     /* an insert: the session reads a row of the key */
-    SANDPIPER_NOT_THERE = 20,         /* an update or delete: it reads none */
+    SANDPIPER_ALREADY_OPEN = 17,      /* the session is open already */
+    SANDPIPER_FAILED = 18,            /* the transaction has failed: roll back to a savepoint, or abort */
+    SANDPIPER_ALREADY_THERE = 19,     /* an insert: the session reads a row of the key already */
+    SANDPIPER_NOT_THERE = 20,         /* an update or delete: the session reads no row of the key */
     SANDPIPER_CONFLICT = 21,          /* a transaction that committed since the session began wrote the key */
     SANDPIPER_CURSOR_OPEN = 22,       /* the session has a cursor, and while it does it writes nothing */
-    SANDPIPER_NO_CURSOR = 23,
-    SANDPIPER_TOO_DEEP = 24,          /* it has 32 savepoints */
-    SANDPIPER_NO_SAVEPOINT = 25,
+    SANDPIPER_NO_CURSOR = 23,         /* the session has no cursor */
+    SANDPIPER_TOO_DEEP = 24,          /* the session has 32 savepoints */
+    SANDPIPER_NO_SAVEPOINT = 25,      /* the session has no savepoint */
     SANDPIPER_TOO_LARGE = 26,         /* the body has more than 1024 bytes */
     SANDPIPER_NO_ROOM = 27,           /* no page has room, and max_pages are in use */
     SANDPIPER_NEEDS_FREEZE = 28,      /* no id can be given until an aggressive vacuum has ended: see stop_age */
     SANDPIPER_BAD_BOUNDS = 29,        /* the lower bound is over the upper */
-    SANDPIPER_NO_MEMORY = 30,
-    SANDPIPER_NO_SUCH_PAGE = 31,
-    SANDPIPER_NO_SUCH_INDEX = 32,
-    SANDPIPER_NO_SUCH_SESSION = 33,   /* its number is over 63 */
-    SANDPIPER_VACUUM_RUNNING = 34,    /* sandpiper_vacuum_begin: one is running already */
-    SANDPIPER_NO_VACUUM = 35,
+    SANDPIPER_NO_MEMORY = 30,         /* memory was refused */
+    SANDPIPER_NO_SUCH_PAGE = 31,      /* the page is not in use */
+    SANDPIPER_NO_SUCH_INDEX = 32,     /* there is no such index */
+    SANDPIPER_NO_SUCH_SESSION = 33,   /* the session's number is over 63 */
+    SANDPIPER_VACUUM_RUNNING = 34,    /* a vacuum is running already */
+    SANDPIPER_NO_VACUUM = 35,         /* no vacuum is running */
     SANDPIPER_NO_ENGINE = 48,         /* the handle has no table */
-    SANDPIPER_HAS_ENGINE = 49,        /* sandpiper_open: it has one already */
+    SANDPIPER_HAS_ENGINE = 49,        /* sandpiper_open: the handle has a table already */
     /* sandpiper_open: the first setting that is out of its range */
     SANDPIPER_BAD_MAX_PAGES = 64,
     SANDPIPER_BAD_STOP_AGE = 65,
@@ -98,6 +103,10 @@ enum sandpiper_status {
     SANDPIPER_BAD_DEAD_LIMIT = 68,
     SANDPIPER_BUSY = 256              /* plus the number of the open session that has written the key */
 };
+
+/* The version of the library: its major number times 100, and its minor number. A program may compare it with the header's. It is no
+ * status. */
+uint32_t sandpiper_version(void);
 
 /* Opening. The settings are read, and may be let go after the call. */
 uint32_t sandpiper_open(const struct sandpiper_settings *settings, struct sandpiper *table);
@@ -164,6 +173,31 @@ uint32_t sandpiper_vacuum_begin(struct sandpiper *table, bool aggressive);
 uint32_t sandpiper_vacuum_step(struct sandpiper *table, struct sandpiper_piece *piece);
 uint32_t sandpiper_vacuum_cancel(struct sandpiper *table);
 
+/* What a table is like at a moment. */
+struct sandpiper_state {
+    uint32_t next_id;       /* the id that is given next: 3 to 4294967295 */
+    uint32_t oldest_id;     /* the oldest id that is remembered, or the next one where none is: 3 to 4294967295 */
+    uint32_t ids_left;      /* how many more ids can be given, one after another, before SANDPIPER_NEEDS_FREEZE: 0 to 2144483648 */
+    uint32_t pages;         /* how many pages are in use: 0 to 65536 */
+    uint64_t open_sessions; /* a bit for each session, the lowest for session 0: 1 where it is open */
+    uint64_t entries[5];    /* how many entries each index has: index 0 is by key, and index c + 1 by column c; 0 where there is none */
+    bool has_index[5];      /* whether there is an index of that number */
+    uint32_t vacuum;        /* 0 where no vacuum runs, 1 where a normal one does, 2 where an aggressive one does */
+};
+
+/* Writes what the table is like to `state`: DONE. */
+uint32_t sandpiper_state(struct sandpiper *table, struct sandpiper_state *state);
+
+/* What a page tells of itself. */
+struct sandpiper_page {
+    uint64_t change; /* how often a slot was changed otherwise than in hints, modulo 2^64 */
+    uint32_t bits;   /* the visibility map's: 1 where the page is all-visible, 2 where it is all-frozen too, else 0 */
+    uint32_t slots;  /* how many slots it has: 0 to 291 */
+};
+
+/* The head of a page, counted from 0: FOUND, or NO_ROW where the page is not in use. */
+uint32_t sandpiper_page_at(struct sandpiper *table, uint32_t page, struct sandpiper_page *head);
+
 /* What is in a slot of a page, for who wants to see versions and chains. */
 enum sandpiper_kind {
     SANDPIPER_UNUSED = 0,
@@ -183,6 +217,49 @@ struct sandpiper_slot {
 
 /* Slot number 1, 2, .. of a page, counted from 0: FOUND or NO_ROW. */
 uint32_t sandpiper_slot_at(struct sandpiper *table, uint32_t page, uint16_t number, struct sandpiper_slot *slot);
+
+/* A status in words: one sentence, which lasts as long as the program. */
+static inline const char *sandpiper_words(uint32_t status) {
+    switch (status) {
+    case SANDPIPER_DONE: return "it was done";
+    case SANDPIPER_FOUND: return "it was found, and written to the place that was named";
+    case SANDPIPER_NO_ROW: return "there is none, and the place is as it was";
+    case SANDPIPER_COMMITTED: return "what the session wrote was committed";
+    case SANDPIPER_ROLLED_BACK: return "what the session wrote was rolled back";
+    case SANDPIPER_ROWS: return "the cursor hands out rows";
+    case SANDPIPER_END: return "the cursor has handed out all, and stays open";
+    case SANDPIPER_WORKED: return "the vacuum did a part of its work, and goes on";
+    case SANDPIPER_ENDED: return "the vacuum has ended";
+    case SANDPIPER_NOT_OPEN: return "the session is not open";
+    case SANDPIPER_ALREADY_OPEN: return "the session is open already";
+    case SANDPIPER_FAILED: return "the transaction has failed: roll back to a savepoint, or abort";
+    case SANDPIPER_ALREADY_THERE: return "the session reads a row of the key already";
+    case SANDPIPER_NOT_THERE: return "the session reads no row of the key";
+    case SANDPIPER_CONFLICT: return "a transaction that committed since the session began wrote the key";
+    case SANDPIPER_CURSOR_OPEN: return "the session has a cursor, and while it does it writes nothing";
+    case SANDPIPER_NO_CURSOR: return "the session has no cursor";
+    case SANDPIPER_TOO_DEEP: return "the session has 32 savepoints";
+    case SANDPIPER_NO_SAVEPOINT: return "the session has no savepoint";
+    case SANDPIPER_TOO_LARGE: return "the body has more than 1024 bytes";
+    case SANDPIPER_NO_ROOM: return "no page has room, and max_pages are in use";
+    case SANDPIPER_NEEDS_FREEZE: return "no id can be given until an aggressive vacuum has ended";
+    case SANDPIPER_BAD_BOUNDS: return "the lower bound is over the upper";
+    case SANDPIPER_NO_MEMORY: return "memory was refused";
+    case SANDPIPER_NO_SUCH_PAGE: return "the page is not in use";
+    case SANDPIPER_NO_SUCH_INDEX: return "there is no such index";
+    case SANDPIPER_NO_SUCH_SESSION: return "the session's number is over 63";
+    case SANDPIPER_VACUUM_RUNNING: return "a vacuum is running already";
+    case SANDPIPER_NO_VACUUM: return "no vacuum is running";
+    case SANDPIPER_NO_ENGINE: return "the handle has no table";
+    case SANDPIPER_HAS_ENGINE: return "the handle has a table already";
+    case SANDPIPER_BAD_MAX_PAGES: return "the setting max_pages is out of its range";
+    case SANDPIPER_BAD_STOP_AGE: return "the setting stop_age is out of its range";
+    case SANDPIPER_BAD_FREEZE_MIN_AGE: return "the setting freeze_min_age is out of its range";
+    case SANDPIPER_BAD_FIRST_XID: return "the setting first_xid is out of its range";
+    case SANDPIPER_BAD_DEAD_LIMIT: return "the setting dead_limit is out of its range";
+    default: return status - SANDPIPER_BUSY < SANDPIPER_SESSIONS ? "another open session has written the key" : "no status";
+    }
+}
 
 #ifdef __cplusplus
 }

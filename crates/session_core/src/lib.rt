@@ -6,6 +6,7 @@
 //! the vacuum exactly what `EngineExact` says. [`run`] does a list of steps (`specs/Runs.antt`).
 #![tactic(auto)]
 
+mod counts;
 mod engine;
 mod runs;
 mod vacuuming;

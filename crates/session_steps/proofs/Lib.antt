@@ -14,6 +14,7 @@ pub mod Returning
 pub mod Ends
 pub mod Follows
 pub mod Savepoints
+pub mod Counting
 pub mod CursorSteps
 pub mod Outcomes
 pub mod Walks

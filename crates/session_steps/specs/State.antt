@@ -1,5 +1,5 @@
 -- An engine as its callers see it, and what its readers see of it.
-use Rattle.std.specs.Prelude.{ℕ, true, List, [], ◌∷◌, ◌++◌, take, Option, Some, None, slice_get, slice_set}
+use Rattle.std.specs.Prelude.{ℕ, ◌+◌, ◌*◌, true, List, [], ◌∷◌, ◌++◌, take, Option, Some, None, slice_get, slice_set}
 use Rattle.std.specs.Option.{option_map, option_flatten}
 use Rattle.snapshot.specs.Snap.{Sees, earliest}
 use Rattle.commit_status.specs.Window.{Window, next_id}
@@ -83,6 +83,12 @@ held_back (Some e ∷ sessions) = holds_back e ++ held_back sessions
 -- later, misses what committed before it. (The manual's "Routine Vacuuming"; GetOldestNonRemovableTransactionId.)
 abbrev pub horizon_of : State → ℕ
 horizon_of st = earliest (next_id st.heap.table) (held_back st.sessions)
+
+-- which sessions are open: a bit for each, the lowest for session 0
+abbrev pub open_bits : List (Option Session) → ℕ
+open_bits [] = 0
+open_bits (None ∷ sessions) = 2 * open_bits sessions
+open_bits (Some e ∷ sessions) = 2 * open_bits sessions + 1
 
 -- another session, or none, in this place
 abbrev pub put_session : State → ℕ → Option Session → State

@@ -14,6 +14,7 @@ mod begin;
 mod checked;
 mod checks;
 mod commit;
+mod counts;
 mod cursor;
 mod cursors;
 mod delete;

@@ -1,0 +1,44 @@
+//! How much an engine has, and which vacuum it runs.
+
+ghost use Rattle.std.specs.Prelude.{◌≡◌, ◌↔◌, ◌≤◌, ℕ, length};
+ghost use Rattle.std.specs.Option.{option_map};
+ghost use Rattle.commit_status.specs.Changes.{CanGive};
+ghost use Rattle.session_steps.specs.State.{open_bits};
+ghost use Rattle.vacuum_passes.specs.View.{VacuumView};
+
+use crate::engine::Engine;
+use refinement::Mode;
+
+impl Engine {
+    /// How many pages are in use.
+    pub fn pages(&self) -> u32
+        ensures { result ≡ length self.now.core.heap.pages.pages }
+    {
+        self.core.pages()
+    }
+
+    /// How many more ids can be given, one after another, before NeedsFreeze.
+    pub fn ids_left(&self) -> u32
+        ensures { (n : ℕ) → CanGive self.now.core.heap.table n ↔ (n ≤ result) }
+    {
+        self.core.ids_left()
+    }
+
+    /// Which sessions are open: a bit for each, the lowest for session 0.
+    pub fn open_sessions(&self) -> u64
+        ensures { result ≡ open_bits self.now.core.sessions }
+    {
+        self.core.open_sessions()
+    }
+
+    /// The mode of the vacuum that is running, if one is.
+    pub fn vacuum_mode(&self) -> Option<Mode>
+        ensures { result ≡ option_map (λ (v : VacuumView). v.mode) self.now.vacuum }
+    {
+        let vacuum = self.vacuum.as_ref()?;
+        match vacuum.forgets_before() {
+            Some(_) => Some(Mode::Aggressive),
+            None => Some(Mode::Normal),
+        }
+    }
+}
