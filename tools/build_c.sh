@@ -1,6 +1,6 @@
 #!/usr/bin/env bash
 # tools/build_c.sh PREFIX: proves the C library, builds it, and installs it under PREFIX: include/sandpipercot.h,
-# lib/libsandpipercot.a and .so, lib/pkgconfig/sandpipercot.pc, and lib/python/sandpipercot.py.
+# lib/libsandpipercot.a, .so and .so.0, lib/pkgconfig/sandpipercot.pc, and lib/python/sandpipercot.py.
 # RT_JOBS says how many jobs rt is to use; CC names the C compiler, if it is not cc.
 set -euo pipefail
 
@@ -36,18 +36,20 @@ objcopy --wildcard --keep-global-symbol='sandpiper_*' "$work/sandpipercot.o"
 mkdir -p "$prefix/include" "$prefix/lib/pkgconfig" "$prefix/lib/python"
 rm -f "$prefix/lib/libsandpipercot.a"
 ar rcs "$prefix/lib/libsandpipercot.a" "$work/sandpipercot.o"
-"$compiler" -shared -o "$prefix/lib/libsandpipercot.so" "$work/sandpipercot.o" \
-    -Wl,-soname,libsandpipercot.so -Wl,-z,defs -Wl,-z,noexecstack
+"$compiler" -shared -o "$prefix/lib/libsandpipercot.so.0" "$work/sandpipercot.o" \
+    -Wl,-soname,libsandpipercot.so.0 -Wl,-z,defs -Wl,-z,noexecstack
+ln -sf libsandpipercot.so.0 "$prefix/lib/libsandpipercot.so"
 install -m 644 "$root/include/sandpipercot.h" "$prefix/include/"
 install -m 644 "$root/python/sandpipercot.py" "$prefix/lib/python/"
-cat >"$prefix/lib/pkgconfig/sandpipercot.pc" <<'PC'
+version=$(sed -n 's/^#define SANDPIPER_VERSION "\(.*\)"$/\1/p' "$root/include/sandpipercot.h")
+sed "s/VERSION/$version/" >"$prefix/lib/pkgconfig/sandpipercot.pc" <<'PC'
 prefix=${pcfiledir}/../..
 libdir=${prefix}/lib
 includedir=${prefix}/include
 
 Name: sandpipercot
 Description: a proved multi-version table heap in memory
-Version: 0.1
+Version: VERSION
 Libs: -L${libdir} -lsandpipercot
 Cflags: -I${includedir}
 PC

@@ -115,7 +115,18 @@ static const struct {
     CASE(BUSY, busy),
 };
 
+/* Each status has words of its own, and no other number has any. */
+static void check_words(void) {
+    size_t count = sizeof cases / sizeof *cases, statuses = 0;
+    for (size_t i = 0; i < count; i++)
+        for (size_t j = 0; j < i; j++) CHECK(strcmp(sandpiper_words(cases[i].status), sandpiper_words(cases[j].status)) != 0);
+    for (uint32_t status = 0; status < 1000; status++) statuses += strcmp(sandpiper_words(status), "no status") != 0;
+    CHECK(statuses == count - 1 + SANDPIPER_SESSIONS);
+    CHECK(strcmp(sandpiper_words(SANDPIPER_BUSY + 63), sandpiper_words(SANDPIPER_BUSY)) == 0);
+}
+
 int main(void) {
+    check_words();
     for (size_t i = 0; i < sizeof cases / sizeof *cases; i++) {
         settings = (struct sandpiper_settings){1, 40, 0, 3, 64, {false, false, false, false}};
         row = (struct sandpiper_row){.key = 1};

@@ -26,10 +26,10 @@ held_by table = table.handle.held
 abbrev pub settings_of : SandpiperSettings → Settings
 settings_of s = record { max_pages = s.max_pages; stop_age = s.stop_age; freeze_min_age = s.freeze_min_age; first_xid = s.first_xid; dead_limit = s.dead_limit; indexed = s.indexed }
 
--- a new engine of these settings, or the first fault
+-- a new engine of these settings, which has answered nothing yet, or the first fault
 abbrev pub OpensHeld : Settings → Option Held → ℕ → Option Held → Type 0
 OpensHeld asked (Some held) code new = (code ≡ number_of_status status.HasEngine) × (new ≡ Some held)
-OpensHeld asked None code (Some held) = (code ≡ number_of_status status.Done) × IsNewEngine asked held.engine
+OpensHeld asked None code (Some held) = (code ≡ number_of_status status.Done) × IsNewEngine asked held.engine × (held.reply ≡ reply.Done)
 OpensHeld asked None code None = (fault : SettingsFault) × FirstFault asked fault × (code ≡ number_of_status (status_of_fault fault))
 
 abbrev pub OpensTable : SandpiperSettings → Sandpiper → ℕ → Sandpiper → Type 0

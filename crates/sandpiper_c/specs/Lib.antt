@@ -5,3 +5,4 @@ pub mod Rows
 pub mod Calls
 pub mod Pages
 pub mod Pieces
+pub mod State

@@ -14,9 +14,11 @@ mod opening;
 mod pages;
 mod rows;
 mod settings;
+mod state;
 mod status;
 mod steps;
 mod vacuum;
+mod version;
 mod writes;
 
 pub use status::{numbers_differ, refusals_are_high};

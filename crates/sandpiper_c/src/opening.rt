@@ -1,6 +1,7 @@
 //! Making an engine, and ending it.
 
-ghost use Rattle.std.specs.Prelude.{IfOk, IfErr};
+ghost use Rattle.std.specs.Prelude.{◌≡◌, IfOk, IfErr};
+ghost use Rattle.refinement.specs.declared.reply.Reply.TheVariants as reply;
 ghost use Rattle.refinement.specs.Words.{FirstFault};
 ghost use Rattle.vacuum_engine.specs.New.{IsNewEngine};
 ghost use Rattle.sandpiper_c.specs.Calls.{settings_of, OpensTable, ClosesTable};
@@ -15,6 +16,7 @@ use std::alloc::Global;
 /// An engine of these settings, on the heap.
 fn new_held(alloc: Global, settings: &SandpiperSettings) -> Result<Box<Held>, SettingsFault>
     ensures new { IfOk result (λ b. IsNewEngine (settings_of settings.now) b.value.engine) }
+    ensures reply { IfOk result (λ b. b.value.reply ≡ reply.Done) }
     ensures fault { IfErr result (λ fault. FirstFault (settings_of settings.now) fault) }
 {
     let engine = Engine::new(alloc, settings::of(settings))?;

@@ -1,14 +1,74 @@
-//! The slots of a page, for whoever looks into it.
+//! The head of a page, and its slots, for whoever looks into it.
 
 ghost use Rattle.std.specs.Prelude.{◌≡◌};
 ghost use Rattle.sandpiper_c.specs.Calls.{StaysAsIs};
-ghost use Rattle.sandpiper_c.specs.Pages.{shown_slot, page_slot, ShowsSlot, ShowsSlotOf};
+ghost use Rattle.sandpiper_c.specs.Pages.{shown_slot, page_slot, ShowsSlot, ShowsSlotOf, head_in, ShowsHead, ShowsHeadOf};
 
 use crate::database::Sandpiper;
 use crate::status::CallStatus;
 use page_slots::Slot;
 use session_core::Engine;
 use std::alloc::Global;
+
+/// What a page tells of itself.
+#[repr(C)]
+#[derive(Clone, Copy)]
+pub struct SandpiperPage {
+    /// How often a slot was changed otherwise than in hints, modulo 2^64.
+    pub change: u64,
+    /// The visibility map's bits: 1 where the page is all-visible, 2 where it is all-frozen too, else 0.
+    pub bits: u32,
+    /// How many slots it has.
+    pub slots: u32,
+}
+
+/// The head of the page of this number, counted from 0, if it is in use.
+fn head_of_page(engine: &Engine, number: u32) -> Option<SandpiperPage>
+    ensures { result ≡ head_in engine.now.core number }
+{
+    match (engine.page(number), engine.page_bits(number)) {
+        (Some(page), Some(bits)) => Some(SandpiperPage {
+            change: page.change(),
+            bits: bits as u32,
+            slots: page.slots() as u32,
+        }),
+        _ => None,
+    }
+}
+
+/// Writes the head to C's place, if there is one.
+fn put_head(found: Option<SandpiperPage>, place: &mut SandpiperPage) -> u32
+    ensures { ShowsHead found place.old result place.new }
+{
+    match found {
+        Some(head) => {
+            *place = head;
+            CallStatus::Found.number()
+        }
+        None => CallStatus::NoRow.number(),
+    }
+}
+
+/// Writes the head of the page of this number, counted from 0, to `head`, if the page is in use.
+#[unsafe(no_mangle)]
+pub extern "C" fn sandpiper_page_at(
+    alloc: Global,
+    table: &mut Sandpiper,
+    page: u32,
+    head: &mut SandpiperPage,
+) -> u32
+    ensures stays { StaysAsIs table.old table.new }
+    ensures head { ShowsHeadOf table.old page head.old result head.new }
+{
+    match table.take(alloc) {
+        Some(held) => {
+            let code = put_head(head_of_page(&held.engine, page), head);
+            table.put(held);
+            code
+        }
+        None => CallStatus::NoRow.number(),
+    }
+}
 
 /// A slot: its kind is 0 if it is unused, 1 for a version of a row, 2 if it leads to another slot, and 3 if it is dead. What its kind
 /// has not is 0.
