@@ -1,7 +1,6 @@
 -- A step that is no vacuum's, beside one that may be running.
 use Rattle.std.proofs.Common.{◌≡◌, ℕ, false, Option, Some, None, sym, ap, ◌∙◌, subst, ⊎_elim}
 use Rattle.std.specs.Prelude.{MatchOption}
-use Rattle.xid_circle.specs.Circle.{IsNormal}
 use Rattle.xid_circle.specs.declared.Xid.{Xid}
 use Rattle.heap_write.specs.Heap.{HeapView}
 use Rattle.refinement.specs.declared.vacuum.Mode.TheVariants.{Normal, Aggressive}
@@ -38,7 +37,7 @@ module _ (old new : EngineView) (v : VacuumView) (mid : State) (running : old.va
   steps-same : Steps old.core.heap old.core.heap v (vacuum_horizon old) None None
   steps-same = subst (λ (h : HeapView). Steps old.core.heap h v (vacuum_horizon old) None None) heap-same works.steps
 
-  pub ended : (cutoff : Option Xid) → MatchOption cutoff (v.mode ≡ Normal) (λ x. (v.mode ≡ Aggressive) × (x.0 ≡ v.cutoff) × IsNormal x.0)
+  pub ended : (cutoff : Option Xid) → MatchOption cutoff (v.mode ≡ Normal) (λ x. (v.mode ≡ Aggressive) × (x.0 ≡ v.cutoff))
       → MatchOption cutoff (new.core ≡ mid) (λ x. Forgets mid new.core x.0) → DoesEnd old new
   ended None normal same = record {
     vacuum = v;

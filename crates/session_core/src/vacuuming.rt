@@ -1,7 +1,6 @@
 //! The steps of a vacuum.
 
-ghost use Rattle.std.specs.Prelude.{◌≡◌, None, IfSome, MatchOption};
-ghost use Rattle.xid_circle.specs.Circle.{IsNormal};
+ghost use Rattle.std.specs.Prelude.{◌≡◌, None, MatchOption};
 ghost use Rattle.session_steps.specs.Vacuums.{Forgets};
 ghost use Rattle.vacuum_engine.specs.Exact.{ExactVacuumBegin, ExactVacuumStep, ExactVacuumCancel};
 
@@ -42,7 +41,6 @@ impl Engine {
     /// Drops the vacuum, which has ended, and forgets the ids before the cutoff, if there is one. It answers the oldest that is
     /// remembered then.
     fn end_vacuum(&mut self, cutoff: Option<Xid>) -> u32
-        requires { IfSome cutoff (λ x. IsNormal x.0) }
         ensures none { self.new.vacuum ≡ None }
         ensures core { MatchOption cutoff (self.new.core ≡ self.old.core)
             (λ x. Forgets self.old.core self.new.core x.0) }

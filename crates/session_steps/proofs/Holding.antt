@@ -2,15 +2,13 @@
 use Rattle.std.proofs.Common.{◌≡◌, ℕ, ◌+◌, ◌<◌, List, [], ◌∷◌, ◌++◌, length, take, get_or, Option, Some, None, refl, sym, ap, ◌∙◌}
 use Rattle.std.proofs.lemmas.List.{take_more, append-nil, append_assoc}
 use Rattle.std.proofs.lemmas.List.Sums.{fold-append}
-use Rattle.xid_circle.specs.Circle.{IsNormal}
 use Rattle.snapshot.specs.Snap.{earlier, earliest}
 use Rattle.session_steps.specs.declared.session.Session.{Session}
 use Rattle.session_steps.specs.State.{holds_back, held_back}
 
 -- so far: what the sessions before this place hold back
-pub record IsHeldAt (next : ℕ) (sessions : List (Option Session)) (i horizon : ℕ) : Type 0 where
-  pub is : horizon ≡ earliest next (held_back (take i sessions))
-  pub normal : IsNormal horizon
+abbrev pub IsHeldAt : ℕ → List (Option Session) → ℕ → ℕ → Type 0
+IsHeldAt next sessions i horizon = horizon ≡ earliest next (held_back (take i sessions))
 
 held-push_idle : (xs : List (Option Session)) → held_back (xs ++ None ∷ []) ≡ held_back xs
 held-push_idle [] = refl
@@ -23,16 +21,12 @@ held-push_open (None ∷ xs) e = held-push_open xs e
 held-push_open (Some f ∷ xs) e = ap (λ ys. holds_back f ++ ys) (held-push_open xs e) ∙ sym (append_assoc (holds_back f) (held_back xs) (holds_back e))
 
 pub held-idle : (next : ℕ) (xs : List (Option Session)) (i horizon : ℕ) (o : Option Session) → i < length xs → get_or xs i o ≡ o → o ≡ None → IsHeldAt next xs i horizon → IsHeldAt next xs (i + 1) horizon
-held-idle next xs i horizon o within read none h = record {
-  is = h.is ∙ sym (ap (λ xs. earliest next (held_back xs)) (take_more xs i o within ∙ ap (λ o. take i xs ++ o ∷ []) (read ∙ none)) ∙ ap (earliest next) (held-push_idle (take i xs)));
-  normal = h.normal;
-}
+held-idle next xs i horizon o within read none h =
+    h ∙ sym (ap (λ xs. earliest next (held_back xs)) (take_more xs i o within ∙ ap (λ o. take i xs ++ o ∷ []) (read ∙ none)) ∙ ap (earliest next) (held-push_idle (take i xs)))
 
 pub held-open : (next : ℕ) (xs : List (Option Session)) (i horizon held : ℕ) (o : Option Session) (e : Session) → i < length xs → get_or xs i o ≡ o → o ≡ Some e
-    → held ≡ earliest horizon (holds_back e) → IsNormal held → IsHeldAt next xs i horizon → IsHeldAt next xs (i + 1) held
-held-open next xs i horizon held o e within read some is normal h = record {
-  is = is ∙ (ap (λ x. earliest x (holds_back e)) h.is ∙ sym (
-      ap (λ xs. earliest next (held_back xs)) (take_more xs i o within ∙ ap (λ o. take i xs ++ o ∷ []) (read ∙ some))
-      ∙ (ap (earliest next) (held-push_open (take i xs) e) ∙ fold-append earlier next (held_back (take i xs)) (holds_back e))));
-  normal = normal;
-}
+    → held ≡ earliest horizon (holds_back e) → IsHeldAt next xs i horizon → IsHeldAt next xs (i + 1) held
+held-open next xs i horizon held o e within read some is h =
+    is ∙ (ap (λ x. earliest x (holds_back e)) h ∙ sym (
+    ap (λ xs. earliest next (held_back xs)) (take_more xs i o within ∙ ap (λ o. take i xs ++ o ∷ []) (read ∙ some))
+    ∙ (ap (earliest next) (held-push_open (take i xs) e) ∙ fold-append earlier next (held_back (take i xs)) (holds_back e))))

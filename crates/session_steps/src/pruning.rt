@@ -2,7 +2,6 @@
 
 ghost use Rattle.std.specs.Prelude.{◌≡◌};
 ghost use Rattle.snapshot.specs.Snap.{earliest};
-ghost use Rattle.xid_circle.specs.Circle.{IsNormal};
 ghost use Rattle.refinement.specs.declared.step.Step.{Step};
 ghost use Rattle.session_steps.specs.State.{held_back, holds_back, horizon_of};
 ghost use Rattle.session_steps.specs.Exact.{AnswersStep};
@@ -18,9 +17,7 @@ use xid_circle::Xid;
 
 /// The earlier of an id and those that the session holds back: its snapshot's xmin, and its first id.
 fn hold_back(session: &Session, x: Xid) -> Xid
-    requires { IsNormal x.0 }
-    ensures value { result.0 ≡ earliest x.0 (holds_back session.now) }
-    ensures normal { IsNormal result.0 }
+    ensures { result.0 ≡ earliest x.0 (holds_back session.now) }
 {
     let held = earlier(x, session.snapshot.xmin());
     match session.own.first() {
@@ -31,9 +28,7 @@ fn hold_back(session: &Session, x: Xid) -> Xid
 
 /// The earliest of the next id and what open sessions hold back.
 fn horizon(next: Xid, sessions: &[Option<Session>]) -> Xid
-    requires { IsNormal next.0 }
-    ensures value { result.0 ≡ earliest next.0 (held_back sessions.now) }
-    ensures normal { IsNormal result.0 }
+    ensures { result.0 ≡ earliest next.0 (held_back sessions.now) }
 {
     let mut horizon = next;
     for session in sessions {
@@ -47,8 +42,7 @@ fn horizon(next: Xid, sessions: &[Option<Session>]) -> Xid
 impl SessionEngine {
     /// The earliest id that an open session, or one that begins now, may still ask for.
     pub(crate) fn horizon(&self) -> Xid
-        ensures value { result.0 ≡ horizon_of self.now }
-        ensures normal { IsNormal result.0 }
+        ensures { result.0 ≡ horizon_of self.now }
     {
         horizon(self.heap.table().next(), self.sessions.used())
     }

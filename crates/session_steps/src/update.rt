@@ -1,7 +1,6 @@
 //! A session writes another row of a key that has one.
 
 ghost use Rattle.std.specs.Prelude.{◌≡◌, ◌≤◌, ◌⊎◌, Some};
-ghost use Rattle.xid_circle.specs.Circle.{IsNormal};
 ghost use Rattle.tuple_header.specs.Version.{rounded_size_of};
 ghost use Rattle.page_slots.specs.Slots.{room_of};
 ghost use Rattle.heap_write.specs.Heap.{page_on};
@@ -22,9 +21,8 @@ impl SessionEngine {
     /// The horizon at which an update to the row prunes the page of the version at a place. Where the row has room there nothing is
     /// pruned: any id will do then, and the sessions aren't looked at.
     fn update_horizon(&self, place: Tid, row: &Row) -> Xid
-        ensures value { (rounded_size_of row.now ≤ room_of (page_on self.now.heap place.page).slots)
+        ensures { (rounded_size_of row.now ≤ room_of (page_on self.now.heap place.page).slots)
             ⊎ (result.0 ≡ horizon_of self.now) }
-        ensures normal { IsNormal result.0 }
     {
         if self.heap.has_room(place.page, row) {
             self.heap.table().next()

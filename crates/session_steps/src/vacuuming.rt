@@ -2,7 +2,7 @@
 
 ghost use Rattle.std.specs.Prelude.{◌≡◌, ℕ, IsTrue, ◌↔◌, Some, Contains};
 ghost use Rattle.std.specs.Option.{option_map};
-ghost use Rattle.xid_circle.specs.Circle.{IsNormal, Precedes};
+ghost use Rattle.xid_circle.specs.Circle.{Precedes};
 ghost use Rattle.commit_status.specs.Changes.{numbers};
 ghost use Rattle.commit_status.specs.Window.{IsUpToNext};
 ghost use Rattle.forgetting.specs.Cutoffs.{aged, cutoff_at};
@@ -14,14 +14,13 @@ use crate::engine::SessionEngine;
 use crate::session::Session;
 use commit_status::StatusTable;
 use refinement::{Mode, Piece};
-use snapshot::earlier;
+use snapshot::{earlier, stands_before};
 use vacuum_passes::Vacuum;
-use xid_circle::{Xid, precedes};
+use xid_circle::Xid;
 
 /// The id given so long before the next one; a number that is no transaction's counts as 3.
 fn aged(next: Xid, age: u32) -> Xid
-    ensures value { result.0 ≡ aged next.0 age }
-    ensures normal { IsNormal result.0 }
+    ensures { result.0 ≡ aged next.0 age }
 {
     Xid(next.0.wrapping_sub(age).max(3))
 }
@@ -29,13 +28,10 @@ fn aged(next: Xid, age: u32) -> Xid
 /// What a vacuum marks as frozen was made before this id: the earlier of the horizon and of the id given so long before the next
 /// one, and never before the first, the oldest that is remembered. (vacuum_freeze_min_age in the manual's "Routine Vacuuming".)
 fn cutoff(first: Xid, next: Xid, horizon: Xid, age: u32) -> Xid
-    requires normal { IsNormal first.0 }
-    requires normal_too { IsNormal horizon.0 }
-    ensures value { result.0 ≡ cutoff_at first.0 next.0 horizon.0 age }
-    ensures normal { IsNormal result.0 }
+    ensures { result.0 ≡ cutoff_at first.0 next.0 horizon.0 age }
 {
     let cutoff = earlier(horizon, aged(next, age));
-    if precedes(cutoff, first) {
+    if stands_before(cutoff, first) {
         first
     } else {
         cutoff
@@ -44,7 +40,6 @@ fn cutoff(first: Xid, next: Xid, horizon: Xid, age: u32) -> Xid
 
 /// Whether the id is remembered or the next.
 fn is_up_to_next(table: &StatusTable, x: Xid) -> bool
-    requires { IsNormal x.0 }
     ensures { IsTrue result ↔ IsUpToNext table.now x.0 }
 {
     table.is_window();
@@ -53,13 +48,11 @@ fn is_up_to_next(table: &StatusTable, x: Xid) -> bool
 
 /// Whether none of these ids precedes the cutoff.
 fn are_from(ids: &[Xid], cutoff: Xid) -> bool
-    requires normal { (x : ℕ) → Contains (numbers ids.now) x → IsNormal x }
-    requires normal_too { IsNormal cutoff.0 }
     ensures { IsTrue result
         ↔ ((x : ℕ) → Contains (numbers ids.now) x → ¬ Precedes x cutoff.0) }
 {
     for x in ids {
-        if precedes(*x, cutoff) {
+        if stands_before(*x, cutoff) {
             return false;
         }
     }
@@ -68,9 +61,6 @@ fn are_from(ids: &[Xid], cutoff: Xid) -> bool
 
 /// Whether no open session has an id that precedes the cutoff.
 fn own_from(sessions: &[Option<Session>], cutoff: Xid) -> bool
-    requires normal { (s : ℕ) (e : OpenSession) (x : ℕ) → open_at sessions.now s ≡ Some e
-        → Contains e.own.ids x → IsNormal x }
-    requires normal_too { IsNormal cutoff.0 }
     ensures { IsTrue result ↔ ((s : ℕ) (e : OpenSession) (x : ℕ)
         → open_at sessions.now s ≡ Some e → Contains e.own.ids x → ¬ Precedes x cutoff.0) }
 {
@@ -122,7 +112,6 @@ impl SessionEngine {
 
     /// Whether the ids before this one can be forgotten.
     fn may_forget(&self, cutoff: Xid) -> bool
-        requires { IsNormal cutoff.0 }
         ensures { IsTrue result ↔ MayForget self.now cutoff.0 }
     {
         let table = self.heap.table();
@@ -130,9 +119,8 @@ impl SessionEngine {
         is_up_to_next(table, cutoff) && own_from(self.sessions.used(), cutoff)
     }
 
-    /// Forgets the ids before the cutoff, a normal id, where they can be forgotten, as they can at the end of each aggressive vacuum.
+    /// Forgets the ids before the cutoff, where they can be forgotten, as they can at the end of each aggressive vacuum.
     pub fn forget(&mut self, cutoff: Xid)
-        requires { IsNormal cutoff.0 }
         ensures { Forgets self.old self.new cutoff.0 }
     {
         self.heap.table().is_window();

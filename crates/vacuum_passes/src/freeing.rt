@@ -3,7 +3,6 @@
 ghost use Rattle.std.specs.Prelude.{◌≡◌, ◌≢◌, ◌<◌, ◌≤◌, ◌+◌, [], length, map, take, drop, Contains};
 ghost use Rattle.std.specs.List.{AllPairs};
 ghost use Rattle.xid_circle.specs.declared.Tid.{Tid as Place};
-ghost use Rattle.xid_circle.specs.Circle.{IsNormal};
 ghost use Rattle.dead_places.specs.Places.{AreAscending};
 ghost use Rattle.vacuum_passes.specs.Steps.{on_page, off_page, phase_left, IsLowest};
 ghost use Rattle.vacuum_passes.specs.Working.{FreesPage, FreesLast};
@@ -22,7 +21,6 @@ pub(crate) fn free_from(
     horizon: Xid,
 ) -> (u32, usize)
     requires some { freed < length store.now }
-    requires normal { IsNormal horizon.0 }
     ensures within { freed + result.1 ≤ length store.now }
     ensures limit { freed + result.1 ≤ 4096 }
     ensures lowest { IsLowest (drop freed store.now) result.0 }
@@ -58,7 +56,6 @@ pub(crate) fn after_freeing(store: &mut DeadSet, freed: usize) -> (usize, Phase)
 fn free_lowest(heap: &mut HeapState, places: &[Tid], horizon: Xid) -> (u32, usize)
     requires some { places.now ≢ [] }
     requires ascending { AreAscending places.now }
-    requires normal { IsNormal horizon.0 }
     ensures within { result.1 ≤ length places.now }
     ensures lowest { IsLowest places.now result.0 }
     ensures left { drop result.1 places.now ≡ off_page result.0 places.now }
@@ -91,7 +88,6 @@ fn lowest_page(places: &[Tid]) -> u32
 fn free_page(heap: &mut HeapState, number: u32, places: &[Tid], horizon: Xid)
     requires in_use { number < length heap.old.pages.pages }
     requires ascending { AllPairs (λ a b. a < b) (map (λ (tid : Place). tid.slot) places.now) }
-    requires normal { IsNormal horizon.0 }
     ensures { FreesPage heap.old heap.new horizon.0 number places.now }
 {
     heap.free(number, places);

@@ -2,7 +2,6 @@
 
 ghost use Rattle.std.specs.Prelude.{◌≡◌, ◌≢◌, ◌⊎◌, [], None, MatchOption};
 ghost use Rattle.std.specs.Option.{option_map};
-ghost use Rattle.xid_circle.specs.Circle.{IsNormal};
 ghost use Rattle.space_maps.specs.View.{mark_on};
 ghost use Rattle.vacuum_passes.specs.declared.vacuum.Phase.TheVariants as phase;
 ghost use Rattle.vacuum_passes.specs.View.{skips, counted, at_end};
@@ -19,9 +18,8 @@ use root_index::Entry;
 use xid_circle::Xid;
 
 impl Vacuum {
-    /// Does the next step at the present horizon, a normal id, and answers what it did; nothing where the vacuum has ended.
+    /// Does the next step at the present horizon, and answers what it did; nothing where the vacuum has ended.
     pub fn step(&mut self, heap: &mut HeapState, horizon: Xid) -> Option<Piece>
-        requires { IsNormal horizon.0 }
         ensures { Steps heap.old heap.new self.old horizon.0
             (option_map (λ _. self.new) result) result }
     {
@@ -36,7 +34,6 @@ impl Vacuum {
 
     /// Does the next step, and doesn't count it.
     fn work(&mut self, heap: &mut HeapState, horizon: Xid) -> Option<Piece>
-        requires { IsNormal horizon.0 }
         ensures { Steps heap.old heap.new self.old horizon.0
             (option_map (λ _. counted self.new) result) result }
     {
@@ -53,7 +50,6 @@ impl Vacuum {
     /// Visits the next page. Where none is left the indexes begin, and if nothing is collected the vacuum has ended.
     fn visit_next(&mut self, heap: &mut HeapState, horizon: Xid) -> Option<Piece>
         requires phase { self.old.phase ≡ phase.Heap }
-        requires normal { IsNormal horizon.0 }
         ensures { Steps heap.old heap.new self.old horizon.0
             (option_map (λ _. counted self.new) result) result }
     {
@@ -110,7 +106,6 @@ impl Vacuum {
     fn visit(&mut self, heap: &mut HeapState, number: u32, horizon: Xid)
         requires phase { self.old.phase ≡ phase.Heap }
         requires next { IsNextPage heap.old self.old number }
-        requires normal { IsNormal horizon.0 }
         ensures { Visits heap.old heap.new self.old self.new horizon.0 number }
     {
         let limit = self.limit as usize;
@@ -151,7 +146,6 @@ impl Vacuum {
     /// Makes the collected slots of the lowest page unused, if that is in use. It answers the page.
     fn free(&mut self, heap: &mut HeapState, horizon: Xid) -> u32
         requires phase { self.old.phase ≡ phase.Free }
-        requires normal { IsNormal horizon.0 }
         ensures { Frees heap.old heap.new self.old self.new horizon.0 result
             ⊎ Drops heap.old heap.new self.old self.new result }
     {

@@ -2,7 +2,6 @@
 
 ghost use Rattle.std.specs.Prelude.{◌≡◌, ◌<◌, ◌≤◌, MatchOption};
 ghost use Rattle.refinement.specs.declared.vacuum.Mode.TheVariants.{Normal, Aggressive};
-ghost use Rattle.xid_circle.specs.Circle.{IsNormal};
 ghost use Rattle.vacuum_passes.specs.View.{new_vacuum, disturbed};
 
 use dead_places::DeadSet;
@@ -46,7 +45,6 @@ pub struct Vacuum {
 impl Model for Vacuum {
     ghost use Rattle.std.specs.Prelude.{drop, length, ◌≤◌};
     ghost use Rattle.vacuum_passes.specs.View.{VacuumView};
-    ghost use Rattle.xid_circle.specs.Circle.{IsNormal};
     ghost use Rattle.vacuum_passes.specs.Keeps.{IsVacuum};
     ghost use Rattle.vacuum_passes.specs.Working.{FreesLast};
 
@@ -80,14 +78,13 @@ impl Model for Vacuum {
       alone = v.alone;
       quiet = v.quiet;
       steps = v.steps;
-    }) × (v.limit ≤ 4096) × (v.freed ≤ length v.store) × IsNormal v.cutoff.0 × FreesLast v.phase v.freed };
+    }) × (v.limit ≤ 4096) × (v.freed ≤ length v.store) × FreesLast v.phase v.freed };
 }
 
 impl Vacuum {
-    /// A vacuum that begins: it visits so many pages, freezes what committed before `cutoff`, a normal id, and collects at most `limit`
+    /// A vacuum that begins: it visits so many pages, freezes what committed before `cutoff`, and collects at most `limit`
     /// dead slots at a time, up to 4096. `horizon` is that of this moment, and `entries` is how many the indexes have.
     pub fn new(mode: Mode, horizon: Xid, cutoff: Xid, pages: u32, entries: u128, limit: u32) -> Self
-        requires normal { IsNormal cutoff.0 }
         requires some { 0 < limit }
         requires few { limit ≤ 4096 }
         ensures { result ≡ new_vacuum mode horizon.0 cutoff.0 pages entries limit }
@@ -113,7 +110,7 @@ impl Vacuum {
     /// The id before which old ids are forgotten at its end, if it is aggressive.
     pub fn forgets_before(&self) -> Option<Xid>
         ensures { MatchOption result (self.now.mode ≡ Normal)
-            (λ x. (self.now.mode ≡ Aggressive) × (x.0 ≡ self.now.cutoff) × IsNormal x.0) }
+            (λ x. (self.now.mode ≡ Aggressive) × (x.0 ≡ self.now.cutoff)) }
     {
         match self.mode {
             Mode::Normal => None,

@@ -3,7 +3,6 @@
 ghost use Rattle.std.specs.Prelude.{◌≡◌, ◌<◌, ◌≤◌, ◌+◌, length, Contains, if◌then◌else◌};
 ghost use Rattle.std.specs.List.{All};
 ghost use Rattle.xid_circle.specs.declared.Tid.{Tid as Place};
-ghost use Rattle.xid_circle.specs.Circle.{IsNormal};
 ghost use Rattle.dead_places.specs.Places.{IsBefore};
 ghost use Rattle.vacuum_passes.specs.View.{phase_with};
 ghost use Rattle.vacuum_passes.specs.Working.{CleansPage, VisitsFrom, CollectsSlot, Collects, CollectsOn};
@@ -26,8 +25,6 @@ pub(crate) fn visit_and_collect(
 ) -> (u32, Phase)
     requires in_use { number < length heap.old.pages.pages }
     requires next { number < 4294967295 }
-    requires normal { IsNormal horizon.0 }
-    requires cutoff { IsNormal cutoff.0 }
     requires few { length store.old ≤ limit }
     requires limit { limit ≤ 4096 }
     requires below { (tid : Place) → Contains store.old tid → tid.page < number }
@@ -61,8 +58,6 @@ fn phase_after(store: &DeadSet, limit: usize) -> Phase
 /// Prunes the page of this number, freezes it, and then notes its exact mark.
 fn visit_page(heap: &mut HeapState, number: u32, horizon: Xid, cutoff: Xid)
     requires in_use { number < length heap.old.pages.pages }
-    requires normal { IsNormal horizon.0 }
-    requires cutoff { IsNormal cutoff.0 }
     ensures { CleansPage heap.old heap.new horizon.0 cutoff.0 number }
 {
     match heap.prune(number, horizon) {

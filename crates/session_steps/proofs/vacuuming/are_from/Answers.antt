@@ -1,6 +1,5 @@
 use Rattle.std.proofs.Common.{refl, sym, subst, arith}
 use Rattle.xid_circle.specs.Circle.{Precedes}
-use Rattle.commit_status.proofs.ChangesLemmas.{numbers-contain}
 use Rattle.snapshot.proofs.Marks.{nowhere}
 use Rattle.session_steps.proofs.Forgetting.{none-more}
 use Rattle.session_steps.proofs.vacuuming.are_from.Goals as goal
@@ -8,12 +7,9 @@ use Rattle.session_steps.proofs.vacuuming.are_from.Goals as goal
 pub loop-x-init : goal.loop-x-init
 loop-x-init c k lt early = absurd (omega (arith, lt))
 
-pub precedes-requires-clause-normal : goal.precedes-requires-clause-normal
-precedes-requires-clause-normal c = c.requires.normal _ (numbers-contain c.args.ids.now c.loop-x.x-index (record { 0 = 0 }) c.loop-x-test.true)
-
 pub loop-x-preserved : goal.loop-x-preserved
 loop-x-preserved c =
-    none-more c.args.ids.now (λ y. Precedes y c.args.cutoff.0) c.loop-x.x-index c.loop-x.invariant (λ early. let t = c.precedes.ensures.1 early in let f = c.if-precedes.false in cc)
+    none-more c.args.ids.now (λ y. Precedes y c.args.cutoff.0) c.loop-x.x-index c.loop-x.invariant (λ early. let t = c.stands_before.ensures.1 early in let f = c.if-stands_before.false in cc)
 
 pub returns : goal.returns
 returns c = (

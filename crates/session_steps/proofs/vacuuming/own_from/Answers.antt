@@ -3,11 +3,6 @@ use Rattle.std.specs.Prelude.{Contains}
 use Rattle.session_steps.proofs.Forgetting.{open-there}
 use Rattle.session_steps.proofs.vacuuming.own_from.Goals as goal
 
-pub are_from-requires-clause-normal : goal.are_from-requires-clause-normal
-are_from-requires-clause-normal c x mine =
-    c.requires.normal c.loop-s.s c.in-Some.session x (open-there c.args.sessions.now c.loop-s.s c.index-sessions-s.result c.in-Some.session c.loop-s-test.true c.index-sessions-s.is c.in-Some.is)
-    (subst (λ (ids : List ℕ). Contains ids x) c.as_slice.ensures mine)
-
 pub returns-then-not-are_from : goal.returns-then-not-are_from
 returns-then-not-are_from c = (
   λ h. absurd (cc h),

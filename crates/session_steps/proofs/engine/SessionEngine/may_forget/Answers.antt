@@ -1,13 +1,9 @@
-use Rattle.std.proofs.Common.{◌↔◌, IsTrue, sym, ◌∙◌, subst}
+use Rattle.std.proofs.Common.{◌↔◌, IsTrue, subst}
 use Rattle.commit_status.specs.Window.{Window, IsWindow, IsUpToNext}
 use Rattle.session_steps.specs.State.{State}
 use Rattle.session_steps.specs.Vacuums.{MayForget}
-use Rattle.session_steps.proofs.Forgetting.{own-upto, may-forget}
+use Rattle.session_steps.proofs.Forgetting.{may-forget}
 use Rattle.session_steps.proofs.engine.SessionEngine.may_forget.Goals as goal
-
-pub own_from-requires-clause-normal : goal.own_from-requires-clause-normal
-own_from-requires-clause-normal c s e x at mine =
-    (own-upto c.self.inside.sessions c.self.inside.heap.table (subst IsWindow c.table-table.ensures c.is_window.ensures) c.self.invariant s e x (sym (c.used.ensures.each s) ∙ at) mine).normal
 
 pub returns-then-is_up_to_next : goal.returns-then-is_up_to_next
 returns-then-is_up_to_next c =

@@ -18,7 +18,7 @@ returns c = record {
   follows = (
       let before : State = record { settings = c.self.inside.settings; heap = c.self.inside.heap; sessions = c.self.inside.sessions } in
       let after : State = record before { heap = c.prune.new.self } in
-      let horizon : c.horizon-horizon.result.0 ≡ horizon_of before = c.horizon-horizon.ensures.value ∙ ap horizon_of (sym c.self.view_is) in
+      let horizon : c.horizon-horizon.result.0 ≡ horizon_of before = c.horizon-horizon.ensures ∙ ap horizon_of (sym c.self.view_is) in
       let P : State → Type 0 = λ st. Follows st (Prune c.args.page) (reply_to c.match-prune.result) after in
       let R : Result Ack Refusal → Type 0 = λ r. Follows before (Prune c.args.page) (reply_to r) after in
       let H : ℕ → Type 0 = λ x. Prunes before.heap after.heap c.args.page x in

@@ -18,10 +18,10 @@ open_mut-session-requires c =
     let may = subst M (sym c.self.view_is) c.requires in
     λ none. none-some may.session (sym none ∙ may.reads.at)
 
-pub update-requires-clause-newest : goal.update-requires-clause-newest
-update-requires-clause-newest c =
+pub update-requires : goal.update-requires
+update-requires c =
     let e = c.open_mut-session.result.now in
-    newest-given c.self.inside.heap.table e.own.ids e.own.saved c.are_prefixes.ensures.prefixes (λ x mine. c.self.invariant.own.active c.args.s e x c.open_mut-session.ensures.value mine)
+    record { newest = newest-given c.self.inside.heap.table e.own.ids e.own.saved c.are_prefixes.ensures.prefixes (λ x mine. c.self.invariant.own.active c.args.s e x c.open_mut-session.ensures.value mine) }
 
 pub invariant_of-self : goal.invariant_of-self
 invariant_of-self c =
@@ -40,7 +40,7 @@ returns c =
     let r = c.update in
     let horizon = c.update_horizon-horizon.result.0 in
     let now : Session = record e { own = r.new.own } in
-    let any = subst (λ (st : State). AnyHorizon st.heap c.args.place c.args.row.now horizon (horizon_of st)) (sym c.self.view_is) c.update_horizon-horizon.ensures.value in
+    let any = subst (λ (st : State). AnyHorizon st.heap c.args.place c.args.row.now horizon (horizon_of st)) (sym c.self.view_is) c.update_horizon-horizon.ensures in
     let tries = tries-at before.heap r.new.self e now c.args.place c.args.row.now horizon (horizon_of before) (outcome_of r.result) any
     (tries-update before.heap r.new.self e r.new.own c.args.place c.args.row.now horizon r.result r.ensures.ok r.ensures.fault r.ensures.own) in
     let tried = update-tried before r.new.self c.args.s e now c.args.place c.args.row.now (outcome_of r.result) may c.open_mut-session.ensures.value tries in

@@ -9,7 +9,6 @@ invariant_of-self c = (
       (λ e. c.requires.some (ap (λ (v : VacuumView). v.store) (sym c.self.view_is) ∙ e)) c.sweep_piece-phase.ensures.next,
   c.self.invariant.1,
   c.self.invariant.2,
-  c.self.invariant.3,
   frees-none c.sweep_piece-phase.result.0 c.self.inside.freed
-      (none-freed c.self.inside.phase c.self.inside.freed (ap (λ (v : VacuumView). v.phase) c.self.view_is ∙ c.requires.phase) c.self.invariant.4),
+      (none-freed c.self.inside.phase c.self.inside.freed (ap (λ (v : VacuumView). v.phase) c.self.view_is ∙ c.requires.phase) c.self.invariant.3),
 )

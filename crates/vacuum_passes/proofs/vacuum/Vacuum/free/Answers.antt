@@ -4,10 +4,11 @@ use Rattle.vacuum_passes.specs.Steps.{phase_left}
 use Rattle.vacuum_passes.proofs.Stepping.{some-held, free-some, freed-off-kept, free-says}
 use Rattle.vacuum_passes.proofs.vacuum.Vacuum.free.Goals as goal
 
-pub free_from-page-requires-clause-some : goal.free_from-page-requires-clause-some
-free_from-page-requires-clause-some c =
-    some-held c.self.inside.freed c.self.inside.store c.self.invariant.2
-    (free-some _ c.self.invariant.0 (ap (λ (v : VacuumView). v.phase) c.self.view_is ∙ c.requires.phase))
+pub free_from-page-requires : goal.free_from-page-requires
+free_from-page-requires c = record {
+  some = some-held c.self.inside.freed c.self.inside.store c.self.invariant.2
+      (free-some _ c.self.invariant.0 (ap (λ (v : VacuumView). v.phase) c.self.view_is ∙ c.requires.phase));
+}
 
 pub invariant_of-self : goal.invariant_of-self
 invariant_of-self c = (
@@ -15,7 +16,6 @@ invariant_of-self c = (
       (c.after_freeing-freed.ensures.phase ∙ ap phase_left (sym c.after_freeing-freed.ensures.shown)) c.self.invariant.0,
   c.self.invariant.1,
   c.after_freeing-freed.ensures.within,
-  c.self.invariant.3,
   c.after_freeing-freed.ensures.last,
 )
 

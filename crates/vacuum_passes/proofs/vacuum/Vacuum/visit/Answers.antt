@@ -8,21 +8,21 @@ use Rattle.vacuum_passes.proofs.vacuum.Vacuum.visit.Goals as goal
 pub visit_and_collect-next-requires-clause-few : goal.visit_and_collect-next-requires-clause-few
 visit_and_collect-next-requires-clause-few c =
     let is = ap (λ (v : VacuumView). v.phase) c.self.view_is ∙ c.requires.phase in
-    held-few _ c.self.inside.freed c.self.inside.store c.self.invariant.0 (none-freed c.self.inside.phase c.self.inside.freed is c.self.invariant.4) refl
+    held-few _ c.self.inside.freed c.self.inside.store c.self.invariant.0 (none-freed c.self.inside.phase c.self.inside.freed is c.self.invariant.3) refl
 
 pub visit_and_collect-next-requires-clause-below : goal.visit_and_collect-next-requires-clause-below
 visit_and_collect-next-requires-clause-below c =
     let is = ap (λ (v : VacuumView). v.phase) c.self.view_is ∙ c.requires.phase in
     let onward = ap (λ (v : VacuumView). v.next) c.self.view_is in
     held-before _ c.self.inside.freed c.args.number c.self.inside.store c.self.invariant.0 is
-    (none-freed c.self.inside.phase c.self.inside.freed is c.self.invariant.4) refl (omega (arith, onward, c.requires.next.onward))
+    (none-freed c.self.inside.phase c.self.inside.freed is c.self.invariant.3) refl (omega (arith, onward, c.requires.next.onward))
 
 pub invariant_of-self : goal.invariant_of-self
 invariant_of-self c =
     let is = ap (λ (v : VacuumView). v.phase) c.self.view_is ∙ c.requires.phase in
     let onward = ap (λ (v : VacuumView). v.next) c.self.view_is in
     let pages = ap (λ (v : VacuumView). v.pages) c.self.view_is in
-    let none = none-freed c.self.inside.phase c.self.inside.freed is c.self.invariant.4 in
+    let none = none-freed c.self.inside.phase c.self.inside.freed is c.self.invariant.3 in
     let e = c.visit_and_collect-next.ensures in (
       subst IsVacuum
           (sym (visited-is _ c.args.number e.dead c.self.inside.freed c.visit_and_collect-next.result.0 c.self.inside.store c.visit_and_collect-next.new.store
@@ -31,14 +31,13 @@ invariant_of-self c =
           e.lists.ascending),
       c.self.invariant.1,
       omega (arith, none),
-      c.self.invariant.3,
       frees-none c.visit_and_collect-next.result.1 c.self.inside.freed none,
     )
 
 pub returns : goal.returns
 returns c =
     let is = ap (λ (v : VacuumView). v.phase) c.self.view_is ∙ c.requires.phase in
-    let none = none-freed c.self.inside.phase c.self.inside.freed is c.self.invariant.4 in
+    let none = none-freed c.self.inside.phase c.self.inside.freed is c.self.invariant.3 in
     let e = c.visit_and_collect-next.ensures in
     visit-says c.args.heap.now c.visit_and_collect-next.new.heap _ c.args.self.now _ c.args.horizon.0 c.args.number c.self.view_is e.page e.dead e.lists
     (visited-is _ c.args.number e.dead c.self.inside.freed c.visit_and_collect-next.result.0 c.self.inside.store c.visit_and_collect-next.new.store

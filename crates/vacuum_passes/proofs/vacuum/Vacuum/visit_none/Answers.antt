@@ -8,17 +8,17 @@ pub returns-then-is_empty : goal.returns-then-is_empty
 returns-then-is_empty c =
     Steps.ends c.requires.phase c.requires.none_left
     (shown-none c.self.inside.freed c.self.inside.store c.args.self.now.store
-    (none-freed c.self.inside.phase c.self.inside.freed (ap (λ (v : VacuumView). v.phase) c.self.view_is ∙ c.requires.phase) c.self.invariant.4)
+    (none-freed c.self.inside.phase c.self.inside.freed (ap (λ (v : VacuumView). v.phase) c.self.view_is ∙ c.requires.phase) c.self.invariant.3)
     (ap (λ (v : VacuumView). v.store) (sym c.self.view_is)) (sym c.is_empty.ensures ∙ c.if-is_empty.true)) refl
 
 pub begin_indexes-requires-clause-some : goal.begin_indexes-requires-clause-some
 begin_indexes-requires-clause-some c =
     shown-some c.self.inside.freed c.self.inside.store c.args.self.now.store
-    (none-freed c.self.inside.phase c.self.inside.freed (ap (λ (v : VacuumView). v.phase) c.self.view_is ∙ c.requires.phase) c.self.invariant.4)
+    (none-freed c.self.inside.phase c.self.inside.freed (ap (λ (v : VacuumView). v.phase) c.self.view_is ∙ c.requires.phase) c.self.invariant.3)
     (ap (λ (v : VacuumView). v.store) (sym c.self.view_is)) (sym c.is_empty.ensures ∙ c.if-is_empty.false)
 
 pub returns : goal.returns
 returns c = Steps.begins_index c.begin_indexes.new.self c.requires.phase c.requires.none_left
     (shown-some c.self.inside.freed c.self.inside.store c.args.self.now.store
-    (none-freed c.self.inside.phase c.self.inside.freed (ap (λ (v : VacuumView). v.phase) c.self.view_is ∙ c.requires.phase) c.self.invariant.4)
+    (none-freed c.self.inside.phase c.self.inside.freed (ap (λ (v : VacuumView). v.phase) c.self.view_is ∙ c.requires.phase) c.self.invariant.3)
     (ap (λ (v : VacuumView). v.store) (sym c.self.view_is)) (sym c.is_empty.ensures ∙ c.if-is_empty.false)) c.begin_indexes.ensures
