@@ -1,6 +1,6 @@
 //! A script from its first line to its end.
 
-ghost use Rattle.std.specs.Prelude.{◌≡◌, ◌++◌, List, ℕ, [], length, IfSome, IfOk, IfErr, OnOk, IsErrAnd, ◌⊎◌};
+ghost use Rattle.std.specs.Prelude.{◌≡◌, ◌<◌, ◌++◌, List, ℕ, [], length, IfSome, IfOk, IfErr, OnOk, IsErrAnd, ◌⊎◌};
 ghost use Rattle.std.specs.Bool.{OnTrue, OnFalse};
 ghost use Rattle.std.specs.Io.KnownBytes.{Appends};
 ghost use Rattle.script_text.specs.Names.{Settings, AreSettings};
@@ -12,6 +12,7 @@ ghost use Rattle.script.specs.Pieces.{TakesText, GivesText};
 ghost use Rattle.script.specs.Next.{IsNext};
 ghost use Rattle.script.specs.Steps.{Advances, DoesLine, Uses, MatchesHeading};
 ghost use Rattle.script_text.specs.declared.line.Line.{Line};
+ghost use Rattle.script.specs.declared.run.TheConstants.{FULL};
 
 use crate::fault::ShellFault;
 use crate::finish::finish_vacuum;
@@ -24,7 +25,7 @@ use session_core::{Engine, Reply};
 use std::alloc::Global;
 use std::io::{Read, Write};
 
-// The text that is written out though more could be read without waiting.
+// So much text is written out though more could be read without waiting.
 const FULL: usize = 32768;
 
 #[derive(Drop)]
@@ -135,6 +136,7 @@ fn close<R, W: Write>(
     }
 }
 
+// Writes the text where it has come to a block, so that less than one is kept.
 fn write_if_full<R, W: Write>(
     log: &mut IoLog<R, W>,
     text: &mut Vec<u8>,
@@ -142,6 +144,7 @@ fn write_if_full<R, W: Write>(
 ) -> Result<(), ShellFault>
     ensures ok { OnOk result
         (GivesText (W.contents writer.old) (W.contents writer.new) text.old.items text.new.items) }
+    ensures less { OnOk result (length text.new.items < FULL) }
     ensures prefix { WritesBeginning (W.contents writer.old)
         (W.contents writer.new) text.old.items }
     ensures fault { IfErr result (λ e. IsRefused e log.new) }
