@@ -36,6 +36,7 @@ in_c() {
     fi
 }
 in_c table ""
+in_c loops ""
 in_c statuses "$wrap"
 in_c misuse "" 20000
 in_c memory "$wrap"
