@@ -78,7 +78,7 @@ start_of page = record { page = page; slot = 0 }
 abbrev pub AreBare : State → Session → Tid → ℕ → Type 0
 AreBare st e from page = (p : Tid) (row : Row) → IsFrom from p → p.page < page → ¬ Stands (seen st).version (seen_by st e) p row
 
--- something that it sees stands there, on the place's page
+-- something that it sees stands at this place or behind it
 abbrev pub SomeStands : State → Session → Tid → Type 0
 SomeStands st e from = (p : Tid) × (row : Row) × IsFrom from p × Stands (seen st).version (seen_by st e) p row
 
