@@ -1,4 +1,4 @@
-//! Tests of what stands below the table: snapshots, verdicts, chains, pruning, writes on a page, and the search along entries.
+//! Tests of what stands below the table: snapshots, verdicts, chains, pruning, freezing, writes on a page, and the search along entries.
 //!
 //! They stand apart from the crates that they test, so that none of these is checked a second time for their sake. A test is
 //! proved like any function, and what each call promises is carried to its end. So most tests are tables of steps, each done to
@@ -7,6 +7,8 @@
 
 #[cfg(test)]
 mod chains;
+#[cfg(test)]
+mod freezing;
 #[cfg(test)]
 mod ids;
 #[cfg(test)]

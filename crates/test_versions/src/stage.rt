@@ -8,6 +8,7 @@ use crate::ids::{begun, finish, next_id, none_wrong, normal, owner, table_of};
 use crate::verdicts::{fate_at, hinted, reads_id, sees};
 use arrayvec::ArrayVec;
 use commit_status::{Status, StatusTable};
+use freeze::{all_frozen, all_visible, freeze_page};
 use hot_chain::{chain, fetch, first_seen, is_root, list_chain, root_of};
 use page_slots::{Page, Slot};
 use prune::{Action, PrunePlan, apply, check_plan, first_death, plan, prune, room_after};
@@ -43,6 +44,8 @@ pub enum PageStep {
     Prune(u32),
     /// The plan at a horizon checks, is applied, and does not check then.
     Apply(u32),
+    /// The page is frozen at a cutoff.
+    Freeze(u32),
     Slots(u16),
     Change(u64),
     Flag(bool),
@@ -69,6 +72,10 @@ pub enum PageStep {
     /// The room once that plan is applied.
     RoomAfter(u32, usize),
     Room(usize),
+    /// Whether everybody sees all of its versions, where this is the horizon.
+    AllVisible(u32, bool),
+    /// Whether each of them is frozen besides.
+    AllFrozen(u32, bool),
     /// A plan for a page that was changed so often checks at a horizon.
     Checks(u64, Actions, u32),
     /// It does not.
@@ -215,6 +222,18 @@ fn apply_checked(page: &mut Page, plan: &PrunePlan, table: &StatusTable, horizon
     is_fresh
 }
 
+fn freeze_at(page: &mut Page, table: &StatusTable, cutoff: u32) {
+    freeze_page(page, 0, Xid(cutoff), table);
+}
+
+fn sees_all(page: &Page, table: &StatusTable, horizon: u32) -> bool {
+    all_visible(page, Xid(horizon), table)
+}
+
+fn freezes_all(page: &Page, table: &StatusTable, horizon: u32) -> bool {
+    all_frozen(page, Xid(horizon), table)
+}
+
 fn apply_once(page: &mut Page, table: &StatusTable, horizon: u32) -> bool {
     let plan = plan_at(page, table, horizon);
     plan.change == page.change()
@@ -282,6 +301,15 @@ impl PageStep {
         }
     }
 
+    /// What everybody sees of a page.
+    fn is_seen_by_all(self, alloc: Global, page: &Page, table: &StatusTable) -> bool {
+        match self {
+            PageStep::AllVisible(horizon, told) => sees_all(page, table, horizon) == told,
+            PageStep::AllFrozen(horizon, told) => freezes_all(page, table, horizon) == told,
+            _ => self.is_seen(alloc, page, table),
+        }
+    }
+
     /// What of single versions is asked for.
     fn is_judged(self, alloc: Global, table: &StatusTable) -> bool {
         match self {
@@ -317,7 +345,7 @@ impl PageStep {
             PageStep::Fails(change, named, horizon) => {
                 !checks(page, &plan_of(change, named), table, horizon)
             }
-            _ => self.is_seen(alloc, page, table),
+            _ => self.is_seen_by_all(alloc, page, table),
         }
     }
 
@@ -359,6 +387,7 @@ impl PageStep {
         match self {
             PageStep::Finish(ids, status) => finish_all(&mut stage.table, ids, status),
             PageStep::Prune(horizon) => prune_at(&mut stage.page, &stage.table, horizon),
+            PageStep::Freeze(cutoff) => freeze_at(&mut stage.page, &stage.table, cutoff),
             PageStep::Apply(horizon) => {
                 return apply_once(&mut stage.page, &stage.table, horizon);
             }
