@@ -2,6 +2,7 @@
 use Rattle.std.specs.Prelude.{◌≡◌, true, false, [], replicate}
 use Rattle.tuple_header.specs.declared.version.TheConstants.{MOST_SLOTS}
 use Rattle.page_slots.specs.Slots.{room_of}
+use Rattle.root_index.specs.View.{free_places}
 use Rattle.heap_pages.specs.declared.pages.TheConstants.{MAX_PAGES}
 use Rattle.snapshot.specs.declared.own.TheConstants.{MOST_SAVEPOINTS}
 use Rattle.snapshot.specs.Snap.{are_many}
@@ -15,6 +16,8 @@ pub record LimitsAre : Type 0 where
   -- in an empty page: 8168 bytes without the pointer of a first slot
   pub bytes_of_a_page : room_of [] ≡ 8164
   pub pages : MAX_PAGES ≡ 65536
+  -- an empty index with nodes set aside takes as many entries as a leaf has
+  pub entries_of_a_leaf : free_places 0 1 ≡ 128
   pub savepoints : MOST_SAVEPOINTS ≡ 32
   -- of a transaction's child ids in a snapshot
   pub listed : are_many (replicate 64 3) ≡ false

@@ -115,7 +115,7 @@ pub fn update(
     if !is_known(heap, own) {
         return Err(WriteFault::Gone);
     }
-    heap.update(own, tid(place), &row_of(values), normal(horizon))
+    heap.update(own, tid(place), &row_of(values), Xid(horizon))
 }
 
 pub fn delete(heap: &mut HeapState, own: &mut OwnIds, place: Place) -> Result<Xid, WriteFault> {
@@ -132,18 +132,18 @@ pub fn finish(heap: &mut HeapState, x: Xid, status: Status) {
 }
 
 pub fn prune(heap: &mut HeapState, page: u32, horizon: u32) -> Result<(), PruneFault> {
-    heap.prune(page, normal(horizon))
+    heap.prune(page, Xid(horizon))
 }
 
 pub fn freeze(heap: &mut HeapState, page: u32, cutoff: u32) {
     if page < heap.page_count() {
-        heap.freeze(page, normal(cutoff));
+        heap.freeze(page, Xid(cutoff));
     }
 }
 
 pub fn note(heap: &mut HeapState, page: u32, horizon: u32) {
     if page < heap.page_count() {
-        heap.note(page, normal(horizon));
+        heap.note(page, Xid(horizon));
     }
 }
 
@@ -169,7 +169,7 @@ fn is_known_or_next(heap: &HeapState, x: Xid) -> bool
 }
 
 pub fn forget(heap: &mut HeapState, x: u32) {
-    let x = normal(x);
+    let x = Xid(x);
     if is_known_or_next(heap, x) {
         heap.forget(x);
     }
