@@ -132,6 +132,10 @@ uint32_t sandpiper_get(struct sandpiper *table, uint8_t session, uint64_t key, s
 uint32_t sandpiper_insert(struct sandpiper *table, uint8_t session, const struct sandpiper_row *row);
 uint32_t sandpiper_update(struct sandpiper *table, uint8_t session, const struct sandpiper_row *row);
 uint32_t sandpiper_delete(struct sandpiper *table, uint8_t session, uint64_t key);
+/* The same of many rows, in their order: DONE, or what the first row that is refused was answered. *done says how many were written, so
+ * rows[*done] is the one that was refused. Those before it stay written. */
+uint32_t sandpiper_insert_many(struct sandpiper *table, uint8_t session, const struct sandpiper_row *rows, size_t count, size_t *done);
+uint32_t sandpiper_update_many(struct sandpiper *table, uint8_t session, const struct sandpiper_row *rows, size_t count, size_t *done);
 
 /* Cursors. A session has one at most. open_heap takes all rows, page by page. open_by_key takes those whose key, and open_index
  * those whose value in index c + 1, which is column c, lies between two bounds, both included, in ascending order. (Index 0 is by
@@ -253,6 +257,7 @@ static inline const char *sandpiper_words(uint32_t status) {
     case SANDPIPER_NO_VACUUM: return "no vacuum is running";
     case SANDPIPER_NO_ENGINE: return "the handle has no table";
     case SANDPIPER_HAS_ENGINE: return "the handle has a table already";
+    case SANDPIPER_NO_PLACE: return "there is no place for a row";
     case SANDPIPER_BAD_MAX_PAGES: return "the setting max_pages is out of its range";
     case SANDPIPER_BAD_STOP_AGE: return "the setting stop_age is out of its range";
     case SANDPIPER_BAD_FREEZE_MIN_AGE: return "the setting freeze_min_age is out of its range";

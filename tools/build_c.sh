@@ -1,6 +1,6 @@
 #!/usr/bin/env bash
 # tools/build_c.sh PREFIX: proves the C library, builds it, and installs it under PREFIX: include/sandpipercot.h,
-# lib/libsandpipercot.a, .so and .so.0, lib/pkgconfig/sandpipercot.pc, and lib/python/sandpipercot.py.
+# lib/libsandpipercot.a, .so and .so.0, lib/pkgconfig/sandpipercot.pc, and in lib/python the Python module and a wheel of it.
 # RT_JOBS says how many jobs rt is to use; CC names the C compiler, if it is not cc.
 set -euo pipefail
 
@@ -8,17 +8,8 @@ set -euo pipefail
 root=$(cd "$(dirname "$0")/.." && pwd)
 mkdir -p "$1"
 prefix=$(cd "$1" && pwd)
-compiler=${CC:-cc}
-
-missing=0
-need() { command -v "$1" >/dev/null || { echo "build_c.sh: $1 is missing: $2" >&2; missing=1; }; }
-need rt "the toolchain's command, which proves and builds the crate (README.md names the toolchain)"
-need "$compiler" "a C compiler, which links the shared library (set CC to yours)"
-need python3 "Python 3.8 or later, which rt and the Python module run on"
-for tool in ar ld objcopy; do
-    need "$tool" "of the binutils, which come with a C compiler"
-done
-[ $missing -eq 0 ] || exit 2
+. "$root/tools/needs.sh"
+needs build_c.sh
 
 # the toolchain's three functions over malloc, realloc and free
 kit=$(dirname "$(dirname "$(readlink -f "$(command -v rt)")")")
@@ -33,14 +24,16 @@ trap 'rm -rf "$work"' EXIT
 ld -r --whole-archive -o "$work/sandpipercot.o" "$root/crates/sandpiper_c/out/libsandpiper_c.a" "$heap"
 objcopy --wildcard --keep-global-symbol='sandpiper_*' "$work/sandpipercot.o"
 
-mkdir -p "$prefix/include" "$prefix/lib/pkgconfig" "$prefix/lib/python"
+mkdir -p "$prefix/include" "$prefix/lib/pkgconfig" "$prefix/lib/python/sandpipercot"
 rm -f "$prefix/lib/libsandpipercot.a"
 ar rcs "$prefix/lib/libsandpipercot.a" "$work/sandpipercot.o"
 "$compiler" -shared -o "$prefix/lib/libsandpipercot.so.0" "$work/sandpipercot.o" \
     -Wl,-soname,libsandpipercot.so.0 -Wl,-z,defs -Wl,-z,noexecstack
 ln -sf libsandpipercot.so.0 "$prefix/lib/libsandpipercot.so"
 install -m 644 "$root/include/sandpipercot.h" "$prefix/include/"
-install -m 644 "$root/python/sandpipercot.py" "$prefix/lib/python/"
+rm -f "$prefix/lib/python/sandpipercot.py" "$prefix"/lib/python/*.whl
+install -m 644 "$root"/python/sandpipercot/*.py "$root/python/sandpipercot/py.typed" "$prefix/lib/python/sandpipercot/"
+wheel=$(python3 "$root/python/wheel_backend.py" "$prefix/lib/libsandpipercot.so" "$prefix/lib/python")
 version=$(sed -n 's/^#define SANDPIPER_VERSION "\(.*\)"$/\1/p' "$root/include/sandpipercot.h")
 sed "s/VERSION/$version/" >"$prefix/lib/pkgconfig/sandpipercot.pc" <<'PC'
 prefix=${pcfiledir}/../..
@@ -50,7 +43,7 @@ includedir=${prefix}/include
 Name: sandpipercot
 Description: a proved multi-version table heap in memory
 Version: VERSION
-Libs: -L${libdir} -lsandpipercot
+Libs: -L${libdir} -Wl,-rpath,${libdir} -lsandpipercot
 Cflags: -I${includedir}
 PC
-echo "build_c.sh: installed under $prefix"
+echo "build_c.sh: installed under $prefix, with the wheel lib/python/$wheel"

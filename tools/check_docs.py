@@ -32,8 +32,8 @@ NOTATION = "docs/reading.md"
 # Words that are none of ours: of Rust, of the kit and its libraries, of the shell.
 OTHERS = """
 AllocError Err Global None Ok Option Result SmallVec Some String Vec IfSome ensures requires unwrap
-arrayvec byteorder itoa smallvec thiserror mremap sqlite3
-std mem bool malloc realloc rattle_alloc rattle_realloc rattle_dealloc
+arrayvec byteorder itoa smallvec thiserror mremap sqlite3 pip PKG_CONFIG_PATH linux_x86_64
+std mem bool size_t uint64_t UINT64_MAX malloc realloc rattle_alloc rattle_realloc rattle_dealloc
 """.split()
 # A word in capitals is to be replaced by another, as in `rt ci NAME`, or is of SQL.
 PLACEHOLDER = r"[A-Z][A-Z0-9]*"
@@ -76,6 +76,10 @@ class Names:
                     self.read_code(path, parts[1])
             elif path.endswith(".py"):
                 self.all |= set(re.findall(rf"\b(?:def|class) ({IDENTIFIER})", text_of(path)))
+            elif path.endswith(".md"):
+                # the files that a page has its reader make, and the programs that come of them
+                made = re.findall(r"^In `((\w+)\.\w+)`:$", text_of(path), re.M)
+                self.paths |= {name for file, program in made for name in (file, f"./{program}")}
             elif path.endswith((".h", ".c")):
                 self.all |= set(re.findall(r"\b(?:sandpiper_\w+|[A-Z]+_[A-Z_]+)\b", text_of(path)))
 

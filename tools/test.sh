@@ -1,9 +1,13 @@
 #!/usr/bin/env bash
 # tools/test.sh: all that is tried of this repository: names, clauses and documents; the gate (every proof, each must-fail edit, each
 # test, and the programs as two compilers make them); the examples' answers; and the C library from C, C++, Rust and Python.
+# It says first of all what is missing.
 set -euo pipefail
 cd "$(dirname "$0")/.."
 
+. tools/needs.sh
+needs test.sh
+not_tried test.sh
 python3 tools/names.py
 python3 tools/alloc_errors.py
 python3 tools/check_docs.py

@@ -4,6 +4,7 @@
 set -euo pipefail
 
 root=$(cd "$(dirname "$0")/.." && pwd)
+. "$root/tools/needs.sh"
 work=$(mktemp -d)
 trap 'rm -rf "$work"' EXIT
 if [ $# -eq 0 ]; then
@@ -13,12 +14,9 @@ else
     prefix=$(cd "$1" && pwd)
 fi
 tests=$root/tests/callers
-compiler=${CC:-cc}
-cplusplus=${CXX:-c++}
 export LD_LIBRARY_PATH=$prefix/lib PYTHONPATH=$prefix/lib/python PYTHONDONTWRITEBYTECODE=1
 flags=(-g -O1 -Wall -Wextra -Wpedantic -Werror -I"$prefix/include")
 wrap=-Wl,--wrap=malloc,--wrap=realloc
-not_tried=()
 
 say() { echo "test_callers.sh: $*"; }
 
@@ -42,7 +40,6 @@ in_c statuses "$wrap"
 in_c misuse "" 20000
 in_c memory "$wrap"
 cat "$work/memory.out"
-command -v valgrind >/dev/null || not_tried+=("valgrind")
 
 # What an example prints has to be what is said beside its script in examples/first_committer_wins.md.
 example() {
@@ -56,8 +53,6 @@ if command -v pkg-config >/dev/null; then
     PKG_CONFIG_PATH=$prefix/lib/pkgconfig pkg-config --cflags --libs sandpipercot >"$work/flags"
     "$compiler" "$root/examples/c/first_committer_wins.c" $(cat "$work/flags") -o "$work/example_pc"
     example "the same, as pkg-config says" "$work/example_pc"
-else
-    not_tried+=("pkg-config")
 fi
 
 if command -v "$cplusplus" >/dev/null; then
@@ -68,8 +63,6 @@ if command -v "$cplusplus" >/dev/null; then
     "$cplusplus" -std=c++17 "${flags[@]}" "$root/examples/cpp/first_committer_wins.cpp" -L"$prefix/lib" -lsandpipercot \
         -o "$work/example_cpp"
     example "the example in C++" "$work/example_cpp"
-else
-    not_tried+=("C++")
 fi
 
 if command -v rustc >/dev/null; then
@@ -79,8 +72,6 @@ if command -v rustc >/dev/null; then
     rustc --edition 2021 -D warnings -O "$root/examples/rust/first_committer_wins.rs" -L "$prefix/lib" -l sandpipercot \
         -o "$work/example_rs"
     example "the example in Rust" "$work/example_rs"
-else
-    not_tried+=("Rust")
 fi
 
 say "the Python module"
@@ -90,7 +81,5 @@ python3 "$tests/test_random.py"
 example "the example in Python" python3 "$root/examples/python/first_committer_wins.py"
 python3 "$tests/test_documents.py" "$prefix"
 
-if [ ${#not_tried[@]} -gt 0 ]; then
-    say "not tried, since it is missing here: ${not_tried[*]}"
-fi
+not_tried test_callers.sh
 say "all passed"

@@ -11,6 +11,10 @@ import tempfile
 from typing import Dict, Set
 
 import sandpipercot as sp
+from sandpipercot import _c
+
+
+ROOT = pathlib.Path(__file__).resolve().parent.parent.parent
 
 
 def enumeration(header: str, name: str) -> Dict[str, int]:
@@ -23,11 +27,13 @@ def enumeration(header: str, name: str) -> Dict[str, int]:
 def check_layouts(folder: pathlib.Path) -> None:
     """The size of each struct, and the place and size of each field, are those that a C program prints."""
     structs = {
-        "sandpiper": sp._Handle,
-        "sandpiper_settings": sp._Settings,
-        "sandpiper_row": sp._Row,
-        "sandpiper_slot": sp._Slot,
-        "sandpiper_piece": sp._Piece,
+        "sandpiper": _c.Handle,
+        "sandpiper_settings": _c.Settings,
+        "sandpiper_row": _c.Row,
+        "sandpiper_slot": _c.Slot,
+        "sandpiper_piece": _c.Piece,
+        "sandpiper_state": _c.State,
+        "sandpiper_page": _c.Page,
     }
     lines, ours = ["#include <sandpipercot.h>", "#include <stddef.h>", "#include <stdio.h>", "int main(void) {"], []
     for name, struct in structs.items():
@@ -54,19 +60,23 @@ def main() -> None:
     answered: Set[str] = set(pathlib.Path(sys.argv[2]).read_text().split())
     assert answered == set(statuses), answered ^ set(statuses)
 
-    defines = dict(re.findall(r"#define SANDPIPER_(\w+) (\d+)", header))
-    assert defines == {"SESSIONS": str(sp.SESSIONS), "SAVEPOINTS": str(sp.SAVEPOINTS), "BODY": str(sp.BODY)}, defines
+    defines = dict(re.findall(r"#define SANDPIPER_(\w+) \"?([\d.]+)", header))
+    major, minor = map(str, sp.VERSION)
+    ours = {"SESSIONS": str(sp.SESSIONS), "SAVEPOINTS": str(sp.SAVEPOINTS), "BODY": str(sp.BODY)}
+    ours.update(VERSION=sp.__version__, VERSION_MAJOR=major, VERSION_MINOR=minor)
+    assert defines == ours, defines
+    assert f'version = "{sp.__version__}"' in (ROOT / "python/pyproject.toml").read_text()
     widest = re.search(r"#define SANDPIPER_WIDEST {(.*?), {", header)
     defaults = sp.Table.__init__.__kwdefaults__
     assert widest and [int(it.rstrip("u")) for it in widest[1].split(", ")] == [it for it in defaults.values() if isinstance(it, int)]
 
-    # a class for each refusal, and a call for each function
+    # a class for each refusal, and a call for each function (`sandpiper_words` is no call: the header holds it whole)
     refusals = {it.status for it in sp.Refused.__subclasses__()}
     assert refusals == {it for it in sp.Status if it >= sp.Status.NOT_OPEN}
-    assert set(re.findall(r"^uint32_t sandpiper_(\w+)\(", header, re.M)) == set(sp._ARGUMENTS)
+    assert set(re.findall(r"^uint32_t sandpiper_(\w+)\(", header, re.M)) == set(_c.ARGUMENTS)
     with tempfile.TemporaryDirectory() as folder:
         check_layouts(pathlib.Path(folder))
-    print(f"{len(statuses)} statuses, each answered by the library; 5 structs, {len(sp._ARGUMENTS)} calls: all as the header has them")
+    print(f"{len(statuses)} statuses, each answered by the library; 7 structs, {len(_c.ARGUMENTS)} calls: all as the header has them")
 
 
 if __name__ == "__main__":

@@ -50,7 +50,7 @@ def read(draw: random.Random, session: Session, rows: Rows) -> None:
         key = draw.randrange(KEYS)
         assert session.get(key) == rows.get(key)
     elif kind == 3:
-        assert sorted(session.rows()) == sorted(rows.values())
+        assert sorted(session.rows(batch)) == sorted(rows.values())
     elif kind == 4:
         first, last = sorted((draw.randrange(KEYS), draw.randrange(KEYS)))
         assert list(session.by_key(first, last, batch)) == [rows[key] for key in sorted(rows) if first <= key <= last]

@@ -2,6 +2,7 @@
 import gc
 import threading
 import unittest
+import warnings
 
 import sandpipercot as sp
 from sandpipercot import Row, Table
@@ -132,8 +133,9 @@ class TableTest(unittest.TestCase):
         next(cursor)
         session.abort()
         with self.table.begin(7) as other, other.rows() as rows:
-            self.assertEqual(next(cursor).key, 2)
+            # what was fetched and not handed out is gone with the session, and nothing of it comes late
             self.assertRaises(sp.NotOpen, next, cursor)
+            self.assertRaises(sp.NotOpen, list, cursor)
             cursor.close()
             del cursor
             gc.collect()
@@ -143,6 +145,103 @@ class TableTest(unittest.TestCase):
         with self.table.begin() as one, self.table.begin() as two:
             keys = [(a.key, b.key) for a, b in zip(one.by_key(batch=1), two.by_key(batch=3))]
         self.assertEqual(keys, [(key, key) for key in range(1, 11)])
+
+    def test_rows_that_were_handed_out_stay(self) -> None:
+        with self.table.begin() as session, self.table.begin() as other:
+            for opened in (session.rows, session.by_key, lambda batch: session.by_column(0, batch=batch)):
+                keys = []
+                for it in opened(batch=3):
+                    keys.append(it.key)
+                    self.assertEqual(session.get(11 - it.key), row(11 - it.key, (11 - it.key) * 10, b"first"))
+                    if it.key in (2, 9):
+                        other.insert(row(100 + len(keys)))
+                        other.delete(100 + len(keys))
+                self.assertEqual(keys, list(range(1, 11)))
+
+    def test_many_rows_by_one_call(self) -> None:
+        with self.table.begin() as session:
+            self.assertEqual(session.insert_many(row(key) for key in range(20, 30)), 10)
+            self.assertEqual(session.update_many([row(key, 7) for key in range(20, 30)]), 10)
+            self.assertEqual([it.cols[0] for it in session.by_key(20, 29)], [7] * 10)
+            with self.assertRaises(sp.AlreadyThere) as there:
+                session.insert_many([row(30), row(20), row(31)])
+            self.assertEqual(there.exception.key, 20)
+            self.assertIn("key 20", str(there.exception))
+            self.assertEqual((session.get(30), session.get(31)), (row(30), None))
+            self.assertEqual(session.insert_many([]), 0)
+
+            def ends_the_session():
+                yield row(40)
+                session.abort()
+                yield row(41)
+
+            self.assertRaises(sp.NotOpen, session.insert_many, ends_the_session())
+        with self.table.begin() as session:
+            self.assertEqual((session.get(20), session.get(40)), (None, None))
+
+    def test_a_refusal_names_the_key(self) -> None:
+        with self.table.begin() as session, self.table.begin() as other:
+            other.update(row(3, 333))
+            for call, argument, kind in [
+                (session.insert, row(5), sp.AlreadyThere),
+                (session.update, row(12345), sp.NotThere),
+                (session.delete, 12345, sp.NotThere),
+                (session.update, row(3), sp.Busy),
+                (session.insert, row(77, 0, b"x" * 1025), sp.TooLarge),
+            ]:
+                with self.assertRaises(kind) as refused:
+                    call(argument)
+                key = argument if isinstance(argument, int) else argument.key
+                self.assertEqual(refused.exception.key, key)
+                self.assertTrue(str(refused.exception).startswith(f"key {key}: "))
+
+    def test_a_session_that_is_let_go_is_aborted(self) -> None:
+        for _ in range(3 * sp.SESSIONS):
+            with warnings.catch_warnings(record=True) as said:
+                warnings.simplefilter("always")
+                session = self.table.begin()
+                session.insert(row(50))
+                session.savepoint()
+                cursor = session.rows()
+                next(cursor)
+                del session, cursor
+                gc.collect()
+            self.assertEqual([it.category for it in said], [ResourceWarning])
+        with self.table.begin() as session:
+            self.assertEqual(session.number, 0)
+            self.assertIsNone(session.get(50))
+        self.assertEqual(self.table.state().open_sessions, ())
+
+    def test_a_table_tells_its_state(self) -> None:
+        state = self.table.state()
+        self.assertEqual(state, sp.State(4, 3, state.ids_left, 1, (), (10, 10, None, None, None), sp.Vacuum.NONE))
+        session = self.table.begin(7)
+        session.insert(row(11))
+        self.table.vacuum_begin(aggressive=True)
+        after = self.table.state()
+        self.assertEqual(after, sp.State(5, 3, state.ids_left - 1, 1, (7,), (11, 11, None, None, None), sp.Vacuum.AGGRESSIVE))
+        self.table.vacuum_cancel()
+        self.table.vacuum_begin()
+        self.assertEqual(self.table.state().vacuum, sp.Vacuum.NORMAL)
+        session.commit()
+        self.assertEqual(self.table.vacuum_step().kind, sp.PieceKind.VISITED_PAGE)
+        page = self.table.page(0)
+        # (the vacuum froze before the id of the session that was open as it began, and no further)
+        self.assertEqual((page.all_visible, page.all_frozen, page.slots), (True, False, 11))
+        self.table.vacuum_cancel()
+        self.table.vacuum(aggressive=True)
+        self.assertEqual(self.table.page(0), sp.Page(page.change + 1, True, True, 11))
+        self.assertIsNone(self.table.page(1))
+
+    def test_ids_left_are_those_that_can_be_given(self) -> None:
+        with Table(stop_age=5) as table:
+            for left in (5, 4, 3, 2, 1):
+                self.assertEqual(table.state().ids_left, left)
+                with table.begin() as session:
+                    session.insert(row(left))
+            self.assertEqual(table.state().ids_left, 0)
+            with table.begin() as session:
+                self.assertRaises(sp.NeedsFreeze, session.insert, row(9))
 
     def test_sessions_get_the_lowest_number(self) -> None:
         sessions = [self.table.begin() for _ in range(sp.SESSIONS)]
@@ -205,7 +304,11 @@ class TableTest(unittest.TestCase):
                 self.assertRaises(sp.TooLarge, session.insert, row(11, 0, b"x" * length))
             self.assertRaises(OverflowError, session.by_key, 0, 2**64)
             self.assertRaises(OverflowError, session.by_key, 0, 1, 65536)
-            self.assertRaises(OverflowError, session.by_column, -2)
+            for column in (-2, -1, 4, 255):
+                self.assertRaises(sp.NoSuchIndex, session.by_column, column)
+            self.assertRaises(TypeError, session.insert, Row(11, (1.5, 0, 0, 0)))
+            self.assertRaises(TypeError, session.insert, Row(11, body="text"))
+            self.assertRaises(ValueError, session.rows, 0)
             self.assertRaises(OverflowError, self.table.begin, 256)
             self.assertRaises(OverflowError, self.table.prune, 1 << 32)
             self.assertIsNone(session.get(11))
@@ -217,6 +320,17 @@ class TableTest(unittest.TestCase):
         self.assertFalse(self.table.is_open or session.is_open)
         self.assertRaises(sp.NoEngine, session.get, 1)
         self.assertRaises(sp.NoEngine, self.table.begin)
+
+    def test_a_block_whose_table_was_closed_says_so(self) -> None:
+        with self.assertRaises(sp.NoEngine), self.table.begin() as session:
+            session.insert(row(11))
+            self.table.close()
+
+    def test_what_was_not_made_is_let_go_in_silence(self) -> None:
+        self.assertRaises(TypeError, Table, foo=1)
+        self.assertRaises(TypeError, sp.Cursor)
+        self.assertRaises(TypeError, sp.Session)
+        gc.collect()
 
     def test_an_aggressive_vacuum_lets_ids_be_given(self) -> None:
         with Table(stop_age=1, first_xid=4294967295) as table:
@@ -257,4 +371,5 @@ class TableTest(unittest.TestCase):
 
 
 if __name__ == "__main__":
-    unittest.main()
+    # (that a session is let go open is said, and several tests do it)
+    unittest.main(warnings="ignore")

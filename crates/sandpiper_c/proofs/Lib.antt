@@ -2,3 +2,4 @@ pub mod Pointers
 pub mod HeapRow
 pub mod Numbers
 pub mod NextLemmas
+mod ManyLemmas

@@ -7,3 +7,4 @@ pub mod NextRows
 pub mod Pages
 pub mod Pieces
 pub mod State
+pub mod Many

@@ -10,6 +10,7 @@ mod cursors;
 mod database;
 mod handle;
 mod held;
+mod many;
 mod opening;
 mod pages;
 mod rows;

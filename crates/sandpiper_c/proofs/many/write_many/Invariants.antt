@@ -1,0 +1,6 @@
+use Rattle.std.proofs.Common.{take}
+use Rattle.sandpiper_c.specs.Many.{write_of, AreWritten}
+use Rattle.sandpiper_c.proofs.many.write_many.Given as goal
+
+abbrev pub invariant-loop-number : goal.invariant-loop-number
+invariant-loop-number l = AreWritten (write_of l.kind l.session) l.initial.table (take l.number l.rows) l.table

@@ -1,0 +1,80 @@
+//! The steps that write a row, one after another.
+
+ghost use Rattle.refinement.specs.declared.step.Step.TheVariants as step;
+ghost use Rattle.sandpiper_c.specs.Calls.{Writes};
+ghost use Rattle.sandpiper_c.specs.Many.{write_of, WritesMany};
+
+use crate::database::Sandpiper;
+use crate::status::CallStatus;
+use crate::writes::{sandpiper_insert, sandpiper_update};
+use session_core::RowPlace;
+use std::alloc::Global;
+
+/// Which step writes each row.
+#[derive(Clone, Copy)]
+pub enum WriteKind {
+    Insert,
+    Update,
+}
+
+/// Writes one row.
+fn write(alloc: Global, table: &mut Sandpiper, kind: WriteKind, session: u8, row: &RowPlace) -> u32
+    ensures { Writes table.old (write_of kind session) row.now result table.new }
+{
+    match kind {
+        WriteKind::Insert => sandpiper_insert(alloc, table, session, row),
+        WriteKind::Update => sandpiper_update(alloc, table, session, row),
+    }
+}
+
+/// Writes rows one after another, up to the first that is refused. `done` says how many were written.
+fn write_many(
+    alloc: Global,
+    table: &mut Sandpiper,
+    kind: WriteKind,
+    session: u8,
+    rows: &[RowPlace],
+    done: &mut usize,
+) -> u32
+    ensures { WritesMany (write_of kind session) table.old rows.now done.new result table.new }
+{
+    for number in 0..rows.len() {
+        let code = write(alloc, table, kind, session, &rows[number]);
+        if code != CallStatus::Done.number() {
+            *done = number;
+            return code;
+        }
+    }
+    *done = rows.len();
+    CallStatus::Done.number()
+}
+
+/// Writes rows of keys that have none, one after another, up to the first that is refused. `done` says how many were written.
+#[unsafe(no_mangle)]
+pub extern "C" fn sandpiper_insert_many(
+    alloc: Global,
+    table: &mut Sandpiper,
+    session: u8,
+    rows: &[RowPlace],
+    done: &mut usize,
+) -> u32
+    ensures { WritesMany (λ text. step.Insert session text) table.old rows.now
+        done.new result table.new }
+{
+    write_many(alloc, table, WriteKind::Insert, session, rows, done)
+}
+
+/// Writes other rows of keys that have one, one after another, up to the first that is refused. `done` says how many were written.
+#[unsafe(no_mangle)]
+pub extern "C" fn sandpiper_update_many(
+    alloc: Global,
+    table: &mut Sandpiper,
+    session: u8,
+    rows: &[RowPlace],
+    done: &mut usize,
+) -> u32
+    ensures { WritesMany (λ text. step.Update session text) table.old rows.now
+        done.new result table.new }
+{
+    write_many(alloc, table, WriteKind::Update, session, rows, done)
+}

@@ -1,0 +1,105 @@
+"""Sandpipercot: a multi-version table heap in memory, by ctypes over libsandpipercot.so.
+
+    with Table() as table:
+        with table.begin() as session:
+            session.insert_many(Row(key, (10, 0, 0, 0), b"body") for key in range(3))
+        with table.begin() as session:
+            print(session.get(1), list(session.by_key(0, 1)))
+
+A session is a transaction: its `with` block commits it at the end, and aborts it where an exception leaves the block. It reads what
+was committed when it began, and its own writes over that. What the table refuses is raised, each refusal as a class of its own under
+`Refused`; the session goes on after all but `Conflict`. A table stays on the thread that opened it. The numbers are those of
+sandpipercot.h, which says more of each call.
+"""
+from __future__ import annotations
+
+from ._c import BODY, SAVEPOINTS, SESSIONS, VERSION
+from .rows import Row
+from .sessions import Cursor, Session
+from .statuses import (
+    AlreadyOpen,
+    AlreadyThere,
+    BadBounds,
+    BadDeadLimit,
+    BadFirstXid,
+    BadFreezeMinAge,
+    BadMaxPages,
+    BadStopAge,
+    Busy,
+    Conflict,
+    CursorOpen,
+    Failed,
+    HasEngine,
+    NeedsFreeze,
+    NoCursor,
+    NoEngine,
+    NoMemory,
+    NoPlace,
+    NoRoom,
+    NoSavepoint,
+    NoSuchIndex,
+    NoSuchPage,
+    NoSuchSession,
+    NotOpen,
+    NotThere,
+    NoVacuum,
+    Refused,
+    RolledBack,
+    Status,
+    TooDeep,
+    TooLarge,
+    VacuumRunning,
+)
+from .table import Kind, Page, Piece, PieceKind, Slot, State, Table, Vacuum
+
+__version__ = ".".join(map(str, VERSION))
+
+__all__ = [
+    "BODY",
+    "SAVEPOINTS",
+    "SESSIONS",
+    "VERSION",
+    "AlreadyOpen",
+    "AlreadyThere",
+    "BadBounds",
+    "BadDeadLimit",
+    "BadFirstXid",
+    "BadFreezeMinAge",
+    "BadMaxPages",
+    "BadStopAge",
+    "Busy",
+    "Conflict",
+    "Cursor",
+    "CursorOpen",
+    "Failed",
+    "HasEngine",
+    "Kind",
+    "NeedsFreeze",
+    "NoCursor",
+    "NoEngine",
+    "NoMemory",
+    "NoPlace",
+    "NoRoom",
+    "NoSavepoint",
+    "NoSuchIndex",
+    "NoSuchPage",
+    "NoSuchSession",
+    "NoVacuum",
+    "NotOpen",
+    "NotThere",
+    "Page",
+    "Piece",
+    "PieceKind",
+    "Refused",
+    "RolledBack",
+    "Row",
+    "Session",
+    "Slot",
+    "State",
+    "Status",
+    "Table",
+    "TooDeep",
+    "TooLarge",
+    "Vacuum",
+    "VacuumRunning",
+]

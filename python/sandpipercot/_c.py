@@ -1,0 +1,115 @@
+"""The library's structs and calls, by ctypes, as sandpipercot.h has them."""
+from __future__ import annotations
+
+import ctypes
+import os
+import pathlib
+from ctypes import Structure, c_bool, c_int64, c_size_t, c_uint8, c_uint16, c_uint32, c_uint64, c_void_p
+from typing import Any, Callable, Dict, List
+
+SESSIONS = 64  # sessions are numbered from 0 to 63
+SAVEPOINTS = 32  # that a session may have at a time
+BODY = 1024  # bytes of the longest body
+
+VERSION = (0, 2)  # of this module, and of the library that it takes
+
+
+class Handle(Structure):
+    _fields_ = [("held", c_void_p), ("is_open", c_bool)]
+
+
+class Settings(Structure):
+    _fields_ = [
+        ("max_pages", c_uint32),
+        ("stop_age", c_uint32),
+        ("freeze_min_age", c_uint32),
+        ("first_xid", c_uint32),
+        ("dead_limit", c_uint32),
+        ("indexed", c_bool * 4),
+    ]
+
+
+class Row(Structure):
+    _fields_ = [("key", c_uint64), ("cols", c_int64 * 4), ("length", c_uint16), ("body", c_uint8 * BODY)]
+
+
+class Slot(Structure):
+    _fields_ = [("kind", c_uint32), ("target", c_uint32), ("xmin", c_uint32), ("xmax", c_uint32), ("key", c_uint64)]
+
+
+class Piece(Structure):
+    _fields_ = [("kind", c_uint32), ("number", c_uint32), ("oldest", c_uint32)]
+
+
+class State(Structure):
+    _fields_ = [
+        ("next_id", c_uint32),
+        ("oldest_id", c_uint32),
+        ("ids_left", c_uint32),
+        ("pages", c_uint32),
+        ("open_sessions", c_uint64),
+        ("entries", c_uint64 * 5),
+        ("has_index", c_bool * 5),
+        ("vacuum", c_uint32),
+    ]
+
+
+class Page(Structure):
+    _fields_ = [("change", c_uint64), ("bits", c_uint32), ("slots", c_uint32)]
+
+
+# A pointer is passed as a number, which costs a third of a typed one. Each is to a struct above that its caller keeps.
+POINTER, SESSION = c_void_p, c_uint8
+ARGUMENTS: Dict[str, List[Any]] = {
+    "open": [POINTER, POINTER],
+    "close": [POINTER],
+    "begin": [POINTER, SESSION],
+    "commit": [POINTER, SESSION],
+    "abort": [POINTER, SESSION],
+    "savepoint": [POINTER, SESSION],
+    "rollback_to": [POINTER, SESSION],
+    "release": [POINTER, SESSION],
+    "get": [POINTER, SESSION, c_uint64, POINTER],
+    "insert": [POINTER, SESSION, POINTER],
+    "update": [POINTER, SESSION, POINTER],
+    "insert_many": [POINTER, SESSION, POINTER, c_size_t, POINTER],
+    "update_many": [POINTER, SESSION, POINTER, c_size_t, POINTER],
+    "delete": [POINTER, SESSION, c_uint64],
+    "open_heap": [POINTER, SESSION],
+    "open_by_key": [POINTER, SESSION, c_uint64, c_uint64],
+    "open_index": [POINTER, SESSION, c_uint8, c_int64, c_int64],
+    "next": [POINTER, SESSION, POINTER, c_size_t, POINTER],
+    "close_cursor": [POINTER, SESSION],
+    "prune": [POINTER, c_uint32],
+    "vacuum_begin": [POINTER, c_bool],
+    "vacuum_step": [POINTER, POINTER],
+    "vacuum_cancel": [POINTER],
+    "slot_at": [POINTER, c_uint32, c_uint16, POINTER],
+    "page_at": [POINTER, c_uint32, POINTER],
+    "state": [POINTER, POINTER],
+    "version": [],
+}
+
+
+def _loaded() -> Dict[str, Callable[..., int]]:
+    """The calls of the library that SANDPIPERCOT names, or else of the one that was installed with this module."""
+    here = pathlib.Path(__file__).resolve().parent
+    # (a wheel has it in this folder, and tools/build_c.sh in the folder above that of its Python modules)
+    places = [here / "libsandpipercot.so", here.parent.parent / "libsandpipercot.so"]
+    path = os.environ.get("SANDPIPERCOT") or str(next((it for it in places if it.exists()), places[1]))
+    try:
+        # (under PyDLL the interpreter's lock is kept, so that calls come one at a time)
+        library = ctypes.PyDLL(path)
+    except OSError as fault:
+        raise ImportError(f"{fault}: build it by tools/build_c.sh PREFIX, and set SANDPIPERCOT to its path") from fault
+    calls: Dict[str, Callable[..., int]] = {}
+    for name, arguments in ARGUMENTS.items():
+        call = getattr(library, "sandpiper_" + name)
+        call.argtypes, call.restype = arguments, c_uint32
+        calls[name] = call
+    if calls["version"]() != VERSION[0] * 100 + VERSION[1]:
+        raise ImportError(f"{path} is of another version than this module, {VERSION[0]}.{VERSION[1]}")
+    return calls
+
+
+CALLS = _loaded()

@@ -1,0 +1,257 @@
+"""Sessions and their cursors."""
+from __future__ import annotations
+
+import ctypes
+import itertools
+import warnings
+import weakref
+from threading import get_ident
+from types import TracebackType
+from typing import TYPE_CHECKING, Any, Iterable, Iterator, List, Optional, Type
+
+from . import _c
+from .rows import Places, Row, fits, fits_signed
+from .statuses import NoSuchIndex, NotOpen, RolledBack, Status, refusal
+
+if TYPE_CHECKING:
+    from .table import Table
+
+COLUMNS = 4
+MOST_KEY = (1 << 64) - 1
+# So many rows are written by one call, and so many are fetched at most, however large a batch is asked for.
+AT_ONCE, MOST_AT_ONCE = 64, 1024
+# (a number of an enum is compared ten times as slowly as a plain one)
+FOUND, NO_ROW = int(Status.FOUND), int(Status.NO_ROW)
+_get = _c.CALLS["get"]
+
+
+class Session:
+    """A transaction, from `Table.begin` to `commit` or `abort`. Each call may be refused as NotOpen, or as Failed. One that is let go
+    without an end is aborted by the next call of its table."""
+
+    _is_open = False
+
+    def __init__(self, table: Table, number: int) -> None:
+        self._table, self._number = table, number
+        # a cursor was let go and is still to be closed: what the collector runs makes no call of the library
+        self._has_lost_cursor = False
+        self._cursor: Optional[weakref.ref[Cursor]] = None
+        self._is_open = True
+
+    def _ready(self) -> None:
+        """Looks whether a call may be made, and does what was left to the next one."""
+        if not self._is_open:
+            raise NotOpen()
+        table = self._table
+        if table._lost or table._thread != get_ident():
+            table._ready()
+        if self._has_lost_cursor:
+            self._has_lost_cursor = False
+            table._call("close_cursor", self._number)
+
+    def _call(self, name: str, *arguments: Any) -> int:
+        self._ready()
+        return self._table._call(name, self._number, *arguments)
+
+    def _end(self, name: str) -> int:
+        status = self._call(name)
+        self._is_open = False
+        self._table._sessions.discard(self._number)
+        cursor = self._cursor and self._cursor()
+        if cursor:
+            cursor._drop_rows()
+        return status
+
+    @property
+    def number(self) -> int:
+        """The session's number, by which `Busy` names it."""
+        return self._number
+
+    @property
+    def is_open(self) -> bool:
+        return self._is_open and self._table.is_open
+
+    def get(self, key: int) -> Optional[Row]:
+        """The row of the key, or None."""
+        self._ready()
+        place = self._table._place
+        status = _get(self._table._address, self._number, key if 0 <= key <= MOST_KEY else fits(key, 64), place.address)
+        if status == FOUND:
+            return place.row()
+        if status == NO_ROW:
+            return None
+        raise refusal(status, key)
+
+    def _write(self, name: str, row: Row) -> None:
+        self._ready()
+        place = self._table._place
+        place.put(row)
+        status = _c.CALLS[name](self._table._address, self._number, place.address)
+        if status:
+            raise refusal(status, row[0])
+
+    def _write_many(self, name: str, rows: Iterable[Row]) -> int:
+        """Writes rows, some at a time, and answers how many there were."""
+        # (whoever makes the rows may make other calls meanwhile, so the places are this call's own)
+        places, done, coming, count = Places(AT_ONCE), ctypes.c_size_t(), iter(rows), 0
+        while some := list(itertools.islice(coming, AT_ONCE)):
+            for number, row in enumerate(some):
+                places.put(row, number)
+            self._ready()
+            call = _c.CALLS[name]
+            status = call(self._table._address, self._number, places.address, len(some), ctypes.addressof(done))
+            if status:
+                raise refusal(status, some[done.value][0])
+            count += len(some)
+        return count
+
+    def insert(self, row: Row) -> None:
+        """Writes a row of a key that has none. Refusals: CursorOpen, TooLarge, AlreadyThere, Conflict, Busy, NeedsFreeze, NoRoom,
+        NoMemory."""
+        self._write("insert", row)
+
+    def insert_many(self, rows: Iterable[Row]) -> int:
+        """Inserts rows in their order, taking 64 at a time, and answers how many there were. A refusal names the row's key; the rows
+        before it stay inserted. Refusals: as of `insert`."""
+        return self._write_many("insert_many", rows)
+
+    def update(self, row: Row) -> None:
+        """Writes another row of a key that has one. Refusals: as of `insert`, with NotThere for AlreadyThere."""
+        self._write("update", row)
+
+    def update_many(self, rows: Iterable[Row]) -> int:
+        """Updates rows in their order, taking 64 at a time, and answers how many there were. A refusal names the row's key; the rows
+        before it stay updated. Refusals: as of `update`."""
+        return self._write_many("update_many", rows)
+
+    def delete(self, key: int) -> None:
+        """Takes the row of the key away. Refusals: CursorOpen, NotThere, Conflict, Busy, NeedsFreeze, NoMemory."""
+        self._ready()
+        status = _c.CALLS["delete"](self._table._address, self._number, fits(key, 64))
+        if status:
+            raise refusal(status, key)
+
+    def savepoint(self) -> None:
+        """Sets a savepoint above those that there are. Refusals: CursorOpen, TooDeep after 32 of them, NoMemory."""
+        self._call("savepoint")
+
+    def rollback_to(self) -> None:
+        """Takes back what was written since the newest savepoint, which stays; a failed transaction is usable again. Refusals:
+        CursorOpen, NoSavepoint."""
+        self._call("rollback_to")
+
+    def release(self) -> None:
+        """Forgets the newest savepoint, and keeps what was written since. Refusals: CursorOpen, NoSavepoint."""
+        self._call("release")
+
+    def commit(self) -> None:
+        """Makes what was written part of the table, and ends the session. Raises RolledBack where the transaction had failed."""
+        if self._end("commit") == Status.ROLLED_BACK:
+            raise RolledBack(RolledBack.__doc__)
+
+    def abort(self) -> None:
+        """Drops what was written, and ends the session."""
+        self._end("abort")
+
+    def rows(self, batch: int = 64) -> Cursor:
+        """A cursor over all rows that the session reads, page by page, at most a batch of 1 to 65535 at a time. Refusal:
+        CursorOpen."""
+        return Cursor(self, batch, "open_heap")
+
+    def by_key(self, low: int = 0, high: int = (1 << 64) - 1, batch: int = 64) -> Cursor:
+        """The same over the rows with keys from low to high, both included, in ascending order. Refusals: CursorOpen, BadBounds."""
+        return Cursor(self, batch, "open_by_key", fits(low, 64), fits(high, 64))
+
+    def by_column(self, column: int, low: int = -(1 << 63), high: int = (1 << 63) - 1, batch: int = 64) -> Cursor:
+        """The same by the values of a column, 0 to 3, that has an index, and by key where values are equal. Refusals: CursorOpen,
+        NoSuchIndex, BadBounds."""
+        if not 0 <= column < COLUMNS:
+            raise NoSuchIndex(f"there is no column {column}: they are 0 to {COLUMNS - 1}")
+        return Cursor(self, batch, "open_index", column + 1, fits_signed(low), fits_signed(high))
+
+    def __enter__(self) -> Session:
+        return self
+
+    def __exit__(
+        self, kind: Optional[Type[BaseException]], fault: Optional[BaseException], trace: Optional[TracebackType]
+    ) -> None:
+        if not self._is_open:
+            return
+        if kind is None:
+            # (raises NoEngine where the table was closed before: nothing was committed)
+            self.commit()
+        elif self._table.is_open:
+            self.abort()
+
+    def __del__(self) -> None:
+        if self._is_open and self._table.is_open:
+            self._table._lost.append(self._number)
+            warnings.warn(f"session {self._number} was let go while it was open", ResourceWarning, source=self)
+
+
+class Cursor(Iterator[Row]):
+    """An iterator over rows of a session, as they were when it was opened. It is closed at its end, by `close`, at the end of
+    its `with` block, or when it is let go; it ends with its session, as NotOpen. While it is open the session reads, and writes
+    nothing. Rows that it has handed out stay."""
+
+    _is_open = False
+
+    def __init__(self, session: Session, batch: int, opening: str, *arguments: Any) -> None:
+        if fits(batch, 16) == 0:
+            raise ValueError("a batch is of one row at least")
+        self._session = session
+        self._places = session._table._places_for(min(batch, MOST_AT_ONCE))
+        self._batch = min(batch, MOST_AT_ONCE)
+        self._fetched: List[Row] = []
+        self._rows = iter(self._fetched)
+        session._call(opening, *arguments)
+        session._cursor = weakref.ref(self)
+        self._is_open = True
+
+    def _fetch(self) -> bool:
+        """Asks for the next rows, and answers whether there are any. After the last the cursor is closed."""
+        if not self._is_open:
+            return False
+        count = ctypes.c_size_t()
+        status = self._session._call("next", self._places.address, self._batch, ctypes.addressof(count))
+        if status == Status.END:
+            self.close()
+            return False
+        self._fetched = self._places.rows(count.value)
+        self._rows = iter(self._fetched)
+        return True
+
+    def _drop_rows(self) -> None:
+        """Drops the rows that were fetched and not handed out, also those of a loop that goes on."""
+        self._fetched.clear()
+
+    def __iter__(self) -> Iterator[Row]:
+        # (a generator hands out a row for a third of what `__next__` takes)
+        while True:
+            yield from self._rows
+            if not self._fetch():
+                return
+
+    def __next__(self) -> Row:
+        for row in self._rows:
+            return row
+        if not self._fetch():
+            raise StopIteration
+        return next(self._rows)
+
+    def close(self) -> None:
+        """Ends the cursor; rows that were fetched and not handed out are dropped. A cursor that is closed stays so."""
+        was_open, self._is_open = self._is_open, False
+        self._drop_rows()
+        if was_open and self._session.is_open:
+            self._session._call("close_cursor")
+
+    def __enter__(self) -> Cursor:
+        return self
+
+    def __exit__(self, *_: object) -> None:
+        self.close()
+
+    def __del__(self) -> None:
+        if self._is_open:
+            self._session._has_lost_cursor = True
