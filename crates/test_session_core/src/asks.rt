@@ -2,7 +2,7 @@
 
 use page_slots::{Page, Slot};
 use session_core::{
-    Engine, Mode, Piece, Refusal, Reply, Row, RowIn, Settings, SettingsFault, Step, run,
+    Engine, Mode, Piece, Refusal, Reply, Row, RowIn, RowPlace, Settings, SettingsFault, Step, run,
 };
 use std::alloc::{AllocError, Global};
 use std::test::Fail;
@@ -27,6 +27,8 @@ pub enum Ask {
     OpenIndex(u8, u8, i128, i128),
     OpenHeap(u8),
     Next(u8, u16),
+    /// Has the next rows written to so many places, up to three.
+    Places(u8, usize),
     Close(u8),
     Commit(u8),
     Abort(u8),
@@ -373,9 +375,47 @@ fn answers(
     ask: Ask,
     answer: Answer,
 ) -> Result<bool, AllocError> {
+    if let Ask::Places(s, places) = ask {
+        return Ok(hands_out(engine, s, places, answer));
+    }
     match reply_to(alloc, engine, ask)? {
         Some(reply) => Ok(is_answer(&reply, ask, answer)),
         None => Ok(shows(engine, ask, answer)),
+    }
+}
+
+fn empty_place() -> RowPlace {
+    RowPlace {
+        key: 0,
+        cols: [0; 4],
+        length: 0,
+        body: [0; 1024],
+    }
+}
+
+fn are_placed(places: &[RowPlace], told: &[(u64, i64)]) -> bool {
+    for (place, (key, column)) in places.iter().zip(told) {
+        if place.key != *key || place.cols[0] != *column || place.length != 0 {
+            return false;
+        }
+    }
+    true
+}
+
+// Whether the next rows are handed out so, where there are so many places.
+fn hands_out(engine: &mut Engine, s: u8, asked: usize, answer: Answer) -> bool {
+    let mut all = [empty_place(), empty_place(), empty_place()];
+    let places = &mut all[..asked.min(3)];
+    if places.is_empty() {
+        return false;
+    }
+    match engine.next_rows(s, places) {
+        Ok(0) => matches!(answer, Answer::End),
+        Ok(count) => match answer {
+            Answer::Rows(told) => count == told.len() && are_placed(&all, told),
+            _ => false,
+        },
+        Err(refusal) => is_refusal(refusal, answer),
     }
 }
 

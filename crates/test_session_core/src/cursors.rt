@@ -61,6 +61,44 @@ fn over_the_heap(rt: HostRuntime) -> Result<(), Fail> {
     ask_new(rt.alloc(), BY_KEY_ALONE, &OVER_THE_HEAP)
 }
 
+// What a page has left over comes with the next call, as it was when the cursor was opened.
+static TO_PLACES: [(Ask, Answer); 29] = [
+    (Ask::Places(1, 2), Answer::Refused(Refusal::NotOpen)),
+    (Ask::Places(64, 2), Answer::Refused(Refusal::NoSuchSession)),
+    (Ask::Begin(0), Answer::Done),
+    (Ask::Insert(0, 1, 0), Answer::Done),
+    (Ask::Insert(0, 2, 0), Answer::Done),
+    (Ask::Insert(0, 3, 0), Answer::Done),
+    (Ask::Insert(0, 4, 0), Answer::Done),
+    (Ask::Insert(0, 5, 0), Answer::Done),
+    (Ask::Insert(0, 6, 0), Answer::Done),
+    (Ask::Commit(0), Answer::Committed),
+    (Ask::Begin(1), Answer::Done),
+    (Ask::Places(1, 2), Answer::Refused(Refusal::NoCursor)),
+    (Ask::OpenHeap(1), Answer::Done),
+    (Ask::Places(1, 2), Answer::Rows(&[(1, 0), (2, 0)])),
+    (Ask::Begin(2), Answer::Done),
+    (Ask::Update(2, 4, 9), Answer::Done),
+    (Ask::Commit(2), Answer::Committed),
+    (Ask::Get(1, 1), Answer::Column(0)),
+    (Ask::Places(1, 1), Answer::Rows(&[(3, 0)])),
+    (Ask::Places(1, 2), Answer::Rows(&[(4, 0), (5, 0)])),
+    (Ask::Next(1, 1), Answer::Rows(&[(6, 0)])),
+    (Ask::Places(1, 3), Answer::End),
+    (Ask::Places(1, 3), Answer::End),
+    (Ask::Close(1), Answer::Done),
+    (Ask::OpenIndex(1, 0, 2, 5), Answer::Done),
+    (Ask::Places(1, 3), Answer::Rows(&[(2, 0), (3, 0), (4, 0)])),
+    (Ask::Places(1, 3), Answer::Rows(&[(5, 0)])),
+    (Ask::Places(1, 1), Answer::End),
+    (Ask::Commit(1), Answer::Committed),
+];
+
+#[test]
+fn to_places(rt: HostRuntime) -> Result<(), Fail> {
+    ask_new(rt.alloc(), SETTINGS, &TO_PLACES)
+}
+
 static IN_AN_INDEX_WHOSE_ROWS_ARE_DELETED: [(Ask, Answer); 22] = [
     (Ask::Begin(0), Answer::Done),
     (Ask::Insert(0, 1, 30), Answer::Done),
