@@ -6,7 +6,6 @@ ghost use Rattle.sandpiper_c.specs.Rows.{IsText, IsBody};
 
 use session_core::{Row, RowIn, RowPlace};
 use std::alloc::{AllocError, Global};
-use tuple_header::RowRef;
 
 /// The bytes that count. Where the length is over 1024 they are as many zeros, which no table takes.
 fn body_of(alloc: Global, body: &[u8], length: u16) -> Result<Vec<u8>, AllocError>
@@ -40,5 +39,9 @@ pub(crate) fn text_of(alloc: Global, row: &RowPlace) -> Result<RowIn, AllocError
 pub(crate) fn put(place: &mut RowPlace, row: &Row)
     ensures { place.new ≡ place_with row.now place.old }
 {
-    RowRef::new(row.key, row.cols, row.body.as_slice()).put_into(place)
+    let body = row.body.as_slice();
+    place.key = row.key;
+    place.cols = row.cols;
+    place.length = body.len() as u16;
+    place.body[..body.len()].copy_from_slice(body);
 }

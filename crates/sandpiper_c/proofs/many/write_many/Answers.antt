@@ -1,16 +1,30 @@
-use Rattle.std.proofs.Common.{inr}
-use Rattle.sandpiper_c.specs.Many.{write_of}
+use Rattle.std.proofs.Common.{◌≡◌, length, take, inl, inr, refl, sym, ◌∙◌, subst, arith}
+use Rattle.sandpiper_c.specs.Many.{write_of, AreWritten}
 use Rattle.sandpiper_c.proofs.ManyLemmas.{row-at, written-next}
 use Rattle.sandpiper_c.proofs.many.write_many.Goals as goal
 
-pub returns-then-code-ne : goal.returns-then-code-ne
-returns-then-code-ne c = record {
+pub returns-then-code-number : goal.returns-then-code-number
+returns-then-code-number c = record {
   between = c.loop-number.table;
   written = c.loop-number.invariant;
-  rest = inr (record { row = _; is = row-at c.args.rows.now c.loop-number.number _ c.loop-number-test.true; writes = c.write-code.ensures; refused = c.if-code-ne.true });
+  rest = inr (record {
+    row = _;
+    is = row-at c.args.rows.now c.loop-number.number _ c.loop-number-test.true;
+    writes = c.write-code.ensures;
+    refused = λ is. c.if-code-number.true (is ∙ sym c.number.ensures);
+  });
 }
 
 pub loop-number-preserved : goal.loop-number-preserved
 loop-number-preserved c =
     written-next (write_of c.args.kind c.args.session) c.args.rows.now c.loop-number.number _ c.args.table.now c.loop-number.table c.write-code.new.table c.write-code.result c.loop-number-test.true
-    c.loop-number.invariant c.if-code-ne.false c.write-code.ensures
+    c.loop-number.invariant (c.if-code-number.false ∙ c.number.ensures) c.write-code.ensures
+
+pub returns : goal.returns
+returns c =
+    let all : c.loop-number.number ≡ length c.args.rows.now = omega (arith, c.loop-number-test.false, c.loop-number.auto.number-end) in
+    record {
+      between = c.loop-number.table;
+      written = subst (λ n. AreWritten (write_of c.args.kind c.args.session) c.args.table.now (take n c.args.rows.now) c.loop-number.table) all c.loop-number.invariant;
+      rest = inl (refl, c.number-2.ensures, refl);
+    }
