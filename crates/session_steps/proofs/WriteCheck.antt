@@ -17,6 +17,7 @@ use Rattle.refinement.proofs.CursorWalks.{below_or}
 use Rattle.session_steps.specs.declared.session.Session.{Session}
 use Rattle.session_steps.specs.declared.cursor.Cursor.TheVariants.{Heap}
 use Rattle.session_steps.specs.State.{State, seen}
+use Rattle.tuple_header.specs.declared.version.TheConstants.{MOST_SLOTS}
 use Rattle.session_steps.specs.Takes.{seen_by, IsAtEnd, IsNotAtEnd, SomeStands, AreBare, TakesAll, TakesPage}
 
 -- Where versions stand.
@@ -61,8 +62,10 @@ none-stands st e page slot none row stands = none stands.version stands.here sta
 -- A page.
 
 -- and goes up to the last
-pub gathers-all : (st : State) (e : Session) (page end : ℕ) (rows : List Row) → length (slots_on (slots_of st.heap) page) + 1 ≤ end → Gathers (seen st).version (seen_by st e) page end rows → TakesAll st e page rows
-gathers-all st e page end rows past gathers = record {
+pub gathers-all : (st : State) (e : Session) (page end : ℕ) (rows : List Row) → length (slots_on (slots_of st.heap) page) + 1 ≤ end → Gathers (seen st).version (seen_by st e) page end rows
+    → length rows ≤ MOST_SLOTS → TakesAll st e page rows
+gathers-all st e page end rows past gathers few = record {
+  few = few;
   end = end;
   gathers = gathers;
   whole = λ slot row stands. let within = slot-within (slots_on (slots_of st.heap) page) slot stands.version stands.here in omega arith;

@@ -16,6 +16,7 @@ use Rattle.visibility.specs.Visible.{state_of}
 use Rattle.session_steps.specs.State.{State, session_at, seen, seen_position, put_session, with_cursor}
 use Rattle.session_steps.specs.Agrees.{Agrees}
 use Rattle.heap_pages.specs.declared.pages.TheConstants.{MAX_PAGES}
+use Rattle.tuple_header.specs.declared.version.TheConstants.{MOST_SLOTS}
 
 -- the versions that the session sees
 abbrev pub seen_by : State → Session → Version → Type 0
@@ -70,6 +71,8 @@ pub record TakesAll (st : State) (e : Session) (page : ℕ) (rows : List Row) : 
   pub end : ℕ
   pub gathers : Gathers (seen st).version (seen_by st e) page end rows
   pub whole : (slot : ℕ) (row : Row) → Stands (seen st).version (seen_by st e) page slot row → slot < end
+  -- a page has so many slots at most
+  pub few : length rows ≤ MOST_SLOTS
 
 -- of the first page that has any
 pub record TakesPage (st : State) (e : Session) (from page : ℕ) (rows : List Row) : Type 0 where
