@@ -25,6 +25,14 @@ fn hold_key<R: Wait>(rt: &R, alloc: Global, shared: &Shared) -> bool {
         && matches!(sixth, Reply::Done)
 }
 
+/// The first column of the row that was found.
+fn first_column(reply: &Reply) -> Option<i64> {
+    match reply {
+        Reply::Found(Some(row)) => Some(row.cols[0]),
+        _ => None,
+    }
+}
+
 /// Session 1 updates key 1, waiting, while session 0 aborts.
 fn call_both<'x, R: Threads + Wait + Sync>(
     rt: &'x R,
@@ -47,10 +55,8 @@ fn waiting_call_ends(rt: HostRuntime) -> Result<(), Fail> {
     let (waited, aborted) = call_both(&rt, alloc, &shared);
     assert!(rt; matches!(waited, Reply::Done));
     assert!(rt; matches!(aborted, Reply::RolledBack));
-    match shared.call(&rt, Step::Get(1, 1)) {
-        Reply::Found(Some(row)) => assert_eq!(rt; row.cols[0], 7),
-        _ => assert!(rt; false),
-    }
+    let found = shared.call(&rt, Step::Get(1, 1));
+    assert_eq!(rt; first_column(&found), Some(7));
     // one journal has all calls: six, the abort, the get, and the update with what it was answered before
     let book = shared.into_book();
     assert!(rt; book.journal().len() >= 9);
