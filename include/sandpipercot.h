@@ -11,8 +11,8 @@
  * from the forked child of a process with threads, or from within malloc, realloc or free. Two handles are independent.
  *
  * MEMORY comes from the program's malloc, realloc and free. Where that is refused, the call says SANDPIPER_NO_MEMORY and has changed
- * nothing; it may be repeated. sandpiper_get, _rollback_to, _release, _commit, _abort, _prune, _close, _open_heap, _open_keys,
- * _open_index, _close_cursor, _row_at, _slot_at, _page_at, _state, _vacuum_begin, _vacuum_step and
+ * nothing; it may be repeated. sandpiper_get, _rollback_to, _release, _commit, _abort, _prune, _close, _open_heap, _open_by_key,
+ * _open_index, _next, _close_cursor, _slot_at, _page_at, _state, _vacuum_begin, _vacuum_step and
  * _vacuum_cancel ask for none.
  *
  * STATUSES. Each call returns one of those below. From 16 on something was refused. Whatever the status is, also where nobody reads
@@ -23,6 +23,7 @@
 #define SANDPIPERCOT_H
 
 #include <stdbool.h>
+#include <stddef.h>
 #include <stdint.h>
 
 #define SANDPIPER_VERSION "0.2"
@@ -68,7 +69,7 @@ enum sandpiper_status {
     SANDPIPER_NO_ROW = 2,             /* there is none, and the place is as it was */
     SANDPIPER_COMMITTED = 3,          /* what the session wrote was committed */
     SANDPIPER_ROLLED_BACK = 4,        /* what the session wrote was rolled back: by an abort, or since its transaction had failed */
-    SANDPIPER_ROWS = 5,               /* the cursor hands out rows: sandpiper_row_at reads them */
+    SANDPIPER_ROWS = 5,               /* the cursor has handed out rows: one at least */
     SANDPIPER_END = 6,                /* the cursor has handed out all, and stays open */
     SANDPIPER_WORKED = 7,             /* the vacuum did a part of its work, and goes on */
     SANDPIPER_ENDED = 8,              /* the vacuum has ended */
@@ -95,6 +96,7 @@ enum sandpiper_status {
     SANDPIPER_NO_VACUUM = 35,         /* no vacuum is running */
     SANDPIPER_NO_ENGINE = 48,         /* the handle has no table */
     SANDPIPER_HAS_ENGINE = 49,        /* sandpiper_open: the handle has a table already */
+    SANDPIPER_NO_PLACE = 50,          /* sandpiper_next: there is no place for a row */
     /* sandpiper_open: the first setting that is out of its range */
     SANDPIPER_BAD_MAX_PAGES = 64,
     SANDPIPER_BAD_STOP_AGE = 65,
@@ -132,20 +134,20 @@ uint32_t sandpiper_insert(struct sandpiper *table, uint8_t session, const struct
 uint32_t sandpiper_update(struct sandpiper *table, uint8_t session, const struct sandpiper_row *row);
 uint32_t sandpiper_delete(struct sandpiper *table, uint8_t session, uint64_t key);
 
-/* Cursors. A session has one at most. open_heap takes all rows, page by page. open_keys takes those whose key, and open_index
+/* Cursors. A session has one at most. open_heap takes all rows, page by page. open_by_key takes those whose key, and open_index
  * those whose value in index c + 1, which is column c, lies between two bounds, both included, in ascending order. (Index 0 is by
- * key, for keys that an int64_t can name.) next answers ROWS or END: it hands out the rows of a page, or in an index at most
- * `most` of them, where 0 counts as 1. While the cursor is open the session writes nothing, and sets no savepoint; it may read,
- * commit and abort, and the last two close the cursor. */
+ * key, for keys that an int64_t can name.) While the cursor is open the session writes nothing, and sets no savepoint; it may
+ * read, commit and abort, and the last two close the cursor. */
 uint32_t sandpiper_open_heap(struct sandpiper *table, uint8_t session);
-uint32_t sandpiper_open_keys(struct sandpiper *table, uint8_t session, uint64_t low, uint64_t high);
+uint32_t sandpiper_open_by_key(struct sandpiper *table, uint8_t session, uint64_t low, uint64_t high);
 uint32_t sandpiper_open_index(struct sandpiper *table, uint8_t session, uint8_t index, int64_t low, int64_t high);
-uint32_t sandpiper_next(struct sandpiper *table, uint8_t session, uint16_t most);
 uint32_t sandpiper_close_cursor(struct sandpiper *table, uint8_t session);
 
-/* Row number 0, 1, .. of those that next handed out, if next was the last call but for row_at and slot_at: FOUND or NO_ROW.
- * Any other call ends these rows: read them before the next one, of whichever session. */
-uint32_t sandpiper_row_at(struct sandpiper *table, uint32_t number, struct sandpiper_row *row);
+/* Writes the cursor's next rows to an array of the caller's, of `capacity` places, and says in *count how many. ROWS: 1 to `capacity`
+ * rows are in the first places, and all others are as they were. Of the heap they are of one page, and what that page has left over
+ * comes with the next call; of an index they are fewer only where no more are left. END: nothing is left, and *count is 0. After a
+ * refusal *count is 0 too; NO_PLACE says that `capacity` is 0. Rows that were handed out are the caller's: no call ends them. */
+uint32_t sandpiper_next(struct sandpiper *table, uint8_t session, struct sandpiper_row *rows, size_t capacity, size_t *count);
 
 /* Takes from a page, counted from 0, the versions that no session can see any more. */
 uint32_t sandpiper_prune(struct sandpiper *table, uint32_t page);
@@ -226,7 +228,7 @@ static inline const char *sandpiper_words(uint32_t status) {
     case SANDPIPER_NO_ROW: return "there is none, and the place is as it was";
     case SANDPIPER_COMMITTED: return "what the session wrote was committed";
     case SANDPIPER_ROLLED_BACK: return "what the session wrote was rolled back";
-    case SANDPIPER_ROWS: return "the cursor hands out rows";
+    case SANDPIPER_ROWS: return "the cursor has handed out rows: one at least";
     case SANDPIPER_END: return "the cursor has handed out all, and stays open";
     case SANDPIPER_WORKED: return "the vacuum did a part of its work, and goes on";
     case SANDPIPER_ENDED: return "the vacuum has ended";
@@ -252,6 +254,7 @@ static inline const char *sandpiper_words(uint32_t status) {
     case SANDPIPER_NO_VACUUM: return "no vacuum is running";
     case SANDPIPER_NO_ENGINE: return "the handle has no table";
     case SANDPIPER_HAS_ENGINE: return "the handle has a table already";
+    case SANDPIPER_NO_PLACE: return "there is no place for a row";
     case SANDPIPER_BAD_MAX_PAGES: return "the setting max_pages is out of its range";
     case SANDPIPER_BAD_STOP_AGE: return "the setting stop_age is out of its range";
     case SANDPIPER_BAD_FREEZE_MIN_AGE: return "the setting freeze_min_age is out of its range";

@@ -43,13 +43,15 @@ static void get_row(uint64_t key, struct row *row) {
 }
 
 static uint64_t scan_rows(int64_t *sum) {
-    uint64_t rows = 0;
+    static struct sandpiper_row rows[128];
+    size_t count;
+    uint64_t all = 0;
     *sum = 0;
     DID(sandpiper_open_heap(&table, 0) == SANDPIPER_DONE);
-    while (sandpiper_next(&table, 0, 0) == SANDPIPER_ROWS)
-        for (uint32_t i = 0; sandpiper_row_at(&table, i, &place) == SANDPIPER_FOUND; i++, rows++) *sum += place.cols[0];
+    for (; sandpiper_next(&table, 0, rows, 128, &count) == SANDPIPER_ROWS; all += count)
+        for (size_t i = 0; i < count; i++) *sum += rows[i].cols[0];
     DID(sandpiper_close_cursor(&table, 0) == SANDPIPER_DONE);
-    return rows;
+    return all;
 }
 
 const struct store sandpipercot_store = {"sandpipercot", open_store, close_store, begin_store, commit_store,

@@ -22,7 +22,8 @@ int main(void) {
     struct sandpiper table = {0};
     const struct sandpiper_settings settings = SANDPIPER_WIDEST;
     const struct sandpiper_row ten = {.key = 1, .cols = {10}}, twenty = {.key = 1, .cols = {20}}, other = {.key = 2, .cols = {20}};
-    struct sandpiper_row row;
+    struct sandpiper_row row, rows[8];
+    size_t count;
 
     if (sandpiper_open(&settings, &table) != SANDPIPER_DONE) return 1;
     sandpiper_begin(&table, 0);
@@ -39,9 +40,8 @@ int main(void) {
 
     sandpiper_begin(&table, 1);
     sandpiper_open_heap(&table, 1);
-    while (sandpiper_next(&table, 1, 0) == SANDPIPER_ROWS)
-        for (uint32_t i = 0; sandpiper_row_at(&table, i, &row) == SANDPIPER_FOUND; i++)
-            printf("row %" PRIu64 ": %" PRId64 "\n", row.key, row.cols[0]);
+    while (sandpiper_next(&table, 1, rows, 8, &count) == SANDPIPER_ROWS)
+        for (size_t i = 0; i < count; i++) printf("row %" PRIu64 ": %" PRId64 "\n", rows[i].key, rows[i].cols[0]);
     sandpiper_commit(&table, 1);
     sandpiper_close(&table);
     return 0;

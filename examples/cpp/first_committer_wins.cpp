@@ -6,6 +6,7 @@
 #include <iostream>
 #include <new>
 #include <string>
+#include <vector>
 
 // A table that ends with its scope.
 struct Table {
@@ -21,10 +22,11 @@ struct Table {
 
     // Hands each row that the session reads to `see`.
     void scan(std::uint8_t session, const std::function<void(const sandpiper_row &)> &see) {
-        sandpiper_row row;
+        std::vector<sandpiper_row> rows(8);
+        std::size_t count;
         sandpiper_open_heap(&handle, session);
-        while (sandpiper_next(&handle, session, 0) == SANDPIPER_ROWS)
-            for (std::uint32_t i = 0; sandpiper_row_at(&handle, i, &row) == SANDPIPER_FOUND; i++) see(row);
+        while (sandpiper_next(&handle, session, rows.data(), rows.size(), &count) == SANDPIPER_ROWS)
+            for (std::size_t i = 0; i < count; i++) see(rows[i]);
         sandpiper_close_cursor(&handle, session);
     }
 };

@@ -12,7 +12,6 @@ struct Row {
     body: [u8; 1024],
 }
 
-const FOUND: u32 = 1;
 const ROWS: u32 = 5;
 unsafe extern "C" {
     safe fn sandpiper_open(settings: &Settings, table: &mut Table) -> u32;
@@ -22,8 +21,7 @@ unsafe extern "C" {
     safe fn sandpiper_insert(table: &mut Table, session: u8, row: &Row) -> u32;
     safe fn sandpiper_get(table: &mut Table, session: u8, key: u64, row: &mut Row) -> u32;
     safe fn sandpiper_open_heap(table: &mut Table, session: u8) -> u32;
-    safe fn sandpiper_next(table: &mut Table, session: u8, most: u16) -> u32;
-    safe fn sandpiper_row_at(table: &mut Table, number: u32, row: &mut Row) -> u32;
+    fn sandpiper_next(table: &mut Table, session: u8, rows: *mut Row, capacity: usize, count: &mut usize) -> u32;
 }
 
 fn row(key: u64, column: i64) -> Row {
@@ -48,12 +46,10 @@ fn main() {
     say("session 1 reads key 2", sandpiper_get(&mut table, 1, 2, &mut found));
     say("session 1 commits", sandpiper_commit(&mut table, 1)); // which takes back what it wrote
     assert_eq!(sandpiper_begin(&mut table, 1) + sandpiper_open_heap(&mut table, 1), 0);
-    while sandpiper_next(&mut table, 1, 0) == ROWS {
-        let mut number = 0;
-        while sandpiper_row_at(&mut table, number, &mut found) == FOUND {
-            println!("row {}: {}", found.key, found.cols[0]);
-            number += 1;
-        }
+    let (mut rows, mut count) = ([row(0, 0), row(0, 0)], 0);
+    // SAFETY: the pointer leads to as many rows as are said
+    while unsafe { sandpiper_next(&mut table, 1, rows.as_mut_ptr(), rows.len(), &mut count) } == ROWS {
+        rows[..count].iter().for_each(|row| println!("row {}: {}", row.key, row.cols[0]));
     }
     sandpiper_close(&mut table);
 }

@@ -62,26 +62,26 @@ static void change_in_savepoints(void) {
 
 /* Each key has the row that it is to have. */
 static void check_rows(void) {
-    int rows = 0;
+    static struct sandpiper_row rows[16];
+    size_t count, all = 0;
     uint32_t status;
     DOES(sandpiper_begin(&t, 2));
     CHECK(sandpiper_open_index(&t, 2, 1, INT64_MIN, INT64_MAX) == SANDPIPER_DONE);
-    for (;;) {
-        AGAIN(status, sandpiper_next(&t, 2, 16));
-        if (status != SANDPIPER_ROWS) break;
-        for (uint32_t i = 0; sandpiper_row_at(&t, i, place) == SANDPIPER_FOUND; i++, rows++) {
+    for (; (status = sandpiper_next(&t, 2, rows, 16, &count)) == SANDPIPER_ROWS; all += count)
+        for (size_t i = 0; i < count; i++) {
+            const struct sandpiper_row *place = rows + i;
             uint64_t key = place->key;
             int64_t column = key >= KEYS ? (int64_t)key - KEYS : key % 3 == 0 ? 1000 + (int64_t)key : (int64_t)key;
             CHECK((key % 7 != 0 || key >= KEYS) && place->cols[0] == column && place->length == key * 4);
             CHECK(place->length == 0 || (place->body[0] == (uint8_t)key && place->body[place->length - 1] == (uint8_t)key));
         }
-    }
-    CHECK(status == SANDPIPER_END && rows == KEYS - (KEYS + 6) / 7 + READERS);
+    CHECK(status == SANDPIPER_END && all == KEYS - (KEYS + 6) / 7 + READERS);
     CHECK(sandpiper_commit(&t, 2) == SANDPIPER_COMMITTED);
 }
 
 /* The calls that ask for no memory, as the header says. */
 static void ask_for_none(void) {
+    size_t count;
     struct sandpiper_slot slot;
     struct sandpiper_piece piece;
     DOES(sandpiper_begin(&t, 3));
@@ -90,9 +90,10 @@ static void ask_for_none(void) {
     long before = asked;
     CHECK(sandpiper_get(&t, 3, 1, place) == SANDPIPER_FOUND && sandpiper_get(&t, 3, KEYS + 1, place) == SANDPIPER_NO_ROW);
     CHECK(sandpiper_rollback_to(&t, 3) == SANDPIPER_DONE && sandpiper_release(&t, 3) == SANDPIPER_DONE);
-    CHECK(sandpiper_open_heap(&t, 3) == SANDPIPER_DONE && sandpiper_close_cursor(&t, 3) == SANDPIPER_DONE);
-    CHECK(sandpiper_open_keys(&t, 3, 1, 2) == SANDPIPER_DONE && sandpiper_close_cursor(&t, 3) == SANDPIPER_DONE);
-    CHECK(sandpiper_open_index(&t, 3, 1, 1, 2) == SANDPIPER_DONE && sandpiper_row_at(&t, 0, place) == SANDPIPER_NO_ROW);
+    CHECK(sandpiper_open_heap(&t, 3) == SANDPIPER_DONE && sandpiper_next(&t, 3, place, 1, &count) == SANDPIPER_ROWS);
+    CHECK(sandpiper_close_cursor(&t, 3) == SANDPIPER_DONE);
+    CHECK(sandpiper_open_by_key(&t, 3, 1, 2) == SANDPIPER_DONE && sandpiper_next(&t, 3, place, 1, &count) == SANDPIPER_ROWS);
+    CHECK(sandpiper_close_cursor(&t, 3) == SANDPIPER_DONE && sandpiper_open_index(&t, 3, 1, 1, 2) == SANDPIPER_DONE);
     CHECK(sandpiper_commit(&t, 3) == SANDPIPER_COMMITTED && sandpiper_abort(&t, 4) == SANDPIPER_ROLLED_BACK);
     CHECK(sandpiper_prune(&t, 0) == SANDPIPER_DONE && sandpiper_slot_at(&t, 0, 1, &slot) == SANDPIPER_FOUND);
     CHECK(sandpiper_vacuum_begin(&t, false) == SANDPIPER_DONE && sandpiper_vacuum_cancel(&t) == SANDPIPER_DONE);

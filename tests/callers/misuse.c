@@ -7,6 +7,7 @@ static const struct sandpiper_settings widest = SANDPIPER_WIDEST;
 
 /* Every call on a handle that has no table. */
 static void check_closed(void) {
+    size_t count = 77;
     struct sandpiper_slot slot = {.kind = 77};
     struct sandpiper_piece piece = {.kind = 77};
     place->key = 77;
@@ -16,9 +17,9 @@ static void check_closed(void) {
     CHECK(sandpiper_get(&t, 0, 1, place) == SANDPIPER_NO_ENGINE && place->key == 77);
     CHECK(sandpiper_insert(&t, 0, row) == SANDPIPER_NO_ENGINE && sandpiper_update(&t, 0, row) == SANDPIPER_NO_ENGINE);
     CHECK(sandpiper_delete(&t, 0, 1) == SANDPIPER_NO_ENGINE && sandpiper_open_heap(&t, 0) == SANDPIPER_NO_ENGINE);
-    CHECK(sandpiper_open_keys(&t, 0, 0, 1) == SANDPIPER_NO_ENGINE && sandpiper_open_index(&t, 0, 0, 0, 1) == SANDPIPER_NO_ENGINE);
-    CHECK(sandpiper_next(&t, 0, 1) == SANDPIPER_NO_ENGINE && sandpiper_close_cursor(&t, 0) == SANDPIPER_NO_ENGINE);
-    CHECK(sandpiper_row_at(&t, 0, place) == SANDPIPER_NO_ROW && place->key == 77);
+    CHECK(sandpiper_open_by_key(&t, 0, 0, 1) == SANDPIPER_NO_ENGINE && sandpiper_open_index(&t, 0, 0, 0, 1) == SANDPIPER_NO_ENGINE);
+    CHECK(sandpiper_next(&t, 0, place, 1, &count) == SANDPIPER_NO_ENGINE && count == 0 && place->key == 77);
+    CHECK(sandpiper_close_cursor(&t, 0) == SANDPIPER_NO_ENGINE);
     CHECK(sandpiper_prune(&t, 0) == SANDPIPER_NO_ENGINE);
     CHECK(sandpiper_vacuum_begin(&t, true) == SANDPIPER_NO_ENGINE && sandpiper_vacuum_cancel(&t) == SANDPIPER_NO_ENGINE);
     CHECK(sandpiper_vacuum_step(&t, &piece) == SANDPIPER_NO_ENGINE && piece.kind == 77);
@@ -29,6 +30,7 @@ static void check_closed(void) {
 /* Every call of a session whose number is over 63. */
 static void check_session(uint8_t session) {
     const uint32_t no_such_session = SANDPIPER_NO_SUCH_SESSION;
+    size_t count = 77;
     place->key = 77;
     CHECK(sandpiper_begin(&t, session) == no_such_session && sandpiper_commit(&t, session) == no_such_session);
     CHECK(sandpiper_abort(&t, session) == no_such_session && sandpiper_savepoint(&t, session) == no_such_session);
@@ -36,9 +38,10 @@ static void check_session(uint8_t session) {
     CHECK(sandpiper_get(&t, session, 1, place) == no_such_session && place->key == 77);
     CHECK(sandpiper_insert(&t, session, row) == no_such_session && sandpiper_update(&t, session, row) == no_such_session);
     CHECK(sandpiper_delete(&t, session, 1) == no_such_session && sandpiper_open_heap(&t, session) == no_such_session);
-    CHECK(sandpiper_open_keys(&t, session, 0, 1) == no_such_session);
+    CHECK(sandpiper_open_by_key(&t, session, 0, 1) == no_such_session);
     CHECK(sandpiper_open_index(&t, session, 0, 0, 1) == no_such_session);
-    CHECK(sandpiper_next(&t, session, 1) == no_such_session && sandpiper_close_cursor(&t, session) == no_such_session);
+    CHECK(sandpiper_next(&t, session, place, 1, &count) == no_such_session && count == 0 && place->key == 77);
+    CHECK(sandpiper_close_cursor(&t, session) == no_such_session);
 }
 
 /* Lengths over 1024, of which the body has no such bytes to read. */
@@ -58,11 +61,13 @@ static void check_numbers(void) {
     CHECK(sandpiper_begin(&t, 0) == SANDPIPER_DONE);
     CHECK(sandpiper_prune(&t, UINT32_MAX) == SANDPIPER_NO_SUCH_PAGE && sandpiper_slot_at(&t, UINT32_MAX, 1, &slot) == SANDPIPER_NO_ROW);
     CHECK(sandpiper_slot_at(&t, 0, 0, &slot) == SANDPIPER_NO_ROW && sandpiper_slot_at(&t, 0, UINT16_MAX, &slot) == SANDPIPER_NO_ROW);
-    CHECK(sandpiper_row_at(&t, UINT32_MAX, place) == SANDPIPER_NO_ROW);
     CHECK(sandpiper_open_index(&t, 0, UINT8_MAX, 0, 1) == SANDPIPER_NO_SUCH_INDEX);
-    CHECK(sandpiper_open_keys(&t, 0, UINT64_MAX, 0) == SANDPIPER_BAD_BOUNDS);
+    CHECK(sandpiper_open_by_key(&t, 0, UINT64_MAX, 0) == SANDPIPER_BAD_BOUNDS);
     CHECK(sandpiper_abort(&t, 0) == SANDPIPER_ROLLED_BACK);
 }
+
+/* How many rows a call hands out at most. */
+#define PLACES 300
 
 static uint64_t seed = 88172645463325252u;
 
@@ -73,6 +78,8 @@ static uint32_t below(uint32_t limit) {
 
 /* Calls in no order, on keys below 1000, of which nobody reads what they answer. */
 static void call_at_random(int calls) {
+    static struct sandpiper_row rows[PLACES];
+    size_t count;
     struct sandpiper_slot slot;
     struct sandpiper_piece piece;
     for (int i = 0; i < calls; i++) {
@@ -92,7 +99,7 @@ static void call_at_random(int calls) {
         case 8: sandpiper_delete(&t, session, key); break;
         case 9: sandpiper_open_heap(&t, session); break;
         case 10: sandpiper_open_index(&t, session, (uint8_t)below(256), below(9), below(9)); break;
-        case 11: sandpiper_next(&t, session, (uint16_t)below(65536)); break;
+        case 11: sandpiper_next(&t, session, rows, below(PLACES + 1), &count); break;
         case 12: sandpiper_close_cursor(&t, session); break;
         case 13: sandpiper_prune(&t, below(64)); break;
         case 14: sandpiper_slot_at(&t, below(64), (uint16_t)below(400), &slot); break;
@@ -104,7 +111,6 @@ static void call_at_random(int calls) {
         case 18: sandpiper_vacuum_step(&t, &piece); break;
         default: sandpiper_begin(&t, session);
         }
-        sandpiper_row_at(&t, below(4), place);
     }
     for (int session = 0; session < 256; session++) sandpiper_abort(&t, (uint8_t)session);
 }

@@ -6,6 +6,7 @@
 static struct sandpiper t;
 static struct sandpiper_settings settings;
 static struct sandpiper_row row;
+static size_t count;
 static struct sandpiper_piece piece;
 
 /* The status of opening a second table, of these settings. */
@@ -23,17 +24,19 @@ static uint32_t found(void) { return sandpiper_get(&t, 0, 1, &row); }
 static uint32_t no_row(void) { return sandpiper_get(&t, 0, 2, &row); }
 static uint32_t committed(void) { return sandpiper_commit(&t, 0); }
 static uint32_t rolled_back(void) { return sandpiper_abort(&t, 0); }
-static uint32_t rows(void) { return sandpiper_open_heap(&t, 0), sandpiper_next(&t, 0, 0); }
-static uint32_t end(void) { return rows(), sandpiper_next(&t, 0, 0); }
+static uint32_t next(size_t capacity) { return sandpiper_next(&t, 0, &row, capacity, &count); }
+static uint32_t rows(void) { return sandpiper_open_heap(&t, 0), next(1); }
+static uint32_t end(void) { return rows(), next(1); }
 static uint32_t not_open(void) { return sandpiper_commit(&t, 1); }
 static uint32_t already_open(void) { return sandpiper_begin(&t, 0); }
 static uint32_t already_there(void) { return row.key = 1, sandpiper_insert(&t, 0, &row); }
 static uint32_t not_there(void) { return sandpiper_delete(&t, 0, 2); }
 static uint32_t cursor_open(void) { return sandpiper_open_heap(&t, 0), sandpiper_delete(&t, 0, 1); }
-static uint32_t no_cursor(void) { return sandpiper_next(&t, 0, 0); }
+static uint32_t no_cursor(void) { return next(1); }
+static uint32_t no_place(void) { return sandpiper_open_heap(&t, 0), next(0); }
 static uint32_t no_savepoint(void) { return sandpiper_release(&t, 0); }
 static uint32_t too_large(void) { return row.length = SANDPIPER_BODY + 1, sandpiper_insert(&t, 0, &row); }
-static uint32_t bad_bounds(void) { return sandpiper_open_keys(&t, 0, 2, 1); }
+static uint32_t bad_bounds(void) { return sandpiper_open_by_key(&t, 0, 2, 1); }
 static uint32_t no_such_page(void) { return sandpiper_prune(&t, 1); }
 static uint32_t no_such_index(void) { return sandpiper_open_index(&t, 0, 1, 0, 0); }
 static uint32_t no_such_session(void) { return sandpiper_begin(&t, SANDPIPER_SESSIONS); }
@@ -110,8 +113,8 @@ static const struct {
     CASE(NO_ROOM, no_room), CASE(NEEDS_FREEZE, needs_freeze), CASE(BAD_BOUNDS, bad_bounds), CASE(NO_MEMORY, no_memory),
     CASE(NO_SUCH_PAGE, no_such_page), CASE(NO_SUCH_INDEX, no_such_index), CASE(NO_SUCH_SESSION, no_such_session),
     CASE(VACUUM_RUNNING, vacuum_running), CASE(NO_VACUUM, no_vacuum),
-    CASE(NO_ENGINE, no_engine), CASE(HAS_ENGINE, has_engine), CASE(BAD_MAX_PAGES, bad_max_pages), CASE(BAD_STOP_AGE, bad_stop_age),
-    CASE(BAD_FREEZE_MIN_AGE, bad_freeze_min_age), CASE(BAD_FIRST_XID, bad_first_xid), CASE(BAD_DEAD_LIMIT, bad_dead_limit),
+    CASE(NO_ENGINE, no_engine), CASE(HAS_ENGINE, has_engine), CASE(NO_PLACE, no_place), CASE(BAD_MAX_PAGES, bad_max_pages),
+    CASE(BAD_STOP_AGE, bad_stop_age), CASE(BAD_FREEZE_MIN_AGE, bad_freeze_min_age), CASE(BAD_FIRST_XID, bad_first_xid), CASE(BAD_DEAD_LIMIT, bad_dead_limit),
     CASE(BUSY, busy),
 };
 

@@ -23,14 +23,15 @@ static void open_table(void) {
 static void close_table(void) { CHECK(sandpiper_close(&t) == SANDPIPER_DONE && !t.is_open); }
 
 /* How many rows the session's cursor hands out, and the sum of their first columns. */
-static int scan(uint8_t session, uint16_t most, int64_t *sum) {
-    int rows = 0;
+static size_t scan(uint8_t session, size_t capacity, int64_t *sum) {
+    static struct sandpiper_row rows[64];
+    size_t count, all = 0;
     uint32_t status;
     *sum = 0;
-    while ((status = sandpiper_next(&t, session, most)) == SANDPIPER_ROWS)
-        for (uint32_t i = 0; sandpiper_row_at(&t, i, place) == SANDPIPER_FOUND; i++, rows++) *sum += place->cols[0];
-    CHECK(status == SANDPIPER_END && sandpiper_close_cursor(&t, session) == SANDPIPER_DONE);
-    return rows;
+    for (; (status = sandpiper_next(&t, session, rows, capacity, &count)) == SANDPIPER_ROWS; all += count)
+        for (size_t i = 0; i < count; i++) *sum += rows[i].cols[0];
+    CHECK(status == SANDPIPER_END && count == 0 && sandpiper_close_cursor(&t, session) == SANDPIPER_DONE);
+    return all;
 }
 
 static void a_row_comes_back_as_it_was_written(void) {
@@ -82,21 +83,14 @@ static void cursors_hand_out_what_the_session_reads(void) {
     CHECK(sandpiper_begin(&t, 1) == SANDPIPER_DONE && sandpiper_begin(&t, 2) == SANDPIPER_DONE);
     CHECK(sandpiper_update(&t, 2, set_row(row, 3, 333, "second")) == SANDPIPER_DONE);
     CHECK(sandpiper_delete(&t, 2, 4) == SANDPIPER_DONE);
-    CHECK(sandpiper_open_heap(&t, 1) == SANDPIPER_DONE && scan(1, 0, &sum) == 10 && sum == 550);
-    CHECK(sandpiper_open_heap(&t, 2) == SANDPIPER_DONE && scan(2, 0, &sum) == 9 && sum == 550 - 30 + 333 - 40);
-    CHECK(sandpiper_open_keys(&t, 2, 2, 5) == SANDPIPER_DONE && scan(2, 2, &sum) == 3 && sum == 20 + 333 + 50);
-    CHECK(sandpiper_open_keys(&t, 2, 0, UINT64_MAX) == SANDPIPER_DONE && scan(2, UINT16_MAX, &sum) == 9);
+    CHECK(sandpiper_open_heap(&t, 1) == SANDPIPER_DONE && scan(1, 64, &sum) == 10 && sum == 550);
+    CHECK(sandpiper_open_heap(&t, 2) == SANDPIPER_DONE && scan(2, 1, &sum) == 9 && sum == 550 - 30 + 333 - 40);
+    CHECK(sandpiper_open_by_key(&t, 2, 2, 5) == SANDPIPER_DONE && scan(2, 2, &sum) == 3 && sum == 20 + 333 + 50);
+    CHECK(sandpiper_open_by_key(&t, 2, 0, UINT64_MAX) == SANDPIPER_DONE && scan(2, 64, &sum) == 9);
     CHECK(sandpiper_open_index(&t, 2, 0, 2, 5) == SANDPIPER_DONE && scan(2, 64, &sum) == 3 && sum == 20 + 333 + 50);
     CHECK(sandpiper_open_index(&t, 2, 1, -5, 60) == SANDPIPER_DONE && scan(2, 1, &sum) == 4 && sum == 10 + 20 + 50 + 60);
     CHECK(sandpiper_open_index(&t, 2, 1, INT64_MIN, INT64_MAX) == SANDPIPER_DONE && scan(2, 4, &sum) == 9);
 
-    /* the rows stay until the next call, of whichever session */
-    CHECK(sandpiper_open_keys(&t, 2, 2, 5) == SANDPIPER_DONE && sandpiper_next(&t, 2, 2) == SANDPIPER_ROWS);
-    CHECK(sandpiper_row_at(&t, 1, place) == SANDPIPER_FOUND && place->key == 3);
-    CHECK(sandpiper_row_at(&t, 0, place) == SANDPIPER_FOUND && place->key == 2);
-    CHECK(sandpiper_row_at(&t, 2, place) == SANDPIPER_NO_ROW && place->key == 2);
-    CHECK(sandpiper_get(&t, 1, 99, place) == SANDPIPER_NO_ROW);
-    CHECK(sandpiper_row_at(&t, 0, place) == SANDPIPER_NO_ROW);
     close_table();
 }
 
@@ -179,12 +173,13 @@ static void a_vacuum_frees_slots(void) {
 /* The handle may move, and be opened again; a session and a cursor that are open at its end do no harm. */
 static void a_handle_may_move(void) {
     struct sandpiper moved;
+    size_t count;
     open_table();
     CHECK(sandpiper_begin(&t, 7) == SANDPIPER_DONE && sandpiper_open_heap(&t, 7) == SANDPIPER_DONE);
-    CHECK(sandpiper_next(&t, 7, 0) == SANDPIPER_ROWS);
+    CHECK(sandpiper_next(&t, 7, place, 1, &count) == SANDPIPER_ROWS && count == 1 && place->key == 1);
     memcpy(&moved, &t, sizeof t);
     memset(&t, 0, sizeof t);
-    CHECK(sandpiper_row_at(&moved, 9, place) == SANDPIPER_FOUND && sandpiper_row_at(&moved, 10, place) == SANDPIPER_NO_ROW);
+    CHECK(sandpiper_next(&moved, 7, place, 1, &count) == SANDPIPER_ROWS && count == 1 && place->key == 2);
     CHECK(sandpiper_close(&moved) == SANDPIPER_DONE && !moved.is_open);
     open_table();
     close_table();

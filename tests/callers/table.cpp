@@ -46,10 +46,11 @@ public:
 
     std::vector<std::int64_t> column(std::uint8_t session, std::uint8_t index) {
         std::vector<std::int64_t> values;
-        sandpiper_row row;
+        std::vector<sandpiper_row> rows(2);
+        std::size_t count;
         told(sandpiper_open_index(&handle, session, index, INT64_MIN, INT64_MAX));
-        while (told(sandpiper_next(&handle, session, 2)) == SANDPIPER_ROWS)
-            for (std::uint32_t i = 0; sandpiper_row_at(&handle, i, &row) == SANDPIPER_FOUND; i++) values.push_back(row.cols[0]);
+        while (told(sandpiper_next(&handle, session, rows.data(), rows.size(), &count)) == SANDPIPER_ROWS)
+            for (std::size_t i = 0; i < count; i++) values.push_back(rows[i].cols[0]);
         told(sandpiper_close_cursor(&handle, session));
         return values;
     }

@@ -44,9 +44,8 @@ unsafe extern "C" {
     fn sandpiper_insert(table: &mut Handle, session: u8, row: &Row) -> u32;
     fn sandpiper_update(table: &mut Handle, session: u8, row: &Row) -> u32;
     fn sandpiper_delete(table: &mut Handle, session: u8, key: u64) -> u32;
-    fn sandpiper_open_keys(table: &mut Handle, session: u8, low: u64, high: u64) -> u32;
-    fn sandpiper_next(table: &mut Handle, session: u8, most: u16) -> u32;
-    fn sandpiper_row_at(table: &mut Handle, number: u32, row: &mut Row) -> u32;
+    fn sandpiper_open_by_key(table: &mut Handle, session: u8, low: u64, high: u64) -> u32;
+    fn sandpiper_next(table: &mut Handle, session: u8, rows: *mut Row, capacity: usize, count: &mut usize) -> u32;
     fn sandpiper_close_cursor(table: &mut Handle, session: u8) -> u32;
     fn sandpiper_vacuum_begin(table: &mut Handle, aggressive: bool) -> u32;
     fn sandpiper_vacuum_step(table: &mut Handle, piece: &mut Piece) -> u32;
@@ -130,14 +129,10 @@ impl Table {
     }
 
     fn keys(&mut self, session: u8, low: u64, high: u64) -> Result<Vec<u64>, Refused> {
-        let (mut row, mut keys) = (row_of(0, 0), Vec::new());
-        told(unsafe { sandpiper_open_keys(&mut self.0, session, low, high) })?;
-        while told(unsafe { sandpiper_next(&mut self.0, session, 2) })? == ROWS {
-            let mut number = 0;
-            while unsafe { sandpiper_row_at(&mut self.0, number, &mut row) } == FOUND {
-                keys.push(row.key);
-                number += 1;
-            }
+        let (mut rows, mut count, mut keys) = (vec![row_of(0, 0); 2], 0, Vec::new());
+        told(unsafe { sandpiper_open_by_key(&mut self.0, session, low, high) })?;
+        while told(unsafe { sandpiper_next(&mut self.0, session, rows.as_mut_ptr(), rows.len(), &mut count) })? == ROWS {
+            keys.extend(rows[..count].iter().map(|row| row.key));
         }
         told(unsafe { sandpiper_close_cursor(&mut self.0, session) })?;
         Ok(keys)

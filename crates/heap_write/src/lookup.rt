@@ -1,9 +1,9 @@
-//! What a step looks for: through the index by key, along an index, and on a page. Nothing here takes memory.
+//! What a step looks for: through the index by key, and along an index. Nothing here takes memory.
 
 ghost use Rattle.std.specs.Prelude.{◌≡◌, ◌≤◌, length, pos};
 ghost use Rattle.visibility.specs.Visible.{IsVisible, IsOtherWriterIn, IsNewerCommitIn};
 ghost use Rattle.index_lookup.specs.Looking.{FirstFound, FirstPlace, IsIdOf};
-ghost use Rattle.index_lookup.specs.Walking.{NextRow, SeenRow};
+ghost use Rattle.index_lookup.specs.Walking.{NextRow};
 ghost use Rattle.table_indexes.specs.Indexes.{entries_in};
 ghost use Rattle.heap_write.specs.Heap.{slots_of};
 ghost use Rattle.heap_pages.specs.declared.pages.TheConstants.{MAX_PAGES};
@@ -11,12 +11,10 @@ ghost use Rattle.heap_pages.specs.declared.pages.TheConstants.{MAX_PAGES};
 use crate::heap::HeapState;
 use index_lookup::{
     IndexPosition, IndexRange, Reader, TableView, WriteCheck, check_write, next_row, row_of,
-    seen_row,
 };
 use root_index::PositionHint;
 use snapshot::{OwnIds, Snapshot};
 use tuple_header::RowRef;
-use xid_circle::Tid;
 
 impl HeapState {
     /// The row of the key that the reader sees, where it stands.
@@ -102,19 +100,6 @@ impl HeapState {
             ),
             None => None,
         }
-    }
-
-    /// The row of the version at a place, where it stands, if the reader sees it.
-    pub fn seen_row(&self, place: Tid, snapshot: &Snapshot, own: &OwnIds) -> Option<RowRef<'_>>
-        ensures { SeenRow (IsVisible self.now.table snapshot.now own.now.ids)
-            (slots_of self.now) place result }
-    {
-        let reader = Reader {
-            snapshot,
-            own,
-            statuses: &self.table,
-        };
-        seen_row(&self.pages, place, &reader)
     }
 
     /// How many pages are in use, at most 65536.

@@ -1,13 +1,12 @@
 -- What a walk finds that goes on from where a cursor is: along an index, or over a page.
-use Rattle.std.specs.Prelude.{◌≡◌, ◌⊎◌, ◌<◌, ◌<ℤ◌, ◌≤ℤ◌, List, Option, Some, None, Contains, MatchOption}
-use Rattle.xid_circle.specs.declared.Tid.{Tid}
+use Rattle.std.specs.Prelude.{◌≡◌, ◌⊎◌, ℕ, ◌<◌, ◌<ℤ◌, ◌≤ℤ◌, List, Option, Some, None, Contains, MatchOption}
 use Rattle.tuple_header.specs.Version.{Version}
 use Rattle.tuple_header.specs.declared.version.Header.{Header}
 use Rattle.tuple_header.specs.declared.version.Row.{Row}
 use Rattle.page_slots.specs.declared.slot.Slot.{Slot}
+use Rattle.page_slots.specs.Slots.{version_at}
 use Rattle.commit_status.specs.Window.{Window}
 use Rattle.root_index.specs.declared.entry.Entry.{Entry}
-use Rattle.index_lookup.specs.Pages.{version_in}
 use Rattle.index_lookup.specs.Looking.{FirstFound}
 use Rattle.index_lookup.specs.declared.index_scan.IndexPosition.{IndexPosition}
 use Rattle.index_lookup.specs.declared.index_scan.IndexRange.{IndexRange}
@@ -56,15 +55,15 @@ NextRow w seen pages entries span answer = MatchOption answer (NoneLeft w seen p
 
 -- On a page.
 
--- the version at the place is seen, and has this row
-pub record IsSeenRow (seen : Header → Type 0) (pages : List (List Slot)) (place : Tid) (row : Row) : Type 0 where
+-- the version in the slot is seen, and has this row
+pub record IsSeenRow (seen : Header → Type 0) (slots : List Slot) (slot : ℕ) (row : Row) : Type 0 where
   pub version : Version
-  pub there : version_in pages place ≡ Some version
+  pub there : version_at slots slot ≡ Some version
   pub shown : seen version.header
   pub is_row : row ≡ version.row
 
-abbrev pub NoneSeenFrom : (Header → Type 0) → List (List Slot) → Tid → Type 0
-NoneSeenFrom seen pages place = (t : Version) → version_in pages place ≡ Some t → ¬ seen t.header
+abbrev pub NoneSeenFrom : (Header → Type 0) → List Slot → ℕ → Type 0
+NoneSeenFrom seen slots slot = (t : Version) → version_at slots slot ≡ Some t → ¬ seen t.header
 
-abbrev pub SeenRow : (Header → Type 0) → List (List Slot) → Tid → Option Row → Type 0
-SeenRow seen pages place answer = MatchOption answer (NoneSeenFrom seen pages place) (IsSeenRow seen pages place)
+abbrev pub SeenRow : (Header → Type 0) → List Slot → ℕ → Option Row → Type 0
+SeenRow seen slots slot answer = MatchOption answer (NoneSeenFrom seen slots slot) (IsSeenRow seen slots slot)

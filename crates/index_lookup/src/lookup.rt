@@ -181,18 +181,14 @@ pub fn row_from<'a>(
     }
 }
 
-/// The row of the version at a place, where it stands, if the reader sees it. It takes no memory.
-pub fn seen_row<'a>(pages: &'a Pages, place: Tid, reader: &Reader<'_>) -> Option<RowRef<'a>>
-    ensures { SeenRow (IsSeenBy reader.now)
-        (page_slots_of pages.now) place result }
+/// The row of the version in a slot of the page, where it stands, if the reader sees it. It takes no memory.
+#[inline(always)]
+pub fn seen_row<'a>(page: &'a Page, slot: u16, reader: &Reader<'_>) -> Option<RowRef<'a>>
+    ensures { SeenRow (IsSeenBy reader.now) page.now.slots slot result }
 {
-    let page = match pages.page(place.page) {
-        Some(page) => page,
-        None => return None,
-    };
-    match page.header(place.slot) {
+    match page.header(slot) {
         Some(header) if visible_header(&header, reader.snapshot, reader.own, reader.statuses) =>
-            page.row(place.slot),
+            page.row(slot),
         _ => None,
     }
 }

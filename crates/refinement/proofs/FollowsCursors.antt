@@ -22,11 +22,12 @@ use Rattle.refinement.specs.declared.reply.Refusal.TheVariants.{NoMemory, NoSuch
 use Rattle.refinement.specs.Allowed.{Allows, next}
 use Rattle.refinement.specs.Heap.{RowPosition, Position, in_index, in_heap, SeenSession, Heap}
 use Rattle.refinement.specs.Visible.{ReaderSees, At}
-use Rattle.refinement.specs.Cursors.{Comes, Remains, CursorAgrees, WalksOver, Stands, Gathers}
+use Rattle.refinement.specs.Cursors.{first_place, Comes, Remains, CursorAgrees, WalksOver, Gathers}
 use Rattle.refinement.specs.Agrees.{Shows, SessionAgrees, HeapAgrees}
 use Rattle.refinement.specs.Finds.{HeapFollows}
 use Rattle.refinement.proofs.Statuses.{Finishes-none}
 use Rattle.refinement.proofs.CursorsLemmas.{CursorAgrees-none, CursorAgrees-some, some_model}
+use Rattle.refinement.proofs.CursorWalks.{from_first}
 use Rattle.refinement.proofs.Rests.{within_is, within_kept, none_left}
 use Rattle.refinement.proofs.Handing.{next_met, rest_met, SeenOnce, part_gathered, rest_gathered}
 use Rattle.refinement.proofs.Readers.{Levels-top}
@@ -90,11 +91,11 @@ remains_index {store} {seen} {rows} index low high shows = record {
       (record { place = some.0; version = some.1; here = some.2; shown = some.3; same_row = some.4; to_come = record { from = within.1; to = within.2; after = tt } }, some.5);
 }
 
-remains_heap : {store : Tid → Option Version} {seen : Version → Type 0} {rows : ℕ → Option Row} → Shows store seen rows → Remains store seen (in_heap 0) (record { order = by_heap; rest = rows })
+remains_heap : {store : Tid → Option Version} {seen : Version → Type 0} {rows : ℕ → Option Row} → Shows store seen rows → Remains store seen (in_heap first_place) (record { order = by_heap; rest = rows })
 remains_heap {store} {seen} {rows} shows = record {
   order = refl;
   sound = λ row c. shows_row row shows c;
-  there = λ k row is. let some = shown k row shows is in (record { place = some.0; version = some.1; here = some.2; shown = some.3; same_row = some.4; to_come = omega arith }, some.5);
+  there = λ k row is. let some = shown k row shows is in (record { place = some.0; version = some.1; here = some.2; shown = some.3; same_row = some.4; to_come = from_first some.0 }, some.5);
 }
 
 -- as `HeapFollows` has it, of the worlds of P
@@ -109,11 +110,11 @@ Follows-open_index h s e index low high session' only at sound bare order w ther
       (λ m mine. CursorAgrees-some (remains_index index low high (Levels-top e.own e.saved m.levels mine.levels).rows)) agrees,
 )
 
-pub Follows-open_heap : (h : Heap) (s : ℕ) (e : SeenSession) (session' : ℕ → Option SeenSession) → OnlyIs h.session session' s (Some (record e { cursor = Some (in_heap 0) }))
+pub Follows-open_heap : (h : Heap) (s : ℕ) (e : SeenSession) (session' : ℕ → Option SeenSession) → OnlyIs h.session session' s (Some (record e { cursor = Some (in_heap first_place) }))
     → h.session s ≡ Some e → e.failed ≡ false → e.cursor ≡ None → HeapFollows h (OpenHeap s) Done (record h { session = session' })
 Follows-open_heap h s e session' only at sound bare w agrees = (
   ((agrees.opened s e at).0, writer h w s e at agrees sound bare),
-  Agrees-cursor h w s e (Some (in_heap 0)) (λ m. Some (record { order = by_heap; rest = view w.history m })) session' only at
+  Agrees-cursor h w s e (Some (in_heap first_place)) (λ m. Some (record { order = by_heap; rest = view w.history m })) session' only at
       (λ m mine. CursorAgrees-some (remains_heap (Levels-top e.own e.saved m.levels mine.levels).rows)) agrees,
 )
 
@@ -166,16 +167,14 @@ Follows-next_in_index h s e index low high from to n rows session' only at sound
       Agrees-taken h w s e (in_index index low high from) (in_index index low high to) rows.items session' only at is (λ c remains. rest_met remains meets) agrees,
     )
 
--- the rows that a walk over a page meets, where no page between has any
-pub Follows-next_in_heap : (h : Heap) (s : ℕ) (e : SeenSession) (from page end n : ℕ) (rows : Vec Row Global) (session' : ℕ → Option SeenSession)
-    → OnlyIs h.session session' s (Some (record e { cursor = Some (in_heap (page + 1)) })) → h.session s ≡ Some e → e.failed ≡ false → e.cursor ≡ Some (in_heap from)
-    → from ≤ page → ((p slot : ℕ) (row : Row) → from ≤ p → p < page → ¬ Stands h.version (seen_by h e) p slot row)
-    → Gathers h.version (seen_by h e) page end rows.items → ((slot : ℕ) (row : Row) → Stands h.version (seen_by h e) page slot row → slot < end) → 0 < length rows.items
-    → HeapFollows h (Next s n) (Rows rows) (record h { session = session' })
-Follows-next_in_heap h s e from page end n rows session' only at sound is onward bare gathers whole some w agrees =
+-- the rows that a walk over the heap meets
+pub Follows-next_in_heap : (h : Heap) (s : ℕ) (e : SeenSession) (from to : Tid) (n : ℕ) (rows : Vec Row Global) (session' : ℕ → Option SeenSession)
+    → OnlyIs h.session session' s (Some (record e { cursor = Some (in_heap to) })) → h.session s ≡ Some e → e.failed ≡ false → e.cursor ≡ Some (in_heap from)
+    → Gathers h.version (seen_by h e) from to rows.items → 0 < length rows.items → HeapFollows h (Next s n) (Rows rows) (record h { session = session' })
+Follows-next_in_heap h s e from to n rows session' only at sound is gathers some w agrees =
     let model = model_at h w s e (in_heap from) at agrees is in let one = seen_once h w s e at agrees in (
-      ((agrees.opened s e at).0, model.0, ready h w s e at agrees sound, model.1, part_gathered model.2 gathers one onward n some),
-      Agrees-taken h w s e (in_heap from) (in_heap (page + 1)) rows.items session' only at is (λ c remains. rest_gathered remains gathers one onward whole bare) agrees,
+      ((agrees.opened s e at).0, model.0, ready h w s e at agrees sound, model.1, part_gathered model.2 gathers one n some),
+      Agrees-taken h w s e (in_heap from) (in_heap to) rows.items session' only at is (λ c remains. rest_gathered remains gathers one) agrees,
     )
 
 -- nothing is still to come

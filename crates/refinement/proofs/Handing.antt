@@ -11,9 +11,9 @@ use Rattle.history.specs.Cursors.{ComesBefore, keys_of, without, ArePart, AreNex
 use Rattle.history.specs.Moves.{past}
 use Rattle.refinement.specs.Heap.{RowPosition, Position, in_index, in_heap}
 use Rattle.refinement.specs.Visible.{At}
-use Rattle.refinement.specs.Cursors.{IsPastPosition, Comes, Remains, WalksOver, Stands, Gathers}
+use Rattle.refinement.specs.Cursors.{IsPastPosition, IsFrom, Comes, Remains, WalksOver, Stands, Gathers}
 use Rattle.refinement.proofs.Rests.{AreOthers, left_is, left_kept, none_left, ComesBefore-irrefl, before_after}
-use Rattle.refinement.proofs.CursorWalks.{Comes-back, Comes-from}
+use Rattle.refinement.proofs.CursorWalks.{Comes-back, Comes-from, from_itself}
 
 -- of each key one row is still to come
 same_row : {store : Tid → Option Version} {seen : Version → Type 0} {position : Position} {c : Cursor} → Remains store seen position c → (a b : Row) → Comes store seen position a → Comes store seen position b → a.key ≡ b.key → a ≡ b
@@ -61,30 +61,30 @@ module _ {store : Tid → Option Version} {seen : Version → Type 0} {index : �
     there = λ k row is. let left = left_is rows c.rest k row is in let later = left_after k row left.0 left.1 in (Comes-from later.0 later.1, later.2);
   }
 
--- where a version of a row stands on a page
-Stands-comes : {store : Tid → Option Version} {seen : Version → Type 0} {page next slot : ℕ} {row : Row} → next ≤ page → Stands store seen page slot row → Comes store seen (in_heap next) row
-Stands-comes {store} {seen} {page} {next} {slot} {row} le stands =
-    record { place = record { page = page; slot = slot }; version = stands.version; here = stands.here; shown = stands.shown; same_row = stands.same_row; to_come = le }
+-- where a version of a row stands
+Stands-comes : {store : Tid → Option Version} {seen : Version → Type 0} {from p : Tid} {row : Row} → IsFrom from p → Stands store seen p row → Comes store seen (in_heap from) row
+Stands-comes {store} {seen} {from} {p} {row} past stands =
+    record { place = p; version = stands.version; here = stands.here; shown = stands.shown; same_row = stands.same_row; to_come = past }
 
-Comes-stands : {store : Tid → Option Version} {seen : Version → Type 0} {position : Position} {row : Row} (c : Comes store seen position row) → Stands store seen c.place.page c.place.slot row
+Comes-stands : {store : Tid → Option Version} {seen : Version → Type 0} {position : Position} {row : Row} (c : Comes store seen position row) → Stands store seen c.place row
 Comes-stands c = record { version = c.version; here = c.here; shown = c.shown; same_row = c.same_row }
 
 -- of each key one version is seen
 abbrev pub SeenOnce : (Tid → Option Version) → (Version → Type 0) → Type 0
 SeenOnce store seen = (p q : Tid) (v u : Version) → At store p v → At store q u → seen v → seen u → v.row.key ≡ u.row.key → p ≡ q
 
-module _ {store : Tid → Option Version} {seen : Version → Type 0} {next page end : ℕ} {rows : List Row} {c : Cursor}
-    (h : Remains store seen (in_heap next) c) (gathers : Gathers store seen page end rows) (one : SeenOnce store seen) (onward : next ≤ page) where
-  -- rows of one key stand in one slot
-  one_slot : (m n : ℕ) (a b : Row) → Stands store seen page m a → Stands store seen page n b → a.key ≡ b.key → m ≡ n
-  one_slot m n a b p q key =
-      ap (λ (t : Tid). t.slot) (one (record { page = page; slot = m }) (record { page = page; slot = n }) p.version q.version p.here q.here p.shown q.shown
-      (ap (λ (r : Row). r.key) p.same_row ∙ (key ∙ ap (λ (r : Row). r.key) (sym q.same_row))))
+module _ {store : Tid → Option Version} {seen : Version → Type 0} {from to : Tid} {rows : List Row} {c : Cursor}
+    (h : Remains store seen (in_heap from) c) (gathers : Gathers store seen from to rows) (one : SeenOnce store seen) where
+  -- rows of one key stand at one place
+  one_place : (p q : Tid) (a b : Row) → Stands store seen p a → Stands store seen q b → a.key ≡ b.key → p ≡ q
+  one_place p q a b here there key =
+      one p q here.version there.version here.here there.here here.shown there.shown
+      (ap (λ (r : Row). r.key) here.same_row ∙ (key ∙ ap (λ (r : Row). r.key) (sym there.same_row)))
 
   apart : (i j : ℕ) (a b : Row) → slice_get rows i ≡ Some a → slice_get rows j ≡ Some b → a.key ≡ b.key → ¬ (i < j)
   apart i j a b at bt key lt =
-      let places = gathers.in_order i j a b at bt lt in let same : places.0 ≡ places.1 = one_slot places.0 places.1 a b places.3 places.4 key in
-      let less : places.0 < places.1 = places.2 in absurd (omega arith)
+      let places = gathers.in_order i j a b at bt lt in
+      places.2 (subst (λ p. IsFrom p places.0) (one_place places.0 places.1 a b places.3 places.4 key) (from_itself places.0))
 
   pub part_gathered : (n : ℕ) → 0 < length rows → HandsOutPart c.order n c.rest rows
   part_gathered n some = subst (λ order. HandsOutPart order n c.rest rows) (sym h.order) part
@@ -92,7 +92,7 @@ module _ {store : Tid → Option Version} {seen : Version → Type 0} {next page
       part : ArePart c.rest rows
       part = record {
         some = some;
-        theirs = λ i row at. h.sound row (Stands-comes onward (gathers.theirs i row at).2);
+        theirs = λ i row at. let was = gathers.theirs i row at in h.sound row (Stands-comes was.1 was.3);
         once = λ i j a b at bt key. elim (cases_lt i j) [
           | inl lt ↦ absurd (apart i j a b at bt key lt)
           | inr le ↦ elim (cases_lt j i) [
@@ -102,25 +102,16 @@ module _ {store : Tid → Option Version} {seen : Version → Type 0} {next page
         ];
       }
 
-  pub rest_gathered : ((slot : ℕ) (row : Row) → Stands store seen page slot row → slot < end) → ((p slot : ℕ) (row : Row) → next ≤ p → p < page → ¬ Stands store seen p slot row)
-      → Remains store seen (in_heap (page + 1)) (past (keys_of rows) c)
-  rest_gathered whole bare = record {
+  pub rest_gathered : Remains store seen (in_heap to) (past (keys_of rows) c)
+  rest_gathered = record {
     order = h.order;
-    sound = λ row comes. let later : page + 1 ≤ comes.place.page = comes.to_come in
-        left_kept rows c.rest row.key row (h.sound row (Stands-comes (omega arith) (Comes-stands comes)))
-        (λ i r at key. let was = (gathers.theirs i r at).2 in
-        let same : page ≡ comes.place.page = ap (λ (t : Tid). t.page) (one (record { page = page; slot = (gathers.theirs i r at).0 }) comes.place was.version comes.version was.here comes.here was.shown comes.shown
-        (ap (λ (r : Row). r.key) was.same_row ∙ (key ∙ ap (λ (r : Row). r.key) (sym comes.same_row)))) in
-        absurd (omega arith));
-    there = λ k row is. let left = left_is rows c.rest k row is in let was = h.there k row left.0 in (Stands-comes (beyond k row left.1 was.0 was.1) (Comes-stands was.0), was.1);
+    sound = λ row comes. left_kept rows c.rest row.key row (h.sound row (Stands-comes (gathers.onward comes.place comes.to_come) (Comes-stands comes)))
+        (λ i r at key. let was = gathers.theirs i r at in was.2 (subst (IsFrom to) (sym (one_place was.0 comes.place r row was.3 (Comes-stands comes) key)) comes.to_come));
+    there = λ k row is. let left = left_is rows c.rest k row is in let was = h.there k row left.0 in (later row k left.1 was.0 was.1, was.1);
   }
     where
-      beyond : (k : ℕ) (row : Row) → AreOthers rows k → (comes : Comes store seen (in_heap next) row) → row.key ≡ k → page + 1 ≤ comes.place.page
-      beyond k row others comes key = elim (cases_lt comes.place.page page) [
-        | inl before ↦ absurd (bare comes.place.page comes.place.slot row comes.to_come before (Comes-stands comes))
-        | inr from ↦ elim (cases_eq comes.place.page page) [
-          | inl same ↦ (let here : Stands store seen page comes.place.slot row = subst (λ p. Stands store seen p comes.place.slot row) same (Comes-stands comes) in
-              let some = gathers.met comes.place.slot row (whole comes.place.slot row here) here in absurd (others some.0 row some.1 key))
-          | inr ne ↦ (let le : page ≤ comes.place.page = from in grind arith)
-        ]
+      later : (row : Row) (k : ℕ) → AreOthers rows k → (comes : Comes store seen (in_heap from) row) → row.key ≡ k → Comes store seen (in_heap to) row
+      later row k others comes key = elim (gathers.met comes.place row comes.to_come (Comes-stands comes)) [
+        | inl behind ↦ Stands-comes behind (Comes-stands comes)
+        | inr some ↦ absurd (others some.0 row some.1 key)
       ]

@@ -24,10 +24,18 @@ pub record IsAhead (index : ℕ) (low high : ℤ) (last : Option RowPosition) (r
   pub to : value_in index row ≤ℤ high
   pub after : IsPastPosition index last row
 
--- still to come at the position: in an index by the row, in the heap by the page
+-- at the one place or behind it, by page and then by slot
+abbrev pub IsFrom : Tid → Tid → Type 0
+IsFrom from p = (from.page < p.page) ⊎ (from.page ≡ p.page) × (from.slot ≤ p.slot)
+
+-- no place is before this one
+abbrev pub first_place : Tid
+first_place = record { page = 0; slot = 0 }
+
+-- still to come at the position: in an index by the row, in the heap by the place
 abbrev pub IsToCome : Position → Tid → Row → Type 0
 IsToCome (in_index index low high last) p row = IsAhead index low high last row
-IsToCome (in_heap page) p row = page ≤ p.page
+IsToCome (in_heap from) p row = IsFrom from p
 
 abbrev pub order_of : Position → Order
 order_of (in_index index low high last) = by_index index
@@ -61,15 +69,17 @@ pub record WalksOver (store : Tid → Option Version) (seen : Version → Type 0
   -- it goes onward
   pub onward : (row : Row) → IsPastPosition index to row → IsPastPosition index from row
 
--- a version that is seen has this row, and stands in this slot of the page
-pub record Stands (store : Tid → Option Version) (seen : Version → Type 0) (page slot : ℕ) (row : Row) : Type 0 where
+-- a version that is seen has this row, and stands at this place
+pub record Stands (store : Tid → Option Version) (seen : Version → Type 0) (p : Tid) (row : Row) : Type 0 where
   pub version : Version
-  pub here : At store (record { page = page; slot = slot }) version
+  pub here : At store p version
   pub shown : seen version
   pub same_row : version.row ≡ row
 
--- of a walk over the slots of a page up to but without this one: these are the rows that it meets, by their slots
-pub record Gathers (store : Tid → Option Version) (seen : Version → Type 0) (page end : ℕ) (rows : List Row) : Type 0 where
-  pub theirs : (i : ℕ) (row : Row) → slice_get rows i ≡ Some row → (slot : ℕ) × (slot < end) × Stands store seen page slot row
-  pub in_order : (i j : ℕ) (a b : Row) → slice_get rows i ≡ Some a → slice_get rows j ≡ Some b → i < j → (m n : ℕ) × (m < n) × Stands store seen page m a × Stands store seen page n b
-  pub met : (slot : ℕ) (row : Row) → slot < end → Stands store seen page slot row → (i : ℕ) × (slice_get rows i ≡ Some row)
+-- of a walk over the heap from the one place up to the other: these are the rows that it meets, by their places
+pub record Gathers (store : Tid → Option Version) (seen : Version → Type 0) (from to : Tid) (rows : List Row) : Type 0 where
+  pub theirs : (i : ℕ) (row : Row) → slice_get rows i ≡ Some row → (p : Tid) × IsFrom from p × (¬ IsFrom to p) × Stands store seen p row
+  pub in_order : (i j : ℕ) (a b : Row) → slice_get rows i ≡ Some a → slice_get rows j ≡ Some b → i < j → (p q : Tid) × (¬ IsFrom q p) × Stands store seen p a × Stands store seen q b
+  pub met : (p : Tid) (row : Row) → IsFrom from p → Stands store seen p row → IsFrom to p ⊎ ((i : ℕ) × (slice_get rows i ≡ Some row))
+  -- it goes onward
+  pub onward : (p : Tid) → IsFrom to p → IsFrom from p

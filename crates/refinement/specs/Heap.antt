@@ -14,8 +14,8 @@ pub record RowPosition : Type 0 where
 pub data Position : Type 0 where
   -- in the index of this number, between the bounds, after this place of its order, or at the beginning
   in_index : (index : ℕ) (low high : ℤ) (last : Option RowPosition) → Position
-  -- in the heap, before this page
-  in_heap : (page : ℕ) → Position
+  -- in the heap, from this place on
+  in_heap : (from : Tid) → Position
 
 -- an open session
 pub record SeenSession : Type 0 where

@@ -1,3 +1,4 @@
 pub mod Pointers
 pub mod HeapRow
 pub mod Numbers
+pub mod NextLemmas

@@ -68,6 +68,7 @@ number_of_status status.Ended = 8
 number_of_status (status.Refused r) = number_of_refusal r
 number_of_status status.NoEngine = 48
 number_of_status status.HasEngine = 49
+number_of_status status.NoPlace = 50
 number_of_status status.BadMaxPages = 64
 number_of_status status.BadStopAge = 65
 number_of_status status.BadFreezeMinAge = 66

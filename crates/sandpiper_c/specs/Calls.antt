@@ -1,6 +1,8 @@
 -- What a call does to what the handle has.
-use Rattle.std.specs.Prelude.{◌≡◌, ◌⊎◌, ℕ, ◌<◌, List, [], Option, Some, None, slice_get}
+use Rattle.std.specs.Prelude.{◌≡◌, ◌⊎◌, ℕ, ◌<◌, Option, Some, None}
+use Rattle.tuple_header.specs.declared.row_place.RowPlace.{RowPlace}
 use Rattle.tuple_header.specs.declared.version.Row.{Row}
+use Rattle.tuple_header.specs.Places.{place_with}
 use Rattle.refinement.specs.declared.settings.Settings.{Settings}
 use Rattle.refinement.specs.declared.settings.SettingsFault.{SettingsFault}
 use Rattle.refinement.specs.declared.step.Step.{Step}
@@ -13,11 +15,10 @@ use Rattle.vacuum_engine.specs.Exact.{EngineExact}
 use Rattle.vacuum_engine.specs.New.{IsNewEngine}
 use Rattle.sandpiper_c.specs.declared.database.Sandpiper.{Sandpiper}
 use Rattle.sandpiper_c.specs.declared.held.Held.{Held}
-use Rattle.sandpiper_c.specs.declared.rows.SandpiperRow.{SandpiperRow}
 use Rattle.sandpiper_c.specs.declared.settings.SandpiperSettings.{SandpiperSettings}
 use Rattle.sandpiper_c.specs.declared.status.CallStatus.TheVariants as status
 use Rattle.sandpiper_c.specs.CallStatus.{number_of_status, status_of_reply, status_of_fault}
-use Rattle.sandpiper_c.specs.Rows.{IsText, IsRow}
+use Rattle.sandpiper_c.specs.Rows.{IsText}
 
 -- the engine that C's handle has, if it has one
 abbrev pub held_by : Sandpiper → Option Held
@@ -58,7 +59,7 @@ abbrev pub Does : Sandpiper → Step → ℕ → Sandpiper → Type 0
 Does old step code new = DoesHeld (held_by old) step code (held_by new)
 
 -- the same of a step with a row, unless memory for its body was refused, and nothing done
-abbrev pub Writes : Sandpiper → (RowText → Step) → SandpiperRow → ℕ → Sandpiper → Type 0
+abbrev pub Writes : Sandpiper → (RowText → Step) → RowPlace → ℕ → Sandpiper → Type 0
 Writes old step row code new = ((text : RowText) × IsText row text × Does old (step text) code new)
     ⊎ ((0 < row.length) × (code ≡ number_of_status (status.Refused refusal.NoMemory)) × (held_by new ≡ held_by old))
 
@@ -71,32 +72,15 @@ abbrev pub row_found_in : Reply → Option Row
 row_found_in (reply.Found row) = row
 row_found_in reply = None
 
-abbrev pub rows_in : Reply → List Row
-rows_in (reply.Rows rows) = rows.items
-rows_in reply = []
-
--- C's place has the row, if there is one, and is else as it was
-abbrev pub ShowsRow : Option Row → SandpiperRow → SandpiperRow → Type 0
+-- the row is written to C's place, if there is one
+abbrev pub ShowsRow : Option Row → RowPlace → RowPlace → Type 0
 ShowsRow None old new = new ≡ old
-ShowsRow (Some row) old new = IsRow new row
+ShowsRow (Some row) old new = new ≡ place_with row old
 
 -- the row of the last reply, if there is an engine
 abbrev pub found_by : Option Held → Option Row
 found_by None = None
 found_by (Some held) = row_found_in held.reply
 
-abbrev pub ShowsFound : Sandpiper → SandpiperRow → SandpiperRow → Type 0
+abbrev pub ShowsFound : Sandpiper → RowPlace → RowPlace → Type 0
 ShowsFound table old new = ShowsRow (found_by (held_by table)) old new
-
--- the rows of the last reply, if there is an engine
-abbrev pub rows_by : Option Held → List Row
-rows_by None = []
-rows_by (Some held) = rows_in held.reply
-
--- the row of this number, counted from 0, if there are so many
-abbrev pub row_handed_out : Sandpiper → ℕ → Option Row
-row_handed_out table number = slice_get (rows_by (held_by table)) number
-
-abbrev pub row_code : Option Row → ℕ
-row_code None = number_of_status status.NoRow
-row_code (Some row) = number_of_status status.Found

@@ -1,14 +1,15 @@
 //! Cursors, and the rows that they hand out.
 
-ghost use Rattle.std.specs.Prelude.{◌≡◌, pos, option_copied};
+ghost use Rattle.std.specs.Prelude.{◌≡◌, pos};
 ghost use Rattle.refinement.specs.declared.step.Step.TheVariants as step;
-ghost use Rattle.sandpiper_c.specs.Calls.{Does, StaysAsIs, ShowsRow, rows_in, row_handed_out, row_code};
+ghost use Rattle.sandpiper_c.specs.Calls.{Does};
+ghost use Rattle.sandpiper_c.specs.NextRows.{status_of_answer, count_of, HandsToPlaces, HandsOutNext};
 
 use crate::database::Sandpiper;
-use crate::rows::{self, SandpiperRow};
+use crate::held::Held;
 use crate::status::CallStatus;
 use crate::steps::do_step;
-use session_core::{Reply, Row, Step};
+use session_core::{Refusal, RowPlace, Step};
 use std::alloc::Global;
 
 /// Opens a cursor over all rows that the session reads.
@@ -21,7 +22,7 @@ pub extern "C" fn sandpiper_open_heap(alloc: Global, table: &mut Sandpiper, sess
 
 /// Opens a cursor over the rows that the session reads whose keys lie within two bounds, both included.
 #[unsafe(no_mangle)]
-pub extern "C" fn sandpiper_open_keys(
+pub extern "C" fn sandpiper_open_by_key(
     alloc: Global,
     table: &mut Sandpiper,
     session: u8,
@@ -51,17 +52,64 @@ pub extern "C" fn sandpiper_open_index(
     do_step(alloc, table, step)
 }
 
-/// Asks the cursor for rows. They stay until the next step, and [`sandpiper_row_at`] gives them one by one.
+/// What an answer is called.
+fn status_of_answer(answer: Result<usize, Refusal>) -> CallStatus
+    ensures { result ≡ status_of_answer answer }
+{
+    match answer {
+        Ok(0) => CallStatus::End,
+        Ok(_) => CallStatus::Rows,
+        Err(refusal) => CallStatus::Refused(refusal),
+    }
+}
+
+/// How many rows an answer has.
+fn count_of(answer: Result<usize, Refusal>) -> usize
+    ensures { result ≡ count_of answer }
+{
+    match answer {
+        Ok(count) => count,
+        Err(_) => 0,
+    }
+}
+
+/// Writes the next rows of the session's cursor, of which there are `count`. Nothing is done where there is no place.
+fn held_next(held: &mut Held, session: u8, rows: &mut [RowPlace], count: &mut usize) -> u32
+    ensures { HandsToPlaces held.old session rows.old result rows.new count.new held.new }
+{
+    *count = 0;
+    if rows.is_empty() {
+        return CallStatus::NoPlace.number();
+    }
+    let answer = held.engine.next_rows(session, rows);
+    *count = count_of(answer);
+    status_of_answer(answer).number()
+}
+
+/// Writes the next rows of the session's cursor to the first places of C's own, and their number to `count`. A cursor by an index
+/// hands out as many as there are places, or all that are left; one over the heap those of the next page that has any, from where
+/// it is, up to so many.
 #[unsafe(no_mangle)]
 pub extern "C" fn sandpiper_next(
     alloc: Global,
     table: &mut Sandpiper,
     session: u8,
-    most: u16,
+    rows: &mut [RowPlace],
+    count: &mut usize,
 ) -> u32
-    ensures { Does table.old (step.Next session most) result table.new }
+    ensures { HandsOutNext table.old session rows.old result rows.new count.new table.new }
 {
-    do_step(alloc, table, Step::Next(session, most))
+    match table.take(alloc) {
+        Some(mut held) => {
+            let code = held_next(&mut held, session, rows, count);
+            table.put(held);
+            code
+        }
+        None => {
+            *count = 0;
+            CallStatus::NoEngine.number()
+        }
+    }
 }
 
 /// Closes the cursor.
@@ -70,50 +118,4 @@ pub extern "C" fn sandpiper_close_cursor(alloc: Global, table: &mut Sandpiper, s
     ensures { Does table.old (step.Close session) result table.new }
 {
     do_step(alloc, table, Step::Close(session))
-}
-
-/// The rows of the reply.
-fn rows_of_reply(reply: &Reply) -> &[Row]
-    ensures { result.now ≡ rows_in reply.now }
-{
-    match reply {
-        Reply::Rows(rows) => rows.as_slice(),
-        _ => &[],
-    }
-}
-
-/// Writes the row to C's place, if there is one.
-fn put_row(found: Option<&Row>, row: &mut SandpiperRow) -> u32
-    ensures shows { ShowsRow (option_copied found.entry) row.old row.new }
-    ensures code { result ≡ row_code (option_copied found.entry) }
-{
-    match found {
-        Some(found) => {
-            rows::put(row, found);
-            CallStatus::Found.number()
-        }
-        None => CallStatus::NoRow.number(),
-    }
-}
-
-/// Writes the row of this number to `row`, if there is one: the rows that the last step handed out are counted from 0.
-#[unsafe(no_mangle)]
-pub extern "C" fn sandpiper_row_at(
-    alloc: Global,
-    table: &mut Sandpiper,
-    number: u32,
-    row: &mut SandpiperRow,
-) -> u32
-    ensures stays { StaysAsIs table.old table.new }
-    ensures code { result ≡ row_code (row_handed_out table.old number) }
-    ensures row { ShowsRow (row_handed_out table.old number) row.old row.new }
-{
-    match table.take(alloc) {
-        Some(held) => {
-            let code = put_row(rows_of_reply(&held.reply).get(number as usize), row);
-            table.put(held);
-            code
-        }
-        None => CallStatus::NoRow.number(),
-    }
 }

@@ -1,19 +1,12 @@
 //! Rows, as C reads and writes them.
 
-ghost use Rattle.std.specs.Prelude.{◌≡◌, ◌<◌, ◌≤◌, length, take, IfOk, OnErr};
-ghost use Rattle.sandpiper_c.specs.Rows.{IsText, IsBody, IsRow};
+ghost use Rattle.std.specs.Prelude.{◌≡◌, ◌<◌, IfOk, OnErr};
+ghost use Rattle.tuple_header.specs.Places.{place_with};
+ghost use Rattle.sandpiper_c.specs.Rows.{IsText, IsBody};
 
-use session_core::{Row, RowIn};
+use session_core::{Row, RowIn, RowPlace};
 use std::alloc::{AllocError, Global};
-
-/// A row: its key, its columns 0 to 3, and a body, of which the first `length` bytes count.
-#[repr(C)]
-pub struct SandpiperRow {
-    pub key: u64,
-    pub cols: [i64; 4],
-    pub length: u16,
-    pub body: [u8; 1024],
-}
+use tuple_header::RowRef;
 
 /// The bytes that count. Where the length is over 1024 they are as many zeros, which no table takes.
 fn body_of(alloc: Global, body: &[u8], length: u16) -> Result<Vec<u8>, AllocError>
@@ -32,7 +25,7 @@ fn body_of(alloc: Global, body: &[u8], length: u16) -> Result<Vec<u8>, AllocErro
 }
 
 /// The row to be written.
-pub(crate) fn text_of(alloc: Global, row: &SandpiperRow) -> Result<RowIn, AllocError>
+pub(crate) fn text_of(alloc: Global, row: &RowPlace) -> Result<RowIn, AllocError>
     ensures text { IfOk result (λ text. IsText row.now text) }
     ensures refused { OnErr result (0 < row.now.length) }
 {
@@ -43,22 +36,9 @@ pub(crate) fn text_of(alloc: Global, row: &SandpiperRow) -> Result<RowIn, AllocE
     })
 }
 
-/// Writes the first bytes.
-fn put_body(out: &mut [u8], body: &[u8])
-    requires { length body.now ≤ length out.old }
-    ensures { (length out.new ≡ length out.old) × (take (length body.now) out.new ≡ body.now) }
-{
-    let count = body.len();
-    out[..count].copy_from_slice(body);
-}
-
 /// Writes the row to C's place.
-pub(crate) fn put(out: &mut SandpiperRow, row: &Row)
-    ensures { IsRow out.new row.now }
+pub(crate) fn put(place: &mut RowPlace, row: &Row)
+    ensures { place.new ≡ place_with row.now place.old }
 {
-    let body = row.body.as_slice();
-    out.key = row.key;
-    out.cols = row.cols;
-    out.length = body.len() as u16;
-    put_body(&mut out.body, body);
+    RowRef::new(row.key, row.cols, row.body.as_slice()).put_into(place)
 }

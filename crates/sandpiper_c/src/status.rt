@@ -34,6 +34,8 @@ pub enum CallStatus {
     NoEngine,
     /// The handle has an engine already.
     HasEngine,
+    /// There is no place for a row.
+    NoPlace,
     /// The setting `max_pages` is out of its range.
     BadMaxPages,
     /// The setting `stop_age` is.
@@ -125,6 +127,7 @@ impl CallStatus {
             CallStatus::Refused(refusal) => of_refusal(refusal),
             CallStatus::NoEngine => 48,
             CallStatus::HasEngine => 49,
+            CallStatus::NoPlace => 50,
             CallStatus::BadMaxPages => 64,
             CallStatus::BadStopAge => 65,
             CallStatus::BadFreezeMinAge => 66,

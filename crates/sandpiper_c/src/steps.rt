@@ -5,9 +5,9 @@ ghost use Rattle.sandpiper_c.specs.Calls.{Does, Stepped, ShowsRow, ShowsFound, r
 
 use crate::database::Sandpiper;
 use crate::held::Held;
-use crate::rows::{self, SandpiperRow};
+use crate::rows;
 use crate::status::CallStatus;
-use session_core::{Reply, Step};
+use session_core::{Reply, RowPlace, Step};
 use std::alloc::Global;
 
 /// Does the step on what is held. All that a step answers goes through here.
@@ -33,7 +33,7 @@ pub(crate) fn do_step(alloc: Global, table: &mut Sandpiper, step: Step) -> u32
 }
 
 /// Writes the row of the reply to C's place, if it has one.
-fn put_found(reply: &Reply, row: &mut SandpiperRow)
+fn put_found(reply: &Reply, row: &mut RowPlace)
     ensures { ShowsRow (row_found_in reply.now) row.old row.new }
 {
     if let Reply::Found(Some(found)) = reply {
@@ -56,7 +56,7 @@ pub extern "C" fn sandpiper_get(
     table: &mut Sandpiper,
     session: u8,
     key: u64,
-    row: &mut SandpiperRow,
+    row: &mut RowPlace,
 ) -> u32
     ensures does { Does table.old (step.Get session key) result table.new }
     ensures row { ShowsFound table.new row.old row.new }

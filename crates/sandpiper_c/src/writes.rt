@@ -4,10 +4,10 @@ ghost use Rattle.refinement.specs.declared.step.Step.TheVariants as step;
 ghost use Rattle.sandpiper_c.specs.Calls.{Writes};
 
 use crate::database::Sandpiper;
-use crate::rows::{self, SandpiperRow};
+use crate::rows;
 use crate::status::CallStatus;
 use crate::steps::do_step;
-use session_core::{Refusal, Step};
+use session_core::{Refusal, RowPlace, Step};
 use std::alloc::Global;
 
 /// Writes a row of a key that has none.
@@ -16,7 +16,7 @@ pub extern "C" fn sandpiper_insert(
     alloc: Global,
     table: &mut Sandpiper,
     session: u8,
-    row: &SandpiperRow,
+    row: &RowPlace,
 ) -> u32
     ensures { Writes table.old (λ text. step.Insert session text) row.now result table.new }
 {
@@ -32,7 +32,7 @@ pub extern "C" fn sandpiper_update(
     alloc: Global,
     table: &mut Sandpiper,
     session: u8,
-    row: &SandpiperRow,
+    row: &RowPlace,
 ) -> u32
     ensures { Writes table.old (λ text. step.Update session text) row.now result table.new }
 {

@@ -1,6 +1,6 @@
 //! The engine as its callers have it.
 
-ghost use Rattle.std.specs.Prelude.{◌≡◌, slice_get, option_copied, IfOk, IfErr, OnOk, MatchResult, Some, false};
+ghost use Rattle.std.specs.Prelude.{◌≡◌, ◌<◌, length, slice_get, option_copied, IfOk, IfErr, OnOk, MatchResult, Some, false};
 ghost use Rattle.std.specs.Option.{option_map};
 ghost use Rattle.commit_status.specs.Window.{next_id};
 ghost use Rattle.space_maps.specs.View.{mark_on};
@@ -14,6 +14,7 @@ ghost use Rattle.vacuum_engine.specs.State.{is_session};
 ghost use Rattle.vacuum_engine.specs.Exact.{EngineExact};
 ghost use Rattle.vacuum_engine.specs.Clauses.{EngineFollows};
 ghost use Rattle.vacuum_engine.specs.New.{IsNewEngine};
+ghost use Rattle.session_core.specs.NextRows.{EngineNextRows};
 
 use page_slots::Page;
 use refinement::{Refusal, Reply, Row, Settings, SettingsFault, Step};
@@ -21,6 +22,7 @@ use root_index::RootIndex;
 use session_steps::SessionEngine;
 use std::alloc::Global;
 use std::marker::Model;
+use tuple_header::RowPlace;
 use vacuum_passes::Vacuum;
 use xid_circle::Xid;
 
@@ -93,14 +95,13 @@ impl Engine {
         }
     }
 
-    /// Notes in the vacuum that is running, if one is, that a step came which is not its own.
-    fn disturb(&mut self, step: &Step)
+    /// Notes in the vacuum that is running, if one is, that a step came which is not its own, and whether it is a session's.
+    fn disturb(&mut self, session: bool)
         ensures core { self.new.core ≡ self.old.core }
-        ensures vacuum { self.new.vacuum
-            ≡ option_map (disturbed (is_session step.now)) self.old.vacuum }
+        ensures vacuum { self.new.vacuum ≡ option_map (disturbed session) self.old.vacuum }
     {
         if let Some(vacuum) = &mut self.vacuum {
-            vacuum.disturbed(is_session(step));
+            vacuum.disturbed(session);
         }
     }
 
@@ -110,8 +111,20 @@ impl Engine {
         ensures follows { EngineFollows self.old step reply.new self.new }
         ensures exact { EngineExact self.old step reply.new self.new }
     {
-        self.disturb(&step);
+        self.disturb(is_session(&step));
         self.core.step_into(step, reply)
+    }
+
+    /// Writes the next rows of the session's cursor to the first places, and answers how many there are: none exactly where nothing
+    /// is left. It is answered as `Step::Next` of as many rows as there are places. But of the heap it hands out up to so many rows of
+    /// the next page, and what that page has left over is handed out by the next call; and it takes no memory. Places behind the
+    /// rows, and the bytes behind each body, stay as they were. Refusals in order: NoSuchSession, NotOpen, Failed, NoCursor.
+    pub fn next_rows(&mut self, s: u8, places: &mut [RowPlace]) -> Result<usize, Refusal>
+        requires { 0 < length places.old }
+        ensures { EngineNextRows self.old s places.old result places.new self.new }
+    {
+        self.disturb(true);
+        self.core.next_rows(s, places)
     }
 
     /// The row of the key that the session reads, also in a transaction that has failed. It is no step, and takes no

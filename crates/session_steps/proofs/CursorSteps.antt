@@ -13,6 +13,7 @@ use Rattle.refinement.specs.declared.reply.Reply.TheVariants.{Done, Refused}
 use Rattle.refinement.specs.declared.reply.Refusal.{Refusal}
 use Rattle.refinement.specs.declared.reply.Refusal.TheVariants.{NoSuchIndex, BadBounds}
 use Rattle.refinement.specs.Heap as relation
+use Rattle.refinement.specs.Cursors.{first_place}
 use Rattle.refinement.specs.Allowed.{Allows, next}
 use Rattle.refinement.proofs.Steps.{OnlyIs}
 use Rattle.refinement.proofs.FollowsCursors as cursors
@@ -90,12 +91,12 @@ Follows-opened_index st st' s e span at sound bare order none used is w agrees =
     (f.0, agree agrees refl refl f.1 (sound-cursor st st' s e (Some (Index span)) at is (along-span st.heap.indexes span used) agrees.sound), led-same st w agrees)
 
 pub Follows-opened_heap : (st st' : State) (s : ℕ) (e : Session) → session_at st s ≡ Some e → e.failed ≡ false → e.cursor ≡ None
-    → st' ≡ put_session st s (map_session (with_cursor (Some (Heap 0))) (session_at st s)) → Follows st (OpenHeap s) Done st'
+    → st' ≡ put_session st s (map_session (with_cursor (Some (Heap first_place))) (session_at st s)) → Follows st (OpenHeap s) Done st'
 Follows-opened_heap st st' s e at sound bare is w agrees =
-    let f = cursors.Follows-open_heap (seen st) s (reader_of e) (seen (put_session st s (Some (with_cursor (Some (Heap 0)) e)))).session (only-cursor st st' s e (Some (Heap 0)) at is)
+    let f = cursors.Follows-open_heap (seen st) s (reader_of e) (seen (put_session st s (Some (with_cursor (Some (Heap first_place)) e)))).session (only-cursor st st' s e (Some (Heap first_place)) at is)
     (reader-is st s e at) sound (ap position_of bare) w agrees.found in
-    subst (λ st'. Allows w (OpenHeap s) Done × Agrees st' (next w (OpenHeap s) Done) × KeepsAllTargets st st') (sym (moved st st' s e (Some (Heap 0)) at is))
-    (f.0, agree agrees refl refl f.1 (sound-cursor st st' s e (Some (Heap 0)) at is (λ span here. absurd (cc)) agrees.sound), led-same st w agrees)
+    subst (λ st'. Allows w (OpenHeap s) Done × Agrees st' (next w (OpenHeap s) Done) × KeepsAllTargets st st') (sym (moved st st' s e (Some (Heap first_place)) at is))
+    (f.0, agree agrees refl refl f.1 (sound-cursor st st' s e (Some (Heap first_place)) at is (λ span here. absurd (cc)) agrees.sound), led-same st w agrees)
 
 pub Follows-closed_cursor : (st st' : State) (s : ℕ) (e : Session) → session_at st s ≡ Some e → e.failed ≡ false → IsSome e.cursor
     → st' ≡ put_session st s (map_session (with_cursor None) (session_at st s)) → Follows st (Close s) Done st'

@@ -116,7 +116,7 @@ Follows-closed_begin st s _ ne is = absurd is
 pub some-position : (o : Option Cursor) → IsSome o → IsSome (position_of o)
 some-position None some = absurd (let e : IsSome {T = Cursor} None = some in cc)
 some-position (Some (Index span)) some = refl
-some-position (Some (Heap page)) some = refl
+some-position (Some (Heap from)) some = refl
 
 pub free_by : (st : State) (s : ℕ) (r : Refusal) → RefusesFree st s r → theory.IsBarred (seen st) s r
 free_by st s CursorOpen is = (reader_of is.1, ap (option_map reader_of) is.2, is.3, some-position is.1.cursor is.4)

@@ -20,7 +20,9 @@ pub mod Outcomes
 pub mod Walks
 pub mod WalkSteps
 pub mod WriteCheck
+pub mod HeapWalks
 pub mod NextSteps
+pub mod NextRowsSteps
 pub mod Reading
 pub mod Cleaned
 pub mod Giving

@@ -1,7 +1,9 @@
 -- A session asks its cursor for rows: whatever the answer, the engine follows the history.
-use Rattle.std.proofs.Common.{◌≡◌, ℕ, ◌+◌, ◌<◌, max, List, length, Some, false, refl, sym, ap, ◌∙◌, subst}
+use Rattle.std.proofs.Common.{◌≡◌, ℕ, ◌+◌, ◌<◌, ◌^◌, max, List, length, Some, false, refl, sym, ap, ◌∙◌, subst, arith}
 use Rattle.std.specs.Prelude.{Vec}
 use Rattle.std.specs.declared.alloc.Global.{Global}
+use denote.RawPtr.{null_ptr}
+use Rattle.xid_circle.specs.declared.Tid.{Tid}
 use Rattle.tuple_header.specs.declared.version.Row.{Row}
 use Rattle.index_lookup.specs.declared.index_scan.IndexRange.{IndexRange}
 use Rattle.table_indexes.specs.Indexes.{IsInUse}
@@ -21,7 +23,8 @@ use Rattle.session_steps.specs.declared.cursor.Cursor.TheVariants.{Index, Heap}
 use Rattle.session_steps.specs.State.{State, session_at, put_session, map_session, with_cursor, seen, seen_position, position_of, reader_of}
 use Rattle.session_steps.specs.Agrees.{Agrees, Follows, KeepsAllTargets}
 use Rattle.session_steps.specs.Refuses.{RefusesBare}
-use Rattle.session_steps.specs.Takes.{IsAtCursor, IsAtEnd, IsNotAtEnd, TakesRows, TakesPage, Takes, TakesSome, HandsOut}
+use Rattle.session_steps.specs.Takes.{IsAtCursor, IsAtEnd, IsNotAtEnd, TakesRows, WalksHeap, start_of, Takes, TakesUpTo, TakesSome, HandsOutBy}
+use Rattle.session_steps.specs.NextRows.{ExactNextRows}
 use Rattle.session_steps.proofs.InUse.{agree}
 use Rattle.session_steps.proofs.Owns.{reader-is}
 use Rattle.session_steps.proofs.Follows.{Follows-same, bare_by, led-same}
@@ -43,9 +46,9 @@ Follows-end st s n e (Index span) at sound opened none w agrees =
     (cursors.Follows-end (seen st) s (reader_of e) (in_index span.index span.low span.high (seen_position span.last)) n (reader-is st s e at) sound (ap position_of opened)
     (none (at-cursor st w s e (Index span) agrees at opened)))
     w agrees
-Follows-end st s n e (Heap page) at sound opened none w agrees =
+Follows-end st s n e (Heap from) at sound opened none w agrees =
     Follows-same st (Next s n) End
-    (cursors.Follows-end (seen st) s (reader_of e) (in_heap page) n (reader-is st s e at) sound (ap position_of opened) (none (at-cursor st w s e (Heap page) agrees at opened)))
+    (cursors.Follows-end (seen st) s (reader_of e) (in_heap from) n (reader-is st s e at) sound (ap position_of opened) (none (at-cursor st w s e (Heap from) agrees at opened)))
     w agrees
 
 pub Follows-no_memory : (st : State) (s n : ℕ) (e : Session) (cursor : Cursor) → session_at st s ≡ Some e → e.failed ≡ false → e.cursor ≡ Some cursor → (IsAtCursor st e cursor → IsNotAtEnd st e cursor)
@@ -55,9 +58,9 @@ Follows-no_memory st s n e (Index span) at sound opened some w agrees =
     Follows-same st (Next s n) (Refused NoMemory)
     (cursors.Follows-next_no_memory (seen st) s (reader_of e) (in_index span.index span.low span.high (seen_position span.last)) n comes.0 (reader-is st s e at) sound (ap position_of opened) comes.1)
     w agrees
-Follows-no_memory st s n e (Heap page) at sound opened some w agrees =
-    let comes = some (at-cursor st w s e (Heap page) agrees at opened) in
-    Follows-same st (Next s n) (Refused NoMemory) (cursors.Follows-next_no_memory (seen st) s (reader_of e) (in_heap page) n comes.0 (reader-is st s e at) sound (ap position_of opened) comes.1) w agrees
+Follows-no_memory st s n e (Heap from) at sound opened some w agrees =
+    let comes = some (at-cursor st w s e (Heap from) agrees at opened) in
+    Follows-same st (Next s n) (Refused NoMemory) (cursors.Follows-next_no_memory (seen st) s (reader_of e) (in_heap from) n comes.0 (reader-is st s e at) sound (ap position_of opened) comes.1) w agrees
 
 -- Rows are handed out: the cursor alone moves.
 
@@ -97,13 +100,12 @@ module _ (st st' : State) (s n : ℕ) (e : Session) (rows : Vec Row Global) (at 
       (λ fewer row comes. takes.all here fewer row (left-in st e span left row same comes)) in
       put-after st st' s n e (Index left) rows at is (λ other is'. along-left st span left other same (used-at st e span here) is') (λ w' agrees'. f) w agrees
 
-  Follows-rows_in_heap : (from page : ℕ) → e.cursor ≡ Some (Heap from) → TakesPage st e from page rows.items
-      → st' ≡ put_session st s (map_session (with_cursor (Some (Heap (page + 1)))) (session_at st s)) → Follows st (Next s n) (Rows rows) st'
-  Follows-rows_in_heap from page opened takes is =
-      put-after st st' s n e (Heap (page + 1)) rows at is (λ other is'. absurd (cc))
-      (λ w agrees. cursors.Follows-next_in_heap (seen st) s (reader_of e) from page takes.takes.end n rows (seen (now st st' s n e (Heap (page + 1)) rows at is)).session
-      (only-at st st' s n e (Heap (page + 1)) rows at is (in_heap (page + 1)) refl) (reader-is st s e at) sound (ap position_of opened)
-      takes.onward takes.bare takes.takes.gathers takes.takes.whole some)
+  Follows-rows_in_heap : (from to : Tid) → e.cursor ≡ Some (Heap from) → WalksHeap st e from to rows.items
+      → st' ≡ put_session st s (map_session (with_cursor (Some (Heap to))) (session_at st s)) → Follows st (Next s n) (Rows rows) st'
+  Follows-rows_in_heap from to opened walks is =
+      put-after st st' s n e (Heap to) rows at is (λ other is'. absurd (cc))
+      (λ w agrees. cursors.Follows-next_in_heap (seen st) s (reader_of e) from to n rows (seen (now st st' s n e (Heap to) rows at is)).session
+      (only-at st st' s n e (Heap to) rows at is (in_heap to) refl) (reader-is st s e at) sound (ap position_of opened) walks some)
 
   moved-as : (after after' : Cursor) → after ≡ after' → st' ≡ put_session st s (map_session (with_cursor (Some after)) (session_at st s))
       → st' ≡ put_session st s (map_session (with_cursor (Some after')) (session_at st s))
@@ -112,22 +114,41 @@ module _ (st st' : State) (s n : ℕ) (e : Session) (rows : Vec Row Global) (at 
   Follows-taken : (cursor after : Cursor) → e.cursor ≡ Some cursor → Takes st e cursor n rows.items after
       → st' ≡ put_session st s (map_session (with_cursor (Some after)) (session_at st s)) → Follows st (Next s n) (Rows rows) st'
   Follows-taken (Index span) after opened (left, same, takes) is = Follows-rows_in_index span left opened takes (moved-as after (Index left) same is)
-  Follows-taken (Heap from) after opened (page, same, takes) is = Follows-rows_in_heap from page opened takes (moved-as after (Heap (page + 1)) same is)
+  Follows-taken (Heap from) after opened (page, same, takes) is = Follows-rows_in_heap from (start_of (page + 1)) opened takes.walks (moved-as after (Heap (start_of (page + 1))) same is)
+
+  -- so many at most
+  Follows-taken_up_to : (cursor after : Cursor) → 0 < n → e.cursor ≡ Some cursor → TakesUpTo st e cursor n rows.items after
+      → st' ≡ put_session st s (map_session (with_cursor (Some after)) (session_at st s)) → Follows st (Next s n) (Rows rows) st'
+  Follows-taken_up_to (Index span) after above opened (left, same, takes) is =
+      Follows-rows_in_index span left opened (subst (λ most. TakesRows st e span left most rows.items) (omega arith) takes) (moved-as after (Index left) same is)
+  Follows-taken_up_to (Heap from) after above opened (to, same, takes) is = Follows-rows_in_heap from to opened takes.walks (moved-as after (Heap to) same is)
 
 pub Follows-rows : (st st' : State) (s n : ℕ) (e : Session) (cursor after : Cursor) (rows : Vec Row Global) → session_at st s ≡ Some e → e.failed ≡ false → e.cursor ≡ Some cursor
     → TakesSome st e cursor n rows.items after → st' ≡ put_session st s (map_session (with_cursor (Some after)) (session_at st s)) → Follows st (Next s n) (Rows rows) st'
 Follows-rows st st' s n e cursor after rows at sound opened taken is = Follows-taken st st' s n e rows at sound taken.some cursor after opened taken.takes is
 
+pub Follows-rows_up_to : (st st' : State) (s n : ℕ) (e : Session) (cursor after : Cursor) (rows : Vec Row Global) → session_at st s ≡ Some e → e.failed ≡ false → e.cursor ≡ Some cursor → 0 < length rows.items → 0 < n
+    → TakesUpTo st e cursor n rows.items after → st' ≡ put_session st s (map_session (with_cursor (Some after)) (session_at st s)) → Follows st (Next s n) (Rows rows) st'
+Follows-rows_up_to st st' s n e cursor after rows at sound opened some above takes is = Follows-taken_up_to st st' s n e rows at sound some cursor after above opened takes is
+
 -- And so exactly.
 
-pub hands-out : (st st' : State) (s n : ℕ) (e : Session) (cursor after : Cursor) (rows : List Row) → session_at st s ≡ Some e → e.cursor ≡ Some cursor → TakesSome st e cursor n rows after
-    → st' ≡ put_session st s (map_session (with_cursor (Some after)) (session_at st s)) → HandsOut st st' s n rows
-hands-out st st' s n e cursor after rows at opened taken is = record {
+pub hands-out : (takes : State → Session → Cursor → ℕ → List Row → Cursor → Type 0) (st st' : State) (s n : ℕ) (e : Session) (cursor after : Cursor) (rows : List Row) → session_at st s ≡ Some e → e.cursor ≡ Some cursor
+    → takes st e cursor n rows after → st' ≡ put_session st s (map_session (with_cursor (Some after)) (session_at st s)) → HandsOutBy takes st st' s n rows
+hands-out takes st st' s n e cursor after rows at opened taken is = record {
   session = e;
   there = at;
   before = cursor;
   at = opened;
   after = after;
-  takes = taken.takes;
+  takes = taken;
   is = moved st st' s e (Some after) at is;
 }
+
+pub bare-next_rows : (st : State) (s n : ℕ) (r : Refusal) → RefusesBare st s r → ExactNextRows st s n (Refused r) st
+bare-next_rows st s n NoMemory is = is
+bare-next_rows st s n r is = refl
+
+-- A reply that has these rows.
+abbrev pub with_rows : (rows : List Row) → length rows < 2 ^ 63 → Vec Row Global
+with_rows rows fits = record { ptr = null_ptr; len = length rows; cap = length rows; alloc = record { memory = record { seal = tt } }; items = rows; ok = (refl, omega arith); small = fits }

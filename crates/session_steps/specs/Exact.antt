@@ -17,6 +17,7 @@ use Rattle.refinement.specs.declared.reply.Reply.{Reply}
 use Rattle.refinement.specs.declared.reply.Reply.TheVariants.{Done, Rows, End, Committed, RolledBack, Refused}
 use Rattle.refinement.specs.declared.reply.Refusal.TheVariants.{NotThere, Conflict, NoRoom, NeedsFreeze, NoMemory, NoSuchPage, NoSuchIndex, BadBounds}
 use Rattle.refinement.specs.Words.{row_of}
+use Rattle.refinement.specs.Cursors.{first_place}
 use Rattle.session_steps.specs.declared.session.Session.{Session}
 use Rattle.session_steps.specs.declared.cursor.Cursor.{Cursor}
 use Rattle.session_steps.specs.declared.cursor.Cursor.TheVariants.{Index, Heap}
@@ -118,7 +119,7 @@ Exact old (OpenIndex s index low high) Done new = HasCursor old new s (Some (Ind
 Exact old (OpenIndex s index low high) (Refused NoSuchIndex) new = (engine_index old index ≡ None) × (new ≡ old)
 Exact old (OpenIndex s index low high) (Refused BadBounds) new = IsSome (engine_index old index) × (new ≡ old)
 Exact old (OpenIndex s index low high) (Refused NoMemory) new = ⊥
-Exact old (OpenHeap s) Done new = HasCursor old new s (Some (Heap 0))
+Exact old (OpenHeap s) Done new = HasCursor old new s (Some (Heap first_place))
 Exact old (OpenHeap s) (Refused NoMemory) new = ⊥
 Exact old (Next s n) (Rows rows) new = HandsOut old new s n rows.items
 Exact old (Next s n) End new = new ≡ old

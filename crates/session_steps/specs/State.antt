@@ -46,7 +46,7 @@ seen_position (Some m) = Some (record { value = m.value; key = m.key })
 abbrev pub position_of : Option Cursor → Option relation.Position
 position_of None = None
 position_of (Some (Index span)) = Some (relation.in_index span.index span.low span.high (seen_position span.last))
-position_of (Some (Heap page)) = Some (relation.in_heap page)
+position_of (Some (Heap from)) = Some (relation.in_heap from)
 
 abbrev pub reader_of : Session → relation.SeenSession
 reader_of e = record { snapshot = e.snapshot; own = e.own.ids; saved = e.own.saved; failed = e.failed; cursor = position_of e.cursor }

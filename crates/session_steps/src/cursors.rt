@@ -8,6 +8,7 @@ ghost use Rattle.session_steps.specs.Replies.{reply_to};
 
 use crate::cursor::Cursor;
 use crate::engine::SessionEngine;
+use crate::next::start_of;
 use crate::outcome::Ack;
 use heap_write::IndexRange;
 use refinement::Refusal;
@@ -57,7 +58,7 @@ impl SessionEngine {
         ensures { AnswersStep self.old (Step.OpenHeap s) (reply_to result) self.new }
     {
         self.free(s)?;
-        self.move_cursor(s, Some(Cursor::Heap(0)));
+        self.move_cursor(s, Some(Cursor::Heap(start_of(0))));
         Ok(Ack::Done)
     }
 

@@ -23,6 +23,7 @@ mod get;
 mod insert;
 pub mod laws;
 mod next;
+mod next_rows;
 mod outcome;
 mod pruning;
 mod savepoint;

@@ -1,19 +1,17 @@
 //! A session asks its cursor for rows.
 
-ghost use Rattle.std.specs.Prelude.{◌≡◌, ◌≤◌, ◌++◌, ◌∷◌, [], length, IfOk, OnOk, OnErr};
-ghost use Rattle.index_lookup.specs.Pages.{slots_on};
-ghost use Rattle.heap_write.specs.Heap.{slots_of};
+ghost use Rattle.std.specs.Prelude.{◌≡◌, ◌++◌, ◌∷◌, [], IfOk, OnOk, OnErr};
 ghost use Rattle.refinement.specs.declared.step.Step.{Step};
 ghost use Rattle.session_steps.specs.declared.cursor.Cursor.TheVariants.{Index, Heap};
 ghost use Rattle.session_steps.specs.Exact.{AnswersStep};
-ghost use Rattle.session_steps.specs.Takes.{IsAtCursor, IsNotAtEnd, TakesRows, SomeStands, TakesAll, TakesNextPage, TakesNext};
-ghost use Rattle.tuple_header.specs.declared.version.TheConstants.{MOST_SLOTS};
+ghost use Rattle.session_steps.specs.Takes.{IsAtCursor, IsNotAtEnd, TakesRows, SomeStands, TakesAll, TakesNextPage, TakesNext, ReadsAs, start_of};
 
 use crate::cursor::Cursor;
 use crate::engine::SessionEngine;
 use crate::get::no_row;
 use crate::session::Session;
 use heap_write::IndexRange;
+use index_lookup::{Reader, seen_row};
 use refinement::{Refusal, Reply, Row};
 use std::alloc::AllocError;
 use tuple_header::RowRef;
@@ -40,9 +38,16 @@ fn add_row(rows: &mut Vec<Row>, row: &RowRef<'_>, most: u16) -> Result<(), Alloc
     Ok(())
 }
 
+/// The place before all slots of a page.
+pub(crate) fn start_of(page: u32) -> Tid
+    ensures { result ≡ start_of page }
+{
+    Tid { page, slot: 0 }
+}
+
 impl SessionEngine {
     /// Hands out rows of the session's cursor: of an index the next `n` in its order, where 0 counts as 1, or all that are
-    /// left; of the heap those of the next page on which the session sees any, by their slots. The answer is End exactly
+    /// left; of the heap all of the next page on which the session sees any, from the place on where the cursor is, by their slots. The answer is End exactly
     /// where none is left, and leaves the cursor open. Refusals in order: NoSuchSession, NotOpen, Failed, NoCursor, and
     /// NoMemory, which comes only where there is a row to hand out, and leaves the cursor where it was.
     pub(crate) fn next(&mut self, s: u8, n: u16) -> Reply
@@ -91,7 +96,7 @@ impl SessionEngine {
                 Ok(Some((rows, Cursor::Index(left))))
             }
             Cursor::Heap(from) => match self.take_page(session, from)? {
-                Some((rows, page)) => Ok(Some((rows, Cursor::Heap(page + 1)))),
+                Some((rows, page)) => Ok(Some((rows, Cursor::Heap(start_of(page + 1))))),
                 None => Ok(None),
             },
         }
@@ -124,44 +129,49 @@ impl SessionEngine {
         Ok((rows, left))
     }
 
-    /// The rows of the first page from this number on, on which the session sees any, and that page's number, below 65536.
-    fn take_page(&self, session: &Session, from: u32) -> Result<Option<(Vec<Row>, u32)>, AllocError>
+    /// The rows of the first page from this place on, on which the session sees any, and that page's number, below 65536.
+    fn take_page(&self, session: &Session, from: Tid) -> Result<Option<(Vec<Row>, u32)>, AllocError>
         ensures taken { IfOk result (TakesNextPage self.now session.now from) }
         ensures refused { OnErr result (IsNotAtEnd self.now session.now (Heap from)) }
     {
-        for page in from..self.heap.page_count() {
-            let rows = self.rows_on(session, page)?;
+        let mut at = from;
+        for page in from.page..self.heap.page_count() {
+            let rows = self.rows_on(session, at)?;
             if !rows.is_empty() {
                 return Ok(Some((rows, page)));
             }
+            at = start_of(page + 1);
         }
         Ok(None)
     }
 
-    /// How many slots the page of this number has, at most 291: none if it is not in use.
-    fn slots_on(&self, page: u32) -> u16
-        ensures count { result ≡ length (slots_on (slots_of self.now.heap) page) }
-        ensures limit { result ≤ MOST_SLOTS }
-    {
-        match self.heap.page(page) {
-            Some(page) => page.slots(),
-            None => 0,
-        }
-    }
-
-    /// The rows of a page that the session sees, by their slots.
-    fn rows_on(&self, session: &Session, page: u32) -> Result<Vec<Row>, AllocError>
-        ensures taken { IfOk result (λ rows. TakesAll self.now session.now page rows.items) }
-        ensures refused { OnErr result (SomeStands self.now session.now page) }
+    /// The rows that the session sees from this place on, up to the end of its page.
+    fn rows_on(&self, session: &Session, from: Tid) -> Result<Vec<Row>, AllocError>
+        ensures taken { IfOk result (λ rows. TakesAll self.now session.now from rows.items) }
+        ensures refused { OnErr result (SomeStands self.now session.now from) }
     {
         let mut rows = Vec::new(self.alloc);
-        let slots = self.slots_on(page);
-        for slot in 1..slots + 1 {
-            let place = Tid { page, slot };
-            if let Some(row) = self.heap.seen_row(place, &session.snapshot, &session.own) {
+        let Some(page) = self.heap.page(from.page) else {
+            return Ok(rows);
+        };
+        let slots = page.slots();
+        let reader = self.reader(session);
+        for slot in from.slot..slots + 1 {
+            if let Some(row) = seen_row(page, slot, &reader) {
                 add_row(&mut rows, &row, slots)?;
             }
         }
         Ok(rows)
+    }
+
+    /// The session as it reads.
+    pub(crate) fn reader<'a>(&'a self, session: &'a Session) -> Reader<'a>
+        ensures { ReadsAs self.now session.now result }
+    {
+        Reader {
+            snapshot: &session.snapshot,
+            own: &session.own,
+            statuses: self.heap.table(),
+        }
     }
 }

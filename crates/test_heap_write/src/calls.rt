@@ -9,6 +9,7 @@ use arrayvec::ArrayVec;
 use commit_status::Status;
 use dead_places::DeadSet;
 use heap_write::{HeapState, IndexPosition, IndexRange, PruneFault, WriteFault};
+use index_lookup::{Reader, seen_row};
 use root_index::{Entry, PositionHint, Progress};
 use snapshot::{OwnIds, Snapshot};
 use std::alloc::Global;
@@ -207,7 +208,13 @@ pub fn row_at(
     snapshot: &Snapshot,
     own: &OwnIds,
 ) -> Option<(u64, i64)> {
-    let row = heap.seen_row(tid(place), snapshot, own)?;
+    let (page, slot) = place;
+    let reader = Reader {
+        snapshot,
+        own,
+        statuses: heap.table(),
+    };
+    let row = seen_row(heap.page(page)?, slot, &reader)?;
     Some((row.key(), row.cols()[1]))
 }
 

@@ -2,3 +2,4 @@ pub mod Version
 pub mod Layout
 pub mod Faults
 pub mod Marks
+pub mod Places

@@ -10,11 +10,13 @@
 mod decoding;
 mod encoding;
 mod fault;
+mod row_place;
 mod row_ref;
 mod version;
 
 pub use decoding::{decode, fault_of};
 pub use encoding::{encode, reads_back};
 pub use fault::TupleFault;
+pub use row_place::RowPlace;
 pub use row_ref::RowRef;
 pub use version::{Header, MOST_SLOTS, Row, Tuple, row_size, size};

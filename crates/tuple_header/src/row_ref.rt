@@ -1,8 +1,9 @@
 //! Rows where they stand.
 
 ghost use Rattle.std.specs.Prelude.{◌≡◌, ◌≤◌, length};
+ghost use Rattle.tuple_header.specs.Places.{place_with};
 
-use crate::Row;
+use crate::{Row, RowPlace};
 use arrayvec::ArrayVec;
 use std::marker::Model;
 
@@ -69,5 +70,16 @@ impl<'a> RowRef<'a> {
         row.cols = self.cols;
         row.body.clear();
         let _ = row.body.try_extend_from_slice(self.body);
+    }
+
+    /// Writes the row to a place, where the bytes behind its body stay. It takes no memory.
+    pub fn put_into(&self, place: &mut RowPlace)
+        ensures { place.new ≡ place_with self.now place.old }
+    {
+        let count = self.body.len();
+        place.key = self.key;
+        place.cols = self.cols;
+        place.length = count as u16;
+        place.body[..count].copy_from_slice(self.body);
     }
 }

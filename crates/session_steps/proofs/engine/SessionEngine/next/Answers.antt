@@ -1,5 +1,5 @@
 use Rattle.std.proofs.Common.{rules, subst}
-use Rattle.session_steps.specs.Takes.{TakesNext}
+use Rattle.session_steps.specs.Takes.{Takes, TakesNext}
 use Rattle.session_steps.proofs.NextSteps.{Follows-bare_next, Follows-end, Follows-no_memory, Follows-rows, hands-out}
 use Rattle.session_steps.proofs.engine.SessionEngine.next.Goals as goal
 
@@ -15,8 +15,8 @@ returns-in-Ok-Some c = record {
       Follows-rows c.args.self.now _ c.args.s c.args.n c.in-Ok.found.0.now c.in-Ok.found.1 c.in-Ok-Some.after c.in-Ok-Some.rows c.in-Ok.ensures.1 c.in-Ok.ensures.2 c.in-Ok.ensures.3
       (subst (TakesNext c.args.self.now c.in-Ok.found.0.now c.in-Ok.found.1 c.args.n) c.in-Ok-Some.field-0-is c.in-Ok-Some.ensures.taken) c.move_cursor.ensures);
   exact = (
-      hands-out c.args.self.now _ c.args.s c.args.n c.in-Ok.found.0.now c.in-Ok.found.1 c.in-Ok-Some.after c.in-Ok-Some.rows.items c.in-Ok.ensures.1 c.in-Ok.ensures.3
-      (subst (TakesNext c.args.self.now c.in-Ok.found.0.now c.in-Ok.found.1 c.args.n) c.in-Ok-Some.field-0-is c.in-Ok-Some.ensures.taken) c.move_cursor.ensures);
+      let taken = subst (TakesNext c.args.self.now c.in-Ok.found.0.now c.in-Ok.found.1 c.args.n) c.in-Ok-Some.field-0-is c.in-Ok-Some.ensures.taken in
+      hands-out Takes c.args.self.now _ c.args.s c.args.n c.in-Ok.found.0.now c.in-Ok.found.1 c.in-Ok-Some.after c.in-Ok-Some.rows.items c.in-Ok.ensures.1 c.in-Ok.ensures.3 taken.takes c.move_cursor.ensures);
 }
 
 pub returns-in-Ok-None : goal.returns-in-Ok-None

@@ -1,4 +1,6 @@
-use Rattle.std.proofs.Common.{rules}
+use Rattle.std.proofs.Common.{rules, Some, subst}
+use Rattle.session_steps.specs.declared.cursor.Cursor.TheVariants.{Heap}
+use Rattle.session_steps.specs.Exact.{HasCursor}
 use Rattle.session_steps.proofs.Outcomes.{handed-on}
 use Rattle.session_steps.proofs.CursorSteps.{Follows-barred_open_heap, Follows-opened_heap}
 use Rattle.session_steps.proofs.engine.SessionEngine.open_heap.Goals as goal
@@ -10,7 +12,9 @@ returns-in_err-free c = record {
 }
 
 pub returns : goal.returns
-returns c = record {
-  follows = Follows-opened_heap c.args.self.now _ c.args.s c.in_ok-free.field-0.now c.in_ok-free.ensures.1 c.in_ok-free.ensures.2 c.in_ok-free.ensures.3 c.move_cursor.ensures;
-  exact = search rules;
-}
+returns c =
+    let moved = subst (λ place. HasCursor c.args.self.now c.move_cursor.new.self c.args.s (Some (Heap place))) c.start_of.ensures c.move_cursor.ensures in
+    record {
+      follows = Follows-opened_heap c.args.self.now c.move_cursor.new.self c.args.s c.in_ok-free.field-0.now c.in_ok-free.ensures.1 c.in_ok-free.ensures.2 c.in_ok-free.ensures.3 moved;
+      exact = moved;
+    }

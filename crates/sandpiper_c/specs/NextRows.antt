@@ -1,0 +1,58 @@
+-- What a call does that hands out the next rows of a cursor.
+use Rattle.std.specs.Prelude.{◌≡◌, ℕ, zero, suc, true, List, [], ◌∷◌, length, Option, Some, None, Result, Ok, Err}
+use Rattle.tuple_header.specs.declared.row_place.RowPlace.{RowPlace}
+use Rattle.tuple_header.specs.Places.{places_with}
+use Rattle.refinement.specs.declared.step.Step.TheVariants.{Next}
+use Rattle.refinement.specs.declared.reply.Reply.{Reply}
+use Rattle.refinement.specs.declared.reply.Refusal.{Refusal}
+use Rattle.session_steps.specs.NextRows.{rows_in, ExactNextRows}
+use Rattle.vacuum_engine.specs.State.{noted}
+use Rattle.vacuum_engine.specs.Clauses.{EngineFollows}
+use Rattle.sandpiper_c.specs.declared.database.Sandpiper.{Sandpiper}
+use Rattle.sandpiper_c.specs.declared.held.Held.{Held}
+use Rattle.sandpiper_c.specs.declared.status.CallStatus.{CallStatus}
+use Rattle.sandpiper_c.specs.declared.status.CallStatus.TheVariants as status
+use Rattle.sandpiper_c.specs.CallStatus.{number_of_status, status_of_reply}
+use Rattle.sandpiper_c.specs.Calls.{held_by}
+
+-- the status of an answer: there are rows, or none is left, or it was refused
+abbrev pub status_of_answer : Result ℕ Refusal → CallStatus
+status_of_answer (Ok zero) = status.End
+status_of_answer (Ok (suc n)) = status.Rows
+status_of_answer (Err r) = status.Refused r
+
+-- how many rows an answer has
+abbrev pub count_of : Result ℕ Refusal → ℕ
+count_of (Ok n) = n
+count_of (Err r) = 0
+
+-- The engine gave a reply that the history allows to a step that asks for as many rows as C has places, as its own contract says. Its
+-- rows are in the first places, all others and the bytes behind each body are as they were, and the status is the reply's number.
+pub record HandsRows (old : Held) (s : ℕ) (places : List RowPlace) (code : ℕ) (after : List RowPlace) (count : ℕ) (new : Held) : Type 0 where
+  pub reply : Reply
+  pub follows : EngineFollows old.engine (Next s (length places)) reply new.engine
+  pub exact : ExactNextRows old.engine.core s (length places) reply new.engine.core
+  pub vacuum : new.engine.vacuum ≡ (noted true old.engine).vacuum
+  pub same_reply : new.reply ≡ old.reply
+  pub status : code ≡ number_of_status (status_of_reply reply)
+  pub rows : after ≡ places_with (rows_in reply) places
+  pub number : count ≡ length (rows_in reply)
+
+-- nothing is done, and no row is written
+pub record HandsNothing (old : Option Held) (places after : List RowPlace) (count : ℕ) (new : Option Held) : Type 0 where
+  pub same : new ≡ old
+  pub unwritten : after ≡ places
+  pub none : count ≡ 0
+
+-- or C has no place for a row
+abbrev pub HandsToPlaces : Held → ℕ → List RowPlace → ℕ → List RowPlace → ℕ → Held → Type 0
+HandsToPlaces old s [] code after count new = (code ≡ number_of_status status.NoPlace) × HandsNothing (Some old) [] after count (Some new)
+HandsToPlaces old s (place ∷ places) code after count new = HandsRows old s (place ∷ places) code after count new
+
+-- or the handle has no engine
+abbrev pub HandsOutHeld : Option Held → ℕ → List RowPlace → ℕ → List RowPlace → ℕ → Option Held → Type 0
+HandsOutHeld None s places code after count new = (code ≡ number_of_status status.NoEngine) × HandsNothing None places after count new
+HandsOutHeld (Some old) s places code after count new = (held : Held) × (new ≡ Some held) × HandsToPlaces old s places code after count held
+
+abbrev pub HandsOutNext : Sandpiper → ℕ → List RowPlace → ℕ → List RowPlace → ℕ → Sandpiper → Type 0
+HandsOutNext old s places code after count new = HandsOutHeld (held_by old) s places code after count (held_by new)
