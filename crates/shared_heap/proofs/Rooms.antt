@@ -46,7 +46,7 @@ no_rows w VacuumCancel rows allows = absurd allows
 
 few : (st : core.State) (e : Session) (cursor : Cursor) (n : ℕ) (rows : List Row) (after : Cursor) → Takes st e cursor n rows after → length rows ≤ max n MOST_SLOTS
 few st e (Index span) n rows after takes = let most = takes.2.at_most in omega arith
-few st e (Heap from) n rows after takes = let most = takes.2.takes.few in omega arith
+few st e (Heap from) n rows after takes = let most = takes.2.few in omega arith
 
 pub room-next : (s n room : ℕ) → max n MOST_SLOTS ≤ room → HasRoomFor (Next s n) room
 room-next s n room enough w old new Done agrees follows exact = tt
