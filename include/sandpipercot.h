@@ -231,7 +231,7 @@ static inline const char *sandpiper_words(uint32_t status) {
     case SANDPIPER_NO_ROW: return "there is none, and the place is as it was";
     case SANDPIPER_COMMITTED: return "what the session wrote was committed";
     case SANDPIPER_ROLLED_BACK: return "what the session wrote was rolled back";
-    case SANDPIPER_ROWS: return "the cursor hands out rows";
+    case SANDPIPER_ROWS: return "the cursor has handed out rows: one at least";
     case SANDPIPER_END: return "the cursor has handed out all, and stays open";
     case SANDPIPER_WORKED: return "the vacuum did a part of its work, and goes on";
     case SANDPIPER_ENDED: return "the vacuum has ended";

@@ -1,0 +1,3 @@
+pub mod Running
+pub mod Merging
+pub mod Rooms

@@ -1,0 +1,68 @@
+-- An engine with the journal of its calls.
+use Rattle.std.specs.Prelude.{◌≡◌, ◌⊎◌, List, [], ◌∷◌, ◌++◌, map}
+use Rattle.history.specs.World.{beginning}
+use Rattle.refinement.specs.declared.settings.Settings.{Settings}
+use Rattle.refinement.specs.declared.settings.SettingsFault.TheVariants as setting
+use Rattle.refinement.specs.declared.step.Step.{Step}
+use Rattle.refinement.specs.declared.reply.Reply.{Reply}
+use Rattle.refinement.specs.declared.reply.Reply.TheVariants.{Refused}
+use Rattle.refinement.specs.declared.reply.Refusal.TheVariants.{NoMemory}
+use Rattle.refinement.specs.Words.{AreSettings, FirstFault}
+use Rattle.refinement.specs.Allowed.{IsRun, after}
+use Rattle.session_core.specs.declared.runs.RunFault.{RunFault}
+use Rattle.session_core.specs.declared.runs.RunFault.TheVariants as fault
+use Rattle.session_core.specs.Runs.{RepliesLead}
+use Rattle.vacuum_engine.specs.State.{EngineView}
+use Rattle.vacuum_engine.specs.Exact.{EngineExact}
+use Rattle.vacuum_engine.specs.Agrees.{EngineAgrees}
+use Rattle.vacuum_engine.specs.Clauses.{EngineFollows}
+use Rattle.vacuum_engine.specs.New.{IsNewEngine}
+use Rattle.shared_heap.specs.Replies.{IsSame}
+
+pub record BookView : Type 0 where
+  pub engine : EngineView
+  -- each step with its reply, the oldest first
+  pub journal : List (Step × Reply)
+
+abbrev pub noted_steps : List (Step × Reply) → List Step
+noted_steps entries = map (λ (e : Step × Reply). e.0) entries
+
+abbrev pub noted_replies : List (Step × Reply) → List Reply
+noted_replies entries = map (λ (e : Step × Reply). e.1) entries
+
+-- a new engine of these settings did the steps of the journal, gave its replies, and is at their end
+pub record IsBookOf (settings : Settings) (book : BookView) : Type 0 where
+  pub first : EngineView
+  pub new : IsNewEngine settings first
+  pub leads : RepliesLead first (noted_steps book.journal) (noted_replies book.journal) book.engine
+
+-- the journal is a run of the history from its beginning, and the engine agrees with the world at its end
+pub record IsRunOf (settings : Settings) (book : BookView) : Type 0 where
+  pub run : IsRun (beginning settings.indexed) (noted_steps book.journal) (noted_replies book.journal)
+  pub agrees : EngineAgrees book.engine
+      (after (beginning settings.indexed) (noted_steps book.journal) (noted_replies book.journal))
+
+-- what every book keeps: so it is for some settings
+pub record IsBook (book : BookView) : Type 0 where
+  pub settings : Settings
+  pub made : IsBookOf settings book
+
+abbrev pub HasRun : BookView → Type 0
+HasRun book = (settings : Settings) × IsRunOf settings book
+
+-- the engine was stepped once, and the step was noted with the reply that was answered
+pub record Appends (old : BookView) (step : Step) (reply : Reply) (new : BookView) : Type 0 where
+  pub noted : Reply
+  pub same : IsSame noted reply
+  pub journal : new.journal ≡ old.journal ++ (step, noted) ∷ []
+  pub follows : EngineFollows old.engine step noted new.engine
+  pub exact : EngineExact old.engine step noted new.engine
+
+-- or it was not stepped, and memory was refused
+abbrev pub Calls : BookView → Step → Reply → BookView → Type 0
+Calls old step reply new = Appends old step reply new ⊎ ((reply ≡ Refused NoMemory) × (new ≡ old))
+
+-- a setting is the first out of its range, or all are in theirs and memory was refused
+abbrev pub FirstThreadsFault : Settings → RunFault → Type 0
+FirstThreadsFault settings (fault.Settings f) = FirstFault settings f × (f ≡ setting.NoMemory → ⊥)
+FirstThreadsFault settings fault.NoMemory = AreSettings settings

@@ -1,0 +1,4 @@
+pub mod Replies
+pub mod Books
+pub mod Merge
+pub mod Work

@@ -1,0 +1,30 @@
+-- When a reply is the copy of another, and when there is room for one.
+use Rattle.std.specs.Prelude.{ℕ, ◌≡◌, ◌≤◌, Bool, true, false, length}
+use Rattle.history.specs.World.{World}
+use Rattle.refinement.specs.declared.step.Step.{Step}
+use Rattle.refinement.specs.declared.reply.Reply.{Reply}
+use Rattle.refinement.specs.declared.reply.Reply.TheVariants.{Rows, Refused}
+use Rattle.refinement.specs.declared.reply.Refusal.TheVariants.{Busy}
+use Rattle.vacuum_engine.specs.State.{EngineView}
+use Rattle.vacuum_engine.specs.Exact.{EngineExact}
+use Rattle.vacuum_engine.specs.Agrees.{EngineAgrees}
+use Rattle.vacuum_engine.specs.Clauses.{EngineFollows}
+
+-- the same reply: a list of rows by its rows, wherever they are
+abbrev pub IsSame : Reply → Reply → Type 0
+IsSame (Rows rows) (Rows others) = others.items ≡ rows.items
+IsSame reply other = other ≡ reply
+
+-- there is room for the reply's rows
+abbrev pub RowsFit : Reply → ℕ → Type 0
+RowsFit (Rows rows) room = length rows.items ≤ room
+RowsFit reply room = Unit {0}
+
+-- there is room for any reply that an engine may give to the step
+abbrev pub HasRoomFor : Step → ℕ → Type 0
+HasRoomFor step room = (w : World) (old new : EngineView) (reply : Reply) → EngineAgrees old w
+    → EngineFollows old step reply new → EngineExact old step reply new → RowsFit reply room
+
+abbrev pub is_busy_reply : Reply → Bool
+is_busy_reply (Refused (Busy o)) = true
+is_busy_reply reply = false

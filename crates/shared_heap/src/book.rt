@@ -1,0 +1,88 @@
+//! An engine with the journal of its calls.
+
+ghost use Rattle.std.specs.Prelude.{◌≡◌, [], IfOk, IfErr, OnOk, MatchResult};
+ghost use Rattle.refinement.specs.Words.{AreSettings};
+ghost use Rattle.shared_heap.specs.Books.{IsBookOf, HasRun, Appends, Calls, FirstThreadsFault};
+
+use crate::copies::{copy_reply, spare_for};
+use session_core::{Engine, Refusal, Reply, RunFault, Settings, SettingsFault, Step};
+use std::alloc::{AllocError, Global};
+use std::marker::Model;
+
+/// An engine with the journal of the calls that it answered, oldest first: a run from a new engine, at whose end the engine is.
+#[derive(Drop)]
+pub struct Book {
+    alloc: Global,
+    engine: Engine,
+    journal: Vec<(Step, Reply)>,
+}
+
+impl Model for Book {
+    ghost use Rattle.shared_heap.specs.Books.{BookView, IsBook};
+
+    ghost Value = { BookView };
+
+    ghost view = { λ b. record { engine = b.engine; journal = b.journal.items } };
+
+    ghost invariant = { λ b. IsBook (record { engine = b.engine; journal = b.journal.items }) };
+}
+
+impl Book {
+    /// A new engine, with an empty journal.
+    pub fn new(alloc: Global, settings: Settings) -> Result<Book, RunFault>
+        ensures made { IfOk result (λ book. IsBookOf settings book) }
+        ensures empty { IfOk result (λ book. book.journal ≡ []) }
+        ensures fault { IfErr result (λ fault. FirstThreadsFault settings fault) }
+        ensures valid { OnOk result (AreSettings settings) }
+    {
+        match Engine::new(alloc, settings) {
+            Ok(engine) => Ok(Book {
+                alloc,
+                engine,
+                journal: Vec::new(alloc),
+            }),
+            Err(SettingsFault::NoMemory) => Err(RunFault::NoMemory),
+            Err(fault) => Err(RunFault::Settings(fault)),
+        }
+    }
+
+    /// The engine.
+    pub fn engine(&self) -> &Engine
+        ensures { result.now ≡ self.now.engine }
+    {
+        &self.engine
+    }
+
+    /// The calls with what they were answered, oldest first: a run of the history from its beginning, with whose end the engine agrees.
+    pub fn journal(&self) -> &[(Step, Reply)]
+        ensures value { result.now ≡ self.now.journal }
+        ensures run { HasRun self.now }
+    {
+        self.journal.as_slice()
+    }
+
+    /// Calls the engine, and notes the step with its reply. The room for both is made before: where it is refused, nothing is done.
+    pub fn try_call(&mut self, step: Step) -> Result<Reply, AllocError>
+        ensures { MatchResult result (λ reply. Appends self.old step reply self.new)
+            (λ _. self.new ≡ self.old) }
+    {
+        self.journal.reserve(1)?;
+        let copy = step.copy(self.alloc)?;
+        let spare = spare_for(self.alloc, &step)?;
+        let reply = self.engine.step(step);
+        let answer = copy_reply(&reply, spare);
+        self.journal.push_reserved((copy, reply));
+        Ok(answer)
+    }
+
+    /// Calls the engine, and notes the step with its reply. Where the room for both is refused, the answer is NoMemory, and nothing is
+    /// noted.
+    pub fn call(&mut self, step: Step) -> Reply
+        ensures { Calls self.old step result self.new }
+    {
+        match self.try_call(step) {
+            Ok(reply) => reply,
+            Err(_) => Reply::Refused(Refusal::NoMemory),
+        }
+    }
+}

@@ -1,0 +1,70 @@
+//! A book that threads share.
+
+ghost use Rattle.std.specs.Prelude.{IfErr};
+ghost use Rattle.shared_heap.specs.Books.{FirstThreadsFault};
+
+use crate::book::Book;
+use crate::copies::is_busy;
+use session_core::{Refusal, Reply, RunFault, Settings, Step};
+use std::alloc::Global;
+use std::sync::{Condvar, Mutex, Wait};
+
+/// A book under a latch.
+#[derive(Drop)]
+pub struct Shared {
+    alloc: Global,
+    latch: Mutex<Book>,
+    changed: Condvar,
+}
+
+impl Shared {
+    /// A new engine, with an empty journal.
+    pub fn new(alloc: Global, settings: Settings) -> Result<Shared, RunFault>
+        ensures { IfErr result (λ fault. FirstThreadsFault settings fault) }
+    {
+        let book = match Book::new(alloc, settings) {
+            Ok(book) => book,
+            Err(fault) => return Err(fault),
+        };
+        Ok(Shared {
+            alloc,
+            latch: Mutex::new(book),
+            changed: Condvar::new(),
+        })
+    }
+
+    /// Calls the book.
+    pub fn call<R: Wait>(&self, rt: &R, step: Step) -> Reply {
+        let mut book = self.latch.lock(rt);
+        let reply = book.call(step);
+        drop(book);
+        if !is_busy(&reply) {
+            self.changed.notify_all();
+        }
+        reply
+    }
+
+    /// Calls the book, and again for as long as it answers Busy: each time once another call was answered otherwise. Each call is
+    /// noted.
+    pub fn call_waiting<R: Wait>(&self, rt: &R, step: Step) -> Reply {
+        let mut book = self.latch.lock(rt);
+        for _ in rt.forever() {
+            let Ok(copy) = step.copy(self.alloc) else {
+                return Reply::Refused(Refusal::NoMemory);
+            };
+            let reply = book.call(copy);
+            if !is_busy(&reply) {
+                drop(book);
+                self.changed.notify_all();
+                return reply;
+            }
+            book = self.changed.wait(rt, book);
+        }
+        unreachable!()
+    }
+
+    /// The book, once no thread shares it.
+    pub fn into_book(self) -> Book {
+        self.latch.into_inner()
+    }
+}

@@ -1,0 +1,11 @@
+//! Tests of a table that threads share, by real threads: no contract says that a thread runs. Each test ends by itself.
+//!
+//! They stand apart from `shared_heap`, so that neither is checked a second time for the other's sake.
+#![tactic(auto)]
+
+#[cfg(test)]
+mod calls;
+#[cfg(test)]
+mod lists;
+#[cfg(test)]
+mod rows;

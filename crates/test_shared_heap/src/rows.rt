@@ -1,0 +1,48 @@
+//! What the tests share: settings, rows, and when two replies are the same.
+
+use session_core::{Reply, Row, RowIn, Settings};
+use std::alloc::Global;
+
+pub(crate) const SETTINGS: Settings = Settings {
+    max_pages: 16,
+    stop_age: 1000,
+    freeze_min_age: 0,
+    first_xid: 3,
+    dead_limit: 64,
+    indexed: [false; 4],
+};
+
+/// A row without a body.
+pub(crate) fn row(alloc: Global, key: u64, value: i64) -> RowIn {
+    RowIn {
+        key,
+        cols: [value, 0, 0, 0],
+        body: Vec::new(alloc),
+    }
+}
+
+/// Whether the same rows stand in both lists, in one order.
+fn are_same_rows(rows: &[Row], others: &[Row]) -> bool {
+    if rows.len() != others.len() {
+        return false;
+    }
+    for (row, other) in rows.iter().zip(others.iter()) {
+        if row != other {
+            return false;
+        }
+    }
+    true
+}
+
+/// Whether two replies are the same.
+pub(crate) fn are_same(reply: &Reply, other: &Reply) -> bool {
+    match (reply, other) {
+        (Reply::Rows(rows), Reply::Rows(others)) => {
+            are_same_rows(rows.as_slice(), others.as_slice())
+        }
+        (Reply::Refused(refusal), Reply::Refused(other)) => *refusal == *other,
+        (Reply::Done, Reply::Done) => true,
+        (Reply::RolledBack, Reply::RolledBack) => true,
+        _ => false,
+    }
+}
