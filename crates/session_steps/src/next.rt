@@ -47,9 +47,9 @@ pub(crate) fn start_of(page: u32) -> Tid
 
 impl SessionEngine {
     /// Hands out rows of the session's cursor: of an index the next `n` in its order, where 0 counts as 1, or all that are
-    /// left; of the heap all of the next page on which the session sees any, from the place on where the cursor is, by their slots. The answer is End exactly
-    /// where none is left, and leaves the cursor open. Refusals in order: NoSuchSession, NotOpen, Failed, NoCursor, and
-    /// NoMemory, which comes only where there is a row to hand out, and leaves the cursor where it was.
+    /// left; of the heap all of the next page on which the session sees any, from where the cursor is, by their slots. The
+    /// answer is End exactly where none is left, and leaves the cursor open. Refusals in order: NoSuchSession, NotOpen,
+    /// Failed, NoCursor, and NoMemory, which comes only where there is a row to hand out, and leaves the cursor where it was.
     pub(crate) fn next(&mut self, s: u8, n: u16) -> Reply
         ensures { AnswersStep self.old (Step.Next s n) result self.new }
     {
