@@ -72,7 +72,8 @@ class Places:
         if len(row.cols) != 4:
             raise ValueError("a row has four columns")
         # (one byte too many is enough: the library refuses the row as too large, whatever is behind)
-        body = bytes(row.body)[: _c.BODY + 1]
+        # (`bytes` of a number would be that many zeros)
+        body = bytes(memoryview(row.body))[: _c.BODY + 1]
         PLACE.pack_into(self._bytes, at, fits(row.key, 64), *map(fits_signed, row.cols), len(body), body)
 
     def row(self) -> Row:

@@ -307,7 +307,11 @@ class TableTest(unittest.TestCase):
             for column in (-2, -1, 4, 255):
                 self.assertRaises(sp.NoSuchIndex, session.by_column, column)
             self.assertRaises(TypeError, session.insert, Row(11, (1.5, 0, 0, 0)))
-            self.assertRaises(TypeError, session.insert, Row(11, body="text"))
+            for body in ("text", 5, None):
+                self.assertRaises(TypeError, session.insert, Row(11, body=body))
+            session.insert(Row(12, body=bytearray(b"bytes")))
+            session.insert(Row(13, body=memoryview(b"bytes")))
+            self.assertEqual([it.body for it in session.by_key(12, 13)], [b"bytes"] * 2)
             self.assertRaises(ValueError, session.rows, 0)
             self.assertRaises(OverflowError, self.table.begin, 256)
             self.assertRaises(OverflowError, self.table.prune, 1 << 32)
