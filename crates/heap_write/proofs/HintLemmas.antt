@@ -246,9 +246,9 @@ hints-covered w pages hints hints' same are = record { each = λ n turn known. a
 
 -- A look at a page.
 
-pub known-none_dead : (h : HeapView) (hints : List (Option ℕ)) (n horizon known turn : ℕ) (page : PageView) → IsWindow h.table → AreTrueHints h.table h.pages.pages hints
-    → slice_get h.pages.pages n ≡ Some page → length page.slots ≤ 291 → turn_on hints n ≡ Some known → IsUpToNext h.table horizon → turn ≡ turns h.table.first horizon → turn ≤ known
+pub known-none_dead : (h : HeapView) (hints : List (Option ℕ)) (n horizon known turn : ℕ) (page : PageView) → IsWindow h.statuses → AreTrueHints h.statuses h.pages.pages hints
+    → slice_get h.pages.pages n ≡ Some page → length page.slots ≤ 291 → turn_on hints n ≡ Some known → IsUpToNext h.statuses horizon → turn ≡ turns h.statuses.first horizon → turn ≤ known
     → HasNoneDead h n horizon
 known-none_dead h hints n horizon known turn page is are at few noted up turn_is early =
-    let dies : NothingDiesBefore h.table known page.slots = subst (λ (p : PageView). NothingDiesBefore h.table known p.slots) (page-at h.pages.pages n page at) (are.each n known noted) in
-    idle-at h n horizon page at few (none-dead h.table known horizon page.slots is up (subst (λ t. t ≤ known) turn_is early) dies)
+    let dies : NothingDiesBefore h.statuses known page.slots = subst (λ (p : PageView). NothingDiesBefore h.statuses known p.slots) (page-at h.pages.pages n page at) (are.each n known noted) in
+    idle-at h n horizon page at few (none-dead h.statuses known horizon page.slots is up (subst (λ t. t ≤ known) turn_is early) dies)

@@ -23,11 +23,11 @@ pub kept-there : (h h1 : HeapView) (place : Tid) → Keeps h h1 → VersionIsThe
 kept-there h h1 place keeps there = subst (λ (l : List Slot). IsNormalAt l place.slot) (sym (kept-slots h h1 place.page keeps)) there
 
 -- the page that was looked at has none
-pub idle-at : (h : HeapView) (n horizon : ℕ) (page : PageView) → slice_get h.pages.pages n ≡ Some page → length page.slots ≤ 291 → ¬ HasDead h.table horizon page.slots
+pub idle-at : (h : HeapView) (n horizon : ℕ) (page : PageView) → slice_get h.pages.pages n ≡ Some page → length page.slots ≤ 291 → ¬ HasDead h.statuses horizon page.slots
     → HasNoneDead h n horizon
 idle-at h n horizon page at few none =
     let is = sym (page-at h.pages.pages n page at) in
     record {
       few = subst (λ (p : PageView). length p.slots ≤ 291) is few;
-      none = subst (λ (p : PageView). ¬ HasDead h.table horizon p.slots) is none;
+      none = subst (λ (p : PageView). ¬ HasDead h.statuses horizon p.slots) is none;
     }

@@ -79,7 +79,7 @@ plan-same w v horizon slots actions same plan = record {
 
 pub plan-kept : (h h1 : HeapView) (n horizon : ℕ) (actions : List (ℕ × Action)) → Keeps h h1 → IsPlanOn h n horizon actions → IsPlanOn h1 n horizon actions
 plan-kept h h1 n horizon actions keeps plan =
-    subst (λ slots. IsPlan h1.table horizon slots actions) (sym (kept-slots h h1 n keeps)) (plan-same h.table h1.table horizon (page_on h n).slots actions keeps.table plan)
+    subst (λ slots. IsPlan h1.statuses horizon slots actions) (sym (kept-slots h h1 n keeps)) (plan-same h.statuses h1.statuses horizon (page_on h n).slots actions keeps.statuses plan)
 
 -- The page is pruned once the plan is applied.
 
@@ -88,7 +88,7 @@ pub applied-prunes : (h h' : HeapView) (n horizon : ℕ) (actions : List (ℕ ×
 applied-prunes h h' n horizon actions within plan is =
     let page = page_on h n in
     let after = applied actions page in
-    let p : IsPrunedPage h.table horizon page after = record { actions = actions; plan = plan; is = refl } in
+    let p : IsPrunedPage h.statuses horizon page after = record { actions = actions; plan = plan; is = refl } in
     record {
       before = page;
       after = after;
@@ -96,8 +96,8 @@ applied-prunes h h' n horizon actions within plan is =
       is = is;
       flag = applied-flag actions page;
       change = (actions, plan, refl);
-      pruned = plan-pruned h.table horizon page after p;
-      removes = pruned-removes h.table horizon page.slots after.slots (plan-pruned h.table horizon page after p);
+      pruned = plan-pruned h.statuses horizon page after p;
+      removes = pruned-removes h.statuses horizon page.slots after.slots (plan-pruned h.statuses horizon page after p);
     }
 
 applied-page : (h h' : HeapView) (n : ℕ) (actions : List (ℕ × Action)) → n < length h.pages.pages → h' ≡ with_applied h n actions → page_on h' n ≡ applied actions (page_on h n)
@@ -197,11 +197,11 @@ kept-prunes h h1 place horizon keeps there plan =
     empty-prunes h1 place.page horizon (there-within h1 place (kept-there h h1 place keeps there)) (plan-kept h h1 place.page horizon [] keeps plan)
 
 pub idle-plan_on : (h : HeapView) (n horizon : ℕ) → HasNoneDead h n horizon → IsPlanOn h n horizon []
-idle-plan_on h n horizon idle = idle-plan h.table horizon (page_on h n).slots idle.few idle.none
+idle-plan_on h n horizon idle = idle-plan h.statuses horizon (page_on h n).slots idle.few idle.none
 
 -- the plan that was made for the page of a number
-pub plan-at : (h : HeapView) (n horizon : ℕ) (page : PageView) (actions : List (ℕ × Action)) → slice_get h.pages.pages n ≡ Some page → IsPlan h.table horizon page.slots actions → IsPlanOn h n horizon actions
-plan-at h n horizon page actions at plan = subst (λ (p : PageView). IsPlan h.table horizon p.slots actions) (sym (page-at h.pages.pages n page at)) plan
+pub plan-at : (h : HeapView) (n horizon : ℕ) (page : PageView) (actions : List (ℕ × Action)) → slice_get h.pages.pages n ≡ Some page → IsPlan h.statuses horizon page.slots actions → IsPlanOn h n horizon actions
+plan-at h n horizon page actions at plan = subst (λ (p : PageView). IsPlan h.statuses horizon p.slots actions) (sym (page-at h.pages.pages n page at)) plan
 
 pub can-at : (h : HeapView) (n : ℕ) (page : PageView) (actions : List (ℕ × Action)) → slice_get h.pages.pages n ≡ Some page → CanApply (length page.slots) actions
     → CanApply (length (page_on h n).slots) actions
@@ -218,7 +218,7 @@ pub named-none : (actions : List (ℕ × Action)) (empty : Bool) → empty ≡ (
 named-none actions empty is so = none-named actions (eqb-true (length actions) 0 (sym is ∙ so))
 
 -- the ids that a session lacks can still be given
-pub free-kept : (h h1 h' : HeapView) (n : ℕ) (actions : List (ℕ × Action)) (own own1 : Own) → Keeps h h1 → SameOwn own own1 → h' ≡ with_applied h1 n actions → ¬ NeedsFreeze h.table own
-    → ¬ NeedsFreeze h'.table own1
+pub free-kept : (h h1 h' : HeapView) (n : ℕ) (actions : List (ℕ × Action)) (own own1 : Own) → Keeps h h1 → SameOwn own own1 → h' ≡ with_applied h1 n actions → ¬ NeedsFreeze h.statuses own
+    → ¬ NeedsFreeze h'.statuses own1
 free-kept h h1 h' n actions own own1 keeps same is free =
-    subst (λ (v : HeapView). ¬ NeedsFreeze v.table own1) (sym is) (rw (keeps.table.first, keeps.table.stop_age, keeps.table.entries, same.ids, same.saved) free)
+    subst (λ (v : HeapView). ¬ NeedsFreeze v.statuses own1) (sym is) (rw (keeps.statuses.first, keeps.statuses.stop_age, keeps.statuses.entries, same.ids, same.saved) free)

@@ -73,7 +73,7 @@ room-left h size (New page) chosen full =
     let few = new-place h.pages.pages h.max_pages size chosen in let over = full.all_used in let no : 1 ≤ 0 = omega (arith, few, over) in omega (arith, no)
 
 -- an insert for which there is room
-pub insert-refused : (h : HeapView) (own : Own) (row : Row) (r : Result Xid WriteFault) → ¬ NeedsFreeze h.table own → ¬ TableIsFull h (rounded_size_of row)
+pub insert-refused : (h : HeapView) (own : Own) (row : Row) (r : Result Xid WriteFault) → ¬ NeedsFreeze h.statuses own → ¬ TableIsFull h (rounded_size_of row)
     → IfErr r (λ fault. fault ≡ NoMemory) → OnErr r (NeedsEntry h.indexes ⊎ NeedsIds h own) → IfErr r (λ fault. LacksForInsert h own row fault)
 insert-refused h own row (Ok x) free room no_memory needs = no_memory
 insert-refused h own row (Err fault) free room no_memory needs =

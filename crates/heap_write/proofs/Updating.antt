@@ -44,9 +44,9 @@ kept-full h h1 n size keeps full = no-room size (room_of (page_on h1 n).slots) (
 
 -- The update of a version whose page has room.
 
-pub updates-here : (h h' : HeapView) (own own' : Own) (place : Tid) (row : Row) (horizon : ℕ) (r : Result Xid WriteFault) → ¬ NeedsFreeze h.table own → VersionIsThere h place
+pub updates-here : (h h' : HeapView) (own own' : Own) (place : Tid) (row : Row) (horizon : ℕ) (r : Result Xid WriteFault) → ¬ NeedsFreeze h.statuses own → VersionIsThere h place
     → rounded_size_of row ≤ room_of (page_on h place.page).slots → h'.max_pages ≡ h.max_pages
-    → IfOk r (λ x. TakesIds h.table h'.table own own' x.0) → IfOk r (λ x. UpdatesOnPage h h' place x.0 row) → IfOk r (λ x. Updates h h' own own' place row horizon x.0)
+    → IfOk r (λ x. TakesIds h.statuses h'.statuses own own' x.0) → IfOk r (λ x. UpdatesOnPage h h' place x.0 row) → IfOk r (λ x. Updates h h' own own' place row horizon x.0)
 updates-here h h' own own' place row horizon (Ok x) free there room max_pages takes replaces = record {
   free = free;
   takes_ids = takes;
@@ -58,7 +58,7 @@ updates-here h h' own own' place row horizon (Ok x) free there room max_pages ta
 }
 updates-here h h' own own' place row horizon (Err fault) free there room max_pages takes replaces = takes
 
-pub here-fails : (h h' : HeapView) (own : Own) (place : Tid) (row : Row) (horizon : ℕ) (r : Result Xid WriteFault) → VersionIsThere h place → ¬ NeedsFreeze h.table own
+pub here-fails : (h h' : HeapView) (own : Own) (place : Tid) (row : Row) (horizon : ℕ) (r : Result Xid WriteFault) → VersionIsThere h place → ¬ NeedsFreeze h.statuses own
     → IfErr r (λ fault. fault ≡ NoMemory) → OnErr r (UpdateNeedsMemory h own place row horizon) → OnErr r (Keeps h h')
     → IfErr r (λ fault. FailsUpdate h h' own place row horizon fault)
 here-fails h h' own place row horizon (Ok x) there free no_memory needs keeps = no_memory
@@ -67,12 +67,12 @@ here-fails h h' own place row horizon (Err fault) there free no_memory needs kee
 
 -- The update after the page was pruned.
 
-pub updates : (h grown ready h' : HeapView) (own grown_own own' : Own) (place : Tid) (row : Row) (horizon x : ℕ) → ¬ NeedsFreeze h.table own
-    → room_of (page_on h place.page).slots < rounded_size_of row → Keeps h grown → SameOwn own grown_own → (unassigned_levels own.ids own.saved ≡ 0 → grown.table ≡ h.table) → Prunes grown ready place.page horizon
-    → TakesIds ready.table h'.table grown_own own' x → VersionIsThere ready place → Replaces ready h' place x row → h'.max_pages ≡ ready.max_pages → Updates h h' own own' place row horizon x
+pub updates : (h grown ready h' : HeapView) (own grown_own own' : Own) (place : Tid) (row : Row) (horizon x : ℕ) → ¬ NeedsFreeze h.statuses own
+    → room_of (page_on h place.page).slots < rounded_size_of row → Keeps h grown → SameOwn own grown_own → (unassigned_levels own.ids own.saved ≡ 0 → grown.statuses ≡ h.statuses) → Prunes grown ready place.page horizon
+    → TakesIds ready.statuses h'.statuses grown_own own' x → VersionIsThere ready place → Replaces ready h' place x row → h'.max_pages ≡ ready.max_pages → Updates h h' own own' place row horizon x
 updates h grown ready h' own grown_own own' place row horizon x free full keeps same none prunes takes there replaces max_pages = record {
   free = free;
-  takes_ids = takes-grown h.table grown.table h'.table own grown_own own' x keeps.table same none (subst (λ (w : Window). TakesIds w h'.table grown_own own' x) (ap (λ (v : HeapView). v.table) prunes.is) takes);
+  takes_ids = takes-grown h.statuses grown.statuses h'.statuses own grown_own own' x keeps.statuses same none (subst (λ (w : Window). TakesIds w h'.statuses grown_own own' x) (ap (λ (v : HeapView). v.statuses) prunes.is) takes);
   ready = ready;
   readies = is_pruned full grown keeps prunes;
   there = there;
@@ -80,7 +80,7 @@ updates h grown ready h' own grown_own own' place row horizon x free full keeps 
   max_pages = max_pages ∙ ap (λ (v : HeapView). v.max_pages) prunes.is ∙ keeps.max_pages;
 }
 
-pub fails : (h grown ready h' : HeapView) (own : Own) (place : Tid) (row : Row) (horizon : ℕ) (fault : WriteFault) → VersionIsThere h place → ¬ NeedsFreeze h.table own
+pub fails : (h grown ready h' : HeapView) (own : Own) (place : Tid) (row : Row) (horizon : ℕ) (fault : WriteFault) → VersionIsThere h place → ¬ NeedsFreeze h.statuses own
     → room_of (page_on h place.page).slots < rounded_size_of row → Keeps h grown → Prunes grown ready place.page horizon → h' ≡ ready
     → FailsAfterPruning ready place (rounded_size_of row) fault → FailsUpdate h h' own place row horizon fault
 fails h grown ready h' own place row horizon fault there free full keeps prunes same failed = by fault failed
@@ -103,15 +103,15 @@ fails h grown ready h' own place row horizon fault there free full keeps prunes 
 
 -- The same of whatever it answers.
 
-pub updates-all : (h grown ready h' : HeapView) (own grown_own own' : Own) (place : Tid) (row : Row) (horizon : ℕ) (r : Result Xid WriteFault) → ¬ NeedsFreeze h.table own
-    → room_of (page_on h place.page).slots < rounded_size_of row → Keeps h grown → SameOwn own grown_own → (unassigned_levels own.ids own.saved ≡ 0 → grown.table ≡ h.table) → Prunes grown ready place.page horizon
-    → IfOk r (λ x. TakesIds ready.table h'.table grown_own own' x.0) → IfOk r (λ x. VersionIsThere ready place) → IfOk r (λ x. Replaces ready h' place x.0 row) → h'.max_pages ≡ ready.max_pages
+pub updates-all : (h grown ready h' : HeapView) (own grown_own own' : Own) (place : Tid) (row : Row) (horizon : ℕ) (r : Result Xid WriteFault) → ¬ NeedsFreeze h.statuses own
+    → room_of (page_on h place.page).slots < rounded_size_of row → Keeps h grown → SameOwn own grown_own → (unassigned_levels own.ids own.saved ≡ 0 → grown.statuses ≡ h.statuses) → Prunes grown ready place.page horizon
+    → IfOk r (λ x. TakesIds ready.statuses h'.statuses grown_own own' x.0) → IfOk r (λ x. VersionIsThere ready place) → IfOk r (λ x. Replaces ready h' place x.0 row) → h'.max_pages ≡ ready.max_pages
     → IfOk r (λ x. Updates h h' own own' place row horizon x.0)
 updates-all h grown ready h' own grown_own own' place row horizon (Ok x) free full keeps same none prunes takes there replaces max_pages =
     updates h grown ready h' own grown_own own' place row horizon x.0 free full keeps same none prunes takes there replaces max_pages
 updates-all h grown ready h' own grown_own own' place row horizon (Err fault) free full keeps same none prunes takes there replaces max_pages = takes
 
-pub fails-all : (h grown ready h' : HeapView) (own : Own) (place : Tid) (row : Row) (horizon : ℕ) (r : Result Xid WriteFault) → VersionIsThere h place → ¬ NeedsFreeze h.table own
+pub fails-all : (h grown ready h' : HeapView) (own : Own) (place : Tid) (row : Row) (horizon : ℕ) (r : Result Xid WriteFault) → VersionIsThere h place → ¬ NeedsFreeze h.statuses own
     → room_of (page_on h place.page).slots < rounded_size_of row → Keeps h grown → Prunes grown ready place.page horizon → OnErr r (h' ≡ ready)
     → IfErr r (λ fault. FailsAfterPruning ready place (rounded_size_of row) fault) → IfErr r (λ fault. FailsUpdate h h' own place row horizon fault)
 fails-all h grown ready h' own place row horizon (Ok x) there free full keeps prunes same failed = failed

@@ -120,9 +120,9 @@ reserved-grown h h1 size (New page) (chosen, (same, marks)) entries = (
   record { place = to.NewPage; chosen = chosen; number = ap (λ pages. Some (length pages)) (sym same) },
 )
 
-pub inserts : (h h1 h' : HeapView) (own own' : Own) (row : Row) (x : ℕ) (target : Target) → ¬ NeedsFreeze h.table own
+pub inserts : (h h1 h' : HeapView) (own own' : Own) (row : Row) (x : ℕ) (target : Target) → ¬ NeedsFreeze h.statuses own
     → Reserves h.pages h1.pages h.max_pages (rounded_size_of row) (Some target) → SameEntries h.indexes h1.indexes
-    → TakesIds h.table h'.table own own' x → PutsRoot h1 h' false x row (target_number h1.pages.pages target) → h'.max_pages ≡ h.max_pages → Inserts h h' own own' row x
+    → TakesIds h.statuses h'.statuses own own' x → PutsRoot h1 h' false x row (target_number h1.pages.pages target) → h'.max_pages ≡ h.max_pages → Inserts h h' own own' row x
 inserts h h1 h' own own' row x target free reserves entries takes root max_pages =
     let number = target_number h1.pages.pages target in
     let at = reserved-grown h h1 (rounded_size_of row) target reserves entries in
@@ -257,7 +257,7 @@ replaces-here h h' place x row before after at slots change flag within pages ma
 
 -- A delete.
 
-pub deletes : (h h' : HeapView) (own own' : Own) (place : Tid) (x : ℕ) (before after : PageView) → ¬ NeedsFreeze h.table own → TakesIds h.table h'.table own own' x
+pub deletes : (h h' : HeapView) (own own' : Own) (place : Tid) (x : ℕ) (before after : PageView) → ¬ NeedsFreeze h.statuses own → TakesIds h.statuses h'.statuses own own' x
     → VersionIsThere h place → slice_get h.pages.pages place.page ≡ Some before → MarksColdUpdated before after place place x
     → h'.pages.pages ≡ set h.pages.pages place.page after → h'.pages.marks ≡ set h.pages.marks place.page Nothing → SameEntries h.indexes h'.indexes → h'.max_pages ≡ h.max_pages → Deletes h h' own own' place x
 deletes h h' own own' place x before after free takes there at away pages marks entries max_pages =

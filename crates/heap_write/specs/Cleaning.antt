@@ -27,14 +27,14 @@ pub record FreezesAt (h h' : HeapView) (p cutoff : ℕ) : Type 0 where
   pub after : PageView
   pub at : slice_get h.pages.pages p ≡ Some before
   pub is : h' ≡ record h { pages = record h.pages { pages = slice_set h.pages.pages p after } }
-  pub freezes : FreezesPage h.table cutoff p before after
+  pub freezes : FreezesPage h.statuses cutoff p before after
 
 -- the exact mark of one page at a horizon is noted in the map, and in the page's flag; nothing else changes
 pub record Notes (h h' : HeapView) (p horizon : ℕ) : Type 0 where
   pub page : PageView
   pub at : slice_get h.pages.pages p ≡ Some page
   pub mark : Mark
-  pub exact : IsPageMark h.table horizon page.slots mark
+  pub exact : IsPageMark h.statuses horizon page.slots mark
   pub is : h' ≡ record h {
     pages = record h.pages {
       pages = slice_set h.pages.pages p (record page { flag = says_visible mark });
@@ -77,5 +77,5 @@ pub record FreesAt (h h' : HeapView) (p : ℕ) (numbers : List ℕ) : Type 0 whe
 
 -- ids before the cutoff are forgotten, and nothing else changes
 pub record ForgetsBefore (h h' : HeapView) (cutoff : ℕ) : Type 0 where
-  pub is : h' ≡ record h { table = h'.table }
-  pub truncates : Truncates h.table h'.table cutoff
+  pub is : h' ≡ record h { statuses = h'.statuses }
+  pub truncates : Truncates h.statuses h'.statuses cutoff

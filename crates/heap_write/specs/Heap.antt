@@ -12,7 +12,7 @@ use Rattle.table_indexes.specs.Indexes.{SameEntries}
 
 pub record HeapView : Type 0 where
   pub pages : PagesView
-  pub table : Window
+  pub statuses : Window
   -- by their numbers: each one in use has an entry for the root of each chain
   pub indexes : List (Option IndexView)
   -- how many pages may be in use
@@ -46,7 +46,7 @@ pub record Keeps (h h' : HeapView) : Type 0 where
   pub changes : map (λ p. p.change) h'.pages.pages ≡ map (λ p. p.change) h.pages.pages
   pub flags : map (λ p. p.flag) h'.pages.pages ≡ map (λ p. p.flag) h.pages.pages
   pub marks : h'.pages.marks ≡ h.pages.marks
-  pub table : SameIds h.table h'.table
+  pub statuses : SameIds h.statuses h'.statuses
   pub entries : SameEntries h.indexes h'.indexes
   pub max_pages : h'.max_pages ≡ h.max_pages
 

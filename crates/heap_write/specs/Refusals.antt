@@ -24,7 +24,7 @@ pub record NeedsSlot (page : PageView) : Type 0 where
 
 -- the new ids take memory: the table of ids has to grow for them, or the session's own list
 abbrev pub NeedsIds : HeapView → Own → Type 0
-NeedsIds h own = (h.table.spare < unassigned_levels own.ids own.saved) ⊎ (own.spare < unassigned_levels own.ids own.saved)
+NeedsIds h own = (h.statuses.spare < unassigned_levels own.ids own.saved) ⊎ (own.spare < unassigned_levels own.ids own.saved)
 
 -- something has to grow for a new root: the ids, the list of pages, a page's list of slots, or an index
 pub data RootNeedsMemory (h : HeapView) (own : Own) (size : ℕ) : Type 0 where
@@ -34,9 +34,9 @@ pub data RootNeedsMemory (h : HeapView) (own : Own) (size : ℕ) : Type 0 where
   for_entry : NeedsEntry h.indexes → RootNeedsMemory h own size
 
 abbrev pub LacksForInsert : HeapView → Own → Row → WriteFault → Type 0
-LacksForInsert h own row fault.NeedsFreeze = NeedsFreeze h.table own
-LacksForInsert h own row fault.NoRoom = (¬ NeedsFreeze h.table own) × TableIsFull h (rounded_size_of row)
-LacksForInsert h own row fault.NoMemory = (¬ NeedsFreeze h.table own) × (¬ TableIsFull h (rounded_size_of row)) × RootNeedsMemory h own (rounded_size_of row)
+LacksForInsert h own row fault.NeedsFreeze = NeedsFreeze h.statuses own
+LacksForInsert h own row fault.NoRoom = (¬ NeedsFreeze h.statuses own) × TableIsFull h (rounded_size_of row)
+LacksForInsert h own row fault.NoMemory = (¬ NeedsFreeze h.statuses own) × (¬ TableIsFull h (rounded_size_of row)) × RootNeedsMemory h own (rounded_size_of row)
 LacksForInsert h own row fault.Gone = ⊥
 
 -- a version is at the place
@@ -58,25 +58,25 @@ pub data UpdateNeedsMemory (h : HeapView) (own : Own) (place : Tid) (row : Row) 
 -- the page of the old version was made ready, and this is so then
 pub record AfterPruning (h h' : HeapView) (own : Own) (place : Tid) (horizon size : ℕ) (P : HeapView → Type 0) : Type 0 where
   pub there : VersionIsThere h place
-  pub free : ¬ NeedsFreeze h.table own
+  pub free : ¬ NeedsFreeze h.statuses own
   pub ready : HeapView
   pub readies : PrunesIfFull h ready place.page horizon size
   pub has : P ready
   pub keeps : Keeps ready h'
 
 abbrev pub FailsUpdate : HeapView → HeapView → Own → Tid → Row → ℕ → WriteFault → Type 0
-FailsUpdate h h' own place row horizon fault.NeedsFreeze = VersionIsThere h place × NeedsFreeze h.table own × Keeps h h'
+FailsUpdate h h' own place row horizon fault.NeedsFreeze = VersionIsThere h place × NeedsFreeze h.statuses own × Keeps h h'
 FailsUpdate h h' own place row horizon fault.NoRoom =
     AfterPruning h h' own place horizon (rounded_size_of row) (λ ready. VersionIsThere ready place × TableIsFull ready (rounded_size_of row))
 FailsUpdate h h' own place row horizon fault.NoMemory =
-    VersionIsThere h place × (¬ NeedsFreeze h.table own) × UpdateNeedsMemory h own place row horizon × Keeps h h'
+    VersionIsThere h place × (¬ NeedsFreeze h.statuses own) × UpdateNeedsMemory h own place row horizon × Keeps h h'
 FailsUpdate h h' own place row horizon fault.Gone =
     ((¬ VersionIsThere h place) × Keeps h h') ⊎ AfterPruning h h' own place horizon (rounded_size_of row) (λ ready. ¬ VersionIsThere ready place)
 
 abbrev pub FailsDelete : HeapView → HeapView → Own → Tid → WriteFault → Type 0
-FailsDelete h h' own place fault.NeedsFreeze = VersionIsThere h place × NeedsFreeze h.table own × Keeps h h'
+FailsDelete h h' own place fault.NeedsFreeze = VersionIsThere h place × NeedsFreeze h.statuses own × Keeps h h'
 FailsDelete h h' own place fault.NoRoom = ⊥
-FailsDelete h h' own place fault.NoMemory = VersionIsThere h place × (¬ NeedsFreeze h.table own) × NeedsIds h own × Keeps h h'
+FailsDelete h h' own place fault.NoMemory = VersionIsThere h place × (¬ NeedsFreeze h.statuses own) × NeedsIds h own × Keeps h h'
 FailsDelete h h' own place fault.Gone = (¬ VersionIsThere h place) × Keeps h h'
 
 -- why a page is not pruned: it is not in use

@@ -30,11 +30,11 @@ FailsAfterPruning h place size fault.NoMemory = ⊥
 -- no version on the page of this number is dead, so that pruning leaves it as it is
 pub record HasNoneDead (h : HeapView) (number horizon : ℕ) : Type 0 where
   pub few : length (page_on h number).slots ≤ MOST_SLOTS
-  pub none : ¬ HasDead h.table horizon (page_on h number).slots
+  pub none : ¬ HasDead h.statuses horizon (page_on h number).slots
 
 -- the actions are those of pruning the page of this number at a horizon
 abbrev pub IsPlanOn : HeapView → ℕ → ℕ → List (ℕ × Action) → Type 0
-IsPlanOn h number horizon actions = IsPlan h.table horizon (page_on h number).slots actions
+IsPlanOn h number horizon actions = IsPlan h.statuses horizon (page_on h number).slots actions
 
 -- they are done on the page of this number, and nothing else changes
 abbrev pub with_applied : HeapView → ℕ → List (ℕ × Action) → HeapView

@@ -116,16 +116,16 @@ pub record Prunes (h h' : HeapView) (number horizon : ℕ) : Type 0 where
   pub at : slice_get h.pages.pages number ≡ Some before
   pub is : h' ≡ record h { pages = record h.pages { pages = slice_set h.pages.pages number after } }
   pub flag : after.flag ≡ before.flag
-  pub change : (actions : _) × IsPlan h.table horizon before.slots actions × (after.change ≡ (applied actions before).change)
-  pub pruned : IsPruned h.table horizon before.slots after.slots
-  pub removes : RemovesVersions h.table horizon before.slots after.slots
+  pub change : (actions : _) × IsPlan h.statuses horizon before.slots actions × (after.change ≡ (applied actions before).change)
+  pub pruned : IsPruned h.statuses horizon before.slots after.slots
+  pub removes : RemovesVersions h.statuses horizon before.slots after.slots
 
 -- Writes.
 
 -- a version of the row is inserted by who has these ids, under x
 pub record Inserts (h h' : HeapView) (own own' : Own) (row : Row) (x : ℕ) : Type 0 where
-  pub free : ¬ NeedsFreeze h.table own
-  pub takes_ids : TakesIds h.table h'.table own own' x
+  pub free : ¬ NeedsFreeze h.statuses own
+  pub takes_ids : TakesIds h.statuses h'.statuses own own' x
   pub number : ℕ
   pub goes_to : GoesTo h (rounded_size_of row) number
   pub root : PutsRoot h h' false x row number
@@ -153,8 +153,8 @@ pub data Replaces (h h' : HeapView) (place : Tid) (x : ℕ) (row : Row) : Type 0
 
 -- the version at a place is updated to this row
 pub record Updates (h h' : HeapView) (own own' : Own) (place : Tid) (row : Row) (horizon x : ℕ) : Type 0 where
-  pub free : ¬ NeedsFreeze h.table own
-  pub takes_ids : TakesIds h.table h'.table own own' x
+  pub free : ¬ NeedsFreeze h.statuses own
+  pub takes_ids : TakesIds h.statuses h'.statuses own own' x
   pub ready : HeapView
   pub readies : PrunesIfFull h ready place.page horizon (rounded_size_of row)
   pub there : IsNormalAt (page_on ready place.page).slots place.slot
@@ -163,8 +163,8 @@ pub record Updates (h h' : HeapView) (own own' : Own) (place : Tid) (row : Row) 
 
 -- the version at a place is deleted
 pub record Deletes (h h' : HeapView) (own own' : Own) (place : Tid) (x : ℕ) : Type 0 where
-  pub free : ¬ NeedsFreeze h.table own
-  pub takes_ids : TakesIds h.table h'.table own own' x
+  pub free : ¬ NeedsFreeze h.statuses own
+  pub takes_ids : TakesIds h.statuses h'.statuses own own' x
   pub there : IsNormalAt (page_on h place.page).slots place.slot
   pub away : SetsXmax h h' place x place
   pub max_pages : h'.max_pages ≡ h.max_pages

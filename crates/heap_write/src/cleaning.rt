@@ -32,9 +32,9 @@ impl HeapState {
         requires within { number < length self.old.pages.pages }
         ensures { FreezesAt self.old self.new number cutoff.0 }
     {
-        let table = &self.table;
+        let statuses = &self.statuses;
         self.pages
-            .edit(number, |page| freeze_page(page, number, cutoff, table));
+            .edit(number, |page| freeze_page(page, number, cutoff, statuses));
         self.hints.end(number);
     }
 
@@ -45,7 +45,7 @@ impl HeapState {
         ensures { Notes self.old self.new number horizon.0 }
     {
         if let Some(page) = self.pages.page(number) {
-            let mark = mark_of(page, horizon, &self.table);
+            let mark = mark_of(page, horizon, &self.statuses);
             self.pages.note(number, mark);
         }
     }
@@ -101,12 +101,12 @@ impl HeapState {
 
     /// Forgets the ids before this one, which is remembered or the next.
     pub fn forget(&mut self, x: Xid)
-        requires { IsUpToNext self.old.table x.0 }
+        requires { IsUpToNext self.old.statuses x.0 }
         ensures forgets { ForgetsBefore self.old self.new x.0 }
-        ensures window { IsWindow self.new.table }
+        ensures window { IsWindow self.new.statuses }
     {
-        self.table.truncate(x);
-        self.table.is_window();
+        self.statuses.truncate(x);
+        self.statuses.is_window();
         self.hints.end_all();
     }
 }

@@ -20,30 +20,30 @@ impl HeapState {
     /// where the table of ids or the session's own list has to grow. A refused delete changes nothing and gives no id.
     /// (PostgreSQL, `heap_delete` in src/backend/access/heap/heapam.c.)
     pub fn delete(&mut self, own: &mut OwnIds, place: Tid) -> Result<Xid, WriteFault>
-        requires newest { NewestIsGiven self.old.table own.old }
+        requires newest { NewestIsGiven self.old.statuses own.old }
         ensures ok { IfOk result (λ x. Deletes self.old self.new own.old own.new place x.0) }
         ensures fault { IfErr result (λ fault. FailsDelete self.old self.new own.old place fault) }
         ensures own { OnErr result (SameOwn own.old own.new) }
-        ensures window { IsWindow self.new.table }
+        ensures window { IsWindow self.new.statuses }
         ensures normal { IfOk result (λ x. IsNormal x.0) }
     {
-        self.table.is_window();
+        self.statuses.is_window();
         if !self.is_there(place) {
             return Err(WriteFault::Gone);
         }
-        if needs_freeze(&self.table, own) {
+        if needs_freeze(&self.statuses, own) {
             return Err(WriteFault::NeedsFreeze);
         }
-        if reserve_ids(&mut self.table, own).is_err() {
-            self.table.is_window();
+        if reserve_ids(&mut self.statuses, own).is_err() {
+            self.statuses.is_window();
             return Err(WriteFault::NoMemory);
         }
-        let x = take_ids(&mut self.table, own);
+        let x = take_ids(&mut self.statuses, own);
         self.pages.write(
             place.page,
             |page| delete_version(page, place.page, place.slot, x),
         );
-        expect_write(&mut self.hints, &self.table, place.page, x);
+        expect_write(&mut self.hints, &self.statuses, place.page, x);
         Ok(x)
     }
 

@@ -37,8 +37,8 @@ impl HeapState {
         row: &Row,
         horizon: Xid,
     ) -> Result<Xid, WriteFault>
-        requires newest { NewestIsGiven self.old.table own.old }
-        requires free { ¬ NeedsFreeze self.old.table own.old }
+        requires newest { NewestIsGiven self.old.statuses own.old }
+        requires free { ¬ NeedsFreeze self.old.statuses own.old }
         requires there { VersionIsThere self.old place }
         requires room { room_of (page_on self.old place.page).slots < rounded_size_of row.now }
         ensures ok { IfOk result
@@ -46,7 +46,7 @@ impl HeapState {
         ensures fault { IfErr result
             (λ fault. FailsUpdate self.old self.new own.old place row.now horizon.0 fault) }
         ensures own { OnErr result (SameOwn own.old own.new) }
-        ensures window { IsWindow self.new.table }
+        ensures window { IsWindow self.new.statuses }
         ensures normal { IfOk result (λ x. IsNormal x.0) }
     {
         if self.knows_none_dead(place.page, horizon) {
@@ -66,8 +66,8 @@ impl HeapState {
         row: &Row,
         horizon: Xid,
     ) -> Result<Xid, WriteFault>
-        requires newest { NewestIsGiven self.old.table own.old }
-        requires free { ¬ NeedsFreeze self.old.table own.old }
+        requires newest { NewestIsGiven self.old.statuses own.old }
+        requires free { ¬ NeedsFreeze self.old.statuses own.old }
         requires there { VersionIsThere self.old place }
         requires room { room_of (page_on self.old place.page).slots < rounded_size_of row.now }
         ensures ok { IfOk result
@@ -75,15 +75,15 @@ impl HeapState {
         ensures fault { IfErr result
             (λ fault. FailsUpdate self.old self.new own.old place row.now horizon.0 fault) }
         ensures own { OnErr result (SameOwn own.old own.new) }
-        ensures window { IsWindow self.new.table }
+        ensures window { IsWindow self.new.statuses }
         ensures normal { IfOk result (λ x. IsNormal x.0) }
     {
-        self.table.is_window();
+        self.statuses.is_window();
         let page = match self.pages.page(place.page) {
             Some(page) => page,
             None => return Err(WriteFault::Gone),
         };
-        let plan = plan(page, &self.table, horizon);
+        let plan = plan(page, &self.statuses, horizon);
         if plan.actions.is_empty() {
             self.note_first_death(place.page, horizon);
             return self.update_unpruned(own, place, row);
@@ -102,8 +102,8 @@ impl HeapState {
         place: Tid,
         row: &Row,
     ) -> Result<Xid, WriteFault>
-        requires newest { NewestIsGiven self.old.table own.old }
-        requires free { ¬ NeedsFreeze self.old.table own.old }
+        requires newest { NewestIsGiven self.old.statuses own.old }
+        requires free { ¬ NeedsFreeze self.old.statuses own.old }
         requires there { VersionIsThere self.old place }
         requires room { room_of (page_on self.old place.page).slots < rounded_size_of row.now }
         ensures ok { (horizon : ℕ) → IsPlanOn self.old place.page horizon []
@@ -113,11 +113,11 @@ impl HeapState {
             → IfErr result
             (λ fault. FailsUpdate self.old self.new own.old place row.now horizon fault) }
         ensures own { OnErr result (SameOwn own.old own.new) }
-        ensures window { IsWindow self.new.table }
+        ensures window { IsWindow self.new.statuses }
         ensures normal { IfOk result (λ x. IsNormal x.0) }
     {
         let reserved = self.reserve_root(own, row_size(row));
-        self.table.is_window();
+        self.statuses.is_window();
         match reserved {
             Ok(target) => self.update_elsewhere(own, place, row, target),
             Err(_) => Err(WriteFault::NoMemory),
@@ -132,8 +132,8 @@ impl HeapState {
         row: &Row,
         plan: &PrunePlan,
     ) -> Result<Xid, WriteFault>
-        requires newest { NewestIsGiven self.old.table own.old }
-        requires free { ¬ NeedsFreeze self.old.table own.old }
+        requires newest { NewestIsGiven self.old.statuses own.old }
+        requires free { ¬ NeedsFreeze self.old.statuses own.old }
         requires there { VersionIsThere self.old place }
         requires room { room_of (page_on self.old place.page).slots < rounded_size_of row.now }
         requires planned { IsPlanOf (page_on self.old place.page).slots
@@ -151,12 +151,12 @@ impl HeapState {
             → IfErr result
             (λ fault. FailsUpdate self.old self.new own.old place row.now horizon fault) }
         ensures own { OnErr result (SameOwn own.old own.new) }
-        ensures window { IsWindow self.new.table }
+        ensures window { IsWindow self.new.statuses }
         ensures normal { IfOk result (λ x. IsNormal x.0) }
     {
         let heap_only = self.keeps_values(place, row);
         let reserved = self.reserve_on_page(own, place.page, heap_only);
-        self.table.is_window();
+        self.statuses.is_window();
         match reserved {
             Ok(()) => {
                 self.apply_plan(place.page, plan);
@@ -174,8 +174,8 @@ impl HeapState {
         row: &Row,
         plan: &PrunePlan,
     ) -> Result<Xid, WriteFault>
-        requires newest { NewestIsGiven self.old.table own.old }
-        requires free { ¬ NeedsFreeze self.old.table own.old }
+        requires newest { NewestIsGiven self.old.statuses own.old }
+        requires free { ¬ NeedsFreeze self.old.statuses own.old }
         requires there { VersionIsThere self.old place }
         requires room { room_of (page_on self.old place.page).slots < rounded_size_of row.now }
         requires can_apply { CanApply (length (page_on self.old place.page).slots)
@@ -191,11 +191,11 @@ impl HeapState {
             → IfErr result
             (λ fault. FailsUpdate self.old self.new own.old place row.now horizon fault) }
         ensures own { OnErr result (SameOwn own.old own.new) }
-        ensures window { IsWindow self.new.table }
+        ensures window { IsWindow self.new.statuses }
         ensures normal { IfOk result (λ x. IsNormal x.0) }
     {
         let reserved = self.reserve_root(own, row_size(row));
-        self.table.is_window();
+        self.statuses.is_window();
         match reserved {
             Ok(target) => {
                 self.apply_plan(place.page, plan);
@@ -211,16 +211,16 @@ impl HeapState {
         requires { size ≤ 8164 }
         ensures keeps { Keeps self.old self.new }
         ensures none { unassigned_levels own.old.ids own.old.saved ≡ 0
-            → self.new.table ≡ self.old.table }
+            → self.new.statuses ≡ self.old.statuses }
         ensures own { SameOwn own.old own.new }
-        ensures has_ids { OnOk result (HasIds self.new.table own.new) }
+        ensures has_ids { OnOk result (HasIds self.new.statuses own.new) }
         ensures has_entries { OnOk result (HasEntries self.new.indexes) }
         ensures chosen { IfOk result (λ found. IsChosen self.new size found) }
         ensures ready { IfOk result
             (λ found. IfSome found (λ target. IsReserved self.new.pages size target)) }
         ensures needs { OnErr result (RootNeedsMemory self.old own.old size) }
     {
-        reserve_ids(&mut self.table, own)?;
+        reserve_ids(&mut self.statuses, own)?;
         self.indexes.make_room()?;
         reserve_place(
             self.alloc,
@@ -239,16 +239,16 @@ impl HeapState {
         row: &Row,
         heap_only: bool,
     ) -> Result<Xid, WriteFault>
-        requires newest { NewestIsGiven self.old.table own.old }
-        requires free { ¬ NeedsFreeze self.old.table own.old }
-        requires has_ids { HasIds self.old.table own.old }
+        requires newest { NewestIsGiven self.old.statuses own.old }
+        requires free { ¬ NeedsFreeze self.old.statuses own.old }
+        requires has_ids { HasIds self.old.statuses own.old }
         requires fits { rounded_size_of row.now ≤ room_of (page_on self.old place.page).slots }
         requires has_slot { HasSlot (page_on self.old place.page) }
         requires heap_only { VersionIsThere self.old place
             → (IsTrue heap_only ↔ KeepsValues self.old place row.now) }
         requires has_entries { IsFalse heap_only → HasEntries self.old.indexes }
         ensures takes { IfOk result
-            (λ x. TakesIds self.old.table self.new.table own.old own.new x.0) }
+            (λ x. TakesIds self.old.statuses self.new.statuses own.old own.new x.0) }
         ensures there { IfOk result (λ x. VersionIsThere self.old place) }
         ensures replaces { IfOk result (λ x. Replaces self.old self.new place x.0 row.now) }
         ensures max_pages { self.new.max_pages ≡ self.old.max_pages }
@@ -256,10 +256,10 @@ impl HeapState {
             (λ fault. FailsAfterPruning self.old place (rounded_size_of row.now) fault) }
         ensures err { OnErr result (self.new ≡ self.old) }
         ensures own { OnErr result (SameOwn own.old own.new) }
-        ensures window { IsWindow self.new.table }
+        ensures window { IsWindow self.new.statuses }
         ensures normal { IfOk result (λ x. IsNormal x.0) }
     {
-        self.table.is_window();
+        self.statuses.is_window();
         if !self.is_there(place) {
             return Err(WriteFault::Gone);
         }
@@ -274,16 +274,16 @@ impl HeapState {
         row: &Row,
         target: Option<Target>,
     ) -> Result<Xid, WriteFault>
-        requires newest { NewestIsGiven self.old.table own.old }
-        requires free { ¬ NeedsFreeze self.old.table own.old }
-        requires has_ids { HasIds self.old.table own.old }
+        requires newest { NewestIsGiven self.old.statuses own.old }
+        requires free { ¬ NeedsFreeze self.old.statuses own.old }
+        requires has_ids { HasIds self.old.statuses own.old }
         requires has_entries { HasEntries self.old.indexes }
         requires room { room_of (page_on self.old place.page).slots < rounded_size_of row.now }
         requires chosen { IsChosen self.old (rounded_size_of row.now) target }
         requires ready { IfSome target
             (λ t. IsReserved self.old.pages (rounded_size_of row.now) t) }
         ensures takes { IfOk result
-            (λ x. TakesIds self.old.table self.new.table own.old own.new x.0) }
+            (λ x. TakesIds self.old.statuses self.new.statuses own.old own.new x.0) }
         ensures there { IfOk result (λ x. VersionIsThere self.old place) }
         ensures replaces { IfOk result (λ x. Replaces self.old self.new place x.0 row.now) }
         ensures max_pages { self.new.max_pages ≡ self.old.max_pages }
@@ -291,10 +291,10 @@ impl HeapState {
             (λ fault. FailsAfterPruning self.old place (rounded_size_of row.now) fault) }
         ensures err { OnErr result (self.new ≡ self.old) }
         ensures own { OnErr result (SameOwn own.old own.new) }
-        ensures window { IsWindow self.new.table }
+        ensures window { IsWindow self.new.statuses }
         ensures normal { IfOk result (λ x. IsNormal x.0) }
     {
-        self.table.is_window();
+        self.statuses.is_window();
         if !self.is_there(place) {
             return Err(WriteFault::Gone);
         }
@@ -309,9 +309,9 @@ impl HeapState {
         row: &Row,
         target: Option<Target>,
     ) -> Result<Xid, WriteFault>
-        requires newest { NewestIsGiven self.old.table own.old }
-        requires free { ¬ NeedsFreeze self.old.table own.old }
-        requires has_ids { HasIds self.old.table own.old }
+        requires newest { NewestIsGiven self.old.statuses own.old }
+        requires free { ¬ NeedsFreeze self.old.statuses own.old }
+        requires has_ids { HasIds self.old.statuses own.old }
         requires has_entries { HasEntries self.old.indexes }
         requires there { VersionIsThere self.old place }
         requires room { room_of (page_on self.old place.page).slots < rounded_size_of row.now }
@@ -319,7 +319,7 @@ impl HeapState {
         requires ready { IfSome target
             (λ t. IsReserved self.old.pages (rounded_size_of row.now) t) }
         ensures takes { IfOk result
-            (λ x. TakesIds self.old.table self.new.table own.old own.new x.0) }
+            (λ x. TakesIds self.old.statuses self.new.statuses own.old own.new x.0) }
         ensures there { IfOk result (λ x. VersionIsThere self.old place) }
         ensures replaces { IfOk result (λ x. Replaces self.old self.new place x.0 row.now) }
         ensures max_pages { self.new.max_pages ≡ self.old.max_pages }
@@ -327,10 +327,10 @@ impl HeapState {
             (λ fault. FailsAfterPruning self.old place (rounded_size_of row.now) fault) }
         ensures err { OnErr result (self.new ≡ self.old) }
         ensures own { OnErr result (SameOwn own.old own.new) }
-        ensures window { IsWindow self.new.table }
+        ensures window { IsWindow self.new.statuses }
         ensures normal { IfOk result (λ x. IsNormal x.0) }
     {
-        self.table.is_window();
+        self.statuses.is_window();
         match target {
             Some(target) => Ok(self.cold_update(own, place, row, target)),
             None => Err(WriteFault::NoRoom),

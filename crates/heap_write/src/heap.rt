@@ -41,7 +41,7 @@ pub enum WriteFault {
 pub struct HeapState {
     pub(crate) alloc: Global,
     pub(crate) pages: Pages,
-    pub(crate) table: StatusTable,
+    pub(crate) statuses: StatusTable,
     // from which turn on a version on a page may be dead, as far as it is known: it changes no answer
     pub(crate) hints: PruneHints,
     pub(crate) indexes: Indexes,
@@ -56,10 +56,10 @@ impl Model for HeapState {
 
     ghost Value = { HeapView };
 
-    ghost view = { λ h. record { pages = h.pages; table = h.table; indexes = h.indexes; max_pages = h.max_pages } };
+    ghost view = { λ h. record { pages = h.pages; statuses = h.statuses; indexes = h.indexes; max_pages = h.max_pages } };
 
     ghost invariant = { λ h.
-        (h.max_pages ≤ MAX_PAGES) × AreTrueHints h.table h.pages.pages h.hints.turns };
+        (h.max_pages ≤ MAX_PAGES) × AreTrueHints h.statuses h.pages.pages h.hints.turns };
 }
 
 impl HeapState {
@@ -74,17 +74,17 @@ impl HeapState {
         ensures marks { result.pages.marks ≡ [] }
         ensures indexes { (n : ℕ) → entries_at result.indexes n ≡ new_entries indexed n }
         ensures max_pages { result.max_pages ≡ max_pages }
-        ensures first { result.table.first ≡ first.0 }
-        ensures stop_age { result.table.stop_age ≡ stop_age }
-        ensures entries { result.table.entries ≡ [] }
-        ensures window { IsWindow result.table }
+        ensures first { result.statuses.first ≡ first.0 }
+        ensures stop_age { result.statuses.stop_age ≡ stop_age }
+        ensures entries { result.statuses.entries ≡ [] }
+        ensures window { IsWindow result.statuses }
     {
-        let table = StatusTable::new(alloc, first, stop_age);
-        table.is_window();
+        let statuses = StatusTable::new(alloc, first, stop_age);
+        statuses.is_window();
         HeapState {
             alloc,
             pages: Pages::new(alloc),
-            table,
+            statuses,
             hints: PruneHints::new(alloc),
             indexes: Indexes::new(alloc, indexed),
             max_pages,
@@ -92,10 +92,10 @@ impl HeapState {
     }
 
     /// What became of each id.
-    pub fn table(&self) -> &StatusTable
-        ensures { result.now ≡ self.now.table }
+    pub fn statuses(&self) -> &StatusTable
+        ensures { result.now ≡ self.now.statuses }
     {
-        &self.table
+        &self.statuses
     }
 
     /// The index of this number, if it is in use: 0 is that by key, and c + 1 that by column c. It has an entry for the root
@@ -115,15 +115,15 @@ impl HeapState {
 
     /// Gives these ids in progress their final status, all in one step. It takes no memory.
     pub fn finish(&mut self, ids: &[Xid], status: Status)
-        requires { (x : ℕ) → Contains (numbers ids.now) x → IsActive self.old.table x }
+        requires { (x : ℕ) → Contains (numbers ids.now) x → IsActive self.old.statuses x }
         ensures pages { self.new.pages ≡ self.old.pages }
         ensures indexes { self.new.indexes ≡ self.old.indexes }
         ensures max_pages { self.new.max_pages ≡ self.old.max_pages }
-        ensures finishes { Finishes self.old.table self.new.table (numbers ids.now) status }
-        ensures window { IsWindow self.new.table }
+        ensures finishes { Finishes self.old.statuses self.new.statuses (numbers ids.now) status }
+        ensures window { IsWindow self.new.statuses }
     {
-        self.table.finish(ids, status);
-        self.table.is_window();
+        self.statuses.finish(ids, status);
+        self.statuses.is_window();
         match status {
             Status::Aborted => self.hints.end_all(),
             _ => {}

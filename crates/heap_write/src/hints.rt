@@ -9,25 +9,25 @@ use space_maps::PruneHints;
 use xid_circle::Xid;
 
 /// The turn of an id, if it is known and the id was not aborted.
-fn live_turn(table: &StatusTable, x: Xid) -> Option<u32>
+fn live_turn(statuses: &StatusTable, x: Xid) -> Option<u32>
     ensures { IfSome result
-        (λ turn. ¬ IsAborted table.now x.0 × (turn ≡ turns table.now.first x.0)) }
+        (λ turn. ¬ IsAborted statuses.now x.0 × (turn ≡ turns statuses.now.first x.0)) }
 {
-    match table.status(x) {
+    match statuses.status(x) {
         Status::Aborted => None,
-        Status::InProgress | Status::Committed => table.turn_of(x),
+        Status::InProgress | Status::Committed => statuses.turn_of(x),
     }
 }
 
 /// Lowers what is known of the page of this number, on which x writes: what x deletes may be dead from its turn on, and what
 /// an aborted id makes is dead at once.
-pub(crate) fn expect_write(hints: &mut PruneHints, table: &StatusTable, number: u32, x: Xid)
-    ensures { ExpectsWrite table.now x.0 number hints.old.turns hints.new.turns }
+pub(crate) fn expect_write(hints: &mut PruneHints, statuses: &StatusTable, number: u32, x: Xid)
+    ensures { ExpectsWrite statuses.now x.0 number hints.old.turns hints.new.turns }
 {
     if hints.turn(number).is_none() {
         return;
     }
-    match live_turn(table, x) {
+    match live_turn(statuses, x) {
         Some(turn) => hints.lower(number, turn),
         None => hints.end(number),
     }
@@ -35,13 +35,13 @@ pub(crate) fn expect_write(hints: &mut PruneHints, table: &StatusTable, number: 
 
 /// Ends what is known of the page of this number, on which x makes a root, where x was aborted: then the root is dead at once. Else
 /// it has no deleter, and nothing may be dead earlier by it.
-pub(crate) fn expect_root(hints: &mut PruneHints, table: &StatusTable, number: u32, x: Xid)
-    ensures { ExpectsRoot table.now x.0 number hints.old.turns hints.new.turns }
+pub(crate) fn expect_root(hints: &mut PruneHints, statuses: &StatusTable, number: u32, x: Xid)
+    ensures { ExpectsRoot statuses.now x.0 number hints.old.turns hints.new.turns }
 {
     if hints.turn(number).is_none() {
         return;
     }
-    match table.status(x) {
+    match statuses.status(x) {
         Status::Aborted => hints.end(number),
         Status::InProgress | Status::Committed => (),
     }

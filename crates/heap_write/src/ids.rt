@@ -15,66 +15,66 @@ use std::alloc::AllocError;
 use xid_circle::Xid;
 
 /// Whether the levels lack more ids than can be given.
-pub(crate) fn needs_freeze(table: &StatusTable, own: &OwnIds) -> bool
-    ensures { IsTrue result ↔ NeedsFreeze table.now own.now }
+pub(crate) fn needs_freeze(statuses: &StatusTable, own: &OwnIds) -> bool
+    ensures { IsTrue result ↔ NeedsFreeze statuses.now own.now }
 {
-    !table.can_give(own.unassigned_levels())
+    !statuses.can_give(own.unassigned_levels())
 }
 
 /// Makes room in memory for the ids that the levels lack.
-pub(crate) fn reserve_ids(table: &mut StatusTable, own: &mut OwnIds) -> Result<(), AllocError>
-    ensures room { OnOk result (HasIds table.new own.new) }
+pub(crate) fn reserve_ids(statuses: &mut StatusTable, own: &mut OwnIds) -> Result<(), AllocError>
+    ensures room { OnOk result (HasIds statuses.new own.new) }
     ensures refused { OnErr result
-        ((table.old.spare < unassigned_levels own.old.ids own.old.saved)
+        ((statuses.old.spare < unassigned_levels own.old.ids own.old.saved)
         ⊎ (own.old.spare < unassigned_levels own.old.ids own.old.saved)) }
-    ensures ids { SameIds table.old table.new }
+    ensures ids { SameIds statuses.old statuses.new }
     ensures own { SameOwn own.old own.new }
-    ensures none { unassigned_levels own.old.ids own.old.saved ≡ 0 → table.new ≡ table.old }
+    ensures none { unassigned_levels own.old.ids own.old.saved ≡ 0 → statuses.new ≡ statuses.old }
 {
     let count = own.unassigned_levels() as usize;
     if count == 0 {
         return Ok(());
     }
-    table.make_room(count)?;
+    statuses.make_room(count)?;
     own.make_room(count)
 }
 
 /// Gives the next id to the lowest of the newest levels that have none, under the id of the level below it.
-fn give_id(table: &mut StatusTable, own: &mut OwnIds)
+fn give_id(statuses: &mut StatusTable, own: &mut OwnIds)
     requires lacking { 0 < unassigned_levels own.old.ids own.old.saved }
-    requires near { distance_of table.old.first (next_id table.old) < table.old.stop_age }
-    requires in_table { 0 < table.old.spare }
+    requires near { distance_of statuses.old.first (next_id statuses.old) < statuses.old.stop_age }
+    requires in_table { 0 < statuses.old.spare }
     requires in_own { 0 < own.old.spare }
-    requires newest { NewestIsGiven table.old own.old }
-    ensures gives { Gives table.old table.new (current_xid own.old.ids own.old.saved) }
-    ensures ids { own.new.ids ≡ own.old.ids ++ next_id table.old ∷ [] }
+    requires newest { NewestIsGiven statuses.old own.old }
+    ensures gives { Gives statuses.old statuses.new (current_xid own.old.ids own.old.saved) }
+    ensures ids { own.new.ids ≡ own.old.ids ++ next_id statuses.old ∷ [] }
     ensures saved { own.new.saved
         ≡ saved_with (unassigned_levels own.old.ids own.old.saved - 1)
-        (next_id table.old) own.old.saved }
-    ensures spare { table.old.spare ≤ table.new.spare + 1 }
+        (next_id statuses.old) own.old.saved }
+    ensures spare { statuses.old.spare ≤ statuses.new.spare + 1 }
     ensures own_spare { own.old.spare ≡ own.new.spare + 1 }
-    ensures window { IsWindow table.new }
+    ensures window { IsWindow statuses.new }
 {
-    match table.give(own.current_xid()) {
+    match statuses.give(own.current_xid()) {
         Ok(x) => own.add(x),
         Err(_) => unreachable!(),
     }
-    table.is_window();
+    statuses.is_window();
 }
 
 /// Gives an id to each level that has none, and answers the newest level's. It takes no memory.
-pub(crate) fn take_ids(table: &mut StatusTable, own: &mut OwnIds) -> Xid
-    requires free { ¬ NeedsFreeze table.old own.old }
-    requires room { HasIds table.old own.old }
-    requires newest { NewestIsGiven table.old own.old }
-    ensures takes { TakesIds table.old table.new own.old own.new result.0 }
+pub(crate) fn take_ids(statuses: &mut StatusTable, own: &mut OwnIds) -> Xid
+    requires free { ¬ NeedsFreeze statuses.old own.old }
+    requires room { HasIds statuses.old own.old }
+    requires newest { NewestIsGiven statuses.old own.old }
+    ensures takes { TakesIds statuses.old statuses.new own.old own.new result.0 }
     ensures normal { IsNormal result.0 }
-    ensures window { IsWindow table.new }
+    ensures window { IsWindow statuses.new }
 {
-    table.is_window();
+    statuses.is_window();
     own.are_prefixes();
     for _ in 0..own.unassigned_levels() {
-        give_id(table, own);
+        give_id(statuses, own);
     }
     match own.current_xid() {
         Some(x) => x,

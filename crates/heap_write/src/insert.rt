@@ -27,16 +27,16 @@ impl HeapState {
     /// NoMemory only where something has to grow. A refused insert changes nothing and gives no id. (PostgreSQL,
     /// `heap_insert` in src/backend/access/heap/heapam.c.)
     pub fn insert(&mut self, own: &mut OwnIds, row: &Row) -> Result<Xid, WriteFault>
-        requires newest { NewestIsGiven self.old.table own.old }
+        requires newest { NewestIsGiven self.old.statuses own.old }
         ensures ok { IfOk result (λ x. Inserts self.old self.new own.old own.new row.now x.0) }
         ensures fault { IfErr result (λ fault. LacksForInsert self.old own.old row.now fault) }
         ensures err { OnErr result (Keeps self.old self.new) }
         ensures own { OnErr result (SameOwn own.old own.new) }
-        ensures window { IsWindow self.new.table }
+        ensures window { IsWindow self.new.statuses }
         ensures normal { IfOk result (λ x. IsNormal x.0) }
     {
-        self.table.is_window();
-        if needs_freeze(&self.table, own) {
+        self.statuses.is_window();
+        if needs_freeze(&self.statuses, own) {
             return Err(WriteFault::NeedsFreeze);
         }
         match reserve_place(
@@ -54,11 +54,11 @@ impl HeapState {
 
     /// Inserts a version of the row where it goes, unless an index or a list of ids has to grow and cannot.
     fn insert_at(&mut self, target: Target, own: &mut OwnIds, row: &Row) -> Result<Xid, WriteFault>
-        requires free { ¬ NeedsFreeze self.old.table own.old }
-        requires newest { NewestIsGiven self.old.table own.old }
+        requires free { ¬ NeedsFreeze self.old.statuses own.old }
+        requires newest { NewestIsGiven self.old.statuses own.old }
         requires ready { IsReserved self.old.pages (rounded_size_of row.now) target }
         ensures takes { IfOk result
-            (λ x. TakesIds self.old.table self.new.table own.old own.new x.0) }
+            (λ x. TakesIds self.old.statuses self.new.statuses own.old own.new x.0) }
         ensures root { IfOk result
             (λ x. PutsRoot self.old self.new false x.0 row.now
             (target_number self.old.pages.pages target)) }
@@ -67,14 +67,14 @@ impl HeapState {
         ensures fault { IfErr result (λ fault. fault ≡ WriteFault.NoMemory) }
         ensures err { OnErr result (Keeps self.old self.new) }
         ensures own { OnErr result (SameOwn own.old own.new) }
-        ensures window { IsWindow self.new.table }
+        ensures window { IsWindow self.new.statuses }
         ensures normal { IfOk result (λ x. IsNormal x.0) }
     {
-        if self.indexes.make_room().is_err() || reserve_ids(&mut self.table, own).is_err() {
-            self.table.is_window();
+        if self.indexes.make_room().is_err() || reserve_ids(&mut self.statuses, own).is_err() {
+            self.statuses.is_window();
             return Err(WriteFault::NoMemory);
         }
-        let x = take_ids(&mut self.table, own);
+        let x = take_ids(&mut self.statuses, own);
         let _place = self.put_root(target, false, x, row);
         Ok(x)
     }
@@ -88,13 +88,13 @@ impl HeapState {
         ensures page { result.page ≡ target_number self.old.pages.pages target }
         ensures slot { result.slot ≡ free_number (page_on self.old result.page).slots }
         ensures limit { result.slot ≤ MOST_SLOTS }
-        ensures table { self.new.table ≡ self.old.table }
+        ensures statuses { self.new.statuses ≡ self.old.statuses }
         ensures max_pages { self.new.max_pages ≡ self.old.max_pages }
     {
         let (key, cols) = (row.key, row.cols);
         let tid = put_version(&mut self.pages, target, updated, x, row);
         self.indexes.enter(key, &cols, tid);
-        expect_root(&mut self.hints, &self.table, tid.page, x);
+        expect_root(&mut self.hints, &self.statuses, tid.page, x);
         self.hints.cover(self.pages.len() as usize);
         tid
     }

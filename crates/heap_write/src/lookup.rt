@@ -19,14 +19,14 @@ use tuple_header::RowRef;
 impl HeapState {
     /// The row of the key that the reader sees, where it stands.
     pub fn row(&self, key: u64, snapshot: &Snapshot, own: &OwnIds) -> Option<RowRef<'_>>
-        ensures { FirstFound self.now.table (IsVisible self.now.table snapshot.now own.now.ids)
+        ensures { FirstFound self.now.statuses (IsVisible self.now.statuses snapshot.now own.now.ids)
             (slots_of self.now) (entries_in self.now.indexes 0) (pos key) key result }
     {
         let value = i128::from(key);
         let reader = Reader {
             snapshot,
             own,
-            statuses: &self.table,
+            statuses: &self.statuses,
         };
         let table = TableView {
             pages: &self.pages,
@@ -43,13 +43,13 @@ impl HeapState {
         snapshot: &Snapshot,
         own: &OwnIds,
     ) -> (WriteCheck, PositionHint)
-        ensures place { FirstPlace self.now.table
-            (IsVisible self.now.table snapshot.now own.now.ids) (slots_of self.now)
+        ensures place { FirstPlace self.now.statuses
+            (IsVisible self.now.statuses snapshot.now own.now.ids) (slots_of self.now)
             (entries_in self.now.indexes 0) (pos key) key result.0.place }
-        ensures newer_commit { IsIdOf self.now.table (IsNewerCommitIn self.now.table snapshot.now)
+        ensures newer_commit { IsIdOf self.now.statuses (IsNewerCommitIn self.now.statuses snapshot.now)
             (slots_of self.now) (entries_in self.now.indexes 0) (pos key) key
             result.0.newer_commit }
-        ensures other_writer { IsIdOf self.now.table (IsOtherWriterIn self.now.table own.now.ids)
+        ensures other_writer { IsIdOf self.now.statuses (IsOtherWriterIn self.now.statuses own.now.ids)
             (slots_of self.now) (entries_in self.now.indexes 0) (pos key) key
             result.0.other_writer }
     {
@@ -57,7 +57,7 @@ impl HeapState {
         let reader = Reader {
             snapshot,
             own,
-            statuses: &self.table,
+            statuses: &self.statuses,
         };
         let table = TableView {
             pages: &self.pages,
@@ -81,13 +81,13 @@ impl HeapState {
         snapshot: &Snapshot,
         own: &OwnIds,
     ) -> Option<(IndexPosition, RowRef<'_>)>
-        ensures { NextRow self.now.table (IsVisible self.now.table snapshot.now own.now.ids)
+        ensures { NextRow self.now.statuses (IsVisible self.now.statuses snapshot.now own.now.ids)
             (slots_of self.now) (entries_in self.now.indexes span.now.index) span.now result }
     {
         let reader = Reader {
             snapshot,
             own,
-            statuses: &self.table,
+            statuses: &self.statuses,
         };
         match self.indexes.get(span.index) {
             Some(index) => next_row(

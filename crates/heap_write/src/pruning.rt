@@ -42,11 +42,11 @@ impl HeapState {
     pub(crate) fn knows_none_dead(&self, number: u32, horizon: Xid) -> bool
         ensures { IsTrue result → HasNoneDead self.now number horizon.0 }
     {
-        self.table.is_window();
+        self.statuses.is_window();
         match (
             self.pages.page(number),
             self.hints.turn(number),
-            self.table.turn_of(horizon),
+            self.statuses.turn_of(horizon),
         ) {
             (Some(page), Some(known), Some(turn)) => {
                 let _limit = page.slots();
@@ -61,7 +61,7 @@ impl HeapState {
         ensures { self.new ≡ self.old }
     {
         if let Some(page) = self.pages.page(number) {
-            if let Some(turn) = first_death(page, &self.table, horizon) {
+            if let Some(turn) = first_death(page, &self.statuses, horizon) {
                 self.hints.note(number, turn);
             }
         }
@@ -78,7 +78,7 @@ impl HeapState {
             Some(page) => page,
             None => return,
         };
-        let plan = plan(page, &self.table, horizon);
+        let plan = plan(page, &self.statuses, horizon);
         if plan.actions.is_empty() {
             self.note_first_death(number, horizon);
             return;

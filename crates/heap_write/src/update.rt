@@ -40,20 +40,20 @@ impl HeapState {
         row: &Row,
         horizon: Xid,
     ) -> Result<Xid, WriteFault>
-        requires newest { NewestIsGiven self.old.table own.old }
+        requires newest { NewestIsGiven self.old.statuses own.old }
         ensures ok { IfOk result
             (λ x. Updates self.old self.new own.old own.new place row.now horizon.0 x.0) }
         ensures fault { IfErr result
             (λ fault. FailsUpdate self.old self.new own.old place row.now horizon.0 fault) }
         ensures own { OnErr result (SameOwn own.old own.new) }
-        ensures window { IsWindow self.new.table }
+        ensures window { IsWindow self.new.statuses }
         ensures normal { IfOk result (λ x. IsNormal x.0) }
     {
-        self.table.is_window();
+        self.statuses.is_window();
         if !self.is_there(place) {
             return Err(WriteFault::Gone);
         }
-        if needs_freeze(&self.table, own) {
+        if needs_freeze(&self.statuses, own) {
             return Err(WriteFault::NeedsFreeze);
         }
         if self.has_room(place.page, row) {
@@ -90,12 +90,12 @@ impl HeapState {
 
     /// Updates a version whose page has room for the row.
     fn update_at_once(&mut self, own: &mut OwnIds, place: Tid, row: &Row) -> Result<Xid, WriteFault>
-        requires newest { NewestIsGiven self.old.table own.old }
-        requires free { ¬ NeedsFreeze self.old.table own.old }
+        requires newest { NewestIsGiven self.old.statuses own.old }
+        requires free { ¬ NeedsFreeze self.old.statuses own.old }
         requires there { VersionIsThere self.old place }
         requires room { rounded_size_of row.now ≤ room_of (page_on self.old place.page).slots }
         ensures takes { IfOk result
-            (λ x. TakesIds self.old.table self.new.table own.old own.new x.0) }
+            (λ x. TakesIds self.old.statuses self.new.statuses own.old own.new x.0) }
         ensures replaces { IfOk result (λ x. UpdatesOnPage self.old self.new place x.0 row.now) }
         ensures max_pages { self.new.max_pages ≡ self.old.max_pages }
         ensures fault { IfErr result (λ fault. fault ≡ WriteFault.NoMemory) }
@@ -103,12 +103,12 @@ impl HeapState {
             → OnErr result (UpdateNeedsMemory self.old own.old place row.now horizon) }
         ensures err { OnErr result (Keeps self.old self.new) }
         ensures own { OnErr result (SameOwn own.old own.new) }
-        ensures window { IsWindow self.new.table }
+        ensures window { IsWindow self.new.statuses }
         ensures normal { IfOk result (λ x. IsNormal x.0) }
     {
         let heap_only = self.keeps_values(place, row);
         let reserved = self.reserve_on_page(own, place.page, heap_only);
-        self.table.is_window();
+        self.statuses.is_window();
         match reserved {
             Ok(()) => Ok(self.update_on_page(own, place, row, heap_only)),
             Err(_) => Err(WriteFault::NoMemory),
@@ -125,16 +125,16 @@ impl HeapState {
         requires { number < length self.old.pages.pages }
         ensures keeps { Keeps self.old self.new }
         ensures none { unassigned_levels own.old.ids own.old.saved ≡ 0
-            → self.new.table ≡ self.old.table }
+            → self.new.statuses ≡ self.old.statuses }
         ensures own { SameOwn own.old own.new }
-        ensures has_ids { OnOk result (HasIds self.new.table own.new) }
+        ensures has_ids { OnOk result (HasIds self.new.statuses own.new) }
         ensures grows { OnOk result (GrowsPage self.old.pages self.new.pages number) }
         ensures has_entries { OnOk result (IsFalse heap_only → HasEntries self.new.indexes) }
         ensures needs { OnErr result
             (NeedsIds self.old own.old ⊎ NeedsSlot (page_on self.old number)
             ⊎ IsFalse heap_only × NeedsEntry self.old.indexes) }
     {
-        reserve_ids(&mut self.table, own)?;
+        reserve_ids(&mut self.statuses, own)?;
         self.indexes.make_room_for(heap_only)?;
         reserve_slot(&mut self.pages, number)
     }
@@ -147,18 +147,18 @@ impl HeapState {
         row: &Row,
         heap_only: bool,
     ) -> Xid
-        requires newest { NewestIsGiven self.old.table own.old }
-        requires free { ¬ NeedsFreeze self.old.table own.old }
-        requires has_ids { HasIds self.old.table own.old }
+        requires newest { NewestIsGiven self.old.statuses own.old }
+        requires free { ¬ NeedsFreeze self.old.statuses own.old }
+        requires has_ids { HasIds self.old.statuses own.old }
         requires there { VersionIsThere self.old place }
         requires room { rounded_size_of row.now ≤ room_of (page_on self.old place.page).slots }
         requires has_slot { HasSlot (page_on self.old place.page) }
         requires heap_only { IsTrue heap_only ↔ KeepsValues self.old place row.now }
         requires has_entries { IsFalse heap_only → HasEntries self.old.indexes }
-        ensures takes { TakesIds self.old.table self.new.table own.old own.new result.0 }
+        ensures takes { TakesIds self.old.statuses self.new.statuses own.old own.new result.0 }
         ensures replaces { UpdatesOnPage self.old self.new place result.0 row.now }
         ensures max_pages { self.new.max_pages ≡ self.old.max_pages }
-        ensures window { IsWindow self.new.table }
+        ensures window { IsWindow self.new.statuses }
         ensures normal { IsNormal result.0 }
     {
         if heap_only {
@@ -170,23 +170,23 @@ impl HeapState {
 
     /// Replaces a version by a heap-only one on its page, which has room and memory for it.
     fn hot_update(&mut self, own: &mut OwnIds, place: Tid, row: &Row) -> Xid
-        requires newest { NewestIsGiven self.old.table own.old }
-        requires free { ¬ NeedsFreeze self.old.table own.old }
-        requires has_ids { HasIds self.old.table own.old }
+        requires newest { NewestIsGiven self.old.statuses own.old }
+        requires free { ¬ NeedsFreeze self.old.statuses own.old }
+        requires has_ids { HasIds self.old.statuses own.old }
         requires there { VersionIsThere self.old place }
         requires room { rounded_size_of row.now ≤ room_of (page_on self.old place.page).slots }
         requires has_slot { HasSlot (page_on self.old place.page) }
-        ensures takes { TakesIds self.old.table self.new.table own.old own.new result.0 }
+        ensures takes { TakesIds self.old.statuses self.new.statuses own.old own.new result.0 }
         ensures replaces { HotUpdates self.old self.new place result.0 row.now }
         ensures max_pages { self.new.max_pages ≡ self.old.max_pages }
-        ensures window { IsWindow self.new.table }
+        ensures window { IsWindow self.new.statuses }
         ensures normal { IsNormal result.0 }
     {
-        let x = take_ids(&mut self.table, own);
+        let x = take_ids(&mut self.statuses, own);
         let _slot = self.pages.write(place.page, |page| {
             hot_update(page, place.page, place.slot, x, row)
         });
-        expect_write(&mut self.hints, &self.table, place.page, x);
+        expect_write(&mut self.hints, &self.statuses, place.page, x);
         x
     }
 
@@ -198,26 +198,26 @@ impl HeapState {
         row: &Row,
         target: Target,
     ) -> Xid
-        requires newest { NewestIsGiven self.old.table own.old }
-        requires free { ¬ NeedsFreeze self.old.table own.old }
-        requires has_ids { HasIds self.old.table own.old }
+        requires newest { NewestIsGiven self.old.statuses own.old }
+        requires free { ¬ NeedsFreeze self.old.statuses own.old }
+        requires has_ids { HasIds self.old.statuses own.old }
         requires there { VersionIsThere self.old place }
         requires has_entries { HasEntries self.old.indexes }
         requires ready { IsReserved self.old.pages (rounded_size_of row.now) target }
-        ensures takes { TakesIds self.old.table self.new.table own.old own.new result.0 }
+        ensures takes { TakesIds self.old.statuses self.new.statuses own.old own.new result.0 }
         ensures replaces { ColdUpdates self.old self.new place result.0 row.now
             (target_number self.old.pages.pages target) }
         ensures max_pages { self.new.max_pages ≡ self.old.max_pages }
-        ensures window { IsWindow self.new.table }
+        ensures window { IsWindow self.new.statuses }
         ensures normal { IsNormal result.0 }
     {
-        let x = take_ids(&mut self.table, own);
+        let x = take_ids(&mut self.statuses, own);
         let successor = self.put_root(target, true, x, row);
         self.pages.write(
             place.page,
             |page| mark_cold_updated(page, place.slot, x, successor),
         );
-        expect_write(&mut self.hints, &self.table, place.page, x);
+        expect_write(&mut self.hints, &self.statuses, place.page, x);
         x
     }
 }

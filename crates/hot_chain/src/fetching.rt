@@ -28,14 +28,14 @@ pub fn first_seen(
     slots: &[u16],
     snapshot: &Snapshot,
     own: &OwnIds,
-    table: &StatusTable,
+    statuses: &StatusTable,
 ) -> Option<u16>
     ensures { FirstSeenIn
-        (IsVisible table.now snapshot.now own.now.ids) page.now.slots slots.now result }
+        (IsVisible statuses.now snapshot.now own.now.ids) page.now.slots slots.now result }
 {
     for slot in slots {
         if let Some(header) = page.header(*slot) {
-            if visible_header(&header, snapshot, own, table) {
+            if visible_header(&header, snapshot, own, statuses) {
                 return Some(*slot);
             }
         }
@@ -49,13 +49,13 @@ pub fn fetch(
     number: u16,
     snapshot: &Snapshot,
     own: &OwnIds,
-    table: &StatusTable,
+    statuses: &StatusTable,
 ) -> Option<Tuple>
-    ensures { Fetched (has_aborted table.now)
-        (IsVisible table.now snapshot.now own.now.ids) page.now.slots number result }
+    ensures { Fetched (has_aborted statuses.now)
+        (IsVisible statuses.now snapshot.now own.now.ids) page.now.slots number result }
 {
-    let slots = chain(page, number, table);
-    match first_seen(page, slots.as_slice(), snapshot, own, table) {
+    let slots = chain(page, number, statuses);
+    match first_seen(page, slots.as_slice(), snapshot, own, statuses) {
         Some(slot) => version_at(page, slot),
         None => None,
     }

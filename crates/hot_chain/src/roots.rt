@@ -18,18 +18,18 @@ pub fn is_root(page: &Page, number: u16) -> bool
 }
 
 /// Whether a slot is a root or a redirect whose chain holds another.
-fn leads_to(page: &Page, root: u16, slot: u16, table: &StatusTable) -> bool
-    ensures { IsTrue result ↔ LeadsTo (has_aborted table.now) page.now.slots root slot }
+fn leads_to(page: &Page, root: u16, slot: u16, statuses: &StatusTable) -> bool
+    ensures { IsTrue result ↔ LeadsTo (has_aborted statuses.now) page.now.slots root slot }
 {
-    is_root(page, root) && chain(page, root, table).contains(&slot)
+    is_root(page, root) && chain(page, root, statuses).contains(&slot)
 }
 
 /// The lowest root or redirect whose chain holds a slot.
-pub fn root_of(page: &Page, slot: u16, table: &StatusTable) -> Option<u16>
-    ensures { IsLowestRoot (has_aborted table.now) page.now.slots slot result }
+pub fn root_of(page: &Page, slot: u16, statuses: &StatusTable) -> Option<u16>
+    ensures { IsLowestRoot (has_aborted statuses.now) page.now.slots slot result }
 {
     for root in 1..page.slots() + 1 {
-        if leads_to(page, root, slot, table) {
+        if leads_to(page, root, slot, statuses) {
             return Some(root);
         }
     }

@@ -11,10 +11,10 @@ use page_slots::Page;
 use tuple_header::Header;
 use xid_circle::Xid;
 
-fn has_aborted(x: Xid, table: &StatusTable) -> bool
-    ensures { result ≡ has_aborted table.now x.0 }
+fn has_aborted(x: Xid, statuses: &StatusTable) -> bool
+    ensures { result ≡ has_aborted statuses.now x.0 }
 {
-    matches!(table.status(x), Status::Aborted)
+    matches!(statuses.status(x), Status::Aborted)
 }
 
 /// Where the chain of a slot starts.
@@ -30,19 +30,19 @@ fn first(page: &Page, number: u16) -> Option<u16>
 }
 
 /// Whether a HOT update that has not aborted replaced this version.
-fn is_replaced(header: &Header, table: &StatusTable) -> bool
-    ensures { result ≡ is_replaced (has_aborted table.now) header.now }
+fn is_replaced(header: &Header, statuses: &StatusTable) -> bool
+    ensures { result ≡ is_replaced (has_aborted statuses.now) header.now }
 {
-    header.is_hot_updated() && header.xmax.0 != 0 && !has_aborted(header.xmax, table)
+    header.is_hot_updated() && header.xmax.0 != 0 && !has_aborted(header.xmax, statuses)
 }
 
 /// Where the chain goes on from a version: to the heap-only version in the slot of its ctid that its deleter made.
-fn next(page: &Page, number: u16, table: &StatusTable) -> Option<u16>
-    ensures value { result ≡ next_in_chain (has_aborted table.now) page.now.slots number }
+fn next(page: &Page, number: u16, statuses: &StatusTable) -> Option<u16>
+    ensures value { result ≡ next_in_chain (has_aborted statuses.now) page.now.slots number }
     ensures there { IfSome result (λ n. SlotIsThere page.now.slots n) }
 {
     let header = page.header(number)?;
-    if !is_replaced(&header, table) {
+    if !is_replaced(&header, statuses) {
         return None;
     }
     match page.header(header.ctid.slot) {
@@ -54,8 +54,13 @@ fn next(page: &Page, number: u16, table: &StatusTable) -> Option<u16>
 }
 
 /// Lists the slots of the chain that a slot leads to, in order, on any page. What was in the list goes. It takes no memory.
-pub fn list_chain(page: &Page, number: u16, table: &StatusTable, visited: &mut ArrayVec<u16, 292>)
-    ensures { IsChain (has_aborted table.now) page.now.slots number visited.new.items }
+pub fn list_chain(
+    page: &Page,
+    number: u16,
+    statuses: &StatusTable,
+    visited: &mut ArrayVec<u16, 292>,
+)
+    ensures { IsChain (has_aborted statuses.now) page.now.slots number visited.new.items }
 {
     let _count = page.slots();
     visited.clear();
@@ -65,17 +70,17 @@ pub fn list_chain(page: &Page, number: u16, table: &StatusTable, visited: &mut A
             break;
         }
         visited.push(n);
-        at = next(page, n, table);
+        at = next(page, n, statuses);
     }
 }
 
 /// The slots of the chain that a slot leads to, in order, on any page: a list of over half a kilobyte, which is handed on by
 /// value, where [`list_chain`] fills one that is there. It takes no memory.
-pub fn chain(page: &Page, number: u16, table: &StatusTable) -> ArrayVec<u16, 292>
-    ensures { IsChain (has_aborted table.now) page.now.slots number result.items }
+pub fn chain(page: &Page, number: u16, statuses: &StatusTable) -> ArrayVec<u16, 292>
+    ensures { IsChain (has_aborted statuses.now) page.now.slots number result.items }
 {
     let mut listed: ArrayVec<u16, 292> = ArrayVec::new();
-    list_chain(page, number, table, &mut listed);
+    list_chain(page, number, statuses, &mut listed);
     listed
 }
 

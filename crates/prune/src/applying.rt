@@ -46,44 +46,44 @@ pub fn apply(page: &mut Page, plan: &PrunePlan)
 /// Prunes a page, of whose slots only these need more than a glance. It stands alone, so that its list is cleared only where it
 /// is called.
 #[inline(never)]
-fn prune_doubtful(page: &mut Page, doubtful: &[u16], table: &StatusTable, horizon: Xid)
-    requires doubtful { ListsDoubtful table.now horizon.0 page.old.slots doubtful.now }
-    ensures { IsPrunedPage table.now horizon.0 page.old page.new }
+fn prune_doubtful(page: &mut Page, doubtful: &[u16], statuses: &StatusTable, horizon: Xid)
+    requires doubtful { ListsDoubtful statuses.now horizon.0 page.old.slots doubtful.now }
+    ensures { IsPrunedPage statuses.now horizon.0 page.old page.new }
 {
     let mut plan = PrunePlan {
         change: page.change(),
         actions: ArrayVec::new(),
     };
-    list_actions(&mut plan.actions, doubtful, page, table, horizon);
+    list_actions(&mut plan.actions, doubtful, page, statuses, horizon);
     apply(page, &plan);
 }
 
 /// Prunes a page by its plan.
-fn prune_by_plan(page: &mut Page, table: &StatusTable, horizon: Xid)
-    ensures { IsPrunedPage table.now horizon.0 page.old page.new }
+fn prune_by_plan(page: &mut Page, statuses: &StatusTable, horizon: Xid)
+    ensures { IsPrunedPage statuses.now horizon.0 page.old page.new }
 {
     let _limit = page.slots();
     let mut doubtful: Numbers = ArrayVec::new();
-    list_doubtful(&mut doubtful, page, table, horizon);
+    list_doubtful(&mut doubtful, page, statuses, horizon);
     if !doubtful.is_empty() {
-        prune_doubtful(page, doubtful.as_slice(), table, horizon);
+        prune_doubtful(page, doubtful.as_slice(), statuses, horizon);
     }
 }
 
 /// Prunes a page at this horizon. Where no version is dead, which [`has_dead`](crate::has_dead) tells at less cost,
 /// nothing changes. It takes no memory.
-pub fn prune(page: &mut Page, table: &StatusTable, horizon: Xid)
-    ensures by_plan { IsPrunedPage table.now horizon.0 page.old page.new }
-    ensures pruned { IsPruned table.now horizon.0 page.old.slots page.new.slots }
-    ensures removes { RemovesVersions table.now horizon.0 page.old.slots page.new.slots }
-    ensures roots { NoSharedSlots (has_aborted table.now) page.old.slots
+pub fn prune(page: &mut Page, statuses: &StatusTable, horizon: Xid)
+    ensures by_plan { IsPrunedPage statuses.now horizon.0 page.old page.new }
+    ensures pruned { IsPruned statuses.now horizon.0 page.old.slots page.new.slots }
+    ensures removes { RemovesVersions statuses.now horizon.0 page.old.slots page.new.slots }
+    ensures roots { NoSharedSlots (has_aborted statuses.now) page.old.slots
         → KeepsRoots page.old.slots page.new.slots }
-    ensures never_seen { SoundPage table.now horizon.0 page.old.slots
-        → KeepsFound table.now horizon.0 page.old.slots page.new.slots }
-    ensures none_dead { SoundPage table.now horizon.0 page.old.slots → (n : ℕ)
-        → ¬ IsDeadAt table.now horizon.0 page.new.slots n }
+    ensures never_seen { SoundPage statuses.now horizon.0 page.old.slots
+        → KeepsFound statuses.now horizon.0 page.old.slots page.new.slots }
+    ensures none_dead { SoundPage statuses.now horizon.0 page.old.slots → (n : ℕ)
+        → ¬ IsDeadAt statuses.now horizon.0 page.new.slots n }
     ensures flag { page.new.flag ≡ page.old.flag }
     ensures spare { page.new.spare ≡ page.old.spare }
 {
-    prune_by_plan(page, table, horizon);
+    prune_by_plan(page, statuses, horizon);
 }

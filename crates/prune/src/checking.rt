@@ -119,13 +119,13 @@ fn are_same(a: Option<Action>, b: Option<Action>) -> bool
 }
 
 /// Whether the plan cuts, of this root's chain, a prefix that pruning would cut too, and sets the root accordingly.
-fn has_prefix(page: &Page, named: &Named, root: u16, table: &StatusTable, horizon: Xid) -> bool
+fn has_prefix(page: &Page, named: &Named, root: u16, statuses: &StatusTable, horizon: Xid) -> bool
     requires number { root < 292 }
     ensures { IsTrue result
-        ↔ HasPrefix table.now horizon.0 page.now.slots (named_at named.now) root }
+        ↔ HasPrefix statuses.now horizon.0 page.now.slots (named_at named.now) root }
 {
     let _limit = page.slots();
-    let slots = chain(page, root, table);
+    let slots = chain(page, root, statuses);
     let numbers = slots.as_slice();
     let prefix = prefix_of(named, numbers);
     if !are_unnamed(named, &numbers[prefix..]) {
@@ -134,21 +134,21 @@ fn has_prefix(page: &Page, named: &Named, root: u16, table: &StatusTable, horizo
     if !become_unused(page, named, &numbers[..prefix]) {
         return false;
     }
-    if cut_count(page, numbers, table, horizon) < prefix {
+    if cut_count(page, numbers, statuses, horizon) < prefix {
         return false;
     }
     are_same(named[usize::from(root)], root_action(prefix, numbers))
 }
 
 /// Whether each root's chain has such a prefix.
-fn have_prefixes(page: &Page, named: &Named, table: &StatusTable, horizon: Xid) -> bool
+fn have_prefixes(page: &Page, named: &Named, statuses: &StatusTable, horizon: Xid) -> bool
     ensures { IsTrue result
         ↔
         ((root : ℕ) → is_root page.now.slots root ≡ true
-        → HasPrefix table.now horizon.0 page.now.slots (named_at named.now) root) }
+        → HasPrefix statuses.now horizon.0 page.now.slots (named_at named.now) root) }
 {
     for root in 1..page.slots() + 1 {
-        if is_root(page, root) && !has_prefix(page, named, root, table, horizon) {
+        if is_root(page, root) && !has_prefix(page, named, root, statuses, horizon) {
             return false;
         }
     }
@@ -156,29 +156,35 @@ fn have_prefixes(page: &Page, named: &Named, table: &StatusTable, horizon: Xid) 
 }
 
 /// Whether what is done to a slot that no chain reaches is what pruning does to it.
-fn is_allowed(page: &Page, marks: &Marks, named: &Named, number: u16, table: &StatusTable) -> bool
+fn is_allowed(
+    page: &Page,
+    marks: &Marks,
+    named: &Named,
+    number: u16,
+    statuses: &StatusTable,
+) -> bool
     requires { number < 292 }
-    ensures { IsTrue result ↔ IsLooseRight table.now page.now.slots marks.now named.now number }
+    ensures { IsTrue result ↔ IsLooseRight statuses.now page.now.slots marks.now named.now number }
 {
     let mark = marks[usize::from(number)];
     let action = named[usize::from(number)];
     match mark {
         PruneVerdict::Kept | PruneVerdict::Goes(_) => true,
         PruneVerdict::Orphan => {
-            action.is_none() || are_same(action, orphan_action(page, number, table))
+            action.is_none() || are_same(action, orphan_action(page, number, statuses))
         }
     }
 }
 
 /// Whether it is so of each slot.
-fn are_accounted(page: &Page, marks: &Marks, named: &Named, table: &StatusTable) -> bool
+fn are_accounted(page: &Page, marks: &Marks, named: &Named, statuses: &StatusTable) -> bool
     ensures { IsTrue result
         ↔
         ((n : ℕ) → 1 ≤ n → n ≤ length page.now.slots
-        → IsLooseRight table.now page.now.slots marks.now named.now n) }
+        → IsLooseRight statuses.now page.now.slots marks.now named.now n) }
 {
     for number in 1..page.slots() + 1 {
-        if !is_allowed(page, marks, named, number, table) {
+        if !is_allowed(page, marks, named, number, statuses) {
             return false;
         }
     }
@@ -188,9 +194,9 @@ fn are_accounted(page: &Page, marks: &Marks, named: &Named, table: &StatusTable)
 /// Whether a plan may be applied to a page, whoever made it, and when: it has the page's change number, its slots are
 /// strictly ascending and on the page, of each chain it cuts a prefix that pruning at this horizon would cut
 /// too, and every other slot that it names holds an aborted heap-only version that no chain reaches. It takes no memory.
-pub fn check_plan(page: &Page, plan: &PrunePlan, table: &StatusTable, horizon: Xid) -> bool
+pub fn check_plan(page: &Page, plan: &PrunePlan, statuses: &StatusTable, horizon: Xid) -> bool
     ensures exact { IsTrue result
-        ↔ Checks table.now horizon.0 page.now plan.now.change plan.now.actions.items }
+        ↔ Checks statuses.now horizon.0 page.now plan.now.change plan.now.actions.items }
     ensures can_apply { IsTrue result → CanApply (length page.now.slots) plan.now.actions.items }
 {
     if !is_fresh(page, plan) || !are_in_order(page.slots(), &plan.actions) {
@@ -199,7 +205,7 @@ pub fn check_plan(page: &Page, plan: &PrunePlan, table: &StatusTable, horizon: X
     let named = named_by(&plan.actions);
     let mut marks = [PruneVerdict::Orphan; 292];
     let mut doubtful: Numbers = ArrayVec::new();
-    list_doubtful(&mut doubtful, page, table, horizon);
-    mark_page(&mut marks, doubtful.as_slice(), page, table, horizon);
-    have_prefixes(page, &named, table, horizon) && are_accounted(page, &marks, &named, table)
+    list_doubtful(&mut doubtful, page, statuses, horizon);
+    mark_page(&mut marks, doubtful.as_slice(), page, statuses, horizon);
+    have_prefixes(page, &named, statuses, horizon) && are_accounted(page, &marks, &named, statuses)
 }

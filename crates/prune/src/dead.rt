@@ -16,45 +16,45 @@ use visibility::{Fate, fate_of};
 use xid_circle::Xid;
 
 #[inline(always)]
-pub(crate) fn is_aborted(x: Xid, table: &StatusTable) -> bool
-    ensures { IsTrue result ↔ IsAborted table.now x.0 }
+pub(crate) fn is_aborted(x: Xid, statuses: &StatusTable) -> bool
+    ensures { IsTrue result ↔ IsAborted statuses.now x.0 }
 {
-    matches!(table.status(x), Status::Aborted)
+    matches!(statuses.status(x), Status::Aborted)
 }
 
 #[inline(always)]
-fn is_committed(x: Xid, table: &StatusTable) -> bool
-    ensures { IsTrue result ↔ IsCommitted table.now x.0 }
+fn is_committed(x: Xid, statuses: &StatusTable) -> bool
+    ensures { IsTrue result ↔ IsCommitted statuses.now x.0 }
 {
-    matches!(table.status(x), Status::Committed)
+    matches!(statuses.status(x), Status::Committed)
 }
 
 /// Whether a slot holds a dead version.
-pub(crate) fn is_dead_at(page: &Page, number: u16, table: &StatusTable, horizon: Xid) -> bool
-    ensures { IsTrue result ↔ IsDeadAt table.now horizon.0 page.now.slots number }
+pub(crate) fn is_dead_at(page: &Page, number: u16, statuses: &StatusTable, horizon: Xid) -> bool
+    ensures { IsTrue result ↔ IsDeadAt statuses.now horizon.0 page.now.slots number }
 {
     match page.header(number) {
-        Some(header) => matches!(fate_of(&header, horizon, table), Fate::Dead),
+        Some(header) => matches!(fate_of(&header, horizon, statuses), Fate::Dead),
         None => false,
     }
 }
 
 /// The earliest turn of the deleters so far and of this one, if it is remembered, unless it committed before the horizon.
 #[inline(always)]
-fn earliest_deletion(deleter: Xid, turn: u32, table: &StatusTable, horizon: Xid) -> Option<u32>
+fn earliest_deletion(deleter: Xid, turn: u32, statuses: &StatusTable, horizon: Xid) -> Option<u32>
     ensures { MatchOption result
-        (IsCommitted table.now deleter.0 × Precedes deleter.0 horizon.0)
-        (λ earliest. (¬ (IsCommitted table.now deleter.0 × Precedes deleter.0 horizon.0))
-        × (earliest ≤ turn) × IsNoLaterThan table.now earliest deleter.0
-        × ((earliest ≡ turn) ⊎ IsTurnOf table.now earliest deleter.0)) }
+        (IsCommitted statuses.now deleter.0 × Precedes deleter.0 horizon.0)
+        (λ earliest. (¬ (IsCommitted statuses.now deleter.0 × Precedes deleter.0 horizon.0))
+        × (earliest ≤ turn) × IsNoLaterThan statuses.now earliest deleter.0
+        × ((earliest ≡ turn) ⊎ IsTurnOf statuses.now earliest deleter.0)) }
 {
     if deleter.0 == 0 {
         return Some(turn);
     }
-    if is_committed(deleter, table) && stands_before(deleter, horizon) {
+    if is_committed(deleter, statuses) && stands_before(deleter, horizon) {
         return None;
     }
-    match table.turn_of(deleter) {
+    match statuses.turn_of(deleter) {
         Some(own) if own < turn => Some(own),
         _ => Some(turn),
     }
@@ -62,15 +62,15 @@ fn earliest_deletion(deleter: Xid, turn: u32, table: &StatusTable, horizon: Xid)
 
 /// An id that was not aborted, unless the version was rolled back: its inserter, or the one that is known to be such an id.
 #[inline(always)]
-fn unaborted(header: &Header, known: Xid, table: &StatusTable) -> Option<Xid>
-    requires { ¬ IsAborted table.now known.0 }
-    ensures { MatchOption result (¬ IsFrozen header.now × IsAborted table.now header.now.xmin.0)
-        (λ x. (IsFrozen header.now ⊎ ¬ IsAborted table.now header.now.xmin.0)
-        × ¬ IsAborted table.now x.0) }
+fn unaborted(header: &Header, known: Xid, statuses: &StatusTable) -> Option<Xid>
+    requires { ¬ IsAborted statuses.now known.0 }
+    ensures { MatchOption result (¬ IsFrozen header.now × IsAborted statuses.now header.now.xmin.0)
+        (λ x. (IsFrozen header.now ⊎ ¬ IsAborted statuses.now header.now.xmin.0)
+        × ¬ IsAborted statuses.now x.0) }
 {
     if header.xmin.0 == known.0 {
         Some(known)
-    } else if !is_aborted(header.xmin, table) {
+    } else if !is_aborted(header.xmin, statuses) {
         Some(header.xmin)
     } else if header.is_frozen() {
         Some(known)
@@ -93,18 +93,18 @@ pub(crate) struct Outlook {
 fn outlook_with(
     header: &Header,
     so_far: Outlook,
-    table: &StatusTable,
+    statuses: &StatusTable,
     horizon: Xid,
 ) -> Option<Outlook>
-    requires known { ¬ IsAborted table.now so_far.known.0 }
-    ensures { MatchOption result (IsDead table.now horizon.0 header.now)
-        (λ outlook. (¬ IsDead table.now horizon.0 header.now)
-        × MayDieFrom table.now outlook.turn header.now
-        × (outlook.turn ≤ so_far.turn) × ¬ IsAborted table.now outlook.known.0
-        × ((outlook.turn ≡ so_far.turn) ⊎ IsTurnOf table.now outlook.turn header.now.xmax.0)) }
+    requires known { ¬ IsAborted statuses.now so_far.known.0 }
+    ensures { MatchOption result (IsDead statuses.now horizon.0 header.now)
+        (λ outlook. (¬ IsDead statuses.now horizon.0 header.now)
+        × MayDieFrom statuses.now outlook.turn header.now
+        × (outlook.turn ≤ so_far.turn) × ¬ IsAborted statuses.now outlook.known.0
+        × ((outlook.turn ≡ so_far.turn) ⊎ IsTurnOf statuses.now outlook.turn header.now.xmax.0)) }
 {
-    let turn = earliest_deletion(header.xmax, so_far.turn, table, horizon)?;
-    let known = unaborted(header, so_far.known, table)?;
+    let turn = earliest_deletion(header.xmax, so_far.turn, statuses, horizon)?;
+    let known = unaborted(header, so_far.known, statuses)?;
     Some(Outlook { known, turn })
 }
 
@@ -114,18 +114,18 @@ fn outlook_after(
     page: &Page,
     number: u16,
     so_far: Outlook,
-    table: &StatusTable,
+    statuses: &StatusTable,
     horizon: Xid,
 ) -> Option<Outlook>
-    requires known { ¬ IsAborted table.now so_far.known.0 }
-    ensures { MatchOption result (IsDeadAt table.now horizon.0 page.now.slots number)
-        (λ outlook. LivesAt table.now horizon.0 outlook.turn page.now.slots number
-        × (outlook.turn ≤ so_far.turn) × ¬ IsAborted table.now outlook.known.0
-        × (IsTurnThere table.now so_far.turn page.now.slots
-        → IsTurnThere table.now outlook.turn page.now.slots)) }
+    requires known { ¬ IsAborted statuses.now so_far.known.0 }
+    ensures { MatchOption result (IsDeadAt statuses.now horizon.0 page.now.slots number)
+        (λ outlook. LivesAt statuses.now horizon.0 outlook.turn page.now.slots number
+        × (outlook.turn ≤ so_far.turn) × ¬ IsAborted statuses.now outlook.known.0
+        × (IsTurnThere statuses.now so_far.turn page.now.slots
+        → IsTurnThere statuses.now outlook.turn page.now.slots)) }
 {
     match page.header(number) {
-        Some(header) => outlook_with(&header, so_far, table, horizon),
+        Some(header) => outlook_with(&header, so_far, statuses, horizon),
         None => Some(so_far),
     }
 }
@@ -150,22 +150,22 @@ fn number_after(page: &Page, number: u16, before: Xid, known: Xid) -> u16
 /// From which turn on a version of a page may be dead: None where one is dead at this horizon, else the earliest turn of a
 /// deleter that is remembered, or that of the next id where there is none. As long as the horizon has not come past that
 /// turn, and none of the inserters is rolled back, no version is dead. It takes no memory.
-pub fn first_death(page: &Page, table: &StatusTable, horizon: Xid) -> Option<u32>
-    ensures { MatchOption result (HasDead table.now horizon.0 page.now.slots)
-        (λ turn. (¬ HasDead table.now horizon.0 page.now.slots)
-        × NothingDiesBefore table.now turn page.now.slots
-        × IsTurnThere table.now turn page.now.slots) }
+pub fn first_death(page: &Page, statuses: &StatusTable, horizon: Xid) -> Option<u32>
+    ensures { MatchOption result (HasDead statuses.now horizon.0 page.now.slots)
+        (λ turn. (¬ HasDead statuses.now horizon.0 page.now.slots)
+        × NothingDiesBefore statuses.now turn page.now.slots
+        × IsTurnThere statuses.now turn page.now.slots) }
 {
-    table.is_window();
+    statuses.is_window();
     // 0 is no id, so it was not aborted.
     let mut outlook = Outlook {
         known: Xid(0),
-        turn: table.turn_of(table.next()).unwrap_or(0),
+        turn: statuses.turn_of(statuses.next()).unwrap_or(0),
     };
     let mut number = 1;
     while number <= page.slots() {
         let before = outlook.known;
-        match outlook_after(page, number, outlook, table, horizon) {
+        match outlook_after(page, number, outlook, statuses, horizon) {
             Some(next) => outlook = next,
             None => return None,
         }
@@ -176,8 +176,8 @@ pub fn first_death(page: &Page, table: &StatusTable, horizon: Xid) -> Option<u32
 
 /// Whether any slot of a page holds a dead version at this horizon. Where none does, pruning changes nothing, so no
 /// chain has to be walked. It takes no memory.
-pub fn has_dead(page: &Page, table: &StatusTable, horizon: Xid) -> bool
-    ensures { IsTrue result ↔ HasDead table.now horizon.0 page.now.slots }
+pub fn has_dead(page: &Page, statuses: &StatusTable, horizon: Xid) -> bool
+    ensures { IsTrue result ↔ HasDead statuses.now horizon.0 page.now.slots }
 {
-    first_death(page, table, horizon).is_none()
+    first_death(page, statuses, horizon).is_none()
 }

@@ -33,20 +33,20 @@ pub(crate) enum Glance {
 /// Whether nobody deleted a version, and its inserter was not aborted: so it is neither dead nor replaced at any horizon. Neighbours
 /// mostly have one inserter, so of one that is known as not aborted no status is looked up.
 #[inline(always)]
-fn is_plain(header: &Header, known: Xid, table: &StatusTable) -> bool
-    requires known { ¬ IsAborted table.now known.0 }
-    ensures { IsTrue result → IsPlain table.now header.now }
+fn is_plain(header: &Header, known: Xid, statuses: &StatusTable) -> bool
+    requires known { ¬ IsAborted statuses.now known.0 }
+    ensures { IsTrue result → IsPlain statuses.now header.now }
 {
-    header.xmax.0 == 0 && (header.xmin.0 == known.0 || !is_aborted(header.xmin, table))
+    header.xmax.0 == 0 && (header.xmin.0 == known.0 || !is_aborted(header.xmin, statuses))
 }
 
 /// Whether the version in a slot is so, if there is one.
 #[inline(never)]
-fn is_plain_at(page: &Page, number: u16, table: &StatusTable) -> bool
-    ensures { IsTrue result → IsPlainAt table.now page.now.slots number }
+fn is_plain_at(page: &Page, number: u16, statuses: &StatusTable) -> bool
+    ensures { IsTrue result → IsPlainAt statuses.now page.now.slots number }
 {
     match page.header(number) {
-        Some(header) => is_plain(&header, Xid(0), table),
+        Some(header) => is_plain(&header, Xid(0), statuses),
         None => true,
     }
 }
@@ -54,13 +54,19 @@ fn is_plain_at(page: &Page, number: u16, table: &StatusTable) -> bool
 /// Whether the version is so in the slot where this one leads. The slots over this one are noted, if they are not, and redirects
 /// mostly lead there: so the version is seldom looked at.
 #[inline(always)]
-fn leads_plainly(page: &Page, number: u16, target: u16, noted: &Noted, table: &StatusTable) -> bool
-    requires noted { ArePlainOrNotedOver table.now page.now.slots noted.now number }
-    ensures { IsTrue result → IsPlainAt table.now page.now.slots target }
+fn leads_plainly(
+    page: &Page,
+    number: u16,
+    target: u16,
+    noted: &Noted,
+    statuses: &StatusTable,
+) -> bool
+    requires noted { ArePlainOrNotedOver statuses.now page.now.slots noted.now number }
+    ensures { IsTrue result → IsPlainAt statuses.now page.now.slots target }
 {
     let _limit = page.slots();
     if target <= number {
-        is_plain_at(page, target, table)
+        is_plain_at(page, target, statuses)
     } else if target < 292 {
         !noted[usize::from(target)]
     } else {
@@ -70,22 +76,22 @@ fn leads_plainly(page: &Page, number: u16, target: u16, noted: &Noted, table: &S
 
 /// What a glance tells of a slot, if those over it that need a closer look are noted.
 #[inline(always)]
-fn glance_at(page: &Page, number: u16, noted: &Noted, known: Xid, table: &StatusTable) -> Glance
+fn glance_at(page: &Page, number: u16, noted: &Noted, known: Xid, statuses: &StatusTable) -> Glance
     requires there { SlotIsThere page.now.slots number }
-    requires known { ¬ IsAborted table.now known.0 }
-    requires noted { ArePlainOrNotedOver table.now page.now.slots noted.now number }
-    ensures { IsGlance table.now page.now.slots number result }
+    requires known { ¬ IsAborted statuses.now known.0 }
+    requires noted { ArePlainOrNotedOver statuses.now page.now.slots noted.now number }
+    ensures { IsGlance statuses.now page.now.slots number result }
 {
     match page.head(number) {
         SlotHead::Version(header) => {
-            if is_plain(&header, known, table) {
+            if is_plain(&header, known, statuses) {
                 Glance::PlainVersion(header.xmin)
             } else {
                 Glance::Doubtful
             }
         }
         SlotHead::Redirect(target) => {
-            if leads_plainly(page, number, target, noted, table) {
+            if leads_plainly(page, number, target, noted, statuses) {
                 Glance::Stays
             } else {
                 Glance::Doubtful
@@ -98,10 +104,10 @@ fn glance_at(page: &Page, number: u16, noted: &Noted, known: Xid, table: &Status
 /// Lists the slots that need a closer look, from the last to the first: so a redirect mostly comes after the slot where it leads.
 /// The list is empty before.
 #[inline(always)]
-fn list_backwards(doubtful: &mut Numbers, page: &Page, table: &StatusTable)
+fn list_backwards(doubtful: &mut Numbers, page: &Page, statuses: &StatusTable)
     requires blank { doubtful.old.items ≡ [] }
     ensures { ListsAllBut
-        (StartsPlainly table.now page.now.slots) 0 (reverse doubtful.new.items)
+        (StartsPlainly statuses.now page.now.slots) 0 (reverse doubtful.new.items)
         (length page.now.slots + 1) }
 {
     let mut noted = [false; 292];
@@ -109,7 +115,7 @@ fn list_backwards(doubtful: &mut Numbers, page: &Page, table: &StatusTable)
     let mut known = Xid(0);
     let mut number = page.slots();
     while number > 0 {
-        match glance_at(page, number, &noted, known, table) {
+        match glance_at(page, number, &noted, known, statuses) {
             Glance::Stays => number -= 1,
             Glance::PlainVersion(inserter) => {
                 if inserter.0 == known.0 {
@@ -130,10 +136,15 @@ fn list_backwards(doubtful: &mut Numbers, page: &Page, table: &StatusTable)
 
 /// Lists the slots of a page that do not plainly stay: few where pruning finds little, and none where each version is undeleted
 /// and not rolled back. The list is empty before.
-pub(crate) fn list_doubtful(doubtful: &mut Numbers, page: &Page, table: &StatusTable, horizon: Xid)
+pub(crate) fn list_doubtful(
+    doubtful: &mut Numbers,
+    page: &Page,
+    statuses: &StatusTable,
+    horizon: Xid,
+)
     requires blank { doubtful.old.items ≡ [] }
-    ensures { ListsDoubtful table.now horizon.0 page.now.slots doubtful.new.items }
+    ensures { ListsDoubtful statuses.now horizon.0 page.now.slots doubtful.new.items }
 {
-    list_backwards(doubtful, page, table);
+    list_backwards(doubtful, page, statuses);
     doubtful.as_mut_slice().reverse();
 }

@@ -45,12 +45,12 @@ impl PruneVerdict {
 pub(crate) type Marks = [PruneVerdict; 292];
 
 /// How many of these versions end with the last dead one.
-pub(crate) fn cut_count(page: &Page, chain: &[u16], table: &StatusTable, horizon: Xid) -> usize
-    ensures { IsCutCount table.now horizon.0 page.now.slots chain.now result }
+pub(crate) fn cut_count(page: &Page, chain: &[u16], statuses: &StatusTable, horizon: Xid) -> usize
+    ensures { IsCutCount statuses.now horizon.0 page.now.slots chain.now result }
 {
     let mut cut = 0;
     for (i, number) in chain.iter().enumerate() {
-        if is_dead_at(page, *number, table, horizon) {
+        if is_dead_at(page, *number, statuses, horizon) {
             cut = i + 1;
         }
     }
@@ -85,9 +85,9 @@ fn mark_all(marks: &mut Marks, numbers: &[u16], action: Option<Action>)
 
 /// The only slot of a root's chain, and whether its version is dead, where the header there tells that no later version
 /// replaced it.
-fn single_of(page: &Page, root: u16, table: &StatusTable, horizon: Xid) -> Option<(u16, bool)>
+fn single_of(page: &Page, root: u16, statuses: &StatusTable, horizon: Xid) -> Option<(u16, bool)>
     ensures { IfSome result
-        (λ single. IsSingle table.now horizon.0 page.now.slots root single.0 single.1) }
+        (λ single. IsSingle statuses.now horizon.0 page.now.slots root single.0 single.1) }
 {
     let start = page.redirect(root).unwrap_or(root);
     let header = page.header(start)?;
@@ -96,7 +96,7 @@ fn single_of(page: &Page, root: u16, table: &StatusTable, horizon: Xid) -> Optio
     }
     Some((
         start,
-        matches!(fate_of(&header, horizon, table), Fate::Dead),
+        matches!(fate_of(&header, horizon, statuses), Fate::Dead),
     ))
 }
 
@@ -123,15 +123,15 @@ fn mark_chain(
     chain: &[u16],
     page: &Page,
     root: u16,
-    table: &StatusTable,
+    statuses: &StatusTable,
     horizon: Xid,
 )
     requires number { root < 292 }
-    requires chain { IsChain (has_aborted table.now) page.now.slots root chain.now }
-    ensures { MarksChain table.now horizon.0 page.now.slots root marks.old marks.new }
+    requires chain { IsChain (has_aborted statuses.now) page.now.slots root chain.now }
+    ensures { MarksChain statuses.now horizon.0 page.now.slots root marks.old marks.new }
 {
     let _limit = page.slots();
-    let cut = cut_count(page, chain, table, horizon);
+    let cut = cut_count(page, chain, statuses, horizon);
     mark_all(marks, chain, None);
     mark_all(marks, &chain[..cut], Some(Action::Unuse));
     marks[usize::from(root)] = PruneVerdict::held(root_action(cut, chain));
@@ -143,18 +143,18 @@ fn mark_root(
     listed: &mut Numbers,
     page: &Page,
     root: u16,
-    table: &StatusTable,
+    statuses: &StatusTable,
     horizon: Xid,
 )
     requires number { root < 292 }
-    ensures { MarksChain table.now horizon.0 page.now.slots root marks.old marks.new }
+    ensures { MarksChain statuses.now horizon.0 page.now.slots root marks.old marks.new }
 {
     let _limit = page.slots();
-    match single_of(page, root, table, horizon) {
+    match single_of(page, root, statuses, horizon) {
         Some((start, is_dead)) => mark_single(marks, root, start, is_dead),
         None => {
-            list_chain(page, root, table, listed);
-            mark_chain(marks, listed.as_slice(), page, root, table, horizon);
+            list_chain(page, root, statuses, listed);
+            mark_chain(marks, listed.as_slice(), page, root, statuses, horizon);
         }
     }
 }
@@ -165,18 +165,18 @@ pub(crate) fn mark_page(
     marks: &mut Marks,
     doubtful: &[u16],
     page: &Page,
-    table: &StatusTable,
+    statuses: &StatusTable,
     horizon: Xid,
 )
     requires blank { (n : ℕ) → mark_at marks.old n ≡ PruneVerdict.Orphan }
-    requires doubtful { ListsDoubtful table.now horizon.0 page.now.slots doubtful.now }
-    ensures { (n : ℕ) → IsVerdict table.now horizon.0 page.now.slots n (mark_at marks.new n) }
+    requires doubtful { ListsDoubtful statuses.now horizon.0 page.now.slots doubtful.now }
+    ensures { (n : ℕ) → IsVerdict statuses.now horizon.0 page.now.slots n (mark_at marks.new n) }
 {
     let _limit = page.slots();
     let mut listed: Numbers = ArrayVec::new();
     for root in doubtful {
         if is_root(page, *root) {
-            mark_root(marks, &mut listed, page, *root, table, horizon);
+            mark_root(marks, &mut listed, page, *root, statuses, horizon);
         }
     }
 }

@@ -17,11 +17,11 @@ use page_slots::Page;
 use xid_circle::Xid;
 
 /// What becomes of a slot that no chain reaches.
-pub(crate) fn orphan_action(page: &Page, number: u16, table: &StatusTable) -> Option<Action>
-    ensures { result ≡ orphan_action table.now page.now.slots number }
+pub(crate) fn orphan_action(page: &Page, number: u16, statuses: &StatusTable) -> Option<Action>
+    ensures { result ≡ orphan_action statuses.now page.now.slots number }
 {
     let header = page.header(number)?;
-    let is_aborted = matches!(table.status(header.xmin), Status::Aborted);
+    let is_aborted = matches!(statuses.status(header.xmin), Status::Aborted);
     if header.is_heap_only() && !header.is_frozen() && is_aborted {
         Some(Action::Unuse)
     } else {
@@ -30,14 +30,14 @@ pub(crate) fn orphan_action(page: &Page, number: u16, table: &StatusTable) -> Op
 }
 
 /// What becomes of a slot with this mark.
-fn action_at(page: &Page, marks: &Marks, number: u16, table: &StatusTable) -> Option<Action>
+fn action_at(page: &Page, marks: &Marks, number: u16, statuses: &StatusTable) -> Option<Action>
     requires { number < 292 }
-    ensures { result ≡ planned table.now page.now.slots number (mark_at marks.now number) }
+    ensures { result ≡ planned statuses.now page.now.slots number (mark_at marks.now number) }
 {
     match marks[usize::from(number)] {
         PruneVerdict::Kept => None,
         PruneVerdict::Goes(action) => Some(action),
-        PruneVerdict::Orphan => orphan_action(page, number, table),
+        PruneVerdict::Orphan => orphan_action(page, number, statuses),
     }
 }
 
@@ -48,19 +48,19 @@ pub(crate) fn list_actions(
     actions: &mut Actions,
     doubtful: &[u16],
     page: &Page,
-    table: &StatusTable,
+    statuses: &StatusTable,
     horizon: Xid,
 )
     requires blank { actions.old.items ≡ [] }
-    requires doubtful { ListsDoubtful table.now horizon.0 page.now.slots doubtful.now }
+    requires doubtful { ListsDoubtful statuses.now horizon.0 page.now.slots doubtful.now }
     ensures can_apply { CanApply (length page.now.slots) actions.new.items }
-    ensures exact { IsPlan table.now horizon.0 page.now.slots actions.new.items }
+    ensures exact { IsPlan statuses.now horizon.0 page.now.slots actions.new.items }
 {
     let _limit = page.slots();
     let mut marks = [PruneVerdict::Orphan; 292];
-    mark_page(&mut marks, doubtful, page, table, horizon);
+    mark_page(&mut marks, doubtful, page, statuses, horizon);
     for number in doubtful {
-        if let Some(action) = action_at(page, &marks, *number, table) {
+        if let Some(action) = action_at(page, &marks, *number, statuses) {
             actions.push((*number, action));
         }
     }
@@ -69,12 +69,12 @@ pub(crate) fn list_actions(
 /// The changes of pruning a page at this horizon in order of slots: of each chain the prefix up to and with
 /// the last dead version goes. Where no slot is in the chains of two roots or redirects, there is one such plan, and it
 /// checks. It takes no memory. (README.HOT, "Pruning")
-pub fn plan(page: &Page, table: &StatusTable, horizon: Xid) -> PrunePlan
+pub fn plan(page: &Page, statuses: &StatusTable, horizon: Xid) -> PrunePlan
     ensures change { result.change ≡ page.now.change }
     ensures can_apply { CanApply (length page.now.slots) result.actions.items }
-    ensures exact { IsPlan table.now horizon.0 page.now.slots result.actions.items }
-    ensures checks { NoSharedSlots (has_aborted table.now) page.now.slots
-        → Checks table.now horizon.0 page.now result.change result.actions.items }
+    ensures exact { IsPlan statuses.now horizon.0 page.now.slots result.actions.items }
+    ensures checks { NoSharedSlots (has_aborted statuses.now) page.now.slots
+        → Checks statuses.now horizon.0 page.now result.change result.actions.items }
 {
     let _limit = page.slots();
     let mut plan = PrunePlan {
@@ -82,9 +82,15 @@ pub fn plan(page: &Page, table: &StatusTable, horizon: Xid) -> PrunePlan
         actions: ArrayVec::new(),
     };
     let mut doubtful: Numbers = ArrayVec::new();
-    list_doubtful(&mut doubtful, page, table, horizon);
+    list_doubtful(&mut doubtful, page, statuses, horizon);
     if !doubtful.is_empty() {
-        list_actions(&mut plan.actions, doubtful.as_slice(), page, table, horizon);
+        list_actions(
+            &mut plan.actions,
+            doubtful.as_slice(),
+            page,
+            statuses,
+            horizon,
+        );
     }
     plan
 }

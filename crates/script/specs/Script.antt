@@ -88,7 +88,7 @@ abbrev pub Moves : EngineView → Event → EngineView → Type 0
 Moves old (did step reply) new = EngineFollows old step reply new × EngineExact old step reply new
 Moves old (finished pieces last) new =
     RepliesLead old (vacuum_steps pieces) (vacuum_replies pieces last) new × EndsVacuum pieces last
-Moves old (showed_ids next frozen_below) new = (old ≡ new) × (next ≡ next_id old.core.heap.table) × (frozen_below ≡ old.core.heap.table.first)
+Moves old (showed_ids next frozen_below) new = (old ≡ new) × (next ≡ next_id old.core.heap.statuses) × (frozen_below ≡ old.core.heap.statuses.first)
 Moves old (showed_page p shown) new = (old ≡ new) × (shown ≡ shown_of old p)
 Moves old (showed_entries i entries) new = (old ≡ new) × (entries ≡ option_map (λ index. index.entries) (engine_index old.core i))
 

@@ -16,7 +16,7 @@ pub(crate) fn show_ids(text: &mut Vec<u8>, engine: &Engine) -> Result<(), Refuse
         (text.new.items
         ≡ text.old.items
         ++ with_feed
-        (ids_text (next_id engine.now.core.heap.table) engine.now.core.heap.table.first)) }
+        (ids_text (next_id engine.now.core.heap.statuses) engine.now.core.heap.statuses.first)) }
 {
     let (next, frozen_below) = engine.ids();
     tell_ids(text, next, frozen_below)

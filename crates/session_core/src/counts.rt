@@ -19,7 +19,7 @@ impl Engine {
 
     /// How many more ids can be given, one after another, before NeedsFreeze.
     pub fn ids_left(&self) -> u32
-        ensures { (n : ℕ) → CanGive self.now.core.heap.table n ↔ (n ≤ result) }
+        ensures { (n : ℕ) → CanGive self.now.core.heap.statuses n ↔ (n ≤ result) }
     {
         self.core.ids_left()
     }

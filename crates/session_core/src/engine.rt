@@ -139,8 +139,8 @@ impl Engine {
 
     /// The next id to be given, and the oldest that is remembered.
     pub fn ids(&self) -> (Xid, Xid)
-        ensures next { result.0.0 ≡ next_id self.now.core.heap.table }
-        ensures first { result.1.0 ≡ self.now.core.heap.table.first }
+        ensures next { result.0.0 ≡ next_id self.now.core.heap.statuses }
+        ensures first { result.1.0 ≡ self.now.core.heap.statuses.first }
     {
         self.core.ids()
     }

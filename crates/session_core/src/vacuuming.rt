@@ -44,7 +44,7 @@ impl Engine {
         ensures none { self.new.vacuum ≡ None }
         ensures core { MatchOption cutoff (self.new.core ≡ self.old.core)
             (λ x. Forgets self.old.core self.new.core x.0) }
-        ensures first { result ≡ self.new.core.heap.table.first }
+        ensures first { result ≡ self.new.core.heap.statuses.first }
     {
         self.vacuum = None;
         if let Some(cutoff) = cutoff {

@@ -45,26 +45,26 @@ horizon-is-earliest st w agrees = record {
   least = λ y among. let some = all-cases st.sessions y among in each some.0 some.1 y some.2 some.3;
 }
   where
-    least : IsEarliest st.heap.table (next_id st.heap.table) (held_back st.sessions) (horizon_of st)
-    least = horizon-least st.heap.table st.sessions agrees.sound.window (held-in st w agrees)
+    least : IsEarliest st.heap.statuses (next_id st.heap.statuses) (held_back st.sessions) (horizon_of st)
+    least = horizon-least st.heap.statuses st.sessions agrees.sound.window (held-in st w agrees)
 
-    given : (s : ℕ) (e : Session) (x : ℕ) → session_at st s ≡ Some e → Contains e.own.ids x → (i : ℕ) × (place st.heap.table x ≡ Some i)
-    given s e x at mine = some-from_is (place st.heap.table x) (active-to st.heap.table x ((agrees.found.opened s (reader_of e) (reader-is st s e at)).2.own_active x mine)).is_given
+    given : (s : ℕ) (e : Session) (x : ℕ) → session_at st s ≡ Some e → Contains e.own.ids x → (i : ℕ) × (place st.heap.statuses x ≡ Some i)
+    given s e x at mine = some-from_is (place st.heap.statuses x) (active-to st.heap.statuses x ((agrees.found.opened s (reader_of e) (reader-is st s e at)).2.own_active x mine)).is_given
 
-    own : (s : ℕ) (e : Session) (x : ℕ) → session_at st s ≡ Some e → Contains e.own.ids x → turns st.heap.table.first (horizon_of st) ≤ turns st.heap.table.first x
+    own : (s : ℕ) (e : Session) (x : ℕ) → session_at st s ≡ Some e → Contains e.own.ids x → turns st.heap.statuses.first (horizon_of st) ≤ turns st.heap.statuses.first x
     own s e x at mine =
         let first = (agrees.sound.sessions s e at).topmost x mine in
-        let top = top_of st.heap.table x in
+        let top = top_of st.heap.statuses x in
         let i = given s e x at mine in
         let j = given s e top at (first-in e.own.ids top first) in
-        let low = horizon-low st.heap.table st.sessions s e top agrees.sound.window (held-in st w agrees) at (first-back e top first) in
-        let before = top-before st.heap.table x i.0 j.0 agrees.sound.window i.1 j.1 in
-        let turn_i = (at-from_place st.heap.table.first (length st.heap.table.entries) x i.0 i.1).turn in
-        let turn_j = (at-from_place st.heap.table.first (length st.heap.table.entries) top j.0 j.1).turn in
+        let low = horizon-low st.heap.statuses st.sessions s e top agrees.sound.window (held-in st w agrees) at (first-back e top first) in
+        let before = top-before st.heap.statuses x i.0 j.0 agrees.sound.window i.1 j.1 in
+        let turn_i = (at-from_place st.heap.statuses.first (length st.heap.statuses.entries) x i.0 i.1).turn in
+        let turn_j = (at-from_place st.heap.statuses.first (length st.heap.statuses.entries) top j.0 j.1).turn in
         omega (arith, low, before, turn_i, turn_j)
 
-    each : (s : ℕ) (e : Session) (y : ℕ) → session_at st s ≡ Some e → Contains (e.snapshot.xmin ∷ e.own.ids) y → turns st.heap.table.first (horizon_of st) ≤ turns st.heap.table.first y
+    each : (s : ℕ) (e : Session) (y : ℕ) → session_at st s ≡ Some e → Contains (e.snapshot.xmin ∷ e.own.ids) y → turns st.heap.statuses.first (horizon_of st) ≤ turns st.heap.statuses.first y
     each s e y at among = elim (Contains-cases e.snapshot.xmin y e.own.ids among) [
-      | inl here ↦ subst (λ z. turns st.heap.table.first (horizon_of st) ≤ turns st.heap.table.first z) here (below-xmin st w agrees s e at)
+      | inl here ↦ subst (λ z. turns st.heap.statuses.first (horizon_of st) ≤ turns st.heap.statuses.first z) here (below-xmin st w agrees s e at)
       | inr mine ↦ own s e y at mine
     ]

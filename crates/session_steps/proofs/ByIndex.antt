@@ -30,8 +30,8 @@ use Rattle.session_steps.specs.Laws.{IsFound, FindsRows, FindsAtEach, FindsLevel
 use Rattle.session_steps.proofs.Owns.{reader-is, now_taken, taken-fresh}
 
 -- a reader whose own ids are in progress, and what it finds on the heap
-by-index : (st : State) (w : World) (n : ℕ) (s : Snap) (own : List ℕ) (row : ℕ → Option Row) → Agrees st w → IsInUse st.heap.indexes n → ((x : ℕ) → Contains own x → window.IsActive st.heap.table x)
-    → relation.Shows (seen st).version (ReaderSees (state_of st.heap.table) (λ x. Sees s st.heap.table x) own) row → FindsRows st.heap s own n row
+by-index : (st : State) (w : World) (n : ℕ) (s : Snap) (own : List ℕ) (row : ℕ → Option Row) → Agrees st w → IsInUse st.heap.indexes n → ((x : ℕ) → Contains own x → window.IsActive st.heap.statuses x)
+    → relation.Shows (seen st).version (ReaderSees (state_of st.heap.statuses) (λ x. Sees s st.heap.statuses x) own) row → FindsRows st.heap s own n row
 by-index st w n s own row agrees used active shows = record {
   sound = λ value k p t found. let h = (on-heap value k p t).1 found in
       (ap row (sym h.of_key) ∙ shows.sound p t h.there h.has, h.of_value);
@@ -48,25 +48,25 @@ by-index st w n s own row agrees used active shows = record {
 }
   where
     on-heap : (value : ℤ) (k : ℕ) (p : Tid) (t : Version)
-        → IsOnHeap (value_in n) (slots_of st.heap) value k (λ t. visibility.IsVisible st.heap.table s own t.header) p t ↔ IsFound st.heap s own n value k p t
-    on-heap value k p t = visible-found (value_in n) st.heap.table (horizon_of st) (slots_of st.heap) (entries_in st.heap.indexes n)
+        → IsOnHeap (value_in n) (slots_of st.heap) value k (λ t. visibility.IsVisible st.heap.statuses s own t.header) p t ↔ IsFound st.heap s own n value k p t
+    on-heap value k p t = visible-found (value_in n) st.heap.statuses (horizon_of st) (slots_of st.heap) (entries_in st.heap.indexes n)
         (index-sound st.heap (horizon_of st) agrees.sound.table n used) s own active value k p t
 
 -- one that would begin now sees what is committed
-fresh : (st : State) (w : World) → Agrees st w → relation.Shows (seen st).version (ReaderSees (state_of st.heap.table) (λ x. Sees (now_taken st) st.heap.table x) []) (committed w.history (length w.history))
+fresh : (st : State) (w : World) → Agrees st w → relation.Shows (seen st).version (ReaderSees (state_of st.heap.statuses) (λ x. Sees (now_taken st) st.heap.statuses x) []) (committed w.history (length w.history))
 fresh st w agrees = record {
   sound = λ p v at sees. agrees.found.current.sound p v at (to v sees);
   there = λ k r is. let some = agrees.found.current.there k r is in (some.0, some.1, some.2, some.3, from some.1 some.4);
   one = λ p q v u at bt sees sees'. agrees.found.current.one p q v u at bt (to v sees) (to u sees');
 }
   where
-    to : (v : Version) → ReaderSees (state_of st.heap.table) (λ x. Sees (now_taken st) st.heap.table x) [] v → VisibleBy (HasCommitted (state_of st.heap.table)) v.header
+    to : (v : Version) → ReaderSees (state_of st.heap.statuses) (λ x. Sees (now_taken st) st.heap.statuses x) [] v → VisibleBy (HasCommitted (state_of st.heap.statuses)) v.header
     to v sees = record {
       made = λ x is. elim (sees.made x is) [ by_itself own ↦ absurd (Contains-none x own) | by_others seen' done ↦ done ];
       kept = λ x is done. sees.kept x is (by_others ((taken-fresh st w agrees).finished x done) done);
     }
 
-    from : (v : Version) → VisibleBy (HasCommitted (state_of st.heap.table)) v.header → ReaderSees (state_of st.heap.table) (λ x. Sees (now_taken st) st.heap.table x) [] v
+    from : (v : Version) → VisibleBy (HasCommitted (state_of st.heap.statuses)) v.header → ReaderSees (state_of st.heap.statuses) (λ x. Sees (now_taken st) st.heap.statuses x) [] v
     from v sees = record {
       made = λ x is. let done = sees.made x is in by_others ((taken-fresh st w agrees).finished x done) done;
       kept = λ x is reads. elim reads [ by_itself own ↦ Contains-none x own | by_others seen' done ↦ sees.kept x is done ];
@@ -74,8 +74,8 @@ fresh st w agrees = record {
 
 -- at each savepoint
 at-each : (st : State) (w : World) (n : ℕ) (s : Snap) (start : ℕ) (own : List ℕ) (saved : List (List ℕ)) (levels : List (List Write)) → Agrees st w → IsInUse st.heap.indexes n
-    → ((x : ℕ) → Contains own x → window.IsActive st.heap.table x)
-    → relation.LevelsAgree (state_of st.heap.table) (seen st).version w.history (λ x. Sees s st.heap.table x) start own saved levels → FindsAtEach st.heap s n w.history start saved levels
+    → ((x : ℕ) → Contains own x → window.IsActive st.heap.statuses x)
+    → relation.LevelsAgree (state_of st.heap.statuses) (seen st).version w.history (λ x. Sees s st.heap.statuses x) start own saved levels → FindsAtEach st.heap s n w.history start saved levels
 at-each st w n s start own [] levels agrees used active h = tt
 at-each st w n s start own (before ∷ saved) [] agrees used active h = absurd h
 at-each st w n s start own (before ∷ saved) (since ∷ levels) agrees used active h = (
@@ -85,14 +85,14 @@ at-each st w n s start own (before ∷ saved) (since ∷ levels) agrees used act
 
 -- an open session
 levels-by-index : (st : State) (w : World) (n : ℕ) (s : ℕ) (e : Session) (m : OpenSession) → Agrees st w → IsInUse st.heap.indexes n
-    → relation.SessionAgrees (state_of st.heap.table) (seen st).version w.history (λ x. Sees e.snapshot st.heap.table x) m.start (λ x. Sees e.snapshot st.heap.table x) (reader_of e) m → FindsLevels st.heap n w.history e m
+    → relation.SessionAgrees (state_of st.heap.statuses) (seen st).version w.history (λ x. Sees e.snapshot st.heap.statuses x) m.start (λ x. Sees e.snapshot st.heap.statuses x) (reader_of e) m → FindsLevels st.heap n w.history e m
 levels-by-index st w n s e m agrees used h = record {
   now = by-index st w n e.snapshot e.own.ids (view w.history m) agrees used active (Levels-top e.own.ids e.own.saved m.levels h.levels).rows;
   saved = at-each st w n e.snapshot m.start e.own.ids e.own.saved m.levels agrees used active h.levels;
 }
   where
-    active : (x : ℕ) → Contains e.own.ids x → window.IsActive st.heap.table x
-    active x mine = active-to st.heap.table x (h.own_active x mine)
+    active : (x : ℕ) → Contains e.own.ids x → window.IsActive st.heap.statuses x
+    active x mine = active-to st.heap.statuses x (h.own_active x mine)
 
 pub views-by-index : ViewsByIndex
 views-by-index st w agrees n used = (
@@ -100,6 +100,6 @@ views-by-index st w agrees n used = (
       let open_ = agrees.found.opened s (reader_of e) (reader-is st s e at) in
       let is : open_.0 ≡ m = same_Some open_.0 m (sym open_.1 ∙ there) in
       levels-by-index st w n s e m agrees used
-      (subst (λ (n : OpenSession). relation.SessionAgrees (state_of st.heap.table) (seen st).version w.history (λ x. Sees e.snapshot st.heap.table x) n.start (λ x. Sees e.snapshot st.heap.table x) (reader_of e) n) is open_.2),
+      (subst (λ (n : OpenSession). relation.SessionAgrees (state_of st.heap.statuses) (seen st).version w.history (λ x. Sees e.snapshot st.heap.statuses x) n.start (λ x. Sees e.snapshot st.heap.statuses x) (reader_of e) n) is open_.2),
   by-index st w n (now_taken st) [] (committed w.history (length w.history)) agrees used (λ x mine. absurd (Contains-none x mine)) (fresh st w agrees),
 )

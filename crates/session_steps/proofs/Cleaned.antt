@@ -53,23 +53,23 @@ abbrev IsPast : State → Version → Type 0
 IsPast st v = change.IsPast (seen st).status (seen st).sees (seen st).session v
 
 -- a committed deleter is one
-deleter-of : (st : State) (v : Version) → IsCommitted st.heap.table v.header.xmax.0 → readers.deleter v.header ≡ Some v.header.xmax.0
+deleter-of : (st : State) (v : Version) → IsCommitted st.heap.statuses v.header.xmax.0 → readers.deleter v.header ≡ Some v.header.xmax.0
 deleter-of st v done =
-    let at = finished-place st.heap.table v.header.xmax.0 (λ active. let e : Committed ≡ InProgress = sym done ∙ active in absurd (cc)) in
-    is-deleter v.header v.header.xmax.0 (not-zero v.header.xmax.0 (upto-place st.heap.table v.header.xmax.0 at.0 at.1).normal) refl
+    let at = finished-place st.heap.statuses v.header.xmax.0 (λ active. let e : Committed ≡ InProgress = sym done ∙ active in absurd (cc)) in
+    is-deleter v.header v.header.xmax.0 (not-zero v.header.xmax.0 (upto-place st.heap.statuses v.header.xmax.0 at.0 at.1).normal) refl
 
 -- What is dead at the horizon, nobody reads.
-dead-past : (st : State) (w : World) (v : Version) → Agrees st w → IsDead st.heap.table (horizon_of st) v.header → IsPast st v
+dead-past : (st : State) (w : World) (v : Version) → Agrees st w → IsDead st.heap.statuses (horizon_of st) v.header → IsPast st v
 dead-past st w v agrees (IsDead.never_was thawed gone) =
-    let at = finished-place st.heap.table v.header.xmin.0 (λ active. let e : Aborted ≡ InProgress = sym gone ∙ active in absurd (cc)) in
-    change.IsPast.never_was v.header.xmin.0 (is-inserter v.header v.header.xmin.0 thawed refl) (state-is st.heap.table v.header.xmin.0 Aborted (is-from_some (place st.heap.table v.header.xmin.0) at.0 at.1) gone)
+    let at = finished-place st.heap.statuses v.header.xmin.0 (λ active. let e : Aborted ≡ InProgress = sym gone ∙ active in absurd (cc)) in
+    change.IsPast.never_was v.header.xmin.0 (is-inserter v.header v.header.xmin.0 thawed refl) (state-is st.heap.statuses v.header.xmin.0 Aborted (is-from_some (place st.heap.statuses v.header.xmin.0) at.0 at.1) gone)
 dead-past st w v agrees (IsDead.is_past done before) =
-    let at = finished-place st.heap.table v.header.xmax.0 (λ active. let e : Committed ≡ InProgress = sym done ∙ active in absurd (cc)) in
-    let upto = upto-place st.heap.table v.header.xmax.0 at.0 at.1 in
-    change.IsPast.is_over v.header.xmax.0 (deleter-of st v done) (committed-from st.heap.table v.header.xmax.0 done)
+    let at = finished-place st.heap.statuses v.header.xmax.0 (λ active. let e : Committed ≡ InProgress = sym done ∙ active in absurd (cc)) in
+    let upto = upto-place st.heap.statuses v.header.xmax.0 at.0 at.1 in
+    change.IsPast.is_over v.header.xmax.0 (deleter-of st v done) (committed-from st.heap.statuses v.header.xmax.0 done)
     (λ s r bt. let e = reader-at st s r bt in
-    subst (λ (r : relation.SeenSession). Sees r.snapshot st.heap.table v.header.xmax.0) e.2
-    (past-seen st.heap.table e.0.snapshot (horizon_of st) v.header.xmax.0 agrees.sound.window (agrees.sound.sessions s e.0 e.1).snapshot.bounds (upto-horizon st w agrees) upto (below-xmin st w agrees s e.0 e.1) before))
+    subst (λ (r : relation.SeenSession). Sees r.snapshot st.heap.statuses v.header.xmax.0) e.2
+    (past-seen st.heap.statuses e.0.snapshot (horizon_of st) v.header.xmax.0 agrees.sound.window (agrees.sound.sessions s e.0 e.1).snapshot.bounds (upto-horizon st w agrees) upto (below-xmin st w agrees s e.0 e.1) before))
 
 -- Who reads a version's deletion reads its making: so what comes before such a version in a chain, nobody reads either.
 
@@ -77,45 +77,45 @@ module _ (st : State) (w : World) (agrees : Agrees st w) (n : ℕ) where
   abbrev slots : List Slot
   slots = slots_on (slots_of st.heap) n
 
-  before-past : (i k : ℕ) (v u : Version) → version_at slots i ≡ Some v → link st.heap.table slots i ≡ Some k → version_at slots k ≡ Some u → IsPast st u → IsPast st v
+  before-past : (i k : ℕ) (v u : Version) → version_at slots i ≡ Some v → link st.heap.statuses slots i ≡ Some k → version_at slots k ≡ Some u → IsPast st u → IsPast st v
   before-past i k v u at next bt past =
-      let l = link-of (has_aborted st.heap.table) slots i k next in
+      let l = link-of (has_aborted st.heap.statuses) slots i k next in
       let page = agrees.sound.table.heap n in
       let old : l.old ≡ v = same_Some l.old v (sym l.from ∙ at) in
       let new : l.new ≡ u = same_Some l.new u (sym l.to ∙ bt) in
       let made : u.header.xmin.0 ≡ v.header.xmax.0 = ap (λ (t : Version). t.header.xmin.0) (sym new) ∙ l.made ∙ ap (λ (t : Version). t.header.xmax.0) old in
-      let live : has_aborted st.heap.table v.header.xmax.0 ≡ false = ap (λ (t : Version). has_aborted st.heap.table t.header.xmax.0) (sym old) ∙ l.live in
+      let live : has_aborted st.heap.statuses v.header.xmax.0 ≡ false = ap (λ (t : Version). has_aborted st.heap.statuses t.header.xmax.0) (sym old) ∙ l.live in
       of made live past (λ done. page.made k u bt done) (page.unfrozen i k u next bt)
     where
-      of : u.header.xmin.0 ≡ v.header.xmax.0 → has_aborted st.heap.table v.header.xmax.0 ≡ false → IsPast st u
-          → (IsCommitted st.heap.table u.header.xmax.0 → IsFrozen u.header ⊎ IsCommitted st.heap.table u.header.xmin.0) → ¬ IsFrozen u.header → IsPast st v
+      of : u.header.xmin.0 ≡ v.header.xmax.0 → has_aborted st.heap.statuses v.header.xmax.0 ≡ false → IsPast st u
+          → (IsCommitted st.heap.statuses u.header.xmax.0 → IsFrozen u.header ⊎ IsCommitted st.heap.statuses u.header.xmin.0) → ¬ IsFrozen u.header → IsPast st v
       of made live (change.IsPast.never_was x is gone) committed thawed =
           let m = inserter-is u.header x is in
-          let aborted : IsAborted st.heap.table v.header.xmax.0 = subst (λ y. IsAborted st.heap.table y) (sym m.1 ∙ made) (state-some st.heap.table x Aborted gone).1 in
-          let has = aborted-has st.heap.table v.header.xmax.0 aborted in absurd (cc)
+          let aborted : IsAborted st.heap.statuses v.header.xmax.0 = subst (λ y. IsAborted st.heap.statuses y) (sym m.1 ∙ made) (state-some st.heap.statuses x Aborted gone).1 in
+          let has = aborted-has st.heap.statuses v.header.xmax.0 aborted in absurd (cc)
       of made live (change.IsPast.is_over y is done all) committed thawed =
           let d = deleter-is u.header y is in
-          let over : IsCommitted st.heap.table u.header.xmax.0 = subst (λ z. IsCommitted st.heap.table z) (sym d.1) (state-some st.heap.table y Committed done).1 in
-          let mine : IsCommitted st.heap.table v.header.xmax.0 = elim (committed over) [ inl frozen ↦ absurd (thawed frozen) | inr c ↦ subst (λ z. IsCommitted st.heap.table z) made c ] in
-          change.IsPast.is_over v.header.xmax.0 (deleter-of st v mine) (committed-from st.heap.table v.header.xmax.0 mine)
+          let over : IsCommitted st.heap.statuses u.header.xmax.0 = subst (λ z. IsCommitted st.heap.statuses z) (sym d.1) (state-some st.heap.statuses y Committed done).1 in
+          let mine : IsCommitted st.heap.statuses v.header.xmax.0 = elim (committed over) [ inl frozen ↦ absurd (thawed frozen) | inr c ↦ subst (λ z. IsCommitted st.heap.statuses z) made c ] in
+          change.IsPast.is_over v.header.xmax.0 (deleter-of st v mine) (committed-from st.heap.statuses v.header.xmax.0 mine)
           (λ s r at'. let open_ = agrees.found.opened s r at' in
           let whole = (Levels-top r.own r.saved open_.0.levels open_.2.levels).whole (record { page = n; slot = k }) y u bt is (readers.by_others (all s r at') done) v.header.xmax.0 (is-inserter u.header v.header.xmax.0 thawed made) in
           elim whole [
-            | readers.by_itself own ↦ (let active = (active-to st.heap.table v.header.xmax.0 (open_.2.own_active v.header.xmax.0 own)).unfinished in
+            | readers.by_itself own ↦ (let active = (active-to st.heap.statuses v.header.xmax.0 (open_.2.own_active v.header.xmax.0 own)).unfinished in
                 let e : Committed ≡ InProgress = sym mine ∙ active in absurd (cc))
             | readers.by_others sees _ ↦ sees
           ])
 
-  cut-past : (turns i last : ℕ) (v : Version) → version_at slots i ≡ Some v → ReachesIn (link st.heap.table slots) turns i last → IsDeadAt st.heap.table (horizon_of st) slots last → IsPast st v
+  cut-past : (turns i last : ℕ) (v : Version) → version_at slots i ≡ Some v → ReachesIn (link st.heap.statuses slots) turns i last → IsDeadAt st.heap.statuses (horizon_of st) slots last → IsPast st v
   cut-past zero i last v at along dead =
-      dead-past st w v agrees (subst (λ (t : Version). IsDead st.heap.table (horizon_of st) t.header) (same_Some dead.version v (sym dead.there ∙ ap (version_at slots) (sym along) ∙ at)) dead.dead)
+      dead-past st w v agrees (subst (λ (t : Version). IsDead st.heap.statuses (horizon_of st) t.header) (same_Some dead.version v (sym dead.there ∙ ap (version_at slots) (sym along) ∙ at)) dead.dead)
   cut-past (suc turns) i last v at along dead =
-      let l = link-of (has_aborted st.heap.table) slots i along.0 along.1 in
+      let l = link-of (has_aborted st.heap.statuses) slots i along.0 along.1 in
       before-past i along.0 v l.new at along.1 l.to (cut-past turns along.0 last l.new l.to along.2 dead)
 
 -- what goes from a page when what is cut goes, nobody reads
 pub removes-past : (st : State) (w : World) (store' : Tid → Option Version) (n : ℕ) → Agrees st w
-    → RemovesOn (version_in (slots_of st.heap)) store' n (IsCut st.heap.table (horizon_of st) (slots_on (slots_of st.heap) n))
+    → RemovesOn (version_in (slots_of st.heap)) store' n (IsCut st.heap.statuses (horizon_of st) (slots_on (slots_of st.heap) n))
     → change.MayRemove (seen st).version store' (λ v. change.IsPast (seen st).status (seen st).sees (seen st).session v)
 removes-past st w store' n agrees removes = record {
   kept = removes.kept;
@@ -137,18 +137,18 @@ pruned : (st : State) (h : HeapView) (p : ℕ) (w : World) → Prunes st.heap h 
 pruned st h p w prunes agrees =
     let stays = pruned-stays st.heap h p (horizon_of st) agrees.sound.table prunes in
     let f = theory.Follows-prune (seen st) p (version_in (slots_of h)) (removes-past st w (version_in (slots_of h)) p agrees (prunes-stand st.heap h p (horizon_of st) prunes)) w agrees.found in
-    let table : h.table ≡ st.heap.table = ap (λ (g : HeapView). g.table) prunes.is in
+    let statuses : h.statuses ≡ st.heap.statuses = ap (λ (g : HeapView). g.statuses) prunes.is in
     let limit : h.max_pages ≡ st.heap.max_pages = ap (λ (g : HeapView). g.max_pages) prunes.is in
-    agree agrees refl refl (subst (λ t. relation_agrees.HeapAgrees (seen_in (slots_of h) t st.sessions) w) (sym table) f.1) (record {
+    agree agrees refl refl (subst (λ t. relation_agrees.HeapAgrees (seen_in (slots_of h) t st.sessions) w) (sym statuses) f.1) (record {
       count = agrees.sound.count;
       max_pages = limit ∙ agrees.sound.max_pages;
-      stop_age = rw table agrees.sound.stop_age;
-      window = rw table agrees.sound.window;
-      sessions = rw table agrees.sound.sessions;
-      tops = rw table agrees.sound.tops;
+      stop_age = rw statuses agrees.sound.stop_age;
+      window = rw statuses agrees.sound.window;
+      sessions = rw statuses agrees.sound.sessions;
+      tops = rw statuses agrees.sound.tops;
       indexes = still-in_use st.heap.indexes h.indexes st.settings.indexed stays.in_use agrees.sound.indexes;
       cursors = λ s e span at is. (stays.in_use span.index).0 (agrees.sound.cursors s e span at is);
-      table = subst (λ t. SoundTable h (earliest (next_id t) (held_back st.sessions))) (sym table) stays.sound;
+      table = subst (λ t. SoundTable h (earliest (next_id t) (held_back st.sessions))) (sym statuses) stays.sound;
     })
 
 pub Follows-prune : (st st' : State) (p : ℕ) → Cleans st st' p → Follows st (Prune p) Done st'

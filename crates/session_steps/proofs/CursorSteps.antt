@@ -64,7 +64,7 @@ Follows-bad_bounds st s e index low high at sound bare used order w agrees =
 
 -- A session's cursor changes, and nothing else.
 
-keeps-cursor : (st : State) (e : Session) (cursor : Option Cursor) → SessionKeeps st.heap.table e → SessionKeeps st.heap.table (with_cursor cursor e)
+keeps-cursor : (st : State) (e : Session) (cursor : Option Cursor) → SessionKeeps st.heap.statuses e → SessionKeeps st.heap.statuses (with_cursor cursor e)
 keeps-cursor st e cursor h = record { snapshot = h.snapshot; topmost = h.topmost; prefixes = h.prefixes; distinct = h.distinct }
 
 module _ (st st' : State) (s : ℕ) (e : Session) (cursor : Option Cursor) (at : session_at st s ≡ Some e) (is : st' ≡ put_session st s (map_session (with_cursor cursor) (session_at st s))) where

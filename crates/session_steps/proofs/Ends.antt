@@ -104,31 +104,31 @@ module _ (st : State) (w : World) (agrees : Agrees st w) where
 
   -- an id of the session deleted the version: one of its own made it, or one that is committed
   made-with : (s : ℕ) (e : Session) (p : Tid) (t : Version) (x y : ℕ) → session_at st s ≡ Some e → At (seen st).version p t → inserter t.header ≡ Some x → deleter t.header ≡ Some y → Contains e.own.ids y
-      → Contains e.own.ids x ⊎ HasCommitted (state_of st.heap.table) x
+      → Contains e.own.ids x ⊎ HasCommitted (state_of st.heap.statuses) x
   made-with s e p t x y at there made gone mine =
       let m = agrees.found.opened s (reader_of e) (reader-is st s e at) in
-      read-by (state_of st.heap.table) ((seen st).sees e.snapshot) e.own.ids x
+      read-by (state_of st.heap.statuses) ((seen st).sees e.snapshot) e.own.ids x
       ((Levels-top e.own.ids e.own.saved m.0.levels m.2.levels).whole p y t there gone (by_itself mine) x made)
 
   -- an id in progress of a session made the version: no deletion of it counts, or one of the session's ids made it
   deleted-with : (s : ℕ) (e : Session) (p : Tid) (t : Version) (x : ℕ) → session_at st s ≡ Some e → At (seen st).version p t → inserter t.header ≡ Some x → Contains e.own.ids x
-      → (t.header.xmax.0 ≡ 0) ⊎ (window.IsAborted st.heap.table t.header.xmax.0 ⊎ Contains e.own.ids t.header.xmax.0)
+      → (t.header.xmax.0 ≡ 0) ⊎ (window.IsAborted st.heap.statuses t.header.xmax.0 ⊎ Contains e.own.ids t.header.xmax.0)
   deleted-with s e p t x at there made mine = elim (cases_eq t.header.xmax.0 0) [
     | inl none ↦ inl none
-    | inr some ↦ inr (let gone = is-deleter t.header t.header.xmax.0 some refl in by-status gone (status-cases (state_of st.heap.table t.header.xmax.0) (agrees.found.given p t.header.xmax.0 t there (deleted_by gone))))
+    | inr some ↦ inr (let gone = is-deleter t.header t.header.xmax.0 some refl in by-status gone (status-cases (state_of st.heap.statuses t.header.xmax.0) (agrees.found.given p t.header.xmax.0 t there (deleted_by gone))))
   ]
     where
       y : ℕ
       y = t.header.xmax.0
 
-      going : IsRunning (state_of st.heap.table) x
+      going : IsRunning (state_of st.heap.statuses) x
       going = (agrees.found.opened s (reader_of e) (reader-is st s e at)).2.own_active x mine
 
-      unfinished : ¬ HasCommitted (state_of st.heap.table) x
+      unfinished : ¬ HasCommitted (state_of st.heap.statuses) x
       unfinished done = cc going
 
       -- the session that has the deleter made it too, so it is this one
-      same-session : deleter t.header ≡ Some y → IsRunning (state_of st.heap.table) y → Contains e.own.ids y
+      same-session : deleter t.header ≡ Some y → IsRunning (state_of st.heap.statuses) y → Contains e.own.ids y
       same-session gone active =
           let by = agrees.found.owned y active in
           let f = reader-at st by.0 by.1 by.2 in
@@ -139,31 +139,31 @@ module _ (st : State) (w : World) (agrees : Agrees st w) where
             | inr done ↦ absurd (unfinished done)
           ]
 
-      by-status : deleter t.header ≡ Some y → (state_of st.heap.table y ≡ Some InProgress) ⊎ ((state_of st.heap.table y ≡ Some Committed) ⊎ (state_of st.heap.table y ≡ Some Aborted))
-          → window.IsAborted st.heap.table y ⊎ Contains e.own.ids y
+      by-status : deleter t.header ≡ Some y → (state_of st.heap.statuses y ≡ Some InProgress) ⊎ ((state_of st.heap.statuses y ≡ Some Committed) ⊎ (state_of st.heap.statuses y ≡ Some Aborted))
+          → window.IsAborted st.heap.statuses y ⊎ Contains e.own.ids y
       by-status gone (inl active) = inr (same-session gone active)
       by-status gone (inr (inl done)) = absurd (unfinished (agrees.found.made p y t there gone done x made))
-      by-status gone (inr (inr undone)) = inl (state-some st.heap.table y Aborted undone).1
+      by-status gone (inr (inr undone)) = inl (state-some st.heap.statuses y Aborted undone).1
 
   -- all ids of a session
-  deleted-made : (s : ℕ) (e : Session) → session_at st s ≡ Some e → (n : ℕ) → DeletedWhatWasMade st.heap.table (slots_on (slots_of st.heap) n) e.own.ids
+  deleted-made : (s : ℕ) (e : Session) → session_at st s ≡ Some e → (n : ℕ) → DeletedWhatWasMade st.heap.statuses (slots_on (slots_of st.heap) n) e.own.ids
   deleted-made s e at n m t there mine = elim (frozen-cases t) [
     | inl frozen ↦ inl frozen
     | inr thawed ↦ inr (
-        let active = active-to st.heap.table t.header.xmax.0 ((agrees.found.opened s (reader_of e) (reader-is st s e at)).2.own_active t.header.xmax.0 mine) in
+        let active = active-to st.heap.statuses t.header.xmax.0 ((agrees.found.opened s (reader_of e) (reader-is st s e at)).2.own_active t.header.xmax.0 mine) in
         elim (made-with s e (record { page = n; slot = m }) t t.header.xmin.0 t.header.xmax.0 at there (is-inserter t.header t.header.xmin.0 thawed refl)
-        (is-deleter t.header t.header.xmax.0 (normal-active st.heap.table t.header.xmax.0 active) refl) mine) [
+        (is-deleter t.header t.header.xmax.0 (normal-active st.heap.statuses t.header.xmax.0 active) refl) mine) [
           | inl own ↦ inr own
-          | inr done ↦ inl (committed-to st.heap.table t.header.xmin.0 done)
+          | inr done ↦ inl (committed-to st.heap.statuses t.header.xmin.0 done)
         ])
   ]
 
-  alone-deleted : (s : ℕ) (e : Session) → session_at st s ≡ Some e → (n : ℕ) → AloneDeletedTheirs st.heap.table (slots_on (slots_of st.heap) n) e.own.ids
+  alone-deleted : (s : ℕ) (e : Session) → session_at st s ≡ Some e → (n : ℕ) → AloneDeletedTheirs st.heap.statuses (slots_on (slots_of st.heap) n) e.own.ids
   alone-deleted s e at n m t there thawed mine = deleted-with s e (record { page = n; slot = m }) t t.header.xmin.0 at there (is-inserter t.header t.header.xmin.0 thawed refl) mine
 
   -- those since its newest savepoint: what these made, no earlier id deletes, since who returns there reads no such making
   since-alone : (s : ℕ) (e : Session) (before since : List ℕ) (saved : List (List ℕ)) → session_at st s ≡ Some e → e.own.saved ≡ before ∷ saved → e.own.ids ≡ before ++ since
-      → (n : ℕ) → AloneDeletedTheirs st.heap.table (slots_on (slots_of st.heap) n) since
+      → (n : ℕ) → AloneDeletedTheirs st.heap.statuses (slots_on (slots_of st.heap) n) since
   since-alone s e before since saved at is ids n m t there thawed mine =
       elim (deleted-with s e p t x at there made (subst (λ xs. Contains xs x) (sym ids) (Contains-append_right before since x mine))) [
         | inl none ↦ inl none
@@ -189,10 +189,10 @@ module _ (st : State) (w : World) (agrees : Agrees st w) where
       too-early : Contains before y → ⊥
       too-early early =
           let o = agrees.found.opened s (reader_of e) (reader-is st s e at) in
-          let active = active-to st.heap.table y (o.2.own_active y (subst (λ xs. Contains xs y) (sym ids) (Contains-append_left before since y early))) in
-          let gone = is-deleter t.header y (normal-active st.heap.table y active) refl in
-          elim (read-by (state_of st.heap.table) ((seen st).sees e.snapshot) before x
-          ((newest-reader (state_of st.heap.table) (seen st).version w.history ((seen st).sees e.snapshot) o.0.start e.own.ids before saved e.own.saved o.0.levels is o.2.levels).1.whole p y t there gone (by_itself early) x made)) [
+          let active = active-to st.heap.statuses y (o.2.own_active y (subst (λ xs. Contains xs y) (sym ids) (Contains-append_left before since y early))) in
+          let gone = is-deleter t.header y (normal-active st.heap.statuses y active) refl in
+          elim (read-by (state_of st.heap.statuses) ((seen st).sees e.snapshot) before x
+          ((newest-reader (state_of st.heap.statuses) (seen st).version w.history ((seen st).sees e.snapshot) o.0.start e.own.ids before saved e.own.saved o.0.levels is o.2.levels).1.whole p y t there gone (by_itself early) x made)) [
             | inl both ↦ distinct-after e.own.ids before since (agrees.sound.sessions s e at).distinct ids x mine both
             | inr done ↦ (let going = o.2.own_active x (subst (λ xs. Contains xs x) (sym ids) (Contains-append_right before since x mine)) in cc)
           ]
@@ -205,8 +205,8 @@ pub record Ended (st st' : State) (s : ℕ) (now : Option Session) (ids : List �
   pub indexes : st'.heap.indexes ≡ st.heap.indexes
   pub max_pages : st'.heap.max_pages ≡ st.heap.max_pages
   pub sessions : st'.sessions ≡ set st.sessions s now
-  pub finishes : Finishes st.heap.table st'.heap.table ids end
-  pub window : IsWindow st'.heap.table
+  pub finishes : Finishes st.heap.statuses st'.heap.statuses ids end
+  pub window : IsWindow st'.heap.statuses
 
 module _ (st st' : State) (s : ℕ) (e : Session) (now : Option Session) (ids : List ℕ) (end : Status) (ended : end ≢ InProgress) (at : session_at st s ≡ Some e) (change : Ended st st' s now ids end)
     (less : (f : Session) (y : ℕ) → now ≡ Some f → Contains (holds_back f) y → Contains (holds_back e) y) (w : World) (agrees : Agrees st w) where
@@ -220,27 +220,27 @@ module _ (st st' : State) (s : ℕ) (e : Session) (now : Option Session) (ids : 
     | inr other ↦ (o, f, other.1, among)
   ]
 
-  held-then : IsHeldIn st'.heap.table st'.sessions
+  held-then : IsHeldIn st'.heap.statuses st'.sessions
   held-then o f y bt among = let was = was-back o f y bt among in
-      finishes-upto st.heap.table st'.heap.table ids end y change.finishes (held-in st w agrees was.0 was.1 y was.2 was.3)
+      finishes-upto st.heap.statuses st'.heap.statuses ids end y change.finishes (held-in st w agrees was.0 was.1 y was.2 was.3)
 
-  later-then : turns st'.heap.table.first (horizon_of st) ≤ turns st'.heap.table.first (horizon_of st')
-  later-then = horizon-above st'.heap.table st'.sessions (turns st'.heap.table.first (horizon_of st)) change.window held-then
-      (subst (λ first. turns first (horizon_of st) ≤ turns first (next_id st'.heap.table)) (sym change.finishes.first)
-      (subst (λ n. turns st.heap.table.first (horizon_of st) ≤ turns st.heap.table.first n) (sym (finishes-next st.heap.table st'.heap.table ids end change.finishes))
-      (horizon-next st.heap.table st.sessions agrees.sound.window (held-in st w agrees))))
+  later-then : turns st'.heap.statuses.first (horizon_of st) ≤ turns st'.heap.statuses.first (horizon_of st')
+  later-then = horizon-above st'.heap.statuses st'.sessions (turns st'.heap.statuses.first (horizon_of st)) change.window held-then
+      (subst (λ first. turns first (horizon_of st) ≤ turns first (next_id st'.heap.statuses)) (sym change.finishes.first)
+      (subst (λ n. turns st.heap.statuses.first (horizon_of st) ≤ turns st.heap.statuses.first n) (sym (finishes-next st.heap.statuses st'.heap.statuses ids end change.finishes))
+      (horizon-next st.heap.statuses st.sessions agrees.sound.window (held-in st w agrees))))
       (λ o f y bt among. let was = was-back o f y bt among in subst (λ first. turns first (horizon_of st) ≤ turns first y) (sym change.finishes.first)
-      (horizon-low st.heap.table st.sessions was.0 was.1 y agrees.sound.window (held-in st w agrees) was.2 was.3))
+      (horizon-low st.heap.statuses st.sessions was.0 was.1 y agrees.sound.window (held-in st w agrees) was.2 was.3))
 
   table-finishes : ((x : ℕ) → Contains ids x → Contains e.own.ids x) → laws.FinishesInTable st.heap st'.heap ids end
   table-finishes mine = record {
-    active = λ x among. active-to st.heap.table x ((agrees.found.opened s (reader_of e) (reader-is st s e at)).2.own_active x (mine x among));
+    active = λ x among. active-to st.heap.statuses x ((agrees.found.opened s (reader_of e) (reader-is st s e at)).2.own_active x (mine x among));
     finishes = change.finishes;
     pages = change.pages;
     indexes = change.indexes;
   }
 
-  Sound-ended : ((f : Session) → now ≡ Some f → SessionKeeps st'.heap.table f) → ((f : Session) → now ≡ Some f → GoesAlong st.heap.indexes f.cursor) → (end ≡ Committed → (x : ℕ) → Contains ids x → Contains ids (top_of st.heap.table x))
+  Sound-ended : ((f : Session) → now ≡ Some f → SessionKeeps st'.heap.statuses f) → ((f : Session) → now ≡ Some f → GoesAlong st.heap.indexes f.cursor) → (end ≡ Committed → (x : ℕ) → Contains ids x → Contains ids (top_of st.heap.statuses x))
       → StaysSoundTable st.heap st'.heap (horizon_of st) → Sound st'
   Sound-ended keeps along with_tops stays = record {
     count = ap length change.sessions ∙ (length-set st.sessions s now ∙ agrees.sound.count);
@@ -249,17 +249,17 @@ module _ (st st' : State) (s : ℕ) (e : Session) (now : Option Session) (ids : 
     window = change.window;
     sessions = λ o f bt. elim (still o f bt) [
       | inl same ↦ keeps f same.1
-      | inr other ↦ keeps-finish st.heap.table st'.heap.table ids end f change.finishes (agrees.sound.sessions o f other.1)
+      | inr other ↦ keeps-finish st.heap.statuses st'.heap.statuses ids end f change.finishes (agrees.sound.sessions o f other.1)
     ];
     indexes = still-in_use st.heap.indexes st'.heap.indexes st'.settings.indexed stays.in_use (subst (λ (g : Settings). AreInUse st.heap.indexes g.indexed) (sym change.settings) agrees.sound.indexes);
     cursors = λ o f span bt is. (stays.in_use span.index).0 (elim (still o f bt) [
       | inl same ↦ along f same.1 span is
       | inr other ↦ agrees.sound.cursors o f span other.1 is
     ]);
-    tops = finishes-well_topped st.heap.table st'.heap.table ids end ended change.finishes agrees.sound.window with_tops agrees.sound.tops;
+    tops = finishes-well_topped st.heap.statuses st'.heap.statuses ids end ended change.finishes agrees.sound.window with_tops agrees.sound.tops;
     table = later-stays-sound st'.heap (horizon_of st) (horizon_of st') stays.sound change.window
-        (finishes-upto st.heap.table st'.heap.table ids end (horizon_of st) change.finishes (upto-horizon st w agrees))
-        (horizon-upto st'.heap.table st'.sessions change.window held-then) later-then;
+        (finishes-upto st.heap.statuses st'.heap.statuses ids end (horizon_of st) change.finishes (upto-horizon st w agrees))
+        (horizon-upto st'.heap.statuses st'.sessions change.window held-then) later-then;
   }
 
 -- A session closes.
@@ -276,7 +276,7 @@ commits-sound st st' s e w at closes agrees =
     let stays = committed-stays st.heap st'.heap (horizon_of st) e.own.ids agrees.sound.table
     (table-finishes st st' s e None e.own.ids Committed (λ e. cc) at change (λ f y is among. nobody f is) w agrees (λ x mine. mine)) (deleted-made st w agrees s e at) in (
       Sound-ended st st' s e None e.own.ids Committed (λ e. cc) at change (λ f y is among. nobody f is) w agrees (λ f is. nobody f is) (λ f is. nobody f is)
-          (λ done x mine. first-in e.own.ids (top_of st.heap.table x) ((agrees.sound.sessions s e at).topmost x mine)) stays,
+          (λ done x mine. first-in e.own.ids (top_of st.heap.statuses x) ((agrees.sound.sessions s e at).topmost x mine)) stays,
       stays.led,
     )
 
@@ -309,6 +309,6 @@ rolls-back-sound st st' s before saved w back is agrees =
     along : (f : Session) → Some back.now ≡ Some f → GoesAlong st.heap.indexes f.cursor
     along f same = same-cursor st.sessions st.heap.indexes s e f back.at (ap (λ (g : Session). g.cursor) (sym (same_Some back.now f same)) ∙ back.back.returns.cursor) agrees.sound.cursors
 
-    keeps : (f : Session) → Some back.now ≡ Some f → SessionKeeps st'.heap.table f
-    keeps f same = subst (λ f. SessionKeeps st'.heap.table f) (same_Some back.now f same) (keeps-finish st.heap.table st'.heap.table back.back.since Aborted back.now back.back.finishes
-        (keeps-returned st.heap.table e back.now before back.back.since saved back.back.returns back.back.ids is (agrees.sound.sessions s e back.at)))
+    keeps : (f : Session) → Some back.now ≡ Some f → SessionKeeps st'.heap.statuses f
+    keeps f same = subst (λ f. SessionKeeps st'.heap.statuses f) (same_Some back.now f same) (keeps-finish st.heap.statuses st'.heap.statuses back.back.since Aborted back.now back.back.finishes
+        (keeps-returned st.heap.statuses e back.now before back.back.since saved back.back.returns back.back.ids is (agrees.sound.sessions s e back.at)))

@@ -138,17 +138,17 @@ Sound-opens st w s e within snapshot ids saved bare agrees = record {
   stop_age = agrees.sound.stop_age;
   window = agrees.sound.window;
   sessions = λ o f at. elim (open-set_cases st.sessions s o (Some e) f (let count = agrees.sound.count in omega arith) at) [
-    | inl same ↦ subst (λ f. SessionKeeps st.heap.table f) (same_Some e f same.1) mine
+    | inl same ↦ subst (λ f. SessionKeeps st.heap.statuses f) (same_Some e f same.1) mine
     | inr other ↦ agrees.sound.sessions o f other.1
   ];
   tops = agrees.sound.tops;
   indexes = agrees.sound.indexes;
   cursors = cursors-put st.sessions st.heap.indexes st.heap.indexes s e within' (used-still st.heap.indexes) (no-cursor st.heap.indexes e.cursor bare) agrees.sound.cursors;
   table = later-stays-sound st.heap (horizon_of st) (horizon_of (put_session st s (Some e))) agrees.sound.table agrees.sound.window (upto-horizon st w agrees)
-      (horizon-upto st.heap.table (set st.sessions s (Some e)) agrees.sound.window (held-then held-upto)) later-then;
+      (horizon-upto st.heap.statuses (set st.sessions s (Some e)) agrees.sound.window (held-then held-upto)) later-then;
 }
   where
-    mine : SessionKeeps st.heap.table e
+    mine : SessionKeeps st.heap.statuses e
     mine = record {
       snapshot = rw snapshot (taken-within st w agrees);
       topmost = λ x among. absurd (Contains-none x (subst (λ xs. Contains xs x) ids among));
@@ -171,14 +171,14 @@ Sound-opens st w s e within snapshot ids saved bare agrees = record {
           ])
     ]
 
-    held-upto : ((o : ℕ) (f : Session) (y : ℕ) → session_at st o ≡ Some f → Contains (holds_back f) y → IsUpToNext st.heap.table y) × IsUpToNext st.heap.table (now_taken st).xmin
+    held-upto : ((o : ℕ) (f : Session) (y : ℕ) → session_at st o ≡ Some f → Contains (holds_back f) y → IsUpToNext st.heap.statuses y) × IsUpToNext st.heap.statuses (now_taken st).xmin
     held-upto = (held-in st w agrees, (taken-within st w agrees).bounds.xmin)
 
-    later-then : turns st.heap.table.first (horizon_of st) ≤ turns st.heap.table.first (horizon_of (put_session st s (Some e)))
-    later-then = horizon-above st.heap.table (set st.sessions s (Some e)) (turns st.heap.table.first (horizon_of st)) agrees.sound.window (held-then held-upto)
-        (horizon-next st.heap.table st.sessions agrees.sound.window (held-in st w agrees))
+    later-then : turns st.heap.statuses.first (horizon_of st) ≤ turns st.heap.statuses.first (horizon_of (put_session st s (Some e)))
+    later-then = horizon-above st.heap.statuses (set st.sessions s (Some e)) (turns st.heap.statuses.first (horizon_of st)) agrees.sound.window (held-then held-upto)
+        (horizon-next st.heap.statuses st.sessions agrees.sound.window (held-in st w agrees))
         (held-then (
-          (λ o f y bt among. horizon-low st.heap.table st.sessions o f y agrees.sound.window (held-in st w agrees) bt among),
+          (λ o f y bt among. horizon-low st.heap.statuses st.sessions o f y agrees.sound.window (held-in st w agrees) bt among),
           taken-late st w agrees,
         ))
 
@@ -208,12 +208,12 @@ module _ (st st' : State) (s : ℕ) (e : Session) (end : Status) (at : session_a
       let P : List (Option Session) → Type 0 = λ xs. OnlyIs (seen st).session (λ o. option_map reader_of (session_at (record st { sessions = xs }) o)) s None in
       subst P (sym closes.sessions) only
 
-  own-finishes : (w : World) → relation.HeapAgrees (seen st) w → change.FinishesIds (state_of st.heap.table) (state_of st'.heap.table) (λ x. Contains e.own.ids x) end
-  own-finishes w found = Finishes-from st.heap.table st'.heap.table e.own.ids end
-      (λ x mine. active-to st.heap.table x ((found.opened s (reader_of e) (reader-is st s e at)).2.own_active x mine)) (closes.finishes e at)
+  own-finishes : (w : World) → relation.HeapAgrees (seen st) w → change.FinishesIds (state_of st.heap.statuses) (state_of st'.heap.statuses) (λ x. Contains e.own.ids x) end
+  own-finishes w found = Finishes-from st.heap.statuses st'.heap.statuses e.own.ids end
+      (λ x mine. active-to st.heap.statuses x ((found.opened s (reader_of e) (reader-is st s e at)).2.own_active x mine)) (closes.finishes e at)
 
   same-sights : SameSights (seen st) (seen st').sees
-  same-sights o r bt = SameSight-finish r.snapshot st.heap.table st'.heap.table e.own.ids end (closes.finishes e at)
+  same-sights o r bt = SameSight-finish r.snapshot st.heap.statuses st'.heap.statuses e.own.ids end (closes.finishes e at)
 
   -- the pages stay
   closed-with : (w' : World) → relation.HeapAgrees (with_pages st' st.heap.pages) w' → relation.HeapAgrees (seen st') w'
@@ -236,7 +236,7 @@ Follows-commit_failed st st' s e at failed closes w agrees =
 pub Follows-commit : (st st' : State) (s : ℕ) (e : Session) → session_at st s ≡ Some e → e.failed ≡ false → Closes st st' s Committed → Follows st (Commit s) reply.Committed st'
 Follows-commit st st' s e at sound closes w agrees =
     let f = theory.Follows-commit (seen st) s (reader_of e) (seen st').status (seen st').sees (seen st').session (only-closes st st' s e Committed at closes) (reader-is st s e at) sound
-    (own-finishes st st' s e Committed at closes) (same-sights st st' s e Committed at closes) (λ x. decided e.snapshot st.heap.table x) w agrees.found in
+    (own-finishes st st' s e Committed at closes) (same-sights st st' s e Committed at closes) (λ x. decided e.snapshot st.heap.statuses x) w agrees.found in
     let sound' = commits-sound st st' s e w at closes agrees in
     (f.0, agree agrees closes.settings refl (closed-with st st' s e Committed at closes (next w (Commit s) reply.Committed) f.1) sound'.0, sound'.1)
 
@@ -259,20 +259,20 @@ same-back (None ∷ xs) (suc s) e now at same = same-back xs s e now at same
 same-back (Some f ∷ xs) (suc s) e now at same = ap (λ ys. holds_back f ++ ys) (same-back xs s e now at same)
 
 -- a session becomes another, with the same snapshot and first id, whose cursor goes along an index in use
-pub Sound-put : (st : State) (s : ℕ) (e now : Session) → session_at st s ≡ Some e → holds_back now ≡ holds_back e → SessionKeeps st.heap.table now → GoesAlong st.heap.indexes now.cursor → Sound st → Sound (put_session st s (Some now))
+pub Sound-put : (st : State) (s : ℕ) (e now : Session) → session_at st s ≡ Some e → holds_back now ≡ holds_back e → SessionKeeps st.heap.statuses now → GoesAlong st.heap.indexes now.cursor → Sound st → Sound (put_session st s (Some now))
 Sound-put st s e now at same keeps along sound = record {
   count = length-set st.sessions s (Some now) ∙ sound.count;
   max_pages = sound.max_pages;
   stop_age = sound.stop_age;
   window = sound.window;
   sessions = λ o f bt. elim (open-set_cases st.sessions s o (Some now) f (open-within st.sessions s e at) bt) [
-    | inl is ↦ subst (λ f. SessionKeeps st.heap.table f) (same_Some now f is.1) keeps
+    | inl is ↦ subst (λ f. SessionKeeps st.heap.statuses f) (same_Some now f is.1) keeps
     | inr other ↦ sound.sessions o f other.1
   ];
   tops = sound.tops;
   indexes = sound.indexes;
   cursors = cursors-put st.sessions st.heap.indexes st.heap.indexes s now (open-within st.sessions s e at) (used-still st.heap.indexes) along sound.cursors;
-  table = subst (λ back. SoundTable st.heap (earliest (next_id st.heap.table) back)) (sym (same-back st.sessions s e now at same)) sound.table;
+  table = subst (λ back. SoundTable st.heap (earliest (next_id st.heap.statuses) back)) (sym (same-back st.sessions s e now at same)) sound.table;
 }
 
 pub Sound-fails : (st : State) (s : ℕ) (e : Session) → session_at st s ≡ Some e → Sound st → Sound (put_session st s (option_map failed_session (session_at st s)))

@@ -74,11 +74,11 @@ module _ (xs : List (Option Session)) (w : Window) (window : IsWindow w) (keeps 
         omega (arith, less, le)
 
 -- what is asked of the sessions that are looked through tells whether ids can be forgotten
-pub may-forget : (st : State) (used : List (Option Session)) (cutoff : ℕ) (b : Bool) → IsWindow st.heap.table → EngineKeeps st.sessions st.heap.table → IsUpToNext st.heap.table cutoff
+pub may-forget : (st : State) (used : List (Option Session)) (cutoff : ℕ) (b : Bool) → IsWindow st.heap.statuses → EngineKeeps st.sessions st.heap.statuses → IsUpToNext st.heap.statuses cutoff
     → HoldsOpen used st.sessions → (IsTrue b ↔ AreFrom used cutoff) → (IsTrue b ↔ MayForget st cutoff)
 may-forget st used cutoff b window keeps upto holds says = (
-  λ t. record { upto = upto; unowned = from-late st.sessions st.heap.table window keeps cutoff upto (λ s e x at. says.0 t s e x (holds.each s ∙ at)) },
-  λ may. says.1 (λ s e x at. late-from st.sessions st.heap.table window keeps cutoff upto may.unowned s e x (sym (holds.each s) ∙ at)),
+  λ t. record { upto = upto; unowned = from-late st.sessions st.heap.statuses window keeps cutoff upto (λ s e x at. says.0 t s e x (holds.each s ∙ at)) },
+  λ may. says.1 (λ s e x at. late-from st.sessions st.heap.statuses window keeps cutoff upto may.unowned s e x (sym (holds.each s) ∙ at)),
 )
 
 -- Forgetting.
@@ -105,11 +105,11 @@ keeps-forget xs w v c is iv t up late keeps = record {
 
 -- Steps of a vacuum leave the ids as they are.
 
-pub steps-table : (h h' : HeapView) (v : VacuumView) (horizon : ℕ) (after : Option VacuumView) (did : Option Piece) → Steps h h' v horizon after did → h'.table ≡ h.table
-steps-table h h' v horizon _ _ (Steps.visits p v' is next visit) = ap (λ (g : HeapView). g.table) visit.notes.is ∙ ap (λ (g : HeapView). g.table) visit.visits.freezes.is
-    ∙ ap (λ (g : HeapView). g.table) visit.visits.prunes.is
-steps-table h h' v horizon _ _ (Steps.begins_index v' is over some s) = ap (λ (g : HeapView). g.table) s.sweeps.is
-steps-table h h' v horizon _ _ (Steps.sweeps i from v' is s) = ap (λ (g : HeapView). g.table) s.sweeps.is
-steps-table h h' v horizon _ _ (Steps.frees p v' is f) = ap (λ (g : HeapView). g.table) f.notes.is ∙ ap (λ (g : HeapView). g.table) f.frees.is
-steps-table h h' v horizon _ _ (Steps.drops p v' is d) = ap (λ (g : HeapView). g.table) d.same
-steps-table h h' v horizon _ _ (Steps.ends is over none same) = ap (λ (g : HeapView). g.table) same
+pub steps-table : (h h' : HeapView) (v : VacuumView) (horizon : ℕ) (after : Option VacuumView) (did : Option Piece) → Steps h h' v horizon after did → h'.statuses ≡ h.statuses
+steps-table h h' v horizon _ _ (Steps.visits p v' is next visit) = ap (λ (g : HeapView). g.statuses) visit.notes.is ∙ ap (λ (g : HeapView). g.statuses) visit.visits.freezes.is
+    ∙ ap (λ (g : HeapView). g.statuses) visit.visits.prunes.is
+steps-table h h' v horizon _ _ (Steps.begins_index v' is over some s) = ap (λ (g : HeapView). g.statuses) s.sweeps.is
+steps-table h h' v horizon _ _ (Steps.sweeps i from v' is s) = ap (λ (g : HeapView). g.statuses) s.sweeps.is
+steps-table h h' v horizon _ _ (Steps.frees p v' is f) = ap (λ (g : HeapView). g.statuses) f.notes.is ∙ ap (λ (g : HeapView). g.statuses) f.frees.is
+steps-table h h' v horizon _ _ (Steps.drops p v' is d) = ap (λ (g : HeapView). g.statuses) d.same
+steps-table h h' v horizon _ _ (Steps.ends is over none same) = ap (λ (g : HeapView). g.statuses) same

@@ -215,69 +215,69 @@ held-then xs s e e' at all mine o f y bt among = elim (open-set_cases xs s o (So
 
 module _ (st : State) (w : World) (h : HeapView) (s : ℕ) (e e' : Session) (at : session_at st s ≡ Some e) (agrees : Agrees st w) where
   -- whatever the session holds back now is in the window, and not before the horizon
-  later-sound : IsWindow h.table → h.table.first ≡ st.heap.table.first → turns st.heap.table.first (next_id st.heap.table) ≤ turns st.heap.table.first (next_id h.table)
-      → ((y : ℕ) → IsUpToNext st.heap.table y → IsUpToNext h.table y)
-      → ((y : ℕ) → Contains (holds_back e') y → IsUpToNext h.table y × (turns st.heap.table.first (horizon_of st) ≤ turns st.heap.table.first y))
+  later-sound : IsWindow h.statuses → h.statuses.first ≡ st.heap.statuses.first → turns st.heap.statuses.first (next_id st.heap.statuses) ≤ turns st.heap.statuses.first (next_id h.statuses)
+      → ((y : ℕ) → IsUpToNext st.heap.statuses y → IsUpToNext h.statuses y)
+      → ((y : ℕ) → Contains (holds_back e') y → IsUpToNext h.statuses y × (turns st.heap.statuses.first (horizon_of st) ≤ turns st.heap.statuses.first y))
       → SoundTable h (horizon_of st) → SoundTable h (horizon_of (with_write st h s e'))
   later-sound window first next upto mine sound =
       later-stays-sound h (horizon_of st) (horizon_of (with_write st h s e')) sound window (upto (horizon_of st) (upto-horizon st w agrees))
-      (horizon-upto h.table (set st.sessions s (Some e')) window held) (horizon-above h.table (set st.sessions s (Some e')) (turns h.table.first (horizon_of st)) window held
-      (subst (λ first. turns first (horizon_of st) ≤ turns first (next_id h.table)) (sym first) (let low = horizon-next st.heap.table st.sessions agrees.sound.window (held-in st w agrees) in omega arith))
+      (horizon-upto h.statuses (set st.sessions s (Some e')) window held) (horizon-above h.statuses (set st.sessions s (Some e')) (turns h.statuses.first (horizon_of st)) window held
+      (subst (λ first. turns first (horizon_of st) ≤ turns first (next_id h.statuses)) (sym first) (let low = horizon-next st.heap.statuses st.sessions agrees.sound.window (held-in st w agrees) in omega arith))
       (subst (λ first. (o : ℕ) (f : Session) (y : ℕ) → open_at (set st.sessions s (Some e')) o ≡ Some f → Contains (holds_back f) y → turns first (horizon_of st) ≤ turns first y) (sym first)
-      (held-then {P = λ y. turns st.heap.table.first (horizon_of st) ≤ turns st.heap.table.first y} st.sessions s e e' at
-      (λ o f y bt among. horizon-low st.heap.table st.sessions o f y agrees.sound.window (held-in st w agrees) bt among) (λ y among. (mine y among).1))))
+      (held-then {P = λ y. turns st.heap.statuses.first (horizon_of st) ≤ turns st.heap.statuses.first y} st.sessions s e e' at
+      (λ o f y bt among. horizon-low st.heap.statuses st.sessions o f y agrees.sound.window (held-in st w agrees) bt among) (λ y among. (mine y among).1))))
     where
-      held : IsHeldIn h.table (set st.sessions s (Some e'))
-      held = held-then {P = λ y. IsUpToNext h.table y} st.sessions s e e' at (λ o f y bt among. upto y (held-in st w agrees o f y bt among)) (λ y among. (mine y among).0)
+      held : IsHeldIn h.statuses (set st.sessions s (Some e'))
+      held = held-then {P = λ y. IsUpToNext h.statuses y} st.sessions s e e' at (λ o f y bt among. upto y (held-in st w agrees o f y bt among)) (λ y among. (mine y among).0)
 
   -- the session's ids stay
-  pub Sound-kept : SameSession e e' → SameIds st.heap.table h.table → h.max_pages ≡ st.heap.max_pages → StaysSoundTable st.heap h (horizon_of st) → Sound (with_write st h s e')
+  pub Sound-kept : SameSession e e' → SameIds st.heap.statuses h.statuses → h.max_pages ≡ st.heap.max_pages → StaysSoundTable st.heap h (horizon_of st) → Sound (with_write st h s e')
   Sound-kept same ids limit stays =
       let sound = stays.sound in
-      let is = spared-is st.heap.table h.table ids in
-      let k = h.table.spare in
-      let table = st.heap.table in
+      let is = spared-is st.heap.statuses h.statuses ids in
+      let k = h.statuses.spare in
+      let statuses = st.heap.statuses in
       record {
         count = length-set st.sessions s (Some e') ∙ agrees.sound.count;
         max_pages = limit ∙ agrees.sound.max_pages;
         stop_age = ids.stop_age ∙ agrees.sound.stop_age;
-        window = rw is (window-spared table k agrees.sound.window);
+        window = rw is (window-spared statuses k agrees.sound.window);
         sessions = λ o f bt. rw is (elim (open-set_cases st.sessions s o (Some e') f (open-within st.sessions s e at) bt) [
-          | inl now ↦ subst (λ f. SessionKeeps (spared table k) f) (same_Some e' f now.1) (keeps-spared table k e e' same (agrees.sound.sessions s e at))
-          | inr other ↦ keeps-spared table k f f (itself f) (agrees.sound.sessions o f other.1)
+          | inl now ↦ subst (λ f. SessionKeeps (spared statuses k) f) (same_Some e' f now.1) (keeps-spared statuses k e e' same (agrees.sound.sessions s e at))
+          | inr other ↦ keeps-spared statuses k f f (itself f) (agrees.sound.sessions o f other.1)
         ]);
         indexes = still-in_use st.heap.indexes h.indexes st.settings.indexed stays.in_use agrees.sound.indexes;
         cursors = cursors-put st.sessions st.heap.indexes h.indexes s e' (open-within st.sessions s e at) stays.in_use (same-cursor st.sessions st.heap.indexes s e e' at same.cursor agrees.sound.cursors) agrees.sound.cursors;
-        tops = rw is (λ x done. well-spared table k x (agrees.sound.tops x done));
-        table = later-sound (rw is (window-spared table k agrees.sound.window)) ids.first (subst (λ n. turns table.first (next_id table) ≤ turns table.first n) (sym (ap next_id is)) (omega arith))
-            (λ y upto. rw is (upto-spared table k y upto))
+        tops = rw is (λ x done. well-spared statuses k x (agrees.sound.tops x done));
+        table = later-sound (rw is (window-spared statuses k agrees.sound.window)) ids.first (subst (λ n. turns statuses.first (next_id statuses) ≤ turns statuses.first n) (sym (ap next_id is)) (omega arith))
+            (λ y upto. rw is (upto-spared statuses k y upto))
             (λ y among. let mine = subst (λ (ids : List ℕ). Contains (e'.snapshot.xmin ∷ take 1 ids) y) same.own.ids among in
             let back : Contains (holds_back e) y = subst (λ (sn : Snap). Contains (sn.xmin ∷ take 1 e.own.ids) y) same.snapshot mine in
-            (rw is (upto-spared table k y (held-in st w agrees s e y at back)), horizon-low table st.sessions s e y agrees.sound.window (held-in st w agrees) at back)) sound;
+            (rw is (upto-spared statuses k y (held-in st w agrees s e y at back)), horizon-low statuses st.sessions s e y agrees.sound.window (held-in st w agrees) at back)) sound;
       }
 
   -- the session has taken ids
-  pub Sound-given : (own : Own) (x : ℕ) → TakesIds st.heap.table h.table e.own own x → e' ≡ with_own e own → IsWindow h.table → h.max_pages ≡ st.heap.max_pages → StaysSoundTable st.heap h (horizon_of st) → Sound (with_write st h s e')
+  pub Sound-given : (own : Own) (x : ℕ) → TakesIds st.heap.statuses h.statuses e.own own x → e' ≡ with_own e own → IsWindow h.statuses → h.max_pages ≡ st.heap.max_pages → StaysSoundTable st.heap h (horizon_of st) → Sound (with_write st h s e')
   Sound-given own x takes is window limit stays =
       let sound = stays.sound in
-      let table = st.heap.table in
+      let statuses = st.heap.statuses in
       let parent = current_xid e.own.ids e.own.saved in
-      let there : (o : ℕ) (f : Session) → session_at st o ≡ Some f → (y : ℕ) → Contains f.own.ids y → IsGiven table y =
-      λ o f bt y mine. (active-to table y ((agrees.found.opened o (reader_of f) (reader-is st o f bt)).2.own_active y mine)).is_given in
+      let there : (o : ℕ) (f : Session) → session_at st o ≡ Some f → (y : ℕ) → Contains f.own.ids y → IsGiven statuses y =
+      λ o f bt y mine. (active-to statuses y ((agrees.found.opened o (reader_of f) (reader-is st o f bt)).2.own_active y mine)).is_given in
       record {
         count = length-set st.sessions s (Some e') ∙ agrees.sound.count;
         max_pages = limit ∙ agrees.sound.max_pages;
-        stop_age = given-stop_age takes.given table h.table parent takes.gives ∙ agrees.sound.stop_age;
+        stop_age = given-stop_age takes.given statuses h.statuses parent takes.gives ∙ agrees.sound.stop_age;
         window = window;
         sessions = λ o f bt. elim (open-set_cases st.sessions s o (Some e') f (open-within st.sessions s e at) bt) [
-          | inl now ↦ subst (λ f. SessionKeeps h.table f) (sym is ∙ same_Some e' f now.1) (keeps-taken table h.table e own x window takes (there s e at) (agrees.sound.sessions s e at))
-          | inr other ↦ keeps-give takes.given table h.table parent f window takes.gives (there o f other.1) (agrees.sound.sessions o f other.1)
+          | inl now ↦ subst (λ f. SessionKeeps h.statuses f) (sym is ∙ same_Some e' f now.1) (keeps-taken statuses h.statuses e own x window takes (there s e at) (agrees.sound.sessions s e at))
+          | inr other ↦ keeps-give takes.given statuses h.statuses parent f window takes.gives (there o f other.1) (agrees.sound.sessions o f other.1)
         ];
         indexes = still-in_use st.heap.indexes h.indexes st.settings.indexed stays.in_use agrees.sound.indexes;
         cursors = cursors-put st.sessions st.heap.indexes h.indexes s e' (open-within st.sessions s e at) stays.in_use (same-cursor st.sessions st.heap.indexes s e e' at (ap (λ (f : Session). f.cursor) is) agrees.sound.cursors) agrees.sound.cursors;
-        tops = tops-given takes.given table h.table parent window takes.gives agrees.sound.tops;
-        table = later-sound window (given-first takes.given table h.table parent takes.gives) (given-next takes.given table h.table parent takes.gives window)
-            (λ y upto. given-upto takes.given table h.table parent y takes.gives upto) (mine-then own x takes is window) sound;
+        tops = tops-given takes.given statuses h.statuses parent window takes.gives agrees.sound.tops;
+        table = later-sound window (given-first takes.given statuses h.statuses parent takes.gives) (given-next takes.given statuses h.statuses parent takes.gives window)
+            (λ y upto. given-upto takes.given statuses h.statuses parent y takes.gives upto) (mine-then own x takes is window) sound;
       }
     where
       -- the first of the ids is held back: it was there, or is new
@@ -285,16 +285,16 @@ module _ (st : State) (w : World) (h : HeapView) (s : ℕ) (e e' : Session) (at 
       first-cases [] xs y among = inr (contains-first xs y among)
       first-cases (z ∷ ids) xs y among = inl among
 
-      old-then : (own : Own) (x y : ℕ) → TakesIds st.heap.table h.table e.own own x → Contains (holds_back e) y → IsUpToNext h.table y × (turns st.heap.table.first (horizon_of st) ≤ turns st.heap.table.first y)
+      old-then : (own : Own) (x y : ℕ) → TakesIds st.heap.statuses h.statuses e.own own x → Contains (holds_back e) y → IsUpToNext h.statuses y × (turns st.heap.statuses.first (horizon_of st) ≤ turns st.heap.statuses.first y)
       old-then own x y takes back = (
-        given-upto takes.given st.heap.table h.table (current_xid e.own.ids e.own.saved) y takes.gives (held-in st w agrees s e y at back),
-        horizon-low st.heap.table st.sessions s e y agrees.sound.window (held-in st w agrees) at back,
+        given-upto takes.given st.heap.statuses h.statuses (current_xid e.own.ids e.own.saved) y takes.gives (held-in st w agrees s e y at back),
+        horizon-low st.heap.statuses st.sessions s e y agrees.sound.window (held-in st w agrees) at back,
       )
 
-      mine-then : (own : Own) (x : ℕ) → TakesIds st.heap.table h.table e.own own x → e' ≡ with_own e own → IsWindow h.table
-          → (y : ℕ) → Contains (holds_back e') y → IsUpToNext h.table y × (turns st.heap.table.first (horizon_of st) ≤ turns st.heap.table.first y)
+      mine-then : (own : Own) (x : ℕ) → TakesIds st.heap.statuses h.statuses e.own own x → e' ≡ with_own e own → IsWindow h.statuses
+          → (y : ℕ) → Contains (holds_back e') y → IsUpToNext h.statuses y × (turns st.heap.statuses.first (horizon_of st) ≤ turns st.heap.statuses.first y)
       mine-then own x takes is window y among =
-          let table = st.heap.table in
+          let statuses = st.heap.statuses in
           let parent = current_xid e.own.ids e.own.saved in
           let back : Contains (e.snapshot.xmin ∷ take 1 own.ids) y = subst (λ (f : Session). Contains (holds_back f) y) is among in
           elim (Contains-cases e.snapshot.xmin y (take 1 own.ids) back) [
@@ -302,8 +302,8 @@ module _ (st : State) (w : World) (h : HeapView) (s : ℕ) (e e' : Session) (at 
             | inr first ↦ elim (first-cases e.own.ids takes.given y (subst (λ ids. Contains (take 1 ids) y) takes.ids first)) [
               | inl old ↦ old-then own x y takes (Contains-rest e.snapshot.xmin y (take 1 e.own.ids) old)
               | inr new ↦ (
-                upto-given h.table y (given-active takes.given table h.table parent y takes.gives window new).is_given,
-                (let late = given-late takes.given table h.table parent y takes.gives window new in let next = horizon-next table st.sessions agrees.sound.window (held-in st w agrees) in omega arith),
+                upto-given h.statuses y (given-active takes.given statuses h.statuses parent y takes.gives window new).is_given,
+                (let late = given-late takes.given statuses h.statuses parent y takes.gives window new in let next = horizon-next statuses st.sessions agrees.sound.window (held-in st w agrees) in omega arith),
               )
             ]
           ]
@@ -314,7 +314,7 @@ with_ids-is : (xs : List ℕ) (r : relation.SeenSession) → with_ids xs r ≡ r
 with_ids-is [] r = rw (append-nil r.own) refl
 with_ids-is (x ∷ xs) r = with_ids-is xs (with_id (length xs) x r) ∙ ap (λ ids. record r { own = ids; saved = saved_with_each (x ∷ xs) r.saved }) (append_assoc r.own (x ∷ []) xs)
 
-module _ (st : State) (w : World) (v : Window) (s : ℕ) (e : Session) (own : Own) (x : ℕ) (at : session_at st s ≡ Some e) (takes : TakesIds st.heap.table v e.own own x) (window : IsWindow v) (agrees : Agrees st w) where
+module _ (st : State) (w : World) (v : Window) (s : ℕ) (e : Session) (own : Own) (x : ℕ) (at : session_at st s ≡ Some e) (takes : TakesIds st.heap.statuses v e.own own x) (window : IsWindow v) (agrees : Agrees st w) where
   pub reader-taken : reader_of (with_own e own) ≡ with_ids takes.given (reader_of e)
   reader-taken = rw (takes.ids, takes.saved) (sym (with_ids-is takes.given (reader_of e)))
 
@@ -322,20 +322,20 @@ module _ (st : State) (w : World) (v : Window) (s : ℕ) (e : Session) (own : Ow
   only-taken = let only = only-set st s (Some (with_own e own)) (open-within st.sessions s e at) in
       record { others = only.others; itself = only.itself ∙ ap Some reader-taken }
 
-  pub gives-each : GivesEach (state_of st.heap.table) takes.given (state_of v)
-  gives-each = GivesEach-from takes.given st.heap.table v (current_xid e.own.ids e.own.saved) takes.gives window
+  pub gives-each : GivesEach (state_of st.heap.statuses) takes.given (state_of v)
+  gives-each = GivesEach-from takes.given st.heap.statuses v (current_xid e.own.ids e.own.saved) takes.gives window
 
   pub same-sights : SameSights (seen st) (λ sn y. Sees sn v y)
-  same-sights o r bt = SameSight-given r.snapshot takes.given st.heap.table v (current_xid e.own.ids e.own.saved) takes.gives window
+  same-sights o r bt = SameSight-given r.snapshot takes.given st.heap.statuses v (current_xid e.own.ids e.own.saved) takes.gives window
 
   pub are-unseen : AreUnseen (seen st) (λ sn y. Sees sn v y) takes.given
   are-unseen y among o r bt = let f = reader-at st o r bt in
       subst (λ (r : relation.SeenSession). ¬ Sees r.snapshot v y) f.2
-      (unseen-given takes.given st.heap.table v v (current_xid e.own.ids e.own.saved) f.0.snapshot y takes.gives window (agrees.sound.sessions o f.0 f.1).snapshot.bounds among)
+      (unseen-given takes.given st.heap.statuses v v (current_xid e.own.ids e.own.saved) f.0.snapshot y takes.gives window (agrees.sound.sessions o f.0 f.1).snapshot.bounds among)
 
   -- the pages may have been pruned before
-  pub found-given : (slots : List (List Slot)) → theory.HeapAgrees (seen_in slots st.heap.table st.sessions) w → theory.HeapAgrees (seen_in slots v (set st.sessions s (Some (with_own e own)))) w
-  found-given slots found = Agrees-give_each takes.given (seen_in slots st.heap.table st.sessions) w s (reader_of e) (state_of v) (λ sn y. Sees sn v y)
+  pub found-given : (slots : List (List Slot)) → theory.HeapAgrees (seen_in slots st.heap.statuses st.sessions) w → theory.HeapAgrees (seen_in slots v (set st.sessions s (Some (with_own e own)))) w
+  found-given slots found = Agrees-give_each takes.given (seen_in slots st.heap.statuses st.sessions) w s (reader_of e) (state_of v) (λ sn y. Sees sn v y)
       (λ o. option_map reader_of (open_at (set st.sessions s (Some (with_own e own))) o)) only-taken (reader-is st s e at) gives-each same-sights are-unseen found
 
   -- its reader then, and the id is its newest
@@ -343,8 +343,8 @@ module _ (st : State) (w : World) (v : Window) (s : ℕ) (e : Session) (own : Ow
   reader-now = ap (option_map reader_of) (open-set_same st.sessions s (Some (with_own e own)) (open-within st.sessions s e at))
 
   pub current-now : IsCurrent (reader_of (with_own e own)) x
-  current-now = current-taken st.heap.table v e own x window takes
-      (λ y mine. (active-to st.heap.table y ((agrees.found.opened s (reader_of e) (reader-is st s e at)).2.own_active y mine)).is_given) (agrees.sound.sessions s e at)
+  current-now = current-taken st.heap.statuses v e own x window takes
+      (λ y mine. (active-to st.heap.statuses y ((agrees.found.opened s (reader_of e) (reader-is st s e at)).2.own_active y mine)).is_given) (agrees.sound.sessions s e at)
 
 -- The engine keeps what its type keeps of own ids.
 

@@ -80,19 +80,19 @@ horizon-above w xs turn is held next each = elim (horizon-least w xs is held).is
 
 -- Of an engine that agrees with a world.
 
-pub held-in : (st : State) (w : World) → Agrees st w → IsHeldIn st.heap.table st.sessions
+pub held-in : (st : State) (w : World) → Agrees st w → IsHeldIn st.heap.statuses st.sessions
 held-in st w agrees s e y at among = elim (back-cases e y among) [
-  | inl here ↦ subst (λ z. IsUpToNext st.heap.table z) here (agrees.sound.sessions s e at).snapshot.bounds.xmin
-  | inr own ↦ upto-given st.heap.table y (active-to st.heap.table y ((agrees.found.opened s (reader_of e) (reader-is st s e at)).2.own_active y own)).is_given
+  | inl here ↦ subst (λ z. IsUpToNext st.heap.statuses z) here (agrees.sound.sessions s e at).snapshot.bounds.xmin
+  | inr own ↦ upto-given st.heap.statuses y (active-to st.heap.statuses y ((agrees.found.opened s (reader_of e) (reader-is st s e at)).2.own_active y own)).is_given
 ]
 
-pub upto-horizon : (st : State) (w : World) → Agrees st w → IsUpToNext st.heap.table (horizon_of st)
-upto-horizon st w agrees = horizon-upto st.heap.table st.sessions agrees.sound.window (held-in st w agrees)
+pub upto-horizon : (st : State) (w : World) → Agrees st w → IsUpToNext st.heap.statuses (horizon_of st)
+upto-horizon st w agrees = horizon-upto st.heap.statuses st.sessions agrees.sound.window (held-in st w agrees)
 
 -- it is not after the xmin of any open session
-pub below-xmin : (st : State) (w : World) → Agrees st w → (s : ℕ) (e : Session) → session_at st s ≡ Some e → turns st.heap.table.first (horizon_of st) ≤ turns st.heap.table.first e.snapshot.xmin
+pub below-xmin : (st : State) (w : World) → Agrees st w → (s : ℕ) (e : Session) → session_at st s ≡ Some e → turns st.heap.statuses.first (horizon_of st) ≤ turns st.heap.statuses.first e.snapshot.xmin
 below-xmin st w agrees s e at =
-    horizon-low st.heap.table st.sessions s e e.snapshot.xmin agrees.sound.window (held-in st w agrees) at (Contains-first e.snapshot.xmin (take 1 e.own.ids))
+    horizon-low st.heap.statuses st.sessions s e e.snapshot.xmin agrees.sound.window (held-in st w agrees) at (Contains-first e.snapshot.xmin (take 1 e.own.ids))
 
 -- The snapshot that is taken now.
 
@@ -122,11 +122,11 @@ xmin-cases (own ∷ owns) s = elim (xmin-cases owns (listing s own)) [
     ]
 
 -- its xmin is the next id or an open session's first: it is not before the horizon
-pub taken-late : (st : State) (w : World) → Agrees st w → turns st.heap.table.first (horizon_of st) ≤ turns st.heap.table.first (now_taken st).xmin
-taken-late st w agrees = elim (xmin-cases (owns_of st.sessions) (empty_at (next_id st.heap.table))) [
-  | inl is_next ↦ subst (λ y. turns st.heap.table.first (horizon_of st) ≤ turns st.heap.table.first y) (sym is_next) (horizon-next st.heap.table st.sessions agrees.sound.window (held-in st w agrees))
+pub taken-late : (st : State) (w : World) → Agrees st w → turns st.heap.statuses.first (horizon_of st) ≤ turns st.heap.statuses.first (now_taken st).xmin
+taken-late st w agrees = elim (xmin-cases (owns_of st.sessions) (empty_at (next_id st.heap.statuses))) [
+  | inl is_next ↦ subst (λ y. turns st.heap.statuses.first (horizon_of st) ≤ turns st.heap.statuses.first y) (sym is_next) (horizon-next st.heap.statuses st.sessions agrees.sound.window (held-in st w agrees))
   | inr some ↦ (let by = owns-cases st.sessions some.0 some.2 in
-      subst (λ y. turns st.heap.table.first (horizon_of st) ≤ turns st.heap.table.first y) (sym some.4)
-      (horizon-low st.heap.table st.sessions by.0 by.1 some.1 agrees.sound.window (held-in st w agrees) by.2
+      subst (λ y. turns st.heap.statuses.first (horizon_of st) ≤ turns st.heap.statuses.first y) (sym some.4)
+      (horizon-low st.heap.statuses st.sessions by.0 by.1 some.1 agrees.sound.window (held-in st w agrees) by.2
       (first-back by.1 some.1 (ap (λ (ids : List ℕ). slice_get ids 0) by.3 ∙ some.3))))
 ]

@@ -24,7 +24,7 @@ abbrev pub AreInUse : List (Option IndexView) → List Bool → Type 0
 AreInUse indexes indexed = (n : ℕ) → IsInUse indexes n ↔ IsSome (new_entries indexed n)
 
 -- the primary index is
-pub by-key : (st : State) → Sound st → EntriesAreSound key_value st.heap.table (horizon_of st) (slots_of st.heap) (entries_in st.heap.indexes 0)
+pub by-key : (st : State) → Sound st → EntriesAreSound key_value st.heap.statuses (horizon_of st) (slots_of st.heap) (entries_in st.heap.indexes 0)
 by-key st sound = index-sound st.heap (horizon_of st) sound.table 0 ((sound.indexes 0).1 refl)
 
 -- a step leaves the same in use

@@ -39,12 +39,12 @@ no-slots n = refl
 no-version : (pages : List (List Slot)) (p : Tid) → pages ≡ [] → version_in pages p ≡ None
 no-version pages p bare = ap (λ (pages : List (List Slot)). version_in pages p) bare ∙ (ap (λ (slots : List Slot). version_at slots p.slot) (no-slots p.page) ∙ none-at p.slot)
 
-pub Agrees-new : (st : State) → st.heap.pages.pages ≡ [] → ((n : ℕ) → entries_at st.heap.indexes n ≡ new_entries st.settings.indexed n) → st.heap.table.entries ≡ [] → IsWindow st.heap.table
-    → st.heap.max_pages ≡ st.settings.max_pages → st.heap.table.stop_age ≡ st.settings.stop_age → st.sessions ≡ replicate 64 None → Agrees st (beginning st.settings.indexed)
+pub Agrees-new : (st : State) → st.heap.pages.pages ≡ [] → ((n : ℕ) → entries_at st.heap.indexes n ≡ new_entries st.settings.indexed n) → st.heap.statuses.entries ≡ [] → IsWindow st.heap.statuses
+    → st.heap.max_pages ≡ st.settings.max_pages → st.heap.statuses.stop_age ≡ st.settings.stop_age → st.sessions ≡ replicate 64 None → Agrees st (beginning st.settings.indexed)
 Agrees-new st pages index entries window max_pages stop_age idle = record {
   found = Agrees-beginning (seen st) st.settings.indexed
       (λ p. no-version (slots_of st.heap) p (ap (λ (pages : List PageView). map (λ (p : PageView). p.slots) pages) pages))
-      (λ x. ap (λ o. option_map (λ _. status_of st.heap.table x) o) (no-place st.heap.table x entries))
+      (λ x. ap (λ o. option_map (λ _. status_of st.heap.statuses x) o) (no-place st.heap.statuses x entries))
       (λ s. ap (option_map reader_of) (closed s));
   indexes = λ n. let used = new-in_use st.heap.indexes st.settings.indexed index n in let has = indexed-is st.settings.indexed n in
       (λ h. has.0 (used.0 h), λ h. used.1 (has.1 h));
@@ -54,7 +54,7 @@ Agrees-new st pages index entries window max_pages stop_age idle = record {
     stop_age = stop_age;
     window = window;
     sessions = λ s e at. absurd (none-some e (sym (closed s) ∙ at));
-    tops = λ x done. absurd (let at = finished-place st.heap.table x (λ active. cc) in none-some at.0 (sym (no-place st.heap.table x entries) ∙ at.1));
+    tops = λ x done. absurd (let at = finished-place st.heap.statuses x (λ active. cc) in none-some at.0 (sym (no-place st.heap.statuses x entries) ∙ at.1));
     indexes = new-in_use st.heap.indexes st.settings.indexed index;
     cursors = λ s e span at is. absurd (none-some e (sym (closed s) ∙ at));
     table = nothing-stays st.heap (horizon_of st) pages (new-empty st.heap.indexes st.settings.indexed index);

@@ -22,15 +22,15 @@ use Rattle.session_steps.proofs.Savepoints.{Follows-savepoint, Follows-release, 
 unfinished : Aborted ≢ InProgress
 unfinished is = cc
 
-pub keeps-returned : (xs : List (Option Session)) (h h' : HeapView) (s : ℕ) (e e' : Session) → open_at xs s ≡ Some e → RollsBackOn h h' e e' → EngineKeeps xs h.table → EngineKeeps (set xs s (Some e')) h'.table
+pub keeps-returned : (xs : List (Option Session)) (h h' : HeapView) (s : ℕ) (e e' : Session) → open_at xs s ≡ Some e → RollsBackOn h h' e e' → EngineKeeps xs h.statuses → EngineKeeps (set xs s (Some e')) h'.statuses
 keeps-returned xs h h' s e e' at back k = record {
   count = length-set xs s (Some e') ∙ k.count;
-  own = keep-dropped xs h.table h'.table s e e' back.since Aborted at back.ids unfinished back.finishes k.own;
+  own = keep-dropped xs h.statuses h'.statuses s e e' back.since Aborted at back.ids unfinished back.finishes k.own;
 }
 
 -- what the heap and the session's own ids say of a return
 pub rolls-back-on : (h h' : HeapView) (e : Session) (own : Own) (since : List ℕ) → h'.pages ≡ h.pages → h'.indexes ≡ h.indexes → h'.max_pages ≡ h.max_pages → e.own.ids ≡ newest e.own.saved ++ since → own.ids ≡ newest e.own.saved
-    → own.saved ≡ e.own.saved → Finishes h.table h'.table since Aborted → IsWindow h'.table → RollsBackOn h h' e (record e { own = own; failed = false })
+    → own.saved ≡ e.own.saved → Finishes h.statuses h'.statuses since Aborted → IsWindow h'.statuses → RollsBackOn h h' e (record e { own = own; failed = false })
 rolls-back-on h h' e own since pages indexes max_pages were ids saved finishes window = record {
   pages = pages;
   indexes = indexes;

@@ -46,27 +46,27 @@ reader-at st s r at = of (session_at st s) refl
 pub reader-is : (st : State) (s : ℕ) (e : Session) → session_at st s ≡ Some e → (seen st).session s ≡ Some (reader_of e)
 reader-is st s e at = ap (option_map reader_of) at
 
-pub are-open : (st : State) (w : World) → Agrees st w → AreOpen st.heap.table (owns_of st.sessions)
+pub are-open : (st : State) (w : World) → Agrees st w → AreOpen st.heap.statuses (owns_of st.sessions)
 are-open st w agrees = record {
   active = λ own x among mine. let some = owns-cases st.sessions own among in
-      active-to st.heap.table x ((agrees.found.opened some.0 (reader_of some.1) (reader-is st some.0 some.1 some.2)).2.own_active x (subst (λ ids. Contains ids x) (sym some.3) mine));
+      active-to st.heap.statuses x ((agrees.found.opened some.0 (reader_of some.1) (reader-is st some.0 some.1 some.2)).2.own_active x (subst (λ ids. Contains ids x) (sym some.3) mine));
   topmost = λ own x among mine. let some = owns-cases st.sessions own among in
-      subst (λ ids. slice_get ids 0 ≡ Some (top_of st.heap.table x)) some.3 ((agrees.sound.sessions some.0 some.1 some.2).topmost x (subst (λ ids. Contains ids x) (sym some.3) mine));
-  all = λ x active. let by = agrees.found.owned x (active-from st.heap.table x active) in
+      subst (λ ids. slice_get ids 0 ≡ Some (top_of st.heap.statuses x)) some.3 ((agrees.sound.sessions some.0 some.1 some.2).topmost x (subst (λ ids. Contains ids x) (sym some.3) mine));
+  all = λ x active. let by = agrees.found.owned x (active-from st.heap.statuses x active) in
       let e = reader-at st by.0 by.1 by.2 in
       (e.0.own.ids, owns-some st.sessions by.0 e.0 e.1, subst (λ (r : relation.SeenSession). Contains r.own x) (sym e.2) by.3);
 }
 
 -- the snapshot that is taken now
 abbrev pub now_taken : State → Snap
-now_taken st = taken (next_id st.heap.table) (owns_of st.sessions)
+now_taken st = taken (next_id st.heap.statuses) (owns_of st.sessions)
 
-pub taken-fresh : (st : State) (w : World) → Agrees st w → IsFreshSnapshot (state_of st.heap.table) (λ x. Sees (now_taken st) st.heap.table x)
+pub taken-fresh : (st : State) (w : World) → Agrees st w → IsFreshSnapshot (state_of st.heap.statuses) (λ x. Sees (now_taken st) st.heap.statuses x)
 taken-fresh st w agrees = record {
-  finished = λ x done. let d = committed-to st.heap.table x done in
-      fresh-seen st.heap.table (owns_of st.sessions) x agrees.sound.window (are-open st w agrees) d (agrees.sound.tops x d);
-  active = λ x active. open-unseen st.heap.table st.heap.table (owns_of st.sessions) x agrees.sound.window (are-open st w agrees) (active-to st.heap.table x active) refl;
+  finished = λ x done. let d = committed-to st.heap.statuses x done in
+      fresh-seen st.heap.statuses (owns_of st.sessions) x agrees.sound.window (are-open st w agrees) d (agrees.sound.tops x d);
+  active = λ x active. open-unseen st.heap.statuses st.heap.statuses (owns_of st.sessions) x agrees.sound.window (are-open st w agrees) (active-to st.heap.statuses x active) refl;
 }
 
-pub taken-within : (st : State) (w : World) → Agrees st w → IsInWindow st.heap.table (now_taken st)
-taken-within st w agrees = taken-in_window st.heap.table (owns_of st.sessions) agrees.sound.window (are-open st w agrees)
+pub taken-within : (st : State) (w : World) → Agrees st w → IsInWindow st.heap.statuses (now_taken st)
+taken-within st w agrees = taken-in_window st.heap.statuses (owns_of st.sessions) agrees.sound.window (are-open st w agrees)

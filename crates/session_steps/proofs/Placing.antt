@@ -60,28 +60,28 @@ is-deleted w x t successor hot active = record {
 
 -- The writer.
 
-pub is-writer : (st : State) (w : World) (s : ℕ) (e : Session) (h : HeapView) → Agrees st w → session_at st s ≡ Some e → window.IsWindow h.table → WritesUnder st.heap h e.own
+pub is-writer : (st : State) (w : World) (s : ℕ) (e : Session) (h : HeapView) → Agrees st w → session_at st s ≡ Some e → window.IsWindow h.statuses → WritesUnder st.heap h e.own
 is-writer st w s e h agrees at after = record {
   before = agrees.sound.window;
   after = after;
-  active = λ x mine. active-to st.heap.table x ((agrees.found.opened s (reader_of e) (reader-is st s e at)).2.own_active x mine);
+  active = λ x mine. active-to st.heap.statuses x ((agrees.found.opened s (reader_of e) (reader-is st s e at)).2.own_active x mine);
 }
 
 -- What a session may write, it may take away.
 
-is-made : (st : State) (w : World) (s : ℕ) (e : Session) (key : ℕ) (p : Tid) (t : Version) → Agrees st w → session_at st s ≡ Some e → IsTarget st e key p t → IsMade st.heap.table t.header
+is-made : (st : State) (w : World) (s : ℕ) (e : Session) (key : ℕ) (p : Tid) (t : Version) → Agrees st w → session_at st s ≡ Some e → IsTarget st e key p t → IsMade st.heap.statuses t.header
 is-made st w s e key p t agrees at target = elim (cases_Bool (is_frozen t.header)) [
   | inl frozen ↦ inl frozen
   | inr thawed ↦ elim (targets.maker_of (seen st) (reader_of e) t target.seen t.header.xmin.0 (is-inserter t.header t.header.xmin.0 (λ frozen. cc) refl)) [
-    | inl done ↦ inr (inl (committed-to st.heap.table t.header.xmin.0 done))
-    | inr own ↦ inr (inr (active-to st.heap.table t.header.xmin.0 ((agrees.found.opened s (reader_of e) (reader-is st s e at)).2.own_active t.header.xmin.0 own)).unfinished)
+    | inl done ↦ inr (inl (committed-to st.heap.statuses t.header.xmin.0 done))
+    | inr own ↦ inr (inr (active-to st.heap.statuses t.header.xmin.0 ((agrees.found.opened s (reader_of e) (reader-is st s e at)).2.own_active t.header.xmin.0 own)).unfinished)
   ]
 ]
 
-untaken : (st : State) (w : World) (s : ℕ) (e : Session) (key : ℕ) (found : Option Row) (p : Tid) (t : Version) → Agrees st w → Free (seen st) s (reader_of e) key found → IsTarget st e key p t → HasNoXmax st.heap.table t.header
+untaken : (st : State) (w : World) (s : ℕ) (e : Session) (key : ℕ) (found : Option Row) (p : Tid) (t : Version) → Agrees st w → Free (seen st) s (reader_of e) key found → IsTarget st e key p t → HasNoXmax st.heap.statuses t.header
 untaken st w s e key found p t agrees free target = elim (cases_eq t.header.xmax.0 0) [
   | inl none ↦ inl none
-  | inr some ↦ inr (state-some st.heap.table t.header.xmax.0 Aborted
+  | inr some ↦ inr (state-some st.heap.statuses t.header.xmax.0 Aborted
       (targets.untaken_of (seen st) w s (reader_of e) key found p t free agrees.found target.there target.of_key target.seen t.header.xmax.0 (is-deleter t.header t.header.xmax.0 some refl))).1
 ]
 

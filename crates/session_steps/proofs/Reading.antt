@@ -19,7 +19,7 @@ use Rattle.session_steps.proofs.Follows.{Follows-same}
 
 -- the row of the key that the index leads the session to
 abbrev RowOf : State → Session → ℕ → Option Row → Type 0
-RowOf st e k found = FirstFound st.heap.table (IsVisible st.heap.table e.snapshot e.own.ids) (slots_of st.heap) (entries_in st.heap.indexes 0) (pos k) k found
+RowOf st e k found = FirstFound st.heap.statuses (IsVisible st.heap.statuses e.snapshot e.own.ids) (slots_of st.heap) (entries_in st.heap.indexes 0) (pos k) k found
 
 pub Follows-get : (st : State) (s : ℕ) (e : Session) (k : ℕ) (found : Option Row) → session_at st s ≡ Some e → e.failed ≡ false → RowOf st e k found → Follows st (Get s k) (Found found) st
 Follows-get st s e k found at sound finds = λ w agrees.

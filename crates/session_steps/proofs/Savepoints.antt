@@ -79,7 +79,7 @@ Follows-savepoint st st' s e at sound bare room now is sets w agrees =
     subst (λ st'. Allows w (Savepoint s) Done × Agrees st' (next w (Savepoint s) Done) × KeepsAllTargets st st') (sym is) (
       f.0,
       agree agrees refl refl f.1
-          (Sound-put st s e now at (same-holds e now sets.snapshot sets.ids) (keeps-saved st.heap.table e now sets (agrees.sound.sessions s e at)) (same-cursor st.sessions st.heap.indexes s e now at sets.cursor agrees.sound.cursors) agrees.sound),
+          (Sound-put st s e now at (same-holds e now sets.snapshot sets.ids) (keeps-saved st.heap.statuses e now sets (agrees.sound.sessions s e at)) (same-cursor st.sessions st.heap.indexes s e now at sets.cursor agrees.sound.cursors) agrees.sound),
       led-same st w agrees,
     )
 
@@ -93,7 +93,7 @@ Follows-release st st' s e before saved at sound bare some now is releases w agr
     subst (λ st'. Allows w (Release s) Done × Agrees st' (next w (Release s) Done) × KeepsAllTargets st st') (sym is) (
       f.0,
       agree agrees refl refl f.1
-          (Sound-put st s e now at (same-holds e now releases.snapshot releases.ids) (keeps-released st.heap.table e now releases (agrees.sound.sessions s e at)) (same-cursor st.sessions st.heap.indexes s e now at releases.cursor agrees.sound.cursors) agrees.sound),
+          (Sound-put st s e now at (same-holds e now releases.snapshot releases.ids) (keeps-released st.heap.statuses e now releases (agrees.sound.sessions s e at)) (same-cursor st.sessions st.heap.indexes s e now at releases.cursor agrees.sound.cursors) agrees.sound),
       led-same st w agrees,
     )
 
@@ -113,13 +113,13 @@ module _ (st st' : State) (s : ℕ) (before : List ℕ) (saved : List (List ℕ)
       subst (λ xs. OnlyIs (seen st).session (λ o. option_map reader_of (session_at (record st { sessions = xs }) o)) s (Some (record (reader_of back.session) { own = before; failed = false }))) (sym back.sessions) only
 
   -- those that it had not then
-  finishes-since : (w : World) → Agrees st w → change.FinishesIds (state_of st.heap.table) (state_of st'.heap.table) (λ x. Contains back.session.own.ids x × (¬ Contains before x)) Aborted
+  finishes-since : (w : World) → Agrees st w → change.FinishesIds (state_of st.heap.statuses) (state_of st'.heap.statuses) (λ x. Contains back.session.own.ids x × (¬ Contains before x)) Aborted
   finishes-since w agrees =
       let e = back.session in
       let distinct = (agrees.sound.sessions s e back.at).distinct in
       let mine : (x : ℕ) → Contains back.back.since x → Contains e.own.ids x = λ x late. subst (λ xs. Contains xs x) (sym were) (Contains-append_right before back.back.since x late) in
-      let f = Finishes-from st.heap.table st'.heap.table back.back.since Aborted
-      (λ x late. active-to st.heap.table x ((agrees.found.opened s (reader_of e) (reader-is st s e back.at)).2.own_active x (mine x late))) back.back.finishes in
+      let f = Finishes-from st.heap.statuses st'.heap.statuses back.back.since Aborted
+      (λ x late. active-to st.heap.statuses x ((agrees.found.opened s (reader_of e) (reader-is st s e back.at)).2.own_active x (mine x late))) back.back.finishes in
       record {
         active = λ x is. f.active x (late-of x is.0 is.1);
         each = λ x. elim (f.each x) [
@@ -132,7 +132,7 @@ module _ (st st' : State) (s : ℕ) (before : List ℕ) (saved : List (List ℕ)
       late-of x own new = elim (Contains-append_cases before back.back.since x (subst (λ xs. Contains xs x) were own)) [ inl early ↦ absurd (new early) | inr late ↦ late ]
 
   same-sights : SameSights (seen st) (seen st').sees
-  same-sights o r bt = SameSight-finish r.snapshot st.heap.table st'.heap.table back.back.since Aborted back.back.finishes
+  same-sights o r bt = SameSight-finish r.snapshot st.heap.statuses st'.heap.statuses back.back.since Aborted back.back.finishes
 
 pub Follows-roll_back_to : (st st' : State) (s : ℕ) (before : List ℕ) (saved : List (List ℕ)) (back : RollsBack st st' s) → back.session.cursor ≡ None → back.session.own.saved ≡ before ∷ saved → Follows st (RollbackTo s) Done st'
 Follows-roll_back_to st st' s before saved back bare is w agrees =

@@ -39,46 +39,46 @@ Holds h e key answer = MatchOption answer ((x : ℕ) → ¬ IsHeldUnder h e key 
 
 -- What the searches find. Where the entries are sound, it is what stands on the heap.
 
-pub own-active : (st : State) (w : World) (s : ℕ) (e : Session) → Agrees st w → session_at st s ≡ Some e → (x : ℕ) → Contains e.own.ids x → window.IsActive st.heap.table x
-own-active st w s e agrees at x mine = active-to st.heap.table x ((agrees.found.opened s (reader_of e) (reader-is st s e at)).2.own_active x mine)
+pub own-active : (st : State) (w : World) (s : ℕ) (e : Session) → Agrees st w → session_at st s ≡ Some e → (x : ℕ) → Contains e.own.ids x → window.IsActive st.heap.statuses x
+own-active st w s e agrees at x mine = active-to st.heap.statuses x ((agrees.found.opened s (reader_of e) (reader-is st s e at)).2.own_active x mine)
 
 -- the session reads the row of the key by this version
 pub record IsTarget (st : State) (e : Session) (key : ℕ) (p : Tid) (t : Version) : Type 0 where
   pub there : version_in (slots_of st.heap) p ≡ Some t
   pub of_key : t.row.key ≡ key
-  pub seen : ReaderSees (state_of st.heap.table) (λ x. Sees e.snapshot st.heap.table x) e.own.ids t
+  pub seen : ReaderSees (state_of st.heap.statuses) (λ x. Sees e.snapshot st.heap.statuses x) e.own.ids t
 
 abbrev pub FoundIn : State → Session → ℕ → Option Tid → Type 0
-FoundIn st e key None = FindsOfKey (seen st).version (ReaderSees (state_of st.heap.table) (λ x. Sees e.snapshot st.heap.table x) e.own.ids) key None
+FoundIn st e key None = FindsOfKey (seen st).version (ReaderSees (state_of st.heap.statuses) (λ x. Sees e.snapshot st.heap.statuses x) e.own.ids) key None
 FoundIn st e key (Some p) = (t : Version) × IsTarget st e key p t
 
 pub place-to : (st : State) (w : World) (s : ℕ) (e : Session) (key : ℕ) (found : Option Tid) → Agrees st w → session_at st s ≡ Some e → FindsPlace st.heap e key found → FoundIn st e key found
 place-to st w s e key None agrees at finds = λ p v there seen is.
-    place-on_heap key_value st.heap.table (horizon_of st) (slots_of st.heap) (entries_in st.heap.indexes 0) e.snapshot e.own.ids (by-key st agrees.sound) (own-active st w s e agrees at) (pos key) key None finds p v
+    place-on_heap key_value st.heap.statuses (horizon_of st) (slots_of st.heap) (entries_in st.heap.indexes 0) e.snapshot e.own.ids (by-key st agrees.sound) (own-active st w s e agrees at) (pos key) key None finds p v
     (record { there = there; of_value = ap (λ n. pos n) is; of_key = is; has = seen })
 place-to st w s e key (Some p) agrees at finds =
-    let h = place-on_heap key_value st.heap.table (horizon_of st) (slots_of st.heap) (entries_in st.heap.indexes 0) e.snapshot e.own.ids (by-key st agrees.sound) (own-active st w s e agrees at) (pos key) key (Some p) finds in
+    let h = place-on_heap key_value st.heap.statuses (horizon_of st) (slots_of st.heap) (entries_in st.heap.indexes 0) e.snapshot e.own.ids (by-key st agrees.sound) (own-active st w s e agrees at) (pos key) key (Some p) finds in
     (h.0, record { there = h.1.there; of_key = h.1.of_key; seen = h.1.has })
 
 pub row-to : (st : State) (w : World) (s : ℕ) (e : Session) (key : ℕ) (found : Option Row) → Agrees st w → session_at st s ≡ Some e
-    → FirstFound st.heap.table (visibility.IsVisible st.heap.table e.snapshot e.own.ids) (slots_of st.heap) (entries_in st.heap.indexes 0) (pos key) key found
-    → FindsOfKey (seen st).version (ReaderSees (state_of st.heap.table) (λ x. Sees e.snapshot st.heap.table x) e.own.ids) key found
+    → FirstFound st.heap.statuses (visibility.IsVisible st.heap.statuses e.snapshot e.own.ids) (slots_of st.heap) (entries_in st.heap.indexes 0) (pos key) key found
+    → FindsOfKey (seen st).version (ReaderSees (state_of st.heap.statuses) (λ x. Sees e.snapshot st.heap.statuses x) e.own.ids) key found
 row-to st w s e key None agrees at finds = λ p v there seen is.
-    found-on_heap key_value st.heap.table (horizon_of st) (slots_of st.heap) (entries_in st.heap.indexes 0) e.snapshot e.own.ids (by-key st agrees.sound) (own-active st w s e agrees at) (pos key) key None finds p v
+    found-on_heap key_value st.heap.statuses (horizon_of st) (slots_of st.heap) (entries_in st.heap.indexes 0) e.snapshot e.own.ids (by-key st agrees.sound) (own-active st w s e agrees at) (pos key) key None finds p v
     (record { there = there; of_value = ap (λ n. pos n) is; of_key = is; has = seen })
 row-to st w s e key (Some row) agrees at finds =
-    let h = found-on_heap key_value st.heap.table (horizon_of st) (slots_of st.heap) (entries_in st.heap.indexes 0) e.snapshot e.own.ids (by-key st agrees.sound) (own-active st w s e agrees at) (pos key) key (Some row) finds in
+    let h = found-on_heap key_value st.heap.statuses (horizon_of st) (slots_of st.heap) (entries_in st.heap.indexes 0) e.snapshot e.own.ids (by-key st agrees.sound) (own-active st w s e agrees at) (pos key) key (Some row) finds in
     (h.0, h.1, h.2.there, h.2.of_key, (h.2.has, h.3))
 
 pub late-to : (st : State) (w : World) (e : Session) (key x : ℕ) → Agrees st w → IsLateBy st.heap e key x → IsLateFor (seen st) (reader_of e) key
 late-to st w e key x agrees late =
-    let h = (newer_commit-on_heap key_value st.heap.table (horizon_of st) (slots_of st.heap) (entries_in st.heap.indexes 0) e.snapshot x (by-key st agrees.sound) (pos key) key).0 late in
+    let h = (newer_commit-on_heap key_value st.heap.statuses (horizon_of st) (slots_of st.heap) (entries_in st.heap.indexes 0) e.snapshot x (by-key st agrees.sound) (pos key) key).0 late in
     (h.0, h.1, h.2.there, h.2.of_key, (x, h.2.has))
 
 pub not-late : (st : State) (w : World) (e : Session) (key : ℕ) → Agrees st w → ((x : ℕ) → ¬ IsLateBy st.heap e key x) → ¬ IsLateFor (seen st) (reader_of e) key
 not-late st w e key agrees timely some =
     let x = some.4.0 in
-    timely x ((newer_commit-on_heap key_value st.heap.table (horizon_of st) (slots_of st.heap) (entries_in st.heap.indexes 0) e.snapshot x (by-key st agrees.sound) (pos key) key).1 (
+    timely x ((newer_commit-on_heap key_value st.heap.statuses (horizon_of st) (slots_of st.heap) (entries_in st.heap.indexes 0) e.snapshot x (by-key st agrees.sound) (pos key) key).1 (
       some.0,
       some.1,
       record {
@@ -90,17 +90,17 @@ not-late st w e key agrees timely some =
     ))
 
 -- what holds a key is in progress
-pub held-active : (h : HeapView) (e : Session) (key x : ℕ) → IsHeldUnder h e key x → window.IsActive h.table x
-held-active h e key x held = active-to h.table x held.at.some.has.active
+pub held-active : (h : HeapView) (e : Session) (key x : ℕ) → IsHeldUnder h e key x → window.IsActive h.statuses x
+held-active h e key x held = active-to h.statuses x held.at.some.has.active
 
 pub held-to : (st : State) (w : World) (e : Session) (key x : ℕ) → Agrees st w → IsHeldUnder st.heap e key x → IsHeldBy (seen st) (reader_of e) key x
 held-to st w e key x agrees held =
-    let h = (foreign-on_heap key_value st.heap.table (horizon_of st) (slots_of st.heap) (entries_in st.heap.indexes 0) e.own.ids x (by-key st agrees.sound) (pos key) key).0 held in
+    let h = (foreign-on_heap key_value st.heap.statuses (horizon_of st) (slots_of st.heap) (entries_in st.heap.indexes 0) e.own.ids x (by-key st agrees.sound) (pos key) key).0 held in
     (h.0, h.1, h.2.there, h.2.of_key, h.2.has)
 
 held-from : (st : State) (w : World) (e : Session) (key x : ℕ) → Agrees st w → IsHeldBy (seen st) (reader_of e) key x → IsHeldUnder st.heap e key x
 held-from st w e key x agrees some =
-    (foreign-on_heap key_value st.heap.table (horizon_of st) (slots_of st.heap) (entries_in st.heap.indexes 0) e.own.ids x (by-key st agrees.sound) (pos key) key).1 (
+    (foreign-on_heap key_value st.heap.statuses (horizon_of st) (slots_of st.heap) (entries_in st.heap.indexes 0) e.own.ids x (by-key st agrees.sound) (pos key) key).1 (
       some.0,
       some.1,
       record {

@@ -30,42 +30,42 @@ newest-given w ids saved prefixes active x is = (active x (level-among ids saved
 
 -- The engine keeps what its type keeps, whatever became of a write.
 
-ready-ids : (h ready h' : HeapView) (n horizon size : ℕ) → PrunesIfFull h ready n horizon size → Keeps ready h' → SameIds h.table h'.table
-ready-ids h ready h' n horizon size (PrunesIfFull.has_room room is) keeps = subst (λ (g : HeapView). SameIds g.table h'.table) is keeps.table
+ready-ids : (h ready h' : HeapView) (n horizon size : ℕ) → PrunesIfFull h ready n horizon size → Keeps ready h' → SameIds h.statuses h'.statuses
+ready-ids h ready h' n horizon size (PrunesIfFull.has_room room is) keeps = subst (λ (g : HeapView). SameIds g.statuses h'.statuses) is keeps.statuses
 ready-ids h ready h' n horizon size (PrunesIfFull.is_pruned full grown grows prunes) keeps =
-    let table : ready.table ≡ grown.table = ap (λ (g : HeapView). g.table) prunes.is in
-    let last : SameIds grown.table h'.table = subst (λ t. SameIds t h'.table) table keeps.table in
-    record { first = last.first ∙ grows.table.first; stop_age = last.stop_age ∙ grows.table.stop_age; entries = last.entries ∙ grows.table.entries }
+    let statuses : ready.statuses ≡ grown.statuses = ap (λ (g : HeapView). g.statuses) prunes.is in
+    let last : SameIds grown.statuses h'.statuses = subst (λ t. SameIds t h'.statuses) statuses keeps.statuses in
+    record { first = last.first ∙ grows.statuses.first; stop_age = last.stop_age ∙ grows.statuses.stop_age; entries = last.entries ∙ grows.statuses.entries }
 
-update-ids : (h h' : HeapView) (e : Session) (place : Tid) (row : Row) (horizon : ℕ) (f : WriteFault) → FailsUpdate h h' e.own place row horizon f → SameIds h.table h'.table
-update-ids h h' e place row horizon fault.NeedsFreeze fails = fails.2.table
+update-ids : (h h' : HeapView) (e : Session) (place : Tid) (row : Row) (horizon : ℕ) (f : WriteFault) → FailsUpdate h h' e.own place row horizon f → SameIds h.statuses h'.statuses
+update-ids h h' e place row horizon fault.NeedsFreeze fails = fails.2.statuses
 update-ids h h' e place row horizon fault.NoRoom fails = ready-ids h fails.ready h' place.page horizon (rounded_size_of row) fails.readies fails.keeps
-update-ids h h' e place row horizon fault.NoMemory fails = fails.3.table
+update-ids h h' e place row horizon fault.NoMemory fails = fails.3.statuses
 update-ids h h' e place row horizon fault.Gone fails = elim fails [
-  | inl gone ↦ gone.1.table
+  | inl gone ↦ gone.1.statuses
   | inr went ↦ ready-ids h went.ready h' place.page horizon (rounded_size_of row) went.readies went.keeps
 ]
 
-delete-ids : (h h' : HeapView) (e : Session) (place : Tid) (f : WriteFault) → FailsDelete h h' e.own place f → SameIds h.table h'.table
-delete-ids h h' e place fault.NeedsFreeze fails = fails.2.table
+delete-ids : (h h' : HeapView) (e : Session) (place : Tid) (f : WriteFault) → FailsDelete h h' e.own place f → SameIds h.statuses h'.statuses
+delete-ids h h' e place fault.NeedsFreeze fails = fails.2.statuses
 delete-ids h h' e place fault.NoRoom fails = absurd fails
-delete-ids h h' e place fault.NoMemory fails = fails.3.table
-delete-ids h h' e place fault.Gone fails = fails.1.table
+delete-ids h h' e place fault.NoMemory fails = fails.3.statuses
+delete-ids h h' e place fault.Gone fails = fails.1.statuses
 
-pub keeps-inserted : (xs : List (Option Session)) (h h' : HeapView) (s : ℕ) (e e' : Session) (row : Row) (r : Result (Unit {0}) WriteFault) → open_at xs s ≡ Some e → TriesInsert h h' e e' row r → IsWindow h'.table
-    → EngineKeeps xs h.table → EngineKeeps (set xs s (Some e')) h'.table
-keeps-inserted xs h h' s e e' row (Ok u) at tries is k = keeps-wrote xs h.table h'.table s e e' tries.x at tries.change.takes_ids is k
-keeps-inserted xs h h' s e e' row (Err f) at tries is k = keeps-kept xs h.table h'.table s e e' at tries.same tries.fault.1.table k
+pub keeps-inserted : (xs : List (Option Session)) (h h' : HeapView) (s : ℕ) (e e' : Session) (row : Row) (r : Result (Unit {0}) WriteFault) → open_at xs s ≡ Some e → TriesInsert h h' e e' row r → IsWindow h'.statuses
+    → EngineKeeps xs h.statuses → EngineKeeps (set xs s (Some e')) h'.statuses
+keeps-inserted xs h h' s e e' row (Ok u) at tries is k = keeps-wrote xs h.statuses h'.statuses s e e' tries.x at tries.change.takes_ids is k
+keeps-inserted xs h h' s e e' row (Err f) at tries is k = keeps-kept xs h.statuses h'.statuses s e e' at tries.same tries.fault.1.statuses k
 
 pub keeps-updated : (xs : List (Option Session)) (h h' : HeapView) (s : ℕ) (e e' : Session) (place : Tid) (row : Row) (horizon : ℕ) (r : Result (Unit {0}) WriteFault) → open_at xs s ≡ Some e → TriesUpdate h h' e e' place row horizon r
-    → IsWindow h'.table → EngineKeeps xs h.table → EngineKeeps (set xs s (Some e')) h'.table
-keeps-updated xs h h' s e e' place row horizon (Ok u) at tries is k = keeps-wrote xs h.table h'.table s e e' tries.x at tries.change.takes_ids is k
-keeps-updated xs h h' s e e' place row horizon (Err f) at tries is k = keeps-kept xs h.table h'.table s e e' at tries.same (update-ids h h' e place row horizon f tries.fault) k
+    → IsWindow h'.statuses → EngineKeeps xs h.statuses → EngineKeeps (set xs s (Some e')) h'.statuses
+keeps-updated xs h h' s e e' place row horizon (Ok u) at tries is k = keeps-wrote xs h.statuses h'.statuses s e e' tries.x at tries.change.takes_ids is k
+keeps-updated xs h h' s e e' place row horizon (Err f) at tries is k = keeps-kept xs h.statuses h'.statuses s e e' at tries.same (update-ids h h' e place row horizon f tries.fault) k
 
 pub keeps-deleted : (xs : List (Option Session)) (h h' : HeapView) (s : ℕ) (e e' : Session) (place : Tid) (r : Result (Unit {0}) WriteFault) → open_at xs s ≡ Some e → TriesDelete h h' e e' place r
-    → IsWindow h'.table → EngineKeeps xs h.table → EngineKeeps (set xs s (Some e')) h'.table
-keeps-deleted xs h h' s e e' place (Ok u) at tries is k = keeps-wrote xs h.table h'.table s e e' tries.x at tries.change.takes_ids is k
-keeps-deleted xs h h' s e e' place (Err f) at tries is k = keeps-kept xs h.table h'.table s e e' at tries.same (delete-ids h h' e place f tries.fault) k
+    → IsWindow h'.statuses → EngineKeeps xs h.statuses → EngineKeeps (set xs s (Some e')) h'.statuses
+keeps-deleted xs h h' s e e' place (Ok u) at tries is k = keeps-wrote xs h.statuses h'.statuses s e e' tries.x at tries.change.takes_ids is k
+keeps-deleted xs h h' s e e' place (Err f) at tries is k = keeps-kept xs h.statuses h'.statuses s e e' at tries.same (delete-ids h h' e place f tries.fault) k
 
 -- What the heap says of a write is what became of it.
 

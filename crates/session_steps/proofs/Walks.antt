@@ -95,14 +95,14 @@ comes-after index row other e m value key value' key' ne isnt = by_lt_z m.value 
 -- what is found by a value and a key along the entries of the index
 abbrev pub FindsBy : State → Session → ℕ → ℤ → ℕ → Option Row → Type 0
 FindsBy st e index value key found =
-    FirstFound st.heap.table (visibility.IsVisible st.heap.table e.snapshot e.own.ids) (slots_of st.heap) (entries_in st.heap.indexes index) value key found
+    FirstFound st.heap.statuses (visibility.IsVisible st.heap.statuses e.snapshot e.own.ids) (slots_of st.heap) (entries_in st.heap.indexes index) value key found
 
 abbrev pub IsNextFor : State → Session → IndexRange → IndexPosition → Row → Type 0
 IsNextFor st e span mark row =
-    IsNextRow st.heap.table (visibility.IsVisible st.heap.table e.snapshot e.own.ids) (slots_of st.heap) (entries_in st.heap.indexes span.index) span mark row
+    IsNextRow st.heap.statuses (visibility.IsVisible st.heap.statuses e.snapshot e.own.ids) (slots_of st.heap) (entries_in st.heap.indexes span.index) span mark row
 
 abbrev pub NoneIsLeft : State → Session → IndexRange → Type 0
-NoneIsLeft st e span = NoneLeft st.heap.table (visibility.IsVisible st.heap.table e.snapshot e.own.ids) (slots_of st.heap) (entries_in st.heap.indexes span.index) span
+NoneIsLeft st e span = NoneLeft st.heap.statuses (visibility.IsVisible st.heap.statuses e.snapshot e.own.ids) (slots_of st.heap) (entries_in st.heap.indexes span.index) span
 
 -- a version of the row is seen, and it has this value and key
 record ShowsRow (st : State) (e : Session) (index : ℕ) (value : ℤ) (key : ℕ) (row : Row) : Type 0 where
@@ -122,12 +122,12 @@ record HasEntry (st : State) (index : ℕ) (row : Row) : Type 0 where
   pub key : row.key ≡ entry.key
 
 module _ (st : State) (w : World) (s : ℕ) (e : Session) (agrees : Agrees st w) (at : session_at st s ≡ Some e) (index : ℕ) (used : IsInUse st.heap.indexes index) where
-  sound-in : EntriesAreSound (value_in index) st.heap.table (horizon_of st) (slots_of st.heap) (entries_in st.heap.indexes index)
+  sound-in : EntriesAreSound (value_in index) st.heap.statuses (horizon_of st) (slots_of st.heap) (entries_in st.heap.indexes index)
   sound-in = index-sound st.heap (horizon_of st) agrees.sound.table index used
 
   row-shown : (value : ℤ) (key : ℕ) (row : Row) → FindsBy st e index value key (Some row) → ShowsRow st e index value key row
   row-shown value key row finds =
-      let h = found-on_heap (value_in index) st.heap.table (horizon_of st) (slots_of st.heap) (entries_in st.heap.indexes index) e.snapshot e.own.ids sound-in (own-active st w s e agrees at) value key (Some row) finds in
+      let h = found-on_heap (value_in index) st.heap.statuses (horizon_of st) (slots_of st.heap) (entries_in st.heap.indexes index) e.snapshot e.own.ids sound-in (own-active st w s e agrees at) value key (Some row) finds in
       record {
         place = h.0;
         version = h.1;
@@ -140,7 +140,7 @@ module _ (st : State) (w : World) (s : ℕ) (e : Session) (agrees : Agrees st w)
 
   none-shown : (value : ℤ) (key : ℕ) (row : Row) → FindsBy st e index value key None → ShowsRow st e index value key row → ⊥
   none-shown value key row finds shows =
-      found-on_heap (value_in index) st.heap.table (horizon_of st) (slots_of st.heap) (entries_in st.heap.indexes index) e.snapshot e.own.ids sound-in (own-active st w s e agrees at) value key None finds
+      found-on_heap (value_in index) st.heap.statuses (horizon_of st) (slots_of st.heap) (entries_in st.heap.indexes index) e.snapshot e.own.ids sound-in (own-active st w s e agrees at) value key None finds
       shows.place shows.version (record {
         there = shows.here;
         of_value = ap (value_in index) shows.same_row ∙ shows.of_value;
@@ -150,7 +150,7 @@ module _ (st : State) (w : World) (s : ℕ) (e : Session) (agrees : Agrees st w)
 
   has-entry : (p : Tid) (v : Version) → At (seen st).version p v → seen_by st e v → HasEntry st index v.row
   has-entry p v here shown =
-      let i = (visible-found (value_in index) st.heap.table (horizon_of st) (slots_of st.heap) (entries_in st.heap.indexes index) sound-in e.snapshot e.own.ids (own-active st w s e agrees at) (value_in index v.row) v.row.key p v).0
+      let i = (visible-found (value_in index) st.heap.statuses (horizon_of st) (slots_of st.heap) (entries_in st.heap.indexes index) sound-in e.snapshot e.own.ids (own-active st w s e agrees at) (value_in index v.row) v.row.key p v).0
       (record { there = here; of_value = refl; of_key = refl; has = shown }) in
       record { entry = i.entry; there = i.leads.there; value = sym i.of.0; key = sym i.of.1 }
 

@@ -54,12 +54,12 @@ StandsOn st e p row = Stands (seen st).version (seen_by st e) p row
 -- A session as it reads.
 
 module _ (st : State) (e : Session) (r : Reader) (reads : ReadsAs st e r) (h : Header) where
-  reader-sees : IsSeenBy r h → visibility.IsVisible st.heap.table e.snapshot e.own.ids h
+  reader-sees : IsSeenBy r h → visibility.IsVisible st.heap.statuses e.snapshot e.own.ids h
   reader-sees seen = subst (λ w. visibility.IsVisible w e.snapshot e.own.ids h) reads.statuses
       (subst (λ s. visibility.IsVisible r.statuses.now s e.own.ids h) reads.snapshot
       (subst (λ (own : Own). visibility.IsVisible r.statuses.now r.snapshot.now own.ids h) reads.own seen))
 
-  sees-reader : visibility.IsVisible st.heap.table e.snapshot e.own.ids h → IsSeenBy r h
+  sees-reader : visibility.IsVisible st.heap.statuses e.snapshot e.own.ids h → IsSeenBy r h
   sees-reader seen = subst (λ (own : Own). visibility.IsVisible r.statuses.now r.snapshot.now own.ids h) (sym reads.own)
       (subst (λ s. visibility.IsVisible r.statuses.now s e.own.ids h) (sym reads.snapshot)
       (subst (λ w. visibility.IsVisible w e.snapshot e.own.ids h) (sym reads.statuses) seen))

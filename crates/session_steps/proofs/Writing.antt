@@ -59,10 +59,10 @@ pub free-some : (st : State) (w : World) (s key : ℕ) (p : Tid) (t : Version) (
 free-some st w s key p t may agrees target = free-with st w s may.session key (Some t.row) agrees (begins-some st s may.session key p t may.reads target) may.free
 
 -- the id under which it wrote is in progress
-now-active : (st : State) (w : World) (s : ℕ) (e : Session) (own : Own) (x : ℕ) → session_at st s ≡ Some e → Agrees st w → {v : Window} → TakesIds st.heap.table v e.own own x → IsWindow v → IsActive v x
+now-active : (st : State) (w : World) (s : ℕ) (e : Session) (own : Own) (x : ℕ) → session_at st s ≡ Some e → Agrees st w → {v : Window} → TakesIds st.heap.statuses v e.own own x → IsWindow v → IsActive v x
 now-active st w s e own x at agrees {v} takes window =
     (given-stays st.heap v (horizon_of st) e.own own x agrees.sound.table agrees.sound.window window
-    (λ y mine. active-to st.heap.table y ((agrees.found.opened s (reader_of e) (reader-is st s e at)).2.own_active y mine)) takes).1
+    (λ y mine. active-to st.heap.statuses y ((agrees.found.opened s (reader_of e) (reader-is st s e at)).2.own_active y mine)) takes).1
 
 -- All is as it was.
 
@@ -71,9 +71,9 @@ module _ (st : State) (w : World) (s : ℕ) (e e' : Session) (at : session_at st
   kept h w' keeps had found =
       let stays = kept-stays st.heap h (horizon_of st) agrees.sound.table keeps in (
         agree agrees refl had
-            (subst (λ slots. theory.HeapAgrees (seen_in slots h.table (set st.sessions s (Some e'))) w') (sym keeps.slots)
-            (found-kept (slots_of st.heap) st.heap.table h.table st.sessions s e e' w' at same keeps.table found))
-            (Sound-kept st w h s e e' at agrees same keeps.table keeps.max_pages stays),
+            (subst (λ slots. theory.HeapAgrees (seen_in slots h.statuses (set st.sessions s (Some e'))) w') (sym keeps.slots)
+            (found-kept (slots_of st.heap) st.heap.statuses h.statuses st.sessions s e e' w' at same keeps.statuses found))
+            (Sound-kept st w h s e e' at agrees same keeps.statuses keeps.max_pages stays),
         stays.led,
       )
 
@@ -84,11 +84,11 @@ module _ (st : State) (w : World) (s : ℕ) (e e' : Session) (at : session_at st
       let first = readied-stays st.heap ready n (horizon_of st) size agrees.sound.table readies in
       let second = kept-stays ready h (horizon_of st) first.sound keeps in
       let stays = stays-then st.heap ready h (horizon_of st) agrees.sound.table (ready-come st.heap ready n (horizon_of st) size readies) first second in
-      let ids = same-then st.heap.table ready.table h.table (ready-ids readies) keeps.table in
+      let ids = same-then st.heap.statuses ready.statuses h.statuses (ready-ids readies) keeps.statuses in
       let pruned = (follows.Follows-prune (seen st) 0 (version_in (slots_of ready)) (removes-past st w (version_in (slots_of ready)) n agrees (readies-stand st.heap ready n (horizon_of st) size readies)) w' found).1 in (
         agree agrees refl had
-            (subst (λ slots. theory.HeapAgrees (seen_in slots h.table (set st.sessions s (Some e'))) w') (sym keeps.slots)
-            (found-kept (slots_of ready) st.heap.table h.table st.sessions s e e' w' at same ids pruned))
+            (subst (λ slots. theory.HeapAgrees (seen_in slots h.statuses (set st.sessions s (Some e'))) w') (sym keeps.slots)
+            (found-kept (slots_of ready) st.heap.statuses h.statuses st.sessions s e e' w' at same ids pruned))
             (Sound-kept st w h s e e' at agrees same ids (keeps.max_pages ∙ ready-limit readies) stays),
         stays.led,
       )
@@ -96,9 +96,9 @@ module _ (st : State) (w : World) (s : ℕ) (e e' : Session) (at : session_at st
       same-then : (a b c : Window) → SameIds a b → SameIds b c → SameIds a c
       same-then a b c f g = record { first = g.first ∙ f.first; stop_age = g.stop_age ∙ f.stop_age; entries = g.entries ∙ f.entries }
 
-      ready-ids : PrunesIfFull st.heap ready n (horizon_of st) size → SameIds st.heap.table ready.table
+      ready-ids : PrunesIfFull st.heap ready n (horizon_of st) size → SameIds st.heap.statuses ready.statuses
       ready-ids (PrunesIfFull.has_room room is) = rw is (record { first = refl; stop_age = refl; entries = refl })
-      ready-ids (PrunesIfFull.is_pruned full grown keeps prunes) = rw prunes.is keeps.table
+      ready-ids (PrunesIfFull.is_pruned full grown keeps prunes) = rw prunes.is keeps.statuses
 
       ready-limit : PrunesIfFull st.heap ready n (horizon_of st) size → ready.max_pages ≡ st.heap.max_pages
       ready-limit (PrunesIfFull.has_room room is) = ap (λ (g : HeapView). g.max_pages) is
@@ -111,16 +111,16 @@ by-key : (row : Row) (text : RowText) → row ≡ row_of text → row.key ≡ te
 by-key row text same = ap (λ (r : Row). r.key) same
 
 module _ (st : State) (w : World) (s : ℕ) (text : RowText) (e : Session) (free : Free (seen st) s (reader_of e) text.key None) (fits : FitsRow text) (at : session_at st s ≡ Some e) (agrees : Agrees st w) where
-  inserted : (h : HeapView) (own : Own) (x : ℕ) → Inserts st.heap h e.own own (row_of text) x → IsWindow h.table
+  inserted : (h : HeapView) (own : Own) (x : ℕ) → Inserts st.heap h e.own own (row_of text) x → IsWindow h.statuses
       → Allows w (Insert s text) Done × Agrees (with_write st h s (with_own e own)) (next w (Insert s text) Done) × KeepsAllTargets st (with_write st h s (with_own e own))
   inserted h own x i window =
       let row = row_of text in
       let e' = with_own e own in
       let stays = inserted-stays st.heap h (horizon_of st) e.own own row x agrees.sound.table (is-writer st w s e h agrees at window) i in
       let new = root_version st.heap false x row i.number in
-      let still = found-given st w h.table s e own x at i.takes_ids window agrees (slots_of st.heap) agrees.found in
-      let done = insert_done (seen st) (seen_in (slots_of st.heap) h.table (set st.sessions s (Some e'))) w s (reader_of e) (reader_of e') text x (free_place st.heap i.number) new (version_in (slots_of h))
-      free fits agrees.found still (reader-now st w h.table s e own x at i.takes_ids window agrees) (current-now st w h.table s e own x at i.takes_ids window agrees)
+      let still = found-given st w h.statuses s e own x at i.takes_ids window agrees (slots_of st.heap) agrees.found in
+      let done = insert_done (seen st) (seen_in (slots_of st.heap) h.statuses (set st.sessions s (Some e'))) w s (reader_of e) (reader_of e') text x (free_place st.heap i.number) new (version_in (slots_of h))
+      free fits agrees.found still (reader-now st w h.statuses s e own x at i.takes_ids window agrees) (current-now st w h.statuses s e own x at i.takes_ids window agrees)
       (adds-from (version_in (slots_of st.heap)) (version_in (slots_of h)) (free_place st.heap i.number) new (inserts-stand st.heap h e.own own row x i)) (is-new x row new (root-new st.heap false x row i.number)) refl in
       (done.0, agree agrees refl refl done.1 (Sound-given st w h s e e' at agrees own x i.takes_ids refl window i.max_pages stays), stays.led)
 
@@ -137,14 +137,14 @@ module _ (st : State) (w : World) (s : ℕ) (text : RowText) (e : Session) (free
       let k = kept st w s e e' at agrees same h (next w (Insert s text) (Refused NoMemory)) keeps refl f.1 in (f.0, k.0, k.1)
   insert-fails h e' fault.Gone same unassigned_levels keeps = absurd unassigned_levels
 
-  insert-tried : (h : HeapView) (e' : Session) (r : Result (Unit {0}) WriteFault) → TriesInsert st.heap h e e' (row_of text) r → IsWindow h.table
+  insert-tried : (h : HeapView) (e' : Session) (r : Result (Unit {0}) WriteFault) → TriesInsert st.heap h e e' (row_of text) r → IsWindow h.statuses
       → Allows w (Insert s text) (reply_for r) × Agrees (with_write st h s e') (next w (Insert s text) (reply_for r)) × KeepsAllTargets st (with_write st h s e')
   insert-tried h e' (Ok u) tried window =
       subst (λ (f : Session). Allows w (Insert s text) Done × Agrees (with_write st h s f) (next w (Insert s text) Done) × KeepsAllTargets st (with_write st h s f)) (sym tried.is)
       (inserted h e'.own tried.x tried.change window)
   insert-tried h e' (Err f) tried window = insert-fails h e' f tried.same tried.fault.0 tried.fault.1
 
-pub Follows-inserted : (st st' : State) (s : ℕ) (row : Row) (r : Result (Unit {0}) WriteFault) → InsertTried st st' s row r → IsWindow st'.heap.table → FollowsInsert st s row (reply_for r) st'
+pub Follows-inserted : (st st' : State) (s : ℕ) (row : Row) (r : Result (Unit {0}) WriteFault) → InsertTried st st' s row r → IsWindow st'.heap.statuses → FollowsInsert st s row (reply_for r) st'
 Follows-inserted st st' s row r tried window text fits same w agrees =
     let may = tried.may in
     let key = by-key row text same in
@@ -157,7 +157,7 @@ Follows-inserted st st' s row r tried window text fits same w agrees =
 
 module _ (st : State) (w : World) (s : ℕ) (key : ℕ) (e : Session) (place : Tid) (t : Version) (target : IsTarget st e key place t) (at : session_at st s ≡ Some e) (agrees : Agrees st w) where
   -- it still sees it when it writes
-  seen-now : (v : Window) (own : Own) (x : ℕ) → TakesIds st.heap.table v e.own own x → IsWindow v → ReaderSees (state_of v) (λ y. Sees e.snapshot v y) own.ids t
+  seen-now : (v : Window) (own : Own) (x : ℕ) → TakesIds st.heap.statuses v e.own own x → IsWindow v → ReaderSees (state_of v) (λ y. Sees e.snapshot v y) own.ids t
   seen-now v own x takes window =
       subst (λ (r : relation.SeenSession). ReaderSees (state_of v) (λ y. Sees r.snapshot v y) r.own t) (sym (reader-taken st w v s e own x at takes window agrees))
       (visible_given_each takes.given (seen st) w s (reader_of e) place t (state_of v) (λ sn y. Sees sn v y) (reader-is st s e at) (gives-each st w v s e own x at takes window agrees)
@@ -177,7 +177,7 @@ module _ (st : State) (w : World) (s : ℕ) (key : ℕ) (e : Session) (place : T
 
 module _ (st : State) (w : World) (s : ℕ) (text : RowText) (e : Session) (place : Tid) (t : Version) (target : IsTarget st e text.key place t) (free : Free (seen st) s (reader_of e) text.key (Some t.row))
     (fits : FitsRow text) (at : session_at st s ≡ Some e) (agrees : Agrees st w) where
-  updated : (h : HeapView) (own : Own) (x : ℕ) → Updates st.heap h e.own own place (row_of text) (horizon_of st) x → IsWindow h.table
+  updated : (h : HeapView) (own : Own) (x : ℕ) → Updates st.heap h e.own own place (row_of text) (horizon_of st) x → IsWindow h.statuses
       → Allows w (Update s text) Done × Agrees (with_write st h s (with_own e own)) (next w (Update s text) Done) × KeepsAllTargets st (with_write st h s (with_own e own))
   updated h own x u window =
       let row = row_of text in
@@ -186,14 +186,14 @@ module _ (st : State) (w : World) (s : ℕ) (text : RowText) (e : Session) (plac
       let stays = updated-stays st.heap h (horizon_of st) e.own own place t row x agrees.sound.table (is-writer st w s e h agrees at window) may (sym target.of_key) u in
       let removes = removes-past st w (version_in (slots_of u.ready)) place.page agrees (readies-stand st.heap u.ready place.page (horizon_of st) (rounded_size_of row) u.readies) in
       let pruned = (follows.Follows-prune (seen st) 0 (version_in (slots_of u.ready)) removes w agrees.found).1 in
-      let still = found-given st w h.table s e own x at u.takes_ids window agrees (slots_of u.ready) pruned in
+      let still = found-given st w h.statuses s e own x at u.takes_ids window agrees (slots_of u.ready) pruned in
       let put = updates-stand st.heap h e.own own place row (horizon_of st) x t u target.there in
       let active = now-active st w s e own x at agrees u.takes_ids window in
-      let done = update_done (seen st) (seen_in (slots_of u.ready) h.table (set st.sessions s (Some e'))) w s (reader_of e) (reader_of e') text (Some t.row) x place put.to t (taken_version t x put.to put.hot) put.new
-      put.added (version_in (slots_of h)) free fits refl agrees.found still (reader-now st w h.table s e own x at u.takes_ids window agrees) (current-now st w h.table s e own x at u.takes_ids window agrees)
-      (updates-ready st.heap h e.own own place row (horizon_of st) x t u target.there) (seen-now st w s text.key e place t target at agrees h.table own x u.takes_ids window) target.of_key
+      let done = update_done (seen st) (seen_in (slots_of u.ready) h.statuses (set st.sessions s (Some e'))) w s (reader_of e) (reader_of e') text (Some t.row) x place put.to t (taken_version t x put.to put.hot) put.new
+      put.added (version_in (slots_of h)) free fits refl agrees.found still (reader-now st w h.statuses s e own x at u.takes_ids window agrees) (current-now st w h.statuses s e own x at u.takes_ids window agrees)
+      (updates-ready st.heap h e.own own place row (horizon_of st) x t u target.there) (seen-now st w s text.key e place t target at agrees h.statuses own x u.takes_ids window) target.of_key
       (adds-from (version_in (slots_of u.ready)) put.added put.to put.new put.adds) (is-new x row put.new put.is_new) put.is_new.of_row
-      (alters-from put.added (version_in (slots_of h)) place t (taken_version t x put.to put.hot) put.alters) (is-deleted h.table x t put.to put.hot active) in
+      (alters-from put.added (version_in (slots_of h)) place t (taken_version t x put.to put.hot) put.alters) (is-deleted h.statuses x t put.to put.hot active) in
       (done.0, agree agrees refl refl done.1 (Sound-given st w h s e e' at agrees own x u.takes_ids refl window u.max_pages stays), stays.led)
 
   update-fails : (h : HeapView) (e' : Session) (f : WriteFault) → SameSession e e' → FailsUpdate st.heap h e.own place (row_of text) (horizon_of st) f
@@ -212,14 +212,14 @@ module _ (st : State) (w : World) (s : ℕ) (text : RowText) (e : Session) (plac
     | inr went ↦ absurd (went.has (ready-there st w s text.key e place t target at agrees went.ready (rounded_size_of (row_of text)) went.readies))
   ]
 
-  update-tried : (h : HeapView) (e' : Session) (r : Result (Unit {0}) WriteFault) → TriesUpdate st.heap h e e' place (row_of text) (horizon_of st) r → IsWindow h.table
+  update-tried : (h : HeapView) (e' : Session) (r : Result (Unit {0}) WriteFault) → TriesUpdate st.heap h e e' place (row_of text) (horizon_of st) r → IsWindow h.statuses
       → Allows w (Update s text) (reply_for r) × Agrees (with_write st h s e') (next w (Update s text) (reply_for r)) × KeepsAllTargets st (with_write st h s e')
   update-tried h e' (Ok u) tried window =
       subst (λ (f : Session). Allows w (Update s text) Done × Agrees (with_write st h s f) (next w (Update s text) Done) × KeepsAllTargets st (with_write st h s f)) (sym tried.is)
       (updated h e'.own tried.x tried.change window)
   update-tried h e' (Err f) tried window = update-fails h e' f tried.same tried.fault
 
-pub Follows-updated : (st st' : State) (s : ℕ) (row : Row) (r : Result (Unit {0}) WriteFault) → UpdateTried st st' s row r → IsWindow st'.heap.table → FollowsUpdate st s row (reply_for r) st'
+pub Follows-updated : (st st' : State) (s : ℕ) (row : Row) (r : Result (Unit {0}) WriteFault) → UpdateTried st st' s row r → IsWindow st'.heap.statuses → FollowsUpdate st s row (reply_for r) st'
 Follows-updated st st' s row r tried window text fits same w agrees =
     let may = tried.may in
     let key = by-key row text same in
@@ -233,19 +233,19 @@ Follows-updated st st' s row r tried window text fits same w agrees =
 
 module _ (st : State) (w : World) (s key : ℕ) (e : Session) (place : Tid) (t : Version) (target : IsTarget st e key place t) (free : Free (seen st) s (reader_of e) key (Some t.row))
     (at : session_at st s ≡ Some e) (agrees : Agrees st w) where
-  deleted : (h : HeapView) (own : Own) (x : ℕ) → Deletes st.heap h e.own own place x → IsWindow h.table
+  deleted : (h : HeapView) (own : Own) (x : ℕ) → Deletes st.heap h e.own own place x → IsWindow h.statuses
       → Allows w (Delete s key) Done × Agrees (with_write st h s (with_own e own)) (next w (Delete s key) Done) × KeepsAllTargets st (with_write st h s (with_own e own))
   deleted h own x d window =
       let e' = with_own e own in
       let may = may-take st w s e key (Some t.row) place t agrees at free target in
       let stays = deleted-stays st.heap h (horizon_of st) e.own own place t x agrees.sound.table (is-writer st w s e h agrees at window) may d in
-      let still = found-given st w h.table s e own x at d.takes_ids window agrees (slots_of st.heap) agrees.found in
+      let still = found-given st w h.statuses s e own x at d.takes_ids window agrees (slots_of st.heap) agrees.found in
       let alters = deletes-stand st.heap h e.own own place x t d target.there in
       let active = now-active st w s e own x at agrees d.takes_ids window in
-      let done = delete_done (seen st) (seen_in (slots_of st.heap) h.table (set st.sessions s (Some e'))) w s (reader_of e) (reader_of e') key (Some t.row) x place t (taken_version t x place false) (version_in (slots_of h))
-      free refl agrees.found still (reader-now st w h.table s e own x at d.takes_ids window agrees) (current-now st w h.table s e own x at d.takes_ids window agrees)
-      (seen-now st w s key e place t target at agrees h.table own x d.takes_ids window) target.of_key
-      (alters-from (version_in (slots_of st.heap)) (version_in (slots_of h)) place t (taken_version t x place false) alters) (is-deleted h.table x t place false active) in
+      let done = delete_done (seen st) (seen_in (slots_of st.heap) h.statuses (set st.sessions s (Some e'))) w s (reader_of e) (reader_of e') key (Some t.row) x place t (taken_version t x place false) (version_in (slots_of h))
+      free refl agrees.found still (reader-now st w h.statuses s e own x at d.takes_ids window agrees) (current-now st w h.statuses s e own x at d.takes_ids window agrees)
+      (seen-now st w s key e place t target at agrees h.statuses own x d.takes_ids window) target.of_key
+      (alters-from (version_in (slots_of st.heap)) (version_in (slots_of h)) place t (taken_version t x place false) alters) (is-deleted h.statuses x t place false active) in
       (done.0, agree agrees refl refl done.1 (Sound-given st w h s e e' at agrees own x d.takes_ids refl window d.max_pages stays), stays.led)
 
   delete-fails : (h : HeapView) (e' : Session) (f : WriteFault) → SameSession e e' → FailsDelete st.heap h e.own place f
@@ -259,14 +259,14 @@ module _ (st : State) (w : World) (s key : ℕ) (e : Session) (place : Tid) (t :
       let k = kept st w s e e' at agrees same h (next w (Delete s key) (Refused NoMemory)) fails.3 refl f.1 in (f.0, k.0, k.1)
   delete-fails h e' fault.Gone same fails = absurd (fails.0 (is-there st w s key e place t target at agrees))
 
-  delete-tried : (h : HeapView) (e' : Session) (r : Result (Unit {0}) WriteFault) → TriesDelete st.heap h e e' place r → IsWindow h.table
+  delete-tried : (h : HeapView) (e' : Session) (r : Result (Unit {0}) WriteFault) → TriesDelete st.heap h e e' place r → IsWindow h.statuses
       → Allows w (Delete s key) (reply_for r) × Agrees (with_write st h s e') (next w (Delete s key) (reply_for r)) × KeepsAllTargets st (with_write st h s e')
   delete-tried h e' (Ok u) tried window =
       subst (λ (f : Session). Allows w (Delete s key) Done × Agrees (with_write st h s f) (next w (Delete s key) Done) × KeepsAllTargets st (with_write st h s f)) (sym tried.is)
       (deleted h e'.own tried.x tried.change window)
   delete-tried h e' (Err f) tried window = delete-fails h e' f tried.same tried.fault
 
-pub Follows-deleted : (st st' : State) (s key : ℕ) (r : Result (Unit {0}) WriteFault) → DeleteTried st st' s key r → IsWindow st'.heap.table → Follows st (Delete s key) (reply_for r) st'
+pub Follows-deleted : (st st' : State) (s key : ℕ) (r : Result (Unit {0}) WriteFault) → DeleteTried st st' s key r → IsWindow st'.heap.statuses → Follows st (Delete s key) (reply_for r) st'
 Follows-deleted st st' s key r tried window w agrees =
     let may = tried.may in
     let found = target-of st w s may.session key tried.place agrees may.reads in

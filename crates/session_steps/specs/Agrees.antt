@@ -34,12 +34,12 @@ pub record Sound (st : State) : Type 0 where
   pub count : length st.sessions ≡ MOST_SESSIONS
   -- no more pages may be in use, and no id is given further from the first, than the settings say
   pub max_pages : st.heap.max_pages ≡ st.settings.max_pages
-  pub stop_age : st.heap.table.stop_age ≡ st.settings.stop_age
+  pub stop_age : st.heap.statuses.stop_age ≡ st.settings.stop_age
   -- the window is shorter than half the circle
-  pub window : IsWindow st.heap.table
-  pub sessions : (s : ℕ) (e : Session) → session_at st s ≡ Some e → SessionKeeps st.heap.table e
+  pub window : IsWindow st.heap.statuses
+  pub sessions : (s : ℕ) (e : Session) → session_at st s ≡ Some e → SessionKeeps st.heap.statuses e
   -- what is committed, its topmost parent is not in progress, and is itself or was given before it
-  pub tops : (x : ℕ) → IsCommitted st.heap.table x → IsWellTopped st.heap.table x
+  pub tops : (x : ℕ) → IsCommitted st.heap.statuses x → IsWellTopped st.heap.statuses x
   -- the indexes in use are the primary index and those of the columns that the settings name
   pub indexes : (n : ℕ) → IsInUse st.heap.indexes n ↔ IsSome (new_entries st.settings.indexed n)
   -- an open session's cursor goes along one of these

@@ -27,9 +27,9 @@ pub record Closes (old new : State) (s : ℕ) (status : Status) : Type 0 where
   pub indexes : new.heap.indexes ≡ old.heap.indexes
   pub max_pages : new.heap.max_pages ≡ old.heap.max_pages
   pub sessions : new.sessions ≡ slice_set old.sessions s None
-  pub finishes : (e : Session) → session_at old s ≡ Some e → Finishes old.heap.table new.heap.table e.own.ids status
-  pub window : (e : Session) → session_at old s ≡ Some e → IsWindow new.heap.table
-  pub idle : session_at old s ≡ None → new.heap.table ≡ old.heap.table
+  pub finishes : (e : Session) → session_at old s ≡ Some e → Finishes old.heap.statuses new.heap.statuses e.own.ids status
+  pub window : (e : Session) → session_at old s ≡ Some e → IsWindow new.heap.statuses
+  pub idle : session_at old s ≡ None → new.heap.statuses ≡ old.heap.statuses
 
 -- Savepoints.
 
@@ -73,8 +73,8 @@ pub record RollsBackOn (h h' : HeapView) (e e' : Session) : Type 0 where
   pub returns : Returns e e'
   pub since : List ℕ
   pub ids : e.own.ids ≡ e'.own.ids ++ since
-  pub finishes : Finishes h.table h'.table since Aborted
-  pub window : IsWindow h'.table
+  pub finishes : Finishes h.statuses h'.statuses since Aborted
+  pub window : IsWindow h'.statuses
 
 -- nothing else changes
 pub record RollsBack (old new : State) (s : ℕ) : Type 0 where

@@ -85,7 +85,7 @@ pub record Cleans (old new : State) (p : ℕ) : Type 0 where
 
 -- the snapshot that is taken now
 abbrev pub snapshot_of : State → Snap
-snapshot_of st = taken (next_id st.heap.table) (owns_of st.sessions)
+snapshot_of st = taken (next_id st.heap.statuses) (owns_of st.sessions)
 
 -- it lists more ids than it holds without memory
 abbrev pub MustList : State → Type 0

@@ -20,7 +20,7 @@ use Rattle.session_steps.specs.Agrees.{Agrees}
 -- a version that the reader sees stands in a chain to which an entry of this value and this key leads, in the index of this
 -- number
 abbrev pub IsFound : HeapView → Snap → List ℕ → ℕ → ℤ → ℕ → Tid → Version → Type 0
-IsFound h s own n value key p t = IsByIndex h.table (slots_of h) (entries_in h.indexes n) value key (λ t. IsVisible h.table s own t.header) p t
+IsFound h s own n value key p t = IsByIndex h.statuses (slots_of h) (entries_in h.indexes n) value key (λ t. IsVisible h.statuses s own t.header) p t
 
 -- what the reader finds there are exactly these rows, each under its own value and by one version
 pub record FindsRows (h : HeapView) (s : Snap) (own : List ℕ) (n : ℕ) (row : ℕ → Option Row) : Type 0 where
@@ -44,7 +44,7 @@ pub record FindsLevels (h : HeapView) (n : ℕ) (history : List Transaction) (e 
 abbrev pub ViewsByIndex : Type 0
 ViewsByIndex = (st : State) (w : World) → Agrees st w → (n : ℕ) → IsInUse st.heap.indexes n
     → ((s : ℕ) (e : Session) (m : OpenSession) → session_at st s ≡ Some e → w.session s ≡ Some m → FindsLevels st.heap n w.history e m)
-    × FindsRows st.heap (taken (next_id st.heap.table) (owns_of st.sessions)) [] n (committed w.history (length w.history))
+    × FindsRows st.heap (taken (next_id st.heap.statuses) (owns_of st.sessions)) [] n (committed w.history (length w.history))
 
 -- what the open sessions have: the xmin of each one's snapshot, and all its ids
 abbrev pub all_held : List (Option Session) → List ℕ
@@ -55,4 +55,4 @@ all_held (Some e ∷ sessions) = (e.snapshot.xmin ∷ e.own.ids) ++ all_held ses
 -- The horizon, for which each session's first id is asked alone, is the earliest of the next id, each snapshot's xmin and all
 -- open ids.
 abbrev pub HorizonIsEarliest : Type 0
-HorizonIsEarliest = (st : State) (w : World) → Agrees st w → IsEarliest st.heap.table (next_id st.heap.table) (all_held st.sessions) (horizon_of st)
+HorizonIsEarliest = (st : State) (w : World) → Agrees st w → IsEarliest st.heap.statuses (next_id st.heap.statuses) (all_held st.sessions) (horizon_of st)

@@ -9,8 +9,8 @@ use Rattle.session_steps.specs.Agrees.{Agrees}
 -- an engine of these settings on which nothing was done: no id is given, no page in use, and no index has an entry
 pub record IsNew (asked : Settings) (st : State) : Type 0 where
   pub settings : st.settings ≡ asked
-  pub first : st.heap.table.first ≡ asked.first_xid
-  pub ids : st.heap.table.entries ≡ []
+  pub first : st.heap.statuses.first ≡ asked.first_xid
+  pub ids : st.heap.statuses.entries ≡ []
   pub pages : st.heap.pages.pages ≡ []
   pub marks : st.heap.pages.marks ≡ []
   pub indexes : (n : ℕ) → entries_at st.heap.indexes n ≡ new_entries asked.indexed n

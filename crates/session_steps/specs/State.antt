@@ -53,16 +53,16 @@ reader_of e = record { snapshot = e.snapshot; own = e.own.ids; saved = e.own.sav
 
 -- what readers see of these slots, ids and sessions
 abbrev pub seen_in : List (List Slot) → Window → List (Option Session) → relation.Heap
-seen_in slots table sessions = record {
+seen_in slots statuses sessions = record {
   version = version_in slots;
-  status = state_of table;
-  sees = λ snapshot x. Sees snapshot table x;
+  status = state_of statuses;
+  sees = λ snapshot x. Sees snapshot statuses x;
   session = λ s. option_map reader_of (option_flatten (slice_get sessions s));
 }
 
 -- the engine as its readers see it
 abbrev pub seen : State → relation.Heap
-seen st = seen_in (slots_of st.heap) st.heap.table st.sessions
+seen st = seen_in (slots_of st.heap) st.heap.statuses st.sessions
 
 -- the own ids of the open sessions
 abbrev pub owns_of : List (Option Session) → List (List ℕ)
@@ -82,7 +82,7 @@ held_back (Some e ∷ sessions) = holds_back e ++ held_back sessions
 -- The horizon: the earliest of all that open sessions hold back, and the next id. No open snapshot, nor one that is taken
 -- later, misses what committed before it. (The manual's "Routine Vacuuming"; GetOldestNonRemovableTransactionId.)
 abbrev pub horizon_of : State → ℕ
-horizon_of st = earliest (next_id st.heap.table) (held_back st.sessions)
+horizon_of st = earliest (next_id st.heap.statuses) (held_back st.sessions)
 
 -- which sessions are open: a bit for each, the lowest for session 0
 abbrev pub open_bits : List (Option Session) → ℕ

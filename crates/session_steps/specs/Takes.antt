@@ -22,7 +22,7 @@ use Rattle.heap_pages.specs.declared.pages.TheConstants.{MAX_PAGES}
 
 -- the versions that the session sees
 abbrev pub seen_by : State → Session → Version → Type 0
-seen_by st e = ReaderSees (state_of st.heap.table) (λ x. Sees e.snapshot st.heap.table x) e.own.ids
+seen_by st e = ReaderSees (state_of st.heap.statuses) (λ x. Sees e.snapshot st.heap.statuses x) e.own.ids
 
 -- the session is open in an engine that agrees with a world, and its cursor is here
 pub record IsAtCursor (st : State) (e : Session) (cursor : Cursor) : Type 0 where
@@ -64,7 +64,7 @@ pub record TakesRows (st : State) (e : Session) (span left : IndexRange) (count 
 pub record ReadsAs (st : State) (e : Session) (r : Reader) : Type 0 where
   pub snapshot : r.snapshot.now ≡ e.snapshot
   pub own : r.own.now ≡ e.own
-  pub statuses : r.statuses.now ≡ st.heap.table
+  pub statuses : r.statuses.now ≡ st.heap.statuses
 
 -- a walk from the one place up to the other meets these rows, which the session sees
 abbrev pub WalksHeap : State → Session → Tid → Tid → List Row → Type 0

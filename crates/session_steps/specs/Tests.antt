@@ -13,15 +13,15 @@ use Rattle.session_steps.specs.declared.sessions.TheConstants.{MOST_SESSIONS}
 
 -- the place of the version of the key that the session reads, if it reads one
 abbrev pub FindsPlace : HeapView → Session → ℕ → Option Tid → Type 0
-FindsPlace h e key found = FirstPlace h.table (IsVisible h.table e.snapshot e.own.ids) (slots_of h) (entries_in h.indexes 0) (pos key) key found
+FindsPlace h e key found = FirstPlace h.statuses (IsVisible h.statuses e.snapshot e.own.ids) (slots_of h) (entries_in h.indexes 0) (pos key) key found
 
 -- a commit that the session does not see wrote the key, by this id
 abbrev pub IsLateBy : HeapView → Session → ℕ → ℕ → Type 0
-IsLateBy h e key x = SomeOf h.table (IsNewerCommitIn h.table e.snapshot x) (slots_of h) (entries_in h.indexes 0) (pos key) key
+IsLateBy h e key x = SomeOf h.statuses (IsNewerCommitIn h.statuses e.snapshot x) (slots_of h) (entries_in h.indexes 0) (pos key) key
 
 -- another session has written it, under this id
 abbrev pub IsHeldUnder : HeapView → Session → ℕ → ℕ → Type 0
-IsHeldUnder h e key x = SomeOf h.table (IsOtherWriterIn h.table e.own.ids x) (slots_of h) (entries_in h.indexes 0) (pos key) key
+IsHeldUnder h e key x = SomeOf h.statuses (IsOtherWriterIn h.statuses e.own.ids x) (slots_of h) (entries_in h.indexes 0) (pos key) key
 
 -- the session is open, has not failed and has no cursor, and reads the version at this place, or none of the key
 pub record ReadsPlace (st : State) (s : ℕ) (e : Session) (key : ℕ) (found : Option Tid) : Type 0 where

@@ -18,7 +18,7 @@ pub record IsSetUp (st : State) : Type 0 where
 
 -- the cutoff of a vacuum that begins now
 abbrev pub cutoff_of : State → ℕ
-cutoff_of st = cutoff_at st.heap.table.first (next_id st.heap.table) (horizon_of st)
+cutoff_of st = cutoff_at st.heap.statuses.first (next_id st.heap.statuses) (horizon_of st)
     st.settings.freeze_min_age
 
 -- a vacuum that begins now
@@ -35,9 +35,9 @@ pub record VacuumWorks (old new : State) (v : VacuumView) (after : Option Vacuum
 -- Old ids can be forgotten: the cutoff is remembered or the next id, and no open session has an id before it. So it is wherever the
 -- engine agrees with a world; it is tested, since the engine's type keeps that own ids are in progress.
 pub record MayForget (st : State) (cutoff : ℕ) : Type 0 where
-  pub upto : IsUpToNext st.heap.table cutoff
+  pub upto : IsUpToNext st.heap.statuses cutoff
   pub unowned : (s : ℕ) (e : Session) (x : ℕ) → session_at st s ≡ Some e → Contains e.own.ids x
-      → turns st.heap.table.first cutoff ≤ turns st.heap.table.first x
+      → turns st.heap.statuses.first cutoff ≤ turns st.heap.statuses.first x
 
 -- ids before the cutoff are forgotten, if they can be, and nothing else changes
 pub record Forgets (old new : State) (cutoff : ℕ) : Type 0 where

@@ -39,10 +39,14 @@ fn take_snapshot(
 impl SessionEngine {
     fn snapshot(&self) -> Result<Snapshot, AllocError>
         ensures ok { IfOk result
-            (λ s. s ≡ taken (next_id self.now.heap.table) (owns_of self.now.sessions)) }
+            (λ s. s ≡ taken (next_id self.now.heap.statuses) (owns_of self.now.sessions)) }
         ensures err { OnErr result (MustList self.now) }
     {
-        take_snapshot(self.alloc, self.heap.table().next(), self.sessions.used())
+        take_snapshot(
+            self.alloc,
+            self.heap.statuses().next(),
+            self.sessions.used(),
+        )
     }
 
     /// Opens the session: it reads what was committed by now. Refusals in order: NoSuchSession, AlreadyOpen, and NoMemory,

@@ -17,15 +17,15 @@ impl SessionEngine {
     /// How many more ids can be given, one after another, before NeedsFreeze. So many that it could never be more are halved until
     /// the last that can be given is found.
     pub fn ids_left(&self) -> u32
-        ensures { (n : ℕ) → CanGive self.now.heap.table n ↔ (n ≤ result) }
+        ensures { (n : ℕ) → CanGive self.now.heap.statuses n ↔ (n ≤ result) }
     {
-        let table = self.heap.table();
-        table.is_window();
+        let statuses = self.heap.statuses();
+        statuses.is_window();
         let mut can = 0u32;
         let mut cannot = 2144483649u32;
         'halves: while can + 1 < cannot {
             let middle = (can + cannot) / 2;
-            if table.can_give(middle) {
+            if statuses.can_give(middle) {
                 can = middle;
             } else {
                 cannot = middle;

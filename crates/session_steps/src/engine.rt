@@ -43,7 +43,7 @@ impl Model for SessionEngine {
 
     ghost view = { λ e. record { settings = e.settings; heap = e.heap; sessions = e.sessions } };
 
-    ghost invariant = { λ e. EngineKeeps e.sessions e.heap.table };
+    ghost invariant = { λ e. EngineKeeps e.sessions e.heap.statuses };
 }
 
 /// The bits of a mark, as they are shown.
@@ -89,11 +89,11 @@ impl SessionEngine {
 
     /// The next id to be given, and the oldest that is remembered.
     pub fn ids(&self) -> (Xid, Xid)
-        ensures next { result.0.0 ≡ next_id self.now.heap.table }
-        ensures first { result.1.0 ≡ self.now.heap.table.first }
+        ensures next { result.0.0 ≡ next_id self.now.heap.statuses }
+        ensures first { result.1.0 ≡ self.now.heap.statuses.first }
     {
-        let table = self.heap.table();
-        (table.next(), table.frozen_below())
+        let statuses = self.heap.statuses();
+        (statuses.next(), statuses.frozen_below())
     }
 
     /// The page of this number, counted from 0, if it is in use.

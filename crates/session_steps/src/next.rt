@@ -171,7 +171,7 @@ impl SessionEngine {
         Reader {
             snapshot: &session.snapshot,
             own: &session.own,
-            statuses: self.heap.table(),
+            statuses: self.heap.statuses(),
         }
     }
 }

@@ -25,7 +25,7 @@ impl SessionEngine {
             ⊎ (result.0 ≡ horizon_of self.now) }
     {
         if self.heap.has_room(place.page, row) {
-            self.heap.table().next()
+            self.heap.statuses().next()
         } else {
             self.horizon()
         }

@@ -39,11 +39,11 @@ fn cutoff(first: Xid, next: Xid, horizon: Xid, age: u32) -> Xid
 }
 
 /// Whether the id is remembered or the next.
-fn is_up_to_next(table: &StatusTable, x: Xid) -> bool
-    ensures { IsTrue result ↔ IsUpToNext table.now x.0 }
+fn is_up_to_next(statuses: &StatusTable, x: Xid) -> bool
+    ensures { IsTrue result ↔ IsUpToNext statuses.now x.0 }
 {
-    table.is_window();
-    x.0 == table.next().0 || table.remembers(x)
+    statuses.is_window();
+    x.0 == statuses.next().0 || statuses.remembers(x)
 }
 
 /// Whether none of these ids precedes the cutoff.
@@ -89,12 +89,12 @@ impl SessionEngine {
         ensures { result ≡ vacuum_begun mode self.now }
     {
         let horizon = self.horizon();
-        let table = self.heap.table();
+        let statuses = self.heap.statuses();
         let age = self.settings.freeze_min_age();
         Vacuum::new(
             mode,
             horizon,
-            cutoff(table.frozen_below(), table.next(), horizon, age),
+            cutoff(statuses.frozen_below(), statuses.next(), horizon, age),
             self.heap.page_count(),
             self.heap.entries(),
             self.settings.dead_limit(),
@@ -114,16 +114,16 @@ impl SessionEngine {
     fn may_forget(&self, cutoff: Xid) -> bool
         ensures { IsTrue result ↔ MayForget self.now cutoff.0 }
     {
-        let table = self.heap.table();
-        table.is_window();
-        is_up_to_next(table, cutoff) && own_from(self.sessions.used(), cutoff)
+        let statuses = self.heap.statuses();
+        statuses.is_window();
+        is_up_to_next(statuses, cutoff) && own_from(self.sessions.used(), cutoff)
     }
 
     /// Forgets the ids before the cutoff, where they can be forgotten, as they can at the end of each aggressive vacuum.
     pub fn forget(&mut self, cutoff: Xid)
         ensures { Forgets self.old self.new cutoff.0 }
     {
-        self.heap.table().is_window();
+        self.heap.statuses().is_window();
         if self.may_forget(cutoff) {
             self.heap.forget(cutoff);
         }

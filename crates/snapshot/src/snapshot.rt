@@ -81,8 +81,8 @@ impl Snapshot {
 
     /// Whether the transaction of an id had finished. Of an id between xmin and xmax the topmost parent is looked up
     /// where children are not listed.
-    pub fn sees(&self, x: Xid, table: &StatusTable) -> bool
-        ensures { IsTrue result ↔ Sees self.now table.now x.0 }
+    pub fn sees(&self, x: Xid, statuses: &StatusTable) -> bool
+        ensures { IsTrue result ↔ Sees self.now statuses.now x.0 }
     {
         if stands_before(x, self.xmin) {
             return true;
@@ -90,7 +90,11 @@ impl Snapshot {
         if !stands_before(x, self.xmax) {
             return false;
         }
-        let tested = if self.overflowed { table.top_of(x) } else { x };
+        let tested = if self.overflowed {
+            statuses.top_of(x)
+        } else {
+            x
+        };
         self.has_finished(tested)
     }
 

@@ -122,7 +122,7 @@ pruned-keep : (h h' : HeapView) (number horizon : ℕ) → Prunes h h' number ho
 pruned-keep h h' number horizon p = same-keep h h' (same-indexes h.indexes h'.indexes (ap (λ (g : HeapView). g.indexes) p.is))
     (put-dead (slots_of h) (slots_of h') number p.after.slots (prunes-puts h h' number horizon p)
     (subst (λ slots. DeadStay slots p.after.slots) (sym (prunes-on h h' number horizon p))
-    (λ k dead. dead-stays h.table horizon p.before.slots p.after.slots k p.pruned dead)))
+    (λ k dead. dead-stays h.statuses horizon p.before.slots p.after.slots k p.pruned dead)))
 
 readied-keep : (h h' : HeapView) (number horizon size : ℕ) → PrunesIfFull h h' number horizon size → KeepsDeadSlots h h'
 readied-keep h h' number horizon size (PrunesIfFull.has_room room is) =
@@ -186,7 +186,7 @@ visited-keep : (h h' : HeapView) (horizon cutoff p : ℕ) → VisitsAt h h' hori
 visited-keep h h' horizon cutoff p v = keeps-then h v.pruned h' (pruned-keep h v.pruned p horizon v.prunes)
     (same-keep v.pruned h' (same-indexes v.pruned.indexes h'.indexes (ap (λ (g : HeapView). g.indexes) v.freezes.is))
     (put-dead (slots_of v.pruned) (slots_of h') p v.freezes.after.slots (freezes-put v.pruned h' cutoff p v.freezes)
-    (frozen-dead v.pruned.table cutoff p (slots_on (slots_of v.pruned) p) v.freezes.after.slots (freezes-on v.pruned h' cutoff p v.freezes))))
+    (frozen-dead v.pruned.statuses cutoff p (slots_on (slots_of v.pruned) p) v.freezes.after.slots (freezes-on v.pruned h' cutoff p v.freezes))))
 
 pub steps-keep : (h h' : HeapView) → StepsBetween h h' → KeepsDeadSlots h h'
 steps-keep h h' (StepsBetween.inserts own own' row x writer i) = root-keep h h' false x row i.number i.root
@@ -206,8 +206,8 @@ module _ (h h' : HeapView) (i : ℕ) (dead : List Tid) (from : Option Entry) (pr
   same-slots : slots_of h' ≡ slots_of h
   same-slots = ap (λ (g : HeapView). slots_of g) v.is
 
-  same-table : h'.table ≡ h.table
-  same-table = ap (λ (g : HeapView). g.table) v.is
+  same-table : h'.statuses ≡ h.statuses
+  same-table = ap (λ (g : HeapView). g.statuses) v.is
 
   -- what is so of index i, and of any that stays, is so of each
   on-index : (P : ℕ → List Entry → List Entry → Type 0) → P i (entries_in h.indexes i) (entries_in h'.indexes i) → ((n : ℕ) (es : List Entry) → P n es es)
@@ -226,26 +226,26 @@ module _ (h h' : HeapView) (i : ℕ) (dead : List Tid) (from : Option Entry) (pr
     fresh = λ e there absent. absurd (absent (only-go n e there));
   }
 
-  piece-of : (horizon : ℕ) → SoundTable h horizon → AreDead (slots_of h) dead → (n : ℕ) → EntriesAreSound (value_in n) h.table horizon (slots_of h) (entries_in h.indexes n)
-      → StaysSound (value_in n) h.table horizon (slots_of h) (slots_of h) (entries_in h.indexes n) (entries_in h'.indexes n)
+  piece-of : (horizon : ℕ) → SoundTable h horizon → AreDead (slots_of h) dead → (n : ℕ) → EntriesAreSound (value_in n) h.statuses horizon (slots_of h) (entries_in h.indexes n)
+      → StaysSound (value_in n) h.statuses horizon (slots_of h) (slots_of h) (entries_in h.indexes n) (entries_in h'.indexes n)
   piece-of horizon s are n = on-index
-      (λ k old new. EntriesAreSound (value_in k) h.table horizon (slots_of h) old → StaysSound (value_in k) h.table horizon (slots_of h) (slots_of h) old new)
-      (λ sound. piece-stays (value_in i) h.table horizon (slots_of h) (entries_in h.indexes i) (entries_in h'.indexes i) dead from progress sound v.removes are)
-      (λ k es sound. going-stays (value_in k) h.table horizon (slots_of h) es es sound (λ e there. there) (λ e there root. there))
+      (λ k old new. EntriesAreSound (value_in k) h.statuses horizon (slots_of h) old → StaysSound (value_in k) h.statuses horizon (slots_of h) (slots_of h) old new)
+      (λ sound. piece-stays (value_in i) h.statuses horizon (slots_of h) (entries_in h.indexes i) (entries_in h'.indexes i) dead from progress sound v.removes are)
+      (λ k es sound. going-stays (value_in k) h.statuses horizon (slots_of h) es es sound (λ e there. there) (λ e there root. there))
       n
 
   pub swept-stays-table : (horizon : ℕ) → SoundTable h horizon → AreDead (slots_of h) dead → StaysSoundTable h h' horizon
   swept-stays-table horizon s are = table-stays h h' horizon
-      (subst (λ pages. SoundHeap h'.table horizon pages) (sym same-slots) (subst (λ (w : Window). SoundHeap w horizon (slots_of h)) (sym same-table) s.heap))
+      (subst (λ pages. SoundHeap h'.statuses horizon pages) (sym same-slots) (subst (λ (w : Window). SoundHeap w horizon (slots_of h)) (sym same-table) s.heap))
       v.in_use
       (λ n used.
-      subst (λ pages. StaysSound (value_in n) h'.table horizon (slots_of h) pages (entries_in h.indexes n) (entries_in h'.indexes n)) (sym same-slots)
+      subst (λ pages. StaysSound (value_in n) h'.statuses horizon (slots_of h) pages (entries_in h.indexes n) (entries_in h'.indexes n)) (sym same-slots)
       (subst (λ (w : Window). StaysSound (value_in n) w horizon (slots_of h) (slots_of h) (entries_in h.indexes n) (entries_in h'.indexes n)) (sym same-table)
       (piece-of horizon s are n (index-sound h horizon s n used))))
 
   pub swept-unseen : (s : Snap) (own : List ℕ) → FindsTheSame h h' s own
   swept-unseen s own q r =
-      subst (λ pages. FindsRowAt h s own q r ↔ FindsAt (IsVisible h'.table s own) (version_in pages) q r) (sym same-slots)
+      subst (λ pages. FindsRowAt h s own q r ↔ FindsAt (IsVisible h'.statuses s own) (version_in pages) q r) (sym same-slots)
       (subst (λ (w : Window). FindsRowAt h s own q r ↔ FindsAt (IsVisible w s own) (version_in (slots_of h)) q r) (sym same-table) (λ a. a, λ b. b))
 
 pub swept-unled : (h : HeapView) (dead : List Tid) (p : ℕ) (numbers : List ℕ) → ((n : ℕ) → IsInUse h.indexes n → IsSweptTo (entries_in h.indexes n) dead Done)

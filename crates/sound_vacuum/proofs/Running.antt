@@ -79,11 +79,11 @@ module _ (h h' : HeapView) (v v' : VacuumView) (horizon p : ℕ) (can : CanVacuu
   abbrev store' : List Tid
   store' = v.store ++ places p took
 
-  ids : h'.table ≡ h.table
+  ids : h'.statuses ≡ h.statuses
   ids = (visit-safe h h' v v' horizon p can keeps visit).ids
 
   visit-used : IsInUse h'.indexes 0
-  visit-used = ((visit-safe h h' v v' horizon p can keeps visit).table.in_use 0).0 can.by_key
+  visit-used = ((visit-safe h h' v v' horizon p can keeps visit).statuses.in_use 0).0 can.by_key
 
   visit-count : length h'.pages.pages ≡ length h.pages.pages
   visit-count = notes-count visit.visited h' p horizon visit.notes
@@ -115,13 +115,13 @@ module _ (h h' : HeapView) (v v' : VacuumView) (horizon p : ℕ) (can : CanVacuu
 
   visit-clean : IsClean h' v.horizon (collected v p visit.dead).next v.pages
   visit-clean = clean-less h' v.horizon (collected v p visit.dead).next (p + 1) v.pages next-le
-      (clean-same visit.visited h' v.horizon (p + 1) v.pages (ap (λ (g : HeapView). g.table) visit.notes.is) (notes-version visit.visited h' p horizon visit.notes)
+      (clean-same visit.visited h' v.horizon (p + 1) v.pages (ap (λ (g : HeapView). g.statuses) visit.notes.is) (notes-version visit.visited h' p horizon visit.notes)
       (visit-stays_clean h visit.visited h.pages.marks horizon v.cutoff v.next p v.pages can.sound can.maps (the-cutoff h horizon v can keeps) visit.visits
       v.horizon (first-cutoff h horizon v can keeps) passed (active-late h horizon v can keeps) keeps.clean))
 
   visit-young : v.mode ≡ Aggressive → PagesAreYoung h' v.cutoff (collected v p visit.dead).next v.pages
   visit-young mode = young-less h' v.cutoff (collected v p visit.dead).next (p + 1) v.pages next-le
-      (young-same visit.visited h' v.cutoff (p + 1) v.pages (ap (λ (g : HeapView). g.table) visit.notes.is) (notes-version visit.visited h' p horizon visit.notes)
+      (young-same visit.visited h' v.cutoff (p + 1) v.pages (ap (λ (g : HeapView). g.statuses) visit.notes.is) (notes-version visit.visited h' p horizon visit.notes)
       (visit-stays_young h visit.visited h.pages.marks horizon v.cutoff v.next p v.pages can.sound can.maps (the-cutoff h horizon v can keeps) visit.visits
       (can.known p) (λ q ge lt. skipped-frozen v.mode (mark_on h.pages.marks q) mode (next.passed q ge lt))
       (subst (λ (w : Window). (x : ℕ) → IsActive w x → turns w.first v.cutoff ≤ turns w.first x) (sym (visit-table h h' v v' horizon p can keeps visit)) (active-young h horizon v can keeps))
@@ -151,7 +151,7 @@ module _ (h h' : HeapView) (v v' : VacuumView) (horizon p : ℕ) (can : CanVacuu
       omega (arith, same, count, within))
 
   -- the page itself, where all its dead slots are collected
-  here-ready : length visit.dead ≤ space v → horizon ≡ next_id h.table → IsReadyToNote h' horizon store' p
+  here-ready : length visit.dead ≤ space v → horizon ≡ next_id h.statuses → IsReadyToNote h' horizon store' p
   here-ready few none = record {
     settled = settled;
     collected = collected-here;
@@ -163,10 +163,10 @@ module _ (h h' : HeapView) (v v' : VacuumView) (horizon p : ℕ) (can : CanVacuu
         }));
   }
     where
-      settled : AreSettled h'.table horizon (slots_on (slots_of h') p)
+      settled : AreSettled h'.statuses horizon (slots_on (slots_of h') p)
       settled = subst (λ (w : Window). AreSettled w horizon (slots_on (slots_of h') p)) (sym ids)
-          (subst (AreSettled h.table horizon) (sym here-slots)
-          (visited-settled h.table horizon v.cutoff p (slots_on (slots_of h) p) (slots_on (slots_of visit.visited) p) (the-cutoff h horizon v can keeps) (can.sound.heap p)
+          (subst (AreSettled h.statuses horizon) (sym here-slots)
+          (visited-settled h.statuses horizon v.cutoff p (slots_on (slots_of h) p) (slots_on (slots_of visit.visited) p) (the-cutoff h horizon v can keeps) (can.sound.heap p)
           (visits-page h visit.visited horizon v.cutoff p visit.visits) (can.known p) none))
 
       all-taken : take (space v) visit.dead ≡ visit.dead
@@ -177,9 +177,9 @@ module _ (h h' : HeapView) (v v' : VacuumView) (horizon p : ℕ) (can : CanVacuu
           (in-mapping (λ k. record { page = p; slot = k }) took n
           (subst (λ l. Contains l n) (sym all-taken) ((visit.lists.members n).1 (sym (here n) ∙ dead))))
 
-  visit-quiet : v.quiet ≡ true → horizon ≡ next_id h'.table → KeepsQuiet h' horizon (collected v p visit.dead)
+  visit-quiet : v.quiet ≡ true → horizon ≡ next_id h'.statuses → KeepsQuiet h' horizon (collected v p visit.dead)
   visit-quiet quiet last =
-      let none : horizon ≡ next_id h.table = last ∙ ap next_id ids in
+      let none : horizon ≡ next_id h.statuses = last ∙ ap next_id ids in
       let k = keeps.quiet quiet none in
       record {
         pages = visit-count ∙ k.pages;
@@ -229,7 +229,7 @@ module _ (h : HeapView) (v : VacuumView) (horizon : ℕ) (can : CanVacuum h hori
   end-young mode = pass-young h h.pages.marks horizon v.next v.pages v.pages can.maps v.cutoff
       (λ q ge lt within. skipped-frozen v.mode (mark_on h.pages.marks q) mode (over q ge lt within)) (keeps.young mode)
 
-  end-ready : v.quiet ≡ true → horizon ≡ next_id h.table → v.mode ≡ Aggressive → (p : ℕ) → p < v.pages → IsReadyToNote h horizon v.store p
+  end-ready : v.quiet ≡ true → horizon ≡ next_id h.statuses → v.mode ≡ Aggressive → (p : ℕ) → p < v.pages → IsReadyToNote h horizon v.store p
   end-ready quiet none mode p below =
       let k = keeps.quiet quiet none in
       ⊎_elim
@@ -249,7 +249,7 @@ module _ (h h' : HeapView) (v v' : VacuumView) (i : ℕ) (from : Option Entry) (
   sweep-marks : h'.pages.marks ≡ h.pages.marks
   sweep-marks = ap (λ (g : HeapView). g.pages.marks) s.is
 
-  sweep-ids : h'.table ≡ h.table
+  sweep-ids : h'.statuses ≡ h.statuses
   sweep-ids = sweep-table h h' i v.store from progress s
 
   sweep-dead : AreDead (slots_of h') v.store
@@ -267,7 +267,7 @@ module _ (h h' : HeapView) (v v' : VacuumView) (i : ℕ) (from : Option Entry) (
       (all-behind h h' v.store i from keeps.dead swept (subst (SweepsAt h h' i v.store from) e s) none)
 
   sweep-keeps : (next : ℕ) → IsVacuum (counted v') → IsInUse h.indexes i → AreSwept h v.store i from → IsClean h v.horizon next v.pages → (v.mode ≡ Aggressive → PagesAreYoung h v.cutoff next v.pages)
-      → (v.quiet ≡ true → horizon ≡ next_id h.table → v.mode ≡ Aggressive → (p : ℕ) → p < next → IsReadyToNote h horizon v.store p)
+      → (v.quiet ≡ true → horizon ≡ next_id h.statuses → v.mode ≡ Aggressive → (p : ℕ) → p < next → IsReadyToNote h horizon v.store p)
       → PhaseAfter h.indexes i progress v'.phase → v' ≡ record v { next = next; phase = v'.phase } → KeepsVacuum h' horizon (counted v')
   sweep-keeps next itself used swept clean young ready after same = subst (λ (u : VacuumView). IsVacuum (counted u) → KeepsVacuum h' horizon (counted u)) (sym same) (λ j.
       let k = ids-same h h' horizon v sweep-ids keeps in
@@ -284,7 +284,7 @@ module _ (h h' : HeapView) (v v' : VacuumView) (i : ℕ) (from : Option Entry) (
         clean = clean-same h h' v.horizon next v.pages sweep-ids sweep-version clean;
         young = λ mode. young-same h h' v.cutoff next v.pages sweep-ids sweep-version (young mode);
         quiet = λ quiet last.
-            let none : horizon ≡ next_id h.table = last ∙ ap next_id sweep-ids in
+            let none : horizon ≡ next_id h.statuses = last ∙ ap next_id sweep-ids in
             record {
               pages = count ∙ (keeps.quiet quiet none).pages;
               ready = λ mode p below. ready-same h h' horizon v.store v.store p sweep-ids (ap (λ pages. slots_on pages p) sweep-slots) (ap (λ (ms : List Mark). mark_on ms p) sweep-marks)
@@ -302,7 +302,7 @@ module _ (h h' : HeapView) (v v' : VacuumView) (horizon p : ℕ) (can : CanVacuu
   abbrev others : List Tid
   others = off_page p v.store
 
-  free-ids : h'.table ≡ h.table
+  free-ids : h'.statuses ≡ h.statuses
   free-ids = (free-safe h h' v v' horizon p can f swept).ids
 
   free-indexes : h'.indexes ≡ h.indexes
@@ -313,7 +313,7 @@ module _ (h h' : HeapView) (v v' : VacuumView) (horizon p : ℕ) (can : CanVacuu
 
   free-version : (q : Tid) → version_in (slots_of h') q ≡ version_in (slots_of h) q
   free-version q = notes-version f.freed h' p horizon f.notes q
-      ∙ version-kept h.table p (slots_of h) (slots_of f.freed) f.frees.after.slots f.numbers (frees-on h f.freed p f.numbers f.frees) (frees-put h f.freed p f.numbers f.frees) q
+      ∙ version-kept h.statuses p (slots_of h) (slots_of f.freed) f.frees.after.slots f.numbers (frees-on h f.freed p f.numbers f.frees) (frees-put h f.freed p f.numbers f.frees) q
 
   off-its_page : (tid : Tid) → Contains others tid → tid.page ≢ p
   off-its_page tid there = eqb-false tid.page p (not-true (tid.page == p)
@@ -352,14 +352,14 @@ module _ (h h' : HeapView) (v v' : VacuumView) (horizon p : ℕ) (can : CanVacuu
 
   freed-ready : IsReadyToNote h horizon v.store p → IsReadyToNote h' horizon others p
   freed-ready r =
-      let all : IsAllVisible h.table horizon f.frees.after.slots = freed-visible h.table horizon (slots_on (slots_of h) p) f.frees.after.slots f.numbers r.settled
+      let all : IsAllVisible h.statuses horizon f.frees.after.slots = freed-visible h.statuses horizon (slots_on (slots_of h) p) f.frees.after.slots f.numbers r.settled
       (λ n dead. freed-named n (r.collected n dead)) (frees-on h f.freed p f.numbers f.frees) in
       let here : slots_on (slots_of h') p ≡ f.frees.after.slots = freed-here ∙ freed-slots in
       let page : f.notes.page.slots ≡ f.frees.after.slots = sym (notes-page f.freed h' p horizon f.notes) ∙ freed-slots in
-      let noted : IsAllVisible f.freed.table horizon f.notes.page.slots =
-      subst (λ (w : Window). IsAllVisible w horizon f.notes.page.slots) (sym (free-table h h' v v' horizon p can f)) (subst (IsAllVisible h.table horizon) (sym page) all) in
+      let noted : IsAllVisible f.freed.statuses horizon f.notes.page.slots =
+      subst (λ (w : Window). IsAllVisible w horizon f.notes.page.slots) (sym (free-table h h' v v' horizon p can f)) (subst (IsAllVisible h.statuses horizon) (sym page) all) in
       record {
-        settled = subst (λ (w : Window). AreSettled w horizon (slots_on (slots_of h') p)) (sym free-ids) (subst (AreSettled h.table horizon) (sym here) all.settled);
+        settled = subst (λ (w : Window). AreSettled w horizon (slots_on (slots_of h') p)) (sym free-ids) (subst (AreSettled h.statuses horizon) (sym here) all.settled);
         collected = λ n dead. absurd (all.none_dead n (ap (λ s. slot_at s n) (sym here) ∙ dead));
         marked = λ none. ap says_visible freed-mark ∙ f.notes.exact.visible.1 noted;
       }
@@ -387,7 +387,7 @@ module _ (h h' : HeapView) (v v' : VacuumView) (horizon p : ℕ) (can : CanVacuu
         clean = clean-same h h' v.horizon v.next v.pages free-ids free-version keeps.clean;
         young = λ mode. young-same h h' v.cutoff v.next v.pages free-ids free-version (keeps.young mode);
         quiet = λ quiet last.
-            let none : horizon ≡ next_id h.table = last ∙ ap next_id free-ids in
+            let none : horizon ≡ next_id h.statuses = last ∙ ap next_id free-ids in
             let q = keeps.quiet quiet none in
             record {
               pages = free-count ∙ q.pages;
@@ -437,8 +437,8 @@ ends-vacuumed h h' v horizon can keeps (Steps.ends is over none same) =
 
 -- The beginning.
 
-pub begun-keeps : (h : HeapView) (mode : Mode) (horizon cutoff entries limit : ℕ) → CanVacuum h horizon → IsUpToNext h.table cutoff
-    → turns h.table.first cutoff ≤ turns h.table.first horizon → 0 < limit → KeepsVacuum h horizon (new_vacuum mode horizon cutoff (length h.pages.pages) entries limit)
+pub begun-keeps : (h : HeapView) (mode : Mode) (horizon cutoff entries limit : ℕ) → CanVacuum h horizon → IsUpToNext h.statuses cutoff
+    → turns h.statuses.first cutoff ≤ turns h.statuses.first horizon → 0 < limit → KeepsVacuum h horizon (new_vacuum mode horizon cutoff (length h.pages.pages) entries limit)
 begun-keeps h mode horizon cutoff entries limit can upto low some = record {
   itself = begun-kept (new_vacuum mode horizon cutoff (length h.pages.pages) entries limit) refl refl refl some;
   pages = omega arith;
@@ -470,11 +470,11 @@ steps-swept h h' dead (phase.Index i from) step are swept = (((steps-grow h h' s
 steps-swept h h' dead phase.Free step are swept = (steps-all h h' dead step are swept).1
 
 others-keep : (h h' : HeapView) (v : VacuumView) (horizon later : ℕ) (session : Bool) → CanVacuum h horizon → CanVacuum h' later → StepsBetween h h'
-    → turns h.table.first horizon ≤ turns h.table.first later → KeepsVacuum h horizon v
-    → ((disturbed session v).quiet ≡ true → later ≡ next_id h'.table → KeepsQuiet h' later v) → KeepsVacuum h' later (disturbed session v)
+    → turns h.statuses.first horizon ≤ turns h.statuses.first later → KeepsVacuum h horizon v
+    → ((disturbed session v).quiet ≡ true → later ≡ next_id h'.statuses → KeepsQuiet h' later v) → KeepsVacuum h' later (disturbed session v)
 others-keep h h' v horizon later session can can' step on keeps quiet =
     let first = (steps-end h h' step).first in
-    let same : (x : ℕ) → turns h'.table.first x ≡ turns h.table.first x = λ x. ap (λ f. turns f x) first in
+    let same : (x : ℕ) → turns h'.statuses.first x ≡ turns h.statuses.first x = λ x. ap (λ f. turns f x) first in
     record {
       itself = disturbed-kept v session keeps.itself;
       pages = let le = keeps.pages in let more = (steps-grow h h' step).pages in omega (arith, le, more);
@@ -496,13 +496,13 @@ others-keep h h' v horizon later session can can' step on keeps quiet =
     }
 
 pub others-go_on : (h h' : HeapView) (v : VacuumView) (horizon later : ℕ) → CanVacuum h horizon → CanVacuum h' later → StepsBetween h h'
-    → turns h.table.first horizon ≤ turns h.table.first later → KeepsVacuum h horizon v → KeepsVacuum h' later (disturbed true v)
+    → turns h.statuses.first horizon ≤ turns h.statuses.first later → KeepsVacuum h horizon v → KeepsVacuum h' later (disturbed true v)
 others-go_on h h' v horizon later can can' step on keeps = others-keep h h' v horizon later true can can' step on keeps (λ e last. absurd (cc e))
 
 pub pruning-goes_on : (h h' : HeapView) (v : VacuumView) (horizon number at : ℕ) → CanVacuum h horizon → CanVacuum h' horizon → Prunes h h' number at
     → KeepsVacuum h horizon v → KeepsVacuum h' horizon (disturbed false v)
 pruning-goes_on h h' v horizon number at can can' p keeps = others-keep h h' v horizon horizon false can can' (StepsBetween.prunes number at p) (omega arith) keeps (λ quiet last.
-    let none : horizon ≡ next_id h.table = last ∙ ap next_id ids in
+    let none : horizon ≡ next_id h.statuses = last ∙ ap next_id ids in
     let k = keeps.quiet quiet none in
     record {
       pages = ap (λ (g : HeapView). length g.pages.pages) p.is ∙ length-set h.pages.pages number p.after ∙ k.pages;
@@ -512,11 +512,11 @@ pruning-goes_on h h' v horizon number at can can' p keeps = others-keep h h' v h
           (ap (λ (g : HeapView). mark_on g.pages.marks q) p.is) (λ n there. there) r;
     })
   where
-    ids : h'.table ≡ h.table
-    ids = ap (λ (g : HeapView). g.table) p.is
+    ids : h'.statuses ≡ h.statuses
+    ids = ap (λ (g : HeapView). g.statuses) p.is
 
-    same-there : (q : ℕ) → q ≡ number → AreSettled h.table horizon (slots_on (slots_of h) q) → slots_on (slots_of h') q ≡ slots_on (slots_of h) q
+    same-there : (q : ℕ) → q ≡ number → AreSettled h.statuses horizon (slots_on (slots_of h) q) → slots_on (slots_of h') q ≡ slots_on (slots_of h) q
     same-there q same settled =
         let on = prunes-on h h' number at p in
-        let idle = settled-idle h.table horizon at p.before.slots p.after.slots (subst (AreSettled h.table horizon) (ap (slots_on (slots_of h)) same ∙ on) settled) p.pruned in
+        let idle = settled-idle h.statuses horizon at p.before.slots p.after.slots (subst (AreSettled h.statuses horizon) (ap (slots_on (slots_of h)) same ∙ on) settled) p.pruned in
         ap (slots_on (slots_of h')) same ∙ (prunes-puts h h' number at p).put ∙ idle ∙ sym on ∙ ap (slots_on (slots_of h)) (sym same)

@@ -43,10 +43,10 @@ use Rattle.sound_vacuum.proofs.Flagged.{slots-same, flagged-same, flagged-stays,
 -- Ids.
 
 module _ (h : HeapView) (horizon : ℕ) (v : VacuumView) (can : CanVacuum h horizon) (keeps : KeepsVacuum h horizon v) where
-  pub first-cutoff : IsCutoff h.table v.horizon horizon
+  pub first-cutoff : IsCutoff h.statuses v.horizon horizon
   first-cutoff = record { window = can.window; cutoff_upto = keeps.first; horizon_upto = can.upto; low = keeps.horizon_first }
 
-  pub the-cutoff : IsCutoff h.table v.cutoff horizon
+  pub the-cutoff : IsCutoff h.statuses v.cutoff horizon
   the-cutoff = record {
     window = can.window;
     cutoff_upto = keeps.cutoff;
@@ -55,14 +55,14 @@ module _ (h : HeapView) (horizon : ℕ) (v : VacuumView) (can : CanVacuum h hori
   }
 
   -- ids in progress are neither before the horizon of its beginning nor before the cutoff
-  pub active-late : (x : ℕ) → IsActive h.table x → ¬ Precedes x v.horizon
+  pub active-late : (x : ℕ) → IsActive h.statuses x → ¬ Precedes x v.horizon
   active-late x active before =
-      let lt = (precedes-turns h.table x v.horizon can.window (upto-given h.table x active.is_given) keeps.first).0 before in
+      let lt = (precedes-turns h.statuses x v.horizon can.window (upto-given h.statuses x active.is_given) keeps.first).0 before in
       let a = can.earliest x active in
       let b = keeps.horizon_first in
       absurd (omega (arith, lt, a, b))
 
-  pub active-young : (x : ℕ) → IsActive h.table x → turns h.table.first v.cutoff ≤ turns h.table.first x
+  pub active-young : (x : ℕ) → IsActive h.statuses x → turns h.statuses.first v.cutoff ≤ turns h.statuses.first x
   active-young x active = let a = can.earliest x active in let b = keeps.horizon_first in let c = keeps.cutoff_first in omega (arith, a, b, c)
 
 -- Marks.
@@ -87,7 +87,7 @@ module _ (h h' : HeapView) (p horizon : ℕ) (n : Notes h h' p horizon) where
     page = n.page;
     at = n.at;
     pages = ap (λ (g : HeapView). g.pages.pages) n.is;
-    table = ap (λ (g : HeapView). g.table) n.is;
+    statuses = ap (λ (g : HeapView). g.statuses) n.is;
     indexes = ap (λ (g : HeapView). g.indexes) n.is;
   }
 
@@ -110,14 +110,14 @@ module _ (h h' : HeapView) (p horizon : ℕ) (n : Notes h h' p horizon) where
   pub notes-page : slots_on (slots_of h) p ≡ n.page.slots
   notes-page = slots-there h.pages.pages p n.page n.at
 
-  pub then-noted : (g : HeapView) → SoundTable g horizon → g.table ≡ h.table → (same : h.indexes ≡ g.indexes) → StaysSoundTable g h horizon
+  pub then-noted : (g : HeapView) → SoundTable g horizon → g.statuses ≡ h.statuses → (same : h.indexes ≡ g.indexes) → StaysSoundTable g h horizon
       → ((s : Snap) (own : List ℕ) → IsTableReader g horizon s own → IsTableReader h horizon s own × FindsTheSame g h s own)
-      → MapsAreTrue h.table horizon h'.pages.pages h'.pages.marks → IsSafe g h' horizon
+      → MapsAreTrue h.statuses horizon h'.pages.pages h'.pages.marks → IsSafe g h' horizon
   then-noted g sound ids same stays unseen maps = record {
-    ids = notes-flag.table ∙ sym ids;
+    ids = notes-flag.statuses ∙ sym ids;
     table = stays-then g h h' horizon sound (same-come g.indexes h.indexes (same-indexes g.indexes h.indexes same)) stays
         (flagged-stays h h' p n.mark notes-flag horizon stays.sound);
-    maps = subst (λ (w : Window). MapsAreTrue w horizon h'.pages.pages h'.pages.marks) (sym notes-flag.table) maps;
+    maps = subst (λ (w : Window). MapsAreTrue w horizon h'.pages.pages h'.pages.marks) (sym notes-flag.statuses) maps;
     unseen = λ s own reader.
         let first = unseen s own reader in
         (flagged-reader h h' p n.mark notes-flag horizon s own first.0, λ q r. both (first.1 q r) (flagged-unseen h h' p n.mark notes-flag s own q r));
@@ -126,8 +126,8 @@ module _ (h h' : HeapView) (p horizon : ℕ) (n : Notes h h' p horizon) where
 -- A visit.
 
 module _ (h h' : HeapView) (v v' : VacuumView) (horizon p : ℕ) (can : CanVacuum h horizon) (keeps : KeepsVacuum h horizon v) (visit : Visits h h' v v' horizon p) where
-  pub visit-table : visit.visited.table ≡ h.table
-  visit-table = ap (λ (g : HeapView). g.table) visit.visits.freezes.is ∙ ap (λ (g : HeapView). g.table) visit.visits.prunes.is
+  pub visit-table : visit.visited.statuses ≡ h.statuses
+  visit-table = ap (λ (g : HeapView). g.statuses) visit.visits.freezes.is ∙ ap (λ (g : HeapView). g.statuses) visit.visits.prunes.is
 
   visit-indexes : visit.visited.indexes ≡ h.indexes
   visit-indexes = ap (λ (g : HeapView). g.indexes) visit.visits.freezes.is ∙ ap (λ (g : HeapView). g.indexes) visit.visits.prunes.is
@@ -150,8 +150,8 @@ module _ (h h' : HeapView) (v v' : VacuumView) (horizon p : ℕ) (can : CanVacuu
 -- A piece of an index.
 
 module _ (h h' : HeapView) (i : ℕ) (dead : List Tid) (from : Option Entry) (progress : Progress) (s : SweepsAt h h' i dead from progress) where
-  pub sweep-table : h'.table ≡ h.table
-  sweep-table = ap (λ (g : HeapView). g.table) s.is
+  pub sweep-table : h'.statuses ≡ h.statuses
+  sweep-table = ap (λ (g : HeapView). g.statuses) s.is
 
   pub sweep-pages : h'.pages ≡ h.pages
   sweep-pages = ap (λ (g : HeapView). g.pages) s.is
@@ -160,7 +160,7 @@ module _ (h h' : HeapView) (i : ℕ) (dead : List Tid) (from : Option Entry) (pr
   sweep-safe horizon can are = record {
     ids = sweep-table;
     table = swept-stays-table h h' i dead from progress s horizon can.sound are;
-    maps = subst (λ (g : HeapView). MapsAreTrue g.table horizon g.pages.pages g.pages.marks) (sym s.is) can.maps;
+    maps = subst (λ (g : HeapView). MapsAreTrue g.statuses horizon g.pages.pages g.pages.marks) (sym s.is) can.maps;
     unseen = λ snap own reader. (
       subst (λ (g : HeapView). IsTableReader g horizon snap own) (sym s.is) reader,
       swept-unseen h h' i dead from progress s snap own,
@@ -175,7 +175,7 @@ module _ (h h' : HeapView) (v v' : VacuumView) (horizon p : ℕ) (can : CanVacuu
   freed-collected k named = in-filtered (λ (t : Tid). t.page == p) v.store (record { page = p; slot = k })
       (subst (λ l. Contains l (record { page = p; slot = k })) (sym f.are) (in-mapping (λ n. record { page = p; slot = n }) f.numbers k named))
 
-  pub free-table : f.freed.table ≡ h.table
+  pub free-table : f.freed.statuses ≡ h.statuses
   free-table = frees-table h f.freed p f.numbers f.frees
 
   pub free-marks : f.freed.pages.marks ≡ h.pages.marks

@@ -113,24 +113,24 @@ module _ (w : Window) (horizon : ℕ) where
         true_flags = λ n q at. let o = old n q at in sym o.3 ∙ t.true_flags n o.0 o.1;
       })
 
-  readied-true : (h h' : HeapView) (number later size : ℕ) → SameIds w h.table → PrunesIfFull h h' number later size → AreTrue h → AreTrue h'
+  readied-true : (h h' : HeapView) (number later size : ℕ) → SameIds w h.statuses → PrunesIfFull h h' number later size → AreTrue h → AreTrue h'
   readied-true h h' number later size ids (PrunesIfFull.has_room room is) t = subst AreTrue (sym is) t
   readied-true h h' number later size ids (PrunesIfFull.is_pruned full grown keeps prunes) t =
-      let same : SameIds w grown.table = record {
-        first = keeps.table.first ∙ ids.first;
-        stop_age = keeps.table.stop_age ∙ ids.stop_age;
-        entries = keeps.table.entries ∙ ids.entries;
+      let same : SameIds w grown.statuses = record {
+        first = keeps.statuses.first ∙ ids.first;
+        stop_age = keeps.statuses.stop_age ∙ ids.stop_age;
+        entries = keeps.statuses.entries ∙ ids.entries;
       } in
-      let table : h'.table ≡ grown.table = ap (λ (g : HeapView). g.table) prunes.is in
+      let statuses : h'.statuses ≡ grown.statuses = ap (λ (g : HeapView). g.statuses) prunes.is in
       let marks : h'.pages.marks ≡ grown.pages.marks = ap (λ (g : HeapView). g.pages.marks) prunes.is in
-      let pruned = pruned-maps grown h' grown.pages.marks number later horizon (ids-true w grown.table horizon grown.pages.pages grown.pages.marks same (kept-true h grown keeps t)) prunes in
-      ids-true grown.table w horizon h'.pages.pages h'.pages.marks (same-back w grown.table same)
-      (subst (λ ms. MapsAreTrue grown.table horizon h'.pages.pages ms) (sym marks) (subst (λ v. MapsAreTrue v horizon h'.pages.pages grown.pages.marks) table pruned))
+      let pruned = pruned-maps grown h' grown.pages.marks number later horizon (ids-true w grown.statuses horizon grown.pages.pages grown.pages.marks same (kept-true h grown keeps t)) prunes in
+      ids-true grown.statuses w horizon h'.pages.pages h'.pages.marks (same-back w grown.statuses same)
+      (subst (λ ms. MapsAreTrue grown.statuses horizon h'.pages.pages ms) (sym marks) (subst (λ v. MapsAreTrue v horizon h'.pages.pages grown.pages.marks) statuses pruned))
 
-  after-true : (h h' : HeapView) (own : Own) (place : Tid) (later size : ℕ) (P : HeapView → Type 0) → SameIds w h.table → AfterPruning h h' own place later size P → AreTrue h → AreTrue h'
+  after-true : (h h' : HeapView) (own : Own) (place : Tid) (later size : ℕ) (P : HeapView → Type 0) → SameIds w h.statuses → AfterPruning h h' own place later size P → AreTrue h → AreTrue h'
   after-true h h' own place later size P ids r t = kept-true r.ready h' r.keeps (readied-true h r.ready place.page later size ids r.readies t)
 
-  failed-true : (h h' : HeapView) (own : Own) (place : Tid) (row : Row) (later : ℕ) (fault : WriteFault) → SameIds w h.table → FailsUpdate h h' own place row later fault → AreTrue h → AreTrue h'
+  failed-true : (h h' : HeapView) (own : Own) (place : Tid) (row : Row) (later : ℕ) (fault : WriteFault) → SameIds w h.statuses → FailsUpdate h h' own place row later fault → AreTrue h → AreTrue h'
   failed-true h h' own place row later fault.NeedsFreeze ids f t = kept-true h h' f.2 t
   failed-true h h' own place row later fault.NoRoom ids f t = after-true h h' own place later (rounded_size_of row) (λ ready. VersionIsThere ready place × TableIsFull ready (rounded_size_of row)) ids f t
   failed-true h h' own place row later fault.NoMemory ids f t = kept-true h h' f.3 t
@@ -141,20 +141,20 @@ no-more : (w : Window) → SameIds w w
 no-more w = record { first = refl; stop_age = refl; entries = refl }
 
 -- by the ids as they were before the step
-pages-true : (h h' : HeapView) (horizon : ℕ) (step : StepsBetween h h') → IsNoVisit step → MapsAreTrue h.table horizon h.pages.pages h.pages.marks → MapsAreTrue h.table horizon h'.pages.pages h'.pages.marks
-pages-true h h' horizon (StepsBetween.inserts own own' row x writer i) none t = root-true h.table horizon h h' false x row i.number i.root t
+pages-true : (h h' : HeapView) (horizon : ℕ) (step : StepsBetween h h') → IsNoVisit step → MapsAreTrue h.statuses horizon h.pages.pages h.pages.marks → MapsAreTrue h.statuses horizon h'.pages.pages h'.pages.marks
+pages-true h h' horizon (StepsBetween.inserts own own' row x writer i) none t = root-true h.statuses horizon h h' false x row i.number i.root t
 pages-true h h' horizon (StepsBetween.updates own own' place row later x writer u) none t =
-    replaces-true h.table horizon u.ready h' place x row u.replaces (readied-true h.table horizon h u.ready place.page later (rounded_size_of row) (no-more h.table) u.readies t)
-pages-true h h' horizon (StepsBetween.deletes own own' place x writer d) none t = away-true h.table horizon h h' place x place d.away t
-pages-true h h' horizon (StepsBetween.fails_update own place row later fault f) none t = failed-true h.table horizon h h' own place row later fault (no-more h.table) f t
-pages-true h h' horizon (StepsBetween.keeps k) none t = kept-true h.table horizon h h' k t
-pages-true h h' horizon (StepsBetween.finishes ids status f) none t = subst (λ (p : PagesView). MapsAreTrue h.table horizon p.pages p.marks) (sym f.pages) t
+    replaces-true h.statuses horizon u.ready h' place x row u.replaces (readied-true h.statuses horizon h u.ready place.page later (rounded_size_of row) (no-more h.statuses) u.readies t)
+pages-true h h' horizon (StepsBetween.deletes own own' place x writer d) none t = away-true h.statuses horizon h h' place x place d.away t
+pages-true h h' horizon (StepsBetween.fails_update own place row later fault f) none t = failed-true h.statuses horizon h h' own place row later fault (no-more h.statuses) f t
+pages-true h h' horizon (StepsBetween.keeps k) none t = kept-true h.statuses horizon h h' k t
+pages-true h h' horizon (StepsBetween.finishes ids status f) none t = subst (λ (p : PagesView). MapsAreTrue h.statuses horizon p.pages p.marks) (sym f.pages) t
 pages-true h h' horizon (StepsBetween.prunes number later p) none t =
-    subst (λ ms. MapsAreTrue h.table horizon h'.pages.pages ms) (sym (ap (λ (g : HeapView). g.pages.marks) p.is))
-    (subst (λ v. MapsAreTrue v horizon h'.pages.pages h.pages.marks) (ap (λ (g : HeapView). g.table) p.is) (pruned-maps h h' h.pages.marks number later horizon t p))
+    subst (λ ms. MapsAreTrue h.statuses horizon h'.pages.pages ms) (sym (ap (λ (g : HeapView). g.pages.marks) p.is))
+    (subst (λ v. MapsAreTrue v horizon h'.pages.pages h.pages.marks) (ap (λ (g : HeapView). g.statuses) p.is) (pruned-maps h h' h.pages.marks number later horizon t p))
 pages-true h h' horizon (StepsBetween.visits later cutoff p v) none t = absurd none
 
-pub steps-true : (h h' : HeapView) (horizon later : ℕ) (step : StepsBetween h h') → IsNoVisit step → IsWindow h.table → IsWindow h'.table → IsUpToNext h.table horizon → IsUpToNext h'.table later
-    → turns h.table.first horizon ≤ turns h.table.first later → MapsAreTrue h.table horizon h.pages.pages h.pages.marks → MapsAreTrue h'.table later h'.pages.pages h'.pages.marks
+pub steps-true : (h h' : HeapView) (horizon later : ℕ) (step : StepsBetween h h') → IsNoVisit step → IsWindow h.statuses → IsWindow h'.statuses → IsUpToNext h.statuses horizon → IsUpToNext h'.statuses later
+    → turns h.statuses.first horizon ≤ turns h.statuses.first later → MapsAreTrue h.statuses horizon h.pages.pages h.pages.marks → MapsAreTrue h'.statuses later h'.pages.pages h'.pages.marks
 steps-true h h' horizon later step none is is' upto upto' on t =
     later-of h h' horizon later step is is' upto upto' on h'.pages.pages h'.pages.marks (pages-true h h' horizon step none t)

@@ -66,11 +66,11 @@ module _ (a b : List (Option IndexView)) (row : Row) (place : Tid) (enters : Ent
 -- A table by its pages and each of its indexes.
 
 pub index-sound : (h : HeapView) (horizon : ℕ) → SoundTable h horizon → (n : ℕ) → IsInUse h.indexes n
-    → EntriesAreSound (value_in n) h.table horizon (slots_of h) (entries_in h.indexes n)
+    → EntriesAreSound (value_in n) h.statuses horizon (slots_of h) (entries_in h.indexes n)
 index-sound h horizon s n used = record { heap = s.heap; index = s.indexes n used }
 
-pub table-stays : (h h' : HeapView) (horizon : ℕ) → SoundHeap h'.table horizon (slots_of h') → ((n : ℕ) → IsInUse h.indexes n ↔ IsInUse h'.indexes n)
-    → ((n : ℕ) → IsInUse h.indexes n → StaysSound (value_in n) h'.table horizon (slots_of h) (slots_of h') (entries_in h.indexes n) (entries_in h'.indexes n))
+pub table-stays : (h h' : HeapView) (horizon : ℕ) → SoundHeap h'.statuses horizon (slots_of h') → ((n : ℕ) → IsInUse h.indexes n ↔ IsInUse h'.indexes n)
+    → ((n : ℕ) → IsInUse h.indexes n → StaysSound (value_in n) h'.statuses horizon (slots_of h) (slots_of h') (entries_in h.indexes n) (entries_in h'.indexes n))
     → StaysSoundTable h h' horizon
 table-stays h h' horizon heap in_use each = record {
   sound = record { heap = heap; indexes = λ n used. (each n ((in_use n).1 used)).sound.index };
@@ -79,11 +79,11 @@ table-stays h h' horizon heap in_use each = record {
 }
 
 -- where the entries are as they were
-pub same-stays : (h h' : HeapView) (horizon : ℕ) → SameEntries h.indexes h'.indexes → SoundHeap h'.table horizon (slots_of h')
-    → ((n : ℕ) → IsInUse h.indexes n → StaysSound (value_in n) h'.table horizon (slots_of h) (slots_of h') (entries_in h.indexes n) (entries_in h.indexes n))
+pub same-stays : (h h' : HeapView) (horizon : ℕ) → SameEntries h.indexes h'.indexes → SoundHeap h'.statuses horizon (slots_of h')
+    → ((n : ℕ) → IsInUse h.indexes n → StaysSound (value_in n) h'.statuses horizon (slots_of h) (slots_of h') (entries_in h.indexes n) (entries_in h.indexes n))
     → StaysSoundTable h h' horizon
 same-stays h h' horizon same heap each = table-stays h h' horizon heap (same-used h.indexes h'.indexes same) (λ n used.
-    subst (λ (es : List Entry). StaysSound (value_in n) h'.table horizon (slots_of h) (slots_of h') (entries_in h.indexes n) es) (sym (same-in h.indexes h'.indexes same n))
+    subst (λ (es : List Entry). StaysSound (value_in n) h'.statuses horizon (slots_of h) (slots_of h') (entries_in h.indexes n) es) (sym (same-in h.indexes h'.indexes same n))
     (each n used))
 
 -- One step after another, where entries only come.
@@ -93,6 +93,6 @@ stays-then a b c horizon sound more first second = record {
   sound = second.sound;
   in_use = λ n. (λ used. (second.in_use n).0 ((first.in_use n).0 used), λ used. (first.in_use n).1 ((second.in_use n).1 used));
   led = λ n e there among.
-      led-then (value_in n) a.table (slots_of a) (slots_of b) (slots_of c) (entries_in a.indexes n) (entries_in b.indexes n) (entries_in c.indexes n)
+      led-then (value_in n) a.statuses (slots_of a) (slots_of b) (slots_of c) (entries_in a.indexes n) (entries_in b.indexes n) (entries_in c.indexes n)
       (sound.indexes n (used-by a.indexes n e there)) (more n) (first.led n) (second.led n) e there among;
 }

@@ -43,31 +43,31 @@ with_pruned h number after = record h { pages = record h.pages { pages = slice_s
 
 pub pruned-stays : (h h' : HeapView) (number horizon : ℕ) → SoundTable h horizon → Prunes h h' number horizon → StaysSoundTable h h' horizon
 pruned-stays h h' number horizon s p = subst (λ (g : HeapView). StaysSoundTable h g horizon) (sym p.is)
-    (same-stays h after horizon (λ n. refl) (heap-puts h.table horizon number (slots_of h) (slots_of after) p.after.slots s.heap puts
-    (pruned-sound h.table horizon (slots_on (slots_of h) number) p.after.slots (s.heap number) pruned))
-    (λ n used. pruning-stays (value_in n) h.table horizon number (slots_of h) (slots_of after) (entries_in h.indexes n) p.after.slots (index-sound h horizon s n used) pruned puts))
+    (same-stays h after horizon (λ n. refl) (heap-puts h.statuses horizon number (slots_of h) (slots_of after) p.after.slots s.heap puts
+    (pruned-sound h.statuses horizon (slots_on (slots_of h) number) p.after.slots (s.heap number) pruned))
+    (λ n used. pruning-stays (value_in n) h.statuses horizon number (slots_of h) (slots_of after) (entries_in h.indexes n) p.after.slots (index-sound h horizon s n used) pruned puts))
   where
     after : HeapView
     after = with_pruned h number p.after
 
-    pruned : IsPruned h.table horizon (slots_on (slots_of h) number) p.after.slots
-    pruned = subst (λ slots. IsPruned h.table horizon slots p.after.slots) (sym (prunes-on h h' number horizon p)) p.pruned
+    pruned : IsPruned h.statuses horizon (slots_on (slots_of h) number) p.after.slots
+    pruned = subst (λ slots. IsPruned h.statuses horizon slots p.after.slots) (sym (prunes-on h h' number horizon p)) p.pruned
 
     puts : Puts (slots_of h) (slots_of after) number p.after.slots
     puts = subst (λ (g : HeapView). Puts (slots_of h) (slots_of g) number p.after.slots) p.is (prunes-puts h h' number horizon p)
 
 -- The slots and the entries are as they were.
 
-slots-stay : (h h' : HeapView) (horizon : ℕ) → slots_of h' ≡ slots_of h → SameEntries h.indexes h'.indexes → SoundHeap h'.table horizon (slots_of h)
-    → ((n : ℕ) → IsInUse h.indexes n → StaysSound (value_in n) h'.table horizon (slots_of h) (slots_of h) (entries_in h.indexes n) (entries_in h.indexes n))
+slots-stay : (h h' : HeapView) (horizon : ℕ) → slots_of h' ≡ slots_of h → SameEntries h.indexes h'.indexes → SoundHeap h'.statuses horizon (slots_of h)
+    → ((n : ℕ) → IsInUse h.indexes n → StaysSound (value_in n) h'.statuses horizon (slots_of h) (slots_of h) (entries_in h.indexes n) (entries_in h.indexes n))
     → StaysSoundTable h h' horizon
-slots-stay h h' horizon slots entries heap each = same-stays h h' horizon entries (subst (λ pages. SoundHeap h'.table horizon pages) (sym slots) heap)
-    (λ n used. subst (λ pages. StaysSound (value_in n) h'.table horizon (slots_of h) pages (entries_in h.indexes n) (entries_in h.indexes n)) (sym slots) (each n used))
+slots-stay h h' horizon slots entries heap each = same-stays h h' horizon entries (subst (λ pages. SoundHeap h'.statuses horizon pages) (sym slots) heap)
+    (λ n used. subst (λ pages. StaysSound (value_in n) h'.statuses horizon (slots_of h) pages (entries_in h.indexes n) (entries_in h.indexes n)) (sym slots) (each n used))
 
-pub later-stays-sound : (h : HeapView) (horizon later : ℕ) → SoundTable h horizon → IsWindow h.table → IsUpToNext h.table horizon → IsUpToNext h.table later
-    → turns h.table.first horizon ≤ turns h.table.first later → SoundTable h later
+pub later-stays-sound : (h : HeapView) (horizon later : ℕ) → SoundTable h horizon → IsWindow h.statuses → IsUpToNext h.statuses horizon → IsUpToNext h.statuses later
+    → turns h.statuses.first horizon ≤ turns h.statuses.first later → SoundTable h later
 later-stays-sound h horizon later s is upto upto_later low = record {
-  heap = λ n. later-sound h.table horizon later (slots_on (slots_of h) n) is upto upto_later low (s.heap n);
+  heap = λ n. later-sound h.statuses horizon later (slots_on (slots_of h) n) is upto upto_later low (s.heap n);
   indexes = s.indexes;
 }
 
@@ -75,28 +75,28 @@ same-indexes : (a b : List (Option IndexView)) → b ≡ a → SameEntries a b
 same-indexes a b same n = ap (λ (indexes : List (Option IndexView)). entries_at indexes n) same
 
 pub committed-stays : (h h' : HeapView) (horizon : ℕ) (ids : List ℕ) → SoundTable h horizon → FinishesInTable h h' ids Committed
-    → ((n : ℕ) → DeletedWhatWasMade h.table (slots_on (slots_of h) n) ids) → StaysSoundTable h h' horizon
+    → ((n : ℕ) → DeletedWhatWasMade h.statuses (slots_on (slots_of h) n) ids) → StaysSoundTable h h' horizon
 committed-stays h h' horizon ids s f theirs =
     slots-stay h h' horizon (ap (λ (p : PagesView). lists.page_slots_of p) f.pages) (same-indexes h.indexes h'.indexes f.indexes)
-    (λ n. committing-sound h.table h'.table horizon ids (slots_on (slots_of h) n) f.active f.finishes (theirs n) (s.heap n))
-    (λ n used. committing-stays (value_in n) h.table h'.table horizon ids (slots_of h) (entries_in h.indexes n) (index-sound h horizon s n used) f.active f.finishes theirs)
+    (λ n. committing-sound h.statuses h'.statuses horizon ids (slots_on (slots_of h) n) f.active f.finishes (theirs n) (s.heap n))
+    (λ n used. committing-stays (value_in n) h.statuses h'.statuses horizon ids (slots_of h) (entries_in h.indexes n) (index-sound h horizon s n used) f.active f.finishes theirs)
 
 pub aborted-stays : (h h' : HeapView) (horizon : ℕ) (ids : List ℕ) → SoundTable h horizon → FinishesInTable h h' ids Aborted
-    → ((n : ℕ) → AloneDeletedTheirs h.table (slots_on (slots_of h) n) ids) → StaysSoundTable h h' horizon
+    → ((n : ℕ) → AloneDeletedTheirs h.statuses (slots_on (slots_of h) n) ids) → StaysSoundTable h h' horizon
 aborted-stays h h' horizon ids s f theirs =
     slots-stay h h' horizon (ap (λ (p : PagesView). lists.page_slots_of p) f.pages) (same-indexes h.indexes h'.indexes f.indexes)
-    (λ n. aborting-sound h.table h'.table horizon ids (slots_on (slots_of h) n) f.active f.finishes (theirs n) (s.heap n))
-    (λ n used. aborting-stays (value_in n) h.table h'.table horizon ids (slots_of h) (entries_in h.indexes n) (index-sound h horizon s n used) f.active f.finishes theirs)
+    (λ n. aborting-sound h.statuses h'.statuses horizon ids (slots_on (slots_of h) n) f.active f.finishes (theirs n) (s.heap n))
+    (λ n used. aborting-stays (value_in n) h.statuses h'.statuses horizon ids (slots_of h) (entries_in h.indexes n) (index-sound h horizon s n used) f.active f.finishes theirs)
 
 -- There is more memory.
 
 pub kept-stays : (h h' : HeapView) (horizon : ℕ) → SoundTable h horizon → Keeps h h' → StaysSoundTable h h' horizon
 kept-stays h h' horizon s k = slots-stay h h' horizon k.slots k.entries still
-    (λ n used. statuses-stay h.table h'.table (λ x gone. same-status h.table h'.table k.table x ∙ gone) (value_in n) horizon horizon (slots_of h) (entries_in h.indexes n)
+    (λ n used. statuses-stay h.statuses h'.statuses (λ x gone. same-status h.statuses h'.statuses k.statuses x ∙ gone) (value_in n) horizon horizon (slots_of h) (entries_in h.indexes n)
     (index-sound h horizon s n used) still)
   where
-    still : SoundHeap h'.table horizon (slots_of h)
-    still n = same-sound h.table h'.table k.table horizon (slots_on (slots_of h) n) (s.heap n)
+    still : SoundHeap h'.statuses horizon (slots_of h)
+    still n = same-sound h.statuses h'.statuses k.statuses horizon (slots_on (slots_of h) n) (s.heap n)
 
 -- A page is made ready, with the ids as they were.
 
@@ -104,10 +104,10 @@ same-back : (w v : Window) → SameIds w v → SameIds v w
 same-back w v ids = record { first = sym ids.first; stop_age = sym ids.stop_age; entries = sym ids.entries }
 
 abbrev pub with_table : HeapView → Window → HeapView
-with_table h w = record h { table = w }
+with_table h w = record h { statuses = w }
 
-as-was : (h : HeapView) (w : Window) (horizon : ℕ) → SameIds h.table w → SoundTable h horizon → StaysSoundTable h (with_table h w) horizon
-as-was h w horizon ids s = kept-stays h (with_table h w) horizon s (record { slots = refl; changes = refl; flags = refl; marks = refl; table = ids; entries = λ n. refl; max_pages = refl })
+as-was : (h : HeapView) (w : Window) (horizon : ℕ) → SameIds h.statuses w → SoundTable h horizon → StaysSoundTable h (with_table h w) horizon
+as-was h w horizon ids s = kept-stays h (with_table h w) horizon s (record { slots = refl; changes = refl; flags = refl; marks = refl; statuses = ids; entries = λ n. refl; max_pages = refl })
 
 pub ready-come : (h h' : HeapView) (number horizon size : ℕ) → PrunesIfFull h h' number horizon size → OnlyCome h.indexes h'.indexes
 ready-come h h' number horizon size (PrunesIfFull.has_room room is) = same-come h.indexes h'.indexes (same-indexes h.indexes h'.indexes (ap (λ (g : HeapView). g.indexes) is))
@@ -116,22 +116,22 @@ ready-come h h' number horizon size (PrunesIfFull.is_pruned full grown keeps pru
 
 pub readied-stays : (h h' : HeapView) (number horizon size : ℕ) → SoundTable h horizon → PrunesIfFull h h' number horizon size → StaysSoundTable h h' horizon
 readied-stays h h' number horizon size s (PrunesIfFull.has_room room is) =
-    subst (λ (g : HeapView). StaysSoundTable h g horizon) (sym is) (as-was h h.table horizon (record { first = refl; stop_age = refl; entries = refl }) s)
+    subst (λ (g : HeapView). StaysSoundTable h g horizon) (sym is) (as-was h h.statuses horizon (record { first = refl; stop_age = refl; entries = refl }) s)
 readied-stays h h' number horizon size s (PrunesIfFull.is_pruned full grown keeps prunes) =
     let first = kept-stays h grown horizon s keeps in
     stays-then h grown h' horizon s (same-come h.indexes grown.indexes keeps.entries) first (pruned-stays grown h' number horizon first.sound prunes)
 
-ready-ids : (h h' : HeapView) (number horizon size : ℕ) → PrunesIfFull h h' number horizon size → SameIds h'.table h.table
+ready-ids : (h h' : HeapView) (number horizon size : ℕ) → PrunesIfFull h h' number horizon size → SameIds h'.statuses h.statuses
 ready-ids h h' number horizon size (PrunesIfFull.has_room room is) =
-    subst (λ (g : HeapView). SameIds g.table h.table) (sym is) (record { first = refl; stop_age = refl; entries = refl })
+    subst (λ (g : HeapView). SameIds g.statuses h.statuses) (sym is) (record { first = refl; stop_age = refl; entries = refl })
 ready-ids h h' number horizon size (PrunesIfFull.is_pruned full grown keeps prunes) =
-    subst (λ (g : HeapView). SameIds g.table h.table) (sym prunes.is) (same-back h.table grown.table keeps.table)
+    subst (λ (g : HeapView). SameIds g.statuses h.statuses) (sym prunes.is) (same-back h.statuses grown.statuses keeps.statuses)
 
-pub ready-stays : (h h' : HeapView) (number horizon size : ℕ) → SoundTable h horizon → PrunesIfFull h h' number horizon size → StaysSoundTable h (with_table h' h.table) horizon
+pub ready-stays : (h h' : HeapView) (number horizon size : ℕ) → SoundTable h horizon → PrunesIfFull h h' number horizon size → StaysSoundTable h (with_table h' h.statuses) horizon
 ready-stays h h' number horizon size s ready =
     let first = readied-stays h h' number horizon size s ready in
-    stays-then h h' (with_table h' h.table) horizon s (ready-come h h' number horizon size ready)
-    first (as-was h' h.table horizon (ready-ids h h' number horizon size ready) first.sound)
+    stays-then h h' (with_table h' h.statuses) horizon s (ready-come h h' number horizon size ready)
+    first (as-was h' h.statuses horizon (ready-ids h h' number horizon size ready) first.sound)
 
 -- An update fails.
 
@@ -153,11 +153,11 @@ failed-stays h h' horizon own place row fault.Gone s f = ⊎_elim (λ gone. kept
 pub nothing-stays : (h : HeapView) (horizon : ℕ) → h.pages.pages ≡ [] → ((n : ℕ) → entries_in h.indexes n ≡ []) → SoundTable h horizon
 nothing-stays h horizon pages entries = record {
   heap = (nothing 0).heap;
-  indexes = λ n used. subst (λ (es : List Entry). SoundEntries (value_in n) h.table (slots_of h) es) (sym (entries n)) (nothing n).index;
+  indexes = λ n used. subst (λ (es : List Entry). SoundEntries (value_in n) h.statuses (slots_of h) es) (sym (entries n)) (nothing n).index;
 }
   where
-    nothing : (n : ℕ) → EntriesAreSound (value_in n) h.table horizon (slots_of h) []
-    nothing n = subst (λ (ps : List PageView). EntriesAreSound (value_in n) h.table horizon (map (λ (p : PageView). p.slots) ps) []) (sym pages) (nothing-sound (value_in n) h.table horizon)
+    nothing : (n : ℕ) → EntriesAreSound (value_in n) h.statuses horizon (slots_of h) []
+    nothing n = subst (λ (ps : List PageView). EntriesAreSound (value_in n) h.statuses horizon (map (λ (p : PageView). p.slots) ps) []) (sym pages) (nothing-sound (value_in n) h.statuses horizon)
 
 -- The ids that a session lacks are given.
 
@@ -167,10 +167,10 @@ given-one h a b horizon parent before after gives s = record {
   indexes = λ n used. (giving-stays (value_in n) a b horizon parent (slots_of h) (entries_in h.indexes n) (index-sound (with_table h a) horizon s n used) before after gives).sound.index;
 }
 
-pub given-stays : (h : HeapView) (v : Window) (horizon : ℕ) (own own' : Own) (x : ℕ) → SoundTable h horizon → IsWindow h.table → IsWindow v
-    → ((y : ℕ) → Contains own.ids y → IsActive h.table y) → TakesIds h.table v own own' x → SoundTable (with_table h v) horizon × IsActive v x
+pub given-stays : (h : HeapView) (v : Window) (horizon : ℕ) (own own' : Own) (x : ℕ) → SoundTable h horizon → IsWindow h.statuses → IsWindow v
+    → ((y : ℕ) → Contains own.ids y → IsActive h.statuses y) → TakesIds h.statuses v own own' x → SoundTable (with_table h v) horizon × IsActive v x
 given-stays h v horizon own own' x s before after active takes = (
   under-keeps (λ u. SoundTable (with_table h u) horizon) (λ a b parent wa wb gives sound. given-one h a b horizon parent wa wb gives sound)
-      h.table v _ takes.given before after takes.gives s,
-  takes-active h.table v own own' x before after takes active x (takes-mine h.table v own own' x before after takes),
+      h.statuses v _ takes.given before after takes.gives s,
+  takes-active h.statuses v own own' x before after takes active x (takes-mine h.statuses v own own' x before after takes),
 )

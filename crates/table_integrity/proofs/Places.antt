@@ -281,7 +281,7 @@ prunes-puts h h' n horizon p =
     (puts-with_page h.pages n p.after (slice_get_within h.pages.pages n p.before p.at))
 
 pub prunes-stand : (h h' : HeapView) (n horizon : ℕ) → Prunes h h' n horizon
-    → RemovesOn (version_in (slots_of h)) (version_in (slots_of h')) n (IsCut h.table horizon (slots_on (slots_of h) n))
+    → RemovesOn (version_in (slots_of h)) (version_in (slots_of h')) n (IsCut h.statuses horizon (slots_on (slots_of h) n))
 prunes-stand h h' n horizon p = record {
   kept = λ q t at. ⊎_elim
       (λ same. before q same ∙ removes.kept q.slot t (sym (after q same) ∙ at))
@@ -296,8 +296,8 @@ prunes-stand h h' n horizon p = record {
     puts : Puts (slots_of h) (slots_of h') n p.after.slots
     puts = prunes-puts h h' n horizon p
 
-    removes : RemovesVersions h.table horizon (slots_on (slots_of h) n) p.after.slots
-    removes = subst (λ slots. RemovesVersions h.table horizon slots p.after.slots) (sym (prunes-on h h' n horizon p)) p.removes
+    removes : RemovesVersions h.statuses horizon (slots_on (slots_of h) n) p.after.slots
+    removes = subst (λ slots. RemovesVersions h.statuses horizon slots p.after.slots) (sym (prunes-on h h' n horizon p)) p.removes
 
     before : (q : Tid) → q.page ≡ n → version_in (slots_of h) q ≡ version_at (slots_on (slots_of h) n) q.slot
     before q same = ap (λ k. version_at (slots_on (slots_of h) k) q.slot) same
@@ -306,7 +306,7 @@ prunes-stand h h' n horizon p = record {
     after q same = put-here (slots_of h) (slots_of h') n p.after.slots q puts same
 
 pub readies-stand : (h h' : HeapView) (n horizon size : ℕ) → PrunesIfFull h h' n horizon size
-    → RemovesOn (version_in (slots_of h)) (version_in (slots_of h')) n (IsCut h.table horizon (slots_on (slots_of h) n))
+    → RemovesOn (version_in (slots_of h)) (version_in (slots_of h')) n (IsCut h.statuses horizon (slots_on (slots_of h) n))
 readies-stand h h' n horizon size (PrunesIfFull.has_room room is) = record {
   kept = λ p t at. ap (λ (g : HeapView). version_in (slots_of g) p) (sym is) ∙ at;
   gone = λ p t at. inl (ap (λ (g : HeapView). version_in (slots_of g) p) is ∙ at);
@@ -319,8 +319,8 @@ readies-stand h h' n horizon size (PrunesIfFull.is_pruned full grown keeps prune
           (λ stays. inl stays)
           (λ cut. inr (
             cut.0,
-            cut-back h.table grown.table horizon (slots_on (slots_of h) n) p.slot keeps.table
-                (subst (λ pages. IsCut grown.table horizon (slots_on pages n) p.slot) keeps.slots cut.1),
+            cut-back h.statuses grown.statuses horizon (slots_on (slots_of h) n) p.slot keeps.statuses
+                (subst (λ pages. IsCut grown.statuses horizon (slots_on pages n) p.slot) keeps.slots cut.1),
           ))
           (stands.gone p t (ap (λ pages. version_in pages p) keeps.slots ∙ at));
     }

@@ -90,9 +90,9 @@ takes-reads w v s own own' x z before after takes there =
     more (Reads.by_others sees done) = Reads.by_others sees done
 
 -- and sees each version of the table as before
-pub author-sight : (h : HeapView) (v : Window) (horizon : ℕ) (own own' : Own) (x : ℕ) (s : Snap) → IsWindow h.table → IsWindow v → TakesIds h.table v own own' x
-    → IsAuthor h horizon s own.ids → (p : Tid) (t : Version) → version_in (slots_of h) p ≡ Some t → IsVisible h.table s own.ids t.header ↔ IsVisible v s own'.ids t.header
+pub author-sight : (h : HeapView) (v : Window) (horizon : ℕ) (own own' : Own) (x : ℕ) (s : Snap) → IsWindow h.statuses → IsWindow v → TakesIds h.statuses v own own' x
+    → IsAuthor h horizon s own.ids → (p : Tid) (t : Version) → version_in (slots_of h) p ≡ Some t → IsVisible h.statuses s own.ids t.header ↔ IsVisible v s own'.ids t.header
 author-sight h v horizon own own' x s before after takes author p t at =
-    same-named (ReadsIn h.table s own.ids) (ReadsIn v s own'.ids) t.header
-    (λ thawed. takes-reads h.table v s own own' x t.header.xmin.0 before after takes (author.makers p t at thawed))
-    (λ some. takes-reads h.table v s own own' x t.header.xmax.0 before after takes (author.deleters p t at some))
+    same-named (ReadsIn h.statuses s own.ids) (ReadsIn v s own'.ids) t.header
+    (λ thawed. takes-reads h.statuses v s own own' x t.header.xmin.0 before after takes (author.makers p t at thawed))
+    (λ some. takes-reads h.statuses v s own own' x t.header.xmax.0 before after takes (author.deleters p t at some))

@@ -122,28 +122,28 @@ given h v horizon before after =
 pub inserted-stays : (h h' : HeapView) (horizon : ℕ) (own own' : Own) (row : Row) (x : ℕ) → SoundTable h horizon → WritesUnder h h' own
     → Inserts h h' own own' row x → StaysSoundTable h h' horizon
 inserted-stays h h' horizon own own' row x s writer i =
-    let g = given-stays h h'.table horizon own own' x s writer.before writer.after writer.active i.takes_ids in
-    stays-then h (with_table h h'.table) h' horizon s (λ n e there. there) (given h h'.table horizon s g.0)
-    (root-stays h h' h'.table horizon x g.0 g.1 false row i.number i.root)
+    let g = given-stays h h'.statuses horizon own own' x s writer.before writer.after writer.active i.takes_ids in
+    stays-then h (with_table h h'.statuses) h' horizon s (λ n e there. there) (given h h'.statuses horizon s g.0)
+    (root-stays h h' h'.statuses horizon x g.0 g.1 false row i.number i.root)
 
 pub deleted-stays : (h h' : HeapView) (horizon : ℕ) (own own' : Own) (place : Tid) (t : Version) (x : ℕ) → SoundTable h horizon → WritesUnder h h' own → MayDelete h place t
     → Deletes h h' own own' place x → StaysSoundTable h h' horizon
 deleted-stays h h' horizon own own' place t x s writer may d =
-    let g = given-stays h h'.table horizon own own' x s writer.before writer.after writer.active d.takes_ids in
-    let same = takes-status h.table h'.table own own' x writer.before writer.after d.takes_ids in
-    stays-then h (with_table h h'.table) h' horizon s (λ n e there. there) (given h h'.table horizon s g.0)
-    (away-stays h h' h'.table horizon x g.0 g.1 place t may.there (still-made h.table h'.table t.header same may.made)
-    (still-untaken h.table h'.table t.header same may.untaken) place d.away)
+    let g = given-stays h h'.statuses horizon own own' x s writer.before writer.after writer.active d.takes_ids in
+    let same = takes-status h.statuses h'.statuses own own' x writer.before writer.after d.takes_ids in
+    stays-then h (with_table h h'.statuses) h' horizon s (λ n e there. there) (given h h'.statuses horizon s g.0)
+    (away-stays h h' h'.statuses horizon x g.0 g.1 place t may.there (still-made h.statuses h'.statuses t.header same may.made)
+    (still-untaken h.statuses h'.statuses t.header same may.untaken) place d.away)
 
 pub updated-stays : (h h' : HeapView) (horizon : ℕ) (own own' : Own) (place : Tid) (t : Version) (row : Row) (x : ℕ) → SoundTable h horizon → WritesUnder h h' own → MayDelete h place t
     → row.key ≡ t.row.key → Updates h h' own own' place row horizon x → StaysSoundTable h h' horizon
 updated-stays h h' horizon own own' place t row x s writer may key u =
-    let ready = with_table u.ready h.table in
+    let ready = with_table u.ready h.statuses in
     let first = ready-stays h u.ready place.page horizon (rounded_size_of row) s u.readies in
-    let g = given-stays ready h'.table horizon own own' x first.sound writer.before writer.after writer.active u.takes_ids in
-    let same = takes-status h.table h'.table own own' x writer.before writer.after u.takes_ids in
+    let g = given-stays ready h'.statuses horizon own own' x first.sound writer.before writer.after writer.active u.takes_ids in
+    let same = takes-status h.statuses h'.statuses own own' x writer.before writer.after u.takes_ids in
     let at = updates-ready h h' own own' place row horizon x t u may.there in
     stays-then h ready h' horizon s (ready-come h u.ready place.page horizon (rounded_size_of row) u.readies) first
-    (stays-then ready (with_table ready h'.table) h' horizon first.sound (λ n e there. there) (given ready h'.table horizon first.sound g.0)
-    (replaced-stays u.ready h' h'.table horizon x place row t g.0 g.1 at (still-made h.table h'.table t.header same may.made)
-    (still-untaken h.table h'.table t.header same may.untaken) key u.replaces))
+    (stays-then ready (with_table ready h'.statuses) h' horizon first.sound (λ n e there. there) (given ready h'.statuses horizon first.sound g.0)
+    (replaced-stays u.ready h' h'.statuses horizon x place row t g.0 g.1 at (still-made h.statuses h'.statuses t.header same may.made)
+    (still-untaken h.statuses h'.statuses t.header same may.untaken) key u.replaces))

@@ -20,9 +20,9 @@ use Rattle.table_integrity.specs.Table.{SoundTable, StaysSoundTable, MayDelete}
 -- Writes. The ids that the writer has are in progress; so are those that it is given.
 
 pub record WritesUnder (h h' : HeapView) (own : Own) : Type 0 where
-  pub before : IsWindow h.table
-  pub after : IsWindow h'.table
-  pub active : (x : ℕ) → Contains own.ids x → IsActive h.table x
+  pub before : IsWindow h.statuses
+  pub after : IsWindow h'.statuses
+  pub active : (x : ℕ) → Contains own.ids x → IsActive h.statuses x
 
 abbrev pub InsertingKeepsTable : Type 0
 InsertingKeepsTable = (h h' : HeapView) (horizon : ℕ) (own own' : Own) (row : Row) (x : ℕ) → SoundTable h horizon → WritesUnder h h' own
@@ -53,22 +53,22 @@ KeepingKeepsTable = (h h' : HeapView) (horizon : ℕ) → SoundTable h horizon �
 
 -- ids in progress take a final status, and all else stays
 pub record FinishesInTable (h h' : HeapView) (ids : List ℕ) (status : Status) : Type 0 where
-  pub active : (x : ℕ) → Contains ids x → IsActive h.table x
-  pub finishes : changes.Finishes h.table h'.table ids status
+  pub active : (x : ℕ) → Contains ids x → IsActive h.statuses x
+  pub finishes : changes.Finishes h.statuses h'.statuses ids status
   pub pages : h'.pages ≡ h.pages
   pub indexes : h'.indexes ≡ h.indexes
 
 abbrev pub CommittingKeepsTable : Type 0
 CommittingKeepsTable = (h h' : HeapView) (horizon : ℕ) (ids : List ℕ) → SoundTable h horizon → FinishesInTable h h' ids Committed
-    → ((n : ℕ) → DeletedWhatWasMade h.table (slots_on (slots_of h) n) ids) → StaysSoundTable h h' horizon
+    → ((n : ℕ) → DeletedWhatWasMade h.statuses (slots_on (slots_of h) n) ids) → StaysSoundTable h h' horizon
 
 abbrev pub AbortingKeepsTable : Type 0
 AbortingKeepsTable = (h h' : HeapView) (horizon : ℕ) (ids : List ℕ) → SoundTable h horizon → FinishesInTable h h' ids Aborted
-    → ((n : ℕ) → AloneDeletedTheirs h.table (slots_on (slots_of h) n) ids) → StaysSoundTable h h' horizon
+    → ((n : ℕ) → AloneDeletedTheirs h.statuses (slots_on (slots_of h) n) ids) → StaysSoundTable h h' horizon
 
 abbrev pub LaterHorizonKeepsTable : Type 0
-LaterHorizonKeepsTable = (h : HeapView) (horizon later : ℕ) → SoundTable h horizon → IsWindow h.table → IsUpToNext h.table horizon → IsUpToNext h.table later
-    → turns h.table.first horizon ≤ turns h.table.first later → SoundTable h later
+LaterHorizonKeepsTable = (h : HeapView) (horizon later : ℕ) → SoundTable h horizon → IsWindow h.statuses → IsUpToNext h.statuses horizon → IsUpToNext h.statuses later
+    → turns h.statuses.first horizon ≤ turns h.statuses.first later → SoundTable h later
 
 -- a table without pages and entries
 abbrev pub EmptyTableIsSound : Type 0

@@ -25,11 +25,11 @@ pub record FindsAt (seen : Header → Type 0) (store : Tid → Option Version) (
 
 -- the reader finds the row at the place
 abbrev pub FindsRowAt : HeapView → Snap → List ℕ → Tid → Row → Type 0
-FindsRowAt h s own p row = FindsAt (IsVisible h.table s own) (version_in (slots_of h)) p row
+FindsRowAt h s own p row = FindsAt (IsVisible h.statuses s own) (version_in (slots_of h)) p row
 
 -- its snapshot is open, or was taken later, at this horizon, and its ids are in progress
 abbrev pub IsTableReader : HeapView → ℕ → Snap → List ℕ → Type 0
-IsTableReader h horizon s own = (n : ℕ) → IsOpenReader h.table horizon (slots_on (slots_of h) n) s own
+IsTableReader h horizon s own = (n : ℕ) → IsOpenReader h.statuses horizon (slots_on (slots_of h) n) s own
 
 -- it finds the same rows at the same places
 abbrev pub FindsTheSame : HeapView → HeapView → Snap → List ℕ → Type 0
@@ -60,8 +60,8 @@ DeletingIsUnseen = (h h' : HeapView) (horizon : ℕ) (own own' : Own) (place : T
 pub record IsAuthor (h : HeapView) (horizon : ℕ) (s : Snap) (own : List ℕ) : Type 0 where
   pub reader : IsTableReader h horizon s own
   -- each inserter and each deleter on a page is an id that was given
-  pub makers : (p : Tid) (t : Version) → version_in (slots_of h) p ≡ Some t → ¬ IsFrozen t.header → IsGiven h.table t.header.xmin.0
-  pub deleters : (p : Tid) (t : Version) → version_in (slots_of h) p ≡ Some t → t.header.xmax.0 ≢ 0 → IsGiven h.table t.header.xmax.0
+  pub makers : (p : Tid) (t : Version) → version_in (slots_of h) p ≡ Some t → ¬ IsFrozen t.header → IsGiven h.statuses t.header.xmin.0
+  pub deleters : (p : Tid) (t : Version) → version_in (slots_of h) p ≡ Some t → t.header.xmax.0 ≢ 0 → IsGiven h.statuses t.header.xmax.0
 
 -- the same is found at each place, and this row at one more
 pub record FindsOneMore (before after : Tid → Row → Type 0) (row : Row) : Type 0 where

@@ -12,9 +12,9 @@ use Rattle.heap_write.specs.Heap.{HeapView, slots_of}
 -- what a table keeps, at a horizon
 pub record SoundTable (h : HeapView) (horizon : ℕ) : Type 0 where
   -- each page is sound
-  pub heap : SoundHeap h.table horizon (slots_of h)
+  pub heap : SoundHeap h.statuses horizon (slots_of h)
   -- the entries of each index in use lead to the roots of chains of their values and keys
-  pub indexes : (n : ℕ) → IsInUse h.indexes n → SoundEntries (value_in n) h.table (slots_of h) (entries_in h.indexes n)
+  pub indexes : (n : ℕ) → IsInUse h.indexes n → SoundEntries (value_in n) h.statuses (slots_of h) (entries_in h.indexes n)
 
 -- a step leaves it so, with the same indexes in use, and what an entry leads to stays, or becomes a redirect or dead
 pub record StaysSoundTable (h h' : HeapView) (horizon : ℕ) : Type 0 where
@@ -25,5 +25,5 @@ pub record StaysSoundTable (h h' : HeapView) (horizon : ℕ) : Type 0 where
 -- a version at the place may be taken away: its making counts, or may yet, and no deleter does
 pub record MayDelete (h : HeapView) (place : Tid) (t : Version) : Type 0 where
   pub there : version_in (slots_of h) place ≡ Some t
-  pub made : IsMade h.table t.header
-  pub untaken : HasNoXmax h.table t.header
+  pub made : IsMade h.statuses t.header
+  pub untaken : HasNoXmax h.statuses t.header

@@ -90,10 +90,10 @@ pub fn begun(alloc: Global, next: u32) -> Snapshot {
 
 fn is_known(heap: &HeapState, own: &OwnIds) -> bool
     ensures { IsTrue result → (x : ℕ) → current_xid own.now.ids own.now.saved ≡ Some x
-        → IsGiven heap.now.table x }
+        → IsGiven heap.now.statuses x }
 {
     match own.current_xid() {
-        Some(x) => heap.table().remembers(x),
+        Some(x) => heap.statuses().remembers(x),
         None => true,
     }
 }
@@ -126,7 +126,7 @@ pub fn delete(heap: &mut HeapState, own: &mut OwnIds, place: Place) -> Result<Xi
 }
 
 pub fn finish(heap: &mut HeapState, x: Xid, status: Status) {
-    if heap.table().remembers(x) && matches!(heap.table().status(x), Status::InProgress) {
+    if heap.statuses().remembers(x) && matches!(heap.statuses().status(x), Status::InProgress) {
         heap.finish(&[x], status);
     }
 }
@@ -163,9 +163,9 @@ pub fn sweeps(heap: &mut HeapState, place: Place) -> bool {
 }
 
 fn is_known_or_next(heap: &HeapState, x: Xid) -> bool
-    ensures { IsTrue result → IsUpToNext heap.now.table x.0 }
+    ensures { IsTrue result → IsUpToNext heap.now.statuses x.0 }
 {
-    heap.table().remembers(x)
+    heap.statuses().remembers(x)
 }
 
 pub fn forget(heap: &mut HeapState, x: u32) {
@@ -212,7 +212,7 @@ pub fn row_at(
     let reader = Reader {
         snapshot,
         own,
-        statuses: heap.table(),
+        statuses: heap.statuses(),
     };
     let row = seen_row(heap.page(page)?, slot, &reader)?;
     Some((row.key(), row.cols()[1]))

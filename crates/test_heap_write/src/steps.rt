@@ -132,8 +132,8 @@ impl HeapStep {
         match self {
             HeapStep::Ids(ids, lacking) => own.as_slice() == ids
                 && own.unassigned_levels() == lacking,
-            HeapStep::Next(x) => heap.table().next() == x,
-            HeapStep::Top(x, top) => heap.table().top_of(x) == top,
+            HeapStep::Next(x) => heap.statuses().next() == x,
+            HeapStep::Top(x, top) => heap.statuses().top_of(x) == top,
             _ => self.is_on_pages(heap),
         }
     }

@@ -40,43 +40,43 @@ fn window(alloc: Global, first: Xid, stop_age: u16) -> StatusTable
     StatusTable::new(alloc, first, u32::from(stop_age))
 }
 
-fn give(table: &mut StatusTable) -> Result<Xid, GiveFault> {
-    table.give(None)
+fn give(statuses: &mut StatusTable) -> Result<Xid, GiveFault> {
+    statuses.give(None)
 }
 
-fn give_under(table: &mut StatusTable, parent: Xid) -> Option<Xid> {
-    if !table.remembers(parent) {
+fn give_under(statuses: &mut StatusTable, parent: Xid) -> Option<Xid> {
+    if !statuses.remembers(parent) {
         return None;
     }
-    table.give(Some(parent)).ok()
+    statuses.give(Some(parent)).ok()
 }
 
-fn finish(table: &mut StatusTable, x: Xid, status: Status) {
-    if table.remembers(x) && matches!(table.status(x), Status::InProgress) {
-        table.finish(&[x], status);
+fn finish(statuses: &mut StatusTable, x: Xid, status: Status) {
+    if statuses.remembers(x) && matches!(statuses.status(x), Status::InProgress) {
+        statuses.finish(&[x], status);
     }
 }
 
-fn truncate(table: &mut StatusTable, x: u32) {
-    if table.remembers(Xid(x)) {
-        table.truncate(Xid(x));
+fn truncate(statuses: &mut StatusTable, x: u32) {
+    if statuses.remembers(Xid(x)) {
+        statuses.truncate(Xid(x));
     }
 }
 
-fn ends(table: &StatusTable) -> (Xid, Xid) {
-    (table.next(), table.frozen_below())
+fn ends(statuses: &StatusTable) -> (Xid, Xid) {
+    (statuses.next(), statuses.frozen_below())
 }
 
 impl TableStep {
     /// What of a table is asked for.
-    fn is_seen(self, table: &StatusTable) -> bool {
+    fn is_seen(self, statuses: &StatusTable) -> bool {
         match self {
-            TableStep::CanGive(count, can) => table.can_give(count) == can,
-            TableStep::Remembers(x, given) => table.remembers(x) == given,
-            TableStep::Turn(x, turn) => table.turn_of(x) == turn,
-            TableStep::Status(x, status) => table.status(x) == status,
-            TableStep::Top(x, top) => table.top_of(x) == top,
-            TableStep::Ends(next, oldest) => ends(table) == (next, oldest),
+            TableStep::CanGive(count, can) => statuses.can_give(count) == can,
+            TableStep::Remembers(x, given) => statuses.remembers(x) == given,
+            TableStep::Turn(x, turn) => statuses.turn_of(x) == turn,
+            TableStep::Status(x, status) => statuses.status(x) == status,
+            TableStep::Top(x, top) => statuses.top_of(x) == top,
+            TableStep::Ends(next, oldest) => ends(statuses) == (next, oldest),
             _ => false,
         }
     }
@@ -85,14 +85,14 @@ impl TableStep {
 impl Step for TableStep {
     type Subject = StatusTable;
 
-    fn is_so(&self, _alloc: Global, table: &mut StatusTable) -> Result<bool, AllocError> {
+    fn is_so(&self, _alloc: Global, statuses: &mut StatusTable) -> Result<bool, AllocError> {
         match *self {
-            TableStep::MakeRoom(count) => table.make_room(count)?,
-            TableStep::Give(given) => return Ok(give(table) == given),
-            TableStep::GiveUnder(parent, x) => return Ok(give_under(table, parent) == Some(x)),
-            TableStep::Finish(x, status) => finish(table, x, status),
-            TableStep::Truncate(x) => truncate(table, x.0),
-            _ => return Ok(self.is_seen(table)),
+            TableStep::MakeRoom(count) => statuses.make_room(count)?,
+            TableStep::Give(given) => return Ok(give(statuses) == given),
+            TableStep::GiveUnder(parent, x) => return Ok(give_under(statuses, parent) == Some(x)),
+            TableStep::Finish(x, status) => finish(statuses, x, status),
+            TableStep::Truncate(x) => truncate(statuses, x.0),
+            _ => return Ok(self.is_seen(statuses)),
         }
         Ok(true)
     }
@@ -188,8 +188,8 @@ fn tops(rt: HostRuntime) -> Result<(), Fail> {
 
 #[test]
 fn laws(rt: HostRuntime) {
-    let table = window(rt.alloc(), Xid(4294967294), 1000);
-    table.is_window();
+    let statuses = window(rt.alloc(), Xid(4294967294), 1000);
+    statuses.is_window();
     places_are_turns();
     tops_are_topmost();
 }

@@ -23,10 +23,10 @@ fn row_of(key: u64) -> Row {
 }
 
 fn is_known(heap: &HeapState, own: &OwnIds) -> bool
-    ensures { IsTrue result → NewestIsGiven heap.now.table own.now }
+    ensures { IsTrue result → NewestIsGiven heap.now.statuses own.now }
 {
     match own.current_xid() {
-        Some(x) => heap.table().remembers(x),
+        Some(x) => heap.statuses().remembers(x),
         None => true,
     }
 }
@@ -40,7 +40,7 @@ fn delete(heap: &mut HeapState, own: &mut OwnIds, slot: u16) -> bool {
 }
 
 fn commit(heap: &mut HeapState, x: Xid) {
-    if heap.table().remembers(x) && matches!(heap.table().status(x), Status::InProgress) {
+    if heap.statuses().remembers(x) && matches!(heap.statuses().status(x), Status::InProgress) {
         heap.finish(&[x], Status::Committed);
     }
 }

@@ -15,7 +15,7 @@ pub fn none_wrong(wrong: Option<usize>) -> Result<(), Fail> {
     match wrong {
         None => Ok(()),
         Some(at) => Err(Fail::new(format_args!(
-            "step {at} of the table, counted from 0, comes out otherwise"
+            "step {at} of the statuses, counted from 0, comes out otherwise"
         ))),
     }
 }
@@ -33,23 +33,23 @@ pub fn normal(x: u32) -> Xid
 
 /// A table of statuses in which so many ids are given, from this one on.
 pub fn table_of(alloc: Global, first: u32, count: u8) -> StatusTable {
-    let mut table = StatusTable::new(alloc, normal(first), 1000);
+    let mut statuses = StatusTable::new(alloc, normal(first), 1000);
     for _ in 0..count {
-        let _ = table.give(None);
+        let _ = statuses.give(None);
     }
-    table
+    statuses
 }
 
-pub fn finish(table: &mut StatusTable, x: u32, status: Status) {
+pub fn finish(statuses: &mut StatusTable, x: u32, status: Status) {
     let x = Xid(x);
-    if table.remembers(x) && matches!(table.status(x), Status::InProgress) {
-        table.finish(&[x], status);
+    if statuses.remembers(x) && matches!(statuses.status(x), Status::InProgress) {
+        statuses.finish(&[x], status);
     }
 }
 
 /// The id that is given next.
-pub fn next_id(table: &StatusTable) -> u32 {
-    table.next().0
+pub fn next_id(statuses: &StatusTable) -> u32 {
+    statuses.next().0
 }
 
 /// Adds an id to a session, and says whether it may have one more.

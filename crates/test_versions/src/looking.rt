@@ -32,10 +32,10 @@ type Found = (Option<(u32, u16)>, Option<i64>, Option<Xid>, Option<Xid>);
 
 /// Of ids 3 to 5 the first is committed, the second in progress, and the third aborted.
 fn statuses(alloc: Global) -> StatusTable {
-    let mut table = table_of(alloc, 3, 3);
-    finish(&mut table, 3, Status::Committed);
-    finish(&mut table, 5, Status::Aborted);
-    table
+    let mut statuses = table_of(alloc, 3, 3);
+    finish(&mut statuses, 3, Status::Committed);
+    finish(&mut statuses, 5, Status::Aborted);
+    statuses
 }
 
 /// An index by key with entries of these keys, pages and slots.
@@ -137,7 +137,7 @@ fn seen(table: &TableView<'_>, key: u64, reader: &Reader<'_>) -> Seen {
 }
 
 fn seen_from_first(table: &TableView<'_>, key: u64, reader: &Reader<'_>) -> Seen {
-    match first_of(table.index, key) {
+    match first_of(statuses.index, key) {
         Some((first, near)) => {
             let place = place_from(table, first, near, reader);
             let row = row_from(table, first, near, reader);

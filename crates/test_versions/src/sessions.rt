@@ -45,18 +45,18 @@ pub enum SessionStep {
 /// A session, the table of all ids, and a snapshot.
 #[derive(Drop)]
 struct Session {
-    table: StatusTable,
+    statuses: StatusTable,
     own: OwnIds,
     snapshot: Snapshot,
 }
 
-fn give(table: &mut StatusTable, own: &mut OwnIds) -> Option<u32> {
-    let x = table.give(None).ok()?;
+fn give(statuses: &mut StatusTable, own: &mut OwnIds) -> Option<u32> {
+    let x = statuses.give(None).ok()?;
     if add_id(own, x) { Some(x.0) } else { None }
 }
 
-fn give_another(table: &mut StatusTable) -> Option<u32> {
-    Some(table.give(None).ok()?.0)
+fn give_another(statuses: &mut StatusTable) -> Option<u32> {
+    Some(statuses.give(None).ok()?.0)
 }
 
 fn save_times(own: &mut OwnIds, count: u8) -> bool {
@@ -81,11 +81,11 @@ fn release(own: &mut OwnIds) {
 }
 
 /// Gives an id to a level of its own, which is released, and says whether it was given.
-fn give_child(table: &mut StatusTable, own: &mut OwnIds, parent: Xid) -> bool {
-    if !table.remembers(parent) || own.save().is_err() {
+fn give_child(statuses: &mut StatusTable, own: &mut OwnIds, parent: Xid) -> bool {
+    if !statuses.remembers(parent) || own.save().is_err() {
         return false;
     }
-    let given = match table.give(Some(parent)) {
+    let given = match statuses.give(Some(parent)) {
         Ok(x) => add_id(own, x),
         Err(_) => false,
     };
@@ -93,30 +93,30 @@ fn give_child(table: &mut StatusTable, own: &mut OwnIds, parent: Xid) -> bool {
     given
 }
 
-fn give_children(table: &mut StatusTable, own: &mut OwnIds, parent: u32, count: u8) -> bool {
+fn give_children(statuses: &mut StatusTable, own: &mut OwnIds, parent: u32, count: u8) -> bool {
     for _ in 0..count {
-        if !give_child(table, own, Xid(parent)) {
+        if !give_child(statuses, own, Xid(parent)) {
             return false;
         }
     }
     true
 }
 
-fn finish_all(table: &mut StatusTable, first: u32, last: u32, status: Status) {
+fn finish_all(statuses: &mut StatusTable, first: u32, last: u32, status: Status) {
     for x in first..last {
-        finish(table, x, status);
+        finish(statuses, x, status);
     }
-    finish(table, last, status);
+    finish(statuses, last, status);
 }
 
-fn beside(alloc: Global, table: &StatusTable, own: &OwnIds) -> Result<Snapshot, AllocError> {
-    let mut snapshot = begun(alloc, next_id(table));
+fn beside(alloc: Global, statuses: &StatusTable, own: &OwnIds) -> Result<Snapshot, AllocError> {
+    let mut snapshot = begun(alloc, next_id(statuses));
     snapshot.add_transaction(own)?;
     Ok(snapshot)
 }
 
-fn sees(snapshot: &Snapshot, x: u32, table: &StatusTable) -> bool {
-    Xid(x).is_normal() && snapshot.sees(Xid(x), table)
+fn sees(snapshot: &Snapshot, x: u32, statuses: &StatusTable) -> bool {
+    Xid(x).is_normal() && snapshot.sees(Xid(x), statuses)
 }
 
 fn has_ids(own: &OwnIds, ids: &[u32]) -> bool {
@@ -159,8 +159,8 @@ impl SessionStep {
         let snapshot = &session.snapshot;
         match self {
             SessionStep::Ends(xmin, xmax) => snapshot.xmin().0 == xmin && snapshot.xmax().0 == xmax,
-            SessionStep::Sees(x, seen) => sees(snapshot, x, &session.table) == seen,
-            SessionStep::Status(x, status) => session.table.status(Xid(x)) == status,
+            SessionStep::Sees(x, seen) => sees(snapshot, x, &session.statuses) == seen,
+            SessionStep::Status(x, status) => session.statuses.status(Xid(x)) == status,
             _ => self.is_of_session(&session.own),
         }
     }
@@ -180,13 +180,13 @@ impl SessionStep {
     /// What is done to ids.
     fn is_given(self, session: &mut Session) -> bool {
         match self {
-            SessionStep::GiveAnother(x) => give_another(&mut session.table) == Some(x),
-            SessionStep::Give(x) => give(&mut session.table, &mut session.own) == Some(x),
+            SessionStep::GiveAnother(x) => give_another(&mut session.statuses) == Some(x),
+            SessionStep::Give(x) => give(&mut session.statuses, &mut session.own) == Some(x),
             SessionStep::GiveUnder(parent, count) => {
-                give_children(&mut session.table, &mut session.own, parent, count)
+                give_children(&mut session.statuses, &mut session.own, parent, count)
             }
             SessionStep::Finish(first, last, status) => {
-                finish_all(&mut session.table, first, last, status);
+                finish_all(&mut session.statuses, first, last, status);
                 true
             }
             _ => self.is_done(session),
@@ -196,9 +196,9 @@ impl SessionStep {
     fn is_so(self, alloc: Global, session: &mut Session) -> Result<bool, AllocError> {
         match self {
             SessionStep::TakeBeside => {
-                session.snapshot = beside(alloc, &session.table, &session.own)?;
+                session.snapshot = beside(alloc, &session.statuses, &session.own)?;
             }
-            SessionStep::Take => session.snapshot = begun(alloc, next_id(&session.table)),
+            SessionStep::Take => session.snapshot = begun(alloc, next_id(&session.statuses)),
             _ => return Ok(self.is_given(session)),
         }
         Ok(true)
@@ -207,7 +207,7 @@ impl SessionStep {
 
 fn new_session(alloc: Global, first: u32) -> Session {
     Session {
-        table: table_of(alloc, first, 0),
+        statuses: table_of(alloc, first, 0),
         own: nobody(alloc),
         snapshot: begun(alloc, first),
     }

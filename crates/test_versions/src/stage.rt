@@ -99,7 +99,7 @@ pub type Actions = &'static [(u16, Action)];
 
 #[derive(Drop)]
 struct Stage {
-    table: StatusTable,
+    statuses: StatusTable,
     page: Page,
 }
 
@@ -125,9 +125,9 @@ pub fn row() -> Row {
 
 // Each of these does what it is named after where that may be done, and promises nothing.
 
-fn finish_all(table: &mut StatusTable, ids: &[u32], status: Status) {
+fn finish_all(statuses: &mut StatusTable, ids: &[u32], status: Status) {
     for x in ids {
-        finish(table, *x, status);
+        finish(statuses, *x, status);
     }
 }
 
@@ -197,48 +197,48 @@ fn delete(page: &mut Page, slot: u16, x: u32) {
     }
 }
 
-fn prune_at(page: &mut Page, table: &StatusTable, horizon: u32) {
-    prune(page, table, normal(horizon));
+fn prune_at(page: &mut Page, statuses: &StatusTable, horizon: u32) {
+    prune(page, statuses, normal(horizon));
 }
 
-fn checks(page: &Page, plan: &PrunePlan, table: &StatusTable, horizon: u32) -> bool {
-    check_plan(page, plan, table, normal(horizon))
+fn checks(page: &Page, plan: &PrunePlan, statuses: &StatusTable, horizon: u32) -> bool {
+    check_plan(page, plan, statuses, normal(horizon))
 }
 
-fn plan_at(page: &Page, table: &StatusTable, horizon: u32) -> PrunePlan {
-    plan(page, table, normal(horizon))
+fn plan_at(page: &Page, statuses: &StatusTable, horizon: u32) -> PrunePlan {
+    plan(page, statuses, normal(horizon))
 }
 
-fn room_once_pruned(page: &Page, table: &StatusTable, horizon: u32) -> usize {
-    let plan = plan(page, table, normal(horizon));
+fn room_once_pruned(page: &Page, statuses: &StatusTable, horizon: u32) -> usize {
+    let plan = plan(page, statuses, normal(horizon));
     room_after(page, &plan)
 }
 
-fn apply_checked(page: &mut Page, plan: &PrunePlan, table: &StatusTable, horizon: u32) -> bool {
-    let is_fresh = check_plan(page, plan, table, normal(horizon));
+fn apply_checked(page: &mut Page, plan: &PrunePlan, statuses: &StatusTable, horizon: u32) -> bool {
+    let is_fresh = check_plan(page, plan, statuses, normal(horizon));
     if is_fresh {
         apply(page, plan);
     }
     is_fresh
 }
 
-fn freeze_at(page: &mut Page, table: &StatusTable, cutoff: u32) {
-    freeze_page(page, 0, Xid(cutoff), table);
+fn freeze_at(page: &mut Page, statuses: &StatusTable, cutoff: u32) {
+    freeze_page(page, 0, Xid(cutoff), statuses);
 }
 
-fn sees_all(page: &Page, table: &StatusTable, horizon: u32) -> bool {
-    all_visible(page, Xid(horizon), table)
+fn sees_all(page: &Page, statuses: &StatusTable, horizon: u32) -> bool {
+    all_visible(page, Xid(horizon), statuses)
 }
 
-fn freezes_all(page: &Page, table: &StatusTable, horizon: u32) -> bool {
-    all_frozen(page, Xid(horizon), table)
+fn freezes_all(page: &Page, statuses: &StatusTable, horizon: u32) -> bool {
+    all_frozen(page, Xid(horizon), statuses)
 }
 
-fn apply_once(page: &mut Page, table: &StatusTable, horizon: u32) -> bool {
-    let plan = plan_at(page, table, horizon);
+fn apply_once(page: &mut Page, statuses: &StatusTable, horizon: u32) -> bool {
+    let plan = plan_at(page, statuses, horizon);
     plan.change == page.change()
-        && apply_checked(page, &plan, table, horizon)
-        && !apply_checked(page, &plan, table, horizon)
+        && apply_checked(page, &plan, statuses, horizon)
+        && !apply_checked(page, &plan, statuses, horizon)
 }
 
 fn plan_of(change: u64, named: &[(u16, Action)]) -> PrunePlan {
@@ -250,29 +250,29 @@ fn plan_of(change: u64, named: &[(u16, Action)]) -> PrunePlan {
 }
 
 /// The chain of a slot, listed over slots of another.
-fn listed_over(page: &Page, number: u16, table: &StatusTable) -> ArrayVec<u16, 292> {
+fn listed_over(page: &Page, number: u16, statuses: &StatusTable) -> ArrayVec<u16, 292> {
     let mut listed: ArrayVec<u16, 292> = ArrayVec::new();
     let _ = listed.try_push(9);
-    list_chain(page, number, table, &mut listed);
+    list_chain(page, number, statuses, &mut listed);
     listed
 }
 
-fn has_chain(page: &Page, number: u16, table: &StatusTable, slots: &[u16]) -> bool {
-    listed_over(page, number, table).as_slice() == slots
-        && chain(page, number, table).as_slice() == slots
+fn has_chain(page: &Page, number: u16, statuses: &StatusTable, slots: &[u16]) -> bool {
+    listed_over(page, number, statuses).as_slice() == slots
+        && chain(page, number, statuses).as_slice() == slots
 }
 
-fn fetched(alloc: Global, page: &Page, number: u16, table: &StatusTable) -> Option<(u32, u32)> {
+fn fetched(alloc: Global, page: &Page, number: u16, statuses: &StatusTable) -> Option<(u32, u32)> {
     let own = owner(alloc, 3);
-    let snapshot = begun(alloc, next_id(table));
-    let header = fetch(page, number, &snapshot, &own, table)?.header;
+    let snapshot = begun(alloc, next_id(statuses));
+    let header = fetch(page, number, &snapshot, &own, statuses)?.header;
     Some((header.xmin.0, header.xmax.0))
 }
 
-fn first_of(alloc: Global, page: &Page, slots: &[u16], table: &StatusTable) -> Option<u16> {
+fn first_of(alloc: Global, page: &Page, slots: &[u16], statuses: &StatusTable) -> Option<u16> {
     let own = owner(alloc, 3);
-    let snapshot = begun(alloc, next_id(table));
-    first_seen(page, slots, &snapshot, &own, table)
+    let snapshot = begun(alloc, next_id(statuses));
+    first_seen(page, slots, &snapshot, &own, statuses)
 }
 
 fn leads(page: &Page, number: u16, target: u16) -> bool {
@@ -284,7 +284,7 @@ fn leads(page: &Page, number: u16, target: u16) -> bool {
 
 impl PageStep {
     /// What of a page is asked for.
-    fn is_seen(self, alloc: Global, page: &Page, table: &StatusTable) -> bool {
+    fn is_seen(self, alloc: Global, page: &Page, statuses: &StatusTable) -> bool {
         match self {
             PageStep::Slots(slots) => page.slots() == slots,
             PageStep::Change(change) => page.change() == change,
@@ -297,55 +297,55 @@ impl PageStep {
             PageStep::Unused(slot) => matches!(page.slot(slot), Some(Slot::Unused)),
             PageStep::Dead(slot) => matches!(page.slot(slot), Some(Slot::Dead)),
             PageStep::Redirect(slot, target) => leads(page, slot, target),
-            _ => self.is_judged(alloc, table),
+            _ => self.is_judged(alloc, statuses),
         }
     }
 
     /// What everybody sees of a page.
-    fn is_seen_by_all(self, alloc: Global, page: &Page, table: &StatusTable) -> bool {
+    fn is_seen_by_all(self, alloc: Global, page: &Page, statuses: &StatusTable) -> bool {
         match self {
-            PageStep::AllVisible(horizon, told) => sees_all(page, table, horizon) == told,
-            PageStep::AllFrozen(horizon, told) => freezes_all(page, table, horizon) == told,
-            _ => self.is_seen(alloc, page, table),
+            PageStep::AllVisible(horizon, told) => sees_all(page, statuses, horizon) == told,
+            PageStep::AllFrozen(horizon, told) => freezes_all(page, statuses, horizon) == told,
+            _ => self.is_seen(alloc, page, statuses),
         }
     }
 
     /// What of single versions is asked for.
-    fn is_judged(self, alloc: Global, table: &StatusTable) -> bool {
+    fn is_judged(self, alloc: Global, statuses: &StatusTable) -> bool {
         match self {
             PageStep::Seen(life, own, other) => {
-                sees(alloc, table, life, true) == Some(own)
-                    && sees(alloc, table, life, false) == Some(other)
+                sees(alloc, statuses, life, true) == Some(own)
+                    && sees(alloc, statuses, life, false) == Some(other)
             }
-            PageStep::Fate(life, horizon, fate) => fate_at(table, life, horizon) == Some(fate),
-            PageStep::Hinted(life, mask) => hinted(table, life) == Some(mask),
-            PageStep::Reads(x, told) => reads_id(alloc, table, x) == told,
+            PageStep::Fate(life, horizon, fate) => fate_at(statuses, life, horizon) == Some(fate),
+            PageStep::Hinted(life, mask) => hinted(statuses, life) == Some(mask),
+            PageStep::Reads(x, told) => reads_id(alloc, statuses, x) == told,
             _ => false,
         }
     }
 
     /// What of its chains is asked for.
-    fn is_of_chains(self, alloc: Global, page: &Page, table: &StatusTable) -> bool {
+    fn is_of_chains(self, alloc: Global, page: &Page, statuses: &StatusTable) -> bool {
         match self {
-            PageStep::Chain(slot, slots) => has_chain(page, slot, table, slots),
-            PageStep::Root(slot, root) => root_of(page, slot, table) == root,
+            PageStep::Chain(slot, slots) => has_chain(page, slot, statuses, slots),
+            PageStep::Root(slot, root) => root_of(page, slot, statuses) == root,
             PageStep::IsRoot(slot, leads) => is_root(page, slot) == leads,
-            PageStep::Fetch(slot, found) => fetched(alloc, page, slot, table) == found,
-            PageStep::FirstSeen(slots, first) => first_of(alloc, page, slots, table) == first,
+            PageStep::Fetch(slot, found) => fetched(alloc, page, slot, statuses) == found,
+            PageStep::FirstSeen(slots, first) => first_of(alloc, page, slots, statuses) == first,
             PageStep::FirstDeath(horizon, turn) => {
-                first_death(page, table, normal(horizon)) == turn
+                first_death(page, statuses, normal(horizon)) == turn
             }
             PageStep::Plan(horizon, named) => {
-                plan_at(page, table, horizon).actions.as_slice() == named
+                plan_at(page, statuses, horizon).actions.as_slice() == named
             }
-            PageStep::RoomAfter(horizon, room) => room_once_pruned(page, table, horizon) == room,
+            PageStep::RoomAfter(horizon, room) => room_once_pruned(page, statuses, horizon) == room,
             PageStep::Checks(change, named, horizon) => {
-                checks(page, &plan_of(change, named), table, horizon)
+                checks(page, &plan_of(change, named), statuses, horizon)
             }
             PageStep::Fails(change, named, horizon) => {
-                !checks(page, &plan_of(change, named), table, horizon)
+                !checks(page, &plan_of(change, named), statuses, horizon)
             }
-            _ => self.is_seen_by_all(alloc, page, table),
+            _ => self.is_seen_by_all(alloc, page, statuses),
         }
     }
 
@@ -385,17 +385,17 @@ impl PageStep {
 
     fn is_so(self, alloc: Global, stage: &mut Stage) -> bool {
         match self {
-            PageStep::Finish(ids, status) => finish_all(&mut stage.table, ids, status),
-            PageStep::Prune(horizon) => prune_at(&mut stage.page, &stage.table, horizon),
-            PageStep::Freeze(cutoff) => freeze_at(&mut stage.page, &stage.table, cutoff),
+            PageStep::Finish(ids, status) => finish_all(&mut stage.statuses, ids, status),
+            PageStep::Prune(horizon) => prune_at(&mut stage.page, &stage.statuses, horizon),
+            PageStep::Freeze(cutoff) => freeze_at(&mut stage.page, &stage.statuses, cutoff),
             PageStep::Apply(horizon) => {
-                return apply_once(&mut stage.page, &stage.table, horizon);
+                return apply_once(&mut stage.page, &stage.statuses, horizon);
             }
             _ => {
                 if let Some(done) = self.is_set(&mut stage.page) {
                     return done;
                 }
-                return self.is_of_chains(alloc, &stage.page, &stage.table);
+                return self.is_of_chains(alloc, &stage.page, &stage.statuses);
             }
         }
         true
@@ -404,7 +404,7 @@ impl PageStep {
 
 fn new_stage(alloc: Global, first: u32) -> Stage {
     Stage {
-        table: table_of(alloc, first, 5),
+        statuses: table_of(alloc, first, 5),
         page: Page::new(alloc),
     }
 }

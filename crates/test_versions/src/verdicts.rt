@@ -24,8 +24,8 @@ fn version_of(life: Life) -> Option<Tuple> {
 }
 
 /// What is seen beside the session of id 5.
-fn beside_5(alloc: Global, table: &StatusTable) -> Option<Snapshot> {
-    let mut snapshot = begun(alloc, next_id(table));
+fn beside_5(alloc: Global, statuses: &StatusTable) -> Option<Snapshot> {
+    let mut snapshot = begun(alloc, next_id(statuses));
     match snapshot.add_transaction(&owner(alloc, 5)) {
         Ok(()) => Some(snapshot),
         Err(_) => None,
@@ -37,11 +37,11 @@ fn is_seen(
     version: &Tuple,
     snapshot: &Snapshot,
     own: &OwnIds,
-    table: &StatusTable,
+    statuses: &StatusTable,
 ) -> Option<bool> {
     version.is_version();
-    let is_seen = visible_header(&version.header, snapshot, own, table);
-    if visible(version, snapshot, own, table) == is_seen {
+    let is_seen = visible_header(&version.header, snapshot, own, statuses);
+    if visible(version, snapshot, own, statuses) == is_seen {
         Some(is_seen)
     } else {
         None
@@ -49,23 +49,23 @@ fn is_seen(
 }
 
 /// Whether the owner of id 5, or another reader, sees a version.
-pub fn sees(alloc: Global, table: &StatusTable, life: Life, is_owner: bool) -> Option<bool> {
+pub fn sees(alloc: Global, statuses: &StatusTable, life: Life, is_owner: bool) -> Option<bool> {
     let version = version_of(life)?;
-    let snapshot = beside_5(alloc, table)?;
+    let snapshot = beside_5(alloc, statuses)?;
     let own = if is_owner {
         owner(alloc, 5)
     } else {
         nobody(alloc)
     };
-    is_seen(&version, &snapshot, &own, table)
+    is_seen(&version, &snapshot, &own, statuses)
 }
 
 /// The fate of a version at a horizon, where its header and the whole of it say the same.
-pub fn fate_at(table: &StatusTable, life: Life, horizon: u32) -> Option<Fate> {
+pub fn fate_at(statuses: &StatusTable, life: Life, horizon: u32) -> Option<Fate> {
     let version = version_of(life)?;
     version.is_version();
-    let told = fate_of(&version.header, normal(horizon), table);
-    if fate(&version, normal(horizon), table) == told {
+    let told = fate_of(&version.header, normal(horizon), statuses);
+    if fate(&version, normal(horizon), statuses) == told {
         Some(told)
     } else {
         None
@@ -73,11 +73,11 @@ pub fn fate_at(table: &StatusTable, life: Life, horizon: u32) -> Option<Fate> {
 }
 
 /// The mask of a version once it has its hints.
-pub fn hinted(table: &StatusTable, life: Life) -> Option<u16> {
+pub fn hinted(statuses: &StatusTable, life: Life) -> Option<u16> {
     let mut header = header_of(0, life);
     match fault_of(&header) {
         None => {
-            set_hints(&mut header, table);
+            set_hints(&mut header, statuses);
             Some(header.mask)
         }
         Some(_) => None,
@@ -85,8 +85,8 @@ pub fn hinted(table: &StatusTable, life: Life) -> Option<u16> {
 }
 
 /// Whether one who began when 6 was next reads an id.
-pub fn reads_id(alloc: Global, table: &StatusTable, x: u32) -> bool {
-    reads(normal(x), &begun(alloc, 6), &nobody(alloc), table)
+pub fn reads_id(alloc: Global, statuses: &StatusTable, x: u32) -> bool {
+    reads(normal(x), &begun(alloc, 6), &nobody(alloc), statuses)
 }
 
 /// Id 3 is committed, 4 is aborted, and 5 is in progress.

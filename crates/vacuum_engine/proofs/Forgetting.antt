@@ -144,15 +144,15 @@ module _ (w v : Window) (slots : List Slot) (aborted : (n : ℕ) (t : Version) �
 -- The engine.
 
 module _ (st : State) (u : Window) (w : World) (v : VacuumView) (agrees : Agrees st w) (maps : TrueMaps st) (keeps : KeepsVacuum st.heap (horizon_of st) v)
-    (young : (p : Tid) (t : Version) → version_in (slots_of st.heap) p ≡ Some t → IsYoung st.heap.table v.cutoff t.header) (t : Truncates st.heap.table u v.cutoff) where
+    (young : (p : Tid) (t : Version) → version_in (slots_of st.heap) p ≡ Some t → IsYoung st.heap.statuses v.cutoff t.header) (t : Truncates st.heap.statuses u v.cutoff) where
   abbrev before : Window
-  before = st.heap.table
+  before = st.heap.statuses
 
   abbrev c : ℕ
   c = v.cutoff
 
   abbrev after : HeapView
-  after = record st.heap { table = u }
+  after = record st.heap { statuses = u }
 
   is : IsWindow before
   is = agrees.sound.window
@@ -312,12 +312,12 @@ module _ (st : State) (u : Window) (w : World) (v : VacuumView) (agrees : Agrees
 pub forgetting-led : (st : State) (h : HeapView) (w : World) (v : VacuumView) → Agrees st w → TrueMaps st → KeepsVacuum st.heap (horizon_of st) v
     → IsVacuumed st.heap (horizon_of st) v → v.mode ≡ Aggressive → ForgetsBefore st.heap h v.cutoff → KeepsAllTargets st (with_heap st h)
 forgetting-led st h w v agrees maps keeps vacuumed mode f =
-    subst (λ (g : HeapView). KeepsAllTargets st (with_heap st g)) (sym f.is) (forgotten-led st h.table w v agrees maps keeps (vacuumed.young mode) f.truncates)
+    subst (λ (g : HeapView). KeepsAllTargets st (with_heap st g)) (sym f.is) (forgotten-led st h.statuses w v agrees maps keeps (vacuumed.young mode) f.truncates)
 
 pub forgetting-agrees : (st : State) (h : HeapView) (w : World) (v : VacuumView) → Agrees st w → TrueMaps st → KeepsVacuum st.heap (horizon_of st) v
     → IsVacuumed st.heap (horizon_of st) v → v.mode ≡ Aggressive → ForgetsBefore st.heap h v.cutoff → Agrees (with_heap st h) w × TrueMaps (with_heap st h)
 forgetting-agrees st h w v agrees maps keeps vacuumed mode f =
     subst (λ (g : HeapView). Agrees (with_heap st g) w × TrueMaps (with_heap st g)) (sym f.is) (
-      forgotten-agrees st h.table w v agrees maps keeps (vacuumed.young mode) f.truncates,
-      forgotten-maps st h.table w v agrees maps keeps (vacuumed.young mode) f.truncates,
+      forgotten-agrees st h.statuses w v agrees maps keeps (vacuumed.young mode) f.truncates,
+      forgotten-maps st h.statuses w v agrees maps keeps (vacuumed.young mode) f.truncates,
     )

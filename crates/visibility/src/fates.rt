@@ -13,34 +13,34 @@ use xid_circle::Xid;
 
 /// The fate of the version with this header. It is dead where its inserter was rolled back, or where its deleter
 /// committed and stands before the horizon. No hint is read.
-pub fn fate_of(header: &Header, horizon: Xid, table: &StatusTable) -> Fate
+pub fn fate_of(header: &Header, horizon: Xid, statuses: &StatusTable) -> Fate
     requires { header_fault header.now ≡ None }
-    ensures { (result ≡ Fate.Dead) ↔ IsDead table.now horizon.0 header.now }
+    ensures { (result ≡ Fate.Dead) ↔ IsDead statuses.now horizon.0 header.now }
 {
-    if !header.is_frozen() && is_aborted(header.xmin, table) {
+    if !header.is_frozen() && is_aborted(header.xmin, statuses) {
         return Fate::Dead;
     }
-    if is_committed(header.xmax, table) && stands_before(header.xmax, horizon) {
+    if is_committed(header.xmax, statuses) && stands_before(header.xmax, horizon) {
         return Fate::Dead;
     }
     Fate::Kept
 }
 
 /// The fate of a version.
-pub fn fate(tuple: &Tuple, horizon: Xid, table: &StatusTable) -> Fate
-    ensures { (result ≡ Fate.Dead) ↔ IsDead table.now horizon.0 tuple.now.header }
+pub fn fate(tuple: &Tuple, horizon: Xid, statuses: &StatusTable) -> Fate
+    ensures { (result ≡ Fate.Dead) ↔ IsDead statuses.now horizon.0 tuple.now.header }
 {
-    fate_of(&tuple.header, horizon, table)
+    fate_of(&tuple.header, horizon, statuses)
 }
 
-fn is_committed(x: Xid, table: &StatusTable) -> bool
-    ensures { IsTrue result ↔ IsCommitted table.now x.0 }
+fn is_committed(x: Xid, statuses: &StatusTable) -> bool
+    ensures { IsTrue result ↔ IsCommitted statuses.now x.0 }
 {
-    matches!(table.status(x), Status::Committed)
+    matches!(statuses.status(x), Status::Committed)
 }
 
-fn is_aborted(x: Xid, table: &StatusTable) -> bool
-    ensures { IsTrue result ↔ IsAborted table.now x.0 }
+fn is_aborted(x: Xid, statuses: &StatusTable) -> bool
+    ensures { IsTrue result ↔ IsAborted statuses.now x.0 }
 {
-    matches!(table.status(x), Status::Aborted)
+    matches!(statuses.status(x), Status::Aborted)
 }

@@ -36,11 +36,11 @@ fn deleter_marks(none: bool, status: Status) -> u16
 }
 
 /// A header with hints.
-fn hinted(header: &Header, table: &StatusTable) -> Header
-    ensures { result ≡ hinted table.now header.now }
+fn hinted(header: &Header, statuses: &StatusTable) -> Header
+    ensures { result ≡ hinted statuses.now header.now }
 {
-    let inserter = maker_marks(header.is_frozen(), table.status(header.xmin));
-    let deleter = deleter_marks(header.xmax.0 == 0, table.status(header.xmax));
+    let inserter = maker_marks(header.is_frozen(), statuses.status(header.xmin));
+    let deleter = deleter_marks(header.xmax.0 == 0, statuses.status(header.xmax));
     Header {
         xmin: header.xmin,
         xmax: header.xmax,
@@ -52,13 +52,13 @@ fn hinted(header: &Header, table: &StatusTable) -> Header
 
 /// Notes in a header what became of its inserter and its deleter, if they have finished. Nothing else changes, and no
 /// verdict does.
-pub fn set_hints(header: &mut Header, table: &StatusTable)
+pub fn set_hints(header: &mut Header, statuses: &StatusTable)
     requires { header_fault header.old ≡ None }
-    ensures hints { header.new ≡ hinted table.now header.old }
-    ensures true_hints { AreTrue table.now header.new }
+    ensures hints { header.new ≡ hinted statuses.now header.old }
+    ensures true_hints { AreTrue statuses.now header.new }
     ensures faultless { header_fault header.new ≡ None }
 {
-    let with_hints = hinted(header, table);
+    let with_hints = hinted(header, statuses);
     *header = with_hints;
 }
 

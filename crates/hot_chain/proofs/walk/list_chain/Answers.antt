@@ -11,7 +11,7 @@ walk-init c =
 
 pub push-requires : goal.push-requires
 push-requires c =
-    let next = next_in_chain (has_aborted c.args.table.now) c.args.page.now.slots in
+    let next = next_in_chain (has_aborted c.args.statuses.now) c.args.page.now.slots in
     let first = first_of c.args.page.now.slots c.args.number in
     let w : Walk next first c.walk.visited.items (Some c.in-Some.n) = subst (Walk next first c.walk.visited.items) c.in-Some.is c.walk.invariant in
     let new = new-from_contains c.in-Some.n c.walk.visited.items c.deref.result.now false c.deref.ensures.0 (sym c.if-contains.ensures.value) in
@@ -19,7 +19,7 @@ push-requires c =
 
 pub walk-smaller : goal.walk-smaller
 walk-smaller c =
-    let next = next_in_chain (has_aborted c.args.table.now) c.args.page.now.slots in
+    let next = next_in_chain (has_aborted c.args.statuses.now) c.args.page.now.slots in
     let first = first_of c.args.page.now.slots c.args.number in
     let w : Walk next first c.walk.visited.items (Some c.in-Some.n) = subst (Walk next first c.walk.visited.items) c.in-Some.is c.walk.invariant in
     let new = new-from_contains c.in-Some.n c.walk.visited.items c.deref.result.now false c.deref.ensures.0 (sym c.if-contains.ensures.value) in
@@ -29,7 +29,7 @@ walk-smaller c =
 pub walk-preserved : goal.walk-preserved
 walk-preserved c =
     let few : length c.args.page.now.slots ≤ 291 = omega (arith, c.slots-count.ensures.count, c.slots-count.ensures.limit) in
-    let next = next_in_chain (has_aborted c.args.table.now) c.args.page.now.slots in
+    let next = next_in_chain (has_aborted c.args.statuses.now) c.args.page.now.slots in
     let first = first_of c.args.page.now.slots c.args.number in
     let w : Walk next first c.walk.visited.items (Some c.in-Some.n) = subst (Walk next first c.walk.visited.items) c.in-Some.is c.walk.invariant in
     let new = new-from_contains c.in-Some.n c.walk.visited.items c.deref.result.now false c.deref.ensures.0 (sym c.if-contains.ensures.value) in

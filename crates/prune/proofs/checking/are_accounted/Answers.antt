@@ -9,5 +9,5 @@ returns-then-not-is_allowed c = off-because _ (λ all. refused c.is_allowed.resu
     (all c.loop-number.number (omega (arith, c.loop-number.auto.number)) (omega (arith, c.loop-number-test.true, c.slots-number-end.ensures.count))))
 
 pub loop-number-preserved : goal.loop-number-preserved
-loop-number-preserved c = λ n from lt. so-far (λ n. 1 ≤ n → IsLooseRight c.args.table.now c.args.page.now.slots c.args.marks.now c.args.named.now n) c.loop-number.number
+loop-number-preserved c = λ n from lt. so-far (λ n. 1 ≤ n → IsLooseRight c.args.statuses.now c.args.page.now.slots c.args.marks.now c.args.named.now n) c.loop-number.number
     (λ k lt from. c.loop-number.invariant k from lt) (λ _. taken c.is_allowed.result _ c.if-not-is_allowed.false c.is_allowed.ensures) n lt from

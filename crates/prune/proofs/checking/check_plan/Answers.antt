@@ -11,7 +11,7 @@ use Rattle.prune.proofs.checking.check_plan.Goals as goal
 pub mark_page-requires : goal.mark_page-requires
 mark_page-requires c = record {
   blank = λ n. loose-everywhere 292 n;
-  doubtful = subst (λ (xs : List ℕ). ListsAllBut (PlainlyStays c.args.table.now c.args.horizon.0 c.args.page.now.slots) 0 xs (length c.args.page.now.slots + 1))
+  doubtful = subst (λ (xs : List ℕ). ListsAllBut (PlainlyStays c.args.statuses.now c.args.horizon.0 c.args.page.now.slots) 0 xs (length c.args.page.now.slots + 1))
       (sym c.as_slice.ensures.value) c.list_doubtful.ensures;
 }
 
@@ -26,7 +26,7 @@ returns-then-have_prefixes-clause-exact c =
     let o : AreInOrder c.slots.result 0 c.deref.result.now = taken c.are_in_order.result _ c.if-not-are_in_order.false c.are_in_order.ensures in
     let p : AreInOrder (length c.args.page.now.slots) 0 c.args.plan.now.actions.items =
     subst (λ (n : ℕ). AreInOrder n 0 c.args.plan.now.actions.items) c.slots.ensures.count (subst (AreInOrder c.slots.result 0) c.deref.ensures.0 o) in
-    checked c.args.table.now c.args.horizon.0 c.args.page.now c.args.plan.now.change c.args.plan.now.actions.items c.named_by-named.result c.mark_page.new.marks c.are_accounted.result few
+    checked c.args.statuses.now c.args.horizon.0 c.args.page.now c.args.plan.now.change c.args.plan.now.actions.items c.named_by-named.result c.mark_page.new.marks c.are_accounted.result few
     (taken c.is_fresh.result _ c.if-not-is_fresh.false c.is_fresh.ensures) p
     (subst (λ (l : List (ℕ × Action)). (n : ℕ) → named_at c.named_by-named.result n ≡ action_of l n) c.deref-2.ensures.0 c.named_by-named.ensures)
     c.mark_page.ensures (taken c.have_prefixes.result _ c.if-have_prefixes.true c.have_prefixes.ensures) c.are_accounted.ensures
@@ -37,8 +37,8 @@ returns-then-have_prefixes-clause-can_apply c = λ yes.
     let o : AreInOrder c.slots.result 0 c.deref.result.now = taken c.are_in_order.result _ c.if-not-are_in_order.false c.are_in_order.ensures in
     let p : AreInOrder (length c.args.page.now.slots) 0 c.args.plan.now.actions.items =
     subst (λ (n : ℕ). AreInOrder n 0 c.args.plan.now.actions.items) c.slots.ensures.count (subst (AreInOrder c.slots.result 0) c.deref.ensures.0 o) in
-    checks-can_apply c.args.table.now c.args.horizon.0 c.args.page.now c.args.plan.now.change c.args.plan.now.actions.items
-    ((checked c.args.table.now c.args.horizon.0 c.args.page.now c.args.plan.now.change c.args.plan.now.actions.items c.named_by-named.result c.mark_page.new.marks c.are_accounted.result few
+    checks-can_apply c.args.statuses.now c.args.horizon.0 c.args.page.now c.args.plan.now.change c.args.plan.now.actions.items
+    ((checked c.args.statuses.now c.args.horizon.0 c.args.page.now c.args.plan.now.change c.args.plan.now.actions.items c.named_by-named.result c.mark_page.new.marks c.are_accounted.result few
     (taken c.is_fresh.result _ c.if-not-is_fresh.false c.is_fresh.ensures) p
     (subst (λ (l : List (ℕ × Action)). (n : ℕ) → named_at c.named_by-named.result n ≡ action_of l n) c.deref-2.ensures.0 c.named_by-named.ensures)
     c.mark_page.ensures (taken c.have_prefixes.result _ c.if-have_prefixes.true c.have_prefixes.ensures) c.are_accounted.ensures).0 yes)

@@ -6,7 +6,7 @@ use Rattle.prune.proofs.dead.first_death.Goals as goal
 
 pub loop-number-init : goal.loop-number-init
 loop-number-init c =
-    let w = c.args.table.now in
+    let w = c.args.statuses.now in
     let turn = next-turn w c.next.result.0 c.turn_of.result c.unwrap_or.result c.is_window.ensures c.next.ensures.value c.turn_of.ensures c.unwrap_or.ensures in (
       live-none w c.args.horizon.0 c.args.page.now.slots c.unwrap_or.result (omega arith),
       (λ e. absurd (cc)),
@@ -18,7 +18,7 @@ loop-number-init c =
 pub loop-number-preserved : goal.loop-number-preserved
 loop-number-preserved c =
     let found = c.in-Some.ensures in
-    let w = c.args.table.now in
+    let w = c.args.statuses.now in
     let slots = c.args.page.now.slots in
     let number : ℕ = c.loop-number.number in
     let within : number ≤ length slots = omega (arith, c.slots.ensures.count, c.loop-number-test.true) in
@@ -36,5 +36,5 @@ loop-number-preserved c =
 pub returns : goal.returns
 returns c =
     let past : length c.args.page.now.slots < c.loop-number.number = omega (arith, c.slots.ensures.count, c.loop-number-test.false) in
-    let live = live-all c.args.table.now c.args.horizon.0 c.args.page.now.slots c.loop-number.number c.loop-number.outlook.turn past c.loop-number.invariant.0 in
+    let live = live-all c.args.statuses.now c.args.horizon.0 c.args.page.now.slots c.loop-number.number c.loop-number.outlook.turn past c.loop-number.invariant.0 in
     (live.0, live.1, c.loop-number.invariant.4)

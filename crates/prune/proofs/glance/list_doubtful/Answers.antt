@@ -6,7 +6,7 @@ use Rattle.prune.proofs.glance.list_doubtful.Goals as goal
 
 pub returns : goal.returns
 returns c =
-    let w = c.args.table.now in
+    let w = c.args.statuses.now in
     let slots = c.args.page.now.slots in
     let back : List ℕ = c.list_backwards.new.doubtful.items in
     let long : length c.reverse.new.self ≡ length back = c.reverse.ensures.len ∙ ap length c.as_mut_slice.ensures.value in

@@ -7,13 +7,13 @@ use Rattle.prune.proofs.marks.mark_chain.Goals as goal
 pub mark_all-requires : goal.mark_all-requires
 mark_all-requires c =
     let few : length c.args.page.now.slots ≤ 291 = omega (arith, c.slots-limit.ensures.count, c.slots-limit.ensures.limit) in
-    numbers-from_chain (has_aborted c.args.table.now) c.args.page.now.slots c.args.root c.args.chain.now c.requires.chain few
+    numbers-from_chain (has_aborted c.args.statuses.now) c.args.page.now.slots c.args.root c.args.chain.now c.requires.chain few
 
 pub mark_all-requires-2 : goal.mark_all-requires-2
 mark_all-requires-2 c =
     let few : length c.args.page.now.slots ≤ 291 = omega (arith, c.slots-limit.ensures.count, c.slots-limit.ensures.limit) in
     numbers-take c.args.chain.now c.cut_count-cut.result c.cut_count-cut.ensures.within
-    (numbers-from_chain (has_aborted c.args.table.now) c.args.page.now.slots c.args.root c.args.chain.now c.requires.chain few)
+    (numbers-from_chain (has_aborted c.args.statuses.now) c.args.page.now.slots c.args.root c.args.chain.now c.requires.chain few)
 
 pub returns : goal.returns
 returns c = record {

@@ -7,7 +7,7 @@ use Rattle.prune.proofs.marks.mark_page.Goals as goal
 
 pub loop-root-preserved : goal.loop-root-preserved
 loop-root-preserved c =
-    let w = c.args.table.now in
+    let w = c.args.statuses.now in
     let slots = c.args.page.now.slots in
     let i : ℕ = c.loop-root.root-index in
     elim c.if-is_root.branch [
@@ -21,5 +21,5 @@ loop-root-preserved c =
 pub returns : goal.returns
 returns c =
     let past : length c.args.doubtful.now ≤ c.loop-root.root-index = omega (arith, c.loop-root-test.false) in
-    marking-all c.args.table.now c.args.horizon.0 c.args.page.now.slots c.args.doubtful.now c.loop-root.marks c.loop-root.root-index c.loop-root.invariant
+    marking-all c.args.statuses.now c.args.horizon.0 c.args.page.now.slots c.args.doubtful.now c.loop-root.marks c.loop-root.root-index c.loop-root.invariant
     (drop_all c.loop-root.root-index c.args.doubtful.now past)

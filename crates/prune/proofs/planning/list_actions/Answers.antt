@@ -21,7 +21,7 @@ push-requires c =
 pub loop-number-preserved : goal.loop-number-preserved
 loop-number-preserved c =
     let slots = c.args.page.now.slots in
-    let w = c.args.table.now in
+    let w = c.args.statuses.now in
     let few : length slots ≤ 291 = omega (arith, c.slots-limit.ensures.count, c.slots-limit.ensures.limit) in
     let marks = c.mark_page.new.marks in
     let i : ℕ = c.loop-number.number-index in
@@ -45,5 +45,5 @@ pub returns-clause-exact : goal.returns-clause-exact
 returns-clause-exact c =
     let few : length c.args.page.now.slots ≤ 291 = omega (arith, c.slots-limit.ensures.count, c.slots-limit.ensures.limit) in
     let past : length c.args.doubtful.now ≤ c.loop-number.number-index = omega (arith, c.loop-number-test.false) in
-    listing-plan c.args.table.now c.args.horizon.0 c.args.page.now.slots c.args.doubtful.now c.mark_page.new.marks c.loop-number.actions.items c.loop-number.number-index
+    listing-plan c.args.statuses.now c.args.horizon.0 c.args.page.now.slots c.args.doubtful.now c.mark_page.new.marks c.loop-number.actions.items c.loop-number.number-index
     few c.mark_page.ensures c.loop-number.invariant (drop_all c.loop-number.number-index c.args.doubtful.now past)

@@ -18,7 +18,7 @@ returns-in_ok-tell_reply-in-Some-VacuumFinish-clause-done c =
 pub returns-in_ok-show_ids-in-Some-Ids-clause-done : goal.returns-in_ok-show_ids-in-Some-Ids-clause-done
 returns-in_ok-show_ids-in-Some-Ids-clause-done c =
     let says = rw (c.in-Some-Ids.is, c.in-Some-Ids.field-0-is) at c.in_ok-step.ensures in
-    (showed_ids (next_id c.args.engine.now.core.heap.table) c.args.engine.now.core.heap.table.first, says.0, says.1, (refl, refl, refl), c.in_ok-show_ids-in-Some-Ids.ensures)
+    (showed_ids (next_id c.args.engine.now.core.heap.statuses) c.args.engine.now.core.heap.statuses.first, says.0, says.1, (refl, refl, refl), c.in_ok-show_ids-in-Some-Ids.ensures)
 
 pub returns-in_ok-show_page-in-Some-Page-clause-done : goal.returns-in_ok-show_page-in-Some-Page-clause-done
 returns-in_ok-show_page-in-Some-Page-clause-done c =

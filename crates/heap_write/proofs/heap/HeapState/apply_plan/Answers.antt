@@ -12,7 +12,7 @@ pub invariant_of-self : goal.invariant_of-self
 invariant_of-self c =
     let e = c.edit.ensures.edits in (
       c.self.invariant.0,
-      hints-ended c.self.inside.table c.self.inside.pages.pages c.edit.new.self.pages c.self.inside.hints.turns c.end.new.self.turns c.args.number e.1 (ap (λ (p : PagesView). p.pages) e.4) c.end.ensures.turns
+      hints-ended c.self.inside.statuses c.self.inside.pages.pages c.edit.new.self.pages c.self.inside.hints.turns c.end.new.self.turns c.args.number e.1 (ap (λ (p : PagesView). p.pages) e.4) c.end.ensures.turns
           c.self.invariant.1,
     )
 
@@ -23,6 +23,6 @@ returns c =
     let pages = c.self.inside.pages in
     let actions = c.args.plan.now.actions.items in
     let done : e.1 ≡ applied actions e.0 = search rules in
-    let after : HeapView = record { pages = c.edit.new.self; table = c.self.inside.table; indexes = c.self.inside.indexes; max_pages = c.self.inside.max_pages } in
+    let after : HeapView = record { pages = c.edit.new.self; statuses = c.self.inside.statuses; indexes = c.self.inside.indexes; max_pages = c.self.inside.max_pages } in
     subst (λ (h : HeapView). after ≡ with_applied h n actions) c.self.view_is
     (ap (λ (p : PagesView). record after { pages = p }) (e.4 ∙ ap (λ (page : PageView). with_page pages n page) (done ∙ ap (applied actions) (sym (page-at pages.pages n e.0 e.2)))))

@@ -23,15 +23,15 @@ returns-clause-ok c =
     let e = c.write.ensures.writes in
     let away : MarksColdUpdated e.0 e.1 c.args.place c.args.place x = search rules in
     let free = iff_false c.needs_freeze.ensures c.if-needs_freeze.false in
-    let takes = takes-grown h.table c.reserve_ids.new.table c.take_ids-x.new.table own c.reserve_ids.new.own c.take_ids-x.new.own x reserved.ids reserved.own reserved.none c.take_ids-x.ensures.takes in
-    let h' : HeapView = record { pages = c.write.new.self; table = c.take_ids-x.new.table; indexes = c.self.inside.indexes; max_pages = c.self.inside.max_pages } in
+    let takes = takes-grown h.statuses c.reserve_ids.new.statuses c.take_ids-x.new.statuses own c.reserve_ids.new.own c.take_ids-x.new.own x reserved.ids reserved.own reserved.none c.take_ids-x.ensures.takes in
+    let h' : HeapView = record { pages = c.write.new.self; statuses = c.take_ids-x.new.statuses; indexes = c.self.inside.indexes; max_pages = c.self.inside.max_pages } in
     subst (λ (v : HeapView). VersionIsThere v c.args.place → Deletes v h' own c.take_ids-x.new.own c.args.place x) c.self.view_is
     (λ there. deletes h h' own c.take_ids-x.new.own c.args.place x e.0 e.1 free takes there e.2 away (ap (λ (p : PagesView). p.pages) e.4) (ap (λ (p : PagesView). p.marks) e.4) (λ n. refl) refl) (c.is_there.ensures.0 c.if-not-is_there.false)
 
 pub invariant_of-self : goal.invariant_of-self
 invariant_of-self c = (
   c.self.invariant.0,
-  hints-same_ids c.self.inside.table c.reserve_ids.new.table c.self.inside.pages.pages c.self.inside.hints.turns c.reserve_ids.ensures.ids c.self.invariant.1,
+  hints-same_ids c.self.inside.statuses c.reserve_ids.new.statuses c.self.inside.pages.pages c.self.inside.hints.turns c.reserve_ids.ensures.ids c.self.invariant.1,
 )
 
 pub write-requires-clause-ready : goal.write-requires-clause-ready
@@ -52,9 +52,9 @@ invariant_of-self-2 c =
     let hints = c.self.inside.hints.turns in
     let away : MarksColdUpdated e.0 e.1 place place x = search rules in
     let there : VersionIsThere (the_view c.self.inside) place = subst (λ (h : HeapView). VersionIsThere h place) (sym c.self.view_is) (c.is_there.ensures.0 c.if-not-is_there.false) in
-    let ready = hints-same_ids c.self.inside.table reserved.new.table pages hints reserved.ensures.ids c.self.invariant.1 in
-    let given = hints-taken reserved.new.table taken.new.table reserved.new.own taken.new.own x pages hints taken.ensures.takes taken.ensures.window ready in (
+    let ready = hints-same_ids c.self.inside.statuses reserved.new.statuses pages hints reserved.ensures.ids c.self.invariant.1 in
+    let given = hints-taken reserved.new.statuses taken.new.statuses reserved.new.own taken.new.own x pages hints taken.ensures.takes taken.ensures.window ready in (
       c.self.invariant.0,
-      hints-taken_away taken.new.table x place place pages c.write.new.self.pages e.0 e.1 hints c.expect_write.new.hints.turns e.2 (ap (λ (p : PagesView). p.pages) e.4) away
+      hints-taken_away taken.new.statuses x place place pages c.write.new.self.pages e.0 e.1 hints c.expect_write.new.hints.turns e.2 (ap (λ (p : PagesView). p.pages) e.4) away
           (there-at (the_view c.self.inside) place e.0 there e.2) c.expect_write.ensures given,
     )

@@ -29,7 +29,7 @@ pub returns-in-Err-clause-fault : goal.returns-in-Err-clause-fault
 returns-in-Err-clause-fault c =
     let h = the_view c.self.inside in
     let free = iff_false c.needs_freeze.ensures c.if-needs_freeze.false in
-    let P : HeapView → ℕ → Type 0 = λ v size. (¬ NeedsFreeze v.table c.args.own.now) × (¬ TableIsFull v size) × RootNeedsMemory v c.args.own.now size in
+    let P : HeapView → ℕ → Type 0 = λ v size. (¬ NeedsFreeze v.statuses c.args.own.now) × (¬ TableIsFull v size) × RootNeedsMemory v c.args.own.now size in
     let unassigned_levels = needs-memory h c.args.own.now c.row_size.result c.in-Err.ensures.needs in
     subst (λ v. P v (rounded_size_of c.args.row.now)) c.self.view_is (subst (λ size. P h size) c.row_size.ensures.value (free, unassigned_levels.0, unassigned_levels.1))
 
@@ -48,14 +48,14 @@ returns-in-Ok-Some-clause-fault c =
 pub returns-in-Ok-Some-clause-err : goal.returns-in-Ok-Some-clause-err
 returns-in-Ok-Some-clause-err c =
     let h = the_view c.self.inside in
-    let reserved = keeps-viewed h c.args.self.now _ c.self.view_is c.reserve_place.ensures.same (same-ids c.self.inside.table) (λ n. refl) refl in
+    let reserved = keeps-viewed h c.args.self.now _ c.self.view_is c.reserve_place.ensures.same (same-ids c.self.inside.statuses) (λ n. refl) refl in
     on_err_weaker c.insert_at.result (λ kept. keeps-then c.args.self.now _ c.insert_at.new.self reserved kept) c.insert_at.ensures.err
 
 pub invariant_of-self : goal.invariant_of-self
 invariant_of-self c =
     let placed = c.reserve_place in (
       c.self.invariant.0,
-      hints-grown c.self.inside.table c.self.inside.table c.self.inside.pages placed.new.pages c.self.inside.hints.turns placed.new.hints.turns (same-ids c.self.inside.table) placed.ensures.same
+      hints-grown c.self.inside.statuses c.self.inside.statuses c.self.inside.pages placed.new.pages c.self.inside.hints.turns placed.new.hints.turns (same-ids c.self.inside.statuses) placed.ensures.same
           placed.ensures.hints c.self.invariant.1,
     )
 
@@ -63,6 +63,6 @@ pub invariant_of-self-in-Err : goal.invariant_of-self-in-Err
 invariant_of-self-in-Err c =
     let placed = c.reserve_place in (
       c.self.invariant.0,
-      hints-grown c.self.inside.table c.self.inside.table c.self.inside.pages placed.new.pages c.self.inside.hints.turns placed.new.hints.turns (same-ids c.self.inside.table) placed.ensures.same
+      hints-grown c.self.inside.statuses c.self.inside.statuses c.self.inside.pages placed.new.pages c.self.inside.hints.turns placed.new.hints.turns (same-ids c.self.inside.statuses) placed.ensures.same
           placed.ensures.hints c.self.invariant.1,
     )

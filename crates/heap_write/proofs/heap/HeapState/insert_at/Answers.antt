@@ -19,9 +19,9 @@ returns-clause-takes c =
     let own' = c.take_ids-x.new.own in
     let x = c.take_ids-x.result.0 in
     let reserved = c.reserve_ids.ensures in
-    let takes = takes-grown c.self.inside.table c.reserve_ids.new.table c.take_ids-x.new.table own c.reserve_ids.new.own own' x reserved.ids reserved.own reserved.none c.take_ids-x.ensures.takes in
-    subst (λ (h : HeapView). TakesIds h.table c.put_root-place.new.self.table own own' x) c.self.view_is
-    (subst (λ (w : Window). TakesIds c.self.inside.table w own own' x) (sym c.put_root-place.ensures.table) takes)
+    let takes = takes-grown c.self.inside.statuses c.reserve_ids.new.statuses c.take_ids-x.new.statuses own c.reserve_ids.new.own own' x reserved.ids reserved.own reserved.none c.take_ids-x.ensures.takes in
+    subst (λ (h : HeapView). TakesIds h.statuses c.put_root-place.new.self.statuses own own' x) c.self.view_is
+    (subst (λ (w : Window). TakesIds c.self.inside.statuses w own own' x) (sym c.put_root-place.ensures.statuses) takes)
 
 refusal : {X E : Type 0} (r : Result X E) (P : Type 0) → is_err r ≡ true → OnErr r P → P
 refusal (Ok x) P e needs = absurd (true≢false (sym e))
@@ -44,7 +44,7 @@ invariant_of-self c =
       | then-is_err-via-then-is_err w ↦ rw w.self-inside-is c.self.invariant
       | then-is_err-via-else-is_err+then-is_err-2 w ↦ rw w.self-inside-is (
         c.self.invariant.0,
-        hints-same_ids c.self.inside.table w.reserve_ids.new.table pages hints w.reserve_ids.ensures.ids c.self.invariant.1,
+        hints-same_ids c.self.inside.statuses w.reserve_ids.new.statuses pages hints w.reserve_ids.ensures.ids c.self.invariant.1,
       )
     ]
 
@@ -54,5 +54,5 @@ invariant_of-self-2 c =
     let reserved = c.reserve_ids in
     let pages = c.self.inside.pages.pages in
     let hints = c.self.inside.hints.turns in
-    let ready = hints-same_ids c.self.inside.table reserved.new.table pages hints reserved.ensures.ids c.self.invariant.1 in
-    (c.self.invariant.0, hints-taken reserved.new.table taken.new.table reserved.new.own taken.new.own taken.result.0 pages hints taken.ensures.takes taken.ensures.window ready)
+    let ready = hints-same_ids c.self.inside.statuses reserved.new.statuses pages hints reserved.ensures.ids c.self.invariant.1 in
+    (c.self.invariant.0, hints-taken reserved.new.statuses taken.new.statuses reserved.new.own taken.new.own taken.result.0 pages hints taken.ensures.takes taken.ensures.window ready)

@@ -12,7 +12,7 @@ pub returns-in-Some : goal.returns-in-Some
 returns-in-Some c =
     let answer = c.next_row.result in
     let h = the_view c.self.inside in
-    let seen = IsVisible h.table c.args.snapshot.now c.args.own.now.ids in
-    let found = subst (λ (o : Option IndexView). NextRow h.table seen (slots_of h) (unwrap_or (entries_of o) []) c.args.span.now answer) c.in-Some.ensures c.next_row.ensures in
-    subst (λ (v : HeapView). NextRow v.table (IsVisible v.table c.args.snapshot.now c.args.own.now.ids) (slots_of v) (entries_in v.indexes c.args.span.now.index) c.args.span.now answer)
+    let seen = IsVisible h.statuses c.args.snapshot.now c.args.own.now.ids in
+    let found = subst (λ (o : Option IndexView). NextRow h.statuses seen (slots_of h) (unwrap_or (entries_of o) []) c.args.span.now answer) c.in-Some.ensures c.next_row.ensures in
+    subst (λ (v : HeapView). NextRow v.statuses (IsVisible v.statuses c.args.snapshot.now c.args.own.now.ids) (slots_of v) (entries_in v.indexes c.args.span.now.index) c.args.span.now answer)
     c.self.view_is found

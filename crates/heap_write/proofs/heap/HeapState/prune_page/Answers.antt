@@ -15,7 +15,7 @@ returns-then-is_empty c =
     let page = c.in-Some.page.now in
     let actions = c.plan-plan.result.actions.items in
     let at : slice_get h.pages.pages n ≡ Some page = subst (λ (v : HeapView). slice_get v.pages.pages n ≡ Some page) c.self.view_is (sym c.page.ensures ∙ ap option_copied c.in-Some.is) in
-    let exact = subst (λ (v : HeapView). IsPlan v.table horizon page.slots actions) c.self.view_is c.plan-plan.ensures.exact in
+    let exact = subst (λ (v : HeapView). IsPlan v.statuses horizon page.slots actions) c.self.view_is c.plan-plan.ensures.exact in
     let plan = subst (λ names. IsPlanOn h n horizon names) (named-none actions c.is_empty.result c.is_empty.ensures c.if-is_empty.true) (plan-at h n horizon page actions at exact) in
     subst (λ (v : HeapView). Prunes h v n horizon) (sym c.note_first_death.ensures) (empty-prunes h n horizon c.requires.within plan)
 
@@ -35,5 +35,5 @@ returns c =
     let page = c.in-Some.page.now in
     let actions = c.plan-plan.result.actions.items in
     let at : slice_get h.pages.pages n ≡ Some page = subst (λ (v : HeapView). slice_get v.pages.pages n ≡ Some page) c.self.view_is (sym c.page.ensures ∙ ap option_copied c.in-Some.is) in
-    let exact = subst (λ (v : HeapView). IsPlan v.table horizon page.slots actions) c.self.view_is c.plan-plan.ensures.exact in
+    let exact = subst (λ (v : HeapView). IsPlan v.statuses horizon page.slots actions) c.self.view_is c.plan-plan.ensures.exact in
     applied-prunes h c.apply_plan.new.self n horizon actions c.requires.within (plan-at h n horizon page actions at exact) c.apply_plan.ensures

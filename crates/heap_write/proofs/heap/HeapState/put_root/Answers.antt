@@ -3,7 +3,7 @@ use Rattle.heap_write.proofs.heap.HeapState.put_root.Goals as goal
 
 pub invariant_of-self : goal.invariant_of-self
 invariant_of-self c =
-    let w = c.self.inside.table in
+    let w = c.self.inside.statuses in
     let hints = c.self.inside.hints.turns in
     let kept = c.expect_root.new.hints.turns in
     let placed = c.put_version-tid in

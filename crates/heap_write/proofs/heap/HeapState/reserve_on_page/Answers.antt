@@ -27,18 +27,18 @@ returns-clause-needs c =
 pub invariant_of-self : goal.invariant_of-self
 invariant_of-self c = (
   c.self.invariant.0,
-  hints-same_ids c.self.inside.table c.reserve_ids.new.table c.self.inside.pages.pages c.self.inside.hints.turns c.reserve_ids.ensures.ids c.self.invariant.1,
+  hints-same_ids c.self.inside.statuses c.reserve_ids.new.statuses c.self.inside.pages.pages c.self.inside.hints.turns c.reserve_ids.ensures.ids c.self.invariant.1,
 )
 
 pub invariant_of-self-in_err-make_room_for : goal.invariant_of-self-in_err-make_room_for
 invariant_of-self-in_err-make_room_for c = (
   c.self.invariant.0,
-  hints-same_ids c.self.inside.table c.reserve_ids.new.table c.self.inside.pages.pages c.self.inside.hints.turns c.reserve_ids.ensures.ids c.self.invariant.1,
+  hints-same_ids c.self.inside.statuses c.reserve_ids.new.statuses c.self.inside.pages.pages c.self.inside.hints.turns c.reserve_ids.ensures.ids c.self.invariant.1,
 )
 
 pub invariant_of-self-2 : goal.invariant_of-self-2
 invariant_of-self-2 c = (
   c.self.invariant.0,
-  hints-grown c.self.inside.table c.reserve_ids.new.table c.self.inside.pages c.reserve_slot.new.pages c.self.inside.hints.turns c.self.inside.hints.turns c.reserve_ids.ensures.ids c.reserve_slot.ensures.same
+  hints-grown c.self.inside.statuses c.reserve_ids.new.statuses c.self.inside.pages c.reserve_slot.new.pages c.self.inside.hints.turns c.self.inside.hints.turns c.reserve_ids.ensures.ids c.reserve_slot.ensures.same
       refl c.self.invariant.1,
 )

@@ -16,7 +16,7 @@ returns-clause-keeps c = keeps-viewed (the_view c.self.inside) _ _ c.self.view_i
 
 pub returns-clause-chosen : goal.returns-clause-chosen
 returns-clause-chosen c =
-    let h : HeapView = record { pages = c.reserve_place.new.pages; table = c.reserve_ids.new.table; indexes = c.make_room.new.self; max_pages = c.self.inside.max_pages } in
+    let h : HeapView = record { pages = c.reserve_place.new.pages; statuses = c.reserve_ids.new.statuses; indexes = c.make_room.new.self; max_pages = c.self.inside.max_pages } in
     IfOk-weaker c.reserve_place.result (λ found. Reserves c.self.inside.pages c.reserve_place.new.pages c.self.inside.max_pages c.args.size found) (λ found. IsChosen h c.args.size found)
     (λ found reserves. reserves-chosen c.self.inside.pages h c.args.size found reserves) c.reserve_place.ensures.reserves
 
@@ -28,19 +28,19 @@ returns-clause-needs c =
 pub invariant_of-self : goal.invariant_of-self
 invariant_of-self c = (
   c.self.invariant.0,
-  hints-same_ids c.self.inside.table c.reserve_ids.new.table c.self.inside.pages.pages c.self.inside.hints.turns c.reserve_ids.ensures.ids c.self.invariant.1,
+  hints-same_ids c.self.inside.statuses c.reserve_ids.new.statuses c.self.inside.pages.pages c.self.inside.hints.turns c.reserve_ids.ensures.ids c.self.invariant.1,
 )
 
 pub invariant_of-self-in_err-make_room : goal.invariant_of-self-in_err-make_room
 invariant_of-self-in_err-make_room c = (
   c.self.invariant.0,
-  hints-same_ids c.self.inside.table c.reserve_ids.new.table c.self.inside.pages.pages c.self.inside.hints.turns c.reserve_ids.ensures.ids c.self.invariant.1,
+  hints-same_ids c.self.inside.statuses c.reserve_ids.new.statuses c.self.inside.pages.pages c.self.inside.hints.turns c.reserve_ids.ensures.ids c.self.invariant.1,
 )
 
 pub invariant_of-self-2 : goal.invariant_of-self-2
 invariant_of-self-2 c =
     let placed = c.reserve_place in (
       c.self.invariant.0,
-      hints-grown c.self.inside.table c.reserve_ids.new.table c.self.inside.pages placed.new.pages c.self.inside.hints.turns placed.new.hints.turns c.reserve_ids.ensures.ids placed.ensures.same
+      hints-grown c.self.inside.statuses c.reserve_ids.new.statuses c.self.inside.pages placed.new.pages c.self.inside.hints.turns placed.new.hints.turns c.reserve_ids.ensures.ids placed.ensures.same
           placed.ensures.hints c.self.invariant.1,
     )

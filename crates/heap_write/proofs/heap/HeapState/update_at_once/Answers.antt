@@ -32,8 +32,8 @@ update_on_page-requires-clause-heap_only c =
 pub returns-in-Ok-clause-takes : goal.returns-in-Ok-clause-takes
 returns-in-Ok-clause-takes c =
     let reserved = c.reserve_on_page-reserved.ensures in
-    takes-grown c.args.self.now.table c.reserve_on_page-reserved.new.self.table c.update_on_page.new.self.table c.args.own.now c.reserve_on_page-reserved.new.own c.update_on_page.new.own
-    c.update_on_page.result.0 reserved.keeps.table reserved.own reserved.none c.update_on_page.ensures.takes
+    takes-grown c.args.self.now.statuses c.reserve_on_page-reserved.new.self.statuses c.update_on_page.new.self.statuses c.args.own.now c.reserve_on_page-reserved.new.own c.update_on_page.new.own
+    c.update_on_page.result.0 reserved.keeps.statuses reserved.own reserved.none c.update_on_page.ensures.takes
 
 pub returns-in-Ok-clause-replaces : goal.returns-in-Ok-clause-replaces
 returns-in-Ok-clause-replaces c =

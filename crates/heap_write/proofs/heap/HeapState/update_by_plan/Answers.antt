@@ -28,7 +28,7 @@ returns-then-is_empty-clause-ok c =
     let actions = c.plan-plan.result.actions.items in
     let horizon = c.args.horizon.0 in
     let at : slice_get h.pages.pages n ≡ Some page = subst (λ (v : HeapView). slice_get v.pages.pages n ≡ Some page) c.self.view_is (sym c.page.ensures ∙ ap option_copied c.in-Some.is) in
-    let exact = subst (λ (v : HeapView). IsPlan v.table horizon page.slots actions) c.self.view_is c.plan-plan.ensures.exact in
+    let exact = subst (λ (v : HeapView). IsPlan v.statuses horizon page.slots actions) c.self.view_is c.plan-plan.ensures.exact in
     let plan = plan-at h n horizon page actions at exact in
     let empty = subst (λ names. IsPlanOn h n horizon names) (named-none actions c.is_empty.result c.is_empty.ensures c.if-is_empty.true) plan in
     let done = c.update_unpruned in
@@ -43,7 +43,7 @@ returns-then-is_empty-clause-fault c =
     let actions = c.plan-plan.result.actions.items in
     let horizon = c.args.horizon.0 in
     let at : slice_get h.pages.pages n ≡ Some page = subst (λ (v : HeapView). slice_get v.pages.pages n ≡ Some page) c.self.view_is (sym c.page.ensures ∙ ap option_copied c.in-Some.is) in
-    let exact = subst (λ (v : HeapView). IsPlan v.table horizon page.slots actions) c.self.view_is c.plan-plan.ensures.exact in
+    let exact = subst (λ (v : HeapView). IsPlan v.statuses horizon page.slots actions) c.self.view_is c.plan-plan.ensures.exact in
     let plan = plan-at h n horizon page actions at exact in
     let empty = subst (λ names. IsPlanOn h n horizon names) (named-none actions c.is_empty.result c.is_empty.ensures c.if-is_empty.true) plan in
     let done = c.update_unpruned in
@@ -57,7 +57,7 @@ update_on_pruned-requires-clause-planned c =
     let page = c.in-Some.page.now in
     let actions = c.plan-plan.result.actions.items in
     let at : slice_get h.pages.pages n ≡ Some page = subst (λ (v : HeapView). slice_get v.pages.pages n ≡ Some page) c.self.view_is (sym c.page.ensures ∙ ap option_copied c.in-Some.is) in
-    (c.self.inside.table, c.args.horizon.0, subst (λ (p : PageView). IsPlan c.self.inside.table c.args.horizon.0 p.slots actions) (sym (page-at h.pages.pages n page at)) c.plan-plan.ensures.exact)
+    (c.self.inside.statuses, c.args.horizon.0, subst (λ (p : PageView). IsPlan c.self.inside.statuses c.args.horizon.0 p.slots actions) (sym (page-at h.pages.pages n page at)) c.plan-plan.ensures.exact)
 
 pub update_on_pruned-requires-clause-can_apply : goal.update_on_pruned-requires-clause-can_apply
 update_on_pruned-requires-clause-can_apply c =
@@ -105,7 +105,7 @@ returns-then-row_size-room_after-clause-ok c =
     let actions = c.plan-plan.result.actions.items in
     let horizon = c.args.horizon.0 in
     let at : slice_get h.pages.pages n ≡ Some page = subst (λ (v : HeapView). slice_get v.pages.pages n ≡ Some page) c.self.view_is (sym c.page.ensures ∙ ap option_copied c.in-Some.is) in
-    let exact = subst (λ (v : HeapView). IsPlan v.table horizon page.slots actions) c.self.view_is c.plan-plan.ensures.exact in
+    let exact = subst (λ (v : HeapView). IsPlan v.statuses horizon page.slots actions) c.self.view_is c.plan-plan.ensures.exact in
     let plan = plan-at h n horizon page actions at exact in
     c.update_on_pruned.ensures.ok horizon plan
 
@@ -117,7 +117,7 @@ returns-then-row_size-room_after-clause-fault c =
     let actions = c.plan-plan.result.actions.items in
     let horizon = c.args.horizon.0 in
     let at : slice_get h.pages.pages n ≡ Some page = subst (λ (v : HeapView). slice_get v.pages.pages n ≡ Some page) c.self.view_is (sym c.page.ensures ∙ ap option_copied c.in-Some.is) in
-    let exact = subst (λ (v : HeapView). IsPlan v.table horizon page.slots actions) c.self.view_is c.plan-plan.ensures.exact in
+    let exact = subst (λ (v : HeapView). IsPlan v.statuses horizon page.slots actions) c.self.view_is c.plan-plan.ensures.exact in
     let plan = plan-at h n horizon page actions at exact in
     c.update_on_pruned.ensures.fault horizon plan
 
@@ -129,7 +129,7 @@ returns-else-row_size-room_after-clause-ok c =
     let actions = c.plan-plan.result.actions.items in
     let horizon = c.args.horizon.0 in
     let at : slice_get h.pages.pages n ≡ Some page = subst (λ (v : HeapView). slice_get v.pages.pages n ≡ Some page) c.self.view_is (sym c.page.ensures ∙ ap option_copied c.in-Some.is) in
-    let exact = subst (λ (v : HeapView). IsPlan v.table horizon page.slots actions) c.self.view_is c.plan-plan.ensures.exact in
+    let exact = subst (λ (v : HeapView). IsPlan v.statuses horizon page.slots actions) c.self.view_is c.plan-plan.ensures.exact in
     let plan = plan-at h n horizon page actions at exact in
     c.update_off_pruned.ensures.ok horizon plan
 
@@ -141,6 +141,6 @@ returns-else-row_size-room_after-clause-fault c =
     let actions = c.plan-plan.result.actions.items in
     let horizon = c.args.horizon.0 in
     let at : slice_get h.pages.pages n ≡ Some page = subst (λ (v : HeapView). slice_get v.pages.pages n ≡ Some page) c.self.view_is (sym c.page.ensures ∙ ap option_copied c.in-Some.is) in
-    let exact = subst (λ (v : HeapView). IsPlan v.table horizon page.slots actions) c.self.view_is c.plan-plan.ensures.exact in
+    let exact = subst (λ (v : HeapView). IsPlan v.statuses horizon page.slots actions) c.self.view_is c.plan-plan.ensures.exact in
     let plan = plan-at h n horizon page actions at exact in
     c.update_off_pruned.ensures.fault horizon plan

@@ -4,4 +4,4 @@ use Rattle.vacuum_engine.specs.State.{EngineView}
 use Rattle.session_core.proofs.engine.Engine.ids_left.Goals as goal
 
 pub returns : goal.returns
-returns c = subst (λ (e : EngineView). (n : ℕ) → CanGive e.core.heap.table n ↔ (n ≤ c.ids_left.result)) c.self.view_is c.ids_left.ensures
+returns c = subst (λ (e : EngineView). (n : ℕ) → CanGive e.core.heap.statuses n ↔ (n ≤ c.ids_left.result)) c.self.view_is c.ids_left.ensures

@@ -18,21 +18,21 @@ finish-requires c = λ x among.
 pub invariant_of-self : goal.invariant_of-self
 invariant_of-self c =
     let at = c.place_mut.ensures.value ∙ (sym c.take-session.ensures.value ∙ c.in-Some.is) in
-    rw c.take-session.ensures.after (keeps-close c.self.inside.sessions c.self.inside.heap.table _ c.args.s c.in-Some.session c.args.status at c.requires.finishes
-    (subst (λ ids. Finishes c.self.inside.heap.table c.finish.new.self.table ids c.args.status) c.as_slice.ensures c.finish.ensures.finishes) c.self.invariant)
+    rw c.take-session.ensures.after (keeps-close c.self.inside.sessions c.self.inside.heap.statuses _ c.args.s c.in-Some.session c.args.status at c.requires.finishes
+    (subst (λ ids. Finishes c.self.inside.heap.statuses c.finish.new.self.statuses ids c.args.status) c.as_slice.ensures c.finish.ensures.finishes) c.self.invariant)
 
 pub invariant_of-self-in_default : goal.invariant_of-self-in_default
 invariant_of-self-in_default c =
     let count = c.self.invariant.count in
     let within : c.args.s < length c.self.inside.sessions = omega (arith, c.requires.within) in
     let idle = c.place_mut.ensures.value ∙ (sym c.take-session.ensures.value ∙ none-unless c.take-session.result c.in_default.not-Some) in
-    rw c.take-session.ensures.after (keeps-shut c.self.inside.sessions c.self.inside.heap.table c.args.s within idle c.self.invariant)
+    rw c.take-session.ensures.after (keeps-shut c.self.inside.sessions c.self.inside.heap.statuses c.args.s within idle c.self.invariant)
 
 pub returns-in-Some : goal.returns-in-Some
 returns-in-Some c =
     let at : open_at c.self.inside.sessions c.args.s ≡ Some c.in-Some.session = c.place_mut.ensures.value ∙ (sym c.take-session.ensures.value ∙ c.in-Some.is) in
-    let ends : Finishes c.self.inside.heap.table c.finish.new.self.table c.in-Some.session.own.ids c.args.status =
-    subst (λ ids. Finishes c.self.inside.heap.table c.finish.new.self.table ids c.args.status) c.as_slice.ensures c.finish.ensures.finishes in
+    let ends : Finishes c.self.inside.heap.statuses c.finish.new.self.statuses c.in-Some.session.own.ids c.args.status =
+    subst (λ ids. Finishes c.self.inside.heap.statuses c.finish.new.self.statuses ids c.args.status) c.as_slice.ensures c.finish.ensures.finishes in
     let P : State → Type 0 = λ st. Closes st (record { settings = c.self.inside.settings; heap = c.finish.new.self; sessions = set c.self.inside.sessions c.args.s c.take-session.new.self }) c.args.s c.args.status in
     subst P c.self.view_is (record {
       settings = refl;
@@ -40,7 +40,7 @@ returns-in-Some c =
       indexes = c.finish.ensures.indexes;
       max_pages = c.finish.ensures.max_pages;
       sessions = ap (λ o. set c.self.inside.sessions c.args.s o) c.take-session.ensures.after;
-      finishes = λ e there. subst (λ (e : Session). Finishes c.self.inside.heap.table c.finish.new.self.table e.own.ids c.args.status) (same_Some c.in-Some.session e (sym at ∙ there)) ends;
+      finishes = λ e there. subst (λ (e : Session). Finishes c.self.inside.heap.statuses c.finish.new.self.statuses e.own.ids c.args.status) (same_Some c.in-Some.session e (sym at ∙ there)) ends;
       window = λ e there. c.finish.ensures.window;
       idle = λ none. absurd (none-some c.in-Some.session (sym none ∙ at));
     })

@@ -15,7 +15,7 @@ pub returns-in-Ok : goal.returns-in-Ok
 returns-in-Ok c = record {
   follows = (
       let e = c.in-Ok.session.now in
-      let G : HeapView → Option Row → Type 0 = λ h row. FirstFound h.table (IsVisible h.table e.snapshot e.own.ids) (slots_of h) (entries_in h.indexes 0) (pos c.args.key) c.args.key row in
+      let G : HeapView → Option Row → Type 0 = λ h row. FirstFound h.statuses (IsVisible h.statuses e.snapshot e.own.ids) (slots_of h) (entries_in h.indexes 0) (pos c.args.key) c.args.key row in
       subst (λ reply. Follows c.args.self.now (Get c.args.s c.args.key) reply c.args.self.now) (sym c.put_found.ensures)
       (Follows-get c.args.self.now c.args.s e c.args.key c.row.result c.in-Ok.ensures.1 c.in-Ok.ensures.2
       (subst (λ h. G h c.row.result) (ap (λ (st : State). st.heap) c.self.view_is) c.row.ensures)));

@@ -8,7 +8,7 @@ use Rattle.session_steps.proofs.engine.SessionEngine.ids_left.Goals as goal
 pub halves-init : goal.halves-init
 halves-init c = record {
   can = λ i lt. absurd (omega (arith, lt));
-  cannot = cannot-give c.table-table.result.now c.is_window.ensures;
+  cannot = cannot-give c.statuses-statuses.result.now c.is_window.ensures;
   apart = omega arith;
   bound = omega arith;
 }
@@ -37,6 +37,6 @@ halves-preserved c = record {
 
 pub returns : goal.returns
 returns c =
-    let is = c.table-table.ensures ∙ ap (λ (st : State). st.heap.table) c.self.view_is in
+    let is = c.statuses-statuses.ensures ∙ ap (λ (st : State). st.heap.statuses) c.self.view_is in
     subst (λ (w : Window). (n : ℕ) → CanGive w n ↔ (n ≤ c.halves.can)) is
-    (λ n. last-given c.table-table.result.now c.halves.can c.halves.cannot n c.halves.invariant.can c.halves.invariant.cannot (omega (arith, c.halves-test.false)))
+    (λ n. last-given c.statuses-statuses.result.now c.halves.can c.halves.cannot n c.halves.invariant.can c.halves.invariant.cannot (omega (arith, c.halves-test.false)))

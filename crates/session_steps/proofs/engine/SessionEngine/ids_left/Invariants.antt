@@ -5,8 +5,8 @@ use Rattle.session_steps.proofs.engine.SessionEngine.ids_left.Given as goal
 -- so many can be given, and so many cannot
 abbrev pub invariant-halves : goal.invariant-halves
 invariant-halves l = record {
-  can : CanGive l.table l.can;
-  cannot : ¬ CanGive l.table l.cannot;
+  can : CanGive l.statuses l.can;
+  cannot : ¬ CanGive l.statuses l.cannot;
   apart : l.can < l.cannot;
   bound : l.cannot ≤ 2144483649;
 }

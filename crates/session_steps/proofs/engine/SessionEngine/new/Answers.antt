@@ -10,7 +10,7 @@ use Rattle.session_steps.proofs.engine.SessionEngine.new.Goals as goal
 
 pub invariant_of-result : goal.invariant_of-result
 invariant_of-result c =
-    keeps-idle c.in-Ok.sessions c.new-3.result.table c.new-3.ensures.entries c.in-Ok.ensures (ap length c.in-Ok.ensures ∙ length-replicate {A = Option Session} 64 None)
+    keeps-idle c.in-Ok.sessions c.new-3.result.statuses c.new-3.ensures.entries c.in-Ok.ensures (ap length c.in-Ok.ensures ∙ length-replicate {A = Option Session} 64 None)
 
 pub returns-clause-new : goal.returns-clause-new
 returns-clause-new c = record {

@@ -9,4 +9,4 @@ invariant_of-self c =
     let count = c.self.invariant.count in
     let within : c.args.s < length c.self.inside.sessions = omega (arith, c.requires.within) in
     let idle : open_at c.self.inside.sessions c.args.s ≡ None = ap (λ (st : State). open_at st.sessions c.args.s) c.self.view_is ∙ c.requires.idle in
-    keeps-open c.self.inside.sessions c.self.inside.heap.table c.args.s _ within idle c.new.ensures.ids c.self.invariant
+    keeps-open c.self.inside.sessions c.self.inside.heap.statuses c.args.s _ within idle c.new.ensures.ids c.self.invariant

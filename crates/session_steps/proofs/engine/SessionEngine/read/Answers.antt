@@ -11,6 +11,6 @@ use Rattle.session_steps.proofs.engine.SessionEngine.read.Goals as goal
 pub returns : goal.returns
 returns c w agrees =
     let e = c.in_ok-session.session.now in
-    let G : HeapView → Option Row → Type 0 = λ h row. FirstFound h.table (IsVisible h.table e.snapshot e.own.ids) (slots_of h) (entries_in h.indexes 0) (pos c.args.key) c.args.key row in
+    let G : HeapView → Option Row → Type 0 = λ h row. FirstFound h.statuses (IsVisible h.statuses e.snapshot e.own.ids) (slots_of h) (entries_in h.indexes 0) (pos c.args.key) c.args.key row in
     reads-view c.args.self.now w c.args.s e c.args.key c.copy_of.result agrees c.in_ok-session.ensures.1
     (subst (G c.args.self.now.heap) (sym c.copy_of.ensures) (subst (λ h. G h c.row.result) (ap (λ (st : State). st.heap) c.self.view_is) c.row.ensures))

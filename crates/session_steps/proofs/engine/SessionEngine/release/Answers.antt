@@ -29,7 +29,7 @@ release-requires c =
     some-there c.args.self.now c.args.s c.in_ok-free.field-0.now c.open_mut.result.now c.in_ok-free.ensures.1 there (λ none. c.if-savepoints-eq0.false (c.savepoints.ensures ∙ none))
 
 pub invariant_of-self : goal.invariant_of-self
-invariant_of-self c = keeps-ids c.self.inside.sessions c.self.inside.heap.table c.args.s c.open_mut.result.now (record c.open_mut.result.now { own = c.release.new.self }) c.open_mut.ensures.value c.release.ensures.ids c.self.invariant
+invariant_of-self c = keeps-ids c.self.inside.sessions c.self.inside.heap.statuses c.args.s c.open_mut.result.now (record c.open_mut.result.now { own = c.release.new.self }) c.open_mut.ensures.value c.release.ensures.ids c.self.invariant
 
 pub returns : goal.returns
 returns c =

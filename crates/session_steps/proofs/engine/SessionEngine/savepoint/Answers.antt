@@ -26,7 +26,7 @@ returns-in_err-free c = record {
 }
 
 pub invariant_of-self : goal.invariant_of-self
-invariant_of-self c = keeps-ids c.self.inside.sessions c.self.inside.heap.table c.args.s c.open_mut.result.now (record c.open_mut.result.now { own = c.save.new.self }) c.open_mut.ensures.value c.save.ensures.ids c.self.invariant
+invariant_of-self c = keeps-ids c.self.inside.sessions c.self.inside.heap.statuses c.args.s c.open_mut.result.now (record c.open_mut.result.now { own = c.save.new.self }) c.open_mut.ensures.value c.save.ensures.ids c.self.invariant
 
 pub returns : goal.returns
 returns c =
