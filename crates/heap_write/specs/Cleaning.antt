@@ -13,7 +13,7 @@ use Rattle.space_maps.specs.declared.mark.Mark.{Mark}
 use Rattle.space_maps.specs.View.{says_visible}
 use Rattle.freeze.specs.Freezing.{FreezesPage}
 use Rattle.freeze.specs.AllVisible.{IsPageMark}
-use Rattle.root_index.specs.declared.entry.Entry.{Entry}
+use Rattle.index_nodes.specs.declared.entry.Entry.{Entry}
 use Rattle.root_index.specs.declared.progress.Progress.{Progress}
 use Rattle.root_index.specs.Pieces.{RemovesPiece}
 use Rattle.table_indexes.specs.Indexes.{entries_at, entries_in, IsInUse}

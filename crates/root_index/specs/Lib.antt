@@ -1,11 +1,3 @@
-pub mod Bounds
-pub mod Halves
-pub mod Lists
-pub mod Nodes
-pub mod Order
 pub mod Pieces
-pub mod Rows
-pub mod Sets
-pub mod Sweeps
 pub mod Trees
 pub mod View

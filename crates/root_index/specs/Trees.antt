@@ -1,8 +1,8 @@
 -- How an index keeps its entries.
 use Rattle.std.specs.Prelude.{◌≡◌, ◌<◌, ◌≤◌, ◌+◌, ◌^◌, ℕ, List, length}
-use Rattle.root_index.specs.declared.entry.Entry.{Entry}
-use Rattle.root_index.specs.Order.{IsAscending}
-use Rattle.root_index.specs.Nodes.{all, AreNeat}
+use Rattle.index_nodes.specs.declared.entry.Entry.{Entry}
+use Rattle.index_nodes.specs.Order.{IsAscending}
+use Rattle.index_nodes.specs.Nodes.{all, AreNeat}
 
 -- the trees, the places that their list has left, the spare trees, whether those below are enough for so many inserts and whether
 -- there are places for emptied nodes, the count of entries and how many more may come without memory

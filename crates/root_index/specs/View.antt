@@ -1,7 +1,7 @@
 -- An index as its callers see it.
 use Rattle.std.specs.Prelude.{ℕ, zero, suc, ◌-◌, max, List, length}
-use Rattle.root_index.specs.declared.entry.Entry.{Entry}
-use Rattle.root_index.specs.declared.node.TheConstants.{MAX_PARTS}
+use Rattle.index_nodes.specs.declared.entry.Entry.{Entry}
+use Rattle.index_nodes.specs.declared.node.TheConstants.{MAX_PARTS}
 
 pub record IndexView : Type 0 where
   -- in ascending order, each once

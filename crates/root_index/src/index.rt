@@ -2,20 +2,17 @@
 
 ghost use Rattle.std.specs.Prelude.{◌≡◌, ◌<◌, ◌≤◌, ◌+◌, ◌^◌, [], length, OnOk, OnErr, Some, IfSome, IsTrue, Contains, vec_len, vec_capacity, true, false};
 ghost use Rattle.std.specs.Option.{option_map};
-ghost use Rattle.root_index.specs.Order.{IsAscending};
-ghost use Rattle.root_index.specs.Sets.{AddsEntry, IsLeast, IsAfter, IsBelow, IsLastOf};
+ghost use Rattle.index_nodes.specs.Order.{IsAscending};
+ghost use Rattle.index_nodes.specs.Sets.{AddsEntry, IsLeast, IsAfter, IsBelow, IsLastOf};
 ghost use Rattle.root_index.specs.View.{free_places, room_in};
 ghost use Rattle.root_index.specs.Pieces.{RemovesPiece};
 ghost use Rattle.root_index.specs.declared.progress.Progress.TheVariants.{More, Done};
 
-use crate::branch::Branch;
-use crate::entry::Entry;
-use crate::leaf::Leaf;
 use crate::look_ups;
-use crate::node::{Node, Swept};
-use crate::nodes::{self, Spares, TreePosition};
 use crate::progress::Progress;
 use dead_places::DeadSet;
+use index_nodes::nodes::{self, Spares, TreePosition};
+use index_nodes::{Branch, Entry, Leaf, Node, Swept};
 use std::alloc::{AllocError, Global};
 use std::marker::Model;
 
@@ -60,7 +57,7 @@ pub struct RootIndex {
 impl Model for RootIndex {
     ghost use Rattle.std.specs.Prelude.{◌-◌, sum_by, vec_len, vec_capacity};
     ghost use Rattle.root_index.specs.View.{IndexView};
-    ghost use Rattle.root_index.specs.Nodes.{all, HavePlaces};
+    ghost use Rattle.index_nodes.specs.Nodes.{all, HavePlaces};
     ghost use Rattle.root_index.specs.Trees.{IsSoundIndex};
 
     ghost Value = { IndexView };

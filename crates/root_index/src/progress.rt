@@ -1,6 +1,6 @@
 //! How far a sweep of an index came.
 
-use crate::entry::Entry;
+use index_nodes::Entry;
 
 /// How far a sweep of an index came.
 #[derive(Clone, Copy, Debug, PartialEq, Eq)]

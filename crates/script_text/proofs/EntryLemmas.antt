@@ -3,9 +3,9 @@ use Rattle.std.proofs.Common.{◌≡◌, ℕ, ◌+◌, ◌<◌, List, [], ◌∷
 use Rattle.std.proofs.lemmas.List.{append-nil, take_more}
 use Rattle.std.proofs.lemmas.Option.{slice_get_within, slice_get-get_or, get_or_from_slice_get, none-some}
 use Rattle.std.proofs.lemmas.Grind.{flat_map-append}
-use Rattle.root_index.specs.Order.{IsAscending}
-use Rattle.root_index.specs.Sets.{IsLeast, IsAfter}
-use Rattle.root_index.proofs.LookUpLemmas.{first_in_turn, next_in_turn}
+use Rattle.index_nodes.specs.Order.{IsAscending}
+use Rattle.index_nodes.specs.Sets.{IsLeast, IsAfter}
+use Rattle.index_nodes.proofs.LookUpLemmas.{first_in_turn, next_in_turn}
 use Rattle.script_text.specs.Names.{Entry}
 use Rattle.script_text.specs.Answers.{entry_text, entry_lines}
 

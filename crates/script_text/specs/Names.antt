@@ -12,4 +12,4 @@ pub use Rattle.refinement.specs.declared.reply.Reply.{Reply}
 pub use Rattle.refinement.specs.declared.reply.Reply.TheVariants.{Done, Found, Committed, RolledBack, Rows, End, Worked, Ended, Refused}
 pub use Rattle.refinement.specs.declared.reply.Refusal.{Refusal}
 pub use Rattle.refinement.specs.declared.reply.Refusal.TheVariants.{NotOpen, AlreadyOpen, Failed, AlreadyThere, NotThere, Conflict, Busy, CursorOpen, NoCursor, TooDeep, NoSavepoint, TooLarge, NoRoom, NeedsFreeze, NoMemory, VacuumRunning, NoVacuum, NoSuchPage, NoSuchIndex, NoSuchSession, BadBounds}
-pub use Rattle.root_index.specs.declared.entry.Entry.{Entry}
+pub use Rattle.index_nodes.specs.declared.entry.Entry.{Entry}

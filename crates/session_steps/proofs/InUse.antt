@@ -2,7 +2,7 @@
 use Rattle.std.proofs.Common.{◌≡◌, ◌<◌, ℕ, zero, suc, Bool, true, false, List, [], length, set, Option, Some, None, refl, sym, ap, ◌∙◌, subst, inl, inr}
 use Rattle.std.proofs.lemmas.Option.{same_Some, none-some}
 use Rattle.std.specs.Prelude.{◌↔◌, IsSome, is_some, unwrap_or, slice_index_or, if◌then◌else◌}
-use Rattle.root_index.specs.declared.entry.Entry.{Entry}
+use Rattle.index_nodes.specs.declared.entry.Entry.{Entry}
 use Rattle.root_index.specs.View.{IndexView}
 use Rattle.sound_entries.specs.Entries.{EntriesAreSound}
 use Rattle.table_indexes.specs.Indexes.{index_at, entries_at, entries_in, entries_of, IsInUse, new_entries}

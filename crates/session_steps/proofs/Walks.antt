@@ -7,7 +7,7 @@ use Rattle.xid_circle.specs.declared.Tid.{Tid}
 use Rattle.tuple_header.specs.declared.version.Row.{Row}
 use Rattle.tuple_header.specs.Version.{Version}
 use Rattle.visibility.specs.Visible as visibility
-use Rattle.root_index.specs.declared.entry.Entry.{Entry}
+use Rattle.index_nodes.specs.declared.entry.Entry.{Entry}
 use Rattle.index_lookup.specs.Looking.{FirstFound}
 use Rattle.sound_entries.specs.Entries.{EntriesAreSound}
 use Rattle.sound_entries.proofs.Leads.{visible-found}

@@ -12,8 +12,8 @@ use Rattle.page_slots.specs.Slots.{slot_at, version_at}
 use Rattle.commit_status.specs.Window.{Window}
 use Rattle.hot_chain.specs.Chain.{is_root, is_root_in}
 use Rattle.sound_page.specs.Sound.{IsIn}
-use Rattle.root_index.specs.declared.entry.Entry.{Entry}
-use Rattle.root_index.specs.Sets.{AddsEntry, IsOf}
+use Rattle.index_nodes.specs.declared.entry.Entry.{Entry}
+use Rattle.index_nodes.specs.Sets.{AddsEntry, IsOf}
 use Rattle.index_lookup.specs.Pages.{slots_on, slot_in, Puts}
 use Rattle.sound_entries.specs.Entries.{MayBeTarget, SoundEntries, KeepsTarget, same_version, led_on, died, KeepsTargets}
 

@@ -8,8 +8,8 @@ use Rattle.page_slots.specs.declared.slot.Slot.TheVariants.{Dead}
 use Rattle.page_slots.specs.Slots.{slot_at}
 use Rattle.commit_status.specs.Window.{Window}
 use Rattle.hot_chain.specs.Chain.{is_root_in}
-use Rattle.root_index.specs.declared.entry.Entry.{Entry}
-use Rattle.root_index.specs.Sets.{Loses}
+use Rattle.index_nodes.specs.declared.entry.Entry.{Entry}
+use Rattle.index_nodes.specs.Sets.{Loses}
 use Rattle.index_lookup.specs.Pages.{slot_in}
 use Rattle.sound_entries.specs.Entries.{EntriesAreSound, StaysSound}
 use Rattle.sound_entries.proofs.Going.{stays-same}

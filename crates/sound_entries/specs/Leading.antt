@@ -8,8 +8,8 @@ use Rattle.page_slots.specs.declared.slot.Slot.{Slot}
 use Rattle.commit_status.specs.Window.{Window, IsAborted}
 use Rattle.visibility.specs.Visible.{IsFrozen}
 use Rattle.sound_page.specs.Sound.{IsIn}
-use Rattle.root_index.specs.declared.entry.Entry.{Entry}
-use Rattle.root_index.specs.Sets.{IsOf}
+use Rattle.index_nodes.specs.declared.entry.Entry.{Entry}
+use Rattle.index_nodes.specs.Sets.{IsOf}
 use Rattle.index_lookup.specs.Pages.{slots_on, version_in}
 
 -- its inserter is aborted, and it is not frozen

@@ -19,7 +19,7 @@ use Rattle.freeze.specs.Freezing.{Freezes, frozen_slot}
 use Rattle.tuple_writes.specs.Headers.{heap_only_header}
 use Rattle.tuple_writes.specs.Writes.{with_root, with_replaced, with_heap_only, with_updated}
 use Rattle.tuple_writes.proofs.Slotted.{replaced-other}
-use Rattle.root_index.specs.declared.entry.Entry.{Entry}
+use Rattle.index_nodes.specs.declared.entry.Entry.{Entry}
 use Rattle.root_index.specs.View.{IndexView}
 use Rattle.history.specs.Cursors.{value_in}
 use Rattle.heap_pages.specs.View.{PagesView}

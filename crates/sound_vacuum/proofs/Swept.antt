@@ -9,10 +9,10 @@ use Rattle.page_slots.specs.declared.slot.Slot.{Slot}
 use Rattle.page_slots.specs.declared.slot.Slot.TheVariants.{Dead}
 use Rattle.commit_status.specs.Window.{Window}
 use Rattle.hot_chain.specs.Chain.{is_root_in}
-use Rattle.root_index.specs.declared.entry.Entry.{Entry}
-use Rattle.root_index.specs.Order.{comparison, EntryPrecedes, IsAscending}
-use Rattle.root_index.specs.Sets.{IsAfter}
-use Rattle.root_index.proofs.OrderLemmas.{Precedes-trans}
+use Rattle.index_nodes.specs.declared.entry.Entry.{Entry}
+use Rattle.index_nodes.specs.Order.{comparison, EntryPrecedes, IsAscending}
+use Rattle.index_nodes.specs.Sets.{IsAfter}
+use Rattle.index_nodes.proofs.OrderLemmas.{Precedes-trans}
 use Rattle.index_lookup.specs.Pages.{slot_in}
 use Rattle.sound_entries.specs.Entries.{EntriesAreSound, StaysSound}
 use Rattle.sound_entries.proofs.Going.{stays-same}

@@ -3,8 +3,8 @@
 use Rattle.std.specs.Prelude.{◌≡◌, ℕ, zero, suc, ◌+◌, ◌<◌, length, Bool, false, if◌then◌else◌, List, [], Option, Some, None, IsSome, ℤ, option_map, unwrap_or, slice_index_or}
 use Rattle.xid_circle.specs.declared.Tid.{Tid}
 use Rattle.tuple_header.specs.declared.version.Row.{Row}
-use Rattle.root_index.specs.declared.entry.Entry.{Entry}
-use Rattle.root_index.specs.Sets.{AddsEntry}
+use Rattle.index_nodes.specs.declared.entry.Entry.{Entry}
+use Rattle.index_nodes.specs.Sets.{AddsEntry}
 use Rattle.root_index.specs.View.{IndexView, room_in}
 use Rattle.history.specs.Cursors.{value_in}
 use Rattle.index_lookup.specs.Pages.{entry_for}

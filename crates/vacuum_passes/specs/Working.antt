@@ -5,7 +5,7 @@ use Rattle.page_slots.specs.declared.slot.Slot.{Slot}
 use Rattle.page_slots.specs.declared.slot.Slot.TheVariants.{Dead}
 use Rattle.page_slots.specs.Slots.{slot_at}
 use Rattle.page_slots.specs.View.{PageView}
-use Rattle.root_index.specs.declared.entry.Entry.{Entry}
+use Rattle.index_nodes.specs.declared.entry.Entry.{Entry}
 use Rattle.root_index.specs.declared.progress.Progress.{Progress}
 use Rattle.heap_write.specs.Heap.{HeapView}
 use Rattle.heap_write.specs.Cleaning.{SweepsAt, FreesAt, Notes}

@@ -5,8 +5,8 @@ use Rattle.std.proofs.lemmas.Int.{to_z-of_z}
 use Rattle.index_lookup.specs.Pages.{page_slots_of}
 use Rattle.index_lookup.specs.Reading.{IsSeenBy, IsOtherWriterFor, IsNewerCommitFor}
 use Rattle.index_lookup.proofs.Searching.{standing-first, standing-next, standing-place, standing-newer_commit, standing-other_writer}
-use Rattle.root_index.specs.declared.entry.Entry.{Entry}
-use Rattle.root_index.specs.Sets.{IsLastOf}
+use Rattle.index_nodes.specs.declared.entry.Entry.{Entry}
+use Rattle.index_nodes.specs.Sets.{IsLastOf}
 use Rattle.index_lookup.proofs.write_check.check_write.Goals as goal
 
 pub loop-init : goal.loop-init

@@ -1,5 +1,5 @@
 use Rattle.std.specs.Prelude.{IfSome, IsTrue}
-use Rattle.root_index.specs.Sets.{IsLastOf}
+use Rattle.index_nodes.specs.Sets.{IsLastOf}
 use Rattle.index_lookup.specs.Pages.{page_slots_of}
 use Rattle.index_lookup.specs.Reading.{IsSeenBy, IsOtherWriterFor, IsNewerCommitFor}
 use Rattle.index_lookup.proofs.Searching.{IsStanding}

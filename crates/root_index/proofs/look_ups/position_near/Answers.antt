@@ -1,7 +1,7 @@
 use Rattle.std.proofs.Common.{Option, sym, subst}
-use Rattle.root_index.specs.declared.entry.Entry.{Entry}
-use Rattle.root_index.specs.Sets.{IsAfter}
-use Rattle.root_index.specs.Nodes.{IsStartIn}
+use Rattle.index_nodes.specs.declared.entry.Entry.{Entry}
+use Rattle.index_nodes.specs.Sets.{IsAfter}
+use Rattle.index_nodes.specs.Nodes.{IsStartIn}
 use Rattle.root_index.proofs.look_ups.position_near.Goals as goal
 
 pub returns-in-Some : goal.returns-in-Some

@@ -3,9 +3,9 @@ use Rattle.std.specs.Int.{w128}
 use Rattle.std.specs.Option.{option_map}
 use Rattle.std.proofs.lemmas.Int.{to_z-of_z}
 use Rattle.root_index.specs.View.{IndexView}
-use Rattle.root_index.specs.Sets.{IsBelow, IsLeast, IsLastOf}
+use Rattle.index_nodes.specs.Sets.{IsBelow, IsLeast, IsLastOf}
 use Rattle.root_index.proofs.SoundLemmas.{among, ascending_there, least_found}
-use Rattle.root_index.proofs.EndLemmas.{last_found}
+use Rattle.index_nodes.proofs.EndLemmas.{last_found}
 use Rattle.root_index.proofs.index.RootIndex.first_from.Goals as goal
 
 pub position_from-position-requires-clause-ascending : goal.position_from-position-requires-clause-ascending

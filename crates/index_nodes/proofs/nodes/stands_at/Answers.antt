@@ -1,0 +1,10 @@
+use Rattle.std.proofs.Common.{sym}
+use Rattle.std.proofs.lemmas.Bool.{OnTrue_at, OnTrue_from}
+use Rattle.index_nodes.proofs.RowLemmas.{found_in}
+use Rattle.index_nodes.proofs.nodes.stands_at.Goals as goal
+
+pub returns-in-Some-clause-found : goal.returns-in-Some-clause-found
+returns-in-Some-clause-found g c =
+    OnTrue_from c.stands_at.result _
+    (λ there. found_in g.N.Node.entries g.N.Node.rank c.args.nodes.now c.args.sought.now c.args.position c.in-Some.node.now (sym c.in-Some.ensures)
+    (OnTrue_at there c.stands_at.ensures.found))
