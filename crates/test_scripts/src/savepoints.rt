@@ -3,7 +3,7 @@
 use crate::table::Case;
 
 /// The scripts of savepoints, of ids for their levels, and of a snapshot that names too many.
-pub static SAVEPOINTS: [Case; 8] = [
+pub static SAVEPOINTS: [Case; 10] = [
     // Ids 4 and 5 are those of the two levels of session 0; that of the newest is aborted, and its key is free.
     Case {
         name: "rollback_to_a_savepoint",
@@ -145,6 +145,55 @@ pub static SAVEPOINTS: [Case; 8] = [
             ok\nok\nok\nok\nok\nok\nok\nok\nok\nok\nok\nok\nok\nok\nok\nok\nok\nok\nok\nok\nok\nok\nok\nok\nok\nok\nok\nok\nok\n\
             ok\nok\nok\nok\nok\nok\nok\nok\nok\nok\nok\nok\nok\nok\nok\nok\nok\nok\nok\nok\nok\nok\nnext 69 frozen_below 3\nok\n\
             committed\nnone\nok\nrow 40 0 0 0 0 -\n",
+        status: 0,
+        words: "",
+    },
+    // The ids end with 8: the next one would be 6 away from the first. Ids 3, 4 and 5 are those of session 0: slots 1 to 3.
+    // Ids 6 to 8 are for three levels of session 1: slot 4. The level below the newest has an id: slots 5 and 6. In the end
+    // the update that was taken back becomes unused, and the roots of what was aborted are dead.
+    Case {
+        name: "savepoints_and_each_answer",
+        script: b"heap 1 6 0 3 64 0000\nsavepoint 0\nrollbackto 0\nrelease 0\nsavepoint 64\nrollbackto 255\nrelease 64\nbegin 0\n\
+            rollbackto 0\nrelease 0\ninsert 0 1 1 -2 3 -4 61616161616161616161\nsavepoint 0\n\
+            update 0 1 1 -2 3 -4 6161616161616161616161616161616161616161\nget 0 1\nrollbackto 0\nget 0 1\n\
+            insert 0 2 1 -2 3 -4 616161616161616161616161616161616161616161616161616161616161\nrelease 0\nrelease 0\n\
+            get 0 2\nbegin 1\nsavepoint 1\nsavepoint 1\ninsert 1 2 1 -2 3 -4 -\ncommit 0\ninsert 1 1 1 -2 3 -4 -\nget 1 1\n\
+            savepoint 1\nrelease 1\nrollbackto 1\nget 1 1\ninsert 1 3 1 -2 3 -4 -\nrelease 1\nsavepoint 1\n\
+            insert 1 4 1 -2 3 -4 -\ndelete 1 3\nupdate 1 3 1 -2 3 -4 -\nget 1 4\nrelease 1\ninsert 1 4 1 -2 3 -4 -\n\
+            get 1 4\nrollbackto 1\nget 1 3\nget 1 4\ninsert 1 5 1 -2 3 -4 -\nbegin 2\nrelease 1\nrelease 1\n\
+            insert 1 5 1 -2 3 -4 -\ncommit 1\nget 2 5\ninsert 2 5 1 -2 3 -4 -\nrollbackto 2\nget 2 5\ncommit 2\n\
+            rollbackto 2\nbegin 2\nget 2 1\nget 2 2\nget 2 3\nget 2 4\nget 2 5\nsavepoint 2\nrollbackto 2\nrelease 2\n\
+            abort 2\nprune 0\nbegin 3\nget 3 1\nids\npage 0\n",
+        body: 0,
+        other: 0,
+        answers: b"error 1 NotOpen\nerror 1 NotOpen\nerror 1 NotOpen\nerror 23 NoSuchSession\nerror 23 NoSuchSession\n\
+            error 23 NoSuchSession\nok\nerror 12 NoSavepoint\nerror 12 NoSavepoint\nok\nok\nok\n\
+            row 1 1 -2 3 -4 6161616161616161616161616161616161616161\nok\nrow 1 1 -2 3 -4 61616161616161616161\nok\nok\n\
+            error 12 NoSavepoint\nrow 2 1 -2 3 -4 616161616161616161616161616161616161616161616161616161616161\nok\nok\nok\n\
+            error 7 Busy 0\ncommitted\nerror 6 Conflict\nerror 3 Failed\nerror 3 Failed\nerror 3 Failed\nok\nnone\nok\nok\n\
+            ok\nerror 15 NeedsFreeze\nerror 15 NeedsFreeze\nerror 15 NeedsFreeze\nnone\nok\nok\nrow 4 1 -2 3 -4 -\nok\n\
+            none\nnone\nerror 15 NeedsFreeze\nok\nok\nerror 12 NoSavepoint\nok\ncommitted\nnone\nerror 6 Conflict\n\
+            error 12 NoSavepoint\nerror 3 Failed\nrolled back\nerror 1 NotOpen\nok\nrow 1 1 -2 3 -4 61616161616161616161\n\
+            row 2 1 -2 3 -4 616161616161616161616161616161616161616161616161616161616161\nnone\nnone\nrow 5 1 -2 3 -4 -\n\
+            ok\nok\nok\nrolled back\nok\nok\nrow 1 1 -2 3 -4 61616161616161616161\nnext 9 frozen_below 3\n\
+            page 0 change 10 visible 0 slots 6\n1 normal 3 4 1\n2 unused\n3 normal 5 0 2\n4 dead\n5 dead\n6 normal 6 0 5\n",
+        status: 0,
+        words: "",
+    },
+    // There may be 32 savepoints, and again as many after one was released.
+    Case {
+        name: "savepoints_one_above_another",
+        script: b"heap 1 6 0 3 64 0000\nbegin 0\nsavepoint 0\nsavepoint 0\nsavepoint 0\nsavepoint 0\nsavepoint 0\nsavepoint 0\n\
+            savepoint 0\nsavepoint 0\nsavepoint 0\nsavepoint 0\nsavepoint 0\nsavepoint 0\nsavepoint 0\nsavepoint 0\n\
+            savepoint 0\nsavepoint 0\nsavepoint 0\nsavepoint 0\nsavepoint 0\nsavepoint 0\nsavepoint 0\nsavepoint 0\n\
+            savepoint 0\nsavepoint 0\nsavepoint 0\nsavepoint 0\nsavepoint 0\nsavepoint 0\nsavepoint 0\nsavepoint 0\n\
+            savepoint 0\nsavepoint 0\nsavepoint 0\nsavepoint 0\nrollbackto 0\nrelease 0\nsavepoint 0\nsavepoint 0\nids\n\
+            page 0\n",
+        body: 0,
+        other: 0,
+        answers: b"ok\nok\nok\nok\nok\nok\nok\nok\nok\nok\nok\nok\nok\nok\nok\nok\nok\nok\nok\nok\nok\nok\nok\nok\nok\nok\nok\nok\n\
+            ok\nok\nok\nok\nok\nerror 11 TooDeep\nerror 11 TooDeep\nok\nok\nok\nerror 11 TooDeep\nnext 3 frozen_below 3\n\
+            error 19 NoSuchPage\n",
         status: 0,
         words: "",
     },

@@ -11,8 +11,6 @@ mod changes;
 #[cfg(test)]
 mod cursors;
 #[cfg(test)]
-mod levels;
-#[cfg(test)]
 mod openings;
 #[cfg(test)]
 mod pages;

@@ -14,7 +14,7 @@ const SETTINGS: Settings = Settings {
     indexed: [false; 4],
 };
 
-static STEPS: [(Ask, Answer); 82] = [
+static STEPS: [(Ask, Answer); 77] = [
     (
         Ask::OpenIndex(0, 0, 0, 1),
         Answer::Refused(Refusal::NotOpen),
@@ -57,14 +57,6 @@ static STEPS: [(Ask, Answer); 82] = [
         Ask::InsertBody(0, 1, 1025),
         Answer::Refused(Refusal::CursorOpen),
     ),
-    (
-        Ask::UpdateBody(0, 1, 0),
-        Answer::Refused(Refusal::CursorOpen),
-    ),
-    (Ask::Delete(0, 1), Answer::Refused(Refusal::CursorOpen)),
-    (Ask::Savepoint(0), Answer::Refused(Refusal::CursorOpen)),
-    (Ask::RollbackTo(0), Answer::Refused(Refusal::CursorOpen)),
-    (Ask::Release(0), Answer::Refused(Refusal::CursorOpen)),
     (Ask::Get(0, 1), Answer::NoRow),
     (Ask::Close(0), Answer::Done),
     (Ask::Close(0), Answer::Refused(Refusal::NoCursor)),
