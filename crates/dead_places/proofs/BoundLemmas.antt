@@ -10,12 +10,12 @@ use Rattle.std.proofs.lemmas.Option.{slice_get-get_or, get_or_from_slice_get}
 use Rattle.xid_circle.specs.declared.Tid.{Tid}
 use Rattle.dead_places.specs.declared.page_bounds.PageBounds.{PageBounds}
 use Rattle.dead_places.specs.Bounds.{AreBeside, IsFirstFrom, IsPartOn}
-use Rattle.dead_places.specs.Places.{IsBefore, AreAscending}
+use Rattle.dead_places.specs.Places.{PlacePrecedes, AreAscending}
 use Rattle.dead_places.proofs.PlaceLemmas.{less_both, ascending-at, same_number}
 
 -- Ascending places are on ascending pages.
 
-page_le : (a b : Tid) → IsBefore a b → a.page ≤ b.page
+page_le : (a b : Tid) → PlacePrecedes a b → a.page ≤ b.page
 page_le a b h = elim (less_both (nat_cmp a.page b.page) (nat_cmp a.slot b.slot) h) [
   | inl less ↦ let lt : a.page < b.page = ranked a.page b.page Less (sym less) in omega arith
   | inr both ↦ let same : a.page ≡ b.page = ranked a.page b.page Equal (sym both.0) in omega arith
@@ -70,14 +70,14 @@ page_from xs page low high i d up around from_low within le = record {
 ascending_drop : (n : ℕ) (xs : List Tid) → n ≤ length xs → AreAscending xs → AreAscending (drop n xs)
 ascending_drop n xs short up i j d lt within =
     let long = length-drop n xs in
-    subst (λ a. IsBefore a (get_or (drop n xs) j d)) (sym (get_or-drop n xs i d))
-    (subst (λ b. IsBefore (get_or xs (n + i) d) b) (sym (get_or-drop n xs j d)) (up (n + i) (n + j) d (omega (arith, lt)) (omega (arith, within, long, short))))
+    subst (λ a. PlacePrecedes a (get_or (drop n xs) j d)) (sym (get_or-drop n xs i d))
+    (subst (λ b. PlacePrecedes (get_or xs (n + i) d) b) (sym (get_or-drop n xs j d)) (up (n + i) (n + j) d (omega (arith, lt)) (omega (arith, within, long, short))))
 
 ascending_take : (n : ℕ) (xs : List Tid) → n ≤ length xs → AreAscending xs → AreAscending (take n xs)
 ascending_take n xs short up i j d lt within =
     let long = length-take-le n xs short in
-    subst (λ a. IsBefore a (get_or (take n xs) j d)) (sym (get_or-take n xs i d (omega (arith, lt, within, long))))
-    (subst (λ b. IsBefore (get_or xs i d) b) (sym (get_or-take n xs j d (omega (arith, within, long)))) (up i j d lt (omega (arith, within, long, short))))
+    subst (λ a. PlacePrecedes a (get_or (take n xs) j d)) (sym (get_or-take n xs i d (omega (arith, lt, within, long))))
+    (subst (λ b. PlacePrecedes (get_or xs i d) b) (sym (get_or-take n xs j d (omega (arith, within, long)))) (up i j d lt (omega (arith, within, long, short))))
 
 -- a part of a part
 pub part_of_part : (b : PageBounds) (xs ys zs : List Tid) → IsPartOn b xs ys → IsPartOn b ys zs → IsPartOn b xs zs

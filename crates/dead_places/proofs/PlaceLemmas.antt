@@ -15,7 +15,7 @@ use Rattle.std.proofs.lemmas.Option.{slice_get-get_or, slice_get_within, get_or_
 use Rattle.xid_circle.specs.declared.Tid.{Tid}
 use Rattle.xid_circle.proofs.Members.{Contains-first, Contains-rest, Contains-cases}
 use Rattle.xid_circle.proofs.Tids.{same-tid}
-use Rattle.dead_places.specs.Places.{place_order, IsBefore, AreAscending, AddsPlace, IsRoomFor}
+use Rattle.dead_places.specs.Places.{place_order, PlacePrecedes, AreAscending, AddsPlace, IsRoomFor}
 
 -- Two comparisons, the second where the first finds nothing.
 
@@ -39,14 +39,14 @@ less_from_test Greater h = absurd (cc h)
 pub place_total : IsTotalOrder place_order
 place_total = then_total (on_total (λ (t : Tid). t.page) nat_cmp_total) (on_total (λ (t : Tid). t.slot) nat_cmp_total)
 
-pub not_before_itself : (a : Tid) → ¬ IsBefore a a
+pub not_before_itself : (a : Tid) → ¬ PlacePrecedes a a
 not_before_itself a h = absurd (let e = tied_itself place_total a in cc)
 
-pub IsBefore-trans : (a b c : Tid) → IsBefore a b → IsBefore b c → IsBefore a c
-IsBefore-trans a b c = place_total.trans a b c
+pub PlacePrecedes-trans : (a b c : Tid) → PlacePrecedes a b → PlacePrecedes b c → PlacePrecedes a c
+PlacePrecedes-trans a b c = place_total.trans a b c
 
-pub IsBefore-not_back : (a b : Tid) → IsBefore a b → ¬ IsBefore b a
-IsBefore-not_back a b h back = not_before_itself a (IsBefore-trans a b a h back)
+pub PlacePrecedes-not_back : (a b : Tid) → PlacePrecedes a b → ¬ PlacePrecedes b a
+PlacePrecedes-not_back a b h back = not_before_itself a (PlacePrecedes-trans a b a h back)
 
 pub same-from_tied : (a b : Tid) → place_order a b ≡ Equal → a ≡ b
 same-from_tied a b e =
@@ -55,10 +55,10 @@ same-from_tied a b e =
 
 -- Places by their numbers.
 
-pub ascending-at : (xs : List Tid) (i j : ℕ) (a b : Tid) → AreAscending xs → i < j → slice_get xs i ≡ Some a → slice_get xs j ≡ Some b → IsBefore a b
+pub ascending-at : (xs : List Tid) (i j : ℕ) (a b : Tid) → AreAscending xs → i < j → slice_get xs i ≡ Some a → slice_get xs j ≡ Some b → PlacePrecedes a b
 ascending-at xs i j a b up lt at_i at_j =
-    subst (λ x. IsBefore x b) (get_or_from_slice_get xs i a b at_i)
-    (subst (λ y. IsBefore (get_or xs i b) y) (get_or_from_slice_get xs j b b at_j) (up i j b lt (slice_get_within xs j b at_j)))
+    subst (λ x. PlacePrecedes x b) (get_or_from_slice_get xs i a b at_i)
+    (subst (λ y. PlacePrecedes (get_or xs i b) y) (get_or_from_slice_get xs j b b at_j) (up i j b lt (slice_get_within xs j b at_j)))
 
 pub same_number : (xs : List Tid) (k i : ℕ) (e f : Tid) → k ≡ i → slice_get xs k ≡ Some e → slice_get xs i ≡ Some f → e ≡ f
 same_number xs k i e f same at_k at_i = cc
@@ -67,8 +67,8 @@ same_number xs k i e f same at_k at_i = cc
 pub record IsAround (tids : List Tid) (sought : Tid) (low high : ℕ) : Type 0 where
   pub order : low ≤ high
   pub in_range : high ≤ length tids
-  pub before : (k : ℕ) (t : Tid) → k < low → slice_get tids k ≡ Some t → IsBefore t sought
-  pub after : (k : ℕ) (t : Tid) → high ≤ k → slice_get tids k ≡ Some t → IsBefore sought t
+  pub before : (k : ℕ) (t : Tid) → k < low → slice_get tids k ≡ Some t → PlacePrecedes t sought
+  pub after : (k : ℕ) (t : Tid) → high ≤ k → slice_get tids k ≡ Some t → PlacePrecedes sought t
 
 pub looked_less : (xs : List Tid) (x d : Tid) (low high i : ℕ) → AreAscending xs → IsAround xs x low high → i < high → place_order (get_or xs i d) x ≡ Less → IsAround xs x (i + 1) high
 looked_less xs x d low high i up around within less =
@@ -77,8 +77,8 @@ looked_less xs x d low high i up around within less =
       order = omega arith;
       in_range = around.in_range;
       before = λ k e lt at_k. elim (cases_lt k i) [
-        | inl below ↦ IsBefore-trans e (get_or xs i d) x (ascending-at xs k i e (get_or xs i d) up below at_k at) less
-        | inr le ↦ subst (λ y. IsBefore y x) (same_number xs i k (get_or xs i d) e (omega arith) at at_k) less
+        | inl below ↦ PlacePrecedes-trans e (get_or xs i d) x (ascending-at xs k i e (get_or xs i d) up below at_k at) less
+        | inr le ↦ subst (λ y. PlacePrecedes y x) (same_number xs i k (get_or xs i d) e (omega arith) at at_k) less
       ];
       after = around.after;
     }
@@ -87,24 +87,24 @@ pub looked_greater : (xs : List Tid) (x d : Tid) (low high i : ℕ) → AreAscen
     → IsAround xs x low i
 looked_greater xs x d low high i up around from_low within greater =
     let at = slice_get-get_or xs i d (omega (arith, within, around.in_range)) in
-    let less : IsBefore x (get_or xs i d) = place_total.antisymm x (get_or xs i d) ∙ ap ordering_reverse greater in
+    let less : PlacePrecedes x (get_or xs i d) = place_total.antisymm x (get_or xs i d) ∙ ap ordering_reverse greater in
     record {
       order = from_low;
       in_range = omega (arith, within, around.in_range);
       before = around.before;
       after = λ k e le at_k. elim (cases_lt i k) [
-        | inl above ↦ IsBefore-trans x (get_or xs i d) e less (ascending-at xs i k (get_or xs i d) e up above at at_k)
-        | inr same ↦ subst (IsBefore x) (same_number xs i k (get_or xs i d) e (omega arith) at at_k) less
+        | inl above ↦ PlacePrecedes-trans x (get_or xs i d) e less (ascending-at xs i k (get_or xs i d) e up above at at_k)
+        | inr same ↦ subst (PlacePrecedes x) (same_number xs i k (get_or xs i d) e (omega arith) at at_k) less
       ];
     }
 
 -- behind the last
-pub room_behind : (xs : List Tid) (x last : Tid) → AreAscending xs → slice_get xs (length xs - 1) ≡ Some last → IsBefore last x → IsRoomFor xs x (length xs)
+pub room_behind : (xs : List Tid) (x last : Tid) → AreAscending xs → slice_get xs (length xs - 1) ≡ Some last → PlacePrecedes last x → IsRoomFor xs x (length xs)
 room_behind xs x last up at less = let n = length xs - 1 in record {
   in_range = omega arith;
   before = λ k e lt at_k. elim (cases_lt k n) [
-    | inl below ↦ IsBefore-trans e last x (ascending-at xs k n e last up below at_k at) less
-    | inr le ↦ subst (λ y. IsBefore y x) (same_number xs n k last e (omega arith) at at_k) less
+    | inl below ↦ PlacePrecedes-trans e last x (ascending-at xs k n e last up below at_k at) less
+    | inr le ↦ subst (λ y. PlacePrecedes y x) (same_number xs n k last e (omega arith) at at_k) less
   ];
   after = λ k e le at_k. absurd (let within = slice_get_within xs k e at_k in omega arith);
 }
@@ -118,21 +118,21 @@ room_of_rest x y xs i room = record {
   after = λ k e le at. room.after (suc k) e (omega arith) at;
 }
 
-all-after : (xs : List Tid) (y : Tid) → IsRoomFor xs y 0 → All (IsBefore y) xs
+all-after : (xs : List Tid) (y : Tid) → IsRoomFor xs y 0 → All (PlacePrecedes y) xs
 all-after xs y room k d within = room.after k (get_or xs k d) (omega arith) (slice_get-get_or xs k d within)
 
-all-later : (x : Tid) (xs : List Tid) → AreAscending (x ∷ xs) → All (IsBefore x) xs
+all-later : (x : Tid) (xs : List Tid) → AreAscending (x ∷ xs) → All (PlacePrecedes x) xs
 all-later x xs up k d within = up 0 (suc k) d (omega arith) (omega arith)
 
 ascending-tail : (x : Tid) (xs : List Tid) → AreAscending (x ∷ xs) → AreAscending xs
 ascending-tail x xs up i j d lt within = up (suc i) (suc j) d (omega arith) (omega arith)
 
 ascending-insert : (xs : List Tid) (y : Tid) (i : ℕ) → AreAscending xs → IsRoomFor xs y i → AreAscending (insert xs i y)
-ascending-insert xs y zero up room = AllPairs-cons IsBefore y xs (all-after xs y room) up
+ascending-insert xs y zero up room = AllPairs-cons PlacePrecedes y xs (all-after xs y room) up
 ascending-insert [] y (suc i) up room = absurd (omega (arith, room.in_range))
 ascending-insert (x ∷ xs) y (suc i) up room =
-    AllPairs-cons IsBefore x (insert xs i y)
-    (All-permutation (IsBefore x) (y ∷ xs) (insert xs i y) (IsPermutation-insert xs i y) (All-cons (IsBefore x) y xs (room.before 0 x (omega arith) refl) (all-later x xs up)))
+    AllPairs-cons PlacePrecedes x (insert xs i y)
+    (All-permutation (PlacePrecedes x) (y ∷ xs) (insert xs i y) (IsPermutation-insert xs i y) (All-cons (PlacePrecedes x) y xs (room.before 0 x (omega arith) refl) (all-later x xs up)))
     (ascending-insert xs y i (ascending-tail x xs up) (room_of_rest x y xs i room))
 
 pub adds-inserted : (xs : List Tid) (y : Tid) (i : ℕ) → AreAscending xs → IsRoomFor xs y i → AddsPlace xs (insert xs i y) y
@@ -145,8 +145,8 @@ adds-inserted xs y i up room = record {
 }
 
 -- where all others are before it
-pub inserted_last : (xs : List Tid) (y : Tid) (i : ℕ) → IsRoomFor xs y i → All (λ t. IsBefore t y) xs → insert xs i y ≡ xs ++ y ∷ []
+pub inserted_last : (xs : List Tid) (y : Tid) (i : ℕ) → IsRoomFor xs y i → All (λ t. PlacePrecedes t y) xs → insert xs i y ≡ xs ++ y ∷ []
 inserted_last xs y i room below = elim (cases_lt i (length xs)) [
-  | inl within ↦ absurd (IsBefore-not_back (get_or xs i y) y (below i y within) (room.after i (get_or xs i y) (omega arith) (slice_get-get_or xs i y within)))
+  | inl within ↦ absurd (PlacePrecedes-not_back (get_or xs i y) y (below i y within) (room.after i (get_or xs i y) (omega arith) (slice_get-get_or xs i y within)))
   | inr past ↦ let end : i ≡ length xs = omega (arith, room.in_range) in ap (λ n. insert xs n y) end ∙ insert_end xs y
 ]

@@ -10,12 +10,12 @@ use Rattle.xid_circle.specs.declared.Tid.{Tid}
 abbrev pub place_order : Tid → Tid → Ordering
 place_order a b = ordering_then (nat_cmp a.page b.page) (nat_cmp a.slot b.slot)
 
-abbrev pub IsBefore : Tid → Tid → Type 0
-IsBefore a b = place_order a b ≡ Less
+abbrev pub PlacePrecedes : Tid → Tid → Type 0
+PlacePrecedes a b = place_order a b ≡ Less
 
 -- each place is before all later ones
 abbrev pub AreAscending : List Tid → Type 0
-AreAscending tids = AllPairs IsBefore tids
+AreAscending tids = AllPairs PlacePrecedes tids
 
 -- the same places and this one
 pub record AddsPlace (old new : List Tid) (tid : Tid) : Type 0 where
@@ -25,5 +25,5 @@ pub record AddsPlace (old new : List Tid) (tid : Tid) : Type 0 where
 -- this one is not among the places, and would stand at this number of them
 pub record IsRoomFor (tids : List Tid) (tid : Tid) (i : ℕ) : Type 0 where
   pub in_range : i ≤ length tids
-  pub before : (k : ℕ) (t : Tid) → k < i → slice_get tids k ≡ Some t → IsBefore t tid
-  pub after : (k : ℕ) (t : Tid) → i ≤ k → slice_get tids k ≡ Some t → IsBefore tid t
+  pub before : (k : ℕ) (t : Tid) → k < i → slice_get tids k ≡ Some t → PlacePrecedes t tid
+  pub after : (k : ℕ) (t : Tid) → i ≤ k → slice_get tids k ≡ Some t → PlacePrecedes tid t

@@ -5,7 +5,7 @@ ghost use Rattle.std.specs.Bool.{OnTrue};
 ghost use Rattle.std.specs.List.{All};
 ghost use Rattle.arrayvec.specs.ArrayVec.{array_vec_len};
 ghost use Rattle.xid_circle.specs.declared.Tid.{Tid as Place};
-ghost use Rattle.dead_places.specs.Places.{IsBefore, AreAscending, AddsPlace, IsRoomFor};
+ghost use Rattle.dead_places.specs.Places.{PlacePrecedes, AreAscending, AddsPlace, IsRoomFor};
 ghost use Rattle.dead_places.specs.Bounds.{AreBeside, IsFirstFrom, IsPartOn};
 
 use crate::order::compare_places;
@@ -15,10 +15,13 @@ use std::cmp::Ordering;
 use std::marker::Model;
 use xid_circle::Tid;
 
+/// How many places a set may have.
+pub const MOST_PLACES: usize = 4096;
+
 /// A set of at most 4096 dead places, in ascending order: by page, then slot. It takes no memory beyond its own.
 #[derive(Debug, Drop)]
 pub struct DeadSet {
-    tids: ArrayVec<Tid, 4096>,
+    tids: ArrayVec<Tid, MOST_PLACES>,
 }
 
 impl Model for DeadSet {
@@ -46,7 +49,7 @@ impl DeadSet {
     /// The number of places.
     pub fn len(&self) -> usize
         ensures value { result ≡ length self.now }
-        ensures limit { result ≤ 4096 }
+        ensures limit { result ≤ MOST_PLACES }
     {
         self.tids.len()
     }
@@ -60,15 +63,15 @@ impl DeadSet {
 
     /// How many more places it takes.
     pub fn room(&self) -> usize
-        ensures { result + length self.now ≡ 4096 }
+        ensures { result + length self.now ≡ MOST_PLACES }
     {
         self.tids.remaining_capacity()
     }
 
     /// Whether it takes no more places.
     pub fn is_full(&self) -> bool
-        ensures value { result ≡ (length self.now == 4096) }
-        ensures limit { length self.now ≤ 4096 }
+        ensures value { result ≡ (length self.now == MOST_PLACES) }
+        ensures limit { length self.now ≤ MOST_PLACES }
     {
         self.tids.is_full()
     }
@@ -117,9 +120,9 @@ impl DeadSet {
 
     /// Adds a place. One that is there already stays there once. It takes constant time where the place is above all others.
     pub fn insert(&mut self, tid: Tid)
-        requires { length self.old < 4096 }
+        requires { length self.old < MOST_PLACES }
         ensures adds { AddsPlace self.old self.new tid }
-        ensures last { All (λ t. IsBefore t tid) self.old → self.new ≡ self.old ++ tid ∷ [] }
+        ensures last { All (λ t. PlacePrecedes t tid) self.old → self.new ≡ self.old ++ tid ∷ [] }
     {
         put(&mut self.tids, tid);
     }
@@ -284,11 +287,11 @@ fn number_for(tids: &[Tid], tid: &Tid) -> Option<usize>
 }
 
 /// Puts a place where it belongs, if it is not there.
-fn put(tids: &mut ArrayVec<Tid, 4096>, tid: Tid)
+fn put(tids: &mut ArrayVec<Tid, MOST_PLACES>, tid: Tid)
     requires ascending { AreAscending tids.old.items }
-    requires room { array_vec_len tids.old < 4096 }
+    requires room { array_vec_len tids.old < MOST_PLACES }
     ensures adds { AddsPlace tids.old.items tids.new.items tid }
-    ensures last { All (λ t. IsBefore t tid) tids.old.items
+    ensures last { All (λ t. PlacePrecedes t tid) tids.old.items
         → tids.new.items ≡ tids.old.items ++ tid ∷ [] }
 {
     if let Some(number) = number_for(tids.as_slice(), &tid) {

@@ -9,6 +9,6 @@ mod dead_set;
 mod order;
 mod page_bounds;
 
-pub use dead_set::{DeadSet, is_among};
+pub use dead_set::{DeadSet, MOST_PLACES, is_among};
 pub use order::compare_places;
 pub use page_bounds::{NO_PAGES, PageBounds, widened};

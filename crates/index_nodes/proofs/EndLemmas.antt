@@ -5,7 +5,7 @@ use Rattle.index_nodes.specs.declared.entry.Entry.{Entry}
 use Rattle.index_nodes.specs.declared.nodes.TreePosition.{TreePosition}
 use Rattle.index_nodes.specs.Order.{EntryPrecedes, IsAscending}
 use Rattle.index_nodes.specs.Sets.{IsOf, IsEndAt, IsLastOf}
-use Rattle.index_nodes.specs.Lists.{concatenated, rank, Place}
+use Rattle.index_nodes.specs.Lists.{concatenated, rank, EntryPlace}
 use Rattle.index_nodes.specs.Nodes.{all, list_place, rank_in, IsPositionIn}
 use Rattle.index_nodes.specs.Rows.{inner_is}
 use Rattle.index_nodes.proofs.OrderLemmas.{not_before_itself, Precedes-not_back}
@@ -24,13 +24,13 @@ end_by_case ys e j (Some n) next end = subst (λ (o : Option Entry). IsSomeAnd o
 end_moved : (xs ys : List Entry) (e : Entry) (i j : ℕ) → ((n : Entry) → slice_get xs (i + 1) ≡ Some n → slice_get ys (j + 1) ≡ Some n) → IsEndAt xs e i → IsEndAt ys e j
 end_moved xs ys e i j next end = end_by_case ys e j (slice_get xs (i + 1)) next end
 
-next_in_list : (ls : List (List Entry)) (p : Place) (l : List Entry) (n : Entry) → slice_get ls p.list ≡ Some l → slice_get l (p.entry + 1) ≡ Some n
+next_in_list : (ls : List (List Entry)) (p : EntryPlace) (l : List Entry) (n : Entry) → slice_get ls p.list ≡ Some l → slice_get l (p.entry + 1) ≡ Some n
     → slice_get (concatenated ls) (rank ls p + 1) ≡ Some n
 next_in_list ls p l n at in_l =
     let is : rank ls p + 1 ≡ start ls p.list + (p.entry + 1) = omega arith in
     ap (slice_get (concatenated ls)) is ∙ entry_in_list ls (record { list = p.list; entry = p.entry + 1 }) l n at in_l
 
-second_in_next : (ls : List (List Entry)) (p : Place) (l m : List Entry) (n : Entry) → IsPlaceIn ls p → slice_get ls p.list ≡ Some l → slice_get l p.entry ≡ None
+second_in_next : (ls : List (List Entry)) (p : EntryPlace) (l m : List Entry) (n : Entry) → IsPlaceIn ls p → slice_get ls p.list ≡ Some l → slice_get l p.entry ≡ None
     → slice_get ls (p.list + 1) ≡ Some m → slice_get m 1 ≡ Some n → slice_get (concatenated ls) (rank ls p + 1) ≡ Some n
 second_in_next ls p l m n in_range at none next in_m =
     let behind = behind_list ls p l in_range at none in

@@ -11,7 +11,7 @@ use Rattle.std.proofs.lemmas.Option.{slice_get-get_or, slice_get_within, slice_g
 use Rattle.index_nodes.specs.declared.entry.Entry.{Entry}
 use Rattle.index_nodes.specs.Order.{comparison, EntryPrecedes, IsAscending}
 use Rattle.index_nodes.specs.Sets.{IsAt, IsGapFor}
-use Rattle.index_nodes.specs.Lists.{concatenated, list_of, rank, begins_after, Place, IsLastBetween}
+use Rattle.index_nodes.specs.Lists.{concatenated, list_of, rank, begins_after, EntryPlace, IsLastBetween}
 use Rattle.dead_places.proofs.PlaceLemmas.{less_from_test}
 use Rattle.index_nodes.proofs.OrderLemmas.{comparison_total, Precedes-trans, same-from_tied}
 use Rattle.index_nodes.proofs.SetLemmas.{ascending-at, lowest, same_place}
@@ -28,18 +28,18 @@ pub record IsTidy (lists : List (List Entry)) : Type 0 where
   pub filled : IsFilled lists
 
 -- in a list, or right after its last entry; the very first place, where there is no list
-pub record IsPlaceIn (lists : List (List Entry)) (place : Place) : Type 0 where
+pub record IsPlaceIn (lists : List (List Entry)) (place : EntryPlace) : Type 0 where
   pub list : 0 < length lists → place.list < length lists
   pub entry : place.entry ≤ length (list_of lists place.list)
 
 -- an entry stands at the place, this one
-pub record IsFoundAt (lists : List (List Entry)) (sought : Entry) (place : Place) : Type 0 where
+pub record IsFoundAt (lists : List (List Entry)) (sought : Entry) (place : EntryPlace) : Type 0 where
   pub list : place.list < length lists
   pub entry : place.entry < length (list_of lists place.list)
   pub at : IsAt (concatenated lists) sought (rank lists place)
 
 -- the entry is not there, and would stand at this place
-pub record IsAbsentAt (lists : List (List Entry)) (sought : Entry) (place : Place) : Type 0 where
+pub record IsAbsentAt (lists : List (List Entry)) (sought : Entry) (place : EntryPlace) : Type 0 where
   pub in_range : IsPlaceIn lists place
   pub gap : IsGapFor (concatenated lists) sought (rank lists place)
 
@@ -136,13 +136,13 @@ gap_joined ls x i j tidy between gap =
       ];
     }
 
-pub absent_joined : (ls : List (List Entry)) (x : Entry) (p : Place) → IsTidy ls → IsLastBetween ls x p.list (p.list + 1) → IsGapFor (list_of ls p.list) x p.entry → IsAbsentAt ls x p
+pub absent_joined : (ls : List (List Entry)) (x : Entry) (p : EntryPlace) → IsTidy ls → IsLastBetween ls x p.list (p.list + 1) → IsGapFor (list_of ls p.list) x p.entry → IsAbsentAt ls x p
 absent_joined ls x p tidy between gap = record {
   in_range = record { list = λ some. omega (arith, between.in_range); entry = gap.in_range };
   gap = gap_joined ls x p.list p.entry tidy between gap;
 }
 
-pub found_joined : (ls : List (List Entry)) (x : Entry) (p : Place) → p.list < length ls → IsAt (list_of ls p.list) x p.entry → IsFoundAt ls x p
+pub found_joined : (ls : List (List Entry)) (x : Entry) (p : EntryPlace) → p.list < length ls → IsAt (list_of ls p.list) x p.entry → IsFoundAt ls x p
 found_joined ls x p within at =
     let inside = slice_get_within (list_of ls p.list) p.entry x at in
     record { list = within; entry = inside; at = joined_get ls p.list p.entry within inside ∙ at }
@@ -154,7 +154,7 @@ found_joined ls x p within at =
 list_is : (ls : List (List Entry)) (i : ℕ) (l : List Entry) → slice_get ls i ≡ Some l → list_of ls i ≡ l
 list_is ls i l at = get_or_from_slice_get ls i l [] at
 
-pub entry_in_list : (ls : List (List Entry)) (p : Place) (l : List Entry) (e : Entry) → slice_get ls p.list ≡ Some l → slice_get l p.entry ≡ Some e
+pub entry_in_list : (ls : List (List Entry)) (p : EntryPlace) (l : List Entry) (e : Entry) → slice_get ls p.list ≡ Some l → slice_get l p.entry ≡ Some e
     → slice_get (concatenated ls) (rank ls p) ≡ Some e
 entry_in_list ls p l e at in_l =
     let there : slice_get (list_of ls p.list) p.entry ≡ Some e = ap (λ m. slice_get m p.entry) (list_is ls p.list l at) ∙ in_l in
@@ -165,7 +165,7 @@ none_there [] i none = omega arith
 none_there (x ∷ xs) zero none = absurd (cc none)
 none_there (x ∷ xs) (suc i) none = let rest = none_there xs i none in omega arith
 
-pub behind_list : (ls : List (List Entry)) (p : Place) (l : List Entry) → IsPlaceIn ls p → slice_get ls p.list ≡ Some l → slice_get l p.entry ≡ None
+pub behind_list : (ls : List (List Entry)) (p : EntryPlace) (l : List Entry) → IsPlaceIn ls p → slice_get ls p.list ≡ Some l → slice_get l p.entry ≡ None
     → rank ls p ≡ start ls (p.list + 1)
 behind_list ls p l in_range at none =
     let within = slice_get_within ls p.list l at in
@@ -175,14 +175,14 @@ behind_list ls p l in_range at none =
     let short = in_range.entry in
     omega arith
 
-pub entry_in_next : (ls : List (List Entry)) (p : Place) (l m : List Entry) → IsFilled ls → IsPlaceIn ls p → slice_get ls p.list ≡ Some l → slice_get l p.entry ≡ None
+pub entry_in_next : (ls : List (List Entry)) (p : EntryPlace) (l m : List Entry) → IsFilled ls → IsPlaceIn ls p → slice_get ls p.list ≡ Some l → slice_get l p.entry ≡ None
     → slice_get ls (p.list + 1) ≡ Some m → slice_get (concatenated ls) (rank ls p) ≡ slice_get m 0
 entry_in_next ls p l m filled in_range at none next =
     let within = slice_get_within ls (p.list + 1) m next in
     let is : rank ls p ≡ start ls (p.list + 1) + 0 = behind_list ls p l in_range at none ∙ omega arith in
     ap (slice_get (concatenated ls)) is ∙ joined_get ls (p.list + 1) 0 within (filled (p.list + 1) within) ∙ ap (λ k. slice_get k 0) (list_is ls (p.list + 1) m next)
 
-pub none_behind : (ls : List (List Entry)) (p : Place) (l : List Entry) → IsPlaceIn ls p → slice_get ls p.list ≡ Some l → slice_get l p.entry ≡ None
+pub none_behind : (ls : List (List Entry)) (p : EntryPlace) (l : List Entry) → IsPlaceIn ls p → slice_get ls p.list ≡ Some l → slice_get l p.entry ≡ None
     → slice_get ls (p.list + 1) ≡ None → slice_get (concatenated ls) (rank ls p) ≡ None
 none_behind ls p l in_range at none last =
     let end = start_end ls (p.list + 1) (none_there ls (p.list + 1) last) in

@@ -1,5 +1,6 @@
 pub mod Bounds
 pub mod Halves
+pub mod Keeps
 pub mod Lists
 pub mod Nodes
 pub mod Order

@@ -15,14 +15,14 @@ abbrev pub list_of : List (List Entry) → ℕ → List Entry
 list_of lists i = slice_index_or lists i []
 
 -- in a list, or right after its last entry
-pub record Place : Type 0 where
+pub record EntryPlace : Type 0 where
   -- the list's number, counted from 0
   pub list : ℕ
   -- the place in the list, counted from 0
   pub entry : ℕ
 
 -- where the entry at a place stands among all
-abbrev pub rank : List (List Entry) → Place → ℕ
+abbrev pub rank : List (List Entry) → EntryPlace → ℕ
 rank lists place = length (concatenated (take place.list lists)) + place.entry
 
 -- the sought entry precedes the list's first

@@ -4,8 +4,8 @@ use Rattle.std.specs.List.{All}
 use Rattle.index_nodes.specs.declared.entry.Entry.{Entry}
 use Rattle.index_nodes.specs.declared.nodes.TreePosition.{TreePosition}
 use Rattle.index_nodes.specs.Sets.{IsStart}
-use Rattle.index_nodes.specs.Lists.{concatenated, rank, Place}
-use Rattle.index_nodes.specs.declared.node.TheConstants.{MAX_PARTS}
+use Rattle.index_nodes.specs.Lists.{concatenated, rank, EntryPlace}
+use Rattle.index_nodes.specs.declared.node.TheConstants.{MOST_PARTS}
 
 -- the entries of the nodes, one node after another
 abbrev pub all : {N : Type 0} → (N → List Entry) → List N → List Entry
@@ -25,7 +25,7 @@ inner_rank rank None position = 0
 inner_rank rank (Some n) position = rank n position
 
 -- the position as a place in its node's list of entries
-abbrev pub list_place : {N S : Type 0} → (N → S → ℕ) → List N → TreePosition S → Place
+abbrev pub list_place : {N S : Type 0} → (N → S → ℕ) → List N → TreePosition S → EntryPlace
 list_place rank nodes position = record { list = position.node; entry = inner_rank rank (slice_get nodes position.node) position.inner }
 
 -- the number of entries before the position
@@ -58,7 +58,7 @@ pub record IsStartIn {N S : Type 0} (entries : N → List Entry) (rank : N → S
 pub record IsOpened {N S : Type 0} (entries : N → List Entry) (size : N → ℕ) (rank : N → S → ℕ) (IsPosition : N → S → Type 0) (old new : List N) (was is : TreePosition S) : Type 0 where
   pub same : all entries new ≡ all entries old
   pub before : rank_in entries rank new is ≡ rank_in entries rank old was
-  pub room : IsSomeAnd (slice_get new is.node) (λ n. (size n < MAX_PARTS) × IsPosition n is.inner)
+  pub room : IsSomeAnd (slice_get new is.node) (λ n. (size n < MOST_PARTS) × IsPosition n is.inner)
 
 -- no node was taken of those that are set aside, nor a place in their list
 pub record IsUnspent {B : Type 0} (HasLeft : B → ℕ → Type 0) (room room' spare spare' : ℕ) (left left' : B) : Type 0 where

@@ -6,7 +6,7 @@ ghost use Rattle.index_nodes.specs.Rows.{none_without, some_with, many_with, ran
 ghost use Rattle.index_nodes.specs.Nodes.{all, rank_in, AreNeat, IsPositionIn, IsEntryIn, AreLeft, HavePlaces};
 
 use crate::entry::Entry;
-use crate::node::{HALF, Half, MAX_PARTS, Node, Swept};
+use crate::node::{HALF, Half, MOST_PARTS, Node, Swept};
 use crate::nodes::{self, Spares, TreePosition};
 use dead_places::DeadSet;
 use std::alloc::{AllocError, Global};
@@ -19,14 +19,14 @@ pub struct Branch<N> {
 }
 
 impl<N> Model for Branch<N> {
-    ghost use Rattle.std.specs.Prelude.{◌≤◌, List, length, vec_capacity};
-    ghost use Rattle.index_nodes.specs.declared.node.TheConstants.{MAX_PARTS};
+    ghost use Rattle.std.specs.Prelude.{List, length, vec_capacity};
+    ghost use Rattle.index_nodes.specs.Keeps.{IsBranch};
 
     ghost Value = { List N };
 
     ghost view = { λ b. b.nodes.items };
 
-    ghost invariant = { λ b. (length b.nodes.items ≤ MAX_PARTS) × (MAX_PARTS ≤ vec_capacity b.nodes) };
+    ghost invariant = { λ b. IsBranch (length b.nodes.items) (vec_capacity b.nodes) };
 }
 
 impl<N: Node> Node for Branch<N> {
@@ -53,7 +53,7 @@ impl<N: Node> Node for Branch<N> {
     ghost HasPlaces = { λ spares. HavePlaces N.HasPlaces (vec_capacity spares.nodes) spares.below };
 
     fn new(alloc: Global) -> Result<Self, AllocError> {
-        let nodes = Vec::with_capacity(alloc, MAX_PARTS)?;
+        let nodes = Vec::with_capacity(alloc, MOST_PARTS)?;
         Ok(Branch { nodes })
     }
 
@@ -177,15 +177,15 @@ impl<N: Node> Node for Branch<N> {
 
 /// Moves all of 128 nodes but the first 64. There is room for them in memory.
 fn move_half<N: Node>(lower: &mut Vec<N>, upper: &mut Vec<N>)
-    requires full { length lower.old.items ≡ MAX_PARTS }
+    requires full { length lower.old.items ≡ MOST_PARTS }
     requires none { upper.old.items ≡ [] }
-    requires room { MAX_PARTS ≤ vec_capacity upper.old }
+    requires room { MOST_PARTS ≤ vec_capacity upper.old }
     ensures nodes { lower.new.items ++ upper.new.items ≡ lower.old.items }
     ensures half { length lower.new.items ≡ HALF }
     ensures capacity { vec_capacity lower.old ≤ vec_capacity lower.new }
     ensures capacity_too { vec_capacity upper.old ≤ vec_capacity upper.new }
 {
-    for _ in HALF..MAX_PARTS {
+    for _ in HALF..MOST_PARTS {
         if let Some(node) = lower.pop() {
             upper.push_reserved(node);
         }

@@ -11,7 +11,7 @@ ghost use Rattle.index_nodes.specs.Bounds.{AreOn};
 ghost use Rattle.dead_places.specs.Places.{AreAscending};
 
 use crate::entry::{Entry, compare, is_before};
-use crate::node::{HALF, Half, MAX_PARTS, Node, Swept};
+use crate::node::{HALF, Half, MOST_PARTS, Node, Swept};
 use dead_places::{DeadSet, NO_PAGES, PageBounds, is_among, widened};
 use std::alloc::{AllocError, Global};
 use std::marker::Model;
@@ -31,17 +31,15 @@ pub struct Leaf {
 }
 
 impl Model for Leaf {
-    ghost use Rattle.std.specs.Prelude.{◌≤◌, List, length, vec_capacity};
+    ghost use Rattle.std.specs.Prelude.{List, vec_capacity};
     ghost use Rattle.index_nodes.specs.declared.entry.Entry.{Entry as Seen};
-    ghost use Rattle.index_nodes.specs.Lists.{IsFirst};
-    ghost use Rattle.index_nodes.specs.Bounds.{AreOn};
-    ghost use Rattle.index_nodes.specs.declared.node.TheConstants.{MAX_PARTS};
+    ghost use Rattle.index_nodes.specs.Keeps.{IsLeaf};
 
     ghost Value = { List Seen };
 
     ghost view = { λ l. l.entries.items };
 
-    ghost invariant = { λ l. (length l.entries.items ≤ MAX_PARTS) × (MAX_PARTS ≤ vec_capacity l.entries) × IsFirst l.first l.entries.items × AreOn l.pages l.entries.items };
+    ghost invariant = { λ l. IsLeaf l.first l.entries.items (vec_capacity l.entries) l.pages };
 }
 
 impl Node for Leaf {
@@ -68,7 +66,7 @@ impl Node for Leaf {
     ghost HasPlaces = { λ spares. Unit {0} };
 
     fn new(alloc: Global) -> Result<Self, AllocError> {
-        let entries = Vec::with_capacity(alloc, MAX_PARTS)?;
+        let entries = Vec::with_capacity(alloc, MOST_PARTS)?;
         let tid = Tid { page: 0, slot: 0 };
         let first = Entry {
             value: 0,

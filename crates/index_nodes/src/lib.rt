@@ -20,5 +20,5 @@ pub mod nodes;
 pub use branch::Branch;
 pub use entry::{Entry, members_determine};
 pub use leaf::Leaf;
-pub use node::{Half, MAX_PARTS, Node, Swept};
+pub use node::{Half, MOST_PARTS, Node, Swept};
 pub use nodes::{Spares, TreePosition};

@@ -16,7 +16,7 @@ use dead_places::DeadSet;
 use std::alloc::{AllocError, Global};
 
 /// A node has at most so many parts.
-pub const MAX_PARTS: usize = 128;
+pub const MOST_PARTS: usize = 128;
 
 /// Where a full node is split, so many parts stay in it, counting an entry that it is split for.
 pub(crate) const HALF: usize = 64;
@@ -89,7 +89,7 @@ pub trait Node: Drop {
     /// The number of parts.
     fn len(&self) -> usize
         ensures value { result ≡ size self.now }
-        ensures limit { result ≤ MAX_PARTS };
+        ensures limit { result ≤ MOST_PARTS };
 
     /// Whether the entry precedes the first of the node.
     fn begins_after(&self, sought: &Entry) -> bool
@@ -160,13 +160,13 @@ pub trait Node: Drop {
 
     /// Moves the upper parts of a full node to one without any, and says where the position is then. It takes no memory.
     fn split(&mut self, upper: &mut Self, position: Self::Position) -> Half<Self::Position>
-        requires full { size self.old ≡ MAX_PARTS }
+        requires full { size self.old ≡ MOST_PARTS }
         requires none { size upper.old ≡ 0 }
         requires neat { IsNeat self.old }
         requires position { IsPosition self.old position }
         ensures entries { entries self.new ++ entries upper.new ≡ entries self.old }
-        ensures part { (0 < size self.new) × (size self.new < MAX_PARTS) }
-        ensures part_too { (0 < size upper.new) × (size upper.new < MAX_PARTS) }
+        ensures part { (0 < size self.new) × (size self.new < MOST_PARTS) }
+        ensures part_too { (0 < size upper.new) × (size upper.new < MOST_PARTS) }
         ensures neat { IsNeat self.new }
         ensures neat_too { IsNeat upper.new }
         ensures nodes { nodes self.new + nodes upper.new ≡ nodes self.old + 1 }
@@ -180,7 +180,7 @@ pub trait Node: Drop {
         position: Self::Position,
         entry: Entry,
     ) -> Result<(), AllocError>
-        requires room { size self.old < MAX_PARTS }
+        requires room { size self.old < MOST_PARTS }
         requires neat { IsNeat self.old }
         requires position { IsPosition self.old position }
         ensures entries { OnOk result
@@ -198,7 +198,7 @@ pub trait Node: Drop {
         ensures err { OnErr result (entries self.new ≡ entries self.old) }
         ensures refused { OnErr result (¬ HasLeft spares.old 1) }
         ensures full { OnErr result
-            ((size self.old ≡ 0) ⊎ (MAX_PARTS ≤ length (entries self.old))) };
+            ((size self.old ≡ 0) ⊎ (MOST_PARTS ≤ length (entries self.old))) };
 
     /// Removes entries to dead places, from this position on as far as its leaf goes. The parts that are left without any are set
     /// aside, if there is a place for them. It does nothing where no entry follows.

@@ -11,7 +11,7 @@ ghost use Rattle.index_nodes.specs.Nodes.{all, rank_in, before_node, AreNeat, Ar
 ghost use Rattle.index_nodes.specs.Sweeps.{IsSwept};
 
 use crate::entry::Entry;
-use crate::node::{Half, MAX_PARTS, Node, Swept};
+use crate::node::{Half, MOST_PARTS, Node, Swept};
 use dead_places::DeadSet;
 use std::alloc::AllocError;
 
@@ -232,7 +232,7 @@ fn split<N: Node>(
     requires node { position.node < length nodes.old.items }
     requires position { IsPositionIn N.IsPosition nodes.old.items position }
     requires full { IfSome (slice_get nodes.old.items position.node)
-        (λ node. N.size node ≡ MAX_PARTS) }
+        (λ node. N.size node ≡ MOST_PARTS) }
     ensures opened { IsOpened N.entries N.size N.rank N.IsPosition nodes.old.items nodes.new.items
         position result }
     ensures neat { AreNeat N.IsNeat N.size nodes.new.items }
@@ -276,7 +276,7 @@ fn open<N: Node>(
     ensures err { OnErr result (nodes.new.items ≡ nodes.old.items) }
     ensures refused { OnErr result
         ((vec_capacity nodes.old - vec_len nodes.old ≡ 0) ⊎ (vec_len spare.old ≡ 0)) }
-    ensures full { OnErr result (MAX_PARTS ≤ length (all N.entries nodes.old.items)) }
+    ensures full { OnErr result (MOST_PARTS ≤ length (all N.entries nodes.old.items)) }
     ensures grown { sum_by N.nodes nodes.old.items ≤ sum_by N.nodes nodes.new.items }
     ensures unspent_list { OnOk result
         (sum_by N.nodes nodes.new.items ≡ sum_by N.nodes nodes.old.items
@@ -285,7 +285,7 @@ fn open<N: Node>(
         (sum_by N.nodes nodes.new.items ≡ sum_by N.nodes nodes.old.items
         → vec_len spare.old ≤ vec_len spare.new) }
 {
-    if nodes[position.node].len() < MAX_PARTS {
+    if nodes[position.node].len() < MOST_PARTS {
         return Ok(position);
     }
     nodes.try_reserve(1)?;
@@ -371,7 +371,7 @@ pub fn insert<N: Node>(
         ((vec_capacity nodes.old - vec_len nodes.old ≡ 0) ⊎ (vec_len spares.old.nodes ≡ 0)
         ⊎ ¬ N.HasLeft spares.old.below 1) }
     ensures full { OnErr result
-        ((length nodes.old.items ≡ 0) ⊎ (MAX_PARTS ≤ length (all N.entries nodes.old.items))) }
+        ((length nodes.old.items ≡ 0) ⊎ (MOST_PARTS ≤ length (all N.entries nodes.old.items))) }
     ensures grown { sum_by N.nodes nodes.old.items ≤ sum_by N.nodes nodes.new.items }
     ensures unspent { OnOk result
         (sum_by N.nodes nodes.new.items ≡ sum_by N.nodes nodes.old.items

@@ -1,7 +1,7 @@
 -- An index as its callers see it.
 use Rattle.std.specs.Prelude.{ℕ, zero, suc, ◌-◌, max, List, length}
 use Rattle.index_nodes.specs.declared.entry.Entry.{Entry}
-use Rattle.index_nodes.specs.declared.node.TheConstants.{MAX_PARTS}
+use Rattle.index_nodes.specs.declared.node.TheConstants.{MOST_PARTS}
 
 pub record IndexView : Type 0 where
   -- in ascending order, each once
@@ -15,7 +15,7 @@ pub record IndexView : Type 0 where
 -- so if nodes are set aside, for these are taken first.
 abbrev pub free_places : (entries spare : ℕ) → ℕ
 free_places zero zero = 0
-free_places zero (suc spare) = MAX_PARTS
+free_places zero (suc spare) = MOST_PARTS
 free_places (suc n) spare = 127 - n
 
 -- how many entries can be inserted without memory, wherever they go

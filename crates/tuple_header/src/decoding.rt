@@ -4,7 +4,7 @@ ghost use Rattle.std.specs.Prelude.{◌≡◌, ◌≤◌, ◌+◌, length, Some,
 ghost use Rattle.tuple_header.specs.Layout.{decoded_header, column_at, columns_at, decoded_row, encoding};
 ghost use Rattle.tuple_header.specs.Faults.{header_fault, layout_fault, decoding};
 
-use crate::{Header, MOST_SLOTS, Row, Tuple, TupleFault};
+use crate::{Header, MOST_BODY, MOST_SLOTS, Row, Tuple, TupleFault};
 use arrayvec::ArrayVec;
 use byteorder::{ByteOrder, LittleEndian};
 use xid_circle::{Tid, Xid};
@@ -28,8 +28,8 @@ fn header_of(bytes: &[u8]) -> Header
     }
 }
 
-fn body_of(bytes: &[u8]) -> ArrayVec<u8, 1024>
-    requires { length bytes.now ≤ 1024 }
+fn body_of(bytes: &[u8]) -> ArrayVec<u8, MOST_BODY>
+    requires { length bytes.now ≤ MOST_BODY }
     ensures { result ≡ record { items = bytes.now } }
 {
     let mut body = ArrayVec::new();
@@ -113,7 +113,7 @@ fn layout_fault_of(bytes: &[u8]) -> Option<TupleFault>
         return Some(TupleFault::Length);
     }
     let body_len = usize::from(LittleEndian::read_u16(&bytes[64..]));
-    if body_len > 1024 || bytes.len() != 66 + body_len {
+    if body_len > MOST_BODY || bytes.len() != 66 + body_len {
         Some(TupleFault::Length)
     } else if bytes[22] != 24 {
         Some(TupleFault::Hoff)

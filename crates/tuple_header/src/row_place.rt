@@ -1,5 +1,7 @@
 //! Places for rows.
 
+use crate::version::MOST_BODY;
+
 /// A place for a row that its caller keeps, as C has it: the row's key, its columns 0 to 3, and a body, of which the first
 /// `length` bytes count.
 #[repr(C)]
@@ -8,5 +10,5 @@ pub struct RowPlace {
     pub key: u64,
     pub cols: [i64; 4],
     pub length: u16,
-    pub body: [u8; 1024],
+    pub body: [u8; MOST_BODY],
 }

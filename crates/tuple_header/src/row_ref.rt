@@ -3,7 +3,7 @@
 ghost use Rattle.std.specs.Prelude.{◌≡◌, ◌≤◌, length};
 ghost use Rattle.tuple_header.specs.Places.{place_with};
 
-use crate::{Row, RowPlace};
+use crate::{MOST_BODY, Row, RowPlace};
 use arrayvec::ArrayVec;
 use std::marker::Model;
 
@@ -18,18 +18,19 @@ pub struct RowRef<'a> {
 impl<'a> Model for RowRef<'a> {
     ghost use Rattle.std.specs.Prelude.{◌≤◌, length};
     ghost use Rattle.tuple_header.specs.declared.version.Row.{Row as SpecRow};
+    ghost use Rattle.tuple_header.specs.declared.version.TheConstants.{MOST_BODY};
 
     ghost Value = { SpecRow };
 
     ghost view = { λ r. record { key = r.key; cols = r.cols; body = record { items = r.body.now } } };
 
-    ghost invariant = { λ r. length r.body.now ≤ 1024 };
+    ghost invariant = { λ r. length r.body.now ≤ MOST_BODY };
 }
 
 impl<'a> RowRef<'a> {
     /// The row of this key, these columns and this body, which has at most 1024 bytes.
     pub fn new(key: u64, cols: [i64; 4], body: &'a [u8]) -> RowRef<'a>
-        requires { length body.now ≤ 1024 }
+        requires { length body.now ≤ MOST_BODY }
         ensures { result ≡ record { key = key; cols = cols; body = record { items = body.now } } }
     {
         RowRef { key, cols, body }

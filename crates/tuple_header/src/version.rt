@@ -19,7 +19,7 @@ pub struct Row {
     /// Its four columns.
     pub cols: [i64; 4],
     /// Its body, of at most 1024 bytes.
-    pub body: ArrayVec<u8, 1024>,
+    pub body: ArrayVec<u8, MOST_BODY>,
 }
 
 impl Row {
@@ -36,6 +36,9 @@ impl Row {
         }
     }
 }
+
+/// How many bytes the body of a row may have.
+pub const MOST_BODY: usize = 1024;
 
 /// How many slots a page may have, and so the highest number of one (PostgreSQL, `MaxHeapTuplesPerPage`).
 pub const MOST_SLOTS: u16 = 291;

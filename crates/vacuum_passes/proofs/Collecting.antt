@@ -12,7 +12,7 @@ use Rattle.page_slots.specs.declared.slot.Slot.{Slot}
 use Rattle.page_slots.specs.declared.slot.Slot.TheVariants.{Unused, Normal, Redirect, Dead}
 use Rattle.page_slots.specs.Slots.{slot_at, the_slot, is_dead}
 use Rattle.page_slots.proofs.SlotLemmas.{slot_at-there, the_slot-from_slot_at}
-use Rattle.dead_places.specs.Places.{IsBefore}
+use Rattle.dead_places.specs.Places.{PlacePrecedes}
 use Rattle.vacuum_passes.specs.View.{places}
 use Rattle.vacuum_passes.specs.Visits.{ListsDead}
 use Rattle.vacuum_passes.specs.Working.{CollectsSlot, Collects}
@@ -103,12 +103,12 @@ collecting-none old slots p limit few = record {
 }
 
 module _ (old now : List Tid) (slots : List Slot) (p limit n : ℕ) (c : IsCollecting old now slots p limit n) where
-  pub all-before : ((tid : Tid) → Contains old tid → tid.page < p) → All (λ tid. IsBefore tid (record { page = p; slot = n })) now
-  all-before before = all-from (λ tid. IsBefore tid (record { page = p; slot = n })) now (λ tid there. ⊎_elim
+  pub all-before : ((tid : Tid) → Contains old tid → tid.page < p) → All (λ tid. PlacePrecedes tid (record { page = p; slot = n })) now
+  all-before before = all-from (λ tid. PlacePrecedes tid (record { page = p; slot = n })) now (λ tid there. ⊎_elim
       (λ first. lower-page tid (record { page = p; slot = n }) (before tid first))
       (λ later.
       let m = in-mapped (λ k. record { page = p; slot = k }) c.done tid later in
-      subst (λ t. IsBefore t (record { page = p; slot = n })) m.2 (lower-slot p m.0 n (c.below m.0 m.1)))
+      subst (λ t. PlacePrecedes t (record { page = p; slot = n })) m.2 (lower-slot p m.0 n (c.below m.0 m.1)))
       (Contains-append_cases old (places p c.done) tid (subst (λ (xs : List Tid). Contains xs tid) c.store there)))
 
   now-length : length now ≡ length old + length c.done

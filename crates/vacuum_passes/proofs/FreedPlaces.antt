@@ -11,7 +11,7 @@ use Rattle.std.proofs.lemmas.List.Kept.{AllPairs-cons, AllPairs-filter}
 use Rattle.std.proofs.lemmas.Option.{same_Some}
 use Rattle.xid_circle.specs.declared.Tid.{Tid}
 use Rattle.xid_circle.proofs.Members.{Contains-first, Contains-rest, Contains-cases, Contains-none}
-use Rattle.dead_places.specs.Places.{IsBefore, AreAscending}
+use Rattle.dead_places.specs.Places.{PlacePrecedes, AreAscending}
 use Rattle.dead_places.proofs.PlaceLemmas.{less_both}
 use Rattle.vacuum_passes.specs.View.{places}
 use Rattle.vacuum_passes.specs.Steps.{on_page, off_page}
@@ -33,7 +33,7 @@ filter-none test (x ∷ xs) each =
 
 -- Pages.
 
-page-le : (a b : Tid) → IsBefore a b → a.page ≤ b.page
+page-le : (a b : Tid) → PlacePrecedes a b → a.page ≤ b.page
 page-le a b h = elim (less_both (nat_cmp a.page b.page) (nat_cmp a.slot b.slot) h) [
   | inl less ↦ let lt : a.page < b.page = ranked a.page b.page Less (sym less) in omega arith
   | inr both ↦ let same : a.page ≡ b.page = ranked a.page b.page Equal (sym both.0) in omega arith
@@ -85,10 +85,10 @@ off-after xs p i d up lowest within other tid (zero, less, found) same =
     other (ap (λ (t : Tid). t.page) first ∙ same)
 off-after xs p i d up lowest within other tid (suc k, less, found) same =
     let long = length-drop i xs in
-    let before : IsBefore (get_or xs i tid) (get_or xs (i + suc k) tid) = up i (i + suc k) tid (omega arith) (omega (arith, long, less)) in
+    let before : PlacePrecedes (get_or xs i tid) (get_or xs (i + suc k) tid) = up i (i + suc k) tid (omega arith) (omega (arith, long, less)) in
     let at : get_or xs (i + suc k) tid ≡ tid = sym (get_or-drop i xs (suc k) tid) ∙ found in
     let first : get_or xs i tid ≡ get_or xs i d = get_or_default xs i tid d within in
-    let le : (get_or xs i d).page ≤ tid.page = page-le (get_or xs i d) tid (subst (λ a. IsBefore a tid) first (subst (λ b. IsBefore (get_or xs i tid) b) at before)) in
+    let le : (get_or xs i d).page ≤ tid.page = page-le (get_or xs i d) tid (subst (λ a. PlacePrecedes a tid) first (subst (λ b. PlacePrecedes (get_or xs i tid) b) at before)) in
     let ge : p ≤ (get_or xs i d).page = lowest (get_or xs i d) (i, within, get_or_default xs i (get_or xs i d) d within) in
     other (omega (arith, le, ge, same))
 
@@ -102,7 +102,7 @@ cut-all xs p i all on = subst (λ k. IsCut xs p k) all
 
 -- Their slots.
 
-page-or-slot : (a b : Tid) → IsBefore a b → a.page ≡ b.page → a.slot < b.slot
+page-or-slot : (a b : Tid) → PlacePrecedes a b → a.page ≡ b.page → a.slot < b.slot
 page-or-slot a b h same = elim (less_both (nat_cmp a.page b.page) (nat_cmp a.slot b.slot) h) [
   | inl less ↦ let lt : a.page < b.page = ranked a.page b.page Less (sym less) in absurd (omega (arith, lt, same))
   | inr both ↦ ranked a.slot b.slot Less (sym both.1)
@@ -113,8 +113,8 @@ slots-up p [] up on = λ i j d lt within. absurd (omega (arith, within))
 slots-up p (x ∷ xs) up on = AllPairs-cons (λ a b. a < b) x.slot (map (λ (tid : Tid). tid.slot) xs)
     (all-from (λ n. x.slot < n) (map (λ (tid : Tid). tid.slot) xs) (λ n there.
     let m = in-mapped (λ (tid : Tid). tid.slot) xs n there in
-    subst (λ k. x.slot < k) m.2 (page-or-slot x m.0 (pairs-head IsBefore x m.0 xs up m.1) (on x (Contains-first x xs) ∙ sym (on m.0 (Contains-rest x m.0 xs m.1))))))
-    (slots-up p xs (pairs-tail IsBefore x xs up) (λ tid there. on tid (Contains-rest x tid xs there)))
+    subst (λ k. x.slot < k) m.2 (page-or-slot x m.0 (pairs-head PlacePrecedes x m.0 xs up m.1) (on x (Contains-first x xs) ∙ sym (on m.0 (Contains-rest x m.0 xs m.1))))))
+    (slots-up p xs (pairs-tail PlacePrecedes x xs up) (λ tid there. on tid (Contains-rest x tid xs there)))
 
 passed-test : (p : ℕ) (xs : List Tid) (tid : Tid) → Contains (on_page p xs) tid → tid.page ≡ p
 passed-test p xs tid there = eqb-true tid.page p (All-contains (λ t. (t.page == p) ≡ true) (on_page p xs) tid (filter_passes (λ t. t.page == p) xs) there)
@@ -122,7 +122,7 @@ passed-test p xs tid there = eqb-true tid.page p (All-contains (λ t. (t.page ==
 -- the slots on one page are in ascending order
 pub slots-ascending : (p : ℕ) (xs here : List Tid) → AreAscending xs → here ≡ on_page p xs → AllPairs (λ a b. a < b) (map (λ (tid : Tid). tid.slot) here)
 slots-ascending p xs here up is = subst (λ (ys : List Tid). AllPairs (λ a b. a < b) (map (λ (tid : Tid). tid.slot) ys)) (sym is)
-    (slots-up p (on_page p xs) (AllPairs-filter IsBefore (λ tid. tid.page == p) xs up) (passed-test p xs))
+    (slots-up p (on_page p xs) (AllPairs-filter PlacePrecedes (λ tid. tid.page == p) xs up) (passed-test p xs))
 
 all-places : (p : ℕ) (xs : List Tid) → ((tid : Tid) → Contains xs tid → tid.page ≡ p) → xs ≡ places p (map (λ (tid : Tid). tid.slot) xs)
 all-places p [] on = refl

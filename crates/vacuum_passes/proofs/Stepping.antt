@@ -13,7 +13,7 @@ use Rattle.refinement.specs.declared.vacuum.Mode.TheVariants.{Normal, Aggressive
 use Rattle.vacuum_passes.specs.declared.vacuum.Phase.{Phase}
 use Rattle.vacuum_passes.specs.declared.vacuum.Phase.TheVariants as phase
 use Rattle.vacuum_passes.specs.View.{VacuumView, skips, places, space, phase_with, collected}
-use Rattle.dead_places.specs.Places.{IsBefore, AreAscending}
+use Rattle.dead_places.specs.Places.{PlacePrecedes, AreAscending}
 use Rattle.vacuum_passes.specs.Steps.{PhaseAfter, Frees, Drops, IsLowest, on_page, off_page, phase_left}
 use Rattle.vacuum_passes.proofs.FreedPlaces.{on-places}
 use Rattle.vacuum_passes.proofs.ListLemmas.{pairs-tail}
@@ -122,7 +122,7 @@ left-some n xs within = phase-some (drop n xs) (drop-some n xs within)
 pub pairs-drop : (n : ℕ) (xs : List Tid) → AreAscending xs → AreAscending (drop n xs)
 pairs-drop zero xs up = up
 pairs-drop (suc n) [] up = up
-pairs-drop (suc n) (x ∷ xs) up = pairs-drop n xs (pairs-tail IsBefore x xs up)
+pairs-drop (suc n) (x ∷ xs) up = pairs-drop n xs (pairs-tail PlacePrecedes x xs up)
 
 pub freed-is : (v : VacuumView) (p : ℕ) (ys : List Tid) (after : Phase) → ys ≡ off_page p v.store → after ≡ phase_left ys
     → record v { store = ys; phase = after } ≡ record v { store = off_page p v.store; phase = phase_left (off_page p v.store) }

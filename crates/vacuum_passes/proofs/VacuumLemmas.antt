@@ -12,7 +12,7 @@ use Rattle.std.proofs.lemmas.List.Kept.{AllPairs-filter}
 use Rattle.xid_circle.specs.declared.Tid.{Tid}
 use Rattle.xid_circle.proofs.Members.{Contains-none}
 use Rattle.index_nodes.specs.declared.entry.Entry.{Entry}
-use Rattle.dead_places.specs.Places.{IsBefore}
+use Rattle.dead_places.specs.Places.{PlacePrecedes}
 use Rattle.root_index.specs.View.{IndexView}
 use Rattle.heap_write.specs.Heap.{HeapView}
 use Rattle.refinement.specs.declared.vacuum.Piece.{Piece}
@@ -30,21 +30,21 @@ use Rattle.std.proofs.lemmas.List.Kept.{AllPairs-cons}
 before-cmp : (x y : ℕ) → x < y → nat_cmp x y ≡ Less
 before-cmp x y lt = cond-true (nat_lt x y) Less (if x == y then Equal else Greater) (lt-ltb x y lt)
 
-pub lower-page : (a b : Tid) → a.page < b.page → IsBefore a b
+pub lower-page : (a b : Tid) → a.page < b.page → PlacePrecedes a b
 lower-page a b lt = ap (λ o. ordering_then o (nat_cmp a.slot b.slot)) (before-cmp a.page b.page lt)
 
-pub lower-slot : (p n m : ℕ) → n < m → IsBefore (record { page = p; slot = n }) (record { page = p; slot = m })
+pub lower-slot : (p n m : ℕ) → n < m → PlacePrecedes (record { page = p; slot = n }) (record { page = p; slot = m })
 lower-slot p n m lt = ap (λ o. ordering_then o (nat_cmp n m)) (tied_itself nat_cmp_total p) ∙ before-cmp n m lt
 
 pub on-its_page : (p : ℕ) (ns : List ℕ) (tid : Tid) → Contains (places p ns) tid → tid.page ≡ p
 on-its_page p ns tid there = let m = in-mapped (λ n. record { page = p; slot = n }) ns tid there in ap (λ (t : Tid). t.page) (sym m.2)
 
-places-ascending : (p : ℕ) (ns : List ℕ) → AllPairs (λ a b. a < b) ns → AllPairs IsBefore (places p ns)
+places-ascending : (p : ℕ) (ns : List ℕ) → AllPairs (λ a b. a < b) ns → AllPairs PlacePrecedes (places p ns)
 places-ascending p [] up = λ i j d lt within. absurd (omega (arith, within))
-places-ascending p (n ∷ ns) up = AllPairs-cons IsBefore (record { page = p; slot = n }) (places p ns)
-    (all-from (IsBefore (record { page = p; slot = n })) (places p ns) (λ tid there.
+places-ascending p (n ∷ ns) up = AllPairs-cons PlacePrecedes (record { page = p; slot = n }) (places p ns)
+    (all-from (PlacePrecedes (record { page = p; slot = n })) (places p ns) (λ tid there.
     let m = in-mapped (λ k. record { page = p; slot = k }) ns tid there in
-    subst (IsBefore (record { page = p; slot = n })) m.2 (lower-slot p n m.0 (pairs-head (λ a b. a < b) n m.0 ns up m.1))))
+    subst (PlacePrecedes (record { page = p; slot = n })) m.2 (lower-slot p n m.0 (pairs-head (λ a b. a < b) n m.0 ns up m.1))))
     (places-ascending p ns (pairs-tail (λ a b. a < b) n ns up))
 
 -- A visit.
@@ -98,7 +98,7 @@ module _ (v : VacuumView) (p : ℕ) (dead : List ℕ) (i : IsVacuum v) (is : v.p
     within = next-within (nat_lt (space v) (length dead)) refl;
     some = i.some;
     few = let long = taken-length in let few = i.few in omega (arith, long, few);
-    ascending = pairs-append IsBefore v.store (places p (take (space v) dead)) i.ascending
+    ascending = pairs-append PlacePrecedes v.store (places p (take (space v) dead)) i.ascending
         (places-ascending p (take (space v) dead) (pairs-take (λ a b. a < b) (space v) dead up))
         (λ a b old new.
         let lt = heap.1 a old in
@@ -118,7 +118,7 @@ index-kept indexes i progress after v some (PhaseAfter.more last e is) = subst (
 index-kept indexes i progress after v some (PhaseAfter.onward j e n is) = subst (KeepsStore v) (sym is) some
 index-kept indexes i progress after v some (PhaseAfter.over e n is) = subst (KeepsStore v) (sym is) some
 
-swept-kept : (h h' : HeapView) (v v' : VacuumView) (i : ℕ) (from : Option Entry) → v.next ≤ v.pages → 0 < v.limit → length v.store ≤ v.limit → AllPairs IsBefore v.store
+swept-kept : (h h' : HeapView) (v v' : VacuumView) (i : ℕ) (from : Option Entry) → v.next ≤ v.pages → 0 < v.limit → length v.store ≤ v.limit → AllPairs PlacePrecedes v.store
     → ((tid : Tid) → Contains v.store tid → tid.page ≤ v.next) → v.store ≢ [] → Sweeps h h' v v' i from → IsVacuum v'
 swept-kept h h' v v' i from within limit few up passed some s = subst IsVacuum (sym s.same) (record {
   within = within;
@@ -146,7 +146,7 @@ off-kept v p i = record {
   within = i.within;
   some = i.some;
   few = let short = filter-short (λ tid. not (tid.page == p)) v.store in let few = i.few in omega (arith, short, few);
-  ascending = AllPairs-filter IsBefore (λ tid. not (tid.page == p)) v.store i.ascending;
+  ascending = AllPairs-filter PlacePrecedes (λ tid. not (tid.page == p)) v.store i.ascending;
   passed = λ tid there. i.passed tid (in-filtered (λ t. not (t.page == p)) v.store tid there);
   store = left-kept (record v { store = off_page p v.store; phase = phase_left (off_page p v.store) }) (off_page p v.store) refl i.some;
 }
@@ -177,7 +177,7 @@ begun-kept v none is first some = record {
   within = omega (arith, first);
   some = some;
   few = let zero = ap (λ (xs : List Tid). length xs) none in omega (arith, zero);
-  ascending = subst (AllPairs IsBefore) (sym none) (λ i j d lt within. absurd (omega (arith, within)));
+  ascending = subst (AllPairs PlacePrecedes) (sym none) (λ i j d lt within. absurd (omega (arith, within)));
   passed = λ tid there. absurd (Contains-none tid (subst (λ (xs : List Tid). Contains xs tid) none there));
   store = subst (KeepsStore v) (sym is) (
     let zero = ap (λ (xs : List Tid). length xs) none in omega (arith, zero, some),

@@ -3,7 +3,7 @@
 ghost use Rattle.std.specs.Prelude.{◌≡◌, ◌<◌, ◌≤◌, ◌+◌, length, Contains, if◌then◌else◌};
 ghost use Rattle.std.specs.List.{All};
 ghost use Rattle.xid_circle.specs.declared.Tid.{Tid as Place};
-ghost use Rattle.dead_places.specs.Places.{IsBefore};
+ghost use Rattle.dead_places.specs.Places.{PlacePrecedes};
 ghost use Rattle.vacuum_passes.specs.View.{phase_with};
 ghost use Rattle.vacuum_passes.specs.Working.{CleansPage, VisitsFrom, CollectsSlot, Collects, CollectsOn};
 
@@ -101,7 +101,7 @@ fn collect(store: &mut DeadSet, page: &Page, number: u32, limit: usize) -> bool
 /// Collects a slot, if it is dead and there is space. It answers whether it is left over.
 fn collect_slot(store: &mut DeadSet, page: &Page, place: Tid, limit: usize) -> bool
     requires limit { limit ≤ 4096 }
-    requires above { All (λ tid. IsBefore tid place) store.old }
+    requires above { All (λ tid. PlacePrecedes tid place) store.old }
     ensures { CollectsSlot store.old store.new page.now.slots place limit result }
 {
     if !page.is_dead(place.slot) {

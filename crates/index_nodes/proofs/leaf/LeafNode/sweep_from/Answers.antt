@@ -18,7 +18,7 @@ returns-then-goes-count-clause-swept c =
     let there = subst (λ (xs : List Entry). (c.args.position < length xs) × (slice_get xs (length xs - 1) ≡ Some c.in_ok-last.last)) c.deref.ensures.value c.in_ok-last.ensures.last in
     let stay = subst (λ (xs : List Entry). take n xs ++ filter (stays near) (drop n xs) ≡ take c.args.position xs ++ filter (stays near) (drop c.args.position xs)) c.deref-2.ensures.value
     c.next_to_go-goes.ensures.kept in
-    let left = part_left c.self.inside.pages dead near xs c.args.position c.self.invariant.3 c.on_pages-near.ensures in
+    let left = part_left c.self.inside.pages dead near xs c.args.position c.self.invariant.bounded c.on_pages-near.ensures in
     let none : 0 + length xs ≡ length xs = omega arith in
     subst (λ (xs : List Entry). IsSwept xs xs c.args.position dead swept) c.self.view_is
     (swept_leaf xs xs c.args.position dead swept there.0 (sym (at_end (stays near) xs n (omega (arith, c.len-count.ensures, c.if-goes-count.true))) ∙ stay ∙ left) there.1 none refl)
@@ -33,7 +33,7 @@ returns-clause-swept c =
     let there = subst (λ (xs : List Entry). (c.args.position < length xs) × (slice_get xs (length xs - 1) ≡ Some c.in_ok-last.last)) c.deref.ensures.value c.in_ok-last.ensures.last in
     let stay = subst (λ (xs : List Entry). take n xs ++ filter (stays near) (drop n xs) ≡ take c.args.position xs ++ filter (stays near) (drop c.args.position xs)) c.deref-2.ensures.value
     c.next_to_go-goes.ensures.kept in
-    let left = part_left c.self.inside.pages dead near xs c.args.position c.self.invariant.3 c.on_pages-near.ensures in
+    let left = part_left c.self.inside.pages dead near xs c.args.position c.self.invariant.bounded c.on_pages-near.ensures in
     let gone : c.len-count.result - c.len.result + length c.remove_from.new.entries.items ≡ length xs = omega (arith, c.len-count.ensures, c.len.ensures, c.remove_from.ensures.shorter) in
     subst (λ (xs : List Entry). IsSwept xs c.remove_from.new.entries.items c.args.position dead swept) c.self.view_is
     (swept_leaf xs c.remove_from.new.entries.items c.args.position dead swept there.0 (c.remove_from.ensures.items ∙ stay ∙ left) there.1 gone refl)
