@@ -1,8 +1,9 @@
 #!/usr/bin/env python3
 """Looks at names and clauses: tools/names.py, at the top of the repository. Ends with 1 where something is wrong.
 
-It reports each definition of specs/, and each public type, that has the name of another; each clause over 100 columns; and each limit
-that a clause or a definition writes as a number where a constant of its crate, or a public one of a crate below, has a name for it.
+It reports each definition of specs/, and each public type, that has the name of another, or one that differs in case or underscores
+alone and means something else; each clause and each ghost line over 100 columns; and each limit that a clause or a definition writes as
+a number where a constant of its crate, or a public one of a crate below, has a name for it.
 """
 import collections
 import glob
@@ -12,9 +13,11 @@ import sys
 COLUMNS = 100
 DEFINITION = re.compile(r"(?:pub |abbrev |record |data )*(?:abbrev|record|data|pub) (?:pub )?([^\s:({]+)")
 TYPE = re.compile(r"pub (?:struct|enum|trait|type) (\w+)")
-CLAUSE = re.compile(r"\s*(?:requires|ensures\*?)\b")
+CLAUSE = re.compile(r"\s*(?:(?:requires|ensures\*?)\b|(?:pub )?ghost (?!use\b)\w+ ?[=:])")
 PROMISE = re.compile(r"\s*(?:requires|ensures\*?|ghost (?:invariant|view))\b")
 LIMIT = re.compile(r"(pub )?(?:pub\(crate\) )?const (MOST_\w+|MAX_\w+|HALF|GROUP): \w+ = (\d+);")
+# pairs of which one is a Bool or a lemma and the other the proposition; a dead slot and a dead version are PostgreSQL's words
+SAME = {"comesbefore", "hasaborted", "isaborted", "iscommitted", "isdead", "isentryin", "isfrozen"}
 NUMBER = re.compile(r"(?<![\w.])(?<!\^ )(\d+)(?![\w.])")
 
 
@@ -93,7 +96,11 @@ def main():
     for name, place in definitions():
         places[name].append(place)
     wrong = [f"{name} has {len(at)} meanings: {', '.join(at)}" for name, at in sorted(places.items()) if len(at) > 1]
-    wrong += [f"{place}: a clause over {COLUMNS} columns" for place in long_lines()]
+    folded = collections.defaultdict(set)
+    for name in places:
+        folded[re.sub("[_-]", "", name).lower()].add(name)
+    wrong += [f"{' and '.join(sorted(names))} differ in case alone" for fold, names in sorted(folded.items()) if len(names) > 1 and fold not in SAME]
+    wrong += [f"{place}: a clause or a ghost line over {COLUMNS} columns" for place in long_lines()]
     wrong += list(bare_limits())
     print("\n".join(wrong + [f"{len(places)} names, {len(wrong)} wrong"]))
     return 1 if wrong else 0

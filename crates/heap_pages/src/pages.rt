@@ -49,7 +49,8 @@ impl Model for Pages {
 
     ghost view = { λ p. record { pages = p.pages.items; marks = p.marks.marks; spare = p.spare } };
 
-    ghost invariant = { λ p. IsPageTable p.pages.items p.free p.marks p.spare (vec_capacity p.pages - vec_len p.pages) };
+    ghost invariant = { λ p. IsPageTable p.pages.items p.free p.marks p.spare
+        (vec_capacity p.pages - vec_len p.pages) };
 }
 
 impl Pages {

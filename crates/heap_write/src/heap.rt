@@ -56,7 +56,12 @@ impl Model for HeapState {
 
     ghost Value = { HeapView };
 
-    ghost view = { λ h. record { pages = h.pages; statuses = h.statuses; indexes = h.indexes; max_pages = h.max_pages } };
+    ghost view = { λ h. record {
+        pages = h.pages;
+        statuses = h.statuses;
+        indexes = h.indexes;
+        max_pages = h.max_pages;
+    } };
 
     ghost invariant = { λ h.
         (h.max_pages ≤ MAX_PAGES) × AreTrueHints h.statuses h.pages.pages h.hints.turns };

@@ -168,9 +168,11 @@ impl<N: Node> Node for Branch<N> {
 
     ghost itself = { λ b. omega arith };
 
-    ghost before = { λ b position entry. entry_is_position N.IsPosition N.IsEntry N.before b position entry };
+    ghost before = { λ b position entry. entry_is_position N.IsPosition N.IsEntry N.before b
+        position entry };
 
-    ghost within = { λ b position in_range. rank_within N.entries N.rank N.IsPosition N.within b position in_range };
+    ghost within = { λ b position in_range. rank_within N.entries N.rank N.IsPosition N.within b
+        position in_range };
 
     ghost fewer = { λ spares k left. (omega (arith, left.0), N.fewer spares.below k left.1) };
 }

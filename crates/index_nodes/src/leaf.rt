@@ -199,7 +199,8 @@ impl Node for Leaf {
         Ok(())
     }
 
-    ghost none = { elim [ [] ↦ λ none. refl | entry ∷ rest ↦ λ none. absurd (omega (arith, none)) ] };
+    ghost none = { elim
+        [ [] ↦ λ none. refl | entry ∷ rest ↦ λ none. absurd (omega (arith, none)) ] };
 
     ghost some = { λ l neat some. some };
 

@@ -246,10 +246,12 @@ pub trait Node: Drop {
     ghost itself: { (node : Self) → 0 < nodes node };
 
     // where an entry stands another may be put
-    ghost before: { (node : Self) (position : Self.Position) → IsEntry node position → IsPosition node position };
+    ghost before: { (node : Self) (position : Self.Position) → IsEntry node position
+        → IsPosition node position };
 
     // a position is in the node, or right after its last entry
-    ghost within: { (node : Self) (position : Self.Position) → IsPosition node position → rank node position ≤ length (entries node) };
+    ghost within: { (node : Self) (position : Self.Position) → IsPosition node position
+        → rank node position ≤ length (entries node) };
 
     // what is enough is enough for fewer
     ghost fewer: { (spares : Self.Spares) (k : ℕ) → HasLeft spares (k + 1) → HasLeft spares k };

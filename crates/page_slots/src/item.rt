@@ -28,7 +28,13 @@ impl Model for Stored {
 
     ghost Value = { StoredView };
 
-    ghost view = { λ s. record { header = s.header; key = s.key; cols = s.cols; from = s.from; len = s.len } };
+    ghost view = { λ s. record {
+        header = s.header;
+        key = s.key;
+        cols = s.cols;
+        from = s.from;
+        len = s.len;
+    } };
 
     ghost invariant = { λ s. (header_fault s.header ≡ None) × (s.len ≤ 1024) };
 }

@@ -53,10 +53,18 @@ impl Model for Page {
     ghost use Rattle.std.specs.List.{position_or_len};
     ghost use Rattle.page_slots.specs.Slots.{is_unused, bytes_taken};
 
-    ghost view = { λ p. record { slots = p.slots.slots; change = p.change; flag = p.flag; spare = p.slots.spare } };
+    ghost view = { λ p. record {
+        slots = p.slots.slots;
+        change = p.change;
+        flag = p.flag;
+        spare = p.slots.spare;
+    } };
 
-    ghost invariant = { λ p. (length p.slots.slots ≤ MOST_SLOTS) × (4 * length p.slots.slots + sum_by bytes_taken p.slots.slots ≤ MOST_BYTES)
-        × (p.free ≡ position_or_len is_unused p.slots.slots) × (p.taken_bytes ≡ sum_by bytes_taken p.slots.slots) };
+    ghost invariant = { λ p.
+        (length p.slots.slots ≤ MOST_SLOTS)
+        × (4 * length p.slots.slots + sum_by bytes_taken p.slots.slots ≤ MOST_BYTES)
+        × (p.free ≡ position_or_len is_unused p.slots.slots)
+        × (p.taken_bytes ≡ sum_by bytes_taken p.slots.slots) };
 }
 
 impl Page {

@@ -33,11 +33,15 @@ impl Model for Store {
     ghost Value = { StoreView };
 
     ghost view = { λ s. record {
-      slots = slots_in s.bytes.items s.items.items;
-      spare = if nat_lt (vec_capacity s.bytes) MOST_BYTES then 0 else vec_capacity s.items - vec_len s.items;
+        slots = slots_in s.bytes.items s.items.items;
+        spare = if nat_lt (vec_capacity s.bytes) MOST_BYTES then 0
+            else vec_capacity s.items - vec_len s.items;
     } };
 
-    ghost invariant = { λ s. AreWithin (length s.bytes.items) s.items.items × (length s.bytes.items ≤ MOST_BYTES) × (0 < length s.items.items → MOST_BYTES ≤ vec_capacity s.bytes)
+    ghost invariant = { λ s.
+        AreWithin (length s.bytes.items) s.items.items
+        × (length s.bytes.items ≤ MOST_BYTES)
+        × (0 < length s.items.items → MOST_BYTES ≤ vec_capacity s.bytes)
         × ((vec_capacity s.items ≡ 0) ⊎ (MOST_SLOTS ≤ vec_capacity s.items)) };
 }
 

@@ -62,9 +62,17 @@ impl Model for RootIndex {
 
     ghost Value = { IndexView };
 
-    ghost view = { λ x. record { entries = all ⟦<Tree as Node>⟧.entries x.trees.items; spare = x.promised; nodes = sum_by ⟦<Tree as Node>⟧.nodes x.trees.items } };
+    ghost view = { λ x. record {
+        entries = all ⟦<Tree as Node>⟧.entries x.trees.items;
+        spare = x.promised;
+        nodes = sum_by ⟦<Tree as Node>⟧.nodes x.trees.items;
+    } };
 
-    ghost invariant = { λ x. IsSoundIndex ⟦<Tree as Node>⟧.entries ⟦<Tree as Node>⟧.IsNeat ⟦<Tree as Node>⟧.size x.trees.items (vec_capacity x.trees - vec_len x.trees) (vec_len x.spares.nodes) (⟦<Tree as Node>⟧.HasLeft x.spares.below) (HavePlaces ⟦<Tree as Node>⟧.HasPlaces (vec_capacity x.spares.nodes) x.spares.below) x.count x.promised };
+    ghost invariant = { λ x. IsSoundIndex ⟦<Tree as Node>⟧.entries ⟦<Tree as Node>⟧.IsNeat
+        ⟦<Tree as Node>⟧.size x.trees.items (vec_capacity x.trees - vec_len x.trees)
+        (vec_len x.spares.nodes) (⟦<Tree as Node>⟧.HasLeft x.spares.below)
+        (HavePlaces ⟦<Tree as Node>⟧.HasPlaces (vec_capacity x.spares.nodes) x.spares.below) x.count
+        x.promised };
 }
 
 impl RootIndex {

@@ -27,7 +27,10 @@ impl Model for Pending {
 
     ghost view = { λ p. take (p.end - p.start) (drop p.start p.bytes.items) };
 
-    ghost invariant = { λ p. (p.start ≤ p.end) × (p.end ≤ length p.bytes.items) × (length p.bytes.items ≡ 65536) };
+    ghost invariant = { λ p.
+        (p.start ≤ p.end)
+        × (p.end ≤ length p.bytes.items)
+        × (length p.bytes.items ≡ 65536) };
 }
 
 // Reads once, and again as long as the read is interrupted.

@@ -43,7 +43,12 @@ impl<R, W> Model for IoLog<R, W> {
 
     ghost Value = { Refusals };
 
-    ghost view = { λ w. record { input = w.input; output = w.output; interrupted = w.interrupted; memory = w.memory } };
+    ghost view = { λ w. record {
+        input = w.input;
+        output = w.output;
+        interrupted = w.interrupted;
+        memory = w.memory;
+    } };
 }
 
 // Whether an error says that the call was interrupted.

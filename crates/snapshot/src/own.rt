@@ -48,7 +48,10 @@ impl Model for OwnIds {
       spare_marks = o.marks.capacity - length o.marks.items;
     } };
 
-    ghost invariant = { λ o. AreNormal o.ids.items × AreMarks (length o.ids.items) (reverse o.marks.items) × (length o.marks.items ≤ MOST_SAVEPOINTS) };
+    ghost invariant = { λ o.
+        AreNormal o.ids.items
+        × AreMarks (length o.ids.items) (reverse o.marks.items)
+        × (length o.marks.items ≤ MOST_SAVEPOINTS) };
 }
 
 impl OwnIds {
