@@ -126,7 +126,7 @@ impl Vacuum {
     }
 
     /// Notes another step than one of the vacuum's own, and whether it was a session's.
-    pub fn disturbed(&mut self, session: bool)
+    pub fn disturb(&mut self, session: bool)
         ensures { self.new ≡ disturbed session self.old }
     {
         self.alone = false;
