@@ -1,11 +1,14 @@
--- Before which turn nothing on a page dies: how it is used, and what writes, ids and more memory leave of it.
-use Rattle.std.proofs.Common.{◌≡◌, ◌≢◌, ℕ, ◌<◌, ◌≤◌, Bool, true, false, List, [], length, Option, IsSome, inl, inr, ⊎_elim, sym, ap, subst, refl, ◌∙◌, arith}
+-- Before which turn nothing on a page dies: how it is used, and what writes, cleaning, ids and more memory leave of it.
+use Rattle.std.proofs.Common.{◌≡◌, ◌≢◌, ℕ, ◌<◌, ◌≤◌, Bool, true, false, List, [], length, Option, Some, None, IsSome, inl, inr, ⊎_elim, sym, ap, subst, refl, ◌∙◌, arith}
 use Rattle.std.specs.Option.{option_and_then}
-use Rattle.std.proofs.lemmas.Option.{same_Some}
-use Rattle.std.proofs.lemmas.Bool.{cases_lt}
+use Rattle.std.proofs.lemmas.Option.{same_Some, none-some}
+use Rattle.std.proofs.lemmas.Bool.{cases_lt, cases_Bool}
+use Rattle.std.specs.Prelude.{Contains, nat_eq}
+use Rattle.std.specs.List.{list_any}
+use Rattle.xid_circle.specs.declared.Xid.{Xid}
 use Rattle.page_slots.specs.declared.slot.Slot.{Slot}
-use Rattle.page_slots.specs.declared.slot.Slot.TheVariants.{Normal}
-use Rattle.page_slots.specs.Slots.{version_at, version_of, with_added, free_number, IsNormalAt}
+use Rattle.page_slots.specs.declared.slot.Slot.TheVariants.{Unused, Normal, Redirect, Dead}
+use Rattle.page_slots.specs.Slots.{slot_at, version_at, version_of, with_added, free_number, IsNormalAt}
 use Rattle.page_slots.proofs.SlotLemmas.{normal_at, same_or_other, slot_at-with_added, slot_at-with_added_other, version_at-none, version_at-from_slot_at}
 use Rattle.tuple_header.specs.Version.{Version}
 use Rattle.tuple_header.specs.declared.version.Header.{Header}
@@ -26,7 +29,11 @@ use Rattle.tuple_writes.specs.Writes.{with_root, with_heap_only, with_replaced, 
 use Rattle.tuple_writes.proofs.Bits.{replaced-frozen}
 use Rattle.tuple_writes.proofs.Slotted.{replaced-at, replaced-other}
 use Rattle.tuple_writes.proofs.Altered.{normal-added}
+use Rattle.hot_chain.proofs.Chains.{contains-any, any-contains}
+use Rattle.freeze.specs.Freezing.{Freezes}
+use Rattle.freeze.proofs.Frozen.{SameDeleter, IsFrozenFrom, was-version}
 use Rattle.heap_write.specs.Heap.{SameIds}
+use Rattle.heap_write.specs.Cleaning.{FreesSlots}
 use Rattle.heap_write.specs.Writes.{GivesUnder}
 use Rattle.heap_write.proofs.IdLemmas.{same-status}
 use Rattle.heap_write.proofs.GivenIds.{given-first, given-longer, given-earlier, given-status}
@@ -171,3 +178,46 @@ dies-updated w turn n x page slots row live later normal dies =
     let v : Version = record { header = heap_only_header x page (free_number slots); row = row } in
     dies-replaced w turn n x page (free_number slots) true (with_heap_only slots x page row) later (normal-added slots n (Normal v) normal)
     (dies-added w turn x slots v refl refl live dies)
+
+-- A page is cleaned.
+
+-- freezing leaves the inserter's number, and of an aborted deleter nothing
+frozen-may : (w : Window) (cutoff turn : ℕ) (t u : Header) → IsFrozenFrom w cutoff t u → MayDieFrom w turn t → MayDieFrom w turn u
+frozen-may w cutoff turn t u from may = record {
+  kept = ⊎_elim (λ frozen. inl (from.stays frozen)) (λ live. inr (subst (λ (x : Xid). ¬ IsAborted w x.0) (sym from.inserter) live)) may.kept;
+  later = later from.deleter;
+}
+  where
+    later : SameDeleter w t u → IsGiven w u.xmax.0 → turn ≤ turns w.first u.xmax.0
+    later (SameDeleter.kept same ctid mask live) there =
+        subst (λ (x : Xid). turn ≤ turns w.first x.0) (sym same) (may.later (subst (λ (x : Xid). IsGiven w x.0) same there))
+    later (SameDeleter.gone none aborted) there = absurd (nobody-given w (subst (IsGiven w) none there))
+
+pub dies-frozen : (w : Window) (cutoff page turn : ℕ) (slots after : List Slot) → Freezes w cutoff page slots after → NothingDiesBefore w turn slots → NothingDiesBefore w turn after
+dies-frozen w cutoff page turn slots after freezes dies = record {
+  reached = dies.reached;
+  each = λ n u at.
+      let was = was-version w cutoff page slots after freezes n u at in
+      frozen-may w cutoff turn was.version.header u.header was.frozen (dies.each n was.version was.there);
+}
+
+-- a version that is there after dead slots became unused was there before
+still-there : (o after : Option Slot) (t : Version) → (o ≡ Some Dead → option_and_then version_of after ≡ None) → (o ≢ Some Dead → after ≡ o)
+    → option_and_then version_of after ≡ Some t → option_and_then version_of o ≡ Some t
+still-there None after t dead other at = sym (ap (option_and_then version_of) (other (λ e. none-some Dead e))) ∙ at
+still-there (Some Unused) after t dead other at = sym (ap (option_and_then version_of) (other (λ e. cc))) ∙ at
+still-there (Some (Normal u)) after t dead other at = sym (ap (option_and_then version_of) (other (λ e. cc))) ∙ at
+still-there (Some (Redirect k)) after t dead other at = sym (ap (option_and_then version_of) (other (λ e. cc))) ∙ at
+still-there (Some Dead) after t dead other at = absurd (none-some t (sym (dead refl) ∙ at))
+
+pub dies-freed : (w : Window) (turn : ℕ) (slots after : List Slot) (numbers : List ℕ) → FreesSlots slots after numbers → NothingDiesBefore w turn slots → NothingDiesBefore w turn after
+dies-freed w turn slots after numbers frees dies = record {
+  reached = dies.reached;
+  each = λ n t at. dies.each n t (still-there (slot_at slots n) (slot_at after n) t (gone n) (λ alive. frees.others n (λ named. alive)) at);
+}
+  where
+    gone : (n : ℕ) → slot_at slots n ≡ Some Dead → version_at after n ≡ None
+    gone n dead = ⊎_elim
+        (λ named. ap (option_and_then version_of) (frees.freed n (any-contains n numbers named) dead))
+        (λ off. ap (option_and_then version_of) (frees.others n (λ named. absurd (let e : true ≡ false = sym (contains-any n numbers named) ∙ off in cc)) ∙ dead))
+        (cases_Bool (list_any (nat_eq n) numbers))

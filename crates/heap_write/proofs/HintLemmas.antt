@@ -2,7 +2,7 @@
 use Rattle.std.proofs.Common.{◌≡◌, ◌≢◌, ℕ, ◌+◌, ◌≤◌, min, Bool, false, ⊎_elim, List, [], ◌∷◌, ◌++◌, length, map, set, get_or, Option, Some, None, sym, ap, subst, refl, ◌∙◌, arith}
 use Rattle.std.proofs.Math.Nat.{min-le_left, min-le_right}
 use Rattle.std.proofs.Math.ListN.{get_or-map}
-use Rattle.std.proofs.Math.Seq.{map-set_same, get_or-append_seam}
+use Rattle.std.proofs.Math.Seq.{get_or-append_seam}
 use Rattle.std.proofs.lemmas.Bool.{cases_lt, cases_eq}
 use Rattle.std.proofs.lemmas.Option.{same_Some, none-some, slice_get_within, get_or_from_slice_get}
 use Rattle.std.proofs.lemmas.List.{get_or_past, get_or-set_same, get_or-set_other, get_or_append_left, length-set, length_push}
@@ -68,14 +68,22 @@ hints-grown w v pages pages' hints hints' ids same kept =
 pub hints-same_ids : (w v : Window) (pages : List PageView) (hints : List (Option ℕ)) → SameIds w v → AreTrueHints w pages hints → AreTrueHints v pages hints
 hints-same_ids w v pages hints ids = hints-on w v pages pages hints hints (λ turn reached. ages-same w v turn ids) (λ n. refl) (λ n. refl)
 
--- a flag is noted
-pub hints-flagged : (w : Window) (pages pages' : List PageView) (hints : List (Option ℕ)) (n : ℕ) (page page' : PageView) → slice_get pages n ≡ Some page → pages' ≡ set pages n page'
-    → page'.slots ≡ page.slots → AreTrueHints w pages hints → AreTrueHints w pages' hints
-hints-flagged w pages pages' hints n page page' at is same =
-    let f : PageView → List Slot = λ p. p.slots in
-    let here : f page' ≡ f (get_or pages n page) = same ∙ ap f (sym (get_or_from_slice_get pages n page page at)) in
-    let slots : map f pages' ≡ map f pages = ap (map f) is ∙ map-set_same f pages n page' page here in
-    hints-on w w pages pages' hints hints (λ turn reached. ages-same w w turn (record { first = refl; stop_age = refl; entries = refl })) (λ m. slots-same pages pages' m slots) (λ m. refl)
+-- a page is changed, and nothing on it dies earlier
+pub hints-kept : (w : Window) (pages pages' : List PageView) (hints : List (Option ℕ)) (n : ℕ) (page page' : PageView) → slice_get pages n ≡ Some page → pages' ≡ set pages n page'
+    → ((turn : ℕ) → NothingDiesBefore w turn page.slots → NothingDiesBefore w turn page'.slots) → AreTrueHints w pages hints → AreTrueHints w pages' hints
+hints-kept w pages pages' hints n page page' at is keeps are = record {
+  each = λ m turn known. ⊎_elim
+      (λ here.
+      let was : page_in pages m ≡ page = ap (page_in pages) here ∙ page-at pages n page at in
+      let now : page_in pages' m ≡ page' =
+      ap (page_in pages') here ∙ (ap (λ ps. page_in ps n) is ∙ get_or-set_same pages n page' unused_page (slice_get_within pages n page at)) in
+      subst (λ (p : PageView). NothingDiesBefore w turn p.slots) (sym now)
+      (keeps turn (subst (λ (p : PageView). NothingDiesBefore w turn p.slots) was (are.each m turn known))))
+      (λ other.
+      let same : page_in pages' m ≡ page_in pages m = ap (λ ps. page_in ps m) is ∙ get_or-set_other pages n m page' unused_page other in
+      subst (λ (p : PageView). NothingDiesBefore w turn p.slots) (sym same) (are.each m turn known))
+      (cases_eq m n);
+}
 
 -- Nothing is known.
 

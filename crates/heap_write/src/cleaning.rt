@@ -35,7 +35,6 @@ impl HeapState {
         let statuses = &self.statuses;
         self.pages
             .edit(number, |page| freeze_page(page, number, cutoff, statuses));
-        self.hints.end(number);
     }
 
     /// Notes what is so of the page of this number, which is in use, at the horizon: in the visibility map, and in the page's
@@ -58,7 +57,6 @@ impl HeapState {
         ensures { FreesAt self.old self.new number (map (λ (tid : Place). tid.slot) places.now) }
     {
         self.pages.edit(number, |page| free_slots(page, places));
-        self.hints.end(number);
     }
 
     /// Goes through a piece of the index of this number, which is in use: of its entries after `from`, or of all, those go that

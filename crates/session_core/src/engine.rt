@@ -101,7 +101,7 @@ impl Engine {
         ensures vacuum { self.new.vacuum ≡ option_map (disturbed session) self.old.vacuum }
     {
         if let Some(vacuum) = &mut self.vacuum {
-            vacuum.disturbed(session);
+            vacuum.disturb(session);
         }
     }
 

@@ -15,7 +15,7 @@ impl Engine {
         ensures { ExactVacuumBegin self.old mode reply.new self.new }
     {
         if let Some(vacuum) = &mut self.vacuum {
-            vacuum.disturbed(false);
+            vacuum.disturb(false);
             *reply = Reply::Refused(Refusal::VacuumRunning);
             return;
         }

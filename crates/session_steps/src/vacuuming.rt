@@ -106,8 +106,14 @@ impl SessionEngine {
         ensures { VacuumWorks self.old self.new vacuum.old
             (option_map (λ _. vacuum.new) result) result }
     {
-        let horizon = self.horizon();
-        vacuum.step(&mut self.heap, horizon)
+        // a piece of an index is gone through without a look at the sessions
+        match vacuum.step_index(&mut self.heap) {
+            Some(piece) => Some(piece),
+            None => {
+                let horizon = self.horizon();
+                vacuum.step(&mut self.heap, horizon)
+            }
+        }
     }
 
     /// Whether the ids before this one can be forgotten.

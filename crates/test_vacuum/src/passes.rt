@@ -84,14 +84,14 @@ fn two_rounds(rt: HostRuntime) {
     let round = [Piece::Heap(0), Piece::Index(0), Piece::Free(0)];
     for piece in round {
         assert!(rt; vacuum.step(&mut heap, Xid(5)) == Some(piece));
-        vacuum.disturbed(false);
+        vacuum.disturb(false);
     }
     assert!(rt; heap.entries() == 4);
     assert!(rt; is_unused(&heap, 2) && is_unused(&heap, 4) && !is_unused(&heap, 6));
     assert!(rt; heap.mark(0) == Some(Mark::Nothing));
     for piece in round {
         assert!(rt; vacuum.step(&mut heap, Xid(5)) == Some(piece));
-        vacuum.disturbed(true);
+        vacuum.disturb(true);
     }
     assert!(rt; vacuum.step(&mut heap, Xid(5)) == None);
     assert!(rt; heap.entries() == 3);

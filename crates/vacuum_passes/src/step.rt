@@ -1,6 +1,6 @@
 //! The next step of a vacuum.
 
-ghost use Rattle.std.specs.Prelude.{◌≡◌, ◌≢◌, ◌⊎◌, [], None, MatchOption};
+ghost use Rattle.std.specs.Prelude.{◌≡◌, ◌≢◌, ◌⊎◌, ℕ, [], Some, None, MatchOption};
 ghost use Rattle.std.specs.Option.{option_map};
 ghost use Rattle.space_maps.specs.View.{mark_on};
 ghost use Rattle.vacuum_passes.specs.declared.vacuum.Phase.TheVariants as phase;
@@ -11,7 +11,7 @@ ghost use Rattle.vacuum_passes.specs.Steps.{Steps, Sweeps, Frees, Drops};
 use crate::freeing::{after_freeing, free_from};
 use crate::sweeping::sweep_piece;
 use crate::vacuum::{Phase, Vacuum};
-use crate::visiting::visit_and_collect;
+use crate::visiting::clean_and_collect;
 use heap_write::HeapState;
 use refinement::{Mode, Piece};
 use root_index::Entry;
@@ -32,13 +32,29 @@ impl Vacuum {
         }
     }
 
+    /// Does the next step if that goes through an index: it asks for no horizon. Else it does nothing.
+    pub fn step_index(&mut self, heap: &mut HeapState) -> Option<Piece>
+        ensures { MatchOption result ((self.new ≡ self.old) × (heap.new ≡ heap.old))
+            (λ piece. (horizon : ℕ)
+            → Steps heap.old heap.new self.old horizon (Some self.new) (Some piece)) }
+    {
+        match self.phase {
+            Phase::Index(index, from) => {
+                self.sweep(heap, index, from);
+                self.count();
+                Some(Piece::Index(index))
+            }
+            Phase::Heap | Phase::Free => None,
+        }
+    }
+
     /// Does the next step, and doesn't count it.
     fn work(&mut self, heap: &mut HeapState, horizon: Xid) -> Option<Piece>
         ensures { Steps heap.old heap.new self.old horizon.0
             (option_map (λ _. counted self.new) result) result }
     {
         match self.phase {
-            Phase::Heap => self.visit_next(heap, horizon),
+            Phase::Heap => self.step_heap(heap, horizon),
             Phase::Index(index, from) => {
                 self.sweep(heap, index, from);
                 Some(Piece::Index(index))
@@ -48,7 +64,7 @@ impl Vacuum {
     }
 
     /// Visits the next page. Where none is left the indexes begin, and if nothing is collected the vacuum has ended.
-    fn visit_next(&mut self, heap: &mut HeapState, horizon: Xid) -> Option<Piece>
+    fn step_heap(&mut self, heap: &mut HeapState, horizon: Xid) -> Option<Piece>
         requires phase { self.old.phase ≡ phase.Heap }
         ensures { Steps heap.old heap.new self.old horizon.0
             (option_map (λ _. counted self.new) result) result }
@@ -58,15 +74,15 @@ impl Vacuum {
                 self.visit(heap, number, horizon);
                 Some(Piece::Heap(number))
             }
-            None => self.visit_none(heap, horizon),
+            None => self.leave_heap(heap),
         }
     }
 
     /// Begins with the indexes, where no page is left. If nothing is collected the vacuum has ended.
-    fn visit_none(&mut self, heap: &mut HeapState, _horizon: Xid) -> Option<Piece>
+    fn leave_heap(&mut self, heap: &mut HeapState) -> Option<Piece>
         requires phase { self.old.phase ≡ phase.Heap }
         requires none_left { NoPageLeft heap.old self.old }
-        ensures { Steps heap.old heap.new self.old _horizon.0
+        ensures { (horizon : ℕ) → Steps heap.old heap.new self.old horizon
             (option_map (λ _. counted self.new) result) result }
     {
         if self.store.is_empty() {
@@ -109,7 +125,7 @@ impl Vacuum {
         ensures { Visits heap.old heap.new self.old self.new horizon.0 number }
     {
         let limit = self.limit as usize;
-        let (next, phase) = visit_and_collect(
+        let (next, phase) = clean_and_collect(
             heap,
             &mut self.store,
             number,

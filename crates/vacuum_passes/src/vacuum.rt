@@ -24,19 +24,26 @@ pub enum Phase {
 /// A vacuum in progress. It holds at most 4096 dead slots at a time.
 #[derive(Debug, Drop)]
 pub struct Vacuum {
+    // What its beginning fixed: the mode; the horizon of that moment; the id before which it freezes; how many pages it visits; how
+    // many entries all indexes had; and how many dead slots it collects at most.
     pub(crate) mode: Mode,
     pub(crate) horizon: Xid,
     pub(crate) cutoff: Xid,
     pub(crate) pages: u32,
     pub(crate) entries: u128,
     pub(crate) limit: u32,
+
+    // What it does next, the next page, and where in its index the last piece ended.
     pub(crate) phase: Phase,
-    // where in its index the last piece ended
-    pub(crate) near: PositionHint,
     pub(crate) next: u32,
+    pub(crate) near: PositionHint,
+
+    // The collected slots in ascending order of pages and slots, and how many of them are unused by now.
     pub(crate) store: DeadSet,
-    // how many of these are unused by now
     pub(crate) freed: usize,
+
+    // Whether each step since its beginning was its own; whether none was a session's; and how many of its own steps there were
+    // while it was alone.
     pub(crate) alone: bool,
     pub(crate) quiet: bool,
     pub(crate) steps: u64,
@@ -119,7 +126,7 @@ impl Vacuum {
     }
 
     /// Notes another step than one of the vacuum's own, and whether it was a session's.
-    pub fn disturbed(&mut self, session: bool)
+    pub fn disturb(&mut self, session: bool)
         ensures { self.new ≡ disturbed session self.old }
     {
         self.alone = false;

@@ -13,9 +13,9 @@ use heap_write::HeapState;
 use page_slots::Page;
 use xid_circle::{Tid, Xid};
 
-/// Visits the page of this number, and collects its dead slots, up to so many places in all. It answers which page and which phase
+/// Cleans the page of this number, and collects its dead slots, up to so many places in all. It answers which page and which phase
 /// come next.
-pub(crate) fn visit_and_collect(
+pub(crate) fn clean_and_collect(
     heap: &mut HeapState,
     store: &mut DeadSet,
     number: u32,
@@ -31,7 +31,7 @@ pub(crate) fn visit_and_collect(
     ensures { VisitsFrom heap.old heap.new horizon.0 cutoff.0 number limit store.old store.new
         result.0 result.1 }
 {
-    visit_page(heap, number, horizon, cutoff);
+    clean_page(heap, number, horizon, cutoff);
     let left_over = collect_on(store, heap, number, limit);
     (page_after(number, left_over), phase_after(store, limit))
 }
@@ -55,18 +55,14 @@ fn phase_after(store: &DeadSet, limit: usize) -> Phase
     }
 }
 
-/// Prunes the page of this number, freezes it, and then notes its exact mark.
-fn visit_page(heap: &mut HeapState, number: u32, horizon: Xid, cutoff: Xid)
+/// Prunes the page of this number, freezes it, and then notes its visibility bits.
+fn clean_page(heap: &mut HeapState, number: u32, horizon: Xid, cutoff: Xid)
     requires in_use { number < length heap.old.pages.pages }
     ensures { CleansPage heap.old heap.new horizon.0 cutoff.0 number }
 {
-    match heap.prune(number, horizon) {
-        Ok(()) => {
-            heap.freeze(number, cutoff);
-            heap.note(number, horizon);
-        }
-        Err(_) => {}
-    }
+    heap.prune_in_use(number, horizon);
+    heap.freeze(number, cutoff);
+    heap.note(number, horizon);
 }
 
 /// Collects the dead slots of the page of this number, which is in use. It answers whether some are left over.

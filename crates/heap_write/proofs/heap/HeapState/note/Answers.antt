@@ -1,16 +1,16 @@
-use Rattle.std.proofs.Common.{◌≡◌, ◌<◌, length, slice_get, None, sym, ap, ◌∙◌, refl, subst}
+use Rattle.std.proofs.Common.{◌≡◌, ◌<◌, length, slice_get, None, sym, ap, ◌∙◌, subst}
 use Rattle.std.specs.Option.{option_copied}
 use Rattle.std.proofs.lemmas.Option.{none-some, slice_get-get_or}
 use Rattle.heap_pages.specs.View.{PagesView}
 use Rattle.heap_write.specs.Heap.{HeapView, unused_page}
-use Rattle.heap_write.proofs.HintLemmas.{hints-flagged}
+use Rattle.heap_write.proofs.HintLemmas.{hints-kept}
 use Rattle.heap_write.proofs.heap.HeapState.note.Goals as goal
 
 pub invariant_of-self : goal.invariant_of-self
 invariant_of-self c =
     let e = c.note.ensures in (
       c.self.invariant.0,
-      hints-flagged c.self.inside.statuses c.self.inside.pages.pages c.note.new.self.pages c.self.inside.hints.turns c.args.number e.0 _ e.1 (ap (λ (p : PagesView). p.pages) e.2) refl c.self.invariant.1,
+      hints-kept c.self.inside.statuses c.self.inside.pages.pages c.note.new.self.pages c.self.inside.hints.turns c.args.number e.0 _ e.1 (ap (λ (p : PagesView). p.pages) e.2) (λ turn dies. dies) c.self.invariant.1,
     )
 
 pub returns-in_default : goal.returns-in_default

@@ -4,7 +4,7 @@ use Rattle.vacuum_passes.specs.Steps.{Steps}
 use Rattle.vacuum_passes.proofs.vacuum.Vacuum.work.Goals as goal
 
 pub returns-in-Heap : goal.returns-in-Heap
-returns-in-Heap c = c.visit_next.ensures
+returns-in-Heap c = c.step_heap.ensures
 
 pub returns-in-Index : goal.returns-in-Index
 returns-in-Index c = Steps.sweeps c.in-Index.index c.in-Index.from c.sweep.new.self (ap (λ (v : VacuumView). v.phase) (sym c.self.view_is) ∙ c.in-Index.is) c.sweep.ensures

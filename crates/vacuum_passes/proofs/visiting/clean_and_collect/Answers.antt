@@ -2,15 +2,15 @@ use Rattle.std.proofs.Common.{◌∙◌, ◌+◌, if◌then◌else◌, ap, subst
 use Rattle.page_slots.specs.declared.slot.Slot.{Slot}
 use Rattle.vacuum_passes.specs.Visits.{ListsDead}
 use Rattle.vacuum_passes.proofs.OnePage.{noted-slots}
-use Rattle.vacuum_passes.proofs.visiting.visit_and_collect.Goals as goal
+use Rattle.vacuum_passes.proofs.visiting.clean_and_collect.Goals as goal
 
 pub returns : goal.returns
 returns c =
     record {
-      page = c.visit_page.ensures;
+      page = c.clean_page.ensures;
       dead = c.collect_on-left_over.ensures.collects.dead;
       lists = subst (λ (slots : List Slot). ListsDead slots c.collect_on-left_over.ensures.collects.dead)
-          (noted-slots c.visit_page.ensures.visited c.visit_page.new.heap c.args.number c.args.horizon.0 c.visit_page.ensures.notes c.collect_on-left_over.ensures.page
+          (noted-slots c.clean_page.ensures.visited c.clean_page.new.heap c.args.number c.args.horizon.0 c.clean_page.ensures.notes c.collect_on-left_over.ensures.page
           c.collect_on-left_over.ensures.at)
           c.collect_on-left_over.ensures.collects.lists;
       store = c.collect_on-left_over.ensures.collects.store;
