@@ -2,15 +2,13 @@
 
 ghost use Rattle.std.specs.Prelude.{◌≡◌};
 ghost use Rattle.page_slots.specs.Slots.{version_at};
-ghost use Rattle.visibility.specs.Visible.{IsVisible};
+ghost use Rattle.visibility.specs.Reading.{IsSeenBy};
 ghost use Rattle.hot_chain.specs.Chain.{has_aborted, FirstSeenIn, Fetched};
 
 use crate::walk::chain;
-use commit_status::StatusTable;
 use page_slots::{Page, Slot};
-use snapshot::{OwnIds, Snapshot};
 use tuple_header::Tuple;
-use visibility::visible_header;
+use visibility::Reader;
 
 /// The version in a slot, by value.
 fn version_at(page: &Page, number: u16) -> Option<Tuple>
@@ -23,19 +21,12 @@ fn version_at(page: &Page, number: u16) -> Option<Tuple>
 }
 
 /// The first slot of these whose version the reader sees. It takes no memory.
-pub fn first_seen(
-    page: &Page,
-    slots: &[u16],
-    snapshot: &Snapshot,
-    own: &OwnIds,
-    statuses: &StatusTable,
-) -> Option<u16>
-    ensures { FirstSeenIn
-        (IsVisible statuses.now snapshot.now own.now.ids) page.now.slots slots.now result }
+pub fn first_seen(page: &Page, slots: &[u16], reader: &Reader<'_>) -> Option<u16>
+    ensures { FirstSeenIn (IsSeenBy reader.now) page.now.slots slots.now result }
 {
     for slot in slots {
         if let Some(header) = page.header(*slot) {
-            if visible_header(&header, snapshot, own, statuses) {
+            if reader.sees(&header) {
                 return Some(*slot);
             }
         }
@@ -44,18 +35,12 @@ pub fn first_seen(
 }
 
 /// The first version of a slot's chain that the reader sees, by value. It takes no memory.
-pub fn fetch(
-    page: &Page,
-    number: u16,
-    snapshot: &Snapshot,
-    own: &OwnIds,
-    statuses: &StatusTable,
-) -> Option<Tuple>
-    ensures { Fetched (has_aborted statuses.now)
-        (IsVisible statuses.now snapshot.now own.now.ids) page.now.slots number result }
+pub fn fetch(page: &Page, number: u16, reader: &Reader<'_>) -> Option<Tuple>
+    ensures { Fetched (has_aborted reader.now.statuses.now) (IsSeenBy reader.now)
+        page.now.slots number result }
 {
-    let slots = chain(page, number, statuses);
-    match first_seen(page, slots.as_slice(), snapshot, own, statuses) {
+    let slots = chain(page, number, reader.statuses);
+    match first_seen(page, slots.as_slice(), reader) {
         Some(slot) => version_at(page, slot),
         None => None,
     }

@@ -6,16 +6,9 @@ ghost use Rattle.hot_chain.specs.Chain.{has_aborted, first_of, is_replaced, next
 ghost use Rattle.hot_chain.specs.Laws.{ChainIsOne};
 
 use arrayvec::ArrayVec;
-use commit_status::{Status, StatusTable};
+use commit_status::StatusTable;
 use page_slots::Page;
 use tuple_header::Header;
-use xid_circle::Xid;
-
-fn has_aborted(x: Xid, statuses: &StatusTable) -> bool
-    ensures { result ≡ has_aborted statuses.now x.0 }
-{
-    matches!(statuses.status(x), Status::Aborted)
-}
 
 /// Where the chain of a slot starts.
 fn first(page: &Page, number: u16) -> Option<u16>
@@ -33,7 +26,7 @@ fn first(page: &Page, number: u16) -> Option<u16>
 fn is_replaced(header: &Header, statuses: &StatusTable) -> bool
     ensures { result ≡ is_replaced (has_aborted statuses.now) header.now }
 {
-    header.is_hot_updated() && header.xmax.0 != 0 && !has_aborted(header.xmax, statuses)
+    header.is_hot_updated() && header.xmax.0 != 0 && !statuses.is_aborted(header.xmax)
 }
 
 /// Where the chain goes on from a version: to the heap-only version in the slot of its ctid that its deleter made.

@@ -4,7 +4,7 @@ ghost use Rattle.std.specs.Prelude.{◌≤◌, ◌<◌, IsTrue};
 ghost use Rattle.page_slots.specs.Slots.{room_of};
 ghost use Rattle.tuple_header.specs.Version.{rounded_size_of};
 
-use crate::ids::{begun, finish, next_id, none_wrong, normal, owner, table_of};
+use crate::ids::{begun, finish, next_id, none_wrong, normal, owner, reader, table_of};
 use crate::verdicts::{fate_at, hinted, reads_id, sees};
 use arrayvec::ArrayVec;
 use commit_status::{Status, StatusTable};
@@ -265,14 +265,14 @@ fn has_chain(page: &Page, number: u16, statuses: &StatusTable, slots: &[u16]) ->
 fn fetched(alloc: Global, page: &Page, number: u16, statuses: &StatusTable) -> Option<(u32, u32)> {
     let own = owner(alloc, 3);
     let snapshot = begun(alloc, next_id(statuses));
-    let header = fetch(page, number, &snapshot, &own, statuses)?.header;
+    let header = fetch(page, number, &reader(&snapshot, &own, statuses))?.header;
     Some((header.xmin.0, header.xmax.0))
 }
 
 fn first_of(alloc: Global, page: &Page, slots: &[u16], statuses: &StatusTable) -> Option<u16> {
     let own = owner(alloc, 3);
     let snapshot = begun(alloc, next_id(statuses));
-    first_seen(page, slots, &snapshot, &own, statuses)
+    first_seen(page, slots, &reader(&snapshot, &own, statuses))
 }
 
 fn leads(page: &Page, number: u16, target: u16) -> bool {
