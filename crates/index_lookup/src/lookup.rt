@@ -12,9 +12,8 @@ ghost use Rattle.index_lookup.specs.Walking.{SeenRow};
 
 use crate::search::{begin_search, next_of};
 use crate::table_view::TableView;
-use arrayvec::ArrayVec;
 use heap_pages::Pages;
-use hot_chain::{first_seen, list_chain};
+use hot_chain::first_seen;
 use page_slots::Page;
 use root_index::{Entry, LookUp, PositionHint};
 use tuple_header::{Header, RowRef};
@@ -56,9 +55,7 @@ fn seen_along(page: &Page, place: Tid, reader: &Reader<'_>) -> Option<Tid>
     ensures { IsPlaceAlong reader.now.statuses.now (IsSeenBy reader.now) page.now.slots place
         result }
 {
-    let mut slots: ArrayVec<u16, 292> = ArrayVec::new();
-    list_chain(page, place.slot, reader.statuses, &mut slots);
-    match first_seen(page, slots.as_slice(), reader) {
+    match first_seen(page, place.slot, reader) {
         Some(slot) => Some(Tid {
             page: place.page,
             slot,
@@ -77,7 +74,7 @@ fn seen_at(pages: &Pages, place: Tid, reader: &Reader<'_>) -> Option<Tid>
         None => return None,
     };
     match page.header(place.slot) {
-        // it is its whole chain, which need not be listed
+        // it is its whole chain
         Some(header) if !header.is_hot_updated() => place_in(place, &header, reader),
         _ => seen_along(page, place, reader),
     }
