@@ -15,6 +15,7 @@ use visibility::Reader;
 use xid_circle::Xid;
 
 /// Whether the id is committed, and the reader's snapshot sees it.
+#[inline(always)]
 pub(crate) fn sees_committed(x: Xid, reader: &Reader<'_>) -> bool
     ensures { IsTrue result
         ↔ (HasCommitted (state_of reader.now.statuses.now) x.0
