@@ -3,7 +3,7 @@
 ghost use Rattle.std.specs.Prelude.{◌≡◌, ℕ, ◌+◌, ◌^◌, ◌∷◌, ◌-◌, ◌<◌, ◌≤◌, ◌↔◌, [], drop, option_copied, IsTrue, IfSome, IfOk, MatchOption, OnOk, OnErr, vec_len, vec_capacity, Contains};
 ghost use Rattle.std.specs.Option.{option_map};
 ghost use Rattle.xid_circle.specs.Circle.{IsNormal, distance_of, given};
-ghost use Rattle.commit_status.specs.Window.{next_id, turns, place_in, entry_of, status_of, parent_of, top_of, IsGiven, IsActive, IsUpToNext, IsWindow};
+ghost use Rattle.commit_status.specs.Window.{next_id, turns, place_in, entry_of, status_of, parent_of, top_of, IsGiven, IsActive, IsUpToNext, IsWindow, IsCommitted, IsAborted};
 ghost use Rattle.commit_status.specs.Changes.{numbers, given_entry, Gives, CanGive, Finishes, Truncates};
 
 use crate::status::{GiveFault, Status};
@@ -278,6 +278,20 @@ impl StatusTable {
             Some(entry) => entry.status,
             None => Status::InProgress,
         }
+    }
+
+    /// Whether an id was committed, as far as is remembered.
+    pub fn is_committed(&self, x: Xid) -> bool
+        ensures { IsTrue result ↔ IsCommitted self.now x.0 }
+    {
+        matches!(self.status(x), Status::Committed)
+    }
+
+    /// Whether an id was aborted, as far as is remembered.
+    pub fn is_aborted(&self, x: Xid) -> bool
+        ensures { IsTrue result ↔ IsAborted self.now x.0 }
+    {
+        matches!(self.status(x), Status::Aborted)
     }
 
     fn parent_of(&self, x: Xid) -> Option<Xid>

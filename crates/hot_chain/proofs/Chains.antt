@@ -8,7 +8,7 @@ use Rattle.std.specs.List.{IsDistinct, list_any, Contains}
 use Rattle.page_slots.specs.declared.slot.Slot.{Slot}
 use Rattle.hot_chain.specs.Chain.{next_in_chain, IsEnd, IsChain, is_root, is_root_in, LeadsTo}
 
-by-test : {P : Type 0} (b : Bool) → (b ≡ true → P) → (b ≡ false → P) → P
+pub by-test : {P : Type 0} (b : Bool) → (b ≡ true → P) → (b ≡ false → P) → P
 by-test true f g = f refl
 by-test false f g = g refl
 

@@ -2,3 +2,4 @@ pub mod Walks
 pub mod Chains
 pub mod Seen
 pub mod Alone
+pub mod SeenWalks

@@ -80,6 +80,10 @@ pub record IsSeenIn (seen : Header → Type 0) (slots : List Slot) (chain : List
 abbrev pub FirstSeenIn : (Header → Type 0) → List Slot → List ℕ → Option ℕ → Type 0
 FirstSeenIn seen slots chain answer = MatchOption answer (NoneSeen seen slots chain) (IsSeenIn seen slots chain)
 
+-- the slot of the first version of the slot's chain that is seen, if there is one
+abbrev pub SeenAlong : (ℕ → Bool) → (Header → Type 0) → List Slot → ℕ → Option ℕ → Type 0
+SeenAlong aborted seen slots n answer = (chain : List ℕ) × IsChain aborted slots n chain × FirstSeenIn seen slots chain answer
+
 -- the first version of these slots that is seen, if there is one
 abbrev pub FirstSeen : (Header → Type 0) → List Slot → List ℕ → Option Version → Type 0
 FirstSeen seen slots chain answer = MatchOption answer (NoneSeen seen slots chain) (λ t. (i : ℕ) × IsFirstSeen seen slots chain i t)

@@ -2,15 +2,13 @@
 
 ghost use Rattle.std.specs.Prelude.{◌≡◌};
 ghost use Rattle.page_slots.specs.Slots.{version_at};
-ghost use Rattle.visibility.specs.Visible.{IsVisible};
-ghost use Rattle.hot_chain.specs.Chain.{has_aborted, FirstSeenIn, Fetched};
+ghost use Rattle.visibility.specs.Reading.{IsSeenBy};
+ghost use Rattle.hot_chain.specs.Chain.{has_aborted, SeenAlong, Fetched};
 
-use crate::walk::chain;
-use commit_status::StatusTable;
+use crate::walk::{first, successor};
 use page_slots::{Page, Slot};
-use snapshot::{OwnIds, Snapshot};
-use tuple_header::Tuple;
-use visibility::visible_header;
+use tuple_header::{MOST_SLOTS, Tuple};
+use visibility::Reader;
 
 /// The version in a slot, by value.
 fn version_at(page: &Page, number: u16) -> Option<Tuple>
@@ -22,40 +20,36 @@ fn version_at(page: &Page, number: u16) -> Option<Tuple>
     }
 }
 
-/// The first slot of these whose version the reader sees. It takes no memory.
-pub fn first_seen(
-    page: &Page,
-    slots: &[u16],
-    snapshot: &Snapshot,
-    own: &OwnIds,
-    statuses: &StatusTable,
-) -> Option<u16>
-    ensures { FirstSeenIn
-        (IsVisible statuses.now snapshot.now own.now.ids) page.now.slots slots.now result }
+/// The slot of the first version of a slot's chain that the reader sees. It goes no further along the chain, and lists nothing:
+/// a walk that has made as many steps as the page has slots has met all of the chain, however its links go.
+pub fn first_seen(page: &Page, number: u16, reader: &Reader<'_>) -> Option<u16>
+    ensures { SeenAlong (has_aborted reader.now.statuses.now) (IsSeenBy reader.now)
+        page.now.slots number result }
 {
-    for slot in slots {
-        if let Some(header) = page.header(*slot) {
-            if visible_header(&header, snapshot, own, statuses) {
-                return Some(*slot);
-            }
+    // which are 291 at most
+    let _count = page.slots();
+    let mut at = first(page, number);
+    for _ in 0..MOST_SLOTS + 1 {
+        let Some(slot) = at else {
+            return None;
+        };
+        let Some(header) = page.header(slot) else {
+            return None;
+        };
+        if reader.sees(&header) {
+            return Some(slot);
         }
+        at = successor(page, &header, reader.statuses);
     }
     None
 }
 
 /// The first version of a slot's chain that the reader sees, by value. It takes no memory.
-pub fn fetch(
-    page: &Page,
-    number: u16,
-    snapshot: &Snapshot,
-    own: &OwnIds,
-    statuses: &StatusTable,
-) -> Option<Tuple>
-    ensures { Fetched (has_aborted statuses.now)
-        (IsVisible statuses.now snapshot.now own.now.ids) page.now.slots number result }
+pub fn fetch(page: &Page, number: u16, reader: &Reader<'_>) -> Option<Tuple>
+    ensures { Fetched (has_aborted reader.now.statuses.now) (IsSeenBy reader.now)
+        page.now.slots number result }
 {
-    let slots = chain(page, number, statuses);
-    match first_seen(page, slots.as_slice(), snapshot, own, statuses) {
+    match first_seen(page, number, reader) {
         Some(slot) => version_at(page, slot),
         None => None,
     }

@@ -1,8 +1,9 @@
 //! The chain of versions that a slot leads to.
 //!
 //! The contract promises that [`chain`] lists what `specs/Chain.antt` defines, on any page, however its links go, and by
-//! [`chain_is_one`] that a slot has one chain; that [`first_seen`] answers which slot of some has the first version that the
-//! reader sees, [`fetch`] the first version of a chain that it sees, and [`root_of`] the lowest root or redirect whose chain holds a slot. None takes memory.
+//! [`chain_is_one`] that a slot has one chain; that [`first_seen`] answers in which slot of a chain the first version is that
+//! the reader sees, and goes no further, [`fetch`] that version, and [`root_of`] the lowest root or redirect whose chain holds a slot.
+//! None takes memory.
 #![tactic(auto)]
 
 mod fetching;

@@ -2,23 +2,16 @@
 
 ghost use Rattle.std.specs.Prelude.{◌≡◌, IfSome};
 ghost use Rattle.page_slots.specs.Slots.{SlotIsThere};
-ghost use Rattle.hot_chain.specs.Chain.{has_aborted, first_of, is_replaced, next_in_chain, IsChain};
+ghost use Rattle.hot_chain.specs.Chain.{has_aborted, first_of, is_replaced, successor, next_in_chain, IsChain};
 ghost use Rattle.hot_chain.specs.Laws.{ChainIsOne};
 
 use arrayvec::ArrayVec;
-use commit_status::{Status, StatusTable};
+use commit_status::StatusTable;
 use page_slots::Page;
 use tuple_header::Header;
-use xid_circle::Xid;
-
-fn has_aborted(x: Xid, statuses: &StatusTable) -> bool
-    ensures { result ≡ has_aborted statuses.now x.0 }
-{
-    matches!(statuses.status(x), Status::Aborted)
-}
 
 /// Where the chain of a slot starts.
-fn first(page: &Page, number: u16) -> Option<u16>
+pub(crate) fn first(page: &Page, number: u16) -> Option<u16>
     ensures value { result ≡ first_of page.now.slots number }
     ensures there { IfSome result (λ n. SlotIsThere page.now.slots n) }
 {
@@ -33,16 +26,16 @@ fn first(page: &Page, number: u16) -> Option<u16>
 fn is_replaced(header: &Header, statuses: &StatusTable) -> bool
     ensures { result ≡ is_replaced (has_aborted statuses.now) header.now }
 {
-    header.is_hot_updated() && header.xmax.0 != 0 && !has_aborted(header.xmax, statuses)
+    header.is_hot_updated() && header.xmax.0 != 0 && !statuses.is_aborted(header.xmax)
 }
 
-/// Where the chain goes on from a version: to the heap-only version in the slot of its ctid that its deleter made.
-fn next(page: &Page, number: u16, statuses: &StatusTable) -> Option<u16>
-    ensures value { result ≡ next_in_chain (has_aborted statuses.now) page.now.slots number }
+/// Where the chain goes on from the version of this header: to the heap-only version in the slot of its ctid that its deleter
+/// made.
+pub(crate) fn successor(page: &Page, header: &Header, statuses: &StatusTable) -> Option<u16>
+    ensures value { result ≡ successor (has_aborted statuses.now) page.now.slots header.now }
     ensures there { IfSome result (λ n. SlotIsThere page.now.slots n) }
 {
-    let header = page.header(number)?;
-    if !is_replaced(&header, statuses) {
+    if !is_replaced(header, statuses) {
         return None;
     }
     match page.header(header.ctid.slot) {
@@ -51,6 +44,15 @@ fn next(page: &Page, number: u16, statuses: &StatusTable) -> Option<u16>
         ),
         _ => None,
     }
+}
+
+/// Where the chain goes on from a slot.
+fn next(page: &Page, number: u16, statuses: &StatusTable) -> Option<u16>
+    ensures value { result ≡ next_in_chain (has_aborted statuses.now) page.now.slots number }
+    ensures there { IfSome result (λ n. SlotIsThere page.now.slots n) }
+{
+    let header = page.header(number)?;
+    successor(page, &header, statuses)
 }
 
 /// Lists the slots of the chain that a slot leads to, in order, on any page. What was in the list goes. It takes no memory.

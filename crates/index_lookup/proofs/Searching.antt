@@ -150,28 +150,28 @@ id-of w P pages entries value key (Some x) some = some
 
 -- For all that a session has to know of a key.
 
-pub record IsStanding (w : Window) (seen : Header → Type 0) (Missed Foreign : ℕ → Header → Type 0) (pages : List (List Slot)) (entries : List Entry) (value : ℤ) (key turn : ℕ) (next : Option Entry)
-    (standing : WriteCheck) : Type 0 where
-  pub place : PlaceSearched w seen pages entries value key turn next standing.place
-  pub newer_commit : IdSearched w Missed pages entries value key turn next standing.newer_commit
-  pub other_writer : IdSearched w Foreign pages entries value key turn next standing.other_writer
+pub record CheckSearched (w : Window) (seen : Header → Type 0) (Newer Other : ℕ → Header → Type 0) (pages : List (List Slot)) (entries : List Entry) (value : ℤ) (key turn : ℕ) (next : Option Entry)
+    (check : WriteCheck) : Type 0 where
+  pub place : PlaceSearched w seen pages entries value key turn next check.place
+  pub newer_commit : IdSearched w Newer pages entries value key turn next check.newer_commit
+  pub other_writer : IdSearched w Other pages entries value key turn next check.other_writer
 
-pub standing-first : (w : Window) (seen : Header → Type 0) (Missed Foreign : ℕ → Header → Type 0) (pages : List (List Slot)) (entries : List Entry) (value : ℤ) (key : ℕ) (next : Option Entry)
-    → IsNextOf entries value key None next → IsStanding w seen Missed Foreign pages entries value key 0 next (record { place = None; newer_commit = None; other_writer = None })
-standing-first w seen Missed Foreign pages entries value key next least = record {
+pub check-first : (w : Window) (seen : Header → Type 0) (Newer Other : ℕ → Header → Type 0) (pages : List (List Slot)) (entries : List Entry) (value : ℤ) (key : ℕ) (next : Option Entry)
+    → IsNextOf entries value key None next → CheckSearched w seen Newer Other pages entries value key 0 next (record { place = None; newer_commit = None; other_writer = None })
+check-first w seen Newer Other pages entries value key next least = record {
   place = searched-first entries value key (λ e. FetchedAt w seen pages e.tid None) (IsFirstPlace w seen pages entries value key) next least;
-  newer_commit = searched-first entries value key (λ e. (x : ℕ) → ¬ SomeAt w (Missed x) pages e.tid) (λ (x : Xid). SomeOf w (Missed x.0) pages entries value key) next least;
-  other_writer = searched-first entries value key (λ e. (x : ℕ) → ¬ SomeAt w (Foreign x) pages e.tid) (λ (x : Xid). SomeOf w (Foreign x.0) pages entries value key) next least;
+  newer_commit = searched-first entries value key (λ e. (x : ℕ) → ¬ SomeAt w (Newer x) pages e.tid) (λ (x : Xid). SomeOf w (Newer x.0) pages entries value key) next least;
+  other_writer = searched-first entries value key (λ e. (x : ℕ) → ¬ SomeAt w (Other x) pages e.tid) (λ (x : Xid). SomeOf w (Other x.0) pages entries value key) next least;
 }
 
-pub standing-next : (w : Window) (seen : Header → Type 0) (Missed Foreign : ℕ → Header → Type 0) (pages : List (List Slot)) (entries : List Entry) (value : ℤ) (key turn : ℕ) (at : Option Entry)
-    (from : Entry) (next : Option Entry) (before after : WriteCheck) → IsAscending entries → IsStanding w seen Missed Foreign pages entries value key turn at before → at ≡ Some from
-    → IsNextOf entries value key (Some from) next → IsKept before.place (SeenAt w seen pages from.tid) after.place → IsKept before.newer_commit (IsIdAt w Missed pages from.tid) after.newer_commit
-    → IsKept before.other_writer (IsIdAt w Foreign pages from.tid) after.other_writer → IsStanding w seen Missed Foreign pages entries value key (turn + 1) next after
-standing-next w seen Missed Foreign pages entries value key turn at from next before after up s is least place newer_commit other_writer = record {
+pub check-next : (w : Window) (seen : Header → Type 0) (Newer Other : ℕ → Header → Type 0) (pages : List (List Slot)) (entries : List Entry) (value : ℤ) (key turn : ℕ) (at : Option Entry)
+    (from : Entry) (next : Option Entry) (before after : WriteCheck) → IsAscending entries → CheckSearched w seen Newer Other pages entries value key turn at before → at ≡ Some from
+    → IsNextOf entries value key (Some from) next → IsKept before.place (SeenAt w seen pages from.tid) after.place → IsKept before.newer_commit (IsIdAt w Newer pages from.tid) after.newer_commit
+    → IsKept before.other_writer (IsIdAt w Other pages from.tid) after.other_writer → CheckSearched w seen Newer Other pages entries value key (turn + 1) next after
+check-next w seen Newer Other pages entries value key turn at from next before after up s is least place newer_commit other_writer = record {
   place = place-next w seen pages entries value key turn at from next before.place after.place up s.place is least place;
-  newer_commit = id-next w Missed pages entries value key turn at from next before.newer_commit after.newer_commit up s.newer_commit is least newer_commit;
-  other_writer = id-next w Foreign pages entries value key turn at from next before.other_writer after.other_writer up s.other_writer is least other_writer;
+  newer_commit = id-next w Newer pages entries value key turn at from next before.newer_commit after.newer_commit up s.newer_commit is least newer_commit;
+  other_writer = id-next w Other pages entries value key turn at from next before.other_writer after.other_writer up s.other_writer is least other_writer;
 }
 
 -- the search has come to its end
@@ -182,12 +182,12 @@ searched-all entries value key HasNone IsFound turn next answer s (inl all) = se
 searched-all entries value key HasNone IsFound turn next answer s (inr none) = searched-none entries value key HasNone IsFound turn next answer s none
 
 -- what the search has found in the end, of a value that is stored as this
-pub standing-place : (w : Window) (seen : Header → Type 0) (Missed Foreign : ℕ → Header → Type 0) (pages : List (List Slot)) (entries : List Entry) (stored value : ℤ) (key turn : ℕ) (next : Option Entry)
-    (standing : WriteCheck) → stored ≡ value → IsStanding w seen Missed Foreign pages entries stored key turn next standing → (length entries ≤ turn) ⊎ (next ≡ None)
-    → FirstPlace w seen pages entries value key standing.place
-standing-place w seen Missed Foreign pages entries stored value key turn next standing same s all =
-    subst (λ v. FirstPlace w seen pages entries v key standing.place) same
-    (searched-all entries stored key (λ e. FetchedAt w seen pages e.tid None) (IsFirstPlace w seen pages entries stored key) turn next standing.place s.place all)
+pub check-place : (w : Window) (seen : Header → Type 0) (Newer Other : ℕ → Header → Type 0) (pages : List (List Slot)) (entries : List Entry) (stored value : ℤ) (key turn : ℕ) (next : Option Entry)
+    (check : WriteCheck) → stored ≡ value → CheckSearched w seen Newer Other pages entries stored key turn next check → (length entries ≤ turn) ⊎ (next ≡ None)
+    → FirstPlace w seen pages entries value key check.place
+check-place w seen Newer Other pages entries stored value key turn next check same s all =
+    subst (λ v. FirstPlace w seen pages entries v key check.place) same
+    (searched-all entries stored key (λ e. FetchedAt w seen pages e.tid None) (IsFirstPlace w seen pages entries stored key) turn next check.place s.place all)
 
 found-id : (w : Window) (P : ℕ → Header → Type 0) (pages : List (List Slot)) (entries : List Entry) (stored value : ℤ) (key turn : ℕ) (next : Option Entry) (answer : Option Xid) → stored ≡ value
     → IdSearched w P pages entries stored key turn next answer → (length entries ≤ turn) ⊎ (next ≡ None) → IsIdOf w P pages entries value key answer
@@ -196,12 +196,12 @@ found-id w P pages entries stored value key turn next answer same s all =
     (id-of w P pages entries stored key answer
     (searched-all entries stored key (λ e. (x : ℕ) → ¬ SomeAt w (P x) pages e.tid) (λ (x : Xid). SomeOf w (P x.0) pages entries stored key) turn next answer s all))
 
-pub standing-newer_commit : (w : Window) (seen : Header → Type 0) (Missed Foreign : ℕ → Header → Type 0) (pages : List (List Slot)) (entries : List Entry) (stored value : ℤ) (key turn : ℕ) (next : Option Entry)
-    (standing : WriteCheck) → stored ≡ value → IsStanding w seen Missed Foreign pages entries stored key turn next standing → (length entries ≤ turn) ⊎ (next ≡ None)
-    → IsIdOf w Missed pages entries value key standing.newer_commit
-standing-newer_commit w seen Missed Foreign pages entries stored value key turn next standing same s all = found-id w Missed pages entries stored value key turn next standing.newer_commit same s.newer_commit all
+pub check-newer_commit : (w : Window) (seen : Header → Type 0) (Newer Other : ℕ → Header → Type 0) (pages : List (List Slot)) (entries : List Entry) (stored value : ℤ) (key turn : ℕ) (next : Option Entry)
+    (check : WriteCheck) → stored ≡ value → CheckSearched w seen Newer Other pages entries stored key turn next check → (length entries ≤ turn) ⊎ (next ≡ None)
+    → IsIdOf w Newer pages entries value key check.newer_commit
+check-newer_commit w seen Newer Other pages entries stored value key turn next check same s all = found-id w Newer pages entries stored value key turn next check.newer_commit same s.newer_commit all
 
-pub standing-other_writer : (w : Window) (seen : Header → Type 0) (Missed Foreign : ℕ → Header → Type 0) (pages : List (List Slot)) (entries : List Entry) (stored value : ℤ) (key turn : ℕ) (next : Option Entry)
-    (standing : WriteCheck) → stored ≡ value → IsStanding w seen Missed Foreign pages entries stored key turn next standing → (length entries ≤ turn) ⊎ (next ≡ None)
-    → IsIdOf w Foreign pages entries value key standing.other_writer
-standing-other_writer w seen Missed Foreign pages entries stored value key turn next standing same s all = found-id w Foreign pages entries stored value key turn next standing.other_writer same s.other_writer all
+pub check-other_writer : (w : Window) (seen : Header → Type 0) (Newer Other : ℕ → Header → Type 0) (pages : List (List Slot)) (entries : List Entry) (stored value : ℤ) (key turn : ℕ) (next : Option Entry)
+    (check : WriteCheck) → stored ≡ value → CheckSearched w seen Newer Other pages entries stored key turn next check → (length entries ≤ turn) ⊎ (next ≡ None)
+    → IsIdOf w Other pages entries value key check.other_writer
+check-other_writer w seen Newer Other pages entries stored value key turn next check same s all = found-id w Other pages entries stored value key turn next check.other_writer same s.other_writer all

@@ -44,15 +44,15 @@ above x y h = grind (arith, ints)
 
 -- the place of this entry's value and key
 abbrev pub IsPlaceOf : Entry → IndexPosition → Type 0
-IsPlaceOf f mark = (mark.value ≡ f.value) × (mark.key ≡ f.key)
+IsPlaceOf f position = (position.value ≡ f.value) × (position.key ≡ f.key)
 
-pub lower-from_after : (f e : Entry) (mark : IndexPosition) → IsPlaceOf f mark → ComesAfter e (Some mark) → IsLower f e
-lower-from_after f e mark is (inl lt) = inl (subst (λ v. v <ℤ e.value) is.0 lt)
-lower-from_after f e mark is (inr (same, lt)) = inr (sym is.0 ∙ same, subst (λ k. k < e.key) is.1 lt)
+pub lower-from_after : (f e : Entry) (position : IndexPosition) → IsPlaceOf f position → ComesAfter e (Some position) → IsLower f e
+lower-from_after f e position is (inl lt) = inl (subst (λ v. v <ℤ e.value) is.0 lt)
+lower-from_after f e position is (inr (same, lt)) = inr (sym is.0 ∙ same, subst (λ k. k < e.key) is.1 lt)
 
-pub after-from_lower : (f e : Entry) (mark : IndexPosition) → IsPlaceOf f mark → IsLower f e → ComesAfter e (Some mark)
-after-from_lower f e mark is (inl lt) = inl (subst (λ v. v <ℤ e.value) (sym is.0) lt)
-after-from_lower f e mark is (inr (same, lt)) = inr (is.0 ∙ same, subst (λ k. k < e.key) (sym is.1) lt)
+pub after-from_lower : (f e : Entry) (position : IndexPosition) → IsPlaceOf f position → IsLower f e → ComesAfter e (Some position)
+after-from_lower f e position is (inl lt) = inl (subst (λ v. v <ℤ e.value) (sym is.0) lt)
+after-from_lower f e position is (inr (same, lt)) = inr (is.0 ∙ same, subst (λ k. k < e.key) (sym is.1) lt)
 
 -- From the beginning of a span.
 
@@ -60,9 +60,9 @@ least-same : (entries : List Entry) (P Q : Entry → Type 0) (r : Option Entry) 
 least-same entries P Q None same least = λ e there q. least e there ((same e).1 q)
 least-same entries P Q (Some f) same least = (least.0, (same f).0 least.1, λ e there q. least.2 e there ((same e).1 q))
 
-from-after : (low : ℤ) (mark : IndexPosition) (e : Entry) → low ≤ℤ mark.value → ComesAfter e (Some mark) → low ≤ℤ e.value
-from-after low mark e le (inl lt) = omega (arith, ints, le, lt)
-from-after low mark e le (inr (same, lt)) = omega (arith, ints, le, same)
+from-after : (low : ℤ) (position : IndexPosition) (e : Entry) → low ≤ℤ position.value → ComesAfter e (Some position) → low ≤ℤ e.value
+from-after low position e le (inl lt) = omega (arith, ints, le, lt)
+from-after low position e le (inr (same, lt)) = omega (arith, ints, le, same)
 
 pub starts-after : (entries : List Entry) (span : IndexRange) (last : IndexPosition) (r : Option Entry) → span.last ≡ Some last → span.low ≤ℤ last.value → IsLeast entries (λ e. ComesAfter e (Some last)) r
     → IsLeast entries (StartsIn span) r

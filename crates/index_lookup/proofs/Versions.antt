@@ -19,9 +19,9 @@ use Rattle.visibility.proofs.Makers.{visible-of}
 use Rattle.hot_chain.specs.Chain.{has_aborted, IsSeenIn}
 use Rattle.hot_chain.proofs.Alone.{alone-chain}
 use Rattle.hot_chain.proofs.Seen.{seen-here}
-use Rattle.index_lookup.specs.declared.reader.Reader.{Reader}
+use Rattle.visibility.specs.declared.reader.Reader.{Reader}
 use Rattle.index_lookup.specs.declared.write_check.WriteCheck.{WriteCheck}
-use Rattle.index_lookup.specs.Reading.{IsSeenBy, IsNewerCommitFor, IsOtherWriterFor, IsPlainFor}
+use Rattle.visibility.specs.Reading.{IsSeenBy, IsNewerCommitFor, IsOtherWriterFor, IsPlainFor}
 use Rattle.index_lookup.specs.Looking.{SomeAmong, SeenAt, IsIdIn, IsIdAmong, IsIdAt, IsPlaceIn, IsPlaceAmong, IsKept}
 use Rattle.index_lookup.proofs.Among.{NoneTo, none-touched, none-yet, none-more, none-here, none-other, some-here, at-page}
 use Rattle.index_lookup.proofs.Searching.{kept-same, kept-map, place-on_page}
@@ -89,17 +89,17 @@ abbrev IdTo : (ℕ → Header → Type 0) → List Slot → List ℕ → ℕ →
 IdTo P slots chain i answer = MatchOption answer ((x : ℕ) → NoneTo (P x) slots chain i) (λ x. SomeAmong (P x.0) slots chain)
 
 -- what was found before, or else in the first i of these slots
-pub record IsStandingTo (seen : Header → Type 0) (Missed Foreign : ℕ → Header → Type 0) (number : ℕ) (slots : List Slot) (chain : List ℕ) (before : WriteCheck) (i : ℕ) (standing : WriteCheck) : Type 0 where
-  pub place : IsKept before.place (PlaceTo seen number slots chain i) standing.place
-  pub newer_commit : IsKept before.newer_commit (IdTo Missed slots chain i) standing.newer_commit
-  pub other_writer : IsKept before.other_writer (IdTo Foreign slots chain i) standing.other_writer
+pub record CheckTo (seen : Header → Type 0) (Newer Other : ℕ → Header → Type 0) (number : ℕ) (slots : List Slot) (chain : List ℕ) (before : WriteCheck) (i : ℕ) (check : WriteCheck) : Type 0 where
+  pub place : IsKept before.place (PlaceTo seen number slots chain i) check.place
+  pub newer_commit : IsKept before.newer_commit (IdTo Newer slots chain i) check.newer_commit
+  pub other_writer : IsKept before.other_writer (IdTo Other slots chain i) check.other_writer
 
-pub standing-yet : (seen : Header → Type 0) (Missed Foreign : ℕ → Header → Type 0) (number : ℕ) (slots : List Slot) (chain : List ℕ) (before : WriteCheck)
-    → IsStandingTo seen Missed Foreign number slots chain before 0 before
-standing-yet seen Missed Foreign number slots chain before = record {
+pub check-yet : (seen : Header → Type 0) (Newer Other : ℕ → Header → Type 0) (number : ℕ) (slots : List Slot) (chain : List ℕ) (before : WriteCheck)
+    → CheckTo seen Newer Other number slots chain before 0 before
+check-yet seen Newer Other number slots chain before = record {
   place = kept-same before.place (PlaceTo seen number slots chain 0) (none-yet seen slots chain);
-  newer_commit = kept-same before.newer_commit (IdTo Missed slots chain 0) (λ x. none-yet (Missed x) slots chain);
-  other_writer = kept-same before.other_writer (IdTo Foreign slots chain 0) (λ x. none-yet (Foreign x) slots chain);
+  newer_commit = kept-same before.newer_commit (IdTo Newer slots chain 0) (λ x. none-yet (Newer x) slots chain);
+  other_writer = kept-same before.other_writer (IdTo Other slots chain 0) (λ x. none-yet (Other x) slots chain);
 }
 
 -- what was found so far stays; where nothing was, it goes by this version
@@ -128,15 +128,15 @@ kept-id : (P : ℕ → Header → Type 0) (slots : List Slot) (chain : List ℕ)
 kept-id P slots chain i h before old new within is =
     kept-then before old new (IdTo P slots chain i) (IdTo P slots chain (i + 1)) (IsIdIn P h) (λ answer. id-more P slots chain i h answer within is) (λ x some. some)
 
-pub standing-more : (seen : Header → Type 0) (Missed Foreign : ℕ → Header → Type 0) (number : ℕ) (slots : List Slot) (chain : List ℕ) (before : WriteCheck) (i : ℕ) (h : Header) (old new : WriteCheck)
-    → i < length chain → header_at slots (get_or chain i 0) ≡ Some h → IsStandingTo seen Missed Foreign number slots chain before i old
-    → IsKept old.place (IsPlaceIn seen (record { page = number; slot = get_or chain i 0 }) h) new.place → IsKept old.newer_commit (IsIdIn Missed h) new.newer_commit
-    → IsKept old.other_writer (IsIdIn Foreign h) new.other_writer → IsStandingTo seen Missed Foreign number slots chain before (i + 1) new
-standing-more seen Missed Foreign number slots chain before i h old new within is s place newer_commit other_writer = record {
+pub check-more : (seen : Header → Type 0) (Newer Other : ℕ → Header → Type 0) (number : ℕ) (slots : List Slot) (chain : List ℕ) (before : WriteCheck) (i : ℕ) (h : Header) (old new : WriteCheck)
+    → i < length chain → header_at slots (get_or chain i 0) ≡ Some h → CheckTo seen Newer Other number slots chain before i old
+    → IsKept old.place (IsPlaceIn seen (record { page = number; slot = get_or chain i 0 }) h) new.place → IsKept old.newer_commit (IsIdIn Newer h) new.newer_commit
+    → IsKept old.other_writer (IsIdIn Other h) new.other_writer → CheckTo seen Newer Other number slots chain before (i + 1) new
+check-more seen Newer Other number slots chain before i h old new within is s place newer_commit other_writer = record {
   place = kept-then before.place old.place new.place (PlaceTo seen number slots chain i) (PlaceTo seen number slots chain (i + 1)) (IsPlaceIn seen (record { page = number; slot = get_or chain i 0 }) h)
       (λ answer. place-more seen number slots chain i h answer within is) (λ q found. found) s.place place;
-  newer_commit = kept-id Missed slots chain i h before.newer_commit old.newer_commit new.newer_commit within is s.newer_commit newer_commit;
-  other_writer = kept-id Foreign slots chain i h before.other_writer old.other_writer new.other_writer within is s.other_writer other_writer;
+  newer_commit = kept-id Newer slots chain i h before.newer_commit old.newer_commit new.newer_commit within is s.newer_commit newer_commit;
+  other_writer = kept-id Other slots chain i h before.other_writer old.other_writer new.other_writer within is s.other_writer other_writer;
 }
 
 place-past : (seen : Header → Type 0) (number : ℕ) (slots : List Slot) (chain : List ℕ) (i : ℕ) (answer : Option Tid) → header_at slots (get_or chain i 0) ≡ None
@@ -148,12 +148,12 @@ id-past : (P : ℕ → Header → Type 0) (slots : List Slot) (chain : List ℕ)
 id-past P slots chain i None is none = λ x. none-more (P x) slots chain i (none x) (none-other (P x) slots (get_or chain i 0) is)
 id-past P slots chain i (Some x) is some = some
 
-pub standing-past : (seen : Header → Type 0) (Missed Foreign : ℕ → Header → Type 0) (number : ℕ) (slots : List Slot) (chain : List ℕ) (before : WriteCheck) (i : ℕ) (standing : WriteCheck)
-    → header_at slots (get_or chain i 0) ≡ None → IsStandingTo seen Missed Foreign number slots chain before i standing → IsStandingTo seen Missed Foreign number slots chain before (i + 1) standing
-standing-past seen Missed Foreign number slots chain before i standing is s = record {
-  place = kept-map before.place standing.place (PlaceTo seen number slots chain i) (PlaceTo seen number slots chain (i + 1)) (place-past seen number slots chain i standing.place is) s.place;
-  newer_commit = kept-map before.newer_commit standing.newer_commit (IdTo Missed slots chain i) (IdTo Missed slots chain (i + 1)) (id-past Missed slots chain i standing.newer_commit is) s.newer_commit;
-  other_writer = kept-map before.other_writer standing.other_writer (IdTo Foreign slots chain i) (IdTo Foreign slots chain (i + 1)) (id-past Foreign slots chain i standing.other_writer is) s.other_writer;
+pub check-past : (seen : Header → Type 0) (Newer Other : ℕ → Header → Type 0) (number : ℕ) (slots : List Slot) (chain : List ℕ) (before : WriteCheck) (i : ℕ) (check : WriteCheck)
+    → header_at slots (get_or chain i 0) ≡ None → CheckTo seen Newer Other number slots chain before i check → CheckTo seen Newer Other number slots chain before (i + 1) check
+check-past seen Newer Other number slots chain before i check is s = record {
+  place = kept-map before.place check.place (PlaceTo seen number slots chain i) (PlaceTo seen number slots chain (i + 1)) (place-past seen number slots chain i check.place is) s.place;
+  newer_commit = kept-map before.newer_commit check.newer_commit (IdTo Newer slots chain i) (IdTo Newer slots chain (i + 1)) (id-past Newer slots chain i check.newer_commit is) s.newer_commit;
+  other_writer = kept-map before.other_writer check.other_writer (IdTo Other slots chain i) (IdTo Other slots chain (i + 1)) (id-past Other slots chain i check.other_writer is) s.other_writer;
 }
 
 -- all of these slots

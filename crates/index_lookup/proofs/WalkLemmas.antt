@@ -26,7 +26,7 @@ pub record Walked (entries : List Entry) (HasNone : ℤ → ℕ → Type 0) (spa
 
 -- what is left of a span after this place
 abbrev pub past : IndexRange → IndexPosition → IndexRange
-past left mark = record left { last = Some mark }
+past left position = record left { last = Some position }
 
 after-then : (e f : Entry) (o : Option IndexPosition) → ComesAfter f o → IsLower f e → ComesAfter e o
 after-then e f None after later = tt
@@ -35,16 +35,16 @@ after-then e f (Some m) (inl lt) (inr (same, lt')) = inl (omega (arith, ints, lt
 after-then e f (Some m) (inr (same, lt)) (inl lt') = inl (omega (arith, ints, same, lt'))
 after-then e f (Some m) (inr (same, lt)) (inr (same', lt')) = inr (same ∙ same', omega (arith, lt, lt'))
 
-past-of : (left : IndexRange) (f e : Entry) (mark : IndexPosition) → IsPlaceOf f mark → LiesIn left f → LiesIn (past left mark) e → LiesIn left e
-past-of left f e mark is first lies = record { from = lies.from; to = lies.to; after = after-then e f left.last first.after (lower-from_after f e mark is lies.after) }
+past-of : (left : IndexRange) (f e : Entry) (position : IndexPosition) → IsPlaceOf f position → LiesIn left f → LiesIn (past left position) e → LiesIn left e
+past-of left f e position is first lies = record { from = lies.from; to = lies.to; after = after-then e f left.last first.after (lower-from_after f e position is lies.after) }
 
-past-rest : (entries : List Entry) (HasNone : ℤ → ℕ → Type 0) (left : IndexRange) (f e : Entry) (mark : IndexPosition) → IsPlaceOf f mark → IsLeast entries (LiesIn left) (Some f) → HasNone f.value f.key
-    → Contains entries e → LiesIn left e → LiesIn (past left mark) e ⊎ HasNone e.value e.key
-past-rest entries HasNone left f e mark is least none there lies = elim (lower-cases e f) [
+past-rest : (entries : List Entry) (HasNone : ℤ → ℕ → Type 0) (left : IndexRange) (f e : Entry) (position : IndexPosition) → IsPlaceOf f position → IsLeast entries (LiesIn left) (Some f) → HasNone f.value f.key
+    → Contains entries e → LiesIn left e → LiesIn (past left position) e ⊎ HasNone e.value e.key
+past-rest entries HasNone left f e position is least none there lies = elim (lower-cases e f) [
   | inl lower ↦ absurd (least.2 e there lies (lower-precedes e f lower))
   | inr rest ↦ elim rest [
     | inl same ↦ inr (rw (same.0, same.1) none)
-    | inr higher ↦ inl (record { from = lies.from; to = lies.to; after = after-from_lower f e mark is higher })
+    | inr higher ↦ inl (record { from = lies.from; to = lies.to; after = after-from_lower f e position is higher })
   ]
 ]
 
@@ -54,15 +54,15 @@ reached entries HasNone span left turn i f l at lies = elim (cases_lt i turn) [
   | inr le ↦ le
 ]
 
-pub walked-on : (entries : List Entry) (HasNone : ℤ → ℕ → Type 0) (span left : IndexRange) (turn : ℕ) (f : Entry) (mark : IndexPosition) → IsAscending entries → Walked entries HasNone span left turn
-    → IsLeast entries (LiesIn left) (Some f) → IsPlaceOf f mark → HasNone f.value f.key → Walked entries HasNone span (past left mark) (turn + 1)
-walked-on entries HasNone span left turn f mark up l least is none = record {
-  of = λ e lies. l.of e (past-of left f e mark is least.1 lies);
-  rest = λ e there lies. ⊎_elim (λ in_left. past-rest entries HasNone left f e mark is least none there in_left) (λ has. inr has) (l.rest e there lies);
+pub walked-on : (entries : List Entry) (HasNone : ℤ → ℕ → Type 0) (span left : IndexRange) (turn : ℕ) (f : Entry) (position : IndexPosition) → IsAscending entries → Walked entries HasNone span left turn
+    → IsLeast entries (LiesIn left) (Some f) → IsPlaceOf f position → HasNone f.value f.key → Walked entries HasNone span (past left position) (turn + 1)
+walked-on entries HasNone span left turn f position up l least is none = record {
+  of = λ e lies. l.of e (past-of left f e position is least.1 lies);
+  rest = λ e there lies. ⊎_elim (λ in_left. past-rest entries HasNone left f e position is least none there in_left) (λ has. inr has) (l.rest e there lies);
   behind = λ k e lt at lies.
       let p = place_of entries f least.0 in
       let le = reached entries HasNone span left turn p.0 f l p.1 least.1 in
-      (start_after entries f p.0 up p.1).before k e (omega (arith, lt, le)) at (lower-precedes f e (lower-from_after f e mark is lies.after));
+      (start_after entries f p.0 up p.1).before k e (omega (arith, lt, le)) at (lower-precedes f e (lower-from_after f e position is lies.after));
 }
 
 -- The end, of one kind or the other.
@@ -77,14 +77,14 @@ walked-end entries HasNone span left turn l all e there lies = ⊎_elim
     (λ has. has)
     (l.rest e there lies)
 
-before-lower : (f e : Entry) (mark : IndexPosition) → IsPlaceOf f mark → IsBeforePosition e mark → IsLower e f
-before-lower f e mark is (inl lt) = inl (subst (λ v. e.value <ℤ v) is.0 lt)
-before-lower f e mark is (inr (same, lt)) = inr (same ∙ is.0, subst (λ k. e.key < k) is.1 lt)
+before-lower : (f e : Entry) (position : IndexPosition) → IsPlaceOf f position → IsBeforePosition e position → IsLower e f
+before-lower f e position is (inl lt) = inl (subst (λ v. e.value <ℤ v) is.0 lt)
+before-lower f e position is (inr (same, lt)) = inr (same ∙ is.0, subst (λ k. e.key < k) is.1 lt)
 
-pub walked-row : (w : Window) (seen : Header → Type 0) (pages : List (List Slot)) (entries : List Entry) (span left : IndexRange) (turn : ℕ) (f : Entry) (mark : IndexPosition) (row : Row)
-    → Walked entries (λ value key. FirstFound w seen pages entries value key None) span left turn → IsLeast entries (LiesIn left) (Some f) → IsPlaceOf f mark
-    → FirstFound w seen pages entries f.value f.key (Some row) → IsNextRow w seen pages entries span mark row
-walked-row w seen pages entries span left turn f mark row l least is found = record {
+pub walked-row : (w : Window) (seen : Header → Type 0) (pages : List (List Slot)) (entries : List Entry) (span left : IndexRange) (turn : ℕ) (f : Entry) (position : IndexPosition) (row : Row)
+    → Walked entries (λ value key. FirstFound w seen pages entries value key None) span left turn → IsLeast entries (LiesIn left) (Some f) → IsPlaceOf f position
+    → FirstFound w seen pages entries f.value f.key (Some row) → IsNextRow w seen pages entries span position row
+walked-row w seen pages entries span left turn f position row l least is found = record {
   entry = f;
   there = least.0;
   lies = l.of f least.1;
@@ -92,7 +92,7 @@ walked-row w seen pages entries span left turn f mark row l least is found = rec
   key = is.1;
   found = rw (is.0, is.1) found;
   none_before = λ e there lies before. ⊎_elim
-      (λ in_left. absurd (least.2 e there in_left (lower-precedes e f (before-lower f e mark is before))))
+      (λ in_left. absurd (least.2 e there in_left (lower-precedes e f (before-lower f e position is before))))
       (λ has. has)
       (l.rest e there lies);
 }

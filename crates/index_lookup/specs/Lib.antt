@@ -1,4 +1,3 @@
 pub mod Pages
 pub mod Looking
-pub mod Reading
 pub mod Walking

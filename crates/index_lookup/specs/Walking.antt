@@ -15,12 +15,12 @@ use Rattle.index_lookup.specs.declared.index_scan.IndexRange.{IndexRange}
 
 -- the entry comes before this place of the order
 abbrev pub IsBeforePosition : Entry → IndexPosition → Type 0
-IsBeforePosition e mark = (e.value <ℤ mark.value) ⊎ ((e.value ≡ mark.value) × (e.key < mark.key))
+IsBeforePosition e position = (e.value <ℤ position.value) ⊎ ((e.value ≡ position.value) × (e.key < position.key))
 
 -- it comes after the place, if there is one
 abbrev pub ComesAfter : Entry → Option IndexPosition → Type 0
 ComesAfter e None = Unit {0}
-ComesAfter e (Some mark) = (mark.value <ℤ e.value) ⊎ ((mark.value ≡ e.value) × (mark.key < e.key))
+ComesAfter e (Some position) = (position.value <ℤ e.value) ⊎ ((position.value ≡ e.value) × (position.key < e.key))
 
 -- it is not below the span's low value, and comes after its last place
 pub record StartsIn (span : IndexRange) (e : Entry) : Type 0 where
@@ -29,7 +29,7 @@ pub record StartsIn (span : IndexRange) (e : Entry) : Type 0 where
 
 -- no entry of its value and its key comes after this one
 abbrev pub last_at : IndexPosition → Entry
-last_at mark = record { value = mark.value; key = mark.key; tid = record { page = 4294967295; slot = 65535 } }
+last_at position = record { value = position.value; key = position.key; tid = record { page = 4294967295; slot = 65535 } }
 
 pub record LiesIn (span : IndexRange) (e : Entry) : Type 0 where
   pub from : span.low ≤ℤ e.value
@@ -37,14 +37,14 @@ pub record LiesIn (span : IndexRange) (e : Entry) : Type 0 where
   pub after : ComesAfter e span.last
 
 -- an entry of the span stands at this place, by whose value and key the row is found; before it none is found
-pub record IsNextRow (w : Window) (seen : Header → Type 0) (pages : List (List Slot)) (entries : List Entry) (span : IndexRange) (mark : IndexPosition) (row : Row) : Type 0 where
+pub record IsNextRow (w : Window) (seen : Header → Type 0) (pages : List (List Slot)) (entries : List Entry) (span : IndexRange) (position : IndexPosition) (row : Row) : Type 0 where
   pub entry : Entry
   pub there : Contains entries entry
   pub lies : LiesIn span entry
-  pub value : mark.value ≡ entry.value
-  pub key : mark.key ≡ entry.key
-  pub found : FirstFound w seen pages entries mark.value mark.key (Some row)
-  pub none_before : (e : Entry) → Contains entries e → LiesIn span e → IsBeforePosition e mark → FirstFound w seen pages entries e.value e.key None
+  pub value : position.value ≡ entry.value
+  pub key : position.key ≡ entry.key
+  pub found : FirstFound w seen pages entries position.value position.key (Some row)
+  pub none_before : (e : Entry) → Contains entries e → LiesIn span e → IsBeforePosition e position → FirstFound w seen pages entries e.value e.key None
 
 -- by the value and key of no entry of the span a row is found
 abbrev pub NoneLeft : Window → (Header → Type 0) → List (List Slot) → List Entry → IndexRange → Type 0

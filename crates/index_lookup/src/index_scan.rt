@@ -5,13 +5,14 @@ ghost use Rattle.std.specs.Int.{w128};
 ghost use Rattle.std.specs.Option.{option_map};
 ghost use Rattle.index_nodes.specs.Sets.{IsLeast, IsBelow, IsOf};
 ghost use Rattle.index_lookup.specs.Pages.{page_slots_of};
-ghost use Rattle.index_lookup.specs.Reading.{IsSeenBy};
+ghost use Rattle.visibility.specs.Reading.{IsSeenBy};
 ghost use Rattle.index_lookup.specs.Walking.{ComesAfter, last_at, StartsIn, LiesIn, NextRow};
 
 use crate::lookup::{row_from, with_hint};
-use crate::reader::{Reader, TableView};
+use crate::table_view::TableView;
 use root_index::{Entry, PositionHint, RootIndex};
 use tuple_header::RowRef;
+use visibility::Reader;
 use xid_circle::Tid;
 
 /// A place in the order of an index: that of a row with this value and key.
@@ -49,10 +50,10 @@ impl IndexRange {
     }
 
     /// Whether this place of the order is not below the low value.
-    fn begins_by(&self, mark: &IndexPosition) -> bool
-        ensures { IsTrue result ↔ (self.now.low ≤ℤ mark.now.value) }
+    fn begins_by(&self, position: &IndexPosition) -> bool
+        ensures { IsTrue result ↔ (self.now.low ≤ℤ position.now.value) }
     {
-        self.low <= mark.value
+        self.low <= position.value
     }
 
     /// Whether the entry's value is not above the high value.
@@ -73,12 +74,12 @@ fn has_place(entry: &Entry)
 }
 
 /// The last entry that there can be at a place of the order.
-fn last_at(mark: &IndexPosition) -> Entry
-    ensures { result ≡ last_at mark.now }
+fn last_at(position: &IndexPosition) -> Entry
+    ensures { result ≡ last_at position.now }
 {
     Entry {
-        value: mark.value,
-        key: mark.key,
+        value: position.value,
+        key: position.key,
         tid: Tid {
             page: u32::MAX,
             slot: u16::MAX,
@@ -87,47 +88,47 @@ fn last_at(mark: &IndexPosition) -> Entry
 }
 
 /// The entry at a place of the order, by the root that it leads to.
-fn entry_of(mark: &IndexPosition) -> Entry
-    ensures value { result.value ≡ mark.now.value }
-    ensures key { result.key ≡ mark.now.key }
+fn entry_of(position: &IndexPosition) -> Entry
+    ensures value { result.value ≡ position.now.value }
+    ensures key { result.key ≡ position.now.key }
 {
     Entry {
-        value: mark.value,
-        key: mark.key,
-        tid: mark.tid,
+        value: position.value,
+        key: position.key,
+        tid: position.tid,
     }
 }
 
 /// Whether the entry is at this place of the order.
-fn is_at(entry: &Entry, mark: &IndexPosition) -> bool
-    ensures { IsTrue result ↔ IsOf mark.now.value mark.now.key entry.now }
+fn is_at(entry: &Entry, position: &IndexPosition) -> bool
+    ensures { IsTrue result ↔ IsOf position.now.value position.now.key entry.now }
 {
-    entry.value == mark.value && entry.key == mark.key
+    entry.value == position.value && entry.key == position.key
 }
 
 /// The first entry that comes after a place of the order, and where it stood.
-fn after_mark(index: &RootIndex, mark: &IndexPosition) -> Option<(Entry, PositionHint)>
-    ensures { IsLeast index.now.entries (λ e. ComesAfter e (Some mark.now))
+fn after_position(index: &RootIndex, position: &IndexPosition) -> Option<(Entry, PositionHint)>
+    ensures { IsLeast index.now.entries (λ e. ComesAfter e (Some position.now))
         (option_map (λ found. found.0) result) }
 {
-    let (entry, near) = index.next_near(entry_of(mark), mark.near)?;
-    if !is_at(&entry, mark) {
+    let (entry, near) = index.next_near(entry_of(position), position.near)?;
+    if !is_at(&entry, position) {
         return Some((entry, near));
     }
     // one more entry of this value and this key
-    past_all(index, mark, near)
+    past_all(index, position, near)
 }
 
 /// The first entry that comes after all that there can be at a place of the order, and where it stood.
 fn past_all(
     index: &RootIndex,
-    mark: &IndexPosition,
+    position: &IndexPosition,
     near: PositionHint,
 ) -> Option<(Entry, PositionHint)>
-    ensures { IsLeast index.now.entries (λ e. ComesAfter e (Some mark.now))
+    ensures { IsLeast index.now.entries (λ e. ComesAfter e (Some position.now))
         (option_map (λ found. found.0) result) }
 {
-    let (entry, near) = index.next_near(last_at(mark), near)?;
+    let (entry, near) = index.next_near(last_at(position), near)?;
     has_place(&entry);
     Some((entry, near))
 }
@@ -145,7 +146,7 @@ fn entry_from(index: &RootIndex, span: &IndexRange) -> Option<(Entry, PositionHi
     ensures { IsLeast index.now.entries (StartsIn span.now) (option_map (λ found. found.0) result) }
 {
     match &span.last {
-        Some(last) if span.begins_by(last) => after_mark(index, last),
+        Some(last) if span.begins_by(last) => after_position(index, last),
         _ => from_low(index, span),
     }
 }
@@ -161,7 +162,7 @@ fn entry_in(index: &RootIndex, span: &IndexRange) -> Option<(Entry, PositionHint
 }
 
 /// The place of an entry in the order of its index.
-fn mark_of(entry: &Entry, near: PositionHint) -> IndexPosition
+fn position_of(entry: &Entry, near: PositionHint) -> IndexPosition
     ensures value { result.value ≡ entry.now.value }
     ensures key { result.key ≡ entry.now.key }
 {
@@ -189,11 +190,11 @@ pub fn next_row<'a>(
         match entry_in(table.index, &left) {
             None => return None,
             Some((entry, near)) => {
-                let mark = mark_of(&entry, near);
+                let position = position_of(&entry, near);
                 if let Some(row) = row_from(table, entry, near, reader) {
-                    return Some((mark, row));
+                    return Some((position, row));
                 }
-                left.last = Some(mark);
+                left.last = Some(position);
             }
         }
     }

@@ -6,19 +6,18 @@ ghost use Rattle.std.specs.Option.{option_map};
 ghost use Rattle.tuple_header.specs.Faults.{header_fault};
 ghost use Rattle.index_nodes.specs.Sets.{IsOf};
 ghost use Rattle.index_lookup.specs.Pages.{version_in, page_slots_of};
-ghost use Rattle.index_lookup.specs.Reading.{IsSeenBy};
+ghost use Rattle.visibility.specs.Reading.{IsSeenBy};
 ghost use Rattle.index_lookup.specs.Looking.{IsNextOf, IsFirstOf, FirstFound, SeenAt, FirstPlace, IsPlaceIn, IsPlaceAlong};
 ghost use Rattle.index_lookup.specs.Walking.{SeenRow};
 
-use crate::reader::{Reader, TableView};
 use crate::search::{begin_search, next_of};
-use arrayvec::ArrayVec;
+use crate::table_view::TableView;
 use heap_pages::Pages;
-use hot_chain::{first_seen, list_chain};
+use hot_chain::first_seen;
 use page_slots::Page;
 use root_index::{Entry, LookUp, PositionHint};
 use tuple_header::{Header, RowRef};
-use visibility::visible_header;
+use visibility::Reader;
 use xid_circle::Tid;
 
 /// The entry that a look-up found, if it found one, and where it stood.
@@ -44,7 +43,7 @@ pub(crate) fn place_in(place: Tid, header: &Header, reader: &Reader<'_>) -> Opti
     requires { header_fault header.now ≡ None }
     ensures { IsPlaceIn (IsSeenBy reader.now) place header.now result }
 {
-    if visible_header(header, reader.snapshot, reader.own, reader.statuses) {
+    if reader.sees(header) {
         Some(place)
     } else {
         None
@@ -56,15 +55,7 @@ fn seen_along(page: &Page, place: Tid, reader: &Reader<'_>) -> Option<Tid>
     ensures { IsPlaceAlong reader.now.statuses.now (IsSeenBy reader.now) page.now.slots place
         result }
 {
-    let mut slots: ArrayVec<u16, 292> = ArrayVec::new();
-    list_chain(page, place.slot, reader.statuses, &mut slots);
-    match first_seen(
-        page,
-        slots.as_slice(),
-        reader.snapshot,
-        reader.own,
-        reader.statuses,
-    ) {
+    match first_seen(page, place.slot, reader) {
         Some(slot) => Some(Tid {
             page: place.page,
             slot,
@@ -83,7 +74,7 @@ fn seen_at(pages: &Pages, place: Tid, reader: &Reader<'_>) -> Option<Tid>
         None => return None,
     };
     match page.header(place.slot) {
-        // it is its whole chain, which need not be listed
+        // it is its whole chain
         Some(header) if !header.is_hot_updated() => place_in(place, &header, reader),
         _ => seen_along(page, place, reader),
     }
@@ -187,8 +178,7 @@ pub fn seen_row<'a>(page: &'a Page, slot: u16, reader: &Reader<'_>) -> Option<Ro
     ensures { SeenRow (IsSeenBy reader.now) page.now.slots slot result }
 {
     match page.header(slot) {
-        Some(header) if visible_header(&header, reader.snapshot, reader.own, reader.statuses) =>
-            page.row(slot),
+        Some(header) if reader.sees(&header) => page.row(slot),
         _ => None,
     }
 }

@@ -3,19 +3,20 @@
 ghost use Rattle.std.specs.Prelude.{◌≡◌, ◌↔◌, IsTrue, None};
 ghost use Rattle.tuple_header.specs.Faults.{header_fault};
 ghost use Rattle.index_lookup.specs.Pages.{page_slots_of};
-ghost use Rattle.index_lookup.specs.Reading.{IsSeenBy, IsOtherWriterFor, IsNewerCommitFor, IsPlainFor};
+ghost use Rattle.visibility.specs.Reading.{IsSeenBy, IsOtherWriterFor, IsNewerCommitFor, IsPlainFor};
 ghost use Rattle.index_lookup.specs.Looking.{SeenAt, FirstPlace, IsIdIn, IsIdAmong, IsIdAt, IsIdOf, IsPlaceIn, IsPlaceAmong, IsKept};
 
 use crate::conflicts::{newer_commit_in, other_writer_in, sees_committed};
 use crate::lookup::place_in;
-use crate::reader::{Reader, TableView};
 use crate::search::{begin_search, go_on};
+use crate::table_view::TableView;
 use arrayvec::ArrayVec;
 use heap_pages::Pages;
 use hot_chain::list_chain;
 use page_slots::Page;
 use root_index::PositionHint;
 use tuple_header::Header;
+use visibility::Reader;
 use xid_circle::{Tid, Xid};
 
 /// What a session that is about to write a key has to know of its versions.
@@ -31,6 +32,7 @@ pub struct WriteCheck {
 
 /// Whether nobody deleted the version, and it is frozen, or its inserter is committed and the reader's snapshot sees it. Then the
 /// reader sees it, and it has no newer commit and no other writer: one look at its inserter tells all.
+#[inline(always)]
 fn is_plain(header: &Header, reader: &Reader<'_>) -> bool
     requires { header_fault header.now ≡ None }
     ensures { IsTrue result ↔ IsPlainFor reader.now header.now }
@@ -112,22 +114,22 @@ fn with_versions(
     ensures other_writer { IsKept before.other_writer
         (IsIdAmong (IsOtherWriterFor reader.now) page.now.slots slots.now) result.other_writer }
 {
-    let mut standing = before;
+    let mut check = before;
     for slot in slots {
         if let Some(header) = page.header(*slot) {
             let place = Tid {
                 page: number,
                 slot: *slot,
             };
-            standing = with_version(standing, place, &header, reader);
+            check = with_version(check, place, &header, reader);
         }
     }
-    standing
+    check
 }
 
 /// What was found before, and for each part of which nothing was, what the chain of this root has of it. A page that is not
 /// in use has no chains.
-fn standing_at(before: WriteCheck, pages: &Pages, root: Tid, reader: &Reader<'_>) -> WriteCheck
+fn with_chain(before: WriteCheck, pages: &Pages, root: Tid, reader: &Reader<'_>) -> WriteCheck
     ensures place { IsKept before.place
         (SeenAt reader.now.statuses.now (IsSeenBy reader.now)
         (page_slots_of pages.now) root) result.place }
@@ -173,7 +175,7 @@ pub fn check_write(
         value key result.0.other_writer }
 {
     table.index.is_ascending();
-    let mut standing = WriteCheck {
+    let mut check = WriteCheck {
         place: None,
         newer_commit: None,
         other_writer: None,
@@ -181,12 +183,12 @@ pub fn check_write(
     let mut search = begin_search(table.index, value, key);
     for _ in 0..table.index.len() {
         match search.next {
-            None => return (standing, search.near),
+            None => return (check, search.near),
             Some(entry) => {
-                standing = standing_at(standing, table.pages, entry.tid, reader);
+                check = with_chain(check, table.pages, entry.tid, reader);
                 search = go_on(search, entry, table.index, value, key);
             }
         }
     }
-    (standing, search.near)
+    (check, search.near)
 }

@@ -10,10 +10,9 @@ ghost use Rattle.prune.specs.Deaths.{IsNoLaterThan, IsTurnOf, IsTurnThere, MayDi
 
 use commit_status::{Status, StatusTable};
 use page_slots::Page;
-use snapshot::stands_before;
 use tuple_header::Header;
 use visibility::{Fate, fate_of};
-use xid_circle::Xid;
+use xid_circle::{Xid, precedes};
 
 #[inline(always)]
 pub(crate) fn is_aborted(x: Xid, statuses: &StatusTable) -> bool
@@ -51,7 +50,7 @@ fn earliest_deletion(deleter: Xid, turn: u32, statuses: &StatusTable, horizon: X
     if deleter.0 == 0 {
         return Some(turn);
     }
-    if is_committed(deleter, statuses) && stands_before(deleter, horizon) {
+    if is_committed(deleter, statuses) && precedes(deleter, horizon) {
         return None;
     }
     match statuses.turn_of(deleter) {

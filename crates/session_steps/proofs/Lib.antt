@@ -19,6 +19,7 @@ pub mod CursorSteps
 pub mod Outcomes
 pub mod Walks
 pub mod WalkSteps
+pub mod SessionReader
 pub mod WriteCheck
 pub mod HeapWalks
 pub mod NextSteps

@@ -49,12 +49,12 @@ none-met st e span places = record {
 }
 
 module _ (st : State) (e : Session) (span left : IndexRange) (count : ℕ) (places after : List RowPlace) (h : HasPutMet st e span left count places after) where
-  pub one-put : (mark : IndexPosition) (row : Row) (d new : RowPlace) → IsNextFor st e left mark row → count < length places → new ≡ place_with row (get_or after count d)
-      → HasPutMet st e span (record left { last = Some mark }) (count + 1) places (set after count new)
-  one-put mark row d new next room is = record {
+  pub one-put : (position : IndexPosition) (row : Row) (d new : RowPlace) → IsNextFor st e left position row → count < length places → new ≡ place_with row (get_or after count d)
+      → HasPutMet st e span (record left { last = Some position }) (count + 1) places (set after count new)
+  one-put position row d new next room is = record {
     rows = h.rows ++ row ∷ [];
     put = put-one places count after h.rows row d new h.put room is;
-    met = one-met st e span left count h.rows h.met mark row next;
+    met = one-met st e span left count h.rows h.met position row next;
   }
 
   pub all-put : count ≤ length places → NoneIsLeft st e left → PutsOfIndex st e span places count left after

@@ -14,7 +14,7 @@ use Rattle.snapshot.specs.Snap.{Sees}
 use Rattle.visibility.specs.Visible as visibility
 use Rattle.index_lookup.specs.Pages.{version_in}
 use Rattle.index_lookup.specs.Looking.{FirstFound}
-use Rattle.sound_entries.proofs.OnHeap.{found-on_heap, place-on_heap, newer_commit-on_heap, foreign-on_heap}
+use Rattle.sound_entries.proofs.OnHeap.{found-on_heap, place-on_heap, newer_commit-on_heap, other_writer-on_heap}
 use Rattle.heap_write.specs.Heap.{HeapView, slots_of, key_value}
 use Rattle.history.specs.World.{World}
 use Rattle.refinement.specs.Visible.{ReaderSees}
@@ -95,12 +95,12 @@ held-active h e key x held = active-to h.statuses x held.at.some.has.active
 
 pub held-to : (st : State) (w : World) (e : Session) (key x : ℕ) → Agrees st w → IsHeldUnder st.heap e key x → IsHeldBy (seen st) (reader_of e) key x
 held-to st w e key x agrees held =
-    let h = (foreign-on_heap key_value st.heap.statuses (horizon_of st) (slots_of st.heap) (entries_in st.heap.indexes 0) e.own.ids x (by-key st agrees.sound) (pos key) key).0 held in
+    let h = (other_writer-on_heap key_value st.heap.statuses (horizon_of st) (slots_of st.heap) (entries_in st.heap.indexes 0) e.own.ids x (by-key st agrees.sound) (pos key) key).0 held in
     (h.0, h.1, h.2.there, h.2.of_key, h.2.has)
 
 held-from : (st : State) (w : World) (e : Session) (key x : ℕ) → Agrees st w → IsHeldBy (seen st) (reader_of e) key x → IsHeldUnder st.heap e key x
 held-from st w e key x agrees some =
-    (foreign-on_heap key_value st.heap.statuses (horizon_of st) (slots_of st.heap) (entries_in st.heap.indexes 0) e.own.ids x (by-key st agrees.sound) (pos key) key).1 (
+    (other_writer-on_heap key_value st.heap.statuses (horizon_of st) (slots_of st.heap) (entries_in st.heap.indexes 0) e.own.ids x (by-key st agrees.sound) (pos key) key).1 (
       some.0,
       some.1,
       record {

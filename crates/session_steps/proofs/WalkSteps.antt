@@ -15,7 +15,7 @@ use Rattle.session_steps.specs.declared.session.Session.{Session}
 use Rattle.session_steps.specs.declared.cursor.Cursor.TheVariants.{Index}
 use Rattle.session_steps.specs.State.{State, seen, seen_position}
 use Rattle.session_steps.specs.Takes.{seen_by, IsAtCursor, IsAtEnd, IsNotAtEnd, Walks, TakesRows}
-use Rattle.session_steps.proofs.Walks.{IsNextFor, NoneIsLeft, next-comes, next-mark, next-first, none-comes}
+use Rattle.session_steps.proofs.Walks.{IsNextFor, NoneIsLeft, next-comes, next-position, next-first, none-comes}
 
 -- the cursor goes along an index in use
 pub used-at : (st : State) (e : Session) (span : IndexRange) → IsAtCursor st e (Index span) → IsInUse st.heap.indexes span.index
@@ -46,31 +46,31 @@ pub record HasMet (st : State) (e : Session) (span left : IndexRange) (count : �
 
 module _ (st : State) (e : Session) (span left : IndexRange) (count : ℕ) (rows : List Row) (h : HasMet st e span left count rows) where
   -- the next row comes, and none comes before it
-  comes-next : (mark : IndexPosition) (row : Row) → IsNextFor st e left mark row → IsAtCursor st e (Index span)
+  comes-next : (position : IndexPosition) (row : Row) → IsNextFor st e left position row → IsAtCursor st e (Index span)
       → Comes (seen st).version (seen_by st e) (in_index span.index span.low span.high (seen_position left.last)) row
-  comes-next mark row next at =
-      in-left st e span left row h.walks.same (next-comes st at.world at.number e at.agrees at.there left (used-left st e span left rows h.walks at) mark row next)
+  comes-next position row next at =
+      in-left st e span left row h.walks.same (next-comes st at.world at.number e at.agrees at.there left (used-left st e span left rows h.walks at) position row next)
 
-  one-walks : (mark : IndexPosition) (row : Row) → IsNextFor st e left mark row → Walks st e span (record left { last = Some mark }) (rows ++ row ∷ [])
-  one-walks mark row next = record {
-    same = ap (λ (sp : IndexRange). record sp { last = Some mark }) h.walks.same;
+  one-walks : (position : IndexPosition) (row : Row) → IsNextFor st e left position row → Walks st e span (record left { last = Some position }) (rows ++ row ∷ [])
+  one-walks position row next = record {
+    same = ap (λ (sp : IndexRange). record sp { last = Some position }) h.walks.same;
     meets = λ at.
         let used = used-left st e span left rows h.walks at in
         let index : left.index ≡ span.index = ap (λ (sp : IndexRange). sp.index) h.walks.same in
         subst (λ to. WalksOver (seen st).version (seen_by st e) span.index span.low span.high (seen_position span.last) to (rows ++ row ∷ []))
-        (ap (λ n. Some (cursors.index_position_of n row)) (sym index) ∙ next-mark st at.world at.number e at.agrees at.there left used mark row next)
-        (Meets-one row (comes-next mark row next at)
+        (ap (λ n. Some (cursors.index_position_of n row)) (sym index) ∙ next-position st at.world at.number e at.agrees at.there left used position row next)
+        (Meets-one row (comes-next position row next at)
         (λ other comes ne. subst (λ n. ComesBefore n row other) index
-        (next-first st at.world at.number e at.agrees at.there left used mark row next other (left-in st e span left other h.walks.same comes) ne))
+        (next-first st at.world at.number e at.agrees at.there left used position row next other (left-in st e span left other h.walks.same comes) ne))
         (h.walks.meets at));
   }
 
-  pub one-met : (mark : IndexPosition) (row : Row) → IsNextFor st e left mark row → HasMet st e span (record left { last = Some mark }) (count + 1) (rows ++ row ∷ [])
-  one-met mark row next = record { walks = one-walks mark row next; met = length-append rows (row ∷ []) ∙ ap (λ n. n + 1) h.met }
+  pub one-met : (position : IndexPosition) (row : Row) → IsNextFor st e left position row → HasMet st e span (record left { last = Some position }) (count + 1) (rows ++ row ∷ [])
+  one-met position row next = record { walks = one-walks position row next; met = length-append rows (row ∷ []) ∙ ap (λ n. n + 1) h.met }
 
   -- there is a row to hand out, whether or not memory is
-  pub not-at_end : (mark : IndexPosition) (row : Row) → IsNextFor st e left mark row → IsAtCursor st e (Index span) → IsNotAtEnd st e (Index span)
-  not-at_end mark row next at = (row, Comes-back ((h.walks.meets at).onward row) (comes-next mark row next at))
+  pub not-at_end : (position : IndexPosition) (row : Row) → IsNextFor st e left position row → IsAtCursor st e (Index span) → IsNotAtEnd st e (Index span)
+  not-at_end position row next at = (row, Comes-back ((h.walks.meets at).onward row) (comes-next position row next at))
 
   -- none is left
   pub all-met : (most : ℕ) → count ≤ most → NoneIsLeft st e left → TakesRows st e span left most rows

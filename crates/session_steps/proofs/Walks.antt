@@ -63,14 +63,14 @@ entry-ahead span row e value key ahead = record {
   after = entry-after span.index row e span.last value key ahead.after;
 }
 
--- the mark of a row of this value and key
-pub mark-is : (index : ℕ) (row : Row) (m : IndexPosition) → value_in index row ≡ m.value → row.key ≡ m.key → Some (cursors.index_position_of index row) ≡ seen_position (Some m)
-mark-is index row m value key = by (value_in index row) m.value row.key m.key value key
+-- the position of a row of this value and key
+pub position-is : (index : ℕ) (row : Row) (m : IndexPosition) → value_in index row ≡ m.value → row.key ≡ m.key → Some (cursors.index_position_of index row) ≡ seen_position (Some m)
+position-is index row m value key = by (value_in index row) m.value row.key m.key value key
   where
-    mark : ℤ → ℕ → relation.RowPosition
-    mark v k = record { value = v; key = k }
+    position : ℤ → ℕ → relation.RowPosition
+    position v k = record { value = v; key = k }
 
-    by : (v v' : ℤ) (k k' : ℕ) → v ≡ v' → k ≡ k' → Some (mark v k) ≡ Some (mark v' k')
+    by : (v v' : ℤ) (k k' : ℕ) → v ≡ v' → k ≡ k' → Some (position v k) ≡ Some (position v' k')
     by v v' k k' a b = rw (a, b) refl
 
 -- of two keys that differ, one comes first
@@ -80,7 +80,7 @@ key-first k m ne not-below = elim (cases_lt m k) [ inl below ↦ below | inr le 
 same-value : (x y : ℤ) → x ≤ℤ y → y ≤ℤ x → x ≡ y
 same-value x y a b = grind (arith, ints)
 
--- a row whose entry does not come before the mark, and that has another key than the row there, comes after that row
+-- a row whose entry does not come before the position, and that has another key than the row there, comes after that row
 comes-after : (index : ℕ) (row other : Row) (e : Entry) (m : IndexPosition) → value_in index row ≡ m.value → row.key ≡ m.key → value_in index other ≡ e.value → other.key ≡ e.key
     → other.key ≢ row.key → ¬ walking.IsBeforePosition e m → ComesBefore index row other
 comes-after index row other e m value key value' key' ne isnt = by_lt_z m.value e.value
@@ -98,8 +98,8 @@ FindsBy st e index value key found =
     FirstFound st.heap.statuses (visibility.IsVisible st.heap.statuses e.snapshot e.own.ids) (slots_of st.heap) (entries_in st.heap.indexes index) value key found
 
 abbrev pub IsNextFor : State → Session → IndexRange → IndexPosition → Row → Type 0
-IsNextFor st e span mark row =
-    IsNextRow st.heap.statuses (visibility.IsVisible st.heap.statuses e.snapshot e.own.ids) (slots_of st.heap) (entries_in st.heap.indexes span.index) span mark row
+IsNextFor st e span position row =
+    IsNextRow st.heap.statuses (visibility.IsVisible st.heap.statuses e.snapshot e.own.ids) (slots_of st.heap) (entries_in st.heap.indexes span.index) span position row
 
 abbrev pub NoneIsLeft : State → Session → IndexRange → Type 0
 NoneIsLeft st e span = NoneLeft st.heap.statuses (visibility.IsVisible st.heap.statuses e.snapshot e.own.ids) (slots_of st.heap) (entries_in st.heap.indexes span.index) span
@@ -166,9 +166,9 @@ module _ (st : State) (w : World) (s : ℕ) (e : Session) (agrees : Agrees st w)
       )
 
   -- the next row
-  pub next-comes : (mark : IndexPosition) (row : Row) → IsNextFor st e span mark row → Comes (seen st).version (seen_by st e) (in_index span.index span.low span.high (seen_position span.last)) row
-  next-comes mark row next =
-      let h = row-shown st w s e agrees at span.index used mark.value mark.key row next.found in
+  pub next-comes : (position : IndexPosition) (row : Row) → IsNextFor st e span position row → Comes (seen st).version (seen_by st e) (in_index span.index span.low span.high (seen_position span.last)) row
+  next-comes position row next =
+      let h = row-shown st w s e agrees at span.index used position.value position.key row next.found in
       record {
         place = h.place;
         version = h.version;
@@ -178,17 +178,17 @@ module _ (st : State) (w : World) (s : ℕ) (e : Session) (agrees : Agrees st w)
         to_come = ahead-entry span row next.entry (h.of_value ∙ next.value) (h.of_key ∙ next.key) next.lies;
       }
 
-  pub next-mark : (mark : IndexPosition) (row : Row) → IsNextFor st e span mark row → Some (cursors.index_position_of span.index row) ≡ seen_position (Some mark)
-  next-mark mark row next = let h = row-shown st w s e agrees at span.index used mark.value mark.key row next.found in mark-is span.index row mark h.of_value h.of_key
+  pub next-position : (position : IndexPosition) (row : Row) → IsNextFor st e span position row → Some (cursors.index_position_of span.index row) ≡ seen_position (Some position)
+  next-position position row next = let h = row-shown st w s e agrees at span.index used position.value position.key row next.found in position-is span.index row position h.of_value h.of_key
 
   -- all others that come are after it
-  pub next-first : (mark : IndexPosition) (row : Row) → IsNextFor st e span mark row
+  pub next-first : (position : IndexPosition) (row : Row) → IsNextFor st e span position row
       → (other : Row) → Comes (seen st).version (seen_by st e) (in_index span.index span.low span.high (seen_position span.last)) other → other.key ≢ row.key → ComesBefore span.index row other
-  next-first mark row next other comes ne =
-      let h = row-shown st w s e agrees at span.index used mark.value mark.key row next.found in
+  next-first position row next other comes ne =
+      let h = row-shown st w s e agrees at span.index used position.value position.key row next.found in
       let c = come-by other comes in
       let entry = c.0 in
-      comes-after span.index row other entry.entry mark h.of_value h.of_key entry.value entry.key ne
+      comes-after span.index row other entry.entry position h.of_value h.of_key entry.value entry.key ne
       (λ before. none-shown st w s e agrees at span.index used entry.entry.value entry.entry.key other (next.none_before entry.entry entry.there c.1 before) c.2)
 
   -- none is left

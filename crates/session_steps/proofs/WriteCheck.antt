@@ -13,9 +13,9 @@ use Rattle.page_slots.specs.View.{PageView}
 use Rattle.page_slots.proofs.SlotLemmas.{version_at-none}
 use Rattle.snapshot.specs.Own.{Own}
 use Rattle.visibility.specs.Visible as visibility
-use Rattle.index_lookup.specs.declared.reader.Reader.{Reader}
+use Rattle.visibility.specs.declared.reader.Reader.{Reader}
 use Rattle.index_lookup.specs.Pages.{slots_on}
-use Rattle.index_lookup.specs.Reading.{IsSeenBy}
+use Rattle.visibility.specs.Reading.{IsSeenBy}
 use Rattle.index_lookup.specs.Walking.{IsSeenRow, NoneSeenFrom}
 use Rattle.index_lookup.proofs.PageLists.{slots-there, slots-none}
 use Rattle.heap_write.specs.Heap.{slots_of}
@@ -24,6 +24,7 @@ use Rattle.refinement.proofs.CursorWalks.{Gathers-none, Gathers-pass, Gathers-af
 use Rattle.session_steps.specs.declared.session.Session.{Session}
 use Rattle.session_steps.specs.declared.cursor.Cursor.TheVariants.{Heap}
 use Rattle.session_steps.specs.State.{State, seen}
+use Rattle.session_steps.proofs.SessionReader.{as-session}
 use Rattle.session_steps.specs.Takes.{seen_by, ReadsAs, IsAtEnd, IsNotAtEnd, WalksHeap, start_of, SomeStands, AreBare, TakesAll, TakesPage}
 
 -- Where versions stand.
@@ -55,9 +56,7 @@ StandsOn st e p row = Stands (seen st).version (seen_by st e) p row
 
 module _ (st : State) (e : Session) (r : Reader) (reads : ReadsAs st e r) (h : Header) where
   reader-sees : IsSeenBy r h → visibility.IsVisible st.heap.statuses e.snapshot e.own.ids h
-  reader-sees seen = subst (λ w. visibility.IsVisible w e.snapshot e.own.ids h) reads.statuses
-      (subst (λ s. visibility.IsVisible r.statuses.now s e.own.ids h) reads.snapshot
-      (subst (λ (own : Own). visibility.IsVisible r.statuses.now r.snapshot.now own.ids h) reads.own seen))
+  reader-sees = as-session st e r (λ w s own. visibility.IsVisible w s own.ids h) reads
 
   sees-reader : visibility.IsVisible st.heap.statuses e.snapshot e.own.ids h → IsSeenBy r h
   sees-reader seen = subst (λ (own : Own). visibility.IsVisible r.statuses.now r.snapshot.now own.ids h) (sym reads.own)

@@ -7,7 +7,7 @@ use Rattle.tuple_header.specs.Version.{Version}
 use Rattle.tuple_header.specs.declared.version.TheConstants.{MOST_SLOTS}
 use Rattle.snapshot.specs.Snap.{Sees}
 use Rattle.index_lookup.specs.declared.index_scan.IndexRange.{IndexRange}
-use Rattle.index_lookup.specs.declared.reader.Reader.{Reader}
+use Rattle.visibility.specs.declared.reader.Reader.{Reader}
 use Rattle.history.specs.World.{World}
 use Rattle.refinement.specs.Heap as relation
 use Rattle.refinement.specs.Visible.{ReaderSees}

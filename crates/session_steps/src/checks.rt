@@ -69,7 +69,7 @@ impl SessionEngine {
         ensures write_conflict { MatchResult result.1 (λ _. IsUncontested self.now session.now key)
             (λ refusal. ConflictsWrite self.now session.now key refusal) }
     {
-        let (check, near) = self.heap.check_write(key, &session.snapshot, &session.own);
+        let (check, near) = self.heap.check_write(key, &self.reader(session));
         if let Some(_) = check.newer_commit {
             return (check.place, Err(Refusal::Conflict));
         }

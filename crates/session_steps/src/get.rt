@@ -17,7 +17,7 @@ impl SessionEngine {
         ensures { AnswersStep self.now (Step.Get s key) reply.new self.now }
     {
         match self.ready(s) {
-            Ok(session) => put_found(self.heap.row(key, &session.snapshot, &session.own), reply),
+            Ok(session) => put_found(self.heap.row(key, &self.reader(session)), reply),
             Err(refusal) => *reply = Reply::Refused(refusal),
         }
     }

@@ -4,14 +4,14 @@ ghost use Rattle.std.specs.Prelude.{◌≡◌, ◌++◌, ◌∷◌, [], IfOk, On
 ghost use Rattle.refinement.specs.declared.step.Step.{Step};
 ghost use Rattle.session_steps.specs.declared.cursor.Cursor.TheVariants.{Index, Heap};
 ghost use Rattle.session_steps.specs.Exact.{AnswersStep};
-ghost use Rattle.session_steps.specs.Takes.{IsAtCursor, IsNotAtEnd, TakesRows, SomeStands, TakesAll, TakesNextPage, TakesNext, ReadsAs, start_of};
+ghost use Rattle.session_steps.specs.Takes.{IsAtCursor, IsNotAtEnd, TakesRows, SomeStands, TakesAll, TakesNextPage, TakesNext, start_of};
 
 use crate::cursor::Cursor;
 use crate::engine::SessionEngine;
 use crate::get::no_row;
 use crate::session::Session;
 use heap_write::IndexRange;
-use index_lookup::{Reader, seen_row};
+use index_lookup::seen_row;
 use refinement::{Refusal, Reply, Row};
 use std::alloc::AllocError;
 use tuple_header::RowRef;
@@ -117,11 +117,12 @@ impl SessionEngine {
     {
         let mut rows = Vec::new(self.alloc);
         let mut left = span;
+        let reader = self.reader(session);
         for _ in 0..count {
-            match self.heap.next_row(&left, &session.snapshot, &session.own) {
-                Some((mark, row)) => {
+            match self.heap.next_row(&left, &reader) {
+                Some((position, row)) => {
                     add_row(&mut rows, &row, count)?;
-                    left.last = Some(mark);
+                    left.last = Some(position);
                 }
                 None => return Ok((rows, left)),
             }
@@ -162,16 +163,5 @@ impl SessionEngine {
             }
         }
         Ok(rows)
-    }
-
-    /// The session as it reads.
-    pub(crate) fn reader<'a>(&'a self, session: &'a Session) -> Reader<'a>
-        ensures { ReadsAs self.now session.now result }
-    {
-        Reader {
-            snapshot: &session.snapshot,
-            own: &session.own,
-            statuses: self.heap.statuses(),
-        }
     }
 }

@@ -75,11 +75,12 @@ impl SessionEngine {
         ensures { PutsOfIndex self.now session.now span places.old result.0 result.1 places.new }
     {
         let mut left = span;
+        let reader = self.reader(session);
         for count in 0..places.len() {
-            match self.heap.next_row(&left, &session.snapshot, &session.own) {
-                Some((mark, row)) => {
+            match self.heap.next_row(&left, &reader) {
+                Some((position, row)) => {
                     row.put_into(&mut places[count]);
-                    left.last = Some(mark);
+                    left.last = Some(position);
                 }
                 None => return (count, left),
             }

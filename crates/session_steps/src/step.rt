@@ -54,6 +54,6 @@ impl SessionEngine {
             (λ refusal. AllowsClosed w s refusal) }
     {
         let session = self.opened(s)?;
-        Ok(copy_of(self.heap.row(key, &session.snapshot, &session.own)))
+        Ok(copy_of(self.heap.row(key, &self.reader(session))))
     }
 }

@@ -14,9 +14,9 @@ use crate::engine::SessionEngine;
 use crate::session::Session;
 use commit_status::StatusTable;
 use refinement::{Mode, Piece};
-use snapshot::{earlier, stands_before};
+use snapshot::earlier;
 use vacuum_passes::Vacuum;
-use xid_circle::Xid;
+use xid_circle::{Xid, precedes};
 
 /// The id given so long before the next one; a number that is no transaction's counts as 3.
 fn aged(next: Xid, age: u32) -> Xid
@@ -31,7 +31,7 @@ fn cutoff(first: Xid, next: Xid, horizon: Xid, age: u32) -> Xid
     ensures { result.0 ≡ cutoff_at first.0 next.0 horizon.0 age }
 {
     let cutoff = earlier(horizon, aged(next, age));
-    if stands_before(cutoff, first) {
+    if precedes(cutoff, first) {
         first
     } else {
         cutoff
@@ -52,7 +52,7 @@ fn are_from(ids: &[Xid], cutoff: Xid) -> bool
         ↔ ((x : ℕ) → Contains (numbers ids.now) x → ¬ Precedes x cutoff.0) }
 {
     for x in ids {
-        if stands_before(*x, cutoff) {
+        if precedes(*x, cutoff) {
             return false;
         }
     }

@@ -11,6 +11,6 @@ pub mod laws;
 mod own;
 mod snapshot;
 
-pub use horizon::{earlier, stands_before};
+pub use horizon::earlier;
 pub use own::{MOST_SAVEPOINTS, OwnIds, SaveFault};
 pub use snapshot::Snapshot;

@@ -1,18 +1,18 @@
 //! Snapshots.
 
-ghost use Rattle.std.specs.Prelude.{◌≡◌, ◌≢◌, ◌<◌, ◌↔◌, ◌++◌, [], IsTrue, OnOk, OnErr, length};
+ghost use Rattle.std.specs.Prelude.{◌≡◌, ◌≢◌, ◌<◌, ◌↔◌, ◌++◌, [], IsTrue, OnOk, OnErr, length, Contains};
 ghost use Rattle.smallvec.specs.SmallVec.{HasRoomFor};
 ghost use Rattle.xid_circle.specs.Circle.{IsNormal};
 ghost use Rattle.commit_status.specs.Changes.{numbers};
 ghost use Rattle.snapshot.specs.Snap.{Snap, Sees, SeesAlone, empty_at, listing};
 
-use crate::horizon::{earlier, stands_before};
+use crate::horizon::earlier;
 use crate::own::OwnIds;
 use commit_status::StatusTable;
 use smallvec::SmallVec;
 use std::alloc::{AllocError, Global};
 use std::marker::Model;
-use xid_circle::Xid;
+use xid_circle::{Xid, precedes};
 
 /// Which transactions had finished at one moment.
 #[derive(Drop)]
@@ -70,13 +70,19 @@ impl Snapshot {
         self.xmax
     }
 
+    fn is_listed(&self, x: Xid) -> bool
+        ensures { IsTrue result ↔ Contains self.now.listed x.0 }
+    {
+        self.listed.as_slice().contains(&x.0)
+    }
+
     fn has_finished(&self, x: Xid) -> bool
         ensures { IsTrue result ↔ SeesAlone self.now x.0 }
     {
-        if stands_before(x, self.xmin) {
+        if precedes(x, self.xmin) {
             return true;
         }
-        stands_before(x, self.xmax) && !self.listed.as_slice().contains(&x.0)
+        precedes(x, self.xmax) && !self.is_listed(x)
     }
 
     /// Whether the transaction of an id had finished. Of an id between xmin and xmax the topmost parent is looked up
@@ -84,18 +90,16 @@ impl Snapshot {
     pub fn sees(&self, x: Xid, statuses: &StatusTable) -> bool
         ensures { IsTrue result ↔ Sees self.now statuses.now x.0 }
     {
-        if stands_before(x, self.xmin) {
+        if precedes(x, self.xmin) {
             return true;
         }
-        if !stands_before(x, self.xmax) {
+        if !precedes(x, self.xmax) {
             return false;
         }
-        let tested = if self.overflowed {
-            statuses.top_of(x)
-        } else {
-            x
-        };
-        self.has_finished(tested)
+        if self.overflowed {
+            return self.has_finished(statuses.top_of(x));
+        }
+        !self.is_listed(x)
     }
 
     /// Adds an open transaction by its own ids: the topmost one, and the others where they are at most 64. A

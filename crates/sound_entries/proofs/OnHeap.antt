@@ -162,9 +162,9 @@ newer_commit-on_heap value_of w horizon pages entries s x sound value key = some
     alive : IsCommitted w x → ¬ IsAborted w x
     alive done gone = let e : Committed ≡ Aborted = sym done ∙ gone in cc
 
-pub foreign-on_heap : (value_of : Row → ℤ) (w : Window) (horizon : ℕ) (pages : List (List Slot)) (entries : List Entry) (own : List ℕ) (x : ℕ) → EntriesAreSound value_of w horizon pages entries
+pub other_writer-on_heap : (value_of : Row → ℤ) (w : Window) (horizon : ℕ) (pages : List (List Slot)) (entries : List Entry) (own : List ℕ) (x : ℕ) → EntriesAreSound value_of w horizon pages entries
     → (value : ℤ) (key : ℕ) → SomeOf w (IsOtherWriterIn w own x) pages entries value key ↔ SomeOnHeap value_of pages value key (IsOtherWriterIn w own x)
-foreign-on_heap value_of w horizon pages entries own x sound value key = some-on_heap value_of w horizon pages entries (IsOtherWriterIn w own x) sound
+other_writer-on_heap value_of w horizon pages entries own x sound value key = some-on_heap value_of w horizon pages entries (IsOtherWriterIn w own x) sound
     (λ p t at held. touched-made w horizon (slots_on pages p.page) p.slot x t (sound.heap p.page) at (alive (active-to w x held.active).unfinished) held.touch) value key
   where
     alive : IsInProgress w x → ¬ IsAborted w x

@@ -69,12 +69,12 @@ PlaceIsOnHeap = (value_of : Row → ℤ) (w : Window) (horizon : ℕ) (pages : L
     (λ p. (t : Version) × IsOnHeap value_of pages value key (λ t. IsVisible w s own t.header) p t)
 
 -- Where the entries are sound, such ids are those of versions on the heap.
-abbrev pub MissedIsOnHeap : Type 0
-MissedIsOnHeap = (value_of : Row → ℤ) (w : Window) (horizon : ℕ) (pages : List (List Slot)) (entries : List Entry) (s : Snap) (x : ℕ) → EntriesAreSound value_of w horizon pages entries
+abbrev pub NewerCommitIsOnHeap : Type 0
+NewerCommitIsOnHeap = (value_of : Row → ℤ) (w : Window) (horizon : ℕ) (pages : List (List Slot)) (entries : List Entry) (s : Snap) (x : ℕ) → EntriesAreSound value_of w horizon pages entries
     → (value : ℤ) (key : ℕ) → SomeOf w (IsNewerCommitIn w s x) pages entries value key ↔ SomeOnHeap value_of pages value key (IsNewerCommitIn w s x)
 
-abbrev pub ForeignIsOnHeap : Type 0
-ForeignIsOnHeap = (value_of : Row → ℤ) (w : Window) (horizon : ℕ) (pages : List (List Slot)) (entries : List Entry) (own : List ℕ) (x : ℕ) → EntriesAreSound value_of w horizon pages entries
+abbrev pub OtherWriterIsOnHeap : Type 0
+OtherWriterIsOnHeap = (value_of : Row → ℤ) (w : Window) (horizon : ℕ) (pages : List (List Slot)) (entries : List Entry) (own : List ℕ) (x : ℕ) → EntriesAreSound value_of w horizon pages entries
     → (value : ℤ) (key : ℕ) → SomeOf w (IsOtherWriterIn w own x) pages entries value key ↔ SomeOnHeap value_of pages value key (IsOtherWriterIn w own x)
 
 -- What steps keep.

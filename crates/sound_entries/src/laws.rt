@@ -1,6 +1,6 @@
 //! The laws of sound entries. Each function does nothing: its contract is the law.
 
-ghost use Rattle.sound_entries.specs.Laws.{LedByEntry, FoundByIndex, TouchedByIndex, FoundIsOnHeap, TheRowIsFound, PlaceIsOnHeap, MissedIsOnHeap, ForeignIsOnHeap, NoEntriesAreSound, AddingKeepsEntries, TakingKeepsEntries, UpdatingKeepsEntries, PruningKeepsEntries, PagesGrowSound, EntriesGoSound, GivingKeepsEntries, CommittingKeepsEntries, AbortingKeepsEntries, LaterHorizonKeepsEntries, LedByTwoSteps};
+ghost use Rattle.sound_entries.specs.Laws.{LedByEntry, FoundByIndex, TouchedByIndex, FoundIsOnHeap, TheRowIsFound, PlaceIsOnHeap, NewerCommitIsOnHeap, OtherWriterIsOnHeap, NoEntriesAreSound, AddingKeepsEntries, TakingKeepsEntries, UpdatingKeepsEntries, PruningKeepsEntries, PagesGrowSound, EntriesGoSound, GivingKeepsEntries, CommittingKeepsEntries, AbortingKeepsEntries, LaterHorizonKeepsEntries, LedByTwoSteps};
 
 /// A version that isn't undone is in the chain of exactly one entry, which has its value and its key.
 pub fn led_by_entry()
@@ -33,13 +33,13 @@ pub fn place_is_on_heap()
 {}
 
 /// Where the entries are sound, the ids that a write check names are those of versions on the heap.
-pub fn missed_is_on_heap()
-    ensures { MissedIsOnHeap }
+pub fn newer_commit_is_on_heap()
+    ensures { NewerCommitIsOnHeap }
 {}
 
-/// Where the entries are sound, the holders that a standing names are those of versions on the heap.
-pub fn foreign_is_on_heap()
-    ensures { ForeignIsOnHeap }
+/// Where the entries are sound, the other writers that a check for a write names are those of versions on the heap.
+pub fn other_writer_is_on_heap()
+    ensures { OtherWriterIsOnHeap }
 {}
 
 /// A table without pages is sound, with an index without entries.

@@ -9,11 +9,12 @@ use arrayvec::ArrayVec;
 use commit_status::Status;
 use dead_places::DeadSet;
 use heap_write::{HeapState, IndexPosition, IndexRange, PruneFault, WriteFault};
-use index_lookup::{Reader, seen_row};
+use index_lookup::seen_row;
 use root_index::{Entry, PositionHint, Progress};
 use snapshot::{OwnIds, Snapshot};
 use std::alloc::Global;
 use tuple_header::Row;
+use visibility::Reader;
 use xid_circle::{Tid, Xid};
 
 /// The key, the columns and the length of the body of a row.
@@ -181,6 +182,15 @@ pub fn release(own: &mut OwnIds) {
     }
 }
 
+/// Who reads on the table with this snapshot, and with these ids of its own.
+fn reader<'a>(heap: &'a HeapState, snapshot: &'a Snapshot, own: &'a OwnIds) -> Reader<'a> {
+    Reader {
+        snapshot,
+        own,
+        statuses: heap.statuses(),
+    }
+}
+
 /// The place of the version of a key that is seen, the id of a newer commit, and one in progress.
 pub fn check_write(
     heap: &HeapState,
@@ -188,7 +198,7 @@ pub fn check_write(
     snapshot: &Snapshot,
     own: &OwnIds,
 ) -> (Option<Place>, Option<Xid>, Option<Xid>) {
-    let (check_write, _near) = heap.check_write(key, snapshot, own);
+    let (check_write, _near) = heap.check_write(key, &reader(heap, snapshot, own));
     (
         pair(check_write.place),
         check_write.newer_commit,
@@ -198,7 +208,7 @@ pub fn check_write(
 
 /// The first column of the row of a key.
 pub fn first(heap: &HeapState, key: u64, snapshot: &Snapshot, own: &OwnIds) -> Option<i64> {
-    Some(heap.row(key, snapshot, own)?.cols()[0])
+    Some(heap.row(key, &reader(heap, snapshot, own))?.cols()[0])
 }
 
 /// The key and the second column of the row at a place.
@@ -209,12 +219,7 @@ pub fn row_at(
     own: &OwnIds,
 ) -> Option<(u64, i64)> {
     let (page, slot) = place;
-    let reader = Reader {
-        snapshot,
-        own,
-        statuses: heap.statuses(),
-    };
-    let row = seen_row(heap.page(page)?, slot, &reader)?;
+    let row = seen_row(heap.page(page)?, slot, &reader(heap, snapshot, own))?;
     Some((row.key(), row.cols()[1]))
 }
 
@@ -275,14 +280,18 @@ fn place_if(
     own: &OwnIds,
     (first, key): Met,
 ) -> Option<IndexPosition> {
-    let (mark, row) = heap.next_row(span, snapshot, own)?;
+    let (position, row) = heap.next_row(span, &reader(heap, snapshot, own))?;
     let value = if span.index == 0 {
         i128::from(key)
     } else {
         i128::from(first)
     };
-    if mark.value == value && mark.key == key && row.key() == key && row.cols()[0] == first {
-        Some(mark)
+    if position.value == value
+        && position.key == key
+        && row.key() == key
+        && row.cols()[0] == first
+    {
+        Some(position)
     } else {
         None
     }
@@ -299,9 +308,9 @@ pub fn walks(
     let mut left = span_of(part);
     for row in rows {
         match place_if(heap, &left, snapshot, own, *row) {
-            Some(mark) => left.last = Some(mark),
+            Some(position) => left.last = Some(position),
             None => return false,
         }
     }
-    heap.next_row(&left, snapshot, own).is_none()
+    heap.next_row(&left, &reader(heap, snapshot, own)).is_none()
 }

@@ -8,6 +8,7 @@ use commit_status::{Status, StatusTable};
 use snapshot::{OwnIds, Snapshot};
 use std::alloc::Global;
 use std::test::Fail;
+use visibility::Reader;
 use xid_circle::Xid;
 
 /// Fails where this step, counted from 0, came out otherwise.
@@ -15,7 +16,7 @@ pub fn none_wrong(wrong: Option<usize>) -> Result<(), Fail> {
     match wrong {
         None => Ok(()),
         Some(at) => Err(Fail::new(format_args!(
-            "step {at} of the statuses, counted from 0, comes out otherwise"
+            "step {at} of the table, counted from 0, comes out otherwise"
         ))),
     }
 }
@@ -38,6 +39,19 @@ pub fn table_of(alloc: Global, first: u32, count: u8) -> StatusTable {
         let _ = statuses.give(None);
     }
     statuses
+}
+
+/// Who reads by these.
+pub fn reader<'a>(
+    snapshot: &'a Snapshot,
+    own: &'a OwnIds,
+    statuses: &'a StatusTable,
+) -> Reader<'a> {
+    Reader {
+        snapshot,
+        own,
+        statuses,
+    }
 }
 
 pub fn finish(statuses: &mut StatusTable, x: u32, status: Status) {

@@ -3,25 +3,24 @@
 ghost use Rattle.std.specs.Prelude.{IfSome};
 ghost use Rattle.index_lookup.specs.Looking.{IsFirstOf};
 
-use crate::ids::{begun, finish, owner, table_of};
+use crate::ids::{begun, finish, owner, reader, table_of};
 use crate::stage::{insert, update};
 use arrayvec::ArrayVec;
 use commit_status::{Status, StatusTable};
 use heap_pages::{MAX_PAGES, Pages};
-use index_lookup::{
-    Reader, TableView, WriteCheck, check_write, place_from, place_of, row_from, row_of,
-};
+use index_lookup::{TableView, WriteCheck, check_write, place_from, place_of, row_from, row_of};
 use page_slots::Page;
 use root_index::{Entry, PositionHint, RootIndex};
 use sound_entries::laws::{
     aborting_keeps_entries, adding_keeps_entries, committing_keeps_entries, entries_go_sound,
-    foreign_is_on_heap, found_by_index, found_is_on_heap, giving_keeps_entries,
-    later_horizon_keeps_entries, led_by_entry, led_by_two_steps, missed_is_on_heap,
-    no_entries_are_sound, pages_grow_sound, place_is_on_heap, pruning_keeps_entries,
+    found_by_index, found_is_on_heap, giving_keeps_entries, later_horizon_keeps_entries,
+    led_by_entry, led_by_two_steps, newer_commit_is_on_heap, no_entries_are_sound,
+    other_writer_is_on_heap, pages_grow_sound, place_is_on_heap, pruning_keeps_entries,
     taking_keeps_entries, the_row_is_found, touched_by_index, updating_keeps_entries,
 };
 use std::alloc::{AllocError, Global};
 use tuple_header::{Row, RowRef};
+use visibility::Reader;
 use xid_circle::{Tid, Xid};
 
 /// A key that is looked for; the id that was next when the snapshot was taken; and the reader's own id, if it is one.
@@ -137,7 +136,7 @@ fn seen(table: &TableView<'_>, key: u64, reader: &Reader<'_>) -> Seen {
 }
 
 fn seen_from_first(table: &TableView<'_>, key: u64, reader: &Reader<'_>) -> Seen {
-    match first_of(statuses.index, key) {
+    match first_of(table.index, key) {
         Some((first, near)) => {
             let place = place_from(table, first, near, reader);
             let row = row_from(table, first, near, reader);
@@ -148,7 +147,7 @@ fn seen_from_first(table: &TableView<'_>, key: u64, reader: &Reader<'_>) -> Seen
 }
 
 /// What a session has to know of a key before it writes it.
-fn standing(table: &TableView<'_>, key: u64, reader: &Reader<'_>) -> WriteCheck {
+fn write_check(table: &TableView<'_>, key: u64, reader: &Reader<'_>) -> WriteCheck {
     let value = i128::from(key);
     check_write(table, value, key, reader).0
 }
@@ -164,19 +163,15 @@ fn finds(
     let statuses = statuses(alloc);
     let snapshot = begun(alloc, next);
     let own = owner(alloc, own);
-    let reader = Reader {
-        snapshot: &snapshot,
-        own: &own,
-        statuses: &statuses,
-    };
+    let reader = reader(&snapshot, &own, &statuses);
     let table = TableView { pages, index };
     let (place, column, newer_commit, other_writer) = found;
-    let standing = standing(&table, key, &reader);
+    let check = write_check(&table, key, &reader);
     seen(&table, key, &reader) == (place, column)
         && seen_from_first(&table, key, &reader) == (place, column)
-        && pair(standing.place) == place
-        && standing.newer_commit == newer_commit
-        && standing.other_writer == other_writer
+        && pair(check.place) == place
+        && check.newer_commit == newer_commit
+        && check.other_writer == other_writer
 }
 
 /// The first that is found otherwise on these pages, with such entries.
@@ -263,8 +258,8 @@ fn laws() {
     found_is_on_heap();
     the_row_is_found();
     place_is_on_heap();
-    missed_is_on_heap();
-    foreign_is_on_heap();
+    newer_commit_is_on_heap();
+    other_writer_is_on_heap();
     no_entries_are_sound();
     adding_keeps_entries();
     taking_keeps_entries();

@@ -4,7 +4,7 @@ ghost use Rattle.std.specs.Prelude.{◌≤◌, ◌<◌, IsTrue};
 ghost use Rattle.page_slots.specs.Slots.{room_of};
 ghost use Rattle.tuple_header.specs.Version.{rounded_size_of};
 
-use crate::ids::{begun, finish, next_id, none_wrong, normal, owner, table_of};
+use crate::ids::{begun, finish, next_id, none_wrong, normal, owner, reader, table_of};
 use crate::verdicts::{fate_at, hinted, reads_id, sees};
 use arrayvec::ArrayVec;
 use commit_status::{Status, StatusTable};
@@ -64,7 +64,7 @@ pub enum PageStep {
     /// Who made and who deleted the version that the owner of id 3 finds in the chain of a slot.
     Fetch(u16, Option<(u32, u32)>),
     /// The first of these slots whose version the owner of id 3 sees.
-    FirstSeen(&'static [u16], Option<u16>),
+    FirstSeen(u16, Option<u16>),
     /// From which turn on a version may be dead, unless one is at a horizon.
     FirstDeath(u32, Option<u32>),
     /// What the plan at a horizon names.
@@ -265,14 +265,14 @@ fn has_chain(page: &Page, number: u16, statuses: &StatusTable, slots: &[u16]) ->
 fn fetched(alloc: Global, page: &Page, number: u16, statuses: &StatusTable) -> Option<(u32, u32)> {
     let own = owner(alloc, 3);
     let snapshot = begun(alloc, next_id(statuses));
-    let header = fetch(page, number, &snapshot, &own, statuses)?.header;
+    let header = fetch(page, number, &reader(&snapshot, &own, statuses))?.header;
     Some((header.xmin.0, header.xmax.0))
 }
 
-fn first_of(alloc: Global, page: &Page, slots: &[u16], statuses: &StatusTable) -> Option<u16> {
+fn first_of(alloc: Global, page: &Page, number: u16, statuses: &StatusTable) -> Option<u16> {
     let own = owner(alloc, 3);
     let snapshot = begun(alloc, next_id(statuses));
-    first_seen(page, slots, &snapshot, &own, statuses)
+    first_seen(page, number, &reader(&snapshot, &own, statuses))
 }
 
 fn leads(page: &Page, number: u16, target: u16) -> bool {
@@ -331,7 +331,7 @@ impl PageStep {
             PageStep::Root(slot, root) => root_of(page, slot, statuses) == root,
             PageStep::IsRoot(slot, leads) => is_root(page, slot) == leads,
             PageStep::Fetch(slot, found) => fetched(alloc, page, slot, statuses) == found,
-            PageStep::FirstSeen(slots, first) => first_of(alloc, page, slots, statuses) == first,
+            PageStep::FirstSeen(slot, first) => first_of(alloc, page, slot, statuses) == first,
             PageStep::FirstDeath(horizon, turn) => {
                 first_death(page, statuses, normal(horizon)) == turn
             }

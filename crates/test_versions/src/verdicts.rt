@@ -1,18 +1,16 @@
 //! Verdicts, fates and hints, each reckoned by hand.
 
-use crate::ids::{begun, next_id, nobody, normal, owner};
+use crate::ids::{begun, next_id, nobody, normal, owner, reader};
 use crate::stage::{Life, PageStep, header_of, row, run_page};
 use commit_status::{Status, StatusTable};
-use snapshot::{OwnIds, Snapshot};
+use snapshot::Snapshot;
 use std::alloc::Global;
 use std::test::Fail;
 use tuple_header::{Tuple, fault_of};
 use visibility::laws::{
     dead_is_unseen, finishing_unseen_ids_changes_no_verdict, giving_changes_no_verdict,
 };
-use visibility::{
-    Fate, fate, fate_of, hints_change_no_verdict, reads, set_hints, visible, visible_header,
-};
+use visibility::{Fate, Reader, fate, fate_of, hints_change_no_verdict, set_hints};
 
 /// A version with such a header, if that has no fault.
 fn version_of(life: Life) -> Option<Tuple> {
@@ -33,15 +31,10 @@ fn beside_5(alloc: Global, statuses: &StatusTable) -> Option<Snapshot> {
 }
 
 /// Whether a reader sees a version, where its header and the whole of it say the same.
-fn is_seen(
-    version: &Tuple,
-    snapshot: &Snapshot,
-    own: &OwnIds,
-    statuses: &StatusTable,
-) -> Option<bool> {
+fn is_seen(version: &Tuple, reader: &Reader<'_>) -> Option<bool> {
     version.is_version();
-    let is_seen = visible_header(&version.header, snapshot, own, statuses);
-    if visible(version, snapshot, own, statuses) == is_seen {
+    let is_seen = reader.sees(&version.header);
+    if reader.sees_version(version) == is_seen {
         Some(is_seen)
     } else {
         None
@@ -57,7 +50,7 @@ pub fn sees(alloc: Global, statuses: &StatusTable, life: Life, is_owner: bool) -
     } else {
         nobody(alloc)
     };
-    is_seen(&version, &snapshot, &own, statuses)
+    is_seen(&version, &reader(&snapshot, &own, statuses))
 }
 
 /// The fate of a version at a horizon, where its header and the whole of it say the same.
@@ -86,7 +79,7 @@ pub fn hinted(statuses: &StatusTable, life: Life) -> Option<u16> {
 
 /// Whether one who began when 6 was next reads an id.
 pub fn reads_id(alloc: Global, statuses: &StatusTable, x: u32) -> bool {
-    reads(normal(x), &begun(alloc, 6), &nobody(alloc), statuses)
+    reader(&begun(alloc, 6), &nobody(alloc), statuses).reads(normal(x))
 }
 
 /// Id 3 is committed, 4 is aborted, and 5 is in progress.

@@ -1,4 +1,5 @@
 pub mod Seeing
 pub mod Visible
+pub mod Reading
 pub mod Laws
 pub mod Hints

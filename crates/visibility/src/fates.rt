@@ -1,15 +1,13 @@
 //! Which versions nobody can see any more.
 
-ghost use Rattle.std.specs.Prelude.{◌≡◌, ◌↔◌, IsTrue, None};
-ghost use Rattle.commit_status.specs.Window.{IsCommitted, IsAborted};
+ghost use Rattle.std.specs.Prelude.{◌≡◌, ◌↔◌, None};
 ghost use Rattle.tuple_header.specs.Faults.{header_fault};
 ghost use Rattle.visibility.specs.Visible.{IsDead};
 
 use crate::verdict::Fate;
-use commit_status::{Status, StatusTable};
-use snapshot::stands_before;
+use commit_status::StatusTable;
 use tuple_header::{Header, Tuple};
-use xid_circle::Xid;
+use xid_circle::{Xid, precedes};
 
 /// The fate of the version with this header. It is dead where its inserter was rolled back, or where its deleter
 /// committed and stands before the horizon. No hint is read.
@@ -17,10 +15,10 @@ pub fn fate_of(header: &Header, horizon: Xid, statuses: &StatusTable) -> Fate
     requires { header_fault header.now ≡ None }
     ensures { (result ≡ Fate.Dead) ↔ IsDead statuses.now horizon.0 header.now }
 {
-    if !header.is_frozen() && is_aborted(header.xmin, statuses) {
+    if !header.is_frozen() && statuses.is_aborted(header.xmin) {
         return Fate::Dead;
     }
-    if is_committed(header.xmax, statuses) && stands_before(header.xmax, horizon) {
+    if statuses.is_committed(header.xmax) && precedes(header.xmax, horizon) {
         return Fate::Dead;
     }
     Fate::Kept
@@ -31,16 +29,4 @@ pub fn fate(tuple: &Tuple, horizon: Xid, statuses: &StatusTable) -> Fate
     ensures { (result ≡ Fate.Dead) ↔ IsDead statuses.now horizon.0 tuple.now.header }
 {
     fate_of(&tuple.header, horizon, statuses)
-}
-
-fn is_committed(x: Xid, statuses: &StatusTable) -> bool
-    ensures { IsTrue result ↔ IsCommitted statuses.now x.0 }
-{
-    matches!(statuses.status(x), Status::Committed)
-}
-
-fn is_aborted(x: Xid, statuses: &StatusTable) -> bool
-    ensures { IsTrue result ↔ IsAborted statuses.now x.0 }
-{
-    matches!(statuses.status(x), Status::Aborted)
 }

@@ -1,9 +1,9 @@
 //! Which versions a reader sees, and which nobody can see any more.
 //!
-//! The contract promises that [`visible`] and [`fate`] answer exactly what `specs/Visible.antt` defines, which reads no hint,
-//! and that [`set_hints`] notes only what is true (`specs/Hints.antt`). The laws say that no reader from the horizon on sees
-//! a dead version, and that no verdict changes by hints, when an id is given, or when ids finish that the reader neither
-//! owns nor sees (`specs/Laws.antt`).
+//! A [`Reader`] is a snapshot, ids of its owner's own, and the table of what became of ids. The contract promises that
+//! [`Reader::sees`] and [`fate`] answer exactly what `specs/Visible.antt` defines, which reads no hint, and that [`set_hints`]
+//! notes only what is true (`specs/Hints.antt`). The laws say that no reader from the horizon on sees a dead version, and that no
+//! verdict changes by hints, when an id is given, or when ids finish that the reader neither owns nor sees (`specs/Laws.antt`).
 #![tactic(auto)]
 
 mod fates;
@@ -14,5 +14,5 @@ mod verdict;
 
 pub use fates::{fate, fate_of};
 pub use hints::{hints_change_no_verdict, set_hints};
-pub use reader::{reads, visible, visible_header};
+pub use reader::Reader;
 pub use verdict::Fate;

@@ -1,61 +1,67 @@
-//! What a reader sees.
+//! Who reads, and what it sees.
 
 ghost use Rattle.std.specs.Prelude.{◌≡◌, ◌≢◌, ◌↔◌, ◌⊎◌, IsTrue, None};
 ghost use Rattle.tuple_header.specs.Faults.{header_fault};
-ghost use Rattle.visibility.specs.Visible.{IsFrozen, ReadsIn, IsVisible};
+ghost use Rattle.visibility.specs.Visible.{IsFrozen};
+ghost use Rattle.visibility.specs.Reading.{IsReadBy, IsSeenBy};
 
-use commit_status::{Status, StatusTable};
+use commit_status::StatusTable;
 use snapshot::{OwnIds, Snapshot};
 use tuple_header::{Header, Tuple};
 use xid_circle::Xid;
 
-/// Whether a reader counts what an id did: it is its own, or seen and committed.
-pub fn reads(x: Xid, snapshot: &Snapshot, own: &OwnIds, statuses: &StatusTable) -> bool
-    ensures { IsTrue result ↔ ReadsIn statuses.now snapshot.now own.now.ids x.0 }
-{
-    if own.contains(x) {
-        return true;
+/// Who reads: by what a version is seen, or is not.
+#[derive(Clone, Copy)]
+pub struct Reader<'a> {
+    /// Its snapshot.
+    pub snapshot: &'a Snapshot,
+    /// Its own ids.
+    pub own: &'a OwnIds,
+    /// What became of each id.
+    pub statuses: &'a StatusTable,
+}
+
+impl Reader<'_> {
+    /// Whether it counts what an id did: it is its own, or seen and committed.
+    pub fn reads(&self, x: Xid) -> bool
+        ensures { IsTrue result ↔ IsReadBy self.now x.0 }
+    {
+        if self.own.contains(x) {
+            return true;
+        }
+        self.statuses.is_committed(x) && self.snapshot.sees(x, self.statuses)
     }
-    match statuses.status(x) {
-        Status::Committed => snapshot.sees(x, statuses),
-        _ => false,
+
+    /// Whether it counts the making of a version.
+    fn counts_making(&self, header: &Header) -> bool
+        requires { header_fault header.now ≡ None }
+        ensures { IsTrue result
+            ↔ (IsFrozen header.now ⊎ IsReadBy self.now header.now.xmin.0) }
+    {
+        header.is_frozen() || self.reads(header.xmin)
     }
-}
 
-/// Whether a reader counts the making of a version.
-fn is_made(header: &Header, snapshot: &Snapshot, own: &OwnIds, statuses: &StatusTable) -> bool
-    requires { header_fault header.now ≡ None }
-    ensures { IsTrue result
-        ↔ (IsFrozen header.now ⊎ ReadsIn statuses.now snapshot.now own.now.ids header.now.xmin.0) }
-{
-    header.is_frozen() || reads(header.xmin, snapshot, own, statuses)
-}
+    /// Whether it counts the deletion of a version.
+    fn counts_deletion(&self, header: &Header) -> bool
+        requires { header_fault header.now ≡ None }
+        ensures { IsTrue result
+            ↔ ((header.now.xmax.0 ≢ 0) × IsReadBy self.now header.now.xmax.0) }
+    {
+        header.xmax.0 != 0 && self.reads(header.xmax)
+    }
 
-/// Whether a reader counts the deletion of a version.
-fn is_deleted(header: &Header, snapshot: &Snapshot, own: &OwnIds, statuses: &StatusTable) -> bool
-    requires { header_fault header.now ≡ None }
-    ensures { IsTrue result
-        ↔ ((header.now.xmax.0 ≢ 0) × ReadsIn statuses.now snapshot.now own.now.ids header.now.xmax.0) }
-{
-    header.xmax.0 != 0 && reads(header.xmax, snapshot, own, statuses)
-}
+    /// Whether it sees the version with this header. No hint is read.
+    pub fn sees(&self, header: &Header) -> bool
+        requires { header_fault header.now ≡ None }
+        ensures { IsTrue result ↔ IsSeenBy self.now header.now }
+    {
+        self.counts_making(header) && !self.counts_deletion(header)
+    }
 
-/// Whether a reader sees the version with this header. No hint is read.
-pub fn visible_header(
-    header: &Header,
-    snapshot: &Snapshot,
-    own: &OwnIds,
-    statuses: &StatusTable,
-) -> bool
-    requires { header_fault header.now ≡ None }
-    ensures { IsTrue result ↔ IsVisible statuses.now snapshot.now own.now.ids header.now }
-{
-    is_made(header, snapshot, own, statuses) && !is_deleted(header, snapshot, own, statuses)
-}
-
-/// Whether a reader sees a version. No hint is read.
-pub fn visible(tuple: &Tuple, snapshot: &Snapshot, own: &OwnIds, statuses: &StatusTable) -> bool
-    ensures { IsTrue result ↔ IsVisible statuses.now snapshot.now own.now.ids tuple.now.header }
-{
-    visible_header(&tuple.header, snapshot, own, statuses)
+    /// Whether it sees a version. No hint is read.
+    pub fn sees_version(&self, tuple: &Tuple) -> bool
+        ensures { IsTrue result ↔ IsSeenBy self.now tuple.now.header }
+    {
+        self.sees(&tuple.header)
+    }
 }

@@ -39,10 +39,9 @@ pub struct Tid {
     pub slot: u16,
 }
 
-/// Whether `a` stands before `b` on the circle: `a - b`, modulo 2^32 and read as signed, is negative. Both ids are normal.
+/// Whether `a` stands before `b` on the circle: `a - b`, modulo 2^32 and read as signed, is negative. That is said of any two
+/// numbers, be they normal ids or not.
 pub fn precedes(a: Xid, b: Xid) -> bool
-    requires normal { IsNormal a.0 }
-    requires normal_too { IsNormal b.0 }
     ensures { IsTrue result ↔ Precedes a.0 b.0 }
 {
     a.0.wrapping_sub(b.0).cast_signed() < 0

@@ -1,8 +1,8 @@
-use Rattle.std.proofs.Common.{◌≡◌, ◌<◌, ℕ, get_or, Some}
-use Rattle.page_slots.specs.Slots.{version_at}
-use Rattle.tuple_header.specs.Version.{Version}
-use Rattle.visibility.specs.Visible.{IsVisible}
+use Rattle.std.proofs.Common.{ℕ, List}
+use Rattle.visibility.specs.Reading.{IsSeenBy}
+use Rattle.hot_chain.specs.Chain.{has_aborted, IsChain}
+use Rattle.hot_chain.proofs.SeenWalks.{Unseen}
 use Rattle.hot_chain.proofs.fetching.first_seen.Given as goal
 
-abbrev pub invariant-loop-slot : goal.invariant-loop-slot
-invariant-loop-slot l = (j : ℕ) (u : Version) → j < l.slot-index → version_at l.page.slots (get_or l.slots j 0) ≡ Some u → IsVisible l.statuses l.snapshot l.own.ids u.header → ⊥
+abbrev pub invariant-loop : goal.invariant-loop
+invariant-loop l = (chain : List ℕ) → IsChain (has_aborted l.reader.statuses.now) l.page.slots l.number chain → Unseen (IsSeenBy l.reader) l.page.slots chain l.counter l.at

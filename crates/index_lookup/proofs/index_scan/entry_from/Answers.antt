@@ -7,7 +7,7 @@ use Rattle.index_lookup.proofs.index_scan.entry_from.Goals.{in_default-via-in-So
 
 pub returns-in-Some : goal.returns-in-Some
 returns-in-Some c =
-    starts-after c.args.index.now.entries c.args.span.now c.in-Some.last (option_map (λ found. found.0) c.after_mark.result) c.in-Some.is (c.begins_by.ensures.0 c.if-begins_by.true) c.after_mark.ensures
+    starts-after c.args.index.now.entries c.args.span.now c.in-Some.last (option_map (λ found. found.0) c.after_position.result) c.in-Some.is (c.begins_by.ensures.0 c.if-begins_by.true) c.after_position.ensures
 
 pub returns-in_default : goal.returns-in_default
 returns-in_default c =

@@ -1,6 +1,6 @@
 use Rattle.std.proofs.Common.{None}
 use Rattle.index_lookup.specs.Pages.{page_slots_of}
-use Rattle.index_lookup.specs.Reading.{IsSeenBy}
+use Rattle.visibility.specs.Reading.{IsSeenBy}
 use Rattle.index_lookup.specs.Looking.{FirstFound}
 use Rattle.index_lookup.proofs.WalkLemmas.{Walked}
 use Rattle.index_lookup.proofs.index_scan.next_row.Given as goal

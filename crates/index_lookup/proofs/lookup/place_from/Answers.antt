@@ -2,7 +2,7 @@ use Rattle.std.proofs.Common.{◌≤◌, ℤ, length, Some, None, ap, subst, ari
 use Rattle.std.specs.Int.{w128}
 use Rattle.std.proofs.lemmas.Int.{to_z-of_z}
 use Rattle.index_lookup.specs.Pages.{page_slots_of}
-use Rattle.index_lookup.specs.Reading.{IsSeenBy}
+use Rattle.visibility.specs.Reading.{IsSeenBy}
 use Rattle.index_lookup.specs.Looking.{IsNextOf, FetchedAt}
 use Rattle.index_lookup.proofs.Turns.{entry_of, looked-first, looked-next, looked-end}
 use Rattle.index_lookup.proofs.lookup.place_from.Goals as goal

@@ -1,6 +1,6 @@
 use Rattle.std.proofs.Common.{None}
 use Rattle.index_lookup.specs.Pages.{page_slots_of}
-use Rattle.index_lookup.specs.Reading.{IsSeenBy}
+use Rattle.visibility.specs.Reading.{IsSeenBy}
 use Rattle.index_lookup.specs.Looking.{FetchedAt}
 use Rattle.index_lookup.proofs.Turns.{Looked, entry_of}
 use Rattle.index_lookup.proofs.lookup.place_from.Given as goal

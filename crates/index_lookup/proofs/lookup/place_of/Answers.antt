@@ -2,7 +2,7 @@ use Rattle.std.proofs.Common.{None, subst, to_z, of_z}
 use Rattle.std.specs.Int.{w128}
 use Rattle.std.proofs.lemmas.Int.{to_z-of_z}
 use Rattle.index_lookup.specs.Pages.{page_slots_of}
-use Rattle.index_lookup.specs.Reading.{IsSeenBy}
+use Rattle.visibility.specs.Reading.{IsSeenBy}
 use Rattle.index_lookup.specs.Looking.{IsNextOf}
 use Rattle.index_lookup.proofs.Fetching.{place-from_first, no-place}
 use Rattle.index_lookup.proofs.lookup.place_of.Goals as goal

@@ -1,7 +1,7 @@
 use Rattle.std.proofs.Common.{Option, subst}
 use Rattle.xid_circle.specs.declared.Tid.{Tid}
 use Rattle.index_lookup.specs.Pages.{page_slots_of}
-use Rattle.index_lookup.specs.Reading.{IsSeenBy}
+use Rattle.visibility.specs.Reading.{IsSeenBy}
 use Rattle.index_lookup.specs.Looking.{FirstPlace}
 use Rattle.index_lookup.proofs.Fetching.{row-found}
 use Rattle.index_lookup.proofs.lookup.row_from.Goals as goal

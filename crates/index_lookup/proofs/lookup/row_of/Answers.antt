@@ -3,7 +3,7 @@ use Rattle.std.specs.Int.{w128}
 use Rattle.std.proofs.lemmas.Int.{to_z-of_z}
 use Rattle.xid_circle.specs.declared.Tid.{Tid}
 use Rattle.index_lookup.specs.Pages.{page_slots_of}
-use Rattle.index_lookup.specs.Reading.{IsSeenBy}
+use Rattle.visibility.specs.Reading.{IsSeenBy}
 use Rattle.index_lookup.specs.Looking.{IsFirstPlace, FirstPlace}
 use Rattle.index_lookup.proofs.Fetching.{row-found}
 use Rattle.index_lookup.proofs.lookup.row_of.Goals as goal

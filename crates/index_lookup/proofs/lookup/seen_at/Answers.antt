@@ -1,5 +1,5 @@
 use Rattle.std.proofs.Common.{sym, ◌∙◌}
-use Rattle.index_lookup.specs.Reading.{IsSeenBy}
+use Rattle.visibility.specs.Reading.{IsSeenBy}
 use Rattle.index_lookup.proofs.Fetching.{fetched-nowhere}
 use Rattle.index_lookup.proofs.Searching.{place-on_page}
 use Rattle.index_lookup.proofs.Versions.{place-alone}

@@ -1,6 +1,6 @@
 use Rattle.std.proofs.Common.{Option, sym, subst}
 use Rattle.xid_circle.specs.declared.Tid.{Tid}
-use Rattle.index_lookup.specs.Reading.{IsSeenBy, IsNewerCommitFor, IsOtherWriterFor}
+use Rattle.visibility.specs.Reading.{IsSeenBy, IsNewerCommitFor, IsOtherWriterFor}
 use Rattle.index_lookup.specs.Looking.{IsIdIn, IsPlaceIn, IsKept}
 use Rattle.index_lookup.proofs.Searching.{kept-same}
 use Rattle.index_lookup.proofs.Versions.{plain-seen, plain-no_newer_commit, plain-no_other_writer, kept-seen}

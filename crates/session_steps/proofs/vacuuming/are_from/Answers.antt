@@ -9,7 +9,7 @@ loop-x-init c k lt early = absurd (omega (arith, lt))
 
 pub loop-x-preserved : goal.loop-x-preserved
 loop-x-preserved c =
-    none-more c.args.ids.now (λ y. Precedes y c.args.cutoff.0) c.loop-x.x-index c.loop-x.invariant (λ early. let t = c.stands_before.ensures.1 early in let f = c.if-stands_before.false in cc)
+    none-more c.args.ids.now (λ y. Precedes y c.args.cutoff.0) c.loop-x.x-index c.loop-x.invariant (λ early. let t = c.precedes.ensures.1 early in let f = c.if-precedes.false in cc)
 
 pub returns : goal.returns
 returns c = (

@@ -1,6 +1,6 @@
 use Rattle.std.proofs.Common.{List, ℤ, pos, subst}
 use Rattle.index_nodes.specs.declared.entry.Entry.{Entry}
-use Rattle.visibility.specs.Visible.{IsVisible, IsOtherWriterIn, IsNewerCommitIn}
+use Rattle.visibility.specs.Reading.{IsSeenBy, IsOtherWriterFor, IsNewerCommitFor}
 use Rattle.index_lookup.specs.Looking.{FirstPlace, IsIdOf}
 use Rattle.table_indexes.specs.Indexes.{entries_in}
 use Rattle.heap_write.specs.Heap.{HeapView, slots_of}
@@ -10,7 +10,7 @@ use Rattle.heap_write.proofs.heap.HeapState.check_write.Goals as goal
 
 pub returns-clause-place : goal.returns-clause-place
 returns-clause-place c =
-    let P : HeapView → List Entry → ℤ → Type 0 = λ h entries value. FirstPlace h.statuses (IsVisible h.statuses c.args.snapshot.now c.args.own.now.ids) (slots_of h) entries value c.args.key c.check_write.result.0.place in
+    let P : HeapView → List Entry → ℤ → Type 0 = λ h entries value. FirstPlace c.args.reader.now.statuses.now (IsSeenBy c.args.reader.now) (slots_of h) entries value c.args.key c.check_write.result.0.place in
     let v = the_view c.self.inside in
     let at = read-back c.args.key c.from-value.result c.ranges.key.fits c.from-value.ensures in
     subst (λ h. P h (entries_in h.indexes 0) (pos c.args.key)) c.self.view_is
@@ -18,7 +18,7 @@ returns-clause-place c =
 
 pub returns-clause-newer_commit : goal.returns-clause-newer_commit
 returns-clause-newer_commit c =
-    let P : HeapView → List Entry → ℤ → Type 0 = λ h entries value. IsIdOf h.statuses (IsNewerCommitIn h.statuses c.args.snapshot.now) (slots_of h) entries value c.args.key c.check_write.result.0.newer_commit in
+    let P : HeapView → List Entry → ℤ → Type 0 = λ h entries value. IsIdOf c.args.reader.now.statuses.now (IsNewerCommitFor c.args.reader.now) (slots_of h) entries value c.args.key c.check_write.result.0.newer_commit in
     let v = the_view c.self.inside in
     let at = read-back c.args.key c.from-value.result c.ranges.key.fits c.from-value.ensures in
     subst (λ h. P h (entries_in h.indexes 0) (pos c.args.key)) c.self.view_is
@@ -26,7 +26,7 @@ returns-clause-newer_commit c =
 
 pub returns-clause-other_writer : goal.returns-clause-other_writer
 returns-clause-other_writer c =
-    let P : HeapView → List Entry → ℤ → Type 0 = λ h entries value. IsIdOf h.statuses (IsOtherWriterIn h.statuses c.args.own.now.ids) (slots_of h) entries value c.args.key c.check_write.result.0.other_writer in
+    let P : HeapView → List Entry → ℤ → Type 0 = λ h entries value. IsIdOf c.args.reader.now.statuses.now (IsOtherWriterFor c.args.reader.now) (slots_of h) entries value c.args.key c.check_write.result.0.other_writer in
     let v = the_view c.self.inside in
     let at = read-back c.args.key c.from-value.result c.ranges.key.fits c.from-value.ensures in
     subst (λ h. P h (entries_in h.indexes 0) (pos c.args.key)) c.self.view_is

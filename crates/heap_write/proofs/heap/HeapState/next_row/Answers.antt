@@ -1,7 +1,7 @@
 use Rattle.std.proofs.Common.{Option, [], subst}
 use Rattle.std.specs.Prelude.{unwrap_or}
 use Rattle.root_index.specs.View.{IndexView}
-use Rattle.visibility.specs.Visible.{IsVisible}
+use Rattle.visibility.specs.Reading.{IsSeenBy}
 use Rattle.table_indexes.specs.Indexes.{entries_of, entries_in}
 use Rattle.heap_write.specs.Heap.{HeapView, slots_of}
 use Rattle.index_lookup.specs.Walking.{NextRow}
@@ -12,7 +12,8 @@ pub returns-in-Some : goal.returns-in-Some
 returns-in-Some c =
     let answer = c.next_row.result in
     let h = the_view c.self.inside in
-    let seen = IsVisible h.statuses c.args.snapshot.now c.args.own.now.ids in
-    let found = subst (λ (o : Option IndexView). NextRow h.statuses seen (slots_of h) (unwrap_or (entries_of o) []) c.args.span.now answer) c.in-Some.ensures c.next_row.ensures in
-    subst (λ (v : HeapView). NextRow v.statuses (IsVisible v.statuses c.args.snapshot.now c.args.own.now.ids) (slots_of v) (entries_in v.indexes c.args.span.now.index) c.args.span.now answer)
+    let w = c.args.reader.now.statuses.now in
+    let seen = IsSeenBy c.args.reader.now in
+    let found = subst (λ (o : Option IndexView). NextRow w seen (slots_of h) (unwrap_or (entries_of o) []) c.args.span.now answer) c.in-Some.ensures c.next_row.ensures in
+    subst (λ (v : HeapView). NextRow w seen (slots_of v) (entries_in v.indexes c.args.span.now.index) c.args.span.now answer)
     c.self.view_is found

@@ -1,6 +1,6 @@
 use Rattle.std.proofs.Common.{List, ℤ, pos, subst}
 use Rattle.index_nodes.specs.declared.entry.Entry.{Entry}
-use Rattle.visibility.specs.Visible.{IsVisible}
+use Rattle.visibility.specs.Reading.{IsSeenBy}
 use Rattle.index_lookup.specs.Looking.{FirstFound}
 use Rattle.table_indexes.specs.Indexes.{entries_in}
 use Rattle.heap_write.specs.Heap.{HeapView, slots_of}
@@ -10,7 +10,7 @@ use Rattle.heap_write.proofs.heap.HeapState.row.Goals as goal
 
 pub returns : goal.returns
 returns c =
-    let P : HeapView → List Entry → ℤ → Type 0 = λ h entries value. FirstFound h.statuses (IsVisible h.statuses c.args.snapshot.now c.args.own.now.ids) (slots_of h) entries value c.args.key c.row_of.result in
+    let P : HeapView → List Entry → ℤ → Type 0 = λ h entries value. FirstFound c.args.reader.now.statuses.now (IsSeenBy c.args.reader.now) (slots_of h) entries value c.args.key c.row_of.result in
     let v = the_view c.self.inside in
     let at = read-back c.args.key c.from-value.result c.ranges.key.fits c.from-value.ensures in
     subst (λ h. P h (entries_in h.indexes 0) (pos c.args.key)) c.self.view_is

@@ -3,32 +3,32 @@ use Rattle.xid_circle.specs.declared.Xid.{Xid}
 use Rattle.session_steps.specs.declared.session.Session.{Session}
 use Rattle.session_steps.specs.Keeps.{open_at}
 use Rattle.session_steps.specs.State.{State}
-use Rattle.session_steps.specs.Tests.{FindsPlace}
 use Rattle.session_steps.proofs.Searches.{Misses, Holds, held-active}
+use Rattle.session_steps.proofs.SessionReader.{place-read, late-read, held-read}
 use Rattle.session_steps.proofs.engine.SessionEngine.write_conflict.Goals as goal
 
 pub returns-in-Some-clause-place : goal.returns-in-Some-clause-place
-returns-in-Some-clause-place c = subst (λ (st : State). FindsPlace st.heap c.args.session.now c.args.key c.check_write.result.0.place) c.self.view_is c.check_write.ensures.place
+returns-in-Some-clause-place c = place-read _ c.args.self.now c.args.session.now c.reader.result c.self.view_is c.reader.ensures c.args.key c.check_write.result.0.place c.check_write.ensures.place
 
 pub returns-in-Some-owner-clause-place : goal.returns-in-Some-owner-clause-place
-returns-in-Some-owner-clause-place c = subst (λ (st : State). FindsPlace st.heap c.args.session.now c.args.key c.check_write.result.0.place) c.self.view_is c.check_write.ensures.place
+returns-in-Some-owner-clause-place c = place-read _ c.args.self.now c.args.session.now c.reader.result c.self.view_is c.reader.ensures c.args.key c.check_write.result.0.place c.check_write.ensures.place
 
 pub returns-in-None-clause-place : goal.returns-in-None-clause-place
-returns-in-None-clause-place c = subst (λ (st : State). FindsPlace st.heap c.args.session.now c.args.key c.check_write.result.0.place) c.self.view_is c.check_write.ensures.place
+returns-in-None-clause-place c = place-read _ c.args.self.now c.args.session.now c.reader.result c.self.view_is c.reader.ensures c.args.key c.check_write.result.0.place c.check_write.ensures.place
 
 pub returns-in-Some-clause-write_conflict : goal.returns-in-Some-clause-write_conflict
 returns-in-Some-clause-write_conflict c =
     let e = c.args.session.now in
     let h = c.args.self.now.heap in
-    let newer_commit = subst (λ (st : State). Misses st.heap e c.args.key c.check_write.result.0.newer_commit) c.self.view_is c.check_write.ensures.newer_commit in
+    let newer_commit = late-read _ c.args.self.now e c.reader.result c.self.view_is c.reader.ensures c.args.key c.check_write.result.0.newer_commit c.check_write.ensures.newer_commit in
     record { id = c.in-Some.field-0.0; late = subst (λ (o : Option Xid). Misses h e c.args.key o) c.in-Some.is newer_commit }
 
 pub returns-in-None-clause-write_conflict : goal.returns-in-None-clause-write_conflict
 returns-in-None-clause-write_conflict c =
     let e = c.args.session.now in
     let h = c.args.self.now.heap in
-    let newer_commit = subst (λ (st : State). Misses st.heap e c.args.key c.check_write.result.0.newer_commit) c.self.view_is c.check_write.ensures.newer_commit in
-    let held = subst (λ (st : State). Holds st.heap e c.args.key c.check_write.result.0.other_writer) c.self.view_is c.check_write.ensures.other_writer in
+    let newer_commit = late-read _ c.args.self.now e c.reader.result c.self.view_is c.reader.ensures c.args.key c.check_write.result.0.newer_commit c.check_write.ensures.newer_commit in
+    let held = held-read _ c.args.self.now e c.reader.result c.self.view_is c.reader.ensures c.args.key c.check_write.result.0.other_writer c.check_write.ensures.other_writer in
     record {
       timely = subst (λ (o : Option Xid). Misses h e c.args.key o) c.in_default.is newer_commit;
       unheld = subst (λ (o : Option Xid). Holds h e c.args.key o) c.in-None.is held;
@@ -39,7 +39,9 @@ pub unreachable-requires : goal.unreachable-requires
 unreachable-requires c =
     let e = c.args.session.now in
     let x = c.in-Some-other_writer.x.0 in
-    let held = subst (λ (o : Option Xid). Holds c.self.inside.heap e c.args.key o) c.in-Some-other_writer.is c.check_write.ensures.other_writer in
+    let answer = held-read _ c.args.self.now e c.reader.result c.self.view_is c.reader.ensures c.args.key c.check_write.result.0.other_writer c.check_write.ensures.other_writer in
+    let inside = subst (λ (st : State). Holds st.heap e c.args.key c.check_write.result.0.other_writer) (sym c.self.view_is) answer in
+    let held = subst (λ (o : Option Xid). Holds c.self.inside.heap e c.args.key o) c.in-Some-other_writer.is inside in
     let owned = c.self.invariant.own.owned x (held-active c.self.inside.heap e c.args.key x held) in
     c.in-None-owner.ensures owned.0 owned.1 (c.used.ensures.each owned.0 ∙ owned.2) owned.3
 
@@ -47,8 +49,8 @@ pub returns-in-Some-owner-clause-write_conflict : goal.returns-in-Some-owner-cla
 returns-in-Some-owner-clause-write_conflict c =
     let e = c.args.session.now in
     let h = c.args.self.now.heap in
-    let newer_commit = subst (λ (st : State). Misses st.heap e c.args.key c.check_write.result.0.newer_commit) c.self.view_is c.check_write.ensures.newer_commit in
-    let held = subst (λ (st : State). Holds st.heap e c.args.key c.check_write.result.0.other_writer) c.self.view_is c.check_write.ensures.other_writer in
+    let newer_commit = late-read _ c.args.self.now e c.reader.result c.self.view_is c.reader.ensures c.args.key c.check_write.result.0.newer_commit c.check_write.ensures.newer_commit in
+    let held = held-read _ c.args.self.now e c.reader.result c.self.view_is c.reader.ensures c.args.key c.check_write.result.0.other_writer c.check_write.ensures.other_writer in
     let sessions_are = ap (λ (st : State). st.sessions) c.self.view_is in
     let f = c.in-Some-owner.ensures in
     let O : List (Option Session) → Type 0 = λ xs. open_at xs c.in-Some-owner.o ≡ Some f.0 in

@@ -3,8 +3,12 @@ use Rattle.std.specs.Prelude.{◌≡◌, ◌⊎◌, ℕ}
 use Rattle.tuple_header.specs.declared.version.Header.{Header}
 use Rattle.snapshot.specs.Snap.{Sees}
 use Rattle.visibility.specs.Seeing.{HasCommitted}
-use Rattle.visibility.specs.Visible.{IsFrozen, IsVisible, IsOtherWriterIn, IsNewerCommitIn, state_of}
-use Rattle.index_lookup.specs.declared.reader.Reader.{Reader}
+use Rattle.visibility.specs.Visible.{IsFrozen, ReadsIn, IsVisible, IsOtherWriterIn, IsNewerCommitIn, state_of}
+use Rattle.visibility.specs.declared.reader.Reader.{Reader}
+
+-- it counts what the id did
+abbrev pub IsReadBy : Reader → ℕ → Type 0
+IsReadBy r x = ReadsIn r.statuses.now r.snapshot.now r.own.now.ids x
 
 -- it sees a version with this header
 abbrev pub IsSeenBy : Reader → Header → Type 0

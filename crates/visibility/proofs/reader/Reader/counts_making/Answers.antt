@@ -1,6 +1,6 @@
 use Rattle.std.proofs.Common.{◌≡◌, sym, ◌∙◌, true, false}
 use Rattle.visibility.proofs.Parts.{second-part}
-use Rattle.visibility.proofs.reader.is_made.Goals as goal
+use Rattle.visibility.proofs.reader.Reader.counts_making.Goals as goal
 
 pub returns-else-is_frozen : goal.returns-else-is_frozen
 returns-else-is_frozen c =
