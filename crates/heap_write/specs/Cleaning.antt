@@ -13,6 +13,7 @@ use Rattle.space_maps.specs.declared.mark.Mark.{Mark}
 use Rattle.space_maps.specs.View.{says_visible}
 use Rattle.freeze.specs.Freezing.{FreezesPage}
 use Rattle.freeze.specs.AllVisible.{IsPageMark}
+use Rattle.freeze.specs.DeadSlots.{ListsDead}
 use Rattle.index_nodes.specs.declared.entry.Entry.{Entry}
 use Rattle.root_index.specs.declared.progress.Progress.{Progress}
 use Rattle.root_index.specs.Pieces.{RemovesPiece}
@@ -41,6 +42,13 @@ pub record Notes (h h' : HeapView) (p horizon : ℕ) : Type 0 where
       marks = slice_set h.pages.marks p mark;
     };
   }
+
+-- it is frozen, and then its exact mark is noted; these are its dead slots
+pub record FreezesAndNotes (h h' : HeapView) (p cutoff horizon : ℕ) (dead : List ℕ) : Type 0 where
+  pub frozen : HeapView
+  pub freezes : FreezesAt h frozen p cutoff
+  pub notes : Notes frozen h' p horizon
+  pub lists : ListsDead notes.page.slots dead
 
 -- Indexes.
 

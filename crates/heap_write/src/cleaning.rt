@@ -8,11 +8,11 @@ ghost use Rattle.page_slots.specs.Slots.{slot_at, next_change};
 ghost use Rattle.commit_status.specs.Window.{IsWindow, IsUpToNext};
 ghost use Rattle.prune.specs.Actions.{raised};
 ghost use Rattle.table_indexes.specs.Indexes.{IsInUse, HasIndexes, IsNextIndex, all_entries};
-ghost use Rattle.heap_write.specs.Cleaning.{FreezesAt, Notes, SweepsAt, FreesSlots, FreesAt, ForgetsBefore};
+ghost use Rattle.heap_write.specs.Cleaning.{FreezesAndNotes, Notes, SweepsAt, FreesSlots, FreesAt, ForgetsBefore};
 
 use crate::heap::HeapState;
 use dead_places::DeadSet;
-use freeze::{freeze_page, mark_of};
+use freeze::{DeadSlots, freeze_page, mark_of};
 use page_slots::Page;
 use root_index::{Entry, PositionHint, Progress};
 use space_maps::Mark;
@@ -26,19 +26,22 @@ impl HeapState {
         self.pages.mark(number)
     }
 
-    /// Freezes the page of this number, which is in use, at the cutoff, as [`freeze_page`] does. (The manual's "Preventing
-    /// Transaction ID Wraparound Failures".)
-    pub fn freeze(&mut self, number: u32, cutoff: Xid)
+    /// Freezes the page of this number, which is in use, at the cutoff, as [`freeze_page`] does, and then notes its visibility bits
+    /// at the horizon. It answers which slots are dead. (The manual's "Preventing Transaction ID Wraparound Failures".)
+    pub fn freeze_and_note(&mut self, number: u32, cutoff: Xid, horizon: Xid) -> DeadSlots
         requires within { number < length self.old.pages.pages }
-        ensures { FreezesAt self.old self.new number cutoff.0 }
+        ensures { FreezesAndNotes self.old self.new number cutoff.0 horizon.0 result.items }
     {
         let statuses = &self.statuses;
-        self.pages
-            .edit(number, |page| freeze_page(page, number, cutoff, statuses));
+        let found = self.pages.edit(number, |page| {
+            freeze_page(page, number, cutoff, horizon, statuses)
+        });
+        self.pages.note(number, found.mark);
+        found.dead
     }
 
-    /// Notes what is so of the page of this number, which is in use, at the horizon: in the visibility map, and in the page's
-    /// flag.
+    /// Notes the visibility bits of the page of this number, which is in use, at the horizon: in the visibility map, and in the
+    /// page's flag.
     pub fn note(&mut self, number: u32, horizon: Xid)
         requires within { number < length self.old.pages.pages }
         ensures { Notes self.old self.new number horizon.0 }

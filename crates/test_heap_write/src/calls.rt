@@ -138,7 +138,7 @@ pub fn prune(heap: &mut HeapState, page: u32, horizon: u32) -> Result<(), PruneF
 
 pub fn freeze(heap: &mut HeapState, page: u32, cutoff: u32) {
     if page < heap.page_count() {
-        heap.freeze(page, Xid(cutoff));
+        let _dead = heap.freeze_and_note(page, Xid(cutoff), Xid(cutoff));
     }
 }
 

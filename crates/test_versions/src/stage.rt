@@ -223,7 +223,7 @@ fn apply_checked(page: &mut Page, plan: &PrunePlan, statuses: &StatusTable, hori
 }
 
 fn freeze_at(page: &mut Page, statuses: &StatusTable, cutoff: u32) {
-    freeze_page(page, 0, Xid(cutoff), statuses);
+    let _found = freeze_page(page, 0, Xid(cutoff), Xid(cutoff), statuses);
 }
 
 fn sees_all(page: &Page, statuses: &StatusTable, horizon: u32) -> bool {

@@ -19,7 +19,8 @@ use Rattle.vacuum_passes.proofs.FreedPlaces.{on-places}
 use Rattle.vacuum_passes.proofs.ListLemmas.{pairs-tail}
 use Rattle.vacuum_passes.specs.Keeps.{IsVacuum, KeepsStore}
 use Rattle.heap_write.specs.Heap.{HeapView}
-use Rattle.vacuum_passes.specs.Visits.{ListsDead, Visits}
+use Rattle.freeze.specs.DeadSlots.{ListsDead}
+use Rattle.vacuum_passes.specs.Visits.{Visits}
 use Rattle.vacuum_passes.specs.Working.{FreesLast, CleansPage, FreesPage}
 use Rattle.vacuum_passes.proofs.VacuumLemmas.{index-kept, off-kept}
 

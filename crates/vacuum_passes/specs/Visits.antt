@@ -1,22 +1,14 @@
 -- What a vacuum does to pages, their marks and indexes. (The manual's "Routine Vacuuming"; src/backend/access/heap/vacuumlazy.c: dead
 -- slots are collected, the entries that lead to them go, and then they become unused.)
-use Rattle.std.specs.Prelude.{◌≡◌, ◌↔◌, ◌<◌, ◌≤◌, ℕ, true, false, List, length, Some, Contains}
-use Rattle.std.specs.List.{AllPairs}
-use Rattle.page_slots.specs.declared.slot.Slot.{Slot}
-use Rattle.page_slots.specs.declared.slot.Slot.TheVariants.{Dead}
-use Rattle.page_slots.specs.Slots.{slot_at}
+use Rattle.std.specs.Prelude.{◌≡◌, ◌<◌, ◌≤◌, ℕ, true, false, List, length}
 use Rattle.space_maps.specs.View.{mark_on}
+use Rattle.freeze.specs.DeadSlots.{ListsDead}
 use Rattle.heap_write.specs.Heap.{HeapView}
 use Rattle.heap_write.specs.Writes.{Prunes}
 use Rattle.heap_write.specs.Cleaning.{FreezesAt, Notes}
 use Rattle.vacuum_passes.specs.View.{VacuumView, skips, collected}
 
 -- A visit.
-
--- the numbers of the dead slots, in ascending order
-pub record ListsDead (slots : List Slot) (numbers : List ℕ) : Type 0 where
-  pub ascending : AllPairs (λ a b. a < b) numbers
-  pub members : (n : ℕ) → Contains numbers n ↔ (slot_at slots n ≡ Some Dead)
 
 -- the first page from the next one on that the mode doesn't skip
 pub record IsNextPage (h : HeapView) (v : VacuumView) (p : ℕ) : Type 0 where

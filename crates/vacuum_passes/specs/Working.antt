@@ -1,18 +1,15 @@
 -- What the parts of a vacuum's step do: to one page, to the collected slots, and to one index.
-use Rattle.std.specs.Prelude.{◌≡◌, ◌≢◌, ◌<◌, ◌≤◌, ◌+◌, ◌-◌, ℕ, nat_lt, Bool, true, false, if◌then◌else◌, List, [], ◌∷◌, ◌++◌, length, take, map, slice_get, Option, Some, Contains}
+use Rattle.std.specs.Prelude.{◌≡◌, ◌+◌, ◌-◌, ℕ, nat_lt, if◌then◌else◌, List, ◌++◌, length, take, map, Option}
 use Rattle.xid_circle.specs.declared.Tid.{Tid}
-use Rattle.page_slots.specs.declared.slot.Slot.{Slot}
-use Rattle.page_slots.specs.declared.slot.Slot.TheVariants.{Dead}
-use Rattle.page_slots.specs.Slots.{slot_at}
-use Rattle.page_slots.specs.View.{PageView}
 use Rattle.index_nodes.specs.declared.entry.Entry.{Entry}
 use Rattle.root_index.specs.declared.progress.Progress.{Progress}
+use Rattle.freeze.specs.DeadSlots.{ListsDead}
 use Rattle.heap_write.specs.Heap.{HeapView}
 use Rattle.heap_write.specs.Cleaning.{SweepsAt, FreesAt, Notes}
 use Rattle.vacuum_passes.specs.declared.vacuum.Phase.{Phase}
 use Rattle.vacuum_passes.specs.declared.vacuum.Phase.TheVariants as phase
-use Rattle.vacuum_passes.specs.View.{VacuumView, places, phase_with}
-use Rattle.vacuum_passes.specs.Visits.{ListsDead, VisitsAt}
+use Rattle.vacuum_passes.specs.View.{places, phase_with}
+use Rattle.vacuum_passes.specs.Visits.{VisitsAt}
 use Rattle.vacuum_passes.specs.Steps.{PhaseAfter}
 
 -- only while slots are freed are some of the places that the vacuum holds those of freed ones
@@ -29,26 +26,10 @@ pub record CleansPage (h h' : HeapView) (horizon cutoff p : ℕ) : Type 0 where
   pub visits : VisitsAt h visited horizon cutoff p
   pub notes : Notes visited h' p horizon
 
--- a slot is collected if it is dead and there is space, and left over if there is none
-pub data CollectsSlot (old new : List Tid) (slots : List Slot) (tid : Tid) (limit : ℕ) : Bool → Type 0 where
-  stays : slot_at slots tid.slot ≢ Some Dead → new ≡ old → CollectsSlot old new slots tid limit false
-  goes_in : slot_at slots tid.slot ≡ Some Dead → length old < limit → new ≡ old ++ tid ∷ []
-      → CollectsSlot old new slots tid limit false
-  left_over : slot_at slots tid.slot ≡ Some Dead → limit ≤ length old → new ≡ old
-      → CollectsSlot old new slots tid limit true
-
--- the first of the page's dead slots are collected, as far as there is space, and some may be left over
-pub record Collects (old new : List Tid) (slots : List Slot) (p limit : ℕ) (left_over : Bool) : Type 0 where
-  pub dead : List ℕ
-  pub lists : ListsDead slots dead
-  pub store : new ≡ old ++ places p (take (limit - length old) dead)
-  pub left : left_over ≡ nat_lt (limit - length old) (length dead)
-
--- the dead slots of the page of this number are collected so
-pub record CollectsOn (h : HeapView) (old new : List Tid) (p limit : ℕ) (left_over : Bool) : Type 0 where
-  pub page : PageView
-  pub at : slice_get h.pages.pages p ≡ Some page
-  pub collects : Collects old new page.slots p limit left_over
+-- and these are its dead slots
+pub record CleansAndLists (h h' : HeapView) (horizon cutoff p : ℕ) (dead : List ℕ) : Type 0 where
+  pub cleans : CleansPage h h' horizon cutoff p
+  pub lists : ListsDead cleans.notes.page.slots dead
 
 -- it is visited, its dead slots are collected, and this page and phase come next
 pub record VisitsFrom (h h' : HeapView) (horizon cutoff p limit : ℕ) (old new : List Tid) (next : ℕ) (after : Phase) : Type 0 where

@@ -1,25 +1,30 @@
-use Rattle.std.proofs.Common.{arith}
-use Rattle.vacuum_passes.proofs.Collecting.{collecting-none, all-before, collecting-next, collecting-over, collecting-all}
+use Rattle.std.proofs.Common.{◌≤◌, length, arith}
+use Rattle.vacuum_passes.proofs.Collecting.{collecting-none, collecting-next, all-before, over-store, over-left, all-store, all-left}
 use Rattle.vacuum_passes.proofs.visiting.collect.Goals as goal
 
 pub loop-slot-init : goal.loop-slot-init
-loop-slot-init c = collecting-none c.args.store.now c.args.page.now.slots c.args.number c.args.limit c.requires.few
+loop-slot-init c = collecting-none c.args.store.now c.args.dead.now c.args.number c.args.limit c.requires.few
 
-pub collect_slot-requires-clause-above : goal.collect_slot-requires-clause-above
-collect_slot-requires-clause-above c =
-    all-before c.args.store.now c.loop-slot.store c.args.page.now.slots c.args.number c.args.limit c.loop-slot.slot c.loop-slot.invariant c.requires.below
-
-pub returns-then-collect_slot : goal.returns-then-collect_slot
-returns-then-collect_slot c =
-    collecting-over c.args.store.now c.loop-slot.store c.args.page.now.slots c.args.number c.args.limit c.loop-slot.slot c.loop-slot.invariant c.loop-slot.auto.slot
-    (omega (arith, c.slots-slot-end.ensures.count, c.loop-slot-test.true)) c.collect_slot.new.store c.if-collect_slot.ensures
+pub returns-then-len-limit : goal.returns-then-len-limit
+returns-then-len-limit c =
+    let l = c.loop-slot in
+    let full : c.args.limit ≤ length l.store = omega (arith, c.if-len-limit.true, c.len.ensures.value) in
+    record {
+      store = over-store c.args.store.now l.store c.args.dead.now c.args.number c.args.limit l.slot-index l.invariant c.loop-slot-test.true full;
+      left = over-left c.args.store.now l.store c.args.dead.now c.args.number c.args.limit l.slot-index l.invariant c.loop-slot-test.true full;
+    }
 
 pub loop-slot-preserved : goal.loop-slot-preserved
 loop-slot-preserved c =
-    collecting-next c.args.store.now c.loop-slot.store c.args.page.now.slots c.args.number c.args.limit c.loop-slot.slot c.loop-slot.invariant c.loop-slot.auto.slot
-    (omega (arith, c.slots-slot-end.ensures.count, c.loop-slot-test.true)) c.collect_slot.new.store c.if-collect_slot.ensures
+    let l = c.loop-slot in
+    collecting-next c.args.store.now l.store c.args.dead.now c.args.number c.args.limit l.slot-index l.invariant c.insert.new.self c.loop-slot-test.true
+    (omega (arith, c.if-len-limit.false, c.len.ensures.value))
+    (c.insert.ensures.last (all-before c.args.store.now l.store c.args.dead.now c.args.number c.args.limit l.slot-index l.invariant c.requires.ascending c.loop-slot-test.true c.requires.below))
 
 pub returns : goal.returns
 returns c =
-    collecting-all c.args.store.now c.loop-slot.store c.args.page.now.slots c.args.number c.args.limit c.loop-slot.slot c.loop-slot.invariant
-    (omega (arith, c.slots-slot-end.ensures.count, c.loop-slot-test.false, c.loop-slot.auto.slot-end))
+    let l = c.loop-slot in
+    record {
+      store = all-store c.args.store.now l.store c.args.dead.now c.args.number c.args.limit l.slot-index l.invariant c.loop-slot-test.false;
+      left = all-left c.args.store.now l.store c.args.dead.now c.args.number c.args.limit l.slot-index l.invariant c.loop-slot-test.false;
+    }
