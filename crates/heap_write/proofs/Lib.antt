@@ -12,3 +12,4 @@ pub mod Freeing
 pub mod Dying
 pub mod HintLemmas
 pub mod Plans
+pub mod Replacing

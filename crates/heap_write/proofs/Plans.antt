@@ -1,9 +1,9 @@
 -- The plan of a page's pruning: it stays one when there is more memory, and the page is pruned once it is applied.
-use Rattle.std.proofs.Common.{◌≡◌, ◌⊎◌, ℕ, ◌<◌, ◌≤◌, ◌&&◌, ◌==◌, not, Bool, true, if◌then◌else◌, List, [], ◌∷◌, length, Option, Some, None, slice_get, sym, ap, subst, refl, ◌∙◌, arith}
+use Rattle.std.proofs.Common.{◌≡◌, ◌⊎◌, inl, inr, ℕ, ◌<◌, ◌≤◌, ◌&&◌, ◌==◌, not, Bool, true, if◌then◌else◌, List, [], ◌∷◌, length, Option, Some, None, slice_get, sym, ap, subst, refl, ◌∙◌, arith}
 use Rattle.std.proofs.lemmas.Option.{slice_get-get_or}
 use Rattle.std.proofs.lemmas.Bool.{true≢false, eqb-true}
 use Rattle.std.specs.Prelude.{IsSome, IsFalse, IsTrue, ◌↔◌}
-use Rattle.std.specs.Option.{option_map}
+use Rattle.std.specs.Option.{option_map, option_and_then}
 use Rattle.xid_circle.specs.declared.Tid.{Tid}
 use Rattle.tuple_header.specs.declared.version.Row.{Row}
 use Rattle.tuple_header.specs.Version.{Version, rounded_size_of}
@@ -11,30 +11,31 @@ use Rattle.tuple_header.specs.declared.version.Header.{Header}
 use Rattle.tuple_header.specs.Marks.{is_frozen, is_heap_only}
 use Rattle.page_slots.specs.View.{PageView}
 use Rattle.page_slots.specs.declared.slot.Slot.{Slot}
-use Rattle.page_slots.specs.Slots.{header_at, row_at, version_at, IsNormalAt, with_slot, room_of}
+use Rattle.page_slots.specs.Slots.{slot_at, version_of, header_at, row_at, version_at, IsNormalAt, SlotIsThere, with_slot, room_of}
+use Rattle.page_slots.proofs.SlotLemmas.{normal_at, there-from_slot_at}
 use Rattle.commit_status.specs.Window.{Window}
 use Rattle.heap_pages.specs.View.{PagesView}
 use Rattle.hot_chain.specs.Chain.{has_aborted}
 use Rattle.sound_page.specs.Dead.{IsDeadAt}
 use Rattle.prune.specs.declared.action.Action.{Action}
 use Rattle.prune.specs.declared.action.Action.TheVariants as action
-use Rattle.prune.specs.Actions.{CanApply, made_by, after_action, applied}
+use Rattle.prune.specs.Actions.{CanApply, made_by, acted, action_of, after_action, applied}
 use Rattle.prune.specs.Cutting.{IsCutCount, RemovesVersions}
 use Rattle.prune.specs.Pruning.{loose_in, IsInChainOf, IsLoose, PrunesSlot, by_root, by_none, IsPlan, IsPruned}
 use Rattle.prune.specs.Room.{IsPlanOf}
 use Rattle.prune.specs.Laws.{IsPrunedPage}
 use Rattle.prune.proofs.Idle.{idle-plan}
-use Rattle.prune.proofs.Listing.{applied-flag, applied-spare}
+use Rattle.prune.proofs.Listing.{applied-slot, applied-flag, applied-spare}
 use Rattle.prune.proofs.Planned.{plan-pruned}
 use Rattle.prune.proofs.Removing.{pruned-removes}
 use Rattle.table_indexes.specs.Indexes.{NeedsEntry}
 use Rattle.heap_write.specs.Heap.{HeapView, unused_page, page_on, SameIds, Keeps}
 use Rattle.snapshot.specs.Own.{Own}
-use Rattle.heap_write.specs.Writes.{NeedsFreeze, SameOwn, KeepsValues, Prunes, PrunesIfFull}
-use Rattle.heap_write.specs.Writes.PrunesIfFull.{is_pruned}
-use Rattle.heap_write.specs.Steps.{HasNoneDead, IsChosen, IsPlanOn, with_applied}
+use Rattle.heap_write.specs.Writes.{NeedsFreeze, SameOwn, KeepsValues, Prunes, PrunesIfFull, WouldGo}
+use Rattle.heap_write.specs.Writes.PrunesIfFull.{is_pruned, is_left}
+use Rattle.heap_write.specs.Steps.{HasNoneDead, IsChosen, IsPlanOn, IsLeftAlone, with_applied}
 use Rattle.heap_write.specs.Growth.{HasSlot, IsReserved}
-use Rattle.heap_write.specs.Refusals.{NeedsIds, NeedsSlot, RootNeedsMemory, UpdateNeedsMemory, VersionIsThere}
+use Rattle.heap_write.specs.Refusals.{NeedsIds, RootNeedsMemory, UpdateNeedsMemory, VersionIsThere}
 use Rattle.heap_write.specs.declared.target.Target.{Target}
 use Rattle.heap_write.proofs.PageLemmas.{keeps-all, page-at, page-back, page-set, there-within}
 use Rattle.heap_write.proofs.IdlePages.{dead-back, kept-there}
@@ -129,21 +130,22 @@ applied-ready h h1 h' n size actions target keeps is full =
 
 -- What memory was needed, where the plan makes room and where not.
 
-planned-readies : (h : HeapView) (n horizon size : ℕ) (actions : List (ℕ × Action)) → n < length h.pages.pages → room_of (page_on h n).slots < size → IsPlanOn h n horizon actions
-    → PrunesIfFull h (with_applied h n actions) n horizon size
-planned-readies h n horizon size actions within full plan = is_pruned full h (keeps-all h) (applied-prunes h (with_applied h n actions) n horizon actions within plan refl)
+planned-readies : (h : HeapView) (place : Tid) (horizon size : ℕ) (actions : List (ℕ × Action)) → place.page < length h.pages.pages → room_of (page_on h place.page).slots < size
+    → IsPlanOn h place.page horizon actions → PrunesIfFull h (with_applied h place.page actions) place horizon size
+planned-readies h place horizon size actions within full plan =
+    is_pruned full h (keeps-all h) (applied-prunes h (with_applied h place.page actions) place.page horizon actions within plan refl)
 
 planned-room : (h : HeapView) (n : ℕ) (actions : List (ℕ × Action)) → n < length h.pages.pages → room_of (page_on (with_applied h n actions) n).slots ≡ room_of (applied actions (page_on h n)).slots
 planned-room h n actions within = ap (λ (p : PageView). room_of p.slots) (applied-page h (with_applied h n actions) n actions within refl)
 
 pub stays-needs : (h : HeapView) (own : Own) (place : Tid) (row : Row) (horizon : ℕ) (actions : List (ℕ × Action)) (heap_only : Bool) → VersionIsThere h place
     → room_of (page_on h place.page).slots < rounded_size_of row → IsPlanOn h place.page horizon actions → rounded_size_of row ≤ room_of (applied actions (page_on h place.page)).slots
-    → (IsTrue heap_only ↔ KeepsValues h place row) → NeedsIds h own ⊎ NeedsSlot (page_on h place.page) ⊎ IsFalse heap_only × NeedsEntry h.indexes
+    → (IsTrue heap_only ↔ KeepsValues h place row) → NeedsIds h own ⊎ IsFalse heap_only × NeedsEntry h.indexes
     → UpdateNeedsMemory h own place row horizon
 stays-needs h own place row horizon actions heap_only there full plan fits says needs =
     let n = place.page in
     let within = there-within h place there in
-    on_page-needs h (with_applied h n actions) own place row horizon heap_only there (planned-readies h n horizon (rounded_size_of row) actions within full plan)
+    on_page-needs h (with_applied h n actions) own place row horizon heap_only (planned-readies h place horizon (rounded_size_of row) actions within full plan)
     (subst (λ room. rounded_size_of row ≤ room) (sym (planned-room h n actions within)) fits) says needs
 
 pub moves-needs : (h : HeapView) (own : Own) (place : Tid) (row : Row) (horizon size : ℕ) (actions : List (ℕ × Action)) → VersionIsThere h place
@@ -152,7 +154,7 @@ pub moves-needs : (h : HeapView) (own : Own) (place : Tid) (row : Row) (horizon 
 moves-needs h own place row horizon size actions there full plan still is needs =
     let n = place.page in
     let within = there-within h place there in
-    UpdateNeedsMemory.for_root (with_applied h n actions) (planned-readies h n horizon (rounded_size_of row) actions within full plan)
+    UpdateNeedsMemory.for_root (with_applied h n actions) (planned-readies h place horizon (rounded_size_of row) actions within full plan)
     (subst (λ room. room < rounded_size_of row) (sym (planned-room h n actions within)) still) (subst (λ size. RootNeedsMemory h own size) is needs)
 
 -- What stays on the page.
@@ -196,6 +198,60 @@ pub kept-prunes : (h h1 : HeapView) (place : Tid) (horizon : ℕ) → Keeps h h1
 kept-prunes h h1 place horizon keeps there plan =
     empty-prunes h1 place.page horizon (there-within h1 place (kept-there h h1 place keeps there)) (plan-kept h h1 place.page horizon [] keeps plan)
 
+-- The page is left alone.
+
+pub left-readies : (h h1 : HeapView) (place : Tid) (horizon size : ℕ) → Keeps h h1 → VersionIsThere h place → room_of (page_on h place.page).slots < size → IsLeftAlone h place horizon
+    → PrunesIfFull h h1 place horizon size
+left-readies h h1 place horizon size keeps there full (inl plan) = is_pruned full h1 keeps (kept-prunes h h1 place horizon keeps there plan)
+left-readies h h1 place horizon size keeps there full (inr goes) = is_left full goes keeps
+
+pub left-needs : (h : HeapView) (own : Own) (place : Tid) (row : Row) (horizon size : ℕ) → VersionIsThere h place → room_of (page_on h place.page).slots < rounded_size_of row
+    → IsLeftAlone h place horizon → size ≡ rounded_size_of row → RootNeedsMemory h own size → UpdateNeedsMemory h own place row horizon
+left-needs h own place row horizon size there full left is needs =
+    UpdateNeedsMemory.for_root h (left-readies h h place horizon (rounded_size_of row) (keeps-all h) there full left) full (subst (λ size. RootNeedsMemory h own size) is needs)
+
+-- What a plan does to the slot of a version.
+
+normal-there : (slots : List Slot) (n : ℕ) → IsNormalAt slots n → SlotIsThere slots n
+normal-there slots n there = let t = normal_at slots n there in there-from_slot_at slots n _ t.1
+
+some-of : {A : Type 0} (o : Option A) → IsSome o → (a : A) × (o ≡ Some a)
+some-of (Some a) some = (a, refl)
+some-of None some = absurd (true≢false (sym some))
+
+pub none-unnamed : (actions : List (ℕ × Action)) (n : ℕ) (named : Bool) → (IsTrue named ↔ IsSome (action_of actions n)) → IsFalse named → action_of actions n ≡ None
+none-unnamed actions n named says unnamed = by (action_of actions n) (λ some. true≢false (sym (says.1 some) ∙ unnamed))
+  where
+    by : {A : Type 0} (o : Option A) → ¬ IsSome o → o ≡ None
+    by None none = refl
+    by (Some a) none = absurd (none refl)
+
+-- it takes the version away
+pub named-goes : (h : HeapView) (place : Tid) (horizon : ℕ) (actions : List (ℕ × Action)) → VersionIsThere h place → IsPlanOn h place.page horizon actions → IsSome (action_of actions place.slot)
+    → WouldGo h place horizon
+named-goes h place horizon actions there plan named =
+    let slots = (page_on h place.page).slots in
+    let some = some-of (action_of actions place.slot) named in
+    record { action = some.0; does = subst (λ o. PrunesSlot h.statuses horizon slots place.slot o) some.1 (plan.exact place.slot (normal-there slots place.slot there)) }
+
+-- or leaves it there
+pub unnamed-stays : (w : Window) (horizon : ℕ) (page : PageView) (actions : List (ℕ × Action)) (n : ℕ) → IsPlan w horizon page.slots actions → action_of actions n ≡ None
+    → IsNormalAt page.slots n → IsNormalAt (applied actions page).slots n
+unnamed-stays w horizon page actions n plan none there =
+    let same = applied-slot 0 actions page plan.in_order n ∙ ap (acted (slot_at page.slots n)) none in
+    subst (λ o. IsSome (option_and_then version_of o)) (sym same) there
+
+pub applied-readies : (h h1 h' : HeapView) (place : Tid) (horizon size : ℕ) (actions : List (ℕ × Action)) → VersionIsThere h place → room_of (page_on h place.page).slots < size → Keeps h h1
+    → h' ≡ with_applied h1 place.page actions → IsPlanOn h place.page horizon actions → PrunesIfFull h h' place horizon size
+applied-readies h h1 h' place horizon size actions there full keeps is plan =
+    let within = there-within h1 place (kept-there h h1 place keeps there) in
+    is_pruned full h1 keeps (applied-prunes h1 h' place.page horizon actions within (plan-kept h h1 place.page horizon actions keeps plan) is)
+
+pub stays-applied : (h h1 h' : HeapView) (place : Tid) (actions : List (ℕ × Action)) → place.page < length h1.pages.pages → Keeps h h1 → h' ≡ with_applied h1 place.page actions
+    → IsNormalAt (applied actions (page_on h place.page)).slots place.slot → VersionIsThere h' place
+stays-applied h h1 h' place actions within keeps is stays =
+    subst (λ (l : List Slot). IsNormalAt l place.slot) (sym (planned-slots h h1 h' place.page actions within keeps is)) stays
+
 pub idle-plan_on : (h : HeapView) (n horizon : ℕ) → HasNoneDead h n horizon → IsPlanOn h n horizon []
 idle-plan_on h n horizon idle = idle-plan h.statuses horizon (page_on h n).slots idle.few idle.none
 
@@ -216,9 +272,3 @@ none-named (a ∷ rest) none = absurd (omega (arith, none))
 
 pub named-none : (actions : List (ℕ × Action)) (empty : Bool) → empty ≡ (length actions == 0) → empty ≡ true → actions ≡ []
 named-none actions empty is so = none-named actions (eqb-true (length actions) 0 (sym is ∙ so))
-
--- the ids that a session lacks can still be given
-pub free-kept : (h h1 h' : HeapView) (n : ℕ) (actions : List (ℕ × Action)) (own own1 : Own) → Keeps h h1 → SameOwn own own1 → h' ≡ with_applied h1 n actions → ¬ NeedsFreeze h.statuses own
-    → ¬ NeedsFreeze h'.statuses own1
-free-kept h h1 h' n actions own own1 keeps same is free =
-    subst (λ (v : HeapView). ¬ NeedsFreeze v.statuses own1) (sym is) (rw (keeps.statuses.first, keeps.statuses.stop_age, keeps.statuses.entries, same.ids, same.saved) free)

@@ -1,6 +1,6 @@
 -- What stands ready on a page for a new version stays so when the page is pruned: no slot goes, and none that is unused is
 -- used.
-use Rattle.std.proofs.Common.{◌≡◌, ℕ, zero, suc, ◌<◌, ◌≤◌, ◌==◌, ◌≢◌, Bool, true, false, if◌then◌else◌, nat_eq, List, length, take, get_or, Option, Some, None, slice_get, sym, ap, subst, refl, ◌∙◌, arith, inl, inr}
+use Rattle.std.proofs.Common.{◌≡◌, ◌⊎◌, ℕ, zero, suc, ◌<◌, ◌≤◌, ◌==◌, ◌≢◌, Bool, true, false, if◌then◌else◌, nat_eq, List, length, take, get_or, Option, Some, None, slice_get, sym, ap, subst, refl, ◌∙◌, arith, inl, inr}
 use Rattle.std.proofs.lemmas.Bool.{cases_lt, true≢false, lt-ltb, eqb-true}
 use Rattle.std.proofs.lemmas.List.Sums.{fails_before_first}
 use Rattle.std.proofs.lemmas.Option.{slice_get-get_or, slice_get_within, same_Some}
@@ -18,8 +18,10 @@ use Rattle.prune.specs.declared.action.Action.TheVariants as action
 use Rattle.prune.specs.Actions.{acted}
 use Rattle.prune.specs.Pruning.{root_action, loose_in, PrunesSlot, by_root, by_none, IsPruned}
 use Rattle.heap_write.specs.Heap.{HeapView, page_on}
-use Rattle.heap_write.specs.Growth.{HasSlot, GrowsPage, page_in}
-use Rattle.heap_write.proofs.PageLemmas.{page-set}
+use Rattle.heap_write.specs.Growth.{HasSlot}
+use Rattle.heap_write.specs.Refusals.{VersionIsThere}
+use Rattle.heap_write.proofs.PageLemmas.{page-at, there-at, no-version}
+use Rattle.xid_circle.specs.declared.Tid.{Tid}
 
 -- some slot is unused where this one is
 has-unused : (slots : List Slot) (n : ℕ) → slot_at slots n ≡ Some Unused → has_unused slots ≡ true
@@ -67,8 +69,11 @@ slot-pruned w horizon before after pruned spare (inl some) = inl (unused-pruned 
 slot-pruned w horizon before after pruned spare (inr (inl memory)) = inr (inl (subst (λ s. 0 < s) (sym spare) memory))
 slot-pruned w horizon before after pruned spare (inr (inr many)) = inr (inr (subst (λ count. 291 ≤ count) (sym pruned.count) many))
 
--- a slot stands ready on a page that has grown in memory alone
-pub slot-grown : (h h1 : HeapView) (n : ℕ) → n < length h.pages.pages → GrowsPage h.pages h1.pages n → HasSlot (page_on h1 n)
-slot-grown h h1 n within grows =
-    let is : page_on h1 n ≡ grows.page = ap (λ p. page_in p.pages n) grows.pages_are ∙ page-set h.pages.pages n grows.page within in
-    subst (λ p. HasSlot p) (sym is) grows.has_slot
+-- a page with a version has a slot, and so memory for all that it may have
+pub slot-beside : (h : HeapView) (place : Tid) (page : PageView) → slice_get h.pages.pages place.page ≡ Some page → VersionIsThere h place
+    → (0 < length page.slots → (0 < page.spare) ⊎ (291 ≤ length page.slots)) → HasSlot (page_on h place.page)
+slot-beside h place page at there memory =
+    elim (cases_lt 0 (length page.slots)) [
+      | inl some ↦ subst (λ p. HasSlot p) (sym (page-at h.pages.pages place.page page at)) (inr (memory some))
+      | inr none ↦ absurd (no-version page.slots place.slot (omega (arith, none)) (there-at h place page there at))
+    ]

@@ -1,7 +1,10 @@
 -- Why a write is not done, of the first reason in the order of its tests, and what it leaves: all as it was, though there may
--- be more memory; only an update that ends in NoRoom or Gone may leave the page of the old version pruned.
-use Rattle.std.specs.Prelude.{◌≡◌, ◌⊎◌, ℕ, ◌<◌, ◌≤◌, length}
+-- be more memory; only an update that ends in NoRoom may leave the page of the old version pruned.
+use Rattle.std.specs.Prelude.{◌≡◌, ◌⊎◌, ℕ, ◌<◌, ◌≤◌, length, Result, IfOk, IfErr, OnErr}
 use Rattle.xid_circle.specs.declared.Tid.{Tid}
+use Rattle.xid_circle.specs.declared.Xid.{Xid}
+use Rattle.xid_circle.specs.Circle.{IsNormal}
+use Rattle.commit_status.specs.Window.{IsWindow}
 use Rattle.tuple_header.specs.declared.version.Row.{Row}
 use Rattle.tuple_header.specs.Version.{rounded_size_of}
 use Rattle.page_slots.specs.View.{PageView}
@@ -15,7 +18,7 @@ use Rattle.heap_write.specs.declared.pruning.PruneFault.TheVariants as prune_fau
 use Rattle.heap_write.specs.declared.heap.WriteFault.{WriteFault}
 use Rattle.heap_write.specs.declared.heap.WriteFault.TheVariants as fault
 use Rattle.heap_write.specs.Heap.{HeapView, page_on, Keeps}
-use Rattle.heap_write.specs.Writes.{NeedsFreeze, TableIsFull, PrunesIfFull, KeepsValues}
+use Rattle.heap_write.specs.Writes.{NeedsFreeze, SameOwn, TableIsFull, PrunesIfFull, KeepsValues, Updates}
 
 -- the first slot of a page takes memory: with it comes memory for all that the page may have
 pub record NeedsSlot (page : PageView) : Type 0 where
@@ -37,7 +40,6 @@ abbrev pub LacksForInsert : HeapView → Own → Row → WriteFault → Type 0
 LacksForInsert h own row fault.NeedsFreeze = NeedsFreeze h.statuses own
 LacksForInsert h own row fault.NoRoom = (¬ NeedsFreeze h.statuses own) × TableIsFull h (rounded_size_of row)
 LacksForInsert h own row fault.NoMemory = (¬ NeedsFreeze h.statuses own) × (¬ TableIsFull h (rounded_size_of row)) × RootNeedsMemory h own (rounded_size_of row)
-LacksForInsert h own row fault.Gone = ⊥
 
 -- a version is at the place
 abbrev pub VersionIsThere : HeapView → Tid → Type 0
@@ -48,36 +50,38 @@ VersionIsThere h place = IsNormalAt (page_on h place.page).slots place.slot
 -- slot that it may have.
 pub data UpdateNeedsMemory (h : HeapView) (own : Own) (place : Tid) (row : Row) (horizon : ℕ) : Type 0 where
   for_ids : NeedsIds h own → UpdateNeedsMemory h own place row horizon
-  for_entry : (ready : HeapView) → PrunesIfFull h ready place.page horizon (rounded_size_of row)
+  for_entry : (ready : HeapView) → PrunesIfFull h ready place horizon (rounded_size_of row)
       → rounded_size_of row ≤ room_of (page_on ready place.page).slots → ¬ KeepsValues h place row → NeedsEntry h.indexes
       → UpdateNeedsMemory h own place row horizon
-  for_root : (ready : HeapView) → PrunesIfFull h ready place.page horizon (rounded_size_of row)
+  for_root : (ready : HeapView) → PrunesIfFull h ready place horizon (rounded_size_of row)
       → room_of (page_on ready place.page).slots < rounded_size_of row → RootNeedsMemory h own (rounded_size_of row)
       → UpdateNeedsMemory h own place row horizon
 
--- the page of the old version was made ready, and this is so then
-pub record AfterPruning (h h' : HeapView) (own : Own) (place : Tid) (horizon size : ℕ) (P : HeapView → Type 0) : Type 0 where
-  pub there : VersionIsThere h place
+-- the page of the old version was made ready, the version is still there, and no page has room for the new one
+pub record FindsNoRoom (h h' : HeapView) (own : Own) (place : Tid) (horizon size : ℕ) : Type 0 where
   pub free : ¬ NeedsFreeze h.statuses own
   pub ready : HeapView
-  pub readies : PrunesIfFull h ready place.page horizon size
-  pub has : P ready
+  pub readies : PrunesIfFull h ready place horizon size
+  pub there : VersionIsThere ready place
+  pub full : TableIsFull ready size
   pub keeps : Keeps ready h'
 
 abbrev pub FailsUpdate : HeapView → HeapView → Own → Tid → Row → ℕ → WriteFault → Type 0
-FailsUpdate h h' own place row horizon fault.NeedsFreeze = VersionIsThere h place × NeedsFreeze h.statuses own × Keeps h h'
-FailsUpdate h h' own place row horizon fault.NoRoom =
-    AfterPruning h h' own place horizon (rounded_size_of row) (λ ready. VersionIsThere ready place × TableIsFull ready (rounded_size_of row))
-FailsUpdate h h' own place row horizon fault.NoMemory =
-    VersionIsThere h place × (¬ NeedsFreeze h.statuses own) × UpdateNeedsMemory h own place row horizon × Keeps h h'
-FailsUpdate h h' own place row horizon fault.Gone =
-    ((¬ VersionIsThere h place) × Keeps h h') ⊎ AfterPruning h h' own place horizon (rounded_size_of row) (λ ready. ¬ VersionIsThere ready place)
+FailsUpdate h h' own place row horizon fault.NeedsFreeze = NeedsFreeze h.statuses own × Keeps h h'
+FailsUpdate h h' own place row horizon fault.NoRoom = FindsNoRoom h h' own place horizon (rounded_size_of row)
+FailsUpdate h h' own place row horizon fault.NoMemory = (¬ NeedsFreeze h.statuses own) × UpdateNeedsMemory h own place row horizon × Keeps h h'
 
-abbrev pub FailsDelete : HeapView → HeapView → Own → Tid → WriteFault → Type 0
-FailsDelete h h' own place fault.NeedsFreeze = VersionIsThere h place × NeedsFreeze h.statuses own × Keeps h h'
-FailsDelete h h' own place fault.NoRoom = ⊥
-FailsDelete h h' own place fault.NoMemory = VersionIsThere h place × (¬ NeedsFreeze h.statuses own) × NeedsIds h own × Keeps h h'
-FailsDelete h h' own place fault.Gone = (¬ VersionIsThere h place) × Keeps h h'
+-- what an update answers, and what it did
+pub record AnswersUpdate (h h' : HeapView) (own own' : Own) (place : Tid) (row : Row) (horizon : ℕ) (answer : Result Xid WriteFault) : Type 0 where
+  pub ok : IfOk answer (λ x. Updates h h' own own' place row horizon x.0 × IsNormal x.0)
+  pub fault : IfErr answer (λ fault. FailsUpdate h h' own place row horizon fault)
+  pub same_own : OnErr answer (SameOwn own own')
+  pub window : IsWindow h'.statuses
+
+abbrev pub FailsDelete : HeapView → HeapView → Own → WriteFault → Type 0
+FailsDelete h h' own fault.NeedsFreeze = NeedsFreeze h.statuses own × Keeps h h'
+FailsDelete h h' own fault.NoRoom = ⊥
+FailsDelete h h' own fault.NoMemory = (¬ NeedsFreeze h.statuses own) × NeedsIds h own × Keeps h h'
 
 -- why a page is not pruned: it is not in use
 abbrev pub Unpruned : HeapView → ℕ → PruneFault → Type 0

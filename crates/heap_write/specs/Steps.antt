@@ -1,9 +1,7 @@
 -- What stands between the steps of an update.
-use Rattle.std.specs.Prelude.{ℕ, ◌≤◌, Option, List, length}
+use Rattle.std.specs.Prelude.{◌≡◌, ◌⊎◌, ℕ, ◌≤◌, Option, List, [], length}
 use Rattle.xid_circle.specs.declared.Tid.{Tid}
 use Rattle.heap_pages.specs.Choice.{IsPlaceFor}
-use Rattle.heap_write.specs.declared.heap.WriteFault.{WriteFault}
-use Rattle.heap_write.specs.declared.heap.WriteFault.TheVariants as fault
 use Rattle.heap_write.specs.declared.target.Target.{Target}
 use Rattle.sound_page.specs.Dead.{HasDead}
 use Rattle.prune.specs.declared.action.Action.{Action}
@@ -12,20 +10,29 @@ use Rattle.prune.specs.Pruning.{IsPlan}
 use Rattle.heap_pages.specs.View.{with_page}
 use Rattle.heap_write.specs.Heap.{HeapView, page_on}
 use Rattle.heap_write.specs.Growth.{place_of_target}
-use Rattle.heap_write.specs.Writes.{TableIsFull}
+use Rattle.heap_write.specs.Writes.{NeedsFreeze, NewestIsGiven, TakesIds, WouldGo}
 use Rattle.heap_write.specs.Refusals.{VersionIsThere}
+use Rattle.xid_circle.specs.Circle.{IsNormal}
+use Rattle.commit_status.specs.Window.{IsWindow}
+use Rattle.snapshot.specs.Own.{Own}
 use Rattle.tuple_header.specs.declared.version.TheConstants.{MOST_SLOTS}
+
+-- the version at a place is there, and each level that lacks an id can be given one
+pub record IsReplaceable (h : HeapView) (own : Own) (place : Tid) : Type 0 where
+  pub newest : NewestIsGiven h.statuses own
+  pub free : ¬ NeedsFreeze h.statuses own
+  pub there : VersionIsThere h place
+
+-- each level has an id now, the newest x
+pub record IsDoneUnder (h h' : HeapView) (own own' : Own) (x : ℕ) : Type 0 where
+  pub takes : TakesIds h.statuses h'.statuses own own' x
+  pub max_pages : h'.max_pages ≡ h.max_pages
+  pub window : IsWindow h'.statuses
+  pub normal : IsNormal x
 
 -- a new version of this size goes there, or nowhere
 abbrev pub IsChosen : HeapView → ℕ → Option Target → Type 0
 IsChosen h size found = IsPlaceFor h.pages.pages h.max_pages size (place_of_target found)
-
--- why an update is not done after the old version's page was pruned
-abbrev pub FailsAfterPruning : HeapView → Tid → ℕ → WriteFault → Type 0
-FailsAfterPruning h place size fault.Gone = ¬ VersionIsThere h place
-FailsAfterPruning h place size fault.NoRoom = VersionIsThere h place × TableIsFull h size
-FailsAfterPruning h place size fault.NeedsFreeze = ⊥
-FailsAfterPruning h place size fault.NoMemory = ⊥
 
 -- no version on the page of this number is dead, so that pruning leaves it as it is
 pub record HasNoneDead (h : HeapView) (number horizon : ℕ) : Type 0 where
@@ -36,6 +43,10 @@ pub record HasNoneDead (h : HeapView) (number horizon : ℕ) : Type 0 where
 abbrev pub IsPlanOn : HeapView → ℕ → ℕ → List (ℕ × Action) → Type 0
 IsPlanOn h number horizon actions = IsPlan h.statuses horizon (page_on h number).slots actions
 
--- they are done on the page of this number, and nothing else changes
+-- no pruning is done for an update of the version at a place: it would change nothing, or take the version away
+abbrev pub IsLeftAlone : HeapView → Tid → ℕ → Type 0
+IsLeftAlone h place horizon = IsPlanOn h place.page horizon [] ⊎ WouldGo h place horizon
+
+-- actions are done on the page of this number, and nothing else changes
 abbrev pub with_applied : HeapView → ℕ → List (ℕ × Action) → HeapView
 with_applied h number actions = record h { pages = with_page h.pages number (applied actions (page_on h number)) }

@@ -10,9 +10,10 @@ use Rattle.page_slots.specs.Slots.{room_of, free_number, next_change, row_at, Is
 use Rattle.commit_status.specs.Window.{Window, IsGiven, next_id}
 use Rattle.commit_status.specs.Changes.{Gives, CanGive}
 use Rattle.snapshot.specs.Own.{Own, unassigned_levels, current_xid, saved_with_each}
+use Rattle.prune.specs.declared.action.Action.{Action}
 use Rattle.prune.specs.Actions.{applied}
 use Rattle.prune.specs.Cutting.{RemovesVersions}
-use Rattle.prune.specs.Pruning.{IsPruned, IsPlan}
+use Rattle.prune.specs.Pruning.{PrunesSlot, IsPruned, IsPlan}
 use Rattle.tuple_writes.specs.Writes.{with_root, with_replaced, with_updated, replaced_change}
 use Rattle.heap_pages.specs.Choice.{IsPlaceFor, HasRoom, NoPage}
 use Rattle.heap_pages.specs.declared.pages.Placement.{Placement}
@@ -131,10 +132,18 @@ pub record Inserts (h h' : HeapView) (own own' : Own) (row : Row) (x : ℕ) : Ty
   pub root : PutsRoot h h' false x row number
   pub max_pages : h'.max_pages ≡ h.max_pages
 
--- the page of the old version is pruned where the row has no room on it, when there may be more memory
-pub data PrunesIfFull (h h' : HeapView) (number horizon size : ℕ) : Type 0 where
-  has_room : size ≤ room_of (page_on h number).slots → h' ≡ h → PrunesIfFull h h' number horizon size
-  is_pruned : room_of (page_on h number).slots < size → (grown : HeapView) → Keeps h grown → Prunes grown h' number horizon → PrunesIfFull h h' number horizon size
+-- pruning its page at a horizon would take the version at a place away
+pub record WouldGo (h : HeapView) (place : Tid) (horizon : ℕ) : Type 0 where
+  pub action : Action
+  pub does : PrunesSlot h.statuses horizon (page_on h place.page).slots place.slot (Some action)
+
+-- The page of the old version is pruned where the row has no room on it, when there may be more memory; but it is left as it is
+-- where the version would go with that.
+pub data PrunesIfFull (h h' : HeapView) (place : Tid) (horizon size : ℕ) : Type 0 where
+  has_room : size ≤ room_of (page_on h place.page).slots → h' ≡ h → PrunesIfFull h h' place horizon size
+  is_pruned : room_of (page_on h place.page).slots < size → (grown : HeapView) → Keeps h grown → Prunes grown h' place.page horizon
+      → PrunesIfFull h h' place horizon size
+  is_left : room_of (page_on h place.page).slots < size → WouldGo h place horizon → Keeps h h' → PrunesIfFull h h' place horizon size
 
 -- in each index in use the row has the value that the version at a place has
 abbrev pub KeepsValues : HeapView → Tid → Row → Type 0
@@ -156,7 +165,7 @@ pub record Updates (h h' : HeapView) (own own' : Own) (place : Tid) (row : Row) 
   pub free : ¬ NeedsFreeze h.statuses own
   pub takes_ids : TakesIds h.statuses h'.statuses own own' x
   pub ready : HeapView
-  pub readies : PrunesIfFull h ready place.page horizon (rounded_size_of row)
+  pub readies : PrunesIfFull h ready place horizon (rounded_size_of row)
   pub there : IsNormalAt (page_on ready place.page).slots place.slot
   pub replaces : Replaces ready h' place x row
   pub max_pages : h'.max_pages ≡ h.max_pages

@@ -1,6 +1,6 @@
 //! A row is deleted.
 
-ghost use Rattle.std.specs.Prelude.{IfErr, IfOk, IsTrue, OnErr, ◌↔◌};
+ghost use Rattle.std.specs.Prelude.{IfErr, IfOk, OnErr};
 ghost use Rattle.xid_circle.specs.Circle.{IsNormal};
 ghost use Rattle.commit_status.specs.Window.{IsWindow};
 ghost use Rattle.heap_write.specs.Writes.{NewestIsGiven, SameOwn, Deletes};
@@ -15,22 +15,20 @@ use xid_circle::{Tid, Xid};
 
 impl HeapState {
     /// Deletes the version at a place under the id of the session's newest level, and answers that id: each level that has
-    /// none is given one before. The version points at itself, and no entry changes. It answers Gone exactly where no
-    /// version is there, else NeedsFreeze exactly where the levels lack more ids than can be given, else NoMemory only
-    /// where the table of ids or the session's own list has to grow. A refused delete changes nothing and gives no id.
-    /// (PostgreSQL, `heap_delete` in src/backend/access/heap/heapam.c.)
+    /// none is given one before. The version points at itself, and no entry changes. It answers NeedsFreeze exactly where
+    /// the levels lack more ids than can be given, else NoMemory only where the table of ids or the session's own list has
+    /// to grow. A refused delete changes nothing and gives no id. (PostgreSQL, `heap_delete` in
+    /// src/backend/access/heap/heapam.c.)
     pub fn delete(&mut self, own: &mut OwnIds, place: Tid) -> Result<Xid, WriteFault>
         requires newest { NewestIsGiven self.old.statuses own.old }
+        requires there { VersionIsThere self.old place }
         ensures ok { IfOk result (λ x. Deletes self.old self.new own.old own.new place x.0) }
-        ensures fault { IfErr result (λ fault. FailsDelete self.old self.new own.old place fault) }
+        ensures fault { IfErr result (λ fault. FailsDelete self.old self.new own.old fault) }
         ensures own { OnErr result (SameOwn own.old own.new) }
         ensures window { IsWindow self.new.statuses }
         ensures normal { IfOk result (λ x. IsNormal x.0) }
     {
         self.statuses.is_window();
-        if !self.is_there(place) {
-            return Err(WriteFault::Gone);
-        }
         if needs_freeze(&self.statuses, own) {
             return Err(WriteFault::NeedsFreeze);
         }
@@ -45,15 +43,5 @@ impl HeapState {
         );
         expect_write(&mut self.hints, &self.statuses, place.page, x);
         Ok(x)
-    }
-
-    /// Whether a version is at the place.
-    pub(crate) fn is_there(&self, place: Tid) -> bool
-        ensures { IsTrue result ↔ VersionIsThere self.now place }
-    {
-        match self.pages.page(place.page) {
-            Some(page) => page.header(place.slot).is_some(),
-            None => false,
-        }
     }
 }

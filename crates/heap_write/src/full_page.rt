@@ -3,23 +3,22 @@
 //! The page's plan says, before anything changes, what pruning takes from it and how much room that makes; so memory is made
 //! ready for one place alone, on the page or elsewhere, before the plan is applied.
 
-ghost use Rattle.std.specs.Prelude.{◌≡◌, ℕ, ◌≤◌, ◌<◌, [], length, IfErr, IfOk, IfSome, IsFalse, IsTrue, OnErr, OnOk, ◌↔◌};
-ghost use Rattle.xid_circle.specs.Circle.{IsNormal};
+ghost use Rattle.std.specs.Prelude.{◌≡◌, ℕ, ◌≤◌, ◌<◌, length, IfErr, IfOk, IfSome, IsSome, IsTrue, OnErr, OnOk, ◌↔◌};
 ghost use Rattle.commit_status.specs.Window.{IsWindow};
 ghost use Rattle.snapshot.specs.Own.{unassigned_levels};
-ghost use Rattle.page_slots.specs.Slots.{room_of};
+ghost use Rattle.page_slots.specs.Slots.{room_of, IsNormalAt};
 ghost use Rattle.tuple_header.specs.Version.{rounded_size_of};
-ghost use Rattle.prune.specs.Actions.{CanApply, applied};
+ghost use Rattle.prune.specs.Actions.{CanApply, action_of, applied};
 ghost use Rattle.prune.specs.Room.{IsPlanOf};
 ghost use Rattle.table_indexes.specs.Indexes.{HasEntries};
 ghost use Rattle.heap_write.specs.Heap.{page_on, Keeps};
-ghost use Rattle.heap_write.specs.Writes.{NeedsFreeze, NewestIsGiven, TakesIds, SameOwn, KeepsValues, Replaces, Updates};
-ghost use Rattle.heap_write.specs.Refusals.{FailsUpdate, RootNeedsMemory, VersionIsThere};
-ghost use Rattle.heap_write.specs.Growth.{HasIds, HasSlot, IsReserved};
-ghost use Rattle.heap_write.specs.Steps.{IsChosen, IsPlanOn, FailsAfterPruning};
+ghost use Rattle.heap_write.specs.Writes.{NewestIsGiven, SameOwn, Replaces, TableIsFull};
+ghost use Rattle.heap_write.specs.Refusals.{RootNeedsMemory, VersionIsThere, AnswersUpdate};
+ghost use Rattle.heap_write.specs.Growth.{HasIds, IsReserved};
+ghost use Rattle.heap_write.specs.Steps.{IsChosen, IsPlanOn, IsLeftAlone, IsReplaceable, IsDoneUnder};
 
 use crate::heap::{HeapState, WriteFault};
-use crate::ids::reserve_ids;
+use crate::ids::{needs_freeze, reserve_ids};
 use crate::target::{Target, reserve_place};
 use prune::{PrunePlan, plan, room_after};
 use snapshot::OwnIds;
@@ -27,10 +26,26 @@ use std::alloc::AllocError;
 use tuple_header::{Row, row_size};
 use xid_circle::{Tid, Xid};
 
+/// Whether a plan does something to the slot of this number.
+fn names(plan: &PrunePlan, slot: u16) -> bool
+    ensures { IsTrue result ↔ IsSome (action_of plan.now.actions.items slot) }
+{
+    for action in plan.actions.as_slice() {
+        if action.0 == slot {
+            return true;
+        }
+    }
+    false
+}
+
 impl HeapState {
-    /// Updates a version whose page has no room for the row. Where it is known that no version on the page is dead, pruning would
-    /// leave it as it is, so nobody goes over it.
-    pub(crate) fn update_full(
+    /// Replaces the version at a place by one of this row, as [`HeapState::update_on_page`] does, but where the page has no room
+    /// for it. The page is pruned at the horizon, a normal id, unless the version itself would go with that. The new version
+    /// goes to the same page where it has room then, else where a new root goes, and is a root. It answers NeedsFreeze
+    /// exactly where the levels lack more ids than can be given, else NoMemory only where something has to grow; then, where
+    /// the page was pruned, NoRoom exactly where all pages that there may be are in use and none has room. A refused update
+    /// gives no id, and changes nothing but that the page may be pruned.
+    pub fn update_full_page(
         &mut self,
         own: &mut OwnIds,
         place: Tid,
@@ -38,17 +53,15 @@ impl HeapState {
         horizon: Xid,
     ) -> Result<Xid, WriteFault>
         requires newest { NewestIsGiven self.old.statuses own.old }
-        requires free { ¬ NeedsFreeze self.old.statuses own.old }
         requires there { VersionIsThere self.old place }
         requires room { room_of (page_on self.old place.page).slots < rounded_size_of row.now }
-        ensures ok { IfOk result
-            (λ x. Updates self.old self.new own.old own.new place row.now horizon.0 x.0) }
-        ensures fault { IfErr result
-            (λ fault. FailsUpdate self.old self.new own.old place row.now horizon.0 fault) }
-        ensures own { OnErr result (SameOwn own.old own.new) }
-        ensures window { IsWindow self.new.statuses }
-        ensures normal { IfOk result (λ x. IsNormal x.0) }
+        ensures { AnswersUpdate self.old self.new own.old own.new place row.now horizon.0 result }
     {
+        self.statuses.is_window();
+        if needs_freeze(&self.statuses, own) {
+            return Err(WriteFault::NeedsFreeze);
+        }
+        // where no version on the page is dead, as far as is known, pruning would leave it as it is: nobody goes over it
         if self.knows_none_dead(place.page, horizon) {
             self.update_unpruned(own, place, row)
         } else {
@@ -66,26 +79,21 @@ impl HeapState {
         row: &Row,
         horizon: Xid,
     ) -> Result<Xid, WriteFault>
-        requires newest { NewestIsGiven self.old.statuses own.old }
-        requires free { ¬ NeedsFreeze self.old.statuses own.old }
-        requires there { VersionIsThere self.old place }
+        requires may { IsReplaceable self.old own.old place }
         requires room { room_of (page_on self.old place.page).slots < rounded_size_of row.now }
-        ensures ok { IfOk result
-            (λ x. Updates self.old self.new own.old own.new place row.now horizon.0 x.0) }
-        ensures fault { IfErr result
-            (λ fault. FailsUpdate self.old self.new own.old place row.now horizon.0 fault) }
-        ensures own { OnErr result (SameOwn own.old own.new) }
-        ensures window { IsWindow self.new.statuses }
-        ensures normal { IfOk result (λ x. IsNormal x.0) }
+        ensures { AnswersUpdate self.old self.new own.old own.new place row.now horizon.0 result }
     {
         self.statuses.is_window();
         let page = match self.pages.page(place.page) {
             Some(page) => page,
-            None => return Err(WriteFault::Gone),
+            None => unreachable!(),
         };
         let plan = plan(page, &self.statuses, horizon);
         if plan.actions.is_empty() {
             self.note_first_death(place.page, horizon);
+            return self.update_unpruned(own, place, row);
+        }
+        if names(&plan, place.slot) {
             return self.update_unpruned(own, place, row);
         }
         if row_size(row) <= room_after(page, &plan) {
@@ -95,26 +103,17 @@ impl HeapState {
         }
     }
 
-    /// Updates a version whose page has no room for the row, and would be left as it is by pruning: a new root goes elsewhere.
+    /// Updates a version whose page has no room for the row, and is left as it is: a new root goes elsewhere.
     fn update_unpruned(
         &mut self,
         own: &mut OwnIds,
         place: Tid,
         row: &Row,
     ) -> Result<Xid, WriteFault>
-        requires newest { NewestIsGiven self.old.statuses own.old }
-        requires free { ¬ NeedsFreeze self.old.statuses own.old }
-        requires there { VersionIsThere self.old place }
+        requires may { IsReplaceable self.old own.old place }
         requires room { room_of (page_on self.old place.page).slots < rounded_size_of row.now }
-        ensures ok { (horizon : ℕ) → IsPlanOn self.old place.page horizon []
-            → IfOk result
-            (λ x. Updates self.old self.new own.old own.new place row.now horizon x.0) }
-        ensures fault { (horizon : ℕ) → IsPlanOn self.old place.page horizon []
-            → IfErr result
-            (λ fault. FailsUpdate self.old self.new own.old place row.now horizon fault) }
-        ensures own { OnErr result (SameOwn own.old own.new) }
-        ensures window { IsWindow self.new.statuses }
-        ensures normal { IfOk result (λ x. IsNormal x.0) }
+        ensures { (horizon : ℕ) → IsLeftAlone self.old place horizon
+            → AnswersUpdate self.old self.new own.old own.new place row.now horizon result }
     {
         let reserved = self.reserve_root(own, row_size(row));
         self.statuses.is_window();
@@ -124,7 +123,7 @@ impl HeapState {
         }
     }
 
-    /// Updates a version whose page has room for the row once this plan is applied.
+    /// Updates a version whose page has room for the row once this plan is applied, which leaves the version there.
     fn update_on_pruned(
         &mut self,
         own: &mut OwnIds,
@@ -132,41 +131,35 @@ impl HeapState {
         row: &Row,
         plan: &PrunePlan,
     ) -> Result<Xid, WriteFault>
-        requires newest { NewestIsGiven self.old.statuses own.old }
-        requires free { ¬ NeedsFreeze self.old.statuses own.old }
-        requires there { VersionIsThere self.old place }
+        requires may { IsReplaceable self.old own.old place }
         requires room { room_of (page_on self.old place.page).slots < rounded_size_of row.now }
         requires planned { IsPlanOf (page_on self.old place.page).slots
             plan.now.actions.items }
         requires can_apply { CanApply (length (page_on self.old place.page).slots)
             plan.now.actions.items }
+        requires stays { IsNormalAt
+            (applied plan.now.actions.items (page_on self.old place.page)).slots place.slot }
         requires fits { rounded_size_of row.now
             ≤ room_of (applied plan.now.actions.items (page_on self.old place.page)).slots }
-        ensures ok { (horizon : ℕ)
+        ensures { (horizon : ℕ)
             → IsPlanOn self.old place.page horizon plan.now.actions.items
-            → IfOk result
-            (λ x. Updates self.old self.new own.old own.new place row.now horizon x.0) }
-        ensures fault { (horizon : ℕ)
-            → IsPlanOn self.old place.page horizon plan.now.actions.items
-            → IfErr result
-            (λ fault. FailsUpdate self.old self.new own.old place row.now horizon fault) }
-        ensures own { OnErr result (SameOwn own.old own.new) }
-        ensures window { IsWindow self.new.statuses }
-        ensures normal { IfOk result (λ x. IsNormal x.0) }
+            → AnswersUpdate self.old self.new own.old own.new place row.now horizon result }
     {
+        self.has_slot_beside(place);
         let heap_only = self.keeps_values(place, row);
-        let reserved = self.reserve_on_page(own, place.page, heap_only);
+        let reserved = self.reserve_ids_for(own, heap_only);
         self.statuses.is_window();
         match reserved {
             Ok(()) => {
                 self.apply_plan(place.page, plan);
-                self.update_on_page_if_there(own, place, row, heap_only)
+                Ok(self.replace_on_page(own, place, row, heap_only))
             }
             Err(_) => Err(WriteFault::NoMemory),
         }
     }
 
-    /// Updates a version whose page has no room for the row even once this plan is applied: a new root goes elsewhere.
+    /// Updates a version whose page has no room for the row even once this plan is applied, which leaves the version there: a
+    /// new root goes elsewhere.
     fn update_off_pruned(
         &mut self,
         own: &mut OwnIds,
@@ -174,32 +167,24 @@ impl HeapState {
         row: &Row,
         plan: &PrunePlan,
     ) -> Result<Xid, WriteFault>
-        requires newest { NewestIsGiven self.old.statuses own.old }
-        requires free { ¬ NeedsFreeze self.old.statuses own.old }
-        requires there { VersionIsThere self.old place }
+        requires may { IsReplaceable self.old own.old place }
         requires room { room_of (page_on self.old place.page).slots < rounded_size_of row.now }
         requires can_apply { CanApply (length (page_on self.old place.page).slots)
             plan.now.actions.items }
+        requires stays { IsNormalAt
+            (applied plan.now.actions.items (page_on self.old place.page)).slots place.slot }
         requires full { room_of (applied plan.now.actions.items (page_on self.old place.page)).slots
             < rounded_size_of row.now }
-        ensures ok { (horizon : ℕ)
+        ensures { (horizon : ℕ)
             → IsPlanOn self.old place.page horizon plan.now.actions.items
-            → IfOk result
-            (λ x. Updates self.old self.new own.old own.new place row.now horizon x.0) }
-        ensures fault { (horizon : ℕ)
-            → IsPlanOn self.old place.page horizon plan.now.actions.items
-            → IfErr result
-            (λ fault. FailsUpdate self.old self.new own.old place row.now horizon fault) }
-        ensures own { OnErr result (SameOwn own.old own.new) }
-        ensures window { IsWindow self.new.statuses }
-        ensures normal { IfOk result (λ x. IsNormal x.0) }
+            → AnswersUpdate self.old self.new own.old own.new place row.now horizon result }
     {
         let reserved = self.reserve_root(own, row_size(row));
         self.statuses.is_window();
         match reserved {
             Ok(target) => {
                 self.apply_plan(place.page, plan);
-                self.update_elsewhere_if_there(own, place, row, target)
+                self.update_elsewhere(own, place, row, target)
             }
             Err(_) => Err(WriteFault::NoMemory),
         }
@@ -231,76 +216,6 @@ impl HeapState {
         )
     }
 
-    /// Updates a version on its page, which has room and memory for the row now, if the version is still there.
-    fn update_on_page_if_there(
-        &mut self,
-        own: &mut OwnIds,
-        place: Tid,
-        row: &Row,
-        heap_only: bool,
-    ) -> Result<Xid, WriteFault>
-        requires newest { NewestIsGiven self.old.statuses own.old }
-        requires free { ¬ NeedsFreeze self.old.statuses own.old }
-        requires has_ids { HasIds self.old.statuses own.old }
-        requires fits { rounded_size_of row.now ≤ room_of (page_on self.old place.page).slots }
-        requires has_slot { HasSlot (page_on self.old place.page) }
-        requires heap_only { VersionIsThere self.old place
-            → (IsTrue heap_only ↔ KeepsValues self.old place row.now) }
-        requires has_entries { IsFalse heap_only → HasEntries self.old.indexes }
-        ensures takes { IfOk result
-            (λ x. TakesIds self.old.statuses self.new.statuses own.old own.new x.0) }
-        ensures there { IfOk result (λ x. VersionIsThere self.old place) }
-        ensures replaces { IfOk result (λ x. Replaces self.old self.new place x.0 row.now) }
-        ensures max_pages { self.new.max_pages ≡ self.old.max_pages }
-        ensures fault { IfErr result
-            (λ fault. FailsAfterPruning self.old place (rounded_size_of row.now) fault) }
-        ensures err { OnErr result (self.new ≡ self.old) }
-        ensures own { OnErr result (SameOwn own.old own.new) }
-        ensures window { IsWindow self.new.statuses }
-        ensures normal { IfOk result (λ x. IsNormal x.0) }
-    {
-        self.statuses.is_window();
-        if !self.is_there(place) {
-            return Err(WriteFault::Gone);
-        }
-        Ok(self.update_on_page(own, place, row, heap_only))
-    }
-
-    /// Updates a version where a new root goes, if that is anywhere and the version is still there.
-    fn update_elsewhere_if_there(
-        &mut self,
-        own: &mut OwnIds,
-        place: Tid,
-        row: &Row,
-        target: Option<Target>,
-    ) -> Result<Xid, WriteFault>
-        requires newest { NewestIsGiven self.old.statuses own.old }
-        requires free { ¬ NeedsFreeze self.old.statuses own.old }
-        requires has_ids { HasIds self.old.statuses own.old }
-        requires has_entries { HasEntries self.old.indexes }
-        requires room { room_of (page_on self.old place.page).slots < rounded_size_of row.now }
-        requires chosen { IsChosen self.old (rounded_size_of row.now) target }
-        requires ready { IfSome target
-            (λ t. IsReserved self.old.pages (rounded_size_of row.now) t) }
-        ensures takes { IfOk result
-            (λ x. TakesIds self.old.statuses self.new.statuses own.old own.new x.0) }
-        ensures there { IfOk result (λ x. VersionIsThere self.old place) }
-        ensures replaces { IfOk result (λ x. Replaces self.old self.new place x.0 row.now) }
-        ensures max_pages { self.new.max_pages ≡ self.old.max_pages }
-        ensures fault { IfErr result
-            (λ fault. FailsAfterPruning self.old place (rounded_size_of row.now) fault) }
-        ensures err { OnErr result (self.new ≡ self.old) }
-        ensures own { OnErr result (SameOwn own.old own.new) }
-        ensures window { IsWindow self.new.statuses }
-        ensures normal { IfOk result (λ x. IsNormal x.0) }
-    {
-        self.statuses.is_window();
-        if !self.is_there(place) {
-            return Err(WriteFault::Gone);
-        }
-        self.update_elsewhere(own, place, row, target)
-    }
-
     /// Updates a version whose page has no room for the row where a new root goes, if that is anywhere.
     fn update_elsewhere(
         &mut self,
@@ -309,26 +224,19 @@ impl HeapState {
         row: &Row,
         target: Option<Target>,
     ) -> Result<Xid, WriteFault>
-        requires newest { NewestIsGiven self.old.statuses own.old }
-        requires free { ¬ NeedsFreeze self.old.statuses own.old }
+        requires may { IsReplaceable self.old own.old place }
         requires has_ids { HasIds self.old.statuses own.old }
         requires has_entries { HasEntries self.old.indexes }
-        requires there { VersionIsThere self.old place }
         requires room { room_of (page_on self.old place.page).slots < rounded_size_of row.now }
         requires chosen { IsChosen self.old (rounded_size_of row.now) target }
         requires ready { IfSome target
             (λ t. IsReserved self.old.pages (rounded_size_of row.now) t) }
-        ensures takes { IfOk result
-            (λ x. TakesIds self.old.statuses self.new.statuses own.old own.new x.0) }
-        ensures there { IfOk result (λ x. VersionIsThere self.old place) }
+        ensures under { IfOk result (λ x. IsDoneUnder self.old self.new own.old own.new x.0) }
         ensures replaces { IfOk result (λ x. Replaces self.old self.new place x.0 row.now) }
-        ensures max_pages { self.new.max_pages ≡ self.old.max_pages }
-        ensures fault { IfErr result
-            (λ fault. FailsAfterPruning self.old place (rounded_size_of row.now) fault) }
-        ensures err { OnErr result (self.new ≡ self.old) }
-        ensures own { OnErr result (SameOwn own.old own.new) }
+        ensures fault { IfErr result (λ fault. (fault ≡ WriteFault.NoRoom)
+            × TableIsFull self.old (rounded_size_of row.now)) }
+        ensures err { OnErr result ((self.new ≡ self.old) × SameOwn own.old own.new) }
         ensures window { IsWindow self.new.statuses }
-        ensures normal { IfOk result (λ x. IsNormal x.0) }
     {
         self.statuses.is_window();
         match target {

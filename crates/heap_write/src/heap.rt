@@ -19,12 +19,9 @@ use thiserror::Error;
 use xid_circle::Xid;
 
 /// Why a write was not done. An insert tests NoRoom before it asks for memory; an update asks for all that it needs before it
-/// prunes, and finds only then that the version went or that there is no room.
+/// prunes, and finds only then that there is no room.
 #[derive(Clone, Copy, Debug, PartialEq, Eq, Error)]
 pub enum WriteFault {
-    /// There is no version at the place, or it went when its page was pruned.
-    #[error("the version is gone")]
-    Gone,
     /// The write needs an id, and none can be given before old ids are frozen.
     #[error("old ids have to be frozen first")]
     NeedsFreeze,

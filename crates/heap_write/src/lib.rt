@@ -1,7 +1,7 @@
 //! A table: its pages, the status of its ids and its indexes, and writes on them.
 //!
 //! A write either is done, with an id for each level of its session, or is refused for the first of its reasons, and then
-//! changes nothing; only an update that ends in NoRoom or Gone may have pruned the page of the old version.
+//! changes nothing; only an update that ends in NoRoom may have pruned the page of the old version.
 //! `specs/Writes.antt` says what each write does, and `specs/Refusals.antt` why one is refused; what a write does in an index
 //! is said in `table_indexes`. Whatever has to grow is grown before the first change, so that nothing is left half done
 //! (`specs/Growth.antt`). What a step looks for by key is found through the index by key; a cursor goes along any.

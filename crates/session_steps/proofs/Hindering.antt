@@ -1,5 +1,5 @@
 -- A write that is refused before it is tried.
-use Rattle.std.proofs.Common.{◌≡◌, ℕ, Option, Some, None, refl, ap, ◌∙◌, subst, inl, Result, Err}
+use Rattle.std.proofs.Common.{◌≡◌, ℕ, Option, Some, None, refl, ap, ◌∙◌, subst, Result, Err}
 use Rattle.std.specs.Option.{option_map}
 use Rattle.std.specs.Prelude.{MatchResult}
 use Rattle.std.proofs.lemmas.Result.{MatchResult-at_err}
@@ -105,14 +105,12 @@ exact-hindered_insert st s row NoMemory h = absurd h
 exact-hindered_insert st s row _ h = refl
 
 pub exact-hindered_update : (st : State) (s : ℕ) (row : Row) (r : Refusal) → RefusesChangeOfKey st s row.key r → ExactUpdate st s row (Refused r) (refused_state st s r)
-exact-hindered_update st s row NotThere h = inl refl
 exact-hindered_update st s row NoRoom h = absurd h
 exact-hindered_update st s row NeedsFreeze h = absurd h
 exact-hindered_update st s row NoMemory h = absurd h
 exact-hindered_update st s row _ h = refl
 
 pub exact-hindered_delete : (st : State) (s key : ℕ) (r : Refusal) → RefusesChangeOfKey st s key r → ExactDelete st s key (Refused r) (refused_state st s r)
-exact-hindered_delete st s key NotThere h = inl refl
 exact-hindered_delete st s key NeedsFreeze h = absurd h
 exact-hindered_delete st s key NoMemory h = absurd h
 exact-hindered_delete st s key _ h = refl
@@ -127,7 +125,6 @@ exact-unready_insert st s row NoMemory is = absurd is
 exact-unready_insert st s row _ is = refl
 
 pub exact-unready_update : (st : State) (s : ℕ) (row : Row) (r : Refusal) → RefusesFree st s r → ExactUpdate st s row (Refused r) st
-exact-unready_update st s row NotThere is = inl refl
 exact-unready_update st s row Conflict is = absurd is
 exact-unready_update st s row NoRoom is = absurd is
 exact-unready_update st s row NeedsFreeze is = absurd is
@@ -135,7 +132,6 @@ exact-unready_update st s row NoMemory is = absurd is
 exact-unready_update st s row _ is = refl
 
 pub exact-unready_delete : (st : State) (s key : ℕ) (r : Refusal) → RefusesFree st s r → ExactDelete st s key (Refused r) st
-exact-unready_delete st s key NotThere is = inl refl
 exact-unready_delete st s key Conflict is = absurd is
 exact-unready_delete st s key NeedsFreeze is = absurd is
 exact-unready_delete st s key NoMemory is = absurd is

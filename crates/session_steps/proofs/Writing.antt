@@ -78,14 +78,14 @@ module _ (st : State) (w : World) (s : ℕ) (e e' : Session) (at : session_at st
       )
 
   -- or the page of the old version was pruned
-  readied : (ready h : HeapView) (n size : ℕ) (w' : World) → PrunesIfFull st.heap ready n (horizon_of st) size → Keeps ready h → w'.has_index ≡ w.has_index → theory.HeapAgrees (seen st) w'
+  readied : (ready h : HeapView) (place : Tid) (size : ℕ) (w' : World) → PrunesIfFull st.heap ready place (horizon_of st) size → Keeps ready h → w'.has_index ≡ w.has_index → theory.HeapAgrees (seen st) w'
       → Agrees (with_write st h s e') w' × KeepsAllTargets st (with_write st h s e')
-  readied ready h n size w' readies keeps had found =
-      let first = readied-stays st.heap ready n (horizon_of st) size agrees.sound.table readies in
+  readied ready h place size w' readies keeps had found =
+      let first = readied-stays st.heap ready place (horizon_of st) size agrees.sound.table readies in
       let second = kept-stays ready h (horizon_of st) first.sound keeps in
-      let stays = stays-then st.heap ready h (horizon_of st) agrees.sound.table (ready-come st.heap ready n (horizon_of st) size readies) first second in
+      let stays = stays-then st.heap ready h (horizon_of st) agrees.sound.table (ready-come st.heap ready place (horizon_of st) size readies) first second in
       let ids = same-then st.heap.statuses ready.statuses h.statuses (ready-ids readies) keeps.statuses in
-      let pruned = (follows.Follows-prune (seen st) 0 (version_in (slots_of ready)) (removes-past st w (version_in (slots_of ready)) n agrees (readies-stand st.heap ready n (horizon_of st) size readies)) w' found).1 in (
+      let pruned = (follows.Follows-prune (seen st) 0 (version_in (slots_of ready)) (removes-past st w (version_in (slots_of ready)) place.page agrees (readies-stand st.heap ready place (horizon_of st) size readies)) w' found).1 in (
         agree agrees refl had
             (subst (λ slots. theory.HeapAgrees (seen_in slots h.statuses (set st.sessions s (Some e'))) w') (sym keeps.slots)
             (found-kept (slots_of ready) st.heap.statuses h.statuses st.sessions s e e' w' at same ids pruned))
@@ -96,13 +96,15 @@ module _ (st : State) (w : World) (s : ℕ) (e e' : Session) (at : session_at st
       same-then : (a b c : Window) → SameIds a b → SameIds b c → SameIds a c
       same-then a b c f g = record { first = g.first ∙ f.first; stop_age = g.stop_age ∙ f.stop_age; entries = g.entries ∙ f.entries }
 
-      ready-ids : PrunesIfFull st.heap ready n (horizon_of st) size → SameIds st.heap.statuses ready.statuses
+      ready-ids : PrunesIfFull st.heap ready place (horizon_of st) size → SameIds st.heap.statuses ready.statuses
       ready-ids (PrunesIfFull.has_room room is) = rw is (record { first = refl; stop_age = refl; entries = refl })
       ready-ids (PrunesIfFull.is_pruned full grown keeps prunes) = rw prunes.is keeps.statuses
+      ready-ids (PrunesIfFull.is_left full goes keeps) = keeps.statuses
 
-      ready-limit : PrunesIfFull st.heap ready n (horizon_of st) size → ready.max_pages ≡ st.heap.max_pages
+      ready-limit : PrunesIfFull st.heap ready place (horizon_of st) size → ready.max_pages ≡ st.heap.max_pages
       ready-limit (PrunesIfFull.has_room room is) = ap (λ (g : HeapView). g.max_pages) is
       ready-limit (PrunesIfFull.is_pruned full grown keeps prunes) = ap (λ (g : HeapView). g.max_pages) prunes.is ∙ keeps.max_pages
+      ready-limit (PrunesIfFull.is_left full goes keeps) = keeps.max_pages
 
 -- Inserts.
 
@@ -135,7 +137,6 @@ module _ (st : State) (w : World) (s : ℕ) (text : RowText) (e : Session) (free
   insert-fails h e' fault.NoMemory same unassigned_levels keeps =
       let f = hindrances.Follows-no_memory (seen st) s (reader_of e) (inserts text) None free (fits, refl) w agrees.found in
       let k = kept st w s e e' at agrees same h (next w (Insert s text) (Refused NoMemory)) keeps refl f.1 in (f.0, k.0, k.1)
-  insert-fails h e' fault.Gone same unassigned_levels keeps = absurd unassigned_levels
 
   insert-tried : (h : HeapView) (e' : Session) (r : Result (Unit {0}) WriteFault) → TriesInsert st.heap h e e' (row_of text) r → IsWindow h.statuses
       → Allows w (Insert s text) (reply_for r) × Agrees (with_write st h s e') (next w (Insert s text) (reply_for r)) × KeepsAllTargets st (with_write st h s e')
@@ -163,16 +164,6 @@ module _ (st : State) (w : World) (s : ℕ) (key : ℕ) (e : Session) (place : T
       (visible_given_each takes.given (seen st) w s (reader_of e) place t (state_of v) (λ sn y. Sees sn v y) (reader-is st s e at) (gives-each st w v s e own x at takes window agrees)
       (same-sights st w v s e own x at takes window agrees) (are-unseen st w v s e own x at takes window agrees) agrees.found target.there target.seen)
 
-  -- it is there, so no write finds it gone
-  is-there : VersionIsThere st.heap place
-  is-there = subst (λ o. IsSome o) (sym (sym (version-on st.heap place) ∙ target.there)) refl
-
-  ready-there : (ready : HeapView) (size : ℕ) → PrunesIfFull st.heap ready place.page (horizon_of st) size → VersionIsThere ready place
-  ready-there ready size readies =
-      let stays = targets.visible_stays (seen st) w s (reader_of e) place t (version_in (slots_of ready)) (reader-is st s e at)
-      (removes-past st w (version_in (slots_of ready)) place.page agrees (readies-stand st.heap ready place.page (horizon_of st) size readies)) agrees.found target.there target.seen in
-      subst (λ o. IsSome o) (sym (sym (version-on ready place) ∙ stays)) refl
-
 -- Updates.
 
 module _ (st : State) (w : World) (s : ℕ) (text : RowText) (e : Session) (place : Tid) (t : Version) (target : IsTarget st e text.key place t) (free : Free (seen st) s (reader_of e) text.key (Some t.row))
@@ -184,7 +175,7 @@ module _ (st : State) (w : World) (s : ℕ) (text : RowText) (e : Session) (plac
       let e' = with_own e own in
       let may = may-take st w s e text.key (Some t.row) place t agrees at free target in
       let stays = updated-stays st.heap h (horizon_of st) e.own own place t row x agrees.sound.table (is-writer st w s e h agrees at window) may (sym target.of_key) u in
-      let removes = removes-past st w (version_in (slots_of u.ready)) place.page agrees (readies-stand st.heap u.ready place.page (horizon_of st) (rounded_size_of row) u.readies) in
+      let removes = removes-past st w (version_in (slots_of u.ready)) place.page agrees (readies-stand st.heap u.ready place (horizon_of st) (rounded_size_of row) u.readies) in
       let pruned = (follows.Follows-prune (seen st) 0 (version_in (slots_of u.ready)) removes w agrees.found).1 in
       let still = found-given st w h.statuses s e own x at u.takes_ids window agrees (slots_of u.ready) pruned in
       let put = updates-stand st.heap h e.own own place row (horizon_of st) x t u target.there in
@@ -200,17 +191,13 @@ module _ (st : State) (w : World) (s : ℕ) (text : RowText) (e : Session) (plac
       → Allows w (Update s text) (reply_for (Err f)) × Agrees (with_write st h s e') (next w (Update s text) (reply_for (Err f))) × KeepsAllTargets st (with_write st h s e')
   update-fails h e' fault.NeedsFreeze same fails =
       let f = hindrances.Follows-needs_freeze (seen st) s (reader_of e) (updates text) (Some t.row) free (fits, refl) w agrees.found in
-      let k = kept st w s e e' at agrees same h (next w (Update s text) (Refused NeedsFreeze)) fails.2 refl f.1 in (f.0, k.0, k.1)
+      let k = kept st w s e e' at agrees same h (next w (Update s text) (Refused NeedsFreeze)) fails.1 refl f.1 in (f.0, k.0, k.1)
   update-fails h e' fault.NoRoom same fails =
       let f = hindrances.Follows-no_room (seen st) s (reader_of e) (updates text) (Some t.row) free (fits, refl) tt w agrees.found in
-      let k = readied st w s e e' at agrees same fails.ready h place.page (rounded_size_of (row_of text)) (next w (Update s text) (Refused NoRoom)) fails.readies fails.keeps refl f.1 in (f.0, k.0, k.1)
+      let k = readied st w s e e' at agrees same fails.ready h place (rounded_size_of (row_of text)) (next w (Update s text) (Refused NoRoom)) fails.readies fails.keeps refl f.1 in (f.0, k.0, k.1)
   update-fails h e' fault.NoMemory same fails =
       let f = hindrances.Follows-no_memory (seen st) s (reader_of e) (updates text) (Some t.row) free (fits, refl) w agrees.found in
-      let k = kept st w s e e' at agrees same h (next w (Update s text) (Refused NoMemory)) fails.3 refl f.1 in (f.0, k.0, k.1)
-  update-fails h e' fault.Gone same fails = elim fails [
-    | inl gone ↦ absurd (gone.0 (is-there st w s text.key e place t target at agrees))
-    | inr went ↦ absurd (went.has (ready-there st w s text.key e place t target at agrees went.ready (rounded_size_of (row_of text)) went.readies))
-  ]
+      let k = kept st w s e e' at agrees same h (next w (Update s text) (Refused NoMemory)) fails.2 refl f.1 in (f.0, k.0, k.1)
 
   update-tried : (h : HeapView) (e' : Session) (r : Result (Unit {0}) WriteFault) → TriesUpdate st.heap h e e' place (row_of text) (horizon_of st) r → IsWindow h.statuses
       → Allows w (Update s text) (reply_for r) × Agrees (with_write st h s e') (next w (Update s text) (reply_for r)) × KeepsAllTargets st (with_write st h s e')
@@ -248,16 +235,15 @@ module _ (st : State) (w : World) (s key : ℕ) (e : Session) (place : Tid) (t :
       (alters-from (version_in (slots_of st.heap)) (version_in (slots_of h)) place t (taken_version t x place false) alters) (is-deleted h.statuses x t place false active) in
       (done.0, agree agrees refl refl done.1 (Sound-given st w h s e e' at agrees own x d.takes_ids refl window d.max_pages stays), stays.led)
 
-  delete-fails : (h : HeapView) (e' : Session) (f : WriteFault) → SameSession e e' → FailsDelete st.heap h e.own place f
+  delete-fails : (h : HeapView) (e' : Session) (f : WriteFault) → SameSession e e' → FailsDelete st.heap h e.own f
       → Allows w (Delete s key) (reply_for (Err f)) × Agrees (with_write st h s e') (next w (Delete s key) (reply_for (Err f))) × KeepsAllTargets st (with_write st h s e')
   delete-fails h e' fault.NeedsFreeze same fails =
       let f = hindrances.Follows-needs_freeze (seen st) s (reader_of e) (deletes key) (Some t.row) free refl w agrees.found in
-      let k = kept st w s e e' at agrees same h (next w (Delete s key) (Refused NeedsFreeze)) fails.2 refl f.1 in (f.0, k.0, k.1)
+      let k = kept st w s e e' at agrees same h (next w (Delete s key) (Refused NeedsFreeze)) fails.1 refl f.1 in (f.0, k.0, k.1)
   delete-fails h e' fault.NoRoom same fails = absurd fails
   delete-fails h e' fault.NoMemory same fails =
       let f = hindrances.Follows-no_memory (seen st) s (reader_of e) (deletes key) (Some t.row) free refl w agrees.found in
-      let k = kept st w s e e' at agrees same h (next w (Delete s key) (Refused NoMemory)) fails.3 refl f.1 in (f.0, k.0, k.1)
-  delete-fails h e' fault.Gone same fails = absurd (fails.0 (is-there st w s key e place t target at agrees))
+      let k = kept st w s e e' at agrees same h (next w (Delete s key) (Refused NoMemory)) fails.2 refl f.1 in (f.0, k.0, k.1)
 
   delete-tried : (h : HeapView) (e' : Session) (r : Result (Unit {0}) WriteFault) → TriesDelete st.heap h e e' place r → IsWindow h.statuses
       → Allows w (Delete s key) (reply_for r) × Agrees (with_write st h s e') (next w (Delete s key) (reply_for r)) × KeepsAllTargets st (with_write st h s e')

@@ -1,6 +1,6 @@
 -- What the history leaves to an engine: what a write does to its own ids and pages, when it finds no id, no room or no memory,
 -- and what a refusal leaves as it was.
-use Rattle.std.specs.Prelude.{◌≡◌, ◌⊎◌, ℕ, ◌<◌, ◌≤◌, length, Option, Some, None, IsSome, Result, Ok, Err, slice_set}
+use Rattle.std.specs.Prelude.{◌≡◌, ℕ, ◌<◌, ◌≤◌, length, Option, Some, None, IsSome, Result, Ok, Err, slice_set}
 use Rattle.std.specs.Option.{option_map}
 use Rattle.xid_circle.specs.declared.Tid.{Tid}
 use Rattle.tuple_header.specs.declared.version.Row.{Row}
@@ -15,7 +15,7 @@ use Rattle.refinement.specs.declared.step.Step.{Step}
 use Rattle.refinement.specs.declared.step.Step.TheVariants.{Begin, Get, Insert, Update, Delete, Savepoint, RollbackTo, Release, OpenIndex, OpenHeap, Next, Close, Commit, Abort, Prune}
 use Rattle.refinement.specs.declared.reply.Reply.{Reply}
 use Rattle.refinement.specs.declared.reply.Reply.TheVariants.{Done, Rows, End, Committed, RolledBack, Refused}
-use Rattle.refinement.specs.declared.reply.Refusal.TheVariants.{NotThere, Conflict, NoRoom, NeedsFreeze, NoMemory, NoSuchPage, NoSuchIndex, BadBounds}
+use Rattle.refinement.specs.declared.reply.Refusal.TheVariants.{Conflict, NoRoom, NeedsFreeze, NoMemory, NoSuchPage, NoSuchIndex, BadBounds}
 use Rattle.refinement.specs.Words.{row_of}
 use Rattle.refinement.specs.Cursors.{first_place}
 use Rattle.session_steps.specs.declared.session.Session.{Session}
@@ -65,7 +65,6 @@ ExactUpdate old s row Done new = UpdateTried old new s row (Ok tt)
 ExactUpdate old s row (Refused NeedsFreeze) new = UpdateTried old new s row (Err fault.NeedsFreeze)
 ExactUpdate old s row (Refused NoRoom) new = UpdateTried old new s row (Err fault.NoRoom)
 ExactUpdate old s row (Refused NoMemory) new = UpdateTried old new s row (Err fault.NoMemory)
-ExactUpdate old s row (Refused NotThere) new = (new ≡ old) ⊎ UpdateTried old new s row (Err fault.Gone)
 ExactUpdate old s row (Refused Conflict) new = new ≡ put_session old s (option_map failed_session (session_at old s))
 ExactUpdate old s row reply new = new ≡ old
 
@@ -73,7 +72,6 @@ abbrev pub ExactDelete : State → ℕ → ℕ → Reply → State → Type 0
 ExactDelete old s key Done new = DeleteTried old new s key (Ok tt)
 ExactDelete old s key (Refused NeedsFreeze) new = DeleteTried old new s key (Err fault.NeedsFreeze)
 ExactDelete old s key (Refused NoMemory) new = DeleteTried old new s key (Err fault.NoMemory)
-ExactDelete old s key (Refused NotThere) new = (new ≡ old) ⊎ DeleteTried old new s key (Err fault.Gone)
 ExactDelete old s key (Refused Conflict) new = new ≡ put_session old s (option_map failed_session (session_at old s))
 ExactDelete old s key reply new = new ≡ old
 

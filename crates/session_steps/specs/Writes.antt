@@ -33,8 +33,7 @@ pub record RefusedWrite (e e' : Session) (fails : Type 0) : Type 0 where
   pub fault : fails
 
 -- What a write of a row, an update of the version at a place, or a deletion does to the heap and to the session's ids; or why it
--- is not done, of the first reason in the order of the tests, and what that leaves. A fault of `Gone` comes only at a place
--- without a version: where the session reads one, pruning leaves it.
+-- is not done, of the first reason in the order of the tests, and what that leaves.
 
 abbrev pub TriesInsert : HeapView → HeapView → Session → Session → Row → Result (Unit {0}) WriteFault → Type 0
 TriesInsert h h' e e' row (Ok u) = Done e e' (λ x. Inserts h h' e.own e'.own row x)
@@ -46,17 +45,16 @@ TriesUpdate h h' e e' place row horizon (Err f) = RefusedWrite e e' (FailsUpdate
 
 abbrev pub TriesDelete : HeapView → HeapView → Session → Session → Tid → Result (Unit {0}) WriteFault → Type 0
 TriesDelete h h' e e' place (Ok u) = Done e e' (λ x. Deletes h h' e.own e'.own place x)
-TriesDelete h h' e e' place (Err f) = RefusedWrite e e' (FailsDelete h h' e.own place f)
+TriesDelete h h' e e' place (Err f) = RefusedWrite e e' (FailsDelete h h' e.own f)
 
 -- what became of a write, whatever its id
 abbrev pub outcome_of : Result Xid WriteFault → Result (Unit {0}) WriteFault
 outcome_of (Ok x) = Ok tt
 outcome_of (Err f) = Err f
 
--- The reply. A version that is gone is no longer there.
+-- The reply.
 
 abbrev pub refusal_for : WriteFault → Refusal
-refusal_for fault.Gone = refusal.NotThere
 refusal_for fault.NeedsFreeze = refusal.NeedsFreeze
 refusal_for fault.NoRoom = refusal.NoRoom
 refusal_for fault.NoMemory = refusal.NoMemory

@@ -16,13 +16,12 @@ pub(crate) enum Ack {
     RolledBack,
 }
 
-/// What a write answers. A version that is gone is no longer there.
+/// What a write answers.
 pub(crate) fn write_answer(tried: Result<Xid, WriteFault>) -> Result<Ack, Refusal>
     ensures { reply_to result ≡ reply_for (outcome_of tried) }
 {
     match tried {
         Ok(_) => Ok(Ack::Done),
-        Err(WriteFault::Gone) => Err(Refusal::NotThere),
         Err(WriteFault::NeedsFreeze) => Err(Refusal::NeedsFreeze),
         Err(WriteFault::NoRoom) => Err(Refusal::NoRoom),
         Err(WriteFault::NoMemory) => Err(Refusal::NoMemory),

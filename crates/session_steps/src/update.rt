@@ -1,11 +1,10 @@
 //! A session writes another row of a key that has one.
 
-ghost use Rattle.std.specs.Prelude.{◌≡◌, ◌≤◌, ◌⊎◌, Some};
+ghost use Rattle.std.specs.Prelude.{◌≤◌, ◌<◌, Some};
 ghost use Rattle.tuple_header.specs.Version.{rounded_size_of};
 ghost use Rattle.page_slots.specs.Slots.{room_of};
 ghost use Rattle.heap_write.specs.Heap.{page_on};
 ghost use Rattle.refinement.specs.declared.step.Step.{Step};
-ghost use Rattle.session_steps.specs.State.{horizon_of};
 ghost use Rattle.session_steps.specs.Exact.{ExactUpdate, AnswersStep};
 ghost use Rattle.session_steps.specs.Replies.{reply_to};
 ghost use Rattle.session_steps.specs.Follows.{FollowsUpdate};
@@ -15,34 +14,38 @@ use crate::checks::{empty_row, fill_row};
 use crate::engine::SessionEngine;
 use crate::outcome::{Ack, write_answer};
 use refinement::{Refusal, Row, RowIn};
-use xid_circle::{Tid, Xid};
+use xid_circle::Tid;
 
 impl SessionEngine {
-    /// The horizon at which an update to the row prunes the page of the version at a place. Where the row has room there nothing is
-    /// pruned: any id will do then, and the sessions aren't looked at.
-    fn update_horizon(&self, place: Tid, row: &Row) -> Xid
-        ensures { (rounded_size_of row.now ≤ room_of (page_on self.now.heap place.page).slots)
-            ⊎ (result.0 ≡ horizon_of self.now) }
-    {
-        if self.heap.has_room(place.page, row) {
-            self.heap.statuses().next()
-        } else {
-            self.horizon()
-        }
-    }
-
-    /// Updates the version at a place to the row, which nothing keeps the session from writing, under the id of its
-    /// newest level.
-    fn replace(&mut self, s: u8, place: Tid, row: &Row) -> Result<Ack, Refusal>
-        requires { MayWriteKey self.old s row.now.key (Some place) }
+    /// Updates the version at a place to the row, which has room on its page and which nothing keeps the session from writing,
+    /// under the id of its newest level. Nothing is pruned, so the sessions aren't looked at for a horizon.
+    fn replace_on_page(&mut self, s: u8, place: Tid, row: &Row) -> Result<Ack, Refusal>
+        requires may { MayWriteKey self.old s row.now.key (Some place) }
+        requires room { rounded_size_of row.now ≤ room_of (page_on self.old.heap place.page).slots }
         ensures follows { FollowsUpdate self.old s row.now (reply_to result) self.new }
         ensures exact { ExactUpdate self.old s row.now (reply_to result) self.new }
     {
-        let horizon = self.update_horizon(place, row);
         let session = self.sessions.open_mut(s);
         // an id of its levels is one of its own ids
         session.own.are_prefixes();
-        write_answer(self.heap.update(&mut session.own, place, row, horizon))
+        write_answer(self.heap.update_on_page(&mut session.own, place, row))
+    }
+
+    /// As [`SessionEngine::replace_on_page`], but where the row has no room on the page: that is pruned at the horizon first.
+    fn replace_on_full_page(&mut self, s: u8, place: Tid, row: &Row) -> Result<Ack, Refusal>
+        requires may { MayWriteKey self.old s row.now.key (Some place) }
+        requires room { room_of (page_on self.old.heap place.page).slots < rounded_size_of row.now }
+        ensures follows { FollowsUpdate self.old s row.now (reply_to result) self.new }
+        ensures exact { ExactUpdate self.old s row.now (reply_to result) self.new }
+    {
+        let horizon = self.horizon();
+        let session = self.sessions.open_mut(s);
+        // an id of its levels is one of its own ids
+        session.own.are_prefixes();
+        write_answer(
+            self.heap
+                .update_full_page(&mut session.own, place, row, horizon),
+        )
     }
 
     /// Writes another row of a key that has one. Where the row has no room on the page of the version that it replaces,
@@ -57,7 +60,11 @@ impl SessionEngine {
         match self.check_update(session, row.key) {
             Ok((place, near)) => {
                 self.expect_entry(near);
-                self.replace(s, place, &written)
+                if self.heap.has_room(place.page, &written) {
+                    self.replace_on_page(s, place, &written)
+                } else {
+                    self.replace_on_full_page(s, place, &written)
+                }
             }
             Err(refusal) => self.refuse(s, refusal),
         }

@@ -29,8 +29,8 @@ use Rattle.sound_entries.proofs.Changes.{dead-stays}
 use Rattle.index_lookup.specs.Pages as lists
 use Rattle.table_indexes.specs.Indexes.{entries_at, entries_in, IsInUse, SameEntries}
 use Rattle.heap_write.specs.Heap.{HeapView, slots_of, page_on, Keeps}
-use Rattle.heap_write.specs.Writes.{TableIsFull, PutsRoot, SetsXmax, HotUpdates, ColdUpdates, UpdatesOnPage, Replaces, PrunesIfFull, Prunes}
-use Rattle.heap_write.specs.Refusals.{AfterPruning, FailsUpdate, VersionIsThere}
+use Rattle.heap_write.specs.Writes.{PutsRoot, SetsXmax, HotUpdates, ColdUpdates, UpdatesOnPage, Replaces, PrunesIfFull, Prunes}
+use Rattle.heap_write.specs.Refusals.{FailsUpdate}
 use Rattle.heap_write.specs.declared.heap.WriteFault.{WriteFault}
 use Rattle.heap_write.specs.declared.heap.WriteFault.TheVariants as fault
 use Rattle.table_integrity.specs.Table.{SoundTable, StaysSoundTable}
@@ -124,10 +124,11 @@ pruned-keep h h' number horizon p = same-keep h h' (same-indexes h.indexes h'.in
     (subst (λ slots. DeadStay slots p.after.slots) (sym (prunes-on h h' number horizon p))
     (λ k dead. dead-stays h.statuses horizon p.before.slots p.after.slots k p.pruned dead)))
 
-readied-keep : (h h' : HeapView) (number horizon size : ℕ) → PrunesIfFull h h' number horizon size → KeepsDeadSlots h h'
-readied-keep h h' number horizon size (PrunesIfFull.has_room room is) =
+readied-keep : (h h' : HeapView) (place : Tid) (horizon size : ℕ) → PrunesIfFull h h' place horizon size → KeepsDeadSlots h h'
+readied-keep h h' place horizon size (PrunesIfFull.has_room room is) =
     pages-keep h h' (ap (λ (g : HeapView). slots_of g) is) (same-indexes h.indexes h'.indexes (ap (λ (g : HeapView). g.indexes) is))
-readied-keep h h' number horizon size (PrunesIfFull.is_pruned full grown keeps prunes) = keeps-then h grown h' (kept-keep h grown keeps) (pruned-keep grown h' number horizon prunes)
+readied-keep h h' place horizon size (PrunesIfFull.is_pruned full grown keeps prunes) = keeps-then h grown h' (kept-keep h grown keeps) (pruned-keep grown h' place.page horizon prunes)
+readied-keep h h' place horizon size (PrunesIfFull.is_left full goes keeps) = kept-keep h h' keeps
 
 root-keep : (h h' : HeapView) (updated : Bool) (x : ℕ) (row : Row) (n : ℕ) → PutsRoot h h' updated x row n → KeepsDeadSlots h h'
 root-keep h h' updated x row n r i = record {
@@ -172,15 +173,10 @@ some-there h place there =
     let t = normal_at (page_on h place.page).slots place.slot there in
     (t.0, version-on h place ∙ version_at-from_slot_at (page_on h place.page).slots place.slot t.0 t.1)
 
-when-ready : (h h' : HeapView) (own : Own) (place : Tid) (horizon size : ℕ) (P : HeapView → Type 0) → AfterPruning h h' own place horizon size P → KeepsDeadSlots h h'
-when-ready h h' own place horizon size P r = keeps-then h r.ready h' (readied-keep h r.ready place.page horizon size r.readies) (kept-keep r.ready h' r.keeps)
-
 failed-keep : (h h' : HeapView) (own : Own) (place : Tid) (row : Row) (horizon : ℕ) (fault : WriteFault) → FailsUpdate h h' own place row horizon fault → KeepsDeadSlots h h'
-failed-keep h h' own place row horizon fault.NeedsFreeze f = kept-keep h h' f.2
-failed-keep h h' own place row horizon fault.NoRoom f = when-ready h h' own place horizon (rounded_size_of row) (λ ready. VersionIsThere ready place × TableIsFull ready (rounded_size_of row)) f
-failed-keep h h' own place row horizon fault.NoMemory f = kept-keep h h' f.3
-failed-keep h h' own place row horizon fault.Gone f = ⊎_elim (λ gone. kept-keep h h' gone.1)
-    (λ went. when-ready h h' own place horizon (rounded_size_of row) (λ ready. ¬ VersionIsThere ready place) went) f
+failed-keep h h' own place row horizon fault.NeedsFreeze f = kept-keep h h' f.1
+failed-keep h h' own place row horizon fault.NoRoom f = keeps-then h f.ready h' (readied-keep h f.ready place horizon (rounded_size_of row) f.readies) (kept-keep f.ready h' f.keeps)
+failed-keep h h' own place row horizon fault.NoMemory f = kept-keep h h' f.2
 
 visited-keep : (h h' : HeapView) (horizon cutoff p : ℕ) → VisitsAt h h' horizon cutoff p → KeepsDeadSlots h h'
 visited-keep h h' horizon cutoff p v = keeps-then h v.pruned h' (pruned-keep h v.pruned p horizon v.prunes)
@@ -192,7 +188,7 @@ pub steps-keep : (h h' : HeapView) → StepsBetween h h' → KeepsDeadSlots h h'
 steps-keep h h' (StepsBetween.inserts own own' row x writer i) = root-keep h h' false x row i.number i.root
 steps-keep h h' (StepsBetween.updates own own' place row horizon x writer u) =
     let t = some-there u.ready place u.there in
-    keeps-then h u.ready h' (readied-keep h u.ready place.page horizon (rounded_size_of row) u.readies) (replaces-keep u.ready h' place x row t.0 t.1 u.replaces)
+    keeps-then h u.ready h' (readied-keep h u.ready place horizon (rounded_size_of row) u.readies) (replaces-keep u.ready h' place x row t.0 t.1 u.replaces)
 steps-keep h h' (StepsBetween.deletes own own' place x writer d) = let t = some-there h place d.there in away-keep h h' place x place t.0 t.1 d.away
 steps-keep h h' (StepsBetween.fails_update own place row horizon fault f) = failed-keep h h' own place row horizon fault f
 steps-keep h h' (StepsBetween.keeps k) = kept-keep h h' k

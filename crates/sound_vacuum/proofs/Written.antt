@@ -1,5 +1,5 @@
 -- What is noted of pages, where the steps between those of a vacuum change them.
-use Rattle.std.proofs.Common.{◌≡◌, ℕ, Bool, true, false, List, [], ◌∷◌, ◌++◌, map, length, ◌≤◌, Option, Some, None, refl, sym, ap, ◌∙◌, subst, ⊎_elim}
+use Rattle.std.proofs.Common.{◌≡◌, ℕ, Bool, true, false, List, [], ◌∷◌, ◌++◌, map, length, ◌≤◌, Option, Some, None, refl, sym, ap, ◌∙◌, subst}
 use Rattle.std.specs.Prelude.{slice_get, slice_set}
 use Rattle.std.specs.Option.{option_map}
 use Rattle.std.proofs.lemmas.List.{length-set, length-map, set-set}
@@ -19,8 +19,8 @@ use Rattle.freeze.specs.AllVisible.{IsTrueMark}
 use Rattle.freeze.specs.Visiting.{SettlesOn}
 use Rattle.freeze.proofs.Visiting.{true-on}
 use Rattle.heap_write.specs.Heap.{HeapView, Keeps, SameIds, PutsPage}
-use Rattle.heap_write.specs.Writes.{TableIsFull, PutsRoot, SetsXmax, HotUpdates, ColdUpdates, UpdatesOnPage, Replaces, PrunesIfFull}
-use Rattle.heap_write.specs.Refusals.{AfterPruning, FailsUpdate, VersionIsThere}
+use Rattle.heap_write.specs.Writes.{PutsRoot, SetsXmax, HotUpdates, ColdUpdates, UpdatesOnPage, Replaces, PrunesIfFull}
+use Rattle.heap_write.specs.Refusals.{FailsUpdate}
 use Rattle.heap_write.specs.declared.heap.WriteFault.{WriteFault}
 use Rattle.heap_write.specs.declared.heap.WriteFault.TheVariants as fault
 use Rattle.heap_write.proofs.IdLemmas.{same-status}
@@ -113,9 +113,10 @@ module _ (w : Window) (horizon : ℕ) where
         true_flags = λ n q at. let o = old n q at in sym o.3 ∙ t.true_flags n o.0 o.1;
       })
 
-  readied-true : (h h' : HeapView) (number later size : ℕ) → SameIds w h.statuses → PrunesIfFull h h' number later size → AreTrue h → AreTrue h'
-  readied-true h h' number later size ids (PrunesIfFull.has_room room is) t = subst AreTrue (sym is) t
-  readied-true h h' number later size ids (PrunesIfFull.is_pruned full grown keeps prunes) t =
+  readied-true : (h h' : HeapView) (place : Tid) (later size : ℕ) → SameIds w h.statuses → PrunesIfFull h h' place later size → AreTrue h → AreTrue h'
+  readied-true h h' place later size ids (PrunesIfFull.has_room room is) t = subst AreTrue (sym is) t
+  readied-true h h' place later size ids (PrunesIfFull.is_left full goes keeps) t = kept-true h h' keeps t
+  readied-true h h' place later size ids (PrunesIfFull.is_pruned full grown keeps prunes) t =
       let same : SameIds w grown.statuses = record {
         first = keeps.statuses.first ∙ ids.first;
         stop_age = keeps.statuses.stop_age ∙ ids.stop_age;
@@ -123,19 +124,14 @@ module _ (w : Window) (horizon : ℕ) where
       } in
       let statuses : h'.statuses ≡ grown.statuses = ap (λ (g : HeapView). g.statuses) prunes.is in
       let marks : h'.pages.marks ≡ grown.pages.marks = ap (λ (g : HeapView). g.pages.marks) prunes.is in
-      let pruned = pruned-maps grown h' grown.pages.marks number later horizon (ids-true w grown.statuses horizon grown.pages.pages grown.pages.marks same (kept-true h grown keeps t)) prunes in
+      let pruned = pruned-maps grown h' grown.pages.marks place.page later horizon (ids-true w grown.statuses horizon grown.pages.pages grown.pages.marks same (kept-true h grown keeps t)) prunes in
       ids-true grown.statuses w horizon h'.pages.pages h'.pages.marks (same-back w grown.statuses same)
       (subst (λ ms. MapsAreTrue grown.statuses horizon h'.pages.pages ms) (sym marks) (subst (λ v. MapsAreTrue v horizon h'.pages.pages grown.pages.marks) statuses pruned))
 
-  after-true : (h h' : HeapView) (own : Own) (place : Tid) (later size : ℕ) (P : HeapView → Type 0) → SameIds w h.statuses → AfterPruning h h' own place later size P → AreTrue h → AreTrue h'
-  after-true h h' own place later size P ids r t = kept-true r.ready h' r.keeps (readied-true h r.ready place.page later size ids r.readies t)
-
   failed-true : (h h' : HeapView) (own : Own) (place : Tid) (row : Row) (later : ℕ) (fault : WriteFault) → SameIds w h.statuses → FailsUpdate h h' own place row later fault → AreTrue h → AreTrue h'
-  failed-true h h' own place row later fault.NeedsFreeze ids f t = kept-true h h' f.2 t
-  failed-true h h' own place row later fault.NoRoom ids f t = after-true h h' own place later (rounded_size_of row) (λ ready. VersionIsThere ready place × TableIsFull ready (rounded_size_of row)) ids f t
-  failed-true h h' own place row later fault.NoMemory ids f t = kept-true h h' f.3 t
-  failed-true h h' own place row later fault.Gone ids f t = ⊎_elim (λ gone. kept-true h h' gone.1 t)
-      (λ went. after-true h h' own place later (rounded_size_of row) (λ ready. ¬ VersionIsThere ready place) ids went t) f
+  failed-true h h' own place row later fault.NeedsFreeze ids f t = kept-true h h' f.1 t
+  failed-true h h' own place row later fault.NoRoom ids f t = kept-true f.ready h' f.keeps (readied-true h f.ready place later (rounded_size_of row) ids f.readies t)
+  failed-true h h' own place row later fault.NoMemory ids f t = kept-true h h' f.2 t
 
 no-more : (w : Window) → SameIds w w
 no-more w = record { first = refl; stop_age = refl; entries = refl }
@@ -144,7 +140,7 @@ no-more w = record { first = refl; stop_age = refl; entries = refl }
 pages-true : (h h' : HeapView) (horizon : ℕ) (step : StepsBetween h h') → IsNoVisit step → MapsAreTrue h.statuses horizon h.pages.pages h.pages.marks → MapsAreTrue h.statuses horizon h'.pages.pages h'.pages.marks
 pages-true h h' horizon (StepsBetween.inserts own own' row x writer i) none t = root-true h.statuses horizon h h' false x row i.number i.root t
 pages-true h h' horizon (StepsBetween.updates own own' place row later x writer u) none t =
-    replaces-true h.statuses horizon u.ready h' place x row u.replaces (readied-true h.statuses horizon h u.ready place.page later (rounded_size_of row) (no-more h.statuses) u.readies t)
+    replaces-true h.statuses horizon u.ready h' place x row u.replaces (readied-true h.statuses horizon h u.ready place later (rounded_size_of row) (no-more h.statuses) u.readies t)
 pages-true h h' horizon (StepsBetween.deletes own own' place x writer d) none t = away-true h.statuses horizon h h' place x place d.away t
 pages-true h h' horizon (StepsBetween.fails_update own place row later fault f) none t = failed-true h.statuses horizon h h' own place row later fault (no-more h.statuses) f t
 pages-true h h' horizon (StepsBetween.keeps k) none t = kept-true h.statuses horizon h h' k t

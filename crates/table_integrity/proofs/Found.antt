@@ -90,7 +90,7 @@ updating-unseen h h' horizon own own' place t row x s ids sound writer may u rea
     let m = updates-stand h h' own own' place row horizon x t u may.there in
     let none = unread h h' horizon own own' x s ids writer u.takes_ids reader foreign in
     let seen = IsVisible h'.statuses s ids in
-    both (removed-found h ready place.page horizon s ids sound reader (readies-stand h u.ready place.page horizon (rounded_size_of row) u.readies) p r)
+    both (removed-found h ready place.page horizon s ids sound reader (readies-stand h u.ready place horizon (rounded_size_of row) u.readies) p r)
     (both
     (adds-unseen ready m.added (IsVisible h.statuses s ids) seen (λ q v at. other-sight h h' horizon own own' x s ids writer u.takes_ids reader foreign v) m.to m.new m.adds
     (new-unseen (ReadsIn h'.statuses s ids) x row m.new m.is_new none) p r)
@@ -153,7 +153,7 @@ update-found h h' horizon own own' place t row x s sound writer may u author = r
     ready = version_in (slots_of u.ready)
 
     removes : RemovesOn (version_in (slots_of h)) ready place.page (IsCut h.statuses horizon (slots_on (slots_of h) place.page))
-    removes = readies-stand h u.ready place.page horizon (rounded_size_of row) u.readies
+    removes = readies-stand h u.ready place horizon (rounded_size_of row) u.readies
 
     m : Replaced ready (version_in (slots_of h')) place t x row
     m = updates-stand h h' own own' place row horizon x t u may.there

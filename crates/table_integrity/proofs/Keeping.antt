@@ -25,8 +25,8 @@ use Rattle.page_slots.specs.View.{PageView}
 use Rattle.index_lookup.specs.Pages as lists
 use Rattle.table_indexes.specs.Indexes.{entries_at, entries_in, IsInUse, SameEntries}
 use Rattle.heap_write.specs.Heap.{HeapView, SameIds, Keeps, slots_of}
-use Rattle.heap_write.specs.Writes.{TableIsFull, TakesIds, PrunesIfFull, Prunes}
-use Rattle.heap_write.specs.Refusals.{VersionIsThere, AfterPruning, FailsUpdate}
+use Rattle.heap_write.specs.Writes.{TakesIds, PrunesIfFull, Prunes}
+use Rattle.heap_write.specs.Refusals.{FailsUpdate}
 use Rattle.heap_write.specs.declared.heap.WriteFault.{WriteFault}
 use Rattle.heap_write.specs.declared.heap.WriteFault.TheVariants as fault
 use Rattle.table_integrity.specs.Table.{SoundTable, StaysSoundTable}
@@ -109,44 +109,42 @@ with_table h w = record h { statuses = w }
 as-was : (h : HeapView) (w : Window) (horizon : ℕ) → SameIds h.statuses w → SoundTable h horizon → StaysSoundTable h (with_table h w) horizon
 as-was h w horizon ids s = kept-stays h (with_table h w) horizon s (record { slots = refl; changes = refl; flags = refl; marks = refl; statuses = ids; entries = λ n. refl; max_pages = refl })
 
-pub ready-come : (h h' : HeapView) (number horizon size : ℕ) → PrunesIfFull h h' number horizon size → OnlyCome h.indexes h'.indexes
-ready-come h h' number horizon size (PrunesIfFull.has_room room is) = same-come h.indexes h'.indexes (same-indexes h.indexes h'.indexes (ap (λ (g : HeapView). g.indexes) is))
-ready-come h h' number horizon size (PrunesIfFull.is_pruned full grown keeps prunes) =
+pub ready-come : (h h' : HeapView) (place : Tid) (horizon size : ℕ) → PrunesIfFull h h' place horizon size → OnlyCome h.indexes h'.indexes
+ready-come h h' place horizon size (PrunesIfFull.has_room room is) = same-come h.indexes h'.indexes (same-indexes h.indexes h'.indexes (ap (λ (g : HeapView). g.indexes) is))
+ready-come h h' place horizon size (PrunesIfFull.is_pruned full grown keeps prunes) =
     subst (λ (g : HeapView). OnlyCome h.indexes g.indexes) (sym prunes.is) (same-come h.indexes grown.indexes keeps.entries)
+ready-come h h' place horizon size (PrunesIfFull.is_left full goes keeps) = same-come h.indexes h'.indexes keeps.entries
 
-pub readied-stays : (h h' : HeapView) (number horizon size : ℕ) → SoundTable h horizon → PrunesIfFull h h' number horizon size → StaysSoundTable h h' horizon
-readied-stays h h' number horizon size s (PrunesIfFull.has_room room is) =
+pub readied-stays : (h h' : HeapView) (place : Tid) (horizon size : ℕ) → SoundTable h horizon → PrunesIfFull h h' place horizon size → StaysSoundTable h h' horizon
+readied-stays h h' place horizon size s (PrunesIfFull.has_room room is) =
     subst (λ (g : HeapView). StaysSoundTable h g horizon) (sym is) (as-was h h.statuses horizon (record { first = refl; stop_age = refl; entries = refl }) s)
-readied-stays h h' number horizon size s (PrunesIfFull.is_pruned full grown keeps prunes) =
+readied-stays h h' place horizon size s (PrunesIfFull.is_pruned full grown keeps prunes) =
     let first = kept-stays h grown horizon s keeps in
-    stays-then h grown h' horizon s (same-come h.indexes grown.indexes keeps.entries) first (pruned-stays grown h' number horizon first.sound prunes)
+    stays-then h grown h' horizon s (same-come h.indexes grown.indexes keeps.entries) first (pruned-stays grown h' place.page horizon first.sound prunes)
+readied-stays h h' place horizon size s (PrunesIfFull.is_left full goes keeps) = kept-stays h h' horizon s keeps
 
-ready-ids : (h h' : HeapView) (number horizon size : ℕ) → PrunesIfFull h h' number horizon size → SameIds h'.statuses h.statuses
-ready-ids h h' number horizon size (PrunesIfFull.has_room room is) =
+ready-ids : (h h' : HeapView) (place : Tid) (horizon size : ℕ) → PrunesIfFull h h' place horizon size → SameIds h'.statuses h.statuses
+ready-ids h h' place horizon size (PrunesIfFull.has_room room is) =
     subst (λ (g : HeapView). SameIds g.statuses h.statuses) (sym is) (record { first = refl; stop_age = refl; entries = refl })
-ready-ids h h' number horizon size (PrunesIfFull.is_pruned full grown keeps prunes) =
+ready-ids h h' place horizon size (PrunesIfFull.is_pruned full grown keeps prunes) =
     subst (λ (g : HeapView). SameIds g.statuses h.statuses) (sym prunes.is) (same-back h.statuses grown.statuses keeps.statuses)
+ready-ids h h' place horizon size (PrunesIfFull.is_left full goes keeps) = same-back h.statuses h'.statuses keeps.statuses
 
-pub ready-stays : (h h' : HeapView) (number horizon size : ℕ) → SoundTable h horizon → PrunesIfFull h h' number horizon size → StaysSoundTable h (with_table h' h.statuses) horizon
-ready-stays h h' number horizon size s ready =
-    let first = readied-stays h h' number horizon size s ready in
-    stays-then h h' (with_table h' h.statuses) horizon s (ready-come h h' number horizon size ready)
-    first (as-was h' h.statuses horizon (ready-ids h h' number horizon size ready) first.sound)
+pub ready-stays : (h h' : HeapView) (place : Tid) (horizon size : ℕ) → SoundTable h horizon → PrunesIfFull h h' place horizon size → StaysSoundTable h (with_table h' h.statuses) horizon
+ready-stays h h' place horizon size s ready =
+    let first = readied-stays h h' place horizon size s ready in
+    stays-then h h' (with_table h' h.statuses) horizon s (ready-come h h' place horizon size ready)
+    first (as-was h' h.statuses horizon (ready-ids h h' place horizon size ready) first.sound)
 
 -- An update fails.
 
-when-ready : (h h' : HeapView) (own : Own) (place : Tid) (horizon size : ℕ) (P : HeapView → Type 0) → SoundTable h horizon → AfterPruning h h' own place horizon size P → StaysSoundTable h h' horizon
-when-ready h h' own place horizon size P s r =
-    let first = readied-stays h r.ready place.page horizon size s r.readies in
-    stays-then h r.ready h' horizon s (ready-come h r.ready place.page horizon size r.readies)
-    first (kept-stays r.ready h' horizon first.sound r.keeps)
-
 pub failed-stays : (h h' : HeapView) (horizon : ℕ) (own : Own) (place : Tid) (row : Row) (fault : WriteFault) → SoundTable h horizon → FailsUpdate h h' own place row horizon fault → StaysSoundTable h h' horizon
-failed-stays h h' horizon own place row fault.NeedsFreeze s f = kept-stays h h' horizon s f.2
-failed-stays h h' horizon own place row fault.NoRoom s f = when-ready h h' own place horizon (rounded_size_of row) (λ ready. VersionIsThere ready place × TableIsFull ready (rounded_size_of row)) s f
-failed-stays h h' horizon own place row fault.NoMemory s f = kept-stays h h' horizon s f.3
-failed-stays h h' horizon own place row fault.Gone s f = ⊎_elim (λ gone. kept-stays h h' horizon s gone.1)
-    (λ went. when-ready h h' own place horizon (rounded_size_of row) (λ ready. ¬ VersionIsThere ready place) s went) f
+failed-stays h h' horizon own place row fault.NeedsFreeze s f = kept-stays h h' horizon s f.1
+failed-stays h h' horizon own place row fault.NoRoom s f =
+    let first = readied-stays h f.ready place horizon (rounded_size_of row) s f.readies in
+    stays-then h f.ready h' horizon s (ready-come h f.ready place horizon (rounded_size_of row) f.readies)
+    first (kept-stays f.ready h' horizon first.sound f.keeps)
+failed-stays h h' horizon own place row fault.NoMemory s f = kept-stays h h' horizon s f.2
 
 -- There is nothing.
 

@@ -305,13 +305,18 @@ prunes-stand h h' n horizon p = record {
     after : (q : Tid) → q.page ≡ n → version_in (slots_of h') q ≡ version_at p.after.slots q.slot
     after q same = put-here (slots_of h) (slots_of h') n p.after.slots q puts same
 
-pub readies-stand : (h h' : HeapView) (n horizon size : ℕ) → PrunesIfFull h h' n horizon size
-    → RemovesOn (version_in (slots_of h)) (version_in (slots_of h')) n (IsCut h.statuses horizon (slots_on (slots_of h) n))
-readies-stand h h' n horizon size (PrunesIfFull.has_room room is) = record {
+pub readies-stand : (h h' : HeapView) (place : Tid) (horizon size : ℕ) → PrunesIfFull h h' place horizon size
+    → RemovesOn (version_in (slots_of h)) (version_in (slots_of h')) place.page (IsCut h.statuses horizon (slots_on (slots_of h) place.page))
+readies-stand h h' place horizon size (PrunesIfFull.has_room room is) = record {
   kept = λ p t at. ap (λ (g : HeapView). version_in (slots_of g) p) (sym is) ∙ at;
   gone = λ p t at. inl (ap (λ (g : HeapView). version_in (slots_of g) p) is ∙ at);
 }
-readies-stand h h' n horizon size (PrunesIfFull.is_pruned full grown keeps prunes) =
+readies-stand h h' place horizon size (PrunesIfFull.is_left full goes keeps) = record {
+  kept = λ p t at. ap (λ pages. version_in pages p) (sym keeps.slots) ∙ at;
+  gone = λ p t at. inl (ap (λ pages. version_in pages p) keeps.slots ∙ at);
+}
+readies-stand h h' place horizon size (PrunesIfFull.is_pruned full grown keeps prunes) =
+    let n = place.page in
     let stands = prunes-stand grown h' n horizon prunes in
     record {
       kept = λ p t at. ap (λ pages. version_in pages p) (sym keeps.slots) ∙ stands.kept p t at;
@@ -341,7 +346,7 @@ pub updates-ready : (h h' : HeapView) (own own' : Own) (place : Tid) (row : Row)
 updates-ready h h' own own' place row horizon x t u at =
     let some = normal_at (page_on u.ready place.page).slots place.slot u.there in
     let there : version_in (slots_of u.ready) place ≡ Some some.0 = version-on u.ready place ∙ version_at-from_slot_at (page_on u.ready place.page).slots place.slot some.0 some.1 in
-    let was = (readies-stand h u.ready place.page horizon (rounded_size_of row) u.readies).kept place some.0 there in
+    let was = (readies-stand h u.ready place horizon (rounded_size_of row) u.readies).kept place some.0 there in
     there ∙ sym was ∙ at
 
 pub updates-stand : (h h' : HeapView) (own own' : Own) (place : Tid) (row : Row) (horizon x : ℕ) (t : Version) (u : Updates h h' own own' place row horizon x)

@@ -139,11 +139,11 @@ pub updated-stays : (h h' : HeapView) (horizon : ℕ) (own own' : Own) (place : 
     → row.key ≡ t.row.key → Updates h h' own own' place row horizon x → StaysSoundTable h h' horizon
 updated-stays h h' horizon own own' place t row x s writer may key u =
     let ready = with_table u.ready h.statuses in
-    let first = ready-stays h u.ready place.page horizon (rounded_size_of row) s u.readies in
+    let first = ready-stays h u.ready place horizon (rounded_size_of row) s u.readies in
     let g = given-stays ready h'.statuses horizon own own' x first.sound writer.before writer.after writer.active u.takes_ids in
     let same = takes-status h.statuses h'.statuses own own' x writer.before writer.after u.takes_ids in
     let at = updates-ready h h' own own' place row horizon x t u may.there in
-    stays-then h ready h' horizon s (ready-come h u.ready place.page horizon (rounded_size_of row) u.readies) first
+    stays-then h ready h' horizon s (ready-come h u.ready place horizon (rounded_size_of row) u.readies) first
     (stays-then ready (with_table ready h'.statuses) h' horizon first.sound (λ n e there. there) (given ready h'.statuses horizon first.sound g.0)
     (replaced-stays u.ready h' h'.statuses horizon x place row t g.0 g.1 at (still-made h.statuses h'.statuses t.header same may.made)
     (still-untaken h.statuses h'.statuses t.header same may.untaken) key u.replaces))

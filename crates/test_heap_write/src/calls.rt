@@ -4,6 +4,7 @@ ghost use Rattle.std.specs.Prelude.{◌≡◌, ℕ, Some, IsTrue};
 ghost use Rattle.xid_circle.specs.Circle.{IsNormal};
 ghost use Rattle.commit_status.specs.Window.{IsGiven, IsUpToNext};
 ghost use Rattle.snapshot.specs.Own.{current_xid};
+ghost use Rattle.heap_write.specs.Refusals.{VersionIsThere};
 
 use arrayvec::ArrayVec;
 use commit_status::Status;
@@ -99,9 +100,22 @@ fn is_known(heap: &HeapState, own: &OwnIds) -> bool
     }
 }
 
+/// Whether a version is at the place.
+fn is_there(heap: &HeapState, place: Tid) -> bool
+    ensures { IsTrue result → VersionIsThere heap.now place }
+{
+    match heap.page(place.page) {
+        Some(page) => page.header(place.slot).is_some(),
+        None => false,
+    }
+}
+
+/// What is told of a write that may not be called: no test expects it.
+const NOT_CALLED: Result<Xid, WriteFault> = Err(WriteFault::NoMemory);
+
 pub fn insert(heap: &mut HeapState, own: &mut OwnIds, values: Values) -> Result<Xid, WriteFault> {
     if !is_known(heap, own) {
-        return Err(WriteFault::Gone);
+        return NOT_CALLED;
     }
     heap.insert(own, &row_of(values))
 }
@@ -113,17 +127,23 @@ pub fn update(
     values: Values,
     horizon: u32,
 ) -> Result<Xid, WriteFault> {
-    if !is_known(heap, own) {
-        return Err(WriteFault::Gone);
+    let (place, row) = (tid(place), row_of(values));
+    if !is_known(heap, own) || !is_there(heap, place) {
+        return NOT_CALLED;
     }
-    heap.update(own, tid(place), &row_of(values), Xid(horizon))
+    if heap.has_room(place.page, &row) {
+        heap.update_on_page(own, place, &row)
+    } else {
+        heap.update_full_page(own, place, &row, Xid(horizon))
+    }
 }
 
 pub fn delete(heap: &mut HeapState, own: &mut OwnIds, place: Place) -> Result<Xid, WriteFault> {
-    if !is_known(heap, own) {
-        return Err(WriteFault::Gone);
+    let place = tid(place);
+    if !is_known(heap, own) || !is_there(heap, place) {
+        return NOT_CALLED;
     }
-    heap.delete(own, tid(place))
+    heap.delete(own, place)
 }
 
 pub fn finish(heap: &mut HeapState, x: Xid, status: Status) {

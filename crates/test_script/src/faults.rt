@@ -34,7 +34,6 @@ static GIVE_FAULTS: [(GiveFault, &str); 2] = [
 ];
 
 static WRITE_FAULTS: [(WriteFault, &str); 4] = [
-    (WriteFault::Gone, "the version is gone"),
     (WriteFault::NeedsFreeze, "old ids have to be frozen first"),
     (WriteFault::NoRoom, "there is no room"),
     (WriteFault::NoMemory, "there is no memory"),

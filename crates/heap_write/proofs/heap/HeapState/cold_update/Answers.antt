@@ -14,7 +14,7 @@ pub write-requires-clause-within : goal.write-requires-clause-within
 write-requires-clause-within c =
     let n = c.args.place.page in
     let root = c.put_root-successor.ensures.root in
-    let within = subst (λ (h : HeapView). n < length h.pages.pages) (sym c.self.view_is) (there-within c.args.self.now c.args.place c.requires.there) in
+    let within = subst (λ (h : HeapView). n < length h.pages.pages) (sym c.self.view_is) (there-within c.args.self.now c.args.place c.requires.may.there) in
     subst (λ (h : HeapView). n < length h.pages.pages) (sym c.self-2.view_is)
     (puts-within c.self.inside.pages c.put_root-successor.new.self.pages c.put_root-successor.result.page n root.page within root.puts)
 
@@ -23,7 +23,7 @@ write-requires-clause-ready c =
     let version : (page : PageView) → slice_get c.self-2.inside.pages.pages c.args.place.page ≡ Some page → IsNormalAt page.slots c.args.place.slot = λ page at.
     stays-there c.args.self.now (record { pages = c.self.inside.pages; statuses = c.take_ids-x.new.statuses; indexes = c.self.inside.indexes; max_pages = c.self.inside.max_pages }) c.put_root-successor.new.self
     c.args.place c.take_ids-x.result.0 c.args.row.now c.put_root-successor.result.page page
-    (ap (λ (h : HeapView). h.pages) c.self.view_is) c.requires.there c.put_root-successor.ensures.root
+    (ap (λ (h : HeapView). h.pages) c.self.view_is) c.requires.may.there c.put_root-successor.ensures.root
     (sym (ap (λ (h : HeapView). slice_get h.pages.pages c.args.place.page) c.self-2.view_is) ∙ at) in
     grind serving
 
@@ -59,7 +59,7 @@ invariant_of-self-2 c =
     let away : MarksColdUpdated e.0 e.1 place successor x = search rules in
     let at = sym (ap (λ (h : HeapView). slice_get h.pages.pages place.page) c.self-2.view_is) ∙ e.2 in
     let normal = stays-there c.args.self.now (record { pages = c.self.inside.pages; statuses = c.take_ids-x.new.statuses; indexes = c.self.inside.indexes; max_pages = c.self.inside.max_pages }) c.put_root-successor.new.self
-    place x c.args.row.now successor.page e.0 (ap (λ (h : HeapView). h.pages) c.self.view_is) c.requires.there c.put_root-successor.ensures.root at in (
+    place x c.args.row.now successor.page e.0 (ap (λ (h : HeapView). h.pages) c.self.view_is) c.requires.may.there c.put_root-successor.ensures.root at in (
       c.self-2.invariant.0,
       hints-taken_away c.self-2.inside.statuses x place successor c.self-2.inside.pages.pages c.write.new.self.pages e.0 e.1 c.self-2.inside.hints.turns c.expect_write.new.hints.turns e.2
           (ap (λ (p : PagesView). p.pages) e.4) away normal c.expect_write.ensures c.self-2.invariant.1,

@@ -26,7 +26,7 @@ returns-clause-ok c =
     let takes = takes-grown h.statuses c.reserve_ids.new.statuses c.take_ids-x.new.statuses own c.reserve_ids.new.own c.take_ids-x.new.own x reserved.ids reserved.own reserved.none c.take_ids-x.ensures.takes in
     let h' : HeapView = record { pages = c.write.new.self; statuses = c.take_ids-x.new.statuses; indexes = c.self.inside.indexes; max_pages = c.self.inside.max_pages } in
     subst (λ (v : HeapView). VersionIsThere v c.args.place → Deletes v h' own c.take_ids-x.new.own c.args.place x) c.self.view_is
-    (λ there. deletes h h' own c.take_ids-x.new.own c.args.place x e.0 e.1 free takes there e.2 away (ap (λ (p : PagesView). p.pages) e.4) (ap (λ (p : PagesView). p.marks) e.4) (λ n. refl) refl) (c.is_there.ensures.0 c.if-not-is_there.false)
+    (λ there. deletes h h' own c.take_ids-x.new.own c.args.place x e.0 e.1 free takes there e.2 away (ap (λ (p : PagesView). p.pages) e.4) (ap (λ (p : PagesView). p.marks) e.4) (λ n. refl) refl) c.requires.there
 
 pub invariant_of-self : goal.invariant_of-self
 invariant_of-self c = (
@@ -37,7 +37,7 @@ invariant_of-self c = (
 pub write-requires-clause-ready : goal.write-requires-clause-ready
 write-requires-clause-ready c =
     let place = c.args.place in
-    let there : VersionIsThere (the_view c.self.inside) place = subst (λ (h : HeapView). VersionIsThere h place) (sym c.self.view_is) (c.is_there.ensures.0 c.if-not-is_there.false) in
+    let there : VersionIsThere (the_view c.self.inside) place = subst (λ (h : HeapView). VersionIsThere h place) (sym c.self.view_is) c.requires.there in
     let version : (page : PageView) → slice_get c.self.inside.pages.pages place.page ≡ Some page → IsNormalAt page.slots place.slot = λ page at. there-at (the_view c.self.inside) place page there at in
     grind serving
 
@@ -51,7 +51,7 @@ invariant_of-self-2 c =
     let pages = c.self.inside.pages.pages in
     let hints = c.self.inside.hints.turns in
     let away : MarksColdUpdated e.0 e.1 place place x = search rules in
-    let there : VersionIsThere (the_view c.self.inside) place = subst (λ (h : HeapView). VersionIsThere h place) (sym c.self.view_is) (c.is_there.ensures.0 c.if-not-is_there.false) in
+    let there : VersionIsThere (the_view c.self.inside) place = subst (λ (h : HeapView). VersionIsThere h place) (sym c.self.view_is) c.requires.there in
     let ready = hints-same_ids c.self.inside.statuses reserved.new.statuses pages hints reserved.ensures.ids c.self.invariant.1 in
     let given = hints-taken reserved.new.statuses taken.new.statuses reserved.new.own taken.new.own x pages hints taken.ensures.takes taken.ensures.window ready in (
       c.self.invariant.0,

@@ -34,7 +34,7 @@ invariant_of-self c =
     let row = c.args.row.now in
     let e = c.write-slot.ensures.writes in
     let slots : e.1.slots ≡ with_updated e.0.slots place.slot x place.page row = search rules in
-    let there : VersionIsThere (the_view c.self.inside) place = subst (λ (h : HeapView). VersionIsThere h place) (sym c.self.view_is) c.requires.there in
+    let there : VersionIsThere (the_view c.self.inside) place = subst (λ (h : HeapView). VersionIsThere h place) (sym c.self.view_is) c.requires.may.there in
     let given = hints-taken c.self.inside.statuses taken.new.statuses c.args.own.now taken.new.own x c.self.inside.pages.pages c.self.inside.hints.turns taken.ensures.takes taken.ensures.window c.self.invariant.1 in (
       c.self.invariant.0,
       hints-replaced taken.new.statuses x place row c.self.inside.pages.pages c.write-slot.new.self.pages e.0 e.1 c.self.inside.hints.turns c.expect_write.new.hints.turns e.2 (ap (λ (p : PagesView). p.pages) e.4)

@@ -1,27 +1,28 @@
-use Rattle.std.proofs.Common.{◌≡◌, ◌≤◌, ◌<◌, [], inl, Some, None, slice_get, sym, ap, ◌∙◌, subst, arith}
-use Rattle.std.specs.Prelude.{IfErr, IfOk}
+use Rattle.std.proofs.Common.{◌≡◌, ◌≤◌, ◌<◌, [], inl, inr, Some, None, slice_get, sym, ap, ◌∙◌, subst, arith}
 use Rattle.std.specs.Option.{option_copied}
 use Rattle.tuple_header.specs.Version.{rounded_size_of}
 use Rattle.page_slots.specs.View.{PageView}
-use Rattle.page_slots.specs.Slots.{room_of}
+use Rattle.page_slots.specs.Slots.{room_of, IsNormalAt}
 use Rattle.prune.specs.Actions.{applied}
 use Rattle.prune.specs.Pruning.{IsPlan}
 use Rattle.heap_write.specs.Heap.{HeapView}
-use Rattle.heap_write.specs.Writes.{Updates}
-use Rattle.heap_write.specs.Refusals.{FailsUpdate}
-use Rattle.heap_write.specs.Steps.{IsPlanOn}
-use Rattle.heap_write.proofs.PageLemmas.{keeps-all, nothing-there, page-at}
-use Rattle.heap_write.proofs.Plans.{plan-at, can-at, named-none}
+use Rattle.heap_write.specs.Refusals.{AnswersUpdate}
+use Rattle.heap_write.specs.Steps.{IsPlanOn, IsLeftAlone, IsReplaceable}
+use Rattle.heap_write.proofs.PageLemmas.{nothing-there, page-at, there-at}
+use Rattle.heap_write.proofs.Plans.{plan-at, can-at, named-none, named-goes, unnamed-stays, none-unnamed}
 use Rattle.heap_write.proofs.heap.HeapState.update_by_plan.Goals as goal
 
-pub returns-in-None-clause-fault : goal.returns-in-None-clause-fault
-returns-in-None-clause-fault c =
+pub unreachable-requires : goal.unreachable-requires
+unreachable-requires c =
     let h = c.args.self.now in
     let none : slice_get h.pages.pages c.args.place.page ≡ None = subst (λ (v : HeapView). slice_get v.pages.pages c.args.place.page ≡ None) c.self.view_is (sym c.page.ensures ∙ ap option_copied c.in-None.is) in
-    inl (nothing-there h c.args.place none, keeps-all h)
+    nothing-there h c.args.place none c.requires.may.there
 
-pub returns-then-is_empty-clause-ok : goal.returns-then-is_empty-clause-ok
-returns-then-is_empty-clause-ok c =
+pub update_unpruned-requires-clause-may : goal.update_unpruned-requires-clause-may
+update_unpruned-requires-clause-may c = subst (λ (h : HeapView). IsReplaceable h c.args.own.now c.args.place) (sym c.note_first_death.ensures) c.requires.may
+
+pub returns-then-is_empty : goal.returns-then-is_empty
+returns-then-is_empty c =
     let h = c.args.self.now in
     let n = c.args.place.page in
     let page = c.in-Some.page.now in
@@ -32,11 +33,11 @@ returns-then-is_empty-clause-ok c =
     let plan = plan-at h n horizon page actions at exact in
     let empty = subst (λ names. IsPlanOn h n horizon names) (named-none actions c.is_empty.result c.is_empty.ensures c.if-is_empty.true) plan in
     let done = c.update_unpruned in
-    subst (λ (v : HeapView). IsPlanOn v n horizon [] → IfOk done.result (λ x. Updates v done.new.self c.args.own.now done.new.own c.args.place c.args.row.now horizon x.0)) c.note_first_death.ensures
-    (done.ensures.ok horizon) empty
+    subst (λ (v : HeapView). IsLeftAlone v c.args.place horizon → AnswersUpdate v done.new.self c.args.own.now done.new.own c.args.place c.args.row.now horizon done.result) c.note_first_death.ensures
+    (done.ensures horizon) (inl empty)
 
-pub returns-then-is_empty-clause-fault : goal.returns-then-is_empty-clause-fault
-returns-then-is_empty-clause-fault c =
+pub returns-then-names : goal.returns-then-names
+returns-then-names c =
     let h = c.args.self.now in
     let n = c.args.place.page in
     let page = c.in-Some.page.now in
@@ -45,10 +46,7 @@ returns-then-is_empty-clause-fault c =
     let at : slice_get h.pages.pages n ≡ Some page = subst (λ (v : HeapView). slice_get v.pages.pages n ≡ Some page) c.self.view_is (sym c.page.ensures ∙ ap option_copied c.in-Some.is) in
     let exact = subst (λ (v : HeapView). IsPlan v.statuses horizon page.slots actions) c.self.view_is c.plan-plan.ensures.exact in
     let plan = plan-at h n horizon page actions at exact in
-    let empty = subst (λ names. IsPlanOn h n horizon names) (named-none actions c.is_empty.result c.is_empty.ensures c.if-is_empty.true) plan in
-    let done = c.update_unpruned in
-    subst (λ (v : HeapView). IsPlanOn v n horizon [] → IfErr done.result (λ fault. FailsUpdate v done.new.self c.args.own.now c.args.place c.args.row.now horizon fault)) c.note_first_death.ensures
-    (done.ensures.fault horizon) empty
+    c.update_unpruned-then-names.ensures horizon (inr (named-goes h c.args.place horizon actions c.requires.may.there plan (c.names.ensures.0 c.if-names.true)))
 
 pub update_on_pruned-requires-clause-planned : goal.update_on_pruned-requires-clause-planned
 update_on_pruned-requires-clause-planned c =
@@ -67,6 +65,17 @@ update_on_pruned-requires-clause-can_apply c =
     let actions = c.plan-plan.result.actions.items in
     let at : slice_get h.pages.pages n ≡ Some page = subst (λ (v : HeapView). slice_get v.pages.pages n ≡ Some page) c.self.view_is (sym c.page.ensures ∙ ap option_copied c.in-Some.is) in
     can-at h n page actions at c.plan-plan.ensures.can_apply
+
+pub update_on_pruned-requires-clause-stays : goal.update_on_pruned-requires-clause-stays
+update_on_pruned-requires-clause-stays c =
+    let h = c.args.self.now in
+    let n = c.args.place.page in
+    let page = c.in-Some.page.now in
+    let actions = c.plan-plan.result.actions.items in
+    let at : slice_get h.pages.pages n ≡ Some page = subst (λ (v : HeapView). slice_get v.pages.pages n ≡ Some page) c.self.view_is (sym c.page.ensures ∙ ap option_copied c.in-Some.is) in
+    let here = unnamed-stays c.self.inside.statuses c.args.horizon.0 page actions c.args.place.slot c.plan-plan.ensures.exact (none-unnamed actions c.args.place.slot c.names.result c.names.ensures c.if-names.false)
+    (there-at h c.args.place page c.requires.may.there at) in
+    subst (λ (p : PageView). IsNormalAt (applied actions p).slots c.args.place.slot) (sym (page-at h.pages.pages n page at)) here
 
 pub update_on_pruned-requires-clause-fits : goal.update_on_pruned-requires-clause-fits
 update_on_pruned-requires-clause-fits c =
@@ -87,6 +96,17 @@ update_off_pruned-requires-clause-can_apply c =
     let at : slice_get h.pages.pages n ≡ Some page = subst (λ (v : HeapView). slice_get v.pages.pages n ≡ Some page) c.self.view_is (sym c.page.ensures ∙ ap option_copied c.in-Some.is) in
     can-at h n page actions at c.plan-plan.ensures.can_apply
 
+pub update_off_pruned-requires-clause-stays : goal.update_off_pruned-requires-clause-stays
+update_off_pruned-requires-clause-stays c =
+    let h = c.args.self.now in
+    let n = c.args.place.page in
+    let page = c.in-Some.page.now in
+    let actions = c.plan-plan.result.actions.items in
+    let at : slice_get h.pages.pages n ≡ Some page = subst (λ (v : HeapView). slice_get v.pages.pages n ≡ Some page) c.self.view_is (sym c.page.ensures ∙ ap option_copied c.in-Some.is) in
+    let here = unnamed-stays c.self.inside.statuses c.args.horizon.0 page actions c.args.place.slot c.plan-plan.ensures.exact (none-unnamed actions c.args.place.slot c.names.result c.names.ensures c.if-names.false)
+    (there-at h c.args.place page c.requires.may.there at) in
+    subst (λ (p : PageView). IsNormalAt (applied actions p).slots c.args.place.slot) (sym (page-at h.pages.pages n page at)) here
+
 pub update_off_pruned-requires-clause-full : goal.update_off_pruned-requires-clause-full
 update_off_pruned-requires-clause-full c =
     let h = c.args.self.now in
@@ -97,8 +117,8 @@ update_off_pruned-requires-clause-full c =
     let here : room_of (applied actions page).slots < rounded_size_of c.args.row.now = omega (arith, c.row_size.ensures.value, c.room_after.ensures, c.if-row_size-room_after.false) in
     subst (λ (p : PageView). room_of (applied actions p).slots < rounded_size_of c.args.row.now) (sym (page-at h.pages.pages n page at)) here
 
-pub returns-then-row_size-room_after-clause-ok : goal.returns-then-row_size-room_after-clause-ok
-returns-then-row_size-room_after-clause-ok c =
+pub returns-then-row_size-room_after : goal.returns-then-row_size-room_after
+returns-then-row_size-room_after c =
     let h = c.args.self.now in
     let n = c.args.place.page in
     let page = c.in-Some.page.now in
@@ -106,11 +126,10 @@ returns-then-row_size-room_after-clause-ok c =
     let horizon = c.args.horizon.0 in
     let at : slice_get h.pages.pages n ≡ Some page = subst (λ (v : HeapView). slice_get v.pages.pages n ≡ Some page) c.self.view_is (sym c.page.ensures ∙ ap option_copied c.in-Some.is) in
     let exact = subst (λ (v : HeapView). IsPlan v.statuses horizon page.slots actions) c.self.view_is c.plan-plan.ensures.exact in
-    let plan = plan-at h n horizon page actions at exact in
-    c.update_on_pruned.ensures.ok horizon plan
+    c.update_on_pruned.ensures horizon (plan-at h n horizon page actions at exact)
 
-pub returns-then-row_size-room_after-clause-fault : goal.returns-then-row_size-room_after-clause-fault
-returns-then-row_size-room_after-clause-fault c =
+pub returns-else-row_size-room_after : goal.returns-else-row_size-room_after
+returns-else-row_size-room_after c =
     let h = c.args.self.now in
     let n = c.args.place.page in
     let page = c.in-Some.page.now in
@@ -118,29 +137,4 @@ returns-then-row_size-room_after-clause-fault c =
     let horizon = c.args.horizon.0 in
     let at : slice_get h.pages.pages n ≡ Some page = subst (λ (v : HeapView). slice_get v.pages.pages n ≡ Some page) c.self.view_is (sym c.page.ensures ∙ ap option_copied c.in-Some.is) in
     let exact = subst (λ (v : HeapView). IsPlan v.statuses horizon page.slots actions) c.self.view_is c.plan-plan.ensures.exact in
-    let plan = plan-at h n horizon page actions at exact in
-    c.update_on_pruned.ensures.fault horizon plan
-
-pub returns-else-row_size-room_after-clause-ok : goal.returns-else-row_size-room_after-clause-ok
-returns-else-row_size-room_after-clause-ok c =
-    let h = c.args.self.now in
-    let n = c.args.place.page in
-    let page = c.in-Some.page.now in
-    let actions = c.plan-plan.result.actions.items in
-    let horizon = c.args.horizon.0 in
-    let at : slice_get h.pages.pages n ≡ Some page = subst (λ (v : HeapView). slice_get v.pages.pages n ≡ Some page) c.self.view_is (sym c.page.ensures ∙ ap option_copied c.in-Some.is) in
-    let exact = subst (λ (v : HeapView). IsPlan v.statuses horizon page.slots actions) c.self.view_is c.plan-plan.ensures.exact in
-    let plan = plan-at h n horizon page actions at exact in
-    c.update_off_pruned.ensures.ok horizon plan
-
-pub returns-else-row_size-room_after-clause-fault : goal.returns-else-row_size-room_after-clause-fault
-returns-else-row_size-room_after-clause-fault c =
-    let h = c.args.self.now in
-    let n = c.args.place.page in
-    let page = c.in-Some.page.now in
-    let actions = c.plan-plan.result.actions.items in
-    let horizon = c.args.horizon.0 in
-    let at : slice_get h.pages.pages n ≡ Some page = subst (λ (v : HeapView). slice_get v.pages.pages n ≡ Some page) c.self.view_is (sym c.page.ensures ∙ ap option_copied c.in-Some.is) in
-    let exact = subst (λ (v : HeapView). IsPlan v.statuses horizon page.slots actions) c.self.view_is c.plan-plan.ensures.exact in
-    let plan = plan-at h n horizon page actions at exact in
-    c.update_off_pruned.ensures.fault horizon plan
+    c.update_off_pruned.ensures horizon (plan-at h n horizon page actions at exact)

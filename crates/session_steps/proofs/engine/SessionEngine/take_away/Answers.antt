@@ -8,7 +8,8 @@ use Rattle.session_steps.specs.Writes.{outcome_of}
 use Rattle.session_steps.specs.Replies.{reply_to}
 use Rattle.session_steps.specs.Exact.{AnswersStep}
 use Rattle.refinement.specs.declared.step.Step.TheVariants.{Delete}
-use Rattle.session_steps.proofs.Trying.{with_session, newest-given, tries-delete, keeps-deleted, delete-tried, exact-deleted}
+use Rattle.heap_write.specs.Refusals.{VersionIsThere}
+use Rattle.session_steps.proofs.Trying.{with_session, newest-given, place-there, tries-delete, keeps-deleted, delete-tried, exact-deleted}
 use Rattle.session_steps.proofs.Writing.{Follows-deleted}
 use Rattle.session_steps.proofs.engine.SessionEngine.take_away.Goals as goal
 
@@ -18,10 +19,15 @@ open_mut-session-requires c =
     let may = subst M (sym c.self.view_is) c.requires in
     λ none. none-some may.session (sym none ∙ may.reads.at)
 
-pub delete-requires : goal.delete-requires
-delete-requires c =
+pub delete-requires-clause-newest : goal.delete-requires-clause-newest
+delete-requires-clause-newest c =
     let e = c.open_mut-session.result.now in
-    record { newest = newest-given c.self.inside.heap.statuses e.own.ids e.own.saved c.are_prefixes.ensures.prefixes (λ x mine. c.self.invariant.own.active c.args.s e x c.open_mut-session.ensures.value mine) }
+    newest-given c.self.inside.heap.statuses e.own.ids e.own.saved c.are_prefixes.ensures.prefixes (λ x mine. c.self.invariant.own.active c.args.s e x c.open_mut-session.ensures.value mine)
+
+pub delete-requires-clause-there : goal.delete-requires-clause-there
+delete-requires-clause-there c =
+    let may = c.requires in
+    subst (λ (st : State). VersionIsThere st.heap c.args.place) (sym c.self.view_is) (place-there c.args.self.now.heap may.session c.args.key c.args.place may.reads.finds)
 
 pub invariant_of-self : goal.invariant_of-self
 invariant_of-self c =

@@ -1,0 +1,29 @@
+use Rattle.std.proofs.Common.{subst, inl}
+use Rattle.std.proofs.lemmas.Bool.{iff_false}
+use Rattle.commit_status.specs.Window.{IsWindow}
+use Rattle.heap_write.specs.Heap.{HeapView}
+use Rattle.heap_write.specs.Writes.{NeedsFreeze}
+use Rattle.heap_write.proofs.Updating.{answers-freeze}
+use Rattle.heap_write.proofs.Plans.{idle-plan_on}
+use Rattle.heap_write.proofs.heap.HeapState.update_full_page.Goals as goal
+
+pub returns-then-needs_freeze : goal.returns-then-needs_freeze
+returns-then-needs_freeze c =
+    let needs = subst (λ (h : HeapView). NeedsFreeze h.statuses c.args.own.now) c.self.view_is (c.needs_freeze.ensures.0 c.if-needs_freeze.true) in
+    answers-freeze c.args.self.now c.args.own.now c.args.place c.args.row.now c.args.horizon.0 needs
+    (subst (λ (h : HeapView). IsWindow h.statuses) c.self.view_is c.is_window.ensures)
+
+pub update_unpruned-requires-clause-may : goal.update_unpruned-requires-clause-may
+update_unpruned-requires-clause-may c =
+    let free = subst (λ (h : HeapView). ¬ NeedsFreeze h.statuses c.args.own.now) c.self.view_is (iff_false c.needs_freeze.ensures c.if-needs_freeze.false) in
+    record { newest = c.requires.newest; free = free; there = c.requires.there }
+
+pub update_by_plan-requires-clause-may : goal.update_by_plan-requires-clause-may
+update_by_plan-requires-clause-may c =
+    let free = subst (λ (h : HeapView). ¬ NeedsFreeze h.statuses c.args.own.now) c.self.view_is (iff_false c.needs_freeze.ensures c.if-needs_freeze.false) in
+    record { newest = c.requires.newest; free = free; there = c.requires.there }
+
+pub returns-then-knows_none_dead : goal.returns-then-knows_none_dead
+returns-then-knows_none_dead c =
+    let horizon = c.args.horizon.0 in
+    c.update_unpruned.ensures horizon (inl (idle-plan_on c.args.self.now c.args.place.page horizon (c.knows_none_dead.ensures c.if-knows_none_dead.true)))
