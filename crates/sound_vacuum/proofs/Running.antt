@@ -83,7 +83,7 @@ module _ (h h' : HeapView) (v v' : VacuumView) (horizon p : ℕ) (can : CanVacuu
   ids = (visit-safe h h' v v' horizon p can keeps visit).ids
 
   visit-used : IsInUse h'.indexes 0
-  visit-used = ((visit-safe h h' v v' horizon p can keeps visit).statuses.in_use 0).0 can.by_key
+  visit-used = ((visit-safe h h' v v' horizon p can keeps visit).table.in_use 0).0 can.by_key
 
   visit-count : length h'.pages.pages ≡ length h.pages.pages
   visit-count = notes-count visit.visited h' p horizon visit.notes
