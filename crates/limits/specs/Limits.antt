@@ -6,7 +6,7 @@ use Rattle.root_index.specs.View.{free_places}
 use Rattle.heap_pages.specs.declared.pages.TheConstants.{MAX_PAGES}
 use Rattle.snapshot.specs.declared.own.TheConstants.{MOST_SAVEPOINTS}
 use Rattle.snapshot.specs.Snap.{are_many}
-use Rattle.refinement.specs.declared.reply.Refusal.TheVariants.{NoSuchSession}
+use Rattle.calls.specs.declared.reply.Refusal.TheVariants.{NoSuchSession}
 use Rattle.session_steps.specs.State.{State}
 use Rattle.session_steps.specs.Refuses.{Refuses}
 use Rattle.script_text.specs.declared.line.TheConstants.{MAX_LINE}

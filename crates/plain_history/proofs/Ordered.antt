@@ -15,7 +15,8 @@ use Rattle.history.specs.History.{Write, Transaction, said, written, latest, com
 use Rattle.history.specs.World.{OpenSession, joined, own_write, view}
 use Rattle.history.proofs.HistoryLemmas.{written-append, said-other, option_or-none, option_or_assoc}
 use Rattle.plain_history.proofs.Lists.{written-take, latest-take, joined-take}
-use Rattle.history.specs.Cursors.{value_in, ComesBefore, kept_where, keys_of, without, AreNext}
+use Rattle.tuple_header.specs.IndexValue.{value_in}
+use Rattle.history.specs.Cursors.{ComesBefore, kept_where, keys_of, without, AreNext}
 use Rattle.plain_history.specs.Order.{row_in, comes_before, ComesBeforeAll, IsInOrder, placed, has, AddsRow}
 
 -- the order of two values with their keys

@@ -8,7 +8,8 @@ use Rattle.plain_history.specs.declared.cursor.PlainOrder.{PlainOrder}
 use Rattle.plain_history.specs.declared.cursor.PlainOrder.TheVariants.{Index, Heap, Keys}
 use Rattle.plain_history.specs.declared.cursor.Bounds.{Bounds}
 use Rattle.plain_history.specs.declared.cursor.Bounds.TheVariants.{All, Within}
-use Rattle.history.specs.Cursors.{value_in, kept_where}
+use Rattle.tuple_header.specs.IndexValue.{value_in}
+use Rattle.history.specs.Cursors.{kept_where}
 
 pub record KeptCursor : Type 0 where
   pub order : PlainOrder

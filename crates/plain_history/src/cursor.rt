@@ -3,7 +3,8 @@
 ghost use Rattle.std.specs.Prelude.{◌≡◌, ◌≤◌, ◌∷◌, IsSome, ℕ, [], ◌++◌, OnOk, OnErr, IfOk, IsTrue, ◌↔◌, None, Some, false, length, take, drop};
 ghost use Rattle.history.specs.History.{written, latest};
 ghost use Rattle.history.specs.World.{joined, view};
-ghost use Rattle.history.specs.Cursors.{value_in, keys_of, IsOver};
+ghost use Rattle.tuple_header.specs.IndexValue.{value_in};
+ghost use Rattle.history.specs.Cursors.{keys_of, IsOver};
 ghost use Rattle.plain_history.specs.Plain.{open_of, cursor_of};
 ghost use Rattle.plain_history.specs.Order.{row_in, comes_before, placed, IsInOrder, has, is_wanted, wanted, AddsRow, Covers, index_of};
 ghost use Rattle.plain_history.specs.Answers.{Hands};

@@ -9,11 +9,11 @@ use Rattle.commit_status.specs.declared.status.Status.TheVariants.{Committed, Ab
 use Rattle.snapshot.specs.Snap.{Snap}
 use Rattle.history.specs.World.{World, view}
 use Rattle.history.specs.Moves.{stepped}
-use Rattle.refinement.specs.declared.step.Step.TheVariants.{Begin, Get, Commit, Abort, Prune}
-use Rattle.refinement.specs.declared.reply.Reply.TheVariants.{Done, Found, RolledBack, Refused}
-use Rattle.refinement.specs.declared.reply.Reply.TheVariants as reply
-use Rattle.refinement.specs.declared.reply.Refusal.{Refusal}
-use Rattle.refinement.specs.declared.reply.Refusal.TheVariants.{NotOpen, AlreadyOpen, Failed, CursorOpen, NoCursor, NoSuchSession}
+use Rattle.calls.specs.declared.step.Step.TheVariants.{Begin, Get, Commit, Abort, Prune}
+use Rattle.calls.specs.declared.reply.Reply.TheVariants.{Done, Found, RolledBack, Refused}
+use Rattle.calls.specs.declared.reply.Reply.TheVariants as reply
+use Rattle.calls.specs.declared.reply.Refusal.{Refusal}
+use Rattle.calls.specs.declared.reply.Refusal.TheVariants.{NotOpen, AlreadyOpen, Failed, CursorOpen, NoCursor, NoSuchSession}
 use Rattle.refinement.specs.Allowed.{AllowsClosed, AllowsUnready, AllowsBarred, AllowsBare, Allows}
 use Rattle.refinement.specs.Heap.{SeenSession, Heap}
 use Rattle.refinement.specs.Visible.{IsFreshSnapshot, ReaderSees}

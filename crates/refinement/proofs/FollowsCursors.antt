@@ -13,12 +13,12 @@ use Rattle.history.specs.History.{Transaction}
 use Rattle.history.specs.World.{World, OpenSession, Cursor, by_index, by_heap, view, IsReady}
 use Rattle.history.specs.Cursors.{rows_within, keys_of}
 use Rattle.history.specs.Moves.{change, past, with_taken}
-use Rattle.refinement.specs.declared.step.Step.{Step}
-use Rattle.refinement.specs.declared.step.Step.TheVariants.{OpenIndex, OpenHeap, Next, Close}
-use Rattle.refinement.specs.declared.reply.Reply.{Reply}
-use Rattle.refinement.specs.declared.reply.Reply.TheVariants.{Done, Rows, End, Refused}
-use Rattle.refinement.specs.declared.reply.Refusal.{Refusal}
-use Rattle.refinement.specs.declared.reply.Refusal.TheVariants.{NoMemory, NoSuchIndex, BadBounds}
+use Rattle.calls.specs.declared.step.Step.{Step}
+use Rattle.calls.specs.declared.step.Step.TheVariants.{OpenIndex, OpenHeap, Next, Close}
+use Rattle.calls.specs.declared.reply.Reply.{Reply}
+use Rattle.calls.specs.declared.reply.Reply.TheVariants.{Done, Rows, End, Refused}
+use Rattle.calls.specs.declared.reply.Refusal.{Refusal}
+use Rattle.calls.specs.declared.reply.Refusal.TheVariants.{NoMemory, NoSuchIndex, BadBounds}
 use Rattle.refinement.specs.Allowed.{Allows, next}
 use Rattle.refinement.specs.Heap.{RowPosition, Position, in_index, in_heap, SeenSession, Heap}
 use Rattle.refinement.specs.Visible.{ReaderSees, At}

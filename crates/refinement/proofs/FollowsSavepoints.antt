@@ -6,10 +6,10 @@ use Rattle.commit_status.specs.declared.status.Status.{Status}
 use Rattle.commit_status.specs.declared.status.Status.TheVariants.{Aborted}
 use Rattle.snapshot.specs.Snap.{Snap}
 use Rattle.history.specs.World.{World}
-use Rattle.refinement.specs.declared.step.Step.TheVariants.{Savepoint, RollbackTo, Release}
-use Rattle.refinement.specs.declared.reply.Reply.TheVariants.{Done, Refused}
-use Rattle.refinement.specs.declared.reply.Refusal.{Refusal}
-use Rattle.refinement.specs.declared.reply.Refusal.TheVariants.{CursorOpen, TooDeep, NoSavepoint, NoMemory}
+use Rattle.calls.specs.declared.step.Step.TheVariants.{Savepoint, RollbackTo, Release}
+use Rattle.calls.specs.declared.reply.Reply.TheVariants.{Done, Refused}
+use Rattle.calls.specs.declared.reply.Refusal.{Refusal}
+use Rattle.calls.specs.declared.reply.Refusal.TheVariants.{CursorOpen, TooDeep, NoSavepoint, NoMemory}
 use Rattle.refinement.specs.Allowed.{savepoints, Allows}
 use Rattle.refinement.specs.Heap.{SeenSession, Heap}
 use Rattle.refinement.specs.Changes.{FinishesIds}

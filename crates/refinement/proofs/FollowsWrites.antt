@@ -10,10 +10,10 @@ use Rattle.tuple_header.specs.Version.{Version}
 use Rattle.history.specs.History.{IsLate}
 use Rattle.history.specs.World.{World, OpenSession, view, Holds}
 use Rattle.history.specs.Moves.{put, with_row, without_row}
-use Rattle.refinement.specs.declared.step.Step.TheVariants.{Insert, Update, Delete}
-use Rattle.refinement.specs.declared.reply.Reply.TheVariants.{Done}
-use Rattle.refinement.specs.Words.{RowText, FitsRow, row_of}
-use Rattle.refinement.specs.Writes.{inserts, updates, deletes}
+use Rattle.calls.specs.declared.step.Step.TheVariants.{Insert, Update, Delete}
+use Rattle.calls.specs.declared.reply.Reply.TheVariants.{Done}
+use Rattle.calls.specs.Words.{RowText, FitsRow, row_of}
+use Rattle.calls.specs.Writes.{inserts, updates, deletes}
 use Rattle.refinement.specs.Allowed.{Allows, next}
 use Rattle.refinement.specs.Heap.{SeenSession, Heap}
 use Rattle.refinement.specs.Visible.{ReaderSees, At}

@@ -7,12 +7,12 @@ use Rattle.tuple_header.specs.declared.version.Row.{Row}
 use Rattle.history.specs.History.{IsLate}
 use Rattle.history.specs.World.{World, OpenSession, own_write, view, Holds, IsWriter, MayWrite}
 use Rattle.history.specs.Moves.{put, as_failed}
-use Rattle.refinement.specs.declared.step.Step.TheVariants.{Insert}
-use Rattle.refinement.specs.declared.reply.Reply.TheVariants.{Refused}
-use Rattle.refinement.specs.declared.reply.Refusal.{Refusal}
-use Rattle.refinement.specs.declared.reply.Refusal.TheVariants.{AlreadyThere, NotThere, Conflict, Busy, TooLarge, NoRoom, NeedsFreeze, NoMemory}
-use Rattle.refinement.specs.Words.{RowText, FitsRow}
-use Rattle.refinement.specs.Writes.{WriteStep, inserts, updates, deletes, step_of, key_of, IsPut, Asks}
+use Rattle.calls.specs.declared.step.Step.TheVariants.{Insert}
+use Rattle.calls.specs.declared.reply.Reply.TheVariants.{Refused}
+use Rattle.calls.specs.declared.reply.Refusal.{Refusal}
+use Rattle.calls.specs.declared.reply.Refusal.TheVariants.{AlreadyThere, NotThere, Conflict, Busy, TooLarge, NoRoom, NeedsFreeze, NoMemory}
+use Rattle.calls.specs.Words.{RowText, FitsRow}
+use Rattle.calls.specs.Writes.{WriteStep, inserts, updates, deletes, step_of, key_of, IsPut, Asks}
 use Rattle.refinement.specs.Allowed.{AllowsHindered, AllowsWrite, Suits, refused_write}
 use Rattle.refinement.specs.Heap.{SeenSession, Heap}
 use Rattle.refinement.specs.Agrees.{HeapAgrees}

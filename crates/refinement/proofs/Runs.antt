@@ -5,15 +5,16 @@ use Rattle.history.specs.Moves.{stepped}
 use Rattle.history.specs.Events.{Happens, passes, begins, conflicts, saves, rolls_back_to, releases, commits, aborts, opens_index, opens_heap, takes, closes, StepsReach, stays, goes_on}
 use Rattle.history.specs.Events as events
 use Rattle.history.proofs.RunLemmas.{Lawful-beginning, Lawful-run, indexes-run}
-use Rattle.refinement.specs.declared.step.Step.{Step}
-use Rattle.refinement.specs.declared.step.Step.TheVariants.{Begin, Insert, Update, Delete, Savepoint, RollbackTo, Release, Commit, Abort, OpenIndex, OpenHeap, Next, Close}
-use Rattle.refinement.specs.declared.reply.Reply.{Reply}
-use Rattle.refinement.specs.declared.reply.Reply.TheVariants.{Done, Committed, RolledBack, Rows, Refused}
-use Rattle.refinement.specs.declared.reply.Refusal.{Refusal}
-use Rattle.refinement.specs.declared.reply.Refusal.TheVariants.{Conflict}
-use Rattle.refinement.specs.Words.{row_of}
-use Rattle.refinement.specs.Writes.{WriteStep, inserts, updates, deletes, key_of}
-use Rattle.refinement.specs.Allowed.{session_of, savepoints, passed, Allows, AllowsHindered, refused_write, next, IsRun, after, IsLawful}
+use Rattle.calls.specs.declared.step.Step.{Step}
+use Rattle.calls.specs.declared.step.Step.TheVariants.{Begin, Insert, Update, Delete, Savepoint, RollbackTo, Release, Commit, Abort, OpenIndex, OpenHeap, Next, Close}
+use Rattle.calls.specs.declared.reply.Reply.{Reply}
+use Rattle.calls.specs.declared.reply.Reply.TheVariants.{Done, Committed, RolledBack, Rows, Refused}
+use Rattle.calls.specs.declared.reply.Refusal.{Refusal}
+use Rattle.calls.specs.declared.reply.Refusal.TheVariants.{Conflict}
+use Rattle.calls.specs.Words.{row_of}
+use Rattle.calls.specs.Writes.{WriteStep, inserts, updates, deletes, key_of}
+use Rattle.calls.specs.Steps.{session_of}
+use Rattle.refinement.specs.Allowed.{savepoints, passed, Allows, AllowsHindered, refused_write, next, IsRun, after, IsLawful}
 
 refused_happens : (w : World) (s : ℕ) (write : WriteStep) (r : Refusal) → AllowsHindered w s r write → Happens w s (refused_write w s r)
 refused_happens w s write Conflict allows = conflicts (key_of write) allows.0 allows.1.writer allows.2

@@ -5,46 +5,19 @@ use Rattle.history.specs.World.{World, OpenSession, Cursor, beginning, view, IsR
 use Rattle.history.specs.Cursors.{keys_of, IsOver, HandsOutPart}
 use Rattle.history.specs.Moves.{stepped, begun, change, with_row, without_row, as_failed, with_savepoint, rolled_back_to, without_savepoint, aborted, committed_by, with_index_cursor, with_heap_cursor, with_taken, without_cursor}
 use Rattle.history.specs.Laws.{FirstCommitterWins, HeldInTime, HeldOnce}
-use Rattle.refinement.specs.declared.step.Step.{Step}
-use Rattle.refinement.specs.declared.step.Step.TheVariants.{Begin, Get, Insert, Update, Delete, Savepoint, RollbackTo, Release, Commit, Abort, OpenIndex, OpenHeap, Next, Close, Prune, VacuumBegin, VacuumStep, VacuumCancel}
-use Rattle.refinement.specs.declared.reply.Reply.{Reply}
-use Rattle.refinement.specs.declared.reply.Reply.TheVariants.{Done, Found, Committed, RolledBack, Rows, End, Worked, Ended, Refused}
-use Rattle.refinement.specs.declared.reply.Refusal.{Refusal}
-use Rattle.refinement.specs.declared.reply.Refusal.TheVariants.{NotOpen, AlreadyOpen, Failed, AlreadyThere, NotThere, Conflict, Busy, CursorOpen, NoCursor, TooDeep, NoSavepoint, TooLarge, NoRoom, NeedsFreeze, NoMemory, VacuumRunning, NoVacuum, NoSuchPage, NoSuchIndex, NoSuchSession, BadBounds}
-use Rattle.refinement.specs.Words.{FitsRow, row_of}
-use Rattle.refinement.specs.Writes.{WriteStep, inserts, updates, deletes, key_of, IsPut, Asks}
+use Rattle.calls.specs.declared.step.Step.{Step}
+use Rattle.calls.specs.declared.step.Step.TheVariants.{Begin, Get, Insert, Update, Delete, Savepoint, RollbackTo, Release, Commit, Abort, OpenIndex, OpenHeap, Next, Close, Prune, VacuumBegin, VacuumStep, VacuumCancel}
+use Rattle.calls.specs.declared.reply.Reply.{Reply}
+use Rattle.calls.specs.declared.reply.Reply.TheVariants.{Done, Found, Committed, RolledBack, Rows, End, Worked, Ended, Refused}
+use Rattle.calls.specs.declared.reply.Refusal.{Refusal}
+use Rattle.calls.specs.declared.reply.Refusal.TheVariants.{NotOpen, AlreadyOpen, Failed, AlreadyThere, NotThere, Conflict, Busy, CursorOpen, NoCursor, TooDeep, NoSavepoint, TooLarge, NoRoom, NeedsFreeze, NoMemory, VacuumRunning, NoVacuum, NoSuchPage, NoSuchIndex, NoSuchSession, BadBounds}
+use Rattle.calls.specs.Steps.{session_of}
+use Rattle.calls.specs.Words.{FitsRow, row_of}
+use Rattle.calls.specs.Writes.{WriteStep, inserts, updates, deletes, key_of, IsPut, Asks}
 use Rattle.snapshot.specs.declared.own.TheConstants.{MOST_SAVEPOINTS}
 
 abbrev pub IsOpen : World → ℕ → OpenSession → Type 0
 IsOpen w s m = w.session s ≡ Some m
-
--- whose step it is; cleaning is nobody's
-abbrev pub session_of : Step → Option ℕ
-session_of (Begin s) = Some s
-session_of (Get s k) = Some s
-session_of (Insert s row) = Some s
-session_of (Update s row) = Some s
-session_of (Delete s k) = Some s
-session_of (Savepoint s) = Some s
-session_of (RollbackTo s) = Some s
-session_of (Release s) = Some s
-session_of (Commit s) = Some s
-session_of (Abort s) = Some s
-session_of (OpenIndex s index low high) = Some s
-session_of (OpenHeap s) = Some s
-session_of (Next s n) = Some s
-session_of (Close s) = Some s
-session_of (Prune p) = None
-session_of (VacuumBegin mode) = None
-session_of VacuumStep = None
-session_of VacuumCancel = None
-
--- whether it is a vacuum's
-abbrev pub is_vacuum_step : Step → Bool
-is_vacuum_step (VacuumBegin mode) = true
-is_vacuum_step VacuumStep = true
-is_vacuum_step VacuumCancel = true
-is_vacuum_step step = false
 
 -- the write suits the session: it may write, and what it reads of the key is what the write asks for
 pub record Suits (w : World) (s : ℕ) (write : WriteStep) (m : OpenSession) : Type 0 where

@@ -5,7 +5,8 @@ use Rattle.xid_circle.specs.declared.Tid.{Tid}
 use Rattle.tuple_header.specs.declared.version.Row.{Row}
 use Rattle.tuple_header.specs.Version.{Version}
 use Rattle.history.specs.World.{Cursor, Order, by_index, by_heap}
-use Rattle.history.specs.Cursors.{value_in, ComesBefore}
+use Rattle.tuple_header.specs.IndexValue.{value_in}
+use Rattle.history.specs.Cursors.{ComesBefore}
 use Rattle.refinement.specs.Heap.{RowPosition, Position, in_index, in_heap}
 use Rattle.refinement.specs.Visible.{At}
 

@@ -1,8 +1,8 @@
 -- Rows that are written one after another.
 use Rattle.std.proofs.Common.{◌≡◌, ℕ, zero, suc, ◌+◌, ◌<◌, List, [], ◌∷◌, length, take, slice_get, get_or, Some, refl, subst, arith}
 use Rattle.tuple_header.specs.declared.row_place.RowPlace.{RowPlace}
-use Rattle.refinement.specs.declared.step.Step.{Step}
-use Rattle.refinement.specs.Words.{RowText}
+use Rattle.calls.specs.declared.step.Step.{Step}
+use Rattle.calls.specs.Words.{RowText}
 use Rattle.sandpiper_c.specs.declared.database.Sandpiper.{Sandpiper}
 use Rattle.sandpiper_c.specs.declared.status.CallStatus.TheVariants as status
 use Rattle.sandpiper_c.specs.CallStatus.{number_of_status}

@@ -1,11 +1,11 @@
 -- What a call answers, and the number that C has for it.
 use Rattle.std.specs.Prelude.{◌≡◌, ℕ, ◌+◌, Bool, true, false, nat_le, Some, None}
-use Rattle.refinement.specs.declared.reply.Reply.{Reply}
-use Rattle.refinement.specs.declared.reply.Reply.TheVariants as reply
-use Rattle.refinement.specs.declared.reply.Refusal.{Refusal}
-use Rattle.refinement.specs.declared.reply.Refusal.TheVariants as refusal
-use Rattle.refinement.specs.declared.settings.SettingsFault.{SettingsFault}
-use Rattle.refinement.specs.declared.settings.SettingsFault.TheVariants as fault
+use Rattle.calls.specs.declared.reply.Reply.{Reply}
+use Rattle.calls.specs.declared.reply.Reply.TheVariants as reply
+use Rattle.calls.specs.declared.reply.Refusal.{Refusal}
+use Rattle.calls.specs.declared.reply.Refusal.TheVariants as refusal
+use Rattle.calls.specs.declared.settings.SettingsFault.{SettingsFault}
+use Rattle.calls.specs.declared.settings.SettingsFault.TheVariants as fault
 use Rattle.sandpiper_c.specs.declared.status.CallStatus.{CallStatus}
 use Rattle.sandpiper_c.specs.declared.status.CallStatus.TheVariants as status
 

@@ -3,13 +3,13 @@ use Rattle.std.specs.Prelude.{◌≡◌, ◌⊎◌, ℕ, ◌<◌, Option, Some, 
 use Rattle.tuple_header.specs.declared.row_place.RowPlace.{RowPlace}
 use Rattle.tuple_header.specs.declared.version.Row.{Row}
 use Rattle.tuple_header.specs.Places.{place_with}
-use Rattle.refinement.specs.declared.settings.Settings.{Settings}
-use Rattle.refinement.specs.declared.settings.SettingsFault.{SettingsFault}
-use Rattle.refinement.specs.declared.step.Step.{Step}
-use Rattle.refinement.specs.declared.reply.Reply.{Reply}
-use Rattle.refinement.specs.declared.reply.Reply.TheVariants as reply
-use Rattle.refinement.specs.declared.reply.Refusal.TheVariants as refusal
-use Rattle.refinement.specs.Words.{RowText, FirstFault}
+use Rattle.calls.specs.declared.settings.Settings.{Settings}
+use Rattle.calls.specs.declared.settings.SettingsFault.{SettingsFault}
+use Rattle.calls.specs.declared.step.Step.{Step}
+use Rattle.calls.specs.declared.reply.Reply.{Reply}
+use Rattle.calls.specs.declared.reply.Reply.TheVariants as reply
+use Rattle.calls.specs.declared.reply.Refusal.TheVariants as refusal
+use Rattle.calls.specs.Words.{RowText, FirstFault}
 use Rattle.vacuum_engine.specs.Clauses.{EngineFollows}
 use Rattle.vacuum_engine.specs.Exact.{EngineExact}
 use Rattle.vacuum_engine.specs.New.{IsNewEngine}

@@ -1,9 +1,9 @@
 -- What a call does that writes many rows.
 use Rattle.std.specs.Prelude.{◌≡◌, ◌≢◌, ◌⊎◌, ℕ, List, [], ◌∷◌, length, take, slice_get, Some}
 use Rattle.tuple_header.specs.declared.row_place.RowPlace.{RowPlace}
-use Rattle.refinement.specs.declared.step.Step.{Step}
-use Rattle.refinement.specs.declared.step.Step.TheVariants as step
-use Rattle.refinement.specs.Words.{RowText}
+use Rattle.calls.specs.declared.step.Step.{Step}
+use Rattle.calls.specs.declared.step.Step.TheVariants as step
+use Rattle.calls.specs.Words.{RowText}
 use Rattle.sandpiper_c.specs.declared.database.Sandpiper.{Sandpiper}
 use Rattle.sandpiper_c.specs.declared.many.WriteKind.{WriteKind}
 use Rattle.sandpiper_c.specs.declared.many.WriteKind.TheVariants.{Insert, Update}

@@ -1,6 +1,6 @@
 -- Rows, as C reads and writes them.
 use Rattle.std.specs.Prelude.{◌≡◌, ℕ, ◌≤◌, List, length, take}
-use Rattle.refinement.specs.Words.{RowText}
+use Rattle.calls.specs.Words.{RowText}
 use Rattle.tuple_header.specs.declared.row_place.RowPlace.{RowPlace}
 
 -- the bytes that count are the first, as many as the length says; where there are not so many, the text is longer than all of them

@@ -4,8 +4,8 @@ use Rattle.std.specs.Option.{option_map, is_some, unwrap_or}
 use Rattle.commit_status.specs.Window.{next_id}
 use Rattle.commit_status.specs.Changes.{CanGive}
 use Rattle.root_index.specs.View.{IndexView}
-use Rattle.refinement.specs.declared.vacuum.Mode.{Mode}
-use Rattle.refinement.specs.declared.vacuum.Mode.TheVariants.{Normal, Aggressive}
+use Rattle.calls.specs.declared.vacuum.Mode.{Mode}
+use Rattle.calls.specs.declared.vacuum.Mode.TheVariants.{Normal, Aggressive}
 use Rattle.session_steps.specs.State.{State, engine_index, open_bits}
 use Rattle.vacuum_passes.specs.View.{VacuumView}
 use Rattle.vacuum_engine.specs.State.{EngineView}

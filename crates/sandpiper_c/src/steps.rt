@@ -1,6 +1,6 @@
 //! The steps of sessions that write no row and use no cursor.
 
-ghost use Rattle.refinement.specs.declared.step.Step.TheVariants as step;
+ghost use Rattle.calls.specs.declared.step.Step.TheVariants as step;
 ghost use Rattle.sandpiper_c.specs.Calls.{Does, Stepped, ShowsRow, ShowsFound, row_found_in};
 
 use crate::database::Sandpiper;

@@ -11,8 +11,8 @@ use Rattle.script.specs.Pieces.{TakesText, GivesText, HasNoLine}
 use Rattle.script.specs.Script.{Event, did, finished, vacuum_steps, vacuum_replies, showed_ids, showed_page, showed_entries, line_of, answer_of, steps_of, replies_of, lines_of, answers_of, Moves, EventsLead, IsBadLine, WritesBeginning}
 use Rattle.script.specs.Refusals.{Refusals, IsRefused, IsCaused}
 use Rattle.script.specs.Steps.{EndsLines, Advance, Uses, DoesLine}
-use Rattle.refinement.specs.declared.step.Step.{Step}
-use Rattle.refinement.specs.declared.reply.Reply.{Reply}
+use Rattle.calls.specs.declared.step.Step.{Step}
+use Rattle.calls.specs.declared.reply.Reply.{Reply}
 use Rattle.session_core.proofs.Running.{Leads-run as Replies-run}
 use Rattle.script_text.specs.declared.line.Line.{Line}
 use Rattle.script.specs.declared.fault.ShellFault.{ShellFault}

@@ -8,10 +8,10 @@ use Rattle.std.specs.Prelude.{IsSome}
 use Rattle.std.specs.Option.{option_map}
 use Rattle.root_index.specs.View.{IndexView}
 use Rattle.table_indexes.specs.Indexes.{IsInUse, index_at}
-use Rattle.refinement.specs.declared.step.Step.TheVariants.{OpenIndex, OpenHeap, Close}
-use Rattle.refinement.specs.declared.reply.Reply.TheVariants.{Done, Refused}
-use Rattle.refinement.specs.declared.reply.Refusal.{Refusal}
-use Rattle.refinement.specs.declared.reply.Refusal.TheVariants.{NoSuchIndex, BadBounds}
+use Rattle.calls.specs.declared.step.Step.TheVariants.{OpenIndex, OpenHeap, Close}
+use Rattle.calls.specs.declared.reply.Reply.TheVariants.{Done, Refused}
+use Rattle.calls.specs.declared.reply.Refusal.{Refusal}
+use Rattle.calls.specs.declared.reply.Refusal.TheVariants.{NoSuchIndex, BadBounds}
 use Rattle.refinement.specs.Heap as relation
 use Rattle.refinement.specs.Cursors.{first_place}
 use Rattle.refinement.specs.Allowed.{Allows, next}

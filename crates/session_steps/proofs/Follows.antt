@@ -23,14 +23,14 @@ use Rattle.commit_status.specs.declared.status.Status.TheVariants.{Committed, Ab
 use Rattle.snapshot.specs.Snap.{Snap, earliest}
 use Rattle.heap_write.specs.Heap.{slots_of}
 use Rattle.history.specs.World.{World}
-use Rattle.refinement.specs.declared.step.Step.{Step}
-use Rattle.refinement.specs.declared.step.Step.TheVariants.{Begin, Get, Commit, Abort}
-use Rattle.refinement.specs.declared.reply.Reply.{Reply}
-use Rattle.refinement.specs.declared.reply.Reply.TheVariants.{Done, RolledBack, Refused}
-use Rattle.refinement.specs.declared.reply.Reply.TheVariants as reply
-use Rattle.refinement.specs.declared.reply.Refusal.{Refusal}
-use Rattle.refinement.specs.declared.reply.Refusal.TheVariants.{NotOpen, AlreadyOpen, Failed, TooLarge, NoMemory, NoSuchSession, CursorOpen, NoCursor}
-use Rattle.refinement.specs.Writes.{WriteStep, step_of}
+use Rattle.calls.specs.declared.step.Step.{Step}
+use Rattle.calls.specs.declared.step.Step.TheVariants.{Begin, Get, Commit, Abort}
+use Rattle.calls.specs.declared.reply.Reply.{Reply}
+use Rattle.calls.specs.declared.reply.Reply.TheVariants.{Done, RolledBack, Refused}
+use Rattle.calls.specs.declared.reply.Reply.TheVariants as reply
+use Rattle.calls.specs.declared.reply.Refusal.{Refusal}
+use Rattle.calls.specs.declared.reply.Refusal.TheVariants.{NotOpen, AlreadyOpen, Failed, TooLarge, NoMemory, NoSuchSession, CursorOpen, NoCursor}
+use Rattle.calls.specs.Writes.{WriteStep, step_of}
 use Rattle.refinement.specs.Heap as seen_heap
 use Rattle.refinement.specs.Agrees as relation
 use Rattle.refinement.specs.Allowed.{Allows, next}

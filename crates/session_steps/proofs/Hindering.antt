@@ -7,12 +7,12 @@ use Rattle.xid_circle.specs.declared.Tid.{Tid}
 use Rattle.root_index.specs.declared.index.PositionHint.{PositionHint}
 use Rattle.tuple_header.specs.declared.version.Row.{Row}
 use Rattle.history.specs.World.{World}
-use Rattle.refinement.specs.declared.step.Step.TheVariants.{Begin, Insert, Delete}
-use Rattle.refinement.specs.declared.reply.Reply.TheVariants.{Refused}
-use Rattle.refinement.specs.declared.reply.Refusal.{Refusal}
-use Rattle.refinement.specs.declared.reply.Refusal.TheVariants.{AlreadyThere, NotThere, Conflict, Busy, NoRoom, NeedsFreeze, NoMemory}
-use Rattle.refinement.specs.Words.{RowText, FitsRow}
-use Rattle.refinement.specs.Writes.{WriteStep, inserts, updates, deletes, step_of, key_of, Asks}
+use Rattle.calls.specs.declared.step.Step.TheVariants.{Begin, Insert, Delete}
+use Rattle.calls.specs.declared.reply.Reply.TheVariants.{Refused}
+use Rattle.calls.specs.declared.reply.Refusal.{Refusal}
+use Rattle.calls.specs.declared.reply.Refusal.TheVariants.{AlreadyThere, NotThere, Conflict, Busy, NoRoom, NeedsFreeze, NoMemory}
+use Rattle.calls.specs.Words.{RowText, FitsRow}
+use Rattle.calls.specs.Writes.{WriteStep, inserts, updates, deletes, step_of, key_of, Asks}
 use Rattle.refinement.specs.Finds.{BeginsWrite}
 use Rattle.refinement.proofs.Hindrances as hindrances
 use Rattle.session_steps.specs.declared.session.Session.{Session}

@@ -7,8 +7,8 @@ use Rattle.tuple_header.specs.Places.{place_with, places_with}
 use Rattle.index_lookup.specs.declared.index_scan.IndexPosition.{IndexPosition}
 use Rattle.index_lookup.specs.declared.index_scan.IndexRange.{IndexRange}
 use Rattle.xid_circle.specs.declared.Tid.{Tid}
-use Rattle.refinement.specs.declared.reply.Reply.TheVariants.{Rows, End, Refused}
-use Rattle.refinement.specs.declared.reply.Refusal.{Refusal}
+use Rattle.calls.specs.declared.reply.Reply.TheVariants.{Rows, End, Refused}
+use Rattle.calls.specs.declared.reply.Refusal.{Refusal}
 use Rattle.session_steps.specs.declared.session.Session.{Session}
 use Rattle.session_steps.specs.declared.cursor.Cursor.{Cursor}
 use Rattle.session_steps.specs.declared.cursor.Cursor.TheVariants.{Index, Heap}

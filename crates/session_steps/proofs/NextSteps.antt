@@ -8,10 +8,10 @@ use Rattle.tuple_header.specs.declared.version.Row.{Row}
 use Rattle.index_lookup.specs.declared.index_scan.IndexRange.{IndexRange}
 use Rattle.table_indexes.specs.Indexes.{IsInUse}
 use Rattle.history.specs.World.{World}
-use Rattle.refinement.specs.declared.step.Step.TheVariants.{Next}
-use Rattle.refinement.specs.declared.reply.Reply.TheVariants.{Rows, End, Refused}
-use Rattle.refinement.specs.declared.reply.Refusal.{Refusal}
-use Rattle.refinement.specs.declared.reply.Refusal.TheVariants.{NoMemory}
+use Rattle.calls.specs.declared.step.Step.TheVariants.{Next}
+use Rattle.calls.specs.declared.reply.Reply.TheVariants.{Rows, End, Refused}
+use Rattle.calls.specs.declared.reply.Refusal.{Refusal}
+use Rattle.calls.specs.declared.reply.Refusal.TheVariants.{NoMemory}
 use Rattle.refinement.specs.Allowed.{Allows, next}
 use Rattle.refinement.specs.Heap.{Position, in_index, in_heap}
 use Rattle.refinement.specs.Finds as finds

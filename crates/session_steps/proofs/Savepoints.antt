@@ -11,10 +11,10 @@ use Rattle.visibility.proofs.Makers.{active-to}
 use Rattle.index_lookup.specs.Pages.{version_in}
 use Rattle.index_lookup.specs.Pages as lists
 use Rattle.history.specs.World.{World}
-use Rattle.refinement.specs.declared.step.Step.TheVariants.{Savepoint, RollbackTo, Release}
-use Rattle.refinement.specs.declared.reply.Reply.TheVariants.{Done, Refused}
-use Rattle.refinement.specs.declared.reply.Refusal.{Refusal}
-use Rattle.refinement.specs.declared.reply.Refusal.TheVariants.{NoSavepoint, TooDeep, NoMemory, CursorOpen}
+use Rattle.calls.specs.declared.step.Step.TheVariants.{Savepoint, RollbackTo, Release}
+use Rattle.calls.specs.declared.reply.Reply.TheVariants.{Done, Refused}
+use Rattle.calls.specs.declared.reply.Refusal.{Refusal}
+use Rattle.calls.specs.declared.reply.Refusal.TheVariants.{NoSavepoint, TooDeep, NoMemory, CursorOpen}
 use Rattle.refinement.specs.Heap as relation
 use Rattle.refinement.specs.Allowed.{Allows, next}
 use Rattle.refinement.specs.Agrees as theory

@@ -19,11 +19,11 @@ use Rattle.table_integrity.proofs.Keeping.{kept-stays, readied-stays, ready-come
 use Rattle.table_integrity.proofs.InUse.{stays-then}
 use Rattle.table_integrity.proofs.Writing.{inserted-stays, updated-stays, deleted-stays}
 use Rattle.history.specs.World.{World}
-use Rattle.refinement.specs.declared.step.Step.TheVariants.{Insert, Update, Delete}
-use Rattle.refinement.specs.declared.reply.Reply.TheVariants.{Done, Refused}
-use Rattle.refinement.specs.declared.reply.Refusal.TheVariants.{NoRoom, NeedsFreeze, NoMemory}
-use Rattle.refinement.specs.Words.{RowText, FitsRow, row_of}
-use Rattle.refinement.specs.Writes.{inserts, updates, deletes}
+use Rattle.calls.specs.declared.step.Step.TheVariants.{Insert, Update, Delete}
+use Rattle.calls.specs.declared.reply.Reply.TheVariants.{Done, Refused}
+use Rattle.calls.specs.declared.reply.Refusal.TheVariants.{NoRoom, NeedsFreeze, NoMemory}
+use Rattle.calls.specs.Words.{RowText, FitsRow, row_of}
+use Rattle.calls.specs.Writes.{inserts, updates, deletes}
 use Rattle.refinement.specs.Allowed.{Allows, next}
 use Rattle.refinement.specs.Visible.{ReaderSees}
 use Rattle.refinement.specs.Agrees as theory

@@ -5,8 +5,8 @@ use Rattle.snapshot.specs.Laws.{IsInWindow}
 use Rattle.snapshot.specs.Own.{ArePrefixes, AreDistinct}
 use Rattle.commit_status.specs.Window.{Window, IsWindow, IsCommitted, top_of}
 use Rattle.forgetting.specs.Truncating.{IsWellTopped}
-use Rattle.refinement.specs.declared.step.Step.{Step}
-use Rattle.refinement.specs.declared.reply.Reply.{Reply}
+use Rattle.calls.specs.declared.step.Step.{Step}
+use Rattle.calls.specs.declared.reply.Reply.{Reply}
 use Rattle.refinement.specs.Allowed.{Allows, next}
 use Rattle.refinement.specs.Agrees as relation
 use Rattle.sound_entries.specs.Entries.{KeepsTargets}

@@ -11,12 +11,12 @@ use Rattle.heap_write.specs.Heap.{HeapView}
 use Rattle.heap_write.specs.Writes.{Prunes}
 use Rattle.heap_write.specs.declared.heap.WriteFault.{WriteFault}
 use Rattle.heap_write.specs.declared.heap.WriteFault.TheVariants as fault
-use Rattle.refinement.specs.declared.step.Step.{Step}
-use Rattle.refinement.specs.declared.step.Step.TheVariants.{Begin, Get, Insert, Update, Delete, Savepoint, RollbackTo, Release, OpenIndex, OpenHeap, Next, Close, Commit, Abort, Prune}
-use Rattle.refinement.specs.declared.reply.Reply.{Reply}
-use Rattle.refinement.specs.declared.reply.Reply.TheVariants.{Done, Rows, End, Committed, RolledBack, Refused}
-use Rattle.refinement.specs.declared.reply.Refusal.TheVariants.{NotThere, Conflict, NoRoom, NeedsFreeze, NoMemory, NoSuchPage, NoSuchIndex, BadBounds}
-use Rattle.refinement.specs.Words.{row_of}
+use Rattle.calls.specs.declared.step.Step.{Step}
+use Rattle.calls.specs.declared.step.Step.TheVariants.{Begin, Get, Insert, Update, Delete, Savepoint, RollbackTo, Release, OpenIndex, OpenHeap, Next, Close, Commit, Abort, Prune}
+use Rattle.calls.specs.declared.reply.Reply.{Reply}
+use Rattle.calls.specs.declared.reply.Reply.TheVariants.{Done, Rows, End, Committed, RolledBack, Refused}
+use Rattle.calls.specs.declared.reply.Refusal.TheVariants.{NotThere, Conflict, NoRoom, NeedsFreeze, NoMemory, NoSuchPage, NoSuchIndex, BadBounds}
+use Rattle.calls.specs.Words.{row_of}
 use Rattle.refinement.specs.Cursors.{first_place}
 use Rattle.session_steps.specs.declared.session.Session.{Session}
 use Rattle.session_steps.specs.declared.cursor.Cursor.{Cursor}

@@ -1,9 +1,9 @@
 -- A write of a row follows the history, whatever the words in which it was asked for.
 use Rattle.std.specs.Prelude.{◌≡◌, ℕ}
 use Rattle.tuple_header.specs.declared.version.Row.{Row}
-use Rattle.refinement.specs.declared.step.Step.TheVariants.{Insert, Update}
-use Rattle.refinement.specs.declared.reply.Reply.{Reply}
-use Rattle.refinement.specs.Words.{RowText, FitsRow, row_of}
+use Rattle.calls.specs.declared.step.Step.TheVariants.{Insert, Update}
+use Rattle.calls.specs.declared.reply.Reply.{Reply}
+use Rattle.calls.specs.Words.{RowText, FitsRow, row_of}
 use Rattle.session_steps.specs.State.{State}
 use Rattle.session_steps.specs.Agrees.{Follows}
 

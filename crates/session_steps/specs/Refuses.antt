@@ -1,7 +1,7 @@
 -- Why a session cannot be used.
 use Rattle.std.specs.Prelude.{◌≡◌, ℕ, ◌<◌, ◌≤◌, Some, None, true, false, IsSome}
-use Rattle.refinement.specs.declared.reply.Refusal.{Refusal}
-use Rattle.refinement.specs.declared.reply.Refusal.TheVariants.{NoSuchSession, NotOpen, Failed, CursorOpen, NoCursor}
+use Rattle.calls.specs.declared.reply.Refusal.{Refusal}
+use Rattle.calls.specs.declared.reply.Refusal.TheVariants.{NoSuchSession, NotOpen, Failed, CursorOpen, NoCursor}
 use Rattle.session_steps.specs.declared.session.Session.{Session}
 use Rattle.session_steps.specs.State.{State, session_at}
 use Rattle.session_steps.specs.declared.sessions.TheConstants.{MOST_SESSIONS}

@@ -11,9 +11,9 @@ use Rattle.root_index.specs.View.{IndexView}
 use Rattle.table_indexes.specs.Indexes as indexes
 use Rattle.index_lookup.specs.Pages.{version_in}
 use Rattle.heap_write.specs.Heap.{HeapView, slots_of}
-use Rattle.refinement.specs.declared.settings.Settings.{Settings}
-use Rattle.refinement.specs.declared.reply.Refusal.{Refusal}
-use Rattle.refinement.specs.declared.reply.Refusal.TheVariants.{Conflict}
+use Rattle.calls.specs.declared.settings.Settings.{Settings}
+use Rattle.calls.specs.declared.reply.Refusal.{Refusal}
+use Rattle.calls.specs.declared.reply.Refusal.TheVariants.{Conflict}
 use Rattle.refinement.specs.Heap as relation
 use Rattle.session_steps.specs.declared.session.Session.{Session}
 use Rattle.index_lookup.specs.declared.index_scan.IndexPosition.{IndexPosition}

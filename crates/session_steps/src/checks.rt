@@ -1,7 +1,7 @@
 //! What every write of a session asks first, and what it answers.
 
 ghost use Rattle.std.specs.Prelude.{◌≡◌, ◌≢◌, ◌<◌, ◌≤◌, ℕ, length, MatchOption, MatchResult, OnOk, IfErr, Some, None, Contains, Err};
-ghost use Rattle.refinement.specs.Words.{FitsRow, row_of};
+ghost use Rattle.calls.specs.Words.{FitsRow, row_of};
 ghost use Rattle.session_steps.specs.Keeps.{open_at};
 ghost use Rattle.session_steps.specs.Refuses.{MayAct};
 ghost use Rattle.session_steps.specs.State.{session_at, refused_state};
@@ -12,7 +12,7 @@ use crate::engine::SessionEngine;
 use crate::outcome::Ack;
 use crate::session::Session;
 use arrayvec::ArrayVec;
-use refinement::{Refusal, Row, RowIn};
+use calls::{Refusal, Row, RowIn};
 use root_index::PositionHint;
 use xid_circle::{Tid, Xid};
 

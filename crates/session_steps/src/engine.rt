@@ -2,7 +2,7 @@
 
 ghost use Rattle.std.specs.Prelude.{◌≡◌, ◌≢◌, ◌<◌, slice_get, option_copied, IfOk, IfErr, OnOk, MatchResult, Some, None, false};
 ghost use Rattle.std.specs.Option.{option_map};
-ghost use Rattle.refinement.specs.Words.{AreSettings, FirstFault};
+ghost use Rattle.calls.specs.Words.{AreSettings, FirstFault};
 ghost use Rattle.commit_status.specs.Window.{next_id};
 ghost use Rattle.space_maps.specs.View.{mark_on};
 ghost use Rattle.session_steps.specs.State.{session_at, engine_index, bits_of};
@@ -15,10 +15,10 @@ use crate::checked::CheckedSettings;
 use crate::cursor::Cursor;
 use crate::session::Session;
 use crate::sessions::Sessions;
+use calls::{Refusal, Settings, SettingsFault};
 use commit_status::Status;
 use heap_write::HeapState;
 use page_slots::Page;
-use refinement::{Refusal, Settings, SettingsFault};
 use root_index::RootIndex;
 use snapshot::{OwnIds, Snapshot};
 use space_maps::Mark;

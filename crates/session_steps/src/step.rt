@@ -2,14 +2,15 @@
 
 ghost use Rattle.std.specs.Prelude.{◌≡◌, MatchResult, Some, true, false};
 ghost use Rattle.history.specs.World.{World, OpenSession, view};
-ghost use Rattle.refinement.specs.Allowed.{AllowsClosed, is_vacuum_step};
+ghost use Rattle.calls.specs.Steps.{is_vacuum_step};
+ghost use Rattle.refinement.specs.Allowed.{AllowsClosed};
 ghost use Rattle.session_steps.specs.Agrees.{Agrees};
 ghost use Rattle.session_steps.specs.Exact.{AnswersStep};
 
 use crate::engine::SessionEngine;
 use crate::get::copy_of;
 use crate::outcome::put_reply;
-use refinement::{Refusal, Reply, Row, Step};
+use calls::{Refusal, Reply, Row, Step};
 
 impl SessionEngine {
     /// Does one step, and puts its reply in the place of an earlier one: whatever world of the history the engine agrees with, the

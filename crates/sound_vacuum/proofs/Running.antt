@@ -23,9 +23,9 @@ use Rattle.table_indexes.specs.Indexes.{entries_in, IsInUse}
 use Rattle.heap_write.specs.Heap.{HeapView, slots_of}
 use Rattle.heap_write.specs.Writes.{Prunes}
 use Rattle.table_integrity.proofs.Places.{prunes-on, prunes-puts}
-use Rattle.refinement.specs.declared.vacuum.Mode.{Mode}
-use Rattle.refinement.specs.declared.vacuum.Mode.TheVariants.{Aggressive}
-use Rattle.refinement.specs.declared.vacuum.Piece.{Piece}
+use Rattle.calls.specs.declared.vacuum.Mode.{Mode}
+use Rattle.calls.specs.declared.vacuum.Mode.TheVariants.{Aggressive}
+use Rattle.calls.specs.declared.vacuum.Piece.{Piece}
 use Rattle.vacuum_passes.specs.declared.vacuum.Phase.{Phase}
 use Rattle.vacuum_passes.specs.declared.vacuum.Phase.TheVariants as phase
 use Rattle.root_index.specs.declared.progress.Progress.{Progress}

@@ -1,11 +1,11 @@
 //! A vacuum in progress.
 
 ghost use Rattle.std.specs.Prelude.{◌≡◌, ◌<◌, ◌≤◌, MatchOption};
-ghost use Rattle.refinement.specs.declared.vacuum.Mode.TheVariants.{Normal, Aggressive};
+ghost use Rattle.calls.specs.declared.vacuum.Mode.TheVariants.{Normal, Aggressive};
 ghost use Rattle.vacuum_passes.specs.View.{new_vacuum, disturbed};
 
+use calls::Mode;
 use dead_places::DeadSet;
-use refinement::Mode;
 use root_index::{Entry, PositionHint};
 use std::marker::Model;
 use xid_circle::Xid;

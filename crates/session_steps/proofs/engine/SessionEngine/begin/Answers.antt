@@ -1,5 +1,5 @@
 use Rattle.std.proofs.Common.{rules, subst}
-use Rattle.refinement.specs.declared.reply.Refusal.{Refusal}
+use Rattle.calls.specs.declared.reply.Refusal.{Refusal}
 use Rattle.session_steps.specs.Refuses.{Refuses}
 use Rattle.session_steps.proofs.Hindering.{exact-closed}
 use Rattle.session_steps.proofs.Follows.{Follows-begin, Follows-begin_no_memory, Follows-already_open, Follows-closed_begin}

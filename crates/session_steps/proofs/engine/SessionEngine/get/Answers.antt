@@ -4,7 +4,7 @@ use Rattle.tuple_header.specs.declared.version.Row.{Row}
 use Rattle.visibility.specs.Visible.{IsVisible}
 use Rattle.index_lookup.specs.Looking.{FirstFound}
 use Rattle.heap_write.specs.Heap.{HeapView, slots_of}
-use Rattle.refinement.specs.declared.step.Step.TheVariants.{Get}
+use Rattle.calls.specs.declared.step.Step.TheVariants.{Get}
 use Rattle.session_steps.specs.State.{State}
 use Rattle.session_steps.specs.Agrees.{Follows}
 use Rattle.session_steps.proofs.Reading.{Follows-get}

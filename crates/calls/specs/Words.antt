@@ -1,9 +1,9 @@
 -- What the words of a step mean.
 use Rattle.std.specs.Prelude.{ℕ, ℤ, ◌<◌, ◌≤◌, ◌⊎◌, List, length}
 use Rattle.tuple_header.specs.declared.version.Row.{Row}
-use Rattle.refinement.specs.declared.settings.Settings.{Settings}
-use Rattle.refinement.specs.declared.settings.SettingsFault.{SettingsFault}
-use Rattle.refinement.specs.declared.settings.SettingsFault.TheVariants.{MaxPages, StopAge, FreezeMinAge, FirstXid, DeadLimit, NoMemory}
+use Rattle.calls.specs.declared.settings.Settings.{Settings}
+use Rattle.calls.specs.declared.settings.SettingsFault.{SettingsFault}
+use Rattle.calls.specs.declared.settings.SettingsFault.TheVariants.{MaxPages, StopAge, FreezeMinAge, FirstXid, DeadLimit, NoMemory}
 
 -- a row to be written
 pub record RowText : Type 0 where

@@ -1,8 +1,8 @@
 -- The numbers of a step are of their types.
 use Rattle.std.proofs.Common.{SFits}
 use Rattle.std.specs.Int.{w128}
-use Rattle.refinement.specs.declared.step.Step.{Step}
-use Rattle.refinement.specs.declared.step.Step.TheVariants.{OpenIndex}
+use Rattle.calls.specs.declared.step.Step.{Step}
+use Rattle.calls.specs.declared.step.Step.TheVariants.{OpenIndex}
 
 -- the bounds of a cursor
 abbrev pub HasBounds : Step → Type 0

@@ -1,8 +1,8 @@
 //! The steps of sessions, and of those who clean the table.
 
 ghost use Rattle.std.specs.Prelude.{◌≡◌, ◌<◌, length, IfOk, OnErr};
-ghost use Rattle.refinement.specs.Bounds.{HasBounds};
-ghost use Rattle.refinement.specs.Writes.{HasBody};
+ghost use Rattle.calls.specs.Bounds.{HasBounds};
+ghost use Rattle.calls.specs.Writes.{HasBody};
 
 use crate::vacuum::Mode;
 use std::alloc::{AllocError, Global};
@@ -20,7 +20,7 @@ pub struct RowIn {
 }
 
 impl Model for RowIn {
-    ghost use Rattle.refinement.specs.Words.{RowText};
+    ghost use Rattle.calls.specs.Words.{RowText};
 
     ghost Value = { RowText };
 

@@ -1,9 +1,9 @@
 -- The three steps that write a key, as one kind.
 use Rattle.std.specs.Prelude.{◌≡◌, ℕ, ◌<◌, length, Option, None, IsSome}
 use Rattle.tuple_header.specs.declared.version.Row.{Row}
-use Rattle.refinement.specs.declared.step.Step.{Step}
-use Rattle.refinement.specs.declared.step.Step.TheVariants.{Insert, Update, Delete}
-use Rattle.refinement.specs.Words.{RowText, FitsRow}
+use Rattle.calls.specs.declared.step.Step.{Step}
+use Rattle.calls.specs.declared.step.Step.TheVariants.{Insert, Update, Delete}
+use Rattle.calls.specs.Words.{RowText, FitsRow}
 
 -- a write: a row of a key that has none, another row of a key that has one, or that a key has none any more
 pub data WriteStep : Type 0 where
