@@ -2,3 +2,4 @@ pub mod Words
 pub mod Steps
 pub mod Writes
 pub mod Bounds
+pub mod Bars

@@ -27,6 +27,9 @@ impl Model for RowIn {
     ghost view = { λ r. record { key = r.key; cols = r.cols; body = r.body.items } };
 }
 
+/// How many sessions there are: their numbers begin with 0.
+pub const MOST_SESSIONS: usize = 64;
+
 /// One call, most of a session, which is named by its number, from 0 to 63.
 #[derive(Debug, Drop)]
 pub enum Step {

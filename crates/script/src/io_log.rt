@@ -5,7 +5,7 @@ ghost use Rattle.std.specs.Io.KnownBytes.{ReadConsumes, WriteAppends};
 ghost use Rattle.std.specs.Io.{ReadsAtMost, WritesAtMost};
 ghost use Rattle.std.specs.IoError.{error_kind};
 ghost use Rattle.std.specs.declared.io.ErrorKind.TheVariants.{Interrupted};
-ghost use Rattle.script_text.specs.Names.{AreSettings};
+ghost use Rattle.calls.specs.Words.{AreSettings};
 ghost use Rattle.script.specs.Engine.{IsNewEngine};
 ghost use Rattle.script.specs.Refusals.{IsOneMore, IsRefused};
 

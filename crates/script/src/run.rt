@@ -3,7 +3,8 @@
 ghost use Rattle.std.specs.Prelude.{◌≡◌, ◌<◌, ◌++◌, List, ℕ, [], length, IfSome, IfOk, IfErr, OnOk, IsErrAnd, ◌⊎◌};
 ghost use Rattle.std.specs.Bool.{OnTrue, OnFalse};
 ghost use Rattle.std.specs.Io.KnownBytes.{Appends};
-ghost use Rattle.script_text.specs.Names.{Settings, AreSettings};
+ghost use Rattle.calls.specs.Words.{AreSettings};
+ghost use Rattle.calls.specs.declared.settings.Settings.{Settings};
 ghost use Rattle.script.specs.Engine.{IsNewEngine};
 ghost use Rattle.script_text.specs.Grammar.{Fits, spelling, heading, with_feed};
 ghost use Rattle.script.specs.Script.{ScriptOutcome, WritesBeginning};

@@ -11,7 +11,9 @@ use Rattle.std.proofs.lemmas.Bool.Decides.{nat_tests}
 use Rattle.std.proofs.lemmas.Slice.Eq.{bytes_eq-Decides}
 use Rattle.std.proofs.lemmas.Bool.{lt-leb, cases_lt, and_right}
 use Rattle.std.proofs.lemmas.List.{nil_from_length, append-nil}
-use Rattle.script_text.specs.Names.{Begin, Get, Insert, Update, Delete, Savepoint, RollbackTo, Release, Commit, Abort, OpenIndex, OpenHeap, Next, Close, Prune, VacuumBegin, VacuumStep, VacuumCancel, Normal, Aggressive, RowText}
+use Rattle.calls.specs.Words.{RowText}
+use Rattle.calls.specs.declared.step.Step.TheVariants as step
+use Rattle.calls.specs.declared.vacuum.Mode.TheVariants as mode
 use Rattle.script_text.specs.declared.line.Line.{Line}
 use Rattle.script_text.specs.declared.line.Line.TheVariants.{Do, VacuumFinish, Ids, Page, Entries}
 use Rattle.script_text.specs.Grammar.{Fits, Spells, KeyFits, RowFits, RangeFits, spelling, spaced, hex_text, body_text, row_text, key_words, row_words, range_words}
@@ -218,26 +220,26 @@ words_verb verb read make words says text rest l h =
     let is = says rest m.0 m.1 in
     rw (← m.2) (is.0, ap (λ r. verb ++ spaced r) is.1 ∙ text m.0)
 
-get_spelled : IsSpelled (codes "get", λ rest. option_map (λ p. Do (Get p.0 p.1)) (key_words_of rest))
-get_spelled = words_verb (codes "get") key_words_of (λ p. Do (Get p.0 p.1)) (λ p. key_words p.0 p.1) key_words_of_says (λ p. refl)
+get_spelled : IsSpelled (codes "get", λ rest. option_map (λ p. Do (step.Get p.0 p.1)) (key_words_of rest))
+get_spelled = words_verb (codes "get") key_words_of (λ p. Do (step.Get p.0 p.1)) (λ p. key_words p.0 p.1) key_words_of_says (λ p. refl)
 
-delete_spelled : IsSpelled (codes "delete", λ rest. option_map (λ p. Do (Delete p.0 p.1)) (key_words_of rest))
-delete_spelled = words_verb (codes "delete") key_words_of (λ p. Do (Delete p.0 p.1)) (λ p. key_words p.0 p.1) key_words_of_says (λ p. refl)
+delete_spelled : IsSpelled (codes "delete", λ rest. option_map (λ p. Do (step.Delete p.0 p.1)) (key_words_of rest))
+delete_spelled = words_verb (codes "delete") key_words_of (λ p. Do (step.Delete p.0 p.1)) (λ p. key_words p.0 p.1) key_words_of_says (λ p. refl)
 
-insert_spelled : IsSpelled (codes "insert", λ rest. option_map (λ p. Do (Insert p.0 p.1)) (row_words_of rest))
-insert_spelled = words_verb (codes "insert") row_words_of (λ p. Do (Insert p.0 p.1)) (λ p. row_words p.0 p.1) row_words_of_says (λ p. refl)
+insert_spelled : IsSpelled (codes "insert", λ rest. option_map (λ p. Do (step.Insert p.0 p.1)) (row_words_of rest))
+insert_spelled = words_verb (codes "insert") row_words_of (λ p. Do (step.Insert p.0 p.1)) (λ p. row_words p.0 p.1) row_words_of_says (λ p. refl)
 
-update_spelled : IsSpelled (codes "update", λ rest. option_map (λ p. Do (Update p.0 p.1)) (row_words_of rest))
-update_spelled = words_verb (codes "update") row_words_of (λ p. Do (Update p.0 p.1)) (λ p. row_words p.0 p.1) row_words_of_says (λ p. refl)
+update_spelled : IsSpelled (codes "update", λ rest. option_map (λ p. Do (step.Update p.0 p.1)) (row_words_of rest))
+update_spelled = words_verb (codes "update") row_words_of (λ p. Do (step.Update p.0 p.1)) (λ p. row_words p.0 p.1) row_words_of_says (λ p. refl)
 
-next_spelled : IsSpelled (codes "next", λ rest. option_map (λ p. Do (Next p.0 p.1)) (count_words_of rest))
-next_spelled = words_verb (codes "next") count_words_of (λ p. Do (Next p.0 p.1)) (λ p. key_words p.0 p.1) count_words_of_says (λ p. refl)
+next_spelled : IsSpelled (codes "next", λ rest. option_map (λ p. Do (step.Next p.0 p.1)) (count_words_of rest))
+next_spelled = words_verb (codes "next") count_words_of (λ p. Do (step.Next p.0 p.1)) (λ p. key_words p.0 p.1) count_words_of_says (λ p. refl)
 
-openindex_spelled : IsSpelled (codes "openindex", λ rest. option_map (λ p. Do (OpenIndex p.0 p.1 p.2 p.3)) (range_words_of rest))
-openindex_spelled = words_verb (codes "openindex") range_words_of (λ p. Do (OpenIndex p.0 p.1 p.2 p.3)) (λ p. range_words p.0 p.1 p.2 p.3) range_words_of_says (λ p. refl)
+openindex_spelled : IsSpelled (codes "openindex", λ rest. option_map (λ p. Do (step.OpenIndex p.0 p.1 p.2 p.3)) (range_words_of rest))
+openindex_spelled = words_verb (codes "openindex") range_words_of (λ p. Do (step.OpenIndex p.0 p.1 p.2 p.3)) (λ p. range_words p.0 p.1 p.2 p.3) range_words_of_says (λ p. refl)
 
-prune_spelled : IsSpelled (codes "prune", λ rest. option_map (λ p. Do (Prune p)) (number_of 4294967295 rest))
-prune_spelled = number_verb (codes "prune") 4294967295 (λ p. Do (Prune p)) (omega arith) (λ p h. omega (arith, h)) (λ p. refl)
+prune_spelled : IsSpelled (codes "prune", λ rest. option_map (λ p. Do (step.Prune p)) (number_of 4294967295 rest))
+prune_spelled = number_verb (codes "prune") 4294967295 (λ p. Do (step.Prune p)) (omega arith) (λ p h. omega (arith, h)) (λ p. refl)
 
 page_spelled : IsSpelled (codes "page", λ rest. option_map (λ p. Page p) (number_of 4294967295 rest))
 page_spelled = number_verb (codes "page") 4294967295 (λ p. Page p) (omega arith) (λ p h. omega (arith, h)) (λ p. refl)
@@ -255,11 +257,11 @@ phrase_says words phrase line others l h says more = elim (chosen (bytes_eq word
 
 vacuum_spelled : IsSpelled (codes "vacuum", vacuum_line_of)
 vacuum_spelled words l h =
-    phrase_says words (codes "step") (Do VacuumStep) _ l h (tt, refl) (λ h1.
+    phrase_says words (codes "step") (Do step.VacuumStep) _ l h (tt, refl) (λ h1.
     phrase_says words (codes "finish") VacuumFinish _ l h1 (tt, refl) (λ h2.
-    phrase_says words (codes "begin normal") (Do (VacuumBegin Normal)) _ l h2 (tt, refl) (λ h3.
-    phrase_says words (codes "begin aggressive") (Do (VacuumBegin Aggressive)) _ l h3 (tt, refl) (λ h4.
-    phrase_says words (codes "cancel") (Do VacuumCancel) None l h4 (tt, refl) (λ h5.
+    phrase_says words (codes "begin normal") (Do (step.VacuumBegin mode.Normal)) _ l h2 (tt, refl) (λ h3.
+    phrase_says words (codes "begin aggressive") (Do (step.VacuumBegin mode.Aggressive)) _ l h3 (tt, refl) (λ h4.
+    phrase_says words (codes "cancel") (Do step.VacuumCancel) None l h4 (tt, refl) (λ h5.
     absurd (none-some l h5))))))
 
 -- a verb and a session alone
@@ -268,10 +270,10 @@ session_verb : (verb : List ℕ) (make : ℕ → Line) → ((s : ℕ) → s < 2 
 session_verb verb make fits text = number_verb verb 255 make (omega arith) (λ s h. fits s (omega (arith, h))) text
 
 usual_spelled : AllByRecursion IsSpelled usual_verbs
-usual_spelled = (get_spelled, (session_verb (codes "begin") (λ s. Do (Begin s)) (λ s h. h) (λ s. refl), (session_verb (codes "commit") (λ s. Do (Commit s)) (λ s h. h) (λ s. refl), (insert_spelled, (update_spelled, (delete_spelled, (next_spelled, (session_verb (codes "abort") (λ s. Do (Abort s)) (λ s h. h) (λ s. refl), tt))))))))
+usual_spelled = (get_spelled, (session_verb (codes "begin") (λ s. Do (step.Begin s)) (λ s h. h) (λ s. refl), (session_verb (codes "commit") (λ s. Do (step.Commit s)) (λ s h. h) (λ s. refl), (insert_spelled, (update_spelled, (delete_spelled, (next_spelled, (session_verb (codes "abort") (λ s. Do (step.Abort s)) (λ s h. h) (λ s. refl), tt))))))))
 
 other_spelled : AllByRecursion IsSpelled other_verbs
-other_spelled = (session_verb (codes "savepoint") (λ s. Do (Savepoint s)) (λ s h. h) (λ s. refl), (session_verb (codes "rollbackto") (λ s. Do (RollbackTo s)) (λ s h. h) (λ s. refl), (session_verb (codes "release") (λ s. Do (Release s)) (λ s h. h) (λ s. refl), (openindex_spelled, (session_verb (codes "openheap") (λ s. Do (OpenHeap s)) (λ s h. h) (λ s. refl), (session_verb (codes "close") (λ s. Do (Close s)) (λ s h. h) (λ s. refl), (prune_spelled, (vacuum_spelled, (page_spelled, (entries_spelled, tt))))))))))
+other_spelled = (session_verb (codes "savepoint") (λ s. Do (step.Savepoint s)) (λ s h. h) (λ s. refl), (session_verb (codes "rollbackto") (λ s. Do (step.RollbackTo s)) (λ s h. h) (λ s. refl), (session_verb (codes "release") (λ s. Do (step.Release s)) (λ s h. h) (λ s. refl), (openindex_spelled, (session_verb (codes "openheap") (λ s. Do (step.OpenHeap s)) (λ s h. h) (λ s. refl), (session_verb (codes "close") (λ s. Do (step.Close s)) (λ s h. h) (λ s. refl), (prune_spelled, (vacuum_spelled, (page_spelled, (entries_spelled, tt))))))))))
 
 All-append : (xs ys : Verbs) → AllByRecursion IsSpelled xs → AllByRecursion IsSpelled ys → AllByRecursion IsSpelled (xs ++ ys)
 All-append [] ys h k = k
@@ -360,40 +362,40 @@ unfolding line_at
 ids_line = refl
 
 line_at-spelling : (l : Line) → Fits l → line_at (spelling l) ≡ Some l
-line_at-spelling (Do (Begin s)) h =
-    with_verb (codes "begin") (decimal s) _ (free_text 32 (codes "begin") refl) refl (ap (λ (o : Option ℕ). option_map (λ s. Do (Begin s)) o) (number_of-decimal 255 s (omega arith) (omega arith)))
-line_at-spelling (Do (Get s k)) h =
-    with_verb (codes "get") (key_words s k) _ (free_text 32 (codes "get") refl) refl (ap (λ (o : Option (ℕ × ℕ)). option_map (λ p. Do (Get p.0 p.1)) o) (key_words_of-words s k h.0 h.1))
-line_at-spelling (Do (Insert s row)) h =
-    with_verb (codes "insert") (row_words s row) _ (free_text 32 (codes "insert") refl) refl (ap (λ (o : Option (ℕ × RowText)). option_map (λ p. Do (Insert p.0 p.1)) o) (row_words_of-words s row h))
-line_at-spelling (Do (Update s row)) h =
-    with_verb (codes "update") (row_words s row) _ (free_text 32 (codes "update") refl) refl (ap (λ (o : Option (ℕ × RowText)). option_map (λ p. Do (Update p.0 p.1)) o) (row_words_of-words s row h))
-line_at-spelling (Do (Delete s k)) h =
-    with_verb (codes "delete") (key_words s k) _ (free_text 32 (codes "delete") refl) refl (ap (λ (o : Option (ℕ × ℕ)). option_map (λ p. Do (Delete p.0 p.1)) o) (key_words_of-words s k h.0 h.1))
-line_at-spelling (Do (Savepoint s)) h =
-    with_verb (codes "savepoint") (decimal s) _ (free_text 32 (codes "savepoint") refl) refl (ap (λ (o : Option ℕ). option_map (λ s. Do (Savepoint s)) o) (number_of-decimal 255 s (omega arith) (omega arith)))
-line_at-spelling (Do (RollbackTo s)) h =
-    with_verb (codes "rollbackto") (decimal s) _ (free_text 32 (codes "rollbackto") refl) refl (ap (λ (o : Option ℕ). option_map (λ s. Do (RollbackTo s)) o) (number_of-decimal 255 s (omega arith) (omega arith)))
-line_at-spelling (Do (Release s)) h =
-    with_verb (codes "release") (decimal s) _ (free_text 32 (codes "release") refl) refl (ap (λ (o : Option ℕ). option_map (λ s. Do (Release s)) o) (number_of-decimal 255 s (omega arith) (omega arith)))
-line_at-spelling (Do (Commit s)) h =
-    with_verb (codes "commit") (decimal s) _ (free_text 32 (codes "commit") refl) refl (ap (λ (o : Option ℕ). option_map (λ s. Do (Commit s)) o) (number_of-decimal 255 s (omega arith) (omega arith)))
-line_at-spelling (Do (Abort s)) h =
-    with_verb (codes "abort") (decimal s) _ (free_text 32 (codes "abort") refl) refl (ap (λ (o : Option ℕ). option_map (λ s. Do (Abort s)) o) (number_of-decimal 255 s (omega arith) (omega arith)))
-line_at-spelling (Do (OpenIndex s index low high)) h =
-    with_verb (codes "openindex") (range_words s index low high) _ (free_text 32 (codes "openindex") refl) refl (ap (λ (o : Option (ℕ × ℕ × ℤ × ℤ)). option_map (λ p. Do (OpenIndex p.0 p.1 p.2 p.3)) o) (range_words_of-words s index low high h))
-line_at-spelling (Do (OpenHeap s)) h =
-    with_verb (codes "openheap") (decimal s) _ (free_text 32 (codes "openheap") refl) refl (ap (λ (o : Option ℕ). option_map (λ s. Do (OpenHeap s)) o) (number_of-decimal 255 s (omega arith) (omega arith)))
-line_at-spelling (Do (Next s n)) h =
-    with_verb (codes "next") (key_words s n) _ (free_text 32 (codes "next") refl) refl (ap (λ (o : Option (ℕ × ℕ)). option_map (λ p. Do (Next p.0 p.1)) o) (count_words_of-words s n h.0 h.1))
-line_at-spelling (Do (Close s)) h =
-    with_verb (codes "close") (decimal s) _ (free_text 32 (codes "close") refl) refl (ap (λ (o : Option ℕ). option_map (λ s. Do (Close s)) o) (number_of-decimal 255 s (omega arith) (omega arith)))
-line_at-spelling (Do (Prune p)) h =
-    with_verb (codes "prune") (decimal p) _ (free_text 32 (codes "prune") refl) refl (ap (λ (o : Option ℕ). option_map (λ p. Do (Prune p)) o) (number_of-decimal 4294967295 p (omega arith) (omega arith)))
-line_at-spelling (Do (VacuumBegin Normal)) h = with_verb (codes "vacuum") (codes "begin normal") _ (free_text 32 (codes "vacuum") refl) refl refl
-line_at-spelling (Do (VacuumBegin Aggressive)) h = with_verb (codes "vacuum") (codes "begin aggressive") _ (free_text 32 (codes "vacuum") refl) refl refl
-line_at-spelling (Do VacuumStep) h = with_verb (codes "vacuum") (codes "step") _ (free_text 32 (codes "vacuum") refl) refl refl
-line_at-spelling (Do VacuumCancel) h = with_verb (codes "vacuum") (codes "cancel") _ (free_text 32 (codes "vacuum") refl) refl refl
+line_at-spelling (Do (step.Begin s)) h =
+    with_verb (codes "begin") (decimal s) _ (free_text 32 (codes "begin") refl) refl (ap (λ (o : Option ℕ). option_map (λ s. Do (step.Begin s)) o) (number_of-decimal 255 s (omega arith) (omega arith)))
+line_at-spelling (Do (step.Get s k)) h =
+    with_verb (codes "get") (key_words s k) _ (free_text 32 (codes "get") refl) refl (ap (λ (o : Option (ℕ × ℕ)). option_map (λ p. Do (step.Get p.0 p.1)) o) (key_words_of-words s k h.0 h.1))
+line_at-spelling (Do (step.Insert s row)) h =
+    with_verb (codes "insert") (row_words s row) _ (free_text 32 (codes "insert") refl) refl (ap (λ (o : Option (ℕ × RowText)). option_map (λ p. Do (step.Insert p.0 p.1)) o) (row_words_of-words s row h))
+line_at-spelling (Do (step.Update s row)) h =
+    with_verb (codes "update") (row_words s row) _ (free_text 32 (codes "update") refl) refl (ap (λ (o : Option (ℕ × RowText)). option_map (λ p. Do (step.Update p.0 p.1)) o) (row_words_of-words s row h))
+line_at-spelling (Do (step.Delete s k)) h =
+    with_verb (codes "delete") (key_words s k) _ (free_text 32 (codes "delete") refl) refl (ap (λ (o : Option (ℕ × ℕ)). option_map (λ p. Do (step.Delete p.0 p.1)) o) (key_words_of-words s k h.0 h.1))
+line_at-spelling (Do (step.Savepoint s)) h =
+    with_verb (codes "savepoint") (decimal s) _ (free_text 32 (codes "savepoint") refl) refl (ap (λ (o : Option ℕ). option_map (λ s. Do (step.Savepoint s)) o) (number_of-decimal 255 s (omega arith) (omega arith)))
+line_at-spelling (Do (step.RollbackTo s)) h =
+    with_verb (codes "rollbackto") (decimal s) _ (free_text 32 (codes "rollbackto") refl) refl (ap (λ (o : Option ℕ). option_map (λ s. Do (step.RollbackTo s)) o) (number_of-decimal 255 s (omega arith) (omega arith)))
+line_at-spelling (Do (step.Release s)) h =
+    with_verb (codes "release") (decimal s) _ (free_text 32 (codes "release") refl) refl (ap (λ (o : Option ℕ). option_map (λ s. Do (step.Release s)) o) (number_of-decimal 255 s (omega arith) (omega arith)))
+line_at-spelling (Do (step.Commit s)) h =
+    with_verb (codes "commit") (decimal s) _ (free_text 32 (codes "commit") refl) refl (ap (λ (o : Option ℕ). option_map (λ s. Do (step.Commit s)) o) (number_of-decimal 255 s (omega arith) (omega arith)))
+line_at-spelling (Do (step.Abort s)) h =
+    with_verb (codes "abort") (decimal s) _ (free_text 32 (codes "abort") refl) refl (ap (λ (o : Option ℕ). option_map (λ s. Do (step.Abort s)) o) (number_of-decimal 255 s (omega arith) (omega arith)))
+line_at-spelling (Do (step.OpenIndex s index low high)) h =
+    with_verb (codes "openindex") (range_words s index low high) _ (free_text 32 (codes "openindex") refl) refl (ap (λ (o : Option (ℕ × ℕ × ℤ × ℤ)). option_map (λ p. Do (step.OpenIndex p.0 p.1 p.2 p.3)) o) (range_words_of-words s index low high h))
+line_at-spelling (Do (step.OpenHeap s)) h =
+    with_verb (codes "openheap") (decimal s) _ (free_text 32 (codes "openheap") refl) refl (ap (λ (o : Option ℕ). option_map (λ s. Do (step.OpenHeap s)) o) (number_of-decimal 255 s (omega arith) (omega arith)))
+line_at-spelling (Do (step.Next s n)) h =
+    with_verb (codes "next") (key_words s n) _ (free_text 32 (codes "next") refl) refl (ap (λ (o : Option (ℕ × ℕ)). option_map (λ p. Do (step.Next p.0 p.1)) o) (count_words_of-words s n h.0 h.1))
+line_at-spelling (Do (step.Close s)) h =
+    with_verb (codes "close") (decimal s) _ (free_text 32 (codes "close") refl) refl (ap (λ (o : Option ℕ). option_map (λ s. Do (step.Close s)) o) (number_of-decimal 255 s (omega arith) (omega arith)))
+line_at-spelling (Do (step.Prune p)) h =
+    with_verb (codes "prune") (decimal p) _ (free_text 32 (codes "prune") refl) refl (ap (λ (o : Option ℕ). option_map (λ p. Do (step.Prune p)) o) (number_of-decimal 4294967295 p (omega arith) (omega arith)))
+line_at-spelling (Do (step.VacuumBegin mode.Normal)) h = with_verb (codes "vacuum") (codes "begin normal") _ (free_text 32 (codes "vacuum") refl) refl refl
+line_at-spelling (Do (step.VacuumBegin mode.Aggressive)) h = with_verb (codes "vacuum") (codes "begin aggressive") _ (free_text 32 (codes "vacuum") refl) refl refl
+line_at-spelling (Do step.VacuumStep) h = with_verb (codes "vacuum") (codes "step") _ (free_text 32 (codes "vacuum") refl) refl refl
+line_at-spelling (Do step.VacuumCancel) h = with_verb (codes "vacuum") (codes "cancel") _ (free_text 32 (codes "vacuum") refl) refl refl
 line_at-spelling VacuumFinish h = with_verb (codes "vacuum") (codes "finish") _ (free_text 32 (codes "vacuum") refl) refl refl
 line_at-spelling Ids h = ids_line
 line_at-spelling (Page p) h =
@@ -456,25 +458,25 @@ row_words_free s row h =
 
 -- no line feed is in a line's text
 pub Free-spelling : (l : Line) → Fits l → Free 10 (spelling l)
-Free-spelling (Do (Begin s)) h = Free-append 10 (codes "begin") (spaced (decimal s)) (free_text 10 (codes "begin") refl) (one_free s (omega arith))
-Free-spelling (Do (Get s k)) h = Free-append 10 (codes "get") (spaced (key_words s k)) (free_text 10 (codes "get") refl) (key_words_free s k h)
-Free-spelling (Do (Insert s row)) h = Free-append 10 (codes "insert") (spaced (row_words s row)) (free_text 10 (codes "insert") refl) (row_words_free s row h)
-Free-spelling (Do (Update s row)) h = Free-append 10 (codes "update") (spaced (row_words s row)) (free_text 10 (codes "update") refl) (row_words_free s row h)
-Free-spelling (Do (Delete s k)) h = Free-append 10 (codes "delete") (spaced (key_words s k)) (free_text 10 (codes "delete") refl) (key_words_free s k h)
-Free-spelling (Do (Savepoint s)) h = Free-append 10 (codes "savepoint") (spaced (decimal s)) (free_text 10 (codes "savepoint") refl) (one_free s (omega arith))
-Free-spelling (Do (RollbackTo s)) h = Free-append 10 (codes "rollbackto") (spaced (decimal s)) (free_text 10 (codes "rollbackto") refl) (one_free s (omega arith))
-Free-spelling (Do (Release s)) h = Free-append 10 (codes "release") (spaced (decimal s)) (free_text 10 (codes "release") refl) (one_free s (omega arith))
-Free-spelling (Do (Commit s)) h = Free-append 10 (codes "commit") (spaced (decimal s)) (free_text 10 (codes "commit") refl) (one_free s (omega arith))
-Free-spelling (Do (Abort s)) h = Free-append 10 (codes "abort") (spaced (decimal s)) (free_text 10 (codes "abort") refl) (one_free s (omega arith))
-Free-spelling (Do (OpenIndex s index low high)) h = Free-append 10 (codes "openindex") (spaced (range_words s index low high)) (free_text 10 (codes "openindex") refl) (range_words_free s index low high h)
-Free-spelling (Do (OpenHeap s)) h = Free-append 10 (codes "openheap") (spaced (decimal s)) (free_text 10 (codes "openheap") refl) (one_free s (omega arith))
-Free-spelling (Do (Next s n)) h = Free-append 10 (codes "next") (spaced (key_words s n)) (free_text 10 (codes "next") refl) (key_words_free s n (h.0, omega (arith, h.1)))
-Free-spelling (Do (Close s)) h = Free-append 10 (codes "close") (spaced (decimal s)) (free_text 10 (codes "close") refl) (one_free s (omega arith))
-Free-spelling (Do (Prune p)) h = Free-append 10 (codes "prune") (spaced (decimal p)) (free_text 10 (codes "prune") refl) (one_free p (omega arith))
-Free-spelling (Do (VacuumBegin Normal)) h = free_text 10 (codes "vacuum begin normal") refl
-Free-spelling (Do (VacuumBegin Aggressive)) h = free_text 10 (codes "vacuum begin aggressive") refl
-Free-spelling (Do VacuumStep) h = free_text 10 (codes "vacuum step") refl
-Free-spelling (Do VacuumCancel) h = free_text 10 (codes "vacuum cancel") refl
+Free-spelling (Do (step.Begin s)) h = Free-append 10 (codes "begin") (spaced (decimal s)) (free_text 10 (codes "begin") refl) (one_free s (omega arith))
+Free-spelling (Do (step.Get s k)) h = Free-append 10 (codes "get") (spaced (key_words s k)) (free_text 10 (codes "get") refl) (key_words_free s k h)
+Free-spelling (Do (step.Insert s row)) h = Free-append 10 (codes "insert") (spaced (row_words s row)) (free_text 10 (codes "insert") refl) (row_words_free s row h)
+Free-spelling (Do (step.Update s row)) h = Free-append 10 (codes "update") (spaced (row_words s row)) (free_text 10 (codes "update") refl) (row_words_free s row h)
+Free-spelling (Do (step.Delete s k)) h = Free-append 10 (codes "delete") (spaced (key_words s k)) (free_text 10 (codes "delete") refl) (key_words_free s k h)
+Free-spelling (Do (step.Savepoint s)) h = Free-append 10 (codes "savepoint") (spaced (decimal s)) (free_text 10 (codes "savepoint") refl) (one_free s (omega arith))
+Free-spelling (Do (step.RollbackTo s)) h = Free-append 10 (codes "rollbackto") (spaced (decimal s)) (free_text 10 (codes "rollbackto") refl) (one_free s (omega arith))
+Free-spelling (Do (step.Release s)) h = Free-append 10 (codes "release") (spaced (decimal s)) (free_text 10 (codes "release") refl) (one_free s (omega arith))
+Free-spelling (Do (step.Commit s)) h = Free-append 10 (codes "commit") (spaced (decimal s)) (free_text 10 (codes "commit") refl) (one_free s (omega arith))
+Free-spelling (Do (step.Abort s)) h = Free-append 10 (codes "abort") (spaced (decimal s)) (free_text 10 (codes "abort") refl) (one_free s (omega arith))
+Free-spelling (Do (step.OpenIndex s index low high)) h = Free-append 10 (codes "openindex") (spaced (range_words s index low high)) (free_text 10 (codes "openindex") refl) (range_words_free s index low high h)
+Free-spelling (Do (step.OpenHeap s)) h = Free-append 10 (codes "openheap") (spaced (decimal s)) (free_text 10 (codes "openheap") refl) (one_free s (omega arith))
+Free-spelling (Do (step.Next s n)) h = Free-append 10 (codes "next") (spaced (key_words s n)) (free_text 10 (codes "next") refl) (key_words_free s n (h.0, omega (arith, h.1)))
+Free-spelling (Do (step.Close s)) h = Free-append 10 (codes "close") (spaced (decimal s)) (free_text 10 (codes "close") refl) (one_free s (omega arith))
+Free-spelling (Do (step.Prune p)) h = Free-append 10 (codes "prune") (spaced (decimal p)) (free_text 10 (codes "prune") refl) (one_free p (omega arith))
+Free-spelling (Do (step.VacuumBegin mode.Normal)) h = free_text 10 (codes "vacuum begin normal") refl
+Free-spelling (Do (step.VacuumBegin mode.Aggressive)) h = free_text 10 (codes "vacuum begin aggressive") refl
+Free-spelling (Do step.VacuumStep) h = free_text 10 (codes "vacuum step") refl
+Free-spelling (Do step.VacuumCancel) h = free_text 10 (codes "vacuum cancel") refl
 Free-spelling VacuumFinish h = free_text 10 (codes "vacuum finish") refl
 Free-spelling Ids h = (refl, (refl, (refl, tt)))
 Free-spelling (Page p) h = Free-append 10 (codes "page") (spaced (decimal p)) (free_text 10 (codes "page") refl) (one_free p (omega arith))

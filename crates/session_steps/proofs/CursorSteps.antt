@@ -12,6 +12,7 @@ use Rattle.calls.specs.declared.step.Step.TheVariants.{OpenIndex, OpenHeap, Clos
 use Rattle.calls.specs.declared.reply.Reply.TheVariants.{Done, Refused}
 use Rattle.calls.specs.declared.reply.Refusal.{Refusal}
 use Rattle.calls.specs.declared.reply.Refusal.TheVariants.{NoSuchIndex, BadBounds}
+use Rattle.calls.specs.Bars.{BarsFree, BarsWithCursor}
 use Rattle.refinement.specs.Heap as relation
 use Rattle.refinement.specs.Cursors.{first_place}
 use Rattle.refinement.specs.Allowed.{Allows, next}
@@ -21,23 +22,22 @@ use Rattle.session_steps.specs.declared.session.Session.{Session}
 use Rattle.session_steps.specs.declared.cursor.Cursor.{Cursor}
 use Rattle.session_steps.specs.declared.cursor.Cursor.TheVariants.{Index, Heap}
 use Rattle.index_lookup.specs.declared.index_scan.IndexRange.{IndexRange}
-use Rattle.session_steps.specs.State.{State, session_at, put_session, map_session, with_cursor, seen, position_of, reader_of}
+use Rattle.session_steps.specs.State.{State, session_at, put_session, map_session, with_cursor, seen, position_of, reader_of, engine_sessions}
 use Rattle.session_steps.specs.Agrees.{Agrees, Sound, SessionKeeps, Follows, KeepsAllTargets}
-use Rattle.session_steps.specs.Refuses.{RefusesFree, RefusesBare}
 use Rattle.session_steps.proofs.InUse.{GoesAlong, no-cursor, agree}
 use Rattle.session_steps.proofs.OwnIdsLemmas.{open-within}
 use Rattle.session_steps.proofs.StateLemmas.{only-set}
 use Rattle.session_steps.proofs.Owns.{reader-is}
 use Rattle.session_steps.proofs.Follows.{Follows-same, stays-so, free_by, bare_by, some-position, led-same, Sound-put}
 
-pub Follows-barred_open_index : (st : State) (s index : ℕ) (low high : ℤ) (r : Refusal) → RefusesFree st s r → Follows st (OpenIndex s index low high) (Refused r) st
+pub Follows-barred_open_index : (st : State) (s index : ℕ) (low high : ℤ) (r : Refusal) → BarsFree (engine_sessions st) s r → Follows st (OpenIndex s index low high) (Refused r) st
 Follows-barred_open_index st s index low high r is =
     Follows-same st (OpenIndex s index low high) (Refused r) (cursors.Follows-barred_open_index (seen st) s index low high r (free_by st s r is))
 
-pub Follows-barred_open_heap : (st : State) (s : ℕ) (r : Refusal) → RefusesFree st s r → Follows st (OpenHeap s) (Refused r) st
+pub Follows-barred_open_heap : (st : State) (s : ℕ) (r : Refusal) → BarsFree (engine_sessions st) s r → Follows st (OpenHeap s) (Refused r) st
 Follows-barred_open_heap st s r is = Follows-same st (OpenHeap s) (Refused r) (cursors.Follows-barred_open_heap (seen st) s r (free_by st s r is))
 
-pub Follows-bare_close : (st : State) (s : ℕ) (r : Refusal) → RefusesBare st s r → Follows st (Close s) (Refused r) st
+pub Follows-bare_close : (st : State) (s : ℕ) (r : Refusal) → BarsWithCursor (engine_sessions st) s r → Follows st (Close s) (Refused r) st
 Follows-bare_close st s r is = Follows-same st (Close s) (Refused r) (cursors.Follows-bare_close (seen st) s r (bare_by st s r is))
 
 -- An index that is not there is not in use.

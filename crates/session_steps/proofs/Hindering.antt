@@ -13,13 +13,14 @@ use Rattle.calls.specs.declared.reply.Refusal.{Refusal}
 use Rattle.calls.specs.declared.reply.Refusal.TheVariants.{AlreadyThere, NotThere, Conflict, Busy, NoRoom, NeedsFreeze, NoMemory}
 use Rattle.calls.specs.Words.{RowText, FitsRow}
 use Rattle.calls.specs.Writes.{WriteStep, inserts, updates, deletes, step_of, key_of, Asks}
+use Rattle.calls.specs.Bars.{BarsOpen, BarsFree}
 use Rattle.refinement.specs.Finds.{BeginsWrite}
 use Rattle.refinement.proofs.Hindrances as hindrances
 use Rattle.session_steps.specs.declared.session.Session.{Session}
-use Rattle.session_steps.specs.State.{State, session_at, put_session, refused_state, seen, reader_of, failed_session}
+use Rattle.session_steps.specs.State.{State, session_at, put_session, refused_state, seen, reader_of, failed_session, engine_sessions}
 use Rattle.session_steps.specs.Agrees.{Agrees, Follows}
 use Rattle.session_steps.specs.Tests.{ReadsPlace, IsLateKey, IsHeld, RefusesInsertOfKey, RefusesChangeOfKey, MayWriteKey}
-use Rattle.session_steps.specs.Refuses.{Refuses, RefusesFree, MayAct}
+use Rattle.session_steps.specs.Tests.{MayAct}
 use Rattle.session_steps.specs.Exact.{ExactInsert, ExactUpdate, ExactDelete, Exact}
 use Rattle.session_steps.specs.Follows.{FollowsInsert, FollowsUpdate}
 use Rattle.refinement.proofs.Runs.{same_indexes}
@@ -119,14 +120,14 @@ exact-hindered_delete st s key _ h = refl
 
 -- A session that is not open, or has failed, leaves all as it was.
 
-pub exact-unready_insert : (st : State) (s : ℕ) (row : Row) (r : Refusal) → RefusesFree st s r → ExactInsert st s row (Refused r) st
+pub exact-unready_insert : (st : State) (s : ℕ) (row : Row) (r : Refusal) → BarsFree (engine_sessions st) s r → ExactInsert st s row (Refused r) st
 exact-unready_insert st s row Conflict is = absurd is
 exact-unready_insert st s row NoRoom is = absurd is
 exact-unready_insert st s row NeedsFreeze is = absurd is
 exact-unready_insert st s row NoMemory is = absurd is
 exact-unready_insert st s row _ is = refl
 
-pub exact-unready_update : (st : State) (s : ℕ) (row : Row) (r : Refusal) → RefusesFree st s r → ExactUpdate st s row (Refused r) st
+pub exact-unready_update : (st : State) (s : ℕ) (row : Row) (r : Refusal) → BarsFree (engine_sessions st) s r → ExactUpdate st s row (Refused r) st
 exact-unready_update st s row NotThere is = inl refl
 exact-unready_update st s row Conflict is = absurd is
 exact-unready_update st s row NoRoom is = absurd is
@@ -134,14 +135,14 @@ exact-unready_update st s row NeedsFreeze is = absurd is
 exact-unready_update st s row NoMemory is = absurd is
 exact-unready_update st s row _ is = refl
 
-pub exact-unready_delete : (st : State) (s key : ℕ) (r : Refusal) → RefusesFree st s r → ExactDelete st s key (Refused r) st
+pub exact-unready_delete : (st : State) (s key : ℕ) (r : Refusal) → BarsFree (engine_sessions st) s r → ExactDelete st s key (Refused r) st
 exact-unready_delete st s key NotThere is = inl refl
 exact-unready_delete st s key Conflict is = absurd is
 exact-unready_delete st s key NeedsFreeze is = absurd is
 exact-unready_delete st s key NoMemory is = absurd is
 exact-unready_delete st s key _ is = refl
 
-pub exact-closed : (st : State) (s : ℕ) (r : Refusal) → Refuses st s r → Exact st (Begin s) (Refused r) st
+pub exact-closed : (st : State) (s : ℕ) (r : Refusal) → BarsOpen (engine_sessions st) s r → Exact st (Begin s) (Refused r) st
 exact-closed st s NoMemory is = absurd is
 exact-closed st s _ is = refl
 

@@ -14,7 +14,7 @@ use Rattle.session_steps.specs.State.{State, session_at, put_session}
 use Rattle.session_steps.specs.Keeps.{open_at, EngineKeeps}
 use Rattle.session_steps.specs.Agrees.{Follows}
 use Rattle.session_steps.specs.Changes.{SetsSavepoint, Releases, RollsBackOn, RollsBack}
-use Rattle.session_steps.specs.Refuses.{MayAct}
+use Rattle.session_steps.specs.Tests.{MayAct}
 use Rattle.session_steps.proofs.OwnIdsLemmas.{keep-dropped}
 use Rattle.session_steps.proofs.Idle.{open-put}
 use Rattle.session_steps.proofs.Savepoints.{Follows-savepoint, Follows-release, Follows-roll_back_to}

@@ -17,7 +17,7 @@ use Rattle.table_integrity.specs.Table.{SoundTable}
 use Rattle.session_steps.specs.declared.session.Session.{Session}
 use Rattle.session_steps.specs.declared.cursor.Cursor.TheVariants.{Index}
 use Rattle.session_steps.specs.State.{State, session_at, seen, horizon_of}
-use Rattle.session_steps.specs.declared.sessions.TheConstants.{MOST_SESSIONS}
+use Rattle.calls.specs.declared.step.TheConstants.{MOST_SESSIONS}
 
 -- what the ids of an open session keep
 pub record SessionKeeps (w : Window) (e : Session) : Type 0 where

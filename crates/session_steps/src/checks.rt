@@ -3,10 +3,10 @@
 ghost use Rattle.std.specs.Prelude.{◌≡◌, ◌≢◌, ◌<◌, ◌≤◌, ℕ, length, MatchOption, MatchResult, OnOk, IfErr, Some, None, Contains, Err};
 ghost use Rattle.calls.specs.Words.{FitsRow, row_of};
 ghost use Rattle.session_steps.specs.Keeps.{open_at};
-ghost use Rattle.session_steps.specs.Refuses.{MayAct};
+ghost use Rattle.session_steps.specs.Tests.{MayAct};
 ghost use Rattle.session_steps.specs.State.{session_at, refused_state};
 ghost use Rattle.session_steps.specs.Tests.{FindsPlace, IsUncontested, ConflictsWrite, MayWriteKey, RefusesInsertOfKey, RefusesChangeOfKey};
-ghost use Rattle.session_steps.specs.declared.sessions.TheConstants.{MOST_SESSIONS};
+ghost use Rattle.calls.specs.declared.step.TheConstants.{MOST_SESSIONS};
 
 use crate::engine::SessionEngine;
 use crate::outcome::Ack;
