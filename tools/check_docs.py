@@ -10,7 +10,8 @@ Reads README.md, CONTRIBUTING.md and the pages of docs/, bench/, examples/ and c
 - a row of a table in docs/guarantees.md has a promise of more than 25 words, or a definition or an edit of a crate that neither its
   heading nor the lines below that name;
 - a line has 140 columns or more, or a sentence more than 30 words (tools/sentences.py);
-- a figure is not what the repository has: lines of definitions, layers, sizes, edits, calls (tools/figures.py).
+- a figure is not what the repository has: lines of definitions, layers, sizes, edits, calls (tools/figures.py);
+- a refusal or a status has another number, name or meaning somewhere than in the table of docs/rules.md (tools/refusals.py).
 
 With a path to the program, it also compares its answers with those on the examples' pages, as examples/check.py does.
 Run it at the top of the repository. It prints what is wrong, one place a line, and ends with status 1 where anything is.
@@ -22,6 +23,7 @@ import subprocess
 import sys
 
 import figures
+import refusals
 import sentences
 
 WIDTH = 140
@@ -312,6 +314,7 @@ def main():
     names = Names(tracked())
     wrong = [(page, *fault) for page in filter(os.path.exists, pages()) for fault in sorted(set(faults(names, page)))]
     wrong += figures.wrong()
+    wrong += refusals.wrong()
     for page, number, what in wrong:
         print(f"{page}:{number}: {what}")
     count = len(wrong)

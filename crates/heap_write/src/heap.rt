@@ -54,10 +54,10 @@ impl Model for HeapState {
     ghost Value = { HeapView };
 
     ghost view = { λ h. record {
-        pages = h.pages;
-        statuses = h.statuses;
-        indexes = h.indexes;
-        max_pages = h.max_pages;
+      pages = h.pages;
+      statuses = h.statuses;
+      indexes = h.indexes;
+      max_pages = h.max_pages;
     } };
 
     ghost invariant = { λ h.

@@ -1,13 +1,9 @@
 -- What a cursor hands out.
-use Rattle.std.specs.Prelude.{◌≡◌, ℕ, zero, suc, ◌<◌, ◌≤◌, ◌==◌, ◌&&◌, max, if◌then◌else◌, Bool, List, map, length, Option, Some, None, ℤ, pos, ◌<ℤ◌, int_le, slice_get, slice_index_or, ◌⊎◌}
+use Rattle.std.specs.Prelude.{◌≡◌, ℕ, ◌<◌, ◌≤◌, ◌==◌, ◌&&◌, max, if◌then◌else◌, Bool, List, map, length, Option, Some, None, ℤ, ◌<ℤ◌, int_le, slice_get, ◌⊎◌}
 use Rattle.std.specs.List.{list_any}
 use Rattle.tuple_header.specs.declared.version.Row.{Row}
+use Rattle.tuple_header.specs.IndexValue.{value_in}
 use Rattle.history.specs.World.{Order, by_index, by_heap, by_keys}
-
--- the value by which an index orders a row: index 0 is the primary index, by the key, and index c + 1 that of column c
-abbrev pub value_in : ℕ → Row → ℤ
-value_in zero row = pos row.key
-value_in (suc c) row = slice_index_or row.cols c (pos 0)
 
 -- the one row comes before the other in the index: by the value, and by the key where the values are equal
 abbrev pub ComesBefore : ℕ → Row → Row → Type 0

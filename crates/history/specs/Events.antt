@@ -5,12 +5,13 @@ use Rattle.history.specs.History.{IsLate}
 use Rattle.history.specs.World.{World, OpenSession, Cursor, view, ClosesRing, IsReady, IsWriter, MayWrite, IsBlocked}
 use Rattle.history.specs.Cursors.{HandsOutPart, HandsOutKeys, keys_of}
 use Rattle.history.specs.Moves.{stepped, change, begun, with_row, without_row, as_failed, blocked_by, with_savepoint, rolled_back_to, without_savepoint, aborted, committed_by, with_index_cursor, with_heap_cursor, with_keys_cursor, with_taken, without_cursor}
+use Rattle.calls.specs.declared.step.TheConstants.{MOST_SESSIONS}
 
 -- a step of the session s leads from the world w to another. A step that reads, or that is refused and leaves the
 -- session usable, only passes
 pub data Happens (w : World) (s : ℕ) : World → Type 0 where
   passes : Happens w s (stepped w s)
-  begins : s < 64 → w.session s ≡ None → Happens w s (begun w s)
+  begins : s < MOST_SESSIONS → w.session s ≡ None → Happens w s (begun w s)
   inserts : (row : Row) (m : OpenSession) → MayWrite w s row.key m → view w.history m row.key ≡ None → Happens w s (change w s (with_row row))
   updates : (row : Row) (m : OpenSession) → MayWrite w s row.key m → IsSome (view w.history m row.key) → Happens w s (change w s (with_row row))
   deletes : (key : ℕ) (m : OpenSession) → MayWrite w s key m → IsSome (view w.history m key) → Happens w s (change w s (without_row key))

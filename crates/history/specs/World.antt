@@ -2,6 +2,7 @@
 use Rattle.std.specs.Prelude.{◌≡◌, ◌≢◌, ℕ, List, [], ◌∷◌, ◌++◌, Option, Some, None, Bool, true, false, IsSome, slice_index_or}
 use Rattle.xid_circle.specs.Following.{ReachesIn}
 use Rattle.tuple_header.specs.declared.version.Row.{Row}
+use Rattle.calls.specs.Bars.{SessionLooks}
 use Rattle.history.specs.History.{Write, Transaction, written, reading, IsLate}
 
 -- in which way a cursor goes over its rows: in the order of an index, in any order, or by their keys alone
@@ -30,6 +31,10 @@ pub record World : Type 0 where
   pub session : ℕ → Option OpenSession
   pub waits_for : ℕ → Option ℕ
   pub has_index : ℕ → Bool
+
+-- the sessions, as far as what bars one from a step looks at them
+abbrev pub world_sessions : World → SessionLooks OpenSession Cursor
+world_sessions w = record { session = w.session; failed = λ m. m.failed; cursor = λ m. m.cursor }
 
 -- index 0, by the key, is always there, and index c + 1 where column c is indexed
 abbrev pub is_indexed : List Bool → ℕ → Bool

@@ -6,9 +6,9 @@ use Rattle.root_index.specs.View.{free_places}
 use Rattle.heap_pages.specs.declared.pages.TheConstants.{MAX_PAGES}
 use Rattle.snapshot.specs.declared.own.TheConstants.{MOST_SAVEPOINTS}
 use Rattle.snapshot.specs.Snap.{are_many}
-use Rattle.refinement.specs.declared.reply.Refusal.TheVariants.{NoSuchSession}
-use Rattle.session_steps.specs.State.{State}
-use Rattle.session_steps.specs.Refuses.{Refuses}
+use Rattle.calls.specs.declared.reply.Refusal.TheVariants.{NoSuchSession}
+use Rattle.calls.specs.Bars.{BarsOpen}
+use Rattle.session_steps.specs.State.{State, engine_sessions}
 use Rattle.script_text.specs.declared.line.TheConstants.{MAX_LINE}
 
 pub record LimitsAre : Type 0 where
@@ -23,7 +23,7 @@ pub record LimitsAre : Type 0 where
   pub listed : are_many (replicate 64 3) ≡ false
   pub not_listed : are_many (replicate 65 3) ≡ true
   -- session 64 is none, and session 63 is one
-  pub no_session : (st : State) → Refuses st 64 NoSuchSession
-  pub last_session : (st : State) → ¬ Refuses st 63 NoSuchSession
+  pub no_session : (st : State) → BarsOpen (engine_sessions st) 64 NoSuchSession
+  pub last_session : (st : State) → ¬ BarsOpen (engine_sessions st) 63 NoSuchSession
   -- of a line of a script, in bytes
   pub line : MAX_LINE ≡ 4096

@@ -13,7 +13,7 @@ use Rattle.page_slots.specs.Stored.{StoredView}
 use Rattle.tuple_header.specs.declared.version.Header.{Header}
 use Rattle.page_slots.specs.Slots as Slots
 use Rattle.page_slots.specs.Slots.{bytes_taken}
-use Rattle.page_slots.specs.Store.{body_in, body_of, stored_slot, slots_in, fits, AreWithin, is_bare, stored_with_header}
+use Rattle.page_slots.specs.Store.{body_in, body_of, stored_slot, slots_in, fits, AreWithin, holds_no_version, stored_with_header}
 use Rattle.page_slots.proofs.SlotLemmas.{same_or_other}
 
 -- A body in longer bytes.
@@ -137,7 +137,7 @@ slots-stay_or_not false bytes more items within = refl
 -- One slot in the place of another.
 
 -- what holds no version is the same slot beside any bytes
-pub bare-anywhere : (bytes : List ℕ) (x : Item) → is_bare x ≡ true → stored_slot bytes x ≡ stored_slot [] x
+pub bare-anywhere : (bytes : List ℕ) (x : Item) → holds_no_version x ≡ true → stored_slot bytes x ≡ stored_slot [] x
 bare-anywhere bytes Item.Unused bare = refl
 bare-anywhere bytes (Item.Normal s) bare = absurd (cc bare)
 bare-anywhere bytes (Item.Redirect target) bare = refl

@@ -27,11 +27,11 @@ is_dead (Normal t) = false
 is_dead (Redirect target) = false
 is_dead Dead = true
 
-abbrev pub leads_to : ℕ → Slot → Bool
-leads_to n Unused = false
-leads_to n (Normal t) = false
-leads_to n (Redirect target) = target == n
-leads_to n Dead = false
+abbrev pub redirects_to : ℕ → Slot → Bool
+redirects_to n Unused = false
+redirects_to n (Normal t) = false
+redirects_to n (Redirect target) = target == n
+redirects_to n Dead = false
 
 -- whether it is a version of this inserter, which nobody deleted
 abbrev pub is_undeleted_by : ℕ → Slot → Bool

@@ -39,11 +39,11 @@ abbrev pub AreWithin : ℕ → List Item → Type 0
 AreWithin count items = (i : ℕ) → fits count (slice_index_or items i Item.Unused) ≡ true
 
 -- whether it holds no version
-abbrev pub is_bare : Item → Bool
-is_bare Item.Unused = true
-is_bare (Item.Normal s) = false
-is_bare (Item.Redirect target) = true
-is_bare Item.Dead = true
+abbrev pub holds_no_version : Item → Bool
+holds_no_version Item.Unused = true
+holds_no_version (Item.Normal s) = false
+holds_no_version (Item.Redirect target) = true
+holds_no_version Item.Dead = true
 
 -- with another header
 abbrev pub stored_with_header : Item → Header → Item

@@ -3,12 +3,12 @@
 ghost use Rattle.std.specs.Prelude.{◌≡◌, ◌≤◌, ◌+◌, ℕ, List, IfSome, None, true, length, take, drop};
 ghost use Rattle.std.specs.Option.{option_map};
 ghost use Rattle.tuple_header.specs.Faults.{header_fault};
-ghost use Rattle.page_slots.specs.Slots.{is_unused, is_dead, leads_to, is_undeleted_by, head_of, version_of, target_of, bytes_taken};
+ghost use Rattle.page_slots.specs.Slots.{is_unused, is_dead, redirects_to, is_undeleted_by, head_of, version_of, target_of, bytes_taken};
 ghost use Rattle.page_slots.specs.Store.{stored_slot, stored_version, stored_with_header, fits};
 
 use crate::slot::{Slot, SlotHead};
 use std::marker::Model;
-use tuple_header::{Header, RowRef, Tuple};
+use tuple_header::{Header, MOST_BODY, RowRef, Tuple};
 use xid_circle::Xid;
 
 /// A version but for its body, and the part of its page's bytes in which that stands.
@@ -25,18 +25,19 @@ impl Model for Stored {
     ghost use Rattle.std.specs.Prelude.{◌≡◌, ◌≤◌, None};
     ghost use Rattle.tuple_header.specs.Faults.{header_fault};
     ghost use Rattle.page_slots.specs.Stored.{StoredView};
+    ghost use Rattle.tuple_header.specs.declared.version.TheConstants.{MOST_BODY};
 
     ghost Value = { StoredView };
 
     ghost view = { λ s. record {
-        header = s.header;
-        key = s.key;
-        cols = s.cols;
-        from = s.from;
-        len = s.len;
+      header = s.header;
+      key = s.key;
+      cols = s.cols;
+      from = s.from;
+      len = s.len;
     } };
 
-    ghost invariant = { λ s. (header_fault s.header ≡ None) × (s.len ≤ 1024) };
+    ghost invariant = { λ s. (header_fault s.header ≡ None) × (s.len ≤ MOST_BODY) };
 }
 
 /// A slot: as [`Slot`], with the body of a version elsewhere.
@@ -53,7 +54,7 @@ impl Stored {
     pub(crate) fn body<'a>(&self, bytes: &'a [u8]) -> &'a [u8]
         requires { self.now.from + self.now.len ≤ length bytes.now }
         ensures value { result.now ≡ take self.now.len (drop self.now.from bytes.now) }
-        ensures limit { length result.now ≤ 1024 }
+        ensures limit { length result.now ≤ MOST_BODY }
     {
         let from = usize::from(self.from);
         &bytes[from..from + usize::from(self.len)]
@@ -87,8 +88,8 @@ impl Item {
     }
 
     /// Whether it is a redirect to the slot of this number.
-    pub(crate) fn leads_to(&self, number: u16) -> bool
-        ensures { (bytes : List ℕ) → result ≡ leads_to number (stored_slot bytes self.now) }
+    pub(crate) fn redirects_to(&self, number: u16) -> bool
+        ensures { (bytes : List ℕ) → result ≡ redirects_to number (stored_slot bytes self.now) }
     {
         match self {
             Item::Redirect(target) => *target == number,

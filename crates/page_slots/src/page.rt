@@ -3,9 +3,9 @@
 ghost use Rattle.std.specs.Prelude.{◌≡◌, ◌⊎◌, ◌≤◌, ◌<◌, ◌+◌, ◌*◌, ℕ, sum_by, [], true, false, length, OnOk, OnErr, IfOk, IfSome, IsSome, IsTrue, ◌↔◌, Some, None, MatchOption};
 ghost use Rattle.tuple_header.specs.Version.{rounded_size_of};
 ghost use Rattle.tuple_header.specs.Faults.{header_fault};
-ghost use Rattle.page_slots.specs.Store.{stored_slot, is_bare};
+ghost use Rattle.page_slots.specs.Store.{stored_slot, holds_no_version};
 ghost use Rattle.page_slots.specs.declared.packing.TheConstants.{MOST_BYTES};
-ghost use Rattle.page_slots.specs.Slots.{is_unused, is_dead, leads_to, is_undeleted_by, head_of, slot_at, header_at, row_at, key_at, redirect_at, SlotIsThere, IsNormalAt, the_slot, with_slot, with_header_at, has_unused, free_number, with_added, bytes_taken, free_bytes, room_of, next_change, change_unless, differs_in_hints_alone};
+ghost use Rattle.page_slots.specs.Slots.{is_unused, is_dead, redirects_to, is_undeleted_by, head_of, slot_at, header_at, row_at, key_at, redirect_at, SlotIsThere, IsNormalAt, the_slot, with_slot, with_header_at, has_unused, free_number, with_added, bytes_taken, free_bytes, room_of, next_change, change_unless, differs_in_hints_alone};
 
 use crate::hints::differ_in_hints_alone;
 use crate::item::Item;
@@ -54,10 +54,10 @@ impl Model for Page {
     ghost use Rattle.page_slots.specs.Slots.{is_unused, bytes_taken};
 
     ghost view = { λ p. record {
-        slots = p.slots.slots;
-        change = p.change;
-        flag = p.flag;
-        spare = p.slots.spare;
+      slots = p.slots.slots;
+      change = p.change;
+      flag = p.flag;
+      spare = p.slots.spare;
     } };
 
     ghost invariant = { λ p.
@@ -410,17 +410,18 @@ impl Page {
         requires target_there { SlotIsThere self.old.slots target }
         ensures { self.new ≡ record self.old {
           slots = with_slot self.old.slots number (Slot.Redirect target);
-          change = change_unless (leads_to target (the_slot self.old.slots number)) self.old.change;
+          change = change_unless (redirects_to target (the_slot self.old.slots number))
+              self.old.change;
         } }
     {
-        let same = self.slots.leads_to(usize::from(number) - 1, target);
+        let same = self.slots.redirects_to(usize::from(number) - 1, target);
         self.put(number, Item::Redirect(target), same);
     }
 
     // Puts a slot without a version in the place of its number.
     fn put(&mut self, number: u16, item: Item, same: bool)
         requires there { SlotIsThere self.old.slots number }
-        requires bare { is_bare item ≡ true }
+        requires bare { holds_no_version item ≡ true }
         ensures { self.new ≡ record self.old {
           slots = with_slot self.old.slots number (stored_slot [] item);
           change = change_unless same self.old.change;

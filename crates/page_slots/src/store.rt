@@ -4,8 +4,8 @@ ghost use Rattle.std.specs.Prelude.{◌≡◌, ◌≤◌, ◌<◌, ◌+◌, ◌-
 ghost use Rattle.std.specs.Option.{option_map, option_and_then};
 ghost use Rattle.std.specs.List.{position_or_len};
 ghost use Rattle.tuple_header.specs.Faults.{header_fault};
-ghost use Rattle.page_slots.specs.Slots.{is_unused, is_dead, leads_to, is_undeleted_by, head_of, version_of, target_of, with_header, bytes_taken};
-ghost use Rattle.page_slots.specs.Store.{stored_slot, is_bare};
+ghost use Rattle.page_slots.specs.Slots.{is_unused, is_dead, redirects_to, is_undeleted_by, head_of, version_of, target_of, with_header, bytes_taken};
+ghost use Rattle.page_slots.specs.Store.{stored_slot, holds_no_version};
 
 use crate::item::Item;
 use crate::packing::{MOST_BYTES, keep_version};
@@ -33,9 +33,9 @@ impl Model for Store {
     ghost Value = { StoreView };
 
     ghost view = { λ s. record {
-        slots = slots_in s.bytes.items s.items.items;
-        spare = if nat_lt (vec_capacity s.bytes) MOST_BYTES then 0
-            else vec_capacity s.items - vec_len s.items;
+      slots = slots_in s.bytes.items s.items.items;
+      spare = if nat_lt (vec_capacity s.bytes) MOST_BYTES then 0
+          else vec_capacity s.items - vec_len s.items;
     } };
 
     ghost invariant = { λ s.
@@ -146,11 +146,11 @@ impl Store {
     }
 
     /// Whether the slot at an index is a redirect to the slot of this number.
-    pub(crate) fn leads_to(&self, index: usize, number: u16) -> bool
+    pub(crate) fn redirects_to(&self, index: usize, number: u16) -> bool
         requires { index < length self.now.slots }
-        ensures { result ≡ leads_to number (slice_index_or self.now.slots index Slot.Unused) }
+        ensures { result ≡ redirects_to number (slice_index_or self.now.slots index Slot.Unused) }
     {
-        self.items[index].leads_to(number)
+        self.items[index].redirects_to(number)
     }
 
     /// Whether the slot at an index holds a version of this inserter, which nobody deleted.
@@ -257,7 +257,7 @@ impl Store {
     /// Puts a slot without a version at an index.
     pub(crate) fn put(&mut self, index: usize, item: Item)
         requires there { index < length self.old.slots }
-        requires bare { is_bare item ≡ true }
+        requires bare { holds_no_version item ≡ true }
         ensures { self.new
             ≡ record self.old { slots = slice_set self.old.slots index (stored_slot [] item) } }
     {

@@ -15,8 +15,9 @@ use Rattle.history.specs.History.{Write, Transaction, said, written, latest, com
 use Rattle.history.specs.World.{OpenSession, joined, own_write, view}
 use Rattle.history.proofs.HistoryLemmas.{written-append, said-other, option_or-none, option_or_assoc}
 use Rattle.plain_history.proofs.Lists.{written-take, latest-take, joined-take}
-use Rattle.history.specs.Cursors.{value_in, ComesBefore, kept_where, keys_of, without, AreNext}
-use Rattle.plain_history.specs.Order.{row_in, comes_before, ComesBeforeAll, IsInOrder, placed, has, AddsRow}
+use Rattle.tuple_header.specs.IndexValue.{value_in}
+use Rattle.history.specs.Cursors.{ComesBefore, kept_where, keys_of, without, AreNext}
+use Rattle.plain_history.specs.Order.{row_of_key, comes_before, ComesBeforeAll, IsInOrder, placed, has, AddsRow}
 
 -- the order of two values with their keys
 abbrev Comes : ℤ → ℤ → ℕ → ℕ → Type 0
@@ -56,16 +57,16 @@ before-other index a b ne e =
     (λ comes. let yes : comes_before index a b ≡ true = (Decides-comes (value_in index a) (value_in index b) a.key b.key).1 comes in let never : false ≡ true = sym e ∙ yes in absurd (cc)))
 
 -- the row of a key in a list with one more at its head
-pub row_in-head : (row : Row) (rows : List Row) (key : ℕ) → row.key ≡ key → row_in (row ∷ rows) key ≡ Some row
-row_in-head row rows key same = cond-true (nat_eq row.key key) (Some row) (row_in rows key) (eq-eqb row.key key same)
+pub row_in-head : (row : Row) (rows : List Row) (key : ℕ) → row.key ≡ key → row_of_key (row ∷ rows) key ≡ Some row
+row_in-head row rows key same = cond-true (nat_eq row.key key) (Some row) (row_of_key rows key) (eq-eqb row.key key same)
 
-row_in-tail : (row : Row) (rows : List Row) (key : ℕ) → row.key ≢ key → row_in (row ∷ rows) key ≡ row_in rows key
-row_in-tail row rows key ne = cond-false (nat_eq row.key key) (Some row) (row_in rows key) (ne_eqb row.key key ne)
+row_in-tail : (row : Row) (rows : List Row) (key : ℕ) → row.key ≢ key → row_of_key (row ∷ rows) key ≡ row_of_key rows key
+row_in-tail row rows key ne = cond-false (nat_eq row.key key) (Some row) (row_of_key rows key) (ne_eqb row.key key ne)
 
-other_key : (row : Row) (rows : List Row) (key : ℕ) → row_in (row ∷ rows) key ≡ None → row.key ≢ key
+other_key : (row : Row) (rows : List Row) (key : ℕ) → row_of_key (row ∷ rows) key ≡ None → row.key ≢ key
 other_key row rows key none same = none-some row (sym none ∙ row_in-head row rows key same)
 
-rest_key : (row : Row) (rows : List Row) (key : ℕ) → row_in (row ∷ rows) key ≡ None → row_in rows key ≡ None
+rest_key : (row : Row) (rows : List Row) (key : ℕ) → row_of_key (row ∷ rows) key ≡ None → row_of_key rows key ≡ None
 rest_key row rows key none = sym (row_in-tail row rows key (other_key row rows key none)) ∙ none
 
 placed-first : (index : ℕ) (row other : Row) (rows : List Row) → comes_before index row other ≡ true → placed index row (other ∷ rows) ≡ row ∷ other ∷ rows
@@ -74,19 +75,19 @@ placed-first index row other rows e = cond-true (comes_before index row other) (
 placed-later : (index : ℕ) (row other : Row) (rows : List Row) → comes_before index row other ≡ false → placed index row (other ∷ rows) ≡ other ∷ placed index row rows
 placed-later index row other rows e = cond-false (comes_before index row other) (row ∷ other ∷ rows) (other ∷ placed index row rows) e
 
-pub placed-same : (index : ℕ) (row : Row) (rows : List Row) → row_in rows row.key ≡ None → row_in (placed index row rows) row.key ≡ Some row
+pub placed-same : (index : ℕ) (row : Row) (rows : List Row) → row_of_key rows row.key ≡ None → row_of_key (placed index row rows) row.key ≡ Some row
 placed-same index row [] none = row_in-head row [] row.key refl
 placed-same index row (other ∷ rows) none = elim (cases_Bool (comes_before index row other)) [
-  | inl first ↦ ap (λ l. row_in l row.key) (placed-first index row other rows first) ∙ row_in-head row (other ∷ rows) row.key refl
-  | inr later ↦ ap (λ l. row_in l row.key) (placed-later index row other rows later)
+  | inl first ↦ ap (λ l. row_of_key l row.key) (placed-first index row other rows first) ∙ row_in-head row (other ∷ rows) row.key refl
+  | inr later ↦ ap (λ l. row_of_key l row.key) (placed-later index row other rows later)
       ∙ (row_in-tail other (placed index row rows) row.key (other_key other rows row.key none) ∙ placed-same index row rows (rest_key other rows row.key none))
 ]
 
-pub placed-other : (index : ℕ) (row : Row) (rows : List Row) (key : ℕ) → row.key ≢ key → row_in (placed index row rows) key ≡ row_in rows key
+pub placed-other : (index : ℕ) (row : Row) (rows : List Row) (key : ℕ) → row.key ≢ key → row_of_key (placed index row rows) key ≡ row_of_key rows key
 placed-other index row [] key ne = row_in-tail row [] key ne
 placed-other index row (other ∷ rows) key ne = elim (cases_Bool (comes_before index row other)) [
-  | inl first ↦ ap (λ l. row_in l key) (placed-first index row other rows first) ∙ row_in-tail row (other ∷ rows) key ne
-  | inr later ↦ ap (λ l. row_in l key) (placed-later index row other rows later) ∙ (elim (cases_eq other.key key) [
+  | inl first ↦ ap (λ l. row_of_key l key) (placed-first index row other rows first) ∙ row_in-tail row (other ∷ rows) key ne
+  | inr later ↦ ap (λ l. row_of_key l key) (placed-later index row other rows later) ∙ (elim (cases_eq other.key key) [
     | inl same ↦ row_in-head other (placed index row rows) key same ∙ sym (row_in-head other rows key same)
     | inr differs ↦ row_in-tail other (placed index row rows) key differs ∙ (placed-other index row rows key ne ∙ sym (row_in-tail other rows key differs))
   ])
@@ -103,7 +104,7 @@ all-placed index a row (other ∷ rows) e all = elim (cases_Bool (comes_before i
   | inr later ↦ subst (ComesBeforeAll index a) (sym (placed-later index row other rows later)) (all.0, all-placed index a row rows e all.1)
 ]
 
-pub placed-in_order : (index : ℕ) (row : Row) (rows : List Row) → row_in rows row.key ≡ None → IsInOrder index rows → IsInOrder index (placed index row rows)
+pub placed-in_order : (index : ℕ) (row : Row) (rows : List Row) → row_of_key rows row.key ≡ None → IsInOrder index rows → IsInOrder index (placed index row rows)
 placed-in_order index row [] none order = (tt, refl, tt)
 placed-in_order index row (other ∷ rows) none order = elim (cases_Bool (comes_before index row other)) [
   | inl first ↦ subst (IsInOrder index) (sym (placed-first index row other rows first)) ((first, all-trans index row other rows first order.0), none, order)
@@ -116,20 +117,20 @@ placed-in_order index row (other ∷ rows) none order = elim (cases_Bool (comes_
 
 -- One key more.
 
-pub adds-placed : (rows : ℕ → Option Row) (index key : ℕ) (row : Row) (old new : List Row) → row_in old key ≡ None → rows key ≡ Some row → row.key ≡ key
+pub adds-placed : (rows : ℕ → Option Row) (index key : ℕ) (row : Row) (old new : List Row) → row_of_key old key ≡ None → rows key ≡ Some row → row.key ≡ key
     → new ≡ placed index row old → AddsRow rows key old new
 adds-placed rows index key row old new none is keyed placed_is = (
-  ap (λ l. row_in l key) placed_is ∙ (subst (λ k. row_in (placed index row old) k ≡ option_or (row_in old k) (rows key)) keyed
+  ap (λ l. row_of_key l key) placed_is ∙ (subst (λ k. row_of_key (placed index row old) k ≡ option_or (row_of_key old k) (rows key)) keyed
       (placed-same index row old none' ∙ (sym is ∙ ap (λ o. option_or o (rows key)) (sym none')))),
-  λ k ne. ap (λ l. row_in l k) placed_is ∙ placed-other index row old k (λ same. ne (sym same ∙ keyed)),
+  λ k ne. ap (λ l. row_of_key l k) placed_is ∙ placed-other index row old k (λ same. ne (sym same ∙ keyed)),
 )
   where
-    none' : row_in old row.key ≡ None
-    none' = ap (row_in old) keyed ∙ none
+    none' : row_of_key old row.key ≡ None
+    none' = ap (row_of_key old) keyed ∙ none
 
-pub in_order-placed : (index key : ℕ) (row : Row) (old new : List Row) → row_in old key ≡ None → row.key ≡ key → new ≡ placed index row old → IsInOrder index old → IsInOrder index new
+pub in_order-placed : (index key : ℕ) (row : Row) (old new : List Row) → row_of_key old key ≡ None → row.key ≡ key → new ≡ placed index row old → IsInOrder index old → IsInOrder index new
 in_order-placed index key row old new none keyed placed_is order =
-    subst (IsInOrder index) (sym placed_is) (placed-in_order index row old (ap (row_in old) keyed ∙ none) order)
+    subst (IsInOrder index) (sym placed_is) (placed-in_order index row old (ap (row_of_key old) keyed ∙ none) order)
 
 has-push_same : (keys : List ℕ) (key : ℕ) → has (keys ++ key ∷ []) key ≡ true
 has-push_same [] key = ap (λ b. b || false) (eq-eqb key key refl)
@@ -212,7 +213,7 @@ in_order-drop index zero rows order = order
 in_order-drop index (suc n) [] order = tt
 in_order-drop index (suc n) (row ∷ rows) order = in_order-drop index n rows order.2
 
-row_in-drop_none : (n : ℕ) (rows : List Row) (key : ℕ) → row_in rows key ≡ None → row_in (drop n rows) key ≡ None
+row_in-drop_none : (n : ℕ) (rows : List Row) (key : ℕ) → row_of_key rows key ≡ None → row_of_key (drop n rows) key ≡ None
 row_in-drop_none zero rows key none = none
 row_in-drop_none (suc n) [] key none = refl
 row_in-drop_none (suc n) (row ∷ rows) key none = row_in-drop_none n rows key (rest_key row rows key none)
@@ -224,13 +225,13 @@ without-tail : (k : ℕ) (keys : List ℕ) (rest rest' : ℕ → Option Row) (ke
 without-tail k keys rest rest' key ne same =
     ap (λ b. cond (b || list_any (λ j. nat_eq j key) keys) None (rest key)) (ne_eqb k key ne) ∙ ap (λ o. cond (list_any (λ j. nat_eq j key) keys) None o) same
 
-pub row_in-drop : (index n : ℕ) (rows : List Row) → IsInOrder index rows → (key : ℕ) → row_in (drop n rows) key ≡ without (keys_of (take n rows)) (row_in rows) key
+pub row_in-drop : (index n : ℕ) (rows : List Row) → IsInOrder index rows → (key : ℕ) → row_of_key (drop n rows) key ≡ without (keys_of (take n rows)) (row_of_key rows) key
 row_in-drop index zero rows order key = refl
 row_in-drop index (suc n) [] order key = refl
 row_in-drop index (suc n) (row ∷ rows) order key = elim (cases_eq row.key key) [
-  | inl same ↦ row_in-drop_none n rows key (subst (λ k. row_in rows k ≡ None) same order.1) ∙ sym (without-head row.key (keys_of (take n rows)) (row_in (row ∷ rows)) key same)
+  | inl same ↦ row_in-drop_none n rows key (subst (λ k. row_of_key rows k ≡ None) same order.1) ∙ sym (without-head row.key (keys_of (take n rows)) (row_of_key (row ∷ rows)) key same)
   | inr ne ↦ row_in-drop index n rows order.2 key
-      ∙ sym (without-tail row.key (keys_of (take n rows)) (row_in (row ∷ rows)) (row_in rows) key ne (row_in-tail row rows key ne))
+      ∙ sym (without-tail row.key (keys_of (take n rows)) (row_of_key (row ∷ rows)) (row_of_key rows) key ne (row_in-tail row rows key ne))
 ]
 
 all-at : (index : ℕ) (a : Row) (rows : List Row) (i : ℕ) (b : Row) → ComesBeforeAll index a rows → slice_get rows i ≡ Some b → ComesBefore index a b
@@ -239,19 +240,19 @@ all-at index a (c ∷ rows) zero b all at = subst (ComesBefore index a) (same_So
 all-at index a (c ∷ rows) (suc i) b all at = all-at index a rows i b all.1 at
 
 -- a row is the row of its key
-row-at : (index : ℕ) (rows : List Row) (i : ℕ) (a : Row) → IsInOrder index rows → slice_get rows i ≡ Some a → row_in rows a.key ≡ Some a
+row-at : (index : ℕ) (rows : List Row) (i : ℕ) (a : Row) → IsInOrder index rows → slice_get rows i ≡ Some a → row_of_key rows a.key ≡ Some a
 row-at index [] i a order at = absurd (none-some a at)
 row-at index (row ∷ rows) zero a order at = row_in-head row rows a.key (ap (λ (r : Row). r.key) (same_Some row a at)) ∙ at
 row-at index (row ∷ rows) (suc i) a order at =
-    row_in-tail row rows a.key (λ same. none-some a (sym order.1 ∙ (ap (row_in rows) same ∙ row-at index rows i a order.2 at))) ∙ row-at index rows i a order.2 at
+    row_in-tail row rows a.key (λ same. none-some a (sym order.1 ∙ (ap (row_of_key rows) same ∙ row-at index rows i a order.2 at))) ∙ row-at index rows i a order.2 at
 
 at-once : (index : ℕ) (rows : List Row) (i j : ℕ) (a b : Row) → IsInOrder index rows → slice_get rows i ≡ Some a → slice_get rows j ≡ Some b → a.key ≡ b.key → i ≡ j
 at-once index [] i j a b order at at' same = absurd (none-some a at)
 at-once index (row ∷ rows) zero zero a b order at at' same = refl
 at-once index (row ∷ rows) zero (suc j) a b order at at' same =
-    absurd (none-some b (sym order.1 ∙ (ap (row_in rows) (ap (λ (r : Row). r.key) (same_Some row a at) ∙ same) ∙ row-at index rows j b order.2 at')))
+    absurd (none-some b (sym order.1 ∙ (ap (row_of_key rows) (ap (λ (r : Row). r.key) (same_Some row a at) ∙ same) ∙ row-at index rows j b order.2 at')))
 at-once index (row ∷ rows) (suc i) zero a b order at at' same =
-    absurd (none-some a (sym order.1 ∙ (ap (row_in rows) (ap (λ (r : Row). r.key) (same_Some row b at') ∙ sym same) ∙ row-at index rows i a order.2 at)))
+    absurd (none-some a (sym order.1 ∙ (ap (row_of_key rows) (ap (λ (r : Row). r.key) (same_Some row b at') ∙ sym same) ∙ row-at index rows i a order.2 at)))
 at-once index (row ∷ rows) (suc i) (suc j) a b order at at' same = ap suc (at-once index rows i j a b order.2 at at' same)
 
 at-order : (index : ℕ) (rows : List Row) (i j : ℕ) (a b : Row) → IsInOrder index rows → slice_get rows i ≡ Some a → slice_get rows j ≡ Some b → i < j → ComesBefore index a b
@@ -272,7 +273,7 @@ drop-at (suc n) [] j b at = absurd (none-some b at)
 drop-at (suc n) (row ∷ rows) j b at = subst (λ k. slice_get (row ∷ rows) k ≡ Some b) (let e : suc (n + j) ≡ suc n + j = omega arith in e) (drop-at n rows j b at)
 
 -- a row that is found stands somewhere
-place-of : (rows : List Row) (key : ℕ) (b : Row) → row_in rows key ≡ Some b → (j : ℕ) × (slice_get rows j ≡ Some b)
+place-of : (rows : List Row) (key : ℕ) (b : Row) → row_of_key rows key ≡ Some b → (j : ℕ) × (slice_get rows j ≡ Some b)
 place-of [] key b at = absurd (none-some b at)
 place-of (row ∷ rows) key b at = elim (cases_eq row.key key) [
   | inl same ↦ (zero, sym (row_in-head row rows key same) ∙ at)
@@ -286,7 +287,7 @@ drop-empty (suc n) [] le = refl
 drop-empty (suc n) (row ∷ rows) le = drop-empty n rows (omega arith)
 
 -- the first of the rows in order are the next
-pub next_rows : (index n count : ℕ) (rows : List Row) → IsInOrder index rows → 0 < length rows → count ≡ max 1 n → AreNext index n (row_in rows) (take count rows)
+pub next_rows : (index n count : ℕ) (rows : List Row) → IsInOrder index rows → 0 < length rows → count ≡ max 1 n → AreNext index n (row_of_key rows) (take count rows)
 next_rows index n count rows order some is = record {
   part = record {
     some = rw (length-take count rows) (omega arith);
@@ -302,7 +303,7 @@ next_rows index n count rows order some is = record {
   at_most = rw (length-take count rows) (omega arith);
   all_left = λ few key.
       let all : length rows ≤ count = short (length-take count rows) few in
-      sym (row_in-drop index count rows order key) ∙ ap (λ l. row_in l key) (drop-empty count rows all);
+      sym (row_in-drop index count rows order key) ∙ ap (λ l. row_of_key l key) (drop-empty count rows all);
 }
   where
     short : length (take count rows) ≡ min count (length rows) → length (take count rows) < max 1 n → length rows ≤ count

@@ -4,11 +4,15 @@ use Rattle.std.specs.Option.{option_map}
 use Rattle.tuple_header.specs.declared.version.Row.{Row}
 use Rattle.plain_history.specs.declared.plain.PlainSession.{PlainSession}
 use Rattle.plain_history.specs.declared.refusal.Refused.{Refused}
-use Rattle.plain_history.specs.declared.refusal.Refused.TheVariants.{NoSuchSession, NotOpen, AlreadyOpen, Failed, AlreadyThere, NotThere, Conflict, Busy, Deadlock, CursorOpen, NoCursor, TooDeep, NoSavepoint, NoSuchIndex, BadBounds, NoMemory}
+use Rattle.plain_history.specs.declared.refusal.Refused.TheVariants.{By, Deadlock}
+use Rattle.calls.specs.declared.reply.Refusal.{Refusal}
+use Rattle.calls.specs.declared.reply.Refusal.TheVariants as refusal
+use Rattle.calls.specs.Bars.{BarsOpen, BarsFree}
+use Rattle.calls.specs.declared.step.TheConstants.{MOST_SESSIONS}
 use Rattle.plain_history.specs.declared.refusal.Outcome.{Outcome}
 use Rattle.plain_history.specs.declared.refusal.Outcome.TheVariants.{Committed, RolledBack}
 use Rattle.history.specs.History.{Transaction, IsLate}
-use Rattle.history.specs.World.{World, OpenSession, Cursor, view, ClosesRing, IsReady, IsWriter, MayWrite, IsBlocked}
+use Rattle.history.specs.World.{World, world_sessions, OpenSession, Cursor, view, ClosesRing, IsReady, IsWriter, MayWrite, IsBlocked}
 use Rattle.history.specs.Moves.{stepped, change, as_failed, blocked_by, opened, past, with_taken, transaction_of, aborted, committed_by}
 use Rattle.plain_history.specs.declared.cursor.PlainOrder.{PlainOrder}
 use Rattle.plain_history.specs.declared.cursor.Bounds.{Bounds}
@@ -22,38 +26,25 @@ use Rattle.plain_history.specs.Plain.{open_of, plain_order_of}
 abbrev pub PlainBecomes : Option PlainSession → Option PlainSession → (OpenSession → OpenSession) → Type 0
 PlainBecomes before after f = option_map open_of after ≡ option_map f (option_map open_of before)
 
-abbrev pub Stays : Option PlainSession → Option PlainSession → Type 0
-Stays before after = option_map open_of after ≡ option_map open_of before
+abbrev pub PlainStays : Option PlainSession → Option PlainSession → Type 0
+PlainStays before after = option_map open_of after ≡ option_map open_of before
 
 abbrev pub with_transaction : World → Transaction → World
 with_transaction w t = record w { history = w.history ++ t ∷ [] }
 
--- what a refusal leaves
+-- what a write that is refused leaves
 abbrev pub after_refusal : World → ℕ → Refused → World
-after_refusal w s Conflict = change w s as_failed
+after_refusal w s (By refusal.Conflict) = change w s as_failed
+after_refusal w s (By (refusal.Busy o)) = blocked_by w s o
 after_refusal w s Deadlock = change w s as_failed
-after_refusal w s (Busy o) = blocked_by w s o
 after_refusal w s why = stepped w s
 
 -- Why a step is refused: each test where those before it let the step pass.
 
-abbrev pub RefusesOpen : World → ℕ → Refused → Type 0
-RefusesOpen w s NoSuchSession = 64 ≤ s
-RefusesOpen w s NotOpen = (s < 64) × (w.session s ≡ None)
-RefusesOpen w s why = ⊥
-
-abbrev pub PlainRefusesReady : World → ℕ → Refused → Type 0
-PlainRefusesReady w s Failed = (m : OpenSession) × (w.session s ≡ Some m) × (m.failed ≡ true)
-PlainRefusesReady w s why = RefusesOpen w s why
-
-abbrev pub RefusesWriter : World → ℕ → Refused → Type 0
-RefusesWriter w s CursorOpen = (m : OpenSession) × IsReady w s m × IsSome m.cursor
-RefusesWriter w s why = PlainRefusesReady w s why
-
 -- the write of a key by a session that may write meets another
 abbrev pub MeetsWrite : World → ℕ → ℕ → OpenSession → Refused → Type 0
-MeetsWrite w s key m Conflict = IsLate w.history m.start key
-MeetsWrite w s key m (Busy o) = IsBlocked w s key o m × ¬ ClosesRing w.waits_for s o
+MeetsWrite w s key m (By refusal.Conflict) = IsLate w.history m.start key
+MeetsWrite w s key m (By (refusal.Busy o)) = IsBlocked w s key o m × ¬ ClosesRing w.waits_for s o
 MeetsWrite w s key m Deadlock = (o : ℕ) × IsBlocked w s key o m × ClosesRing w.waits_for s o
 MeetsWrite w s key m why = ⊥
 
@@ -64,49 +55,45 @@ abbrev pub MayReplace : World → ℕ → ℕ → Type 0
 MayReplace w s key = (m : OpenSession) × MayWrite w s key m × IsSome (view w.history m key)
 
 abbrev pub RefusesInsert : World → ℕ → ℕ → Refused → Type 0
-RefusesInsert w s key AlreadyThere = (m : OpenSession) × IsWriter w s m × IsSome (view w.history m key)
-RefusesInsert w s key Conflict = (m : OpenSession) × IsWriter w s m × (view w.history m key ≡ None) × MeetsWrite w s key m Conflict
-RefusesInsert w s key (Busy o) = (m : OpenSession) × IsWriter w s m × (view w.history m key ≡ None) × MeetsWrite w s key m (Busy o)
+RefusesInsert w s key (By refusal.AlreadyThere) = (m : OpenSession) × IsWriter w s m × IsSome (view w.history m key)
+RefusesInsert w s key (By refusal.Conflict) = (m : OpenSession) × IsWriter w s m × (view w.history m key ≡ None) × MeetsWrite w s key m (By refusal.Conflict)
+RefusesInsert w s key (By (refusal.Busy o)) = (m : OpenSession) × IsWriter w s m × (view w.history m key ≡ None) × MeetsWrite w s key m (By (refusal.Busy o))
 RefusesInsert w s key Deadlock = (m : OpenSession) × IsWriter w s m × (view w.history m key ≡ None) × MeetsWrite w s key m Deadlock
-RefusesInsert w s key why = RefusesWriter w s why
+RefusesInsert w s key (By why) = BarsFree (world_sessions w) s why
 
 abbrev pub RefusesReplace : World → ℕ → ℕ → Refused → Type 0
-RefusesReplace w s key NotThere = (m : OpenSession) × IsWriter w s m × (view w.history m key ≡ None)
-RefusesReplace w s key Conflict = (m : OpenSession) × IsWriter w s m × IsSome (view w.history m key) × MeetsWrite w s key m Conflict
-RefusesReplace w s key (Busy o) = (m : OpenSession) × IsWriter w s m × IsSome (view w.history m key) × MeetsWrite w s key m (Busy o)
+RefusesReplace w s key (By refusal.NotThere) = (m : OpenSession) × IsWriter w s m × (view w.history m key ≡ None)
+RefusesReplace w s key (By refusal.Conflict) = (m : OpenSession) × IsWriter w s m × IsSome (view w.history m key) × MeetsWrite w s key m (By refusal.Conflict)
+RefusesReplace w s key (By (refusal.Busy o)) = (m : OpenSession) × IsWriter w s m × IsSome (view w.history m key) × MeetsWrite w s key m (By (refusal.Busy o))
 RefusesReplace w s key Deadlock = (m : OpenSession) × IsWriter w s m × IsSome (view w.history m key) × MeetsWrite w s key m Deadlock
-RefusesReplace w s key why = RefusesWriter w s why
+RefusesReplace w s key (By why) = BarsFree (world_sessions w) s why
 
-abbrev pub RefusesSave : World → ℕ → Refused → Type 0
-RefusesSave w s TooDeep = (m : OpenSession) × IsWriter w s m × (32 < length m.levels)
-RefusesSave w s why = RefusesWriter w s why
+abbrev pub RefusesSave : World → ℕ → Refusal → Type 0
+RefusesSave w s refusal.TooDeep = (m : OpenSession) × IsWriter w s m × (32 < length m.levels)
+RefusesSave w s why = BarsFree (world_sessions w) s why
 
 -- going back to a savepoint is open to a failed session too
-abbrev pub RefusesRollBack : World → ℕ → Refused → Type 0
-RefusesRollBack w s CursorOpen = (m : OpenSession) × (w.session s ≡ Some m) × IsSome m.cursor
-RefusesRollBack w s NoSavepoint = (m : OpenSession) × (w.session s ≡ Some m) × (m.cursor ≡ None) × (length m.levels ≤ 1)
-RefusesRollBack w s why = RefusesOpen w s why
+abbrev pub RefusesRollBack : World → ℕ → Refusal → Type 0
+RefusesRollBack w s refusal.CursorOpen = (m : OpenSession) × (w.session s ≡ Some m) × IsSome m.cursor
+RefusesRollBack w s refusal.NoSavepoint = (m : OpenSession) × (w.session s ≡ Some m) × (m.cursor ≡ None) × (length m.levels ≤ 1)
+RefusesRollBack w s why = BarsOpen (world_sessions w) s why
 
-abbrev pub RefusesRelease : World → ℕ → Refused → Type 0
-RefusesRelease w s NoSavepoint = (m : OpenSession) × IsWriter w s m × (length m.levels ≤ 1)
-RefusesRelease w s why = RefusesWriter w s why
+abbrev pub RefusesRelease : World → ℕ → Refusal → Type 0
+RefusesRelease w s refusal.NoSavepoint = (m : OpenSession) × IsWriter w s m × (length m.levels ≤ 1)
+RefusesRelease w s why = BarsFree (world_sessions w) s why
 
-abbrev pub RefusesBounds : World → ℕ → ℤ → ℤ → Refused → Type 0
-RefusesBounds w s low high BadBounds = (m : OpenSession) × IsWriter w s m × (high <ℤ low)
-RefusesBounds w s low high why = RefusesWriter w s why
+abbrev pub RefusesBounds : World → ℕ → ℤ → ℤ → Refusal → Type 0
+RefusesBounds w s low high refusal.BadBounds = (m : OpenSession) × IsWriter w s m × (high <ℤ low)
+RefusesBounds w s low high why = BarsFree (world_sessions w) s why
 
-abbrev pub RefusesIndex : World → ℕ → ℕ → ℤ → ℤ → Refused → Type 0
-RefusesIndex w s index low high NoSuchIndex = (m : OpenSession) × IsWriter w s m × (w.has_index index ≡ false)
-RefusesIndex w s index low high BadBounds = (m : OpenSession) × IsWriter w s m × (w.has_index index ≡ true) × (high <ℤ low)
-RefusesIndex w s index low high why = RefusesWriter w s why
+abbrev pub RefusesIndex : World → ℕ → ℕ → ℤ → ℤ → Refusal → Type 0
+RefusesIndex w s index low high refusal.NoSuchIndex = (m : OpenSession) × IsWriter w s m × (w.has_index index ≡ false)
+RefusesIndex w s index low high refusal.BadBounds = (m : OpenSession) × IsWriter w s m × (w.has_index index ≡ true) × (high <ℤ low)
+RefusesIndex w s index low high why = BarsFree (world_sessions w) s why
 
-abbrev pub RefusesNext : World → ℕ → Refused → Type 0
-RefusesNext w s NoCursor = (m : OpenSession) × IsReady w s m × (m.cursor ≡ None)
-RefusesNext w s why = PlainRefusesReady w s why
-
-abbrev pub RefusesBegin : World → ℕ → Refused → Type 0
-RefusesBegin w s NoSuchSession = 64 ≤ s
-RefusesBegin w s AlreadyOpen = (s < 64) × IsSome (w.session s)
+abbrev pub RefusesBegin : World → ℕ → Refusal → Type 0
+RefusesBegin w s refusal.NoSuchSession = MOST_SESSIONS ≤ s
+RefusesBegin w s refusal.AlreadyOpen = (s < MOST_SESSIONS) × IsSome (w.session s)
 RefusesBegin w s why = ⊥
 
 -- and where it is taken
@@ -135,9 +122,14 @@ EndsTransaction w s Committed after = (m : OpenSession) × IsReady w s m × (aft
 EndsTransaction w s RolledBack after = (m : OpenSession) × (w.session s ≡ Some m) × (m.failed ≡ true) × (after ≡ aborted w s)
 
 -- a step that all tests let pass may end for want of memory, which leaves all but the session's wait as it is
-abbrev pub OrMemory : Refused → Type 0 → Type 0 → Type 0
-OrMemory NoMemory taken reason = taken
+abbrev pub OrMemory : Refusal → Type 0 → Type 0 → Type 0
+OrMemory refusal.NoMemory taken reason = taken
 OrMemory why taken reason = reason
+
+-- and so may a write
+abbrev pub OrWriteMemory : Refused → Type 0 → Type 0 → Type 0
+OrWriteMemory (By why) taken reason = OrMemory why taken reason
+OrWriteMemory Deadlock taken reason = reason
 
 -- Cursors.
 
@@ -153,8 +145,8 @@ MayOpenIndex w s index low high = (m : OpenSession) × IsWriter w s m × (w.has_
 abbrev pub HasPlainCursor : World → ℕ → Type 0
 HasPlainCursor w s = (m : OpenSession) × IsReady w s m × IsSome m.cursor
 
-abbrev pub opens : List Transaction → PlainOrder → Bounds → OpenSession → OpenSession
-opens history order bounds m = opened (plain_order_of order) (wanted bounds (index_of order) (view history m)) m
+abbrev pub with_plain_cursor : List Transaction → PlainOrder → Bounds → OpenSession → OpenSession
+with_plain_cursor history order bounds m = opened (plain_order_of order) (wanted bounds (index_of order) (view history m)) m
 
 -- what the cursor hands out for n, and the cursor then
 abbrev pub Hands : Cursor → ℕ → Handed → Cursor → Type 0

@@ -8,7 +8,8 @@ use Rattle.plain_history.specs.declared.cursor.PlainOrder.{PlainOrder}
 use Rattle.plain_history.specs.declared.cursor.PlainOrder.TheVariants.{Index, Heap, Keys}
 use Rattle.plain_history.specs.declared.cursor.Bounds.{Bounds}
 use Rattle.plain_history.specs.declared.cursor.Bounds.TheVariants.{All, Within}
-use Rattle.history.specs.Cursors.{value_in, kept_where}
+use Rattle.tuple_header.specs.IndexValue.{value_in}
+use Rattle.history.specs.Cursors.{kept_where}
 
 pub record KeptCursor : Type 0 where
   pub order : PlainOrder
@@ -21,8 +22,8 @@ index_of Heap = 0
 index_of Keys = 0
 
 -- of each key its row in the list
-abbrev pub row_in : List Row → ℕ → Option Row
-row_in rows key = find (λ row. row.key == key) rows
+abbrev pub row_of_key : List Row → ℕ → Option Row
+row_of_key rows key = find (λ row. row.key == key) rows
 
 abbrev pub comes_before : ℕ → Row → Row → Bool
 comes_before index a b =
@@ -35,7 +36,7 @@ ComesBeforeAll index row (other ∷ rows) = (comes_before index row other ≡ tr
 -- each row comes before those behind it, and none of them has its key
 abbrev pub IsInOrder : ℕ → List Row → Type 0
 IsInOrder index [] = Unit {0}
-IsInOrder index (row ∷ rows) = ComesBeforeAll index row rows × (row_in rows row.key ≡ None) × IsInOrder index rows
+IsInOrder index (row ∷ rows) = ComesBeforeAll index row rows × (row_of_key rows row.key ≡ None) × IsInOrder index rows
 
 -- the row put before the first that it comes before
 abbrev pub placed : ℕ → Row → List Row → List Row
@@ -54,8 +55,8 @@ has keys key = list_any (λ k. k == key) keys
 
 -- the row of the key is there too
 abbrev pub AddsRow : (ℕ → Option Row) → ℕ → List Row → List Row → Type 0
-AddsRow rows key old new = (row_in new key ≡ option_or (row_in old key) (rows key)) × ((k : ℕ) → k ≢ key → row_in new k ≡ row_in old k)
+AddsRow rows key old new = (row_of_key new key ≡ option_or (row_of_key old key) (rows key)) × ((k : ℕ) → k ≢ key → row_of_key new k ≡ row_of_key old k)
 
 -- of these keys, and of no other, the list has the rows
 abbrev pub Covers : (ℕ → Option Row) → List Row → List ℕ → Type 0
-Covers rows list keys = (key : ℕ) → row_in list key ≡ (if has keys key then rows key else None)
+Covers rows list keys = (key : ℕ) → row_of_key list key ≡ (if has keys key then rows key else None)

@@ -4,7 +4,7 @@ use Rattle.std.specs.Option.{option_map, option_flatten}
 use Rattle.tuple_header.specs.declared.version.Row.{Row}
 use Rattle.plain_history.specs.declared.cursor.PlainOrder.{PlainOrder}
 use Rattle.plain_history.specs.declared.cursor.PlainOrder.TheVariants.{Index, Heap, Keys}
-use Rattle.plain_history.specs.Order.{KeptCursor, row_in}
+use Rattle.plain_history.specs.Order.{KeptCursor, row_of_key}
 use Rattle.plain_history.specs.declared.plain.PlainSession.{PlainSession}
 use Rattle.history.specs.History.{Transaction}
 use Rattle.history.specs.World.{World, is_indexed, OpenSession, Cursor, Order, by_index, by_heap, by_keys}
@@ -25,7 +25,7 @@ abbrev pub IsRowOf : ℕ → Option Row → Type 0
 IsRowOf key row = IfSome row (λ r. r.key ≡ key)
 
 abbrev pub cursor_of : KeptCursor → Cursor
-cursor_of c = record { order = plain_order_of c.order; rest = row_in c.rest }
+cursor_of c = record { order = plain_order_of c.order; rest = row_of_key c.rest }
 
 abbrev pub open_of : PlainSession → OpenSession
 open_of m = record {

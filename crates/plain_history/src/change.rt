@@ -5,7 +5,7 @@ ghost use Rattle.std.specs.Prelude.{◌==◌, map, not, ◌≡◌, OnOk, OnErr, 
 ghost use Rattle.std.specs.Option.{option_map};
 ghost use Rattle.history.specs.Moves.{stepped, put, change, as_failed, with_write, with_savepoint, to_savepoint, without_savepoint, blocked_by, awaited_no_more, without_cursor};
 ghost use Rattle.plain_history.specs.Plain.{IsRowOf, open_of, world_of};
-ghost use Rattle.plain_history.specs.Answers.{PlainBecomes, Stays, with_transaction};
+ghost use Rattle.plain_history.specs.Answers.{PlainBecomes, PlainStays, with_transaction};
 
 use crate::plain::{PlainHistory, PlainLevel, PlainSession, PlainWrite};
 use std::alloc::{AllocError, Global};
@@ -23,7 +23,7 @@ fn fail(session: &mut Option<PlainSession>)
 fn write(session: &mut Option<PlainSession>, key: u64, row: Option<Row>) -> Result<(), AllocError>
     requires { IsRowOf key row }
     ensures ok { OnOk result (PlainBecomes session.old session.new (with_write key row)) }
-    ensures err { OnErr result (Stays session.old session.new) }
+    ensures err { OnErr result (PlainStays session.old session.new) }
 {
     if let Some(session) = session {
         let start = session.start;
@@ -34,7 +34,7 @@ fn write(session: &mut Option<PlainSession>, key: u64, row: Option<Row>) -> Resu
 
 fn save(session: &mut Option<PlainSession>, alloc: Global) -> Result<(), AllocError>
     ensures ok { OnOk result (PlainBecomes session.old session.new with_savepoint) }
-    ensures err { OnErr result (Stays session.old session.new) }
+    ensures err { OnErr result (PlainStays session.old session.new) }
 {
     if let Some(session) = session {
         session.older.insert(0, PlainLevel::new(alloc))?;
@@ -55,7 +55,7 @@ fn roll_back(session: &mut Option<PlainSession>)
 
 fn release(session: &mut Option<PlainSession>) -> Result<(), AllocError>
     ensures ok { OnOk result (PlainBecomes session.old session.new without_savepoint) }
-    ensures err { OnErr result (Stays session.old session.new) }
+    ensures err { OnErr result (PlainStays session.old session.new) }
 {
     if let Some(session) = session {
         session.join_newest()?;

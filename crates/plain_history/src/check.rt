@@ -1,39 +1,42 @@
 //! The tests of a step, in their order.
 
 ghost use Rattle.std.specs.Prelude.{◌≡◌, ◌<◌, OnOk, IfErr, IfOk, Some, None};
-ghost use Rattle.history.specs.World.{IsReady, IsWriter, MayWrite};
+ghost use Rattle.history.specs.World.{IsReady, IsWriter, MayWrite, world_sessions};
 ghost use Rattle.plain_history.specs.Plain.{open_of, world_of};
-ghost use Rattle.plain_history.specs.Answers.{RefusesOpen, PlainRefusesReady, RefusesWriter, RefusesInsert, RefusesReplace, MeetsWrite, MayInsert, MayReplace};
+ghost use Rattle.calls.specs.Bars.{BarsOpen, BarsReady, BarsFree};
+ghost use Rattle.calls.specs.declared.step.TheConstants.{MOST_SESSIONS};
+ghost use Rattle.plain_history.specs.Answers.{RefusesInsert, RefusesReplace, MeetsWrite, MayInsert, MayReplace};
 
 use crate::lookup::{closes_ring, holder, is_late};
 use crate::plain::{PlainHistory, PlainSession};
 use crate::refusal::Refused;
+use calls::Refusal;
 
 impl PlainHistory {
     /// The session, which is open.
-    pub(crate) fn open_session(&self, s: u8) -> Result<&PlainSession, Refused>
-        ensures within { OnOk result (s < 64) }
+    pub(crate) fn open_session(&self, s: u8) -> Result<&PlainSession, Refusal>
+        ensures within { OnOk result (s < MOST_SESSIONS) }
         ensures ok { IfOk result (λ m. ((world_of self.now).session s ≡ Some (open_of m.now))) }
-        ensures err { IfErr result (λ why. RefusesOpen (world_of self.now) s why) }
+        ensures err { IfErr result (λ why. BarsOpen (world_sessions (world_of self.now)) s why) }
     {
         if s >= 64 {
-            return Err(Refused::NoSuchSession);
+            return Err(Refusal::NoSuchSession);
         }
         match &self.sessions[s as usize] {
             Some(session) => Ok(session),
-            None => Err(Refused::NotOpen),
+            None => Err(Refusal::NotOpen),
         }
     }
 
     /// The session, which has not failed.
-    pub(crate) fn ready_session(&self, s: u8) -> Result<&PlainSession, Refused>
+    pub(crate) fn ready_session(&self, s: u8) -> Result<&PlainSession, Refusal>
         ensures ok { IfOk result (λ m. IsReady (world_of self.now) s (open_of m.now)) }
-        ensures err { IfErr result (λ why. PlainRefusesReady (world_of self.now) s why) }
+        ensures err { IfErr result (λ why. BarsReady (world_sessions (world_of self.now)) s why) }
     {
         match self.open_session(s) {
             Ok(session) => {
                 if session.failed {
-                    Err(Refused::Failed)
+                    Err(Refusal::Failed)
                 } else {
                     Ok(session)
                 }
@@ -43,13 +46,13 @@ impl PlainHistory {
     }
 
     /// The session, which has no cursor either.
-    pub(crate) fn writer(&self, s: u8) -> Result<&PlainSession, Refused>
+    pub(crate) fn writer(&self, s: u8) -> Result<&PlainSession, Refusal>
         ensures ok { IfOk result (λ m. IsWriter (world_of self.now) s (open_of m.now)) }
-        ensures err { IfErr result (λ why. RefusesWriter (world_of self.now) s why) }
+        ensures err { IfErr result (λ why. BarsFree (world_sessions (world_of self.now)) s why) }
     {
         match self.ready_session(s) {
             Ok(session) => match &session.cursor {
-                Some(_) => Err(Refused::CursorOpen),
+                Some(_) => Err(Refusal::CursorOpen),
                 None => Ok(session),
             },
             Err(why) => Err(why),
@@ -64,7 +67,7 @@ impl PlainHistory {
             (λ why. MeetsWrite (world_of self.now) s key (open_of session.now) why) }
     {
         if is_late(&self.history, session.start, key) {
-            return Err(Refused::Conflict);
+            return Err(Refused::By(Refusal::Conflict));
         }
         match holder(&self.sessions, s, key) {
             None => Ok(()),
@@ -72,7 +75,7 @@ impl PlainHistory {
                 if closes_ring(&self.waits, s, o) {
                     Err(Refused::Deadlock)
                 } else {
-                    Err(Refused::Busy(o))
+                    Err(Refused::By(Refusal::Busy(o)))
                 }
             }
         }
@@ -86,10 +89,10 @@ impl PlainHistory {
     {
         match self.writer(s) {
             Ok(session) => match session.view(&self.history, key) {
-                Some(_) => Err(Refused::AlreadyThere),
+                Some(_) => Err(Refused::By(Refusal::AlreadyThere)),
                 None => self.check_conflicts(s, session, key),
             },
-            Err(why) => Err(why),
+            Err(why) => Err(Refused::By(why)),
         }
     }
 
@@ -102,9 +105,9 @@ impl PlainHistory {
         match self.writer(s) {
             Ok(session) => match session.view(&self.history, key) {
                 Some(_) => self.check_conflicts(s, session, key),
-                None => Err(Refused::NotThere),
+                None => Err(Refused::By(Refusal::NotThere)),
             },
-            Err(why) => Err(why),
+            Err(why) => Err(Refused::By(why)),
         }
     }
 }

@@ -3,9 +3,10 @@
 ghost use Rattle.std.specs.Prelude.{◌≡◌, ◌≤◌, ◌∷◌, IsSome, ℕ, [], ◌++◌, OnOk, OnErr, IfOk, IsTrue, ◌↔◌, None, Some, false, length, take, drop};
 ghost use Rattle.history.specs.History.{written, latest};
 ghost use Rattle.history.specs.World.{joined, view};
-ghost use Rattle.history.specs.Cursors.{value_in, keys_of, IsOver};
+ghost use Rattle.tuple_header.specs.IndexValue.{value_in};
+ghost use Rattle.history.specs.Cursors.{keys_of, IsOver};
 ghost use Rattle.plain_history.specs.Plain.{open_of, cursor_of};
-ghost use Rattle.plain_history.specs.Order.{row_in, comes_before, placed, IsInOrder, has, is_wanted, wanted, AddsRow, Covers, index_of};
+ghost use Rattle.plain_history.specs.Order.{row_of_key, comes_before, placed, IsInOrder, has, is_wanted, wanted, AddsRow, Covers, index_of};
 ghost use Rattle.plain_history.specs.Answers.{Hands};
 
 use crate::plain::{PlainLevel, PlainSession, PlainWrite};
@@ -120,7 +121,7 @@ fn place_of(rows: &[Row], index: u8, row: &Row) -> usize
 }
 
 fn has_key(rows: &[Row], key: u64) -> bool
-    ensures { IsTrue result ↔ IsSome (row_in rows.now key) }
+    ensures { IsTrue result ↔ IsSome (row_of_key rows.now key) }
 {
     for row in rows {
         if row.key == key {
@@ -171,7 +172,7 @@ pub(crate) fn rows_of(
     ensures order { IfOk result (λ rows. IsInOrder index rows.items) }
     ensures rows { IfOk result
         (λ rows. (key : ℕ)
-        → row_in rows.items key
+        → row_of_key rows.items key
         ≡ wanted bounds index (view history.now (open_of session.now)) key) }
 {
     let keys = keys_of(alloc, history, session)?;

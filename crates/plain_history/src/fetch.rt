@@ -2,14 +2,16 @@
 
 ghost use Rattle.std.specs.Prelude.{◌≡◌, Some, OnOk, OnErr, IfOk, IfErr};
 ghost use Rattle.std.specs.Option.{option_map};
-ghost use Rattle.history.specs.World.{OpenSession};
+ghost use Rattle.history.specs.World.{OpenSession, world_sessions};
 ghost use Rattle.history.specs.Moves.{change, stepped, with_index_cursor, with_heap_cursor, with_keys_cursor, without_cursor};
 ghost use Rattle.plain_history.specs.Plain.{open_of, world_of};
-ghost use Rattle.plain_history.specs.Answers.{after_refusal, OrMemory, PlainBecomes, Stays, RefusesWriter, RefusesBounds, RefusesIndex, RefusesNext, MayOpen, MayOpenWithin, MayOpenIndex, HasPlainCursor, HandsFrom, HandsOn, HandsBy, HasLeft, MayHandOut, opens};
+ghost use Rattle.calls.specs.Bars.{BarsFree, BarsWithCursor};
+ghost use Rattle.plain_history.specs.Answers.{OrMemory, PlainBecomes, PlainStays, RefusesBounds, RefusesIndex, MayOpen, MayOpenWithin, MayOpenIndex, HasPlainCursor, HandsFrom, HandsOn, HandsBy, HasLeft, MayHandOut, with_plain_cursor};
 
 use crate::cursor::{Bounds, PlainCursor, PlainOrder, rows_of};
 use crate::plain::{PlainHistory, PlainLevel, PlainSession};
-use crate::refusal::{Handed, Refused};
+use crate::refusal::Handed;
+use calls::Refusal;
 use std::alloc::{AllocError, Global};
 
 fn set_cursor(
@@ -20,8 +22,8 @@ fn set_cursor(
     bounds: Bounds,
 ) -> Result<(), AllocError>
     ensures ok { OnOk result
-        (PlainBecomes session.old session.new (opens history.now order bounds)) }
-    ensures err { OnErr result (Stays session.old session.new) }
+        (PlainBecomes session.old session.new (with_plain_cursor history.now order bounds)) }
+    ensures err { OnErr result (PlainStays session.old session.new) }
 {
     if let Some(session) = session {
         let rest = rows_of(alloc, history, session, order.index(), bounds)?;
@@ -34,7 +36,7 @@ fn hand_out(session: &mut Option<PlainSession>, alloc: Global, n: u16) -> Result
     ensures ok { IfOk result
         (λ handed. HandsFrom n handed (option_map open_of session.old)
         (option_map open_of session.new)) }
-    ensures err { OnErr result (Stays session.old session.new) }
+    ensures err { OnErr result (PlainStays session.old session.new) }
     ensures left { OnErr result (HasLeft (option_map open_of session.old)) }
 {
     if let Some(session) = session {
@@ -46,9 +48,9 @@ fn hand_out(session: &mut Option<PlainSession>, alloc: Global, n: u16) -> Result
 }
 
 impl PlainHistory {
-    fn check_writer(&self, s: u8) -> Result<(), Refused>
+    fn check_writer(&self, s: u8) -> Result<(), Refusal>
         ensures ok { OnOk result (MayOpen (world_of self.now) s) }
-        ensures err { IfErr result (λ why. RefusesWriter (world_of self.now) s why) }
+        ensures err { IfErr result (λ why. BarsFree (world_sessions (world_of self.now)) s why) }
     {
         match self.writer(s) {
             Ok(_) => Ok(()),
@@ -56,14 +58,14 @@ impl PlainHistory {
         }
     }
 
-    fn check_bounds(&self, s: u8, low: i128, high: i128) -> Result<(), Refused>
+    fn check_bounds(&self, s: u8, low: i128, high: i128) -> Result<(), Refusal>
         ensures ok { OnOk result (MayOpenWithin (world_of self.now) s low high) }
         ensures err { IfErr result (λ why. RefusesBounds (world_of self.now) s low high why) }
     {
         match self.writer(s) {
             Ok(_) => {
                 if high < low {
-                    Err(Refused::BadBounds)
+                    Err(Refusal::BadBounds)
                 } else {
                     Ok(())
                 }
@@ -72,16 +74,16 @@ impl PlainHistory {
         }
     }
 
-    fn check_index(&self, s: u8, index: u8, low: i128, high: i128) -> Result<(), Refused>
+    fn check_index(&self, s: u8, index: u8, low: i128, high: i128) -> Result<(), Refusal>
         ensures ok { OnOk result (MayOpenIndex (world_of self.now) s index low high) }
         ensures err { IfErr result (λ why. RefusesIndex (world_of self.now) s index low high why) }
     {
         match self.writer(s) {
             Ok(_) => {
                 if !self.has_index(index) {
-                    Err(Refused::NoSuchIndex)
+                    Err(Refusal::NoSuchIndex)
                 } else if high < low {
-                    Err(Refused::BadBounds)
+                    Err(Refusal::BadBounds)
                 } else {
                     Ok(())
                 }
@@ -90,14 +92,15 @@ impl PlainHistory {
         }
     }
 
-    fn check_cursor(&self, s: u8) -> Result<(), Refused>
+    fn check_cursor(&self, s: u8) -> Result<(), Refusal>
         ensures ok { OnOk result (HasPlainCursor (world_of self.now) s) }
-        ensures err { IfErr result (λ why. RefusesNext (world_of self.now) s why) }
+        ensures err { IfErr result
+            (λ why. BarsWithCursor (world_sessions (world_of self.now)) s why) }
     {
         match self.ready_session(s) {
             Ok(session) => match &session.cursor {
                 Some(_) => Ok(()),
-                None => Err(Refused::NoCursor),
+                None => Err(Refusal::NoCursor),
             },
             Err(why) => Err(why),
         }
@@ -106,7 +109,7 @@ impl PlainHistory {
     fn open(&mut self, s: u8, order: PlainOrder, bounds: Bounds) -> Result<(), AllocError>
         ensures ok { OnOk result
             (world_of self.new
-            ≡ change (world_of self.old) s (opens self.old.history order bounds)) }
+            ≡ change (world_of self.old) s (with_plain_cursor self.old.history order bounds)) }
         ensures err { OnErr result (world_of self.new ≡ stepped (world_of self.old) s) }
     {
         self.waits[s as usize] = None;
@@ -122,7 +125,7 @@ impl PlainHistory {
     /// Opens a cursor over the rows whose value in the index lies from low to high, in order of value and key. Index 0
     /// orders by the key, index c + 1 by column c. Refusals in order: NoSuchSession, NotOpen, Failed, CursorOpen, NoSuchIndex,
     /// BadBounds, NoMemory.
-    pub fn open_index(&mut self, s: u8, index: u8, low: i128, high: i128) -> Result<(), Refused>
+    pub fn open_index(&mut self, s: u8, index: u8, low: i128, high: i128) -> Result<(), Refusal>
         ensures done { OnOk result
             (MayOpenIndex (world_of self.old) s index low high
             × (world_of self.new
@@ -130,15 +133,15 @@ impl PlainHistory {
         ensures refused { IfErr result
             (λ why. OrMemory why (MayOpenIndex (world_of self.old) s index low high)
             (RefusesIndex (world_of self.old) s index low high why)
-            × (world_of self.new ≡ after_refusal (world_of self.old) s why)) }
+            × (world_of self.new ≡ stepped (world_of self.old) s)) }
     {
         match self.check_index(s, index, low, high) {
             Ok(()) => match self.open(s, PlainOrder::Index(index), Bounds::Within(low, high)) {
                 Ok(()) => Ok(()),
-                Err(_) => Err(Refused::NoMemory),
+                Err(_) => Err(Refusal::NoMemory),
             },
             Err(why) => {
-                self.refuse(s, why);
+                self.end_wait(s);
                 Err(why)
             }
         }
@@ -146,23 +149,23 @@ impl PlainHistory {
 
     /// Opens a cursor over all rows that the session reads. Refusals in order: NoSuchSession, NotOpen, Failed, CursorOpen,
     /// NoMemory.
-    pub fn open_heap(&mut self, s: u8) -> Result<(), Refused>
+    pub fn open_heap(&mut self, s: u8) -> Result<(), Refusal>
         ensures done { OnOk result
             (MayOpen (world_of self.old) s
             × (world_of self.new
             ≡ change (world_of self.old) s (with_heap_cursor self.old.history))) }
         ensures refused { IfErr result
             (λ why. OrMemory why (MayOpen (world_of self.old) s)
-            (RefusesWriter (world_of self.old) s why)
-            × (world_of self.new ≡ after_refusal (world_of self.old) s why)) }
+            (BarsFree (world_sessions (world_of self.old)) s why)
+            × (world_of self.new ≡ stepped (world_of self.old) s)) }
     {
         match self.check_writer(s) {
             Ok(()) => match self.open(s, PlainOrder::Heap, Bounds::All) {
                 Ok(()) => Ok(()),
-                Err(_) => Err(Refused::NoMemory),
+                Err(_) => Err(Refusal::NoMemory),
             },
             Err(why) => {
-                self.refuse(s, why);
+                self.end_wait(s);
                 Err(why)
             }
         }
@@ -170,7 +173,7 @@ impl PlainHistory {
 
     /// Opens a cursor over the keys from low to high. Refusals in order: NoSuchSession, NotOpen, Failed, CursorOpen, BadBounds,
     /// NoMemory.
-    pub fn open_keys(&mut self, s: u8, low: i128, high: i128) -> Result<(), Refused>
+    pub fn open_keys(&mut self, s: u8, low: i128, high: i128) -> Result<(), Refusal>
         ensures done { OnOk result
             (MayOpenWithin (world_of self.old) s low high
             × (world_of self.new
@@ -178,15 +181,15 @@ impl PlainHistory {
         ensures refused { IfErr result
             (λ why. OrMemory why (MayOpenWithin (world_of self.old) s low high)
             (RefusesBounds (world_of self.old) s low high why)
-            × (world_of self.new ≡ after_refusal (world_of self.old) s why)) }
+            × (world_of self.new ≡ stepped (world_of self.old) s)) }
     {
         match self.check_bounds(s, low, high) {
             Ok(()) => match self.open(s, PlainOrder::Keys, Bounds::Within(low, high)) {
                 Ok(()) => Ok(()),
-                Err(_) => Err(Refused::NoMemory),
+                Err(_) => Err(Refusal::NoMemory),
             },
             Err(why) => {
-                self.refuse(s, why);
+                self.end_wait(s);
                 Err(why)
             }
         }
@@ -205,34 +208,34 @@ impl PlainHistory {
 
     /// The next n rows of the cursor, or all that are left; 0 counts as 1. A heap cursor hands out as many. Refusals in order:
     /// NoSuchSession, NotOpen, Failed, NoCursor, NoMemory, which comes only where a row or a key is left.
-    pub fn next(&mut self, s: u8, n: u16) -> Result<Handed, Refused>
+    pub fn next(&mut self, s: u8, n: u16) -> Result<Handed, Refusal>
         ensures handed { IfOk result
             (λ handed. HandsBy (world_of self.old) s n handed (world_of self.new)) }
         ensures refused { IfErr result
             (λ why. OrMemory why (MayHandOut (world_of self.old) s)
-            (RefusesNext (world_of self.old) s why)
-            × (world_of self.new ≡ after_refusal (world_of self.old) s why)) }
+            (BarsWithCursor (world_sessions (world_of self.old)) s why)
+            × (world_of self.new ≡ stepped (world_of self.old) s)) }
     {
         match self.check_cursor(s) {
             Ok(()) => match self.fetch(s, n) {
                 Ok(handed) => Ok(handed),
-                Err(_) => Err(Refused::NoMemory),
+                Err(_) => Err(Refusal::NoMemory),
             },
             Err(why) => {
-                self.refuse(s, why);
+                self.end_wait(s);
                 Err(why)
             }
         }
     }
 
     /// Closes the cursor. Refusals in order: NoSuchSession, NotOpen, Failed, NoCursor.
-    pub fn close(&mut self, s: u8) -> Result<(), Refused>
+    pub fn close(&mut self, s: u8) -> Result<(), Refusal>
         ensures done { OnOk result
             (HasPlainCursor (world_of self.old) s
             × (world_of self.new ≡ change (world_of self.old) s without_cursor)) }
         ensures refused { IfErr result
-            (λ why. RefusesNext (world_of self.old) s why
-            × (world_of self.new ≡ after_refusal (world_of self.old) s why)) }
+            (λ why. BarsWithCursor (world_sessions (world_of self.old)) s why
+            × (world_of self.new ≡ stepped (world_of self.old) s)) }
     {
         match self.check_cursor(s) {
             Ok(()) => {
@@ -240,7 +243,7 @@ impl PlainHistory {
                 Ok(())
             }
             Err(why) => {
-                self.refuse(s, why);
+                self.end_wait(s);
                 Err(why)
             }
         }

@@ -73,10 +73,10 @@ impl Model for PlainHistory {
     ghost Value = { Plain };
 
     ghost view = { λ p. record {
-        history = p.history.items;
-        sessions = p.sessions.items;
-        waits = p.waits.items;
-        indexed = p.indexed;
+      history = p.history.items;
+      sessions = p.sessions.items;
+      waits = p.waits.items;
+      indexed = p.indexed;
     } };
 
     ghost invariant = { λ p. (length p.sessions.items ≡ 256) × (length p.waits.items ≡ 256) };

@@ -2,12 +2,16 @@
 //! says.
 
 ghost use Rattle.std.specs.Prelude.{◌≡◌, ◌<◌, OnOk, IfErr, IfOk, IsSome, Some, None};
+ghost use Rattle.history.specs.World.{world_sessions};
 ghost use Rattle.history.specs.Moves.{begun, change, with_row, without_row, with_savepoint, rolled_back_to, without_savepoint, aborted, stepped};
 ghost use Rattle.plain_history.specs.Plain.{world_of};
-ghost use Rattle.plain_history.specs.Answers.{after_refusal, OrMemory, RefusesBegin, RefusesOpen, PlainRefusesReady, RefusesInsert, RefusesReplace, RefusesSave, RefusesRollBack, RefusesRelease, MayInsert, MayReplace, PlainReads, MaySave, MayRollBack, MayRelease, MayCommit, WouldCommit, EndsTransaction};
+ghost use Rattle.calls.specs.Bars.{BarsOpen, BarsReady};
+ghost use Rattle.calls.specs.declared.step.TheConstants.{MOST_SESSIONS};
+ghost use Rattle.plain_history.specs.Answers.{after_refusal, OrMemory, OrWriteMemory, RefusesBegin, RefusesInsert, RefusesReplace, RefusesSave, RefusesRollBack, RefusesRelease, MayInsert, MayReplace, PlainReads, MaySave, MayRollBack, MayRelease, MayCommit, WouldCommit, EndsTransaction};
 
 use crate::plain::{PlainHistory, PlainLevel, PlainSession};
 use crate::refusal::{Outcome, Refused};
+use calls::Refusal;
 use tuple_header::Row;
 
 impl PlainHistory {
@@ -16,32 +20,32 @@ impl PlainHistory {
         ensures { world_of self.new ≡ after_refusal (world_of self.old) s why }
     {
         match why {
-            Refused::Conflict => self.fail(s),
+            Refused::By(Refusal::Conflict) => self.fail(s),
+            Refused::By(Refusal::Busy(o)) => self.wait_for(s, o),
             Refused::Deadlock => self.fail(s),
-            Refused::Busy(o) => self.wait_for(s, o),
             _ => self.end_wait(s),
         }
     }
 
-    fn check_begin(&self, s: u8) -> Result<(), Refused>
-        ensures ok { OnOk result ((s < 64) × ((world_of self.now).session s ≡ None)) }
+    fn check_begin(&self, s: u8) -> Result<(), Refusal>
+        ensures ok { OnOk result ((s < MOST_SESSIONS) × ((world_of self.now).session s ≡ None)) }
         ensures err { IfErr result (λ why. RefusesBegin (world_of self.now) s why) }
     {
         match self.open_session(s) {
-            Ok(_) => Err(Refused::AlreadyOpen),
-            Err(Refused::NotOpen) => Ok(()),
-            Err(_) => Err(Refused::NoSuchSession),
+            Ok(_) => Err(Refusal::AlreadyOpen),
+            Err(Refusal::NotOpen) => Ok(()),
+            Err(_) => Err(Refusal::NoSuchSession),
         }
     }
 
     /// Opens an idle session on what has committed. Refusals: NoSuchSession, AlreadyOpen.
-    pub fn begin(&mut self, s: u8) -> Result<(), Refused>
+    pub fn begin(&mut self, s: u8) -> Result<(), Refusal>
         ensures done { OnOk result
-            ((s < 64) × ((world_of self.old).session s ≡ None)
+            ((s < MOST_SESSIONS) × ((world_of self.old).session s ≡ None)
             × (world_of self.new ≡ begun (world_of self.old) s)) }
         ensures refused { IfErr result
             (λ why. RefusesBegin (world_of self.old) s why
-            × (world_of self.new ≡ after_refusal (world_of self.old) s why)) }
+            × (world_of self.new ≡ stepped (world_of self.old) s)) }
     {
         match self.check_begin(s) {
             Ok(()) => {
@@ -49,7 +53,7 @@ impl PlainHistory {
                 Ok(())
             }
             Err(why) => {
-                self.refuse(s, why);
+                self.end_wait(s);
                 Err(why)
             }
         }
@@ -68,9 +72,9 @@ impl PlainHistory {
         self.put(s, Some(session));
     }
 
-    fn check_get(&self, s: u8, key: u64) -> Result<Option<Row>, Refused>
+    fn check_get(&self, s: u8, key: u64) -> Result<Option<Row>, Refusal>
         ensures ok { IfOk result (λ row. PlainReads (world_of self.now) s key row) }
-        ensures err { IfErr result (λ why. PlainRefusesReady (world_of self.now) s why) }
+        ensures err { IfErr result (λ why. BarsReady (world_sessions (world_of self.now)) s why) }
     {
         match self.ready_session(s) {
             Ok(session) => Ok(session.view(&self.history, key)),
@@ -79,9 +83,10 @@ impl PlainHistory {
     }
 
     /// The row that the session reads. Refusals in order: NoSuchSession, NotOpen, Failed.
-    pub fn get(&mut self, s: u8, key: u64) -> Result<Option<Row>, Refused>
+    pub fn get(&mut self, s: u8, key: u64) -> Result<Option<Row>, Refusal>
         ensures found { IfOk result (λ row. PlainReads (world_of self.old) s key row) }
-        ensures refused { IfErr result (λ why. PlainRefusesReady (world_of self.old) s why) }
+        ensures refused { IfErr result
+            (λ why. BarsReady (world_sessions (world_of self.old)) s why) }
         ensures next { world_of self.new ≡ stepped (world_of self.old) s }
     {
         let answer = self.check_get(s, key);
@@ -95,7 +100,7 @@ impl PlainHistory {
             (MayInsert (world_of self.old) s row.key
             × (world_of self.new ≡ change (world_of self.old) s (with_row row))) }
         ensures refused { IfErr result
-            (λ why. OrMemory why (MayInsert (world_of self.old) s row.key)
+            (λ why. OrWriteMemory why (MayInsert (world_of self.old) s row.key)
             (RefusesInsert (world_of self.old) s row.key why)
             × (world_of self.new ≡ after_refusal (world_of self.old) s why)) }
     {
@@ -114,7 +119,7 @@ impl PlainHistory {
             (MayReplace (world_of self.old) s row.key
             × (world_of self.new ≡ change (world_of self.old) s (with_row row))) }
         ensures refused { IfErr result
-            (λ why. OrMemory why (MayReplace (world_of self.old) s row.key)
+            (λ why. OrWriteMemory why (MayReplace (world_of self.old) s row.key)
             (RefusesReplace (world_of self.old) s row.key why)
             × (world_of self.new ≡ after_refusal (world_of self.old) s why)) }
     {
@@ -130,13 +135,13 @@ impl PlainHistory {
     fn write_row(&mut self, s: u8, row: Row) -> Result<(), Refused>
         ensures ok { OnOk result (world_of self.new ≡ change (world_of self.old) s (with_row row)) }
         ensures err { IfErr result
-            (λ why. (why ≡ Refused.NoMemory)
+            (λ why. (why ≡ Refused.By Refusal.NoMemory)
             × (world_of self.new ≡ stepped (world_of self.old) s)) }
     {
         let key = row.key;
         match self.write(s, key, Some(row)) {
             Ok(()) => Ok(()),
-            Err(_) => Err(Refused::NoMemory),
+            Err(_) => Err(Refused::By(Refusal::NoMemory)),
         }
     }
 
@@ -146,14 +151,14 @@ impl PlainHistory {
             (MayReplace (world_of self.old) s key
             × (world_of self.new ≡ change (world_of self.old) s (without_row key))) }
         ensures refused { IfErr result
-            (λ why. OrMemory why (MayReplace (world_of self.old) s key)
+            (λ why. OrWriteMemory why (MayReplace (world_of self.old) s key)
             (RefusesReplace (world_of self.old) s key why)
             × (world_of self.new ≡ after_refusal (world_of self.old) s why)) }
     {
         match self.check_replace(s, key) {
             Ok(()) => match self.write(s, key, None) {
                 Ok(()) => Ok(()),
-                Err(_) => Err(Refused::NoMemory),
+                Err(_) => Err(Refused::By(Refusal::NoMemory)),
             },
             Err(why) => {
                 self.refuse(s, why);
@@ -162,7 +167,7 @@ impl PlainHistory {
         }
     }
 
-    fn check_save(&self, s: u8) -> Result<(), Refused>
+    fn check_save(&self, s: u8) -> Result<(), Refusal>
         ensures ok { OnOk result (MaySave (world_of self.now) s) }
         ensures err { IfErr result (λ why. RefusesSave (world_of self.now) s why) }
     {
@@ -171,7 +176,7 @@ impl PlainHistory {
                 if session.older.len() < 32 {
                     Ok(())
                 } else {
-                    Err(Refused::TooDeep)
+                    Err(Refusal::TooDeep)
                 }
             }
             Err(why) => Err(why),
@@ -180,37 +185,37 @@ impl PlainHistory {
 
     /// Makes a savepoint, of which a session has at most 32. Refusals in order: NoSuchSession, NotOpen, Failed, CursorOpen,
     /// TooDeep, NoMemory.
-    pub fn savepoint(&mut self, s: u8) -> Result<(), Refused>
+    pub fn savepoint(&mut self, s: u8) -> Result<(), Refusal>
         ensures done { OnOk result
             (MaySave (world_of self.old) s
             × (world_of self.new ≡ change (world_of self.old) s with_savepoint)) }
         ensures refused { IfErr result
             (λ why. OrMemory why (MaySave (world_of self.old) s)
             (RefusesSave (world_of self.old) s why)
-            × (world_of self.new ≡ after_refusal (world_of self.old) s why)) }
+            × (world_of self.new ≡ stepped (world_of self.old) s)) }
     {
         match self.check_save(s) {
             Ok(()) => match self.save(s) {
                 Ok(()) => Ok(()),
-                Err(_) => Err(Refused::NoMemory),
+                Err(_) => Err(Refusal::NoMemory),
             },
             Err(why) => {
-                self.refuse(s, why);
+                self.end_wait(s);
                 Err(why)
             }
         }
     }
 
-    fn check_roll_back(&self, s: u8) -> Result<(), Refused>
+    fn check_roll_back(&self, s: u8) -> Result<(), Refusal>
         ensures ok { OnOk result (MayRollBack (world_of self.now) s) }
         ensures err { IfErr result (λ why. RefusesRollBack (world_of self.now) s why) }
     {
         match self.open_session(s) {
             Ok(session) => {
                 if let Some(_) = &session.cursor {
-                    Err(Refused::CursorOpen)
+                    Err(Refusal::CursorOpen)
                 } else if session.older.is_empty() {
-                    Err(Refused::NoSavepoint)
+                    Err(Refusal::NoSavepoint)
                 } else {
                     Ok(())
                 }
@@ -221,13 +226,13 @@ impl PlainHistory {
 
     /// Takes back what was written since the newest savepoint, which stays. A failed session is usable again. Refusals in order:
     /// NoSuchSession, NotOpen, CursorOpen, NoSavepoint.
-    pub fn roll_back_to(&mut self, s: u8) -> Result<(), Refused>
+    pub fn roll_back_to(&mut self, s: u8) -> Result<(), Refusal>
         ensures done { OnOk result
             (MayRollBack (world_of self.old) s
             × (world_of self.new ≡ rolled_back_to (world_of self.old) s)) }
         ensures refused { IfErr result
             (λ why. RefusesRollBack (world_of self.old) s why
-            × (world_of self.new ≡ after_refusal (world_of self.old) s why)) }
+            × (world_of self.new ≡ stepped (world_of self.old) s)) }
     {
         match self.check_roll_back(s) {
             Ok(()) => {
@@ -236,20 +241,20 @@ impl PlainHistory {
                 Ok(())
             }
             Err(why) => {
-                self.refuse(s, why);
+                self.end_wait(s);
                 Err(why)
             }
         }
     }
 
-    fn check_release(&self, s: u8) -> Result<(), Refused>
+    fn check_release(&self, s: u8) -> Result<(), Refusal>
         ensures ok { OnOk result (MayRelease (world_of self.now) s) }
         ensures err { IfErr result (λ why. RefusesRelease (world_of self.now) s why) }
     {
         match self.writer(s) {
             Ok(session) => {
                 if session.older.is_empty() {
-                    Err(Refused::NoSavepoint)
+                    Err(Refusal::NoSavepoint)
                 } else {
                     Ok(())
                 }
@@ -260,22 +265,22 @@ impl PlainHistory {
 
     /// Forgets the newest savepoint; what was written since joins the level below. Refusals in order: NoSuchSession, NotOpen,
     /// Failed, CursorOpen, NoSavepoint, NoMemory.
-    pub fn release(&mut self, s: u8) -> Result<(), Refused>
+    pub fn release(&mut self, s: u8) -> Result<(), Refusal>
         ensures done { OnOk result
             (MayRelease (world_of self.old) s
             × (world_of self.new ≡ change (world_of self.old) s without_savepoint)) }
         ensures refused { IfErr result
             (λ why. OrMemory why (MayRelease (world_of self.old) s)
             (RefusesRelease (world_of self.old) s why)
-            × (world_of self.new ≡ after_refusal (world_of self.old) s why)) }
+            × (world_of self.new ≡ stepped (world_of self.old) s)) }
     {
         match self.check_release(s) {
             Ok(()) => match self.join(s) {
                 Ok(()) => Ok(()),
-                Err(_) => Err(Refused::NoMemory),
+                Err(_) => Err(Refusal::NoMemory),
             },
             Err(why) => {
-                self.refuse(s, why);
+                self.end_wait(s);
                 Err(why)
             }
         }
@@ -283,13 +288,13 @@ impl PlainHistory {
 
     /// Ends the session. What it wrote joins the history, unless it has failed. Refusals in order: NoSuchSession, NotOpen,
     /// NoMemory, which leaves the session open and is never answered to one that has failed.
-    pub fn commit(&mut self, s: u8) -> Result<Outcome, Refused>
+    pub fn commit(&mut self, s: u8) -> Result<Outcome, Refusal>
         ensures done { IfOk result
             (λ outcome. EndsTransaction (world_of self.old) s outcome (world_of self.new)) }
         ensures refused { IfErr result
             (λ why. OrMemory why (MayCommit (world_of self.old) s)
-            (RefusesOpen (world_of self.old) s why)
-            × (world_of self.new ≡ after_refusal (world_of self.old) s why)) }
+            (BarsOpen (world_sessions (world_of self.old)) s why)
+            × (world_of self.new ≡ stepped (world_of self.old) s)) }
     {
         match self.transaction(s) {
             Ok(transaction) => match self.append(transaction) {
@@ -299,28 +304,28 @@ impl PlainHistory {
                 }
                 Err(_) => {
                     self.end_wait(s);
-                    Err(Refused::NoMemory)
+                    Err(Refusal::NoMemory)
                 }
             },
-            Err(Refused::Failed) => {
+            Err(Refusal::Failed) => {
                 self.end(s);
                 Ok(Outcome::RolledBack)
             }
             Err(why) => {
-                self.refuse(s, why);
+                self.end_wait(s);
                 Err(why)
             }
         }
     }
 
     /// Ends the session, and drops what it wrote. Refusals in order: NoSuchSession, NotOpen.
-    pub fn abort(&mut self, s: u8) -> Result<(), Refused>
+    pub fn abort(&mut self, s: u8) -> Result<(), Refusal>
         ensures done { OnOk result
             (IsSome ((world_of self.old).session s)
             × (world_of self.new ≡ aborted (world_of self.old) s)) }
         ensures refused { IfErr result
-            (λ why. RefusesOpen (world_of self.old) s why
-            × (world_of self.new ≡ after_refusal (world_of self.old) s why)) }
+            (λ why. BarsOpen (world_sessions (world_of self.old)) s why
+            × (world_of self.new ≡ stepped (world_of self.old) s)) }
     {
         match self.check_open(s) {
             Ok(()) => {
@@ -328,15 +333,15 @@ impl PlainHistory {
                 Ok(())
             }
             Err(why) => {
-                self.refuse(s, why);
+                self.end_wait(s);
                 Err(why)
             }
         }
     }
 
-    fn check_open(&self, s: u8) -> Result<(), Refused>
+    fn check_open(&self, s: u8) -> Result<(), Refusal>
         ensures ok { OnOk result (IsSome ((world_of self.now).session s)) }
-        ensures err { IfErr result (λ why. RefusesOpen (world_of self.now) s why) }
+        ensures err { IfErr result (λ why. BarsOpen (world_sessions (world_of self.now)) s why) }
     {
         match self.open_session(s) {
             Ok(_) => Ok(()),
@@ -352,16 +357,16 @@ impl PlainHistory {
     }
 
     /// The transaction that the session would commit.
-    fn transaction(&self, s: u8) -> Result<PlainLevel, Refused>
+    fn transaction(&self, s: u8) -> Result<PlainLevel, Refusal>
         ensures ok { IfOk result (λ t. WouldCommit (world_of self.now) s t) }
         ensures err { IfErr result
             (λ why. OrMemory why (MayCommit (world_of self.now) s)
-            (PlainRefusesReady (world_of self.now) s why)) }
+            (BarsReady (world_sessions (world_of self.now)) s why)) }
     {
         match self.ready_session(s) {
             Ok(session) => match session.joined(self.alloc) {
                 Ok(writes) => Ok(writes),
-                Err(_) => Err(Refused::NoMemory),
+                Err(_) => Err(Refusal::NoMemory),
             },
             Err(why) => Err(why),
         }

@@ -2,7 +2,7 @@
 use Rattle.std.specs.Prelude.{ℕ, zero, suc, ◌<◌, ◌≤◌, ◌==◌, Bool, List, [], ◌∷◌, Option, Some, None, if◌then◌else◌}
 use Rattle.page_slots.specs.declared.slot.Slot.{Slot}
 use Rattle.page_slots.specs.declared.slot.Slot.TheVariants.{Unused, Redirect, Dead}
-use Rattle.page_slots.specs.Slots.{is_unused, is_dead, leads_to, the_slot, with_slot, next_change, change_unless}
+use Rattle.page_slots.specs.Slots.{is_unused, is_dead, redirects_to, the_slot, with_slot, next_change, change_unless}
 use Rattle.page_slots.specs.View.{PageView}
 use Rattle.prune.specs.declared.action.Action.{Action}
 use Rattle.prune.specs.declared.action.Action.TheVariants as action
@@ -17,7 +17,7 @@ made_by (action.Redirect k) = Redirect k
 abbrev pub is_done : Action → Slot → Bool
 is_done action.Unuse slot = is_unused slot
 is_done action.Kill slot = is_dead slot
-is_done (action.Redirect k) slot = leads_to k slot
+is_done (action.Redirect k) slot = redirects_to k slot
 
 -- what a slot is after an action, if there is one
 abbrev pub acted : Option Slot → Option Action → Option Slot

@@ -10,7 +10,7 @@ use Rattle.tuple_header.specs.Version.{Version}
 use Rattle.history.specs.Cursors.{ComesBefore}
 use Rattle.history.proofs.Places.{slice_get-push_old, slice_get-push_new, slice_get-push_cases}
 use Rattle.refinement.specs.Heap.{RowPosition, in_index}
-use Rattle.refinement.specs.Cursors.{index_position_of, IsPastPosition, IsFrom, first_place, Comes, WalksOver, Stands, Gathers}
+use Rattle.refinement.specs.Cursors.{index_position_of, IsPastPosition, IsFrom, heap_start, Comes, WalksOver, Stands, Gathers}
 use Rattle.refinement.proofs.Rests.{ComesBefore-irrefl, IsAfter-onward, before_after}
 
 -- In an index.
@@ -72,7 +72,7 @@ Meets-one {store} {seen} {index} {low} {high} {from} {to} {rows} row comes first
 pub from_itself : (p : Tid) → IsFrom p p
 from_itself p = inr (refl, omega arith)
 
-pub from_first : (p : Tid) → IsFrom first_place p
+pub from_first : (p : Tid) → IsFrom heap_start p
 from_first p = elim (cases_lt 0 p.page) [ inl lt ↦ inl lt | inr le ↦ inr (omega arith, omega arith) ]
 
 -- the place of the next slot

@@ -1,21 +1,22 @@
 -- The reply to each step is one that the history allows, and the engine agrees with the next world.
-use Rattle.std.proofs.Common.{◌≡◌, ℕ, ◌<◌, ◌≤◌, Option, Some, None, true, false, refl, sym, ap, ◌∙◌, subst, ◌⊎◌}
-use Rattle.std.specs.Prelude.{IsSome, Contains}
+use Rattle.std.proofs.Common.{◌≡◌, ℕ, ◌<◌, Option, Some, None, true, false, refl, sym, ap, ◌∙◌, subst, ◌⊎◌}
+use Rattle.std.specs.Prelude.{Contains}
 use Rattle.xid_circle.specs.declared.Tid.{Tid}
 use Rattle.tuple_header.specs.declared.version.Row.{Row}
 use Rattle.tuple_header.specs.Version.{Version}
 use Rattle.commit_status.specs.declared.status.Status.{Status}
 use Rattle.commit_status.specs.declared.status.Status.TheVariants.{Committed, Aborted}
 use Rattle.snapshot.specs.Snap.{Snap}
-use Rattle.history.specs.World.{World, view}
+use Rattle.history.specs.World.{World, view, world_sessions}
 use Rattle.history.specs.Moves.{stepped}
-use Rattle.refinement.specs.declared.step.Step.TheVariants.{Begin, Get, Commit, Abort, Prune}
-use Rattle.refinement.specs.declared.reply.Reply.TheVariants.{Done, Found, RolledBack, Refused}
-use Rattle.refinement.specs.declared.reply.Reply.TheVariants as reply
-use Rattle.refinement.specs.declared.reply.Refusal.{Refusal}
-use Rattle.refinement.specs.declared.reply.Refusal.TheVariants.{NotOpen, AlreadyOpen, Failed, CursorOpen, NoCursor, NoSuchSession}
-use Rattle.refinement.specs.Allowed.{AllowsClosed, AllowsUnready, AllowsBarred, AllowsBare, Allows}
-use Rattle.refinement.specs.Heap.{SeenSession, Heap}
+use Rattle.calls.specs.declared.step.Step.TheVariants as step
+use Rattle.calls.specs.declared.reply.Reply.TheVariants as reply
+use Rattle.calls.specs.declared.reply.Refusal.{Refusal}
+use Rattle.calls.specs.declared.reply.Refusal.TheVariants as refusal
+use Rattle.calls.specs.Bars.{BarsOpen, BarsReady, BarsFree, BarsWithCursor}
+use Rattle.calls.proofs.BarsLemmas.{AreAlike, alike-open, alike-ready, alike-free, alike-with_cursor}
+use Rattle.refinement.specs.Allowed.{Allows}
+use Rattle.refinement.specs.Heap.{SeenSession, Heap, seen_sessions}
 use Rattle.refinement.specs.Visible.{IsFreshSnapshot, ReaderSees}
 use Rattle.refinement.specs.Changes.{FinishesIds, MayRemove, IsPast}
 use Rattle.refinement.specs.Agrees.{HeapAgrees, Shows}
@@ -41,93 +42,48 @@ Agrees-stepped h w s agrees = record {
   alone = agrees.alone;
 }
 
--- why a session cannot be used: there is none of that number, or it is not open
-abbrev pub IsClosed : Heap → ℕ → Refusal → Type 0
-IsClosed h s NoSuchSession = 64 ≤ s
-IsClosed h s NotOpen = (s < 64) × (h.session s ≡ None)
-IsClosed h s refusal = ⊥
+-- What bars a session of the engine bars it in the history.
 
--- or it has failed
-abbrev pub IsUnready : Heap → ℕ → Refusal → Type 0
-IsUnready h s Failed = (e : SeenSession) × (h.session s ≡ Some e) × (e.failed ≡ true)
-IsUnready h s refusal = IsClosed h s refusal
+alike : (h : Heap) (w : World) (s : ℕ) → HeapAgrees h w → AreAlike (seen_sessions h) (world_sessions w) s
+alike h w s agrees = record {
+  idle = agrees.idle s;
+  opened = λ e at. let open_ = agrees.opened s e at in (open_.0, open_.1, sym open_.2.same_failed, open_.2.cursor.closed, λ some. some_model some open_.2.cursor);
+}
 
--- or it has a cursor open
-abbrev pub IsBarred : Heap → ℕ → Refusal → Type 0
-IsBarred h s CursorOpen = (e : SeenSession) × (h.session s ≡ Some e) × (e.failed ≡ false) × IsSome e.cursor
-IsBarred h s refusal = IsUnready h s refusal
+pub allows_closed : (h : Heap) (w : World) (s : ℕ) (r : Refusal) → HeapAgrees h w → BarsOpen (seen_sessions h) s r → BarsOpen (world_sessions w) s r
+allows_closed h w s r agrees is = alike-open (alike h w s agrees) r is
 
--- why a step of a cursor cannot be tried: the session cannot be used, or has failed, or has no cursor open
-abbrev pub IsBare : Heap → ℕ → Refusal → Type 0
-IsBare h s NoCursor = (e : SeenSession) × (h.session s ≡ Some e) × (e.failed ≡ false) × (e.cursor ≡ None)
-IsBare h s refusal = IsUnready h s refusal
+pub allows_unready : (h : Heap) (w : World) (s : ℕ) (r : Refusal) → HeapAgrees h w → BarsReady (seen_sessions h) s r → BarsReady (world_sessions w) s r
+allows_unready h w s r agrees is = alike-ready (alike h w s agrees) r is
 
--- The history allows to say so.
+pub allows_barred : (h : Heap) (w : World) (s : ℕ) (r : Refusal) → HeapAgrees h w → BarsFree (seen_sessions h) s r → BarsFree (world_sessions w) s r
+allows_barred h w s r agrees is = alike-free (alike h w s agrees) r is
 
-pub allows_closed : (h : Heap) (w : World) (s : ℕ) (r : Refusal) → HeapAgrees h w → IsClosed h s r → AllowsClosed w s r
-allows_closed h w s NotOpen agrees is = (is.0, agrees.idle s is.1)
-allows_closed h w s r agrees is = is
-
-pub allows_unready : (h : Heap) (w : World) (s : ℕ) (r : Refusal) → HeapAgrees h w → IsUnready h s r → AllowsUnready w s r
-allows_unready h w s Failed agrees is = let open_ = agrees.opened s is.0 is.1 in (open_.0, open_.1, sym open_.2.same_failed ∙ is.2)
-allows_unready h w s r agrees is = allows_closed h w s r agrees is
-
-pub allows_barred : (h : Heap) (w : World) (s : ℕ) (r : Refusal) → HeapAgrees h w → IsBarred h s r → AllowsBarred w s r
-allows_barred h w s CursorOpen agrees is = let open_ = agrees.opened s is.0 is.1 in
-    (open_.0, record { there = open_.1; sound = sym open_.2.same_failed ∙ is.2 }, some_model is.3 open_.2.cursor)
-allows_barred h w s r agrees is = allows_unready h w s r agrees is
-
-pub allows_bare : (h : Heap) (w : World) (s : ℕ) (r : Refusal) → HeapAgrees h w → IsBare h s r → AllowsBare w s r
-allows_bare h w s NoCursor agrees is = let open_ = agrees.opened s is.0 is.1 in
-    (open_.0, record { there = open_.1; sound = sym open_.2.same_failed ∙ is.2 }, open_.2.cursor.closed is.3)
-allows_bare h w s r agrees is = allows_unready h w s r agrees is
-
--- What holds of each reason why a session is kept from anything, holds of why it is. So a step that says other refusals of
--- itself allows these too.
-
-pub of_closed : (w : World) (s : ℕ) (P : Refusal → Type 0) → (AllowsClosed w s NoSuchSession → P NoSuchSession) → (AllowsClosed w s NotOpen → P NotOpen)
-    → (r : Refusal) → AllowsClosed w s r → P r
-of_closed w s P none idle NoSuchSession is = none is
-of_closed w s P none idle NotOpen is = idle is
-of_closed w s P none idle _ is = absurd is
-
-pub of_unready : (w : World) (s : ℕ) (P : Refusal → Type 0) → (AllowsClosed w s NoSuchSession → P NoSuchSession) → (AllowsClosed w s NotOpen → P NotOpen)
-    → (AllowsUnready w s Failed → P Failed) → (r : Refusal) → AllowsUnready w s r → P r
-of_unready w s P none idle failed Failed is = failed is
-of_unready w s P none idle failed r is = of_closed w s P none idle r is
-
-pub of_barred : (w : World) (s : ℕ) (P : Refusal → Type 0) → (AllowsClosed w s NoSuchSession → P NoSuchSession) → (AllowsClosed w s NotOpen → P NotOpen)
-    → (AllowsUnready w s Failed → P Failed) → (AllowsBarred w s CursorOpen → P CursorOpen) → (r : Refusal) → AllowsBarred w s r → P r
-of_barred w s P none idle failed cursor CursorOpen is = cursor is
-of_barred w s P none idle failed cursor r is = of_unready w s P none idle failed r is
-
-pub of_bare : (w : World) (s : ℕ) (P : Refusal → Type 0) → (AllowsClosed w s NoSuchSession → P NoSuchSession) → (AllowsClosed w s NotOpen → P NotOpen)
-    → (AllowsUnready w s Failed → P Failed) → (AllowsBare w s NoCursor → P NoCursor) → (r : Refusal) → AllowsBare w s r → P r
-of_bare w s P none idle failed bare NoCursor is = bare is
-of_bare w s P none idle failed bare r is = of_unready w s P none idle failed r is
+pub allows_bare : (h : Heap) (w : World) (s : ℕ) (r : Refusal) → HeapAgrees h w → BarsWithCursor (seen_sessions h) s r → BarsWithCursor (world_sessions w) s r
+allows_bare h w s r agrees is = alike-with_cursor (alike h w s agrees) r is
 
 -- Refusals before a step is tried.
 
-pub Follows-unready_get : (h : Heap) (s k : ℕ) (r : Refusal) → IsUnready h s r → HeapFollows h (Get s k) (Refused r) h
+pub Follows-unready_get : (h : Heap) (s k : ℕ) (r : Refusal) → BarsReady (seen_sessions h) s r → HeapFollows h (step.Get s k) (reply.Refused r) h
 Follows-unready_get h s k r is w agrees = (allows_unready h w s r agrees is, Agrees-stepped h w s agrees)
 
-pub Follows-closed_commit : (h : Heap) (s : ℕ) (r : Refusal) → IsClosed h s r → HeapFollows h (Commit s) (Refused r) h
+pub Follows-closed_commit : (h : Heap) (s : ℕ) (r : Refusal) → BarsOpen (seen_sessions h) s r → HeapFollows h (step.Commit s) (reply.Refused r) h
 Follows-closed_commit h s r is w agrees = (allows_closed h w s r agrees is, Agrees-stepped h w s agrees)
 
-pub Follows-closed_abort : (h : Heap) (s : ℕ) (r : Refusal) → IsClosed h s r → HeapFollows h (Abort s) (Refused r) h
+pub Follows-closed_abort : (h : Heap) (s : ℕ) (r : Refusal) → BarsOpen (seen_sessions h) s r → HeapFollows h (step.Abort s) (reply.Refused r) h
 Follows-closed_abort h s r is w agrees = (allows_closed h w s r agrees is, Agrees-stepped h w s agrees)
 
-pub Follows-begin_refused : (h : Heap) (s : ℕ) (r : Refusal) → ((w : World) → HeapAgrees h w → Allows w (Begin s) (Refused r)) → HeapFollows h (Begin s) (Refused r) h
+pub Follows-begin_refused : (h : Heap) (s : ℕ) (r : Refusal) → ((w : World) → HeapAgrees h w → Allows w (step.Begin s) (reply.Refused r)) → HeapFollows h (step.Begin s) (reply.Refused r) h
 Follows-begin_refused h s r allows w agrees = (allows w agrees, Agrees-stepped h w s agrees)
 
-pub Follows-already_open : (h : Heap) (s : ℕ) (e : SeenSession) → h.session s ≡ Some e → HeapFollows h (Begin s) (Refused AlreadyOpen) h
+pub Follows-already_open : (h : Heap) (s : ℕ) (e : SeenSession) → h.session s ≡ Some e → HeapFollows h (step.Begin s) (reply.Refused refusal.AlreadyOpen) h
 Follows-already_open h s e at w agrees = (let open_ = agrees.opened s e at in (open_.0, open_.1), Agrees-stepped h w s agrees)
 
 -- Begin.
 
 pub Follows-begin : (h : Heap) (s : ℕ) (snapshot : Snap) (session' : ℕ → Option SeenSession)
     → OnlyIs h.session session' s (Some (new_session snapshot)) → s < 64 → h.session s ≡ None → ((w : World) → HeapAgrees h w → IsFreshSnapshot h.status (h.sees snapshot))
-    → HeapFollows h (Begin s) Done (record h { session = session' })
+    → HeapFollows h (step.Begin s) reply.Done (record h { session = session' })
 Follows-begin h s snapshot session' only within idle fresh w agrees =
     ((within, agrees.idle s idle), Agrees-begin h w s snapshot session' only idle (fresh w agrees) agrees)
 
@@ -152,7 +108,7 @@ found_is_view h w s e k found at agrees finds =
     found_is_row h.version (ReaderSees h.status (h.sees e.snapshot) e.own) (view w.history (agrees.opened s e at).0) k found (reads_rows h w s e at agrees) finds
 
 pub Follows-get : (h : Heap) (s : ℕ) (e : SeenSession) (k : ℕ) (found : Option Row) → h.session s ≡ Some e → e.failed ≡ false
-    → FindsOfKey h.version (ReaderSees h.status (h.sees e.snapshot) e.own) k found → HeapFollows h (Get s k) (Found found) h
+    → FindsOfKey h.version (ReaderSees h.status (h.sees e.snapshot) e.own) k found → HeapFollows h (step.Get s k) (reply.Found found) h
 Follows-get h s e k found at sound finds w agrees = let open_ = agrees.opened s e at in (
   (open_.0, record { there = open_.1; sound = sym open_.2.same_failed ∙ sound }, found_is_view h w s e k found at agrees finds),
   Agrees-stepped h w s agrees,
@@ -162,19 +118,19 @@ Follows-get h s e k found at sound finds w agrees = let open_ = agrees.opened s 
 
 pub Follows-abort : (h : Heap) (s : ℕ) (e : SeenSession) (status' : ℕ → Option Status) (sees' : Snap → ℕ → Type 0) (session' : ℕ → Option SeenSession)
     → OnlyIs h.session session' s None → h.session s ≡ Some e → ((w : World) → HeapAgrees h w → FinishesIds h.status status' (λ x. Contains e.own x) Aborted) → SameSights h sees'
-    → HeapFollows h (Abort s) RolledBack (record h { status = status'; sees = sees'; session = session' })
+    → HeapFollows h (step.Abort s) reply.RolledBack (record h { status = status'; sees = sees'; session = session' })
 Follows-abort h s e status' sees' session' only at finishes same w agrees = let open_ = agrees.opened s e at in
     ((open_.0, open_.1), Agrees-abort h w s e status' sees' session' only at (finishes w agrees) same agrees)
 
 pub Follows-commit_failed : (h : Heap) (s : ℕ) (e : SeenSession) (status' : ℕ → Option Status) (sees' : Snap → ℕ → Type 0) (session' : ℕ → Option SeenSession)
     → OnlyIs h.session session' s None → h.session s ≡ Some e → e.failed ≡ true → ((w : World) → HeapAgrees h w → FinishesIds h.status status' (λ x. Contains e.own x) Aborted) → SameSights h sees'
-    → HeapFollows h (Commit s) RolledBack (record h { status = status'; sees = sees'; session = session' })
+    → HeapFollows h (step.Commit s) reply.RolledBack (record h { status = status'; sees = sees'; session = session' })
 Follows-commit_failed h s e status' sees' session' only at failed finishes same w agrees = let open_ = agrees.opened s e at in
     ((open_.0, open_.1, sym open_.2.same_failed ∙ failed), Agrees-abort h w s e status' sees' session' only at (finishes w agrees) same agrees)
 
 pub Follows-commit : (h : Heap) (s : ℕ) (e : SeenSession) (status' : ℕ → Option Status) (sees' : Snap → ℕ → Type 0) (session' : ℕ → Option SeenSession)
     → OnlyIs h.session session' s None → h.session s ≡ Some e → e.failed ≡ false → ((w : World) → HeapAgrees h w → FinishesIds h.status status' (λ x. Contains e.own x) Committed) → SameSights h sees' → ((x : ℕ) → h.sees e.snapshot x ⊎ (¬ h.sees e.snapshot x))
-    → HeapFollows h (Commit s) reply.Committed (record h { status = status'; sees = sees'; session = session' })
+    → HeapFollows h (step.Commit s) reply.Committed (record h { status = status'; sees = sees'; session = session' })
 Follows-commit h s e status' sees' session' only at sound finishes same decided w agrees = let open_ = agrees.opened s e at in (
   (open_.0, record { there = open_.1; sound = sym open_.2.same_failed ∙ sound }),
   subst (λ w'. HeapAgrees (record h { status = status'; sees = sees'; session = session' }) w') (sym (committed-is w s open_.0 open_.1))
@@ -184,10 +140,10 @@ Follows-commit h s e status' sees' session' only at sound finishes same decided 
 -- Cleaning.
 
 pub Follows-prune : (h : Heap) (p : ℕ) (store' : Tid → Option Version) → MayRemove h.version store' (IsPast h.status h.sees h.session)
-    → HeapFollows h (Prune p) Done (record h { version = store' })
+    → HeapFollows h (step.Prune p) reply.Done (record h { version = store' })
 Follows-prune h p store' removes w agrees = (tt, Agrees-prune h w store' removes agrees)
 
-pub Follows-unpruned : (h : Heap) (p : ℕ) (r : Refusal) → ((w : World) → Allows w (Prune p) (Refused r)) → HeapFollows h (Prune p) (Refused r) h
+pub Follows-unpruned : (h : Heap) (p : ℕ) (r : Refusal) → ((w : World) → Allows w (step.Prune p) (reply.Refused r)) → HeapFollows h (step.Prune p) (reply.Refused r) h
 Follows-unpruned h p r allows w agrees = (allows w, agrees)
 
 -- the same sessions are seen, session by session

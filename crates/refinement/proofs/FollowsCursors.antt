@@ -1,6 +1,6 @@
 -- A session opens a cursor, is handed rows by it, and closes it: the reply is one that the history allows, and the engine
 -- agrees with the next world.
-use Rattle.std.proofs.Common.{◌≡◌, ℕ, ◌+◌, ◌<◌, ◌≤◌, max, List, length, Option, Some, None, true, false, refl, sym, ap, ◌∙◌, subst, arith}
+use Rattle.std.proofs.Common.{◌≡◌, ℕ, ◌<◌, ◌≤◌, max, List, length, Option, Some, None, true, false, refl, sym, ap, ◌∙◌, subst}
 use Rattle.std.specs.Prelude.{IsSome, ℤ, ◌<ℤ◌, ◌≤ℤ◌, Vec}
 use Rattle.std.specs.declared.alloc.Global.{Global}
 use Rattle.std.specs.Option.{option_map}
@@ -10,19 +10,21 @@ use Rattle.tuple_header.specs.declared.version.Row.{Row}
 use Rattle.tuple_header.specs.Version.{Version}
 use Rattle.commit_status.specs.declared.status.Status.{Status}
 use Rattle.history.specs.History.{Transaction}
-use Rattle.history.specs.World.{World, OpenSession, Cursor, by_index, by_heap, view, IsReady}
+use Rattle.history.specs.World.{World, OpenSession, Cursor, by_index, by_heap, view, IsReady, world_sessions}
 use Rattle.history.specs.Cursors.{rows_within, keys_of}
 use Rattle.history.specs.Moves.{change, past, with_taken}
-use Rattle.refinement.specs.declared.step.Step.{Step}
-use Rattle.refinement.specs.declared.step.Step.TheVariants.{OpenIndex, OpenHeap, Next, Close}
-use Rattle.refinement.specs.declared.reply.Reply.{Reply}
-use Rattle.refinement.specs.declared.reply.Reply.TheVariants.{Done, Rows, End, Refused}
-use Rattle.refinement.specs.declared.reply.Refusal.{Refusal}
-use Rattle.refinement.specs.declared.reply.Refusal.TheVariants.{NoMemory, NoSuchIndex, BadBounds}
+use Rattle.calls.specs.declared.step.Step.{Step}
+use Rattle.calls.specs.declared.step.Step.TheVariants as step
+use Rattle.calls.specs.declared.reply.Reply.{Reply}
+use Rattle.calls.specs.declared.reply.Reply.TheVariants as reply
+use Rattle.calls.specs.declared.reply.Refusal.{Refusal}
+use Rattle.calls.specs.declared.reply.Refusal.TheVariants as refusal
+use Rattle.calls.specs.Bars.{BarsFree, BarsWithCursor}
+use Rattle.calls.proofs.BarsLemmas.{of_free, of_with_cursor}
 use Rattle.refinement.specs.Allowed.{Allows, next}
-use Rattle.refinement.specs.Heap.{RowPosition, Position, in_index, in_heap, SeenSession, Heap}
+use Rattle.refinement.specs.Heap.{RowPosition, Position, in_index, in_heap, SeenSession, Heap, seen_sessions}
 use Rattle.refinement.specs.Visible.{ReaderSees, At}
-use Rattle.refinement.specs.Cursors.{first_place, Comes, Remains, CursorAgrees, WalksOver, Gathers}
+use Rattle.refinement.specs.Cursors.{heap_start, Comes, Remains, CursorAgrees, WalksOver, Gathers}
 use Rattle.refinement.specs.Agrees.{Shows, SessionAgrees, HeapAgrees}
 use Rattle.refinement.specs.Finds.{HeapFollows}
 use Rattle.refinement.proofs.Statuses.{Finishes-none}
@@ -33,7 +35,7 @@ use Rattle.refinement.proofs.Handing.{next_met, rest_met, SeenOnce, part_gathere
 use Rattle.refinement.proofs.Readers.{Levels-top}
 use Rattle.refinement.proofs.Steps.{OnlyIs, same_sights}
 use Rattle.refinement.proofs.Savepoints.{Agrees-change}
-use Rattle.refinement.proofs.Follows.{IsBarred, IsBare, of_barred, of_bare, allows_barred, allows_bare, Agrees-stepped}
+use Rattle.refinement.proofs.Follows.{allows_barred, allows_bare, Agrees-stepped}
 use Rattle.refinement.proofs.Hindrances.{writer}
 
 -- the versions that a session sees
@@ -91,7 +93,7 @@ remains_index {store} {seen} {rows} index low high shows = record {
       (record { place = some.0; version = some.1; here = some.2; shown = some.3; same_row = some.4; to_come = record { from = within.1; to = within.2; after = tt } }, some.5);
 }
 
-remains_heap : {store : Tid → Option Version} {seen : Version → Type 0} {rows : ℕ → Option Row} → Shows store seen rows → Remains store seen (in_heap first_place) (record { order = by_heap; rest = rows })
+remains_heap : {store : Tid → Option Version} {seen : Version → Type 0} {rows : ℕ → Option Row} → Shows store seen rows → Remains store seen (in_heap heap_start) (record { order = by_heap; rest = rows })
 remains_heap {store} {seen} {rows} shows = record {
   order = refl;
   sound = λ row c. shows_row row shows c;
@@ -103,36 +105,36 @@ abbrev pub FollowsWhere : (World → Type 0) → Heap → Step → Reply → Hea
 FollowsWhere P old step reply new = (w : World) → P w → HeapAgrees old w → Allows w step reply × HeapAgrees new (next w step reply)
 
 pub Follows-open_index : (h : Heap) (s : ℕ) (e : SeenSession) (index : ℕ) (low high : ℤ) (session' : ℕ → Option SeenSession) → OnlyIs h.session session' s (Some (record e { cursor = Some (in_index index low high None) }))
-    → h.session s ≡ Some e → e.failed ≡ false → e.cursor ≡ None → low ≤ℤ high → FollowsWhere (λ w. w.has_index index ≡ true) h (OpenIndex s index low high) Done (record h { session = session' })
+    → h.session s ≡ Some e → e.failed ≡ false → e.cursor ≡ None → low ≤ℤ high → FollowsWhere (λ w. w.has_index index ≡ true) h (step.OpenIndex s index low high) reply.Done (record h { session = session' })
 Follows-open_index h s e index low high session' only at sound bare order w there agrees = (
   ((agrees.opened s e at).0, writer h w s e at agrees sound bare, there, order),
   Agrees-cursor h w s e (Some (in_index index low high None)) (λ m. Some (record { order = by_index index; rest = rows_within index low high (view w.history m) })) session' only at
       (λ m mine. CursorAgrees-some (remains_index index low high (Levels-top e.own e.saved m.levels mine.levels).rows)) agrees,
 )
 
-pub Follows-open_heap : (h : Heap) (s : ℕ) (e : SeenSession) (session' : ℕ → Option SeenSession) → OnlyIs h.session session' s (Some (record e { cursor = Some (in_heap first_place) }))
-    → h.session s ≡ Some e → e.failed ≡ false → e.cursor ≡ None → HeapFollows h (OpenHeap s) Done (record h { session = session' })
+pub Follows-open_heap : (h : Heap) (s : ℕ) (e : SeenSession) (session' : ℕ → Option SeenSession) → OnlyIs h.session session' s (Some (record e { cursor = Some (in_heap heap_start) }))
+    → h.session s ≡ Some e → e.failed ≡ false → e.cursor ≡ None → HeapFollows h (step.OpenHeap s) reply.Done (record h { session = session' })
 Follows-open_heap h s e session' only at sound bare w agrees = (
   ((agrees.opened s e at).0, writer h w s e at agrees sound bare),
-  Agrees-cursor h w s e (Some (in_heap first_place)) (λ m. Some (record { order = by_heap; rest = view w.history m })) session' only at
+  Agrees-cursor h w s e (Some (in_heap heap_start)) (λ m. Some (record { order = by_heap; rest = view w.history m })) session' only at
       (λ m mine. CursorAgrees-some (remains_heap (Levels-top e.own e.saved m.levels mine.levels).rows)) agrees,
 )
 
 pub Follows-no_such_index : (h : Heap) (s : ℕ) (e : SeenSession) (index : ℕ) (low high : ℤ) → h.session s ≡ Some e → e.failed ≡ false → e.cursor ≡ None
-    → FollowsWhere (λ w. w.has_index index ≡ false) h (OpenIndex s index low high) (Refused NoSuchIndex) h
+    → FollowsWhere (λ w. w.has_index index ≡ false) h (step.OpenIndex s index low high) (reply.Refused refusal.NoSuchIndex) h
 Follows-no_such_index h s e index low high at sound bare w none agrees = (((agrees.opened s e at).0, writer h w s e at agrees sound bare, none), Agrees-stepped h w s agrees)
 
 pub Follows-bad_bounds : (h : Heap) (s : ℕ) (e : SeenSession) (index : ℕ) (low high : ℤ) → h.session s ≡ Some e → e.failed ≡ false → e.cursor ≡ None → high <ℤ low
-    → FollowsWhere (λ w. w.has_index index ≡ true) h (OpenIndex s index low high) (Refused BadBounds) h
+    → FollowsWhere (λ w. w.has_index index ≡ true) h (step.OpenIndex s index low high) (reply.Refused refusal.BadBounds) h
 Follows-bad_bounds h s e index low high at sound bare order w there agrees = (((agrees.opened s e at).0, writer h w s e at agrees sound bare, there, order), Agrees-stepped h w s agrees)
 
-pub Follows-barred_open_index : (h : Heap) (s index : ℕ) (low high : ℤ) (r : Refusal) → IsBarred h s r → HeapFollows h (OpenIndex s index low high) (Refused r) h
+pub Follows-barred_open_index : (h : Heap) (s index : ℕ) (low high : ℤ) (r : Refusal) → BarsFree (seen_sessions h) s r → HeapFollows h (step.OpenIndex s index low high) (reply.Refused r) h
 Follows-barred_open_index h s index low high r is w agrees =
-    (of_barred w s (λ r. Allows w (OpenIndex s index low high) (Refused r)) (λ is. is) (λ is. is) (λ is. is) (λ is. is) r (allows_barred h w s r agrees is), Agrees-stepped h w s agrees)
+    (of_free (world_sessions w) s (λ r. Allows w (step.OpenIndex s index low high) (reply.Refused r)) (λ is. is) (λ is. is) (λ is. is) (λ is. is) r (allows_barred h w s r agrees is), Agrees-stepped h w s agrees)
 
-pub Follows-barred_open_heap : (h : Heap) (s : ℕ) (r : Refusal) → IsBarred h s r → HeapFollows h (OpenHeap s) (Refused r) h
+pub Follows-barred_open_heap : (h : Heap) (s : ℕ) (r : Refusal) → BarsFree (seen_sessions h) s r → HeapFollows h (step.OpenHeap s) (reply.Refused r) h
 Follows-barred_open_heap h s r is w agrees =
-    (of_barred w s (λ r. Allows w (OpenHeap s) (Refused r)) (λ is. is) (λ is. is) (λ is. is) (λ is. is) r (allows_barred h w s r agrees is), Agrees-stepped h w s agrees)
+    (of_free (world_sessions w) s (λ r. Allows w (step.OpenHeap s) (reply.Refused r)) (λ is. is) (λ is. is) (λ is. is) (λ is. is) r (allows_barred h w s r agrees is), Agrees-stepped h w s agrees)
 
 -- Next.
 
@@ -160,7 +162,7 @@ pub Follows-next_in_index : (h : Heap) (s : ℕ) (e : SeenSession) (index : ℕ)
     → OnlyIs h.session session' s (Some (record e { cursor = Some (in_index index low high to) })) → h.session s ≡ Some e → e.failed ≡ false → e.cursor ≡ Some (in_index index low high from)
     → WalksOver h.version (seen_by h e) index low high from to rows.items → 0 < length rows.items → length rows.items ≤ max 1 n
     → (length rows.items < max 1 n → (row : Row) → ¬ Comes h.version (seen_by h e) (in_index index low high to) row)
-    → HeapFollows h (Next s n) (Rows rows) (record h { session = session' })
+    → HeapFollows h (step.Next s n) (reply.Rows rows) (record h { session = session' })
 Follows-next_in_index h s e index low high from to n rows session' only at sound is meets some at_most none w agrees =
     let model = model_at h w s e (in_index index low high from) at agrees is in (
       ((agrees.opened s e at).0, model.0, ready h w s e at agrees sound, model.1, next_met model.2 meets n some at_most none),
@@ -170,7 +172,7 @@ Follows-next_in_index h s e index low high from to n rows session' only at sound
 -- the rows that a walk over the heap meets
 pub Follows-next_in_heap : (h : Heap) (s : ℕ) (e : SeenSession) (from to : Tid) (n : ℕ) (rows : Vec Row Global) (session' : ℕ → Option SeenSession)
     → OnlyIs h.session session' s (Some (record e { cursor = Some (in_heap to) })) → h.session s ≡ Some e → e.failed ≡ false → e.cursor ≡ Some (in_heap from)
-    → Gathers h.version (seen_by h e) from to rows.items → 0 < length rows.items → HeapFollows h (Next s n) (Rows rows) (record h { session = session' })
+    → Gathers h.version (seen_by h e) from to rows.items → 0 < length rows.items → HeapFollows h (step.Next s n) (reply.Rows rows) (record h { session = session' })
 Follows-next_in_heap h s e from to n rows session' only at sound is gathers some w agrees =
     let model = model_at h w s e (in_heap from) at agrees is in let one = seen_once h w s e at agrees in (
       ((agrees.opened s e at).0, model.0, ready h w s e at agrees sound, model.1, part_gathered model.2 gathers one n some),
@@ -179,7 +181,7 @@ Follows-next_in_heap h s e from to n rows session' only at sound is gathers some
 
 -- nothing is still to come
 pub Follows-end : (h : Heap) (s : ℕ) (e : SeenSession) (position : Position) (n : ℕ) → h.session s ≡ Some e → e.failed ≡ false → e.cursor ≡ Some position
-    → ((row : Row) → ¬ Comes h.version (seen_by h e) position row) → HeapFollows h (Next s n) End h
+    → ((row : Row) → ¬ Comes h.version (seen_by h e) position row) → HeapFollows h (step.Next s n) reply.End h
 Follows-end h s e position n at sound is none w agrees = let model = model_at h w s e position at agrees is in (
   ((agrees.opened s e at).0, model.0, ready h w s e at agrees sound, model.1, none_left model.0.rest (λ k row left. none row (model.2.there k row left).0)),
   Agrees-stepped h w s agrees,
@@ -187,24 +189,24 @@ Follows-end h s e position n at sound is none w agrees = let model = model_at h 
 
 -- a row is still to come
 pub Follows-next_no_memory : (h : Heap) (s : ℕ) (e : SeenSession) (position : Position) (n : ℕ) (row : Row) → h.session s ≡ Some e → e.failed ≡ false → e.cursor ≡ Some position
-    → Comes h.version (seen_by h e) position row → HeapFollows h (Next s n) (Refused NoMemory) h
+    → Comes h.version (seen_by h e) position row → HeapFollows h (step.Next s n) (reply.Refused refusal.NoMemory) h
 Follows-next_no_memory h s e position n row at sound is comes w agrees = let model = model_at h w s e position at agrees is in (
   ((agrees.opened s e at).0, model.0, ready h w s e at agrees sound, model.1, λ over. absurd (let none = sym (over row.key) ∙ model.2.sound row comes in none-some row none)),
   Agrees-stepped h w s agrees,
 )
 
-pub Follows-bare_next : (h : Heap) (s n : ℕ) (r : Refusal) → IsBare h s r → HeapFollows h (Next s n) (Refused r) h
+pub Follows-bare_next : (h : Heap) (s n : ℕ) (r : Refusal) → BarsWithCursor (seen_sessions h) s r → HeapFollows h (step.Next s n) (reply.Refused r) h
 Follows-bare_next h s n r is w agrees =
-    (of_bare w s (λ r. Allows w (Next s n) (Refused r)) (λ is. is) (λ is. is) (λ is. is) (λ is. is) r (allows_bare h w s r agrees is), Agrees-stepped h w s agrees)
+    (of_with_cursor (world_sessions w) s (λ r. Allows w (step.Next s n) (reply.Refused r)) (λ is. is) (λ is. is) (λ is. is) (λ is. is) r (allows_bare h w s r agrees is), Agrees-stepped h w s agrees)
 
 -- Close.
 
 pub Follows-close : (h : Heap) (s : ℕ) (e : SeenSession) (session' : ℕ → Option SeenSession) → OnlyIs h.session session' s (Some (record e { cursor = None }))
-    → h.session s ≡ Some e → e.failed ≡ false → IsSome e.cursor → HeapFollows h (Close s) Done (record h { session = session' })
+    → h.session s ≡ Some e → e.failed ≡ false → IsSome e.cursor → HeapFollows h (step.Close s) reply.Done (record h { session = session' })
 Follows-close h s e session' only at sound some w agrees = let open_ = agrees.opened s e at in (
   (open_.0, ready h w s e at agrees sound, some_model some open_.2.cursor),
   Agrees-cursor h w s e None (λ m. None) session' only at (λ m mine. CursorAgrees-none refl refl) agrees,
 )
 
-pub Follows-bare_close : (h : Heap) (s : ℕ) (r : Refusal) → IsBare h s r → HeapFollows h (Close s) (Refused r) h
+pub Follows-bare_close : (h : Heap) (s : ℕ) (r : Refusal) → BarsWithCursor (seen_sessions h) s r → HeapFollows h (step.Close s) (reply.Refused r) h
 Follows-bare_close h s r is w agrees = (allows_bare h w s r agrees is, Agrees-stepped h w s agrees)

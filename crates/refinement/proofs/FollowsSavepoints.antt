@@ -5,13 +5,15 @@ use Rattle.std.specs.Prelude.{IsSome, Contains}
 use Rattle.commit_status.specs.declared.status.Status.{Status}
 use Rattle.commit_status.specs.declared.status.Status.TheVariants.{Aborted}
 use Rattle.snapshot.specs.Snap.{Snap}
-use Rattle.history.specs.World.{World}
-use Rattle.refinement.specs.declared.step.Step.TheVariants.{Savepoint, RollbackTo, Release}
-use Rattle.refinement.specs.declared.reply.Reply.TheVariants.{Done, Refused}
-use Rattle.refinement.specs.declared.reply.Refusal.{Refusal}
-use Rattle.refinement.specs.declared.reply.Refusal.TheVariants.{CursorOpen, TooDeep, NoSavepoint, NoMemory}
+use Rattle.history.specs.World.{World, world_sessions}
+use Rattle.calls.specs.declared.step.Step.TheVariants as step
+use Rattle.calls.specs.declared.reply.Reply.TheVariants as reply
+use Rattle.calls.specs.declared.reply.Refusal.{Refusal}
+use Rattle.calls.specs.declared.reply.Refusal.TheVariants as refusal
+use Rattle.calls.specs.Bars.{BarsOpen, BarsFree}
+use Rattle.calls.proofs.BarsLemmas.{of_open, of_free}
 use Rattle.refinement.specs.Allowed.{savepoints, Allows}
-use Rattle.refinement.specs.Heap.{SeenSession, Heap}
+use Rattle.refinement.specs.Heap.{SeenSession, Heap, seen_sessions}
 use Rattle.refinement.specs.Changes.{FinishesIds}
 use Rattle.refinement.specs.Agrees.{HeapAgrees}
 use Rattle.refinement.specs.Finds.{HeapFollows}
@@ -19,7 +21,7 @@ use Rattle.refinement.proofs.CursorsLemmas.{some_model}
 use Rattle.refinement.proofs.Itself.{levels_count}
 use Rattle.refinement.proofs.Steps.{OnlyIs, SameSights}
 use Rattle.refinement.proofs.Savepoints.{Agrees-save, Agrees-roll_back, Agrees-release}
-use Rattle.refinement.proofs.Follows.{IsClosed, IsBarred, of_closed, of_barred, allows_closed, allows_barred, Agrees-stepped}
+use Rattle.refinement.proofs.Follows.{allows_closed, allows_barred, Agrees-stepped}
 use Rattle.refinement.proofs.Hindrances.{writer}
 
 -- the model's session has as many savepoints
@@ -42,56 +44,56 @@ few_saved h w s e at agrees room = subst (λ n. n < 32) (sym (as_many h w s e at
 -- Savepoint.
 
 pub Follows-savepoint : (h : Heap) (s : ℕ) (e : SeenSession) (session' : ℕ → Option SeenSession) → OnlyIs h.session session' s (Some (record e { saved = e.own ∷ e.saved }))
-    → h.session s ≡ Some e → e.failed ≡ false → e.cursor ≡ None → length e.saved < 32 → HeapFollows h (Savepoint s) Done (record h { session = session' })
+    → h.session s ≡ Some e → e.failed ≡ false → e.cursor ≡ None → length e.saved < 32 → HeapFollows h (step.Savepoint s) reply.Done (record h { session = session' })
 Follows-savepoint h s e session' only at sound bare room w agrees =
     (((agrees.opened s e at).0, writer h w s e at agrees sound bare, few_saved h w s e at agrees room), Agrees-save h w s e session' only at agrees)
 
-pub Follows-too_deep : (h : Heap) (s : ℕ) (e : SeenSession) → h.session s ≡ Some e → e.failed ≡ false → e.cursor ≡ None → length e.saved ≡ 32 → HeapFollows h (Savepoint s) (Refused TooDeep) h
+pub Follows-too_deep : (h : Heap) (s : ℕ) (e : SeenSession) → h.session s ≡ Some e → e.failed ≡ false → e.cursor ≡ None → length e.saved ≡ 32 → HeapFollows h (step.Savepoint s) (reply.Refused refusal.TooDeep) h
 Follows-too_deep h s e at sound bare full w agrees =
     (((agrees.opened s e at).0, writer h w s e at agrees sound bare, as_many h w s e at agrees ∙ full), Agrees-stepped h w s agrees)
 
-pub Follows-savepoint_no_memory : (h : Heap) (s : ℕ) (e : SeenSession) → h.session s ≡ Some e → e.failed ≡ false → e.cursor ≡ None → length e.saved < 32 → HeapFollows h (Savepoint s) (Refused NoMemory) h
+pub Follows-savepoint_no_memory : (h : Heap) (s : ℕ) (e : SeenSession) → h.session s ≡ Some e → e.failed ≡ false → e.cursor ≡ None → length e.saved < 32 → HeapFollows h (step.Savepoint s) (reply.Refused refusal.NoMemory) h
 Follows-savepoint_no_memory h s e at sound bare room w agrees =
     (((agrees.opened s e at).0, writer h w s e at agrees sound bare, few_saved h w s e at agrees room), Agrees-stepped h w s agrees)
 
-pub Follows-barred_savepoint : (h : Heap) (s : ℕ) (r : Refusal) → IsBarred h s r → HeapFollows h (Savepoint s) (Refused r) h
+pub Follows-barred_savepoint : (h : Heap) (s : ℕ) (r : Refusal) → BarsFree (seen_sessions h) s r → HeapFollows h (step.Savepoint s) (reply.Refused r) h
 Follows-barred_savepoint h s r is w agrees =
-    (of_barred w s (λ r. Allows w (Savepoint s) (Refused r)) (λ is. is) (λ is. is) (λ is. is) (λ is. is) r (allows_barred h w s r agrees is), Agrees-stepped h w s agrees)
+    (of_free (world_sessions w) s (λ r. Allows w (step.Savepoint s) (reply.Refused r)) (λ is. is) (λ is. is) (λ is. is) (λ is. is) r (allows_barred h w s r agrees is), Agrees-stepped h w s agrees)
 
 -- RollbackTo: the session may have failed.
 
 pub Follows-roll_back_to : (h : Heap) (s : ℕ) (e : SeenSession) (before : List ℕ) (older : List (List ℕ)) (status' : ℕ → Option Status) (sees' : Snap → ℕ → Type 0) (session' : ℕ → Option SeenSession)
     → OnlyIs h.session session' s (Some (record e { own = before; failed = false })) → h.session s ≡ Some e → e.cursor ≡ None → e.saved ≡ before ∷ older
     → ((w : World) → HeapAgrees h w → FinishesIds h.status status' (λ x. Contains e.own x × (¬ Contains before x)) Aborted) → SameSights h sees'
-    → HeapFollows h (RollbackTo s) Done (record h { status = status'; sees = sees'; session = session' })
+    → HeapFollows h (step.RollbackTo s) reply.Done (record h { status = status'; sees = sees'; session = session' })
 Follows-roll_back_to h s e before older status' sees' session' only at bare is finishes same w agrees = let open_ = agrees.opened s e at in (
   (open_.0, open_.1, open_.2.cursor.closed bare, some_saved h w s e before older at agrees is),
   Agrees-roll_back h w s e before older status' sees' session' only at is bare (finishes w agrees) same agrees,
 )
 
-pub Follows-nowhere_to_return : (h : Heap) (s : ℕ) (e : SeenSession) → h.session s ≡ Some e → e.cursor ≡ None → e.saved ≡ [] → HeapFollows h (RollbackTo s) (Refused NoSavepoint) h
+pub Follows-nowhere_to_return : (h : Heap) (s : ℕ) (e : SeenSession) → h.session s ≡ Some e → e.cursor ≡ None → e.saved ≡ [] → HeapFollows h (step.RollbackTo s) (reply.Refused refusal.NoSavepoint) h
 Follows-nowhere_to_return h s e at bare none w agrees = let open_ = agrees.opened s e at in
     ((open_.0, open_.1, open_.2.cursor.closed bare, none_saved h w s e at agrees none), Agrees-stepped h w s agrees)
 
-pub Follows-closed_roll_back_to : (h : Heap) (s : ℕ) (r : Refusal) → IsClosed h s r → HeapFollows h (RollbackTo s) (Refused r) h
+pub Follows-closed_roll_back_to : (h : Heap) (s : ℕ) (r : Refusal) → BarsOpen (seen_sessions h) s r → HeapFollows h (step.RollbackTo s) (reply.Refused r) h
 Follows-closed_roll_back_to h s r is w agrees =
-    (of_closed w s (λ r. Allows w (RollbackTo s) (Refused r)) (λ is. is) (λ is. is) r (allows_closed h w s r agrees is), Agrees-stepped h w s agrees)
+    (of_open (world_sessions w) s (λ r. Allows w (step.RollbackTo s) (reply.Refused r)) (λ is. is) (λ is. is) r (allows_closed h w s r agrees is), Agrees-stepped h w s agrees)
 
-pub Follows-barred_roll_back_to : (h : Heap) (s : ℕ) (e : SeenSession) → h.session s ≡ Some e → IsSome e.cursor → HeapFollows h (RollbackTo s) (Refused CursorOpen) h
+pub Follows-barred_roll_back_to : (h : Heap) (s : ℕ) (e : SeenSession) → h.session s ≡ Some e → IsSome e.cursor → HeapFollows h (step.RollbackTo s) (reply.Refused refusal.CursorOpen) h
 Follows-barred_roll_back_to h s e at some w agrees = let open_ = agrees.opened s e at in
     ((open_.0, open_.1, some_model some open_.2.cursor), Agrees-stepped h w s agrees)
 
 -- Release.
 
 pub Follows-release : (h : Heap) (s : ℕ) (e : SeenSession) (before : List ℕ) (older : List (List ℕ)) (session' : ℕ → Option SeenSession) → OnlyIs h.session session' s (Some (record e { saved = older }))
-    → h.session s ≡ Some e → e.failed ≡ false → e.cursor ≡ None → e.saved ≡ before ∷ older → HeapFollows h (Release s) Done (record h { session = session' })
+    → h.session s ≡ Some e → e.failed ≡ false → e.cursor ≡ None → e.saved ≡ before ∷ older → HeapFollows h (step.Release s) reply.Done (record h { session = session' })
 Follows-release h s e before older session' only at sound bare is w agrees =
     (((agrees.opened s e at).0, writer h w s e at agrees sound bare, some_saved h w s e before older at agrees is), Agrees-release h w s e before older session' only at is agrees)
 
-pub Follows-nothing_to_release : (h : Heap) (s : ℕ) (e : SeenSession) → h.session s ≡ Some e → e.failed ≡ false → e.cursor ≡ None → e.saved ≡ [] → HeapFollows h (Release s) (Refused NoSavepoint) h
+pub Follows-nothing_to_release : (h : Heap) (s : ℕ) (e : SeenSession) → h.session s ≡ Some e → e.failed ≡ false → e.cursor ≡ None → e.saved ≡ [] → HeapFollows h (step.Release s) (reply.Refused refusal.NoSavepoint) h
 Follows-nothing_to_release h s e at sound bare none w agrees =
     (((agrees.opened s e at).0, writer h w s e at agrees sound bare, none_saved h w s e at agrees none), Agrees-stepped h w s agrees)
 
-pub Follows-barred_release : (h : Heap) (s : ℕ) (r : Refusal) → IsBarred h s r → HeapFollows h (Release s) (Refused r) h
+pub Follows-barred_release : (h : Heap) (s : ℕ) (r : Refusal) → BarsFree (seen_sessions h) s r → HeapFollows h (step.Release s) (reply.Refused r) h
 Follows-barred_release h s r is w agrees =
-    (of_barred w s (λ r. Allows w (Release s) (Refused r)) (λ is. is) (λ is. is) (λ is. is) (λ is. is) r (allows_barred h w s r agrees is), Agrees-stepped h w s agrees)
+    (of_free (world_sessions w) s (λ r. Allows w (step.Release s) (reply.Refused r)) (λ is. is) (λ is. is) (λ is. is) (λ is. is) r (allows_barred h w s r agrees is), Agrees-stepped h w s agrees)

@@ -10,10 +10,10 @@ use Rattle.tuple_header.specs.Version.{Version}
 use Rattle.history.specs.History.{IsLate}
 use Rattle.history.specs.World.{World, OpenSession, view, Holds}
 use Rattle.history.specs.Moves.{put, with_row, without_row}
-use Rattle.refinement.specs.declared.step.Step.TheVariants.{Insert, Update, Delete}
-use Rattle.refinement.specs.declared.reply.Reply.TheVariants.{Done}
-use Rattle.refinement.specs.Words.{RowText, FitsRow, row_of}
-use Rattle.refinement.specs.Writes.{inserts, updates, deletes}
+use Rattle.calls.specs.declared.step.Step.TheVariants as step
+use Rattle.calls.specs.declared.reply.Reply.TheVariants as reply
+use Rattle.calls.specs.Words.{RowToWrite, FitsRow, row_of}
+use Rattle.calls.specs.Writes.{inserts, updates, deletes}
 use Rattle.refinement.specs.Allowed.{Allows, next}
 use Rattle.refinement.specs.Heap.{SeenSession, Heap}
 use Rattle.refinement.specs.Visible.{ReaderSees, At}
@@ -33,10 +33,10 @@ agrees_now now w s e m agrees at there =
     let open_ = agrees.opened s e at in
     subst (λ (n : OpenSession). SessionAgrees now.status now.version w.history (now.sees e.snapshot) n.start (now.sees e.snapshot) e n) (same_Some open_.0 m (sym open_.1 ∙ there)) open_.2
 
-pub insert_done : (h now : Heap) (w : World) (s : ℕ) (e e' : SeenSession) (row : RowText) (x : ℕ) (place : Tid) (new : Version) (store' : Tid → Option Version)
+pub insert_done : (h now : Heap) (w : World) (s : ℕ) (e e' : SeenSession) (row : RowToWrite) (x : ℕ) (place : Tid) (new : Version) (store' : Tid → Option Version)
     → Free h s e row.key None → FitsRow row → HeapAgrees h w → HeapAgrees now w → now.session s ≡ Some e' → IsCurrent e' x
     → AddsVersion now.version store' place new → IsNew x new → new.row ≡ row_of row
-    → Allows w (Insert s row) Done × HeapAgrees (record now { version = store' }) (next w (Insert s row) Done)
+    → Allows w (step.Insert s row) reply.Done × HeapAgrees (record now { version = store' }) (next w (step.Insert s row) reply.Done)
 insert_done h now w s e e' row x place new store' free fits agrees still at current adds is_new same =
     let allows = allows_write h w s e (inserts row) None free (fits, refl) agrees in
     let there : w.session s ≡ Some allows.0 = allows.2.writer.ready.there in
@@ -50,11 +50,11 @@ insert_done h now w s e e' row x place new store' free fits agrees still at curr
     )
 
 -- the new version is added, and then the old one is deleted
-pub update_done : (h now : Heap) (w : World) (s : ℕ) (e e' : SeenSession) (row : RowText) (found : Option Row) (x : ℕ) (place q : Tid) (old old' new : Version) (added altered : Tid → Option Version)
+pub update_done : (h now : Heap) (w : World) (s : ℕ) (e e' : SeenSession) (row : RowToWrite) (found : Option Row) (x : ℕ) (place q : Tid) (old old' new : Version) (added altered : Tid → Option Version)
     → Free h s e row.key found → FitsRow row → IsSome found → HeapAgrees h w → HeapAgrees now w → now.session s ≡ Some e' → IsCurrent e' x
     → At now.version place old → ReaderSees now.status (now.sees e'.snapshot) e'.own old → old.row.key ≡ row.key
     → AddsVersion now.version added q new → IsNew x new → new.row ≡ row_of row → Alters added altered place old old' → IsDeleted x old old'
-    → Allows w (Update s row) Done × HeapAgrees (record now { version = altered }) (next w (Update s row) Done)
+    → Allows w (step.Update s row) reply.Done × HeapAgrees (record now { version = altered }) (next w (step.Update s row) reply.Done)
 update_done h now w s e e' row found x place q old old' new added altered free fits some agrees still at current stood seen key adds is_new same alters deleted =
     let allows = allows_write h w s e (updates row) found free (fits, some) agrees in
     let there : w.session s ≡ Some allows.0 = allows.2.writer.ready.there in
@@ -70,7 +70,7 @@ update_done h now w s e e' row found x place q old old' new added altered free f
 pub delete_done : (h now : Heap) (w : World) (s : ℕ) (e e' : SeenSession) (key : ℕ) (found : Option Row) (x : ℕ) (place : Tid) (old old' : Version) (store' : Tid → Option Version)
     → Free h s e key found → IsSome found → HeapAgrees h w → HeapAgrees now w → now.session s ≡ Some e' → IsCurrent e' x
     → ReaderSees now.status (now.sees e'.snapshot) e'.own old → old.row.key ≡ key → Alters now.version store' place old old' → IsDeleted x old old'
-    → Allows w (Delete s key) Done × HeapAgrees (record now { version = store' }) (next w (Delete s key) Done)
+    → Allows w (step.Delete s key) reply.Done × HeapAgrees (record now { version = store' }) (next w (step.Delete s key) reply.Done)
 delete_done h now w s e e' key found x place old old' store' free some agrees still at current seen same alters deleted =
     let allows = allows_write h w s e (deletes key) found free some agrees in
     let there : w.session s ≡ Some allows.0 = allows.2.writer.ready.there in (

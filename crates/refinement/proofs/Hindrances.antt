@@ -5,35 +5,37 @@ use Rattle.std.specs.Option.{option_map}
 use Rattle.std.proofs.lemmas.Option.{same_Some, none-some}
 use Rattle.tuple_header.specs.declared.version.Row.{Row}
 use Rattle.history.specs.History.{IsLate}
-use Rattle.history.specs.World.{World, OpenSession, own_write, view, Holds, IsWriter, MayWrite}
+use Rattle.history.specs.World.{World, OpenSession, own_write, view, Holds, IsWriter, MayWrite, world_sessions}
 use Rattle.history.specs.Moves.{put, as_failed}
-use Rattle.refinement.specs.declared.step.Step.TheVariants.{Insert}
-use Rattle.refinement.specs.declared.reply.Reply.TheVariants.{Refused}
-use Rattle.refinement.specs.declared.reply.Refusal.{Refusal}
-use Rattle.refinement.specs.declared.reply.Refusal.TheVariants.{AlreadyThere, NotThere, Conflict, Busy, TooLarge, NoRoom, NeedsFreeze, NoMemory}
-use Rattle.refinement.specs.Words.{RowText, FitsRow}
-use Rattle.refinement.specs.Writes.{WriteStep, inserts, updates, deletes, step_of, key_of, IsPut, Asks}
-use Rattle.refinement.specs.Allowed.{AllowsHindered, AllowsWrite, Suits, refused_write}
-use Rattle.refinement.specs.Heap.{SeenSession, Heap}
+use Rattle.calls.specs.declared.step.Step.TheVariants as step
+use Rattle.calls.specs.declared.reply.Reply.TheVariants as reply
+use Rattle.calls.specs.declared.reply.Refusal.{Refusal}
+use Rattle.calls.specs.declared.reply.Refusal.TheVariants as refusal
+use Rattle.calls.specs.Words.{RowToWrite, FitsRow}
+use Rattle.calls.specs.Writes.{WriteStep, inserts, updates, deletes, step_of, key_of, IsPut, Asks}
+use Rattle.calls.specs.Bars.{BarsFree}
+use Rattle.calls.proofs.BarsLemmas.{of_free}
+use Rattle.refinement.specs.Allowed.{AllowsHindered, AllowsWrite, Suits, after_refused_write}
+use Rattle.refinement.specs.Heap.{SeenSession, Heap, seen_sessions}
 use Rattle.refinement.specs.Agrees.{HeapAgrees}
 use Rattle.refinement.specs.Finds.{IsLateFor, IsHeldBy, BeginsWrite, Free, HeapFollows}
 use Rattle.refinement.proofs.Steps.{OnlyIs, own_traced, Agrees-fail}
-use Rattle.refinement.proofs.Follows.{IsBarred, of_barred, allows_barred, Agrees-stepped, found_is_view}
+use Rattle.refinement.proofs.Follows.{allows_barred, Agrees-stepped, found_is_view}
 
 -- one reply for the three kinds of write
 
 Follows-refused : (h h' : Heap) (s : ℕ) (r : Refusal) (write : WriteStep)
-    → ((w : World) → HeapAgrees h w → AllowsHindered w s r write × HeapAgrees h' (refused_write w s r)) → HeapFollows h (step_of s write) (Refused r) h'
+    → ((w : World) → HeapAgrees h w → AllowsHindered w s r write × HeapAgrees h' (after_refused_write w s r)) → HeapFollows h (step_of s write) (reply.Refused r) h'
 Follows-refused h h' s r (inserts row) follows = follows
 Follows-refused h h' s r (updates row) follows = follows
 Follows-refused h h' s r (deletes k) follows = follows
 
 -- Before the key counts.
 
-pub Follows-barred_write : (h : Heap) (s : ℕ) (write : WriteStep) (r : Refusal) → IsBarred h s r → HeapFollows h (step_of s write) (Refused r) h
+pub Follows-barred_write : (h : Heap) (s : ℕ) (write : WriteStep) (r : Refusal) → BarsFree (seen_sessions h) s r → HeapFollows h (step_of s write) (reply.Refused r) h
 Follows-barred_write h s write r is = Follows-refused h h s r write (λ w agrees.
     let stays = Agrees-stepped h w s agrees in
-    of_barred w s (λ r. AllowsHindered w s r write × HeapAgrees h (refused_write w s r)) (λ is. (is, stays)) (λ is. (is, stays)) (λ is. (is, stays)) (λ is. (is, stays)) r
+    of_free (world_sessions w) s (λ r. AllowsHindered w s r write × HeapAgrees h (after_refused_write w s r)) (λ is. (is, stays)) (λ is. (is, stays)) (λ is. (is, stays)) (λ is. (is, stays)) r
     (allows_barred h w s r agrees is))
 
 -- the session may write
@@ -47,15 +49,15 @@ IsTooLarge (inserts row) = 1024 < length row.body
 IsTooLarge (updates row) = 1024 < length row.body
 IsTooLarge (deletes k) = ⊥
 
-pub Follows-too_large : (h : Heap) (s : ℕ) (e : SeenSession) (write : WriteStep) → h.session s ≡ Some e → e.failed ≡ false → e.cursor ≡ None → IsTooLarge write → HeapFollows h (step_of s write) (Refused TooLarge) h
-Follows-too_large h s e write at sound bare large = Follows-refused h h s TooLarge write (λ w agrees. (allows w agrees write large, Agrees-stepped h w s agrees))
+pub Follows-too_large : (h : Heap) (s : ℕ) (e : SeenSession) (write : WriteStep) → h.session s ≡ Some e → e.failed ≡ false → e.cursor ≡ None → IsTooLarge write → HeapFollows h (step_of s write) (reply.Refused refusal.TooLarge) h
+Follows-too_large h s e write at sound bare large = Follows-refused h h s refusal.TooLarge write (λ w agrees. (allows w agrees write large, Agrees-stepped h w s agrees))
   where
-    allows : (w : World) → HeapAgrees h w → (write : WriteStep) → IsTooLarge write → AllowsHindered w s TooLarge write
+    allows : (w : World) → HeapAgrees h w → (write : WriteStep) → IsTooLarge write → AllowsHindered w s refusal.TooLarge write
     allows w agrees (inserts row) large = ((agrees.opened s e at).0, writer h w s e at agrees sound bare, large)
     allows w agrees (updates row) large = ((agrees.opened s e at).0, writer h w s e at agrees sound bare, large)
     allows w agrees (deletes k) large = absurd large
 
-pub Follows-already_there : (h : Heap) (s : ℕ) (e : SeenSession) (row : RowText) (found : Row) → BeginsWrite h s e row.key (Some found) → FitsRow row → HeapFollows h (Insert s row) (Refused AlreadyThere) h
+pub Follows-already_there : (h : Heap) (s : ℕ) (e : SeenSession) (row : RowToWrite) (found : Row) → BeginsWrite h s e row.key (Some found) → FitsRow row → HeapFollows h (step.Insert s row) (reply.Refused refusal.AlreadyThere) h
 Follows-already_there h s e row found b fits w agrees =
     (((agrees.opened s e b.at).0, writer h w s e b.at agrees b.sound b.bare, fits, subst (λ o. IsSome o) (found_is_view h w s e row.key (Some found) b.at agrees b.finds) refl), Agrees-stepped h w s agrees)
 
@@ -65,12 +67,12 @@ NeedsRow (inserts row) = ⊥
 NeedsRow (updates row) = FitsRow row
 NeedsRow (deletes k) = Unit {0}
 
-pub Follows-not_there : (h : Heap) (s : ℕ) (e : SeenSession) (write : WriteStep) → BeginsWrite h s e (key_of write) None → NeedsRow write → HeapFollows h (step_of s write) (Refused NotThere) h
-Follows-not_there h s e write b needs = Follows-refused h h s NotThere write (λ w agrees.
+pub Follows-not_there : (h : Heap) (s : ℕ) (e : SeenSession) (write : WriteStep) → BeginsWrite h s e (key_of write) None → NeedsRow write → HeapFollows h (step_of s write) (reply.Refused refusal.NotThere) h
+Follows-not_there h s e write b needs = Follows-refused h h s refusal.NotThere write (λ w agrees.
     (allows w agrees write (writer h w s e b.at agrees b.sound b.bare) (sym (found_is_view h w s e (key_of write) None b.at agrees b.finds)) needs, Agrees-stepped h w s agrees))
   where
     allows : (w : World) (agrees : HeapAgrees h w) (write : WriteStep) → IsWriter w s (agrees.opened s e b.at).0 → view w.history (agrees.opened s e b.at).0 (key_of write) ≡ None
-        → NeedsRow write → AllowsHindered w s NotThere write
+        → NeedsRow write → AllowsHindered w s refusal.NotThere write
     allows w agrees (inserts row) may none needs = absurd needs
     allows w agrees (updates row) may none needs = ((agrees.opened s e b.at).0, may, needs, none)
     allows w agrees (deletes k) may none needs = ((agrees.opened s e b.at).0, may, none)
@@ -92,8 +94,8 @@ pub in_time : (h : Heap) (w : World) (s : ℕ) (e : SeenSession) (k : ℕ) (at :
 in_time h w s e k at agrees none late = none ((agrees.opened s e at).2.traces.late_missed k late)
 
 pub Follows-conflict : (h : Heap) (s : ℕ) (e : SeenSession) (write : WriteStep) (found : Option Row) (session' : ℕ → Option SeenSession) → BeginsWrite h s e (key_of write) found → Asks write found → IsLateFor h e (key_of write)
-    → OnlyIs h.session session' s (Some (record e { failed = true })) → HeapFollows h (step_of s write) (Refused Conflict) (record h { session = session' })
-Follows-conflict h s e write found session' b asks late only = Follows-refused h (record h { session = session' }) s Conflict write (λ w agrees. let open_ = agrees.opened s e b.at in (
+    → OnlyIs h.session session' s (Some (record e { failed = true })) → HeapFollows h (step_of s write) (reply.Refused refusal.Conflict) (record h { session = session' })
+Follows-conflict h s e write found session' b asks late only = Follows-refused h (record h { session = session' }) s refusal.Conflict write (λ w agrees. let open_ = agrees.opened s e b.at in (
   (open_.0, suits h w s e write found b agrees asks, late_for h w s e (key_of write) b.at agrees late),
   subst (λ o. HeapAgrees (record h { session = session' }) (put w s (option_map as_failed o))) (sym open_.1)
       (Agrees-fail h w s e open_.0 session' only b.at open_.1 open_.2 agrees),
@@ -107,8 +109,8 @@ holder_holds h w s o e f k x at bt owns some agrees = let open_ = agrees.opened 
 )
 
 pub Follows-busy : (h : Heap) (s o : ℕ) (e f : SeenSession) (x : ℕ) (write : WriteStep) (found : Option Row) → BeginsWrite h s e (key_of write) found → Asks write found → ¬ IsLateFor h e (key_of write)
-    → IsHeldBy h e (key_of write) x → h.session o ≡ Some f → Contains f.own x → HeapFollows h (step_of s write) (Refused (Busy o)) h
-Follows-busy h s o e f x write found b asks timely held bt owns = Follows-refused h h s (Busy o) write (λ w agrees.
+    → IsHeldBy h e (key_of write) x → h.session o ≡ Some f → Contains f.own x → HeapFollows h (step_of s write) (reply.Refused (refusal.Busy o)) h
+Follows-busy h s o e f x write found b asks timely held bt owns = Follows-refused h h s (refusal.Busy o) write (λ w agrees.
     let holds = holder_holds h w s o e f (key_of write) x b.at bt owns held agrees in (
       (
         (agrees.opened s e b.at).0,
@@ -159,22 +161,22 @@ allows_write h w s e write found free asks agrees =
 
 -- a refusal after which the engine is as it was, or has cleaned
 
-pub Follows-needs_freeze : (h : Heap) (s : ℕ) (e : SeenSession) (write : WriteStep) (found : Option Row) → Free h s e (key_of write) found → Asks write found → HeapFollows h (step_of s write) (Refused NeedsFreeze) h
+pub Follows-needs_freeze : (h : Heap) (s : ℕ) (e : SeenSession) (write : WriteStep) (found : Option Row) → Free h s e (key_of write) found → Asks write found → HeapFollows h (step_of s write) (reply.Refused refusal.NeedsFreeze) h
 Follows-needs_freeze h s e write found free asks =
-    Follows-refused h h s NeedsFreeze write (λ w agrees. (allows_write h w s e write found free asks agrees, Agrees-stepped h w s agrees))
+    Follows-refused h h s refusal.NeedsFreeze write (λ w agrees. (allows_write h w s e write found free asks agrees, Agrees-stepped h w s agrees))
 
 pub Follows-no_room_after : (h h' : Heap) (s : ℕ) (e : SeenSession) (write : WriteStep) (found : Option Row) → Free h s e (key_of write) found → Asks write found → IsPut write
-    → ((w : World) → HeapAgrees h w → HeapAgrees h' w) → HeapFollows h (step_of s write) (Refused NoRoom) h'
-Follows-no_room_after h h' s e write found free asks puts still = Follows-refused h h' s NoRoom write (λ w agrees.
+    → ((w : World) → HeapAgrees h w → HeapAgrees h' w) → HeapFollows h (step_of s write) (reply.Refused refusal.NoRoom) h'
+Follows-no_room_after h h' s e write found free asks puts still = Follows-refused h h' s refusal.NoRoom write (λ w agrees.
     let may = allows_write h w s e write found free asks agrees in ((may.0, may.1, may.2, puts), Agrees-stepped h' w s (still w agrees)))
 
-pub Follows-no_room : (h : Heap) (s : ℕ) (e : SeenSession) (write : WriteStep) (found : Option Row) → Free h s e (key_of write) found → Asks write found → IsPut write → HeapFollows h (step_of s write) (Refused NoRoom) h
+pub Follows-no_room : (h : Heap) (s : ℕ) (e : SeenSession) (write : WriteStep) (found : Option Row) → Free h s e (key_of write) found → Asks write found → IsPut write → HeapFollows h (step_of s write) (reply.Refused refusal.NoRoom) h
 Follows-no_room h s e write found free asks puts = Follows-no_room_after h h s e write found free asks puts (λ w agrees. agrees)
 
 pub Follows-no_memory_after : (h h' : Heap) (s : ℕ) (e : SeenSession) (write : WriteStep) (found : Option Row) → Free h s e (key_of write) found → Asks write found
-    → ((w : World) → HeapAgrees h w → HeapAgrees h' w) → HeapFollows h (step_of s write) (Refused NoMemory) h'
+    → ((w : World) → HeapAgrees h w → HeapAgrees h' w) → HeapFollows h (step_of s write) (reply.Refused refusal.NoMemory) h'
 Follows-no_memory_after h h' s e write found free asks still =
-    Follows-refused h h' s NoMemory write (λ w agrees. (allows_write h w s e write found free asks agrees, Agrees-stepped h' w s (still w agrees)))
+    Follows-refused h h' s refusal.NoMemory write (λ w agrees. (allows_write h w s e write found free asks agrees, Agrees-stepped h' w s (still w agrees)))
 
-pub Follows-no_memory : (h : Heap) (s : ℕ) (e : SeenSession) (write : WriteStep) (found : Option Row) → Free h s e (key_of write) found → Asks write found → HeapFollows h (step_of s write) (Refused NoMemory) h
+pub Follows-no_memory : (h : Heap) (s : ℕ) (e : SeenSession) (write : WriteStep) (found : Option Row) → Free h s e (key_of write) found → Asks write found → HeapFollows h (step_of s write) (reply.Refused refusal.NoMemory) h
 Follows-no_memory h s e write found free asks = Follows-no_memory_after h h s e write found free asks (λ w agrees. agrees)

@@ -6,7 +6,8 @@ use Rattle.std.proofs.lemmas.Bool.{cases_eq, cases_lt, cases_Bool, cond-true, co
 use Rattle.std.proofs.lemmas.Int.{ints, by_lt_z}
 use Rattle.std.proofs.lemmas.Option.{same_Some, none-some}
 use Rattle.tuple_header.specs.declared.version.Row.{Row}
-use Rattle.history.specs.Cursors.{value_in, ComesBefore, kept_where, rows_within, keys_of, without, IsOver}
+use Rattle.tuple_header.specs.IndexValue.{value_in}
+use Rattle.history.specs.Cursors.{ComesBefore, kept_where, rows_within, keys_of, without, IsOver}
 use Rattle.refinement.specs.Cursors.{IsPastPosition}
 use Rattle.refinement.specs.Heap.{RowPosition}
 

@@ -5,18 +5,19 @@ use Rattle.history.specs.Moves.{stepped}
 use Rattle.history.specs.Events.{Happens, passes, begins, conflicts, saves, rolls_back_to, releases, commits, aborts, opens_index, opens_heap, takes, closes, StepsReach, stays, goes_on}
 use Rattle.history.specs.Events as events
 use Rattle.history.proofs.RunLemmas.{Lawful-beginning, Lawful-run, indexes-run}
-use Rattle.refinement.specs.declared.step.Step.{Step}
-use Rattle.refinement.specs.declared.step.Step.TheVariants.{Begin, Insert, Update, Delete, Savepoint, RollbackTo, Release, Commit, Abort, OpenIndex, OpenHeap, Next, Close}
-use Rattle.refinement.specs.declared.reply.Reply.{Reply}
-use Rattle.refinement.specs.declared.reply.Reply.TheVariants.{Done, Committed, RolledBack, Rows, Refused}
-use Rattle.refinement.specs.declared.reply.Refusal.{Refusal}
-use Rattle.refinement.specs.declared.reply.Refusal.TheVariants.{Conflict}
-use Rattle.refinement.specs.Words.{row_of}
-use Rattle.refinement.specs.Writes.{WriteStep, inserts, updates, deletes, key_of}
-use Rattle.refinement.specs.Allowed.{session_of, savepoints, passed, Allows, AllowsHindered, refused_write, next, IsRun, after, IsLawful}
+use Rattle.calls.specs.declared.step.Step.{Step}
+use Rattle.calls.specs.declared.step.Step.TheVariants as step
+use Rattle.calls.specs.declared.reply.Reply.{Reply}
+use Rattle.calls.specs.declared.reply.Reply.TheVariants as reply
+use Rattle.calls.specs.declared.reply.Refusal.{Refusal}
+use Rattle.calls.specs.declared.reply.Refusal.TheVariants as refusal
+use Rattle.calls.specs.Words.{row_of}
+use Rattle.calls.specs.Writes.{WriteStep, inserts, updates, deletes, key_of}
+use Rattle.calls.specs.Steps.{session_of}
+use Rattle.refinement.specs.Allowed.{savepoints, passed, Allows, AllowsHindered, after_refused_write, next, IsRun, after, IsLawful}
 
-refused_happens : (w : World) (s : ℕ) (write : WriteStep) (r : Refusal) → AllowsHindered w s r write → Happens w s (refused_write w s r)
-refused_happens w s write Conflict allows = conflicts (key_of write) allows.0 allows.1.writer allows.2
+refused_happens : (w : World) (s : ℕ) (write : WriteStep) (r : Refusal) → AllowsHindered w s r write → Happens w s (after_refused_write w s r)
+refused_happens w s write refusal.Conflict allows = conflicts (key_of write) allows.0 allows.1.writer allows.2
 refused_happens w s write _ allows = passes
 
 -- how many levels a session with savepoints has
@@ -33,23 +34,23 @@ passes_on from w (Some s) led = goes_on w (stepped w s) s led passes
 
 -- each step that is allowed leads on as a step of the history does; where `next` has no case of its own, the session only goes on
 leads_on : (from w : World) (step : Step) (reply : Reply) → StepsReach from w → Allows w step reply → StepsReach from (next w step reply)
-leads_on from w (Begin s) Done led allows = goes_on w (next w (Begin s) Done) s led (begins allows.0 allows.1)
-leads_on from w (Insert s row) Done led allows = goes_on w (next w (Insert s row) Done) s led (events.inserts (row_of row) allows.0 allows.2 allows.1.asks.1)
-leads_on from w (Insert s row) (Refused r) led allows = goes_on w (refused_write w s r) s led (refused_happens w s (inserts row) r allows)
-leads_on from w (Update s row) Done led allows = goes_on w (next w (Update s row) Done) s led (events.updates (row_of row) allows.0 allows.2 allows.1.asks.1)
-leads_on from w (Update s row) (Refused r) led allows = goes_on w (refused_write w s r) s led (refused_happens w s (updates row) r allows)
-leads_on from w (Delete s k) Done led allows = goes_on w (next w (Delete s k) Done) s led (events.deletes k allows.0 allows.2 allows.1.asks)
-leads_on from w (Delete s k) (Refused r) led allows = goes_on w (refused_write w s r) s led (refused_happens w s (deletes k) r allows)
-leads_on from w (Savepoint s) Done led allows = goes_on w (next w (Savepoint s) Done) s led (saves allows.0 allows.1 (few_levels allows.0 allows.2))
-leads_on from w (RollbackTo s) Done led allows = goes_on w (next w (RollbackTo s) Done) s led (rolls_back_to allows.0 allows.1 allows.2 (several_levels allows.0 allows.3))
-leads_on from w (Release s) Done led allows = goes_on w (next w (Release s) Done) s led (releases allows.0 allows.1 (several_levels allows.0 allows.2))
-leads_on from w (Commit s) Committed led allows = goes_on w (next w (Commit s) Committed) s led (commits allows.0 allows.1)
-leads_on from w (Commit s) RolledBack led allows = goes_on w (next w (Commit s) RolledBack) s led (aborts allows.0 allows.1)
-leads_on from w (Abort s) RolledBack led allows = goes_on w (next w (Abort s) RolledBack) s led (aborts allows.0 allows.1)
-leads_on from w (OpenIndex s index low high) Done led allows = goes_on w (next w (OpenIndex s index low high) Done) s led (opens_index index low high allows.0 allows.1 allows.2 allows.3)
-leads_on from w (OpenHeap s) Done led allows = goes_on w (next w (OpenHeap s) Done) s led (opens_heap allows.0 allows.1)
-leads_on from w (Next s n) (Rows rows) led allows = goes_on w (next w (Next s n) (Rows rows)) s led (takes n rows.items allows.0 allows.1 allows.2 allows.3 allows.4)
-leads_on from w (Close s) Done led allows = goes_on w (next w (Close s) Done) s led (closes allows.0 allows.1 allows.2)
+leads_on from w (step.Begin s) reply.Done led allows = goes_on w (next w (step.Begin s) reply.Done) s led (begins allows.0 allows.1)
+leads_on from w (step.Insert s row) reply.Done led allows = goes_on w (next w (step.Insert s row) reply.Done) s led (events.inserts (row_of row) allows.0 allows.2 allows.1.asks.1)
+leads_on from w (step.Insert s row) (reply.Refused r) led allows = goes_on w (after_refused_write w s r) s led (refused_happens w s (inserts row) r allows)
+leads_on from w (step.Update s row) reply.Done led allows = goes_on w (next w (step.Update s row) reply.Done) s led (events.updates (row_of row) allows.0 allows.2 allows.1.asks.1)
+leads_on from w (step.Update s row) (reply.Refused r) led allows = goes_on w (after_refused_write w s r) s led (refused_happens w s (updates row) r allows)
+leads_on from w (step.Delete s k) reply.Done led allows = goes_on w (next w (step.Delete s k) reply.Done) s led (events.deletes k allows.0 allows.2 allows.1.asks)
+leads_on from w (step.Delete s k) (reply.Refused r) led allows = goes_on w (after_refused_write w s r) s led (refused_happens w s (deletes k) r allows)
+leads_on from w (step.Savepoint s) reply.Done led allows = goes_on w (next w (step.Savepoint s) reply.Done) s led (saves allows.0 allows.1 (few_levels allows.0 allows.2))
+leads_on from w (step.RollbackTo s) reply.Done led allows = goes_on w (next w (step.RollbackTo s) reply.Done) s led (rolls_back_to allows.0 allows.1 allows.2 (several_levels allows.0 allows.3))
+leads_on from w (step.Release s) reply.Done led allows = goes_on w (next w (step.Release s) reply.Done) s led (releases allows.0 allows.1 (several_levels allows.0 allows.2))
+leads_on from w (step.Commit s) reply.Committed led allows = goes_on w (next w (step.Commit s) reply.Committed) s led (commits allows.0 allows.1)
+leads_on from w (step.Commit s) reply.RolledBack led allows = goes_on w (next w (step.Commit s) reply.RolledBack) s led (aborts allows.0 allows.1)
+leads_on from w (step.Abort s) reply.RolledBack led allows = goes_on w (next w (step.Abort s) reply.RolledBack) s led (aborts allows.0 allows.1)
+leads_on from w (step.OpenIndex s index low high) reply.Done led allows = goes_on w (next w (step.OpenIndex s index low high) reply.Done) s led (opens_index index low high allows.0 allows.1 allows.2 allows.3)
+leads_on from w (step.OpenHeap s) reply.Done led allows = goes_on w (next w (step.OpenHeap s) reply.Done) s led (opens_heap allows.0 allows.1)
+leads_on from w (step.Next s n) (reply.Rows rows) led allows = goes_on w (next w (step.Next s n) (reply.Rows rows)) s led (takes n rows.items allows.0 allows.1 allows.2 allows.3 allows.4)
+leads_on from w (step.Close s) reply.Done led allows = goes_on w (next w (step.Close s) reply.Done) s led (closes allows.0 allows.1 allows.2)
 leads_on from w step reply led allows = passes_on from w (session_of step) led
 
 leads : (from w : World) (steps : List Step) (replies : List Reply) → StepsReach from w → IsRun w steps replies → StepsReach from (after w steps replies)

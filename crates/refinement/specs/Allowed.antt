@@ -1,99 +1,54 @@
 -- Which replies the history allows to a step, and what the world is after each.
 use Rattle.std.specs.Prelude.{◌≡◌, ℕ, ◌-◌, ◌<◌, ◌≤◌, List, [], ◌∷◌, length, Option, Some, None, Bool, true, false, IsSome, ◌<ℤ◌, ◌≤ℤ◌}
 use Rattle.history.specs.History.{IsLate}
-use Rattle.history.specs.World.{World, OpenSession, Cursor, beginning, view, IsReady, IsWriter, MayWrite, IsBlocked}
+use Rattle.history.specs.World.{World, OpenSession, Cursor, beginning, view, IsReady, IsWriter, MayWrite, IsBlocked, world_sessions}
 use Rattle.history.specs.Cursors.{keys_of, IsOver, HandsOutPart}
 use Rattle.history.specs.Moves.{stepped, begun, change, with_row, without_row, as_failed, with_savepoint, rolled_back_to, without_savepoint, aborted, committed_by, with_index_cursor, with_heap_cursor, with_taken, without_cursor}
 use Rattle.history.specs.Laws.{FirstCommitterWins, HeldInTime, HeldOnce}
-use Rattle.refinement.specs.declared.step.Step.{Step}
-use Rattle.refinement.specs.declared.step.Step.TheVariants.{Begin, Get, Insert, Update, Delete, Savepoint, RollbackTo, Release, Commit, Abort, OpenIndex, OpenHeap, Next, Close, Prune, VacuumBegin, VacuumStep, VacuumCancel}
-use Rattle.refinement.specs.declared.reply.Reply.{Reply}
-use Rattle.refinement.specs.declared.reply.Reply.TheVariants.{Done, Found, Committed, RolledBack, Rows, End, Worked, Ended, Refused}
-use Rattle.refinement.specs.declared.reply.Refusal.{Refusal}
-use Rattle.refinement.specs.declared.reply.Refusal.TheVariants.{NotOpen, AlreadyOpen, Failed, AlreadyThere, NotThere, Conflict, Busy, CursorOpen, NoCursor, TooDeep, NoSavepoint, TooLarge, NoRoom, NeedsFreeze, NoMemory, VacuumRunning, NoVacuum, NoSuchPage, NoSuchIndex, NoSuchSession, BadBounds}
-use Rattle.refinement.specs.Words.{FitsRow, row_of}
-use Rattle.refinement.specs.Writes.{WriteStep, inserts, updates, deletes, key_of, IsPut, Asks}
+use Rattle.calls.specs.declared.step.Step.{Step}
+use Rattle.calls.specs.declared.step.Step.TheVariants as step
+use Rattle.calls.specs.declared.reply.Reply.{Reply}
+use Rattle.calls.specs.declared.reply.Reply.TheVariants as reply
+use Rattle.calls.specs.declared.reply.Refusal.{Refusal}
+use Rattle.calls.specs.declared.reply.Refusal.TheVariants as refusal
+use Rattle.calls.specs.Steps.{session_of}
+use Rattle.calls.specs.Words.{FitsRow, row_of}
+use Rattle.calls.specs.Writes.{WriteStep, inserts, updates, deletes, key_of, IsPut, Asks}
+use Rattle.calls.specs.Bars.{BarsOpen, BarsReady, BarsFree, BarsWithCursor}
+use Rattle.calls.specs.declared.step.TheConstants.{MOST_SESSIONS}
 use Rattle.snapshot.specs.declared.own.TheConstants.{MOST_SAVEPOINTS}
+use Rattle.tuple_header.specs.declared.version.TheConstants.{MOST_BODY}
 
 abbrev pub IsOpen : World → ℕ → OpenSession → Type 0
 IsOpen w s m = w.session s ≡ Some m
-
--- whose step it is; cleaning is nobody's
-abbrev pub session_of : Step → Option ℕ
-session_of (Begin s) = Some s
-session_of (Get s k) = Some s
-session_of (Insert s row) = Some s
-session_of (Update s row) = Some s
-session_of (Delete s k) = Some s
-session_of (Savepoint s) = Some s
-session_of (RollbackTo s) = Some s
-session_of (Release s) = Some s
-session_of (Commit s) = Some s
-session_of (Abort s) = Some s
-session_of (OpenIndex s index low high) = Some s
-session_of (OpenHeap s) = Some s
-session_of (Next s n) = Some s
-session_of (Close s) = Some s
-session_of (Prune p) = None
-session_of (VacuumBegin mode) = None
-session_of VacuumStep = None
-session_of VacuumCancel = None
-
--- whether it is a vacuum's
-abbrev pub is_vacuum_step : Step → Bool
-is_vacuum_step (VacuumBegin mode) = true
-is_vacuum_step VacuumStep = true
-is_vacuum_step VacuumCancel = true
-is_vacuum_step step = false
 
 -- the write suits the session: it may write, and what it reads of the key is what the write asks for
 pub record Suits (w : World) (s : ℕ) (write : WriteStep) (m : OpenSession) : Type 0 where
   pub writer : IsWriter w s m
   pub asks : Asks write (view w.history m (key_of write))
 
--- there is no such session, or it is not open
-abbrev pub AllowsClosed : World → ℕ → Refusal → Type 0
-AllowsClosed w s NoSuchSession = 64 ≤ s
-AllowsClosed w s NotOpen = (s < 64) × (w.session s ≡ None)
-AllowsClosed w s refusal = ⊥
-
--- or it has failed
-abbrev pub AllowsUnready : World → ℕ → Refusal → Type 0
-AllowsUnready w s Failed = (m : OpenSession) × IsOpen w s m × (m.failed ≡ true)
-AllowsUnready w s refusal = AllowsClosed w s refusal
-
--- or it has a cursor open
-abbrev pub AllowsBarred : World → ℕ → Refusal → Type 0
-AllowsBarred w s CursorOpen = (m : OpenSession) × IsReady w s m × IsSome m.cursor
-AllowsBarred w s refusal = AllowsUnready w s refusal
-
--- or the write does not suit it: its row is too large, or the key has a row already, or has none
+-- the session is barred from the write, or the write does not suit it: its row is too large, or the key has a row already, or has none
 abbrev pub AllowsUnsuited : World → ℕ → Refusal → WriteStep → Type 0
-AllowsUnsuited w s TooLarge (inserts row) = (m : OpenSession) × IsWriter w s m × (1024 < length row.body)
-AllowsUnsuited w s TooLarge (updates row) = (m : OpenSession) × IsWriter w s m × (1024 < length row.body)
-AllowsUnsuited w s AlreadyThere (inserts row) = (m : OpenSession) × IsWriter w s m × FitsRow row × IsSome (view w.history m row.key)
-AllowsUnsuited w s NotThere (updates row) = (m : OpenSession) × IsWriter w s m × FitsRow row × (view w.history m row.key ≡ None)
-AllowsUnsuited w s NotThere (deletes k) = (m : OpenSession) × IsWriter w s m × (view w.history m k ≡ None)
-AllowsUnsuited w s refusal write = AllowsBarred w s refusal
+AllowsUnsuited w s refusal.TooLarge (inserts row) = (m : OpenSession) × IsWriter w s m × (MOST_BODY < length row.body)
+AllowsUnsuited w s refusal.TooLarge (updates row) = (m : OpenSession) × IsWriter w s m × (MOST_BODY < length row.body)
+AllowsUnsuited w s refusal.AlreadyThere (inserts row) = (m : OpenSession) × IsWriter w s m × FitsRow row × IsSome (view w.history m row.key)
+AllowsUnsuited w s refusal.NotThere (updates row) = (m : OpenSession) × IsWriter w s m × FitsRow row × (view w.history m row.key ≡ None)
+AllowsUnsuited w s refusal.NotThere (deletes k) = (m : OpenSession) × IsWriter w s m × (view w.history m k ≡ None)
+AllowsUnsuited w s refusal write = BarsFree (world_sessions w) s refusal
 
 -- or it does, but a commit since the session began or another open session has written the key, or there is no id, no
 -- room or no memory for it
 abbrev pub AllowsHindered : World → ℕ → Refusal → WriteStep → Type 0
-AllowsHindered w s Conflict write = (m : OpenSession) × Suits w s write m × IsLate w.history m.start (key_of write)
-AllowsHindered w s (Busy o) write = (m : OpenSession) × Suits w s write m × IsBlocked w s (key_of write) o m
-AllowsHindered w s NeedsFreeze write = (m : OpenSession) × Suits w s write m × MayWrite w s (key_of write) m
-AllowsHindered w s NoRoom write = (m : OpenSession) × Suits w s write m × MayWrite w s (key_of write) m × IsPut write
-AllowsHindered w s NoMemory write = (m : OpenSession) × Suits w s write m × MayWrite w s (key_of write) m
+AllowsHindered w s refusal.Conflict write = (m : OpenSession) × Suits w s write m × IsLate w.history m.start (key_of write)
+AllowsHindered w s (refusal.Busy o) write = (m : OpenSession) × Suits w s write m × IsBlocked w s (key_of write) o m
+AllowsHindered w s refusal.NeedsFreeze write = (m : OpenSession) × Suits w s write m × MayWrite w s (key_of write) m
+AllowsHindered w s refusal.NoRoom write = (m : OpenSession) × Suits w s write m × MayWrite w s (key_of write) m × IsPut write
+AllowsHindered w s refusal.NoMemory write = (m : OpenSession) × Suits w s write m × MayWrite w s (key_of write) m
 AllowsHindered w s refusal write = AllowsUnsuited w s refusal write
 
 -- or nothing keeps the session from it
 abbrev pub AllowsWrite : World → ℕ → WriteStep → Type 0
 AllowsWrite w s write = (m : OpenSession) × Suits w s write m × MayWrite w s (key_of write) m
-
--- a step of a cursor: the session cannot be used, or has failed, or has no cursor open
-abbrev pub AllowsBare : World → ℕ → Refusal → Type 0
-AllowsBare w s NoCursor = (m : OpenSession) × IsReady w s m × (m.cursor ≡ None)
-AllowsBare w s refusal = AllowsUnready w s refusal
 
 -- how many savepoints the session has: each begins a level above its first
 abbrev pub savepoints : OpenSession → ℕ
@@ -101,60 +56,60 @@ savepoints m = length m.levels - 1
 
 -- the history allows the reply to the step
 abbrev pub Allows : World → Step → Reply → Type 0
-Allows w (Begin s) Done = (s < 64) × (w.session s ≡ None)
-Allows w (Begin s) (Refused NoSuchSession) = 64 ≤ s
-Allows w (Begin s) (Refused AlreadyOpen) = (m : OpenSession) × IsOpen w s m
-Allows w (Begin s) (Refused NoMemory) = (s < 64) × (w.session s ≡ None)
-Allows w (Get s k) (Found row) = (m : OpenSession) × IsReady w s m × (row ≡ view w.history m k)
-Allows w (Get s k) (Refused refusal) = AllowsUnready w s refusal
-Allows w (Insert s row) Done = AllowsWrite w s (inserts row)
-Allows w (Insert s row) (Refused refusal) = AllowsHindered w s refusal (inserts row)
-Allows w (Update s row) Done = AllowsWrite w s (updates row)
-Allows w (Update s row) (Refused refusal) = AllowsHindered w s refusal (updates row)
-Allows w (Delete s k) Done = AllowsWrite w s (deletes k)
-Allows w (Delete s k) (Refused refusal) = AllowsHindered w s refusal (deletes k)
-Allows w (Savepoint s) Done = (m : OpenSession) × IsWriter w s m × (savepoints m < MOST_SAVEPOINTS)
-Allows w (Savepoint s) (Refused TooDeep) = (m : OpenSession) × IsWriter w s m × (savepoints m ≡ MOST_SAVEPOINTS)
-Allows w (Savepoint s) (Refused NoMemory) = (m : OpenSession) × IsWriter w s m × (savepoints m < MOST_SAVEPOINTS)
-Allows w (Savepoint s) (Refused refusal) = AllowsBarred w s refusal
-Allows w (RollbackTo s) Done = (m : OpenSession) × IsOpen w s m × (m.cursor ≡ None) × (0 < savepoints m)
-Allows w (RollbackTo s) (Refused CursorOpen) = (m : OpenSession) × IsOpen w s m × IsSome m.cursor
-Allows w (RollbackTo s) (Refused NoSavepoint) = (m : OpenSession) × IsOpen w s m × (m.cursor ≡ None) × (savepoints m ≡ 0)
-Allows w (RollbackTo s) (Refused refusal) = AllowsClosed w s refusal
-Allows w (Release s) Done = (m : OpenSession) × IsWriter w s m × (0 < savepoints m)
-Allows w (Release s) (Refused NoSavepoint) = (m : OpenSession) × IsWriter w s m × (savepoints m ≡ 0)
-Allows w (Release s) (Refused refusal) = AllowsBarred w s refusal
-Allows w (Commit s) Committed = (m : OpenSession) × IsReady w s m
-Allows w (Commit s) RolledBack = (m : OpenSession) × IsOpen w s m × (m.failed ≡ true)
-Allows w (Commit s) (Refused refusal) = AllowsClosed w s refusal
-Allows w (Abort s) RolledBack = (m : OpenSession) × IsOpen w s m
-Allows w (Abort s) (Refused refusal) = AllowsClosed w s refusal
-Allows w (OpenIndex s index low high) Done = (m : OpenSession) × IsWriter w s m × (w.has_index index ≡ true) × (low ≤ℤ high)
-Allows w (OpenIndex s index low high) (Refused NoSuchIndex) = (m : OpenSession) × IsWriter w s m × (w.has_index index ≡ false)
-Allows w (OpenIndex s index low high) (Refused BadBounds) = (m : OpenSession) × IsWriter w s m × (w.has_index index ≡ true) × (high <ℤ low)
-Allows w (OpenIndex s index low high) (Refused NoMemory) = (m : OpenSession) × IsWriter w s m × (w.has_index index ≡ true) × (low ≤ℤ high)
-Allows w (OpenIndex s index low high) (Refused refusal) = AllowsBarred w s refusal
-Allows w (OpenHeap s) Done = (m : OpenSession) × IsWriter w s m
-Allows w (OpenHeap s) (Refused NoMemory) = (m : OpenSession) × IsWriter w s m
-Allows w (OpenHeap s) (Refused refusal) = AllowsBarred w s refusal
-Allows w (Next s n) (Rows rows) = (m : OpenSession) × (c : Cursor) × IsReady w s m × (m.cursor ≡ Some c) × HandsOutPart c.order n c.rest rows.items
-Allows w (Next s n) End = (m : OpenSession) × (c : Cursor) × IsReady w s m × (m.cursor ≡ Some c) × IsOver c.rest
-Allows w (Next s n) (Refused NoMemory) = (m : OpenSession) × (c : Cursor) × IsReady w s m × (m.cursor ≡ Some c) × (¬ IsOver c.rest)
-Allows w (Next s n) (Refused refusal) = AllowsBare w s refusal
-Allows w (Close s) Done = (m : OpenSession) × IsReady w s m × IsSome m.cursor
-Allows w (Close s) (Refused refusal) = AllowsBare w s refusal
-Allows w (Prune p) Done = Unit {0}
-Allows w (Prune p) (Refused NoSuchPage) = Unit {0}
-Allows w (Prune p) (Refused NoMemory) = Unit {0}
-Allows w (VacuumBegin mode) Done = Unit {0}
-Allows w (VacuumBegin mode) (Refused VacuumRunning) = Unit {0}
-Allows w (VacuumBegin mode) (Refused NoMemory) = Unit {0}
-Allows w VacuumStep (Worked piece) = Unit {0}
-Allows w VacuumStep (Ended first) = Unit {0}
-Allows w VacuumStep (Refused NoVacuum) = Unit {0}
-Allows w VacuumStep (Refused NoMemory) = Unit {0}
-Allows w VacuumCancel Done = Unit {0}
-Allows w VacuumCancel (Refused NoVacuum) = Unit {0}
+Allows w (step.Begin s) reply.Done = (s < MOST_SESSIONS) × (w.session s ≡ None)
+Allows w (step.Begin s) (reply.Refused refusal.NoSuchSession) = MOST_SESSIONS ≤ s
+Allows w (step.Begin s) (reply.Refused refusal.AlreadyOpen) = (m : OpenSession) × IsOpen w s m
+Allows w (step.Begin s) (reply.Refused refusal.NoMemory) = (s < MOST_SESSIONS) × (w.session s ≡ None)
+Allows w (step.Get s k) (reply.Found row) = (m : OpenSession) × IsReady w s m × (row ≡ view w.history m k)
+Allows w (step.Get s k) (reply.Refused refusal) = BarsReady (world_sessions w) s refusal
+Allows w (step.Insert s row) reply.Done = AllowsWrite w s (inserts row)
+Allows w (step.Insert s row) (reply.Refused refusal) = AllowsHindered w s refusal (inserts row)
+Allows w (step.Update s row) reply.Done = AllowsWrite w s (updates row)
+Allows w (step.Update s row) (reply.Refused refusal) = AllowsHindered w s refusal (updates row)
+Allows w (step.Delete s k) reply.Done = AllowsWrite w s (deletes k)
+Allows w (step.Delete s k) (reply.Refused refusal) = AllowsHindered w s refusal (deletes k)
+Allows w (step.Savepoint s) reply.Done = (m : OpenSession) × IsWriter w s m × (savepoints m < MOST_SAVEPOINTS)
+Allows w (step.Savepoint s) (reply.Refused refusal.TooDeep) = (m : OpenSession) × IsWriter w s m × (savepoints m ≡ MOST_SAVEPOINTS)
+Allows w (step.Savepoint s) (reply.Refused refusal.NoMemory) = (m : OpenSession) × IsWriter w s m × (savepoints m < MOST_SAVEPOINTS)
+Allows w (step.Savepoint s) (reply.Refused refusal) = BarsFree (world_sessions w) s refusal
+Allows w (step.RollbackTo s) reply.Done = (m : OpenSession) × IsOpen w s m × (m.cursor ≡ None) × (0 < savepoints m)
+Allows w (step.RollbackTo s) (reply.Refused refusal.CursorOpen) = (m : OpenSession) × IsOpen w s m × IsSome m.cursor
+Allows w (step.RollbackTo s) (reply.Refused refusal.NoSavepoint) = (m : OpenSession) × IsOpen w s m × (m.cursor ≡ None) × (savepoints m ≡ 0)
+Allows w (step.RollbackTo s) (reply.Refused refusal) = BarsOpen (world_sessions w) s refusal
+Allows w (step.Release s) reply.Done = (m : OpenSession) × IsWriter w s m × (0 < savepoints m)
+Allows w (step.Release s) (reply.Refused refusal.NoSavepoint) = (m : OpenSession) × IsWriter w s m × (savepoints m ≡ 0)
+Allows w (step.Release s) (reply.Refused refusal) = BarsFree (world_sessions w) s refusal
+Allows w (step.Commit s) reply.Committed = (m : OpenSession) × IsReady w s m
+Allows w (step.Commit s) reply.RolledBack = (m : OpenSession) × IsOpen w s m × (m.failed ≡ true)
+Allows w (step.Commit s) (reply.Refused refusal) = BarsOpen (world_sessions w) s refusal
+Allows w (step.Abort s) reply.RolledBack = (m : OpenSession) × IsOpen w s m
+Allows w (step.Abort s) (reply.Refused refusal) = BarsOpen (world_sessions w) s refusal
+Allows w (step.OpenIndex s index low high) reply.Done = (m : OpenSession) × IsWriter w s m × (w.has_index index ≡ true) × (low ≤ℤ high)
+Allows w (step.OpenIndex s index low high) (reply.Refused refusal.NoSuchIndex) = (m : OpenSession) × IsWriter w s m × (w.has_index index ≡ false)
+Allows w (step.OpenIndex s index low high) (reply.Refused refusal.BadBounds) = (m : OpenSession) × IsWriter w s m × (w.has_index index ≡ true) × (high <ℤ low)
+Allows w (step.OpenIndex s index low high) (reply.Refused refusal.NoMemory) = (m : OpenSession) × IsWriter w s m × (w.has_index index ≡ true) × (low ≤ℤ high)
+Allows w (step.OpenIndex s index low high) (reply.Refused refusal) = BarsFree (world_sessions w) s refusal
+Allows w (step.OpenHeap s) reply.Done = (m : OpenSession) × IsWriter w s m
+Allows w (step.OpenHeap s) (reply.Refused refusal.NoMemory) = (m : OpenSession) × IsWriter w s m
+Allows w (step.OpenHeap s) (reply.Refused refusal) = BarsFree (world_sessions w) s refusal
+Allows w (step.Next s n) (reply.Rows rows) = (m : OpenSession) × (c : Cursor) × IsReady w s m × (m.cursor ≡ Some c) × HandsOutPart c.order n c.rest rows.items
+Allows w (step.Next s n) reply.End = (m : OpenSession) × (c : Cursor) × IsReady w s m × (m.cursor ≡ Some c) × IsOver c.rest
+Allows w (step.Next s n) (reply.Refused refusal.NoMemory) = (m : OpenSession) × (c : Cursor) × IsReady w s m × (m.cursor ≡ Some c) × (¬ IsOver c.rest)
+Allows w (step.Next s n) (reply.Refused refusal) = BarsWithCursor (world_sessions w) s refusal
+Allows w (step.Close s) reply.Done = (m : OpenSession) × IsReady w s m × IsSome m.cursor
+Allows w (step.Close s) (reply.Refused refusal) = BarsWithCursor (world_sessions w) s refusal
+Allows w (step.Prune p) reply.Done = Unit {0}
+Allows w (step.Prune p) (reply.Refused refusal.NoSuchPage) = Unit {0}
+Allows w (step.Prune p) (reply.Refused refusal.NoMemory) = Unit {0}
+Allows w (step.VacuumBegin mode) reply.Done = Unit {0}
+Allows w (step.VacuumBegin mode) (reply.Refused refusal.VacuumRunning) = Unit {0}
+Allows w (step.VacuumBegin mode) (reply.Refused refusal.NoMemory) = Unit {0}
+Allows w step.VacuumStep (reply.Worked piece) = Unit {0}
+Allows w step.VacuumStep (reply.Ended first) = Unit {0}
+Allows w step.VacuumStep (reply.Refused refusal.NoVacuum) = Unit {0}
+Allows w step.VacuumStep (reply.Refused refusal.NoMemory) = Unit {0}
+Allows w step.VacuumCancel reply.Done = Unit {0}
+Allows w step.VacuumCancel (reply.Refused refusal.NoVacuum) = Unit {0}
 Allows w step reply = ⊥
 
 -- a step that reads or is refused only ends the session's own wait
@@ -163,29 +118,29 @@ passed w None = w
 passed w (Some s) = stepped w s
 
 -- after a refused write: a conflict makes the session fail
-abbrev pub refused_write : World → ℕ → Refusal → World
-refused_write w s Conflict = change w s as_failed
-refused_write w s refusal = stepped w s
+abbrev pub after_refused_write : World → ℕ → Refusal → World
+after_refused_write w s refusal.Conflict = change w s as_failed
+after_refused_write w s refusal = stepped w s
 
 -- the world after the reply. Cleaning leaves it as it is
 abbrev pub next : World → Step → Reply → World
-next w (Begin s) Done = begun w s
-next w (Insert s row) Done = change w s (with_row (row_of row))
-next w (Insert s row) (Refused refusal) = refused_write w s refusal
-next w (Update s row) Done = change w s (with_row (row_of row))
-next w (Update s row) (Refused refusal) = refused_write w s refusal
-next w (Delete s k) Done = change w s (without_row k)
-next w (Delete s k) (Refused refusal) = refused_write w s refusal
-next w (Savepoint s) Done = change w s with_savepoint
-next w (RollbackTo s) Done = rolled_back_to w s
-next w (Release s) Done = change w s without_savepoint
-next w (Commit s) Committed = committed_by w s
-next w (Commit s) RolledBack = aborted w s
-next w (Abort s) RolledBack = aborted w s
-next w (OpenIndex s index low high) Done = change w s (with_index_cursor w.history index low high)
-next w (OpenHeap s) Done = change w s (with_heap_cursor w.history)
-next w (Next s n) (Rows rows) = change w s (with_taken (keys_of rows.items))
-next w (Close s) Done = change w s without_cursor
+next w (step.Begin s) reply.Done = begun w s
+next w (step.Insert s row) reply.Done = change w s (with_row (row_of row))
+next w (step.Insert s row) (reply.Refused refusal) = after_refused_write w s refusal
+next w (step.Update s row) reply.Done = change w s (with_row (row_of row))
+next w (step.Update s row) (reply.Refused refusal) = after_refused_write w s refusal
+next w (step.Delete s k) reply.Done = change w s (without_row k)
+next w (step.Delete s k) (reply.Refused refusal) = after_refused_write w s refusal
+next w (step.Savepoint s) reply.Done = change w s with_savepoint
+next w (step.RollbackTo s) reply.Done = rolled_back_to w s
+next w (step.Release s) reply.Done = change w s without_savepoint
+next w (step.Commit s) reply.Committed = committed_by w s
+next w (step.Commit s) reply.RolledBack = aborted w s
+next w (step.Abort s) reply.RolledBack = aborted w s
+next w (step.OpenIndex s index low high) reply.Done = change w s (with_index_cursor w.history index low high)
+next w (step.OpenHeap s) reply.Done = change w s (with_heap_cursor w.history)
+next w (step.Next s n) (reply.Rows rows) = change w s (with_taken (keys_of rows.items))
+next w (step.Close s) reply.Done = change w s without_cursor
 next w step reply = passed w (session_of step)
 
 -- the history allows the replies to the steps, one after another

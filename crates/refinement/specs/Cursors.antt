@@ -5,7 +5,8 @@ use Rattle.xid_circle.specs.declared.Tid.{Tid}
 use Rattle.tuple_header.specs.declared.version.Row.{Row}
 use Rattle.tuple_header.specs.Version.{Version}
 use Rattle.history.specs.World.{Cursor, Order, by_index, by_heap}
-use Rattle.history.specs.Cursors.{value_in, ComesBefore}
+use Rattle.tuple_header.specs.IndexValue.{value_in}
+use Rattle.history.specs.Cursors.{ComesBefore}
 use Rattle.refinement.specs.Heap.{RowPosition, Position, in_index, in_heap}
 use Rattle.refinement.specs.Visible.{At}
 
@@ -29,8 +30,8 @@ abbrev pub IsFrom : Tid → Tid → Type 0
 IsFrom from p = (from.page < p.page) ⊎ (from.page ≡ p.page) × (from.slot ≤ p.slot)
 
 -- no place is before this one
-abbrev pub first_place : Tid
-first_place = record { page = 0; slot = 0 }
+abbrev pub heap_start : Tid
+heap_start = record { page = 0; slot = 0 }
 
 -- still to come at the position: in an index by the row, in the heap by the place
 abbrev pub IsToCome : Position → Tid → Row → Type 0

@@ -4,6 +4,7 @@ use Rattle.xid_circle.specs.declared.Tid.{Tid}
 use Rattle.tuple_header.specs.Version.{Version}
 use Rattle.commit_status.specs.declared.status.Status.{Status}
 use Rattle.snapshot.specs.Snap.{Snap}
+use Rattle.calls.specs.Bars.{SessionLooks}
 
 -- a place in the order of an index: that of a row with this value and key
 pub record RowPosition : Type 0 where
@@ -35,3 +36,7 @@ pub record Heap : Type 1 where
   -- whether a snapshot sees an id
   pub sees : Snap → ℕ → Type 0
   pub session : ℕ → Option SeenSession
+
+-- its sessions, as far as what bars one from a step looks at them
+abbrev pub seen_sessions : Heap → SessionLooks SeenSession Position
+seen_sessions h = record { session = h.session; failed = λ e. e.failed; cursor = λ e. e.cursor }

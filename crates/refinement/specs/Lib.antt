@@ -1,5 +1,3 @@
-pub mod Words
-pub mod Writes
 pub mod Allowed
 pub mod Heap
 pub mod Visible
@@ -7,5 +5,4 @@ pub mod Cursors
 pub mod Changes
 pub mod Agrees
 pub mod Finds
-pub mod Bounds
 pub mod Settling

@@ -2,10 +2,10 @@
 use Rattle.std.proofs.Common.{◌≡◌, ℕ, zero, suc, ◌<◌, List, [], ◌∷◌, length, Ok, Err, refl, sym, ap, ◌∙◌, arith}
 use Rattle.std.specs.Prelude.{Result}
 use Rattle.tuple_header.specs.declared.row_place.RowPlace.{RowPlace}
-use Rattle.refinement.specs.declared.reply.Reply.{Reply}
-use Rattle.refinement.specs.declared.reply.Reply.TheVariants.{Rows, End, Refused}
-use Rattle.refinement.specs.declared.reply.Refusal.{Refusal}
-use Rattle.refinement.specs.declared.reply.Refusal.TheVariants.{NoMemory}
+use Rattle.calls.specs.declared.reply.Reply.{Reply}
+use Rattle.calls.specs.declared.reply.Reply.TheVariants.{Rows, End, Refused}
+use Rattle.calls.specs.declared.reply.Refusal.{Refusal}
+use Rattle.calls.specs.declared.reply.Refusal.TheVariants.{NoMemory}
 use Rattle.session_steps.specs.State.{State}
 use Rattle.session_steps.specs.NextRows.{rows_in, count_in, ExactNextRows}
 use Rattle.session_core.specs.NextRows.{EngineNextRows}

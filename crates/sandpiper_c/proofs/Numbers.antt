@@ -2,7 +2,7 @@
 use Rattle.std.proofs.Common.{◌≡◌, ℕ, ◌+◌, ◌-◌, List, [], ◌∷◌, Bool, false, refl, sym, ap, ◌∙◌, arith}
 use Rattle.std.proofs.lemmas.Bool.Decides.{nat_tests}
 use Rattle.std.specs.Prelude.{◌==◌, if◌then◌else◌, nat_lt, nat_le, find, unwrap_or, true}
-use Rattle.refinement.specs.declared.reply.Refusal.TheVariants as refusal
+use Rattle.calls.specs.declared.reply.Refusal.TheVariants as refusal
 use Rattle.sandpiper_c.specs.declared.status.CallStatus.{CallStatus}
 use Rattle.sandpiper_c.specs.declared.status.CallStatus.TheVariants as status
 use Rattle.sandpiper_c.specs.CallStatus.{number_of_status, NumbersDiffer, RefusalsAreHigh}

@@ -1,11 +1,11 @@
 -- What a call answers, and the number that C has for it.
 use Rattle.std.specs.Prelude.{◌≡◌, ℕ, ◌+◌, Bool, true, false, nat_le, Some, None}
-use Rattle.refinement.specs.declared.reply.Reply.{Reply}
-use Rattle.refinement.specs.declared.reply.Reply.TheVariants as reply
-use Rattle.refinement.specs.declared.reply.Refusal.{Refusal}
-use Rattle.refinement.specs.declared.reply.Refusal.TheVariants as refusal
-use Rattle.refinement.specs.declared.settings.SettingsFault.{SettingsFault}
-use Rattle.refinement.specs.declared.settings.SettingsFault.TheVariants as fault
+use Rattle.calls.specs.declared.reply.Reply.{Reply}
+use Rattle.calls.specs.declared.reply.Reply.TheVariants as reply
+use Rattle.calls.specs.declared.reply.Refusal.{Refusal}
+use Rattle.calls.specs.declared.reply.Refusal.TheVariants as refusal
+use Rattle.calls.specs.declared.settings.SettingsFault.{SettingsFault}
+use Rattle.calls.specs.declared.settings.SettingsFault.TheVariants as fault
 use Rattle.sandpiper_c.specs.declared.status.CallStatus.{CallStatus}
 use Rattle.sandpiper_c.specs.declared.status.CallStatus.TheVariants as status
 
@@ -80,18 +80,18 @@ abbrev pub NumbersDiffer : Type 0
 NumbersDiffer = (a b : CallStatus) → number_of_status a ≡ number_of_status b → a ≡ b
 
 -- something was asked for and not done
-abbrev pub is_refused : CallStatus → Bool
-is_refused status.Done = false
-is_refused status.Found = false
-is_refused status.NoRow = false
-is_refused status.Committed = false
-is_refused status.RolledBack = false
-is_refused status.Rows = false
-is_refused status.End = false
-is_refused status.Worked = false
-is_refused status.Ended = false
-is_refused s = true
+abbrev pub is_refusal : CallStatus → Bool
+is_refusal status.Done = false
+is_refusal status.Found = false
+is_refusal status.NoRow = false
+is_refusal status.Committed = false
+is_refusal status.RolledBack = false
+is_refusal status.Rows = false
+is_refusal status.End = false
+is_refusal status.Worked = false
+is_refusal status.Ended = false
+is_refusal s = true
 
 -- that is so exactly where the number is 16 or more
 abbrev pub RefusalsAreHigh : Type 0
-RefusalsAreHigh = (s : CallStatus) → is_refused s ≡ nat_le 16 (number_of_status s)
+RefusalsAreHigh = (s : CallStatus) → is_refusal s ≡ nat_le 16 (number_of_status s)

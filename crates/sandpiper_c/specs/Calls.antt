@@ -3,13 +3,13 @@ use Rattle.std.specs.Prelude.{◌≡◌, ◌⊎◌, ℕ, ◌<◌, Option, Some, 
 use Rattle.tuple_header.specs.declared.row_place.RowPlace.{RowPlace}
 use Rattle.tuple_header.specs.declared.version.Row.{Row}
 use Rattle.tuple_header.specs.Places.{place_with}
-use Rattle.refinement.specs.declared.settings.Settings.{Settings}
-use Rattle.refinement.specs.declared.settings.SettingsFault.{SettingsFault}
-use Rattle.refinement.specs.declared.step.Step.{Step}
-use Rattle.refinement.specs.declared.reply.Reply.{Reply}
-use Rattle.refinement.specs.declared.reply.Reply.TheVariants as reply
-use Rattle.refinement.specs.declared.reply.Refusal.TheVariants as refusal
-use Rattle.refinement.specs.Words.{RowText, FirstFault}
+use Rattle.calls.specs.declared.settings.Settings.{Settings}
+use Rattle.calls.specs.declared.settings.SettingsFault.{SettingsFault}
+use Rattle.calls.specs.declared.step.Step.{Step}
+use Rattle.calls.specs.declared.reply.Reply.{Reply}
+use Rattle.calls.specs.declared.reply.Reply.TheVariants as reply
+use Rattle.calls.specs.declared.reply.Refusal.TheVariants as refusal
+use Rattle.calls.specs.Words.{RowToWrite, FirstFault}
 use Rattle.vacuum_engine.specs.Clauses.{EngineFollows}
 use Rattle.vacuum_engine.specs.Exact.{EngineExact}
 use Rattle.vacuum_engine.specs.New.{IsNewEngine}
@@ -45,22 +45,22 @@ abbrev pub ClosesTable : Sandpiper → ℕ → Sandpiper → Type 0
 ClosesTable old code new = ClosesHeld (held_by old) code (held_by new)
 
 -- the engine did the step, as its own contract says, and the status is the number of its reply
-pub record Stepped (old : Held) (step : Step) (code : ℕ) (new : Held) : Type 0 where
+pub record TakesStep (old : Held) (step : Step) (code : ℕ) (new : Held) : Type 0 where
   pub follows : EngineFollows old.engine step new.reply new.engine
   pub exact : EngineExact old.engine step new.reply new.engine
   pub status : code ≡ number_of_status (status_of_reply new.reply)
 
 abbrev pub DoesHeld : Option Held → Step → ℕ → Option Held → Type 0
 DoesHeld None step code new = (code ≡ number_of_status status.NoEngine) × (new ≡ None)
-DoesHeld (Some old) step code new = (held : Held) × (new ≡ Some held) × Stepped old step code held
+DoesHeld (Some old) step code new = (held : Held) × (new ≡ Some held) × TakesStep old step code held
 
 -- the engine did the step, or there is none and the status says so
 abbrev pub Does : Sandpiper → Step → ℕ → Sandpiper → Type 0
 Does old step code new = DoesHeld (held_by old) step code (held_by new)
 
 -- the same of a step with a row, unless memory for its body was refused, and nothing done
-abbrev pub Writes : Sandpiper → (RowText → Step) → RowPlace → ℕ → Sandpiper → Type 0
-Writes old step row code new = ((text : RowText) × IsText row text × Does old (step text) code new)
+abbrev pub Writes : Sandpiper → (RowToWrite → Step) → RowPlace → ℕ → Sandpiper → Type 0
+Writes old step row code new = ((text : RowToWrite) × IsText row text × Does old (step text) code new)
     ⊎ ((0 < row.length) × (code ≡ number_of_status (status.Refused refusal.NoMemory)) × (held_by new ≡ held_by old))
 
 -- what the handle has is as it was

@@ -1,9 +1,9 @@
 -- What a call does that writes many rows.
 use Rattle.std.specs.Prelude.{◌≡◌, ◌≢◌, ◌⊎◌, ℕ, List, [], ◌∷◌, length, take, slice_get, Some}
 use Rattle.tuple_header.specs.declared.row_place.RowPlace.{RowPlace}
-use Rattle.refinement.specs.declared.step.Step.{Step}
-use Rattle.refinement.specs.declared.step.Step.TheVariants as step
-use Rattle.refinement.specs.Words.{RowText}
+use Rattle.calls.specs.declared.step.Step.{Step}
+use Rattle.calls.specs.declared.step.Step.TheVariants as step
+use Rattle.calls.specs.Words.{RowToWrite}
 use Rattle.sandpiper_c.specs.declared.database.Sandpiper.{Sandpiper}
 use Rattle.sandpiper_c.specs.declared.many.WriteKind.{WriteKind}
 use Rattle.sandpiper_c.specs.declared.many.WriteKind.TheVariants.{Insert, Update}
@@ -12,24 +12,24 @@ use Rattle.sandpiper_c.specs.CallStatus.{number_of_status}
 use Rattle.sandpiper_c.specs.Calls.{Writes}
 
 -- the step of a session that writes a row
-abbrev pub write_of : WriteKind → ℕ → RowText → Step
+abbrev pub write_of : WriteKind → ℕ → RowToWrite → Step
 write_of Insert session text = step.Insert session text
 write_of Update session text = step.Update session text
 
 -- the rows are written one after another, and none is refused
-abbrev pub AreWritten : (RowText → Step) → Sandpiper → List RowPlace → Sandpiper → Type 0
+abbrev pub AreWritten : (RowToWrite → Step) → Sandpiper → List RowPlace → Sandpiper → Type 0
 AreWritten step old [] new = new ≡ old
 AreWritten step old (row ∷ rows) new = (between : Sandpiper) × Writes old step row (number_of_status status.Done) between × AreWritten step between rows new
 
 -- the row of this number is refused, with this status
-pub record RefusesRow (step : RowText → Step) (old : Sandpiper) (rows : List RowPlace) (number code : ℕ) (new : Sandpiper) : Type 0 where
+pub record RefusesRow (step : RowToWrite → Step) (old : Sandpiper) (rows : List RowPlace) (number code : ℕ) (new : Sandpiper) : Type 0 where
   pub row : RowPlace
   pub is : slice_get rows number ≡ Some row
   pub writes : Writes old step row code new
   pub refused : code ≢ number_of_status status.Done
 
 -- so many rows are written, and they are all, or the next one is refused
-pub record WritesMany (step : RowText → Step) (old : Sandpiper) (rows : List RowPlace) (done code : ℕ) (new : Sandpiper) : Type 0 where
+pub record WritesMany (step : RowToWrite → Step) (old : Sandpiper) (rows : List RowPlace) (done code : ℕ) (new : Sandpiper) : Type 0 where
   pub between : Sandpiper
   pub written : AreWritten step old (take done rows) between
   pub rest : ((done ≡ length rows) × (code ≡ number_of_status status.Done) × (new ≡ between)) ⊎ RefusesRow step between rows done code new

@@ -2,9 +2,9 @@
 use Rattle.std.specs.Prelude.{◌≡◌, ℕ, zero, suc, true, List, [], ◌∷◌, length, Option, Some, None, Result, Ok, Err}
 use Rattle.tuple_header.specs.declared.row_place.RowPlace.{RowPlace}
 use Rattle.tuple_header.specs.Places.{places_with}
-use Rattle.refinement.specs.declared.step.Step.TheVariants.{Next}
-use Rattle.refinement.specs.declared.reply.Reply.{Reply}
-use Rattle.refinement.specs.declared.reply.Refusal.{Refusal}
+use Rattle.calls.specs.declared.step.Step.TheVariants.{Next}
+use Rattle.calls.specs.declared.reply.Reply.{Reply}
+use Rattle.calls.specs.declared.reply.Refusal.{Refusal}
 use Rattle.session_steps.specs.NextRows.{rows_in, ExactNextRows}
 use Rattle.vacuum_engine.specs.State.{noted}
 use Rattle.vacuum_engine.specs.Clauses.{EngineFollows}

@@ -1,11 +1,11 @@
 -- What a vacuum's step did, as C reads it.
 use Rattle.std.specs.Prelude.{◌≡◌, Bool, true, false, Option, Some, None}
-use Rattle.refinement.specs.declared.vacuum.Mode.{Mode}
-use Rattle.refinement.specs.declared.vacuum.Mode.TheVariants.{Normal, Aggressive}
-use Rattle.refinement.specs.declared.vacuum.Piece.{Piece}
-use Rattle.refinement.specs.declared.vacuum.Piece.TheVariants as piece
-use Rattle.refinement.specs.declared.reply.Reply.{Reply}
-use Rattle.refinement.specs.declared.reply.Reply.TheVariants as reply
+use Rattle.calls.specs.declared.vacuum.Mode.{Mode}
+use Rattle.calls.specs.declared.vacuum.Mode.TheVariants.{Normal, Aggressive}
+use Rattle.calls.specs.declared.vacuum.Piece.{Piece}
+use Rattle.calls.specs.declared.vacuum.Piece.TheVariants as piece
+use Rattle.calls.specs.declared.reply.Reply.{Reply}
+use Rattle.calls.specs.declared.reply.Reply.TheVariants as reply
 use Rattle.sandpiper_c.specs.declared.database.Sandpiper.{Sandpiper}
 use Rattle.sandpiper_c.specs.declared.held.Held.{Held}
 use Rattle.sandpiper_c.specs.declared.vacuum.SandpiperPiece.{SandpiperPiece}

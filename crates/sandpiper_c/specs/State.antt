@@ -4,8 +4,8 @@ use Rattle.std.specs.Option.{option_map, is_some, unwrap_or}
 use Rattle.commit_status.specs.Window.{next_id}
 use Rattle.commit_status.specs.Changes.{CanGive}
 use Rattle.root_index.specs.View.{IndexView}
-use Rattle.refinement.specs.declared.vacuum.Mode.{Mode}
-use Rattle.refinement.specs.declared.vacuum.Mode.TheVariants.{Normal, Aggressive}
+use Rattle.calls.specs.declared.vacuum.Mode.{Mode}
+use Rattle.calls.specs.declared.vacuum.Mode.TheVariants.{Normal, Aggressive}
 use Rattle.session_steps.specs.State.{State, engine_index, open_bits}
 use Rattle.vacuum_passes.specs.View.{VacuumView}
 use Rattle.vacuum_engine.specs.State.{EngineView}
@@ -36,10 +36,10 @@ number_of_mode (Some Aggressive) = 2
 
 -- C's place has what the engine is like
 pub record ShowsState (engine : EngineView) (state : SandpiperState) : Type 0 where
-  pub next : state.next_id ≡ next_id engine.core.heap.table
-  pub oldest : state.oldest_id ≡ engine.core.heap.table.first
+  pub next : state.next_id ≡ next_id engine.core.heap.statuses
+  pub oldest : state.oldest_id ≡ engine.core.heap.statuses.first
   -- so many ids can be given, one after another, and no more
-  pub left : (n : ℕ) → CanGive engine.core.heap.table n ↔ (n ≤ state.ids_left)
+  pub left : (n : ℕ) → CanGive engine.core.heap.statuses n ↔ (n ≤ state.ids_left)
   pub pages : state.pages ≡ length engine.core.heap.pages.pages
   pub sessions : state.open_sessions ≡ open_bits engine.core.sessions
   pub entries : state.entries ≡ map (entry_count engine.core) (0 ∷ 1 ∷ 2 ∷ 3 ∷ 4 ∷ [])

@@ -1,7 +1,7 @@
 //! Cursors, and the rows that they hand out.
 
 ghost use Rattle.std.specs.Prelude.{◌≡◌, pos};
-ghost use Rattle.refinement.specs.declared.step.Step.TheVariants as step;
+ghost use Rattle.calls.specs.declared.step.Step.TheVariants as step;
 ghost use Rattle.sandpiper_c.specs.Calls.{Does};
 ghost use Rattle.sandpiper_c.specs.NextRows.{status_of_answer, count_of, HandsToPlaces, HandsOutNext};
 

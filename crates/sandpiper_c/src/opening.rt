@@ -1,8 +1,8 @@
 //! Making an engine, and ending it.
 
 ghost use Rattle.std.specs.Prelude.{◌≡◌, IfOk, IfErr};
-ghost use Rattle.refinement.specs.declared.reply.Reply.TheVariants as reply;
-ghost use Rattle.refinement.specs.Words.{FirstFault};
+ghost use Rattle.calls.specs.declared.reply.Reply.TheVariants as reply;
+ghost use Rattle.calls.specs.Words.{FirstFault};
 ghost use Rattle.vacuum_engine.specs.New.{IsNewEngine};
 ghost use Rattle.sandpiper_c.specs.Calls.{settings_of, OpensTable, ClosesTable};
 

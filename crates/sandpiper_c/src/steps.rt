@@ -1,7 +1,7 @@
 //! The steps of sessions that write no row and use no cursor.
 
-ghost use Rattle.refinement.specs.declared.step.Step.TheVariants as step;
-ghost use Rattle.sandpiper_c.specs.Calls.{Does, Stepped, ShowsRow, ShowsFound, row_found_in};
+ghost use Rattle.calls.specs.declared.step.Step.TheVariants as step;
+ghost use Rattle.sandpiper_c.specs.Calls.{Does, TakesStep, ShowsRow, ShowsFound, row_found_in};
 
 use crate::database::Sandpiper;
 use crate::held::Held;
@@ -12,7 +12,7 @@ use std::alloc::Global;
 
 /// Does the step on what is held. All that a step answers goes through here.
 pub(crate) fn held_step(held: &mut Held, step: Step) -> u32
-    ensures { Stepped held.old step result held.new }
+    ensures { TakesStep held.old step result held.new }
 {
     held.engine.step_into(step, &mut held.reply);
     CallStatus::of_reply(&held.reply).number()

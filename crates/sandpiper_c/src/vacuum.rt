@@ -1,7 +1,7 @@
 //! The steps of a vacuum.
 
 ghost use Rattle.std.specs.Prelude.{◌≡◌};
-ghost use Rattle.refinement.specs.declared.step.Step.TheVariants as step;
+ghost use Rattle.calls.specs.declared.step.Step.TheVariants as step;
 ghost use Rattle.sandpiper_c.specs.Calls.{Does};
 ghost use Rattle.sandpiper_c.specs.Pieces.{mode_of, shown_piece, piece_in, ShowsPiece, ShowsPieceOf};
 

@@ -1,6 +1,6 @@
 //! The steps that write a row.
 
-ghost use Rattle.refinement.specs.declared.step.Step.TheVariants as step;
+ghost use Rattle.calls.specs.declared.step.Step.TheVariants as step;
 ghost use Rattle.sandpiper_c.specs.Calls.{Writes};
 
 use crate::database::Sandpiper;

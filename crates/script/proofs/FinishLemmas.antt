@@ -1,6 +1,9 @@
 -- A vacuum that is finished goes on by one step.
 use Rattle.std.proofs.Common.{◌≡◌, ℕ, ◌+◌, ◌<◌, List, [], ◌∷◌, ◌++◌, length, refl, sym, subst, ◌∙◌, ap, arith, length-append}
-use Rattle.script_text.specs.Names.{VacuumStep, Reply, Worked, Piece}
+use Rattle.calls.specs.declared.reply.Reply.{Reply}
+use Rattle.calls.specs.declared.reply.Reply.TheVariants.{Worked}
+use Rattle.calls.specs.declared.step.Step.TheVariants as step
+use Rattle.calls.specs.declared.vacuum.Piece.{Piece}
 use Rattle.script.specs.Engine.{EngineView, EngineFollows, EngineExact, RepliesLead}
 use Rattle.script.specs.Script.{vacuum_steps, vacuum_replies, finished, Moves}
 
@@ -10,19 +13,19 @@ pub record HasWorked (from state : EngineView) (last : Reply) (count : ℕ) : Ty
   pub leads : RepliesLead from (vacuum_steps pieces) (vacuum_replies pieces last) state
   pub count_is : count ≡ length pieces + 1
 
-pub HasWorked-first : (from state : EngineView) (reply : Reply) → EngineFollows from VacuumStep reply state → EngineExact from VacuumStep reply state → HasWorked from state reply 1
+pub HasWorked-first : (from state : EngineView) (reply : Reply) → EngineFollows from step.VacuumStep reply state → EngineExact from step.VacuumStep reply state → HasWorked from state reply 1
 HasWorked-first from state reply follows exact = record { pieces = []; leads = (state, follows, exact, refl); count_is = refl }
 
 Leads-push : (from : EngineView) (pieces : List Piece) (mid : EngineView) (piece : Piece) (reply : Reply) (new : EngineView) → RepliesLead from (vacuum_steps pieces) (vacuum_replies pieces (Worked piece)) mid
-    → EngineFollows mid VacuumStep reply new → EngineExact mid VacuumStep reply new → RepliesLead from (vacuum_steps (pieces ++ piece ∷ [])) (vacuum_replies (pieces ++ piece ∷ []) reply) new
+    → EngineFollows mid step.VacuumStep reply new → EngineExact mid step.VacuumStep reply new → RepliesLead from (vacuum_steps (pieces ++ piece ∷ [])) (vacuum_replies (pieces ++ piece ∷ []) reply) new
 Leads-push from [] mid piece reply new led follows exact = (
   led.0,
   led.1,
   led.2,
   (
     new,
-    subst (λ (st : EngineView). EngineFollows st VacuumStep reply new) (sym led.3) follows,
-    subst (λ (st : EngineView). EngineExact st VacuumStep reply new) (sym led.3) exact,
+    subst (λ (st : EngineView). EngineFollows st step.VacuumStep reply new) (sym led.3) follows,
+    subst (λ (st : EngineView). EngineExact st step.VacuumStep reply new) (sym led.3) exact,
     refl,
   ),
 )
@@ -30,7 +33,7 @@ Leads-push from (p ∷ pieces) mid piece reply new led follows exact =
     (led.0, led.1, led.2, Leads-push led.0 pieces mid piece reply new led.3 follows exact)
 
 pub HasWorked-more : (from mid state : EngineView) (piece : Piece) (last reply : Reply) (count : ℕ) → HasWorked from mid last count → last ≡ Worked piece
-    → EngineFollows mid VacuumStep reply state → EngineExact mid VacuumStep reply state → HasWorked from state reply (count + 1)
+    → EngineFollows mid step.VacuumStep reply state → EngineExact mid step.VacuumStep reply state → HasWorked from state reply (count + 1)
 HasWorked-more from mid state piece last reply count h is follows exact =
     let led = subst (λ (r : Reply). RepliesLead from (vacuum_steps h.pieces) (vacuum_replies h.pieces r) mid) is h.leads in
     record {

@@ -5,7 +5,8 @@ use Rattle.std.specs.List.{AllByRecursion}
 use Rattle.std.proofs.lemmas.Option.{IfSome_then}
 use Rattle.std.proofs.lemmas.List.{append-nil}
 use Rattle.std.specs.Io.KnownBytes.{Appends}
-use Rattle.script_text.specs.Names.{Settings, AreSettings}
+use Rattle.calls.specs.Words.{AreSettings}
+use Rattle.calls.specs.declared.settings.Settings.{Settings}
 use Rattle.script.specs.Engine.{EngineView, IsNewEngine, beginning, SettingsFault, FirstFault, MaxPages, StopAge, FreezeMinAge, FirstXid, DeadLimit, NoMemoryForSettings}
 use Rattle.script_text.specs.Grammar.{IsAllowed, SettingsFit, heading, with_feed}
 use Rattle.script.specs.Pieces.{TakesText, GivesText}

@@ -6,13 +6,13 @@ use Rattle.std.proofs.lemmas.List.{append-nil, length-take-le}
 use Rattle.std.proofs.lemmas.Grind.{flat_map-append}
 use Rattle.std.specs.Io.KnownBytes.{Appends}
 use Rattle.script.specs.Engine.{World, EngineView, next, IsRun, after, EngineAgrees}
-use Rattle.script_text.specs.Grammar.{IsAllowed, Fits, spelling, with_feed}
+use Rattle.script_text.specs.Grammar.{IsAllowed, LineFits, spelling, with_feed}
 use Rattle.script.specs.Pieces.{TakesText, GivesText, HasNoLine}
 use Rattle.script.specs.Script.{Event, did, finished, vacuum_steps, vacuum_replies, showed_ids, showed_page, showed_entries, line_of, answer_of, steps_of, replies_of, lines_of, answers_of, Moves, EventsLead, IsBadLine, WritesBeginning}
 use Rattle.script.specs.Refusals.{Refusals, IsRefused, IsCaused}
 use Rattle.script.specs.Steps.{EndsLines, Advance, Uses, DoesLine}
-use Rattle.refinement.specs.declared.step.Step.{Step}
-use Rattle.refinement.specs.declared.reply.Reply.{Reply}
+use Rattle.calls.specs.declared.step.Step.{Step}
+use Rattle.calls.specs.declared.reply.Reply.{Reply}
 use Rattle.session_core.proofs.Running.{Leads-run as Replies-run}
 use Rattle.script_text.specs.declared.line.Line.{Line}
 use Rattle.script.specs.declared.fault.ShellFault.{ShellFault}
@@ -169,7 +169,7 @@ bad_from_none p rest h = record {
   bad = λ l more allowed e. no_text p rest (spelling l) more h (Free-spelling l allowed.fits) allowed.short e;
 }
 
-pub bad_from_line : (p rest : List ℕ) (n : ℕ) → position (λ b. b == 10) p ≡ Some n → ((l : Line) → Fits l → take n p ≡ spelling l → ⊥) → IsBadLine (p ++ rest)
+pub bad_from_line : (p rest : List ℕ) (n : ℕ) → position (λ b. b == 10) p ≡ Some n → ((l : Line) → LineFits l → take n p ≡ spelling l → ⊥) → IsBadLine (p ++ rest)
 bad_from_line p rest n at h =
     let f = position_found 10 p n at in
     record {

@@ -3,7 +3,14 @@ use Rattle.std.specs.Prelude.{◌≡◌, ℕ, ◌+◌, ◌<◌, ◌≤◌, ◌�
 use Rattle.std.specs.Option.{option_map}
 use Rattle.std.specs.List.{flat_map, AllByRecursion}
 use Rattle.std.specs.Io.KnownBytes.{Appends}
-use Rattle.script_text.specs.Names.{Settings, AreSettings, Step, VacuumStep, Reply, Worked, Piece, Entry}
+use Rattle.calls.specs.Words.{AreSettings}
+use Rattle.calls.specs.declared.reply.Reply.{Reply}
+use Rattle.calls.specs.declared.reply.Reply.TheVariants as reply
+use Rattle.calls.specs.declared.settings.Settings.{Settings}
+use Rattle.calls.specs.declared.step.Step.{Step}
+use Rattle.calls.specs.declared.step.Step.TheVariants as step
+use Rattle.calls.specs.declared.vacuum.Piece.{Piece}
+use Rattle.index_nodes.specs.declared.entry.Entry.{Entry}
 use Rattle.script.specs.Engine.{EngineView, IsNewEngine, EngineFollows, EngineExact, RepliesLead, beginning, engine_index, bits_of, mark_on, next_id, IsRun}
 use Rattle.script.specs.Pieces.{GivesText}
 use Rattle.script_text.specs.Grammar.{heading, spelling, with_feed, IsAllowed}
@@ -40,10 +47,10 @@ answer_of (showed_entries i entries) = index_text i entries
 
 -- a step of the vacuum for each of these pieces, and one more
 abbrev pub vacuum_steps : List Piece → List Step
-vacuum_steps pieces = map (λ piece. VacuumStep) pieces ++ VacuumStep ∷ []
+vacuum_steps pieces = map (λ piece. step.VacuumStep) pieces ++ step.VacuumStep ∷ []
 
 abbrev pub vacuum_replies : List Piece → Reply → List Reply
-vacuum_replies pieces last = map (λ piece. Worked piece) pieces ++ last ∷ []
+vacuum_replies pieces last = map (λ piece. reply.Worked piece) pieces ++ last ∷ []
 
 -- looks are no steps of the history
 abbrev pub steps_in : Event → List Step
@@ -80,7 +87,7 @@ shown_of st p = option_map (λ page. record {
 -- the steps of a vacuum end at the first that did no work, of 2^64 - 1 at most
 abbrev pub EndsVacuum : List Piece → Reply → Type 0
 EndsVacuum pieces last = (length pieces < 18446744073709551615)
-    × ((piece : Piece) → last ≡ Worked piece → length pieces + 1 ≡ 18446744073709551615)
+    × ((piece : Piece) → last ≡ reply.Worked piece → length pieces + 1 ≡ 18446744073709551615)
 
 -- a step leads the engine on, as the history allows, and in what that leaves open exactly, and so
 -- does each step that finishes a vacuum; a look shows what is there

@@ -3,14 +3,14 @@ use Rattle.std.specs.Prelude.{◌≡◌, ℕ, ◌+◌, List, [], ◌++◌, lengt
 use Rattle.std.specs.List.{AllByRecursion}
 use Rattle.std.specs.Io.KnownBytes.{Appends, Consumes}
 use Rattle.script.specs.Engine.{EngineView}
-use Rattle.script_text.specs.Grammar.{IsAllowed, Fits, spelling, with_feed}
+use Rattle.script_text.specs.Grammar.{IsAllowed, LineFits, spelling, with_feed}
 use Rattle.script.specs.Script.{Event, line_of, answer_of, lines_of, answers_of, Moves, EventsLead, IsBadLine, IsBadHeading, WritesBeginning}
 use Rattle.script.specs.declared.fault.ShellFault.{ShellFault}
 use Rattle.script.specs.declared.fault.ShellFault.TheVariants.{BadLine, TooManyLines}
 
 -- what a line asks for was done, and its answer is added
 abbrev pub DoesLine : List ℕ → EngineView → EngineView → List ℕ → List ℕ → Type 0
-DoesLine text from to old new = (e : Event) × Fits (line_of e) × (text ≡ spelling (line_of e)) × Moves from e to × (new ≡ old ++ with_feed (answer_of e))
+DoesLine text from to old new = (e : Event) × LineFits (line_of e) × (text ≡ spelling (line_of e)) × Moves from e to × (new ≡ old ++ with_feed (answer_of e))
 
 -- how the lines end: all are read, the next is bad, or a fault comes
 abbrev pub EndsLines : Result (Unit {0}) ShellFault → ℕ → List ℕ → Option (List ℕ) → Option (List ℕ) → List ℕ → Type 0

@@ -1,7 +1,7 @@
 //! A vacuum that is finished by one line.
 
 ghost use Rattle.std.specs.Prelude.{List};
-ghost use Rattle.script_text.specs.Names.{Piece};
+ghost use Rattle.calls.specs.declared.vacuum.Piece.{Piece};
 ghost use Rattle.script.specs.Script.{finished, Moves};
 
 use session_core::{Engine, Reply, Step};

@@ -5,7 +5,7 @@ ghost use Rattle.std.specs.Io.KnownBytes.{ReadConsumes, WriteAppends};
 ghost use Rattle.std.specs.Io.{ReadsAtMost, WritesAtMost};
 ghost use Rattle.std.specs.IoError.{error_kind};
 ghost use Rattle.std.specs.declared.io.ErrorKind.TheVariants.{Interrupted};
-ghost use Rattle.script_text.specs.Names.{AreSettings};
+ghost use Rattle.calls.specs.Words.{AreSettings};
 ghost use Rattle.script.specs.Engine.{IsNewEngine};
 ghost use Rattle.script.specs.Refusals.{IsOneMore, IsRefused};
 
@@ -44,10 +44,10 @@ impl<R, W> Model for IoLog<R, W> {
     ghost Value = { Refusals };
 
     ghost view = { λ w. record {
-        input = w.input;
-        output = w.output;
-        interrupted = w.interrupted;
-        memory = w.memory;
+      input = w.input;
+      output = w.output;
+      interrupted = w.interrupted;
+      memory = w.memory;
     } };
 }
 

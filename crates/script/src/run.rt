@@ -3,9 +3,10 @@
 ghost use Rattle.std.specs.Prelude.{◌≡◌, ◌<◌, ◌++◌, List, ℕ, [], length, IfSome, IfOk, IfErr, OnOk, IsErrAnd, ◌⊎◌};
 ghost use Rattle.std.specs.Bool.{OnTrue, OnFalse};
 ghost use Rattle.std.specs.Io.KnownBytes.{Appends};
-ghost use Rattle.script_text.specs.Names.{Settings, AreSettings};
+ghost use Rattle.calls.specs.Words.{AreSettings};
+ghost use Rattle.calls.specs.declared.settings.Settings.{Settings};
 ghost use Rattle.script.specs.Engine.{IsNewEngine};
-ghost use Rattle.script_text.specs.Grammar.{Fits, spelling, heading, with_feed};
+ghost use Rattle.script_text.specs.Grammar.{LineFits, spelling, heading, with_feed};
 ghost use Rattle.script.specs.Script.{ScriptOutcome, WritesBeginning};
 ghost use Rattle.script.specs.Refusals.{IsRefused, IsCaused};
 ghost use Rattle.script.specs.Pieces.{TakesText, GivesText};
@@ -88,7 +89,8 @@ fn do_line(
 ) -> Result<bool, RefusedGrowth>
     ensures done { IfOk result
         (λ b. OnTrue b (DoesLine line.now engine.old engine.new text.old.items text.new.items)) }
-    ensures bad { IfOk result (λ b. OnFalse b ((l : Line) → Fits l → line.now ≡ spelling l → ⊥)) }
+    ensures bad { IfOk result
+        (λ b. OnFalse b ((l : Line) → LineFits l → line.now ≡ spelling l → ⊥)) }
     ensures same { IfOk result (λ b. OnFalse b (text.new.items ≡ text.old.items)) }
 {
     match line_at(alloc, line)? {

@@ -6,7 +6,7 @@ use Rattle.std.proofs.lemmas.Grind.{flat_map-append}
 use Rattle.index_nodes.specs.Order.{IsAscending}
 use Rattle.index_nodes.specs.Sets.{IsLeast, IsAfter}
 use Rattle.index_nodes.proofs.LookUpLemmas.{first_in_turn, next_in_turn}
-use Rattle.script_text.specs.Names.{Entry}
+use Rattle.index_nodes.specs.declared.entry.Entry.{Entry}
 use Rattle.script_text.specs.Answers.{entry_text, entry_lines}
 
 pub entry_lines-more : (xs : List Entry) (i : ℕ) (e : Entry) → slice_get xs i ≡ Some e → entry_lines (take (i + 1) xs) ≡ entry_lines (take i xs) ++ 10 ∷ entry_text e

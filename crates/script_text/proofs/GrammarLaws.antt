@@ -11,10 +11,12 @@ use Rattle.std.proofs.lemmas.Bool.Decides.{nat_tests}
 use Rattle.std.proofs.lemmas.Slice.Eq.{bytes_eq-Decides}
 use Rattle.std.proofs.lemmas.Bool.{lt-leb, cases_lt, and_right}
 use Rattle.std.proofs.lemmas.List.{nil_from_length, append-nil}
-use Rattle.script_text.specs.Names.{Begin, Get, Insert, Update, Delete, Savepoint, RollbackTo, Release, Commit, Abort, OpenIndex, OpenHeap, Next, Close, Prune, VacuumBegin, VacuumStep, VacuumCancel, Normal, Aggressive, RowText}
+use Rattle.calls.specs.Words.{RowToWrite}
+use Rattle.calls.specs.declared.step.Step.TheVariants as step
+use Rattle.calls.specs.declared.vacuum.Mode.TheVariants as mode
 use Rattle.script_text.specs.declared.line.Line.{Line}
 use Rattle.script_text.specs.declared.line.Line.TheVariants.{Do, VacuumFinish, Ids, Page, Entries}
-use Rattle.script_text.specs.Grammar.{Fits, Spells, KeyFits, RowFits, RangeFits, spelling, spaced, hex_text, body_text, row_text, key_words, row_words, range_words}
+use Rattle.script_text.specs.Grammar.{LineFits, Spells, KeyFits, RowFits, RangeFits, spelling, spaced, hex_text, body_text, row_text, key_words, row_words, range_words}
 use Rattle.script_text.specs.Reading.{Verbs, usual_verbs, other_verbs, vacuum_line_of, line_in, line_at, cut, number_of, number_then, column_then, bound_of, bound_then, nibble_of, pair_and, pairs_of, body_of, row_words_of, key_words_of, count_words_of, range_words_of}
 use Rattle.script_text.proofs.ByteLemmas.{Free, Free-append, free_text}
 use Rattle.script_text.proofs.NumberLaws.{guarded, bound, mapped, both_true, cut_says, cut-free, number_of_says, number_of-decimal, number_then_says, number_then-decimal, decimal_free}
@@ -172,7 +174,7 @@ regroup dk s0 s1 s2 s3 sb =
     let e0 : (s0 ++ 32 ∷ (s1 ++ 32 ∷ (s2 ++ 32 ∷ (s3 ++ [])))) ++ (32 ∷ sb) ≡ s0 ++ 32 ∷ (s1 ++ 32 ∷ (s2 ++ 32 ∷ (s3 ++ 32 ∷ sb))) = append_assoc s0 (32 ∷ (s1 ++ 32 ∷ (s2 ++ 32 ∷ (s3 ++ [])))) (32 ∷ sb) ∙ ap (λ r. s0 ++ 32 ∷ r) e1 in
     ap (λ r. dk ++ 32 ∷ r) (sym e0)
 
-row_words_of_says : (xs : List ℕ) (p : ℕ × RowText) → row_words_of xs ≡ Some p → RowFits p.0 p.1 × (xs ≡ row_words p.0 p.1)
+row_words_of_says : (xs : List ℕ) (p : ℕ × RowToWrite) → row_words_of xs ≡ Some p → RowFits p.0 p.1 × (xs ≡ row_words p.0 p.1)
 unfolding row_words_of
 row_words_of_says xs p h =
     let s = bound (number_then 255 xs) _ p h in
@@ -200,10 +202,10 @@ verb_is v w h = (bytes_eq-Decides v w).0 h
 
 -- what a verb asks for is spelled so
 abbrev pub IsSpelled : List ℕ × (List ℕ → Option Line) → Type 0
-IsSpelled verb = (rest : List ℕ) (l : Line) → verb.1 rest ≡ Some l → Fits l × (verb.0 ++ spaced rest ≡ spelling l)
+IsSpelled verb = (rest : List ℕ) (l : Line) → verb.1 rest ≡ Some l → LineFits l × (verb.0 ++ spaced rest ≡ spelling l)
 
 -- a verb and one number
-number_verb : (verb : List ℕ) (max : ℕ) (make : ℕ → Line) → max < 10 ^ 64 → ((n : ℕ) → n ≤ max → Fits (make n)) → ((n : ℕ) → verb ++ spaced (decimal n) ≡ spelling (make n))
+number_verb : (verb : List ℕ) (max : ℕ) (make : ℕ → Line) → max < 10 ^ 64 → ((n : ℕ) → n ≤ max → LineFits (make n)) → ((n : ℕ) → verb ++ spaced (decimal n) ≡ spelling (make n))
     → IsSpelled (verb, λ rest. option_map make (number_of max rest))
 number_verb verb max make small fits text rest l h =
     let m = mapped (number_of max rest) make l h in
@@ -211,33 +213,33 @@ number_verb verb max make small fits text rest l h =
     rw (← m.2) (fits m.0 says.1, ap (λ r. verb ++ spaced r) says.0 ∙ text m.0)
 
 -- a verb and several words, whose reading says what they are
-words_verb : {A : Type 0} (verb : List ℕ) (read : List ℕ → Option A) (make : A → Line) (words : A → List ℕ) → ((xs : List ℕ) (a : A) → read xs ≡ Some a → Fits (make a) × (xs ≡ words a))
+words_verb : {A : Type 0} (verb : List ℕ) (read : List ℕ → Option A) (make : A → Line) (words : A → List ℕ) → ((xs : List ℕ) (a : A) → read xs ≡ Some a → LineFits (make a) × (xs ≡ words a))
     → ((a : A) → verb ++ spaced (words a) ≡ spelling (make a)) → IsSpelled (verb, λ rest. option_map make (read rest))
 words_verb verb read make words says text rest l h =
     let m = mapped (read rest) make l h in
     let is = says rest m.0 m.1 in
     rw (← m.2) (is.0, ap (λ r. verb ++ spaced r) is.1 ∙ text m.0)
 
-get_spelled : IsSpelled (codes "get", λ rest. option_map (λ p. Do (Get p.0 p.1)) (key_words_of rest))
-get_spelled = words_verb (codes "get") key_words_of (λ p. Do (Get p.0 p.1)) (λ p. key_words p.0 p.1) key_words_of_says (λ p. refl)
+get_spelled : IsSpelled (codes "get", λ rest. option_map (λ p. Do (step.Get p.0 p.1)) (key_words_of rest))
+get_spelled = words_verb (codes "get") key_words_of (λ p. Do (step.Get p.0 p.1)) (λ p. key_words p.0 p.1) key_words_of_says (λ p. refl)
 
-delete_spelled : IsSpelled (codes "delete", λ rest. option_map (λ p. Do (Delete p.0 p.1)) (key_words_of rest))
-delete_spelled = words_verb (codes "delete") key_words_of (λ p. Do (Delete p.0 p.1)) (λ p. key_words p.0 p.1) key_words_of_says (λ p. refl)
+delete_spelled : IsSpelled (codes "delete", λ rest. option_map (λ p. Do (step.Delete p.0 p.1)) (key_words_of rest))
+delete_spelled = words_verb (codes "delete") key_words_of (λ p. Do (step.Delete p.0 p.1)) (λ p. key_words p.0 p.1) key_words_of_says (λ p. refl)
 
-insert_spelled : IsSpelled (codes "insert", λ rest. option_map (λ p. Do (Insert p.0 p.1)) (row_words_of rest))
-insert_spelled = words_verb (codes "insert") row_words_of (λ p. Do (Insert p.0 p.1)) (λ p. row_words p.0 p.1) row_words_of_says (λ p. refl)
+insert_spelled : IsSpelled (codes "insert", λ rest. option_map (λ p. Do (step.Insert p.0 p.1)) (row_words_of rest))
+insert_spelled = words_verb (codes "insert") row_words_of (λ p. Do (step.Insert p.0 p.1)) (λ p. row_words p.0 p.1) row_words_of_says (λ p. refl)
 
-update_spelled : IsSpelled (codes "update", λ rest. option_map (λ p. Do (Update p.0 p.1)) (row_words_of rest))
-update_spelled = words_verb (codes "update") row_words_of (λ p. Do (Update p.0 p.1)) (λ p. row_words p.0 p.1) row_words_of_says (λ p. refl)
+update_spelled : IsSpelled (codes "update", λ rest. option_map (λ p. Do (step.Update p.0 p.1)) (row_words_of rest))
+update_spelled = words_verb (codes "update") row_words_of (λ p. Do (step.Update p.0 p.1)) (λ p. row_words p.0 p.1) row_words_of_says (λ p. refl)
 
-next_spelled : IsSpelled (codes "next", λ rest. option_map (λ p. Do (Next p.0 p.1)) (count_words_of rest))
-next_spelled = words_verb (codes "next") count_words_of (λ p. Do (Next p.0 p.1)) (λ p. key_words p.0 p.1) count_words_of_says (λ p. refl)
+next_spelled : IsSpelled (codes "next", λ rest. option_map (λ p. Do (step.Next p.0 p.1)) (count_words_of rest))
+next_spelled = words_verb (codes "next") count_words_of (λ p. Do (step.Next p.0 p.1)) (λ p. key_words p.0 p.1) count_words_of_says (λ p. refl)
 
-openindex_spelled : IsSpelled (codes "openindex", λ rest. option_map (λ p. Do (OpenIndex p.0 p.1 p.2 p.3)) (range_words_of rest))
-openindex_spelled = words_verb (codes "openindex") range_words_of (λ p. Do (OpenIndex p.0 p.1 p.2 p.3)) (λ p. range_words p.0 p.1 p.2 p.3) range_words_of_says (λ p. refl)
+openindex_spelled : IsSpelled (codes "openindex", λ rest. option_map (λ p. Do (step.OpenIndex p.0 p.1 p.2 p.3)) (range_words_of rest))
+openindex_spelled = words_verb (codes "openindex") range_words_of (λ p. Do (step.OpenIndex p.0 p.1 p.2 p.3)) (λ p. range_words p.0 p.1 p.2 p.3) range_words_of_says (λ p. refl)
 
-prune_spelled : IsSpelled (codes "prune", λ rest. option_map (λ p. Do (Prune p)) (number_of 4294967295 rest))
-prune_spelled = number_verb (codes "prune") 4294967295 (λ p. Do (Prune p)) (omega arith) (λ p h. omega (arith, h)) (λ p. refl)
+prune_spelled : IsSpelled (codes "prune", λ rest. option_map (λ p. Do (step.Prune p)) (number_of 4294967295 rest))
+prune_spelled = number_verb (codes "prune") 4294967295 (λ p. Do (step.Prune p)) (omega arith) (λ p h. omega (arith, h)) (λ p. refl)
 
 page_spelled : IsSpelled (codes "page", λ rest. option_map (λ p. Page p) (number_of 4294967295 rest))
 page_spelled = number_verb (codes "page") 4294967295 (λ p. Page p) (omega arith) (λ p h. omega (arith, h)) (λ p. refl)
@@ -246,8 +248,8 @@ entries_spelled : IsSpelled (codes "entries", λ rest. option_map (λ i. Entries
 entries_spelled = number_verb (codes "entries") 255 (λ i. Entries i) (omega arith) (λ i h. omega (arith, h)) (λ i. refl)
 
 -- one phrase, and else what other phrases say
-phrase_says : (words phrase : List ℕ) (line : Line) (others : Option Line) (l : Line) → cond (bytes_eq words phrase) (Some line) others ≡ Some l → Fits line × (codes "vacuum" ++ spaced phrase ≡ spelling line)
-    → (others ≡ Some l → Fits l × (codes "vacuum" ++ spaced words ≡ spelling l)) → Fits l × (codes "vacuum" ++ spaced words ≡ spelling l)
+phrase_says : (words phrase : List ℕ) (line : Line) (others : Option Line) (l : Line) → cond (bytes_eq words phrase) (Some line) others ≡ Some l → LineFits line × (codes "vacuum" ++ spaced phrase ≡ spelling line)
+    → (others ≡ Some l → LineFits l × (codes "vacuum" ++ spaced words ≡ spelling l)) → LineFits l × (codes "vacuum" ++ spaced words ≡ spelling l)
 phrase_says words phrase line others l h says more = elim (chosen (bytes_eq words phrase) (Some line) others (Some l) h) [
   | inl a ↦ rw (← same_Some line l a.1) (says.0, ap (λ w. codes "vacuum" ++ spaced w) (verb_is words phrase a.0) ∙ says.1)
   | inr a ↦ more a.1
@@ -255,36 +257,36 @@ phrase_says words phrase line others l h says more = elim (chosen (bytes_eq word
 
 vacuum_spelled : IsSpelled (codes "vacuum", vacuum_line_of)
 vacuum_spelled words l h =
-    phrase_says words (codes "step") (Do VacuumStep) _ l h (tt, refl) (λ h1.
+    phrase_says words (codes "step") (Do step.VacuumStep) _ l h (tt, refl) (λ h1.
     phrase_says words (codes "finish") VacuumFinish _ l h1 (tt, refl) (λ h2.
-    phrase_says words (codes "begin normal") (Do (VacuumBegin Normal)) _ l h2 (tt, refl) (λ h3.
-    phrase_says words (codes "begin aggressive") (Do (VacuumBegin Aggressive)) _ l h3 (tt, refl) (λ h4.
-    phrase_says words (codes "cancel") (Do VacuumCancel) None l h4 (tt, refl) (λ h5.
+    phrase_says words (codes "begin normal") (Do (step.VacuumBegin mode.Normal)) _ l h2 (tt, refl) (λ h3.
+    phrase_says words (codes "begin aggressive") (Do (step.VacuumBegin mode.Aggressive)) _ l h3 (tt, refl) (λ h4.
+    phrase_says words (codes "cancel") (Do step.VacuumCancel) None l h4 (tt, refl) (λ h5.
     absurd (none-some l h5))))))
 
 -- a verb and a session alone
-session_verb : (verb : List ℕ) (make : ℕ → Line) → ((s : ℕ) → s < 2 ^ 8 → Fits (make s)) → ((s : ℕ) → verb ++ spaced (decimal s) ≡ spelling (make s))
+session_verb : (verb : List ℕ) (make : ℕ → Line) → ((s : ℕ) → s < 2 ^ 8 → LineFits (make s)) → ((s : ℕ) → verb ++ spaced (decimal s) ≡ spelling (make s))
     → IsSpelled (verb, λ rest. option_map make (number_of 255 rest))
 session_verb verb make fits text = number_verb verb 255 make (omega arith) (λ s h. fits s (omega (arith, h))) text
 
 usual_spelled : AllByRecursion IsSpelled usual_verbs
-usual_spelled = (get_spelled, (session_verb (codes "begin") (λ s. Do (Begin s)) (λ s h. h) (λ s. refl), (session_verb (codes "commit") (λ s. Do (Commit s)) (λ s h. h) (λ s. refl), (insert_spelled, (update_spelled, (delete_spelled, (next_spelled, (session_verb (codes "abort") (λ s. Do (Abort s)) (λ s h. h) (λ s. refl), tt))))))))
+usual_spelled = (get_spelled, (session_verb (codes "begin") (λ s. Do (step.Begin s)) (λ s h. h) (λ s. refl), (session_verb (codes "commit") (λ s. Do (step.Commit s)) (λ s h. h) (λ s. refl), (insert_spelled, (update_spelled, (delete_spelled, (next_spelled, (session_verb (codes "abort") (λ s. Do (step.Abort s)) (λ s h. h) (λ s. refl), tt))))))))
 
 other_spelled : AllByRecursion IsSpelled other_verbs
-other_spelled = (session_verb (codes "savepoint") (λ s. Do (Savepoint s)) (λ s h. h) (λ s. refl), (session_verb (codes "rollbackto") (λ s. Do (RollbackTo s)) (λ s h. h) (λ s. refl), (session_verb (codes "release") (λ s. Do (Release s)) (λ s h. h) (λ s. refl), (openindex_spelled, (session_verb (codes "openheap") (λ s. Do (OpenHeap s)) (λ s h. h) (λ s. refl), (session_verb (codes "close") (λ s. Do (Close s)) (λ s h. h) (λ s. refl), (prune_spelled, (vacuum_spelled, (page_spelled, (entries_spelled, tt))))))))))
+other_spelled = (session_verb (codes "savepoint") (λ s. Do (step.Savepoint s)) (λ s h. h) (λ s. refl), (session_verb (codes "rollbackto") (λ s. Do (step.RollbackTo s)) (λ s h. h) (λ s. refl), (session_verb (codes "release") (λ s. Do (step.Release s)) (λ s h. h) (λ s. refl), (openindex_spelled, (session_verb (codes "openheap") (λ s. Do (step.OpenHeap s)) (λ s h. h) (λ s. refl), (session_verb (codes "close") (λ s. Do (step.Close s)) (λ s h. h) (λ s. refl), (prune_spelled, (vacuum_spelled, (page_spelled, (entries_spelled, tt))))))))))
 
 All-append : (xs ys : Verbs) → AllByRecursion IsSpelled xs → AllByRecursion IsSpelled ys → AllByRecursion IsSpelled (xs ++ ys)
 All-append [] ys h k = k
 All-append (x ∷ xs) ys h k = (h.0, All-append xs ys h.1 k)
 
-line_in_says : (verbs : Verbs) (word rest : List ℕ) (l : Line) → AllByRecursion IsSpelled verbs → line_in verbs word rest ≡ Some l → Fits l × (word ++ spaced rest ≡ spelling l)
+line_in_says : (verbs : Verbs) (word rest : List ℕ) (l : Line) → AllByRecursion IsSpelled verbs → line_in verbs word rest ≡ Some l → LineFits l × (word ++ spaced rest ≡ spelling l)
 line_in_says [] word rest l spelled h = absurd (none-some l h)
 line_in_says (verb ∷ verbs) word rest l spelled h = elim (chosen (bytes_eq word verb.0) (verb.1 rest) (line_in verbs word rest) (Some l) h) [
   | inl a ↦ let says = spelled.0 rest l a.1 in (says.0, ap (λ w. w ++ spaced rest) (verb_is word verb.0 a.0) ∙ says.1)
   | inr a ↦ line_in_says verbs word rest l spelled.1 a.1
 ]
 
-line_at_says : (w : List ℕ) (l : Line) → line_at w ≡ Some l → Fits l × (w ≡ spelling l)
+line_at_says : (w : List ℕ) (l : Line) → line_at w ≡ Some l → LineFits l × (w ≡ spelling l)
 unfolding line_at
 line_at_says w l h = elim (chosen (bytes_eq w (codes "ids")) (Some Ids) _ (Some l) h) [
   | inl a ↦ rw (← same_Some Ids l a.1) (tt, verb_is w (codes "ids") a.0)
@@ -328,14 +330,14 @@ row_words_of-columns s k c0 c1 c2 c3 body hs hk h0 h1 h2 h3 hb =
     ap (λ r. row_words_of (decimal s ++ 32 ∷ r)) (sym (regroup (decimal k) (signed_decimal c0) (signed_decimal c1) (signed_decimal c2) (signed_decimal c3) (body_text body)))
     ∙ row_words_of-spelled s k c0 c1 c2 c3 body hs hk h0 h1 h2 h3 hb
 
-row_words_of-words : (s : ℕ) (row : RowText) → RowFits s row → row_words_of (row_words s row) ≡ Some (s, row)
+row_words_of-words : (s : ℕ) (row : RowToWrite) → RowFits s row → row_words_of (row_words s row) ≡ Some (s, row)
 row_words_of-words s row h =
     let f = four row.cols h.2 in
     let all = rw f.4 at h.3 in
     let same : record row { cols = f.0 ∷ f.1 ∷ f.2 ∷ f.3 ∷ [] } ≡ row = ap (λ (cols : List ℤ). record row { cols = cols }) (sym f.4) in
     ap (λ (cols : List ℤ). row_words_of (decimal s ++ spaced (row_text row.key cols row.body))) f.4
     ∙ row_words_of-columns s row.key f.0 f.1 f.2 f.3 row.body h.0 h.1 all.0 all.1.0 all.1.1.0 all.1.1.1.0 h.4
-    ∙ ap (λ (r : RowText). Some (s, r)) same
+    ∙ ap (λ (r : RowToWrite). Some (s, r)) same
 
 key_words_of-words : (s k : ℕ) → s < 2 ^ 8 → k < 2 ^ 64 → key_words_of (key_words s k) ≡ Some (s, k)
 unfolding key_words_of
@@ -359,41 +361,41 @@ ids_line : line_at (codes "ids") ≡ Some Ids
 unfolding line_at
 ids_line = refl
 
-line_at-spelling : (l : Line) → Fits l → line_at (spelling l) ≡ Some l
-line_at-spelling (Do (Begin s)) h =
-    with_verb (codes "begin") (decimal s) _ (free_text 32 (codes "begin") refl) refl (ap (λ (o : Option ℕ). option_map (λ s. Do (Begin s)) o) (number_of-decimal 255 s (omega arith) (omega arith)))
-line_at-spelling (Do (Get s k)) h =
-    with_verb (codes "get") (key_words s k) _ (free_text 32 (codes "get") refl) refl (ap (λ (o : Option (ℕ × ℕ)). option_map (λ p. Do (Get p.0 p.1)) o) (key_words_of-words s k h.0 h.1))
-line_at-spelling (Do (Insert s row)) h =
-    with_verb (codes "insert") (row_words s row) _ (free_text 32 (codes "insert") refl) refl (ap (λ (o : Option (ℕ × RowText)). option_map (λ p. Do (Insert p.0 p.1)) o) (row_words_of-words s row h))
-line_at-spelling (Do (Update s row)) h =
-    with_verb (codes "update") (row_words s row) _ (free_text 32 (codes "update") refl) refl (ap (λ (o : Option (ℕ × RowText)). option_map (λ p. Do (Update p.0 p.1)) o) (row_words_of-words s row h))
-line_at-spelling (Do (Delete s k)) h =
-    with_verb (codes "delete") (key_words s k) _ (free_text 32 (codes "delete") refl) refl (ap (λ (o : Option (ℕ × ℕ)). option_map (λ p. Do (Delete p.0 p.1)) o) (key_words_of-words s k h.0 h.1))
-line_at-spelling (Do (Savepoint s)) h =
-    with_verb (codes "savepoint") (decimal s) _ (free_text 32 (codes "savepoint") refl) refl (ap (λ (o : Option ℕ). option_map (λ s. Do (Savepoint s)) o) (number_of-decimal 255 s (omega arith) (omega arith)))
-line_at-spelling (Do (RollbackTo s)) h =
-    with_verb (codes "rollbackto") (decimal s) _ (free_text 32 (codes "rollbackto") refl) refl (ap (λ (o : Option ℕ). option_map (λ s. Do (RollbackTo s)) o) (number_of-decimal 255 s (omega arith) (omega arith)))
-line_at-spelling (Do (Release s)) h =
-    with_verb (codes "release") (decimal s) _ (free_text 32 (codes "release") refl) refl (ap (λ (o : Option ℕ). option_map (λ s. Do (Release s)) o) (number_of-decimal 255 s (omega arith) (omega arith)))
-line_at-spelling (Do (Commit s)) h =
-    with_verb (codes "commit") (decimal s) _ (free_text 32 (codes "commit") refl) refl (ap (λ (o : Option ℕ). option_map (λ s. Do (Commit s)) o) (number_of-decimal 255 s (omega arith) (omega arith)))
-line_at-spelling (Do (Abort s)) h =
-    with_verb (codes "abort") (decimal s) _ (free_text 32 (codes "abort") refl) refl (ap (λ (o : Option ℕ). option_map (λ s. Do (Abort s)) o) (number_of-decimal 255 s (omega arith) (omega arith)))
-line_at-spelling (Do (OpenIndex s index low high)) h =
-    with_verb (codes "openindex") (range_words s index low high) _ (free_text 32 (codes "openindex") refl) refl (ap (λ (o : Option (ℕ × ℕ × ℤ × ℤ)). option_map (λ p. Do (OpenIndex p.0 p.1 p.2 p.3)) o) (range_words_of-words s index low high h))
-line_at-spelling (Do (OpenHeap s)) h =
-    with_verb (codes "openheap") (decimal s) _ (free_text 32 (codes "openheap") refl) refl (ap (λ (o : Option ℕ). option_map (λ s. Do (OpenHeap s)) o) (number_of-decimal 255 s (omega arith) (omega arith)))
-line_at-spelling (Do (Next s n)) h =
-    with_verb (codes "next") (key_words s n) _ (free_text 32 (codes "next") refl) refl (ap (λ (o : Option (ℕ × ℕ)). option_map (λ p. Do (Next p.0 p.1)) o) (count_words_of-words s n h.0 h.1))
-line_at-spelling (Do (Close s)) h =
-    with_verb (codes "close") (decimal s) _ (free_text 32 (codes "close") refl) refl (ap (λ (o : Option ℕ). option_map (λ s. Do (Close s)) o) (number_of-decimal 255 s (omega arith) (omega arith)))
-line_at-spelling (Do (Prune p)) h =
-    with_verb (codes "prune") (decimal p) _ (free_text 32 (codes "prune") refl) refl (ap (λ (o : Option ℕ). option_map (λ p. Do (Prune p)) o) (number_of-decimal 4294967295 p (omega arith) (omega arith)))
-line_at-spelling (Do (VacuumBegin Normal)) h = with_verb (codes "vacuum") (codes "begin normal") _ (free_text 32 (codes "vacuum") refl) refl refl
-line_at-spelling (Do (VacuumBegin Aggressive)) h = with_verb (codes "vacuum") (codes "begin aggressive") _ (free_text 32 (codes "vacuum") refl) refl refl
-line_at-spelling (Do VacuumStep) h = with_verb (codes "vacuum") (codes "step") _ (free_text 32 (codes "vacuum") refl) refl refl
-line_at-spelling (Do VacuumCancel) h = with_verb (codes "vacuum") (codes "cancel") _ (free_text 32 (codes "vacuum") refl) refl refl
+line_at-spelling : (l : Line) → LineFits l → line_at (spelling l) ≡ Some l
+line_at-spelling (Do (step.Begin s)) h =
+    with_verb (codes "begin") (decimal s) _ (free_text 32 (codes "begin") refl) refl (ap (λ (o : Option ℕ). option_map (λ s. Do (step.Begin s)) o) (number_of-decimal 255 s (omega arith) (omega arith)))
+line_at-spelling (Do (step.Get s k)) h =
+    with_verb (codes "get") (key_words s k) _ (free_text 32 (codes "get") refl) refl (ap (λ (o : Option (ℕ × ℕ)). option_map (λ p. Do (step.Get p.0 p.1)) o) (key_words_of-words s k h.0 h.1))
+line_at-spelling (Do (step.Insert s row)) h =
+    with_verb (codes "insert") (row_words s row) _ (free_text 32 (codes "insert") refl) refl (ap (λ (o : Option (ℕ × RowToWrite)). option_map (λ p. Do (step.Insert p.0 p.1)) o) (row_words_of-words s row h))
+line_at-spelling (Do (step.Update s row)) h =
+    with_verb (codes "update") (row_words s row) _ (free_text 32 (codes "update") refl) refl (ap (λ (o : Option (ℕ × RowToWrite)). option_map (λ p. Do (step.Update p.0 p.1)) o) (row_words_of-words s row h))
+line_at-spelling (Do (step.Delete s k)) h =
+    with_verb (codes "delete") (key_words s k) _ (free_text 32 (codes "delete") refl) refl (ap (λ (o : Option (ℕ × ℕ)). option_map (λ p. Do (step.Delete p.0 p.1)) o) (key_words_of-words s k h.0 h.1))
+line_at-spelling (Do (step.Savepoint s)) h =
+    with_verb (codes "savepoint") (decimal s) _ (free_text 32 (codes "savepoint") refl) refl (ap (λ (o : Option ℕ). option_map (λ s. Do (step.Savepoint s)) o) (number_of-decimal 255 s (omega arith) (omega arith)))
+line_at-spelling (Do (step.RollbackTo s)) h =
+    with_verb (codes "rollbackto") (decimal s) _ (free_text 32 (codes "rollbackto") refl) refl (ap (λ (o : Option ℕ). option_map (λ s. Do (step.RollbackTo s)) o) (number_of-decimal 255 s (omega arith) (omega arith)))
+line_at-spelling (Do (step.Release s)) h =
+    with_verb (codes "release") (decimal s) _ (free_text 32 (codes "release") refl) refl (ap (λ (o : Option ℕ). option_map (λ s. Do (step.Release s)) o) (number_of-decimal 255 s (omega arith) (omega arith)))
+line_at-spelling (Do (step.Commit s)) h =
+    with_verb (codes "commit") (decimal s) _ (free_text 32 (codes "commit") refl) refl (ap (λ (o : Option ℕ). option_map (λ s. Do (step.Commit s)) o) (number_of-decimal 255 s (omega arith) (omega arith)))
+line_at-spelling (Do (step.Abort s)) h =
+    with_verb (codes "abort") (decimal s) _ (free_text 32 (codes "abort") refl) refl (ap (λ (o : Option ℕ). option_map (λ s. Do (step.Abort s)) o) (number_of-decimal 255 s (omega arith) (omega arith)))
+line_at-spelling (Do (step.OpenIndex s index low high)) h =
+    with_verb (codes "openindex") (range_words s index low high) _ (free_text 32 (codes "openindex") refl) refl (ap (λ (o : Option (ℕ × ℕ × ℤ × ℤ)). option_map (λ p. Do (step.OpenIndex p.0 p.1 p.2 p.3)) o) (range_words_of-words s index low high h))
+line_at-spelling (Do (step.OpenHeap s)) h =
+    with_verb (codes "openheap") (decimal s) _ (free_text 32 (codes "openheap") refl) refl (ap (λ (o : Option ℕ). option_map (λ s. Do (step.OpenHeap s)) o) (number_of-decimal 255 s (omega arith) (omega arith)))
+line_at-spelling (Do (step.Next s n)) h =
+    with_verb (codes "next") (key_words s n) _ (free_text 32 (codes "next") refl) refl (ap (λ (o : Option (ℕ × ℕ)). option_map (λ p. Do (step.Next p.0 p.1)) o) (count_words_of-words s n h.0 h.1))
+line_at-spelling (Do (step.Close s)) h =
+    with_verb (codes "close") (decimal s) _ (free_text 32 (codes "close") refl) refl (ap (λ (o : Option ℕ). option_map (λ s. Do (step.Close s)) o) (number_of-decimal 255 s (omega arith) (omega arith)))
+line_at-spelling (Do (step.Prune p)) h =
+    with_verb (codes "prune") (decimal p) _ (free_text 32 (codes "prune") refl) refl (ap (λ (o : Option ℕ). option_map (λ p. Do (step.Prune p)) o) (number_of-decimal 4294967295 p (omega arith) (omega arith)))
+line_at-spelling (Do (step.VacuumBegin mode.Normal)) h = with_verb (codes "vacuum") (codes "begin normal") _ (free_text 32 (codes "vacuum") refl) refl refl
+line_at-spelling (Do (step.VacuumBegin mode.Aggressive)) h = with_verb (codes "vacuum") (codes "begin aggressive") _ (free_text 32 (codes "vacuum") refl) refl refl
+line_at-spelling (Do step.VacuumStep) h = with_verb (codes "vacuum") (codes "step") _ (free_text 32 (codes "vacuum") refl) refl refl
+line_at-spelling (Do step.VacuumCancel) h = with_verb (codes "vacuum") (codes "cancel") _ (free_text 32 (codes "vacuum") refl) refl refl
 line_at-spelling VacuumFinish h = with_verb (codes "vacuum") (codes "finish") _ (free_text 32 (codes "vacuum") refl) refl refl
 line_at-spelling Ids h = ids_line
 line_at-spelling (Page p) h =
@@ -434,7 +436,7 @@ body_free (b ∷ bs) h = hex_free (b ∷ bs) h
 one_free : (n : ℕ) → n < 2 ^ 64 → Free 10 (spaced (decimal n))
 one_free n h = (refl, decimal_free 10 n (omega arith) (omega arith))
 
-row_free : (row : RowText) → row.key < 2 ^ 64 → AllByRecursion (λ c. FitsSigned w64 c) row.cols → AllByRecursion (λ b. b < 2 ^ 8) row.body → Free 10 (row_text row.key row.cols row.body)
+row_free : (row : RowToWrite) → row.key < 2 ^ 64 → AllByRecursion (λ c. FitsSigned w64 c) row.cols → AllByRecursion (λ b. b < 2 ^ 8) row.body → Free 10 (row_text row.key row.cols row.body)
 row_free row k cols body = Free-append 10 (decimal row.key) _ (decimal_free 10 row.key (omega arith) (omega (arith, k))) (Free-append 10 _ (spaced (body_text row.body)) (columns_free row.cols cols) (refl, body_free row.body body))
 
 key_words_free : (s k : ℕ) → KeyFits s k → Free 10 (spaced (key_words s k))
@@ -450,31 +452,31 @@ range_words_free s index low high h = (
   ),
 )
 
-row_words_free : (s : ℕ) (row : RowText) → RowFits s row → Free 10 (spaced (row_words s row))
+row_words_free : (s : ℕ) (row : RowToWrite) → RowFits s row → Free 10 (spaced (row_words s row))
 row_words_free s row h =
     (refl, Free-append 10 (decimal s) (spaced (row_text row.key row.cols row.body)) (decimal_free 10 s (omega arith) (omega (arith, h.0))) (refl, row_free row h.1 h.3 h.4))
 
 -- no line feed is in a line's text
-pub Free-spelling : (l : Line) → Fits l → Free 10 (spelling l)
-Free-spelling (Do (Begin s)) h = Free-append 10 (codes "begin") (spaced (decimal s)) (free_text 10 (codes "begin") refl) (one_free s (omega arith))
-Free-spelling (Do (Get s k)) h = Free-append 10 (codes "get") (spaced (key_words s k)) (free_text 10 (codes "get") refl) (key_words_free s k h)
-Free-spelling (Do (Insert s row)) h = Free-append 10 (codes "insert") (spaced (row_words s row)) (free_text 10 (codes "insert") refl) (row_words_free s row h)
-Free-spelling (Do (Update s row)) h = Free-append 10 (codes "update") (spaced (row_words s row)) (free_text 10 (codes "update") refl) (row_words_free s row h)
-Free-spelling (Do (Delete s k)) h = Free-append 10 (codes "delete") (spaced (key_words s k)) (free_text 10 (codes "delete") refl) (key_words_free s k h)
-Free-spelling (Do (Savepoint s)) h = Free-append 10 (codes "savepoint") (spaced (decimal s)) (free_text 10 (codes "savepoint") refl) (one_free s (omega arith))
-Free-spelling (Do (RollbackTo s)) h = Free-append 10 (codes "rollbackto") (spaced (decimal s)) (free_text 10 (codes "rollbackto") refl) (one_free s (omega arith))
-Free-spelling (Do (Release s)) h = Free-append 10 (codes "release") (spaced (decimal s)) (free_text 10 (codes "release") refl) (one_free s (omega arith))
-Free-spelling (Do (Commit s)) h = Free-append 10 (codes "commit") (spaced (decimal s)) (free_text 10 (codes "commit") refl) (one_free s (omega arith))
-Free-spelling (Do (Abort s)) h = Free-append 10 (codes "abort") (spaced (decimal s)) (free_text 10 (codes "abort") refl) (one_free s (omega arith))
-Free-spelling (Do (OpenIndex s index low high)) h = Free-append 10 (codes "openindex") (spaced (range_words s index low high)) (free_text 10 (codes "openindex") refl) (range_words_free s index low high h)
-Free-spelling (Do (OpenHeap s)) h = Free-append 10 (codes "openheap") (spaced (decimal s)) (free_text 10 (codes "openheap") refl) (one_free s (omega arith))
-Free-spelling (Do (Next s n)) h = Free-append 10 (codes "next") (spaced (key_words s n)) (free_text 10 (codes "next") refl) (key_words_free s n (h.0, omega (arith, h.1)))
-Free-spelling (Do (Close s)) h = Free-append 10 (codes "close") (spaced (decimal s)) (free_text 10 (codes "close") refl) (one_free s (omega arith))
-Free-spelling (Do (Prune p)) h = Free-append 10 (codes "prune") (spaced (decimal p)) (free_text 10 (codes "prune") refl) (one_free p (omega arith))
-Free-spelling (Do (VacuumBegin Normal)) h = free_text 10 (codes "vacuum begin normal") refl
-Free-spelling (Do (VacuumBegin Aggressive)) h = free_text 10 (codes "vacuum begin aggressive") refl
-Free-spelling (Do VacuumStep) h = free_text 10 (codes "vacuum step") refl
-Free-spelling (Do VacuumCancel) h = free_text 10 (codes "vacuum cancel") refl
+pub Free-spelling : (l : Line) → LineFits l → Free 10 (spelling l)
+Free-spelling (Do (step.Begin s)) h = Free-append 10 (codes "begin") (spaced (decimal s)) (free_text 10 (codes "begin") refl) (one_free s (omega arith))
+Free-spelling (Do (step.Get s k)) h = Free-append 10 (codes "get") (spaced (key_words s k)) (free_text 10 (codes "get") refl) (key_words_free s k h)
+Free-spelling (Do (step.Insert s row)) h = Free-append 10 (codes "insert") (spaced (row_words s row)) (free_text 10 (codes "insert") refl) (row_words_free s row h)
+Free-spelling (Do (step.Update s row)) h = Free-append 10 (codes "update") (spaced (row_words s row)) (free_text 10 (codes "update") refl) (row_words_free s row h)
+Free-spelling (Do (step.Delete s k)) h = Free-append 10 (codes "delete") (spaced (key_words s k)) (free_text 10 (codes "delete") refl) (key_words_free s k h)
+Free-spelling (Do (step.Savepoint s)) h = Free-append 10 (codes "savepoint") (spaced (decimal s)) (free_text 10 (codes "savepoint") refl) (one_free s (omega arith))
+Free-spelling (Do (step.RollbackTo s)) h = Free-append 10 (codes "rollbackto") (spaced (decimal s)) (free_text 10 (codes "rollbackto") refl) (one_free s (omega arith))
+Free-spelling (Do (step.Release s)) h = Free-append 10 (codes "release") (spaced (decimal s)) (free_text 10 (codes "release") refl) (one_free s (omega arith))
+Free-spelling (Do (step.Commit s)) h = Free-append 10 (codes "commit") (spaced (decimal s)) (free_text 10 (codes "commit") refl) (one_free s (omega arith))
+Free-spelling (Do (step.Abort s)) h = Free-append 10 (codes "abort") (spaced (decimal s)) (free_text 10 (codes "abort") refl) (one_free s (omega arith))
+Free-spelling (Do (step.OpenIndex s index low high)) h = Free-append 10 (codes "openindex") (spaced (range_words s index low high)) (free_text 10 (codes "openindex") refl) (range_words_free s index low high h)
+Free-spelling (Do (step.OpenHeap s)) h = Free-append 10 (codes "openheap") (spaced (decimal s)) (free_text 10 (codes "openheap") refl) (one_free s (omega arith))
+Free-spelling (Do (step.Next s n)) h = Free-append 10 (codes "next") (spaced (key_words s n)) (free_text 10 (codes "next") refl) (key_words_free s n (h.0, omega (arith, h.1)))
+Free-spelling (Do (step.Close s)) h = Free-append 10 (codes "close") (spaced (decimal s)) (free_text 10 (codes "close") refl) (one_free s (omega arith))
+Free-spelling (Do (step.Prune p)) h = Free-append 10 (codes "prune") (spaced (decimal p)) (free_text 10 (codes "prune") refl) (one_free p (omega arith))
+Free-spelling (Do (step.VacuumBegin mode.Normal)) h = free_text 10 (codes "vacuum begin normal") refl
+Free-spelling (Do (step.VacuumBegin mode.Aggressive)) h = free_text 10 (codes "vacuum begin aggressive") refl
+Free-spelling (Do step.VacuumStep) h = free_text 10 (codes "vacuum step") refl
+Free-spelling (Do step.VacuumCancel) h = free_text 10 (codes "vacuum cancel") refl
 Free-spelling VacuumFinish h = free_text 10 (codes "vacuum finish") refl
 Free-spelling Ids h = (refl, (refl, (refl, tt)))
 Free-spelling (Page p) h = Free-append 10 (codes "page") (spaced (decimal p)) (free_text 10 (codes "page") refl) (one_free p (omega arith))

@@ -5,7 +5,8 @@ use Rattle.std.specs.Str.{bytes_eq}
 use Rattle.std.specs.Fmt.{decimal}
 use Rattle.std.proofs.lemmas.Option.{none-some, same_Some}
 use Rattle.std.proofs.lemmas.Bool.Decides.{nat_tests}
-use Rattle.script_text.specs.Names.{Settings, AreSettings}
+use Rattle.calls.specs.Words.{AreSettings}
+use Rattle.calls.specs.declared.settings.Settings.{Settings}
 use Rattle.script_text.specs.Grammar.{heading, spaced, flag_text, SettingsFit, SpellsSettings}
 use Rattle.script_text.specs.Reading.{cut, number_then, flag_of, flags4_of, heading_of, settings_at}
 use Rattle.script_text.proofs.ByteLemmas.{Free, Free-append}

@@ -6,32 +6,38 @@ use Rattle.tuple_header.specs.declared.version.Row.{Row}
 use Rattle.page_slots.specs.declared.slot.Slot.{Slot}
 use Rattle.page_slots.specs.declared.slot.Slot.TheVariants.{Unused, Normal, Redirect, Dead}
 use Rattle.page_slots.specs.Slots.{slot_at}
-use Rattle.script_text.specs.Names.{Reply, Done, Found, Committed, RolledBack, Rows, End, Worked, Ended, Refused, Piece, Heap, Index, Free, Refusal, NotOpen, AlreadyOpen, Failed, AlreadyThere, NotThere, Conflict, Busy, CursorOpen, NoCursor, TooDeep, NoSavepoint, TooLarge, NoRoom, NeedsFreeze, NoMemory, VacuumRunning, NoVacuum, NoSuchPage, NoSuchIndex, NoSuchSession, BadBounds, Entry}
+use Rattle.calls.specs.declared.reply.Refusal.{Refusal}
+use Rattle.calls.specs.declared.reply.Refusal.TheVariants as refusal
+use Rattle.calls.specs.declared.reply.Reply.{Reply}
+use Rattle.calls.specs.declared.reply.Reply.TheVariants as reply
+use Rattle.calls.specs.declared.vacuum.Piece.{Piece}
+use Rattle.calls.specs.declared.vacuum.Piece.TheVariants as piece
+use Rattle.index_nodes.specs.declared.entry.Entry.{Entry}
 use Rattle.script_text.specs.Grammar.{spaced, row_text}
 
 -- the number and the name of a refusal
 abbrev pub refusal_text : Refusal → List ℕ
-refusal_text NotOpen = codes "1 NotOpen"
-refusal_text AlreadyOpen = codes "2 AlreadyOpen"
-refusal_text Failed = codes "3 Failed"
-refusal_text AlreadyThere = codes "4 AlreadyThere"
-refusal_text NotThere = codes "5 NotThere"
-refusal_text Conflict = codes "6 Conflict"
-refusal_text (Busy s) = codes "7 Busy" ++ spaced (decimal s)
-refusal_text CursorOpen = codes "9 CursorOpen"
-refusal_text NoCursor = codes "10 NoCursor"
-refusal_text TooDeep = codes "11 TooDeep"
-refusal_text NoSavepoint = codes "12 NoSavepoint"
-refusal_text TooLarge = codes "13 TooLarge"
-refusal_text NoRoom = codes "14 NoRoom"
-refusal_text NeedsFreeze = codes "15 NeedsFreeze"
-refusal_text NoMemory = codes "16 NoMemory"
-refusal_text VacuumRunning = codes "17 VacuumRunning"
-refusal_text NoVacuum = codes "18 NoVacuum"
-refusal_text NoSuchPage = codes "19 NoSuchPage"
-refusal_text NoSuchIndex = codes "20 NoSuchIndex"
-refusal_text NoSuchSession = codes "23 NoSuchSession"
-refusal_text BadBounds = codes "24 BadBounds"
+refusal_text refusal.NotOpen = codes "1 NotOpen"
+refusal_text refusal.AlreadyOpen = codes "2 AlreadyOpen"
+refusal_text refusal.Failed = codes "3 Failed"
+refusal_text refusal.AlreadyThere = codes "4 AlreadyThere"
+refusal_text refusal.NotThere = codes "5 NotThere"
+refusal_text refusal.Conflict = codes "6 Conflict"
+refusal_text (refusal.Busy s) = codes "7 Busy" ++ spaced (decimal s)
+refusal_text refusal.CursorOpen = codes "9 CursorOpen"
+refusal_text refusal.NoCursor = codes "10 NoCursor"
+refusal_text refusal.TooDeep = codes "11 TooDeep"
+refusal_text refusal.NoSavepoint = codes "12 NoSavepoint"
+refusal_text refusal.TooLarge = codes "13 TooLarge"
+refusal_text refusal.NoRoom = codes "14 NoRoom"
+refusal_text refusal.NeedsFreeze = codes "15 NeedsFreeze"
+refusal_text refusal.NoMemory = codes "16 NoMemory"
+refusal_text refusal.VacuumRunning = codes "17 VacuumRunning"
+refusal_text refusal.NoVacuum = codes "18 NoVacuum"
+refusal_text refusal.NoSuchPage = codes "19 NoSuchPage"
+refusal_text refusal.NoSuchIndex = codes "20 NoSuchIndex"
+refusal_text refusal.NoSuchSession = codes "23 NoSuchSession"
+refusal_text refusal.BadBounds = codes "24 BadBounds"
 
 -- words, and a number behind them
 unfoldable pub labelled : List ℕ → ℕ → List ℕ
@@ -48,22 +54,22 @@ row_lines rows = flat_map (λ row. 10 ∷ found_text row) rows
 -- what a step of a vacuum did: the page that it visited, the index that it went through a piece of,
 -- or the page whose collected slots it freed
 abbrev pub piece_text : Piece → List ℕ
-piece_text (Heap p) = labelled (codes "heap") p
-piece_text (Index i) = labelled (codes "index") i
-piece_text (Free p) = labelled (codes "free") p
+piece_text (piece.Heap p) = labelled (codes "heap") p
+piece_text (piece.Index i) = labelled (codes "index") i
+piece_text (piece.Free p) = labelled (codes "free") p
 
 -- what is written for a reply
 abbrev pub reply_text : Reply → List ℕ
-reply_text Done = codes "ok"
-reply_text (Found None) = codes "none"
-reply_text (Found (Some row)) = found_text row
-reply_text Committed = codes "committed"
-reply_text RolledBack = codes "rolled back"
-reply_text (Rows rows) = labelled (codes "rows") (length rows.items) ++ row_lines rows.items
-reply_text End = codes "end"
-reply_text (Worked piece) = piece_text piece
-reply_text (Ended first) = labelled (codes "ended") first
-reply_text (Refused r) = codes "error" ++ spaced (refusal_text r)
+reply_text reply.Done = codes "ok"
+reply_text (reply.Found None) = codes "none"
+reply_text (reply.Found (Some row)) = found_text row
+reply_text reply.Committed = codes "committed"
+reply_text reply.RolledBack = codes "rolled back"
+reply_text (reply.Rows rows) = labelled (codes "rows") (length rows.items) ++ row_lines rows.items
+reply_text reply.End = codes "end"
+reply_text (reply.Worked piece) = piece_text piece
+reply_text (reply.Ended first) = labelled (codes "ended") first
+reply_text (reply.Refused r) = codes "error" ++ spaced (refusal_text r)
 
 -- the next id, and that below which all are frozen
 abbrev pub ids_text : ℕ → ℕ → List ℕ

@@ -3,7 +3,12 @@ use Rattle.std.specs.Prelude.{◌≡◌, ℕ, ℤ, ◌/◌, ◌%◌, ◌^◌, �
 use Rattle.std.specs.Int.{w64, w128}
 use Rattle.std.specs.List.{flat_map, AllByRecursion}
 use Rattle.std.specs.Fmt.{decimal, signed_decimal, digit_glyph}
-use Rattle.script_text.specs.Names.{Settings, RowText, Step, Begin, Get, Insert, Update, Delete, Savepoint, RollbackTo, Release, Commit, Abort, OpenIndex, OpenHeap, Next, Close, Prune, VacuumBegin, VacuumStep, VacuumCancel, Mode, Normal, Aggressive}
+use Rattle.calls.specs.Words.{RowToWrite}
+use Rattle.calls.specs.declared.settings.Settings.{Settings}
+use Rattle.calls.specs.declared.step.Step.{Step}
+use Rattle.calls.specs.declared.step.Step.TheVariants as step
+use Rattle.calls.specs.declared.vacuum.Mode.{Mode}
+use Rattle.calls.specs.declared.vacuum.Mode.TheVariants as mode
 use Rattle.script_text.specs.declared.line.Line.{Line}
 use Rattle.script_text.specs.declared.line.Line.TheVariants.{Do, VacuumFinish, Ids, Page, Entries}
 use Rattle.script_text.specs.declared.line.TheConstants.{MAX_LINE}
@@ -38,7 +43,7 @@ abbrev pub range_words : ℕ → ℕ → ℤ → ℤ → List ℕ
 range_words s index low high = decimal s ++ spaced (decimal index ++ spaced (signed_decimal low ++ spaced (signed_decimal high)))
 
 -- a session and a row
-abbrev pub row_words : ℕ → RowText → List ℕ
+abbrev pub row_words : ℕ → RowToWrite → List ℕ
 row_words s row = decimal s ++ spaced (row_text row.key row.cols row.body)
 
 -- a digit for a column: 1 where it has an index
@@ -66,29 +71,29 @@ SpellsSettings text None = (s : Settings) → SettingsFit s → text ≡ heading
 
 -- which pages a vacuum passes over
 abbrev pub mode_text : Mode → List ℕ
-mode_text Normal = codes "normal"
-mode_text Aggressive = codes "aggressive"
+mode_text mode.Normal = codes "normal"
+mode_text mode.Aggressive = codes "aggressive"
 
 -- a line that asks for a step
 abbrev pub step_text : Step → List ℕ
-step_text (Begin s) = codes "begin" ++ spaced (decimal s)
-step_text (Get s k) = codes "get" ++ spaced (key_words s k)
-step_text (Insert s row) = codes "insert" ++ spaced (row_words s row)
-step_text (Update s row) = codes "update" ++ spaced (row_words s row)
-step_text (Delete s k) = codes "delete" ++ spaced (key_words s k)
-step_text (Savepoint s) = codes "savepoint" ++ spaced (decimal s)
-step_text (RollbackTo s) = codes "rollbackto" ++ spaced (decimal s)
-step_text (Release s) = codes "release" ++ spaced (decimal s)
-step_text (Commit s) = codes "commit" ++ spaced (decimal s)
-step_text (Abort s) = codes "abort" ++ spaced (decimal s)
-step_text (OpenIndex s index low high) = codes "openindex" ++ spaced (range_words s index low high)
-step_text (OpenHeap s) = codes "openheap" ++ spaced (decimal s)
-step_text (Next s n) = codes "next" ++ spaced (key_words s n)
-step_text (Close s) = codes "close" ++ spaced (decimal s)
-step_text (Prune p) = codes "prune" ++ spaced (decimal p)
-step_text (VacuumBegin mode) = codes "vacuum begin" ++ spaced (mode_text mode)
-step_text VacuumStep = codes "vacuum step"
-step_text VacuumCancel = codes "vacuum cancel"
+step_text (step.Begin s) = codes "begin" ++ spaced (decimal s)
+step_text (step.Get s k) = codes "get" ++ spaced (key_words s k)
+step_text (step.Insert s row) = codes "insert" ++ spaced (row_words s row)
+step_text (step.Update s row) = codes "update" ++ spaced (row_words s row)
+step_text (step.Delete s k) = codes "delete" ++ spaced (key_words s k)
+step_text (step.Savepoint s) = codes "savepoint" ++ spaced (decimal s)
+step_text (step.RollbackTo s) = codes "rollbackto" ++ spaced (decimal s)
+step_text (step.Release s) = codes "release" ++ spaced (decimal s)
+step_text (step.Commit s) = codes "commit" ++ spaced (decimal s)
+step_text (step.Abort s) = codes "abort" ++ spaced (decimal s)
+step_text (step.OpenIndex s index low high) = codes "openindex" ++ spaced (range_words s index low high)
+step_text (step.OpenHeap s) = codes "openheap" ++ spaced (decimal s)
+step_text (step.Next s n) = codes "next" ++ spaced (key_words s n)
+step_text (step.Close s) = codes "close" ++ spaced (decimal s)
+step_text (step.Prune p) = codes "prune" ++ spaced (decimal p)
+step_text (step.VacuumBegin mode) = codes "vacuum begin" ++ spaced (mode_text mode)
+step_text step.VacuumStep = codes "vacuum step"
+step_text step.VacuumCancel = codes "vacuum cancel"
 
 -- any line but the first
 abbrev pub spelling : Line → List ℕ
@@ -103,7 +108,7 @@ abbrev pub KeyFits : ℕ → ℕ → Type 0
 KeyFits s k = (s < 2 ^ 8) × (k < 2 ^ 64)
 
 -- a row has four columns of 64 bits with their signs, and a body of bytes
-abbrev pub RowFits : ℕ → RowText → Type 0
+abbrev pub RowFits : ℕ → RowToWrite → Type 0
 RowFits s row = (s < 2 ^ 8) × (row.key < 2 ^ 64) × (length row.cols ≡ 4) × AllByRecursion (λ c. FitsSigned w64 c) row.cols
     × AllByRecursion (λ b. b < 2 ^ 8) row.body
 
@@ -113,39 +118,39 @@ RangeFits s index low high = (s < 2 ^ 8) × (index < 2 ^ 8) × FitsSigned w128 l
 
 -- each number of a step is in the range of its type; a count of rows has 16 bits, and a page's number 32
 abbrev pub StepFits : Step → Type 0
-StepFits (Begin s) = s < 2 ^ 8
-StepFits (Get s k) = KeyFits s k
-StepFits (Insert s row) = RowFits s row
-StepFits (Update s row) = RowFits s row
-StepFits (Delete s k) = KeyFits s k
-StepFits (Savepoint s) = s < 2 ^ 8
-StepFits (RollbackTo s) = s < 2 ^ 8
-StepFits (Release s) = s < 2 ^ 8
-StepFits (Commit s) = s < 2 ^ 8
-StepFits (Abort s) = s < 2 ^ 8
-StepFits (OpenIndex s index low high) = RangeFits s index low high
-StepFits (OpenHeap s) = s < 2 ^ 8
-StepFits (Next s n) = (s < 2 ^ 8) × (n < 2 ^ 16)
-StepFits (Close s) = s < 2 ^ 8
-StepFits (Prune p) = p < 2 ^ 32
-StepFits (VacuumBegin mode) = Unit {0}
-StepFits VacuumStep = Unit {0}
-StepFits VacuumCancel = Unit {0}
+StepFits (step.Begin s) = s < 2 ^ 8
+StepFits (step.Get s k) = KeyFits s k
+StepFits (step.Insert s row) = RowFits s row
+StepFits (step.Update s row) = RowFits s row
+StepFits (step.Delete s k) = KeyFits s k
+StepFits (step.Savepoint s) = s < 2 ^ 8
+StepFits (step.RollbackTo s) = s < 2 ^ 8
+StepFits (step.Release s) = s < 2 ^ 8
+StepFits (step.Commit s) = s < 2 ^ 8
+StepFits (step.Abort s) = s < 2 ^ 8
+StepFits (step.OpenIndex s index low high) = RangeFits s index low high
+StepFits (step.OpenHeap s) = s < 2 ^ 8
+StepFits (step.Next s n) = (s < 2 ^ 8) × (n < 2 ^ 16)
+StepFits (step.Close s) = s < 2 ^ 8
+StepFits (step.Prune p) = p < 2 ^ 32
+StepFits (step.VacuumBegin mode) = Unit {0}
+StepFits step.VacuumStep = Unit {0}
+StepFits step.VacuumCancel = Unit {0}
 
 -- and each number of a line
-abbrev pub Fits : Line → Type 0
-Fits (Do step) = StepFits step
-Fits VacuumFinish = Unit {0}
-Fits Ids = Unit {0}
-Fits (Page p) = p < 2 ^ 32
-Fits (Entries i) = i < 2 ^ 8
+abbrev pub LineFits : Line → Type 0
+LineFits (Do step) = StepFits step
+LineFits VacuumFinish = Unit {0}
+LineFits Ids = Unit {0}
+LineFits (Page p) = p < 2 ^ 32
+LineFits (Entries i) = i < 2 ^ 8
 
 -- what a text spells: this line, whose numbers are in range, or none
 abbrev pub Spells : List ℕ → Option Line → Type 0
-Spells text (Some line) = Fits line × (text ≡ spelling line)
-Spells text None = (line : Line) → Fits line → text ≡ spelling line → ⊥
+Spells text (Some line) = LineFits line × (text ≡ spelling line)
+Spells text None = (line : Line) → LineFits line → text ≡ spelling line → ⊥
 
 -- what a line may spell: values in range, in at most 4096 bytes
 pub record IsAllowed (l : Line) : Type 0 where
-  pub fits : Fits l
+  pub fits : LineFits l
   pub short : length (spelling l) ≤ MAX_LINE

@@ -1,4 +1,3 @@
-pub mod Names
 pub mod Grammar
 pub mod Answers
 pub mod Reading

@@ -3,7 +3,10 @@ use Rattle.std.specs.Prelude.{ℕ, ℤ, pos, negsuc, ◌+◌, ◌-◌, ◌*◌, 
 use Rattle.std.specs.Option.{option_map}
 use Rattle.std.specs.Char.{is_ascii_digit}
 use Rattle.std.specs.Str.{bytes_eq}
-use Rattle.script_text.specs.Names.{Settings, RowText, Begin, Get, Insert, Update, Delete, Savepoint, RollbackTo, Release, Commit, Abort, OpenIndex, OpenHeap, Next, Close, Prune, VacuumBegin, VacuumStep, VacuumCancel, Normal, Aggressive}
+use Rattle.calls.specs.Words.{RowToWrite}
+use Rattle.calls.specs.declared.settings.Settings.{Settings}
+use Rattle.calls.specs.declared.step.Step.TheVariants as step
+use Rattle.calls.specs.declared.vacuum.Mode.TheVariants as mode
 use Rattle.script_text.specs.declared.line.Line.{Line}
 use Rattle.script_text.specs.declared.line.Line.TheVariants.{Do, VacuumFinish, Ids, Page, Entries}
 
@@ -77,7 +80,7 @@ body_of [] = None
 body_of (x ∷ xs) = if (x == 45) && (length xs == 0) then Some [] else pairs_of (x ∷ xs)
 
 -- a session and a row
-unfoldable pub row_words_of : List ℕ → Option (ℕ × RowText)
+unfoldable pub row_words_of : List ℕ → Option (ℕ × RowToWrite)
 row_words_of xs = do
   s ← number_then 255 xs
   k ← number_then (2 ^ 64 - 1) s.1
@@ -138,11 +141,11 @@ settings_at line = cut line >>= λ parts. if bytes_eq parts.0 (codes "heap") the
 
 -- what a line that begins with `vacuum` asks for by the words behind it
 abbrev pub vacuum_line_of : List ℕ → Option Line
-vacuum_line_of words = if bytes_eq words (codes "step") then Some (Do VacuumStep)
+vacuum_line_of words = if bytes_eq words (codes "step") then Some (Do step.VacuumStep)
     else if bytes_eq words (codes "finish") then Some VacuumFinish
-    else if bytes_eq words (codes "begin normal") then Some (Do (VacuumBegin Normal))
-    else if bytes_eq words (codes "begin aggressive") then Some (Do (VacuumBegin Aggressive))
-    else if bytes_eq words (codes "cancel") then Some (Do VacuumCancel)
+    else if bytes_eq words (codes "begin normal") then Some (Do (step.VacuumBegin mode.Normal))
+    else if bytes_eq words (codes "begin aggressive") then Some (Do (step.VacuumBegin mode.Aggressive))
+    else if bytes_eq words (codes "cancel") then Some (Do step.VacuumCancel)
     else None
 
 -- verbs, the first words of lines with several words: each is spelled so, and asks for this with the words behind it
@@ -152,25 +155,25 @@ Verbs = List (List ℕ × (List ℕ → Option Line))
 -- those that are asked for most, and the others
 abbrev pub usual_verbs : Verbs
 usual_verbs =
-    (codes "get", λ rest. option_map (λ p. Do (Get p.0 p.1)) (key_words_of rest))
-    ∷ (codes "begin", λ rest. option_map (λ s. Do (Begin s)) (number_of 255 rest))
-    ∷ (codes "commit", λ rest. option_map (λ s. Do (Commit s)) (number_of 255 rest))
-    ∷ (codes "insert", λ rest. option_map (λ p. Do (Insert p.0 p.1)) (row_words_of rest))
-    ∷ (codes "update", λ rest. option_map (λ p. Do (Update p.0 p.1)) (row_words_of rest))
-    ∷ (codes "delete", λ rest. option_map (λ p. Do (Delete p.0 p.1)) (key_words_of rest))
-    ∷ (codes "next", λ rest. option_map (λ p. Do (Next p.0 p.1)) (count_words_of rest))
-    ∷ (codes "abort", λ rest. option_map (λ s. Do (Abort s)) (number_of 255 rest))
+    (codes "get", λ rest. option_map (λ p. Do (step.Get p.0 p.1)) (key_words_of rest))
+    ∷ (codes "begin", λ rest. option_map (λ s. Do (step.Begin s)) (number_of 255 rest))
+    ∷ (codes "commit", λ rest. option_map (λ s. Do (step.Commit s)) (number_of 255 rest))
+    ∷ (codes "insert", λ rest. option_map (λ p. Do (step.Insert p.0 p.1)) (row_words_of rest))
+    ∷ (codes "update", λ rest. option_map (λ p. Do (step.Update p.0 p.1)) (row_words_of rest))
+    ∷ (codes "delete", λ rest. option_map (λ p. Do (step.Delete p.0 p.1)) (key_words_of rest))
+    ∷ (codes "next", λ rest. option_map (λ p. Do (step.Next p.0 p.1)) (count_words_of rest))
+    ∷ (codes "abort", λ rest. option_map (λ s. Do (step.Abort s)) (number_of 255 rest))
     ∷ []
 
 abbrev pub other_verbs : Verbs
 other_verbs =
-    (codes "savepoint", λ rest. option_map (λ s. Do (Savepoint s)) (number_of 255 rest))
-    ∷ (codes "rollbackto", λ rest. option_map (λ s. Do (RollbackTo s)) (number_of 255 rest))
-    ∷ (codes "release", λ rest. option_map (λ s. Do (Release s)) (number_of 255 rest))
-    ∷ (codes "openindex", λ rest. option_map (λ p. Do (OpenIndex p.0 p.1 p.2 p.3)) (range_words_of rest))
-    ∷ (codes "openheap", λ rest. option_map (λ s. Do (OpenHeap s)) (number_of 255 rest))
-    ∷ (codes "close", λ rest. option_map (λ s. Do (Close s)) (number_of 255 rest))
-    ∷ (codes "prune", λ rest. option_map (λ p. Do (Prune p)) (number_of 4294967295 rest))
+    (codes "savepoint", λ rest. option_map (λ s. Do (step.Savepoint s)) (number_of 255 rest))
+    ∷ (codes "rollbackto", λ rest. option_map (λ s. Do (step.RollbackTo s)) (number_of 255 rest))
+    ∷ (codes "release", λ rest. option_map (λ s. Do (step.Release s)) (number_of 255 rest))
+    ∷ (codes "openindex", λ rest. option_map (λ p. Do (step.OpenIndex p.0 p.1 p.2 p.3)) (range_words_of rest))
+    ∷ (codes "openheap", λ rest. option_map (λ s. Do (step.OpenHeap s)) (number_of 255 rest))
+    ∷ (codes "close", λ rest. option_map (λ s. Do (step.Close s)) (number_of 255 rest))
+    ∷ (codes "prune", λ rest. option_map (λ p. Do (step.Prune p)) (number_of 4294967295 rest))
     ∷ (codes "vacuum", vacuum_line_of)
     ∷ (codes "page", λ rest. option_map (λ p. Page p) (number_of 4294967295 rest))
     ∷ (codes "entries", λ rest. option_map (λ i. Entries i) (number_of 255 rest))

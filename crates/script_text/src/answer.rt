@@ -8,8 +8,8 @@ ghost use Rattle.script_text.specs.Answers.{refusal_text, found_text, row_lines,
 
 use crate::growth::{RefusedGrowth, extend, push};
 use crate::page::label;
+use calls::{Piece, Refusal, Reply, Row};
 use itoa::Buffer;
-use refinement::{Piece, Refusal, Reply, Row};
 
 pub(crate) fn unsigned(out: &mut Vec<u8>, n: u64) -> Result<(), RefusedGrowth>
     ensures { OnOk result (out.new.items ≡ out.old.items ++ decimal n) }

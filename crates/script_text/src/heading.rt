@@ -6,7 +6,7 @@ ghost use Rattle.script_text.specs.Grammar.{SpellsSettings};
 ghost use Rattle.script_text.specs.Reading.{number_then as number_then_of, flag_of, flags4_of, heading_of, settings_at as settings_at_of};
 
 use crate::words::{cut, number_then};
-use refinement::Settings;
+use calls::Settings;
 
 #[tactic(auto, unfolding(crate::specs::Reading::flag_of))]
 fn flag(c: u8) -> Option<bool>

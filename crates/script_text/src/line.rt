@@ -7,7 +7,7 @@ ghost use Rattle.script_text.specs.Reading.{number_of, row_words_of, key_words_o
 
 use crate::growth::RefusedGrowth;
 use crate::words::{body, bound, bound_then, column_then, cut, number, number_then};
-use refinement::{Mode, RowIn, Step};
+use calls::{Mode, RowIn, Step};
 use std::alloc::Global;
 
 /// The longest line, its line feed not counted.

@@ -1,9 +1,9 @@
 -- A run of the engine goes on by one step.
 use Rattle.std.proofs.Common.{ℕ, ◌<◌, ◌≤◌, ◌+◌, List, [], ◌∷◌, ◌++◌, take, drop, get_or, length, refl, sym, subst, ap, ◌∙◌, ◌≡◌, arith, add-one, drop-cons, zero, suc, false, true}
 use Rattle.std.proofs.lemmas.List.{take_more, take_all, take-append-drop}
-use Rattle.refinement.specs.declared.settings.Settings.{Settings}
-use Rattle.refinement.specs.declared.step.Step.{Step}
-use Rattle.refinement.specs.declared.reply.Reply.{Reply}
+use Rattle.calls.specs.declared.settings.Settings.{Settings}
+use Rattle.calls.specs.declared.step.Step.{Step}
+use Rattle.calls.specs.declared.reply.Reply.{Reply}
 use Rattle.history.specs.World.{World, beginning}
 use Rattle.refinement.specs.Allowed.{IsRun, next, after}
 use Rattle.vacuum_engine.specs.State.{EngineView}

@@ -3,15 +3,15 @@ use Rattle.std.proofs.Common.{◌≡◌, ℕ, false, Option, Some, None, sym, ap
 use Rattle.std.specs.Prelude.{MatchOption}
 use Rattle.xid_circle.specs.declared.Xid.{Xid}
 use Rattle.heap_write.specs.Heap.{HeapView}
-use Rattle.refinement.specs.declared.vacuum.Mode.TheVariants.{Normal, Aggressive}
+use Rattle.calls.specs.declared.vacuum.Mode.TheVariants.{Normal, Aggressive}
 use Rattle.session_steps.specs.State.{State}
 use Rattle.session_steps.specs.Vacuums.{VacuumWorks, Forgets}
 use Rattle.vacuum_passes.specs.View.{VacuumView}
 use Rattle.vacuum_passes.specs.Steps.{Steps}
-use Rattle.refinement.specs.declared.step.Step.{Step}
-use Rattle.refinement.specs.declared.step.Step.TheVariants.{VacuumBegin, VacuumStep, VacuumCancel}
-use Rattle.refinement.specs.declared.reply.Reply.{Reply}
-use Rattle.refinement.specs.Allowed.{is_vacuum_step}
+use Rattle.calls.specs.declared.step.Step.{Step}
+use Rattle.calls.specs.declared.step.Step.TheVariants.{VacuumBegin, VacuumStep, VacuumCancel}
+use Rattle.calls.specs.declared.reply.Reply.{Reply}
+use Rattle.calls.specs.Steps.{is_vacuum_step}
 use Rattle.vacuum_engine.specs.State.{EngineView, vacuum_horizon}
 use Rattle.vacuum_engine.specs.Exact.{ExactBesideVacuum, EngineExact, DoesEnd}
 

@@ -2,9 +2,9 @@
 use Rattle.std.specs.Prelude.{◌≡◌, ℕ, true, List, length, Result}
 use Rattle.std.specs.Option.{option_map}
 use Rattle.tuple_header.specs.declared.row_place.RowPlace.{RowPlace}
-use Rattle.refinement.specs.declared.step.Step.TheVariants.{Next}
-use Rattle.refinement.specs.declared.reply.Reply.{Reply}
-use Rattle.refinement.specs.declared.reply.Refusal.{Refusal}
+use Rattle.calls.specs.declared.step.Step.TheVariants.{Next}
+use Rattle.calls.specs.declared.reply.Reply.{Reply}
+use Rattle.calls.specs.declared.reply.Refusal.{Refusal}
 use Rattle.session_steps.specs.NextRows.{WritesReply, ExactNextRows}
 use Rattle.vacuum_passes.specs.View.{disturbed}
 use Rattle.vacuum_engine.specs.State.{EngineView}

@@ -1,12 +1,12 @@
 -- Runs of the engine.
 use Rattle.std.specs.Prelude.{List, [], ◌∷◌, ◌++◌, ◌≡◌, ◌<◌, length}
 use Rattle.history.specs.World.{beginning}
-use Rattle.refinement.specs.declared.settings.Settings.{Settings}
-use Rattle.refinement.specs.declared.settings.SettingsFault.TheVariants as setting
-use Rattle.refinement.specs.declared.step.Step.{Step}
-use Rattle.refinement.specs.declared.reply.Reply.{Reply}
-use Rattle.refinement.specs.Words.{AreSettings, FirstFault}
-use Rattle.refinement.specs.Writes.{HasBody}
+use Rattle.calls.specs.declared.settings.Settings.{Settings}
+use Rattle.calls.specs.declared.settings.SettingsFault.TheVariants as setting
+use Rattle.calls.specs.declared.step.Step.{Step}
+use Rattle.calls.specs.declared.reply.Reply.{Reply}
+use Rattle.calls.specs.Words.{AreSettings, FirstFault}
+use Rattle.calls.specs.Writes.{HasBody}
 use Rattle.refinement.specs.Allowed.{after}
 use Rattle.session_core.specs.declared.runs.RunFault.{RunFault}
 use Rattle.session_core.specs.declared.runs.RunFault.TheVariants as fault

@@ -7,7 +7,7 @@ ghost use Rattle.session_steps.specs.State.{open_bits};
 ghost use Rattle.vacuum_passes.specs.View.{VacuumView};
 
 use crate::engine::Engine;
-use refinement::Mode;
+use calls::Mode;
 
 impl Engine {
     /// How many pages are in use.

@@ -4,9 +4,10 @@ ghost use Rattle.std.specs.Prelude.{◌≡◌, ◌<◌, length, slice_get, optio
 ghost use Rattle.std.specs.Option.{option_map};
 ghost use Rattle.commit_status.specs.Window.{next_id};
 ghost use Rattle.space_maps.specs.View.{mark_on};
-ghost use Rattle.history.specs.World.{World, OpenSession, view};
-ghost use Rattle.refinement.specs.Allowed.{AllowsClosed, is_vacuum_step};
-ghost use Rattle.refinement.specs.Words.{AreSettings, FirstFault};
+ghost use Rattle.history.specs.World.{World, OpenSession, view, world_sessions};
+ghost use Rattle.calls.specs.Steps.{is_vacuum_step};
+ghost use Rattle.calls.specs.Words.{AreSettings, FirstFault};
+ghost use Rattle.calls.specs.Bars.{BarsOpen};
 ghost use Rattle.session_steps.specs.State.{engine_index, bits_of};
 ghost use Rattle.session_steps.specs.Agrees.{Agrees};
 ghost use Rattle.vacuum_passes.specs.View.{disturbed};
@@ -16,8 +17,8 @@ ghost use Rattle.vacuum_engine.specs.Clauses.{EngineFollows};
 ghost use Rattle.vacuum_engine.specs.New.{IsNewEngine};
 ghost use Rattle.session_core.specs.NextRows.{EngineNextRows};
 
+use calls::{Refusal, Reply, Row, Settings, SettingsFault, Step};
 use page_slots::Page;
-use refinement::{Refusal, Reply, Row, Settings, SettingsFault, Step};
 use root_index::RootIndex;
 use session_steps::SessionEngine;
 use std::alloc::Global;
@@ -132,7 +133,7 @@ impl Engine {
     pub fn read(&self, s: u8, key: u64) -> Result<Option<Row>, Refusal>
         ensures { (w : World) → Agrees self.now.core w → MatchResult result
             (λ row. (m : OpenSession) × (w.session s ≡ Some m) × (row ≡ view w.history m key))
-            (λ refusal. AllowsClosed w s refusal) }
+            (λ refusal. BarsOpen (world_sessions w) s refusal) }
     {
         self.core.read(s, key)
     }

@@ -11,8 +11,8 @@ mod engine;
 mod runs;
 mod vacuuming;
 
+pub use calls::{Mode, Piece, Refusal, Reply, Row, RowIn, Settings, SettingsFault, Step};
 pub use engine::Engine;
 pub use page_slots::Page;
-pub use refinement::{Mode, Piece, Refusal, Reply, Row, RowIn, Settings, SettingsFault, Step};
 pub use runs::{RunFault, run};
 pub use tuple_header::RowPlace;

@@ -6,7 +6,7 @@ ghost use Rattle.refinement.specs.Allowed.{IsRun, after, IsLawful};
 ghost use Rattle.session_core.specs.Runs.{RepliesLead, Ran, WantsMemory, FirstRunFault};
 
 use crate::engine::Engine;
-use refinement::{Reply, Settings, SettingsFault, Step};
+use calls::{Reply, Settings, SettingsFault, Step};
 use std::alloc::{AllocError, Global};
 use thiserror::Error;
 

@@ -5,7 +5,7 @@ ghost use Rattle.session_steps.specs.Vacuums.{Forgets};
 ghost use Rattle.vacuum_engine.specs.Exact.{ExactVacuumBegin, ExactVacuumStep, ExactVacuumCancel};
 
 use crate::engine::Engine;
-use refinement::{Mode, Refusal, Reply};
+use calls::{Mode, Refusal, Reply};
 use xid_circle::Xid;
 
 impl Engine {

@@ -15,7 +15,7 @@ use Rattle.sound_entries.proofs.Leads.{visible-found}
 use Rattle.table_indexes.specs.Indexes.{entries_in, IsInUse}
 use Rattle.heap_write.specs.Heap.{slots_of}
 use Rattle.table_integrity.proofs.InUse.{index-sound}
-use Rattle.history.specs.Cursors.{value_in}
+use Rattle.tuple_header.specs.IndexValue.{value_in}
 use Rattle.history.specs.History.{Write, committed, reading}
 use Rattle.history.specs.World.{World, OpenSession, joined, view}
 use Rattle.visibility.specs.Seeing.{HasCommitted, VisibleBy, by_itself, by_others}

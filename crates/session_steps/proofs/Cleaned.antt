@@ -28,10 +28,10 @@ use Rattle.table_integrity.specs.Table.{SoundTable}
 use Rattle.table_integrity.proofs.Places.{RemovesOn, prunes-stand}
 use Rattle.table_integrity.proofs.Keeping.{pruned-stays}
 use Rattle.history.specs.World.{World}
-use Rattle.refinement.specs.declared.step.Step.TheVariants.{Prune}
-use Rattle.refinement.specs.declared.reply.Reply.TheVariants.{Done, Refused}
-use Rattle.refinement.specs.declared.reply.Refusal.TheVariants.{NoSuchPage}
-use Rattle.refinement.specs.declared.settings.Settings.{Settings}
+use Rattle.calls.specs.declared.step.Step.TheVariants.{Prune}
+use Rattle.calls.specs.declared.reply.Reply.TheVariants.{Done, Refused}
+use Rattle.calls.specs.declared.reply.Refusal.TheVariants.{NoSuchPage}
+use Rattle.calls.specs.declared.settings.Settings.{Settings}
 use Rattle.refinement.specs.Heap as relation
 use Rattle.refinement.specs.Agrees as relation_agrees
 use Rattle.visibility.specs.Seeing as readers

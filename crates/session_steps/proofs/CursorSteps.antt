@@ -8,12 +8,13 @@ use Rattle.std.specs.Prelude.{IsSome}
 use Rattle.std.specs.Option.{option_map}
 use Rattle.root_index.specs.View.{IndexView}
 use Rattle.table_indexes.specs.Indexes.{IsInUse, index_at}
-use Rattle.refinement.specs.declared.step.Step.TheVariants.{OpenIndex, OpenHeap, Close}
-use Rattle.refinement.specs.declared.reply.Reply.TheVariants.{Done, Refused}
-use Rattle.refinement.specs.declared.reply.Refusal.{Refusal}
-use Rattle.refinement.specs.declared.reply.Refusal.TheVariants.{NoSuchIndex, BadBounds}
+use Rattle.calls.specs.declared.step.Step.TheVariants.{OpenIndex, OpenHeap, Close}
+use Rattle.calls.specs.declared.reply.Reply.TheVariants.{Done, Refused}
+use Rattle.calls.specs.declared.reply.Refusal.{Refusal}
+use Rattle.calls.specs.declared.reply.Refusal.TheVariants.{NoSuchIndex, BadBounds}
+use Rattle.calls.specs.Bars.{BarsFree, BarsWithCursor}
 use Rattle.refinement.specs.Heap as relation
-use Rattle.refinement.specs.Cursors.{first_place}
+use Rattle.refinement.specs.Cursors.{heap_start}
 use Rattle.refinement.specs.Allowed.{Allows, next}
 use Rattle.refinement.proofs.Steps.{OnlyIs}
 use Rattle.refinement.proofs.FollowsCursors as cursors
@@ -21,23 +22,22 @@ use Rattle.session_steps.specs.declared.session.Session.{Session}
 use Rattle.session_steps.specs.declared.cursor.Cursor.{Cursor}
 use Rattle.session_steps.specs.declared.cursor.Cursor.TheVariants.{Index, Heap}
 use Rattle.index_lookup.specs.declared.index_scan.IndexRange.{IndexRange}
-use Rattle.session_steps.specs.State.{State, session_at, put_session, map_session, with_cursor, seen, position_of, reader_of}
+use Rattle.session_steps.specs.State.{State, session_at, put_session, map_session, with_cursor, seen, position_of, reader_of, engine_sessions}
 use Rattle.session_steps.specs.Agrees.{Agrees, Sound, SessionKeeps, Follows, KeepsAllTargets}
-use Rattle.session_steps.specs.Refuses.{RefusesFree, RefusesBare}
 use Rattle.session_steps.proofs.InUse.{GoesAlong, no-cursor, agree}
 use Rattle.session_steps.proofs.OwnIdsLemmas.{open-within}
 use Rattle.session_steps.proofs.StateLemmas.{only-set}
 use Rattle.session_steps.proofs.Owns.{reader-is}
 use Rattle.session_steps.proofs.Follows.{Follows-same, stays-so, free_by, bare_by, some-position, led-same, Sound-put}
 
-pub Follows-barred_open_index : (st : State) (s index : ℕ) (low high : ℤ) (r : Refusal) → RefusesFree st s r → Follows st (OpenIndex s index low high) (Refused r) st
+pub Follows-barred_open_index : (st : State) (s index : ℕ) (low high : ℤ) (r : Refusal) → BarsFree (engine_sessions st) s r → Follows st (OpenIndex s index low high) (Refused r) st
 Follows-barred_open_index st s index low high r is =
     Follows-same st (OpenIndex s index low high) (Refused r) (cursors.Follows-barred_open_index (seen st) s index low high r (free_by st s r is))
 
-pub Follows-barred_open_heap : (st : State) (s : ℕ) (r : Refusal) → RefusesFree st s r → Follows st (OpenHeap s) (Refused r) st
+pub Follows-barred_open_heap : (st : State) (s : ℕ) (r : Refusal) → BarsFree (engine_sessions st) s r → Follows st (OpenHeap s) (Refused r) st
 Follows-barred_open_heap st s r is = Follows-same st (OpenHeap s) (Refused r) (cursors.Follows-barred_open_heap (seen st) s r (free_by st s r is))
 
-pub Follows-bare_close : (st : State) (s : ℕ) (r : Refusal) → RefusesBare st s r → Follows st (Close s) (Refused r) st
+pub Follows-bare_close : (st : State) (s : ℕ) (r : Refusal) → BarsWithCursor (engine_sessions st) s r → Follows st (Close s) (Refused r) st
 Follows-bare_close st s r is = Follows-same st (Close s) (Refused r) (cursors.Follows-bare_close (seen st) s r (bare_by st s r is))
 
 -- An index that is not there is not in use.
@@ -91,12 +91,12 @@ Follows-opened_index st st' s e span at sound bare order none used is w agrees =
     (f.0, agree agrees refl refl f.1 (sound-cursor st st' s e (Some (Index span)) at is (along-span st.heap.indexes span used) agrees.sound), led-same st w agrees)
 
 pub Follows-opened_heap : (st st' : State) (s : ℕ) (e : Session) → session_at st s ≡ Some e → e.failed ≡ false → e.cursor ≡ None
-    → st' ≡ put_session st s (map_session (with_cursor (Some (Heap first_place))) (session_at st s)) → Follows st (OpenHeap s) Done st'
+    → st' ≡ put_session st s (map_session (with_cursor (Some (Heap heap_start))) (session_at st s)) → Follows st (OpenHeap s) Done st'
 Follows-opened_heap st st' s e at sound bare is w agrees =
-    let f = cursors.Follows-open_heap (seen st) s (reader_of e) (seen (put_session st s (Some (with_cursor (Some (Heap first_place)) e)))).session (only-cursor st st' s e (Some (Heap first_place)) at is)
+    let f = cursors.Follows-open_heap (seen st) s (reader_of e) (seen (put_session st s (Some (with_cursor (Some (Heap heap_start)) e)))).session (only-cursor st st' s e (Some (Heap heap_start)) at is)
     (reader-is st s e at) sound (ap position_of bare) w agrees.found in
-    subst (λ st'. Allows w (OpenHeap s) Done × Agrees st' (next w (OpenHeap s) Done) × KeepsAllTargets st st') (sym (moved st st' s e (Some (Heap first_place)) at is))
-    (f.0, agree agrees refl refl f.1 (sound-cursor st st' s e (Some (Heap first_place)) at is (λ span here. absurd (cc)) agrees.sound), led-same st w agrees)
+    subst (λ st'. Allows w (OpenHeap s) Done × Agrees st' (next w (OpenHeap s) Done) × KeepsAllTargets st st') (sym (moved st st' s e (Some (Heap heap_start)) at is))
+    (f.0, agree agrees refl refl f.1 (sound-cursor st st' s e (Some (Heap heap_start)) at is (λ span here. absurd (cc)) agrees.sound), led-same st w agrees)
 
 pub Follows-closed_cursor : (st st' : State) (s : ℕ) (e : Session) → session_at st s ≡ Some e → e.failed ≡ false → IsSome e.cursor
     → st' ≡ put_session st s (map_session (with_cursor None) (session_at st s)) → Follows st (Close s) Done st'

@@ -40,7 +40,7 @@ use Rattle.visibility.specs.Visible.{state_of}
 use Rattle.session_steps.specs.State.{State, session_at, seen, reader_of, holds_back, horizon_of}
 use Rattle.session_steps.specs.Agrees.{Agrees, Sound, SessionKeeps, KeepsAllTargets}
 use Rattle.session_steps.specs.Changes.{Closes, RollsBack}
-use Rattle.refinement.specs.declared.settings.Settings.{Settings}
+use Rattle.calls.specs.declared.settings.Settings.{Settings}
 use Rattle.session_steps.proofs.InUse.{AreInUse, GoesAlong, still-in_use, same-cursor}
 use Rattle.session_steps.proofs.OwnIdsLemmas.{open-within, open-set_cases}
 use Rattle.session_steps.proofs.Owns.{reader-is, reader-at}

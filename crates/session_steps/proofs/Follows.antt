@@ -23,14 +23,16 @@ use Rattle.commit_status.specs.declared.status.Status.TheVariants.{Committed, Ab
 use Rattle.snapshot.specs.Snap.{Snap, earliest}
 use Rattle.heap_write.specs.Heap.{slots_of}
 use Rattle.history.specs.World.{World}
-use Rattle.refinement.specs.declared.step.Step.{Step}
-use Rattle.refinement.specs.declared.step.Step.TheVariants.{Begin, Get, Commit, Abort}
-use Rattle.refinement.specs.declared.reply.Reply.{Reply}
-use Rattle.refinement.specs.declared.reply.Reply.TheVariants.{Done, RolledBack, Refused}
-use Rattle.refinement.specs.declared.reply.Reply.TheVariants as reply
-use Rattle.refinement.specs.declared.reply.Refusal.{Refusal}
-use Rattle.refinement.specs.declared.reply.Refusal.TheVariants.{NotOpen, AlreadyOpen, Failed, TooLarge, NoMemory, NoSuchSession, CursorOpen, NoCursor}
-use Rattle.refinement.specs.Writes.{WriteStep, step_of}
+use Rattle.calls.specs.declared.step.Step.{Step}
+use Rattle.calls.specs.declared.step.Step.TheVariants.{Begin, Get, Commit, Abort}
+use Rattle.calls.specs.declared.reply.Reply.{Reply}
+use Rattle.calls.specs.declared.reply.Reply.TheVariants.{Done, RolledBack, Refused}
+use Rattle.calls.specs.declared.reply.Reply.TheVariants as reply
+use Rattle.calls.specs.declared.reply.Refusal.{Refusal}
+use Rattle.calls.specs.declared.reply.Refusal.TheVariants.{NotOpen, AlreadyOpen, TooLarge, NoMemory, NoSuchSession}
+use Rattle.calls.specs.Writes.{WriteStep, step_of}
+use Rattle.calls.specs.Bars.{BarsOpen, BarsReady, BarsFree, BarsWithCursor}
+use Rattle.calls.proofs.BarsLemmas.{AreAlike, alike-open, alike-ready, alike-free, alike-with_cursor}
 use Rattle.refinement.specs.Heap as seen_heap
 use Rattle.refinement.specs.Agrees as relation
 use Rattle.refinement.specs.Allowed.{Allows, next}
@@ -42,14 +44,14 @@ use Rattle.refinement.proofs.Follows as theory
 use Rattle.refinement.proofs.Hindrances as hindrances
 use Rattle.session_steps.specs.declared.session.Session.{Session}
 use Rattle.visibility.specs.Visible.{state_of}
-use Rattle.session_steps.specs.State.{State, session_at, put_session, seen, position_of, reader_of, failed_session, holds_back, held_back, horizon_of}
+use Rattle.session_steps.specs.State.{State, session_at, put_session, seen, position_of, reader_of, failed_session, holds_back, held_back, horizon_of, engine_sessions}
 use Rattle.session_steps.specs.Keeps.{open_at}
 use Rattle.session_steps.specs.Agrees.{Agrees, Sound, Follows, SessionKeeps, KeepsAllTargets}
-use Rattle.session_steps.specs.Refuses.{Refuses, RefusesReady, RefusesFree, RefusesBare}
 use Rattle.session_steps.specs.declared.cursor.Cursor.{Cursor}
 use Rattle.session_steps.specs.declared.cursor.Cursor.TheVariants.{Index, Heap}
 use Rattle.session_steps.specs.Changes.{Opens, Closes}
 use Rattle.refinement.proofs.Runs.{same_indexes}
+use Rattle.refinement.specs.Heap.{seen_sessions}
 use Rattle.session_steps.proofs.InUse.{GoesAlong, used-still, no-cursor, cursors-put, agree}
 use Rattle.session_steps.proofs.OwnIdsLemmas.{open-within, open-set_cases}
 use Rattle.session_steps.proofs.StateLemmas.{only-set}
@@ -78,22 +80,39 @@ Follows-same st step r follows w agrees = stays-so st w step r agrees (follows w
 
 -- Refusals.
 
-pub closed_by : (st : State) (s : ℕ) (r : Refusal) → Refuses st s r → theory.IsClosed (seen st) s r
-closed_by st s NoSuchSession is = is
-closed_by st s NotOpen is = (is.0, ap (option_map reader_of) is.1)
-closed_by st s _ is = absurd is
+-- a cursor as readers see it
 
-pub unready_by : (st : State) (s : ℕ) (r : Refusal) → RefusesReady st s r → theory.IsUnready (seen st) s r
-unready_by st s Failed is = (reader_of is.1, reader-is st s is.1 is.2, is.3)
-unready_by st s r is = closed_by st s r is
+pub some-position : (o : Option Cursor) → IsSome o → IsSome (position_of o)
+some-position None some = absurd (let e : IsSome {T = Cursor} None = some in cc)
+some-position (Some (Index span)) some = refl
+some-position (Some (Heap from)) some = refl
 
-pub Follows-closed_commit : (st : State) (s : ℕ) (r : Refusal) → Refuses st s r → Follows st (Commit s) (Refused r) st
+-- what bars a session bars it as readers see it
+alike : (st : State) (s : ℕ) → AreAlike (engine_sessions st) (seen_sessions (seen st)) s
+alike st s = record {
+  idle = ap (option_map reader_of);
+  opened = λ e at. (reader_of e, reader-is st s e at, refl, ap position_of, some-position e.cursor);
+}
+
+pub closed_by : (st : State) (s : ℕ) (r : Refusal) → BarsOpen (engine_sessions st) s r → BarsOpen (seen_sessions (seen st)) s r
+closed_by st s r is = alike-open (alike st s) r is
+
+pub unready_by : (st : State) (s : ℕ) (r : Refusal) → BarsReady (engine_sessions st) s r → BarsReady (seen_sessions (seen st)) s r
+unready_by st s r is = alike-ready (alike st s) r is
+
+pub free_by : (st : State) (s : ℕ) (r : Refusal) → BarsFree (engine_sessions st) s r → BarsFree (seen_sessions (seen st)) s r
+free_by st s r is = alike-free (alike st s) r is
+
+pub bare_by : (st : State) (s : ℕ) (r : Refusal) → BarsWithCursor (engine_sessions st) s r → BarsWithCursor (seen_sessions (seen st)) s r
+bare_by st s r is = alike-with_cursor (alike st s) r is
+
+pub Follows-closed_commit : (st : State) (s : ℕ) (r : Refusal) → BarsOpen (engine_sessions st) s r → Follows st (Commit s) (Refused r) st
 Follows-closed_commit st s r is = Follows-same st (Commit s) (Refused r) (theory.Follows-closed_commit (seen st) s r (closed_by st s r is))
 
-pub Follows-closed_abort : (st : State) (s : ℕ) (r : Refusal) → Refuses st s r → Follows st (Abort s) (Refused r) st
+pub Follows-closed_abort : (st : State) (s : ℕ) (r : Refusal) → BarsOpen (engine_sessions st) s r → Follows st (Abort s) (Refused r) st
 Follows-closed_abort st s r is = Follows-same st (Abort s) (Refused r) (theory.Follows-closed_abort (seen st) s r (closed_by st s r is))
 
-pub Follows-unready_get : (st : State) (s k : ℕ) (r : Refusal) → RefusesReady st s r → Follows st (Get s k) (Refused r) st
+pub Follows-unready_get : (st : State) (s k : ℕ) (r : Refusal) → BarsReady (engine_sessions st) s r → Follows st (Get s k) (Refused r) st
 Follows-unready_get st s k r is = Follows-same st (Get s k) (Refused r) (theory.Follows-unready_get (seen st) s k r (unready_by st s r is))
 
 pub Follows-already_open : (st : State) (s : ℕ) (e : Session) → session_at st s ≡ Some e → Follows st (Begin s) (Refused AlreadyOpen) st
@@ -106,25 +125,10 @@ Follows-begin_no_memory st s within idle =
 pub Follows-no_such_session : (st : State) (s : ℕ) → 64 ≤ s → Follows st (Begin s) (Refused NoSuchSession) st
 Follows-no_such_session st s past = Follows-same st (Begin s) (Refused NoSuchSession) (theory.Follows-begin_refused (seen st) s NoSuchSession (λ w agrees. past))
 
-pub Follows-closed_begin : (st : State) (s : ℕ) (r : Refusal) → (r ≡ NotOpen → ⊥) → Refuses st s r → Follows st (Begin s) (Refused r) st
+pub Follows-closed_begin : (st : State) (s : ℕ) (r : Refusal) → (r ≡ NotOpen → ⊥) → BarsOpen (engine_sessions st) s r → Follows st (Begin s) (Refused r) st
 Follows-closed_begin st s NoSuchSession ne is = Follows-no_such_session st s is
 Follows-closed_begin st s NotOpen ne is = absurd (ne refl)
 Follows-closed_begin st s _ ne is = absurd is
-
--- a cursor as readers see it
-
-pub some-position : (o : Option Cursor) → IsSome o → IsSome (position_of o)
-some-position None some = absurd (let e : IsSome {T = Cursor} None = some in cc)
-some-position (Some (Index span)) some = refl
-some-position (Some (Heap from)) some = refl
-
-pub free_by : (st : State) (s : ℕ) (r : Refusal) → RefusesFree st s r → theory.IsBarred (seen st) s r
-free_by st s CursorOpen is = (reader_of is.1, ap (option_map reader_of) is.2, is.3, some-position is.1.cursor is.4)
-free_by st s r is = unready_by st s r is
-
-pub bare_by : (st : State) (s : ℕ) (r : Refusal) → RefusesBare st s r → theory.IsBare (seen st) s r
-bare_by st s NoCursor is = (reader_of is.1, ap (option_map reader_of) is.2, is.3, ap position_of is.4)
-bare_by st s r is = unready_by st s r is
 
 -- Begin.
 
@@ -242,7 +246,7 @@ Follows-commit st st' s e at sound closes w agrees =
 
 -- Writes that are refused before they are tried.
 
-pub Follows-barred_write : (st : State) (s : ℕ) (write : WriteStep) (r : Refusal) → RefusesFree st s r → Follows st (step_of s write) (Refused r) st
+pub Follows-barred_write : (st : State) (s : ℕ) (write : WriteStep) (r : Refusal) → BarsFree (engine_sessions st) s r → Follows st (step_of s write) (Refused r) st
 Follows-barred_write st s write r is = Follows-same st (step_of s write) (Refused r) (hindrances.Follows-barred_write (seen st) s write r (free_by st s r is))
 
 pub Follows-too_large : (st : State) (s : ℕ) (e : Session) (write : WriteStep) → session_at st s ≡ Some e → e.failed ≡ false → e.cursor ≡ None → hindrances.IsTooLarge write

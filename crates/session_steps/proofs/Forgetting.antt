@@ -11,7 +11,7 @@ use Rattle.commit_status.specs.Changes.{Truncates}
 use Rattle.commit_status.proofs.Places.{upto-next, upto-given, given-upto, place-from_at, is-from_some, some-from_is, at-from_place, precedes-turns}
 use Rattle.forgetting.proofs.Stays.{stays-known, place-stays}
 use Rattle.heap_write.specs.Heap.{HeapView}
-use Rattle.refinement.specs.declared.vacuum.Piece.{Piece}
+use Rattle.calls.specs.declared.vacuum.Piece.{Piece}
 use Rattle.vacuum_passes.specs.View.{VacuumView}
 use Rattle.vacuum_passes.specs.Steps.{Steps}
 use Rattle.session_steps.specs.declared.session.Session.{Session}

@@ -7,19 +7,20 @@ use Rattle.xid_circle.specs.declared.Tid.{Tid}
 use Rattle.root_index.specs.declared.index.PositionHint.{PositionHint}
 use Rattle.tuple_header.specs.declared.version.Row.{Row}
 use Rattle.history.specs.World.{World}
-use Rattle.refinement.specs.declared.step.Step.TheVariants.{Begin, Insert, Delete}
-use Rattle.refinement.specs.declared.reply.Reply.TheVariants.{Refused}
-use Rattle.refinement.specs.declared.reply.Refusal.{Refusal}
-use Rattle.refinement.specs.declared.reply.Refusal.TheVariants.{AlreadyThere, NotThere, Conflict, Busy, NoRoom, NeedsFreeze, NoMemory}
-use Rattle.refinement.specs.Words.{RowText, FitsRow}
-use Rattle.refinement.specs.Writes.{WriteStep, inserts, updates, deletes, step_of, key_of, Asks}
+use Rattle.calls.specs.declared.step.Step.TheVariants.{Begin, Insert, Delete}
+use Rattle.calls.specs.declared.reply.Reply.TheVariants.{Refused}
+use Rattle.calls.specs.declared.reply.Refusal.{Refusal}
+use Rattle.calls.specs.declared.reply.Refusal.TheVariants.{AlreadyThere, NotThere, Conflict, Busy, NoRoom, NeedsFreeze, NoMemory}
+use Rattle.calls.specs.Words.{RowToWrite, FitsRow}
+use Rattle.calls.specs.Writes.{WriteStep, inserts, updates, deletes, step_of, key_of, Asks}
+use Rattle.calls.specs.Bars.{BarsOpen, BarsFree}
 use Rattle.refinement.specs.Finds.{BeginsWrite}
 use Rattle.refinement.proofs.Hindrances as hindrances
 use Rattle.session_steps.specs.declared.session.Session.{Session}
-use Rattle.session_steps.specs.State.{State, session_at, put_session, refused_state, seen, reader_of, failed_session}
+use Rattle.session_steps.specs.State.{State, session_at, put_session, refused_state, seen, reader_of, failed_session, engine_sessions}
 use Rattle.session_steps.specs.Agrees.{Agrees, Follows}
 use Rattle.session_steps.specs.Tests.{ReadsPlace, IsLateKey, IsHeld, RefusesInsertOfKey, RefusesChangeOfKey, MayWriteKey}
-use Rattle.session_steps.specs.Refuses.{Refuses, RefusesFree, MayAct}
+use Rattle.session_steps.specs.Tests.{MayAct}
 use Rattle.session_steps.specs.Exact.{ExactInsert, ExactUpdate, ExactDelete, Exact}
 use Rattle.session_steps.specs.Follows.{FollowsInsert, FollowsUpdate}
 use Rattle.refinement.proofs.Runs.{same_indexes}
@@ -55,7 +56,7 @@ busies st s o e write at held begins w agrees =
     stays-so st w (step_of s write) (Refused (Busy o)) agrees g
 
 -- what an insert reads is none of the key, and what an update or a deletion reads is a row of it
-check_insert : (st : State) (s : ℕ) (e : Session) (text : RowText) → FitsRow text → ReadsPlace st s e text.key None
+check_insert : (st : State) (s : ℕ) (e : Session) (text : RowToWrite) → FitsRow text → ReadsPlace st s e text.key None
     → (w : World) → Agrees st w → (o : Option Row) × BeginsWrite (seen st) s (reader_of e) text.key o × Asks (inserts text) o
 check_insert st s e text fits reads w agrees = (None, begins-none st w s e text.key agrees reads, (fits, refl))
 
@@ -67,7 +68,7 @@ check_update st s e p write asks reads w agrees =
 
 -- Inserts.
 
-insert-hindered : (st : State) (s : ℕ) (text : RowText) (r : Refusal) → FitsRow text → RefusesInsertOfKey st s text.key r → Follows st (Insert s text) (Refused r) (refused_state st s r)
+insert-hindered : (st : State) (s : ℕ) (text : RowToWrite) (r : Refusal) → FitsRow text → RefusesInsertOfKey st s text.key r → Follows st (Insert s text) (Refused r) (refused_state st s r)
 insert-hindered st s text AlreadyThere fits (e, p, reads) = λ w agrees.
     let t = target-of st w s e text.key p agrees reads in
     Follows-same st (Insert s text) (Refused AlreadyThere)
@@ -117,27 +118,27 @@ exact-hindered_delete st s key _ h = refl
 
 -- A session that is not open, or has failed, leaves all as it was.
 
-pub exact-unready_insert : (st : State) (s : ℕ) (row : Row) (r : Refusal) → RefusesFree st s r → ExactInsert st s row (Refused r) st
+pub exact-unready_insert : (st : State) (s : ℕ) (row : Row) (r : Refusal) → BarsFree (engine_sessions st) s r → ExactInsert st s row (Refused r) st
 exact-unready_insert st s row Conflict is = absurd is
 exact-unready_insert st s row NoRoom is = absurd is
 exact-unready_insert st s row NeedsFreeze is = absurd is
 exact-unready_insert st s row NoMemory is = absurd is
 exact-unready_insert st s row _ is = refl
 
-pub exact-unready_update : (st : State) (s : ℕ) (row : Row) (r : Refusal) → RefusesFree st s r → ExactUpdate st s row (Refused r) st
+pub exact-unready_update : (st : State) (s : ℕ) (row : Row) (r : Refusal) → BarsFree (engine_sessions st) s r → ExactUpdate st s row (Refused r) st
 exact-unready_update st s row Conflict is = absurd is
 exact-unready_update st s row NoRoom is = absurd is
 exact-unready_update st s row NeedsFreeze is = absurd is
 exact-unready_update st s row NoMemory is = absurd is
 exact-unready_update st s row _ is = refl
 
-pub exact-unready_delete : (st : State) (s key : ℕ) (r : Refusal) → RefusesFree st s r → ExactDelete st s key (Refused r) st
+pub exact-unready_delete : (st : State) (s key : ℕ) (r : Refusal) → BarsFree (engine_sessions st) s r → ExactDelete st s key (Refused r) st
 exact-unready_delete st s key Conflict is = absurd is
 exact-unready_delete st s key NeedsFreeze is = absurd is
 exact-unready_delete st s key NoMemory is = absurd is
 exact-unready_delete st s key _ is = refl
 
-pub exact-closed : (st : State) (s : ℕ) (r : Refusal) → Refuses st s r → Exact st (Begin s) (Refused r) st
+pub exact-closed : (st : State) (s : ℕ) (r : Refusal) → BarsOpen (engine_sessions st) s r → Exact st (Begin s) (Refused r) st
 exact-closed st s NoMemory is = absurd is
 exact-closed st s _ is = refl
 

@@ -10,7 +10,7 @@ use Rattle.heap_write.specs.Heap.{slots_of, key_value}
 use Rattle.index_lookup.specs.declared.index_scan.IndexRange.{IndexRange}
 use Rattle.table_integrity.proofs.InUse.{index-sound}
 use Rattle.history.specs.World.{World, is_indexed}
-use Rattle.refinement.specs.declared.settings.Settings.{Settings}
+use Rattle.calls.specs.declared.settings.Settings.{Settings}
 use Rattle.refinement.specs.Agrees as relation
 use Rattle.session_steps.specs.declared.session.Session.{Session}
 use Rattle.session_steps.specs.declared.cursor.Cursor.{Cursor}

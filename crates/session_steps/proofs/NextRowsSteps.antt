@@ -7,13 +7,13 @@ use Rattle.tuple_header.specs.Places.{place_with, places_with}
 use Rattle.index_lookup.specs.declared.index_scan.IndexPosition.{IndexPosition}
 use Rattle.index_lookup.specs.declared.index_scan.IndexRange.{IndexRange}
 use Rattle.xid_circle.specs.declared.Tid.{Tid}
-use Rattle.refinement.specs.declared.reply.Reply.TheVariants.{Rows, End, Refused}
-use Rattle.refinement.specs.declared.reply.Refusal.{Refusal}
+use Rattle.calls.specs.declared.reply.Reply.TheVariants.{Rows, End, Refused}
+use Rattle.calls.specs.declared.reply.Refusal.{Refusal}
+use Rattle.calls.specs.Bars.{BarsWithCursor}
 use Rattle.session_steps.specs.declared.session.Session.{Session}
 use Rattle.session_steps.specs.declared.cursor.Cursor.{Cursor}
 use Rattle.session_steps.specs.declared.cursor.Cursor.TheVariants.{Index, Heap}
-use Rattle.session_steps.specs.State.{State, session_at, put_session, map_session, with_cursor}
-use Rattle.session_steps.specs.Refuses.{RefusesBare}
+use Rattle.session_steps.specs.State.{State, session_at, put_session, map_session, with_cursor, engine_sessions}
 use Rattle.session_steps.specs.Takes.{TakesRows, TakesUpTo}
 use Rattle.session_steps.specs.NextRows.{AnswersNextRows}
 use Rattle.session_steps.specs.Puts.{HasPut, PutsNext, PutsOfIndex, PutsOfHeap}
@@ -97,7 +97,7 @@ up-to-most st e (Heap from) most rows to (place, same, takes) = takes.at_most
 
 -- What is answered.
 
-pub puts-refused : (st : State) (s : ℕ) (places : List RowPlace) (r : Refusal) → RefusesBare st s r → AnswersNextRows st s places (Err r) places st
+pub puts-refused : (st : State) (s : ℕ) (places : List RowPlace) (r : Refusal) → BarsWithCursor (engine_sessions st) s r → AnswersNextRows st s places (Err r) places st
 puts-refused st s places r is = record {
   reply = Refused r;
   written = record { answers = refl; rows = refl };

@@ -8,10 +8,11 @@ use Rattle.tuple_header.specs.declared.version.Row.{Row}
 use Rattle.index_lookup.specs.declared.index_scan.IndexRange.{IndexRange}
 use Rattle.table_indexes.specs.Indexes.{IsInUse}
 use Rattle.history.specs.World.{World}
-use Rattle.refinement.specs.declared.step.Step.TheVariants.{Next}
-use Rattle.refinement.specs.declared.reply.Reply.TheVariants.{Rows, End, Refused}
-use Rattle.refinement.specs.declared.reply.Refusal.{Refusal}
-use Rattle.refinement.specs.declared.reply.Refusal.TheVariants.{NoMemory}
+use Rattle.calls.specs.declared.step.Step.TheVariants.{Next}
+use Rattle.calls.specs.declared.reply.Reply.TheVariants.{Rows, End, Refused}
+use Rattle.calls.specs.declared.reply.Refusal.{Refusal}
+use Rattle.calls.specs.declared.reply.Refusal.TheVariants.{NoMemory}
+use Rattle.calls.specs.Bars.{BarsWithCursor}
 use Rattle.refinement.specs.Allowed.{Allows, next}
 use Rattle.refinement.specs.Heap.{Position, in_index, in_heap}
 use Rattle.refinement.specs.Finds as finds
@@ -20,9 +21,8 @@ use Rattle.refinement.proofs.FollowsCursors as cursors
 use Rattle.session_steps.specs.declared.session.Session.{Session}
 use Rattle.session_steps.specs.declared.cursor.Cursor.{Cursor}
 use Rattle.session_steps.specs.declared.cursor.Cursor.TheVariants.{Index, Heap}
-use Rattle.session_steps.specs.State.{State, session_at, put_session, map_session, with_cursor, seen, seen_position, position_of, reader_of}
+use Rattle.session_steps.specs.State.{State, session_at, put_session, map_session, with_cursor, seen, seen_position, position_of, reader_of, engine_sessions}
 use Rattle.session_steps.specs.Agrees.{Agrees, Follows, KeepsAllTargets}
-use Rattle.session_steps.specs.Refuses.{RefusesBare}
 use Rattle.session_steps.specs.Takes.{IsAtCursor, IsAtEnd, IsNotAtEnd, TakesRows, WalksHeap, start_of, Takes, TakesUpTo, TakesSome, HandsOutBy}
 use Rattle.session_steps.specs.NextRows.{ExactNextRows}
 use Rattle.session_steps.proofs.InUse.{agree}
@@ -31,7 +31,7 @@ use Rattle.session_steps.proofs.Follows.{Follows-same, bare_by, led-same}
 use Rattle.session_steps.proofs.CursorSteps.{moved, only-cursor, sound-cursor}
 use Rattle.session_steps.proofs.WalkSteps.{used-at, left-in}
 
-pub Follows-bare_next : (st : State) (s n : ℕ) (r : Refusal) → RefusesBare st s r → Follows st (Next s n) (Refused r) st
+pub Follows-bare_next : (st : State) (s n : ℕ) (r : Refusal) → BarsWithCursor (engine_sessions st) s r → Follows st (Next s n) (Refused r) st
 Follows-bare_next st s n r is = Follows-same st (Next s n) (Refused r) (cursors.Follows-bare_next (seen st) s n r (bare_by st s r is))
 
 -- The session is open and has not failed, and its cursor is here.
@@ -145,7 +145,7 @@ hands-out takes st st' s n e cursor after rows at opened taken is = record {
   is = moved st st' s e (Some after) at is;
 }
 
-pub bare-next_rows : (st : State) (s n : ℕ) (r : Refusal) → RefusesBare st s r → ExactNextRows st s n (Refused r) st
+pub bare-next_rows : (st : State) (s n : ℕ) (r : Refusal) → BarsWithCursor (engine_sessions st) s r → ExactNextRows st s n (Refused r) st
 bare-next_rows st s n NoMemory is = is
 bare-next_rows st s n r is = refl
 

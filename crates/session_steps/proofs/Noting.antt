@@ -6,15 +6,15 @@ use Rattle.commit_status.specs.declared.status.Status.TheVariants.{InProgress, A
 use Rattle.commit_status.specs.Window.{IsWindow}
 use Rattle.commit_status.specs.Changes.{Finishes}
 use Rattle.snapshot.specs.Own.{Own, newest}
-use Rattle.refinement.specs.declared.step.Step.TheVariants.{Savepoint, RollbackTo, Release}
-use Rattle.refinement.specs.declared.reply.Reply.TheVariants.{Done}
+use Rattle.calls.specs.declared.step.Step.TheVariants.{Savepoint, RollbackTo, Release}
+use Rattle.calls.specs.declared.reply.Reply.TheVariants.{Done}
 use Rattle.heap_write.specs.Heap.{HeapView}
 use Rattle.session_steps.specs.declared.session.Session.{Session}
 use Rattle.session_steps.specs.State.{State, session_at, put_session}
 use Rattle.session_steps.specs.Keeps.{open_at, EngineKeeps}
 use Rattle.session_steps.specs.Agrees.{Follows}
 use Rattle.session_steps.specs.Changes.{SetsSavepoint, Releases, RollsBackOn, RollsBack}
-use Rattle.session_steps.specs.Refuses.{MayAct}
+use Rattle.session_steps.specs.Tests.{MayAct}
 use Rattle.session_steps.proofs.OwnIdsLemmas.{keep-dropped}
 use Rattle.session_steps.proofs.Idle.{open-put}
 use Rattle.session_steps.proofs.Savepoints.{Follows-savepoint, Follows-release, Follows-roll_back_to}

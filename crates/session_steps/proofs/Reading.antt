@@ -7,8 +7,8 @@ use Rattle.visibility.specs.Visible.{IsVisible}
 use Rattle.index_lookup.specs.Looking.{FirstFound}
 use Rattle.heap_write.specs.Heap.{slots_of}
 use Rattle.history.specs.World.{World, OpenSession, view}
-use Rattle.refinement.specs.declared.step.Step.TheVariants.{Get}
-use Rattle.refinement.specs.declared.reply.Reply.TheVariants.{Found}
+use Rattle.calls.specs.declared.step.Step.TheVariants.{Get}
+use Rattle.calls.specs.declared.reply.Reply.TheVariants.{Found}
 use Rattle.refinement.proofs.Follows as theory
 use Rattle.session_steps.specs.declared.session.Session.{Session}
 use Rattle.session_steps.specs.State.{State, session_at, seen, reader_of}

@@ -11,10 +11,11 @@ use Rattle.visibility.proofs.Makers.{active-to}
 use Rattle.index_lookup.specs.Pages.{version_in}
 use Rattle.index_lookup.specs.Pages as lists
 use Rattle.history.specs.World.{World}
-use Rattle.refinement.specs.declared.step.Step.TheVariants.{Savepoint, RollbackTo, Release}
-use Rattle.refinement.specs.declared.reply.Reply.TheVariants.{Done, Refused}
-use Rattle.refinement.specs.declared.reply.Refusal.{Refusal}
-use Rattle.refinement.specs.declared.reply.Refusal.TheVariants.{NoSavepoint, TooDeep, NoMemory, CursorOpen}
+use Rattle.calls.specs.declared.step.Step.TheVariants.{Savepoint, RollbackTo, Release}
+use Rattle.calls.specs.declared.reply.Reply.TheVariants.{Done, Refused}
+use Rattle.calls.specs.declared.reply.Refusal.{Refusal}
+use Rattle.calls.specs.declared.reply.Refusal.TheVariants.{NoSavepoint, TooDeep, NoMemory, CursorOpen}
+use Rattle.calls.specs.Bars.{BarsOpen, BarsFree}
 use Rattle.refinement.specs.Heap as relation
 use Rattle.refinement.specs.Allowed.{Allows, next}
 use Rattle.refinement.specs.Agrees as theory
@@ -23,9 +24,8 @@ use Rattle.refinement.proofs.Steps.{OnlyIs, SameSights}
 use Rattle.refinement.proofs.FollowsSavepoints as savepoints
 use Rattle.session_steps.specs.declared.session.Session.{Session}
 use Rattle.visibility.specs.Visible.{state_of}
-use Rattle.session_steps.specs.State.{State, session_at, put_session, seen, position_of, reader_of}
+use Rattle.session_steps.specs.State.{State, session_at, put_session, seen, position_of, reader_of, engine_sessions}
 use Rattle.session_steps.specs.Agrees.{Agrees, Follows, KeepsAllTargets}
-use Rattle.session_steps.specs.Refuses.{Refuses, RefusesFree}
 use Rattle.session_steps.specs.Changes.{SetsSavepoint, Releases, RollsBack}
 use Rattle.session_steps.proofs.OwnIdsLemmas.{open-within}
 use Rattle.session_steps.proofs.StateLemmas.{only-set}
@@ -45,20 +45,20 @@ pub Follows-savepoint_no_memory : (st : State) (s : ℕ) (e : Session) → sessi
 Follows-savepoint_no_memory st s e at sound bare room =
     Follows-same st (Savepoint s) (Refused NoMemory) (savepoints.Follows-savepoint_no_memory (seen st) s (reader_of e) (reader-is st s e at) sound (ap position_of bare) room)
 
-pub Follows-barred_savepoint : (st : State) (s : ℕ) (r : Refusal) → RefusesFree st s r → Follows st (Savepoint s) (Refused r) st
+pub Follows-barred_savepoint : (st : State) (s : ℕ) (r : Refusal) → BarsFree (engine_sessions st) s r → Follows st (Savepoint s) (Refused r) st
 Follows-barred_savepoint st s r is = Follows-same st (Savepoint s) (Refused r) (savepoints.Follows-barred_savepoint (seen st) s r (free_by st s r is))
 
 pub Follows-nowhere_to_return : (st : State) (s : ℕ) (e : Session) → session_at st s ≡ Some e → e.cursor ≡ None → e.own.saved ≡ [] → Follows st (RollbackTo s) (Refused NoSavepoint) st
 Follows-nowhere_to_return st s e at bare none = Follows-same st (RollbackTo s) (Refused NoSavepoint) (savepoints.Follows-nowhere_to_return (seen st) s (reader_of e) (reader-is st s e at) (ap position_of bare) none)
 
-pub Follows-closed_roll_back_to : (st : State) (s : ℕ) (r : Refusal) → Refuses st s r → Follows st (RollbackTo s) (Refused r) st
+pub Follows-closed_roll_back_to : (st : State) (s : ℕ) (r : Refusal) → BarsOpen (engine_sessions st) s r → Follows st (RollbackTo s) (Refused r) st
 Follows-closed_roll_back_to st s r is = Follows-same st (RollbackTo s) (Refused r) (savepoints.Follows-closed_roll_back_to (seen st) s r (closed_by st s r is))
 
 pub Follows-nothing_to_release : (st : State) (s : ℕ) (e : Session) → session_at st s ≡ Some e → e.failed ≡ false → e.cursor ≡ None → e.own.saved ≡ [] → Follows st (Release s) (Refused NoSavepoint) st
 Follows-nothing_to_release st s e at sound bare none =
     Follows-same st (Release s) (Refused NoSavepoint) (savepoints.Follows-nothing_to_release (seen st) s (reader_of e) (reader-is st s e at) sound (ap position_of bare) none)
 
-pub Follows-barred_release : (st : State) (s : ℕ) (r : Refusal) → RefusesFree st s r → Follows st (Release s) (Refused r) st
+pub Follows-barred_release : (st : State) (s : ℕ) (r : Refusal) → BarsFree (engine_sessions st) s r → Follows st (Release s) (Refused r) st
 Follows-barred_release st s r is = Follows-same st (Release s) (Refused r) (savepoints.Follows-barred_release (seen st) s r (free_by st s r is))
 
 pub Follows-barred_roll_back_to : (st : State) (s : ℕ) (e : Session) → session_at st s ≡ Some e → IsSome e.cursor → Follows st (RollbackTo s) (Refused CursorOpen) st

@@ -20,7 +20,7 @@ use Rattle.table_integrity.proofs.Places.{version-on}
 use Rattle.session_steps.specs.declared.session.Session.{Session}
 use Rattle.session_steps.specs.State.{State, session_at, horizon_of}
 use Rattle.session_steps.specs.Keeps.{open_at, EngineKeeps}
-use Rattle.refinement.specs.declared.reply.Reply.{Reply}
+use Rattle.calls.specs.declared.reply.Reply.{Reply}
 use Rattle.session_steps.specs.Tests.{FindsPlace, MayWriteKey}
 use Rattle.session_steps.specs.Follows.{FollowsUpdate}
 use Rattle.session_steps.specs.Writes.{TriesInsert, TriesUpdate, TriesDelete, outcome_of, reply_for}

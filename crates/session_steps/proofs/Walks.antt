@@ -19,7 +19,8 @@ use Rattle.heap_write.specs.Heap.{slots_of}
 use Rattle.index_lookup.specs.Walking.{LiesIn, ComesAfter, IsNextRow, NoneLeft}
 use Rattle.index_lookup.specs.Walking as walking
 use Rattle.table_integrity.proofs.InUse.{index-sound}
-use Rattle.history.specs.Cursors.{value_in, ComesBefore}
+use Rattle.tuple_header.specs.IndexValue.{value_in}
+use Rattle.history.specs.Cursors.{ComesBefore}
 use Rattle.history.specs.World.{World}
 use Rattle.refinement.specs.Heap.{in_index}
 use Rattle.refinement.specs.Heap as relation

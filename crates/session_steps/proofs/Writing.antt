@@ -19,11 +19,11 @@ use Rattle.table_integrity.proofs.Keeping.{kept-stays, readied-stays, ready-come
 use Rattle.table_integrity.proofs.InUse.{stays-then}
 use Rattle.table_integrity.proofs.Writing.{inserted-stays, updated-stays, deleted-stays}
 use Rattle.history.specs.World.{World}
-use Rattle.refinement.specs.declared.step.Step.TheVariants.{Insert, Update, Delete}
-use Rattle.refinement.specs.declared.reply.Reply.TheVariants.{Done, Refused}
-use Rattle.refinement.specs.declared.reply.Refusal.TheVariants.{NoRoom, NeedsFreeze, NoMemory}
-use Rattle.refinement.specs.Words.{RowText, FitsRow, row_of}
-use Rattle.refinement.specs.Writes.{inserts, updates, deletes}
+use Rattle.calls.specs.declared.step.Step.TheVariants.{Insert, Update, Delete}
+use Rattle.calls.specs.declared.reply.Reply.TheVariants.{Done, Refused}
+use Rattle.calls.specs.declared.reply.Refusal.TheVariants.{NoRoom, NeedsFreeze, NoMemory}
+use Rattle.calls.specs.Words.{RowToWrite, FitsRow, row_of}
+use Rattle.calls.specs.Writes.{inserts, updates, deletes}
 use Rattle.refinement.specs.Allowed.{Allows, next}
 use Rattle.refinement.specs.Visible.{ReaderSees}
 use Rattle.refinement.specs.Agrees as theory
@@ -109,10 +109,10 @@ module _ (st : State) (w : World) (s : ℕ) (e e' : Session) (at : session_at st
 -- Inserts.
 
 -- of the tests and of the words in which a row was asked for
-by-key : (row : Row) (text : RowText) → row ≡ row_of text → row.key ≡ text.key
+by-key : (row : Row) (text : RowToWrite) → row ≡ row_of text → row.key ≡ text.key
 by-key row text same = ap (λ (r : Row). r.key) same
 
-module _ (st : State) (w : World) (s : ℕ) (text : RowText) (e : Session) (free : Free (seen st) s (reader_of e) text.key None) (fits : FitsRow text) (at : session_at st s ≡ Some e) (agrees : Agrees st w) where
+module _ (st : State) (w : World) (s : ℕ) (text : RowToWrite) (e : Session) (free : Free (seen st) s (reader_of e) text.key None) (fits : FitsRow text) (at : session_at st s ≡ Some e) (agrees : Agrees st w) where
   inserted : (h : HeapView) (own : Own) (x : ℕ) → Inserts st.heap h e.own own (row_of text) x → IsWindow h.statuses
       → Allows w (Insert s text) Done × Agrees (with_write st h s (with_own e own)) (next w (Insert s text) Done) × KeepsAllTargets st (with_write st h s (with_own e own))
   inserted h own x i window =
@@ -166,7 +166,7 @@ module _ (st : State) (w : World) (s : ℕ) (key : ℕ) (e : Session) (place : T
 
 -- Updates.
 
-module _ (st : State) (w : World) (s : ℕ) (text : RowText) (e : Session) (place : Tid) (t : Version) (target : IsTarget st e text.key place t) (free : Free (seen st) s (reader_of e) text.key (Some t.row))
+module _ (st : State) (w : World) (s : ℕ) (text : RowToWrite) (e : Session) (place : Tid) (t : Version) (target : IsTarget st e text.key place t) (free : Free (seen st) s (reader_of e) text.key (Some t.row))
     (fits : FitsRow text) (at : session_at st s ≡ Some e) (agrees : Agrees st w) where
   updated : (h : HeapView) (own : Own) (x : ℕ) → Updates st.heap h e.own own place (row_of text) (horizon_of st) x → IsWindow h.statuses
       → Allows w (Update s text) Done × Agrees (with_write st h s (with_own e own)) (next w (Update s text) Done) × KeepsAllTargets st (with_write st h s (with_own e own))

@@ -5,8 +5,8 @@ use Rattle.snapshot.specs.Laws.{IsInWindow}
 use Rattle.snapshot.specs.Own.{ArePrefixes, AreDistinct}
 use Rattle.commit_status.specs.Window.{Window, IsWindow, IsCommitted, top_of}
 use Rattle.forgetting.specs.Truncating.{IsWellTopped}
-use Rattle.refinement.specs.declared.step.Step.{Step}
-use Rattle.refinement.specs.declared.reply.Reply.{Reply}
+use Rattle.calls.specs.declared.step.Step.{Step}
+use Rattle.calls.specs.declared.reply.Reply.{Reply}
 use Rattle.refinement.specs.Allowed.{Allows, next}
 use Rattle.refinement.specs.Agrees as relation
 use Rattle.sound_entries.specs.Entries.{KeepsTargets}
@@ -17,7 +17,7 @@ use Rattle.table_integrity.specs.Table.{SoundTable}
 use Rattle.session_steps.specs.declared.session.Session.{Session}
 use Rattle.session_steps.specs.declared.cursor.Cursor.TheVariants.{Index}
 use Rattle.session_steps.specs.State.{State, session_at, seen, horizon_of}
-use Rattle.session_steps.specs.declared.sessions.TheConstants.{MOST_SESSIONS}
+use Rattle.calls.specs.declared.step.TheConstants.{MOST_SESSIONS}
 
 -- what the ids of an open session keep
 pub record SessionKeeps (w : Window) (e : Session) : Type 0 where

@@ -11,13 +11,13 @@ use Rattle.heap_write.specs.Heap.{HeapView}
 use Rattle.heap_write.specs.Writes.{Prunes}
 use Rattle.heap_write.specs.declared.heap.WriteFault.{WriteFault}
 use Rattle.heap_write.specs.declared.heap.WriteFault.TheVariants as fault
-use Rattle.refinement.specs.declared.step.Step.{Step}
-use Rattle.refinement.specs.declared.step.Step.TheVariants.{Begin, Get, Insert, Update, Delete, Savepoint, RollbackTo, Release, OpenIndex, OpenHeap, Next, Close, Commit, Abort, Prune}
-use Rattle.refinement.specs.declared.reply.Reply.{Reply}
-use Rattle.refinement.specs.declared.reply.Reply.TheVariants.{Done, Rows, End, Committed, RolledBack, Refused}
-use Rattle.refinement.specs.declared.reply.Refusal.TheVariants.{Conflict, NoRoom, NeedsFreeze, NoMemory, NoSuchPage, NoSuchIndex, BadBounds}
-use Rattle.refinement.specs.Words.{row_of}
-use Rattle.refinement.specs.Cursors.{first_place}
+use Rattle.calls.specs.declared.step.Step.{Step}
+use Rattle.calls.specs.declared.step.Step.TheVariants.{Begin, Get, Insert, Update, Delete, Savepoint, RollbackTo, Release, OpenIndex, OpenHeap, Next, Close, Commit, Abort, Prune}
+use Rattle.calls.specs.declared.reply.Reply.{Reply}
+use Rattle.calls.specs.declared.reply.Reply.TheVariants.{Done, Rows, End, Committed, RolledBack, Refused}
+use Rattle.calls.specs.declared.reply.Refusal.TheVariants.{Conflict, NoRoom, NeedsFreeze, NoMemory, NoSuchPage, NoSuchIndex, BadBounds}
+use Rattle.calls.specs.Words.{row_of}
+use Rattle.refinement.specs.Cursors.{heap_start}
 use Rattle.session_steps.specs.declared.session.Session.{Session}
 use Rattle.session_steps.specs.declared.cursor.Cursor.{Cursor}
 use Rattle.session_steps.specs.declared.cursor.Cursor.TheVariants.{Index, Heap}
@@ -117,7 +117,7 @@ Exact old (OpenIndex s index low high) Done new = HasCursor old new s (Some (Ind
 Exact old (OpenIndex s index low high) (Refused NoSuchIndex) new = (engine_index old index ≡ None) × (new ≡ old)
 Exact old (OpenIndex s index low high) (Refused BadBounds) new = IsSome (engine_index old index) × (new ≡ old)
 Exact old (OpenIndex s index low high) (Refused NoMemory) new = ⊥
-Exact old (OpenHeap s) Done new = HasCursor old new s (Some (Heap first_place))
+Exact old (OpenHeap s) Done new = HasCursor old new s (Some (Heap heap_start))
 Exact old (OpenHeap s) (Refused NoMemory) new = ⊥
 Exact old (Next s n) (Rows rows) new = HandsOut old new s n rows.items
 Exact old (Next s n) End new = new ≡ old

@@ -1,16 +1,16 @@
 -- A write of a row follows the history, whatever the words in which it was asked for.
 use Rattle.std.specs.Prelude.{◌≡◌, ℕ}
 use Rattle.tuple_header.specs.declared.version.Row.{Row}
-use Rattle.refinement.specs.declared.step.Step.TheVariants.{Insert, Update}
-use Rattle.refinement.specs.declared.reply.Reply.{Reply}
-use Rattle.refinement.specs.Words.{RowText, FitsRow, row_of}
+use Rattle.calls.specs.declared.step.Step.TheVariants.{Insert, Update}
+use Rattle.calls.specs.declared.reply.Reply.{Reply}
+use Rattle.calls.specs.Words.{RowToWrite, FitsRow, row_of}
 use Rattle.session_steps.specs.State.{State}
 use Rattle.session_steps.specs.Agrees.{Follows}
 
 -- the reply to an insert of a row that is not too large
 abbrev pub FollowsInsert : State → ℕ → Row → Reply → State → Type 0
-FollowsInsert old s row reply new = (text : RowText) → FitsRow text → row ≡ row_of text → Follows old (Insert s text) reply new
+FollowsInsert old s row reply new = (text : RowToWrite) → FitsRow text → row ≡ row_of text → Follows old (Insert s text) reply new
 
 -- and to an update to it
 abbrev pub FollowsUpdate : State → ℕ → Row → Reply → State → Type 0
-FollowsUpdate old s row reply new = (text : RowText) → FitsRow text → row ≡ row_of text → Follows old (Update s text) reply new
+FollowsUpdate old s row reply new = (text : RowToWrite) → FitsRow text → row ≡ row_of text → Follows old (Update s text) reply new

@@ -4,7 +4,7 @@ use Rattle.std.specs.Option.{option_flatten}
 use Rattle.commit_status.specs.Window.{Window, IsActive}
 use Rattle.snapshot.specs.Own.{AreDistinct}
 use Rattle.session_steps.specs.declared.session.Session.{Session}
-use Rattle.session_steps.specs.declared.sessions.TheConstants.{MOST_SESSIONS}
+use Rattle.calls.specs.declared.step.TheConstants.{MOST_SESSIONS}
 
 abbrev pub open_at : List (Option Session) → ℕ → Option Session
 open_at sessions s = option_flatten (slice_get sessions s)

@@ -10,7 +10,7 @@ use Rattle.visibility.specs.Visible.{IsVisible}
 use Rattle.sound_entries.specs.Leading.{IsByIndex}
 use Rattle.table_indexes.specs.Indexes.{entries_in, IsInUse}
 use Rattle.heap_write.specs.Heap.{HeapView, slots_of}
-use Rattle.history.specs.Cursors.{value_in}
+use Rattle.tuple_header.specs.IndexValue.{value_in}
 use Rattle.history.specs.History.{Write, Transaction, committed, reading}
 use Rattle.history.specs.World.{World, OpenSession, joined, view}
 use Rattle.session_steps.specs.declared.session.Session.{Session}

@@ -2,7 +2,6 @@ pub mod Keeps
 pub mod State
 pub mod Sessions
 pub mod Agrees
-pub mod Refuses
 pub mod Tests
 pub mod Replies
 pub mod Changes

@@ -2,7 +2,7 @@
 use Rattle.std.specs.Prelude.{[], ◌≡◌, ℕ}
 use Rattle.history.specs.World.{beginning}
 use Rattle.table_indexes.specs.Indexes.{entries_at, new_entries}
-use Rattle.refinement.specs.declared.settings.Settings.{Settings}
+use Rattle.calls.specs.declared.settings.Settings.{Settings}
 use Rattle.session_steps.specs.State.{State}
 use Rattle.session_steps.specs.Agrees.{Agrees}
 

@@ -11,9 +11,10 @@ use Rattle.root_index.specs.View.{IndexView}
 use Rattle.table_indexes.specs.Indexes as indexes
 use Rattle.index_lookup.specs.Pages.{version_in}
 use Rattle.heap_write.specs.Heap.{HeapView, slots_of}
-use Rattle.refinement.specs.declared.settings.Settings.{Settings}
-use Rattle.refinement.specs.declared.reply.Refusal.{Refusal}
-use Rattle.refinement.specs.declared.reply.Refusal.TheVariants.{Conflict}
+use Rattle.calls.specs.declared.settings.Settings.{Settings}
+use Rattle.calls.specs.declared.reply.Refusal.{Refusal}
+use Rattle.calls.specs.declared.reply.Refusal.TheVariants.{Conflict}
+use Rattle.calls.specs.Bars.{SessionLooks}
 use Rattle.refinement.specs.Heap as relation
 use Rattle.session_steps.specs.declared.session.Session.{Session}
 use Rattle.index_lookup.specs.declared.index_scan.IndexPosition.{IndexPosition}
@@ -27,6 +28,10 @@ pub record State : Type 0 where
 
 abbrev pub session_at : State → ℕ → Option Session
 session_at st s = option_flatten (slice_get st.sessions s)
+
+-- the sessions, as far as what bars one from a step looks at them
+abbrev pub engine_sessions : State → SessionLooks Session Cursor
+engine_sessions st = record { session = session_at st; failed = λ e. e.failed; cursor = λ e. e.cursor }
 
 -- the index of this number, if there is one
 abbrev pub engine_index : State → ℕ → Option IndexView

@@ -5,11 +5,15 @@ use Rattle.xid_circle.specs.declared.Tid.{Tid}
 use Rattle.visibility.specs.Visible.{IsVisible, IsOtherWriterIn, IsNewerCommitIn}
 use Rattle.index_lookup.specs.Looking.{FirstPlace, SomeOf}
 use Rattle.heap_write.specs.Heap.{HeapView, slots_of}
-use Rattle.refinement.specs.declared.reply.Refusal.{Refusal}
-use Rattle.refinement.specs.declared.reply.Refusal.TheVariants.{AlreadyThere, NotThere, Conflict, Busy}
+use Rattle.calls.specs.declared.reply.Refusal.{Refusal}
+use Rattle.calls.specs.declared.reply.Refusal.TheVariants.{AlreadyThere, NotThere, Conflict, Busy}
 use Rattle.session_steps.specs.declared.session.Session.{Session}
 use Rattle.session_steps.specs.State.{State, session_at}
-use Rattle.session_steps.specs.declared.sessions.TheConstants.{MOST_SESSIONS}
+use Rattle.calls.specs.declared.step.TheConstants.{MOST_SESSIONS}
+
+-- the session is open, has not failed and has no cursor: it may do anything but a step of a cursor
+abbrev pub MayAct : State → ℕ → Session → Type 0
+MayAct st s e = (s < MOST_SESSIONS) × (session_at st s ≡ Some e) × (e.failed ≡ false) × (e.cursor ≡ None)
 
 -- the place of the version of the key that the session reads, if it reads one
 abbrev pub FindsPlace : HeapView → Session → ℕ → Option Tid → Type 0

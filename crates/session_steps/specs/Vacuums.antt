@@ -4,8 +4,8 @@ use Rattle.forgetting.specs.Cutoffs.{cutoff_at}
 use Rattle.commit_status.specs.Window.{IsUpToNext, next_id, turns}
 use Rattle.table_indexes.specs.Indexes.{HasIndexes, all_entries}
 use Rattle.heap_write.specs.Cleaning.{ForgetsBefore}
-use Rattle.refinement.specs.declared.vacuum.Mode.{Mode}
-use Rattle.refinement.specs.declared.vacuum.Piece.{Piece}
+use Rattle.calls.specs.declared.vacuum.Mode.{Mode}
+use Rattle.calls.specs.declared.vacuum.Piece.{Piece}
 use Rattle.vacuum_passes.specs.View.{VacuumView, new_vacuum}
 use Rattle.vacuum_passes.specs.Steps.{Steps}
 use Rattle.session_steps.specs.declared.session.Session.{Session}

@@ -5,14 +5,14 @@ ghost use Rattle.snapshot.specs.Snap.{taken};
 ghost use Rattle.xid_circle.specs.Circle.{IsNormal};
 ghost use Rattle.commit_status.specs.Window.{next_id};
 ghost use Rattle.session_steps.specs.State.{owns_of};
-ghost use Rattle.refinement.specs.declared.step.Step.{Step};
+ghost use Rattle.calls.specs.declared.step.Step.{Step};
 ghost use Rattle.session_steps.specs.Exact.{MustList, AnswersStep};
 ghost use Rattle.session_steps.specs.Replies.{reply_to};
 
 use crate::engine::SessionEngine;
 use crate::outcome::Ack;
 use crate::session::Session;
-use refinement::Refusal;
+use calls::Refusal;
 use snapshot::Snapshot;
 use std::alloc::{AllocError, Global};
 use xid_circle::Xid;

@@ -1,9 +1,9 @@
 //! Settings that an engine can have.
 
 ghost use Rattle.std.specs.Prelude.{◌≡◌, ◌<◌, ◌≤◌};
-ghost use Rattle.refinement.specs.Words.{AreSettings};
+ghost use Rattle.calls.specs.Words.{AreSettings};
 
-use refinement::Settings;
+use calls::Settings;
 use std::marker::Model;
 
 /// Settings that are in their ranges.
@@ -13,8 +13,8 @@ pub(crate) struct CheckedSettings {
 }
 
 impl Model for CheckedSettings {
-    ghost use Rattle.refinement.specs.declared.settings.Settings.{Settings};
-    ghost use Rattle.refinement.specs.Words.{AreSettings};
+    ghost use Rattle.calls.specs.declared.settings.Settings.{Settings};
+    ghost use Rattle.calls.specs.Words.{AreSettings};
 
     ghost Value = { Settings };
 

@@ -1,19 +1,20 @@
 //! What every write of a session asks first, and what it answers.
 
 ghost use Rattle.std.specs.Prelude.{◌≡◌, ◌≢◌, ◌<◌, ◌≤◌, ℕ, length, MatchOption, MatchResult, OnOk, IfErr, Some, None, Contains, Err};
-ghost use Rattle.refinement.specs.Words.{FitsRow, row_of};
+ghost use Rattle.calls.specs.Words.{FitsRow, row_of};
 ghost use Rattle.session_steps.specs.Keeps.{open_at};
-ghost use Rattle.session_steps.specs.Refuses.{MayAct};
+ghost use Rattle.session_steps.specs.Tests.{MayAct};
 ghost use Rattle.session_steps.specs.State.{session_at, refused_state};
 ghost use Rattle.session_steps.specs.Tests.{FindsPlace, IsUncontested, ConflictsWrite, MayWriteKey, RefusesInsertOfKey, RefusesChangeOfKey};
-ghost use Rattle.session_steps.specs.declared.sessions.TheConstants.{MOST_SESSIONS};
+ghost use Rattle.calls.specs.declared.step.TheConstants.{MOST_SESSIONS};
 
 use crate::engine::SessionEngine;
 use crate::outcome::Ack;
 use crate::session::Session;
 use arrayvec::ArrayVec;
-use refinement::{Refusal, Row, RowIn};
+use calls::{Refusal, Row, RowIn};
 use root_index::PositionHint;
+use tuple_header::MOST_BODY;
 use xid_circle::{Tid, Xid};
 
 /// A row of the table without a body, to be filled: it has over a kilobyte, and is made where it stays.
@@ -29,7 +30,7 @@ pub(crate) fn empty_row() -> Row {
 pub(crate) fn fill_row(place: &mut Row, row: &RowIn) -> Result<(), Refusal>
     ensures filled { OnOk result (FitsRow row.now × (place.new ≡ row_of row.now)) }
     ensures fault { IfErr result
-        (λ refusal. (refusal ≡ Refusal.TooLarge) × (1024 < length row.now.body)) }
+        (λ refusal. (refusal ≡ Refusal.TooLarge) × (MOST_BODY < length row.now.body)) }
 {
     place.key = row.key;
     place.cols = row.cols;

@@ -1,13 +1,13 @@
 //! A session ends.
 
-ghost use Rattle.refinement.specs.declared.step.Step.{Step};
+ghost use Rattle.calls.specs.declared.step.Step.{Step};
 ghost use Rattle.session_steps.specs.Exact.{AnswersStep};
 ghost use Rattle.session_steps.specs.Replies.{reply_to};
 
 use crate::engine::SessionEngine;
 use crate::outcome::Ack;
+use calls::Refusal;
 use commit_status::Status;
-use refinement::Refusal;
 
 impl SessionEngine {
     /// Makes what the session wrote part of the history, unless it has failed, and closes it. Refusals in order:

@@ -1,7 +1,7 @@
 //! A session opens a cursor, asks it for rows, and closes it.
 
 ghost use Rattle.std.specs.Prelude.{◌≢◌, None};
-ghost use Rattle.refinement.specs.declared.step.Step.{Step};
+ghost use Rattle.calls.specs.declared.step.Step.{Step};
 ghost use Rattle.session_steps.specs.State.{session_at};
 ghost use Rattle.session_steps.specs.Exact.{HasCursor, AnswersStep};
 ghost use Rattle.session_steps.specs.Replies.{reply_to};
@@ -10,8 +10,8 @@ use crate::cursor::Cursor;
 use crate::engine::SessionEngine;
 use crate::next::start_of;
 use crate::outcome::Ack;
+use calls::Refusal;
 use heap_write::IndexRange;
-use refinement::Refusal;
 
 impl SessionEngine {
     /// Puts another cursor, or none, in the place of that of an open session.

@@ -1,14 +1,14 @@
 //! A session takes the row of a key away.
 
 ghost use Rattle.std.specs.Prelude.{Some};
-ghost use Rattle.refinement.specs.declared.step.Step.{Step};
+ghost use Rattle.calls.specs.declared.step.Step.{Step};
 ghost use Rattle.session_steps.specs.Exact.{AnswersStep};
 ghost use Rattle.session_steps.specs.Replies.{reply_to};
 ghost use Rattle.session_steps.specs.Tests.{MayWriteKey};
 
 use crate::engine::SessionEngine;
 use crate::outcome::{Ack, write_answer};
-use refinement::Refusal;
+use calls::Refusal;
 use xid_circle::Tid;
 
 impl SessionEngine {

@@ -2,23 +2,24 @@
 
 ghost use Rattle.std.specs.Prelude.{◌≡◌, ◌≢◌, ◌<◌, slice_get, option_copied, IfOk, IfErr, OnOk, MatchResult, Some, None, false};
 ghost use Rattle.std.specs.Option.{option_map};
-ghost use Rattle.refinement.specs.Words.{AreSettings, FirstFault};
+ghost use Rattle.calls.specs.Words.{AreSettings, FirstFault};
+ghost use Rattle.calls.specs.Bars.{BarsOpen, BarsReady, BarsFree, BarsWithCursor};
 ghost use Rattle.commit_status.specs.Window.{next_id};
 ghost use Rattle.space_maps.specs.View.{mark_on};
-ghost use Rattle.session_steps.specs.State.{session_at, engine_index, bits_of};
+ghost use Rattle.session_steps.specs.State.{session_at, engine_index, bits_of, engine_sessions};
 ghost use Rattle.session_steps.specs.Changes.{Opens, Closes};
-ghost use Rattle.session_steps.specs.Refuses.{Refuses, RefusesReady, RefusesFree, MayAct, RefusesBare};
+ghost use Rattle.session_steps.specs.Tests.{MayAct};
 ghost use Rattle.session_steps.specs.New.{IsNew};
-ghost use Rattle.session_steps.specs.declared.sessions.TheConstants.{MOST_SESSIONS};
+ghost use Rattle.calls.specs.declared.step.TheConstants.{MOST_SESSIONS};
 
 use crate::checked::CheckedSettings;
 use crate::cursor::Cursor;
 use crate::session::Session;
 use crate::sessions::Sessions;
+use calls::{Refusal, Settings, SettingsFault};
 use commit_status::Status;
 use heap_write::HeapState;
 use page_slots::Page;
-use refinement::{Refusal, Settings, SettingsFault};
 use root_index::RootIndex;
 use snapshot::{OwnIds, Snapshot};
 use space_maps::Mark;
@@ -126,7 +127,7 @@ impl SessionEngine {
     pub(crate) fn opened(&self, s: u8) -> Result<&Session, Refusal>
         ensures { MatchResult result
             (λ e. (s < MOST_SESSIONS) × (session_at self.now s ≡ Some e.now))
-            (λ refusal. Refuses self.now s refusal) }
+            (λ refusal. BarsOpen (engine_sessions self.now) s refusal) }
     {
         if s >= 64 {
             return Err(Refusal::NoSuchSession);
@@ -142,7 +143,7 @@ impl SessionEngine {
         ensures { MatchResult result
             (λ e. (s < MOST_SESSIONS) × (session_at self.now s ≡ Some e.now)
             × (e.now.failed ≡ false))
-            (λ refusal. RefusesReady self.now s refusal) }
+            (λ refusal. BarsReady (engine_sessions self.now) s refusal) }
     {
         let session = self.opened(s)?;
         if session.failed {
@@ -154,7 +155,7 @@ impl SessionEngine {
     /// The session, if it is open, has not failed and has no cursor.
     pub(crate) fn free(&self, s: u8) -> Result<&Session, Refusal>
         ensures { MatchResult result (λ e. MayAct self.now s e.now)
-            (λ refusal. RefusesFree self.now s refusal) }
+            (λ refusal. BarsFree (engine_sessions self.now) s refusal) }
     {
         let session = self.ready(s)?;
         match session.cursor {
@@ -168,7 +169,7 @@ impl SessionEngine {
         ensures { MatchResult result
             (λ found. (s < MOST_SESSIONS) × (session_at self.now s ≡ Some found.0.now)
             × (found.0.now.failed ≡ false) × (found.0.now.cursor ≡ Some found.1))
-            (λ refusal. RefusesBare self.now s refusal) }
+            (λ refusal. BarsWithCursor (engine_sessions self.now) s refusal) }
     {
         let session = self.ready(s)?;
         match session.cursor {

@@ -1,13 +1,13 @@
 //! A session reads.
 
 ghost use Rattle.std.specs.Prelude.{◌≡◌};
-ghost use Rattle.refinement.specs.declared.reply.Reply.TheVariants.{Found};
-ghost use Rattle.refinement.specs.declared.step.Step.{Step};
+ghost use Rattle.calls.specs.declared.reply.Reply.TheVariants.{Found};
+ghost use Rattle.calls.specs.declared.step.Step.{Step};
 ghost use Rattle.session_steps.specs.Exact.{AnswersStep};
 
 use crate::engine::SessionEngine;
 use arrayvec::ArrayVec;
-use refinement::{Reply, Row};
+use calls::{Reply, Row};
 use tuple_header::RowRef;
 
 impl SessionEngine {

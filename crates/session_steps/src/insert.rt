@@ -1,7 +1,7 @@
 //! A session writes a row of a key that has none.
 
 ghost use Rattle.std.specs.Prelude.{None};
-ghost use Rattle.refinement.specs.declared.step.Step.{Step};
+ghost use Rattle.calls.specs.declared.step.Step.{Step};
 ghost use Rattle.session_steps.specs.Exact.{ExactInsert, AnswersStep};
 ghost use Rattle.session_steps.specs.Replies.{reply_to};
 ghost use Rattle.session_steps.specs.Follows.{FollowsInsert};
@@ -10,7 +10,7 @@ ghost use Rattle.session_steps.specs.Tests.{MayWriteKey};
 use crate::checks::{empty_row, fill_row};
 use crate::engine::SessionEngine;
 use crate::outcome::{Ack, write_answer};
-use refinement::{Refusal, Row, RowIn};
+use calls::{Refusal, Row, RowIn};
 
 impl SessionEngine {
     /// Inserts the row, which nothing keeps the session from writing, under the id of its newest level; each level that

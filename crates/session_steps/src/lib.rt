@@ -33,6 +33,6 @@ mod step;
 mod update;
 mod vacuuming;
 
+pub use calls::{Refusal, Reply, Row, RowIn, Settings, SettingsFault, Step};
 pub use engine::SessionEngine;
 pub use page_slots::Page;
-pub use refinement::{Refusal, Reply, Row, RowIn, Settings, SettingsFault, Step};

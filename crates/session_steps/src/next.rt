@@ -1,7 +1,7 @@
 //! A session asks its cursor for rows.
 
 ghost use Rattle.std.specs.Prelude.{◌≡◌, ◌++◌, ◌∷◌, [], IfOk, OnOk, OnErr};
-ghost use Rattle.refinement.specs.declared.step.Step.{Step};
+ghost use Rattle.calls.specs.declared.step.Step.{Step};
 ghost use Rattle.session_steps.specs.declared.cursor.Cursor.TheVariants.{Index, Heap};
 ghost use Rattle.session_steps.specs.Exact.{AnswersStep};
 ghost use Rattle.session_steps.specs.Takes.{IsAtCursor, IsNotAtEnd, TakesRows, SomeStands, TakesAll, TakesNextPage, TakesNext, start_of};
@@ -10,9 +10,9 @@ use crate::cursor::Cursor;
 use crate::engine::SessionEngine;
 use crate::get::no_row;
 use crate::session::Session;
+use calls::{Refusal, Reply, Row};
 use heap_write::IndexRange;
 use index_lookup::seen_row;
-use refinement::{Refusal, Reply, Row};
 use std::alloc::AllocError;
 use tuple_header::RowRef;
 use xid_circle::Tid;

@@ -8,9 +8,9 @@ use crate::cursor::Cursor;
 use crate::engine::SessionEngine;
 use crate::next::start_of;
 use crate::session::Session;
+use calls::Refusal;
 use heap_write::IndexRange;
 use index_lookup::seen_row;
-use refinement::Refusal;
 use tuple_header::RowPlace;
 use xid_circle::Tid;
 

@@ -4,8 +4,8 @@ ghost use Rattle.std.specs.Prelude.{◌≡◌};
 ghost use Rattle.session_steps.specs.Replies.{reply_to};
 ghost use Rattle.session_steps.specs.Writes.{outcome_of, reply_for};
 
+use calls::{Refusal, Reply};
 use heap_write::WriteFault;
-use refinement::{Refusal, Reply};
 use xid_circle::Xid;
 
 /// What a step has done that hands out no row. A `Reply` has room for one, which costs wherever it is made or handed on.

@@ -2,7 +2,7 @@
 
 ghost use Rattle.std.specs.Prelude.{◌≡◌};
 ghost use Rattle.snapshot.specs.Snap.{earliest};
-ghost use Rattle.refinement.specs.declared.step.Step.{Step};
+ghost use Rattle.calls.specs.declared.step.Step.{Step};
 ghost use Rattle.session_steps.specs.State.{held_back, holds_back, horizon_of};
 ghost use Rattle.session_steps.specs.Exact.{AnswersStep};
 ghost use Rattle.session_steps.specs.Replies.{reply_to};
@@ -10,8 +10,8 @@ ghost use Rattle.session_steps.specs.Replies.{reply_to};
 use crate::engine::SessionEngine;
 use crate::outcome::Ack;
 use crate::session::Session;
+use calls::Refusal;
 use heap_write::PruneFault;
-use refinement::Refusal;
 use snapshot::earlier;
 use xid_circle::Xid;
 

@@ -6,11 +6,9 @@ ghost use Rattle.session_steps.specs.Keeps.{open_at};
 ghost use Rattle.session_steps.specs.Sessions.{LendsPlace, LendsOpen, HoldsOpen};
 
 use crate::session::Session;
+use calls::MOST_SESSIONS;
 use std::alloc::{AllocError, Global};
 use std::marker::Model;
-
-/// How many sessions may be open at a time.
-const MOST_SESSIONS: usize = 64;
 
 /// Places for 64 sessions. What looks at every open session looks at the places that were used so far, and no further.
 #[derive(Drop)]

@@ -1,15 +1,16 @@
 //! A step of the engine.
 
 ghost use Rattle.std.specs.Prelude.{◌≡◌, MatchResult, Some, true, false};
-ghost use Rattle.history.specs.World.{World, OpenSession, view};
-ghost use Rattle.refinement.specs.Allowed.{AllowsClosed, is_vacuum_step};
+ghost use Rattle.history.specs.World.{World, OpenSession, view, world_sessions};
+ghost use Rattle.calls.specs.Steps.{is_vacuum_step};
+ghost use Rattle.calls.specs.Bars.{BarsOpen};
 ghost use Rattle.session_steps.specs.Agrees.{Agrees};
 ghost use Rattle.session_steps.specs.Exact.{AnswersStep};
 
 use crate::engine::SessionEngine;
 use crate::get::copy_of;
 use crate::outcome::put_reply;
-use refinement::{Refusal, Reply, Row, Step};
+use calls::{Refusal, Reply, Row, Step};
 
 impl SessionEngine {
     /// Does one step, and puts its reply in the place of an earlier one: whatever world of the history the engine agrees with, the
@@ -51,7 +52,7 @@ impl SessionEngine {
     pub fn read(&self, s: u8, key: u64) -> Result<Option<Row>, Refusal>
         ensures { (w : World) → Agrees self.now w → MatchResult result
             (λ row. (m : OpenSession) × (w.session s ≡ Some m) × (row ≡ view w.history m key))
-            (λ refusal. AllowsClosed w s refusal) }
+            (λ refusal. BarsOpen (world_sessions w) s refusal) }
     {
         let session = self.opened(s)?;
         Ok(copy_of(self.heap.row(key, &self.reader(session))))

@@ -4,7 +4,7 @@ ghost use Rattle.std.specs.Prelude.{◌≤◌, ◌<◌, Some};
 ghost use Rattle.tuple_header.specs.Version.{rounded_size_of};
 ghost use Rattle.page_slots.specs.Slots.{room_of};
 ghost use Rattle.heap_write.specs.Heap.{page_on};
-ghost use Rattle.refinement.specs.declared.step.Step.{Step};
+ghost use Rattle.calls.specs.declared.step.Step.{Step};
 ghost use Rattle.session_steps.specs.Exact.{ExactUpdate, AnswersStep};
 ghost use Rattle.session_steps.specs.Replies.{reply_to};
 ghost use Rattle.session_steps.specs.Follows.{FollowsUpdate};
@@ -13,7 +13,7 @@ ghost use Rattle.session_steps.specs.Tests.{MayWriteKey};
 use crate::checks::{empty_row, fill_row};
 use crate::engine::SessionEngine;
 use crate::outcome::{Ack, write_answer};
-use refinement::{Refusal, Row, RowIn};
+use calls::{Refusal, Row, RowIn};
 use xid_circle::Tid;
 
 impl SessionEngine {

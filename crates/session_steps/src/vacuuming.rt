@@ -12,8 +12,8 @@ ghost use Rattle.session_steps.specs.Vacuums.{IsSetUp, vacuum_begun, VacuumWorks
 
 use crate::engine::SessionEngine;
 use crate::session::Session;
+use calls::{Mode, Piece};
 use commit_status::StatusTable;
-use refinement::{Mode, Piece};
 use snapshot::earlier;
 use vacuum_passes::Vacuum;
 use xid_circle::{Xid, precedes};

@@ -2,9 +2,9 @@
 use Rattle.std.proofs.Common.{◌≡◌, ◌≢◌, ℕ, ◌+◌, ◌<◌, Bool, true, false, not, ◌&&◌, List, [], ◌∷◌, ◌++◌, length, drop, set, get_or, refl, sym, ap, subst, ◌∙◌, eqb, zero, suc, add-one, get_or-set_other, get_or-set_same}
 use Rattle.std.specs.Prelude.{if◌then◌else◌}
 use Rattle.std.proofs.lemmas.Bool.Decides.{Decides-eqb}
-use Rattle.refinement.specs.declared.step.Step.{Step}
-use Rattle.refinement.specs.declared.reply.Reply.{Reply}
-use Rattle.refinement.specs.declared.reply.Reply.TheVariants.{Done, Found, Committed, RolledBack, Rows, End, Worked, Ended, Refused}
+use Rattle.calls.specs.declared.step.Step.{Step}
+use Rattle.calls.specs.declared.reply.Reply.{Reply}
+use Rattle.calls.specs.declared.reply.Reply.TheVariants.{Done, Found, Committed, RolledBack, Rows, End, Worked, Ended, Refused}
 use Rattle.shared_heap.specs.Replies.{IsSame, is_busy_reply}
 use Rattle.shared_heap.specs.declared.line.WorkerLine.{WorkerLine}
 use Rattle.shared_heap.specs.Merge.{is_done_by, left_after, with_list, Merges, list_at, IsMerge}

@@ -1,9 +1,9 @@
 -- A run goes on by one entry.
 use Rattle.std.proofs.Common.{◌≡◌, List, [], ◌∷◌, ◌++◌, refl, sym, subst}
 use Rattle.history.specs.World.{World, beginning}
-use Rattle.refinement.specs.declared.settings.Settings.{Settings}
-use Rattle.refinement.specs.declared.step.Step.{Step}
-use Rattle.refinement.specs.declared.reply.Reply.{Reply}
+use Rattle.calls.specs.declared.settings.Settings.{Settings}
+use Rattle.calls.specs.declared.step.Step.{Step}
+use Rattle.calls.specs.declared.reply.Reply.{Reply}
 use Rattle.refinement.specs.Allowed.{after}
 use Rattle.vacuum_engine.specs.State.{EngineView}
 use Rattle.vacuum_engine.specs.Exact.{EngineExact}

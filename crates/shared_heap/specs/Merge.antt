@@ -1,8 +1,8 @@
 -- A journal as a merge of the workers' lists.
 use Rattle.std.specs.Prelude.{ℕ, ◌≡◌, ◌==◌, ◌&&◌, not, Bool, List, [], ◌∷◌, slice_index_or, if◌then◌else◌, map, Vec}
 use Rattle.std.specs.declared.alloc.Global.{Global}
-use Rattle.refinement.specs.declared.step.Step.{Step}
-use Rattle.refinement.specs.declared.reply.Reply.{Reply}
+use Rattle.calls.specs.declared.step.Step.{Step}
+use Rattle.calls.specs.declared.reply.Reply.{Reply}
 use Rattle.shared_heap.specs.Replies.{is_busy_reply}
 use Rattle.shared_heap.specs.declared.line.WorkerLine.{WorkerLine}
 

@@ -1,10 +1,10 @@
 -- When a reply is the copy of another, and when there is room for one.
 use Rattle.std.specs.Prelude.{ℕ, ◌≡◌, ◌≤◌, Bool, true, false, length}
 use Rattle.history.specs.World.{World}
-use Rattle.refinement.specs.declared.step.Step.{Step}
-use Rattle.refinement.specs.declared.reply.Reply.{Reply}
-use Rattle.refinement.specs.declared.reply.Reply.TheVariants.{Rows, Refused}
-use Rattle.refinement.specs.declared.reply.Refusal.TheVariants.{Busy}
+use Rattle.calls.specs.declared.step.Step.{Step}
+use Rattle.calls.specs.declared.reply.Reply.{Reply}
+use Rattle.calls.specs.declared.reply.Reply.TheVariants.{Rows, Refused}
+use Rattle.calls.specs.declared.reply.Refusal.TheVariants.{Busy}
 use Rattle.vacuum_engine.specs.State.{EngineView}
 use Rattle.vacuum_engine.specs.Exact.{EngineExact}
 use Rattle.vacuum_engine.specs.Agrees.{EngineAgrees}

@@ -1,6 +1,6 @@
 -- What workers have done of their lists.
 use Rattle.std.specs.Prelude.{ℕ, ◌≡◌, List, [], ◌∷◌, length, drop, slice_index}
-use Rattle.refinement.specs.declared.settings.Settings.{Settings}
+use Rattle.calls.specs.declared.settings.Settings.{Settings}
 use Rattle.shared_heap.specs.declared.line.WorkerLine.{WorkerLine}
 use Rattle.shared_heap.specs.Books.{BookView, IsBookOf}
 use Rattle.shared_heap.specs.Merge.{Merges, list_at}

@@ -1,7 +1,7 @@
 //! An engine with the journal of its calls.
 
 ghost use Rattle.std.specs.Prelude.{◌≡◌, [], IfOk, IfErr, OnOk, MatchResult};
-ghost use Rattle.refinement.specs.Words.{AreSettings};
+ghost use Rattle.calls.specs.Words.{AreSettings};
 ghost use Rattle.shared_heap.specs.Books.{IsBookOf, HasRun, Appends, Calls, FirstThreadsFault};
 
 use crate::copies::{copy_reply, spare_for};

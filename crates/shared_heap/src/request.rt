@@ -1,7 +1,7 @@
 //! What a run was asked for.
 
 ghost use Rattle.std.specs.Prelude.{List, []};
-ghost use Rattle.refinement.specs.declared.settings.Settings.{Settings};
+ghost use Rattle.calls.specs.declared.settings.Settings.{Settings};
 ghost use Rattle.shared_heap.specs.declared.line.WorkerLine.{WorkerLine};
 
 use std::marker::Brand;

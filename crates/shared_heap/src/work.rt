@@ -4,7 +4,7 @@ ghost use Rattle.std.specs.Prelude.{◌≡◌, [], IfOk, IfErr, OnOk, OnSome, Ma
 ghost use Rattle.shared_heap.specs.Books.{FirstThreadsFault, IsBookOf};
 ghost use Rattle.shared_heap.specs.Merge.{IsMerge, lines_in};
 ghost use Rattle.shared_heap.specs.Work.{AllDone, left_of, BeginsWith};
-ghost use Rattle.refinement.specs.Words.{AreSettings};
+ghost use Rattle.calls.specs.Words.{AreSettings};
 ghost use Rattle.shared_heap.specs.Replies.{is_busy_reply};
 
 use crate::book::Book;

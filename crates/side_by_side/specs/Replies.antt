@@ -1,7 +1,7 @@
 -- When two replies are the same.
 use Rattle.std.specs.Prelude.{◌≡◌}
-use Rattle.refinement.specs.declared.reply.Reply.{Reply}
-use Rattle.refinement.specs.declared.reply.Reply.TheVariants.{Rows}
+use Rattle.calls.specs.declared.reply.Reply.{Reply}
+use Rattle.calls.specs.declared.reply.Reply.TheVariants.{Rows}
 
 -- the same words, and the same rows; how much room there is behind them makes no difference
 abbrev pub AreSame : Reply → Reply → Type 0

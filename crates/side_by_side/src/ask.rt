@@ -6,7 +6,7 @@ ghost use Rattle.std.specs.Int.{next_multiple_of};
 use arrayvec::ArrayVec;
 use session_core::{Mode, RowIn, Step};
 use std::alloc::{AllocError, Global};
-use tuple_header::Row;
+use tuple_header::{MOST_BODY, Row};
 
 /// The bytes of which every body is a part.
 #[derive(Drop)]
@@ -29,14 +29,14 @@ impl Bodies {
 
 /// A row to be written, whose body is so many bytes from a place on.
 #[derive(Clone, Copy, Debug)]
-pub struct Written {
+pub struct WrittenRow {
     pub key: u64,
     pub cols: [i64; 4],
     pub from: u16,
     pub length: u16,
 }
 
-impl Written {
+impl WrittenRow {
     fn row_in(self, alloc: Global, bodies: &Bodies) -> Result<RowIn, AllocError> {
         Ok(RowIn {
             key: self.key,
@@ -59,9 +59,9 @@ impl Written {
 
     /// Whether its body has more bytes than a row of the table may have.
     pub fn is_too_large(self) -> bool
-        ensures { IsTrue result ↔ (1024 < self.length) }
+        ensures { IsTrue result ↔ (MOST_BODY < self.length) }
     {
-        self.length > 1024
+        self.length > MOST_BODY
     }
 
     /// How many bytes a version of the row takes on a page: 66 and its body, rounded up to a multiple of 8.
@@ -77,8 +77,8 @@ impl Written {
 pub enum Ask {
     Begin(u8),
     Get(u8, u64),
-    Insert(u8, Written),
-    Update(u8, Written),
+    Insert(u8, WrittenRow),
+    Update(u8, WrittenRow),
     Delete(u8, u64),
     Savepoint(u8),
     RollbackTo(u8),
@@ -148,7 +148,7 @@ impl Ask {
     }
 
     /// The row that would be written, if it is a write of one.
-    pub fn written(self) -> Option<Written> {
+    pub fn written(self) -> Option<WrittenRow> {
         match self {
             Ask::Insert(_, written) | Ask::Update(_, written) => Some(written),
             _ => None,

@@ -15,5 +15,5 @@ mod pair;
 mod plain_side;
 mod vacuum;
 
-pub use ask::{Ask, Bodies, Written};
+pub use ask::{Ask, Bodies, WrittenRow};
 pub use pair::{Difference, Pair, Standing, Views};

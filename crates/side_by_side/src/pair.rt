@@ -10,10 +10,10 @@ use crate::compare::{same_found, same_reply};
 use crate::cursors::{Cursor, hand_out};
 use crate::levels::{Levels, horizon_of, xmin_of};
 use crate::look::{are_all_visible, count_slots, first_astray, first_misnoted};
-use crate::plain_side::{all_rows, answer, answer_without_writing, refusal_of, refused_or};
+use crate::plain_side::{all_rows, answer, answer_without_writing, refused_or};
 use crate::vacuum::{RunningVacuum, expected_of_vacuum};
 use page_slots::Page;
-use plain_history::{PlainHistory, Refused};
+use plain_history::PlainHistory;
 use session_core::{Engine, Mode, Refusal, Reply, Row, Settings};
 use std::alloc::{AllocError, Global};
 use xid_circle::{Xid, distance, next};
@@ -201,7 +201,7 @@ impl Pair {
         match self.plain.get(s, key) {
             Ok(Some(_)) => Standing::Reads,
             Ok(None) => Standing::ReadsNone,
-            Err(Refused::Failed) => Standing::Failed,
+            Err(Refusal::Failed) => Standing::Failed,
             Err(_) => Standing::Closed,
         }
     }
@@ -496,8 +496,8 @@ impl Pair {
         let expected = self.plain.get(s, key);
         match (&read, &expected) {
             (Ok(row), Ok(expected)) => reading_of(row, expected),
-            (Ok(_), Err(Refused::Failed)) => Reading::Refused,
-            (Err(refusal), Err(why)) if refusal_of(*why) == Some(*refusal) => Reading::Refused,
+            (Ok(_), Err(Refusal::Failed)) => Reading::Refused,
+            (Err(refusal), Err(why)) if *why == *refusal => Reading::Refused,
             _ => Reading::Differing,
         }
     }

@@ -1,61 +1,38 @@
 //! What the plain program answers, in the engine's words.
 
-ghost use Rattle.std.specs.Prelude.{◌≡◌, ◌↔◌, ℕ, Some, None};
+ghost use Rattle.std.specs.Prelude.{◌≡◌, ◌≢◌, Some, None};
 
 use crate::ask::{Ask, Bodies};
 use plain_history::{Handed, Outcome, PlainHistory, Refused};
 use session_core::{Refusal, Reply, Row};
 use std::alloc::Global;
 
-/// The engine's word for a refusal, where it has one: the same.
-pub(crate) fn refusal_of(why: Refused) -> Option<Refusal>
-    ensures busy { (o : ℕ) → why ≡ Refused.Busy o → result ≡ Some (Refusal.Busy o) }
-    ensures conflict { (why ≡ Refused.Conflict) ↔ (result ≡ Some Refusal.Conflict) }
-    ensures cursor_open { (why ≡ Refused.CursorOpen) ↔ (result ≡ Some Refusal.CursorOpen) }
-    ensures no_cursor { (why ≡ Refused.NoCursor) ↔ (result ≡ Some Refusal.NoCursor) }
-    ensures too_deep { (why ≡ Refused.TooDeep) ↔ (result ≡ Some Refusal.TooDeep) }
-    ensures no_savepoint { (why ≡ Refused.NoSavepoint) ↔ (result ≡ Some Refusal.NoSavepoint) }
-    ensures no_such_index { (why ≡ Refused.NoSuchIndex) ↔ (result ≡ Some Refusal.NoSuchIndex) }
-    ensures deadlock { why ≡ Refused.Deadlock → result ≡ None }
+// A refused step's reply. That the plain program has no memory says nothing of the engine.
+fn refused(why: Refusal) -> Option<Reply>
+    ensures told { why ≢ Refusal.NoMemory → result ≡ Some (Reply.Refused why) }
+    ensures memory { why ≡ Refusal.NoMemory → result ≡ None }
 {
     match why {
-        Refused::NoSuchSession => Some(Refusal::NoSuchSession),
-        Refused::NotOpen => Some(Refusal::NotOpen),
-        Refused::AlreadyOpen => Some(Refusal::AlreadyOpen),
-        Refused::Failed => Some(Refusal::Failed),
-        Refused::AlreadyThere => Some(Refusal::AlreadyThere),
-        Refused::NotThere => Some(Refusal::NotThere),
-        Refused::Conflict => Some(Refusal::Conflict),
-        Refused::Busy(o) => Some(Refusal::Busy(o)),
-        Refused::CursorOpen => Some(Refusal::CursorOpen),
-        Refused::NoCursor => Some(Refusal::NoCursor),
-        Refused::TooDeep => Some(Refusal::TooDeep),
-        Refused::NoSavepoint => Some(Refusal::NoSavepoint),
-        Refused::NoSuchIndex => Some(Refusal::NoSuchIndex),
-        Refused::BadBounds => Some(Refusal::BadBounds),
-        _ => None,
+        Refusal::NoMemory => None,
+        _ => Some(Reply::Refused(why)),
     }
 }
 
-fn refused(why: Refused) -> Option<Reply> {
-    Some(Reply::Refused(refusal_of(why)?))
-}
-
-fn done(answered: Result<(), Refused>) -> Option<Reply> {
+fn done(answered: Result<(), Refusal>) -> Option<Reply> {
     match answered {
         Ok(()) => Some(Reply::Done),
         Err(why) => refused(why),
     }
 }
 
-fn found(answered: Result<Option<Row>, Refused>) -> Option<Reply> {
+fn found(answered: Result<Option<Row>, Refusal>) -> Option<Reply> {
     match answered {
         Ok(row) => Some(Reply::Found(row)),
         Err(why) => refused(why),
     }
 }
 
-fn ended(answered: Result<Outcome, Refused>) -> Option<Reply> {
+fn ended(answered: Result<Outcome, Refusal>) -> Option<Reply> {
     match answered {
         Ok(Outcome::Committed) => Some(Reply::Committed),
         Ok(Outcome::RolledBack) => Some(Reply::RolledBack),
@@ -63,14 +40,14 @@ fn ended(answered: Result<Outcome, Refused>) -> Option<Reply> {
     }
 }
 
-fn rolled_back(answered: Result<(), Refused>) -> Option<Reply> {
+fn rolled_back(answered: Result<(), Refusal>) -> Option<Reply> {
     match answered {
         Ok(()) => Some(Reply::RolledBack),
         Err(why) => refused(why),
     }
 }
 
-fn handed(answered: Result<Handed, Refused>) -> Option<Reply> {
+fn handed(answered: Result<Handed, Refusal>) -> Option<Reply> {
     match answered {
         Ok(Handed::Rows(rows)) => Some(Reply::Rows(rows)),
         Ok(Handed::Keys(_)) => None,
@@ -79,16 +56,21 @@ fn handed(answered: Result<Handed, Refused>) -> Option<Reply> {
     }
 }
 
-// The engine records no wait, so that of the plain program ends too: each step of the session ends it.
-fn without_wait(
+// The engine records no wait, so that of the plain program ends too: each step of the session ends it. It knows no deadlock.
+fn answer_of_write(
     plain: &mut PlainHistory,
     s: u8,
     answered: Result<(), Refused>,
-) -> Result<(), Refused> {
-    if let Err(Refused::Busy(_)) = answered {
-        let _ = plain.get(s, 0);
+) -> Option<Reply> {
+    match answered {
+        Ok(()) => Some(Reply::Done),
+        Err(Refused::By(Refusal::Busy(o))) => {
+            let _ = plain.get(s, 0);
+            Some(Reply::Refused(Refusal::Busy(o)))
+        }
+        Err(Refused::By(why)) => refused(why),
+        Err(Refused::Deadlock) => None,
     }
-    answered
 }
 
 /// Does the step, whose row is not too large. Nothing is answered where the engine has no word for the answer, and to
@@ -99,15 +81,15 @@ pub(crate) fn answer(plain: &mut PlainHistory, bodies: &Bodies, ask: Ask) -> Opt
         Ask::Get(s, key) => found(plain.get(s, key)),
         Ask::Insert(s, written) => {
             let answered = plain.insert(s, written.row(bodies));
-            done(without_wait(plain, s, answered))
+            answer_of_write(plain, s, answered)
         }
         Ask::Update(s, written) => {
             let answered = plain.update(s, written.row(bodies));
-            done(without_wait(plain, s, answered))
+            answer_of_write(plain, s, answered)
         }
         Ask::Delete(s, key) => {
             let answered = plain.delete(s, key);
-            done(without_wait(plain, s, answered))
+            answer_of_write(plain, s, answered)
         }
         Ask::Savepoint(s) => done(plain.savepoint(s)),
         Ask::RollbackTo(s) => done(plain.roll_back_to(s)),
@@ -144,7 +126,7 @@ pub(crate) fn answer_without_writing(
 pub(crate) fn refused_or(plain: &mut PlainHistory, s: u8, refusal: Refusal) -> Option<Reply> {
     // That the bounds are bad is seen last.
     match plain.open_index(s, 0, 1, 0) {
-        Err(Refused::BadBounds) => Some(Reply::Refused(refusal)),
+        Err(Refusal::BadBounds) => Some(Reply::Refused(refusal)),
         Err(why) => refused(why),
         Ok(()) => None,
     }

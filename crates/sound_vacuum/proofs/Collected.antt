@@ -21,7 +21,7 @@ use Rattle.tuple_writes.specs.Writes.{with_root, with_replaced, with_heap_only, 
 use Rattle.tuple_writes.proofs.Slotted.{replaced-other}
 use Rattle.index_nodes.specs.declared.entry.Entry.{Entry}
 use Rattle.root_index.specs.View.{IndexView}
-use Rattle.history.specs.Cursors.{value_in}
+use Rattle.tuple_header.specs.IndexValue.{value_in}
 use Rattle.heap_pages.specs.View.{PagesView}
 use Rattle.index_lookup.specs.Pages.{slots_on, slot_in, version_in, Puts}
 use Rattle.sound_entries.specs.Entries.{SoundHeap, EntriesAreSound, StaysSound}

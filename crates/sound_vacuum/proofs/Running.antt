@@ -23,9 +23,9 @@ use Rattle.table_indexes.specs.Indexes.{entries_in, IsInUse}
 use Rattle.heap_write.specs.Heap.{HeapView, slots_of}
 use Rattle.heap_write.specs.Writes.{Prunes}
 use Rattle.table_integrity.proofs.Places.{prunes-on, prunes-puts}
-use Rattle.refinement.specs.declared.vacuum.Mode.{Mode}
-use Rattle.refinement.specs.declared.vacuum.Mode.TheVariants.{Aggressive}
-use Rattle.refinement.specs.declared.vacuum.Piece.{Piece}
+use Rattle.calls.specs.declared.vacuum.Mode.{Mode}
+use Rattle.calls.specs.declared.vacuum.Mode.TheVariants.{Aggressive}
+use Rattle.calls.specs.declared.vacuum.Piece.{Piece}
 use Rattle.vacuum_passes.specs.declared.vacuum.Phase.{Phase}
 use Rattle.vacuum_passes.specs.declared.vacuum.Phase.TheVariants as phase
 use Rattle.root_index.specs.declared.progress.Progress.{Progress}
@@ -39,7 +39,7 @@ use Rattle.vacuum_passes.proofs.VacuumLemmas.{steps-kept, begun-kept}
 use Rattle.sound_vacuum.specs.Quiet.{AreSettled}
 use Rattle.sound_vacuum.specs.Sweeping.{AreDead}
 use Rattle.sound_vacuum.specs.Indexes.{AreSwept, AllAreSwept}
-use Rattle.sound_vacuum.specs.Cleaning.{IsDone, IsClean, PagesAreYoung}
+use Rattle.sound_vacuum.specs.Cleaning.{IsLeftBehind, IsClean, PagesAreYoung}
 use Rattle.sound_vacuum.specs.Between.{StepsBetween}
 use Rattle.sound_vacuum.specs.Vacuuming.{CanVacuum, KeepsSwept, IsReadyToNote, KeepsQuiet, KeepsVacuum, IsSafe, IsVacuumed}
 use Rattle.sound_vacuum.proofs.FreedTables.{frees-on, frees-put, version-kept}
@@ -453,7 +453,7 @@ begun-keeps h mode horizon cutoff entries limit can upto low some = record {
   quiet = λ quiet last. record { pages = refl; ready = λ mode p below. absurd (omega (arith, below)) };
 }
   where
-    none-there : (q : Tid) (t : Version) → version_in (slots_of h) q ≡ Some t → IsDone 0 (length h.pages.pages) q.page → ⊥
+    none-there : (q : Tid) (t : Version) → version_in (slots_of h) q ≡ Some t → IsLeftBehind 0 (length h.pages.pages) q.page → ⊥
     none-there q t at done =
         let page = some-page h q t at in
         let within = slice_get_within h.pages.pages q.page page.0 page.1 in

@@ -22,8 +22,8 @@ use Rattle.table_integrity.specs.Table.{SoundTable, StaysSoundTable}
 use Rattle.table_integrity.specs.Readers.{IsTableReader, FindsTheSame}
 use Rattle.table_integrity.proofs.Finding.{both}
 use Rattle.table_integrity.proofs.InUse.{used-by, same-come, stays-then}
-use Rattle.refinement.specs.declared.vacuum.Mode.{Mode}
-use Rattle.refinement.specs.declared.vacuum.Mode.TheVariants.{Normal, Aggressive}
+use Rattle.calls.specs.declared.vacuum.Mode.{Mode}
+use Rattle.calls.specs.declared.vacuum.Mode.TheVariants.{Normal, Aggressive}
 use Rattle.root_index.specs.declared.progress.Progress.{Progress}
 use Rattle.vacuum_passes.specs.View.{VacuumView, skips}
 use Rattle.vacuum_passes.specs.Visits.{Visits}

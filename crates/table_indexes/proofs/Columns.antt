@@ -11,7 +11,7 @@ use Rattle.root_index.specs.declared.progress.Progress.{Progress}
 use Rattle.root_index.specs.Pieces.{RemovesPiece}
 use Rattle.index_nodes.specs.Sets.{AddsEntry}
 use Rattle.root_index.specs.View.{IndexView, room_in}
-use Rattle.history.specs.Cursors.{value_in}
+use Rattle.tuple_header.specs.IndexValue.{value_in}
 use Rattle.table_indexes.specs.Indexes.{index_at, entries_of, entries_at, entries_in, IsInUse, SameValues, index_entry_of, SameEntries, AddsAny, Enters, HasEntry, HasEntries}
 
 -- the indexes up to a number were changed so, and the others are as they were

@@ -6,7 +6,7 @@ use Rattle.tuple_header.specs.declared.version.Row.{Row}
 use Rattle.index_nodes.specs.declared.entry.Entry.{Entry}
 use Rattle.index_nodes.specs.Sets.{AddsEntry}
 use Rattle.root_index.specs.View.{IndexView, room_in}
-use Rattle.history.specs.Cursors.{value_in}
+use Rattle.tuple_header.specs.IndexValue.{value_in}
 use Rattle.index_lookup.specs.Pages.{entry_for}
 
 -- the index of a number, if it is in use

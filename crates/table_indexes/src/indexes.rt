@@ -6,7 +6,7 @@ ghost use Rattle.std.specs.Option.{unwrap_or};
 ghost use Rattle.root_index.specs.Pieces.{RemovesPiece};
 ghost use Rattle.index_nodes.specs.Sets.{AddsEntry};
 ghost use Rattle.root_index.specs.View.{room_in};
-ghost use Rattle.history.specs.Cursors.{value_in};
+ghost use Rattle.tuple_header.specs.IndexValue.{value_in};
 ghost use Rattle.table_indexes.specs.Indexes.{IsInUse, HasIndexes, IsNextIndex, all_entries, index_at, entries_of, entries_at, entries_in, new_entries, without_body, SameValues, SameEntries, AddsAny, Enters, HasEntry, HasEntries, LacksEntry, NeedsEntry};
 
 use dead_places::DeadSet;

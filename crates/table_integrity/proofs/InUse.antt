@@ -6,7 +6,7 @@ use Rattle.tuple_header.specs.declared.version.Row.{Row}
 use Rattle.index_nodes.specs.declared.entry.Entry.{Entry}
 use Rattle.index_nodes.specs.Sets.{AddsEntry}
 use Rattle.root_index.specs.View.{IndexView}
-use Rattle.history.specs.Cursors.{value_in}
+use Rattle.tuple_header.specs.IndexValue.{value_in}
 use Rattle.sound_entries.specs.Entries.{SoundHeap, EntriesAreSound, StaysSound}
 use Rattle.sound_entries.proofs.Going.{led-then}
 use Rattle.table_indexes.specs.Indexes.{entries_at, entries_in, IsInUse, index_entry_of, SameEntries, AddsAny, Enters}

@@ -14,7 +14,7 @@ use Rattle.tuple_writes.proofs.Statuses.{giving-sound, committing-sound, abortin
 use Rattle.snapshot.specs.Own.{Own}
 use Rattle.root_index.specs.View.{IndexView}
 use Rattle.index_nodes.specs.declared.entry.Entry.{Entry}
-use Rattle.history.specs.Cursors.{value_in}
+use Rattle.tuple_header.specs.IndexValue.{value_in}
 use Rattle.index_lookup.specs.Pages.{slots_on, Puts}
 use Rattle.sound_entries.specs.Entries.{SoundHeap, SoundEntries, EntriesAreSound, StaysSound}
 use Rattle.sound_entries.proofs.Changes.{pruning-stays, heap-puts}

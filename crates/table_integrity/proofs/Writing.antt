@@ -12,7 +12,7 @@ use Rattle.tuple_writes.specs.Keeps.{IsMade, HasNoXmax, IsDeletable}
 use Rattle.tuple_writes.proofs.Slotted.{root-added, taken-away, updated-here}
 use Rattle.snapshot.specs.Own.{Own}
 use Rattle.index_nodes.specs.Sets.{AddsEntry}
-use Rattle.history.specs.Cursors.{value_in}
+use Rattle.tuple_header.specs.IndexValue.{value_in}
 use Rattle.index_lookup.specs.Pages.{slots_on, slot_in, version_in, Puts, entry_for}
 use Rattle.sound_entries.proofs.Going.{stays-same}
 use Rattle.sound_entries.proofs.Changes.{adding-stays, taking-stays, updating-stays, heap-puts}

@@ -3,7 +3,7 @@ use Rattle.std.specs.Prelude.{◌≡◌, ◌↔◌, ℕ, Some}
 use Rattle.xid_circle.specs.declared.Tid.{Tid}
 use Rattle.tuple_header.specs.Version.{Version}
 use Rattle.tuple_writes.specs.Keeps.{IsMade, HasNoXmax}
-use Rattle.history.specs.Cursors.{value_in}
+use Rattle.tuple_header.specs.IndexValue.{value_in}
 use Rattle.index_lookup.specs.Pages.{version_in}
 use Rattle.sound_entries.specs.Entries.{SoundHeap, SoundEntries, KeepsTargets}
 use Rattle.table_indexes.specs.Indexes.{entries_in, IsInUse}

@@ -1,7 +1,8 @@
 //! What cursors hand out, and when they are refused.
 
-use crate::calls::{Answer, Call, Story, go_through};
-use plain_history::{Outcome, Refused};
+use crate::stories::{Answer, Call, Story, go_through};
+use calls::Refusal;
+use plain_history::Outcome;
 use std::test::Fail;
 
 static STORIES: [Story; 3] = [
@@ -17,7 +18,7 @@ static STORIES: [Story; 3] = [
             (Call::Delete(0, 2), Answer::Done),
             (Call::Delete(0, 3), Answer::Done),
             (Call::Commit(0), Answer::Ended(Outcome::Committed)),
-            (Call::Insert(1, 9, 0), Answer::Refused(Refused::CursorOpen)),
+            (Call::Insert(1, 9, 0), Answer::Refused(Refusal::CursorOpen)),
             (Call::Next(1, 5), Answer::Rows([3, 1, 0])),
             (Call::Next(1, 5), Answer::End),
         ],
@@ -30,12 +31,12 @@ static STORIES: [Story; 3] = [
             (Call::OpenHeap(1), Answer::Done),
             (Call::Next(1, 3), Answer::Rows([1, 2, 3])),
             (Call::Next(1, 1), Answer::End),
-            (Call::OpenHeap(1), Answer::Refused(Refused::CursorOpen)),
+            (Call::OpenHeap(1), Answer::Refused(Refusal::CursorOpen)),
             (Call::Close(1), Answer::Done),
-            (Call::Next(1, 1), Answer::Refused(Refused::NoCursor)),
+            (Call::Next(1, 1), Answer::Refused(Refusal::NoCursor)),
             (
                 Call::OpenIndex(1, 0, 5, 4),
-                Answer::Refused(Refused::BadBounds),
+                Answer::Refused(Refusal::BadBounds),
             ),
             (Call::OpenKeys(1, 2, 9), Answer::Done),
             (Call::Next(1, 9), Answer::Keys([2, 3, 0])),
@@ -48,20 +49,20 @@ static STORIES: [Story; 3] = [
             (Call::Begin(1), Answer::Done),
             (
                 Call::OpenIndex(1, 2, 5, 4),
-                Answer::Refused(Refused::NoSuchIndex),
+                Answer::Refused(Refusal::NoSuchIndex),
             ),
             (
                 Call::OpenIndex(1, 5, 0, 9),
-                Answer::Refused(Refused::NoSuchIndex),
+                Answer::Refused(Refusal::NoSuchIndex),
             ),
             (
                 Call::OpenIndex(1, 1, 5, 4),
-                Answer::Refused(Refused::BadBounds),
+                Answer::Refused(Refusal::BadBounds),
             ),
             (Call::OpenIndex(1, 0, 2, 9), Answer::Done),
             (
                 Call::OpenIndex(1, 2, 0, 9),
-                Answer::Refused(Refused::CursorOpen),
+                Answer::Refused(Refusal::CursorOpen),
             ),
             (Call::Next(1, 9), Answer::Rows([2, 0, 0])),
         ],

@@ -4,13 +4,13 @@
 #![tactic(auto)]
 
 #[cfg(test)]
-mod calls;
-#[cfg(test)]
 mod cursors;
 #[cfg(test)]
 mod laws;
 #[cfg(test)]
 mod savepoints;
+#[cfg(test)]
+mod stories;
 #[cfg(test)]
 mod waits;
 #[cfg(test)]

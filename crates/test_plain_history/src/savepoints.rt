@@ -1,7 +1,7 @@
 //! Going back to savepoints, and how many there may be.
 
-use crate::calls::{Answer, Call, Story, go_through};
-use plain_history::Refused;
+use crate::stories::{Answer, Call, Story, go_through};
+use calls::Refusal;
 use std::test::Fail;
 
 static STORIES: [Story; 2] = [
@@ -24,10 +24,10 @@ static STORIES: [Story; 2] = [
         calls: &[
             (Call::Begin(0), Answer::Done),
             (Call::Savepoints(0, 32), Answer::Done),
-            (Call::Savepoint(0), Answer::Refused(Refused::TooDeep)),
+            (Call::Savepoint(0), Answer::Refused(Refusal::TooDeep)),
             (Call::Insert(0, 1, 5), Answer::Done),
             (Call::Releases(0, 32), Answer::Done),
-            (Call::Release(0), Answer::Refused(Refused::NoSavepoint)),
+            (Call::Release(0), Answer::Refused(Refusal::NoSavepoint)),
             (Call::Get(0, 1), Answer::Found(1, 5)),
         ],
     },

@@ -1,7 +1,7 @@
 //! Waits that close a ring, and waits that end.
 
-use crate::calls::{Answer, Call, Story, go_through};
-use plain_history::Refused;
+use crate::stories::{Answer, Call, Story, go_through};
+use calls::Refusal;
 use std::test::Fail;
 
 static STORIES: [Story; 3] = [
@@ -13,8 +13,8 @@ static STORIES: [Story; 3] = [
             (Call::Begin(1), Answer::Done),
             (Call::Update(0, 1, 6), Answer::Done),
             (Call::Update(1, 2, 6), Answer::Done),
-            (Call::Update(0, 2, 7), Answer::Refused(Refused::Busy(1))),
-            (Call::Update(1, 1, 7), Answer::Refused(Refused::Deadlock)),
+            (Call::Update(0, 2, 7), Answer::Refused(Refusal::Busy(1))),
+            (Call::Update(1, 1, 7), Answer::Deadlock),
             (Call::Abort(1), Answer::Done),
             (Call::Update(0, 2, 7), Answer::Done),
         ],
@@ -29,10 +29,10 @@ static STORIES: [Story; 3] = [
             (Call::Update(0, 1, 6), Answer::Done),
             (Call::Update(1, 2, 6), Answer::Done),
             (Call::Update(2, 3, 6), Answer::Done),
-            (Call::Update(0, 2, 7), Answer::Refused(Refused::Busy(1))),
-            (Call::Update(1, 3, 7), Answer::Refused(Refused::Busy(2))),
-            (Call::Update(2, 1, 7), Answer::Refused(Refused::Deadlock)),
-            (Call::Get(2, 1), Answer::Refused(Refused::Failed)),
+            (Call::Update(0, 2, 7), Answer::Refused(Refusal::Busy(1))),
+            (Call::Update(1, 3, 7), Answer::Refused(Refusal::Busy(2))),
+            (Call::Update(2, 1, 7), Answer::Deadlock),
+            (Call::Get(2, 1), Answer::Refused(Refusal::Failed)),
             (Call::Abort(2), Answer::Done),
             (Call::Update(1, 3, 7), Answer::Done),
         ],
@@ -45,10 +45,10 @@ static STORIES: [Story; 3] = [
             (Call::Begin(1), Answer::Done),
             (Call::Update(0, 1, 6), Answer::Done),
             (Call::Update(1, 2, 6), Answer::Done),
-            (Call::Update(0, 2, 7), Answer::Refused(Refused::Busy(1))),
+            (Call::Update(0, 2, 7), Answer::Refused(Refusal::Busy(1))),
             (Call::Get(0, 2), Answer::Found(2, 5)),
-            (Call::Update(1, 1, 7), Answer::Refused(Refused::Busy(0))),
-            (Call::Update(0, 2, 7), Answer::Refused(Refused::Deadlock)),
+            (Call::Update(1, 1, 7), Answer::Refused(Refusal::Busy(0))),
+            (Call::Update(0, 2, 7), Answer::Deadlock),
         ],
     },
 ];

@@ -1,7 +1,8 @@
 //! What a session reads and may write, and which of two writers goes on.
 
-use crate::calls::{Answer, Call, Story, go_through};
-use plain_history::{Outcome, Refused};
+use crate::stories::{Answer, Call, Story, go_through};
+use calls::Refusal;
+use plain_history::Outcome;
 use std::test::Fail;
 
 static STORIES: [Story; 6] = [
@@ -37,7 +38,7 @@ static STORIES: [Story; 6] = [
             (Call::Begin(0), Answer::Done),
             (Call::Begin(1), Answer::Done),
             (Call::Update(0, 1, 6), Answer::Done),
-            (Call::Update(1, 1, 7), Answer::Refused(Refused::Busy(0))),
+            (Call::Update(1, 1, 7), Answer::Refused(Refusal::Busy(0))),
             (Call::Abort(0), Answer::Done),
             (Call::Update(1, 1, 7), Answer::Done),
         ],
@@ -49,10 +50,10 @@ static STORIES: [Story; 6] = [
             (Call::Begin(0), Answer::Done),
             (Call::Begin(1), Answer::Done),
             (Call::Update(0, 1, 6), Answer::Done),
-            (Call::Update(1, 1, 7), Answer::Refused(Refused::Busy(0))),
+            (Call::Update(1, 1, 7), Answer::Refused(Refusal::Busy(0))),
             (Call::Commit(0), Answer::Ended(Outcome::Committed)),
-            (Call::Update(1, 1, 7), Answer::Refused(Refused::Conflict)),
-            (Call::Get(1, 1), Answer::Refused(Refused::Failed)),
+            (Call::Update(1, 1, 7), Answer::Refused(Refusal::Conflict)),
+            (Call::Get(1, 1), Answer::Refused(Refusal::Failed)),
             (Call::Commit(1), Answer::Ended(Outcome::RolledBack)),
         ],
     },
@@ -65,7 +66,7 @@ static STORIES: [Story; 6] = [
             (Call::Insert(0, 9, 0), Answer::Done),
             (Call::Delete(0, 9), Answer::Done),
             (Call::Commit(0), Answer::Ended(Outcome::Committed)),
-            (Call::Insert(1, 9, 0), Answer::Refused(Refused::Conflict)),
+            (Call::Insert(1, 9, 0), Answer::Refused(Refusal::Conflict)),
         ],
     },
     Story {
@@ -75,10 +76,10 @@ static STORIES: [Story; 6] = [
             (Call::Begin(0), Answer::Done),
             (
                 Call::Insert(0, 1, 5),
-                Answer::Refused(Refused::AlreadyThere),
+                Answer::Refused(Refusal::AlreadyThere),
             ),
-            (Call::Delete(0, 9), Answer::Refused(Refused::NotThere)),
-            (Call::Get(64, 1), Answer::Refused(Refused::NoSuchSession)),
+            (Call::Delete(0, 9), Answer::Refused(Refusal::NotThere)),
+            (Call::Get(64, 1), Answer::Refused(Refusal::NoSuchSession)),
         ],
     },
 ];

@@ -3,3 +3,4 @@ pub mod Layout
 pub mod Faults
 pub mod Marks
 pub mod Places
+pub mod IndexValue

@@ -36,7 +36,7 @@ use Rattle.forgetting.proofs.Tops.{TopAfter, top-stays, tops-kept, same-sight, w
 use Rattle.forgetting.proofs.PageLemmas.{forgetting-sound}
 use Rattle.freeze.specs.Visiting.{IsYoung, SettlesOn}
 use Rattle.freeze.proofs.Visiting.{true-on}
-use Rattle.history.specs.Cursors.{value_in}
+use Rattle.tuple_header.specs.IndexValue.{value_in}
 use Rattle.index_lookup.specs.Pages.{slots_on, slot_in, version_in}
 use Rattle.index_lookup.proofs.PageLists.{slots-there}
 use Rattle.sound_entries.proofs.Going.{page-same, stay-sound, stays-same}
@@ -50,7 +50,7 @@ use Rattle.refinement.specs.Heap as relation
 use Rattle.refinement.specs.Agrees as relation_agrees
 use Rattle.refinement.specs.Settling.{ForgetsIds}
 use Rattle.refinement.proofs.ForgettingLemmas.{Agrees-forgets}
-use Rattle.refinement.specs.declared.vacuum.Mode.TheVariants.{Aggressive}
+use Rattle.calls.specs.declared.vacuum.Mode.TheVariants.{Aggressive}
 use Rattle.session_steps.specs.declared.session.Session.{Session}
 use Rattle.session_steps.specs.State.{State, session_at, seen, seen_in, reader_of, horizon_of, held_back}
 use Rattle.session_steps.specs.Agrees.{SessionKeeps, Agrees, KeepsAllTargets}

@@ -3,7 +3,7 @@ use Rattle.std.proofs.Common.{◌≡◌, ℕ, List, [], length, Some, None, arit
 use Rattle.std.proofs.lemmas.Option.{none-some, slice_get_past}
 use Rattle.page_slots.specs.View.{PageView}
 use Rattle.space_maps.specs.declared.mark.Mark.{Mark}
-use Rattle.refinement.specs.declared.settings.Settings.{Settings}
+use Rattle.calls.specs.declared.settings.Settings.{Settings}
 use Rattle.session_steps.specs.New.{IsNew}
 use Rattle.vacuum_engine.specs.State.{EngineView}
 use Rattle.vacuum_engine.specs.New.{IsNewEngine}

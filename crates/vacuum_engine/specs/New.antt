@@ -1,7 +1,7 @@
 -- A new engine.
 use Rattle.std.specs.Prelude.{◌≡◌, None}
 use Rattle.history.specs.World.{beginning}
-use Rattle.refinement.specs.declared.settings.Settings.{Settings}
+use Rattle.calls.specs.declared.settings.Settings.{Settings}
 use Rattle.session_steps.specs.New.{IsNew}
 use Rattle.vacuum_engine.specs.State.{EngineView}
 use Rattle.vacuum_engine.specs.Agrees.{EngineAgrees}

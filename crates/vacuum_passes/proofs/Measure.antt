@@ -18,8 +18,8 @@ use Rattle.root_index.specs.View.{IndexView}
 use Rattle.index_lookup.specs.Pages.{slots_on}
 use Rattle.table_indexes.specs.Indexes.{entries_in}
 use Rattle.heap_write.specs.Heap.{HeapView, slots_of}
-use Rattle.refinement.specs.declared.vacuum.Mode.{Mode}
-use Rattle.refinement.specs.declared.vacuum.Piece.{Piece}
+use Rattle.calls.specs.declared.vacuum.Mode.{Mode}
+use Rattle.calls.specs.declared.vacuum.Piece.{Piece}
 use Rattle.vacuum_passes.specs.declared.vacuum.Phase.{Phase}
 use Rattle.vacuum_passes.specs.declared.vacuum.Phase.TheVariants as phase
 use Rattle.vacuum_passes.specs.View.{VacuumView, places, space, phase_with, collected, at_end, with_phase, counted, new_vacuum, bound}

@@ -8,8 +8,8 @@ use Rattle.space_maps.specs.declared.mark.Mark.TheVariants.{Nothing}
 use Rattle.space_maps.specs.View.{mark_on}
 use Rattle.root_index.specs.View.{IndexView}
 use Rattle.root_index.specs.declared.progress.Progress.{Progress}
-use Rattle.refinement.specs.declared.vacuum.Mode.{Mode}
-use Rattle.refinement.specs.declared.vacuum.Mode.TheVariants.{Normal, Aggressive}
+use Rattle.calls.specs.declared.vacuum.Mode.{Mode}
+use Rattle.calls.specs.declared.vacuum.Mode.TheVariants.{Normal, Aggressive}
 use Rattle.vacuum_passes.specs.declared.vacuum.Phase.{Phase}
 use Rattle.vacuum_passes.specs.declared.vacuum.Phase.TheVariants as phase
 use Rattle.vacuum_passes.specs.View.{VacuumView, skips, places, space, phase_with, collected}

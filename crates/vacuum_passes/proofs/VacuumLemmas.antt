@@ -15,7 +15,7 @@ use Rattle.index_nodes.specs.declared.entry.Entry.{Entry}
 use Rattle.dead_places.specs.Places.{PlacePrecedes}
 use Rattle.root_index.specs.View.{IndexView}
 use Rattle.heap_write.specs.Heap.{HeapView}
-use Rattle.refinement.specs.declared.vacuum.Piece.{Piece}
+use Rattle.calls.specs.declared.vacuum.Piece.{Piece}
 use Rattle.vacuum_passes.specs.declared.vacuum.Phase.{Phase}
 use Rattle.vacuum_passes.specs.declared.vacuum.Phase.TheVariants as phase
 use Rattle.root_index.specs.declared.progress.Progress.{Progress}

@@ -3,7 +3,7 @@ use Rattle.std.specs.Prelude.{◌≢◌, ◌<◌, ◌≤◌, ℕ, [], length, So
 use Rattle.xid_circle.specs.declared.Tid.{Tid}
 use Rattle.dead_places.specs.Places.{AreAscending}
 use Rattle.heap_write.specs.Heap.{HeapView}
-use Rattle.refinement.specs.declared.vacuum.Piece.{Piece}
+use Rattle.calls.specs.declared.vacuum.Piece.{Piece}
 use Rattle.vacuum_passes.specs.declared.vacuum.Phase.{Phase}
 use Rattle.vacuum_passes.specs.declared.vacuum.Phase.TheVariants as phase
 use Rattle.vacuum_passes.specs.View.{VacuumView}

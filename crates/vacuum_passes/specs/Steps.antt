@@ -10,8 +10,8 @@ use Rattle.root_index.specs.declared.progress.Progress.{Progress}
 use Rattle.root_index.specs.declared.progress.Progress.TheVariants.{More, Done}
 use Rattle.vacuum_passes.specs.declared.vacuum.Phase.{Phase}
 use Rattle.vacuum_passes.specs.declared.vacuum.Phase.TheVariants as phase
-use Rattle.refinement.specs.declared.vacuum.Piece.{Piece}
-use Rattle.refinement.specs.declared.vacuum.Piece.TheVariants as piece
+use Rattle.calls.specs.declared.vacuum.Piece.{Piece}
+use Rattle.calls.specs.declared.vacuum.Piece.TheVariants as piece
 use Rattle.vacuum_passes.specs.View.{VacuumView, counted, at_end, with_phase, places}
 use Rattle.vacuum_passes.specs.Visits.{IsNextPage, NoPageLeft, Visits}
 use Rattle.heap_write.specs.Cleaning.{SweepsAt, FreesAt, Notes}

@@ -4,8 +4,8 @@ use Rattle.std.specs.Prelude.{◌==◌, ◌+◌, ◌-◌, ◌*◌, ℕ, min, nat
 use Rattle.xid_circle.specs.declared.Tid.{Tid}
 use Rattle.space_maps.specs.declared.mark.Mark.{Mark}
 use Rattle.space_maps.specs.View.{says_visible, says_frozen}
-use Rattle.refinement.specs.declared.vacuum.Mode.{Mode}
-use Rattle.refinement.specs.declared.vacuum.Mode.TheVariants.{Normal, Aggressive}
+use Rattle.calls.specs.declared.vacuum.Mode.{Mode}
+use Rattle.calls.specs.declared.vacuum.Mode.TheVariants.{Normal, Aggressive}
 use Rattle.vacuum_passes.specs.declared.vacuum.Phase.{Phase}
 use Rattle.vacuum_passes.specs.declared.vacuum.Phase.TheVariants as phase
 

@@ -8,7 +8,7 @@ ghost use Rattle.vacuum_passes.specs.Steps.{on_page, off_page, phase_left, IsLow
 ghost use Rattle.vacuum_passes.specs.Working.{FreesPage, FreesLast};
 
 use crate::vacuum::Phase;
-use dead_places::DeadSet;
+use dead_places::{DeadSet, MOST_PLACES};
 use heap_write::HeapState;
 use xid_circle::{Tid, Xid};
 
@@ -22,7 +22,7 @@ pub(crate) fn free_from(
 ) -> (u32, usize)
     requires some { freed < length store.now }
     ensures within { freed + result.1 ≤ length store.now }
-    ensures limit { freed + result.1 ≤ 4096 }
+    ensures limit { freed + result.1 ≤ MOST_PLACES }
     ensures lowest { IsLowest (drop freed store.now) result.0 }
     ensures left { drop (freed + result.1) store.now ≡ off_page result.0 (drop freed store.now) }
     ensures frees { result.0 < length heap.old.pages.pages

@@ -15,5 +15,5 @@ mod sweeping;
 mod vacuum;
 mod visiting;
 
-pub use refinement::{Mode, Piece};
+pub use calls::{Mode, Piece};
 pub use vacuum::{Phase, Vacuum};

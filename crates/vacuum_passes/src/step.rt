@@ -12,8 +12,8 @@ use crate::freeing::{after_freeing, free_from};
 use crate::sweeping::sweep_piece;
 use crate::vacuum::{Phase, Vacuum};
 use crate::visiting::clean_and_collect;
+use calls::{Mode, Piece};
 use heap_write::HeapState;
-use refinement::{Mode, Piece};
 use root_index::Entry;
 use xid_circle::Xid;
 

@@ -1,11 +1,11 @@
 //! A vacuum in progress.
 
 ghost use Rattle.std.specs.Prelude.{◌≡◌, ◌<◌, ◌≤◌, MatchOption};
-ghost use Rattle.refinement.specs.declared.vacuum.Mode.TheVariants.{Normal, Aggressive};
+ghost use Rattle.calls.specs.declared.vacuum.Mode.TheVariants.{Normal, Aggressive};
 ghost use Rattle.vacuum_passes.specs.View.{new_vacuum, disturbed};
 
-use dead_places::DeadSet;
-use refinement::Mode;
+use calls::Mode;
+use dead_places::{DeadSet, MOST_PLACES};
 use root_index::{Entry, PositionHint};
 use std::marker::Model;
 use xid_circle::Xid;
@@ -54,6 +54,7 @@ impl Model for Vacuum {
     ghost use Rattle.vacuum_passes.specs.View.{VacuumView};
     ghost use Rattle.vacuum_passes.specs.Keeps.{IsVacuum};
     ghost use Rattle.vacuum_passes.specs.Working.{FreesLast};
+    ghost use Rattle.dead_places.specs.declared.dead_set.TheConstants.{MOST_PLACES};
 
     ghost Value = { VacuumView };
 
@@ -85,7 +86,7 @@ impl Model for Vacuum {
       alone = v.alone;
       quiet = v.quiet;
       steps = v.steps;
-    }) × (v.limit ≤ 4096) × (v.freed ≤ length v.store) × FreesLast v.phase v.freed };
+    }) × (v.limit ≤ MOST_PLACES) × (v.freed ≤ length v.store) × FreesLast v.phase v.freed };
 }
 
 impl Vacuum {
@@ -93,7 +94,7 @@ impl Vacuum {
     /// dead slots at a time, up to 4096. `horizon` is that of this moment, and `entries` is how many the indexes have.
     pub fn new(mode: Mode, horizon: Xid, cutoff: Xid, pages: u32, entries: u128, limit: u32) -> Self
         requires some { 0 < limit }
-        requires few { limit ≤ 4096 }
+        requires few { limit ≤ MOST_PLACES }
         ensures { result ≡ new_vacuum mode horizon.0 cutoff.0 pages entries limit }
     {
         Vacuum {

@@ -7,7 +7,7 @@ ghost use Rattle.vacuum_passes.specs.View.{places, phase_with};
 ghost use Rattle.vacuum_passes.specs.Working.{CleansAndLists, VisitsFrom};
 
 use crate::vacuum::Phase;
-use dead_places::DeadSet;
+use dead_places::{DeadSet, MOST_PLACES};
 use freeze::DeadSlots;
 use heap_write::HeapState;
 use xid_circle::{Tid, Xid};
@@ -25,7 +25,7 @@ pub(crate) fn clean_and_collect(
     requires in_use { number < length heap.old.pages.pages }
     requires next { number < 4294967295 }
     requires few { length store.old ≤ limit }
-    requires limit { limit ≤ 4096 }
+    requires limit { limit ≤ MOST_PLACES }
     requires below { (tid : Place) → Contains store.old tid → tid.page < number }
     ensures { VisitsFrom heap.old heap.new horizon.0 cutoff.0 number limit store.old store.new
         result.0 result.1 }
@@ -66,7 +66,7 @@ fn clean_page(heap: &mut HeapState, number: u32, horizon: Xid, cutoff: Xid) -> D
 /// Collects these slots of a page, in ascending order, up to so many places in all. It answers whether some are left over.
 fn collect(store: &mut DeadSet, number: u32, dead: &[u16], limit: usize) -> bool
     requires few { length store.old ≤ limit }
-    requires limit { limit ≤ 4096 }
+    requires limit { limit ≤ MOST_PLACES }
     requires below { (tid : Place) → Contains store.old tid → tid.page < number }
     requires ascending { AllPairs (λ a b. a < b) dead.now }
     ensures store { store.new

@@ -6,7 +6,7 @@ use Rattle.std.proofs.lemmas.List.Folds.{list_any_more}
 use Rattle.tuple_header.specs.declared.version.Row.{Row}
 use Rattle.history.specs.World.{view}
 use Rattle.plain_history.specs.Plain.{open_of}
-use Rattle.plain_history.specs.Order.{AddsRow, Covers, row_in, has, wanted}
+use Rattle.plain_history.specs.Order.{AddsRow, Covers, row_of_key, has, wanted}
 use Rattle.plain_history.proofs.cursor.rows_with.Goals as goal
 
 either : (seen : Bool) (row : Option Row) → option_or (if seen then row else None) row ≡ row
@@ -22,7 +22,7 @@ unless_same false = refl
 covers_more : (rows : ℕ → Option Row) (old new : List Row) (keys : List ℕ) (i k d : ℕ) → i < length keys → k ≡ get_or keys i d → AddsRow rows k old new → Covers rows old (take i keys)
     → Covers rows new (take (i + 1) keys)
 covers_more rows old new keys i k d within is adds covers key = elim (cases_eq key k) [
-  | inl same ↦ subst (λ j. row_in new j ≡ (if has (take (i + 1) keys) j then rows j else None)) (sym same)
+  | inl same ↦ subst (λ j. row_of_key new j ≡ (if has (take (i + 1) keys) j then rows j else None)) (sym same)
       (adds.0 ∙ (ap (λ row. option_or row (rows k)) (covers k) ∙ (either (has (take i keys) k) (rows k)
       ∙ ap (λ seen. if seen then rows k else None) (sym (list_any_more (λ j. nat_eq j k) keys i d within ∙ or_right (has (take i keys) k) (nat_eq (get_or keys i d) k) (eq-eqb (get_or keys i d) k (sym is)))))))
   | inr ne ↦ adds.1 key ne ∙ (covers key

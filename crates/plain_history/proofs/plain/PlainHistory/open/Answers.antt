@@ -1,5 +1,5 @@
 use Rattle.std.proofs.Common.{◌∙◌, ap, subst, List, ◌<◌, length, arith}
-use Rattle.plain_history.specs.Answers.{PlainBecomes, opens}
+use Rattle.plain_history.specs.Answers.{PlainBecomes, with_plain_cursor}
 use Rattle.history.specs.History.{Transaction}
 use Rattle.std.specs.Prelude.{OnOk}
 use Rattle.std.proofs.lemmas.Result.{on_ok_weaker, on_err_weaker}
@@ -12,7 +12,7 @@ returns-clause-ok c =
     let p : Plain = record { history = c.self.inside.history.items; sessions = c.self.inside.sessions.items; waits = c.self.inside.waits.items; indexed = c.self.inside.indexed } in
     let within : c.args.s < length c.self.inside.waits.items = omega arith in
     let within' : c.args.s < length c.self.inside.sessions.items = omega arith in
-    on_ok_weaker c.set_cursor.result (changes p c.args.self.now c.args.s c.index_mut-2.result.now c.set_cursor.new.session (opens c.args.self.now.history c.args.order c.args.bounds) c.self.view_is within' within c.index_mut-2.ensures.value) (subst (λ (h : List Transaction). OnOk c.set_cursor.result (PlainBecomes c.index_mut-2.result.now c.set_cursor.new.session (opens h c.args.order c.args.bounds)))
+    on_ok_weaker c.set_cursor.result (changes p c.args.self.now c.args.s c.index_mut-2.result.now c.set_cursor.new.session (with_plain_cursor c.args.self.now.history c.args.order c.args.bounds) c.self.view_is within' within c.index_mut-2.ensures.value) (subst (λ (h : List Transaction). OnOk c.set_cursor.result (PlainBecomes c.index_mut-2.result.now c.set_cursor.new.session (with_plain_cursor h c.args.order c.args.bounds)))
     (c.deref.ensures.value ∙ ap (λ (q : Plain). q.history) c.self.view_is) c.set_cursor.ensures.ok)
 
 pub returns-clause-err : goal.returns-clause-err

@@ -1,6 +1,6 @@
 use Rattle.std.proofs.Common.{refl, sym, subst}
-use Rattle.refinement.specs.declared.step.Step.{Step}
-use Rattle.refinement.specs.declared.step.Step.TheVariants.{VacuumBegin, VacuumStep, VacuumCancel}
+use Rattle.calls.specs.declared.step.Step.{Step}
+use Rattle.calls.specs.declared.step.Step.TheVariants.{VacuumBegin, VacuumStep, VacuumCancel}
 use Rattle.session_steps.specs.Vacuums.{IsSetUp}
 use Rattle.vacuum_engine.specs.State.{EngineView}
 use Rattle.vacuum_engine.specs.Clauses.{EngineFollows}

@@ -1,7 +1,7 @@
 use Rattle.std.proofs.Common.{sym, ap, subst}
-use Rattle.refinement.specs.declared.step.Step.TheVariants.{Delete}
-use Rattle.refinement.specs.declared.reply.Reply.{Reply}
-use Rattle.refinement.specs.Writes.{deletes}
+use Rattle.calls.specs.declared.step.Step.TheVariants.{Delete}
+use Rattle.calls.specs.declared.reply.Reply.{Reply}
+use Rattle.calls.specs.Writes.{deletes}
 use Rattle.session_steps.specs.State.{State, refused_state}
 use Rattle.session_steps.specs.Replies.{reply_to}
 use Rattle.session_steps.specs.Exact.{AnswersStep}

@@ -1,5 +1,5 @@
 use Rattle.std.proofs.Common.{rules, sym, subst}
-use Rattle.refinement.specs.declared.step.Step.TheVariants.{Get}
+use Rattle.calls.specs.declared.step.Step.TheVariants.{Get}
 use Rattle.session_steps.specs.Agrees.{Follows}
 use Rattle.session_steps.proofs.Reading.{Follows-get}
 use Rattle.session_steps.proofs.SessionReader.{row-read}

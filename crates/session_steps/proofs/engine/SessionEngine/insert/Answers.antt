@@ -1,9 +1,9 @@
 use Rattle.std.proofs.Common.{rules, sym, ap, subst, refl}
-use Rattle.refinement.specs.Words.{row_of}
-use Rattle.refinement.specs.Writes.{inserts}
-use Rattle.refinement.specs.declared.step.Step.TheVariants.{Insert}
-use Rattle.refinement.specs.declared.reply.Reply.{Reply}
-use Rattle.refinement.specs.declared.step.RowIn.{RowIn}
+use Rattle.calls.specs.Words.{row_of}
+use Rattle.calls.specs.Writes.{inserts}
+use Rattle.calls.specs.declared.step.Step.TheVariants.{Insert}
+use Rattle.calls.specs.declared.reply.Reply.{Reply}
+use Rattle.calls.specs.declared.step.RowIn.{RowIn}
 use Rattle.session_steps.specs.State.{State, refused_state}
 use Rattle.session_steps.specs.Tests.{RefusesInsertOfKey}
 use Rattle.session_steps.specs.Replies.{reply_to}

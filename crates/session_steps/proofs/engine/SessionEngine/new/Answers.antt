@@ -1,7 +1,7 @@
 use Rattle.std.proofs.Common.{length, Option, None, ap, sym, ◌∙◌, subst}
 use Rattle.std.proofs.lemmas.List.{length-replicate}
 use Rattle.history.specs.World.{beginning}
-use Rattle.refinement.specs.declared.settings.Settings.{Settings}
+use Rattle.calls.specs.declared.settings.Settings.{Settings}
 use Rattle.session_steps.specs.declared.session.Session.{Session}
 use Rattle.session_steps.specs.Agrees.{Agrees}
 use Rattle.session_steps.proofs.StateLemmas.{keeps-idle}

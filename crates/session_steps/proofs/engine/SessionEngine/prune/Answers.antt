@@ -1,11 +1,11 @@
 use Rattle.std.proofs.Common.{rules, ◌≡◌, ℕ, Result, refl, sym, ap, ◌∙◌, subst}
 use Rattle.heap_write.specs.Heap.{HeapView}
 use Rattle.heap_write.specs.Writes.{Prunes}
-use Rattle.refinement.specs.declared.step.Step.TheVariants.{Prune}
-use Rattle.refinement.specs.declared.reply.Reply.TheVariants.{Refused}
-use Rattle.refinement.specs.declared.reply.Refusal.TheVariants.{NoSuchPage}
+use Rattle.calls.specs.declared.step.Step.TheVariants.{Prune}
+use Rattle.calls.specs.declared.reply.Reply.TheVariants.{Refused}
+use Rattle.calls.specs.declared.reply.Refusal.TheVariants.{NoSuchPage}
 use Rattle.session_steps.specs.State.{State, horizon_of}
-use Rattle.refinement.specs.declared.reply.Refusal.{Refusal}
+use Rattle.calls.specs.declared.reply.Refusal.{Refusal}
 use Rattle.session_steps.specs.declared.outcome.Ack.{Ack}
 use Rattle.session_steps.specs.Replies.{reply_to}
 use Rattle.session_steps.specs.Agrees.{Follows}

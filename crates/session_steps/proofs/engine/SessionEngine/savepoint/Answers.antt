@@ -1,9 +1,9 @@
 use Rattle.std.proofs.Common.{rules, Result, Some, refl, sym, ap, ◌∙◌, subst}
-use Rattle.refinement.specs.declared.step.Step.TheVariants.{Savepoint}
-use Rattle.refinement.specs.declared.reply.Reply.{Reply}
-use Rattle.refinement.specs.declared.reply.Reply.TheVariants.{Refused}
-use Rattle.refinement.specs.declared.reply.Refusal.{Refusal}
-use Rattle.refinement.specs.declared.reply.Refusal.TheVariants.{TooDeep, NoMemory}
+use Rattle.calls.specs.declared.step.Step.TheVariants.{Savepoint}
+use Rattle.calls.specs.declared.reply.Reply.{Reply}
+use Rattle.calls.specs.declared.reply.Reply.TheVariants.{Refused}
+use Rattle.calls.specs.declared.reply.Refusal.{Refusal}
+use Rattle.calls.specs.declared.reply.Refusal.TheVariants.{TooDeep, NoMemory}
 use Rattle.snapshot.specs.declared.own.SaveFault.{SaveFault}
 use Rattle.snapshot.specs.Saving.{CannotSave}
 use Rattle.session_steps.specs.declared.session.Session.{Session}

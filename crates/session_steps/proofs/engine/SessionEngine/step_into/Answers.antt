@@ -1,10 +1,10 @@
 use Rattle.std.proofs.Common.{◌≡◌, Result, true, false, refl, sym, subst, ap, ◌∙◌}
-use Rattle.refinement.specs.Bounds.{HasBounds}
-use Rattle.refinement.specs.declared.step.Step.{Step}
-use Rattle.refinement.specs.declared.reply.Reply.{Reply}
+use Rattle.calls.specs.Bounds.{HasBounds}
+use Rattle.calls.specs.declared.step.Step.{Step}
+use Rattle.calls.specs.declared.reply.Reply.{Reply}
 use Rattle.session_steps.specs.declared.outcome.Ack.{Ack}
-use Rattle.refinement.specs.declared.reply.Refusal.{Refusal}
-use Rattle.refinement.specs.Allowed.{is_vacuum_step}
+use Rattle.calls.specs.declared.reply.Refusal.{Refusal}
+use Rattle.calls.specs.Steps.{is_vacuum_step}
 use Rattle.session_steps.specs.State.{State}
 use Rattle.session_steps.specs.Replies.{reply_to}
 use Rattle.session_steps.specs.Exact.{AnswersStep}

@@ -1,13 +1,13 @@
 use Rattle.std.proofs.Common.{◌∙◌, Some, sym, subst}
 use Rattle.std.proofs.lemmas.Option.{none-some}
-use Rattle.refinement.specs.declared.reply.Reply.{Reply}
+use Rattle.calls.specs.declared.reply.Reply.{Reply}
 use Rattle.session_steps.specs.declared.session.Session.{Session}
 use Rattle.session_steps.specs.State.{State}
 use Rattle.session_steps.specs.Tests.{MayWriteKey}
 use Rattle.session_steps.specs.Writes.{outcome_of}
 use Rattle.session_steps.specs.Replies.{reply_to}
 use Rattle.session_steps.specs.Exact.{AnswersStep}
-use Rattle.refinement.specs.declared.step.Step.TheVariants.{Delete}
+use Rattle.calls.specs.declared.step.Step.TheVariants.{Delete}
 use Rattle.heap_write.specs.Refusals.{VersionIsThere}
 use Rattle.session_steps.proofs.Trying.{with_session, newest-given, place-there, tries-delete, keeps-deleted, delete-tried, exact-deleted}
 use Rattle.session_steps.proofs.Writing.{Follows-deleted}

@@ -1,6 +1,6 @@
 use Rattle.std.proofs.Common.{List, [], ◌∷◌, ◌++◌, ap, sym, subst, ◌∙◌}
-use Rattle.refinement.specs.declared.step.Step.{Step}
-use Rattle.refinement.specs.declared.reply.Reply.{Reply}
+use Rattle.calls.specs.declared.step.Step.{Step}
+use Rattle.calls.specs.declared.reply.Reply.{Reply}
 use Rattle.vacuum_engine.specs.Exact.{EngineExact}
 use Rattle.vacuum_engine.specs.Clauses.{EngineFollows}
 use Rattle.shared_heap.specs.Books.{BookView, Appends}

@@ -1,5 +1,5 @@
 use Rattle.std.proofs.Common.{◌∙◌, ap, sym, subst, Some}
-use Rattle.refinement.specs.declared.vacuum.Piece.TheVariants as piece
+use Rattle.calls.specs.declared.vacuum.Piece.TheVariants as piece
 use Rattle.vacuum_passes.specs.View.{VacuumView}
 use Rattle.vacuum_passes.specs.Steps.{Steps}
 use Rattle.vacuum_passes.proofs.vacuum.Vacuum.step_index.Goals as goal

@@ -1,20 +1,20 @@
 -- The three steps that write a key, as one kind.
 use Rattle.std.specs.Prelude.{◌≡◌, ℕ, ◌<◌, length, Option, None, IsSome}
 use Rattle.tuple_header.specs.declared.version.Row.{Row}
-use Rattle.refinement.specs.declared.step.Step.{Step}
-use Rattle.refinement.specs.declared.step.Step.TheVariants.{Insert, Update, Delete}
-use Rattle.refinement.specs.Words.{RowText, FitsRow}
+use Rattle.calls.specs.declared.step.Step.{Step}
+use Rattle.calls.specs.declared.step.Step.TheVariants as step
+use Rattle.calls.specs.Words.{RowToWrite, FitsRow}
 
 -- a write: a row of a key that has none, another row of a key that has one, or that a key has none any more
 pub data WriteStep : Type 0 where
-  inserts : RowText → WriteStep
-  updates : RowText → WriteStep
+  inserts : RowToWrite → WriteStep
+  updates : RowToWrite → WriteStep
   deletes : ℕ → WriteStep
 
 abbrev pub step_of : ℕ → WriteStep → Step
-step_of s (inserts row) = Insert s row
-step_of s (updates row) = Update s row
-step_of s (deletes k) = Delete s k
+step_of s (inserts row) = step.Insert s row
+step_of s (updates row) = step.Update s row
+step_of s (deletes k) = step.Delete s k
 
 abbrev pub key_of : WriteStep → ℕ
 key_of (inserts row) = row.key
@@ -23,8 +23,8 @@ key_of (deletes k) = k
 
 -- the step has a row whose body is not empty: a copy of no other takes memory
 abbrev pub HasBody : Step → Type 0
-HasBody (Insert s row) = 0 < length row.body
-HasBody (Update s row) = 0 < length row.body
+HasBody (step.Insert s row) = 0 < length row.body
+HasBody (step.Update s row) = 0 < length row.body
 HasBody step = ⊥
 
 -- it puts a row into the table

@@ -1,7 +1,7 @@
 //! The settings of an engine.
 
 ghost use Rattle.std.specs.Prelude.{◌≡◌, IfSome, None, ◌↔◌};
-ghost use Rattle.refinement.specs.Words.{AreSettings, FirstFault};
+ghost use Rattle.calls.specs.Words.{AreSettings, FirstFault};
 
 use thiserror::Error;
 

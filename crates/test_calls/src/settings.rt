@@ -1,6 +1,6 @@
 //! Settings at the ends of their ranges, and the copy of a step.
 
-use refinement::{RowIn, Settings, SettingsFault, Step};
+use calls::{RowIn, Settings, SettingsFault, Step};
 use std::alloc::{AllocError, Global};
 use std::test::Fail;
 

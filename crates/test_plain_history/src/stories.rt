@@ -1,6 +1,7 @@
 //! Calls with their answers, which one loop goes through: a test is proved as any function is, and a long one takes long.
 
 use arrayvec::ArrayVec;
+use calls::Refusal;
 use plain_history::{Handed, Outcome, PlainHistory, Refused};
 use std::alloc::Global;
 use std::test::Fail;
@@ -40,7 +41,8 @@ pub enum Answer {
     Rows([u64; 3]),
     Keys([u64; 3]),
     End,
-    Refused(Refused),
+    Refused(Refusal),
+    Deadlock,
 }
 
 fn row(key: u64, value: i64) -> Row {
@@ -51,14 +53,22 @@ fn row(key: u64, value: i64) -> Row {
     }
 }
 
-fn done(answered: Result<(), Refused>) -> Answer {
+fn done(answered: Result<(), Refusal>) -> Answer {
     match answered {
         Ok(()) => Answer::Done,
         Err(why) => Answer::Refused(why),
     }
 }
 
-fn found(answered: Result<Option<Row>, Refused>) -> Answer {
+fn written(answered: Result<(), Refused>) -> Answer {
+    match answered {
+        Ok(()) => Answer::Done,
+        Err(Refused::By(why)) => Answer::Refused(why),
+        Err(Refused::Deadlock) => Answer::Deadlock,
+    }
+}
+
+fn found(answered: Result<Option<Row>, Refusal>) -> Answer {
     match answered {
         Ok(Some(row)) => Answer::Found(row.key, row.cols[0]),
         Ok(None) => Answer::NoRow,
@@ -66,7 +76,7 @@ fn found(answered: Result<Option<Row>, Refused>) -> Answer {
     }
 }
 
-fn ended(answered: Result<Outcome, Refused>) -> Answer {
+fn ended(answered: Result<Outcome, Refusal>) -> Answer {
     match answered {
         Ok(outcome) => Answer::Ended(outcome),
         Err(why) => Answer::Refused(why),
@@ -93,7 +103,7 @@ fn three_of(keys: &[u64]) -> [u64; 3] {
     three
 }
 
-fn handed(answered: Result<Handed, Refused>) -> Answer {
+fn handed(answered: Result<Handed, Refusal>) -> Answer {
     match answered {
         Ok(Handed::Rows(rows)) => Answer::Rows(three_of_rows(&rows)),
         Ok(Handed::Keys(keys)) => Answer::Keys(three_of(&keys)),
@@ -127,9 +137,9 @@ fn answer_to(history: &mut PlainHistory, call: Call) -> Answer {
     match call {
         Call::Begin(s) => done(history.begin(s)),
         Call::Get(s, key) => found(history.get(s, key)),
-        Call::Insert(s, key, value) => done(history.insert(s, row(key, value))),
-        Call::Update(s, key, value) => done(history.update(s, row(key, value))),
-        Call::Delete(s, key) => done(history.delete(s, key)),
+        Call::Insert(s, key, value) => written(history.insert(s, row(key, value))),
+        Call::Update(s, key, value) => written(history.update(s, row(key, value))),
+        Call::Delete(s, key) => written(history.delete(s, key)),
         Call::Savepoint(s) => done(history.savepoint(s)),
         Call::Savepoints(s, count) => savepoints(history, s, count),
         Call::RollBackTo(s) => done(history.roll_back_to(s)),
@@ -146,13 +156,15 @@ fn answer_to(history: &mut PlainHistory, call: Call) -> Answer {
 }
 
 // A history in which session 0 has committed these rows in one transaction, and in which column 0 alone is indexed.
-fn holding(alloc: Global, rows: &[(u64, i64)]) -> Result<PlainHistory, Refused> {
+fn holding(alloc: Global, rows: &[(u64, i64)]) -> Result<PlainHistory, Refusal> {
     let Ok(mut history) = PlainHistory::new(alloc, [true, false, false, false]) else {
-        return Err(Refused::NoMemory);
+        return Err(Refusal::NoMemory);
     };
     history.begin(0)?;
     for (key, value) in rows {
-        history.insert(0, row(*key, *value))?;
+        if let Err(Refused::By(why)) = history.insert(0, row(*key, *value)) {
+            return Err(why);
+        }
     }
     let _outcome = history.commit(0)?;
     Ok(history)

@@ -1,8 +1,8 @@
 //! The steps of sessions, and of those who clean the table.
 
 ghost use Rattle.std.specs.Prelude.{◌≡◌, ◌<◌, length, IfOk, OnErr};
-ghost use Rattle.refinement.specs.Bounds.{HasBounds};
-ghost use Rattle.refinement.specs.Writes.{HasBody};
+ghost use Rattle.calls.specs.Bounds.{HasBounds};
+ghost use Rattle.calls.specs.Writes.{HasBody};
 
 use crate::vacuum::Mode;
 use std::alloc::{AllocError, Global};
@@ -20,12 +20,15 @@ pub struct RowIn {
 }
 
 impl Model for RowIn {
-    ghost use Rattle.refinement.specs.Words.{RowText};
+    ghost use Rattle.calls.specs.Words.{RowToWrite};
 
-    ghost Value = { RowText };
+    ghost Value = { RowToWrite };
 
     ghost view = { λ r. record { key = r.key; cols = r.cols; body = r.body.items } };
 }
+
+/// How many sessions there are: their numbers begin with 0.
+pub const MOST_SESSIONS: usize = 64;
 
 /// One call, most of a session, which is named by its number, from 0 to 63.
 #[derive(Debug, Drop)]

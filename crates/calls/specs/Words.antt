@@ -1,22 +1,23 @@
 -- What the words of a step mean.
 use Rattle.std.specs.Prelude.{ℕ, ℤ, ◌<◌, ◌≤◌, ◌⊎◌, List, length}
 use Rattle.tuple_header.specs.declared.version.Row.{Row}
-use Rattle.refinement.specs.declared.settings.Settings.{Settings}
-use Rattle.refinement.specs.declared.settings.SettingsFault.{SettingsFault}
-use Rattle.refinement.specs.declared.settings.SettingsFault.TheVariants.{MaxPages, StopAge, FreezeMinAge, FirstXid, DeadLimit, NoMemory}
+use Rattle.calls.specs.declared.settings.Settings.{Settings}
+use Rattle.calls.specs.declared.settings.SettingsFault.{SettingsFault}
+use Rattle.calls.specs.declared.settings.SettingsFault.TheVariants.{MaxPages, StopAge, FreezeMinAge, FirstXid, DeadLimit, NoMemory}
+use Rattle.tuple_header.specs.declared.version.TheConstants.{MOST_BODY}
 
 -- a row to be written
-pub record RowText : Type 0 where
+pub record RowToWrite : Type 0 where
   pub key : ℕ
   pub cols : List ℤ
   pub body : List ℕ
 
 -- a body has at most 1024 bytes
-abbrev pub FitsRow : RowText → Type 0
-FitsRow row = length row.body ≤ 1024
+abbrev pub FitsRow : RowToWrite → Type 0
+FitsRow row = length row.body ≤ MOST_BODY
 
 -- the row of the table
-abbrev pub row_of : RowText → Row
+abbrev pub row_of : RowToWrite → Row
 row_of row = record { key = row.key; cols = row.cols; body = record { items = row.body } }
 
 -- each setting is in its range

@@ -1,0 +1,5 @@
+pub mod Words
+pub mod Steps
+pub mod Writes
+pub mod Bounds
+pub mod Bars

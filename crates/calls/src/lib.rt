@@ -1,0 +1,17 @@
+//! What a caller says and is told: the words of the table.
+//!
+//! [`Settings`] make an engine, a [`Step`] is one call, a [`Reply`] its answer. `specs/` has what is said of them alone:
+//! which settings are in range (`Words`), whose a step is (`Steps`), which steps write a key (`Writes`), what bars a
+//! session from a step (`Bars`). Which reply is allowed to a step is `refinement`'s to say.
+#![tactic(auto)]
+
+mod reply;
+mod settings;
+mod step;
+mod vacuum;
+
+pub use reply::{Refusal, Reply};
+pub use settings::{Settings, SettingsFault};
+pub use step::{MOST_SESSIONS, RowIn, Step};
+pub use tuple_header::Row;
+pub use vacuum::{Mode, Piece};
