@@ -37,7 +37,7 @@ where
     match first_wrong(alloc, &mut subject, steps)? {
         None => Ok(()),
         Some(at) => Err(Fail::new(format_args!(
-            "step {at} of the statuses, counted from 0, comes out otherwise"
+            "step {at} of the table, counted from 0, comes out otherwise"
         ))),
     }
 }
