@@ -63,9 +63,9 @@ impl Model for RootIndex {
     ghost Value = { IndexView };
 
     ghost view = { λ x. record {
-        entries = all ⟦<Tree as Node>⟧.entries x.trees.items;
-        spare = x.promised;
-        nodes = sum_by ⟦<Tree as Node>⟧.nodes x.trees.items;
+      entries = all ⟦<Tree as Node>⟧.entries x.trees.items;
+      spare = x.promised;
+      nodes = sum_by ⟦<Tree as Node>⟧.nodes x.trees.items;
     } };
 
     ghost invariant = { λ x. IsSoundIndex ⟦<Tree as Node>⟧.entries ⟦<Tree as Node>⟧.IsNeat

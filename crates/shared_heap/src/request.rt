@@ -17,12 +17,12 @@ pub(crate) trait Request {
 
 impl Request for Brand {
     ghost settings = { record {
-        max_pages = 1;
-        stop_age = 1;
-        freeze_min_age = 0;
-        first_xid = 3;
-        dead_limit = 1;
-        indexed = [];
+      max_pages = 1;
+      stop_age = 1;
+      freeze_min_age = 0;
+      first_xid = 3;
+      dead_limit = 1;
+      indexed = [];
     } };
 
     ghost lists = { [] };

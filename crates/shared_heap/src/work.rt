@@ -54,20 +54,20 @@ impl<J: Request> Model for Work<J> {
     ghost Value = { WorkView };
 
     ghost view = { λ w. record {
-        settings = w.settings;
-        lists = lines_in w.lists.items;
-        book = w.book;
-        workers = w.workers.items;
-        done = w.done.items;
+      settings = w.settings;
+      lists = lines_in w.lists.items;
+      book = w.book;
+      workers = w.workers.items;
+      done = w.done.items;
     } };
 
     ghost invariant = { λ w.
         IsCarried (record {
-            settings = w.settings;
-            lists = lines_in w.lists.items;
-            book = w.book;
-            workers = w.workers.items;
-            done = w.done.items;
+          settings = w.settings;
+          lists = lines_in w.lists.items;
+          book = w.book;
+          workers = w.workers.items;
+          done = w.done.items;
         })
         × (w.settings ≡ J.settings)
         × (lines_in w.lists.items ≡ J.lists) };

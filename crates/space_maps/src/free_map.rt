@@ -38,8 +38,8 @@ impl Model for FreeMap {
     ghost Value = { FreeView };
 
     ghost view = { λ m. record {
-        bytes = m.bytes.items;
-        spare = vec_capacity m.bytes - vec_len m.bytes;
+      bytes = m.bytes.items;
+      spare = vec_capacity m.bytes - vec_len m.bytes;
     } };
 
     ghost invariant = { λ m. IsMap m.tops m.bytes.items × IsPassed m.bytes.items m.before m.least };

@@ -23,9 +23,9 @@ impl<'a> Model for RowRef<'a> {
     ghost Value = { SpecRow };
 
     ghost view = { λ r. record {
-        key = r.key;
-        cols = r.cols;
-        body = record { items = r.body.now };
+      key = r.key;
+      cols = r.cols;
+      body = record { items = r.body.now };
     } };
 
     ghost invariant = { λ r. length r.body.now ≤ MOST_BODY };
