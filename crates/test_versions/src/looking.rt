@@ -137,7 +137,7 @@ fn seen(table: &TableView<'_>, key: u64, reader: &Reader<'_>) -> Seen {
 }
 
 fn seen_from_first(table: &TableView<'_>, key: u64, reader: &Reader<'_>) -> Seen {
-    match first_of(statuses.index, key) {
+    match first_of(table.index, key) {
         Some((first, near)) => {
             let place = place_from(table, first, near, reader);
             let row = row_from(table, first, near, reader);
