@@ -14,7 +14,7 @@ use page_slots::Page;
 use space_maps::PruneHints;
 use std::alloc::{AllocError, Global};
 use tuple_header::{MOST_SLOTS, Row};
-use tuple_writes::{add_cold_version, insert_version};
+use tuple_writes::add_root;
 use xid_circle::{Tid, Xid};
 
 /// Where a new root goes.
@@ -115,8 +115,9 @@ pub(crate) fn reserve_place(
     }
 }
 
-/// Makes a version of the row on a page as a root, by an update or an insert, and answers its slot.
-fn add_root(page: &mut Page, number: u32, updated: bool, x: Xid, row: &Row) -> u16
+/// Makes a version of the row on a page as a root, by an update or an insert, and answers its slot. A page with room for it that has
+/// no memory for a further slot has one that is unused.
+fn make_root(page: &mut Page, number: u32, updated: bool, x: Xid, row: &Row) -> u16
     requires normal { IsNormal x.0 }
     requires room { rounded_size_of row.now ≤ room_of page.old.slots }
     requires memory { HasSlot page.old }
@@ -126,11 +127,7 @@ fn add_root(page: &mut Page, number: u32, updated: bool, x: Xid, row: &Row) -> u
     ensures change { page.new.change ≡ next_change page.old.change }
     ensures flag { page.new.flag ≡ page.old.flag }
 {
-    if updated {
-        add_cold_version(page, number, x, row)
-    } else {
-        insert_version(page, number, x, row)
-    }
+    add_root(page, number, updated, x, row)
 }
 
 /// Makes a version of the row as a root where one goes, and answers its place.
@@ -150,13 +147,13 @@ pub(crate) fn put_version(
 {
     match target {
         Target::Page(number) => {
-            let slot = pages.write(number, |page| add_root(page, number, updated, x, row));
+            let slot = pages.write(number, |page| make_root(page, number, updated, x, row));
             Tid { page: number, slot }
         }
         Target::New(page) => {
             let mut page = Box::into_inner(page);
             let number = pages.len();
-            let slot = add_root(&mut page, number, updated, x, row);
+            let slot = make_root(&mut page, number, updated, x, row);
             pages.push_page(page);
             Tid { page: number, slot }
         }

@@ -1,11 +1,10 @@
 //! The engine as its callers have it.
 
-ghost use Rattle.std.specs.Prelude.{◌≡◌, ◌<◌, length, slice_get, option_copied, IfOk, IfErr, OnOk, MatchResult, Some, false};
+ghost use Rattle.std.specs.Prelude.{◌≡◌, ◌<◌, length, slice_get, option_copied, IfOk, IfErr, OnOk, MatchResult, Some};
 ghost use Rattle.std.specs.Option.{option_map};
 ghost use Rattle.commit_status.specs.Window.{next_id};
 ghost use Rattle.space_maps.specs.View.{mark_on};
 ghost use Rattle.history.specs.World.{World, OpenSession, view, world_sessions};
-ghost use Rattle.calls.specs.Steps.{is_vacuum_step};
 ghost use Rattle.calls.specs.Words.{AreSettings, FirstFault};
 ghost use Rattle.calls.specs.Bars.{BarsOpen};
 ghost use Rattle.session_steps.specs.State.{engine_index, bits_of};
@@ -92,7 +91,10 @@ impl Engine {
             Step::VacuumBegin(mode) => self.begin_vacuum(mode, reply),
             Step::VacuumStep => self.step_vacuum(reply),
             Step::VacuumCancel => self.cancel_vacuum(reply),
-            step => self.step_beside(step, reply),
+            step => {
+                self.disturb(is_session(&step));
+                self.core.step_into(step, reply)
+            }
         }
     }
 
@@ -104,16 +106,6 @@ impl Engine {
         if let Some(vacuum) = &mut self.vacuum {
             vacuum.disturb(session);
         }
-    }
-
-    /// Does a step that is no vacuum's. A vacuum that is running is disturbed by it.
-    fn step_beside(&mut self, step: Step, reply: &mut Reply)
-        requires { is_vacuum_step step ≡ false }
-        ensures follows { EngineFollows self.old step reply.new self.new }
-        ensures exact { EngineExact self.old step reply.new self.new }
-    {
-        self.disturb(is_session(&step));
-        self.core.step_into(step, reply)
     }
 
     /// Writes the next rows of the session's cursor to the first places, and answers how many there are: none exactly where nothing

@@ -15,9 +15,7 @@ use prune::{Action, PrunePlan, apply, check_plan, first_death, plan, prune, room
 use std::alloc::Global;
 use std::test::Fail;
 use tuple_header::{Header, Row, Tuple, fault_of};
-use tuple_writes::{
-    add_cold_version, delete_version, hot_update, insert_version, mark_cold_updated,
-};
+use tuple_writes::{add_root, delete_version, hot_update, mark_cold_updated};
 use visibility::Fate;
 use xid_circle::{Tid, Xid};
 
@@ -162,7 +160,7 @@ fn has_place(page: &mut Page, row: &Row) -> bool
 /// Inserts a row on the page of this number, and answers its slot.
 pub fn insert(page: &mut Page, number: u32, x: u32, row: &Row) -> u16 {
     if has_place(page, row) && Xid(x).is_normal() {
-        insert_version(page, number, Xid(x), row)
+        add_root(page, number, false, Xid(x), row)
     } else {
         0
     }
@@ -170,7 +168,7 @@ pub fn insert(page: &mut Page, number: u32, x: u32, row: &Row) -> u16 {
 
 fn arrive(page: &mut Page, number: u32, x: u32, row: &Row) -> u16 {
     if has_place(page, row) && Xid(x).is_normal() {
-        add_cold_version(page, number, Xid(x), row)
+        add_root(page, number, true, Xid(x), row)
     } else {
         0
     }

@@ -14,4 +14,4 @@ pub mod laws;
 mod writes;
 
 pub use headers::{heap_only, replaced, root};
-pub use writes::{add_cold_version, delete_version, hot_update, insert_version, mark_cold_updated};
+pub use writes::{add_root, delete_version, hot_update, mark_cold_updated};

@@ -33,8 +33,11 @@ fn add(page: &mut Page, header: Header, row: &Row)
     }
 }
 
-/// Adds a version as a root.
-fn add_root(page: &mut Page, number_of_page: u32, updated: bool, x: Xid, row: &Row) -> u16
+/// Adds a version of the row, made by `x`, a normal id, as a root in the lowest unused slot, else in a new last one, and
+/// answers the slot's number. It is marked as made by an update, if it is, or else by an insert. The page has the number
+/// given, room for the row, and an unused slot or memory for a new one. (PostgreSQL, `heap_insert` and `heap_update` in
+/// src/backend/access/heap/heapam.c.)
+pub fn add_root(page: &mut Page, number_of_page: u32, updated: bool, x: Xid, row: &Row) -> u16
     requires normal { IsNormal x.0 }
     requires room { rounded_size_of row.now ≤ room_of page.old.slots }
     requires memory { (has_unused page.old.slots ≡ true) ⊎ (0 < page.old.spare) }
@@ -55,40 +58,6 @@ fn add_root(page: &mut Page, number_of_page: u32, updated: bool, x: Xid, row: &R
     let header = root(updated, x, place);
     add(page, header, row);
     slot
-}
-
-/// Inserts a version of the row, made by `x`, a normal id, as a root in the lowest unused slot, else in a new last one,
-/// and answers the slot's number. The page has the number given, room for the row, and an unused slot or memory for a new
-/// one. (PostgreSQL, `heap_insert` in src/backend/access/heap/heapam.c.)
-pub fn insert_version(page: &mut Page, number_of_page: u32, x: Xid, row: &Row) -> u16
-    requires normal { IsNormal x.0 }
-    requires room { rounded_size_of row.now ≤ room_of page.old.slots }
-    requires memory { (has_unused page.old.slots ≡ true) ⊎ (0 < page.old.spare) }
-    ensures number { result ≡ free_number page.old.slots }
-    ensures limit { result ≤ MOST_SLOTS }
-    ensures slots { page.new.slots ≡ with_root page.old.slots false x.0 number_of_page row.now }
-    ensures change { page.new.change ≡ next_change page.old.change }
-    ensures flag { page.new.flag ≡ page.old.flag }
-    ensures spare { page.old.spare ≤ page.new.spare + 1 }
-    ensures spare_kept { has_unused page.old.slots ≡ true → page.old.spare ≤ page.new.spare }
-{
-    add_root(page, number_of_page, false, x, row)
-}
-
-/// Adds the new version of an update that is not HOT: as [`insert_version`], but marked as made by an update.
-pub fn add_cold_version(page: &mut Page, number_of_page: u32, x: Xid, row: &Row) -> u16
-    requires normal { IsNormal x.0 }
-    requires room { rounded_size_of row.now ≤ room_of page.old.slots }
-    requires memory { (has_unused page.old.slots ≡ true) ⊎ (0 < page.old.spare) }
-    ensures number { result ≡ free_number page.old.slots }
-    ensures limit { result ≤ MOST_SLOTS }
-    ensures slots { page.new.slots ≡ with_root page.old.slots true x.0 number_of_page row.now }
-    ensures change { page.new.change ≡ next_change page.old.change }
-    ensures flag { page.new.flag ≡ page.old.flag }
-    ensures spare { page.old.spare ≤ page.new.spare + 1 }
-    ensures spare_kept { has_unused page.old.slots ≡ true → page.old.spare ≤ page.new.spare }
-{
-    add_root(page, number_of_page, true, x, row)
 }
 
 /// Notes that `x` took away the version in a slot, and where its successor is.

@@ -1,10 +1,17 @@
-use Rattle.std.proofs.Common.{refl, sym, subst}
+use Rattle.std.proofs.Common.{◌≡◌, ◌∙◌, false, rules, refl, ap, sym, subst}
+use Rattle.std.specs.Option.{option_map}
 use Rattle.calls.specs.declared.step.Step.{Step}
 use Rattle.calls.specs.declared.step.Step.TheVariants.{VacuumBegin, VacuumStep, VacuumCancel}
+use Rattle.calls.specs.Steps.{is_vacuum_step}
+use Rattle.vacuum_passes.specs.View.{disturbed}
 use Rattle.session_steps.specs.Vacuums.{IsSetUp}
+use Rattle.session_steps.specs.State.{State}
+use Rattle.session_steps.specs.Exact.{AnswersStep}
 use Rattle.vacuum_engine.specs.State.{EngineView}
 use Rattle.vacuum_engine.specs.Clauses.{EngineFollows}
 use Rattle.vacuum_engine.proofs.Vacuums.{vacuum-follows}
+use Rattle.vacuum_engine.proofs.Others.{others-follow}
+use Rattle.session_core.proofs.Stepping.{beside-exact}
 use Rattle.session_core.proofs.engine.Engine.step_into.Goals as goal
 
 pub returns-in-VacuumBegin-clause-follows : goal.returns-in-VacuumBegin-clause-follows
@@ -18,3 +25,16 @@ returns-in-VacuumStep-clause-follows c = subst (λ (step : Step). EngineFollows 
 pub returns-in-VacuumCancel-clause-follows : goal.returns-in-VacuumCancel-clause-follows
 returns-in-VacuumCancel-clause-follows c = subst (λ (step : Step). EngineFollows c.args.self.now step c.cancel_vacuum.new.reply c.cancel_vacuum.new.self) (sym c.in-VacuumCancel.is)
     (vacuum-follows c.args.self.now c.cancel_vacuum.new.self VacuumCancel c.cancel_vacuum.new.reply refl (subst (λ (e : EngineView). IsSetUp e.core) c.self.view_is c.is_set_up.ensures) c.cancel_vacuum.ensures)
+
+pub returns-in_default : goal.returns-in_default
+returns-in_default c =
+    let step = c.args.step in
+    let other : is_vacuum_step step ≡ false = search rules in
+    let core = ap (λ (e : EngineView). e.core) c.self-in_default.view_is ∙ c.disturb.ensures.core in
+    let vacuum = ap (λ (e : EngineView). e.vacuum) c.self-in_default.view_is ∙ (c.disturb.ensures.vacuum ∙ ap (λ b. option_map (disturbed b) c.args.self.now.vacuum) c.is_session.ensures) in
+    let does = subst (λ (st : State). AnswersStep st step c.step_into.new.reply c.step_into.new.self) core (c.step_into.ensures.answers other) in
+    let new : EngineView = record { core = c.step_into.new.self; vacuum = c.self-in_default.inside.vacuum } in
+    record {
+      follows = others-follow c.args.self.now new step c.step_into.new.reply other does.follows (record { core = does.exact; vacuum = vacuum });
+      exact = beside-exact c.args.self.now new step c.step_into.new.reply other (record { core = does.exact; vacuum = vacuum });
+    }
