@@ -5,48 +5,18 @@ use snapshot::SaveFault;
 use std::test::Fail;
 use xid_circle::Xid;
 
-/// Two savepoints with an id each are gone back to.
-static GOING_BACK: [SessionStep; 17] = [
-    SessionStep::Ids(&[]),
-    SessionStep::Has(3, false),
-    SessionStep::Give(3),
-    SessionStep::Save(Ok(())),
-    SessionStep::Give(4),
-    SessionStep::Save(Ok(())),
-    SessionStep::Give(5),
-    SessionStep::Savepoints(2, 1),
-    SessionStep::RollBack,
-    SessionStep::Ids(&[3, 4]),
-    SessionStep::Savepoints(2, 0),
-    SessionStep::Release,
-    SessionStep::RollBack,
-    SessionStep::Ids(&[3]),
-    SessionStep::Savepoints(1, 0),
-    SessionStep::Has(3, true),
-    SessionStep::Has(4, false),
-];
-
-#[test]
-fn savepoints(rt: HostRuntime) -> Result<(), Fail> {
-    run_session(rt.alloc(), 3, &GOING_BACK)
-}
-
 /// Three savepoints before the first id: the levels have their ids from the lowest up.
-static LATE_IDS: [SessionStep; 27] = [
+static LATE_IDS: [SessionStep; 24] = [
     SessionStep::Levels(1, None),
-    SessionStep::Savepoints(0, 0),
     SessionStep::Save(Ok(())),
     SessionStep::Save(Ok(())),
     SessionStep::Save(Ok(())),
     SessionStep::Levels(4, None),
     SessionStep::Give(3),
     SessionStep::Levels(3, Some(Xid(3))),
-    SessionStep::Savepoints(3, 0),
     SessionStep::Give(4),
     SessionStep::Levels(2, Some(Xid(4))),
     SessionStep::Give(5),
-    SessionStep::Levels(1, Some(Xid(5))),
-    SessionStep::Savepoints(3, 0),
     SessionStep::Give(6),
     SessionStep::Levels(0, Some(Xid(6))),
     SessionStep::Savepoints(3, 1),
@@ -54,6 +24,7 @@ static LATE_IDS: [SessionStep; 27] = [
     SessionStep::Levels(1, Some(Xid(5))),
     SessionStep::Savepoints(3, 0),
     SessionStep::Ids(&[3, 4, 5]),
+    SessionStep::Has(6, false),
     SessionStep::Release,
     SessionStep::Levels(0, Some(Xid(5))),
     SessionStep::Savepoints(2, 1),
@@ -92,31 +63,4 @@ static DEEP: [SessionStep; 18] = [
 #[test]
 fn levels_above_one_with_an_id(rt: HostRuntime) -> Result<(), Fail> {
     run_session(rt.alloc(), 3, &DEEP)
-}
-
-/// A released level's ids are those of the level below, which goes on under its own.
-static RELEASED: [SessionStep; 18] = [
-    SessionStep::Give(3),
-    SessionStep::Save(Ok(())),
-    SessionStep::Levels(1, Some(Xid(3))),
-    SessionStep::Give(4),
-    SessionStep::Levels(0, Some(Xid(4))),
-    SessionStep::Release,
-    SessionStep::Levels(0, Some(Xid(3))),
-    SessionStep::Ids(&[3, 4]),
-    SessionStep::Save(Ok(())),
-    SessionStep::Give(5),
-    SessionStep::Save(Ok(())),
-    SessionStep::Levels(1, Some(Xid(5))),
-    SessionStep::Give(6),
-    SessionStep::Levels(0, Some(Xid(6))),
-    SessionStep::Release,
-    SessionStep::Levels(0, Some(Xid(5))),
-    SessionStep::RollBack,
-    SessionStep::Levels(1, Some(Xid(3))),
-];
-
-#[test]
-fn released_levels(rt: HostRuntime) -> Result<(), Fail> {
-    run_session(rt.alloc(), 3, &RELEASED)
 }
