@@ -1,6 +1,7 @@
 -- The limits of the product: how much each constant is that a contract names.
 use Rattle.std.specs.Prelude.{◌≡◌, true, false, [], replicate}
-use Rattle.tuple_header.specs.declared.version.TheConstants.{MOST_SLOTS}
+use Rattle.tuple_header.specs.declared.version.TheConstants.{MOST_BODY, MOST_SLOTS}
+use Rattle.dead_places.specs.declared.dead_set.TheConstants.{MOST_PLACES}
 use Rattle.page_slots.specs.Slots.{room_of}
 use Rattle.root_index.specs.View.{free_places}
 use Rattle.heap_pages.specs.declared.pages.TheConstants.{MAX_PAGES}
@@ -13,12 +14,16 @@ use Rattle.script_text.specs.declared.line.TheConstants.{MAX_LINE}
 
 pub record LimitsAre : Type 0 where
   pub slots_of_a_page : MOST_SLOTS ≡ 291
+  -- of a row, in bytes
+  pub body : MOST_BODY ≡ 1024
   -- in an empty page: 8168 bytes without the pointer of a first slot
   pub bytes_of_a_page : room_of [] ≡ 8164
   pub pages : MAX_PAGES ≡ 65536
   -- an empty index with nodes set aside takes as many entries as a leaf has
   pub entries_of_a_leaf : free_places 0 1 ≡ 128
   pub savepoints : MOST_SAVEPOINTS ≡ 32
+  -- that a vacuum collects before it goes through the indexes
+  pub dead_slots : MOST_PLACES ≡ 4096
   -- of a transaction's child ids in a snapshot
   pub listed : are_many (replicate 64 3) ≡ false
   pub not_listed : are_many (replicate 65 3) ≡ true
