@@ -4,8 +4,8 @@
 #![tactic(auto)]
 
 #[cfg(test)]
-mod calls;
-#[cfg(test)]
 mod lists;
 #[cfg(test)]
 mod rows;
+#[cfg(test)]
+mod threads;
