@@ -61,7 +61,7 @@ impl WrittenRow {
     pub fn is_too_large(self) -> bool
         ensures { IsTrue result ↔ (MOST_BODY < self.length) }
     {
-        self.length > MOST_BODY
+        usize::from(self.length) > MOST_BODY
     }
 
     /// How many bytes a version of the row takes on a page: 66 and its body, rounded up to a multiple of 8.

@@ -2,6 +2,7 @@
 
 ghost use Rattle.std.specs.Prelude.{IsTrue};
 ghost use Rattle.heap_write.specs.Writes.{NewestIsGiven};
+ghost use Rattle.heap_write.specs.Refusals.{VersionIsThere};
 
 use arrayvec::ArrayVec;
 use commit_status::Status;
@@ -31,12 +32,22 @@ fn is_known(heap: &HeapState, own: &OwnIds) -> bool
     }
 }
 
+fn is_there(heap: &HeapState, place: Tid) -> bool
+    ensures { IsTrue result → VersionIsThere heap.now place }
+{
+    match heap.page(place.page) {
+        Some(page) => page.header(place.slot).is_some(),
+        None => false,
+    }
+}
+
 fn insert(heap: &mut HeapState, own: &mut OwnIds, key: u64) -> bool {
     is_known(heap, own) && heap.insert(own, &row_of(key)).is_ok()
 }
 
 fn delete(heap: &mut HeapState, own: &mut OwnIds, slot: u16) -> bool {
-    is_known(heap, own) && heap.delete(own, Tid { page: 0, slot }).is_ok()
+    let place = Tid { page: 0, slot };
+    is_known(heap, own) && is_there(heap, place) && heap.delete(own, place).is_ok()
 }
 
 fn commit(heap: &mut HeapState, x: Xid) {
