@@ -4,7 +4,7 @@ ghost use Rattle.std.specs.Prelude.{◌⊎◌, ◌≤◌, Contains};
 
 use crate::generator::Generator;
 use session_core::Mode;
-use side_by_side::{Ask, Bodies, Standing, Written};
+use side_by_side::{Ask, Bodies, Standing, WrittenRow};
 use std::alloc::{AllocError, Global};
 
 /// The keys: few, so that sessions meet.
@@ -74,8 +74,8 @@ fn draw_column(generator: &mut Generator) -> i64 {
     }
 }
 
-fn draw_row(generator: &mut Generator, key: u64, length: u16) -> Written {
-    Written {
+fn draw_row(generator: &mut Generator, key: u64, length: u16) -> WrittenRow {
+    WrittenRow {
         key,
         cols: [
             draw_column(generator),
@@ -107,7 +107,7 @@ pub(crate) fn write_of(s: u8, key: u64, reads: bool) -> Ask {
     } else {
         Ask::Insert(
             s,
-            Written {
+            WrittenRow {
                 key,
                 cols: [0; 4],
                 from: 0,

@@ -33,7 +33,7 @@ static GIVE_FAULTS: [(GiveFault, &str); 2] = [
     (GiveFault::NoMemory, "there is no memory"),
 ];
 
-static WRITE_FAULTS: [(WriteFault, &str); 4] = [
+static WRITE_FAULTS: [(WriteFault, &str); 3] = [
     (WriteFault::NeedsFreeze, "old ids have to be frozen first"),
     (WriteFault::NoRoom, "there is no room"),
     (WriteFault::NoMemory, "there is no memory"),
