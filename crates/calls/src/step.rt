@@ -102,7 +102,7 @@ impl RowIn {
 
 impl Step {
     /// The bounds of a cursor are numbers of their type. It does nothing: its contract is the law.
-    pub fn has_bounds(&self)
+    pub fn fact_bounds(&self)
         ensures { HasBounds self.now }
     {
         if let Step::OpenIndex(_, _, low, high) = self {

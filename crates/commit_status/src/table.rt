@@ -33,7 +33,7 @@ impl Model for StatusEntry {
 
 impl StatusEntry {
     /// An id that was just given.
-    fn begun(parent: Option<Xid>) -> StatusEntry
+    fn in_progress(parent: Option<Xid>) -> StatusEntry
         requires { IfSome parent (λ p. IsNormal p.0) }
         ensures { result ≡ given_entry (option_map (λ p. p.0) parent) }
     {
@@ -166,7 +166,7 @@ impl StatusTable {
     }
 
     /// That the window is shorter than half the circle, and that parents stand before their children.
-    pub fn is_window(&self)
+    pub fn fact_window(&self)
         ensures { IsWindow self.now }
     {
         let _first = self.first;
@@ -216,7 +216,7 @@ impl StatusTable {
         if distance(self.first, self.next) >= self.stop_age {
             return Err(GiveFault::NeedsFreeze);
         }
-        let entry = StatusEntry::begun(parent);
+        let entry = StatusEntry::in_progress(parent);
         if self.entries.reserve(1).is_err() {
             return Err(GiveFault::NoMemory);
         }
@@ -306,7 +306,7 @@ impl StatusTable {
         ensures value { result.0 ≡ top_of self.now x.0 }
         ensures normal { IsNormal x.0 → IsNormal result.0 }
     {
-        self.is_window();
+        self.fact_window();
         let mut top = x;
         'ascent: while let Some(parent) = self.parent_of(top) {
             top = parent;

@@ -77,7 +77,7 @@ impl DeadSet {
     }
 
     /// That the places are in ascending order, each once. It does nothing; its contract is the fact.
-    pub fn is_ascending(&self)
+    pub fn fact_ascending(&self)
         ensures { AreAscending self.now }
     {
         let _count = self.tids.len();

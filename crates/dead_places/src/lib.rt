@@ -11,4 +11,4 @@ mod page_bounds;
 
 pub use dead_set::{DeadSet, MOST_PLACES, is_among};
 pub use order::compare_places;
-pub use page_bounds::{NO_PAGES, PageBounds, widened};
+pub use page_bounds::{NO_PAGES, PageBounds, widen};

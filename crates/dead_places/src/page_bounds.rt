@@ -19,7 +19,7 @@ pub const NO_PAGES: PageBounds = PageBounds {
 };
 
 /// These pages and that of this place.
-pub fn widened(bounds: PageBounds, tid: Tid) -> PageBounds
+pub fn widen(bounds: PageBounds, tid: Tid) -> PageBounds
     ensures kept { (t : Place) → IsOn bounds t → IsOn result t }
     ensures on { IsOn result tid }
 {

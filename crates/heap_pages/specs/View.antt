@@ -9,7 +9,7 @@ use Rattle.space_maps.specs.FreeSpace.{FreeView}
 use Rattle.space_maps.specs.declared.mark.Mark.{Mark}
 use Rattle.space_maps.specs.declared.mark.Mark.TheVariants.{Nothing}
 use Rattle.heap_pages.specs.Choice.{free_byte_of}
-use Rattle.heap_pages.specs.declared.pages.TheConstants.{MAX_PAGES}
+use Rattle.heap_pages.specs.declared.pages.TheConstants.{MOST_PAGES}
 
 pub record PagesView : Type 0 where
   pub pages : List PageView
@@ -44,7 +44,7 @@ WritesOn g change old new number result =
 
 -- what is true of the pages of a table, their maps, and how many more each has memory for
 pub record IsPageTable (pages : List PageView) (free : FreeView) (marks : MarksView) (spare room : ℕ) : Type 0 where
-  pub few : length pages ≤ MAX_PAGES
+  pub few : length pages ≤ MOST_PAGES
   pub bytes : free.bytes ≡ free_space_bytes pages
   pub pages_spare : spare ≤ room
   pub free_spare : spare ≤ free.spare

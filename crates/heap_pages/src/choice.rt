@@ -4,7 +4,7 @@ ghost use Rattle.std.specs.Prelude.{◌≡◌, ◌≤◌, IsTrue, ◌↔◌, len
 ghost use Rattle.page_slots.specs.Slots.{room_of};
 ghost use Rattle.heap_pages.specs.Choice.{free_byte_of, HasRoom, FindsFirstPage};
 ghost use Rattle.heap_pages.specs.View.{free_space_bytes};
-ghost use Rattle.heap_pages.specs.declared.pages.TheConstants.{MAX_PAGES};
+ghost use Rattle.heap_pages.specs.declared.pages.TheConstants.{MOST_PAGES};
 
 use page_slots::Page;
 use space_maps::FreeMap;
@@ -26,7 +26,7 @@ fn has_room(page: &Page, size: usize) -> bool
 /// The first page in which a version of this size fits, if there is one. A page is looked at only where its byte in the map
 /// is large enough.
 pub(crate) fn first_with_room(pages: &[Page], map: &FreeMap, size: usize) -> Option<u32>
-    requires few { length pages.now ≤ MAX_PAGES }
+    requires few { length pages.now ≤ MOST_PAGES }
     requires bytes { map.now.bytes ≡ free_space_bytes pages.now }
     ensures { FindsFirstPage pages.now (HasRoom size) result }
 {

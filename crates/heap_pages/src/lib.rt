@@ -10,4 +10,4 @@ mod choice;
 mod pages;
 
 pub use choice::free_byte;
-pub use pages::{MAX_PAGES, Pages, Placement};
+pub use pages::{MOST_PAGES, Pages, Placement};

@@ -13,7 +13,7 @@ use std::alloc::{AllocError, Global};
 use std::marker::Model;
 
 /// A table has at most so many pages.
-pub const MAX_PAGES: u32 = 65536;
+pub const MOST_PAGES: u32 = 65536;
 
 /// Where a new version goes.
 #[derive(Clone, Copy, Debug, PartialEq, Eq)]
@@ -70,7 +70,7 @@ impl Pages {
     /// The number of pages, at most 65536.
     pub fn len(&self) -> u32
         ensures count { result ≡ length self.now.pages }
-        ensures limit { result ≤ MAX_PAGES }
+        ensures limit { result ≤ MOST_PAGES }
     {
         self.pages.len() as u32
     }
@@ -135,7 +135,7 @@ impl Pages {
     /// Adds a page after all others. There is room for it in memory, and fewer than 65536 pages are in use.
     pub fn push_page(&mut self, page: Page)
         requires room { 0 < self.old.spare }
-        requires few { length self.old.pages < MAX_PAGES }
+        requires few { length self.old.pages < MOST_PAGES }
         ensures pages { self.new.pages ≡ self.old.pages ++ page ∷ [] }
         ensures marks { self.new.marks ≡ self.old.marks ++ Mark.Nothing ∷ [] }
         ensures spare { self.old.spare ≡ self.new.spare + 1 }

@@ -14,7 +14,7 @@ use Rattle.heap_write.specs.declared.target.Target.{Target}
 use Rattle.heap_write.specs.declared.target.Target.TheVariants.{Page, New}
 use Rattle.heap_write.specs.Heap.{unused_page, PutsPage}
 use Rattle.heap_write.specs.Refusals.{NeedsSlot}
-use Rattle.heap_pages.specs.declared.pages.TheConstants.{MAX_PAGES}
+use Rattle.heap_pages.specs.declared.pages.TheConstants.{MOST_PAGES}
 use Rattle.tuple_header.specs.declared.version.TheConstants.{MOST_SLOTS}
 
 -- Ids.
@@ -70,7 +70,7 @@ target_number pages (New page) = length pages
 -- a version of this size can be put there without memory
 abbrev pub IsReserved : PagesView → ℕ → Target → Type 0
 IsReserved pages size (Page n) = (n < length pages.pages) × (size ≤ room_of (page_in pages.pages n).slots) × HasSlot (page_in pages.pages n)
-IsReserved pages size (New page) = IsFreshPage page.value × (size ≤ room_of page.value.slots) × (0 < pages.spare) × (length pages.pages < MAX_PAGES)
+IsReserved pages size (New page) = IsFreshPage page.value × (size ≤ room_of page.value.slots) × (0 < pages.spare) × (length pages.pages < MOST_PAGES)
 
 -- the place that was chosen where a root is to go there, or nowhere
 abbrev pub place_of_target : Option Target → Placement

@@ -1,5 +1,6 @@
 -- What stands between the steps of an update.
 use Rattle.std.specs.Prelude.{◌≡◌, ◌⊎◌, ℕ, ◌≤◌, Option, List, [], length}
+use Rattle.xid_circle.specs.Numbers.{Id, PageNo, SlotNo}
 use Rattle.xid_circle.specs.declared.Tid.{Tid}
 use Rattle.heap_pages.specs.Choice.{IsPlaceFor}
 use Rattle.heap_write.specs.declared.target.Target.{Target}
@@ -26,13 +27,13 @@ pub record IsReplaceable (h : HeapView) (own : Own) (place : Tid) : Type 0 where
 -- each level has an id now, the newest x
 pub record IsDoneUnder (h h' : HeapView) (own own' : Own) (x : ℕ) : Type 0 where
   pub takes : TakesIds h.statuses h'.statuses own own' x
-  pub max_pages : h'.max_pages ≡ h.max_pages
+  pub most_pages : h'.most_pages ≡ h.most_pages
   pub window : IsWindow h'.statuses
   pub normal : IsNormal x
 
 -- a new version of this size goes there, or nowhere
 abbrev pub IsChosen : HeapView → ℕ → Option Target → Type 0
-IsChosen h size found = IsPlaceFor h.pages.pages h.max_pages size (place_of_target found)
+IsChosen h size found = IsPlaceFor h.pages.pages h.most_pages size (place_of_target found)
 
 -- no version on the page of this number is dead, so that pruning leaves it as it is
 pub record HasNoneDead (h : HeapView) (number horizon : ℕ) : Type 0 where
@@ -40,7 +41,7 @@ pub record HasNoneDead (h : HeapView) (number horizon : ℕ) : Type 0 where
   pub none : ¬ HasDead h.statuses horizon (page_on h number).slots
 
 -- the actions are those of pruning the page of this number at a horizon
-abbrev pub IsPlanOn : HeapView → ℕ → ℕ → List (ℕ × Action) → Type 0
+abbrev pub IsPlanOn : HeapView → PageNo → (horizon : Id) → List (SlotNo × Action) → Type 0
 IsPlanOn h number horizon actions = IsPlan h.statuses horizon (page_on h number).slots actions
 
 -- no pruning is done for an update of the version at a place: it would change nothing, or take the version away

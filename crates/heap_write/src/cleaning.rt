@@ -94,10 +94,10 @@ impl HeapState {
     }
 
     /// That index 0 is in use, and at most five are. It does nothing; its contract is the fact.
-    pub fn has_indexes(&self)
+    pub fn fact_indexes(&self)
         ensures { HasIndexes self.now.indexes }
     {
-        self.indexes.are_few();
+        self.indexes.fact_few();
     }
 
     /// Forgets the ids before this one, which is remembered or the next.
@@ -107,7 +107,7 @@ impl HeapState {
         ensures window { IsWindow self.new.statuses }
     {
         self.statuses.truncate(x);
-        self.statuses.is_window();
+        self.statuses.fact_window();
         self.hints.end_all();
     }
 }

@@ -28,12 +28,12 @@ impl HeapState {
         ensures window { IsWindow self.new.statuses }
         ensures normal { IfOk result (λ x. IsNormal x.0) }
     {
-        self.statuses.is_window();
+        self.statuses.fact_window();
         if needs_freeze(&self.statuses, own) {
             return Err(WriteFault::NeedsFreeze);
         }
         if reserve_ids(&mut self.statuses, own).is_err() {
-            self.statuses.is_window();
+            self.statuses.fact_window();
             return Err(WriteFault::NoMemory);
         }
         let x = take_ids(&mut self.statuses, own);

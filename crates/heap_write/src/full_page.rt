@@ -57,7 +57,7 @@ impl HeapState {
         requires room { room_of (page_on self.old place.page).slots < rounded_size_of row.now }
         ensures { AnswersUpdate self.old self.new own.old own.new place row.now horizon.0 result }
     {
-        self.statuses.is_window();
+        self.statuses.fact_window();
         if needs_freeze(&self.statuses, own) {
             return Err(WriteFault::NeedsFreeze);
         }
@@ -83,7 +83,7 @@ impl HeapState {
         requires room { room_of (page_on self.old place.page).slots < rounded_size_of row.now }
         ensures { AnswersUpdate self.old self.new own.old own.new place row.now horizon.0 result }
     {
-        self.statuses.is_window();
+        self.statuses.fact_window();
         let page = match self.pages.page(place.page) {
             Some(page) => page,
             None => unreachable!(),
@@ -116,7 +116,7 @@ impl HeapState {
             → AnswersUpdate self.old self.new own.old own.new place row.now horizon result }
     {
         let reserved = self.reserve_root(own, row_size(row));
-        self.statuses.is_window();
+        self.statuses.fact_window();
         match reserved {
             Ok(target) => self.update_elsewhere(own, place, row, target),
             Err(_) => Err(WriteFault::NoMemory),
@@ -145,10 +145,10 @@ impl HeapState {
             → IsPlanOn self.old place.page horizon plan.now.actions.items
             → AnswersUpdate self.old self.new own.old own.new place row.now horizon result }
     {
-        self.has_slot_beside(place);
+        self.fact_slot_beside(place);
         let heap_only = self.keeps_values(place, row);
         let reserved = self.reserve_ids_for(own, heap_only);
-        self.statuses.is_window();
+        self.statuses.fact_window();
         match reserved {
             Ok(()) => {
                 self.apply_plan(place.page, plan);
@@ -180,7 +180,7 @@ impl HeapState {
             → AnswersUpdate self.old self.new own.old own.new place row.now horizon result }
     {
         let reserved = self.reserve_root(own, row_size(row));
-        self.statuses.is_window();
+        self.statuses.fact_window();
         match reserved {
             Ok(target) => {
                 self.apply_plan(place.page, plan);
@@ -212,7 +212,7 @@ impl HeapState {
             &mut self.pages,
             &mut self.hints,
             size,
-            self.max_pages,
+            self.most_pages,
         )
     }
 
@@ -238,7 +238,7 @@ impl HeapState {
         ensures err { OnErr result ((self.new ≡ self.old) × SameOwn own.old own.new) }
         ensures window { IsWindow self.new.statuses }
     {
-        self.statuses.is_window();
+        self.statuses.fact_window();
         match target {
             Some(target) => Ok(self.cold_update(own, place, row, target)),
             None => Err(WriteFault::NoRoom),

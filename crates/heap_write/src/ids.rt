@@ -59,7 +59,7 @@ fn give_id(statuses: &mut StatusTable, own: &mut OwnIds)
         Ok(x) => own.add(x),
         Err(_) => unreachable!(),
     }
-    statuses.is_window();
+    statuses.fact_window();
 }
 
 /// Gives an id to each level that has none, and answers the newest level's. It takes no memory.
@@ -71,8 +71,8 @@ pub(crate) fn take_ids(statuses: &mut StatusTable, own: &mut OwnIds) -> Xid
     ensures normal { IsNormal result.0 }
     ensures window { IsWindow statuses.new }
 {
-    statuses.is_window();
-    own.are_prefixes();
+    statuses.fact_window();
+    own.fact_prefixes();
     for _ in 0..own.unassigned_levels() {
         give_id(statuses, own);
     }

@@ -6,7 +6,7 @@ ghost use Rattle.index_lookup.specs.Looking.{FirstFound, FirstPlace, IsIdOf};
 ghost use Rattle.index_lookup.specs.Walking.{NextRow};
 ghost use Rattle.table_indexes.specs.Indexes.{entries_in};
 ghost use Rattle.heap_write.specs.Heap.{slots_of};
-ghost use Rattle.heap_pages.specs.declared.pages.TheConstants.{MAX_PAGES};
+ghost use Rattle.heap_pages.specs.declared.pages.TheConstants.{MOST_PAGES};
 
 use crate::heap::HeapState;
 use index_lookup::{
@@ -84,7 +84,7 @@ impl HeapState {
     /// How many pages are in use, at most 65536.
     pub fn page_count(&self) -> u32
         ensures count { result ≡ length self.now.pages.pages }
-        ensures limit { result ≤ MAX_PAGES }
+        ensures limit { result ≤ MOST_PAGES }
     {
         self.pages.len()
     }

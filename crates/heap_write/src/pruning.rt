@@ -50,7 +50,7 @@ impl HeapState {
     pub(crate) fn knows_none_dead(&self, number: u32, horizon: Xid) -> bool
         ensures { IsTrue result → HasNoneDead self.now number horizon.0 }
     {
-        self.statuses.is_window();
+        self.statuses.fact_window();
         match (
             self.pages.page(number),
             self.hints.turn(number),

@@ -7,7 +7,7 @@ ghost use Rattle.tuple_writes.specs.Writes.{with_root};
 ghost use Rattle.tuple_header.specs.Version.{rounded_size_of};
 ghost use Rattle.heap_write.specs.Refusals.{NeedsSlot};
 ghost use Rattle.heap_write.specs.Growth.{HasSlot, SamePage, SamePages, GrowsPage, page_in, IsFreshPage, IsReserved, Reserves, PlaceNeedsMemory, target_number, PutsVersion};
-ghost use Rattle.heap_pages.specs.declared.pages.TheConstants.{MAX_PAGES};
+ghost use Rattle.heap_pages.specs.declared.pages.TheConstants.{MOST_PAGES};
 
 use heap_pages::{Pages, Placement};
 use page_slots::Page;
@@ -41,7 +41,7 @@ fn has_slots(page: &Page) -> bool
     ensures some { IsTrue result → HasSlot page.now }
     ensures none { IsFalse result → length page.now.slots ≡ 0 }
 {
-    page.has_memory();
+    page.fact_memory();
     page.slots() > 0
 }
 
@@ -94,7 +94,7 @@ pub(crate) fn reserve_place(
     limit: u32,
 ) -> Result<Option<Target>, AllocError>
     requires fits { size ≤ 8164 }
-    requires few { limit ≤ MAX_PAGES }
+    requires few { limit ≤ MOST_PAGES }
     ensures same { SamePages pages.old pages.new }
     ensures reserves { IfOk result (λ found. Reserves pages.old pages.new limit size found) }
     ensures ready { IfOk result

@@ -52,14 +52,14 @@ impl HeapState {
         ensures { (horizon : ℕ)
             → AnswersUpdate self.old self.new own.old own.new place row.now horizon result }
     {
-        self.statuses.is_window();
+        self.statuses.fact_window();
         if needs_freeze(&self.statuses, own) {
             return Err(WriteFault::NeedsFreeze);
         }
-        self.has_slot_beside(place);
+        self.fact_slot_beside(place);
         let heap_only = self.keeps_values(place, row);
         let reserved = self.reserve_ids_for(own, heap_only);
-        self.statuses.is_window();
+        self.statuses.fact_window();
         match reserved {
             Ok(()) => Ok(self.replace_on_page(own, place, row, heap_only)),
             Err(_) => Err(WriteFault::NoMemory),
@@ -80,12 +80,12 @@ impl HeapState {
     }
 
     /// That a page with a version has memory for a further slot. It does nothing; its contract is the fact.
-    pub(crate) fn has_slot_beside(&self, place: Tid)
+    pub(crate) fn fact_slot_beside(&self, place: Tid)
         requires { VersionIsThere self.now place }
         ensures { HasSlot (page_on self.now place.page) }
     {
         match self.pages.page(place.page) {
-            Some(page) => page.has_memory(),
+            Some(page) => page.fact_memory(),
             None => unreachable!(),
         }
     }

@@ -1,5 +1,6 @@
 -- The history and the sessions that are open on it.
 use Rattle.std.specs.Prelude.{◌≡◌, ◌≢◌, ℕ, List, [], ◌∷◌, ◌++◌, Option, Some, None, Bool, true, false, IsSome, slice_index_or}
+use Rattle.xid_circle.specs.Numbers.{SessionNo, Key}
 use Rattle.xid_circle.specs.Following.{ReachesIn}
 use Rattle.tuple_header.specs.declared.version.Row.{Row}
 use Rattle.calls.specs.Bars.{SessionLooks}
@@ -62,7 +63,7 @@ abbrev pub Holds : World → ℕ → ℕ → Type 0
 Holds w s key = (m : OpenSession) × (w.session s ≡ Some m) × IsSome (own_write m key)
 
 -- were s to wait for o, the waits, followed from o, would close a ring ("Deadlocks" in the manual's section on explicit locking)
-abbrev pub ClosesRing : (ℕ → Option ℕ) → ℕ → ℕ → Type 0
+abbrev pub ClosesRing : (waits : SessionNo → Option SessionNo) → SessionNo → SessionNo → Type 0
 ClosesRing waits s o = (i : ℕ) × ReachesIn waits i o s
 
 -- the session is open and has not failed
@@ -82,7 +83,7 @@ pub record MayWrite (w : World) (s key : ℕ) (m : OpenSession) : Type 0 where
   pub unheld : (o : ℕ) → o ≢ s → ¬ Holds w o key
 
 -- its write of the key has to wait for the session o, which holds it
-pub record IsBlocked (w : World) (s key o : ℕ) (m : OpenSession) : Type 0 where
+pub record IsBlocked (w : World) (s : SessionNo) (key : Key) (o : SessionNo) (m : OpenSession) : Type 0 where
   pub writer : IsWriter w s m
   pub in_time : ¬ IsLate w.history m.start key
   pub other : o ≢ s

@@ -65,7 +65,7 @@ impl IndexRange {
 }
 
 /// That the numbers of an entry's place are in range. It does nothing; its contract is the fact.
-fn has_place(entry: &Entry)
+fn fact_place(entry: &Entry)
     ensures page { entry.now.tid.page ≤ 4294967295 }
     ensures slot { entry.now.tid.slot ≤ 65535 }
 {
@@ -129,7 +129,7 @@ fn past_all(
         (option_map (λ found. found.0) result) }
 {
     let (entry, near) = index.next_near(last_at(position), near)?;
-    has_place(&entry);
+    fact_place(&entry);
     Some((entry, near))
 }
 
@@ -184,7 +184,7 @@ pub fn next_row<'a>(
     ensures { NextRow reader.now.statuses.now (IsSeenBy reader.now)
         (page_slots_of table.now.pages.now) table.now.index.now.entries span.now result }
 {
-    table.index.is_ascending();
+    table.index.fact_ascending();
     let mut left = *span;
     for _ in 0..table.index.len() {
         match entry_in(table.index, &left) {

@@ -32,7 +32,7 @@ pub(crate) fn with_hint(look_up: LookUp) -> Option<(Entry, PositionHint)>
 }
 
 /// That the value of an entry is in range. It does nothing; its contract is the fact.
-fn has_value(entry: &Entry)
+fn fact_value(entry: &Entry)
     ensures { FitsSigned w128 entry.now.value }
 {
     let _value = entry.value;
@@ -94,8 +94,8 @@ pub fn place_from(
         (page_slots_of table.now.pages.now) table.now.index.now.entries
         first.value first.key result }
 {
-    table.index.is_ascending();
-    has_value(&first);
+    table.index.fact_ascending();
+    fact_value(&first);
     let mut next = Some((first, near));
     for _ in 0..table.index.len() {
         match next {

@@ -174,7 +174,7 @@ pub fn check_write(
         (page_slots_of table.now.pages.now) table.now.index.now.entries
         value key result.0.other_writer }
 {
-    table.index.is_ascending();
+    table.index.fact_ascending();
     let mut check = WriteCheck {
         place: None,
         newer_commit: None,

@@ -1,6 +1,7 @@
 -- Nodes one after another, be they leaves or branches.
 use Rattle.std.specs.Prelude.{◌≡◌, ◌≢◌, ◌<◌, ◌≤◌, ◌+◌, ◌^◌, ℕ, List, Option, Some, None, map, length, take, slice_get, IfSome, IsSomeAnd}
 use Rattle.std.specs.List.{All}
+use Rattle.xid_circle.specs.Numbers.{Count}
 use Rattle.index_nodes.specs.declared.entry.Entry.{Entry}
 use Rattle.index_nodes.specs.declared.nodes.TreePosition.{TreePosition}
 use Rattle.index_nodes.specs.Sets.{IsStart}
@@ -61,17 +62,17 @@ pub record IsOpened {N S : Type 0} (entries : N → List Entry) (size : N → �
   pub room : IsSomeAnd (slice_get new is.node) (λ n. (size n < MOST_PARTS) × IsPosition n is.inner)
 
 -- no node was taken of those that are set aside, nor a place in their list
-pub record IsUnspent {B : Type 0} (HasLeft : B → ℕ → Type 0) (room room' spare spare' : ℕ) (left left' : B) : Type 0 where
+pub record IsUnspent {B : Type 0} (HasLeft : B → Count → Type 0) (room room' spare spare' : Count) (left left' : B) : Type 0 where
   pub in_list : room ≤ room'
   pub nodes : spare ≤ spare'
   pub below : (k : ℕ) → HasLeft left k → HasLeft left' k
 
 -- what is there is enough for so many inserts, and they can be counted
-abbrev pub AreKept : {B : Type 0} → (B → ℕ → Type 0) → ℕ → ℕ → B → ℕ → ℕ → Type 0
+abbrev pub AreKept : {B : Type 0} → (HasLeft : B → Count → Type 0) → (room spare : Count) → B → (count promised : Count) → Type 0
 AreKept HasLeft room spare left count promised = (promised ≤ room) × (promised ≤ spare) × HasLeft left promised × (count + promised < 2 ^ 64)
 
 -- enough nodes for so many inserts, those below them too
-abbrev pub AreLeft : {B : Type 0} → (B → ℕ → Type 0) → ℕ → B → ℕ → Type 0
+abbrev pub AreLeft : {B : Type 0} → (HasLeft : B → Count → Type 0) → (count : Count) → B → (k : Count) → Type 0
 AreLeft HasLeft count below k = (k ≤ count) × HasLeft below k
 
 -- a place for a node that is emptied, and for those below it
@@ -79,7 +80,7 @@ abbrev pub HavePlaces : {B : Type 0} → (B → Type 0) → ℕ → B → Type 0
 HavePlaces HasPlaces capacity below = (1 ≤ capacity) × HasPlaces below
 
 -- none of the nodes that are set aside goes, nor a place for one
-pub record KeepsSpares {B : Type 0} (HasLeft : B → ℕ → Type 0) (HasPlaces : B → Type 0) (count count' capacity capacity' : ℕ) (below below' : B) : Type 0 where
+pub record KeepsSpares {B : Type 0} (HasLeft : B → Count → Type 0) (HasPlaces : B → Type 0) (count count' capacity capacity' : Count) (below below' : B) : Type 0 where
   pub nodes : count ≤ count'
   pub left : (k : ℕ) → HasLeft below k → HasLeft below' k
   pub list : capacity ≤ capacity'

@@ -12,7 +12,7 @@ ghost use Rattle.dead_places.specs.Places.{AreAscending};
 
 use crate::entry::{Entry, compare, is_before};
 use crate::node::{HALF, Half, MOST_PARTS, Node, Swept};
-use dead_places::{DeadSet, NO_PAGES, PageBounds, is_among, widened};
+use dead_places::{DeadSet, NO_PAGES, PageBounds, is_among, widen};
 use std::alloc::{AllocError, Global};
 use std::marker::Model;
 use xid_circle::Tid;
@@ -150,7 +150,7 @@ impl Node for Leaf {
     ) -> Result<(), AllocError> {
         put(&mut self.entries, position, entry);
         self.first = first_or(&self.entries, entry);
-        self.pages = widened(self.pages, entry.tid);
+        self.pages = widen(self.pages, entry.tid);
         if position == 0 || position + 1 == self.entries.len() {
             self.spread = spread_of(&self.entries);
         }
@@ -254,7 +254,7 @@ fn bounds_of(entries: &[Entry]) -> PageBounds
     let mut bounds = NO_PAGES;
     for place in 0..entries.len() {
         let entry = entries[place];
-        bounds = widened(bounds, entry.tid);
+        bounds = widen(bounds, entry.tid);
     }
     bounds
 }

@@ -12,7 +12,7 @@ use std::process::ExitCode;
 
 /// A table of at most 4 pages, with an index by key alone.
 const SETTINGS: Settings = Settings {
-    max_pages: 4,
+    most_pages: 4,
     stop_age: 1000,
     freeze_min_age: 0,
     first_xid: 3,
@@ -30,7 +30,7 @@ fn row(alloc: Global, key: u64, value: i64) -> RowIn {
 }
 
 /// The row of the key in the session's view, if the session is open and its view has one.
-fn seen(engine: &Engine, session: u8, key: u64) -> Option<Row>
+fn row_in_view(engine: &Engine, session: u8, key: u64) -> Option<Row>
     ensures { (w : World) → Agrees engine.now.core w → IfSome result
         (λ row. (m : OpenSession) × (w.session session ≡ Some m)
         × (Some row ≡ view w.history m key)) }
@@ -92,7 +92,7 @@ fn tour(rt: &impl Print, alloc: Global, engine: &mut Engine) -> io::Result<()> {
         "2 updates key 1",
         Step::Update(2, row(alloc, 1, 12)),
     )?;
-    if let Some(row) = seen(engine, 2, 1) {
+    if let Some(row) = row_in_view(engine, 2, 1) {
         println!(rt; "2 still sees {}", row.cols[0])?;
     }
     tell(rt, engine, "2 aborts", Step::Abort(2))?;

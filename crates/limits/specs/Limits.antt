@@ -4,13 +4,13 @@ use Rattle.tuple_header.specs.declared.version.TheConstants.{MOST_BODY, MOST_SLO
 use Rattle.dead_places.specs.declared.dead_set.TheConstants.{MOST_PLACES}
 use Rattle.page_slots.specs.Slots.{room_of}
 use Rattle.root_index.specs.View.{free_places}
-use Rattle.heap_pages.specs.declared.pages.TheConstants.{MAX_PAGES}
+use Rattle.heap_pages.specs.declared.pages.TheConstants.{MOST_PAGES}
 use Rattle.snapshot.specs.declared.own.TheConstants.{MOST_SAVEPOINTS}
 use Rattle.snapshot.specs.Snap.{are_many}
-use Rattle.calls.specs.declared.reply.Refusal.TheVariants.{NoSuchSession}
+use Rattle.calls.specs.declared.reply.Refusal.TheVariants as refusal
 use Rattle.calls.specs.Bars.{BarsOpen}
 use Rattle.session_steps.specs.State.{State, engine_sessions}
-use Rattle.script_text.specs.declared.line.TheConstants.{MAX_LINE}
+use Rattle.script_text.specs.declared.line.TheConstants.{MOST_LINE_BYTES}
 
 pub record LimitsAre : Type 0 where
   pub slots_of_a_page : MOST_SLOTS ≡ 291
@@ -18,7 +18,7 @@ pub record LimitsAre : Type 0 where
   pub body : MOST_BODY ≡ 1024
   -- in an empty page: 8168 bytes without the pointer of a first slot
   pub bytes_of_a_page : room_of [] ≡ 8164
-  pub pages : MAX_PAGES ≡ 65536
+  pub pages : MOST_PAGES ≡ 65536
   -- an empty index with nodes set aside takes as many entries as a leaf has
   pub entries_of_a_leaf : free_places 0 1 ≡ 128
   pub savepoints : MOST_SAVEPOINTS ≡ 32
@@ -28,7 +28,7 @@ pub record LimitsAre : Type 0 where
   pub listed : are_many (replicate 64 3) ≡ false
   pub not_listed : are_many (replicate 65 3) ≡ true
   -- session 64 is none, and session 63 is one
-  pub no_session : (st : State) → BarsOpen (engine_sessions st) 64 NoSuchSession
-  pub last_session : (st : State) → ¬ BarsOpen (engine_sessions st) 63 NoSuchSession
+  pub no_session : (st : State) → BarsOpen (engine_sessions st) 64 refusal.NoSuchSession
+  pub last_session : (st : State) → ¬ BarsOpen (engine_sessions st) 63 refusal.NoSuchSession
   -- of a line of a script, in bytes
-  pub line : MAX_LINE ≡ 4096
+  pub line : MOST_LINE_BYTES ≡ 4096

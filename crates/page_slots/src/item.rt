@@ -159,7 +159,7 @@ impl Item {
     }
 
     /// How many bytes its version takes on the page: 66 and its body, rounded up to a multiple of 8.
-    pub(crate) fn taken(&self) -> usize
+    pub(crate) fn version_size(&self) -> usize
         ensures { (bytes : List ℕ) → fits (length bytes) self.now ≡ true
             → result ≡ bytes_taken (stored_slot bytes self.now) }
     {

@@ -214,11 +214,11 @@ impl Page {
     }
 
     /// How many bytes the version in the slot of this number takes, which is there: 0 where it holds none.
-    pub fn taken(&self, number: u16) -> usize
+    pub fn version_size(&self, number: u16) -> usize
         requires { SlotIsThere self.now.slots number }
         ensures { result ≡ bytes_taken (the_slot self.now.slots number) }
     {
-        self.slots.taken(usize::from(number) - 1)
+        self.slots.version_size(usize::from(number) - 1)
     }
 
     /// What of 8168 bytes neither versions nor pointers of 4 bytes take.
@@ -349,11 +349,11 @@ impl Page {
     }
 
     /// That a page with a slot has memory for all that it may have. It does nothing; its contract is the fact.
-    pub fn has_memory(&self)
+    pub fn fact_memory(&self)
         ensures { 0 < length self.now.slots
             → (0 < self.now.spare) ⊎ (MOST_SLOTS ≤ length self.now.slots) }
     {
-        self.slots.has_memory()
+        self.slots.fact_memory()
     }
 
     /// Gives the version in the slot of this number, which is there and normal, another header, which has no fault. The
@@ -433,7 +433,7 @@ impl Page {
         } else {
             self.free
         };
-        self.taken_bytes -= self.slots.taken(index);
+        self.taken_bytes -= self.slots.version_size(index);
         self.slots.put(index, item);
         self.free = self.slots.first_unused_from(from);
         if !same {

@@ -164,11 +164,11 @@ impl Store {
     }
 
     /// How many bytes the version at an index takes on the page.
-    pub(crate) fn taken(&self, index: usize) -> usize
+    pub(crate) fn version_size(&self, index: usize) -> usize
         requires { index < length self.now.slots }
         ensures { result ≡ bytes_taken (slice_index_or self.now.slots index Slot.Unused) }
     {
-        self.items[index].taken()
+        self.items[index].version_size()
     }
 
     /// The index of the first unused slot, or the number of slots, where none below `from` is unused.
@@ -226,7 +226,7 @@ impl Store {
     }
 
     /// That with a slot there is memory for all that a page may have. It does nothing; its contract is the fact.
-    pub(crate) fn has_memory(&self)
+    pub(crate) fn fact_memory(&self)
         ensures { 0 < length self.now.slots
             → (0 < self.now.spare) ⊎ (MOST_SLOTS ≤ length self.now.slots) }
     {

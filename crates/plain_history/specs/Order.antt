@@ -3,6 +3,7 @@ use Rattle.std.specs.Prelude.{◌≡◌, ◌≢◌, ℕ, ◌==◌, ◌&&◌, ◌
 use Rattle.std.specs.List.{list_any}
 use Rattle.std.specs.Option.{option_or}
 use Rattle.std.specs.Ordering.{int_eq}
+use Rattle.xid_circle.specs.Numbers.{IndexNo, Key}
 use Rattle.tuple_header.specs.declared.version.Row.{Row}
 use Rattle.plain_history.specs.declared.cursor.PlainOrder.{PlainOrder}
 use Rattle.plain_history.specs.declared.cursor.PlainOrder.TheVariants.{Index, Heap, Keys}
@@ -47,7 +48,7 @@ abbrev pub is_wanted : Bounds → ℕ → Row → Bool
 is_wanted All index row = true
 is_wanted (Within low high) index row = int_le low (value_in index row) && int_le (value_in index row) high
 
-abbrev pub wanted : Bounds → ℕ → (ℕ → Option Row) → ℕ → Option Row
+abbrev pub wanted : Bounds → IndexNo → (Key → Option Row) → Key → Option Row
 wanted bounds index rows key = kept_where (is_wanted bounds index) (rows key)
 
 abbrev pub has : List ℕ → ℕ → Bool

@@ -46,7 +46,7 @@ impl PlainWrite {
 
 impl PlainLevel {
     /// What the last write to the key says.
-    pub(crate) fn written(&self, key: u64) -> Option<Option<Row>>
+    pub(crate) fn last_write(&self, key: u64) -> Option<Option<Row>>
         ensures value { result ≡ written self.now key }
         ensures keyed { IfSome result (λ row. IsRowOf key row) }
     {
@@ -56,7 +56,7 @@ impl PlainLevel {
     fn wrote(&self, key: u64) -> bool
         ensures { IsTrue result ↔ IsSome (written self.now key) }
     {
-        self.written(key).is_some()
+        self.last_write(key).is_some()
     }
 }
 
@@ -79,7 +79,7 @@ fn written_in(levels: &[PlainLevel], key: u64) -> Option<Option<Row>>
     ensures keyed { IfSome result (λ row. IsRowOf key row) }
 {
     for level in levels {
-        if let Some(said) = level.written(key) {
+        if let Some(said) = level.last_write(key) {
             return Some(said);
         }
     }
@@ -92,7 +92,7 @@ fn latest_in(history: &[PlainLevel], key: u64) -> Option<Option<Row>>
 {
     let mut last = None;
     for transaction in history {
-        if let Some(said) = transaction.written(key) {
+        if let Some(said) = transaction.last_write(key) {
             last = Some(said);
         }
     }
@@ -120,14 +120,14 @@ impl PlainSession {
         ensures value { result ≡ own_write (open_of self.now) key }
         ensures keyed { IfSome result (λ row. IsRowOf key row) }
     {
-        match self.newest.written(key) {
+        match self.newest.last_write(key) {
             Some(said) => Some(said),
             None => written_in(&self.older, key),
         }
     }
 
     /// All that the session wrote, the oldest write first.
-    pub(crate) fn joined(&self, alloc: Global) -> Result<PlainLevel, AllocError>
+    pub(crate) fn all_writes(&self, alloc: Global) -> Result<PlainLevel, AllocError>
         ensures { IfOk result (λ all. all ≡ joined (open_of self.now).levels) }
     {
         let mut all = joined_levels(alloc, &self.older)?;

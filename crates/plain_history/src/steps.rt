@@ -364,7 +364,7 @@ impl PlainHistory {
             (BarsReady (world_sessions (world_of self.now)) s why)) }
     {
         match self.ready_session(s) {
-            Ok(session) => match session.joined(self.alloc) {
+            Ok(session) => match session.all_writes(self.alloc) {
                 Ok(writes) => Ok(writes),
                 Err(_) => Err(Refusal::NoMemory),
             },

@@ -1,5 +1,6 @@
 -- A plan that may be applied, whoever made it, and when: it cuts of each chain a prefix that pruning would cut now, or less.
 use Rattle.std.specs.Prelude.{◌≡◌, ◌↔◌, ℕ, ◌<◌, ◌≤◌, true, List, length, Option, Some, IsSome, slice_get, slice_index}
+use Rattle.xid_circle.specs.Numbers.{Id, SlotNo, Count}
 use Rattle.page_slots.specs.declared.slot.Slot.{Slot}
 use Rattle.page_slots.specs.Slots.{header_at}
 use Rattle.page_slots.specs.View.{PageView}
@@ -19,7 +20,7 @@ IsCutIn w horizon slots chain i = (j : ℕ) × (i ≤ j) × (j < length chain) �
 
 -- What a plan does to a root and its chain: the slots named are its first so many, pruning would cut them too, and they become
 -- what goes with the first that is kept. Where there are none, the root isn't named.
-pub record IsPrefix (w : Window) (horizon : ℕ) (slots : List Slot) (named : ℕ → Option Action) (root : ℕ) (chain : List ℕ) (prefix : ℕ) : Type 0 where
+pub record IsPrefix (w : Window) (horizon : Id) (slots : List Slot) (named : SlotNo → Option Action) (root : SlotNo) (chain : List SlotNo) (prefix : Count) : Type 0 where
   pub within : prefix ≤ length chain
   pub removed : (i : ℕ) → i < length chain → IsSome (named (slice_index chain i)) ↔ (i < prefix)
   pub cut : (i : ℕ) → i < prefix → IsCutIn w horizon slots chain i
@@ -27,7 +28,7 @@ pub record IsPrefix (w : Window) (horizon : ℕ) (slots : List Slot) (named : �
       → named (slice_index chain i) ≡ Some action.Unuse
   pub leads : named root ≡ root_action prefix (slice_get chain prefix)
 
-abbrev pub HasPrefix : Window → ℕ → List Slot → (ℕ → Option Action) → ℕ → Type 0
+abbrev pub HasPrefix : Window → (horizon : Id) → List Slot → (named : SlotNo → Option Action) → (root : SlotNo) → Type 0
 HasPrefix w horizon slots named root = (chain : List ℕ) → IsChain (has_aborted w) slots root chain → (prefix : ℕ) × IsPrefix w horizon slots named root chain prefix
 
 -- a slot named is a root or in the chain of one; every other holds an aborted heap-only version, and becomes unused
@@ -35,7 +36,7 @@ pub data IsAccounted (w : Window) (slots : List Slot) (n : ℕ) (a : Action) : T
   of_root : (root : ℕ) (chain : List ℕ) → IsInChainOf (has_aborted w) slots root chain n → IsAccounted w slots n a
   lost : IsLoose (has_aborted w) slots n → orphan_action w slots n ≡ Some a → IsAccounted w slots n a
 
-pub record Checks (w : Window) (horizon : ℕ) (page : PageView) (change : ℕ) (actions : List (ℕ × Action)) : Type 0 where
+pub record Checks (w : Window) (horizon : Id) (page : PageView) (change : Count) (actions : List (SlotNo × Action)) : Type 0 where
   pub same_change : change ≡ page.change
   pub in_order : AreInOrder (length page.slots) 0 actions
   pub prefixes : (root : ℕ) → is_root page.slots root ≡ true → HasPrefix w horizon page.slots (action_of actions) root

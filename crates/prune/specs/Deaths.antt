@@ -1,6 +1,7 @@
 -- From which turn on a version may be dead, as far as a page and the ids tell. (PostgreSQL's pd_prune_xid in
 -- src/include/storage/bufpage.h: the oldest id whose work may be pruned once nobody needs what it replaced.)
 use Rattle.std.specs.Prelude.{◌≡◌, ◌⊎◌, ℕ, ◌≤◌, List, length, Some}
+use Rattle.xid_circle.specs.Numbers.{Id, SlotNo, Count}
 use Rattle.page_slots.specs.declared.slot.Slot.{Slot}
 use Rattle.page_slots.specs.Slots.{version_at}
 use Rattle.tuple_header.specs.Version.{Version}
@@ -33,5 +34,5 @@ abbrev pub IsNoLaterThan : Window → ℕ → ℕ → Type 0
 IsNoLaterThan w turn x = IsGiven w x → turn ≤ turns w.first x
 
 -- the version in a slot, if there is one, is not dead, and may be from this turn on
-abbrev pub LivesAt : Window → ℕ → ℕ → List Slot → ℕ → Type 0
+abbrev pub LivesAt : Window → (horizon : Id) → (turn : Count) → List Slot → SlotNo → Type 0
 LivesAt w horizon turn slots n = ¬ IsDeadAt w horizon slots n × ((t : Version) → version_at slots n ≡ Some t → MayDieFrom w turn t.header)

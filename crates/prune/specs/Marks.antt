@@ -1,6 +1,7 @@
 -- The marks that a walk along each root's chain leaves.
 use Rattle.std.specs.Prelude.{◌≡◌, ◌+◌, ◌<◌, ◌||◌, ◌==◌, ℕ, nat_eq, Bool, false, IsTrue, ◌↔◌, List, [], ◌∷◌, Option, Some, None, length, slice_index, slice_index_or, if◌then◌else◌}
 use Rattle.std.specs.List.{list_any}
+use Rattle.xid_circle.specs.Numbers.{Id, SlotNo}
 use Rattle.page_slots.specs.declared.slot.Slot.{Slot}
 use Rattle.commit_status.specs.Window.{Window}
 use Rattle.hot_chain.specs.Chain.{has_aborted, is_replaced, first_of, IsChain}
@@ -38,7 +39,7 @@ pub record MarksChain (w : Window) (horizon : ℕ) (slots : List Slot) (root : �
   pub each : (n : ℕ) → mark_at after n ≡ marked root chain cut n (mark_at before n)
 
 -- the chain of a root is this one slot, whose version is dead or not
-pub record IsSingle (w : Window) (horizon : ℕ) (slots : List Slot) (root start : ℕ) (dead : Bool) : Type 0 where
+pub record IsSingle (w : Window) (horizon : Id) (slots : List Slot) (root start : SlotNo) (dead : Bool) : Type 0 where
   pub is_chain : IsChain (has_aborted w) slots root (start ∷ [])
   pub is_dead : IsTrue dead ↔ IsDeadAt w horizon slots start
 
@@ -61,7 +62,7 @@ abbrev pub PlainlyStays : Window → ℕ → List Slot → ℕ → Type 0
 PlainlyStays w horizon slots n = (start : ℕ) (h : Header) → first_of slots n ≡ Some start → header_at slots start ≡ Some h → (is_replaced (has_aborted w) h ≡ false) × ¬ IsDead w horizon h
 
 -- The numbers ascend, all of them over `low` and below a bound; and of each other number between these Q is so.
-abbrev pub ListsAllBut : (ℕ → Type 0) → ℕ → List ℕ → ℕ → Type 0
+abbrev pub ListsAllBut : (SlotNo → Type 0) → (low : SlotNo) → List SlotNo → (bound : SlotNo) → Type 0
 ListsAllBut Q low [] bound = (n : ℕ) → low < n → n < bound → Q n
 ListsAllBut Q low (x ∷ rest) bound = (low < x) × (x < bound) × ((n : ℕ) → low < n → n < x → Q n) × ListsAllBut Q x rest bound
 

@@ -61,7 +61,7 @@ fn earliest_deletion(deleter: Xid, turn: u32, statuses: &StatusTable, horizon: X
 
 /// An id that was not aborted, unless the version was rolled back: its inserter, or the one that is known to be such an id.
 #[inline(always)]
-fn unaborted(header: &Header, known: Xid, statuses: &StatusTable) -> Option<Xid>
+fn inserter_unless_aborted(header: &Header, known: Xid, statuses: &StatusTable) -> Option<Xid>
     requires { ¬ IsAborted statuses.now known.0 }
     ensures { MatchOption result (¬ IsFrozen header.now × IsAborted statuses.now header.now.xmin.0)
         (λ x. (IsFrozen header.now ⊎ ¬ IsAborted statuses.now header.now.xmin.0)
@@ -103,7 +103,7 @@ fn outlook_with(
         × ((outlook.turn ≡ so_far.turn) ⊎ IsTurnOf statuses.now outlook.turn header.now.xmax.0)) }
 {
     let turn = earliest_deletion(header.xmax, so_far.turn, statuses, horizon)?;
-    let known = unaborted(header, so_far.known, statuses)?;
+    let known = inserter_unless_aborted(header, so_far.known, statuses)?;
     Some(Outlook { known, turn })
 }
 
@@ -155,7 +155,7 @@ pub fn first_death(page: &Page, statuses: &StatusTable, horizon: Xid) -> Option<
         × NothingDiesBefore statuses.now turn page.now.slots
         × IsTurnThere statuses.now turn page.now.slots) }
 {
-    statuses.is_window();
+    statuses.fact_window();
     // 0 is no id, so it was not aborted.
     let mut outlook = Outlook {
         known: Xid(0),

@@ -31,7 +31,7 @@ pub(crate) enum PruneVerdict {
 
 impl PruneVerdict {
     /// That of a slot in a chain, or of a root, to which this is done, if anything.
-    fn held(action: Option<Action>) -> PruneVerdict
+    fn verdict_of(action: Option<Action>) -> PruneVerdict
         ensures { result ≡ verdict_of action }
     {
         match action {
@@ -79,7 +79,7 @@ fn mark_all(marks: &mut Marks, numbers: &[u16], action: Option<Action>)
         ≡ (if list_any (nat_eq n) numbers.now then verdict_of action else mark_at marks.old n) }
 {
     for number in numbers {
-        marks[usize::from(*number)] = PruneVerdict::held(action);
+        marks[usize::from(*number)] = PruneVerdict::verdict_of(action);
     }
 }
 
@@ -134,7 +134,7 @@ fn mark_chain(
     let cut = cut_count(page, chain, statuses, horizon);
     mark_all(marks, chain, None);
     mark_all(marks, &chain[..cut], Some(Action::Unuse));
-    marks[usize::from(root)] = PruneVerdict::held(root_action(cut, chain));
+    marks[usize::from(root)] = PruneVerdict::verdict_of(root_action(cut, chain));
 }
 
 /// Notes what becomes of a root and of the slots of its chain, which is listed only where it may have more than one.

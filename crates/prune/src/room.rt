@@ -20,7 +20,7 @@ pub fn room_after(page: &Page, plan: &PrunePlan) -> usize
     let mut free_bytes = page.free_bytes();
     let mut has_unused = page.free_number() <= page.slots();
     for action in plan.actions.as_slice() {
-        free_bytes += page.taken(action.0);
+        free_bytes += page.version_size(action.0);
         has_unused = has_unused || matches!(action.1, Action::Unuse);
     }
     if has_unused {

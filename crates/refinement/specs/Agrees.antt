@@ -1,5 +1,6 @@
 -- When an engine, as its readers see it, agrees with a history that is never cleaned.
 use Rattle.std.specs.Prelude.{◌≡◌, ℕ, ◌≤◌, List, [], ◌∷◌, length, Option, Some, None, IsSome, Contains}
+use Rattle.xid_circle.specs.Numbers.{Id, Count}
 use Rattle.xid_circle.specs.declared.Tid.{Tid}
 use Rattle.tuple_header.specs.declared.version.Row.{Row}
 use Rattle.tuple_header.specs.Version.{Version}
@@ -24,7 +25,7 @@ pub record ReaderAgrees (status : ℕ → Option Status) (store : Tid → Option
   pub whole : (p : Tid) (y : ℕ) (v : Version) → At store p v → deleter v.header ≡ Some y → Reads status sees own y → (x : ℕ) → inserter v.header ≡ Some x → Reads status sees own x
 
 -- the session as it is, and as it was at each savepoint, the newest first
-abbrev pub LevelsAgree : (ℕ → Option Status) → (Tid → Option Version) → List Transaction → (ℕ → Type 0) → ℕ → List ℕ → List (List ℕ) → List (List Write) → Type 0
+abbrev pub LevelsAgree : (status : Id → Option Status) → (store : Tid → Option Version) → List Transaction → (sees : Id → Type 0) → (start : Count) → (own : List Id) → List (List Id) → List (List Write) → Type 0
 LevelsAgree status store history sees start own [] (writes ∷ []) = ReaderAgrees status store history sees start own (joined (writes ∷ []))
 LevelsAgree status store history sees start own (before ∷ saved) (writes ∷ levels) =
     ReaderAgrees status store history sees start own (joined (writes ∷ levels)) × ((x : ℕ) → Contains before x → Contains own x) × LevelsAgree status store history sees start before saved levels

@@ -1,5 +1,6 @@
 -- What the steps of an engine change of what its readers see.
 use Rattle.std.specs.Prelude.{◌⊎◌, ◌≡◌, ◌≢◌, ℕ, List, [], ◌∷◌, ◌++◌, length, Option, Some, None}
+use Rattle.xid_circle.specs.Numbers.{Id}
 use Rattle.xid_circle.specs.declared.Tid.{Tid}
 use Rattle.tuple_header.specs.Version.{Version}
 use Rattle.commit_status.specs.declared.status.Status.{Status}
@@ -60,5 +61,5 @@ pub record FinishesIds (status status' : ℕ → Option Status) (P : ℕ → Typ
   pub each : (x : ℕ) → (P x × (status' x ≡ Some end)) ⊎ ((¬ P x) × (status' x ≡ status x))
 
 -- the same is seen of each id of the window
-abbrev pub SameSight : (ℕ → Option Status) → (ℕ → Type 0) → (ℕ → Type 0) → Type 0
+abbrev pub SameSight : (status : Id → Option Status) → (sees sees' : Id → Type 0) → Type 0
 SameSight status sees sees' = (x : ℕ) (s : Status) → status x ≡ Some s → (sees x → sees' x) × (sees' x → sees x)

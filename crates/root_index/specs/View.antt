@@ -1,5 +1,6 @@
 -- An index as its callers see it.
 use Rattle.std.specs.Prelude.{ℕ, zero, suc, ◌-◌, max, List, length}
+use Rattle.xid_circle.specs.Numbers.{Count}
 use Rattle.index_nodes.specs.declared.entry.Entry.{Entry}
 use Rattle.index_nodes.specs.declared.node.TheConstants.{MOST_PARTS}
 
@@ -13,7 +14,7 @@ pub record IndexView : Type 0 where
 
 -- Where there are fewer than 128 entries no node is full: all have places for as many as are lacking. Without any entry that is
 -- so if nodes are set aside, for these are taken first.
-abbrev pub free_places : (entries spare : ℕ) → ℕ
+abbrev pub free_places : (entries spare : Count) → Count
 free_places zero zero = 0
 free_places zero (suc spare) = MOST_PARTS
 free_places (suc n) spare = 127 - n

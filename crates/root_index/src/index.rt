@@ -100,7 +100,7 @@ impl RootIndex {
     }
 
     /// That the entries are in ascending order, each once. It does nothing; its contract is the fact.
-    pub fn is_ascending(&self)
+    pub fn fact_ascending(&self)
         ensures { IsAscending self.now.entries }
     {
         let _count = self.count;

@@ -1,8 +1,9 @@
 -- What a call does that hands out the next rows of a cursor.
 use Rattle.std.specs.Prelude.{◌≡◌, ℕ, zero, suc, true, List, [], ◌∷◌, length, Option, Some, None, Result, Ok, Err}
+use Rattle.xid_circle.specs.Numbers.{SessionNo, Count}
 use Rattle.tuple_header.specs.declared.row_place.RowPlace.{RowPlace}
 use Rattle.tuple_header.specs.Places.{places_with}
-use Rattle.calls.specs.declared.step.Step.TheVariants.{Next}
+use Rattle.calls.specs.declared.step.Step.TheVariants as step
 use Rattle.calls.specs.declared.reply.Reply.{Reply}
 use Rattle.calls.specs.declared.reply.Refusal.{Refusal}
 use Rattle.session_steps.specs.NextRows.{rows_in, ExactNextRows}
@@ -28,9 +29,9 @@ count_of (Err r) = 0
 
 -- The engine gave a reply that the history allows to a step that asks for as many rows as C has places, as its own contract says. Its
 -- rows are in the first places, all others and the bytes behind each body are as they were, and the status is the reply's number.
-pub record HandsRows (old : Held) (s : ℕ) (places : List RowPlace) (code : ℕ) (after : List RowPlace) (count : ℕ) (new : Held) : Type 0 where
+pub record HandsRows (old : Held) (s : SessionNo) (places : List RowPlace) (code : ℕ) (after : List RowPlace) (count : Count) (new : Held) : Type 0 where
   pub reply : Reply
-  pub follows : EngineFollows old.engine (Next s (length places)) reply new.engine
+  pub follows : EngineFollows old.engine (step.Next s (length places)) reply new.engine
   pub exact : ExactNextRows old.engine.core s (length places) reply new.engine.core
   pub vacuum : new.engine.vacuum ≡ (noted true old.engine).vacuum
   pub same_reply : new.reply ≡ old.reply
@@ -45,14 +46,14 @@ pub record HandsNothing (old : Option Held) (places after : List RowPlace) (coun
   pub none : count ≡ 0
 
 -- or C has no place for a row
-abbrev pub HandsToPlaces : Held → ℕ → List RowPlace → ℕ → List RowPlace → ℕ → Held → Type 0
+abbrev pub HandsToPlaces : Held → SessionNo → List RowPlace → (code : ℕ) → List RowPlace → (count : Count) → Held → Type 0
 HandsToPlaces old s [] code after count new = (code ≡ number_of_status status.NoPlace) × HandsNothing (Some old) [] after count (Some new)
 HandsToPlaces old s (place ∷ places) code after count new = HandsRows old s (place ∷ places) code after count new
 
 -- or the handle has no engine
-abbrev pub HandsOutHeld : Option Held → ℕ → List RowPlace → ℕ → List RowPlace → ℕ → Option Held → Type 0
+abbrev pub HandsOutHeld : Option Held → SessionNo → List RowPlace → (code : ℕ) → List RowPlace → (count : Count) → Option Held → Type 0
 HandsOutHeld None s places code after count new = (code ≡ number_of_status status.NoEngine) × HandsNothing None places after count new
 HandsOutHeld (Some old) s places code after count new = (held : Held) × (new ≡ Some held) × HandsToPlaces old s places code after count held
 
-abbrev pub HandsOutNext : Sandpiper → ℕ → List RowPlace → ℕ → List RowPlace → ℕ → Sandpiper → Type 0
+abbrev pub HandsOutNext : Sandpiper → SessionNo → List RowPlace → (code : ℕ) → List RowPlace → (count : Count) → Sandpiper → Type 0
 HandsOutNext old s places code after count new = HandsOutHeld (held_by old) s places code after count (held_by new)

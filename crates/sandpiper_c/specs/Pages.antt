@@ -1,6 +1,7 @@
 -- The head of a page, and its slots, as C reads them.
 use Rattle.std.specs.Prelude.{◌≡◌, ℕ, length, Option, Some, None, slice_get}
 use Rattle.std.specs.Option.{option_and_then, option_map}
+use Rattle.xid_circle.specs.Numbers.{PageNo, SlotNo}
 use Rattle.page_slots.specs.Slots.{slot_at}
 use Rattle.page_slots.specs.declared.slot.Slot.{Slot}
 use Rattle.page_slots.specs.declared.slot.Slot.TheVariants.{Unused, Normal, Redirect, Dead}
@@ -54,5 +55,5 @@ abbrev pub ShowsSlot : Option Slot → SandpiperSlot → ℕ → SandpiperSlot �
 ShowsSlot None old code new = (code ≡ number_of_status status.NoRow) × (new ≡ old)
 ShowsSlot (Some slot) old code new = (code ≡ number_of_status status.Found) × (new ≡ shown_slot slot)
 
-abbrev pub ShowsSlotOf : Sandpiper → ℕ → ℕ → SandpiperSlot → ℕ → SandpiperSlot → Type 0
+abbrev pub ShowsSlotOf : Sandpiper → PageNo → SlotNo → SandpiperSlot → (code : ℕ) → SandpiperSlot → Type 0
 ShowsSlotOf table page number old code new = ShowsSlot (slot_by (held_by table) page number) old code new

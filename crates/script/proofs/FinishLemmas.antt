@@ -1,7 +1,7 @@
 -- A vacuum that is finished goes on by one step.
 use Rattle.std.proofs.Common.{◌≡◌, ℕ, ◌+◌, ◌<◌, List, [], ◌∷◌, ◌++◌, length, refl, sym, subst, ◌∙◌, ap, arith, length-append}
 use Rattle.calls.specs.declared.reply.Reply.{Reply}
-use Rattle.calls.specs.declared.reply.Reply.TheVariants.{Worked}
+use Rattle.calls.specs.declared.reply.Reply.TheVariants as reply
 use Rattle.calls.specs.declared.step.Step.TheVariants as step
 use Rattle.calls.specs.declared.vacuum.Piece.{Piece}
 use Rattle.script.specs.Engine.{EngineView, EngineFollows, EngineExact, RepliesLead}
@@ -16,7 +16,7 @@ pub record HasWorked (from state : EngineView) (last : Reply) (count : ℕ) : Ty
 pub HasWorked-first : (from state : EngineView) (reply : Reply) → EngineFollows from step.VacuumStep reply state → EngineExact from step.VacuumStep reply state → HasWorked from state reply 1
 HasWorked-first from state reply follows exact = record { pieces = []; leads = (state, follows, exact, refl); count_is = refl }
 
-Leads-push : (from : EngineView) (pieces : List Piece) (mid : EngineView) (piece : Piece) (reply : Reply) (new : EngineView) → RepliesLead from (vacuum_steps pieces) (vacuum_replies pieces (Worked piece)) mid
+Leads-push : (from : EngineView) (pieces : List Piece) (mid : EngineView) (piece : Piece) (reply : Reply) (new : EngineView) → RepliesLead from (vacuum_steps pieces) (vacuum_replies pieces (reply.Worked piece)) mid
     → EngineFollows mid step.VacuumStep reply new → EngineExact mid step.VacuumStep reply new → RepliesLead from (vacuum_steps (pieces ++ piece ∷ [])) (vacuum_replies (pieces ++ piece ∷ []) reply) new
 Leads-push from [] mid piece reply new led follows exact = (
   led.0,
@@ -32,7 +32,7 @@ Leads-push from [] mid piece reply new led follows exact = (
 Leads-push from (p ∷ pieces) mid piece reply new led follows exact =
     (led.0, led.1, led.2, Leads-push led.0 pieces mid piece reply new led.3 follows exact)
 
-pub HasWorked-more : (from mid state : EngineView) (piece : Piece) (last reply : Reply) (count : ℕ) → HasWorked from mid last count → last ≡ Worked piece
+pub HasWorked-more : (from mid state : EngineView) (piece : Piece) (last reply : Reply) (count : ℕ) → HasWorked from mid last count → last ≡ reply.Worked piece
     → EngineFollows mid step.VacuumStep reply state → EngineExact mid step.VacuumStep reply state → HasWorked from state reply (count + 1)
 HasWorked-more from mid state piece last reply count h is follows exact =
     let led = subst (λ (r : Reply). RepliesLead from (vacuum_steps h.pieces) (vacuum_replies h.pieces r) mid) is h.leads in
@@ -43,7 +43,7 @@ HasWorked-more from mid state piece last reply count h is follows exact =
     }
 
 -- it ends: the last did no work, or no step is left
-pub finished_by : (from state : EngineView) (last : Reply) (count : ℕ) → HasWorked from state last count → count < 18446744073709551616 → ((piece : Piece) → last ≡ Worked piece → count ≡ 18446744073709551615)
+pub finished_by : (from state : EngineView) (last : Reply) (count : ℕ) → HasWorked from state last count → count < 18446744073709551616 → ((piece : Piece) → last ≡ reply.Worked piece → count ≡ 18446744073709551615)
     → (pieces : List Piece) × Moves from (finished pieces last) state
 finished_by from state last count h within ends =
     (h.pieces, (h.leads, (omega (arith, h.count_is), λ piece is. sym h.count_is ∙ ends piece is)))

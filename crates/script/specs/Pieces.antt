@@ -1,7 +1,7 @@
 -- How bytes come in and go out in pieces.
 use Rattle.std.specs.Prelude.{◌≡◌, ℕ, ◌<◌, ◌==◌, ◌⊎◌, List, ◌++◌, length, Option, None, Some, position}
 use Rattle.std.specs.Io.KnownBytes.{Appends, Consumes, IsAtEnd}
-use Rattle.script_text.specs.declared.line.TheConstants.{MAX_LINE}
+use Rattle.script_text.specs.declared.line.TheConstants.{MOST_LINE_BYTES}
 
 -- the reader gave more, which stands behind what was pending
 abbrev pub TakesText : Option (List ℕ) → Option (List ℕ) → List ℕ → List ℕ → Type 0
@@ -13,4 +13,4 @@ GivesText before after old new = (written : List ℕ) × Appends before after wr
 
 -- no line of at most 4096 bytes is at the front of what is pending, and what is left behind it
 abbrev pub HasNoLine : List ℕ → Option (List ℕ) → Type 0
-HasNoLine pending rest = (0 < length pending) × (((MAX_LINE < length pending) × ((n : ℕ) → position (λ b. b == 10) pending ≡ Some n → MAX_LINE < n)) ⊎ ((position (λ b. b == 10) pending ≡ None) × IsAtEnd rest))
+HasNoLine pending rest = (0 < length pending) × (((MOST_LINE_BYTES < length pending) × ((n : ℕ) → position (λ b. b == 10) pending ≡ Some n → MOST_LINE_BYTES < n)) ⊎ ((position (λ b. b == 10) pending ≡ None) × IsAtEnd rest))

@@ -19,7 +19,7 @@ use Rattle.script_text.specs.declared.line.Line.{Line}
 use Rattle.script_text.specs.declared.line.Line.TheVariants.{Do, VacuumFinish, Ids, Page, Entries}
 use Rattle.script.specs.declared.fault.ShellFault.{ShellFault}
 use Rattle.script.specs.declared.fault.ShellFault.TheVariants.{BadLine, TooManyLines}
-use Rattle.script_text.specs.declared.line.TheConstants.{MAX_LINE}
+use Rattle.script_text.specs.declared.line.TheConstants.{MOST_LINE_BYTES}
 
 -- A line that was read and answered: a step with its reply; steps that finish a vacuum, with what
 -- each but the last did and the last's reply; or a look at the ids, a page or an index with what it
@@ -126,7 +126,7 @@ pub record IsBadLine (rest : List ℕ) : Type 0 where
 
 -- no first line with settings in range is at the front
 abbrev pub IsBadHeading : List ℕ → Type 0
-IsBadHeading input = (s : Settings) (more : List ℕ) → AreSettings s → length s.indexed ≡ 4 → length (heading s) ≤ MAX_LINE → input ≡ with_feed (heading s) ++ more → ⊥
+IsBadHeading input = (s : Settings) (more : List ℕ) → AreSettings s → length s.indexed ≡ 4 → length (heading s) ≤ MOST_LINE_BYTES → input ≡ with_feed (heading s) ++ more → ⊥
 
 -- a beginning of the text was written
 abbrev pub WritesBeginning : Option (List ℕ) → Option (List ℕ) → List ℕ → Type 0

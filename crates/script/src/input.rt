@@ -7,7 +7,7 @@ ghost use Rattle.script.specs.Refusals.{IsRefused};
 
 use crate::fault::ShellFault;
 use crate::io_log::{IoLog, is_interruption};
-use script_text::{MAX_LINE, RefusedGrowth, buffer};
+use script_text::{MOST_LINE_BYTES, RefusedGrowth, buffer};
 use std::alloc::Global;
 use std::io::Read;
 use std::marker::Model;
@@ -105,7 +105,7 @@ impl Pending {
         log: &mut IoLog<R, W>,
         reader: &mut R,
     ) -> Result<usize, ShellFault>
-        requires { length self.old ≤ MAX_LINE }
+        requires { length self.old ≤ MOST_LINE_BYTES }
         ensures takes { TakesText (R.remaining reader.old)
             (R.remaining reader.new) self.old self.new }
         ensures grows { IfOk result (λ n. length self.new ≡ length self.old + n) }

@@ -91,7 +91,7 @@ impl<R, W> IoLog<R, W> {
     }
 
     /// How many calls in a row, up to the last, were interrupted.
-    pub fn interrupted(&self) -> u64
+    pub fn interrupts(&self) -> u64
         ensures { result ≡ self.now.interrupted }
     {
         self.interrupted

@@ -21,7 +21,7 @@ use crate::input::Pending;
 use crate::inspect::{show_ids, show_index, show_page};
 use crate::io_log::IoLog;
 use crate::output::write_out;
-use script_text::{Line, MAX_LINE, RefusedGrowth, line_at, settings_at, tell_reply};
+use script_text::{Line, MOST_LINE_BYTES, RefusedGrowth, line_at, settings_at, tell_reply};
 use session_core::{Engine, Reply};
 use std::alloc::Global;
 use std::io::{Read, Write};
@@ -55,9 +55,9 @@ fn next_line<R: Read, W: Write>(
     ensures line { IfOk result (λ next. IsNext next pending.new (R.remaining reader.new)) }
     ensures fault { IfErr result (λ e. IsRefused e log.new) }
 {
-    while pending.len() <= MAX_LINE {
+    while pending.len() <= MOST_LINE_BYTES {
         if let Some(n) = pending.line_feed() {
-            return Ok(if n <= MAX_LINE {
+            return Ok(if n <= MOST_LINE_BYTES {
                 Next::Line(n)
             } else {
                 Next::Bad
@@ -73,7 +73,7 @@ fn next_line<R: Read, W: Write>(
         }
     }
     match pending.line_feed() {
-        Some(n) if n <= MAX_LINE => Ok(Next::Line(n)),
+        Some(n) if n <= MOST_LINE_BYTES => Ok(Next::Line(n)),
         _ => Ok(Next::Bad),
     }
 }

@@ -2,6 +2,7 @@
 use Rattle.std.specs.Prelude.{ℕ, zero, suc, List, [], ◌∷◌, ◌++◌, codes, length, Option, Some, None}
 use Rattle.std.specs.List.{flat_map}
 use Rattle.std.specs.Fmt.{decimal, signed_decimal}
+use Rattle.xid_circle.specs.Numbers.{PageNo, Count}
 use Rattle.tuple_header.specs.declared.version.Row.{Row}
 use Rattle.page_slots.specs.declared.slot.Slot.{Slot}
 use Rattle.page_slots.specs.declared.slot.Slot.TheVariants.{Unused, Normal, Redirect, Dead}
@@ -93,7 +94,7 @@ slot_lines zero slots = []
 slot_lines (suc n) slots = slot_lines n slots ++ slot_line_text (suc n) (slot_at slots (suc n))
 
 -- a page's own line
-abbrev pub page_head_text : ℕ → ℕ → ℕ → ℕ → List ℕ
+abbrev pub page_head_text : PageNo → (change visible count : Count) → List ℕ
 page_head_text number change visible count =
     labelled (codes "page") number ++ (labelled (codes " change") change ++ (labelled (codes " visible") visible ++ labelled (codes " slots") count))
 

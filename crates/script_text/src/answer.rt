@@ -11,7 +11,7 @@ use crate::page::label;
 use calls::{Piece, Refusal, Reply, Row};
 use itoa::Buffer;
 
-pub(crate) fn unsigned(out: &mut Vec<u8>, n: u64) -> Result<(), RefusedGrowth>
+pub(crate) fn put_unsigned(out: &mut Vec<u8>, n: u64) -> Result<(), RefusedGrowth>
     ensures { OnOk result (out.new.items ≡ out.old.items ++ decimal n) }
 {
     let mut buffer = Buffer::new();
@@ -72,13 +72,13 @@ fn row(out: &mut Vec<u8>, row: &Row) -> Result<(), RefusedGrowth>
     ensures { OnOk result
         (out.new.items ≡ out.old.items ++ row_text row.now.key row.now.cols row.now.body.items) }
 {
-    unsigned(out, row.key)?;
+    put_unsigned(out, row.key)?;
     columns(out, row.cols.as_slice())?;
     body(out, row.body.as_slice())
 }
 
 // The line of a row.
-fn found(out: &mut Vec<u8>, one: &Row) -> Result<(), RefusedGrowth>
+fn put_found(out: &mut Vec<u8>, one: &Row) -> Result<(), RefusedGrowth>
     ensures { OnOk result (out.new.items ≡ out.old.items ++ found_text one.now) }
 {
     extend(out, b"row ")?;
@@ -90,7 +90,7 @@ fn row_line(out: &mut Vec<u8>, one: &Row) -> Result<(), RefusedGrowth>
     ensures { OnOk result (out.new.items ≡ out.old.items ++ 10 ∷ found_text one.now) }
 {
     push(out, b'\n')?;
-    found(out, one)
+    put_found(out, one)
 }
 
 fn rows(out: &mut Vec<u8>, rows: &[Row]) -> Result<(), RefusedGrowth>
@@ -114,7 +114,7 @@ fn refusal(out: &mut Vec<u8>, refusal: Refusal) -> Result<(), RefusedGrowth>
         Refusal::Conflict => extend(out, b"6 Conflict"),
         Refusal::Busy(s) => {
             extend(out, b"7 Busy ")?;
-            unsigned(out, u64::from(s))
+            put_unsigned(out, u64::from(s))
         }
         Refusal::CursorOpen => extend(out, b"9 CursorOpen"),
         Refusal::NoCursor => extend(out, b"10 NoCursor"),
@@ -150,7 +150,7 @@ fn text(out: &mut Vec<u8>, reply: &Reply) -> Result<(), RefusedGrowth>
     match reply {
         Reply::Done => extend(out, b"ok"),
         Reply::Found(None) => extend(out, b"none"),
-        Reply::Found(Some(row)) => found(out, row),
+        Reply::Found(Some(row)) => put_found(out, row),
         Reply::Committed => extend(out, b"committed"),
         Reply::RolledBack => extend(out, b"rolled back"),
         Reply::Rows(found) => {

@@ -40,7 +40,7 @@ fn entry_line(out: &mut Vec<u8>, one: &Entry) -> Result<(), RefusedGrowth>
 fn entries(out: &mut Vec<u8>, index: &RootIndex) -> Result<(), RefusedGrowth>
     ensures { OnOk result (out.new.items ≡ out.old.items ++ entry_lines index.now.entries) }
 {
-    index.is_ascending();
+    index.fact_ascending();
     let mut next = index.next_after(None);
     for _ in 0..index.len() {
         if let Some(one) = next {

@@ -20,5 +20,5 @@ pub use command::{Command, USAGE, command_of};
 pub use entries::{tell_index, tell_no_index};
 pub use growth::{RefusedGrowth, buffer};
 pub use heading::settings_at;
-pub use line::{Line, MAX_LINE, line_at};
+pub use line::{Line, MOST_LINE_BYTES, line_at};
 pub use page::{tell_ids, tell_no_page, tell_page};

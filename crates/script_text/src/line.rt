@@ -11,7 +11,7 @@ use calls::{Mode, RowIn, Step};
 use std::alloc::Global;
 
 /// The longest line, its line feed not counted.
-pub const MAX_LINE: usize = 4096;
+pub const MOST_LINE_BYTES: usize = 4096;
 
 /// What a line asks for.
 #[derive(Debug, Drop)]

@@ -5,7 +5,7 @@ ghost use Rattle.std.specs.Fmt.{decimal};
 ghost use Rattle.script_text.specs.Grammar.{spaced, with_feed};
 ghost use Rattle.script_text.specs.Answers.{labelled, ids_text, slot_text, slot_lines, page_head_text, page_text, no_page_text};
 
-use crate::answer::unsigned;
+use crate::answer::put_unsigned;
 use crate::growth::{RefusedGrowth, extend, push};
 use page_slots::{Page, Slot};
 use xid_circle::Xid;
@@ -15,7 +15,7 @@ pub(crate) fn spaced_number(out: &mut Vec<u8>, n: u64) -> Result<(), RefusedGrow
     ensures { OnOk result (out.new.items ≡ out.old.items ++ spaced (decimal n)) }
 {
     push(out, b' ')?;
-    unsigned(out, n)
+    put_unsigned(out, n)
 }
 
 // A word or words, and a number behind them.
@@ -75,7 +75,7 @@ fn slot_line(out: &mut Vec<u8>, number: u16, one: &Slot) -> Result<(), RefusedGr
         (out.new.items ≡ out.old.items ++ 10 ∷ (decimal number ++ slot_text one.now)) }
 {
     push(out, b'\n')?;
-    unsigned(out, u64::from(number))?;
+    put_unsigned(out, u64::from(number))?;
     slot(out, one)
 }
 

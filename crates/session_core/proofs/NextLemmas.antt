@@ -3,11 +3,11 @@ use Rattle.std.proofs.Common.{◌≡◌, ℕ, true, false, List, length, Some, r
 use Rattle.std.specs.Prelude.{Result}
 use Rattle.std.specs.Option.{option_map}
 use Rattle.tuple_header.specs.declared.row_place.RowPlace.{RowPlace}
-use Rattle.calls.specs.declared.step.Step.TheVariants.{Next}
+use Rattle.calls.specs.declared.step.Step.TheVariants as step
 use Rattle.calls.specs.declared.reply.Reply.{Reply}
-use Rattle.calls.specs.declared.reply.Reply.TheVariants.{Rows, End, Refused}
+use Rattle.calls.specs.declared.reply.Reply.TheVariants as reply
 use Rattle.calls.specs.declared.reply.Refusal.{Refusal}
-use Rattle.calls.specs.declared.reply.Refusal.TheVariants.{NoMemory}
+use Rattle.calls.specs.declared.reply.Refusal.TheVariants as refusal
 use Rattle.session_steps.specs.State as core
 use Rattle.session_steps.specs.State.{with_cursor}
 use Rattle.session_steps.specs.NextRows.{ExactNextRows, AnswersNextRows}
@@ -19,10 +19,10 @@ use Rattle.session_core.specs.NextRows.{EngineNextRows}
 
 -- the cursor of one session alone moves, or nothing changes
 next-change : (old new : core.State) (s n : ℕ) (reply : Reply) → ExactNextRows old s n reply new → Changes old new
-next-change old new s n (Rows rows) e = Changes.becomes s e.1.session (with_cursor (Some e.1.after) e.1.session) e.1.there refl e.1.is
-next-change old new s n End e = Changes.nothing e
-next-change old new s n (Refused NoMemory) e = absurd e
-next-change old new s n (Refused refusal) e = Changes.nothing e
+next-change old new s n (reply.Rows rows) e = Changes.becomes s e.1.session (with_cursor (Some e.1.after) e.1.session) e.1.there refl e.1.is
+next-change old new s n reply.End e = Changes.nothing e
+next-change old new s n (reply.Refused refusal.NoMemory) e = absurd e
+next-change old new s n (reply.Refused refusal) e = Changes.nothing e
 next-change old new s n reply e = absurd e
 
 pub engine-next_rows : (old new : EngineView) (s : ℕ) (places : List RowPlace) (answer : Result ℕ Refusal) (after : List RowPlace) → AnswersNextRows old.core s places answer after new.core
@@ -30,7 +30,7 @@ pub engine-next_rows : (old new : EngineView) (s : ℕ) (places : List RowPlace)
 engine-next_rows old new s places answer after does vacuum = record {
   reply = does.reply;
   written = does.written;
-  follows = sessions-follow old new (Next s (length places)) does.reply refl does.follows (next-change old.core new.core s (length places) does.reply does.exact) vacuum;
+  follows = sessions-follow old new (step.Next s (length places)) does.reply refl does.follows (next-change old.core new.core s (length places) does.reply does.exact) vacuum;
   exact = does.exact;
   vacuum = vacuum;
 }

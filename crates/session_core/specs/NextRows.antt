@@ -2,7 +2,7 @@
 use Rattle.std.specs.Prelude.{◌≡◌, ℕ, true, List, length, Result}
 use Rattle.std.specs.Option.{option_map}
 use Rattle.tuple_header.specs.declared.row_place.RowPlace.{RowPlace}
-use Rattle.calls.specs.declared.step.Step.TheVariants.{Next}
+use Rattle.calls.specs.declared.step.Step.TheVariants as step
 use Rattle.calls.specs.declared.reply.Reply.{Reply}
 use Rattle.calls.specs.declared.reply.Refusal.{Refusal}
 use Rattle.session_steps.specs.NextRows.{WritesReply, ExactNextRows}
@@ -15,6 +15,6 @@ use Rattle.vacuum_engine.specs.Clauses.{EngineFollows}
 pub record EngineNextRows (old : EngineView) (s : ℕ) (places : List RowPlace) (answer : Result ℕ Refusal) (after : List RowPlace) (new : EngineView) : Type 0 where
   pub reply : Reply
   pub written : WritesReply reply places answer after
-  pub follows : EngineFollows old (Next s (length places)) reply new
+  pub follows : EngineFollows old (step.Next s (length places)) reply new
   pub exact : ExactNextRows old.core s (length places) reply new.core
   pub vacuum : new.vacuum ≡ option_map (disturbed true) old.vacuum

@@ -86,7 +86,7 @@ impl Engine {
         ensures follows { EngineFollows self.old step reply.new self.new }
         ensures exact { EngineExact self.old step reply.new self.new }
     {
-        self.core.is_set_up();
+        self.core.fact_set_up();
         match step {
             Step::VacuumBegin(mode) => self.begin_vacuum(mode, reply),
             Step::VacuumStep => self.step_vacuum(reply),

@@ -28,9 +28,9 @@ use Rattle.table_integrity.specs.Table.{SoundTable}
 use Rattle.table_integrity.proofs.Places.{RemovesOn, prunes-stand}
 use Rattle.table_integrity.proofs.Keeping.{pruned-stays}
 use Rattle.history.specs.World.{World}
-use Rattle.calls.specs.declared.step.Step.TheVariants.{Prune}
-use Rattle.calls.specs.declared.reply.Reply.TheVariants.{Done, Refused}
-use Rattle.calls.specs.declared.reply.Refusal.TheVariants.{NoSuchPage}
+use Rattle.calls.specs.declared.step.Step.TheVariants as step
+use Rattle.calls.specs.declared.reply.Reply.TheVariants as reply
+use Rattle.calls.specs.declared.reply.Refusal.TheVariants as refusal
 use Rattle.calls.specs.declared.settings.Settings.{Settings}
 use Rattle.refinement.specs.Heap as relation
 use Rattle.refinement.specs.Agrees as relation_agrees
@@ -138,10 +138,10 @@ pruned st h p w prunes agrees =
     let stays = pruned-stays st.heap h p (horizon_of st) agrees.sound.table prunes in
     let f = theory.Follows-prune (seen st) p (version_in (slots_of h)) (removes-past st w (version_in (slots_of h)) p agrees (prunes-stand st.heap h p (horizon_of st) prunes)) w agrees.found in
     let statuses : h.statuses ≡ st.heap.statuses = ap (λ (g : HeapView). g.statuses) prunes.is in
-    let limit : h.max_pages ≡ st.heap.max_pages = ap (λ (g : HeapView). g.max_pages) prunes.is in
+    let limit : h.most_pages ≡ st.heap.most_pages = ap (λ (g : HeapView). g.most_pages) prunes.is in
     agree agrees refl refl (subst (λ t. relation_agrees.HeapAgrees (seen_in (slots_of h) t st.sessions) w) (sym statuses) f.1) (record {
       count = agrees.sound.count;
-      max_pages = limit ∙ agrees.sound.max_pages;
+      most_pages = limit ∙ agrees.sound.most_pages;
       stop_age = rw statuses agrees.sound.stop_age;
       window = rw statuses agrees.sound.window;
       sessions = rw statuses agrees.sound.sessions;
@@ -151,7 +151,7 @@ pruned st h p w prunes agrees =
       table = subst (λ t. SoundTable h (earliest (next_id t) (held_back st.sessions))) (sym statuses) stays.sound;
     })
 
-pub Follows-prune : (st st' : State) (p : ℕ) → Cleans st st' p → Follows st (Prune p) Done st'
+pub Follows-prune : (st st' : State) (p : ℕ) → Cleans st st' p → Follows st (step.Prune p) reply.Done st'
 Follows-prune st st' p cleans w agrees =
     let stays = pruned-stays st.heap st'.heap p (horizon_of st) agrees.sound.table cleans.heap in
     let is : st' ≡ with_parts st st'.heap = same st'.settings st'.heap st'.sessions st.settings st.sessions cleans.settings cleans.sessions in
@@ -160,5 +160,5 @@ Follows-prune st st' p cleans w agrees =
     same : (a : Settings) (h : HeapView) (xs : List (Option Session)) (b : Settings) (ys : List (Option Session)) → a ≡ b → xs ≡ ys → state_with a h xs ≡ state_with b h ys
     same a h xs b ys e f = rw (e, f) refl
 
-pub Follows-no_such_page : (st : State) (p : ℕ) → Follows st (Prune p) (Refused NoSuchPage) st
-Follows-no_such_page st p = Follows-same st (Prune p) (Refused NoSuchPage) (theory.Follows-unpruned (seen st) p NoSuchPage (λ w. tt))
+pub Follows-no_such_page : (st : State) (p : ℕ) → Follows st (step.Prune p) (reply.Refused refusal.NoSuchPage) st
+Follows-no_such_page st p = Follows-same st (step.Prune p) (reply.Refused refusal.NoSuchPage) (theory.Follows-unpruned (seen st) p refusal.NoSuchPage (λ w. tt))

@@ -8,10 +8,10 @@ use Rattle.std.specs.Prelude.{IsSome}
 use Rattle.std.specs.Option.{option_map}
 use Rattle.root_index.specs.View.{IndexView}
 use Rattle.table_indexes.specs.Indexes.{IsInUse, index_at}
-use Rattle.calls.specs.declared.step.Step.TheVariants.{OpenIndex, OpenHeap, Close}
-use Rattle.calls.specs.declared.reply.Reply.TheVariants.{Done, Refused}
+use Rattle.calls.specs.declared.step.Step.TheVariants as step
+use Rattle.calls.specs.declared.reply.Reply.TheVariants as reply
 use Rattle.calls.specs.declared.reply.Refusal.{Refusal}
-use Rattle.calls.specs.declared.reply.Refusal.TheVariants.{NoSuchIndex, BadBounds}
+use Rattle.calls.specs.declared.reply.Refusal.TheVariants as refusal
 use Rattle.calls.specs.Bars.{BarsFree, BarsWithCursor}
 use Rattle.refinement.specs.Heap as relation
 use Rattle.refinement.specs.Cursors.{heap_start}
@@ -30,15 +30,15 @@ use Rattle.session_steps.proofs.StateLemmas.{only-set}
 use Rattle.session_steps.proofs.Owns.{reader-is}
 use Rattle.session_steps.proofs.Follows.{Follows-same, stays-so, free_by, bare_by, some-position, led-same, Sound-put}
 
-pub Follows-barred_open_index : (st : State) (s index : ℕ) (low high : ℤ) (r : Refusal) → BarsFree (engine_sessions st) s r → Follows st (OpenIndex s index low high) (Refused r) st
+pub Follows-barred_open_index : (st : State) (s index : ℕ) (low high : ℤ) (r : Refusal) → BarsFree (engine_sessions st) s r → Follows st (step.OpenIndex s index low high) (reply.Refused r) st
 Follows-barred_open_index st s index low high r is =
-    Follows-same st (OpenIndex s index low high) (Refused r) (cursors.Follows-barred_open_index (seen st) s index low high r (free_by st s r is))
+    Follows-same st (step.OpenIndex s index low high) (reply.Refused r) (cursors.Follows-barred_open_index (seen st) s index low high r (free_by st s r is))
 
-pub Follows-barred_open_heap : (st : State) (s : ℕ) (r : Refusal) → BarsFree (engine_sessions st) s r → Follows st (OpenHeap s) (Refused r) st
-Follows-barred_open_heap st s r is = Follows-same st (OpenHeap s) (Refused r) (cursors.Follows-barred_open_heap (seen st) s r (free_by st s r is))
+pub Follows-barred_open_heap : (st : State) (s : ℕ) (r : Refusal) → BarsFree (engine_sessions st) s r → Follows st (step.OpenHeap s) (reply.Refused r) st
+Follows-barred_open_heap st s r is = Follows-same st (step.OpenHeap s) (reply.Refused r) (cursors.Follows-barred_open_heap (seen st) s r (free_by st s r is))
 
-pub Follows-bare_close : (st : State) (s : ℕ) (r : Refusal) → BarsWithCursor (engine_sessions st) s r → Follows st (Close s) (Refused r) st
-Follows-bare_close st s r is = Follows-same st (Close s) (Refused r) (cursors.Follows-bare_close (seen st) s r (bare_by st s r is))
+pub Follows-bare_close : (st : State) (s : ℕ) (r : Refusal) → BarsWithCursor (engine_sessions st) s r → Follows st (step.Close s) (reply.Refused r) st
+Follows-bare_close st s r is = Follows-same st (step.Close s) (reply.Refused r) (cursors.Follows-bare_close (seen st) s r (bare_by st s r is))
 
 -- An index that is not there is not in use.
 
@@ -50,16 +50,16 @@ absent true not = absurd (not refl)
 absent false not = refl
 
 pub Follows-no_such_index : (st : State) (s : ℕ) (e : Session) (index : ℕ) (low high : ℤ) → session_at st s ≡ Some e → e.failed ≡ false → e.cursor ≡ None → index_at st.heap.indexes index ≡ None
-    → Follows st (OpenIndex s index low high) (Refused NoSuchIndex) st
+    → Follows st (step.OpenIndex s index low high) (reply.Refused refusal.NoSuchIndex) st
 Follows-no_such_index st s e index low high at sound bare none w agrees =
     let has = absent (w.has_index index) (λ has. not-used index st.heap.indexes none ((agrees.indexes index).1 has)) in
-    stays-so st w (OpenIndex s index low high) (Refused NoSuchIndex) agrees
+    stays-so st w (step.OpenIndex s index low high) (reply.Refused refusal.NoSuchIndex) agrees
     (cursors.Follows-no_such_index (seen st) s (reader_of e) index low high (reader-is st s e at) sound (ap position_of bare) w has agrees.found)
 
 pub Follows-bad_bounds : (st : State) (s : ℕ) (e : Session) (index : ℕ) (low high : ℤ) → session_at st s ≡ Some e → e.failed ≡ false → e.cursor ≡ None → IsInUse st.heap.indexes index → high <ℤ low
-    → Follows st (OpenIndex s index low high) (Refused BadBounds) st
+    → Follows st (step.OpenIndex s index low high) (reply.Refused refusal.BadBounds) st
 Follows-bad_bounds st s e index low high at sound bare used order w agrees =
-    stays-so st w (OpenIndex s index low high) (Refused BadBounds) agrees
+    stays-so st w (step.OpenIndex s index low high) (reply.Refused refusal.BadBounds) agrees
     (cursors.Follows-bad_bounds (seen st) s (reader_of e) index low high (reader-is st s e at) sound (ap position_of bare) order w ((agrees.indexes index).0 used) agrees.found)
 
 -- A session's cursor changes, and nothing else.
@@ -81,29 +81,29 @@ along-span : (indexes : List (Option IndexView)) (span : IndexRange) → IsInUse
 along-span indexes span used other is = let same : span ≡ other = cc in subst (λ (span : IndexRange). IsInUse indexes span.index) same used
 
 pub Follows-opened_index : (st st' : State) (s : ℕ) (e : Session) (span : IndexRange) → session_at st s ≡ Some e → e.failed ≡ false → e.cursor ≡ None → span.low ≤ℤ span.high → span.last ≡ None → IsInUse st.heap.indexes span.index
-    → st' ≡ put_session st s (map_session (with_cursor (Some (Index span))) (session_at st s)) → Follows st (OpenIndex s span.index span.low span.high) Done st'
+    → st' ≡ put_session st s (map_session (with_cursor (Some (Index span))) (session_at st s)) → Follows st (step.OpenIndex s span.index span.low span.high) reply.Done st'
 Follows-opened_index st st' s e span at sound bare order none used is w agrees =
     let position : position_of (Some (Index span)) ≡ Some (relation.in_index span.index span.low span.high None) = rw none refl in
     let only = subst (λ p. OnlyIs (seen st).session (seen (put_session st s (Some (with_cursor (Some (Index span)) e)))).session s (Some (record (reader_of e) { cursor = p }))) position (only-cursor st st' s e (Some (Index span)) at is) in
     let f = cursors.Follows-open_index (seen st) s (reader_of e) span.index span.low span.high (seen (put_session st s (Some (with_cursor (Some (Index span)) e)))).session only
     (reader-is st s e at) sound (ap position_of bare) order w ((agrees.indexes span.index).0 used) agrees.found in
-    subst (λ st'. Allows w (OpenIndex s span.index span.low span.high) Done × Agrees st' (next w (OpenIndex s span.index span.low span.high) Done) × KeepsAllTargets st st') (sym (moved st st' s e (Some (Index span)) at is))
+    subst (λ st'. Allows w (step.OpenIndex s span.index span.low span.high) reply.Done × Agrees st' (next w (step.OpenIndex s span.index span.low span.high) reply.Done) × KeepsAllTargets st st') (sym (moved st st' s e (Some (Index span)) at is))
     (f.0, agree agrees refl refl f.1 (sound-cursor st st' s e (Some (Index span)) at is (along-span st.heap.indexes span used) agrees.sound), led-same st w agrees)
 
 pub Follows-opened_heap : (st st' : State) (s : ℕ) (e : Session) → session_at st s ≡ Some e → e.failed ≡ false → e.cursor ≡ None
-    → st' ≡ put_session st s (map_session (with_cursor (Some (Heap heap_start))) (session_at st s)) → Follows st (OpenHeap s) Done st'
+    → st' ≡ put_session st s (map_session (with_cursor (Some (Heap heap_start))) (session_at st s)) → Follows st (step.OpenHeap s) reply.Done st'
 Follows-opened_heap st st' s e at sound bare is w agrees =
     let f = cursors.Follows-open_heap (seen st) s (reader_of e) (seen (put_session st s (Some (with_cursor (Some (Heap heap_start)) e)))).session (only-cursor st st' s e (Some (Heap heap_start)) at is)
     (reader-is st s e at) sound (ap position_of bare) w agrees.found in
-    subst (λ st'. Allows w (OpenHeap s) Done × Agrees st' (next w (OpenHeap s) Done) × KeepsAllTargets st st') (sym (moved st st' s e (Some (Heap heap_start)) at is))
+    subst (λ st'. Allows w (step.OpenHeap s) reply.Done × Agrees st' (next w (step.OpenHeap s) reply.Done) × KeepsAllTargets st st') (sym (moved st st' s e (Some (Heap heap_start)) at is))
     (f.0, agree agrees refl refl f.1 (sound-cursor st st' s e (Some (Heap heap_start)) at is (λ span here. absurd (cc)) agrees.sound), led-same st w agrees)
 
 pub Follows-closed_cursor : (st st' : State) (s : ℕ) (e : Session) → session_at st s ≡ Some e → e.failed ≡ false → IsSome e.cursor
-    → st' ≡ put_session st s (map_session (with_cursor None) (session_at st s)) → Follows st (Close s) Done st'
+    → st' ≡ put_session st s (map_session (with_cursor None) (session_at st s)) → Follows st (step.Close s) reply.Done st'
 Follows-closed_cursor st st' s e at sound some is w agrees =
     let f = cursors.Follows-close (seen st) s (reader_of e) (seen (put_session st s (Some (with_cursor None e)))).session (only-cursor st st' s e None at is)
     (reader-is st s e at) sound (some-position e.cursor some) w agrees.found in
-    subst (λ st'. Allows w (Close s) Done × Agrees st' (next w (Close s) Done) × KeepsAllTargets st st') (sym (moved st st' s e None at is))
+    subst (λ st'. Allows w (step.Close s) reply.Done × Agrees st' (next w (step.Close s) reply.Done) × KeepsAllTargets st st') (sym (moved st st' s e None at is))
     (f.0, agree agrees refl refl f.1 (sound-cursor st st' s e None at is (no-cursor st.heap.indexes None refl) agrees.sound), led-same st w agrees)
 
 abbrev pub span-of : ℕ → ℤ → ℤ → IndexRange
@@ -124,5 +124,5 @@ in-bounds low high fits-low fits-high is = let lt : lt_z high low ≡ false = sy
 pub stored-span : (index : ℕ) (low high : ℤ) → SFits w128 low → SFits w128 high → span-of index (to_z w128 (of_z w128 low)) (to_z w128 (of_z w128 high)) ≡ span-of index low high
 stored-span index low high fits-low fits-high = rw (to_z-of_z w128 low fits-low, to_z-of_z w128 high fits-high) refl
 
-pub stored-step : (s index : ℕ) (low high : ℤ) → SFits w128 low → SFits w128 high → OpenIndex s index (to_z w128 (of_z w128 low)) (to_z w128 (of_z w128 high)) ≡ OpenIndex s index low high
+pub stored-step : (s index : ℕ) (low high : ℤ) → SFits w128 low → SFits w128 high → step.OpenIndex s index (to_z w128 (of_z w128 low)) (to_z w128 (of_z w128 high)) ≡ step.OpenIndex s index low high
 stored-step s index low high fits-low fits-high = rw (to_z-of_z w128 low fits-low, to_z-of_z w128 high fits-high) refl

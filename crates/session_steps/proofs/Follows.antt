@@ -24,12 +24,11 @@ use Rattle.snapshot.specs.Snap.{Snap, earliest}
 use Rattle.heap_write.specs.Heap.{slots_of}
 use Rattle.history.specs.World.{World}
 use Rattle.calls.specs.declared.step.Step.{Step}
-use Rattle.calls.specs.declared.step.Step.TheVariants.{Begin, Get, Commit, Abort}
+use Rattle.calls.specs.declared.step.Step.TheVariants as step
 use Rattle.calls.specs.declared.reply.Reply.{Reply}
-use Rattle.calls.specs.declared.reply.Reply.TheVariants.{Done, RolledBack, Refused}
 use Rattle.calls.specs.declared.reply.Reply.TheVariants as reply
 use Rattle.calls.specs.declared.reply.Refusal.{Refusal}
-use Rattle.calls.specs.declared.reply.Refusal.TheVariants.{NotOpen, AlreadyOpen, TooLarge, NoMemory, NoSuchSession}
+use Rattle.calls.specs.declared.reply.Refusal.TheVariants as refusal
 use Rattle.calls.specs.Writes.{WriteStep, step_of}
 use Rattle.calls.specs.Bars.{BarsOpen, BarsReady, BarsFree, BarsWithCursor}
 use Rattle.calls.proofs.BarsLemmas.{AreAlike, alike-open, alike-ready, alike-free, alike-with_cursor}
@@ -106,28 +105,28 @@ free_by st s r is = alike-free (alike st s) r is
 pub bare_by : (st : State) (s : ℕ) (r : Refusal) → BarsWithCursor (engine_sessions st) s r → BarsWithCursor (seen_sessions (seen st)) s r
 bare_by st s r is = alike-with_cursor (alike st s) r is
 
-pub Follows-closed_commit : (st : State) (s : ℕ) (r : Refusal) → BarsOpen (engine_sessions st) s r → Follows st (Commit s) (Refused r) st
-Follows-closed_commit st s r is = Follows-same st (Commit s) (Refused r) (theory.Follows-closed_commit (seen st) s r (closed_by st s r is))
+pub Follows-closed_commit : (st : State) (s : ℕ) (r : Refusal) → BarsOpen (engine_sessions st) s r → Follows st (step.Commit s) (reply.Refused r) st
+Follows-closed_commit st s r is = Follows-same st (step.Commit s) (reply.Refused r) (theory.Follows-closed_commit (seen st) s r (closed_by st s r is))
 
-pub Follows-closed_abort : (st : State) (s : ℕ) (r : Refusal) → BarsOpen (engine_sessions st) s r → Follows st (Abort s) (Refused r) st
-Follows-closed_abort st s r is = Follows-same st (Abort s) (Refused r) (theory.Follows-closed_abort (seen st) s r (closed_by st s r is))
+pub Follows-closed_abort : (st : State) (s : ℕ) (r : Refusal) → BarsOpen (engine_sessions st) s r → Follows st (step.Abort s) (reply.Refused r) st
+Follows-closed_abort st s r is = Follows-same st (step.Abort s) (reply.Refused r) (theory.Follows-closed_abort (seen st) s r (closed_by st s r is))
 
-pub Follows-unready_get : (st : State) (s k : ℕ) (r : Refusal) → BarsReady (engine_sessions st) s r → Follows st (Get s k) (Refused r) st
-Follows-unready_get st s k r is = Follows-same st (Get s k) (Refused r) (theory.Follows-unready_get (seen st) s k r (unready_by st s r is))
+pub Follows-unready_get : (st : State) (s k : ℕ) (r : Refusal) → BarsReady (engine_sessions st) s r → Follows st (step.Get s k) (reply.Refused r) st
+Follows-unready_get st s k r is = Follows-same st (step.Get s k) (reply.Refused r) (theory.Follows-unready_get (seen st) s k r (unready_by st s r is))
 
-pub Follows-already_open : (st : State) (s : ℕ) (e : Session) → session_at st s ≡ Some e → Follows st (Begin s) (Refused AlreadyOpen) st
-Follows-already_open st s e at = Follows-same st (Begin s) (Refused AlreadyOpen) (theory.Follows-already_open (seen st) s (reader_of e) (reader-is st s e at))
+pub Follows-already_open : (st : State) (s : ℕ) (e : Session) → session_at st s ≡ Some e → Follows st (step.Begin s) (reply.Refused refusal.AlreadyOpen) st
+Follows-already_open st s e at = Follows-same st (step.Begin s) (reply.Refused refusal.AlreadyOpen) (theory.Follows-already_open (seen st) s (reader_of e) (reader-is st s e at))
 
-pub Follows-begin_no_memory : (st : State) (s : ℕ) → s < 64 → session_at st s ≡ None → Follows st (Begin s) (Refused NoMemory) st
+pub Follows-begin_no_memory : (st : State) (s : ℕ) → s < 64 → session_at st s ≡ None → Follows st (step.Begin s) (reply.Refused refusal.NoMemory) st
 Follows-begin_no_memory st s within idle =
-    Follows-same st (Begin s) (Refused NoMemory) (theory.Follows-begin_refused (seen st) s NoMemory (λ w agrees. (within, agrees.idle s (ap (option_map reader_of) idle))))
+    Follows-same st (step.Begin s) (reply.Refused refusal.NoMemory) (theory.Follows-begin_refused (seen st) s refusal.NoMemory (λ w agrees. (within, agrees.idle s (ap (option_map reader_of) idle))))
 
-pub Follows-no_such_session : (st : State) (s : ℕ) → 64 ≤ s → Follows st (Begin s) (Refused NoSuchSession) st
-Follows-no_such_session st s past = Follows-same st (Begin s) (Refused NoSuchSession) (theory.Follows-begin_refused (seen st) s NoSuchSession (λ w agrees. past))
+pub Follows-no_such_session : (st : State) (s : ℕ) → 64 ≤ s → Follows st (step.Begin s) (reply.Refused refusal.NoSuchSession) st
+Follows-no_such_session st s past = Follows-same st (step.Begin s) (reply.Refused refusal.NoSuchSession) (theory.Follows-begin_refused (seen st) s refusal.NoSuchSession (λ w agrees. past))
 
-pub Follows-closed_begin : (st : State) (s : ℕ) (r : Refusal) → (r ≡ NotOpen → ⊥) → BarsOpen (engine_sessions st) s r → Follows st (Begin s) (Refused r) st
-Follows-closed_begin st s NoSuchSession ne is = Follows-no_such_session st s is
-Follows-closed_begin st s NotOpen ne is = absurd (ne refl)
+pub Follows-closed_begin : (st : State) (s : ℕ) (r : Refusal) → (r ≡ refusal.NotOpen → ⊥) → BarsOpen (engine_sessions st) s r → Follows st (step.Begin s) (reply.Refused r) st
+Follows-closed_begin st s refusal.NoSuchSession ne is = Follows-no_such_session st s is
+Follows-closed_begin st s refusal.NotOpen ne is = absurd (ne refl)
 Follows-closed_begin st s _ ne is = absurd is
 
 -- Begin.
@@ -138,7 +137,7 @@ opened_reader e snapshot a b c d f = rw (a, b, c, d, f) refl
 pub Sound-opens : (st : State) (w : World) (s : ℕ) (e : Session) → s < 64 → e.snapshot ≡ now_taken st → e.own.ids ≡ [] → e.own.saved ≡ [] → e.cursor ≡ None → Agrees st w → Sound (put_session st s (Some e))
 Sound-opens st w s e within snapshot ids saved bare agrees = record {
   count = length-set st.sessions s (Some e) ∙ agrees.sound.count;
-  max_pages = agrees.sound.max_pages;
+  most_pages = agrees.sound.most_pages;
   stop_age = agrees.sound.stop_age;
   window = agrees.sound.window;
   sessions = λ o f at. elim (open-set_cases st.sessions s o (Some e) f (let count = agrees.sound.count in omega arith) at) [
@@ -186,7 +185,7 @@ Sound-opens st w s e within snapshot ids saved bare agrees = record {
           taken-late st w agrees,
         ))
 
-pub Follows-begin : (st st' : State) (s : ℕ) (snapshot : Snap) → s < 64 → session_at st s ≡ None → snapshot ≡ now_taken st → Opens st st' s snapshot → Follows st (Begin s) Done st'
+pub Follows-begin : (st st' : State) (s : ℕ) (snapshot : Snap) → s < 64 → session_at st s ≡ None → snapshot ≡ now_taken st → Opens st st' s snapshot → Follows st (step.Begin s) reply.Done st'
 Follows-begin st st' s snapshot within idle is opens w agrees =
     let e = opens.session in
     let count = agrees.sound.count in
@@ -196,7 +195,7 @@ Follows-begin st st' s snapshot within idle is opens w agrees =
       itself = (only-set st s (Some e) (omega arith)).itself ∙ ap Some (opened_reader e (now_taken st) (opens.with_snapshot ∙ is) opens.no_ids opens.unsaved opens.sound opens.bare);
     } in
     let f = theory.Follows-begin (seen st) s (now_taken st) (seen (put_session st s (Some e))).session now within (ap (option_map reader_of) idle) (λ w' found. taken-fresh st w agrees) w agrees.found in
-    subst (λ st'. Allows w (Begin s) Done × Agrees st' (next w (Begin s) Done) × KeepsAllTargets st st') (sym opens.is)
+    subst (λ st'. Allows w (step.Begin s) reply.Done × Agrees st' (next w (step.Begin s) reply.Done) × KeepsAllTargets st st') (sym opens.is)
     (f.0, agree agrees refl refl f.1 (Sound-opens st w s e within (opens.with_snapshot ∙ is) opens.no_ids opens.unsaved opens.bare agrees), led-same st w agrees)
 
 -- Commit and Abort.
@@ -223,36 +222,36 @@ module _ (st st' : State) (s : ℕ) (e : Session) (end : Status) (at : session_a
   closed-with : (w' : World) → relation.HeapAgrees (with_pages st' st.heap.pages) w' → relation.HeapAgrees (seen st') w'
   closed-with w' found = subst (λ pages. relation.HeapAgrees (with_pages st' pages) w') (sym closes.pages) found
 
-pub Follows-abort : (st st' : State) (s : ℕ) (e : Session) → session_at st s ≡ Some e → Closes st st' s Aborted → Follows st (Abort s) RolledBack st'
+pub Follows-abort : (st st' : State) (s : ℕ) (e : Session) → session_at st s ≡ Some e → Closes st st' s Aborted → Follows st (step.Abort s) reply.RolledBack st'
 Follows-abort st st' s e at closes w agrees =
     let f = theory.Follows-abort (seen st) s (reader_of e) (seen st').status (seen st').sees (seen st').session (only-closes st st' s e Aborted at closes) (reader-is st s e at)
     (own-finishes st st' s e Aborted at closes) (same-sights st st' s e Aborted at closes) w agrees.found in
     let sound' = aborts-sound st st' s e w at closes agrees in
-    (f.0, agree agrees closes.settings refl (closed-with st st' s e Aborted at closes (next w (Abort s) RolledBack) f.1) sound'.0, sound'.1)
+    (f.0, agree agrees closes.settings refl (closed-with st st' s e Aborted at closes (next w (step.Abort s) reply.RolledBack) f.1) sound'.0, sound'.1)
 
-pub Follows-commit_failed : (st st' : State) (s : ℕ) (e : Session) → session_at st s ≡ Some e → e.failed ≡ true → Closes st st' s Aborted → Follows st (Commit s) RolledBack st'
+pub Follows-commit_failed : (st st' : State) (s : ℕ) (e : Session) → session_at st s ≡ Some e → e.failed ≡ true → Closes st st' s Aborted → Follows st (step.Commit s) reply.RolledBack st'
 Follows-commit_failed st st' s e at failed closes w agrees =
     let f = theory.Follows-commit_failed (seen st) s (reader_of e) (seen st').status (seen st').sees (seen st').session (only-closes st st' s e Aborted at closes) (reader-is st s e at) failed
     (own-finishes st st' s e Aborted at closes) (same-sights st st' s e Aborted at closes) w agrees.found in
     let sound' = aborts-sound st st' s e w at closes agrees in
-    (f.0, agree agrees closes.settings refl (closed-with st st' s e Aborted at closes (next w (Commit s) RolledBack) f.1) sound'.0, sound'.1)
+    (f.0, agree agrees closes.settings refl (closed-with st st' s e Aborted at closes (next w (step.Commit s) reply.RolledBack) f.1) sound'.0, sound'.1)
 
-pub Follows-commit : (st st' : State) (s : ℕ) (e : Session) → session_at st s ≡ Some e → e.failed ≡ false → Closes st st' s Committed → Follows st (Commit s) reply.Committed st'
+pub Follows-commit : (st st' : State) (s : ℕ) (e : Session) → session_at st s ≡ Some e → e.failed ≡ false → Closes st st' s Committed → Follows st (step.Commit s) reply.Committed st'
 Follows-commit st st' s e at sound closes w agrees =
     let f = theory.Follows-commit (seen st) s (reader_of e) (seen st').status (seen st').sees (seen st').session (only-closes st st' s e Committed at closes) (reader-is st s e at) sound
     (own-finishes st st' s e Committed at closes) (same-sights st st' s e Committed at closes) (λ x. decided e.snapshot st.heap.statuses x) w agrees.found in
     let sound' = commits-sound st st' s e w at closes agrees in
-    (f.0, agree agrees closes.settings refl (closed-with st st' s e Committed at closes (next w (Commit s) reply.Committed) f.1) sound'.0, sound'.1)
+    (f.0, agree agrees closes.settings refl (closed-with st st' s e Committed at closes (next w (step.Commit s) reply.Committed) f.1) sound'.0, sound'.1)
 
 -- Writes that are refused before they are tried.
 
-pub Follows-barred_write : (st : State) (s : ℕ) (write : WriteStep) (r : Refusal) → BarsFree (engine_sessions st) s r → Follows st (step_of s write) (Refused r) st
-Follows-barred_write st s write r is = Follows-same st (step_of s write) (Refused r) (hindrances.Follows-barred_write (seen st) s write r (free_by st s r is))
+pub Follows-barred_write : (st : State) (s : ℕ) (write : WriteStep) (r : Refusal) → BarsFree (engine_sessions st) s r → Follows st (step_of s write) (reply.Refused r) st
+Follows-barred_write st s write r is = Follows-same st (step_of s write) (reply.Refused r) (hindrances.Follows-barred_write (seen st) s write r (free_by st s r is))
 
 pub Follows-too_large : (st : State) (s : ℕ) (e : Session) (write : WriteStep) → session_at st s ≡ Some e → e.failed ≡ false → e.cursor ≡ None → hindrances.IsTooLarge write
-    → Follows st (step_of s write) (Refused TooLarge) st
+    → Follows st (step_of s write) (reply.Refused refusal.TooLarge) st
 Follows-too_large st s e write at sound bare large =
-    Follows-same st (step_of s write) (Refused TooLarge) (hindrances.Follows-too_large (seen st) s (reader_of e) write (reader-is st s e at) sound (ap position_of bare) large)
+    Follows-same st (step_of s write) (reply.Refused refusal.TooLarge) (hindrances.Follows-too_large (seen st) s (reader_of e) write (reader-is st s e at) sound (ap position_of bare) large)
 
 -- a session that holds back what it held back
 same-back : (xs : List (Option Session)) (s : ℕ) (e now : Session) → open_at xs s ≡ Some e → holds_back now ≡ holds_back e → held_back (set xs s (Some now)) ≡ held_back xs
@@ -266,7 +265,7 @@ same-back (Some f ∷ xs) (suc s) e now at same = ap (λ ys. holds_back f ++ ys)
 pub Sound-put : (st : State) (s : ℕ) (e now : Session) → session_at st s ≡ Some e → holds_back now ≡ holds_back e → SessionKeeps st.heap.statuses now → GoesAlong st.heap.indexes now.cursor → Sound st → Sound (put_session st s (Some now))
 Sound-put st s e now at same keeps along sound = record {
   count = length-set st.sessions s (Some now) ∙ sound.count;
-  max_pages = sound.max_pages;
+  most_pages = sound.most_pages;
   stop_age = sound.stop_age;
   window = sound.window;
   sessions = λ o f bt. elim (open-set_cases st.sessions s o (Some now) f (open-within st.sessions s e at) bt) [

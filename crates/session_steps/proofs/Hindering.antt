@@ -7,10 +7,10 @@ use Rattle.xid_circle.specs.declared.Tid.{Tid}
 use Rattle.root_index.specs.declared.index.PositionHint.{PositionHint}
 use Rattle.tuple_header.specs.declared.version.Row.{Row}
 use Rattle.history.specs.World.{World}
-use Rattle.calls.specs.declared.step.Step.TheVariants.{Begin, Insert, Delete}
-use Rattle.calls.specs.declared.reply.Reply.TheVariants.{Refused}
+use Rattle.calls.specs.declared.step.Step.TheVariants as step
+use Rattle.calls.specs.declared.reply.Reply.TheVariants as reply
 use Rattle.calls.specs.declared.reply.Refusal.{Refusal}
-use Rattle.calls.specs.declared.reply.Refusal.TheVariants.{AlreadyThere, NotThere, Conflict, Busy, NoRoom, NeedsFreeze, NoMemory}
+use Rattle.calls.specs.declared.reply.Refusal.TheVariants as refusal
 use Rattle.calls.specs.Words.{RowToWrite, FitsRow}
 use Rattle.calls.specs.Writes.{WriteStep, inserts, updates, deletes, step_of, key_of, Asks}
 use Rattle.calls.specs.Bars.{BarsOpen, BarsFree}
@@ -35,7 +35,7 @@ use Rattle.session_steps.proofs.Follows.{Follows-same, stays-so, led-same, Sound
 
 conflicts : (st : State) (s : ℕ) (e : Session) (write : WriteStep) → session_at st s ≡ Some e → IsLateKey st e (key_of write)
     → ((w : World) → Agrees st w → (o : Option Row) × BeginsWrite (seen st) s (reader_of e) (key_of write) o × Asks write o)
-    → Follows st (step_of s write) (Refused Conflict) (put_session st s (option_map failed_session (session_at st s)))
+    → Follows st (step_of s write) (reply.Refused refusal.Conflict) (put_session st s (option_map failed_session (session_at st s)))
 conflicts st s e write at late begins w agrees =
     let b = begins w agrees in
     let within = open-within st.sessions s e at in
@@ -43,17 +43,17 @@ conflicts st s e write at late begins w agrees =
     let f = hindrances.Follows-conflict (seen st) s (reader_of e) write b.0 (seen (put_session st s (option_map failed_session (session_at st s)))).session b.1 b.2
     (late-to st w e (key_of write) late.id agrees late.late)
     (record { others = only.others; itself = only.itself ∙ ap (λ o. option_map reader_of (option_map failed_session o)) at }) w agrees.found in
-    (f.0, agree agrees refl (same_indexes w (step_of s write) (Refused Conflict) f.0) f.1 (Sound-fails st s e at agrees.sound), led-same st w agrees)
+    (f.0, agree agrees refl (same_indexes w (step_of s write) (reply.Refused refusal.Conflict) f.0) f.1 (Sound-fails st s e at agrees.sound), led-same st w agrees)
 
 busies : (st : State) (s o : ℕ) (e : Session) (write : WriteStep) → session_at st s ≡ Some e → IsHeld st e (key_of write) o
     → ((w : World) → Agrees st w → (found : Option Row) × BeginsWrite (seen st) s (reader_of e) (key_of write) found × Asks write found)
-    → Follows st (step_of s write) (Refused (Busy o)) st
+    → Follows st (step_of s write) (reply.Refused (refusal.Busy o)) st
 busies st s o e write at held begins w agrees =
     let b = begins w agrees in
     let f = held.other in
     let g = hindrances.Follows-busy (seen st) s o (reader_of e) (reader_of f) held.id write b.0 b.1 b.2 (not-late st w e (key_of write) agrees held.timely)
     (held-to st w e (key_of write) held.id agrees held.held) (reader-is st o f held.at) held.owns w agrees.found in
-    stays-so st w (step_of s write) (Refused (Busy o)) agrees g
+    stays-so st w (step_of s write) (reply.Refused (refusal.Busy o)) agrees g
 
 -- what an insert reads is none of the key, and what an update or a deletion reads is a row of it
 check_insert : (st : State) (s : ℕ) (e : Session) (text : RowToWrite) → FitsRow text → ReadsPlace st s e text.key None
@@ -68,78 +68,78 @@ check_update st s e p write asks reads w agrees =
 
 -- Inserts.
 
-insert-hindered : (st : State) (s : ℕ) (text : RowToWrite) (r : Refusal) → FitsRow text → RefusesInsertOfKey st s text.key r → Follows st (Insert s text) (Refused r) (refused_state st s r)
-insert-hindered st s text AlreadyThere fits (e, p, reads) = λ w agrees.
+insert-hindered : (st : State) (s : ℕ) (text : RowToWrite) (r : Refusal) → FitsRow text → RefusesInsertOfKey st s text.key r → Follows st (step.Insert s text) (reply.Refused r) (refused_state st s r)
+insert-hindered st s text refusal.AlreadyThere fits (e, p, reads) = λ w agrees.
     let t = target-of st w s e text.key p agrees reads in
-    Follows-same st (Insert s text) (Refused AlreadyThere)
+    Follows-same st (step.Insert s text) (reply.Refused refusal.AlreadyThere)
     (hindrances.Follows-already_there (seen st) s (reader_of e) text t.0.row (begins-some st s e text.key p t.0 reads t.1) fits) w agrees
-insert-hindered st s text Conflict fits d = conflicts st s d.session (inserts text) d.reads.at d.delays (check_insert st s d.session text fits d.reads)
-insert-hindered st s text (Busy o) fits d = busies st s o d.session (inserts text) d.reads.at d.delays (check_insert st s d.session text fits d.reads)
+insert-hindered st s text refusal.Conflict fits d = conflicts st s d.session (inserts text) d.reads.at d.delays (check_insert st s d.session text fits d.reads)
+insert-hindered st s text (refusal.Busy o) fits d = busies st s o d.session (inserts text) d.reads.at d.delays (check_insert st s d.session text fits d.reads)
 insert-hindered st s text _ fits is = absurd is
 
-pub Follows-hindered_insert : (st : State) (s : ℕ) (row : Row) (r : Refusal) → RefusesInsertOfKey st s row.key r → FollowsInsert st s row (Refused r) (refused_state st s r)
+pub Follows-hindered_insert : (st : State) (s : ℕ) (row : Row) (r : Refusal) → RefusesInsertOfKey st s row.key r → FollowsInsert st s row (reply.Refused r) (refused_state st s r)
 Follows-hindered_insert st s row r h text fits same = insert-hindered st s text r fits (subst (λ (row : Row). RefusesInsertOfKey st s row.key r) same h)
 
 -- Updates and deletions.
 
 change-hindered : (st : State) (s : ℕ) (write : WriteStep) (r : Refusal) → ((row : Row) → Asks write (Some row)) → hindrances.NeedsRow write → RefusesChangeOfKey st s (key_of write) r
-    → Follows st (step_of s write) (Refused r) (refused_state st s r)
-change-hindered st s write NotThere asks needs (e, reads) = λ w agrees.
-    Follows-same st (step_of s write) (Refused NotThere) (hindrances.Follows-not_there (seen st) s (reader_of e) write (begins-none st w s e (key_of write) agrees reads) needs) w agrees
-change-hindered st s write Conflict asks needs d = conflicts st s d.1.session write d.1.reads.at d.1.delays (check_update st s d.1.session d.0 write asks d.1.reads)
-change-hindered st s write (Busy o) asks needs d = busies st s o d.1.session write d.1.reads.at d.1.delays (check_update st s d.1.session d.0 write asks d.1.reads)
+    → Follows st (step_of s write) (reply.Refused r) (refused_state st s r)
+change-hindered st s write refusal.NotThere asks needs (e, reads) = λ w agrees.
+    Follows-same st (step_of s write) (reply.Refused refusal.NotThere) (hindrances.Follows-not_there (seen st) s (reader_of e) write (begins-none st w s e (key_of write) agrees reads) needs) w agrees
+change-hindered st s write refusal.Conflict asks needs d = conflicts st s d.1.session write d.1.reads.at d.1.delays (check_update st s d.1.session d.0 write asks d.1.reads)
+change-hindered st s write (refusal.Busy o) asks needs d = busies st s o d.1.session write d.1.reads.at d.1.delays (check_update st s d.1.session d.0 write asks d.1.reads)
 change-hindered st s write _ asks needs is = absurd is
 
-pub Follows-hindered_update : (st : State) (s : ℕ) (row : Row) (r : Refusal) → RefusesChangeOfKey st s row.key r → FollowsUpdate st s row (Refused r) (refused_state st s r)
+pub Follows-hindered_update : (st : State) (s : ℕ) (row : Row) (r : Refusal) → RefusesChangeOfKey st s row.key r → FollowsUpdate st s row (reply.Refused r) (refused_state st s r)
 Follows-hindered_update st s row r h text fits same =
     change-hindered st s (updates text) r (λ row. (fits, refl)) fits (subst (λ (row : Row). RefusesChangeOfKey st s row.key r) same h)
 
-pub Follows-hindered_delete : (st : State) (s key : ℕ) (r : Refusal) → RefusesChangeOfKey st s key r → Follows st (Delete s key) (Refused r) (refused_state st s r)
+pub Follows-hindered_delete : (st : State) (s key : ℕ) (r : Refusal) → RefusesChangeOfKey st s key r → Follows st (step.Delete s key) (reply.Refused r) (refused_state st s r)
 Follows-hindered_delete st s key r h = change-hindered st s (deletes key) r (λ row. refl) tt h
 
 -- What such a refusal leaves.
 
-pub exact-hindered_insert : (st : State) (s : ℕ) (row : Row) (r : Refusal) → RefusesInsertOfKey st s row.key r → ExactInsert st s row (Refused r) (refused_state st s r)
-exact-hindered_insert st s row NoRoom h = absurd h
-exact-hindered_insert st s row NeedsFreeze h = absurd h
-exact-hindered_insert st s row NoMemory h = absurd h
+pub exact-hindered_insert : (st : State) (s : ℕ) (row : Row) (r : Refusal) → RefusesInsertOfKey st s row.key r → ExactInsert st s row (reply.Refused r) (refused_state st s r)
+exact-hindered_insert st s row refusal.NoRoom h = absurd h
+exact-hindered_insert st s row refusal.NeedsFreeze h = absurd h
+exact-hindered_insert st s row refusal.NoMemory h = absurd h
 exact-hindered_insert st s row _ h = refl
 
-pub exact-hindered_update : (st : State) (s : ℕ) (row : Row) (r : Refusal) → RefusesChangeOfKey st s row.key r → ExactUpdate st s row (Refused r) (refused_state st s r)
-exact-hindered_update st s row NoRoom h = absurd h
-exact-hindered_update st s row NeedsFreeze h = absurd h
-exact-hindered_update st s row NoMemory h = absurd h
+pub exact-hindered_update : (st : State) (s : ℕ) (row : Row) (r : Refusal) → RefusesChangeOfKey st s row.key r → ExactUpdate st s row (reply.Refused r) (refused_state st s r)
+exact-hindered_update st s row refusal.NoRoom h = absurd h
+exact-hindered_update st s row refusal.NeedsFreeze h = absurd h
+exact-hindered_update st s row refusal.NoMemory h = absurd h
 exact-hindered_update st s row _ h = refl
 
-pub exact-hindered_delete : (st : State) (s key : ℕ) (r : Refusal) → RefusesChangeOfKey st s key r → ExactDelete st s key (Refused r) (refused_state st s r)
-exact-hindered_delete st s key NeedsFreeze h = absurd h
-exact-hindered_delete st s key NoMemory h = absurd h
+pub exact-hindered_delete : (st : State) (s key : ℕ) (r : Refusal) → RefusesChangeOfKey st s key r → ExactDelete st s key (reply.Refused r) (refused_state st s r)
+exact-hindered_delete st s key refusal.NeedsFreeze h = absurd h
+exact-hindered_delete st s key refusal.NoMemory h = absurd h
 exact-hindered_delete st s key _ h = refl
 
 -- A session that is not open, or has failed, leaves all as it was.
 
-pub exact-unready_insert : (st : State) (s : ℕ) (row : Row) (r : Refusal) → BarsFree (engine_sessions st) s r → ExactInsert st s row (Refused r) st
-exact-unready_insert st s row Conflict is = absurd is
-exact-unready_insert st s row NoRoom is = absurd is
-exact-unready_insert st s row NeedsFreeze is = absurd is
-exact-unready_insert st s row NoMemory is = absurd is
+pub exact-unready_insert : (st : State) (s : ℕ) (row : Row) (r : Refusal) → BarsFree (engine_sessions st) s r → ExactInsert st s row (reply.Refused r) st
+exact-unready_insert st s row refusal.Conflict is = absurd is
+exact-unready_insert st s row refusal.NoRoom is = absurd is
+exact-unready_insert st s row refusal.NeedsFreeze is = absurd is
+exact-unready_insert st s row refusal.NoMemory is = absurd is
 exact-unready_insert st s row _ is = refl
 
-pub exact-unready_update : (st : State) (s : ℕ) (row : Row) (r : Refusal) → BarsFree (engine_sessions st) s r → ExactUpdate st s row (Refused r) st
-exact-unready_update st s row Conflict is = absurd is
-exact-unready_update st s row NoRoom is = absurd is
-exact-unready_update st s row NeedsFreeze is = absurd is
-exact-unready_update st s row NoMemory is = absurd is
+pub exact-unready_update : (st : State) (s : ℕ) (row : Row) (r : Refusal) → BarsFree (engine_sessions st) s r → ExactUpdate st s row (reply.Refused r) st
+exact-unready_update st s row refusal.Conflict is = absurd is
+exact-unready_update st s row refusal.NoRoom is = absurd is
+exact-unready_update st s row refusal.NeedsFreeze is = absurd is
+exact-unready_update st s row refusal.NoMemory is = absurd is
 exact-unready_update st s row _ is = refl
 
-pub exact-unready_delete : (st : State) (s key : ℕ) (r : Refusal) → BarsFree (engine_sessions st) s r → ExactDelete st s key (Refused r) st
-exact-unready_delete st s key Conflict is = absurd is
-exact-unready_delete st s key NeedsFreeze is = absurd is
-exact-unready_delete st s key NoMemory is = absurd is
+pub exact-unready_delete : (st : State) (s key : ℕ) (r : Refusal) → BarsFree (engine_sessions st) s r → ExactDelete st s key (reply.Refused r) st
+exact-unready_delete st s key refusal.Conflict is = absurd is
+exact-unready_delete st s key refusal.NeedsFreeze is = absurd is
+exact-unready_delete st s key refusal.NoMemory is = absurd is
 exact-unready_delete st s key _ is = refl
 
-pub exact-closed : (st : State) (s : ℕ) (r : Refusal) → BarsOpen (engine_sessions st) s r → Exact st (Begin s) (Refused r) st
-exact-closed st s NoMemory is = absurd is
+pub exact-closed : (st : State) (s : ℕ) (r : Refusal) → BarsOpen (engine_sessions st) s r → Exact st (step.Begin s) (reply.Refused r) st
+exact-closed st s refusal.NoMemory is = absurd is
 exact-closed st s _ is = refl
 
 -- What keeps a session that may act from a write.

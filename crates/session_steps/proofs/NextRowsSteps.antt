@@ -7,7 +7,7 @@ use Rattle.tuple_header.specs.Places.{place_with, places_with}
 use Rattle.index_lookup.specs.declared.index_scan.IndexPosition.{IndexPosition}
 use Rattle.index_lookup.specs.declared.index_scan.IndexRange.{IndexRange}
 use Rattle.xid_circle.specs.declared.Tid.{Tid}
-use Rattle.calls.specs.declared.reply.Reply.TheVariants.{Rows, End, Refused}
+use Rattle.calls.specs.declared.reply.Reply.TheVariants as reply
 use Rattle.calls.specs.declared.reply.Refusal.{Refusal}
 use Rattle.calls.specs.Bars.{BarsWithCursor}
 use Rattle.session_steps.specs.declared.session.Session.{Session}
@@ -99,7 +99,7 @@ up-to-most st e (Heap from) most rows to (place, same, takes) = takes.at_most
 
 pub puts-refused : (st : State) (s : ℕ) (places : List RowPlace) (r : Refusal) → BarsWithCursor (engine_sessions st) s r → AnswersNextRows st s places (Err r) places st
 puts-refused st s places r is = record {
-  reply = Refused r;
+  reply = reply.Refused r;
   written = record { answers = refl; rows = refl };
   follows = Follows-bare_next st s (length places) r is;
   exact = bare-next_rows st s (length places) r is;
@@ -109,7 +109,7 @@ module _ (st : State) (s : ℕ) (e : Session) (cursor : Cursor) (places : List R
     (at : session_at st s ≡ Some e) (sound : e.failed ≡ false) (opened : e.cursor ≡ Some cursor) (h : PutsNext st e cursor places count to after) where
   pub puts-end : count ≡ 0 → AnswersNextRows st s places (Ok 0) after st
   puts-end none = record {
-    reply = End;
+    reply = reply.End;
     written = record { answers = refl; rows = h.put.written ∙ ap (λ rows. places_with rows places) (no-rows h.rows count h.put.number none) };
     follows = Follows-end st s (length places) e cursor at sound opened (h.at_end none);
     exact = refl;
@@ -120,7 +120,7 @@ module _ (st : State) (s : ℕ) (e : Session) (cursor : Cursor) (places : List R
       let few = up-to-most st e cursor (length places) h.rows to (h.takes above) in
       let rows = with_rows h.rows (omega (arith, fits, few)) in
       let met : 0 < length h.rows = omega (arith, above, h.put.number) in record {
-        reply = Rows rows;
+        reply = reply.Rows rows;
         written = record { answers = ap Ok (sym h.put.number); rows = h.put.written };
         follows = Follows-rows_up_to st st' s (length places) e cursor to rows at sound opened met some (h.takes above) is;
         exact = (met, hands-out TakesUpTo st st' s (length places) e cursor to h.rows at opened (h.takes above) is);

@@ -8,10 +8,10 @@ use Rattle.tuple_header.specs.declared.version.Row.{Row}
 use Rattle.index_lookup.specs.declared.index_scan.IndexRange.{IndexRange}
 use Rattle.table_indexes.specs.Indexes.{IsInUse}
 use Rattle.history.specs.World.{World}
-use Rattle.calls.specs.declared.step.Step.TheVariants.{Next}
-use Rattle.calls.specs.declared.reply.Reply.TheVariants.{Rows, End, Refused}
+use Rattle.calls.specs.declared.step.Step.TheVariants as step
+use Rattle.calls.specs.declared.reply.Reply.TheVariants as reply
 use Rattle.calls.specs.declared.reply.Refusal.{Refusal}
-use Rattle.calls.specs.declared.reply.Refusal.TheVariants.{NoMemory}
+use Rattle.calls.specs.declared.reply.Refusal.TheVariants as refusal
 use Rattle.calls.specs.Bars.{BarsWithCursor}
 use Rattle.refinement.specs.Allowed.{Allows, next}
 use Rattle.refinement.specs.Heap.{Position, in_index, in_heap}
@@ -31,8 +31,8 @@ use Rattle.session_steps.proofs.Follows.{Follows-same, bare_by, led-same}
 use Rattle.session_steps.proofs.CursorSteps.{moved, only-cursor, sound-cursor}
 use Rattle.session_steps.proofs.WalkSteps.{used-at, left-in}
 
-pub Follows-bare_next : (st : State) (s n : ℕ) (r : Refusal) → BarsWithCursor (engine_sessions st) s r → Follows st (Next s n) (Refused r) st
-Follows-bare_next st s n r is = Follows-same st (Next s n) (Refused r) (cursors.Follows-bare_next (seen st) s n r (bare_by st s r is))
+pub Follows-bare_next : (st : State) (s n : ℕ) (r : Refusal) → BarsWithCursor (engine_sessions st) s r → Follows st (step.Next s n) (reply.Refused r) st
+Follows-bare_next st s n r is = Follows-same st (step.Next s n) (reply.Refused r) (cursors.Follows-bare_next (seen st) s n r (bare_by st s r is))
 
 -- The session is open and has not failed, and its cursor is here.
 
@@ -40,27 +40,27 @@ at-cursor : (st : State) (w : World) (s : ℕ) (e : Session) (cursor : Cursor) �
 at-cursor st w s e cursor agrees at opened = record { world = w; agrees = agrees; number = s; there = at; opened = opened }
 
 pub Follows-end : (st : State) (s n : ℕ) (e : Session) (cursor : Cursor) → session_at st s ≡ Some e → e.failed ≡ false → e.cursor ≡ Some cursor → (IsAtCursor st e cursor → IsAtEnd st e cursor)
-    → Follows st (Next s n) End st
+    → Follows st (step.Next s n) reply.End st
 Follows-end st s n e (Index span) at sound opened none w agrees =
-    Follows-same st (Next s n) End
+    Follows-same st (step.Next s n) reply.End
     (cursors.Follows-end (seen st) s (reader_of e) (in_index span.index span.low span.high (seen_position span.last)) n (reader-is st s e at) sound (ap position_of opened)
     (none (at-cursor st w s e (Index span) agrees at opened)))
     w agrees
 Follows-end st s n e (Heap from) at sound opened none w agrees =
-    Follows-same st (Next s n) End
+    Follows-same st (step.Next s n) reply.End
     (cursors.Follows-end (seen st) s (reader_of e) (in_heap from) n (reader-is st s e at) sound (ap position_of opened) (none (at-cursor st w s e (Heap from) agrees at opened)))
     w agrees
 
 pub Follows-no_memory : (st : State) (s n : ℕ) (e : Session) (cursor : Cursor) → session_at st s ≡ Some e → e.failed ≡ false → e.cursor ≡ Some cursor → (IsAtCursor st e cursor → IsNotAtEnd st e cursor)
-    → Follows st (Next s n) (Refused NoMemory) st
+    → Follows st (step.Next s n) (reply.Refused refusal.NoMemory) st
 Follows-no_memory st s n e (Index span) at sound opened some w agrees =
     let comes = some (at-cursor st w s e (Index span) agrees at opened) in
-    Follows-same st (Next s n) (Refused NoMemory)
+    Follows-same st (step.Next s n) (reply.Refused refusal.NoMemory)
     (cursors.Follows-next_no_memory (seen st) s (reader_of e) (in_index span.index span.low span.high (seen_position span.last)) n comes.0 (reader-is st s e at) sound (ap position_of opened) comes.1)
     w agrees
 Follows-no_memory st s n e (Heap from) at sound opened some w agrees =
     let comes = some (at-cursor st w s e (Heap from) agrees at opened) in
-    Follows-same st (Next s n) (Refused NoMemory) (cursors.Follows-next_no_memory (seen st) s (reader_of e) (in_heap from) n comes.0 (reader-is st s e at) sound (ap position_of opened) comes.1) w agrees
+    Follows-same st (step.Next s n) (reply.Refused refusal.NoMemory) (cursors.Follows-next_no_memory (seen st) s (reader_of e) (in_heap from) n comes.0 (reader-is st s e at) sound (ap position_of opened) comes.1) w agrees
 
 -- Rows are handed out: the cursor alone moves.
 
@@ -71,10 +71,10 @@ module _ (st st' : State) (s n : ℕ) (e : Session) (after : Cursor) (rows : Vec
 
   -- what readers see follows, where the new cursor goes along an index in use too
   put-after : ((span : IndexRange) → Some after ≡ Some (Index span) → IsInUse st.heap.indexes span.index)
-      → ((w : World) → Agrees st w → finds.HeapFollows (seen st) (Next s n) (Rows rows) (seen now)) → Follows st (Next s n) (Rows rows) st'
+      → ((w : World) → Agrees st w → finds.HeapFollows (seen st) (step.Next s n) (reply.Rows rows) (seen now)) → Follows st (step.Next s n) (reply.Rows rows) st'
   put-after along follows w agrees =
       let f = follows w agrees w agrees.found in
-      subst (λ st'. Allows w (Next s n) (Rows rows) × Agrees st' (next w (Next s n) (Rows rows)) × KeepsAllTargets st st') (sym (moved st st' s e (Some after) at is))
+      subst (λ st'. Allows w (step.Next s n) (reply.Rows rows) × Agrees st' (next w (step.Next s n) (reply.Rows rows)) × KeepsAllTargets st st') (sym (moved st st' s e (Some after) at is))
       (f.0, agree agrees refl refl f.1 (sound-cursor st st' s e (Some after) at is along agrees.sound), led-same st w agrees)
 
   only-at : (position : Position) → position_of (Some after) ≡ Some position → OnlyIs (seen st).session (seen now).session s (Some (record (reader_of e) { cursor = Some position }))
@@ -90,7 +90,7 @@ along-left st span left other same used is = (let here : left ≡ other = cc in 
 
 module _ (st st' : State) (s n : ℕ) (e : Session) (rows : Vec Row Global) (at : session_at st s ≡ Some e) (sound : e.failed ≡ false) (some : 0 < length rows.items) where
   Follows-rows_in_index : (span left : IndexRange) → e.cursor ≡ Some (Index span) → TakesRows st e span left (max 1 n) rows.items
-      → st' ≡ put_session st s (map_session (with_cursor (Some (Index left))) (session_at st s)) → Follows st (Next s n) (Rows rows) st'
+      → st' ≡ put_session st s (map_session (with_cursor (Some (Index left))) (session_at st s)) → Follows st (step.Next s n) (reply.Rows rows) st'
   Follows-rows_in_index span left opened takes is w agrees =
       let here = at-cursor st w s e (Index span) agrees at opened in
       let same = takes.walks.same in
@@ -101,7 +101,7 @@ module _ (st st' : State) (s n : ℕ) (e : Session) (rows : Vec Row Global) (at 
       put-after st st' s n e (Index left) rows at is (λ other is'. along-left st span left other same (used-at st e span here) is') (λ w' agrees'. f) w agrees
 
   Follows-rows_in_heap : (from to : Tid) → e.cursor ≡ Some (Heap from) → WalksHeap st e from to rows.items
-      → st' ≡ put_session st s (map_session (with_cursor (Some (Heap to))) (session_at st s)) → Follows st (Next s n) (Rows rows) st'
+      → st' ≡ put_session st s (map_session (with_cursor (Some (Heap to))) (session_at st s)) → Follows st (step.Next s n) (reply.Rows rows) st'
   Follows-rows_in_heap from to opened walks is =
       put-after st st' s n e (Heap to) rows at is (λ other is'. absurd (cc))
       (λ w agrees. cursors.Follows-next_in_heap (seen st) s (reader_of e) from to n rows (seen (now st st' s n e (Heap to) rows at is)).session
@@ -112,23 +112,23 @@ module _ (st st' : State) (s n : ℕ) (e : Session) (rows : Vec Row Global) (at 
   moved-as after after' same is = is ∙ ap (λ (c : Cursor). put_session st s (map_session (with_cursor (Some c)) (session_at st s))) same
 
   Follows-taken : (cursor after : Cursor) → e.cursor ≡ Some cursor → Takes st e cursor n rows.items after
-      → st' ≡ put_session st s (map_session (with_cursor (Some after)) (session_at st s)) → Follows st (Next s n) (Rows rows) st'
+      → st' ≡ put_session st s (map_session (with_cursor (Some after)) (session_at st s)) → Follows st (step.Next s n) (reply.Rows rows) st'
   Follows-taken (Index span) after opened (left, same, takes) is = Follows-rows_in_index span left opened takes (moved-as after (Index left) same is)
   Follows-taken (Heap from) after opened (page, same, takes) is = Follows-rows_in_heap from (start_of (page + 1)) opened takes.walks (moved-as after (Heap (start_of (page + 1))) same is)
 
   -- so many at most
   Follows-taken_up_to : (cursor after : Cursor) → 0 < n → e.cursor ≡ Some cursor → TakesUpTo st e cursor n rows.items after
-      → st' ≡ put_session st s (map_session (with_cursor (Some after)) (session_at st s)) → Follows st (Next s n) (Rows rows) st'
+      → st' ≡ put_session st s (map_session (with_cursor (Some after)) (session_at st s)) → Follows st (step.Next s n) (reply.Rows rows) st'
   Follows-taken_up_to (Index span) after above opened (left, same, takes) is =
       Follows-rows_in_index span left opened (subst (λ most. TakesRows st e span left most rows.items) (omega arith) takes) (moved-as after (Index left) same is)
   Follows-taken_up_to (Heap from) after above opened (to, same, takes) is = Follows-rows_in_heap from to opened takes.walks (moved-as after (Heap to) same is)
 
 pub Follows-rows : (st st' : State) (s n : ℕ) (e : Session) (cursor after : Cursor) (rows : Vec Row Global) → session_at st s ≡ Some e → e.failed ≡ false → e.cursor ≡ Some cursor
-    → TakesSome st e cursor n rows.items after → st' ≡ put_session st s (map_session (with_cursor (Some after)) (session_at st s)) → Follows st (Next s n) (Rows rows) st'
+    → TakesSome st e cursor n rows.items after → st' ≡ put_session st s (map_session (with_cursor (Some after)) (session_at st s)) → Follows st (step.Next s n) (reply.Rows rows) st'
 Follows-rows st st' s n e cursor after rows at sound opened taken is = Follows-taken st st' s n e rows at sound taken.some cursor after opened taken.takes is
 
 pub Follows-rows_up_to : (st st' : State) (s n : ℕ) (e : Session) (cursor after : Cursor) (rows : Vec Row Global) → session_at st s ≡ Some e → e.failed ≡ false → e.cursor ≡ Some cursor → 0 < length rows.items → 0 < n
-    → TakesUpTo st e cursor n rows.items after → st' ≡ put_session st s (map_session (with_cursor (Some after)) (session_at st s)) → Follows st (Next s n) (Rows rows) st'
+    → TakesUpTo st e cursor n rows.items after → st' ≡ put_session st s (map_session (with_cursor (Some after)) (session_at st s)) → Follows st (step.Next s n) (reply.Rows rows) st'
 Follows-rows_up_to st st' s n e cursor after rows at sound opened some above takes is = Follows-taken_up_to st st' s n e rows at sound some cursor after above opened takes is
 
 -- And so exactly.
@@ -145,8 +145,8 @@ hands-out takes st st' s n e cursor after rows at opened taken is = record {
   is = moved st st' s e (Some after) at is;
 }
 
-pub bare-next_rows : (st : State) (s n : ℕ) (r : Refusal) → BarsWithCursor (engine_sessions st) s r → ExactNextRows st s n (Refused r) st
-bare-next_rows st s n NoMemory is = is
+pub bare-next_rows : (st : State) (s n : ℕ) (r : Refusal) → BarsWithCursor (engine_sessions st) s r → ExactNextRows st s n (reply.Refused r) st
+bare-next_rows st s n refusal.NoMemory is = is
 bare-next_rows st s n r is = refl
 
 -- A reply that has these rows.

@@ -6,8 +6,8 @@ use Rattle.commit_status.specs.declared.status.Status.TheVariants.{InProgress, A
 use Rattle.commit_status.specs.Window.{IsWindow}
 use Rattle.commit_status.specs.Changes.{Finishes}
 use Rattle.snapshot.specs.Own.{Own, newest}
-use Rattle.calls.specs.declared.step.Step.TheVariants.{Savepoint, RollbackTo, Release}
-use Rattle.calls.specs.declared.reply.Reply.TheVariants.{Done}
+use Rattle.calls.specs.declared.step.Step.TheVariants as step
+use Rattle.calls.specs.declared.reply.Reply.TheVariants as reply
 use Rattle.heap_write.specs.Heap.{HeapView}
 use Rattle.session_steps.specs.declared.session.Session.{Session}
 use Rattle.session_steps.specs.State.{State, session_at, put_session}
@@ -29,12 +29,12 @@ keeps-returned xs h h' s e e' at back k = record {
 }
 
 -- what the heap and the session's own ids say of a return
-pub rolls-back-on : (h h' : HeapView) (e : Session) (own : Own) (since : List ℕ) → h'.pages ≡ h.pages → h'.indexes ≡ h.indexes → h'.max_pages ≡ h.max_pages → e.own.ids ≡ newest e.own.saved ++ since → own.ids ≡ newest e.own.saved
+pub rolls-back-on : (h h' : HeapView) (e : Session) (own : Own) (since : List ℕ) → h'.pages ≡ h.pages → h'.indexes ≡ h.indexes → h'.most_pages ≡ h.most_pages → e.own.ids ≡ newest e.own.saved ++ since → own.ids ≡ newest e.own.saved
     → own.saved ≡ e.own.saved → Finishes h.statuses h'.statuses since Aborted → IsWindow h'.statuses → RollsBackOn h h' e (record e { own = own; failed = false })
-rolls-back-on h h' e own since pages indexes max_pages were ids saved finishes window = record {
+rolls-back-on h h' e own since pages indexes most_pages were ids saved finishes window = record {
   pages = pages;
   indexes = indexes;
-  max_pages = max_pages;
+  most_pages = most_pages;
   returns = record { snapshot = refl; ids = ids; saved = saved; sound = refl; cursor = refl };
   since = since;
   ids = were ∙ ap (λ xs. xs ++ since) (sym ids);
@@ -68,17 +68,17 @@ acts-there st s e f acts there = subst (λ e. MayAct st s e) (same-one st s e f 
 pub some-there : (st : State) (s : ℕ) (e f : Session) → session_at st s ≡ Some e → session_at st s ≡ Some f → length e.own.saved ≢ 0 → f.own.saved ≢ []
 some-there st s e f at there some none = some (ap (λ (e : Session). length e.own.saved) (same-one st s e f at there) ∙ ap length none)
 
-pub Follows-noted : (st st' : State) (s : ℕ) (e f now : Session) → MayAct st s e → session_at st s ≡ Some f → length f.own.saved < 32 → st' ≡ put_session st s (Some now) → SetsSavepoint f now → Follows st (Savepoint s) Done st'
+pub Follows-noted : (st st' : State) (s : ℕ) (e f now : Session) → MayAct st s e → session_at st s ≡ Some f → length f.own.saved < 32 → st' ≡ put_session st s (Some now) → SetsSavepoint f now → Follows st (step.Savepoint s) reply.Done st'
 Follows-noted st st' s e f now acts there few is sets =
     let acts = acts-there st s e f acts there in
     Follows-savepoint st st' s f acts.1 acts.2 acts.3 few now is sets
 
-pub Follows-forgotten : (st st' : State) (s : ℕ) (e f now : Session) → MayAct st s e → session_at st s ≡ Some f → length e.own.saved ≢ 0 → st' ≡ put_session st s (Some now) → Releases f now → Follows st (Release s) Done st'
+pub Follows-forgotten : (st st' : State) (s : ℕ) (e f now : Session) → MayAct st s e → session_at st s ≡ Some f → length e.own.saved ≢ 0 → st' ≡ put_session st s (Some now) → Releases f now → Follows st (step.Release s) reply.Done st'
 Follows-forgotten st st' s e f now acts there some is releases =
     let saved = some-saved e.own.saved some in
     Follows-release st st' s e saved.0 saved.1 acts.1 acts.2 acts.3 saved.2 now is (subst (λ f. Releases f now) (same-one st s f e there acts.1) releases)
 
-pub Follows-returned : (st st' : State) (s : ℕ) (e : Session) → session_at st s ≡ Some e → e.cursor ≡ None → length e.own.saved ≢ 0 → RollsBack st st' s → Follows st (RollbackTo s) Done st'
+pub Follows-returned : (st st' : State) (s : ℕ) (e : Session) → session_at st s ≡ Some e → e.cursor ≡ None → length e.own.saved ≢ 0 → RollsBack st st' s → Follows st (step.RollbackTo s) reply.Done st'
 Follows-returned st st' s e at bare some back =
     let saved = some-saved e.own.saved some in
     Follows-roll_back_to st st' s saved.0 saved.1 back (ap (λ (f : Session). f.cursor) (same-one st s back.session e back.at at) ∙ bare) (ap (λ (f : Session). f.own.saved) (same-one st s back.session e back.at at) ∙ saved.2)

@@ -7,8 +7,8 @@ use Rattle.visibility.specs.Visible.{IsVisible}
 use Rattle.index_lookup.specs.Looking.{FirstFound}
 use Rattle.heap_write.specs.Heap.{slots_of}
 use Rattle.history.specs.World.{World, OpenSession, view}
-use Rattle.calls.specs.declared.step.Step.TheVariants.{Get}
-use Rattle.calls.specs.declared.reply.Reply.TheVariants.{Found}
+use Rattle.calls.specs.declared.step.Step.TheVariants as step
+use Rattle.calls.specs.declared.reply.Reply.TheVariants as reply
 use Rattle.refinement.proofs.Follows as theory
 use Rattle.session_steps.specs.declared.session.Session.{Session}
 use Rattle.session_steps.specs.State.{State, session_at, seen, reader_of}
@@ -21,9 +21,9 @@ use Rattle.session_steps.proofs.Follows.{Follows-same}
 abbrev RowOf : State → Session → ℕ → Option Row → Type 0
 RowOf st e k found = FirstFound st.heap.statuses (IsVisible st.heap.statuses e.snapshot e.own.ids) (slots_of st.heap) (entries_in st.heap.indexes 0) (pos k) k found
 
-pub Follows-get : (st : State) (s : ℕ) (e : Session) (k : ℕ) (found : Option Row) → session_at st s ≡ Some e → e.failed ≡ false → RowOf st e k found → Follows st (Get s k) (Found found) st
+pub Follows-get : (st : State) (s : ℕ) (e : Session) (k : ℕ) (found : Option Row) → session_at st s ≡ Some e → e.failed ≡ false → RowOf st e k found → Follows st (step.Get s k) (reply.Found found) st
 Follows-get st s e k found at sound finds = λ w agrees.
-    Follows-same st (Get s k) (Found found) (theory.Follows-get (seen st) s (reader_of e) k found (reader-is st s e at) sound (row-to st w s e k found agrees at finds)) w agrees
+    Follows-same st (step.Get s k) (reply.Found found) (theory.Follows-get (seen st) s (reader_of e) k found (reader-is st s e at) sound (row-to st w s e k found agrees at finds)) w agrees
 
 -- it is the session's view, also after it has failed
 pub reads-view : (st : State) (w : World) (s : ℕ) (e : Session) (k : ℕ) (found : Option Row) → Agrees st w → session_at st s ≡ Some e → RowOf st e k found

@@ -11,10 +11,10 @@ use Rattle.visibility.proofs.Makers.{active-to}
 use Rattle.index_lookup.specs.Pages.{version_in}
 use Rattle.index_lookup.specs.Pages as lists
 use Rattle.history.specs.World.{World}
-use Rattle.calls.specs.declared.step.Step.TheVariants.{Savepoint, RollbackTo, Release}
-use Rattle.calls.specs.declared.reply.Reply.TheVariants.{Done, Refused}
+use Rattle.calls.specs.declared.step.Step.TheVariants as step
+use Rattle.calls.specs.declared.reply.Reply.TheVariants as reply
 use Rattle.calls.specs.declared.reply.Refusal.{Refusal}
-use Rattle.calls.specs.declared.reply.Refusal.TheVariants.{NoSavepoint, TooDeep, NoMemory, CursorOpen}
+use Rattle.calls.specs.declared.reply.Refusal.TheVariants as refusal
 use Rattle.calls.specs.Bars.{BarsOpen, BarsFree}
 use Rattle.refinement.specs.Heap as relation
 use Rattle.refinement.specs.Allowed.{Allows, next}
@@ -38,31 +38,31 @@ use Rattle.session_steps.proofs.Follows.{Follows-same, closed_by, free_by, some-
 
 -- Refusals.
 
-pub Follows-too_deep : (st : State) (s : ℕ) (e : Session) → session_at st s ≡ Some e → e.failed ≡ false → e.cursor ≡ None → length e.own.saved ≡ 32 → Follows st (Savepoint s) (Refused TooDeep) st
-Follows-too_deep st s e at sound bare full = Follows-same st (Savepoint s) (Refused TooDeep) (savepoints.Follows-too_deep (seen st) s (reader_of e) (reader-is st s e at) sound (ap position_of bare) full)
+pub Follows-too_deep : (st : State) (s : ℕ) (e : Session) → session_at st s ≡ Some e → e.failed ≡ false → e.cursor ≡ None → length e.own.saved ≡ 32 → Follows st (step.Savepoint s) (reply.Refused refusal.TooDeep) st
+Follows-too_deep st s e at sound bare full = Follows-same st (step.Savepoint s) (reply.Refused refusal.TooDeep) (savepoints.Follows-too_deep (seen st) s (reader_of e) (reader-is st s e at) sound (ap position_of bare) full)
 
-pub Follows-savepoint_no_memory : (st : State) (s : ℕ) (e : Session) → session_at st s ≡ Some e → e.failed ≡ false → e.cursor ≡ None → length e.own.saved < 32 → Follows st (Savepoint s) (Refused NoMemory) st
+pub Follows-savepoint_no_memory : (st : State) (s : ℕ) (e : Session) → session_at st s ≡ Some e → e.failed ≡ false → e.cursor ≡ None → length e.own.saved < 32 → Follows st (step.Savepoint s) (reply.Refused refusal.NoMemory) st
 Follows-savepoint_no_memory st s e at sound bare room =
-    Follows-same st (Savepoint s) (Refused NoMemory) (savepoints.Follows-savepoint_no_memory (seen st) s (reader_of e) (reader-is st s e at) sound (ap position_of bare) room)
+    Follows-same st (step.Savepoint s) (reply.Refused refusal.NoMemory) (savepoints.Follows-savepoint_no_memory (seen st) s (reader_of e) (reader-is st s e at) sound (ap position_of bare) room)
 
-pub Follows-barred_savepoint : (st : State) (s : ℕ) (r : Refusal) → BarsFree (engine_sessions st) s r → Follows st (Savepoint s) (Refused r) st
-Follows-barred_savepoint st s r is = Follows-same st (Savepoint s) (Refused r) (savepoints.Follows-barred_savepoint (seen st) s r (free_by st s r is))
+pub Follows-barred_savepoint : (st : State) (s : ℕ) (r : Refusal) → BarsFree (engine_sessions st) s r → Follows st (step.Savepoint s) (reply.Refused r) st
+Follows-barred_savepoint st s r is = Follows-same st (step.Savepoint s) (reply.Refused r) (savepoints.Follows-barred_savepoint (seen st) s r (free_by st s r is))
 
-pub Follows-nowhere_to_return : (st : State) (s : ℕ) (e : Session) → session_at st s ≡ Some e → e.cursor ≡ None → e.own.saved ≡ [] → Follows st (RollbackTo s) (Refused NoSavepoint) st
-Follows-nowhere_to_return st s e at bare none = Follows-same st (RollbackTo s) (Refused NoSavepoint) (savepoints.Follows-nowhere_to_return (seen st) s (reader_of e) (reader-is st s e at) (ap position_of bare) none)
+pub Follows-nowhere_to_return : (st : State) (s : ℕ) (e : Session) → session_at st s ≡ Some e → e.cursor ≡ None → e.own.saved ≡ [] → Follows st (step.RollbackTo s) (reply.Refused refusal.NoSavepoint) st
+Follows-nowhere_to_return st s e at bare none = Follows-same st (step.RollbackTo s) (reply.Refused refusal.NoSavepoint) (savepoints.Follows-nowhere_to_return (seen st) s (reader_of e) (reader-is st s e at) (ap position_of bare) none)
 
-pub Follows-closed_roll_back_to : (st : State) (s : ℕ) (r : Refusal) → BarsOpen (engine_sessions st) s r → Follows st (RollbackTo s) (Refused r) st
-Follows-closed_roll_back_to st s r is = Follows-same st (RollbackTo s) (Refused r) (savepoints.Follows-closed_roll_back_to (seen st) s r (closed_by st s r is))
+pub Follows-closed_roll_back_to : (st : State) (s : ℕ) (r : Refusal) → BarsOpen (engine_sessions st) s r → Follows st (step.RollbackTo s) (reply.Refused r) st
+Follows-closed_roll_back_to st s r is = Follows-same st (step.RollbackTo s) (reply.Refused r) (savepoints.Follows-closed_roll_back_to (seen st) s r (closed_by st s r is))
 
-pub Follows-nothing_to_release : (st : State) (s : ℕ) (e : Session) → session_at st s ≡ Some e → e.failed ≡ false → e.cursor ≡ None → e.own.saved ≡ [] → Follows st (Release s) (Refused NoSavepoint) st
+pub Follows-nothing_to_release : (st : State) (s : ℕ) (e : Session) → session_at st s ≡ Some e → e.failed ≡ false → e.cursor ≡ None → e.own.saved ≡ [] → Follows st (step.Release s) (reply.Refused refusal.NoSavepoint) st
 Follows-nothing_to_release st s e at sound bare none =
-    Follows-same st (Release s) (Refused NoSavepoint) (savepoints.Follows-nothing_to_release (seen st) s (reader_of e) (reader-is st s e at) sound (ap position_of bare) none)
+    Follows-same st (step.Release s) (reply.Refused refusal.NoSavepoint) (savepoints.Follows-nothing_to_release (seen st) s (reader_of e) (reader-is st s e at) sound (ap position_of bare) none)
 
-pub Follows-barred_release : (st : State) (s : ℕ) (r : Refusal) → BarsFree (engine_sessions st) s r → Follows st (Release s) (Refused r) st
-Follows-barred_release st s r is = Follows-same st (Release s) (Refused r) (savepoints.Follows-barred_release (seen st) s r (free_by st s r is))
+pub Follows-barred_release : (st : State) (s : ℕ) (r : Refusal) → BarsFree (engine_sessions st) s r → Follows st (step.Release s) (reply.Refused r) st
+Follows-barred_release st s r is = Follows-same st (step.Release s) (reply.Refused r) (savepoints.Follows-barred_release (seen st) s r (free_by st s r is))
 
-pub Follows-barred_roll_back_to : (st : State) (s : ℕ) (e : Session) → session_at st s ≡ Some e → IsSome e.cursor → Follows st (RollbackTo s) (Refused CursorOpen) st
-Follows-barred_roll_back_to st s e at some = Follows-same st (RollbackTo s) (Refused CursorOpen) (savepoints.Follows-barred_roll_back_to (seen st) s (reader_of e) (reader-is st s e at) (some-position e.cursor some))
+pub Follows-barred_roll_back_to : (st : State) (s : ℕ) (e : Session) → session_at st s ≡ Some e → IsSome e.cursor → Follows st (step.RollbackTo s) (reply.Refused refusal.CursorOpen) st
+Follows-barred_roll_back_to st s e at some = Follows-same st (step.RollbackTo s) (reply.Refused refusal.CursorOpen) (savepoints.Follows-barred_roll_back_to (seen st) s (reader_of e) (reader-is st s e at) (some-position e.cursor some))
 
 -- Nothing changes but the session.
 
@@ -71,12 +71,12 @@ only-becomes : (st : State) (s : ℕ) (e now : Session) (r : relation.SeenSessio
 only-becomes st s e now r at is = let only = only-set st s (Some now) (open-within st.sessions s e at) in record { others = only.others; itself = only.itself ∙ ap Some is }
 
 pub Follows-savepoint : (st st' : State) (s : ℕ) (e : Session) → session_at st s ≡ Some e → e.failed ≡ false → e.cursor ≡ None → length e.own.saved < 32 → (now : Session) → st' ≡ put_session st s (Some now) → SetsSavepoint e now
-    → Follows st (Savepoint s) Done st'
+    → Follows st (step.Savepoint s) reply.Done st'
 Follows-savepoint st st' s e at sound bare room now is sets w agrees =
     let reader : reader_of now ≡ record (reader_of e) { saved = e.own.ids ∷ e.own.saved } = rw (sets.snapshot, sets.ids, sets.saved, sets.failed, sets.cursor) refl in
     let f = savepoints.Follows-savepoint (seen st) s (reader_of e) (seen (put_session st s (Some now))).session (only-becomes st s e now (record (reader_of e) { saved = e.own.ids ∷ e.own.saved }) at reader)
     (reader-is st s e at) sound (ap position_of bare) room w agrees.found in
-    subst (λ st'. Allows w (Savepoint s) Done × Agrees st' (next w (Savepoint s) Done) × KeepsAllTargets st st') (sym is) (
+    subst (λ st'. Allows w (step.Savepoint s) reply.Done × Agrees st' (next w (step.Savepoint s) reply.Done) × KeepsAllTargets st st') (sym is) (
       f.0,
       agree agrees refl refl f.1
           (Sound-put st s e now at (same-holds e now sets.snapshot sets.ids) (keeps-saved st.heap.statuses e now sets (agrees.sound.sessions s e at)) (same-cursor st.sessions st.heap.indexes s e now at sets.cursor agrees.sound.cursors) agrees.sound),
@@ -84,13 +84,13 @@ Follows-savepoint st st' s e at sound bare room now is sets w agrees =
     )
 
 pub Follows-release : (st st' : State) (s : ℕ) (e : Session) (before : List ℕ) (saved : List (List ℕ)) → session_at st s ≡ Some e → e.failed ≡ false → e.cursor ≡ None → e.own.saved ≡ before ∷ saved → (now : Session)
-    → st' ≡ put_session st s (Some now) → Releases e now → Follows st (Release s) Done st'
+    → st' ≡ put_session st s (Some now) → Releases e now → Follows st (step.Release s) reply.Done st'
 Follows-release st st' s e before saved at sound bare some now is releases w agrees =
     let rest : now.own.saved ≡ saved = releases.saved ∙ ap older some in
     let reader : reader_of now ≡ record (reader_of e) { saved = saved } = rw (releases.snapshot, releases.ids, rest, releases.failed, releases.cursor) refl in
     let f = savepoints.Follows-release (seen st) s (reader_of e) before saved (seen (put_session st s (Some now))).session (only-becomes st s e now (record (reader_of e) { saved = saved }) at reader)
     (reader-is st s e at) sound (ap position_of bare) some w agrees.found in
-    subst (λ st'. Allows w (Release s) Done × Agrees st' (next w (Release s) Done) × KeepsAllTargets st st') (sym is) (
+    subst (λ st'. Allows w (step.Release s) reply.Done × Agrees st' (next w (step.Release s) reply.Done) × KeepsAllTargets st st') (sym is) (
       f.0,
       agree agrees refl refl f.1
           (Sound-put st s e now at (same-holds e now releases.snapshot releases.ids) (keeps-released st.heap.statuses e now releases (agrees.sound.sessions s e at)) (same-cursor st.sessions st.heap.indexes s e now at releases.cursor agrees.sound.cursors) agrees.sound),
@@ -134,9 +134,9 @@ module _ (st st' : State) (s : ℕ) (before : List ℕ) (saved : List (List ℕ)
   same-sights : SameSights (seen st) (seen st').sees
   same-sights o r bt = SameSight-finish r.snapshot st.heap.statuses st'.heap.statuses back.back.since Aborted back.back.finishes
 
-pub Follows-roll_back_to : (st st' : State) (s : ℕ) (before : List ℕ) (saved : List (List ℕ)) (back : RollsBack st st' s) → back.session.cursor ≡ None → back.session.own.saved ≡ before ∷ saved → Follows st (RollbackTo s) Done st'
+pub Follows-roll_back_to : (st st' : State) (s : ℕ) (before : List ℕ) (saved : List (List ℕ)) (back : RollsBack st st' s) → back.session.cursor ≡ None → back.session.own.saved ≡ before ∷ saved → Follows st (step.RollbackTo s) reply.Done st'
 Follows-roll_back_to st st' s before saved back bare is w agrees =
     let f = savepoints.Follows-roll_back_to (seen st) s (reader_of back.session) before saved (seen st').status (seen st').sees (seen st').session (only-returns st st' s before saved back is)
     (reader-is st s back.session back.at) (ap position_of bare) is (λ w' found. finishes-since st st' s before saved back is w agrees) (same-sights st st' s before saved back is) w agrees.found in
     let sound' = rolls-back-sound st st' s before saved w back is agrees in
-    (f.0, agree agrees back.settings refl (subst (λ pages. theory.HeapAgrees (with_pages st' pages) (next w (RollbackTo s) Done)) (sym back.back.pages) f.1) sound'.0, sound'.1)
+    (f.0, agree agrees back.settings refl (subst (λ pages. theory.HeapAgrees (with_pages st' pages) (next w (step.RollbackTo s) reply.Done)) (sym back.back.pages) f.1) sound'.0, sound'.1)

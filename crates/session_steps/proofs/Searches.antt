@@ -20,7 +20,7 @@ use Rattle.history.specs.World.{World}
 use Rattle.refinement.specs.Visible.{ReaderSees}
 use Rattle.refinement.specs.Finds.{FindsOfKey, IsLateFor, IsHeldBy, BeginsWrite, Free}
 use Rattle.calls.specs.declared.reply.Refusal.{Refusal}
-use Rattle.calls.specs.declared.reply.Refusal.TheVariants.{Conflict, Busy}
+use Rattle.calls.specs.declared.reply.Refusal.TheVariants as refusal
 use Rattle.session_steps.specs.declared.session.Session.{Session}
 use Rattle.visibility.specs.Visible.{state_of}
 use Rattle.session_steps.specs.State.{State, session_at, seen, position_of, reader_of, horizon_of}
@@ -131,13 +131,13 @@ free-with st w s e key found agrees begins free =
 -- what delays a session, delays it of what it reads
 
 pub delayed-insert : (st : State) (s key : ℕ) (e : Session) (r : Refusal) → tests.ReadsPlace st s e key None → ConflictsWrite st e key r → RefusesInsertOfKey st s key r
-delayed-insert st s key e Conflict reads delays = record { session = e; reads = reads; delays = delays }
-delayed-insert st s key e (Busy o) reads delays = record { session = e; reads = reads; delays = delays }
+delayed-insert st s key e refusal.Conflict reads delays = record { session = e; reads = reads; delays = delays }
+delayed-insert st s key e (refusal.Busy o) reads delays = record { session = e; reads = reads; delays = delays }
 delayed-insert st s key e _ reads delays = absurd delays
 
 pub delayed-change : (st : State) (s key : ℕ) (e : Session) (p : Tid) (r : Refusal) → tests.ReadsPlace st s e key (Some p) → ConflictsWrite st e key r → RefusesChangeOfKey st s key r
-delayed-change st s key e p Conflict reads delays = (p, record { session = e; reads = reads; delays = delays })
-delayed-change st s key e p (Busy o) reads delays = (p, record { session = e; reads = reads; delays = delays })
+delayed-change st s key e p refusal.Conflict reads delays = (p, record { session = e; reads = reads; delays = delays })
+delayed-change st s key e p (refusal.Busy o) reads delays = (p, record { session = e; reads = reads; delays = delays })
 delayed-change st s key e p _ reads delays = absurd delays
 
 -- What a session that may act, and reads this of the key, may do.

@@ -19,9 +19,9 @@ use Rattle.table_integrity.proofs.Keeping.{kept-stays, readied-stays, ready-come
 use Rattle.table_integrity.proofs.InUse.{stays-then}
 use Rattle.table_integrity.proofs.Writing.{inserted-stays, updated-stays, deleted-stays}
 use Rattle.history.specs.World.{World}
-use Rattle.calls.specs.declared.step.Step.TheVariants.{Insert, Update, Delete}
-use Rattle.calls.specs.declared.reply.Reply.TheVariants.{Done, Refused}
-use Rattle.calls.specs.declared.reply.Refusal.TheVariants.{NoRoom, NeedsFreeze, NoMemory}
+use Rattle.calls.specs.declared.step.Step.TheVariants as step
+use Rattle.calls.specs.declared.reply.Reply.TheVariants as reply
+use Rattle.calls.specs.declared.reply.Refusal.TheVariants as refusal
 use Rattle.calls.specs.Words.{RowToWrite, FitsRow, row_of}
 use Rattle.calls.specs.Writes.{inserts, updates, deletes}
 use Rattle.refinement.specs.Allowed.{Allows, next}
@@ -73,7 +73,7 @@ module _ (st : State) (w : World) (s : ℕ) (e e' : Session) (at : session_at st
         agree agrees refl had
             (subst (λ slots. theory.HeapAgrees (seen_in slots h.statuses (set st.sessions s (Some e'))) w') (sym keeps.slots)
             (found-kept (slots_of st.heap) st.heap.statuses h.statuses st.sessions s e e' w' at same keeps.statuses found))
-            (Sound-kept st w h s e e' at agrees same keeps.statuses keeps.max_pages stays),
+            (Sound-kept st w h s e e' at agrees same keeps.statuses keeps.most_pages stays),
         stays.led,
       )
 
@@ -89,7 +89,7 @@ module _ (st : State) (w : World) (s : ℕ) (e e' : Session) (at : session_at st
         agree agrees refl had
             (subst (λ slots. theory.HeapAgrees (seen_in slots h.statuses (set st.sessions s (Some e'))) w') (sym keeps.slots)
             (found-kept (slots_of ready) st.heap.statuses h.statuses st.sessions s e e' w' at same ids pruned))
-            (Sound-kept st w h s e e' at agrees same ids (keeps.max_pages ∙ ready-limit readies) stays),
+            (Sound-kept st w h s e e' at agrees same ids (keeps.most_pages ∙ ready-limit readies) stays),
         stays.led,
       )
     where
@@ -101,10 +101,10 @@ module _ (st : State) (w : World) (s : ℕ) (e e' : Session) (at : session_at st
       ready-ids (PrunesIfFull.is_pruned full grown keeps prunes) = rw prunes.is keeps.statuses
       ready-ids (PrunesIfFull.is_left full goes keeps) = keeps.statuses
 
-      ready-limit : PrunesIfFull st.heap ready place (horizon_of st) size → ready.max_pages ≡ st.heap.max_pages
-      ready-limit (PrunesIfFull.has_room room is) = ap (λ (g : HeapView). g.max_pages) is
-      ready-limit (PrunesIfFull.is_pruned full grown keeps prunes) = ap (λ (g : HeapView). g.max_pages) prunes.is ∙ keeps.max_pages
-      ready-limit (PrunesIfFull.is_left full goes keeps) = keeps.max_pages
+      ready-limit : PrunesIfFull st.heap ready place (horizon_of st) size → ready.most_pages ≡ st.heap.most_pages
+      ready-limit (PrunesIfFull.has_room room is) = ap (λ (g : HeapView). g.most_pages) is
+      ready-limit (PrunesIfFull.is_pruned full grown keeps prunes) = ap (λ (g : HeapView). g.most_pages) prunes.is ∙ keeps.most_pages
+      ready-limit (PrunesIfFull.is_left full goes keeps) = keeps.most_pages
 
 -- Inserts.
 
@@ -114,7 +114,7 @@ by-key row text same = ap (λ (r : Row). r.key) same
 
 module _ (st : State) (w : World) (s : ℕ) (text : RowToWrite) (e : Session) (free : Free (seen st) s (reader_of e) text.key None) (fits : FitsRow text) (at : session_at st s ≡ Some e) (agrees : Agrees st w) where
   inserted : (h : HeapView) (own : Own) (x : ℕ) → Inserts st.heap h e.own own (row_of text) x → IsWindow h.statuses
-      → Allows w (Insert s text) Done × Agrees (with_write st h s (with_own e own)) (next w (Insert s text) Done) × KeepsAllTargets st (with_write st h s (with_own e own))
+      → Allows w (step.Insert s text) reply.Done × Agrees (with_write st h s (with_own e own)) (next w (step.Insert s text) reply.Done) × KeepsAllTargets st (with_write st h s (with_own e own))
   inserted h own x i window =
       let row = row_of text in
       let e' = with_own e own in
@@ -124,24 +124,24 @@ module _ (st : State) (w : World) (s : ℕ) (text : RowToWrite) (e : Session) (f
       let done = insert_done (seen st) (seen_in (slots_of st.heap) h.statuses (set st.sessions s (Some e'))) w s (reader_of e) (reader_of e') text x (free_place st.heap i.number) new (version_in (slots_of h))
       free fits agrees.found still (reader-now st w h.statuses s e own x at i.takes_ids window agrees) (current-now st w h.statuses s e own x at i.takes_ids window agrees)
       (adds-from (version_in (slots_of st.heap)) (version_in (slots_of h)) (free_place st.heap i.number) new (inserts-stand st.heap h e.own own row x i)) (is-new x row new (root-new st.heap false x row i.number)) refl in
-      (done.0, agree agrees refl refl done.1 (Sound-given st w h s e e' at agrees own x i.takes_ids refl window i.max_pages stays), stays.led)
+      (done.0, agree agrees refl refl done.1 (Sound-given st w h s e e' at agrees own x i.takes_ids refl window i.most_pages stays), stays.led)
 
   insert-fails : (h : HeapView) (e' : Session) (f : WriteFault) → SameSession e e' → LacksForInsert st.heap e.own (row_of text) f → Keeps st.heap h
-      → Allows w (Insert s text) (reply_for (Err f)) × Agrees (with_write st h s e') (next w (Insert s text) (reply_for (Err f))) × KeepsAllTargets st (with_write st h s e')
+      → Allows w (step.Insert s text) (reply_for (Err f)) × Agrees (with_write st h s e') (next w (step.Insert s text) (reply_for (Err f))) × KeepsAllTargets st (with_write st h s e')
   insert-fails h e' fault.NeedsFreeze same unassigned_levels keeps =
       let f = hindrances.Follows-needs_freeze (seen st) s (reader_of e) (inserts text) None free (fits, refl) w agrees.found in
-      let k = kept st w s e e' at agrees same h (next w (Insert s text) (Refused NeedsFreeze)) keeps refl f.1 in (f.0, k.0, k.1)
+      let k = kept st w s e e' at agrees same h (next w (step.Insert s text) (reply.Refused refusal.NeedsFreeze)) keeps refl f.1 in (f.0, k.0, k.1)
   insert-fails h e' fault.NoRoom same unassigned_levels keeps =
       let f = hindrances.Follows-no_room (seen st) s (reader_of e) (inserts text) None free (fits, refl) tt w agrees.found in
-      let k = kept st w s e e' at agrees same h (next w (Insert s text) (Refused NoRoom)) keeps refl f.1 in (f.0, k.0, k.1)
+      let k = kept st w s e e' at agrees same h (next w (step.Insert s text) (reply.Refused refusal.NoRoom)) keeps refl f.1 in (f.0, k.0, k.1)
   insert-fails h e' fault.NoMemory same unassigned_levels keeps =
       let f = hindrances.Follows-no_memory (seen st) s (reader_of e) (inserts text) None free (fits, refl) w agrees.found in
-      let k = kept st w s e e' at agrees same h (next w (Insert s text) (Refused NoMemory)) keeps refl f.1 in (f.0, k.0, k.1)
+      let k = kept st w s e e' at agrees same h (next w (step.Insert s text) (reply.Refused refusal.NoMemory)) keeps refl f.1 in (f.0, k.0, k.1)
 
   insert-tried : (h : HeapView) (e' : Session) (r : Result (Unit {0}) WriteFault) → TriesInsert st.heap h e e' (row_of text) r → IsWindow h.statuses
-      → Allows w (Insert s text) (reply_for r) × Agrees (with_write st h s e') (next w (Insert s text) (reply_for r)) × KeepsAllTargets st (with_write st h s e')
+      → Allows w (step.Insert s text) (reply_for r) × Agrees (with_write st h s e') (next w (step.Insert s text) (reply_for r)) × KeepsAllTargets st (with_write st h s e')
   insert-tried h e' (Ok u) tried window =
-      subst (λ (f : Session). Allows w (Insert s text) Done × Agrees (with_write st h s f) (next w (Insert s text) Done) × KeepsAllTargets st (with_write st h s f)) (sym tried.is)
+      subst (λ (f : Session). Allows w (step.Insert s text) reply.Done × Agrees (with_write st h s f) (next w (step.Insert s text) reply.Done) × KeepsAllTargets st (with_write st h s f)) (sym tried.is)
       (inserted h e'.own tried.x tried.change window)
   insert-tried h e' (Err f) tried window = insert-fails h e' f tried.same tried.fault.0 tried.fault.1
 
@@ -150,7 +150,7 @@ Follows-inserted st st' s row r tried window text fits same w agrees =
     let may = tried.may in
     let key = by-key row text same in
     let free = subst (λ k. Free (seen st) s (reader_of may.session) k None) key (free-none st w s row.key may agrees) in
-    subst (λ new. Allows w (Insert s text) (reply_for r) × Agrees new (next w (Insert s text) (reply_for r)) × KeepsAllTargets st new) (sym tried.tried.is)
+    subst (λ new. Allows w (step.Insert s text) (reply_for r) × Agrees new (next w (step.Insert s text) (reply_for r)) × KeepsAllTargets st new) (sym tried.tried.is)
     (insert-tried st w s text may.session free fits may.reads.at agrees st'.heap tried.tried.now r
     (subst (λ row. TriesInsert st.heap st'.heap may.session tried.tried.now row r) same tried.tried.tried) window)
 
@@ -169,7 +169,7 @@ module _ (st : State) (w : World) (s : ℕ) (key : ℕ) (e : Session) (place : T
 module _ (st : State) (w : World) (s : ℕ) (text : RowToWrite) (e : Session) (place : Tid) (t : Version) (target : IsTarget st e text.key place t) (free : Free (seen st) s (reader_of e) text.key (Some t.row))
     (fits : FitsRow text) (at : session_at st s ≡ Some e) (agrees : Agrees st w) where
   updated : (h : HeapView) (own : Own) (x : ℕ) → Updates st.heap h e.own own place (row_of text) (horizon_of st) x → IsWindow h.statuses
-      → Allows w (Update s text) Done × Agrees (with_write st h s (with_own e own)) (next w (Update s text) Done) × KeepsAllTargets st (with_write st h s (with_own e own))
+      → Allows w (step.Update s text) reply.Done × Agrees (with_write st h s (with_own e own)) (next w (step.Update s text) reply.Done) × KeepsAllTargets st (with_write st h s (with_own e own))
   updated h own x u window =
       let row = row_of text in
       let e' = with_own e own in
@@ -185,24 +185,24 @@ module _ (st : State) (w : World) (s : ℕ) (text : RowToWrite) (e : Session) (p
       (updates-ready st.heap h e.own own place row (horizon_of st) x t u target.there) (seen-now st w s text.key e place t target at agrees h.statuses own x u.takes_ids window) target.of_key
       (adds-from (version_in (slots_of u.ready)) put.added put.to put.new put.adds) (is-new x row put.new put.is_new) put.is_new.of_row
       (alters-from put.added (version_in (slots_of h)) place t (taken_version t x put.to put.hot) put.alters) (is-deleted h.statuses x t put.to put.hot active) in
-      (done.0, agree agrees refl refl done.1 (Sound-given st w h s e e' at agrees own x u.takes_ids refl window u.max_pages stays), stays.led)
+      (done.0, agree agrees refl refl done.1 (Sound-given st w h s e e' at agrees own x u.takes_ids refl window u.most_pages stays), stays.led)
 
   update-fails : (h : HeapView) (e' : Session) (f : WriteFault) → SameSession e e' → FailsUpdate st.heap h e.own place (row_of text) (horizon_of st) f
-      → Allows w (Update s text) (reply_for (Err f)) × Agrees (with_write st h s e') (next w (Update s text) (reply_for (Err f))) × KeepsAllTargets st (with_write st h s e')
+      → Allows w (step.Update s text) (reply_for (Err f)) × Agrees (with_write st h s e') (next w (step.Update s text) (reply_for (Err f))) × KeepsAllTargets st (with_write st h s e')
   update-fails h e' fault.NeedsFreeze same fails =
       let f = hindrances.Follows-needs_freeze (seen st) s (reader_of e) (updates text) (Some t.row) free (fits, refl) w agrees.found in
-      let k = kept st w s e e' at agrees same h (next w (Update s text) (Refused NeedsFreeze)) fails.1 refl f.1 in (f.0, k.0, k.1)
+      let k = kept st w s e e' at agrees same h (next w (step.Update s text) (reply.Refused refusal.NeedsFreeze)) fails.1 refl f.1 in (f.0, k.0, k.1)
   update-fails h e' fault.NoRoom same fails =
       let f = hindrances.Follows-no_room (seen st) s (reader_of e) (updates text) (Some t.row) free (fits, refl) tt w agrees.found in
-      let k = readied st w s e e' at agrees same fails.ready h place (rounded_size_of (row_of text)) (next w (Update s text) (Refused NoRoom)) fails.readies fails.keeps refl f.1 in (f.0, k.0, k.1)
+      let k = readied st w s e e' at agrees same fails.ready h place (rounded_size_of (row_of text)) (next w (step.Update s text) (reply.Refused refusal.NoRoom)) fails.readies fails.keeps refl f.1 in (f.0, k.0, k.1)
   update-fails h e' fault.NoMemory same fails =
       let f = hindrances.Follows-no_memory (seen st) s (reader_of e) (updates text) (Some t.row) free (fits, refl) w agrees.found in
-      let k = kept st w s e e' at agrees same h (next w (Update s text) (Refused NoMemory)) fails.2 refl f.1 in (f.0, k.0, k.1)
+      let k = kept st w s e e' at agrees same h (next w (step.Update s text) (reply.Refused refusal.NoMemory)) fails.2 refl f.1 in (f.0, k.0, k.1)
 
   update-tried : (h : HeapView) (e' : Session) (r : Result (Unit {0}) WriteFault) → TriesUpdate st.heap h e e' place (row_of text) (horizon_of st) r → IsWindow h.statuses
-      → Allows w (Update s text) (reply_for r) × Agrees (with_write st h s e') (next w (Update s text) (reply_for r)) × KeepsAllTargets st (with_write st h s e')
+      → Allows w (step.Update s text) (reply_for r) × Agrees (with_write st h s e') (next w (step.Update s text) (reply_for r)) × KeepsAllTargets st (with_write st h s e')
   update-tried h e' (Ok u) tried window =
-      subst (λ (f : Session). Allows w (Update s text) Done × Agrees (with_write st h s f) (next w (Update s text) Done) × KeepsAllTargets st (with_write st h s f)) (sym tried.is)
+      subst (λ (f : Session). Allows w (step.Update s text) reply.Done × Agrees (with_write st h s f) (next w (step.Update s text) reply.Done) × KeepsAllTargets st (with_write st h s f)) (sym tried.is)
       (updated h e'.own tried.x tried.change window)
   update-tried h e' (Err f) tried window = update-fails h e' f tried.same tried.fault
 
@@ -212,7 +212,7 @@ Follows-updated st st' s row r tried window text fits same w agrees =
     let key = by-key row text same in
     let found = target-of st w s may.session row.key tried.place agrees may.reads in
     let free = subst (λ k. Free (seen st) s (reader_of may.session) k (Some found.0.row)) key (free-some st w s row.key tried.place found.0 may agrees found.1) in
-    subst (λ new. Allows w (Update s text) (reply_for r) × Agrees new (next w (Update s text) (reply_for r)) × KeepsAllTargets st new) (sym tried.tried.is)
+    subst (λ new. Allows w (step.Update s text) (reply_for r) × Agrees new (next w (step.Update s text) (reply_for r)) × KeepsAllTargets st new) (sym tried.tried.is)
     (update-tried st w s text may.session tried.place found.0 (subst (λ k. IsTarget st may.session k tried.place found.0) key found.1) free fits may.reads.at agrees st'.heap tried.tried.now r
     (subst (λ row. TriesUpdate st.heap st'.heap may.session tried.tried.now tried.place row (horizon_of st) r) same tried.tried.tried) window)
 
@@ -221,7 +221,7 @@ Follows-updated st st' s row r tried window text fits same w agrees =
 module _ (st : State) (w : World) (s key : ℕ) (e : Session) (place : Tid) (t : Version) (target : IsTarget st e key place t) (free : Free (seen st) s (reader_of e) key (Some t.row))
     (at : session_at st s ≡ Some e) (agrees : Agrees st w) where
   deleted : (h : HeapView) (own : Own) (x : ℕ) → Deletes st.heap h e.own own place x → IsWindow h.statuses
-      → Allows w (Delete s key) Done × Agrees (with_write st h s (with_own e own)) (next w (Delete s key) Done) × KeepsAllTargets st (with_write st h s (with_own e own))
+      → Allows w (step.Delete s key) reply.Done × Agrees (with_write st h s (with_own e own)) (next w (step.Delete s key) reply.Done) × KeepsAllTargets st (with_write st h s (with_own e own))
   deleted h own x d window =
       let e' = with_own e own in
       let may = may-take st w s e key (Some t.row) place t agrees at free target in
@@ -233,29 +233,29 @@ module _ (st : State) (w : World) (s key : ℕ) (e : Session) (place : Tid) (t :
       free refl agrees.found still (reader-now st w h.statuses s e own x at d.takes_ids window agrees) (current-now st w h.statuses s e own x at d.takes_ids window agrees)
       (seen-now st w s key e place t target at agrees h.statuses own x d.takes_ids window) target.of_key
       (alters-from (version_in (slots_of st.heap)) (version_in (slots_of h)) place t (taken_version t x place false) alters) (is-deleted h.statuses x t place false active) in
-      (done.0, agree agrees refl refl done.1 (Sound-given st w h s e e' at agrees own x d.takes_ids refl window d.max_pages stays), stays.led)
+      (done.0, agree agrees refl refl done.1 (Sound-given st w h s e e' at agrees own x d.takes_ids refl window d.most_pages stays), stays.led)
 
   delete-fails : (h : HeapView) (e' : Session) (f : WriteFault) → SameSession e e' → FailsDelete st.heap h e.own f
-      → Allows w (Delete s key) (reply_for (Err f)) × Agrees (with_write st h s e') (next w (Delete s key) (reply_for (Err f))) × KeepsAllTargets st (with_write st h s e')
+      → Allows w (step.Delete s key) (reply_for (Err f)) × Agrees (with_write st h s e') (next w (step.Delete s key) (reply_for (Err f))) × KeepsAllTargets st (with_write st h s e')
   delete-fails h e' fault.NeedsFreeze same fails =
       let f = hindrances.Follows-needs_freeze (seen st) s (reader_of e) (deletes key) (Some t.row) free refl w agrees.found in
-      let k = kept st w s e e' at agrees same h (next w (Delete s key) (Refused NeedsFreeze)) fails.1 refl f.1 in (f.0, k.0, k.1)
+      let k = kept st w s e e' at agrees same h (next w (step.Delete s key) (reply.Refused refusal.NeedsFreeze)) fails.1 refl f.1 in (f.0, k.0, k.1)
   delete-fails h e' fault.NoRoom same fails = absurd fails
   delete-fails h e' fault.NoMemory same fails =
       let f = hindrances.Follows-no_memory (seen st) s (reader_of e) (deletes key) (Some t.row) free refl w agrees.found in
-      let k = kept st w s e e' at agrees same h (next w (Delete s key) (Refused NoMemory)) fails.2 refl f.1 in (f.0, k.0, k.1)
+      let k = kept st w s e e' at agrees same h (next w (step.Delete s key) (reply.Refused refusal.NoMemory)) fails.2 refl f.1 in (f.0, k.0, k.1)
 
   delete-tried : (h : HeapView) (e' : Session) (r : Result (Unit {0}) WriteFault) → TriesDelete st.heap h e e' place r → IsWindow h.statuses
-      → Allows w (Delete s key) (reply_for r) × Agrees (with_write st h s e') (next w (Delete s key) (reply_for r)) × KeepsAllTargets st (with_write st h s e')
+      → Allows w (step.Delete s key) (reply_for r) × Agrees (with_write st h s e') (next w (step.Delete s key) (reply_for r)) × KeepsAllTargets st (with_write st h s e')
   delete-tried h e' (Ok u) tried window =
-      subst (λ (f : Session). Allows w (Delete s key) Done × Agrees (with_write st h s f) (next w (Delete s key) Done) × KeepsAllTargets st (with_write st h s f)) (sym tried.is)
+      subst (λ (f : Session). Allows w (step.Delete s key) reply.Done × Agrees (with_write st h s f) (next w (step.Delete s key) reply.Done) × KeepsAllTargets st (with_write st h s f)) (sym tried.is)
       (deleted h e'.own tried.x tried.change window)
   delete-tried h e' (Err f) tried window = delete-fails h e' f tried.same tried.fault
 
-pub Follows-deleted : (st st' : State) (s key : ℕ) (r : Result (Unit {0}) WriteFault) → DeleteTried st st' s key r → IsWindow st'.heap.statuses → Follows st (Delete s key) (reply_for r) st'
+pub Follows-deleted : (st st' : State) (s key : ℕ) (r : Result (Unit {0}) WriteFault) → DeleteTried st st' s key r → IsWindow st'.heap.statuses → Follows st (step.Delete s key) (reply_for r) st'
 Follows-deleted st st' s key r tried window w agrees =
     let may = tried.may in
     let found = target-of st w s may.session key tried.place agrees may.reads in
     let free = free-some st w s key tried.place found.0 may agrees found.1 in
-    subst (λ new. Allows w (Delete s key) (reply_for r) × Agrees new (next w (Delete s key) (reply_for r)) × KeepsAllTargets st new) (sym tried.tried.is)
+    subst (λ new. Allows w (step.Delete s key) (reply_for r) × Agrees new (next w (step.Delete s key) (reply_for r)) × KeepsAllTargets st new) (sym tried.tried.is)
     (delete-tried st w s key may.session tried.place found.0 found.1 free may.reads.at agrees st'.heap tried.tried.now r tried.tried.tried window)

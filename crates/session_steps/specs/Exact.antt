@@ -12,10 +12,10 @@ use Rattle.heap_write.specs.Writes.{Prunes}
 use Rattle.heap_write.specs.declared.heap.WriteFault.{WriteFault}
 use Rattle.heap_write.specs.declared.heap.WriteFault.TheVariants as fault
 use Rattle.calls.specs.declared.step.Step.{Step}
-use Rattle.calls.specs.declared.step.Step.TheVariants.{Begin, Get, Insert, Update, Delete, Savepoint, RollbackTo, Release, OpenIndex, OpenHeap, Next, Close, Commit, Abort, Prune}
+use Rattle.calls.specs.declared.step.Step.TheVariants as step
 use Rattle.calls.specs.declared.reply.Reply.{Reply}
-use Rattle.calls.specs.declared.reply.Reply.TheVariants.{Done, Rows, End, Committed, RolledBack, Refused}
-use Rattle.calls.specs.declared.reply.Refusal.TheVariants.{Conflict, NoRoom, NeedsFreeze, NoMemory, NoSuchPage, NoSuchIndex, BadBounds}
+use Rattle.calls.specs.declared.reply.Reply.TheVariants as reply
+use Rattle.calls.specs.declared.reply.Refusal.TheVariants as refusal
 use Rattle.calls.specs.Words.{row_of}
 use Rattle.refinement.specs.Cursors.{heap_start}
 use Rattle.session_steps.specs.declared.session.Session.{Session}
@@ -53,26 +53,26 @@ pub record DeleteTried (old new : State) (s key : ℕ) (outcome : Result (Unit {
 
 -- A conflict makes the session fail, and any refusal before the write is tried leaves all as it was.
 abbrev pub ExactInsert : State → ℕ → Row → Reply → State → Type 0
-ExactInsert old s row Done new = InsertTried old new s row (Ok tt)
-ExactInsert old s row (Refused NeedsFreeze) new = InsertTried old new s row (Err fault.NeedsFreeze)
-ExactInsert old s row (Refused NoRoom) new = InsertTried old new s row (Err fault.NoRoom)
-ExactInsert old s row (Refused NoMemory) new = InsertTried old new s row (Err fault.NoMemory)
-ExactInsert old s row (Refused Conflict) new = new ≡ put_session old s (option_map failed_session (session_at old s))
+ExactInsert old s row reply.Done new = InsertTried old new s row (Ok tt)
+ExactInsert old s row (reply.Refused refusal.NeedsFreeze) new = InsertTried old new s row (Err fault.NeedsFreeze)
+ExactInsert old s row (reply.Refused refusal.NoRoom) new = InsertTried old new s row (Err fault.NoRoom)
+ExactInsert old s row (reply.Refused refusal.NoMemory) new = InsertTried old new s row (Err fault.NoMemory)
+ExactInsert old s row (reply.Refused refusal.Conflict) new = new ≡ put_session old s (option_map failed_session (session_at old s))
 ExactInsert old s row reply new = new ≡ old
 
 abbrev pub ExactUpdate : State → ℕ → Row → Reply → State → Type 0
-ExactUpdate old s row Done new = UpdateTried old new s row (Ok tt)
-ExactUpdate old s row (Refused NeedsFreeze) new = UpdateTried old new s row (Err fault.NeedsFreeze)
-ExactUpdate old s row (Refused NoRoom) new = UpdateTried old new s row (Err fault.NoRoom)
-ExactUpdate old s row (Refused NoMemory) new = UpdateTried old new s row (Err fault.NoMemory)
-ExactUpdate old s row (Refused Conflict) new = new ≡ put_session old s (option_map failed_session (session_at old s))
+ExactUpdate old s row reply.Done new = UpdateTried old new s row (Ok tt)
+ExactUpdate old s row (reply.Refused refusal.NeedsFreeze) new = UpdateTried old new s row (Err fault.NeedsFreeze)
+ExactUpdate old s row (reply.Refused refusal.NoRoom) new = UpdateTried old new s row (Err fault.NoRoom)
+ExactUpdate old s row (reply.Refused refusal.NoMemory) new = UpdateTried old new s row (Err fault.NoMemory)
+ExactUpdate old s row (reply.Refused refusal.Conflict) new = new ≡ put_session old s (option_map failed_session (session_at old s))
 ExactUpdate old s row reply new = new ≡ old
 
 abbrev pub ExactDelete : State → ℕ → ℕ → Reply → State → Type 0
-ExactDelete old s key Done new = DeleteTried old new s key (Ok tt)
-ExactDelete old s key (Refused NeedsFreeze) new = DeleteTried old new s key (Err fault.NeedsFreeze)
-ExactDelete old s key (Refused NoMemory) new = DeleteTried old new s key (Err fault.NoMemory)
-ExactDelete old s key (Refused Conflict) new = new ≡ put_session old s (option_map failed_session (session_at old s))
+ExactDelete old s key reply.Done new = DeleteTried old new s key (Ok tt)
+ExactDelete old s key (reply.Refused refusal.NeedsFreeze) new = DeleteTried old new s key (Err fault.NeedsFreeze)
+ExactDelete old s key (reply.Refused refusal.NoMemory) new = DeleteTried old new s key (Err fault.NoMemory)
+ExactDelete old s key (reply.Refused refusal.Conflict) new = new ≡ put_session old s (option_map failed_session (session_at old s))
 ExactDelete old s key reply new = new ≡ old
 
 -- one page is pruned at the horizon, and nothing else changes
@@ -103,32 +103,32 @@ HasCursor old new s cursor = new ≡ put_session old s (map_session (with_cursor
 -- changes that cursor alone; memory is refused only where something has to grow, and never to a prune or the opening of a cursor.
 -- (That no read, return, release, closing, commit or abort is refused memory is said by what the history allows.)
 abbrev pub Exact : State → Step → Reply → State → Type 0
-Exact old (Begin s) Done new = Opens old new s (snapshot_of old)
-Exact old (Begin s) (Refused NoMemory) new = MustList old × (new ≡ old)
-Exact old (Insert s row) reply new = ExactInsert old s (row_of row) reply new
-Exact old (Update s row) reply new = ExactUpdate old s (row_of row) reply new
-Exact old (Delete s key) reply new = ExactDelete old s key reply new
-Exact old (Get s key) reply new = new ≡ old
-Exact old (Savepoint s) Done new = SessionBecomes old new s SetsSavepoint
-Exact old (Savepoint s) (Refused NoMemory) new = MustNote old s × (new ≡ old)
-Exact old (RollbackTo s) Done new = RollsBack old new s
-Exact old (Release s) Done new = SessionBecomes old new s Releases
-Exact old (OpenIndex s index low high) Done new = HasCursor old new s (Some (Index (record { index = index; low = low; high = high; last = None })))
-Exact old (OpenIndex s index low high) (Refused NoSuchIndex) new = (engine_index old index ≡ None) × (new ≡ old)
-Exact old (OpenIndex s index low high) (Refused BadBounds) new = IsSome (engine_index old index) × (new ≡ old)
-Exact old (OpenIndex s index low high) (Refused NoMemory) new = ⊥
-Exact old (OpenHeap s) Done new = HasCursor old new s (Some (Heap heap_start))
-Exact old (OpenHeap s) (Refused NoMemory) new = ⊥
-Exact old (Next s n) (Rows rows) new = HandsOut old new s n rows.items
-Exact old (Next s n) End new = new ≡ old
-Exact old (Close s) Done new = HasCursor old new s None
-Exact old (Commit s) Committed new = Closes old new s status.Committed
-Exact old (Commit s) RolledBack new = Closes old new s status.Aborted
-Exact old (Abort s) RolledBack new = Closes old new s status.Aborted
-Exact old (Prune p) Done new = Cleans old new p
-Exact old (Prune p) (Refused NoSuchPage) new = (length old.heap.pages.pages ≤ p) × (new ≡ old)
-Exact old (Prune p) (Refused NoMemory) new = ⊥
-Exact old step (Refused refusal) new = new ≡ old
+Exact old (step.Begin s) reply.Done new = Opens old new s (snapshot_of old)
+Exact old (step.Begin s) (reply.Refused refusal.NoMemory) new = MustList old × (new ≡ old)
+Exact old (step.Insert s row) reply new = ExactInsert old s (row_of row) reply new
+Exact old (step.Update s row) reply new = ExactUpdate old s (row_of row) reply new
+Exact old (step.Delete s key) reply new = ExactDelete old s key reply new
+Exact old (step.Get s key) reply new = new ≡ old
+Exact old (step.Savepoint s) reply.Done new = SessionBecomes old new s SetsSavepoint
+Exact old (step.Savepoint s) (reply.Refused refusal.NoMemory) new = MustNote old s × (new ≡ old)
+Exact old (step.RollbackTo s) reply.Done new = RollsBack old new s
+Exact old (step.Release s) reply.Done new = SessionBecomes old new s Releases
+Exact old (step.OpenIndex s index low high) reply.Done new = HasCursor old new s (Some (Index (record { index = index; low = low; high = high; last = None })))
+Exact old (step.OpenIndex s index low high) (reply.Refused refusal.NoSuchIndex) new = (engine_index old index ≡ None) × (new ≡ old)
+Exact old (step.OpenIndex s index low high) (reply.Refused refusal.BadBounds) new = IsSome (engine_index old index) × (new ≡ old)
+Exact old (step.OpenIndex s index low high) (reply.Refused refusal.NoMemory) new = ⊥
+Exact old (step.OpenHeap s) reply.Done new = HasCursor old new s (Some (Heap heap_start))
+Exact old (step.OpenHeap s) (reply.Refused refusal.NoMemory) new = ⊥
+Exact old (step.Next s n) (reply.Rows rows) new = HandsOut old new s n rows.items
+Exact old (step.Next s n) reply.End new = new ≡ old
+Exact old (step.Close s) reply.Done new = HasCursor old new s None
+Exact old (step.Commit s) reply.Committed new = Closes old new s status.Committed
+Exact old (step.Commit s) reply.RolledBack new = Closes old new s status.Aborted
+Exact old (step.Abort s) reply.RolledBack new = Closes old new s status.Aborted
+Exact old (step.Prune p) reply.Done new = Cleans old new p
+Exact old (step.Prune p) (reply.Refused refusal.NoSuchPage) new = (length old.heap.pages.pages ≤ p) × (new ≡ old)
+Exact old (step.Prune p) (reply.Refused refusal.NoMemory) new = ⊥
+Exact old step (reply.Refused refusal) new = new ≡ old
 Exact old step reply new = ⊥
 
 -- The step is answered: whatever world the engine agreed with, the history allows the reply, and the rest is as above.

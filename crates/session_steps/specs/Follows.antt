@@ -1,7 +1,7 @@
 -- A write of a row follows the history, whatever the words in which it was asked for.
 use Rattle.std.specs.Prelude.{◌≡◌, ℕ}
 use Rattle.tuple_header.specs.declared.version.Row.{Row}
-use Rattle.calls.specs.declared.step.Step.TheVariants.{Insert, Update}
+use Rattle.calls.specs.declared.step.Step.TheVariants as step
 use Rattle.calls.specs.declared.reply.Reply.{Reply}
 use Rattle.calls.specs.Words.{RowToWrite, FitsRow, row_of}
 use Rattle.session_steps.specs.State.{State}
@@ -9,8 +9,8 @@ use Rattle.session_steps.specs.Agrees.{Follows}
 
 -- the reply to an insert of a row that is not too large
 abbrev pub FollowsInsert : State → ℕ → Row → Reply → State → Type 0
-FollowsInsert old s row reply new = (text : RowToWrite) → FitsRow text → row ≡ row_of text → Follows old (Insert s text) reply new
+FollowsInsert old s row reply new = (text : RowToWrite) → FitsRow text → row ≡ row_of text → Follows old (step.Insert s text) reply new
 
 -- and to an update to it
 abbrev pub FollowsUpdate : State → ℕ → Row → Reply → State → Type 0
-FollowsUpdate old s row reply new = (text : RowToWrite) → FitsRow text → row ≡ row_of text → Follows old (Update s text) reply new
+FollowsUpdate old s row reply new = (text : RowToWrite) → FitsRow text → row ≡ row_of text → Follows old (step.Update s text) reply new

@@ -3,24 +3,24 @@ use Rattle.std.specs.Prelude.{◌≡◌, ℕ, ◌<◌, List, [], length, Result,
 use Rattle.tuple_header.specs.declared.row_place.RowPlace.{RowPlace}
 use Rattle.tuple_header.specs.declared.version.Row.{Row}
 use Rattle.tuple_header.specs.Places.{places_with}
-use Rattle.calls.specs.declared.step.Step.TheVariants.{Next}
+use Rattle.calls.specs.declared.step.Step.TheVariants as step
 use Rattle.calls.specs.declared.reply.Reply.{Reply}
-use Rattle.calls.specs.declared.reply.Reply.TheVariants.{Rows, End, Refused}
+use Rattle.calls.specs.declared.reply.Reply.TheVariants as reply
 use Rattle.calls.specs.declared.reply.Refusal.{Refusal}
-use Rattle.calls.specs.declared.reply.Refusal.TheVariants.{NoMemory}
+use Rattle.calls.specs.declared.reply.Refusal.TheVariants as refusal
 use Rattle.session_steps.specs.State.{State}
 use Rattle.session_steps.specs.Agrees.{Follows}
 use Rattle.session_steps.specs.Takes.{HandsOutUpTo}
 
 -- the rows of a reply
 abbrev pub rows_in : Reply → List Row
-rows_in (Rows rows) = rows.items
+rows_in (reply.Rows rows) = rows.items
 rows_in reply = []
 
 -- how many rows it has, none where nothing is left, or the refusal
 abbrev pub count_in : Reply → Result ℕ Refusal
-count_in (Rows rows) = Ok (length rows.items)
-count_in (Refused refusal) = Err refusal
+count_in (reply.Rows rows) = Ok (length rows.items)
+count_in (reply.Refused refusal) = Err refusal
 count_in reply = Ok 0
 
 -- the answer is that of the reply, and its rows are in the first places: all others are as they were
@@ -31,15 +31,15 @@ pub record WritesReply (reply : Reply) (places : List RowPlace) (answer : Result
 -- Beside what the history says of the reply: some rows are handed out, up to so many, and a cursor at its end and a refusal leave all as it
 -- was. No memory is asked for.
 abbrev pub ExactNextRows : State → ℕ → ℕ → Reply → State → Type 0
-ExactNextRows old s most (Rows rows) new = (0 < length rows.items) × HandsOutUpTo old new s most rows.items
-ExactNextRows old s most End new = new ≡ old
-ExactNextRows old s most (Refused NoMemory) new = ⊥
-ExactNextRows old s most (Refused refusal) new = new ≡ old
+ExactNextRows old s most (reply.Rows rows) new = (0 < length rows.items) × HandsOutUpTo old new s most rows.items
+ExactNextRows old s most reply.End new = new ≡ old
+ExactNextRows old s most (reply.Refused refusal.NoMemory) new = ⊥
+ExactNextRows old s most (reply.Refused refusal) new = new ≡ old
 ExactNextRows old s most reply new = ⊥
 
 -- It is answered as a step that asks for as many rows as there are places, by a reply that the history allows.
 pub record AnswersNextRows (old : State) (s : ℕ) (places : List RowPlace) (answer : Result ℕ Refusal) (after : List RowPlace) (new : State) : Type 0 where
   pub reply : Reply
   pub written : WritesReply reply places answer after
-  pub follows : Follows old (Next s (length places)) reply new
+  pub follows : Follows old (step.Next s (length places)) reply new
   pub exact : ExactNextRows old s (length places) reply new

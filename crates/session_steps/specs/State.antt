@@ -13,7 +13,7 @@ use Rattle.index_lookup.specs.Pages.{version_in}
 use Rattle.heap_write.specs.Heap.{HeapView, slots_of}
 use Rattle.calls.specs.declared.settings.Settings.{Settings}
 use Rattle.calls.specs.declared.reply.Refusal.{Refusal}
-use Rattle.calls.specs.declared.reply.Refusal.TheVariants.{Conflict}
+use Rattle.calls.specs.declared.reply.Refusal.TheVariants as refusal
 use Rattle.calls.specs.Bars.{SessionLooks}
 use Rattle.refinement.specs.Heap as relation
 use Rattle.session_steps.specs.declared.session.Session.{Session}
@@ -110,5 +110,5 @@ failed_session e = record e { failed = true }
 
 -- the engine after the refusal of a write: a conflict makes the session fail
 abbrev pub refused_state : State → ℕ → Refusal → State
-refused_state st s Conflict = put_session st s (option_map failed_session (session_at st s))
+refused_state st s refusal.Conflict = put_session st s (option_map failed_session (session_at st s))
 refused_state st s refusal = st

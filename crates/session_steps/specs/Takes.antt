@@ -1,6 +1,7 @@
 -- What a cursor takes: how many rows, and where it is then.
 use Rattle.std.specs.Prelude.{◌≡◌, ℕ, ◌+◌, ◌<◌, ◌≤◌, max, List, length, Option, Some, Vec, MatchOption}
 use Rattle.std.specs.declared.alloc.Global.{Global}
+use Rattle.xid_circle.specs.Numbers.{SessionNo, Count}
 use Rattle.xid_circle.specs.declared.Tid.{Tid}
 use Rattle.tuple_header.specs.declared.version.Row.{Row}
 use Rattle.tuple_header.specs.Version.{Version}
@@ -18,7 +19,7 @@ use Rattle.session_steps.specs.declared.cursor.Cursor.TheVariants.{Index, Heap}
 use Rattle.visibility.specs.Visible.{state_of}
 use Rattle.session_steps.specs.State.{State, session_at, seen, seen_position, put_session, with_cursor}
 use Rattle.session_steps.specs.Agrees.{Agrees}
-use Rattle.heap_pages.specs.declared.pages.TheConstants.{MAX_PAGES}
+use Rattle.heap_pages.specs.declared.pages.TheConstants.{MOST_PAGES}
 
 -- the versions that the session sees
 abbrev pub seen_by : State → Session → Version → Type 0
@@ -96,7 +97,7 @@ pub record TakesPage (st : State) (e : Session) (from : Tid) (page : ℕ) (rows 
 
 -- and that page's number; none where no page has any
 abbrev pub TakesNextPage : State → Session → Tid → Option (Vec Row Global × ℕ) → Type 0
-TakesNextPage st e from answer = MatchOption answer (IsAtEnd st e (Heap from)) (λ found. (0 < length found.0.items) × (found.1 < MAX_PAGES) × TakesPage st e from found.1 found.0.items)
+TakesNextPage st e from answer = MatchOption answer (IsAtEnd st e (Heap from)) (λ found. (0 < length found.0.items) × (found.1 < MOST_PAGES) × TakesPage st e from found.1 found.0.items)
 
 -- up to so many of that page, and the place behind them
 pub record TakesPart (st : State) (e : Session) (from : Tid) (most : ℕ) (rows : List Row) (to : Tid) : Type 0 where
@@ -128,7 +129,7 @@ abbrev pub TakesNext : State → Session → Cursor → ℕ → Option (Vec Row 
 TakesNext st e cursor n answer = MatchOption answer (IsAtCursor st e cursor → IsAtEnd st e cursor) (λ found. TakesSome st e cursor n found.0.items found.1)
 
 -- the session has handed out these rows, as its cursor takes them: that cursor alone moves, behind them
-pub record HandsOutBy (by : State → Session → Cursor → ℕ → List Row → Cursor → Type 0) (old new : State) (s n : ℕ) (rows : List Row) : Type 0 where
+pub record HandsOutBy (by : State → Session → Cursor → Count → List Row → Cursor → Type 0) (old new : State) (s : SessionNo) (n : Count) (rows : List Row) : Type 0 where
   pub session : Session
   pub there : session_at old s ≡ Some session
   pub before : Cursor

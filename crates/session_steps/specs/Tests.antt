@@ -6,7 +6,7 @@ use Rattle.visibility.specs.Visible.{IsVisible, IsOtherWriterIn, IsNewerCommitIn
 use Rattle.index_lookup.specs.Looking.{FirstPlace, SomeOf}
 use Rattle.heap_write.specs.Heap.{HeapView, slots_of}
 use Rattle.calls.specs.declared.reply.Refusal.{Refusal}
-use Rattle.calls.specs.declared.reply.Refusal.TheVariants.{AlreadyThere, NotThere, Conflict, Busy}
+use Rattle.calls.specs.declared.reply.Refusal.TheVariants as refusal
 use Rattle.session_steps.specs.declared.session.Session.{Session}
 use Rattle.session_steps.specs.State.{State, session_at}
 use Rattle.calls.specs.declared.step.TheConstants.{MOST_SESSIONS}
@@ -55,8 +55,8 @@ pub record IsHeld (st : State) (e : Session) (key o : ℕ) : Type 0 where
   pub owns : Contains other.own.ids id
 
 abbrev pub ConflictsWrite : State → Session → ℕ → Refusal → Type 0
-ConflictsWrite st e key Conflict = IsLateKey st e key
-ConflictsWrite st e key (Busy o) = IsHeld st e key o
+ConflictsWrite st e key refusal.Conflict = IsLateKey st e key
+ConflictsWrite st e key (refusal.Busy o) = IsHeld st e key o
 ConflictsWrite st e key refusal = ⊥
 
 -- the session may write the key, of which it reads this
@@ -73,14 +73,14 @@ pub record HasWriteConflict (st : State) (s key : ℕ) (found : Option Tid) (ref
 
 -- what keeps a session that may act from inserting a row of the key
 abbrev pub RefusesInsertOfKey : State → ℕ → ℕ → Refusal → Type 0
-RefusesInsertOfKey st s key AlreadyThere = (e : Session) × (p : Tid) × ReadsPlace st s e key (Some p)
-RefusesInsertOfKey st s key Conflict = HasWriteConflict st s key None Conflict
-RefusesInsertOfKey st s key (Busy o) = HasWriteConflict st s key None (Busy o)
+RefusesInsertOfKey st s key refusal.AlreadyThere = (e : Session) × (p : Tid) × ReadsPlace st s e key (Some p)
+RefusesInsertOfKey st s key refusal.Conflict = HasWriteConflict st s key None refusal.Conflict
+RefusesInsertOfKey st s key (refusal.Busy o) = HasWriteConflict st s key None (refusal.Busy o)
 RefusesInsertOfKey st s key refusal = ⊥
 
 -- what keeps it from changing the row of the key
 abbrev pub RefusesChangeOfKey : State → ℕ → ℕ → Refusal → Type 0
-RefusesChangeOfKey st s key NotThere = (e : Session) × ReadsPlace st s e key None
-RefusesChangeOfKey st s key Conflict = (p : Tid) × HasWriteConflict st s key (Some p) Conflict
-RefusesChangeOfKey st s key (Busy o) = (p : Tid) × HasWriteConflict st s key (Some p) (Busy o)
+RefusesChangeOfKey st s key refusal.NotThere = (e : Session) × ReadsPlace st s e key None
+RefusesChangeOfKey st s key refusal.Conflict = (p : Tid) × HasWriteConflict st s key (Some p) refusal.Conflict
+RefusesChangeOfKey st s key (refusal.Busy o) = (p : Tid) × HasWriteConflict st s key (Some p) (refusal.Busy o)
 RefusesChangeOfKey st s key refusal = ⊥

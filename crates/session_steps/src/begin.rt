@@ -45,7 +45,7 @@ impl SessionEngine {
         take_snapshot(
             self.alloc,
             self.heap.statuses().next(),
-            self.sessions.used(),
+            self.sessions.places_in_use(),
         )
     }
 
@@ -54,7 +54,7 @@ impl SessionEngine {
     pub(crate) fn begin(&mut self, s: u8) -> Result<Ack, Refusal>
         ensures { AnswersStep self.old (Step.Begin s) (reply_to result) self.new }
     {
-        match self.opened(s) {
+        match self.open_session(s) {
             Ok(_) => Err(Refusal::AlreadyOpen),
             Err(refusal) => match refusal {
                 Refusal::NotOpen => match self.snapshot() {

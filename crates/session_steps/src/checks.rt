@@ -75,7 +75,7 @@ impl SessionEngine {
             return (check.place, Err(Refusal::Conflict));
         }
         match check.other_writer {
-            Some(x) => match owner(self.sessions.used(), x) {
+            Some(x) => match owner(self.sessions.places_in_use(), x) {
                 Some(o) => (check.place, Err(Refusal::Busy(o))),
                 // each id in progress is an open session's
                 None => unreachable!(),

@@ -15,7 +15,7 @@ impl SessionEngine {
     pub(crate) fn commit(&mut self, s: u8) -> Result<Ack, Refusal>
         ensures { AnswersStep self.old (Step.Commit s) (reply_to result) self.new }
     {
-        if self.opened(s)?.failed {
+        if self.open_session(s)?.failed {
             self.close(s, Status::Aborted);
             Ok(Ack::RolledBack)
         } else {
@@ -28,7 +28,7 @@ impl SessionEngine {
     pub(crate) fn abort(&mut self, s: u8) -> Result<Ack, Refusal>
         ensures { AnswersStep self.old (Step.Abort s) (reply_to result) self.new }
     {
-        self.opened(s)?;
+        self.open_session(s)?;
         self.close(s, Status::Aborted);
         Ok(Ack::RolledBack)
     }

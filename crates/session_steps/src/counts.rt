@@ -20,7 +20,7 @@ impl SessionEngine {
         ensures { (n : ℕ) → CanGive self.now.heap.statuses n ↔ (n ≤ result) }
     {
         let statuses = self.heap.statuses();
-        statuses.is_window();
+        statuses.fact_window();
         let mut can = 0u32;
         let mut cannot = 2144483649u32;
         'halves: while can + 1 < cannot {

@@ -19,7 +19,7 @@ impl SessionEngine {
     {
         let session = self.sessions.open_mut(s);
         // an id of its levels is one of its own ids
-        session.own.are_prefixes();
+        session.own.fact_prefixes();
         write_answer(self.heap.delete(&mut session.own, place))
     }
 

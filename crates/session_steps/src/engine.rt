@@ -81,7 +81,7 @@ impl SessionEngine {
                 alloc,
                 first,
                 settings.stop_age,
-                settings.max_pages,
+                settings.most_pages,
                 settings.indexed,
             ),
             sessions,
@@ -124,7 +124,7 @@ impl SessionEngine {
     }
 
     /// The session, if it is open.
-    pub(crate) fn opened(&self, s: u8) -> Result<&Session, Refusal>
+    pub(crate) fn open_session(&self, s: u8) -> Result<&Session, Refusal>
         ensures { MatchResult result
             (λ e. (s < MOST_SESSIONS) × (session_at self.now s ≡ Some e.now))
             (λ refusal. BarsOpen (engine_sessions self.now) s refusal) }
@@ -145,7 +145,7 @@ impl SessionEngine {
             × (e.now.failed ≡ false))
             (λ refusal. BarsReady (engine_sessions self.now) s refusal) }
     {
-        let session = self.opened(s)?;
+        let session = self.open_session(s)?;
         if session.failed {
             return Err(Refusal::Failed);
         }

@@ -15,7 +15,7 @@ use tuple_header::RowPlace;
 use xid_circle::Tid;
 
 /// That there are no more places than rows fit into a list. It does nothing; its contract is the fact.
-fn are_few(places: &[RowPlace])
+fn fact_few(places: &[RowPlace])
     ensures { length places.now < 2 ^ 63 }
 {
     let _count = places.len();
@@ -34,7 +34,7 @@ impl SessionEngine {
             Ok(found) => found,
             Err(refusal) => return Err(refusal),
         };
-        are_few(places);
+        fact_few(places);
         let (count, after) = self.put_next(session, cursor, places);
         if count == 0 {
             return Ok(0);

@@ -44,7 +44,7 @@ impl SessionEngine {
     pub(crate) fn horizon(&self) -> Xid
         ensures { result.0 ≡ horizon_of self.now }
     {
-        horizon(self.heap.statuses().next(), self.sessions.used())
+        horizon(self.heap.statuses().next(), self.sessions.places_in_use())
     }
 
     /// Takes from the page what nobody can see any more. Refusals: NoSuchPage. It takes no memory.

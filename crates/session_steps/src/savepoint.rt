@@ -30,7 +30,7 @@ impl SessionEngine {
     pub(crate) fn rollback_to(&mut self, s: u8) -> Result<Ack, Refusal>
         ensures { AnswersStep self.old (Step.RollbackTo s) (reply_to result) self.new }
     {
-        let session = self.opened(s)?;
+        let session = self.open_session(s)?;
         if let Some(_) = session.cursor {
             return Err(Refusal::CursorOpen);
         }

@@ -72,7 +72,7 @@ impl Sessions {
     }
 
     /// The places that were used so far. Every open session has one of them.
-    pub(crate) fn used(&self) -> &[Option<Session>]
+    pub(crate) fn places_in_use(&self) -> &[Option<Session>]
         ensures { HoldsOpen result.now self.now }
     {
         &self.places[..self.used]

@@ -25,7 +25,7 @@ impl SessionEngine {
         ensures stays { is_vacuum_step step ≡ true
             → (reply.new ≡ reply.old) × (self.new ≡ self.old) }
     {
-        step.has_bounds();
+        step.fact_bounds();
         let answer = match step {
             Step::Get(s, key) => return self.get(s, key, reply),
             Step::Next(s, n) => return self.next_into(s, n, reply),
@@ -54,7 +54,7 @@ impl SessionEngine {
             (λ row. (m : OpenSession) × (w.session s ≡ Some m) × (row ≡ view w.history m key))
             (λ refusal. BarsOpen (world_sessions w) s refusal) }
     {
-        let session = self.opened(s)?;
+        let session = self.open_session(s)?;
         Ok(copy_of(self.heap.row(key, &self.reader(session))))
     }
 }

@@ -27,7 +27,7 @@ impl SessionEngine {
     {
         let session = self.sessions.open_mut(s);
         // an id of its levels is one of its own ids
-        session.own.are_prefixes();
+        session.own.fact_prefixes();
         write_answer(self.heap.update_on_page(&mut session.own, place, row))
     }
 
@@ -41,7 +41,7 @@ impl SessionEngine {
         let horizon = self.horizon();
         let session = self.sessions.open_mut(s);
         // an id of its levels is one of its own ids
-        session.own.are_prefixes();
+        session.own.fact_prefixes();
         write_answer(
             self.heap
                 .update_full_page(&mut session.own, place, row, horizon),

@@ -19,7 +19,7 @@ use vacuum_passes::Vacuum;
 use xid_circle::{Xid, precedes};
 
 /// The id given so long before the next one; a number that is no transaction's counts as 3.
-fn aged(next: Xid, age: u32) -> Xid
+fn id_before(next: Xid, age: u32) -> Xid
     ensures { result.0 ≡ aged next.0 age }
 {
     Xid(next.0.wrapping_sub(age).max(3))
@@ -30,7 +30,7 @@ fn aged(next: Xid, age: u32) -> Xid
 fn cutoff(first: Xid, next: Xid, horizon: Xid, age: u32) -> Xid
     ensures { result.0 ≡ cutoff_at first.0 next.0 horizon.0 age }
 {
-    let cutoff = earlier(horizon, aged(next, age));
+    let cutoff = earlier(horizon, id_before(next, age));
     if precedes(cutoff, first) {
         first
     } else {
@@ -42,7 +42,7 @@ fn cutoff(first: Xid, next: Xid, horizon: Xid, age: u32) -> Xid
 fn is_up_to_next(statuses: &StatusTable, x: Xid) -> bool
     ensures { IsTrue result ↔ IsUpToNext statuses.now x.0 }
 {
-    statuses.is_window();
+    statuses.fact_window();
     x.0 == statuses.next().0 || statuses.remembers(x)
 }
 
@@ -77,10 +77,10 @@ fn own_from(sessions: &[Option<Session>], cutoff: Xid) -> bool
 impl SessionEngine {
     /// That its settings are in their ranges, and its indexes are those that it was made with. It does nothing; its contract is the
     /// fact.
-    pub fn is_set_up(&self)
+    pub fn fact_set_up(&self)
         ensures { IsSetUp self.now }
     {
-        self.heap.has_indexes();
+        self.heap.fact_indexes();
         let _limit = self.settings.dead_limit();
     }
 
@@ -121,15 +121,15 @@ impl SessionEngine {
         ensures { IsTrue result ↔ MayForget self.now cutoff.0 }
     {
         let statuses = self.heap.statuses();
-        statuses.is_window();
-        is_up_to_next(statuses, cutoff) && own_from(self.sessions.used(), cutoff)
+        statuses.fact_window();
+        is_up_to_next(statuses, cutoff) && own_from(self.sessions.places_in_use(), cutoff)
     }
 
     /// Forgets the ids before the cutoff, where they can be forgotten, as they can at the end of each aggressive vacuum.
     pub fn forget(&mut self, cutoff: Xid)
         ensures { Forgets self.old self.new cutoff.0 }
     {
-        self.heap.statuses().is_window();
+        self.heap.statuses().fact_window();
         if self.may_forget(cutoff) {
             self.heap.forget(cutoff);
         }

@@ -4,7 +4,7 @@ use Rattle.std.specs.Prelude.{if◌then◌else◌}
 use Rattle.std.proofs.lemmas.Bool.Decides.{Decides-eqb}
 use Rattle.calls.specs.declared.step.Step.{Step}
 use Rattle.calls.specs.declared.reply.Reply.{Reply}
-use Rattle.calls.specs.declared.reply.Reply.TheVariants.{Done, Found, Committed, RolledBack, Rows, End, Worked, Ended, Refused}
+use Rattle.calls.specs.declared.reply.Reply.TheVariants as reply
 use Rattle.shared_heap.specs.Replies.{IsSame, is_busy_reply}
 use Rattle.shared_heap.specs.declared.line.WorkerLine.{WorkerLine}
 use Rattle.shared_heap.specs.Merge.{is_done_by, left_after, with_list, Merges, list_at, IsMerge}
@@ -57,23 +57,23 @@ left-done lists done worker line more reply is within next v = go (eqb v worker)
 
 -- whether a reply is Busy, where it is the same
 pub same-busy : (noted reply : Reply) → IsSame noted reply → is_busy_reply reply ≡ is_busy_reply noted
-same-busy Done reply same = ap is_busy_reply same
-same-busy (Found row) reply same = ap is_busy_reply same
-same-busy Committed reply same = ap is_busy_reply same
-same-busy RolledBack reply same = ap is_busy_reply same
-same-busy End reply same = ap is_busy_reply same
-same-busy (Worked piece) reply same = ap is_busy_reply same
-same-busy (Ended first) reply same = ap is_busy_reply same
-same-busy (Refused refusal) reply same = ap is_busy_reply same
-same-busy (Rows rows) (Rows others) same = refl
-same-busy (Rows rows) Done same = ap is_busy_reply same
-same-busy (Rows rows) (Found row) same = ap is_busy_reply same
-same-busy (Rows rows) Committed same = ap is_busy_reply same
-same-busy (Rows rows) RolledBack same = ap is_busy_reply same
-same-busy (Rows rows) End same = ap is_busy_reply same
-same-busy (Rows rows) (Worked piece) same = ap is_busy_reply same
-same-busy (Rows rows) (Ended first) same = ap is_busy_reply same
-same-busy (Rows rows) (Refused refusal) same = ap is_busy_reply same
+same-busy reply.Done reply same = ap is_busy_reply same
+same-busy (reply.Found row) reply same = ap is_busy_reply same
+same-busy reply.Committed reply same = ap is_busy_reply same
+same-busy reply.RolledBack reply same = ap is_busy_reply same
+same-busy reply.End reply same = ap is_busy_reply same
+same-busy (reply.Worked piece) reply same = ap is_busy_reply same
+same-busy (reply.Ended first) reply same = ap is_busy_reply same
+same-busy (reply.Refused refusal) reply same = ap is_busy_reply same
+same-busy (reply.Rows rows) (reply.Rows others) same = refl
+same-busy (reply.Rows rows) reply.Done same = ap is_busy_reply same
+same-busy (reply.Rows rows) (reply.Found row) same = ap is_busy_reply same
+same-busy (reply.Rows rows) reply.Committed same = ap is_busy_reply same
+same-busy (reply.Rows rows) reply.RolledBack same = ap is_busy_reply same
+same-busy (reply.Rows rows) reply.End same = ap is_busy_reply same
+same-busy (reply.Rows rows) (reply.Worked piece) same = ap is_busy_reply same
+same-busy (reply.Rows rows) (reply.Ended first) same = ap is_busy_reply same
+same-busy (reply.Rows rows) (reply.Refused refusal) same = ap is_busy_reply same
 
 -- what an entry does to a line, said of the reply that stands in the journal
 done-noted : (line : WorkerLine) (noted reply : Reply) → IsSame noted reply → is_done_by line noted ≡ is_done_by line reply

@@ -5,8 +5,8 @@ use Rattle.calls.specs.declared.settings.Settings.{Settings}
 use Rattle.calls.specs.declared.settings.SettingsFault.TheVariants as setting
 use Rattle.calls.specs.declared.step.Step.{Step}
 use Rattle.calls.specs.declared.reply.Reply.{Reply}
-use Rattle.calls.specs.declared.reply.Reply.TheVariants.{Refused}
-use Rattle.calls.specs.declared.reply.Refusal.TheVariants.{NoMemory}
+use Rattle.calls.specs.declared.reply.Reply.TheVariants as reply
+use Rattle.calls.specs.declared.reply.Refusal.TheVariants as refusal
 use Rattle.calls.specs.Words.{AreSettings, FirstFault}
 use Rattle.refinement.specs.Allowed.{IsRun, after}
 use Rattle.session_core.specs.declared.runs.RunFault.{RunFault}
@@ -60,7 +60,7 @@ pub record Appends (old : BookView) (step : Step) (reply : Reply) (new : BookVie
 
 -- or it was not stepped, and memory was refused
 abbrev pub Calls : BookView → Step → Reply → BookView → Type 0
-Calls old step reply new = Appends old step reply new ⊎ ((reply ≡ Refused NoMemory) × (new ≡ old))
+Calls old step reply new = Appends old step reply new ⊎ ((reply ≡ reply.Refused refusal.NoMemory) × (new ≡ old))
 
 -- a setting is the first out of its range, or all are in theirs and memory was refused
 abbrev pub FirstThreadsFault : Settings → RunFault → Type 0

@@ -15,7 +15,7 @@ abbrev pub left_after : WorkerLine → List WorkerLine → Reply → List Worker
 left_after line more reply = if is_done_by line reply then more else (line ∷ more)
 
 -- one worker has this left, the others what they had
-abbrev pub with_list : (ℕ → List WorkerLine) → ℕ → List WorkerLine → ℕ → List WorkerLine
+abbrev pub with_list : (left : ℕ → List WorkerLine) → (worker : ℕ) → List WorkerLine → (other : ℕ) → List WorkerLine
 with_list left worker lines other = if other == worker then lines else left other
 
 -- What is left of each worker's list, before and after these entries, where these are their workers: each entry is the step of its

@@ -3,8 +3,8 @@ use Rattle.std.specs.Prelude.{ℕ, ◌≡◌, ◌≤◌, Bool, true, false, leng
 use Rattle.history.specs.World.{World}
 use Rattle.calls.specs.declared.step.Step.{Step}
 use Rattle.calls.specs.declared.reply.Reply.{Reply}
-use Rattle.calls.specs.declared.reply.Reply.TheVariants.{Rows, Refused}
-use Rattle.calls.specs.declared.reply.Refusal.TheVariants.{Busy}
+use Rattle.calls.specs.declared.reply.Reply.TheVariants as reply
+use Rattle.calls.specs.declared.reply.Refusal.TheVariants as refusal
 use Rattle.vacuum_engine.specs.State.{EngineView}
 use Rattle.vacuum_engine.specs.Exact.{EngineExact}
 use Rattle.vacuum_engine.specs.Agrees.{EngineAgrees}
@@ -12,12 +12,12 @@ use Rattle.vacuum_engine.specs.Clauses.{EngineFollows}
 
 -- the same reply: a list of rows by its rows, wherever they are
 abbrev pub IsSame : Reply → Reply → Type 0
-IsSame (Rows rows) (Rows others) = others.items ≡ rows.items
+IsSame (reply.Rows rows) (reply.Rows others) = others.items ≡ rows.items
 IsSame reply other = other ≡ reply
 
 -- there is room for the reply's rows
 abbrev pub RowsFit : Reply → ℕ → Type 0
-RowsFit (Rows rows) room = length rows.items ≤ room
+RowsFit (reply.Rows rows) room = length rows.items ≤ room
 RowsFit reply room = Unit {0}
 
 -- there is room for any reply that an engine may give to the step
@@ -26,5 +26,5 @@ HasRoomFor step room = (w : World) (old new : EngineView) (reply : Reply) → En
     → EngineFollows old step reply new → EngineExact old step reply new → RowsFit reply room
 
 abbrev pub is_busy_reply : Reply → Bool
-is_busy_reply (Refused (Busy o)) = true
+is_busy_reply (reply.Refused (refusal.Busy o)) = true
 is_busy_reply reply = false

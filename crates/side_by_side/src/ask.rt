@@ -148,7 +148,7 @@ impl Ask {
     }
 
     /// The row that would be written, if it is a write of one.
-    pub fn written(self) -> Option<WrittenRow> {
+    pub fn row_to_write(self) -> Option<WrittenRow> {
         match self {
             Ask::Insert(_, written) | Ask::Update(_, written) => Some(written),
             _ => None,

@@ -8,7 +8,7 @@ use session_core::{Refusal, Reply, Row};
 use std::alloc::Global;
 
 // A refused step's reply. That the plain program has no memory says nothing of the engine.
-fn refused(why: Refusal) -> Option<Reply>
+fn reply_refused(why: Refusal) -> Option<Reply>
     ensures told { why ≢ Refusal.NoMemory → result ≡ Some (Reply.Refused why) }
     ensures memory { why ≡ Refusal.NoMemory → result ≡ None }
 {
@@ -18,41 +18,41 @@ fn refused(why: Refusal) -> Option<Reply>
     }
 }
 
-fn done(answered: Result<(), Refusal>) -> Option<Reply> {
+fn reply_done(answered: Result<(), Refusal>) -> Option<Reply> {
     match answered {
         Ok(()) => Some(Reply::Done),
-        Err(why) => refused(why),
+        Err(why) => reply_refused(why),
     }
 }
 
-fn found(answered: Result<Option<Row>, Refusal>) -> Option<Reply> {
+fn reply_found(answered: Result<Option<Row>, Refusal>) -> Option<Reply> {
     match answered {
         Ok(row) => Some(Reply::Found(row)),
-        Err(why) => refused(why),
+        Err(why) => reply_refused(why),
     }
 }
 
-fn ended(answered: Result<Outcome, Refusal>) -> Option<Reply> {
+fn reply_ended(answered: Result<Outcome, Refusal>) -> Option<Reply> {
     match answered {
         Ok(Outcome::Committed) => Some(Reply::Committed),
         Ok(Outcome::RolledBack) => Some(Reply::RolledBack),
-        Err(why) => refused(why),
+        Err(why) => reply_refused(why),
     }
 }
 
 fn rolled_back(answered: Result<(), Refusal>) -> Option<Reply> {
     match answered {
         Ok(()) => Some(Reply::RolledBack),
-        Err(why) => refused(why),
+        Err(why) => reply_refused(why),
     }
 }
 
-fn handed(answered: Result<Handed, Refusal>) -> Option<Reply> {
+fn reply_rows(answered: Result<Handed, Refusal>) -> Option<Reply> {
     match answered {
         Ok(Handed::Rows(rows)) => Some(Reply::Rows(rows)),
         Ok(Handed::Keys(_)) => None,
         Ok(Handed::End) => Some(Reply::End),
-        Err(why) => refused(why),
+        Err(why) => reply_refused(why),
     }
 }
 
@@ -68,7 +68,7 @@ fn answer_of_write(
             let _ = plain.get(s, 0);
             Some(Reply::Refused(Refusal::Busy(o)))
         }
-        Err(Refused::By(why)) => refused(why),
+        Err(Refused::By(why)) => reply_refused(why),
         Err(Refused::Deadlock) => None,
     }
 }
@@ -77,8 +77,8 @@ fn answer_of_write(
 /// the pruning of a page and the steps of a vacuum, of which the history knows nothing.
 pub(crate) fn answer(plain: &mut PlainHistory, bodies: &Bodies, ask: Ask) -> Option<Reply> {
     match ask {
-        Ask::Begin(s) => done(plain.begin(s)),
-        Ask::Get(s, key) => found(plain.get(s, key)),
+        Ask::Begin(s) => reply_done(plain.begin(s)),
+        Ask::Get(s, key) => reply_found(plain.get(s, key)),
         Ask::Insert(s, written) => {
             let answered = plain.insert(s, written.row(bodies));
             answer_of_write(plain, s, answered)
@@ -91,15 +91,15 @@ pub(crate) fn answer(plain: &mut PlainHistory, bodies: &Bodies, ask: Ask) -> Opt
             let answered = plain.delete(s, key);
             answer_of_write(plain, s, answered)
         }
-        Ask::Savepoint(s) => done(plain.savepoint(s)),
-        Ask::RollbackTo(s) => done(plain.roll_back_to(s)),
-        Ask::Release(s) => done(plain.release(s)),
-        Ask::Commit(s) => ended(plain.commit(s)),
+        Ask::Savepoint(s) => reply_done(plain.savepoint(s)),
+        Ask::RollbackTo(s) => reply_done(plain.roll_back_to(s)),
+        Ask::Release(s) => reply_done(plain.release(s)),
+        Ask::Commit(s) => reply_ended(plain.commit(s)),
         Ask::Abort(s) => rolled_back(plain.abort(s)),
-        Ask::OpenIndex(s, index, low, high) => done(plain.open_index(s, index, low, high)),
-        Ask::OpenHeap(s) => done(plain.open_heap(s)),
-        Ask::Next(s, count) => handed(plain.next(s, count)),
-        Ask::Close(s) => done(plain.close(s)),
+        Ask::OpenIndex(s, index, low, high) => reply_done(plain.open_index(s, index, low, high)),
+        Ask::OpenHeap(s) => reply_done(plain.open_heap(s)),
+        Ask::Next(s, count) => reply_rows(plain.next(s, count)),
+        Ask::Close(s) => reply_done(plain.close(s)),
         Ask::Prune(_) | Ask::VacuumBegin(_) | Ask::VacuumStep | Ask::VacuumCancel => None,
     }
 }
@@ -127,7 +127,7 @@ pub(crate) fn refused_or(plain: &mut PlainHistory, s: u8, refusal: Refusal) -> O
     // That the bounds are bad is seen last.
     match plain.open_index(s, 0, 1, 0) {
         Err(Refusal::BadBounds) => Some(Reply::Refused(refusal)),
-        Err(why) => refused(why),
+        Err(why) => reply_refused(why),
         Ok(()) => None,
     }
 }

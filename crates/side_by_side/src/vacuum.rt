@@ -13,7 +13,7 @@ pub(crate) struct RunningVacuum {
 }
 
 // The id given so long before the next one. The numbers 0, 1 and 2 count as ids that were given, and none of them is answered.
-fn aged(next: Xid, age: u32) -> Xid {
+fn id_before(next: Xid, age: u32) -> Xid {
     let id = Xid(next.0.wrapping_sub(age));
     if id.is_normal() {
         id
@@ -25,7 +25,7 @@ fn aged(next: Xid, age: u32) -> Xid {
 // The earlier of the horizon and of the id given so long ago, but none before the first that is remembered.
 fn cutoff_of(ids: (Xid, Xid), horizon: Xid, age: u32) -> Xid {
     let (next, first) = ids;
-    let cutoff = earlier(horizon, aged(next, age));
+    let cutoff = earlier(horizon, id_before(next, age));
     if cutoff.is_normal() && first.is_normal() && precedes(cutoff, first) {
         first
     } else {

@@ -171,7 +171,7 @@ impl OwnIds {
 
     /// What was there at each savepoint is a prefix of what was there at the next, and of what is there now. It does
     /// nothing: its contract is the law.
-    pub fn are_prefixes(&self)
+    pub fn fact_prefixes(&self)
         ensures prefixes { ArePrefixes self.now.ids self.now.saved }
         ensures few { length self.now.saved ≤ MOST_SAVEPOINTS }
     {

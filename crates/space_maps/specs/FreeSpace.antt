@@ -1,6 +1,7 @@
 -- The free space map of a table: a byte for each page, which says how many times the room on it holds 32 bytes, at most 255.
 -- (PostgreSQL's src/backend/storage/freespace/README: one byte, in units of a 256th of a page.)
 use Rattle.std.specs.Prelude.{◌*◌, ℕ, ◌/◌, ◌<◌, ◌≤◌, List, length, Option, Some, None, slice_index}
+use Rattle.xid_circle.specs.Numbers.{Count}
 use Rattle.space_maps.specs.declared.free_map.TheConstants.{GROUP}
 
 -- the map as its callers see it
@@ -20,7 +21,7 @@ pub record IsMap (tops bytes : List ℕ) : Type 0 where
   pub noted : AreTops tops bytes
 
 -- all bytes of these numbers are below this one
-abbrev pub NoByte : List ℕ → ℕ → ℕ → ℕ → Type 0
+abbrev pub NoByte : (bytes : List ℕ) → (from to : Count) → (least : ℕ) → Type 0
 NoByte bytes from to least = (k : ℕ) → from ≤ k → k < to → slice_index bytes k < least
 
 -- what the map remembers of its last look-up: all bytes before that of this page are below this one
@@ -29,14 +30,14 @@ pub record IsPassed (bytes : List ℕ) (before least : ℕ) : Type 0 where
   pub none : NoByte bytes 0 before least
 
 -- the first of these numbers whose byte isn't below this one
-pub record IsNextByte (bytes : List ℕ) (from to least n : ℕ) : Type 0 where
+pub record IsNextByte (bytes : List ℕ) (from to : Count) (least : ℕ) (n : Count) : Type 0 where
   pub after : from ≤ n
   pub below : n < to
   pub enough : least ≤ slice_index bytes n
   pub none : NoByte bytes from n least
 
 -- that one, if there is one
-abbrev pub FindsNextByte : List ℕ → ℕ → ℕ → ℕ → Option ℕ → Type 0
+abbrev pub FindsNextByte : (bytes : List ℕ) → (from to : Count) → (least : ℕ) → Option Count → Type 0
 FindsNextByte bytes from to least None = NoByte bytes from to least
 FindsNextByte bytes from to least (Some n) = IsNextByte bytes from to least n
 

@@ -1,6 +1,7 @@
 -- The indexes of a table by their numbers: index 0 by key, which is always in use, and index c + 1 by column c. (README.HOT:
 -- there is one entry for a chain, in each index; a version that has another value in one of them is a root of its own.)
 use Rattle.std.specs.Prelude.{◌≡◌, ℕ, zero, suc, ◌+◌, ◌<◌, length, Bool, false, if◌then◌else◌, List, [], Option, Some, None, IsSome, ℤ, option_map, unwrap_or, slice_index_or}
+use Rattle.xid_circle.specs.Numbers.{IndexNo, Count}
 use Rattle.xid_circle.specs.declared.Tid.{Tid}
 use Rattle.tuple_header.specs.declared.version.Row.{Row}
 use Rattle.index_nodes.specs.declared.entry.Entry.{Entry}
@@ -44,7 +45,7 @@ pub record IsNextIndex (indexes : List (Option IndexView)) (i j : ℕ) : Type 0 
   pub none_between : (n : ℕ) → i < n → n < j → ¬ IsInUse indexes n
 
 -- how many entries so many indexes have, counted from n, and all five that there may be
-abbrev pub entries_from : List (Option IndexView) → ℕ → ℕ → ℕ
+abbrev pub entries_from : List (Option IndexView) → IndexNo → (many : Count) → Count
 entries_from indexes n zero = 0
 entries_from indexes n (suc count) = length (entries_in indexes n) + entries_from indexes (suc n) count
 

@@ -75,7 +75,7 @@ impl Indexes {
     }
 
     /// That index 0 is in use, and at most five are. It does nothing; its contract is the fact.
-    pub fn are_few(&self)
+    pub fn fact_few(&self)
         ensures { HasIndexes self.now }
     {
         let _columns = &self.by_column;
@@ -86,7 +86,7 @@ impl Indexes {
         ensures { MatchOption result ((n : ℕ) → number < n → ¬ IsInUse self.now n)
             (λ next. IsNextIndex self.now number next) }
     {
-        self.are_few();
+        self.fact_few();
         for next in number.saturating_add(1)..5 {
             if self.get(next).is_some() {
                 return Some(next);

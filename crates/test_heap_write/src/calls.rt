@@ -75,18 +75,18 @@ fn parts(entry: Option<Entry>) -> Option<Parts> {
 }
 
 /// A table without rows, whose first id is 3.
-pub fn empty(alloc: Global, stop_age: u16, max_pages: u16, indexed: [bool; 4]) -> HeapState {
+pub fn empty(alloc: Global, stop_age: u16, most_pages: u16, indexed: [bool; 4]) -> HeapState {
     HeapState::new(
         alloc,
         Xid(3),
         u32::from(stop_age),
-        u32::from(max_pages),
+        u32::from(most_pages),
         indexed,
     )
 }
 
 /// What one sees that begins when this id is the next.
-pub fn begun(alloc: Global, next: u32) -> Snapshot {
+pub fn snapshot_at(alloc: Global, next: u32) -> Snapshot {
     Snapshot::empty(alloc, normal(next))
 }
 
@@ -178,7 +178,7 @@ pub fn free(heap: &mut HeapState, place: Place) {
 pub fn sweeps(heap: &mut HeapState, place: Place) -> bool {
     let mut dead = DeadSet::new();
     dead.insert(tid(place));
-    heap.has_indexes();
+    heap.fact_indexes();
     let near = PositionHint::default();
     matches!(heap.sweep(0, &dead, None, near).0, Progress::Done)
 }

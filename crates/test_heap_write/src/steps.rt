@@ -142,14 +142,15 @@ impl HeapStep {
     fn is_read(self, alloc: Global, heap: &HeapState, own: &OwnIds) -> bool {
         match self {
             HeapStep::WriteCheck(key, next, told) => {
-                check_write(heap, key, &begun(alloc, next), own) == told
+                check_write(heap, key, &snapshot_at(alloc, next), own) == told
             }
-            HeapStep::First(key, next, told) => first(heap, key, &begun(alloc, next), own) == told,
+            HeapStep::First(key, next, told) => first(heap, key, &snapshot_at(alloc, next), own)
+                == told,
             HeapStep::RowAt(place, next, told) => {
-                row_at(heap, place, &begun(alloc, next), own) == told
+                row_at(heap, place, &snapshot_at(alloc, next), own) == told
             }
             HeapStep::Walk(next, part, rows) => {
-                walks(heap, part, &begun(alloc, next), own, rows)
+                walks(heap, part, &snapshot_at(alloc, next), own, rows)
             }
             _ => self.is_seen(heap, own),
         }
@@ -229,8 +230,8 @@ fn first_wrong(
 pub type Settings = (u16, u16, [bool; 4]);
 
 fn wrong_from_empty(alloc: Global, settings: Settings, lines: &[Line]) -> Option<usize> {
-    let (stop_age, max_pages, indexed) = settings;
-    let mut heap = empty(alloc, stop_age, max_pages, indexed);
+    let (stop_age, most_pages, indexed) = settings;
+    let mut heap = empty(alloc, stop_age, most_pages, indexed);
     let mut sessions = [
         OwnIds::new(alloc),
         OwnIds::new(alloc),

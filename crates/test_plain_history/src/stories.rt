@@ -53,14 +53,14 @@ fn row(key: u64, value: i64) -> Row {
     }
 }
 
-fn done(answered: Result<(), Refusal>) -> Answer {
+fn answer_done(answered: Result<(), Refusal>) -> Answer {
     match answered {
         Ok(()) => Answer::Done,
         Err(why) => Answer::Refused(why),
     }
 }
 
-fn written(answered: Result<(), Refused>) -> Answer {
+fn answer_write(answered: Result<(), Refused>) -> Answer {
     match answered {
         Ok(()) => Answer::Done,
         Err(Refused::By(why)) => Answer::Refused(why),
@@ -68,7 +68,7 @@ fn written(answered: Result<(), Refused>) -> Answer {
     }
 }
 
-fn found(answered: Result<Option<Row>, Refusal>) -> Answer {
+fn answer_found(answered: Result<Option<Row>, Refusal>) -> Answer {
     match answered {
         Ok(Some(row)) => Answer::Found(row.key, row.cols[0]),
         Ok(None) => Answer::NoRow,
@@ -76,7 +76,7 @@ fn found(answered: Result<Option<Row>, Refusal>) -> Answer {
     }
 }
 
-fn ended(answered: Result<Outcome, Refusal>) -> Answer {
+fn answer_ended(answered: Result<Outcome, Refusal>) -> Answer {
     match answered {
         Ok(outcome) => Answer::Ended(outcome),
         Err(why) => Answer::Refused(why),
@@ -103,7 +103,7 @@ fn three_of(keys: &[u64]) -> [u64; 3] {
     three
 }
 
-fn handed(answered: Result<Handed, Refusal>) -> Answer {
+fn answer_rows(answered: Result<Handed, Refusal>) -> Answer {
     match answered {
         Ok(Handed::Rows(rows)) => Answer::Rows(three_of_rows(&rows)),
         Ok(Handed::Keys(keys)) => Answer::Keys(three_of(&keys)),
@@ -135,23 +135,25 @@ fn releases(history: &mut PlainHistory, s: u8, count: usize) -> Answer {
 // What the call is answered.
 fn answer_to(history: &mut PlainHistory, call: Call) -> Answer {
     match call {
-        Call::Begin(s) => done(history.begin(s)),
-        Call::Get(s, key) => found(history.get(s, key)),
-        Call::Insert(s, key, value) => written(history.insert(s, row(key, value))),
-        Call::Update(s, key, value) => written(history.update(s, row(key, value))),
-        Call::Delete(s, key) => written(history.delete(s, key)),
-        Call::Savepoint(s) => done(history.savepoint(s)),
+        Call::Begin(s) => answer_done(history.begin(s)),
+        Call::Get(s, key) => answer_found(history.get(s, key)),
+        Call::Insert(s, key, value) => answer_write(history.insert(s, row(key, value))),
+        Call::Update(s, key, value) => answer_write(history.update(s, row(key, value))),
+        Call::Delete(s, key) => answer_write(history.delete(s, key)),
+        Call::Savepoint(s) => answer_done(history.savepoint(s)),
         Call::Savepoints(s, count) => savepoints(history, s, count),
-        Call::RollBackTo(s) => done(history.roll_back_to(s)),
-        Call::Release(s) => done(history.release(s)),
+        Call::RollBackTo(s) => answer_done(history.roll_back_to(s)),
+        Call::Release(s) => answer_done(history.release(s)),
         Call::Releases(s, count) => releases(history, s, count),
-        Call::Commit(s) => ended(history.commit(s)),
-        Call::Abort(s) => done(history.abort(s)),
-        Call::OpenIndex(s, index, low, high) => done(history.open_index(s, index, low, high)),
-        Call::OpenHeap(s) => done(history.open_heap(s)),
-        Call::OpenKeys(s, low, high) => done(history.open_keys(s, low, high)),
-        Call::Next(s, n) => handed(history.next(s, n)),
-        Call::Close(s) => done(history.close(s)),
+        Call::Commit(s) => answer_ended(history.commit(s)),
+        Call::Abort(s) => answer_done(history.abort(s)),
+        Call::OpenIndex(s, index, low, high) => answer_done(history.open_index(
+            s, index, low, high,
+        )),
+        Call::OpenHeap(s) => answer_done(history.open_heap(s)),
+        Call::OpenKeys(s, low, high) => answer_done(history.open_keys(s, low, high)),
+        Call::Next(s, n) => answer_rows(history.next(s, n)),
+        Call::Close(s) => answer_done(history.close(s)),
     }
 }
 

@@ -80,7 +80,7 @@ fn freeze_min_age_of(run: u64) -> u32 {
 fn settings_of(run: u64) -> Settings {
     Settings {
         // The session that makes many levels keeps old rows from being pruned.
-        max_pages: if is_nested(run) {
+        most_pages: if is_nested(run) {
             8
         } else {
             1 + (run % 4) as u32
@@ -136,7 +136,7 @@ fn draw_ask(generator: &mut Generator, pair: &mut Pair, run: u64) -> Ask {
     let key = draw_key(generator);
     let standing = pair.standing(s, key);
     let has_cursor = pair.has_cursor(s);
-    let pages = settings_of(run).max_pages;
+    let pages = settings_of(run).most_pages;
     draw_step(generator, s, key, standing, has_cursor, pages)
 }
 
@@ -171,7 +171,7 @@ impl Run {
         })
     }
 
-    fn failed(&self, ask: Option<Ask>, difference: Difference) -> Failure {
+    fn failure(&self, ask: Option<Ask>, difference: Difference) -> Failure {
         Failure {
             step: self.step,
             ask,
@@ -204,7 +204,7 @@ impl Run {
         let slots = self.pair.slots();
         match self.pair.step(alloc, bodies, ask) {
             Ok(reply) => self.count(counts, ask, &reply, slots),
-            Err(difference) => return Err(self.failed(Some(ask), difference)),
+            Err(difference) => return Err(self.failure(Some(ask), difference)),
         }
         self.step = self.step.saturating_add(1);
         Ok(())
@@ -213,11 +213,11 @@ impl Run {
     // Compares what all sessions read, and looks at the maps and the indexes.
     fn compare(&mut self, sessions: &[u8]) -> Result<(), Failure> {
         if let Err(difference) = self.pair.compare_views(sessions) {
-            return Err(self.failed(None, difference));
+            return Err(self.failure(None, difference));
         }
         match self.pair.look() {
             Ok(()) => Ok(()),
-            Err(difference) => Err(self.failed(None, difference)),
+            Err(difference) => Err(self.failure(None, difference)),
         }
     }
 
@@ -270,7 +270,7 @@ impl Run {
         }
         self.do_step(alloc, bodies, counts, Ask::Begin(0))?;
         if let Err(difference) = self.pair.compare_bare(0) {
-            return Err(self.failed(None, difference));
+            return Err(self.failure(None, difference));
         }
         self.compare(&[0])?;
         self.do_step(alloc, bodies, counts, Ask::Commit(0))
@@ -309,7 +309,7 @@ impl Run {
     }
 
     fn count_pages(&self, counts: &mut Counts) {
-        for number in 0..settings_of(self.number).max_pages {
+        for number in 0..settings_of(self.number).most_pages {
             if let Some(page) = self.pair.page(number) {
                 counts.add_page(page, number);
             }
@@ -323,7 +323,7 @@ impl Run {
                 counts.add_views(views);
                 Ok(())
             }
-            Err(difference) => Err(self.failed(None, difference)),
+            Err(difference) => Err(self.failure(None, difference)),
         }
     }
 }

@@ -13,7 +13,7 @@ struct Growing {
     answers: Vec<u8>,
 }
 
-fn begun(alloc: Global) -> Result<Growing, AllocError> {
+fn begin_growing(alloc: Global) -> Result<Growing, AllocError> {
     let mut script = Vec::new(alloc);
     script.extend_from_slice(b"heap 4 1000 0 3 64 0000\n")?;
     Ok(Growing {
@@ -58,8 +58,8 @@ fn add_page(
 }
 
 // Three pages of keys, of which the first is deleted; a vacuum begins, and visits them.
-fn visited(alloc: Global) -> Result<Growing, AllocError> {
-    let mut to = begun(alloc)?;
+fn visit_first_page(alloc: Global) -> Result<Growing, AllocError> {
+    let mut to = begin_growing(alloc)?;
     add_keys(alloc, &mut to, 1, 300)?;
     add_page(alloc, &mut to, 0, 0, 107)?;
     add_page(alloc, &mut to, 1, 107, 107)?;
@@ -86,7 +86,7 @@ fn add_pieces(to: &mut Growing, leaves: usize) -> Result<(), AllocError> {
 }
 
 // Fails if the script is answered otherwise.
-fn answered(alloc: Global, to: &Growing) -> Result<(), Fail> {
+fn check_answers(alloc: Global, to: &Growing) -> Result<(), Fail> {
     let mut reader = to.script.as_slice();
     let mut answers: Vec<u8> = Vec::new(alloc);
     let (ended, _) = run_script(alloc, &mut reader, &mut answers);
@@ -98,19 +98,19 @@ fn answered(alloc: Global, to: &Growing) -> Result<(), Fail> {
 
 #[test]
 fn index_in_four_pieces(rt: HostRuntime) -> Result<(), Fail> {
-    let mut to = visited(rt.alloc())?;
+    let mut to = visit_first_page(rt.alloc())?;
     add_pieces(&mut to, 4)?;
     add(&mut to, b"vacuum step\nvacuum step\n", b"free 0\nended 3\n")?;
-    answered(rt.alloc(), &to)
+    check_answers(rt.alloc(), &to)
 }
 
 // The last leaf splits while the vacuum has gone through the first alone: its halves are two pieces.
 #[test]
 fn split_between_two_pieces(rt: HostRuntime) -> Result<(), Fail> {
-    let mut to = visited(rt.alloc())?;
+    let mut to = visit_first_page(rt.alloc())?;
     add_pieces(&mut to, 1)?;
     add_keys(rt.alloc(), &mut to, 301, 321)?;
     add_pieces(&mut to, 4)?;
     add(&mut to, b"vacuum step\nvacuum step\n", b"free 0\nended 3\n")?;
-    answered(rt.alloc(), &to)
+    check_answers(rt.alloc(), &to)
 }

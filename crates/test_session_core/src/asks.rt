@@ -334,7 +334,7 @@ fn shows(engine: &Engine, ask: Ask, answer: Answer) -> bool {
 }
 
 // What is shown of an engine beside its replies: the next id, the oldest, and how often the first page was changed.
-fn shown(engine: &Engine) -> (u32, u32, Option<u64>) {
+fn state_of(engine: &Engine) -> (u32, u32, Option<u64>) {
     let (next, oldest) = engine.ids();
     (next.0, oldest.0, engine.page(0).map(Page::change))
 }
@@ -350,7 +350,7 @@ fn take(engine: &mut Engine, step: Step) -> Reply {
 // The reply to what is asked, if it is a step, and nothing where a refused growth changed something. What met the refusal of
 // a growth is asked for again.
 fn reply_to(alloc: Global, engine: &mut Engine, ask: Ask) -> Result<Option<Reply>, AllocError> {
-    let before = shown(engine);
+    let before = state_of(engine);
     let first = match step_anyhow(alloc, ask)? {
         Some(step) => step,
         None => return Ok(None),
@@ -359,7 +359,7 @@ fn reply_to(alloc: Global, engine: &mut Engine, ask: Ask) -> Result<Option<Reply
     if !is_no_memory(&reply) {
         return Ok(Some(reply));
     }
-    if !may_grow(ask) || shown(engine) != before {
+    if !may_grow(ask) || state_of(engine) != before {
         return Ok(None);
     }
     match step_anyhow(alloc, ask)? {

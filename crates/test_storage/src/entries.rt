@@ -52,7 +52,7 @@ fn parts(entry: Entry) -> Parts {
 }
 
 /// The entry of this key, of the same value and for the page of this number.
-fn numbered(key: u32) -> Entry {
+fn entry_of_key(key: u32) -> Entry {
     entry((i128::from(key), u64::from(key), key, 1))
 }
 
@@ -60,7 +60,7 @@ fn numbered(key: u32) -> Entry {
 const SHARED: Tid = Tid { page: 7, slot: 7 };
 
 /// The entry of this key, of the same value and with one place for all.
-fn shared(key: u32) -> Entry {
+fn entry_at_one_place(key: u32) -> Entry {
     entry((i128::from(key), u64::from(key), SHARED.page, SHARED.slot))
 }
 
@@ -76,7 +76,7 @@ fn insert_run(
     stride: u16,
 ) -> Result<(), AllocError> {
     for number in 0..count {
-        index.insert(numbered(key_of(first, number, stride)))?;
+        index.insert(entry_of_key(key_of(first, number, stride)))?;
     }
     Ok(())
 }
@@ -88,7 +88,7 @@ fn insert_shared(
     stride: u16,
 ) -> Result<(), AllocError> {
     for number in 0..count {
-        index.insert(shared(key_of(first, number, stride)))?;
+        index.insert(entry_at_one_place(key_of(first, number, stride)))?;
     }
     Ok(())
 }
@@ -158,10 +158,10 @@ fn hold_below(index: &RootIndex, limit: u32) -> bool {
     let mut near = PositionHint::default();
     for key in 0..limit {
         match index.next_near(last, near) {
-            Some((entry, place)) if entry == numbered(key) => near = place,
+            Some((entry, place)) if entry == entry_of_key(key) => near = place,
             _ => return false,
         }
-        last = numbered(key);
+        last = entry_of_key(key);
     }
     index.next_near(last, near).is_none() && index.len() == u64::from(limit)
 }
@@ -430,6 +430,6 @@ fn promised_entries_take_no_memory(rt: HostRuntime) -> Result<(), Fail> {
 
 #[test]
 fn laws(rt: HostRuntime) {
-    RootIndex::new(rt.alloc()).is_ascending();
+    RootIndex::new(rt.alloc()).fact_ascending();
     members_determine();
 }

@@ -25,7 +25,7 @@ fn row(key: u64, cols: [i64; 4], length: usize) -> Row {
 
 fn first() -> Tuple {
     Tuple {
-        header: Header::inserted(Xid(3), Tid { page: 0, slot: 1 }),
+        header: Header::new(Xid(3), Tid { page: 0, slot: 1 }),
         row: row(1, [5, 0, 0, 0], 0),
     }
 }
@@ -37,7 +37,7 @@ fn high() -> Tuple {
         slot: 258,
     };
     Tuple {
-        header: Header::inserted(Xid(3), place),
+        header: Header::new(Xid(3), place),
         row: row(1, [5, 0, 0, -2], 1),
     }
 }
@@ -85,7 +85,7 @@ fn bytes_of_versions(rt: HostRuntime) {
     reads_back();
 }
 
-fn decoded(bytes: &[u8]) -> Result<Tuple, TupleFault> {
+fn decode_row(bytes: &[u8]) -> Result<Tuple, TupleFault> {
     decode(bytes)
 }
 
@@ -114,7 +114,7 @@ fn first_other(changes: &[(usize, u8, TupleFault)]) -> Option<usize> {
     let mut bytes = FIRST;
     for (place, value, fault) in changes {
         put(&mut bytes, *place, *value);
-        if decoded(&bytes) != Err(*fault) {
+        if decode_row(&bytes) != Err(*fault) {
             return Some(*place);
         }
     }
@@ -134,8 +134,8 @@ static FAULTS: [(usize, u8, TupleFault); 7] = [
 
 #[test]
 fn bytes_are_read_or_a_fault_is_named(rt: HostRuntime) {
-    assert_eq!(rt; decoded(&FIRST), Ok(first()));
-    assert_eq!(rt; decoded(&FIRST[..65]), Err(Length));
+    assert_eq!(rt; decode_row(&FIRST), Ok(first()));
+    assert_eq!(rt; decode_row(&FIRST[..65]), Err(Length));
     assert_eq!(rt; first_other(&CHANGES), None);
     for change in &FAULTS {
         assert_eq!(rt; first_other(&[*change]), None);

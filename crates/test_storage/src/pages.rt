@@ -2,7 +2,7 @@
 
 use crate::steps::{Step, run};
 use arrayvec::ArrayVec;
-use heap_pages::{MAX_PAGES, Pages, Placement, free_byte};
+use heap_pages::{MOST_PAGES, Pages, Placement, free_byte};
 use page_slots::Page;
 use std::alloc::{AllocError, Global};
 use std::test::Fail;
@@ -41,7 +41,7 @@ fn version_of(length: usize) -> Tuple {
         let _ = body.try_push(7);
     }
     Tuple {
-        header: Header::inserted(Xid(3), Tid { page: 0, slot: 1 }),
+        header: Header::new(Xid(3), Tid { page: 0, slot: 1 }),
         row: Row {
             key: 1,
             cols: [0; 4],
@@ -61,7 +61,7 @@ fn page_of(alloc: Global, versions: u8) -> Result<Page, AllocError> {
 
 fn push(pages: &mut Pages, page: Page) -> Result<(), AllocError> {
     pages.make_room(1)?;
-    if pages.len() < MAX_PAGES {
+    if pages.len() < MOST_PAGES {
         pages.push_page(page);
     }
     Ok(())

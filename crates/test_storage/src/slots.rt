@@ -53,7 +53,7 @@ fn version(key: u8, length: usize) -> Tuple {
         let _ = body.try_push(key);
     }
     Tuple {
-        header: Header::inserted(Xid(3), Tid { page: 0, slot: 1 }),
+        header: Header::new(Xid(3), Tid { page: 0, slot: 1 }),
         row: Row {
             key: u64::from(key),
             cols: [5, 0, -1, -2],
@@ -91,9 +91,9 @@ fn set_redirect(page: &mut Page, number: u16, target: u16) {
     }
 }
 
-fn taken(page: &Page, number: u16) -> Option<usize> {
+fn version_size(page: &Page, number: u16) -> Option<usize> {
     if 1 <= number && number <= page.slots() {
-        Some(page.taken(number))
+        Some(page.version_size(number))
     } else {
         None
     }
@@ -179,7 +179,7 @@ impl PageStep {
         match self {
             PageStep::Room(room) => page.room() == room,
             PageStep::FreeBytes(bytes) => page.free_bytes() == bytes,
-            PageStep::Taken(number, bytes) => taken(page, number) == Some(bytes),
+            PageStep::Taken(number, bytes) => version_size(page, number) == Some(bytes),
             PageStep::FreeNumber(number) => page.free_number() == number,
             PageStep::NextUnlike(from, inserter, next) => page.next_unlike(from, inserter) == next,
             PageStep::Change(change) => page.change() == change,

@@ -189,7 +189,7 @@ fn tops(rt: HostRuntime) -> Result<(), Fail> {
 #[test]
 fn laws(rt: HostRuntime) {
     let statuses = window(rt.alloc(), Xid(4294967294), 1000);
-    statuses.is_window();
+    statuses.fact_window();
     places_are_turns();
     tops_are_topmost();
 }

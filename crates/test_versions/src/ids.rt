@@ -88,6 +88,6 @@ pub fn owner(alloc: Global, x: u32) -> OwnIds {
 }
 
 /// What one sees that begins when this id is the next.
-pub fn begun(alloc: Global, next: u32) -> Snapshot {
+pub fn snapshot_at(alloc: Global, next: u32) -> Snapshot {
     Snapshot::empty(alloc, normal(next))
 }

@@ -3,11 +3,11 @@
 ghost use Rattle.std.specs.Prelude.{IfSome};
 ghost use Rattle.index_lookup.specs.Looking.{IsFirstOf};
 
-use crate::ids::{begun, finish, owner, reader, table_of};
+use crate::ids::{finish, owner, reader, snapshot_at, table_of};
 use crate::stage::{insert, update};
 use arrayvec::ArrayVec;
 use commit_status::{Status, StatusTable};
-use heap_pages::{MAX_PAGES, Pages};
+use heap_pages::{MOST_PAGES, Pages};
 use index_lookup::{TableView, WriteCheck, check_write, place_from, place_of, row_from, row_of};
 use page_slots::Page;
 use root_index::{Entry, PositionHint, RootIndex};
@@ -71,7 +71,7 @@ fn page_of(alloc: Global, number: u32, rows: &[(u32, u64, i64)]) -> Page {
 }
 
 fn add_page(pages: &mut Pages, page: Page) {
-    if pages.make_room(1).is_ok() && pages.len() < MAX_PAGES {
+    if pages.make_room(1).is_ok() && pages.len() < MOST_PAGES {
         pages.push_page(page);
     }
 }
@@ -128,7 +128,7 @@ fn pair(place: Option<Tid>) -> Option<(u32, u16)> {
 /// The place and the first column of the row of a key, and both from the first entry of the key.
 type Seen = (Option<(u32, u16)>, Option<i64>);
 
-fn seen(table: &TableView<'_>, key: u64, reader: &Reader<'_>) -> Seen {
+fn look(table: &TableView<'_>, key: u64, reader: &Reader<'_>) -> Seen {
     let value = i128::from(key);
     let place = place_of(table, value, key, reader);
     let row = row_of(table, value, key, reader);
@@ -161,13 +161,13 @@ fn finds(
     found: Found,
 ) -> bool {
     let statuses = statuses(alloc);
-    let snapshot = begun(alloc, next);
+    let snapshot = snapshot_at(alloc, next);
     let own = owner(alloc, own);
     let reader = reader(&snapshot, &own, &statuses);
     let table = TableView { pages, index };
     let (place, column, newer_commit, other_writer) = found;
     let check = write_check(&table, key, &reader);
-    seen(&table, key, &reader) == (place, column)
+    look(&table, key, &reader) == (place, column)
         && seen_from_first(&table, key, &reader) == (place, column)
         && pair(check.place) == place
         && check.newer_commit == newer_commit

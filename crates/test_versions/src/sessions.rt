@@ -1,6 +1,6 @@
 //! Steps of a session: its ids, its savepoints, and what is seen beside it.
 
-use crate::ids::{add_id, begun, finish, next_id, nobody, none_wrong, table_of};
+use crate::ids::{add_id, finish, next_id, nobody, none_wrong, snapshot_at, table_of};
 use commit_status::{Status, StatusTable};
 use snapshot::{OwnIds, SaveFault, Snapshot};
 use std::alloc::{AllocError, Global};
@@ -110,7 +110,7 @@ fn finish_all(statuses: &mut StatusTable, first: u32, last: u32, status: Status)
 }
 
 fn beside(alloc: Global, statuses: &StatusTable, own: &OwnIds) -> Result<Snapshot, AllocError> {
-    let mut snapshot = begun(alloc, next_id(statuses));
+    let mut snapshot = snapshot_at(alloc, next_id(statuses));
     snapshot.add_transaction(own)?;
     Ok(snapshot)
 }
@@ -198,7 +198,7 @@ impl SessionStep {
             SessionStep::TakeBeside => {
                 session.snapshot = beside(alloc, &session.statuses, &session.own)?;
             }
-            SessionStep::Take => session.snapshot = begun(alloc, next_id(&session.statuses)),
+            SessionStep::Take => session.snapshot = snapshot_at(alloc, next_id(&session.statuses)),
             _ => return Ok(self.is_given(session)),
         }
         Ok(true)
@@ -209,7 +209,7 @@ fn new_session(alloc: Global, first: u32) -> Session {
     Session {
         statuses: table_of(alloc, first, 0),
         own: nobody(alloc),
-        snapshot: begun(alloc, first),
+        snapshot: snapshot_at(alloc, first),
     }
 }
 

@@ -76,7 +76,7 @@ fn the_earlier_of_two_ids(rt: HostRuntime) {
 
 #[test]
 fn laws(rt: HostRuntime) {
-    nobody(rt.alloc()).are_prefixes();
+    nobody(rt.alloc()).fact_prefixes();
     open_is_unseen();
     later_is_unseen();
     finished_is_seen();

@@ -4,8 +4,8 @@ ghost use Rattle.std.specs.Prelude.{◌≤◌, ◌<◌, IsTrue};
 ghost use Rattle.page_slots.specs.Slots.{room_of};
 ghost use Rattle.tuple_header.specs.Version.{rounded_size_of};
 
-use crate::ids::{begun, finish, next_id, none_wrong, normal, owner, reader, table_of};
-use crate::verdicts::{fate_at, hinted, reads_id, sees};
+use crate::ids::{finish, next_id, none_wrong, normal, owner, reader, snapshot_at, table_of};
+use crate::verdicts::{fate_at, mask_with_hints, reads_id, sees};
 use arrayvec::ArrayVec;
 use commit_status::{Status, StatusTable};
 use freeze::{all_frozen, all_visible, freeze_page};
@@ -260,16 +260,16 @@ fn has_chain(page: &Page, number: u16, statuses: &StatusTable, slots: &[u16]) ->
         && chain(page, number, statuses).as_slice() == slots
 }
 
-fn fetched(alloc: Global, page: &Page, number: u16, statuses: &StatusTable) -> Option<(u32, u32)> {
+fn fetch_on(alloc: Global, page: &Page, number: u16, statuses: &StatusTable) -> Option<(u32, u32)> {
     let own = owner(alloc, 3);
-    let snapshot = begun(alloc, next_id(statuses));
+    let snapshot = snapshot_at(alloc, next_id(statuses));
     let header = fetch(page, number, &reader(&snapshot, &own, statuses))?.header;
     Some((header.xmin.0, header.xmax.0))
 }
 
 fn first_of(alloc: Global, page: &Page, number: u16, statuses: &StatusTable) -> Option<u16> {
     let own = owner(alloc, 3);
-    let snapshot = begun(alloc, next_id(statuses));
+    let snapshot = snapshot_at(alloc, next_id(statuses));
     first_seen(page, number, &reader(&snapshot, &own, statuses))
 }
 
@@ -316,7 +316,7 @@ impl PageStep {
                     && sees(alloc, statuses, life, false) == Some(other)
             }
             PageStep::Fate(life, horizon, fate) => fate_at(statuses, life, horizon) == Some(fate),
-            PageStep::Hinted(life, mask) => hinted(statuses, life) == Some(mask),
+            PageStep::Hinted(life, mask) => mask_with_hints(statuses, life) == Some(mask),
             PageStep::Reads(x, told) => reads_id(alloc, statuses, x) == told,
             _ => false,
         }
@@ -328,7 +328,7 @@ impl PageStep {
             PageStep::Chain(slot, slots) => has_chain(page, slot, statuses, slots),
             PageStep::Root(slot, root) => root_of(page, slot, statuses) == root,
             PageStep::IsRoot(slot, leads) => is_root(page, slot) == leads,
-            PageStep::Fetch(slot, found) => fetched(alloc, page, slot, statuses) == found,
+            PageStep::Fetch(slot, found) => fetch_on(alloc, page, slot, statuses) == found,
             PageStep::FirstSeen(slot, first) => first_of(alloc, page, slot, statuses) == first,
             PageStep::FirstDeath(horizon, turn) => {
                 first_death(page, statuses, normal(horizon)) == turn

@@ -1,6 +1,6 @@
 //! Verdicts, fates and hints, each reckoned by hand.
 
-use crate::ids::{begun, next_id, nobody, normal, owner, reader};
+use crate::ids::{next_id, nobody, normal, owner, reader, snapshot_at};
 use crate::stage::{Life, PageStep, header_of, row, run_page};
 use commit_status::{Status, StatusTable};
 use snapshot::Snapshot;
@@ -23,7 +23,7 @@ fn version_of(life: Life) -> Option<Tuple> {
 
 /// What is seen beside the session of id 5.
 fn beside_5(alloc: Global, statuses: &StatusTable) -> Option<Snapshot> {
-    let mut snapshot = begun(alloc, next_id(statuses));
+    let mut snapshot = snapshot_at(alloc, next_id(statuses));
     match snapshot.add_transaction(&owner(alloc, 5)) {
         Ok(()) => Some(snapshot),
         Err(_) => None,
@@ -66,7 +66,7 @@ pub fn fate_at(statuses: &StatusTable, life: Life, horizon: u32) -> Option<Fate>
 }
 
 /// The mask of a version once it has its hints.
-pub fn hinted(statuses: &StatusTable, life: Life) -> Option<u16> {
+pub fn mask_with_hints(statuses: &StatusTable, life: Life) -> Option<u16> {
     let mut header = header_of(0, life);
     match fault_of(&header) {
         None => {
@@ -79,7 +79,7 @@ pub fn hinted(statuses: &StatusTable, life: Life) -> Option<u16> {
 
 /// Whether one who began when 6 was next reads an id.
 pub fn reads_id(alloc: Global, statuses: &StatusTable, x: u32) -> bool {
-    reader(&begun(alloc, 6), &nobody(alloc), statuses).reads(normal(x))
+    reader(&snapshot_at(alloc, 6), &nobody(alloc), statuses).reads(normal(x))
 }
 
 /// Id 3 is committed, 4 is aborted, and 5 is in progress.

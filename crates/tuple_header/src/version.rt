@@ -81,7 +81,7 @@ impl Header {
 
     /// The header of a version that `xmin`, a normal id, has just made at the place `ctid`, whose slot is from 1 to 291:
     /// nobody has deleted it, and no mark but `XMAX_INVALID` is set.
-    pub fn inserted(xmin: Xid, ctid: Tid) -> Header
+    pub fn new(xmin: Xid, ctid: Tid) -> Header
         requires normal { 3 ≤ xmin.0 }
         requires from { 1 ≤ ctid.slot }
         requires to { ctid.slot ≤ MOST_SLOTS }

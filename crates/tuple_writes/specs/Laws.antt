@@ -1,5 +1,6 @@
 -- Writes and what becomes of transactions keep a page sound.
 use Rattle.std.specs.Prelude.{◌≡◌, ◌≢◌, ◌⊎◌, ◌≤◌, ℕ, Bool, false, List, Option, Some, Contains}
+use Rattle.xid_circle.specs.Numbers.{Id, SlotNo}
 use Rattle.page_slots.specs.declared.slot.Slot.{Slot}
 use Rattle.page_slots.specs.Slots.{slot_at, version_at, free_number, next_change}
 use Rattle.tuple_header.specs.Version.{Version}
@@ -38,7 +39,7 @@ SettingXmaxKeepsSound = (w : Window) (horizon n x page place : ℕ) (slots : Lis
     → SetsXmaxOnPage w horizon slots (with_replaced slots n x page place false) n
 
 -- a version replaced by a heap-only one
-pub record HotUpdatesPage (w : Window) (horizon : ℕ) (slots after : List Slot) (n k : ℕ) : Type 0 where
+pub record HotUpdatesPage (w : Window) (horizon : Id) (slots after : List Slot) (n k : SlotNo) : Type 0 where
   pub sound : SoundPage w horizon after
   pub others : (m : ℕ) → m ≢ n → m ≢ k → slot_at after m ≡ slot_at slots m
   pub entries : KeepsEntries w slots after

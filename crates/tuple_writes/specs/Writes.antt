@@ -1,5 +1,6 @@
 -- The slots of a page after a write.
 use Rattle.std.specs.Prelude.{ℕ, Bool, true, false, List}
+use Rattle.xid_circle.specs.Numbers.{Id, PageNo, SlotNo, Count}
 use Rattle.page_slots.specs.declared.slot.Slot.{Slot}
 use Rattle.page_slots.specs.declared.slot.Slot.TheVariants.{Unused, Normal, Redirect, Dead}
 use Rattle.page_slots.specs.Slots.{the_slot, with_slot, with_added, free_number, change_unless}
@@ -21,15 +22,15 @@ was_replaced x page place hot (Redirect target) = true
 was_replaced x page place hot Dead = true
 
 -- the change number afterwards
-abbrev pub replaced_change : List Slot → ℕ → ℕ → ℕ → ℕ → Bool → ℕ → ℕ
+abbrev pub replaced_change : List Slot → SlotNo → (x : Id) → PageNo → (place : SlotNo) → (hot : Bool) → (change : Count) → Count
 replaced_change slots n x page place hot change = change_unless (was_replaced x page place hot (the_slot slots n)) change
 
 -- the version in slot n was taken away by x, and its successor is at this place
-abbrev pub with_replaced : List Slot → ℕ → ℕ → ℕ → ℕ → Bool → List Slot
+abbrev pub with_replaced : List Slot → SlotNo → (x : Id) → PageNo → (place : SlotNo) → (hot : Bool) → List Slot
 with_replaced slots n x page place hot = with_slot slots n (replaced_slot x page place hot (the_slot slots n))
 
 -- the version in slot n of this page was deleted by x
-abbrev pub with_deleted : List Slot → ℕ → ℕ → ℕ → List Slot
+abbrev pub with_deleted : List Slot → SlotNo → (x : Id) → PageNo → List Slot
 with_deleted slots n x page = with_replaced slots n x page n false
 
 -- x made a version of the row at the free number of this page, as a root
@@ -41,5 +42,5 @@ abbrev pub with_heap_only : List Slot → ℕ → ℕ → Row → List Slot
 with_heap_only slots x page row = with_added slots (Normal (record { header = heap_only_header x page (free_number slots); row = row }))
 
 -- x updated the version in slot n by one of this row on the same page, by a HOT update
-abbrev pub with_updated : List Slot → ℕ → ℕ → ℕ → Row → List Slot
+abbrev pub with_updated : List Slot → SlotNo → (x : Id) → PageNo → Row → List Slot
 with_updated slots n x page row = with_replaced (with_heap_only slots x page row) n x page (free_number slots) true

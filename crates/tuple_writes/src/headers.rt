@@ -29,7 +29,7 @@ fn marked_hot(hot: bool, mask2: u16) -> u16
 /// The header of a version that `x`, a normal id, replaced by one at `place`, whose slot is from 1 to 291: `hot` says
 /// whether by a HOT update. What was known of a deleter is cleared; so an aborted one leaves no trace.
 /// (PostgreSQL, `heap_update` in src/backend/access/heap/heapam.c.)
-pub fn replaced(header: &Header, x: Xid, place: Tid, hot: bool) -> Header
+pub fn replace_header(header: &Header, x: Xid, place: Tid, hot: bool) -> Header
     requires faultless { header_fault header.now ≡ None }
     requires normal { IsNormal x.0 }
     requires from { 1 ≤ place.slot }
@@ -62,7 +62,7 @@ pub fn root(updated: bool, x: Xid, place: Tid) -> Header
     };
     Header {
         mask,
-        ..Header::inserted(x, place)
+        ..Header::new(x, place)
     }
 }
 
@@ -78,6 +78,6 @@ pub fn heap_only(x: Xid, place: Tid) -> Header
     Header {
         mask2: Header::ATTRIBUTES | Header::HEAP_ONLY,
         mask: Header::UPDATED | Header::XMAX_INVALID,
-        ..Header::inserted(x, place)
+        ..Header::new(x, place)
     }
 }

@@ -13,5 +13,5 @@ mod headers;
 pub mod laws;
 mod writes;
 
-pub use headers::{heap_only, replaced, root};
+pub use headers::{heap_only, replace_header, root};
 pub use writes::{add_root, delete_version, hot_update, mark_cold_updated};

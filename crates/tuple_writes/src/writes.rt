@@ -10,7 +10,7 @@ ghost use Rattle.tuple_header.specs.Faults.{header_fault};
 ghost use Rattle.tuple_writes.specs.Writes.{with_replaced, replaced_change, with_deleted, with_root, with_updated};
 ghost use Rattle.tuple_header.specs.declared.version.TheConstants.{MOST_SLOTS};
 
-use crate::headers::{heap_only, replaced, root};
+use crate::headers::{heap_only, replace_header, root};
 use page_slots::Page;
 use tuple_header::{Header, Row};
 use xid_circle::{Tid, Xid};
@@ -74,7 +74,7 @@ fn set_xmax(page: &mut Page, slot: u16, x: Xid, place: Tid, hot: bool)
     ensures spare { page.new.spare ≡ page.old.spare }
 {
     match page.header(slot) {
-        Some(header) => page.set_header(slot, replaced(&header, x, place, hot)),
+        Some(header) => page.set_header(slot, replace_header(&header, x, place, hot)),
         None => unreachable!(),
     }
 }

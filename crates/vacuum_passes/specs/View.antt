@@ -1,6 +1,7 @@
 -- A vacuum in progress as its callers see it. (The manual's "Routine Vacuuming"; src/backend/access/heap/vacuumlazy.c. The order of its
 -- steps is this project's.)
 use Rattle.std.specs.Prelude.{◌==◌, ◌+◌, ◌-◌, ◌*◌, ℕ, min, nat_lt, Bool, true, false, List, [], ◌++◌, length, map, take, None, if◌then◌else◌}
+use Rattle.xid_circle.specs.Numbers.{Id, Count}
 use Rattle.xid_circle.specs.declared.Tid.{Tid}
 use Rattle.space_maps.specs.declared.mark.Mark.{Mark}
 use Rattle.space_maps.specs.View.{says_visible, says_frozen}
@@ -44,7 +45,7 @@ abbrev pub counted : VacuumView → VacuumView
 counted v = record v { steps = if v.alone then min (v.steps + 1) 18446744073709551615 else v.steps }
 
 -- one that begins
-abbrev pub new_vacuum : Mode → ℕ → ℕ → ℕ → ℕ → ℕ → VacuumView
+abbrev pub new_vacuum : Mode → (horizon cutoff : Id) → (pages entries limit : Count) → VacuumView
 new_vacuum mode horizon cutoff pages entries limit = record {
   mode = mode;
   horizon = horizon;

@@ -1,6 +1,7 @@
 -- What a vacuum does to pages, their marks and indexes. (The manual's "Routine Vacuuming"; src/backend/access/heap/vacuumlazy.c: dead
 -- slots are collected, the entries that lead to them go, and then they become unused.)
 use Rattle.std.specs.Prelude.{◌≡◌, ◌<◌, ◌≤◌, ℕ, true, false, List, length}
+use Rattle.xid_circle.specs.Numbers.{Id, PageNo}
 use Rattle.space_maps.specs.View.{mark_on}
 use Rattle.freeze.specs.DeadSlots.{ListsDead}
 use Rattle.heap_write.specs.Heap.{HeapView}
@@ -24,7 +25,7 @@ NoPageLeft h v = (q : ℕ) → v.next ≤ q → q < v.pages → q < length h.pag
     → skips v.mode (mark_on h.pages.marks q) ≡ true
 
 -- one page is pruned at a horizon, then frozen at a cutoff
-pub record VisitsAt (h h' : HeapView) (horizon cutoff p : ℕ) : Type 0 where
+pub record VisitsAt (h h' : HeapView) (horizon cutoff : Id) (p : PageNo) : Type 0 where
   pub pruned : HeapView
   pub prunes : Prunes h pruned p horizon
   pub freezes : FreezesAt pruned h' p cutoff

@@ -1,5 +1,6 @@
 -- What the parts of a vacuum's step do: to one page, to the collected slots, and to one index.
 use Rattle.std.specs.Prelude.{◌≡◌, ◌+◌, ◌-◌, ℕ, nat_lt, if◌then◌else◌, List, ◌++◌, length, take, map, Option}
+use Rattle.xid_circle.specs.Numbers.{Id, PageNo, Count}
 use Rattle.xid_circle.specs.declared.Tid.{Tid}
 use Rattle.index_nodes.specs.declared.entry.Entry.{Entry}
 use Rattle.root_index.specs.declared.progress.Progress.{Progress}
@@ -21,7 +22,7 @@ FreesLast phase.Free freed = Unit {0}
 -- A page.
 
 -- it is pruned, frozen and noted
-pub record CleansPage (h h' : HeapView) (horizon cutoff p : ℕ) : Type 0 where
+pub record CleansPage (h h' : HeapView) (horizon cutoff : Id) (p : PageNo) : Type 0 where
   pub visited : HeapView
   pub visits : VisitsAt h visited horizon cutoff p
   pub notes : Notes visited h' p horizon
@@ -32,7 +33,7 @@ pub record CleansAndLists (h h' : HeapView) (horizon cutoff p : ℕ) (dead : Lis
   pub lists : ListsDead cleans.notes.page.slots dead
 
 -- it is visited, its dead slots are collected, and this page and phase come next
-pub record VisitsFrom (h h' : HeapView) (horizon cutoff p limit : ℕ) (old new : List Tid) (next : ℕ) (after : Phase) : Type 0 where
+pub record VisitsFrom (h h' : HeapView) (horizon cutoff : Id) (p : PageNo) (limit : Count) (old new : List Tid) (next : PageNo) (after : Phase) : Type 0 where
   pub page : CleansPage h h' horizon cutoff p
   pub dead : List ℕ
   pub lists : ListsDead page.notes.page.slots dead

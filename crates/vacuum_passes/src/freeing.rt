@@ -29,7 +29,7 @@ pub(crate) fn free_from(
         → FreesPage heap.old heap.new horizon.0 result.0 (on_page result.0 (drop freed store.now)) }
     ensures drops { length heap.old.pages.pages ≤ result.0 → heap.new ≡ heap.old }
 {
-    store.is_ascending();
+    store.fact_ascending();
     let _limit = store.len();
     let (_, places) = store.as_slice().split_at(freed);
     free_lowest(heap, places, horizon)

@@ -2,6 +2,7 @@
 -- and has ids of its own. (The manual's "Transaction Isolation": a query sees what was committed before it began, and its
 -- own transaction's changes.)
 use Rattle.std.specs.Prelude.{◌≡◌, ℕ, ◌==◌, List, Option, Some, None, Contains, if◌then◌else◌}
+use Rattle.xid_circle.specs.Numbers.{Id}
 use Rattle.tuple_header.specs.declared.version.Header.{Header}
 use Rattle.tuple_header.specs.Marks.{is_frozen}
 use Rattle.commit_status.specs.declared.status.Status.{Status}
@@ -41,7 +42,7 @@ pub data Touches (x : ℕ) (h : Header) : Type 0 where
   deleted_by : deleter h ≡ Some x → Touches x h
 
 -- a committed id that the reader does not see made or deleted the version
-abbrev pub IsNewerCommit : (ℕ → Option Status) → (ℕ → Type 0) → ℕ → Header → Type 0
+abbrev pub IsNewerCommit : (status : Id → Option Status) → (sees : Id → Type 0) → (x : Id) → Header → Type 0
 IsNewerCommit status sees x h = Touches x h × HasCommitted status x × (¬ sees x)
 
 -- an id in progress that is not the reader's own made or deleted it

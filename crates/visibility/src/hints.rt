@@ -36,7 +36,7 @@ fn deleter_marks(none: bool, status: Status) -> u16
 }
 
 /// A header with hints.
-fn hinted(header: &Header, statuses: &StatusTable) -> Header
+fn header_with_hints(header: &Header, statuses: &StatusTable) -> Header
     ensures { result ≡ hinted statuses.now header.now }
 {
     let inserter = maker_marks(header.is_frozen(), statuses.status(header.xmin));
@@ -58,7 +58,7 @@ pub fn set_hints(header: &mut Header, statuses: &StatusTable)
     ensures true_hints { AreTrue statuses.now header.new }
     ensures faultless { header_fault header.new ≡ None }
 {
-    let with_hints = hinted(header, statuses);
+    let with_hints = header_with_hints(header, statuses);
     *header = with_hints;
 }
 

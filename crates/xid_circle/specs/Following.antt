@@ -2,6 +2,6 @@
 use Rattle.std.specs.Prelude.{◌≡◌, ℕ, zero, suc, Option, Some}
 
 -- from a one comes to b in so many turns
-abbrev pub ReachesIn : (ℕ → Option ℕ) → ℕ → ℕ → ℕ → Type 0
+abbrev pub ReachesIn : (next : ℕ → Option ℕ) → (turns a b : ℕ) → Type 0
 ReachesIn next zero a b = a ≡ b
 ReachesIn next (suc turns) a b = (c : ℕ) × (next a ≡ Some c) × ReachesIn next turns c b

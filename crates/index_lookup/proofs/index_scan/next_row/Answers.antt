@@ -23,7 +23,7 @@ loop-preserved c =
     let entries = c.args.table.now.index.now.entries in
     let position = c.position_of-position.result in
     walked-on entries (λ value key. FirstFound c.args.reader.now.statuses.now seen pages entries value key None) c.args.span.now c.loop.left c.loop.counter c.in-Some.entry position
-    c.is_ascending.ensures c.loop.invariant c.in-Some.ensures (c.position_of-position.ensures.value, c.position_of-position.ensures.key) c.in_default.ensures
+    c.fact_ascending.ensures c.loop.invariant c.in-Some.ensures (c.position_of-position.ensures.value, c.position_of-position.ensures.key) c.in_default.ensures
 
 pub returns : goal.returns
 returns c =

@@ -15,10 +15,10 @@ loop-init c =
 
 pub loop-preserved : goal.loop-preserved
 loop-preserved c =
-    let next = subst (λ (v : ℤ). IsNextOf c.args.table.now.index.now.entries v c.args.first.key (Some c.in-Some.entry) (entry_of c.next_of-next.result)) (to_z-of_z w128 c.args.first.value c.has_value.ensures) c.next_of-next.ensures in
+    let next = subst (λ (v : ℤ). IsNextOf c.args.table.now.index.now.entries v c.args.first.key (Some c.in-Some.entry) (entry_of c.next_of-next.result)) (to_z-of_z w128 c.args.first.value c.fact_value.ensures) c.next_of-next.ensures in
     looked-next c.args.table.now.index.now.entries c.args.first.value c.args.first.key
     (λ e. FetchedAt c.args.reader.now.statuses.now (IsSeenBy c.args.reader.now) (page_slots_of c.args.table.now.pages.now) e.tid None)
-    c.loop.counter (entry_of c.loop.next) c.in-Some.entry (entry_of c.next_of-next.result) c.is_ascending.ensures c.loop.invariant (ap entry_of c.in-Some.is) c.in_default.ensures next
+    c.loop.counter (entry_of c.loop.next) c.in-Some.entry (entry_of c.next_of-next.result) c.fact_ascending.ensures c.loop.invariant (ap entry_of c.in-Some.is) c.in_default.ensures next
 
 pub returns : goal.returns
 returns c =

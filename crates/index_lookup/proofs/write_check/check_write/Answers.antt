@@ -29,7 +29,7 @@ loop-preserved c =
     record {
       check = check-next c.args.reader.now.statuses.now (IsSeenBy c.args.reader.now) (IsNewerCommitFor c.args.reader.now) (IsOtherWriterFor c.args.reader.now)
           (page_slots_of c.args.table.now.pages.now) c.args.table.now.index.now.entries (to_z w128 (of_z w128 c.args.value)) c.args.key c.loop.counter c.loop.search.next c.in-Some.entry
-          on.result.next c.loop.check c.with_chain-check.result c.is_ascending.ensures c.loop.invariant.check c.in-Some.is on.ensures.next found.place found.newer_commit found.other_writer;
+          on.result.next c.loop.check c.with_chain-check.result c.fact_ascending.ensures c.loop.invariant.check c.in-Some.is on.ensures.next found.place found.newer_commit found.other_writer;
       last = on.ensures.last;
     }
 

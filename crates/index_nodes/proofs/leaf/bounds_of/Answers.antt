@@ -9,4 +9,4 @@ returns c = subst (AreOn c.loop-place.bounds) (take_all c.loop-place.place c.arg
 
 pub loop-place-preserved : goal.loop-place-preserved
 loop-place-preserved c =
-    on_more c.loop-place.bounds c.widened-bounds.result c.args.entries.now c.loop-place.place _ c.loop-place-test.true c.loop-place.invariant c.widened-bounds.ensures.kept c.widened-bounds.ensures.on
+    on_more c.loop-place.bounds c.widen-bounds.result c.args.entries.now c.loop-place.place _ c.loop-place-test.true c.loop-place.invariant c.widen-bounds.ensures.kept c.widen-bounds.ensures.on

@@ -11,13 +11,13 @@ loop-transaction-preserved c =
     let more = latest-take c.args.history.now c.loop-transaction.transaction-index c.transaction-item.result c.args.key c.loop-transaction-test.true c.transaction-item.is in
     let before = latest (take c.loop-transaction.transaction-index c.args.history.now) c.args.key in
     let here = written c.transaction-item.result c.args.key in
-    elim c.match-written.branch [
+    elim c.match-last_write.branch [
       | in-Some w ↦ record {
-        value = newer c.written.result here before c.match-written.last w.in-Some.said w.in-Some.is c.written.ensures.value w.last-is ∙ sym more;
-        keyed = subst (λ o. IfSome o (λ row. IsRowOf c.args.key row)) (w.in-Some.is ∙ sym w.last-is) c.written.ensures.keyed;
+        value = newer c.last_write.result here before c.match-last_write.last w.in-Some.said w.in-Some.is c.last_write.ensures.value w.last-is ∙ sym more;
+        keyed = subst (λ o. IfSome o (λ row. IsRowOf c.args.key row)) (w.in-Some.is ∙ sym w.last-is) c.last_write.ensures.keyed;
       }
       | in_default w ↦ record {
-        value = as_before c.written.result here before c.match-written.last c.loop-transaction.last w.in_default.is c.written.ensures.value w.last-is c.loop-transaction.invariant.value ∙ sym more;
+        value = as_before c.last_write.result here before c.match-last_write.last c.loop-transaction.last w.in_default.is c.last_write.ensures.value w.last-is c.loop-transaction.invariant.value ∙ sym more;
         keyed = subst (λ o. IfSome o (λ row. IsRowOf c.args.key row)) (sym w.last-is) c.loop-transaction.invariant.keyed;
       }
     ]

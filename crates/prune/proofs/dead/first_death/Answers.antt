@@ -7,7 +7,7 @@ use Rattle.prune.proofs.dead.first_death.Goals as goal
 pub loop-number-init : goal.loop-number-init
 loop-number-init c =
     let w = c.args.statuses.now in
-    let turn = next-turn w c.next.result.0 c.turn_of.result c.unwrap_or.result c.is_window.ensures c.next.ensures.value c.turn_of.ensures c.unwrap_or.ensures in (
+    let turn = next-turn w c.next.result.0 c.turn_of.result c.unwrap_or.result c.fact_window.ensures c.next.ensures.value c.turn_of.ensures c.unwrap_or.ensures in (
       live-none w c.args.horizon.0 c.args.page.now.slots c.unwrap_or.result (omega arith),
       (λ e. absurd (cc)),
       (omega arith),

@@ -21,6 +21,6 @@ returns c = record {
   cut = c.cut_count-cut.result;
   is_chain = c.requires.chain;
   is_cut = c.cut_count-cut.ensures;
-  each = rw (c.from.ensures, c.held.ensures, c.root_action.ensures) (chain-marked c.args.root c.args.chain.now c.cut_count-cut.result
+  each = rw (c.from.ensures, c.verdict_of.ensures, c.root_action.ensures) (chain-marked c.args.root c.args.chain.now c.cut_count-cut.result
       c.args.marks.now c.mark_all.new.marks c.mark_all-2.new.marks _ c.mark_all.ensures c.mark_all-2.ensures refl (omega (arith, c.mark_all-2.array_long, c.requires.number)));
 }

@@ -28,7 +28,7 @@ loop-action-preserved c =
     let was : IsReckoned (x ∷ drop (i + 1) listed) before after free found =
     subst (λ l. IsReckoned l before after free found) (ap (drop i) (sym same) ∙ prefix-of listed i (0, action.Unuse) c.loop-action-test.true) c.loop-action.invariant in
     let is = reckoned-step x (drop (i + 1) listed) before after free found was in
-    let taken : bytes_taken (the_slot before.slots x.0) ≡ c.taken-free_bytes.result = sym c.taken-free_bytes.ensures in
+    let taken : bytes_taken (the_slot before.slots x.0) ≡ c.version_size-free_bytes.result = sym c.version_size-free_bytes.ensures in
     let unused : (found || is_unused (made_by x.1)) ≡ c.if-has_unused.has_unused =
     elim c.if-has_unused.branch [
       | then-has_unused w ↦ ap (λ b. b || is_unused (made_by x.1)) w.if-has_unused.true ∙ sym w.if-has_unused.true ∙ sym w.has_unused-is
@@ -37,6 +37,6 @@ loop-action-preserved c =
       | else-has_unused+in_default w ↦ ap (λ b. b || is_unused (made_by x.1)) w.if-has_unused.false
           ∙ made-used x.1 w.in_default.not-Unuse ∙ sym w.has_unused-is
     ] in
-    subst (λ l. IsReckoned l before after (free + c.taken-free_bytes.result) c.if-has_unused.has_unused) (ap (drop (i + 1)) same)
+    subst (λ l. IsReckoned l before after (free + c.version_size-free_bytes.result) c.if-has_unused.has_unused) (ap (drop (i + 1)) same)
     (subst (λ (n : ℕ). IsReckoned (drop (i + 1) listed) before after (free + n) c.if-has_unused.has_unused) taken
     (subst (λ (b : Bool). IsReckoned (drop (i + 1) listed) before after (free + bytes_taken (the_slot before.slots x.0)) b) unused is))

@@ -15,7 +15,7 @@ free_lowest-requires-clause-some c =
 pub free_lowest-requires-clause-ascending : goal.free_lowest-requires-clause-ascending
 free_lowest-requires-clause-ascending c =
     subst AreAscending (sym (c.split_at.ensures.back ∙ ap (λ (xs : List Tid). drop c.args.freed xs) c.as_slice.ensures))
-    (pairs-drop c.args.freed c.args.store.now c.is_ascending.ensures)
+    (pairs-drop c.args.freed c.args.store.now c.fact_ascending.ensures)
 
 pub returns-clause-within : goal.returns-clause-within
 returns-clause-within c =

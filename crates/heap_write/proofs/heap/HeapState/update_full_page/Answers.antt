@@ -11,7 +11,7 @@ pub returns-then-needs_freeze : goal.returns-then-needs_freeze
 returns-then-needs_freeze c =
     let needs = subst (λ (h : HeapView). NeedsFreeze h.statuses c.args.own.now) c.self.view_is (c.needs_freeze.ensures.0 c.if-needs_freeze.true) in
     answers-freeze c.args.self.now c.args.own.now c.args.place c.args.row.now c.args.horizon.0 needs
-    (subst (λ (h : HeapView). IsWindow h.statuses) c.self.view_is c.is_window.ensures)
+    (subst (λ (h : HeapView). IsWindow h.statuses) c.self.view_is c.fact_window.ensures)
 
 pub update_unpruned-requires-clause-may : goal.update_unpruned-requires-clause-may
 update_unpruned-requires-clause-may c =

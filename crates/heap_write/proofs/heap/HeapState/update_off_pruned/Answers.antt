@@ -73,7 +73,7 @@ returns-in-Ok c = λ horizon plan.
     let may = replaceable-applied h grown ready own reserved.new.own place actions keeps reserved.ensures.own is c.requires.stays c.requires.may in
     let readies = applied-readies h grown ready place horizon (rounded_size_of c.args.row.now) actions c.requires.may.there c.requires.room keeps is plan in
     answers-elsewhere h grown ready done.new.self own reserved.new.own done.new.own place c.args.row.now horizon done.result c.requires.may.free readies
-    (ap (λ (v : HeapView). v.statuses) is) (ap (λ (v : HeapView). v.max_pages) is) keeps reserved.ensures.own reserved.ensures.none may.there
+    (ap (λ (v : HeapView). v.statuses) is) (ap (λ (v : HeapView). v.most_pages) is) keeps reserved.ensures.own reserved.ensures.none may.there
     done.ensures.under done.ensures.replaces done.ensures.fault done.ensures.err done.ensures.window
 
 pub returns-in-Err : goal.returns-in-Err
@@ -84,4 +84,4 @@ returns-in-Err c = λ horizon plan.
     let needs = moves-needs h own c.args.place c.args.row.now horizon c.row_size.result c.args.plan.now.actions.items c.requires.may.there c.requires.room plan c.requires.full
     c.row_size.ensures.value c.in-Err.ensures.needs in
     answers-memory h reserved.new.self own reserved.new.own c.args.place c.args.row.now horizon c.requires.may.free needs reserved.ensures.keeps reserved.ensures.own
-    (subst (λ (h : HeapView). IsWindow h.statuses) c.self.view_is c.is_window.ensures)
+    (subst (λ (h : HeapView). IsWindow h.statuses) c.self.view_is c.fact_window.ensures)

@@ -17,7 +17,7 @@ pub returns-then-needs_freeze : goal.returns-then-needs_freeze
 returns-then-needs_freeze c = λ horizon.
     let needs = subst (λ (h : HeapView). NeedsFreeze h.statuses c.args.own.now) c.self.view_is (c.needs_freeze.ensures.0 c.if-needs_freeze.true) in
     answers-freeze c.args.self.now c.args.own.now c.args.place c.args.row.now horizon needs
-    (subst (λ (h : HeapView). IsWindow h.statuses) c.self.view_is c.is_window.ensures)
+    (subst (λ (h : HeapView). IsWindow h.statuses) c.self.view_is c.fact_window.ensures)
 
 pub replace_on_page-requires-clause-may : goal.replace_on_page-requires-clause-may
 replace_on_page-requires-clause-may c =
@@ -33,7 +33,7 @@ replace_on_page-requires-clause-room c =
 
 pub replace_on_page-requires-clause-has_slot : goal.replace_on_page-requires-clause-has_slot
 replace_on_page-requires-clause-has_slot c =
-    subst (λ (p : PagesView). HasSlot (page_in p.pages c.args.place.page)) (sym c.reserve_ids_for-reserved.ensures.pages) c.has_slot_beside.ensures
+    subst (λ (p : PagesView). HasSlot (page_in p.pages c.args.place.page)) (sym c.reserve_ids_for-reserved.ensures.pages) c.fact_slot_beside.ensures
 
 pub replace_on_page-requires-clause-heap_only : goal.replace_on_page-requires-clause-heap_only
 replace_on_page-requires-clause-heap_only c =
@@ -66,4 +66,4 @@ returns-in-Err c = λ horizon.
     let needs = on_page-needs h h own c.args.place c.args.row.now horizon c.keeps_values-heap_only.result (has_room c.requires.room refl) c.requires.room
     c.keeps_values-heap_only.ensures c.in-Err.ensures.needs in
     answers-memory h reserved.new.self own reserved.new.own c.args.place c.args.row.now horizon free needs reserved.ensures.keeps reserved.ensures.own
-    (subst (λ (h : HeapView). IsWindow h.statuses) c.self-2.view_is c.is_window-2.ensures)
+    (subst (λ (h : HeapView). IsWindow h.statuses) c.self-2.view_is c.fact_window-2.ensures)

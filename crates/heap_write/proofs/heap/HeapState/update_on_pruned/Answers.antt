@@ -47,7 +47,7 @@ replace_on_page-requires-clause-has_slot c =
     let keeps = reserved.ensures.keeps in
     let within = there-within grown c.args.place (replaceable-kept h grown c.args.own.now reserved.new.own c.args.place keeps reserved.ensures.own c.requires.may).there in
     let planned = subst (λ (l : List Slot). IsPlanOf l actions) (sym (kept-slots h grown n keeps)) c.requires.planned in
-    let has_slot = subst (λ (p : PagesView). HasSlot (page_in p.pages n)) (sym reserved.ensures.pages) c.has_slot_beside.ensures in
+    let has_slot = subst (λ (p : PagesView). HasSlot (page_in p.pages n)) (sym reserved.ensures.pages) c.fact_slot_beside.ensures in
     applied-slot_ready grown c.apply_plan.new.self n actions within planned c.apply_plan.ensures has_slot
 
 pub replace_on_page-requires-clause-heap_only : goal.replace_on_page-requires-clause-heap_only
@@ -88,7 +88,7 @@ returns-in-Ok c = λ horizon plan.
     let within = there-within grown place (replaceable-kept h grown own reserved.new.own place keeps reserved.ensures.own c.requires.may).there in
     let room = subst (λ (l : List Slot). rounded_size_of c.args.row.now ≤ room_of l) (sym (planned-slots h grown ready place.page actions within keeps is)) c.requires.fits in
     answers-done h grown ready done.new.self own reserved.new.own done.new.own place c.args.row.now horizon done.result c.requires.may.free readies
-    (ap (λ (v : HeapView). v.statuses) is) (ap (λ (v : HeapView). v.max_pages) is) keeps reserved.ensures.own reserved.ensures.none may.there done.ensures.under (on_page room done.ensures.replaces)
+    (ap (λ (v : HeapView). v.statuses) is) (ap (λ (v : HeapView). v.most_pages) is) keeps reserved.ensures.own reserved.ensures.none may.there done.ensures.under (on_page room done.ensures.replaces)
 
 pub returns-in-Err : goal.returns-in-Err
 returns-in-Err c = λ horizon plan.
@@ -98,4 +98,4 @@ returns-in-Err c = λ horizon plan.
     let needs = stays-needs h own c.args.place c.args.row.now horizon c.args.plan.now.actions.items c.keeps_values-heap_only.result c.requires.may.there c.requires.room plan
     c.requires.fits c.keeps_values-heap_only.ensures c.in-Err.ensures.needs in
     answers-memory h reserved.new.self own reserved.new.own c.args.place c.args.row.now horizon c.requires.may.free needs reserved.ensures.keeps reserved.ensures.own
-    (subst (λ (h : HeapView). IsWindow h.statuses) c.self.view_is c.is_window.ensures)
+    (subst (λ (h : HeapView). IsWindow h.statuses) c.self.view_is c.fact_window.ensures)

@@ -8,8 +8,8 @@ invariant_of-self c = record {
   few = search rules;
   reserved = search rules;
   apart = search rules;
-  bounded = subst (AreOn c.widened-self-inside.result) (sym c.put.ensures.items)
-      (on_inserted c.self.inside.pages c.widened-self-inside.result c.self.inside.entries.items c.args.position c.args.entry c.self.invariant.bounded c.widened-self-inside.ensures.kept c.widened-self-inside.ensures.on);
+  bounded = subst (AreOn c.widen-self-inside.result) (sym c.put.ensures.items)
+      (on_inserted c.self.inside.pages c.widen-self-inside.result c.self.inside.entries.items c.args.position c.args.entry c.self.invariant.bounded c.widen-self-inside.ensures.kept c.widen-self-inside.ensures.on);
 }
 
 pub invariant_of-self-then-position-eq0 : goal.invariant_of-self-then-position-eq0
@@ -17,6 +17,6 @@ invariant_of-self-then-position-eq0 c = record {
   few = search rules;
   reserved = search rules;
   apart = search rules;
-  bounded = subst (AreOn c.widened-self-inside.result) (sym c.put.ensures.items)
-      (on_inserted c.self.inside.pages c.widened-self-inside.result c.self.inside.entries.items c.args.position c.args.entry c.self.invariant.bounded c.widened-self-inside.ensures.kept c.widened-self-inside.ensures.on);
+  bounded = subst (AreOn c.widen-self-inside.result) (sym c.put.ensures.items)
+      (on_inserted c.self.inside.pages c.widen-self-inside.result c.self.inside.entries.items c.args.position c.args.entry c.self.invariant.bounded c.widen-self-inside.ensures.kept c.widen-self-inside.ensures.on);
 }

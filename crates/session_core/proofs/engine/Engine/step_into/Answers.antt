@@ -1,7 +1,7 @@
 use Rattle.std.proofs.Common.{◌≡◌, ◌∙◌, false, rules, refl, ap, sym, subst}
 use Rattle.std.specs.Option.{option_map}
 use Rattle.calls.specs.declared.step.Step.{Step}
-use Rattle.calls.specs.declared.step.Step.TheVariants.{VacuumBegin, VacuumStep, VacuumCancel}
+use Rattle.calls.specs.declared.step.Step.TheVariants as step
 use Rattle.calls.specs.Steps.{is_vacuum_step}
 use Rattle.vacuum_passes.specs.View.{disturbed}
 use Rattle.session_steps.specs.Vacuums.{IsSetUp}
@@ -16,15 +16,15 @@ use Rattle.session_core.proofs.engine.Engine.step_into.Goals as goal
 
 pub returns-in-VacuumBegin-clause-follows : goal.returns-in-VacuumBegin-clause-follows
 returns-in-VacuumBegin-clause-follows c = subst (λ (step : Step). EngineFollows c.args.self.now step c.begin_vacuum.new.reply c.begin_vacuum.new.self) (sym c.in-VacuumBegin.is)
-    (vacuum-follows c.args.self.now c.begin_vacuum.new.self (VacuumBegin c.in-VacuumBegin.mode) c.begin_vacuum.new.reply refl (subst (λ (e : EngineView). IsSetUp e.core) c.self.view_is c.is_set_up.ensures) c.begin_vacuum.ensures)
+    (vacuum-follows c.args.self.now c.begin_vacuum.new.self (step.VacuumBegin c.in-VacuumBegin.mode) c.begin_vacuum.new.reply refl (subst (λ (e : EngineView). IsSetUp e.core) c.self.view_is c.fact_set_up.ensures) c.begin_vacuum.ensures)
 
 pub returns-in-VacuumStep-clause-follows : goal.returns-in-VacuumStep-clause-follows
 returns-in-VacuumStep-clause-follows c = subst (λ (step : Step). EngineFollows c.args.self.now step c.step_vacuum.new.reply c.step_vacuum.new.self) (sym c.in-VacuumStep.is)
-    (vacuum-follows c.args.self.now c.step_vacuum.new.self VacuumStep c.step_vacuum.new.reply refl (subst (λ (e : EngineView). IsSetUp e.core) c.self.view_is c.is_set_up.ensures) c.step_vacuum.ensures)
+    (vacuum-follows c.args.self.now c.step_vacuum.new.self step.VacuumStep c.step_vacuum.new.reply refl (subst (λ (e : EngineView). IsSetUp e.core) c.self.view_is c.fact_set_up.ensures) c.step_vacuum.ensures)
 
 pub returns-in-VacuumCancel-clause-follows : goal.returns-in-VacuumCancel-clause-follows
 returns-in-VacuumCancel-clause-follows c = subst (λ (step : Step). EngineFollows c.args.self.now step c.cancel_vacuum.new.reply c.cancel_vacuum.new.self) (sym c.in-VacuumCancel.is)
-    (vacuum-follows c.args.self.now c.cancel_vacuum.new.self VacuumCancel c.cancel_vacuum.new.reply refl (subst (λ (e : EngineView). IsSetUp e.core) c.self.view_is c.is_set_up.ensures) c.cancel_vacuum.ensures)
+    (vacuum-follows c.args.self.now c.cancel_vacuum.new.self step.VacuumCancel c.cancel_vacuum.new.reply refl (subst (λ (e : EngineView). IsSetUp e.core) c.self.view_is c.fact_set_up.ensures) c.cancel_vacuum.ensures)
 
 pub returns-in_default : goal.returns-in_default
 returns-in_default c =

@@ -21,7 +21,7 @@ open_mut-session-requires c =
 pub insert-requires : goal.insert-requires
 insert-requires c =
     let e = c.open_mut-session.result.now in
-    record { newest = newest-given c.self.inside.heap.statuses e.own.ids e.own.saved c.are_prefixes.ensures.prefixes (λ x mine. c.self.invariant.own.active c.args.s e x c.open_mut-session.ensures.value mine) }
+    record { newest = newest-given c.self.inside.heap.statuses e.own.ids e.own.saved c.fact_prefixes.ensures.prefixes (λ x mine. c.self.invariant.own.active c.args.s e x c.open_mut-session.ensures.value mine) }
 
 pub invariant_of-self : goal.invariant_of-self
 invariant_of-self c =

@@ -9,5 +9,5 @@ pub invariant_of-self : goal.invariant_of-self
 invariant_of-self c =
     let may : MayForget (record { settings = c.self.inside.settings; heap = c.self.inside.heap; sessions = c.self.inside.sessions }) c.args.cutoff.0 =
     subst (λ (st : State). MayForget st c.args.cutoff.0) (sym c.self.view_is) (c.may_forget.ensures.0 c.if-may_forget.true) in
-    keeps-forget c.self.inside.sessions c.self.inside.heap.statuses c.forget.new.self.statuses c.args.cutoff.0 (subst IsWindow c.statuses.ensures c.is_window.ensures) c.forget.ensures.window
+    keeps-forget c.self.inside.sessions c.self.inside.heap.statuses c.forget.new.self.statuses c.args.cutoff.0 (subst IsWindow c.statuses.ensures c.fact_window.ensures) c.forget.ensures.window
     c.forget.ensures.forgets.truncates may.upto may.unowned c.self.invariant

@@ -1,5 +1,5 @@
 use Rattle.std.proofs.Common.{rules, sym, subst}
-use Rattle.calls.specs.declared.step.Step.TheVariants.{Get}
+use Rattle.calls.specs.declared.step.Step.TheVariants as step
 use Rattle.session_steps.specs.Agrees.{Follows}
 use Rattle.session_steps.proofs.Reading.{Follows-get}
 use Rattle.session_steps.proofs.SessionReader.{row-read}
@@ -10,7 +10,7 @@ pub returns-in-Ok : goal.returns-in-Ok
 returns-in-Ok c = record {
   follows = (
       let e = c.in-Ok.session.now in
-      subst (λ reply. Follows c.args.self.now (Get c.args.s c.args.key) reply c.args.self.now) (sym c.put_found.ensures)
+      subst (λ reply. Follows c.args.self.now (step.Get c.args.s c.args.key) reply c.args.self.now) (sym c.put_found.ensures)
       (Follows-get c.args.self.now c.args.s e c.args.key c.row.result c.in-Ok.ensures.1 c.in-Ok.ensures.2
       (row-read _ c.args.self.now e c.reader.result c.self.view_is c.reader.ensures c.args.key c.row.result c.row.ensures)));
   exact = search rules;

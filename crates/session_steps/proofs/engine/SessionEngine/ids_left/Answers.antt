@@ -8,7 +8,7 @@ use Rattle.session_steps.proofs.engine.SessionEngine.ids_left.Goals as goal
 pub halves-init : goal.halves-init
 halves-init c = record {
   can = λ i lt. absurd (omega (arith, lt));
-  cannot = cannot-give c.statuses-statuses.result.now c.is_window.ensures;
+  cannot = cannot-give c.statuses-statuses.result.now c.fact_window.ensures;
   apart = omega arith;
   bound = omega arith;
 }

@@ -1,7 +1,7 @@
 use Rattle.std.proofs.Common.{rules, sym, ap, subst, refl}
 use Rattle.calls.specs.Words.{row_of}
 use Rattle.calls.specs.Writes.{inserts}
-use Rattle.calls.specs.declared.step.Step.TheVariants.{Insert}
+use Rattle.calls.specs.declared.step.Step.TheVariants as step
 use Rattle.calls.specs.declared.reply.Reply.{Reply}
 use Rattle.calls.specs.declared.step.RowIn.{RowIn}
 use Rattle.session_steps.specs.State.{State, refused_state}
@@ -28,7 +28,7 @@ returns-in_err-fill_row c = rw (handed-on c.from_residual-in_err-fill_row.result
 pub returns-in-Ok : goal.returns-in-Ok
 returns-in-Ok c =
     let filled = c.in_ok-fill_row.ensures.filled in
-    subst (λ (st : State). AnswersStep st (Insert c.args.s c.args.row) (reply_to c.add.result) c.add.new.self) c.expect_entry.ensures (record {
+    subst (λ (st : State). AnswersStep st (step.Insert c.args.s c.args.row) (reply_to c.add.result) c.add.new.self) c.expect_entry.ensures (record {
       follows = c.add.ensures.follows c.args.row filled.0 filled.1;
       exact = search rules;
     })
@@ -38,7 +38,7 @@ returns c =
     let filled = c.in_ok-fill_row.ensures.filled in
     let h = subst (λ (row : RowIn). RefusesInsertOfKey c.args.self.now c.args.s row.key c.in-Err.refusal) c.row.view_is
     (hinders-insert c.args.self.now c.args.s c.row.inside.key c.in_ok-session.session.now c.check_insert.result c.in-Err.refusal c.in-Err.is c.in_ok-session.ensures c.check_insert.ensures) in
-    let P : State → Reply → Type 0 = λ new reply. AnswersStep c.args.self.now (Insert c.args.s c.args.row) reply new in
+    let P : State → Reply → Type 0 = λ new reply. AnswersStep c.args.self.now (step.Insert c.args.s c.args.row) reply new in
     subst (λ (new : State). P new (reply_to c.refuse.result)) (sym c.refuse.ensures.state)
     (subst (λ (reply : Reply). P (refused_state c.args.self.now c.args.s c.in-Err.refusal) reply) (ap reply_to (sym c.refuse.ensures.answer)) (record {
       follows = Follows-hindered_insert c.args.self.now c.args.s (row_of c.args.row) c.in-Err.refusal h c.args.row filled.0 refl;

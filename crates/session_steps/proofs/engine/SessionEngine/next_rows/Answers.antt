@@ -14,4 +14,4 @@ returns-then-count-eq0 c =
 pub returns : goal.returns
 returns c =
     puts-rows c.args.self.now c.args.s c.in-Ok.found.0.now c.in-Ok.found.1 c.args.places.now c.put_next-count.result.0 c.put_next-count.result.1 c.put_next-count.new.places
-    c.in-Ok.ensures.1 c.in-Ok.ensures.2 c.in-Ok.ensures.3 c.put_next-count.ensures c.move_cursor.new.self (omega (arith, c.if-count-eq0.false)) c.requires c.are_few.ensures c.move_cursor.ensures
+    c.in-Ok.ensures.1 c.in-Ok.ensures.2 c.in-Ok.ensures.3 c.put_next-count.ensures c.move_cursor.new.self (omega (arith, c.if-count-eq0.false)) c.requires c.fact_few.ensures c.move_cursor.ensures

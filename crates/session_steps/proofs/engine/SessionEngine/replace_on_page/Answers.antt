@@ -21,7 +21,7 @@ open_mut-session-requires c =
 pub update_on_page-requires-clause-newest : goal.update_on_page-requires-clause-newest
 update_on_page-requires-clause-newest c =
     let e = c.open_mut-session.result.now in
-    newest-given c.self.inside.heap.statuses e.own.ids e.own.saved c.are_prefixes.ensures.prefixes (λ x mine. c.self.invariant.own.active c.args.s e x c.open_mut-session.ensures.value mine)
+    newest-given c.self.inside.heap.statuses e.own.ids e.own.saved c.fact_prefixes.ensures.prefixes (λ x mine. c.self.invariant.own.active c.args.s e x c.open_mut-session.ensures.value mine)
 
 pub update_on_page-requires-clause-there : goal.update_on_page-requires-clause-there
 update_on_page-requires-clause-there c =

@@ -1,9 +1,9 @@
 use Rattle.std.proofs.Common.{rules, Result, Some, refl, sym, ap, ◌∙◌, subst}
-use Rattle.calls.specs.declared.step.Step.TheVariants.{Savepoint}
+use Rattle.calls.specs.declared.step.Step.TheVariants as step
 use Rattle.calls.specs.declared.reply.Reply.{Reply}
-use Rattle.calls.specs.declared.reply.Reply.TheVariants.{Refused}
+use Rattle.calls.specs.declared.reply.Reply.TheVariants as reply
 use Rattle.calls.specs.declared.reply.Refusal.{Refusal}
-use Rattle.calls.specs.declared.reply.Refusal.TheVariants.{TooDeep, NoMemory}
+use Rattle.calls.specs.declared.reply.Refusal.TheVariants as refusal
 use Rattle.snapshot.specs.declared.own.SaveFault.{SaveFault}
 use Rattle.snapshot.specs.Saving.{CannotSave}
 use Rattle.session_steps.specs.declared.session.Session.{Session}
@@ -37,7 +37,7 @@ returns c =
     let before : State = record { settings = c.self.inside.settings; heap = c.self.inside.heap; sessions = c.self.inside.sessions } in
     let after = put_session before c.args.s (Some now) in
     let P : SaveFault → Type 0 = λ fault. CannotSave e.own fault in
-    let D : Reply → State → Type 0 = λ reply st. AnswersStep c.args.self.now (Savepoint c.args.s) reply st in
+    let D : Reply → State → Type 0 = λ reply st. AnswersStep c.args.self.now (step.Savepoint c.args.s) reply st in
     let R : Result Ack Refusal → Type 0 = λ r. D (reply_to r) after in
     elim c.match-save.branch [
       | in-Ok w ↦ (let is = ap (λ (st : State). put_session st c.args.s (Some now)) c.self.view_is in
@@ -48,13 +48,13 @@ returns c =
           }))
       | in-Err-TooDeep w ↦ (let same = unnoted before c.args.self.now c.args.s e c.save.new.self c.self.view_is c.open_mut.ensures.value w.in-Err-TooDeep.ensures.refused in
           let full = subst P w.in-Err-TooDeep.field-0-is w.in-Err-TooDeep.ensures.fault in
-          subst R (sym w.result-is) (subst (D (Refused TooDeep)) (sym same) (record {
+          subst R (sym w.result-is) (subst (D (reply.Refused refusal.TooDeep)) (sym same) (record {
             follows = Follows-too_deep c.args.self.now c.args.s e acts.1 acts.2 acts.3 full;
             exact = refl;
           })))
       | in-Err-NoMemory w ↦ (let same = unnoted before c.args.self.now c.args.s e c.save.new.self c.self.view_is c.open_mut.ensures.value w.in-Err-NoMemory.ensures.refused in
           let cannot = subst P w.in-Err-NoMemory.field-0-is w.in-Err-NoMemory.ensures.fault in
-          subst R (sym w.result-is) (subst (D (Refused NoMemory)) (sym same) (record {
+          subst R (sym w.result-is) (subst (D (reply.Refused refusal.NoMemory)) (sym same) (record {
             follows = Follows-savepoint_no_memory c.args.self.now c.args.s e acts.1 acts.2 acts.3 cannot.1;
             exact = ((e, there, cannot.0, cannot.2), refl);
           })))

@@ -43,7 +43,7 @@ returns c =
       | in-Savepoint w ↦ told P w.in-Savepoint.is w.answer-is w.self-is (w.savepoint-answer.ensures, refl)
       | in-RollbackTo w ↦ told P w.in-RollbackTo.is w.answer-is w.self-is (w.rollback_to-answer.ensures, refl)
       | in-Release w ↦ told P w.in-Release.is w.answer-is w.self-is (w.release-answer.ensures, refl)
-      | in-OpenIndex w ↦ (let fits = subst B w.in-OpenIndex.is c.has_bounds.ensures in
+      | in-OpenIndex w ↦ (let fits = subst B w.in-OpenIndex.is c.fact_bounds.ensures in
           told P (w.in-OpenIndex.is ∙ sym (stored-step w.in-OpenIndex.s w.in-OpenIndex.index w.in-OpenIndex.low w.in-OpenIndex.high fits.0 fits.1)) w.answer-is w.self-is (w.open_index-answer.ensures, refl))
       | in-OpenHeap w ↦ told P w.in-OpenHeap.is w.answer-is w.self-is (w.open_heap-answer.ensures, refl)
       | in-Close w ↦ told P w.in-Close.is w.answer-is w.self-is (w.close_cursor-answer.ensures, refl)

@@ -7,7 +7,7 @@ use Rattle.session_steps.specs.Tests.{MayWriteKey}
 use Rattle.session_steps.specs.Writes.{outcome_of}
 use Rattle.session_steps.specs.Replies.{reply_to}
 use Rattle.session_steps.specs.Exact.{AnswersStep}
-use Rattle.calls.specs.declared.step.Step.TheVariants.{Delete}
+use Rattle.calls.specs.declared.step.Step.TheVariants as step
 use Rattle.heap_write.specs.Refusals.{VersionIsThere}
 use Rattle.session_steps.proofs.Trying.{with_session, newest-given, place-there, tries-delete, keeps-deleted, delete-tried, exact-deleted}
 use Rattle.session_steps.proofs.Writing.{Follows-deleted}
@@ -22,7 +22,7 @@ open_mut-session-requires c =
 pub delete-requires-clause-newest : goal.delete-requires-clause-newest
 delete-requires-clause-newest c =
     let e = c.open_mut-session.result.now in
-    newest-given c.self.inside.heap.statuses e.own.ids e.own.saved c.are_prefixes.ensures.prefixes (λ x mine. c.self.invariant.own.active c.args.s e x c.open_mut-session.ensures.value mine)
+    newest-given c.self.inside.heap.statuses e.own.ids e.own.saved c.fact_prefixes.ensures.prefixes (λ x mine. c.self.invariant.own.active c.args.s e x c.open_mut-session.ensures.value mine)
 
 pub delete-requires-clause-there : goal.delete-requires-clause-there
 delete-requires-clause-there c =
@@ -47,8 +47,8 @@ returns c =
     let tries = tries-delete before.heap r.new.self e r.new.own c.args.place r.result r.ensures.ok r.ensures.fault r.ensures.own in
     let tried = delete-tried before r.new.self c.args.s c.args.key e now c.args.place (outcome_of r.result) may c.open_mut-session.ensures.value tries in
     let after = with_session before r.new.self c.args.s now in
-    let P : State → Type 0 = λ st. AnswersStep st (Delete c.args.s c.args.key) (reply_to c.write_answer.result) after in
-    let R : Reply → Type 0 = λ reply. AnswersStep before (Delete c.args.s c.args.key) reply after in
+    let P : State → Type 0 = λ st. AnswersStep st (step.Delete c.args.s c.args.key) (reply_to c.write_answer.result) after in
+    let R : Reply → Type 0 = λ reply. AnswersStep before (step.Delete c.args.s c.args.key) reply after in
     subst P c.self.view_is (subst R (sym c.write_answer.ensures) (record {
       follows = Follows-deleted before after c.args.s c.args.key (outcome_of r.result) tried r.ensures.window;
       exact = exact-deleted before after c.args.s c.args.key (outcome_of r.result) tried;

@@ -1,7 +1,7 @@
 use Rattle.std.proofs.Common.{rules, sym, ap, subst, refl}
 use Rattle.calls.specs.Words.{row_of}
 use Rattle.calls.specs.Writes.{updates}
-use Rattle.calls.specs.declared.step.Step.TheVariants.{Update}
+use Rattle.calls.specs.declared.step.Step.TheVariants as step
 use Rattle.calls.specs.declared.reply.Reply.{Reply}
 use Rattle.calls.specs.declared.step.RowIn.{RowIn}
 use Rattle.session_steps.specs.State.{State, refused_state}
@@ -28,7 +28,7 @@ returns-in_err-fill_row c = rw (handed-on c.from_residual-in_err-fill_row.result
 pub returns-then-has_room : goal.returns-then-has_room
 returns-then-has_room c =
     let filled = c.in_ok-fill_row.ensures.filled in
-    subst (λ (st : State). AnswersStep st (Update c.args.s c.args.row) (reply_to c.replace_on_page.result) c.replace_on_page.new.self) c.expect_entry.ensures (record {
+    subst (λ (st : State). AnswersStep st (step.Update c.args.s c.args.row) (reply_to c.replace_on_page.result) c.replace_on_page.new.self) c.expect_entry.ensures (record {
       follows = c.replace_on_page.ensures.follows c.args.row filled.0 filled.1;
       exact = search rules;
     })
@@ -36,7 +36,7 @@ returns-then-has_room c =
 pub returns-in-Ok : goal.returns-in-Ok
 returns-in-Ok c =
     let filled = c.in_ok-fill_row.ensures.filled in
-    subst (λ (st : State). AnswersStep st (Update c.args.s c.args.row) (reply_to c.replace_on_full_page.result) c.replace_on_full_page.new.self) c.expect_entry.ensures (record {
+    subst (λ (st : State). AnswersStep st (step.Update c.args.s c.args.row) (reply_to c.replace_on_full_page.result) c.replace_on_full_page.new.self) c.expect_entry.ensures (record {
       follows = c.replace_on_full_page.ensures.follows c.args.row filled.0 filled.1;
       exact = search rules;
     })
@@ -46,7 +46,7 @@ returns c =
     let filled = c.in_ok-fill_row.ensures.filled in
     let h = subst (λ (row : RowIn). RefusesChangeOfKey c.args.self.now c.args.s row.key c.in-Err.refusal) c.row.view_is
     (hinders-change c.args.self.now c.args.s c.row.inside.key c.in_ok-session.session.now c.check_update.result c.in-Err.refusal c.in-Err.is c.in_ok-session.ensures c.check_update.ensures) in
-    let P : State → Reply → Type 0 = λ new reply. AnswersStep c.args.self.now (Update c.args.s c.args.row) reply new in
+    let P : State → Reply → Type 0 = λ new reply. AnswersStep c.args.self.now (step.Update c.args.s c.args.row) reply new in
     subst (λ (new : State). P new (reply_to c.refuse.result)) (sym c.refuse.ensures.state)
     (subst (λ (reply : Reply). P (refused_state c.args.self.now c.args.s c.in-Err.refusal) reply) (ap reply_to (sym c.refuse.ensures.answer)) (record {
       follows = Follows-hindered_update c.args.self.now c.args.s (row_of c.args.row) c.in-Err.refusal h c.args.row filled.0 refl;

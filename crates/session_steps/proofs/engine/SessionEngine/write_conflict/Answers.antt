@@ -43,7 +43,7 @@ unreachable-requires c =
     let inside = subst (λ (st : State). Holds st.heap e c.args.key c.check_write.result.0.other_writer) (sym c.self.view_is) answer in
     let held = subst (λ (o : Option Xid). Holds c.self.inside.heap e c.args.key o) c.in-Some-other_writer.is inside in
     let owned = c.self.invariant.own.owned x (held-active c.self.inside.heap e c.args.key x held) in
-    c.in-None-owner.ensures owned.0 owned.1 (c.used.ensures.each owned.0 ∙ owned.2) owned.3
+    c.in-None-owner.ensures owned.0 owned.1 (c.places_in_use.ensures.each owned.0 ∙ owned.2) owned.3
 
 pub returns-in-Some-owner-clause-write_conflict : goal.returns-in-Some-owner-clause-write_conflict
 returns-in-Some-owner-clause-write_conflict c =
@@ -59,6 +59,6 @@ returns-in-Some-owner-clause-write_conflict c =
       id = c.in-Some-other_writer.x.0;
       held = subst (λ (o : Option Xid). Holds h e c.args.key o) c.in-Some-other_writer.is held;
       other = f.0;
-      at = subst O sessions_are (sym (c.used.ensures.each c.in-Some-owner.o) ∙ f.1);
+      at = subst O sessions_are (sym (c.places_in_use.ensures.each c.in-Some-owner.o) ∙ f.1);
       owns = f.2;
     }

@@ -11,5 +11,5 @@ returns-then-is_some c = record {
 
 pub returns : goal.returns
 returns c = λ n onward used.
-    let below = c.are_few.ensures.few n used in
+    let below = c.fact_few.ensures.few n used in
     c.loop-next.invariant n onward (omega (arith, below, c.loop-next-test.false)) used

@@ -3,7 +3,7 @@ use Rattle.std.specs.Option.{option_copied}
 use Rattle.heap_write.specs.Heap.{HeapView}
 use Rattle.heap_write.proofs.PageLemmas.{nothing-there}
 use Rattle.heap_write.proofs.SlotMemory.{slot-beside}
-use Rattle.heap_write.proofs.heap.HeapState.has_slot_beside.Goals as goal
+use Rattle.heap_write.proofs.heap.HeapState.fact_slot_beside.Goals as goal
 
 pub unreachable-requires : goal.unreachable-requires
 unreachable-requires c =
@@ -16,4 +16,4 @@ returns c =
     let h = c.args.self.now in
     let page = c.in-Some.page.now in
     let at : slice_get h.pages.pages c.args.place.page ≡ Some page = subst (λ (v : HeapView). slice_get v.pages.pages c.args.place.page ≡ Some page) c.self.view_is (sym c.page.ensures ∙ ap option_copied c.in-Some.is) in
-    slot-beside h c.args.place page at c.requires c.has_memory.ensures
+    slot-beside h c.args.place page at c.requires c.fact_memory.ensures

@@ -3,7 +3,7 @@ use Rattle.std.proofs.lemmas.List.{length-map, length-reverse}
 use Rattle.commit_status.specs.Changes.{numbers}
 use Rattle.snapshot.specs.Own.{Own, ArePrefixes}
 use Rattle.snapshot.proofs.LevelMarks.{marks-numbers, prefixes-marks}
-use Rattle.snapshot.proofs.own.OwnIds.are_prefixes.Goals as goal
+use Rattle.snapshot.proofs.own.OwnIds.fact_prefixes.Goals as goal
 
 pub returns-clause-prefixes : goal.returns-clause-prefixes
 returns-clause-prefixes c =
