@@ -140,7 +140,7 @@ pub record WouldGo (h : HeapView) (place : Tid) (horizon : ℕ) : Type 0 where
 
 -- The page of the old version is pruned where the row has no room on it, when there may be more memory; but it is left as it is
 -- where the version would go with that.
-pub data PrunesIfFull (h h' : HeapView) (number : PageNo) (horizon : Id) (size : Count) : Type 0 where
+pub data PrunesIfFull (h h' : HeapView) (place : Tid) (horizon : Id) (size : Count) : Type 0 where
   has_room : size ≤ room_of (page_on h place.page).slots → h' ≡ h → PrunesIfFull h h' place horizon size
   is_pruned : room_of (page_on h place.page).slots < size → (grown : HeapView) → Keeps h grown → Prunes grown h' place.page horizon
       → PrunesIfFull h h' place horizon size
