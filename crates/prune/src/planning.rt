@@ -69,7 +69,8 @@ pub(crate) fn list_actions(
 
 /// The changes of pruning a page at this horizon in order of slots: of each chain the prefix up to and with
 /// the last dead version goes. Where no slot is in the chains of two roots or redirects, there is one such plan, and it
-/// checks. It takes no memory. (README.HOT, "Pruning")
+/// checks. It takes no memory. (README.HOT, "Pruning") It is inlined, so that the plan, a few kilobytes, is made where it is used.
+#[inline(always)]
 pub fn plan(page: &Page, statuses: &StatusTable, horizon: Xid) -> PrunePlan
     ensures change { result.change ≡ page.now.change }
     ensures can_apply { CanApply (length page.now.slots) result.actions.items }

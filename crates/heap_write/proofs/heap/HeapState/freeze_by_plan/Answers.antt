@@ -1,5 +1,5 @@
-use Rattle.std.proofs.Common.{rules, ◌≡◌, ◌<◌, length, set, sym, ap, ◌∙◌, subst, arith}
-use Rattle.std.proofs.lemmas.List.{get_or-set_same, length-set}
+use Rattle.std.proofs.Common.{rules, ◌≡◌, set, sym, ap, ◌∙◌, subst}
+use Rattle.std.proofs.lemmas.List.{get_or-set_same}
 use Rattle.std.proofs.lemmas.Option.{slice_get_within}
 use Rattle.page_slots.specs.View.{PageView}
 use Rattle.heap_pages.specs.View.{PagesView}
@@ -12,7 +12,7 @@ use Rattle.heap_write.specs.Growth.{page_in}
 use Rattle.heap_write.specs.Steps.{with_applied}
 use Rattle.heap_write.specs.Cleaning.{FreezesAndNotes}
 use Rattle.heap_write.specs.contracts.heap.HeapState.{the_view}
-use Rattle.heap_write.proofs.PageLemmas.{page-at, page-set}
+use Rattle.heap_write.proofs.PageLemmas.{page-at}
 use Rattle.heap_write.proofs.HintLemmas.{hints-ended, hints-kept}
 use Rattle.heap_write.proofs.Visited.{applied-freezes}
 use Rattle.heap_write.proofs.heap.HeapState.freeze_by_plan.Goals as goal
