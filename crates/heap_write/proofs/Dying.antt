@@ -124,7 +124,7 @@ dies-earlier w turn earlier slots le dies = record {
       record { kept = may.kept; later = λ there. let later = may.later there in omega arith };
 }
 
-nobody-given : (w : Window) → ¬ IsGiven w 0
+pub nobody-given : (w : Window) → ¬ IsGiven w 0
 nobody-given w there = let e : true ≡ false = sym there in cc
 
 -- a version is added that x, not aborted, made

@@ -13,3 +13,4 @@ pub mod Dying
 pub mod HintLemmas
 pub mod Plans
 pub mod Replacing
+pub mod Visited

@@ -19,6 +19,7 @@ use Rattle.root_index.specs.declared.progress.Progress.{Progress}
 use Rattle.root_index.specs.Pieces.{RemovesPiece}
 use Rattle.table_indexes.specs.Indexes.{entries_at, entries_in, IsInUse}
 use Rattle.heap_write.specs.Heap.{HeapView}
+use Rattle.heap_write.specs.Writes.{Prunes}
 
 -- Pages.
 
@@ -49,6 +50,12 @@ pub record FreezesAndNotes (h h' : HeapView) (p cutoff horizon : ℕ) (dead : Li
   pub freezes : FreezesAt h frozen p cutoff
   pub notes : Notes frozen h' p horizon
   pub lists : ListsDead notes.page.slots dead
+
+-- it is pruned at a horizon before
+pub record PrunesAndFreezes (h h' : HeapView) (p cutoff horizon : ℕ) (dead : List ℕ) : Type 0 where
+  pub pruned : HeapView
+  pub prunes : Prunes h pruned p horizon
+  pub freezes : FreezesAndNotes pruned h' p cutoff horizon dead
 
 -- Indexes.
 

@@ -25,6 +25,7 @@ mod lookup;
 mod pruning;
 mod target;
 mod update;
+mod visiting;
 
 pub use heap::{HeapState, WriteFault};
 pub use index_lookup::{IndexPosition, IndexRange};

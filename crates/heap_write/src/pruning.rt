@@ -31,18 +31,10 @@ impl HeapState {
         if number >= self.pages.len() {
             return Err(PruneFault::NoSuchPage);
         }
-        self.prune_in_use(number, horizon);
-        Ok(())
-    }
-
-    /// Prunes the page of this number, which is in use, as [`HeapState::prune`] does.
-    pub fn prune_in_use(&mut self, number: u32, horizon: Xid)
-        requires within { number < length self.old.pages.pages }
-        ensures { Prunes self.old self.new number horizon.0 }
-    {
         if !self.knows_none_dead(number, horizon) {
             self.prune_page(number, horizon);
         }
+        Ok(())
     }
 
     /// Whether it is known that no version on the page of this number is dead: the horizon isn't after the turn from which on one

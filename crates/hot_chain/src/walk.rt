@@ -8,7 +8,7 @@ ghost use Rattle.hot_chain.specs.Laws.{ChainIsOne};
 use arrayvec::ArrayVec;
 use commit_status::StatusTable;
 use page_slots::Page;
-use tuple_header::Header;
+use tuple_header::{Header, MOST_SLOT_NUMBERS};
 
 /// Where the chain of a slot starts.
 pub(crate) fn first(page: &Page, number: u16) -> Option<u16>
@@ -60,7 +60,7 @@ pub fn list_chain(
     page: &Page,
     number: u16,
     statuses: &StatusTable,
-    visited: &mut ArrayVec<u16, 292>,
+    visited: &mut ArrayVec<u16, MOST_SLOT_NUMBERS>,
 )
     ensures { IsChain (has_aborted statuses.now) page.now.slots number visited.new.items }
 {
@@ -78,10 +78,10 @@ pub fn list_chain(
 
 /// The slots of the chain that a slot leads to, in order, on any page: a list of over half a kilobyte, which is handed on by
 /// value, where [`list_chain`] fills one that is there. It takes no memory.
-pub fn chain(page: &Page, number: u16, statuses: &StatusTable) -> ArrayVec<u16, 292>
+pub fn chain(page: &Page, number: u16, statuses: &StatusTable) -> ArrayVec<u16, MOST_SLOT_NUMBERS>
     ensures { IsChain (has_aborted statuses.now) page.now.slots number result.items }
 {
-    let mut listed: ArrayVec<u16, 292> = ArrayVec::new();
+    let mut listed: ArrayVec<u16, MOST_SLOT_NUMBERS> = ArrayVec::new();
     list_chain(page, number, statuses, &mut listed);
     listed
 }

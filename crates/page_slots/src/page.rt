@@ -208,7 +208,7 @@ impl Page {
     #[tactic(auto, using(crate::proofs::SlotLemmas::first_within))]
     pub fn free_number(&self) -> u16
         ensures value { result ≡ free_number self.now.slots }
-        ensures limit { result ≤ 292 }
+        ensures limit { result ≤ MOST_SLOTS + 1 }
     {
         self.free as u16 + 1
     }

@@ -7,6 +7,7 @@ use Rattle.commit_status.specs.Window.{Window}
 use Rattle.hot_chain.specs.Chain.{has_aborted, is_replaced, first_of, IsChain}
 use Rattle.page_slots.specs.Slots.{header_at}
 use Rattle.tuple_header.specs.declared.version.Header.{Header}
+use Rattle.tuple_header.specs.declared.version.TheConstants.{MOST_SLOT_NUMBERS}
 use Rattle.visibility.specs.Visible.{IsDead}
 use Rattle.prune.specs.declared.action.Action.{Action}
 use Rattle.prune.specs.declared.marks.PruneVerdict.{PruneVerdict}
@@ -17,7 +18,7 @@ use Rattle.prune.specs.Pruning.{IsInChainOf, chain_action, orphan_action}
 
 -- all are numbers that a slot may have
 abbrev pub AreNumbers : List ℕ → Type 0
-AreNumbers numbers = (i : ℕ) → i < length numbers → slice_index numbers i < 292
+AreNumbers numbers = (i : ℕ) → i < length numbers → slice_index numbers i < MOST_SLOT_NUMBERS
 
 -- of a slot that is held by a chain, to which this is done, if anything
 abbrev pub verdict_of : Option Action → PruneVerdict

@@ -7,7 +7,7 @@ ghost use Rattle.prune.specs.Pruning.{orphan_action};
 ghost use Rattle.prune.specs.Marks.{AreNumbers};
 ghost use Rattle.prune.specs.Checks.{HasPrefix, Checks};
 ghost use Rattle.prune.specs.Named.{named_at, IsNamedPrefix, BecomesUnused, IsLooseRight};
-ghost use Rattle.tuple_header.specs.declared.version.TheConstants.{MOST_SLOTS};
+ghost use Rattle.tuple_header.specs.declared.version.TheConstants.{MOST_SLOTS, MOST_SLOT_NUMBERS};
 
 use crate::action::{Action, PrunePlan};
 use crate::glance::{Numbers, list_doubtful};
@@ -17,10 +17,11 @@ use arrayvec::ArrayVec;
 use commit_status::StatusTable;
 use hot_chain::{chain, is_root};
 use page_slots::Page;
+use tuple_header::MOST_SLOT_NUMBERS;
 use xid_circle::Xid;
 
 /// What a plan does to each slot, by its number, from 0 to 291.
-type Named = [Option<Action>; 292];
+type Named = [Option<Action>; MOST_SLOT_NUMBERS];
 
 /// Whether a plan was made for the page as it is now.
 fn is_fresh(page: &Page, plan: &PrunePlan) -> bool
@@ -48,7 +49,7 @@ fn named_by(actions: &[(u16, Action)]) -> Named
     requires { AreInOrder MOST_SLOTS 0 actions.now }
     ensures { (n : ℕ) → named_at result n ≡ action_of actions.now n }
 {
-    let mut named = [None; 292];
+    let mut named = [None; MOST_SLOT_NUMBERS];
     for action in actions {
         named[usize::from(action.0)] = Some(action.1);
     }
@@ -85,7 +86,7 @@ fn are_unnamed(named: &Named, numbers: &[u16]) -> bool
 
 /// Whether a slot becomes unused, if it holds a heap-only version.
 fn becomes_unused(page: &Page, named: &Named, number: u16) -> bool
-    requires { number < 292 }
+    requires { number < MOST_SLOT_NUMBERS }
     ensures { IsTrue result ↔ BecomesUnused page.now.slots named.now number }
 {
     let action = named[usize::from(number)];
@@ -120,7 +121,7 @@ fn are_same(a: Option<Action>, b: Option<Action>) -> bool
 
 /// Whether the plan cuts, of this root's chain, a prefix that pruning would cut too, and sets the root accordingly.
 fn has_prefix(page: &Page, named: &Named, root: u16, statuses: &StatusTable, horizon: Xid) -> bool
-    requires number { root < 292 }
+    requires number { root < MOST_SLOT_NUMBERS }
     ensures { IsTrue result
         ↔ HasPrefix statuses.now horizon.0 page.now.slots (named_at named.now) root }
 {
@@ -163,7 +164,7 @@ fn is_allowed(
     number: u16,
     statuses: &StatusTable,
 ) -> bool
-    requires { number < 292 }
+    requires { number < MOST_SLOT_NUMBERS }
     ensures { IsTrue result ↔ IsLooseRight statuses.now page.now.slots marks.now named.now number }
 {
     let mark = marks[usize::from(number)];
@@ -203,7 +204,7 @@ pub fn check_plan(page: &Page, plan: &PrunePlan, statuses: &StatusTable, horizon
         return false;
     }
     let named = named_by(&plan.actions);
-    let mut marks = [PruneVerdict::Orphan; 292];
+    let mut marks = [PruneVerdict::Orphan; MOST_SLOT_NUMBERS];
     let mut doubtful: Numbers = ArrayVec::new();
     list_doubtful(&mut doubtful, page, statuses, horizon);
     mark_page(&mut marks, doubtful.as_slice(), page, statuses, horizon);

@@ -8,25 +8,11 @@ ghost use Rattle.page_slots.specs.Slots.{SlotIsThere, the_slot, is_undeleted_by}
 ghost use Rattle.sound_page.specs.Dead.{IsDeadAt, HasDead};
 ghost use Rattle.prune.specs.Deaths.{IsNoLaterThan, IsTurnOf, IsTurnThere, MayDieFrom, NothingDiesBefore, LivesAt};
 
-use commit_status::{Status, StatusTable};
+use commit_status::StatusTable;
 use page_slots::Page;
 use tuple_header::Header;
 use visibility::{Fate, fate_of};
 use xid_circle::{Xid, precedes};
-
-#[inline(always)]
-pub(crate) fn is_aborted(x: Xid, statuses: &StatusTable) -> bool
-    ensures { IsTrue result ↔ IsAborted statuses.now x.0 }
-{
-    matches!(statuses.status(x), Status::Aborted)
-}
-
-#[inline(always)]
-fn is_committed(x: Xid, statuses: &StatusTable) -> bool
-    ensures { IsTrue result ↔ IsCommitted statuses.now x.0 }
-{
-    matches!(statuses.status(x), Status::Committed)
-}
 
 /// Whether a slot holds a dead version.
 pub(crate) fn is_dead_at(page: &Page, number: u16, statuses: &StatusTable, horizon: Xid) -> bool
@@ -50,7 +36,7 @@ fn earliest_deletion(deleter: Xid, turn: u32, statuses: &StatusTable, horizon: X
     if deleter.0 == 0 {
         return Some(turn);
     }
-    if is_committed(deleter, statuses) && precedes(deleter, horizon) {
+    if statuses.is_committed(deleter) && precedes(deleter, horizon) {
         return None;
     }
     match statuses.turn_of(deleter) {
@@ -69,7 +55,7 @@ fn inserter_unless_aborted(header: &Header, known: Xid, statuses: &StatusTable) 
 {
     if header.xmin.0 == known.0 {
         Some(known)
-    } else if !is_aborted(header.xmin, statuses) {
+    } else if !statuses.is_aborted(header.xmin) {
         Some(header.xmin)
     } else if header.is_frozen() {
         Some(known)

@@ -6,18 +6,17 @@ ghost use Rattle.page_slots.specs.Slots.{SlotIsThere};
 ghost use Rattle.prune.specs.Marks.{ListsAllBut, ListsDoubtful};
 ghost use Rattle.prune.specs.Glances.{IsPlain, IsPlainAt, StartsPlainly, ArePlainOrNotedOver, IsGlance};
 
-use crate::dead::is_aborted;
 use arrayvec::ArrayVec;
 use commit_status::StatusTable;
 use page_slots::{Page, SlotHead};
-use tuple_header::Header;
+use tuple_header::{Header, MOST_SLOT_NUMBERS};
 use xid_circle::Xid;
 
 /// Numbers of slots, in order. A page has at most 291.
-pub(crate) type Numbers = ArrayVec<u16, 292>;
+pub(crate) type Numbers = ArrayVec<u16, MOST_SLOT_NUMBERS>;
 
 /// For each number from 0 to 291, whether its slot is noted.
-type Noted = [bool; 292];
+type Noted = [bool; MOST_SLOT_NUMBERS];
 
 /// What a glance at a slot tells.
 #[derive(Clone, Copy, Debug)]
@@ -37,7 +36,7 @@ fn is_plain(header: &Header, known: Xid, statuses: &StatusTable) -> bool
     requires known { ¬ IsAborted statuses.now known.0 }
     ensures { IsTrue result → IsPlain statuses.now header.now }
 {
-    header.xmax.0 == 0 && (header.xmin.0 == known.0 || !is_aborted(header.xmin, statuses))
+    header.xmax.0 == 0 && (header.xmin.0 == known.0 || !statuses.is_aborted(header.xmin))
 }
 
 /// Whether the version in a slot is so, if there is one.
@@ -67,7 +66,7 @@ fn leads_plainly(
     let _limit = page.slots();
     if target <= number {
         is_plain_at(page, target, statuses)
-    } else if target < 292 {
+    } else if usize::from(target) < MOST_SLOT_NUMBERS {
         !noted[usize::from(target)]
     } else {
         true
@@ -110,7 +109,7 @@ fn list_backwards(doubtful: &mut Numbers, page: &Page, statuses: &StatusTable)
         (StartsPlainly statuses.now page.now.slots) 0 (reverse doubtful.new.items)
         (length page.now.slots + 1) }
 {
-    let mut noted = [false; 292];
+    let mut noted = [false; MOST_SLOT_NUMBERS];
     // 0 is no id, so it was not aborted.
     let mut known = Xid(0);
     let mut number = page.slots();

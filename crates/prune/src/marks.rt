@@ -7,6 +7,7 @@ ghost use Rattle.hot_chain.specs.Chain.{has_aborted, IsChain};
 ghost use Rattle.prune.specs.Cutting.{IsCutCount};
 ghost use Rattle.prune.specs.Pruning.{root_action};
 ghost use Rattle.prune.specs.Marks.{AreNumbers, verdict_of, mark_at, marked, MarksChain, IsVerdict, IsSingle, ListsDoubtful};
+ghost use Rattle.tuple_header.specs.declared.version.TheConstants.{MOST_SLOT_NUMBERS};
 
 use crate::action::Action;
 use crate::dead::is_dead_at;
@@ -15,6 +16,7 @@ use arrayvec::ArrayVec;
 use commit_status::StatusTable;
 use hot_chain::{is_root, list_chain};
 use page_slots::Page;
+use tuple_header::MOST_SLOT_NUMBERS;
 use visibility::{Fate, fate_of};
 use xid_circle::Xid;
 
@@ -42,7 +44,7 @@ impl PruneVerdict {
 }
 
 /// A mark for each number from 0 to 291.
-pub(crate) type Marks = [PruneVerdict; 292];
+pub(crate) type Marks = [PruneVerdict; MOST_SLOT_NUMBERS];
 
 /// How many of these versions end with the last dead one.
 pub(crate) fn cut_count(page: &Page, chain: &[u16], statuses: &StatusTable, horizon: Xid) -> usize
@@ -102,8 +104,8 @@ fn single_of(page: &Page, root: u16, statuses: &StatusTable, horizon: Xid) -> Op
 
 /// Notes what becomes of a root whose chain is this slot, and of the slot.
 fn mark_single(marks: &mut Marks, root: u16, start: u16, is_dead: bool)
-    requires root { root < 292 }
-    requires start { start < 292 }
+    requires root { root < MOST_SLOT_NUMBERS }
+    requires start { start < MOST_SLOT_NUMBERS }
     ensures { (n : ℕ)
         → mark_at marks.new n
         ≡ marked root (start ∷ []) (if is_dead then 1 else 0) n (mark_at marks.old n) }
@@ -126,7 +128,7 @@ fn mark_chain(
     statuses: &StatusTable,
     horizon: Xid,
 )
-    requires number { root < 292 }
+    requires number { root < MOST_SLOT_NUMBERS }
     requires chain { IsChain (has_aborted statuses.now) page.now.slots root chain.now }
     ensures { MarksChain statuses.now horizon.0 page.now.slots root marks.old marks.new }
 {
@@ -146,7 +148,7 @@ fn mark_root(
     statuses: &StatusTable,
     horizon: Xid,
 )
-    requires number { root < 292 }
+    requires number { root < MOST_SLOT_NUMBERS }
     ensures { MarksChain statuses.now horizon.0 page.now.slots root marks.old marks.new }
 {
     let _limit = page.slots();

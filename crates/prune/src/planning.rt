@@ -7,13 +7,15 @@ ghost use Rattle.hot_chain.specs.Chain.{has_aborted};
 ghost use Rattle.sound_page.specs.Links.{NoSharedSlots};
 ghost use Rattle.prune.specs.Checks.{Checks};
 ghost use Rattle.prune.specs.Marks.{mark_at, planned, ListsDoubtful};
+ghost use Rattle.tuple_header.specs.declared.version.TheConstants.{MOST_SLOT_NUMBERS};
 
 use crate::action::{Action, Actions, PrunePlan};
 use crate::glance::{Numbers, list_doubtful};
 use crate::marks::{Marks, PruneVerdict, mark_page};
 use arrayvec::ArrayVec;
-use commit_status::{Status, StatusTable};
+use commit_status::StatusTable;
 use page_slots::Page;
+use tuple_header::MOST_SLOT_NUMBERS;
 use xid_circle::Xid;
 
 /// What becomes of a slot that no chain reaches.
@@ -21,8 +23,7 @@ pub(crate) fn orphan_action(page: &Page, number: u16, statuses: &StatusTable) ->
     ensures { result ≡ orphan_action statuses.now page.now.slots number }
 {
     let header = page.header(number)?;
-    let is_aborted = matches!(statuses.status(header.xmin), Status::Aborted);
-    if header.is_heap_only() && !header.is_frozen() && is_aborted {
+    if header.is_heap_only() && !header.is_frozen() && statuses.is_aborted(header.xmin) {
         Some(Action::Unuse)
     } else {
         None
@@ -31,7 +32,7 @@ pub(crate) fn orphan_action(page: &Page, number: u16, statuses: &StatusTable) ->
 
 /// What becomes of a slot with this mark.
 fn action_at(page: &Page, marks: &Marks, number: u16, statuses: &StatusTable) -> Option<Action>
-    requires { number < 292 }
+    requires { number < MOST_SLOT_NUMBERS }
     ensures { result ≡ planned statuses.now page.now.slots number (mark_at marks.now number) }
 {
     match marks[usize::from(number)] {
@@ -57,7 +58,7 @@ pub(crate) fn list_actions(
     ensures exact { IsPlan statuses.now horizon.0 page.now.slots actions.new.items }
 {
     let _limit = page.slots();
-    let mut marks = [PruneVerdict::Orphan; 292];
+    let mut marks = [PruneVerdict::Orphan; MOST_SLOT_NUMBERS];
     mark_page(&mut marks, doubtful, page, statuses, horizon);
     for number in doubtful {
         if let Some(action) = action_at(page, &marks, *number, statuses) {
@@ -68,7 +69,8 @@ pub(crate) fn list_actions(
 
 /// The changes of pruning a page at this horizon in order of slots: of each chain the prefix up to and with
 /// the last dead version goes. Where no slot is in the chains of two roots or redirects, there is one such plan, and it
-/// checks. It takes no memory. (README.HOT, "Pruning")
+/// checks. It takes no memory. (README.HOT, "Pruning") It is inlined, so that the plan, a few kilobytes, is made where it is used.
+#[inline(always)]
 pub fn plan(page: &Page, statuses: &StatusTable, horizon: Xid) -> PrunePlan
     ensures change { result.change ≡ page.now.change }
     ensures can_apply { CanApply (length page.now.slots) result.actions.items }

@@ -19,4 +19,4 @@ pub use encoding::{encode, reads_back};
 pub use fault::TupleFault;
 pub use row_place::RowPlace;
 pub use row_ref::RowRef;
-pub use version::{Header, MOST_BODY, MOST_SLOTS, Row, Tuple, row_size, size};
+pub use version::{Header, MOST_BODY, MOST_SLOT_NUMBERS, MOST_SLOTS, Row, Tuple, row_size, size};

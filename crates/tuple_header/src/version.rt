@@ -43,6 +43,9 @@ pub const MOST_BODY: usize = 1024;
 /// How many slots a page may have, and so the highest number of one (PostgreSQL, `MaxHeapTuplesPerPage`).
 pub const MOST_SLOTS: u16 = 291;
 
+/// How many numbers an array by slot number has: from 0, which no slot has, to the highest.
+pub const MOST_SLOT_NUMBERS: usize = 292;
+
 /// What a version says of its life: who made it, who took it away, and where its successor is (PostgreSQL manual,
 /// Database Page Layout, HeapTupleHeaderData).
 #[derive(Clone, Copy, Debug, PartialEq, Eq)]

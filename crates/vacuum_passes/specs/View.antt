@@ -3,6 +3,7 @@
 use Rattle.std.specs.Prelude.{◌==◌, ◌+◌, ◌-◌, ◌*◌, ℕ, min, nat_lt, Bool, true, false, List, [], ◌++◌, length, map, take, None, if◌then◌else◌}
 use Rattle.xid_circle.specs.Numbers.{Id, Count}
 use Rattle.xid_circle.specs.declared.Tid.{Tid}
+use Rattle.tuple_header.specs.declared.version.TheConstants.{MOST_SLOTS}
 use Rattle.space_maps.specs.declared.mark.Mark.{Mark}
 use Rattle.space_maps.specs.View.{says_visible, says_frozen}
 use Rattle.calls.specs.declared.vacuum.Mode.{Mode}
@@ -35,6 +36,12 @@ pub record VacuumView : Type 0 where
 abbrev pub skips : Mode → Mark → Bool
 skips Normal mark = says_visible mark
 skips Aggressive mark = says_frozen mark
+
+-- the next step goes through an index
+abbrev pub is_sweeping : Phase → Bool
+is_sweeping phase.Heap = false
+is_sweeping (phase.Index i from) = true
+is_sweeping phase.Free = false
 
 -- another step came between
 abbrev pub disturbed : Bool → VacuumView → VacuumView
@@ -90,4 +97,4 @@ with_phase v phase = record v { phase = phase }
 
 -- how many steps it takes at most, while it is alone: with the number of pages to visit and of entries at its beginning
 abbrev pub bound : ℕ → ℕ → ℕ
-bound pages entries = 292 * pages * (entries + 8) + 1
+bound pages entries = (MOST_SLOTS + 1) * pages * (entries + 8) + 1

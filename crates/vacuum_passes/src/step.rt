@@ -1,10 +1,10 @@
 //! The next step of a vacuum.
 
-ghost use Rattle.std.specs.Prelude.{◌≡◌, ◌≢◌, ◌⊎◌, ℕ, [], Some, None, MatchOption};
+ghost use Rattle.std.specs.Prelude.{◌≡◌, ◌≢◌, ◌⊎◌, ℕ, [], Some, None, is_some, MatchOption};
 ghost use Rattle.std.specs.Option.{option_map};
 ghost use Rattle.space_maps.specs.View.{mark_on};
 ghost use Rattle.vacuum_passes.specs.declared.vacuum.Phase.TheVariants as phase;
-ghost use Rattle.vacuum_passes.specs.View.{skips, counted, at_end};
+ghost use Rattle.vacuum_passes.specs.View.{skips, counted, at_end, is_sweeping};
 ghost use Rattle.vacuum_passes.specs.Visits.{IsNextPage, NoPageLeft, Visits};
 ghost use Rattle.vacuum_passes.specs.Steps.{Steps, Sweeps, Frees, Drops};
 
@@ -34,18 +34,17 @@ impl Vacuum {
 
     /// Does the next step if that goes through an index: it asks for no horizon. Else it does nothing.
     pub fn step_index(&mut self, heap: &mut HeapState) -> Option<Piece>
-        ensures { MatchOption result ((self.new ≡ self.old) × (heap.new ≡ heap.old))
+        ensures exact { is_some result ≡ is_sweeping self.old.phase }
+        ensures step { MatchOption result ((self.new ≡ self.old) × (heap.new ≡ heap.old))
             (λ piece. (horizon : ℕ)
             → Steps heap.old heap.new self.old horizon (Some self.new) (Some piece)) }
     {
-        match self.phase {
-            Phase::Index(index, from) => {
-                self.sweep(heap, index, from);
-                self.count();
-                Some(Piece::Index(index))
-            }
-            Phase::Heap | Phase::Free => None,
-        }
+        let Phase::Index(index, from) = self.phase else {
+            return None;
+        };
+        self.sweep(heap, index, from);
+        self.count();
+        Some(Piece::Index(index))
     }
 
     /// Does the next step, and doesn't count it.

@@ -24,33 +24,45 @@ pub enum Phase {
 /// A vacuum in progress. It holds at most 4096 dead slots at a time.
 #[derive(Debug, Drop)]
 pub struct Vacuum {
-    // What its beginning fixed: the mode; the horizon of that moment; the id before which it freezes; how many pages it visits; how
-    // many entries all indexes had; and how many dead slots it collects at most.
+    // What its beginning fixed.
+    /// Which pages it passes over.
     pub(crate) mode: Mode,
+    /// The horizon of that moment.
     pub(crate) horizon: Xid,
+    /// It freezes what an id before this one made.
     pub(crate) cutoff: Xid,
+    /// How many pages it visits, from page 0 on.
     pub(crate) pages: u32,
+    /// How many entries all indexes had.
     pub(crate) entries: u128,
+    /// How many dead slots it holds at most.
     pub(crate) limit: u32,
 
-    // What it does next, the next page, and where in its index the last piece ended.
+    // Where it is.
+    /// What its next step does.
     pub(crate) phase: Phase,
+    /// The next page to visit.
     pub(crate) next: u32,
+    /// Where in its index the last piece ended.
     pub(crate) near: PositionHint,
 
-    // The collected slots in ascending order of pages and slots, and how many of them are unused by now.
+    // What it collected.
+    /// Dead slots, in ascending order of pages and slots.
     pub(crate) store: DeadSet,
+    /// How many of them, from the first on, are unused by now.
     pub(crate) freed: usize,
 
-    // Whether each step since its beginning was its own; whether none was a session's; and how many of its own steps there were
-    // while it was alone.
+    // What came between its steps.
+    /// Whether nothing did.
     pub(crate) alone: bool,
+    /// Whether no step of a session did.
     pub(crate) quiet: bool,
+    /// How many of its own steps there were while it was alone.
     pub(crate) steps: u64,
 }
 
 impl Model for Vacuum {
-    ghost use Rattle.std.specs.Prelude.{drop, length, ◌≤◌};
+    ghost use Rattle.std.specs.Prelude.{length, ◌≤◌};
     ghost use Rattle.vacuum_passes.specs.View.{VacuumView};
     ghost use Rattle.vacuum_passes.specs.Keeps.{IsVacuum};
     ghost use Rattle.vacuum_passes.specs.Working.{FreesLast};
@@ -58,35 +70,12 @@ impl Model for Vacuum {
 
     ghost Value = { VacuumView };
 
-    ghost view = { λ v. record {
-      mode = v.mode;
-      horizon = v.horizon.0;
-      cutoff = v.cutoff.0;
-      pages = v.pages;
-      entries = v.entries;
-      limit = v.limit;
-      phase = v.phase;
-      next = v.next;
-      store = drop v.freed v.store;
-      alone = v.alone;
-      quiet = v.quiet;
-      steps = v.steps;
-    } };
+    ghost use Rattle.vacuum_passes.specs.Fields.{seen_as};
 
-    ghost invariant = { λ v. IsVacuum (record {
-      mode = v.mode;
-      horizon = v.horizon.0;
-      cutoff = v.cutoff.0;
-      pages = v.pages;
-      entries = v.entries;
-      limit = v.limit;
-      phase = v.phase;
-      next = v.next;
-      store = drop v.freed v.store;
-      alone = v.alone;
-      quiet = v.quiet;
-      steps = v.steps;
-    }) × (v.limit ≤ MOST_PLACES) × (v.freed ≤ length v.store) × FreesLast v.phase v.freed };
+    ghost view = { seen_as };
+
+    ghost invariant = { λ v. IsVacuum (seen_as v) × (v.limit ≤ MOST_PLACES)
+        × (v.freed ≤ length v.store) × FreesLast v.phase v.freed };
 }
 
 impl Vacuum {

@@ -59,8 +59,7 @@ fn clean_page(heap: &mut HeapState, number: u32, horizon: Xid, cutoff: Xid) -> D
     requires in_use { number < length heap.old.pages.pages }
     ensures { CleansAndLists heap.old heap.new horizon.0 cutoff.0 number result.items }
 {
-    heap.prune_in_use(number, horizon);
-    heap.freeze_and_note(number, cutoff, horizon)
+    heap.clean(number, cutoff, horizon)
 }
 
 /// Collects these slots of a page, in ascending order, up to so many places in all. It answers whether some are left over.

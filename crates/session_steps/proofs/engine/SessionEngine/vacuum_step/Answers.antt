@@ -7,9 +7,9 @@ use Rattle.session_steps.proofs.engine.SessionEngine.vacuum_step.Goals as goal
 
 pub invariant_of-self : goal.invariant_of-self
 invariant_of-self c =
-    subst (λ (w : Window). EngineKeeps c.self.inside.sessions w) (sym (steps-table _ _ _ 0 _ _ (c.in-Some.ensures 0))) c.self.invariant
+    subst (λ (w : Window). EngineKeeps c.self.inside.sessions w) (sym (steps-table _ _ _ 0 _ _ (c.in-Some.ensures.step 0))) c.self.invariant
 
 pub invariant_of-self-in-None-2 : goal.invariant_of-self-in-None-2
 invariant_of-self-in-None-2 c =
     subst (λ (w : Window). EngineKeeps c.self.inside.sessions w)
-    (sym (steps-table _ _ _ _ _ _ c.step.ensures ∙ ap (λ (h : HeapView). h.statuses) c.in-None.ensures.1)) c.self.invariant
+    (sym (steps-table _ _ _ _ _ _ c.step.ensures ∙ ap (λ (h : HeapView). h.statuses) c.in-None.ensures.step.1)) c.self.invariant
