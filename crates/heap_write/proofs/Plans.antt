@@ -9,7 +9,7 @@ use Rattle.tuple_header.specs.declared.version.Row.{Row}
 use Rattle.tuple_header.specs.Version.{Version, rounded_size_of}
 use Rattle.tuple_header.specs.declared.version.Header.{Header}
 use Rattle.tuple_header.specs.Marks.{is_frozen, is_heap_only}
-use Rattle.page_slots.specs.View.{PageView}
+use Rattle.page_slots.specs.View.{PageView, HasSlot}
 use Rattle.page_slots.specs.declared.slot.Slot.{Slot}
 use Rattle.page_slots.specs.Slots.{slot_at, version_of, header_at, row_at, version_at, IsNormalAt, SlotIsThere, with_slot, room_of}
 use Rattle.page_slots.proofs.SlotLemmas.{normal_at, there-from_slot_at}
@@ -34,7 +34,7 @@ use Rattle.snapshot.specs.Own.{Own}
 use Rattle.heap_write.specs.Writes.{NeedsFreeze, SameOwn, KeepsValues, Prunes, PrunesIfFull, WouldGo}
 use Rattle.heap_write.specs.Writes.PrunesIfFull.{is_pruned, is_left}
 use Rattle.heap_write.specs.Steps.{HasNoneDead, IsChosen, IsPlanOn, IsLeftAlone, with_applied}
-use Rattle.heap_write.specs.Growth.{HasSlot, IsReserved}
+use Rattle.heap_write.specs.Growth.{IsReserved}
 use Rattle.heap_write.specs.Refusals.{NeedsIds, RootNeedsMemory, UpdateNeedsMemory, VersionIsThere}
 use Rattle.heap_write.specs.declared.target.Target.{Target}
 use Rattle.heap_write.proofs.PageLemmas.{keeps-all, page-at, page-back, page-set, there-within}

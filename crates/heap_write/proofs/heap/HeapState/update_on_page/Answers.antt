@@ -5,7 +5,8 @@ use Rattle.page_slots.specs.Slots.{room_of}
 use Rattle.heap_pages.specs.View.{PagesView}
 use Rattle.commit_status.specs.Window.{IsWindow}
 use Rattle.heap_write.specs.Heap.{HeapView}
-use Rattle.heap_write.specs.Growth.{HasSlot, page_in}
+use Rattle.page_slots.specs.View.{HasSlot}
+use Rattle.heap_write.specs.Growth.{page_in}
 use Rattle.heap_write.specs.Writes.{NeedsFreeze}
 use Rattle.heap_write.specs.Writes.PrunesIfFull.{has_room}
 use Rattle.heap_write.proofs.Replacing.{replaceable-kept}

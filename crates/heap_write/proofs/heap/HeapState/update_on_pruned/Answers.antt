@@ -7,7 +7,8 @@ use Rattle.heap_pages.specs.View.{PagesView}
 use Rattle.std.specs.Prelude.{IsFalse}
 use Rattle.table_indexes.specs.Indexes.{HasEntries, SameEntries}
 use Rattle.heap_write.specs.Heap.{HeapView}
-use Rattle.heap_write.specs.Growth.{HasSlot, page_in}
+use Rattle.page_slots.specs.View.{HasSlot}
+use Rattle.heap_write.specs.Growth.{page_in}
 use Rattle.heap_write.specs.Writes.Replaces.{on_page}
 use Rattle.commit_status.specs.Window.{IsWindow}
 use Rattle.heap_write.proofs.PageLemmas.{there-within}
