@@ -18,7 +18,6 @@ use Rattle.prune.specs.declared.action.Action.TheVariants as action
 use Rattle.prune.specs.Actions.{acted}
 use Rattle.prune.specs.Pruning.{root_action, loose_in, PrunesSlot, by_root, by_none, IsPruned}
 use Rattle.heap_write.specs.Heap.{HeapView, page_on}
-
 use Rattle.heap_write.specs.Refusals.{VersionIsThere}
 use Rattle.heap_write.proofs.PageLemmas.{page-at, there-at, no-version}
 use Rattle.xid_circle.specs.declared.Tid.{Tid}

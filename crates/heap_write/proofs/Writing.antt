@@ -238,7 +238,7 @@ on_page-grown h h1 h' place x row grown (as_root changes replaces) =
 
 pub replaces-here : (h h' : HeapView) (place : Tid) (x : ℕ) (row : Row) (before after : PageView) → slice_get h.pages.pages place.page ≡ Some before
     → AddsToPage (record before { flag = false }) after (with_updated before.slots place.slot x place.page row)
-        (replaced_change before.slots place.slot x place.page (free_number before.slots) true (next_change before.change))
+    (replaced_change before.slots place.slot x place.page (free_number before.slots) true (next_change before.change))
     → free_number before.slots ≤ 291
     → h'.pages.pages ≡ set h.pages.pages place.page after → h'.pages.marks ≡ set h.pages.marks place.page Nothing → SameEntries h.indexes h'.indexes → HotUpdates h h' place x row
 replaces-here h h' place x row before after at adds within pages marks entries =

@@ -19,7 +19,7 @@ returns-clause-replaces c =
     let row = c.args.row.now in
     let e = c.write-slot.ensures.writes in
     let adds : AddsToPage (record e.0 { flag = false }) e.1 (with_updated e.0.slots place.slot x place.page row)
-        (replaced_change e.0.slots place.slot x place.page (free_number e.0.slots) true (next_change e.0.change)) = search rules in
+    (replaced_change e.0.slots place.slot x place.page (free_number e.0.slots) true (next_change e.0.change)) = search rules in
     let within : free_number e.0.slots ≤ 291 = search rules in
     let h' : HeapView = record { pages = c.write-slot.new.self; statuses = c.take_ids-x.new.statuses; indexes = c.self.inside.indexes; max_pages = c.self.inside.max_pages } in
     subst (λ (v : HeapView). HotUpdates v h' place x row) c.self.view_is
@@ -33,7 +33,7 @@ invariant_of-self c =
     let row = c.args.row.now in
     let e = c.write-slot.ensures.writes in
     let adds : AddsToPage (record e.0 { flag = false }) e.1 (with_updated e.0.slots place.slot x place.page row)
-        (replaced_change e.0.slots place.slot x place.page (free_number e.0.slots) true (next_change e.0.change)) = search rules in
+    (replaced_change e.0.slots place.slot x place.page (free_number e.0.slots) true (next_change e.0.change)) = search rules in
     let there : VersionIsThere (the_view c.self.inside) place = subst (λ (h : HeapView). VersionIsThere h place) (sym c.self.view_is) c.requires.may.there in
     let given = hints-taken c.self.inside.statuses taken.new.statuses c.args.own.now taken.new.own x c.self.inside.pages.pages c.self.inside.hints.turns taken.ensures.takes taken.ensures.window c.self.invariant.1 in (
       c.self.invariant.0,
