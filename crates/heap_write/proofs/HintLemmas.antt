@@ -29,7 +29,7 @@ use Rattle.heap_write.specs.Steps.{HasNoneDead}
 use Rattle.heap_write.specs.Hints.{AreTrueHints, IsLowered, ExpectsRoot, ExpectsWrite}
 use Rattle.heap_write.proofs.Dying.{AgesOn, dies-on, ages-given, ages-finished, ages-same, none-dead, dies-earlier, dies-root, dies-replaced, dies-updated}
 use Rattle.heap_write.proofs.PageLemmas.{page-at}
-use Rattle.heap_write.proofs.Writing.{MarksColdUpdated}
+use Rattle.heap_write.proofs.Writing.{WritesXmax}
 use Rattle.heap_write.proofs.IdlePages.{idle-at}
 
 -- No version comes, and none is aborted.
@@ -232,7 +232,7 @@ hints-changed w x n pages pages' before after hints hints' at is write =
 
 -- it takes a version away
 pub hints-taken_away : (w : Window) (x : ℕ) (place successor : Tid) (pages pages' : List PageView) (before after : PageView) (hints hints' : List (Option ℕ))
-    → slice_get pages place.page ≡ Some before → pages' ≡ set pages place.page after → MarksColdUpdated before after place successor x → IsNormalAt before.slots place.slot
+    → slice_get pages place.page ≡ Some before → pages' ≡ set pages place.page after → WritesXmax before after place successor x → IsNormalAt before.slots place.slot
     → ExpectsWrite w x place.page hints hints' → AreTrueHints w pages hints → AreTrueHints w pages' hints'
 hints-taken_away w x place successor pages pages' before after hints hints' at is away normal =
     hints-changed w x place.page pages pages' before after hints hints' at is

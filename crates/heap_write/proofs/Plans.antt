@@ -9,7 +9,7 @@ use Rattle.tuple_header.specs.declared.version.Row.{Row}
 use Rattle.tuple_header.specs.Version.{Version, rounded_size_of}
 use Rattle.tuple_header.specs.declared.version.Header.{Header}
 use Rattle.tuple_header.specs.Marks.{is_frozen, is_heap_only}
-use Rattle.page_slots.specs.View.{PageView}
+use Rattle.page_slots.specs.View.{PageView, HasSlot}
 use Rattle.page_slots.specs.declared.slot.Slot.{Slot}
 use Rattle.page_slots.specs.Slots.{slot_at, version_of, header_at, row_at, version_at, IsNormalAt, SlotIsThere, with_slot, room_of}
 use Rattle.page_slots.proofs.SlotLemmas.{normal_at, there-from_slot_at}
@@ -31,10 +31,10 @@ use Rattle.prune.proofs.Removing.{pruned-removes}
 use Rattle.table_indexes.specs.Indexes.{NeedsEntry}
 use Rattle.heap_write.specs.Heap.{HeapView, unused_page, page_on, SameIds, Keeps}
 use Rattle.snapshot.specs.Own.{Own}
-use Rattle.heap_write.specs.Writes.{NeedsFreeze, SameOwn, KeepsValues, Prunes, PrunesIfFull, WouldGo}
+use Rattle.heap_write.specs.Writes.{KeepsValues, Prunes, PrunesIfFull, WouldGo}
 use Rattle.heap_write.specs.Writes.PrunesIfFull.{is_pruned, is_left}
-use Rattle.heap_write.specs.Steps.{HasNoneDead, IsChosen, IsPlanOn, IsLeftAlone, with_applied}
-use Rattle.heap_write.specs.Growth.{HasSlot, IsReserved}
+use Rattle.heap_write.specs.Steps.{HasNoneDead, IsChosen, IsPlanOn, IsPlanAround, IsLeftAlone, with_applied}
+use Rattle.heap_write.specs.Growth.{IsReserved}
 use Rattle.heap_write.specs.Refusals.{NeedsIds, RootNeedsMemory, UpdateNeedsMemory, VersionIsThere}
 use Rattle.heap_write.specs.declared.target.Target.{Target}
 use Rattle.heap_write.proofs.PageLemmas.{keeps-all, page-at, page-back, page-set, there-within}
@@ -262,6 +262,25 @@ plan-at h n horizon page actions at plan = subst (λ (p : PageView). IsPlan h.st
 pub can-at : (h : HeapView) (n : ℕ) (page : PageView) (actions : List (ℕ × Action)) → slice_get h.pages.pages n ≡ Some page → CanApply (length page.slots) actions
     → CanApply (length (page_on h n).slots) actions
 can-at h n page actions at can = subst (λ (p : PageView). CanApply (length p.slots) actions) (sym (page-at h.pages.pages n page at)) can
+
+-- what is known of a page once its plan was made, on a table that is seen as h
+pub record Planned (h : HeapView) (n horizon : ℕ) (page : PageView) (actions : List (ℕ × Action)) : Type 0 where
+  pub at : slice_get h.pages.pages n ≡ Some page
+  pub same : page ≡ page_on h n
+  pub plan : IsPlanOn h n horizon actions
+
+pub planned : {v h : HeapView} (n horizon : ℕ) (page : PageView) (actions : List (ℕ × Action)) → v ≡ h → slice_get v.pages.pages n ≡ Some page → IsPlan v.statuses horizon page.slots actions
+    → Planned h n horizon page actions
+planned {v = v} n horizon page actions seen at plan = subst (λ (h : HeapView). Planned h n horizon page actions) seen
+    (record { at = at; same = sym (page-at v.pages.pages n page at); plan = plan-at v n horizon page actions at plan })
+
+pub plan-around : {h : HeapView} (place : Tid) (horizon : ℕ) (page : PageView) (actions : List (ℕ × Action)) (named : Bool) → Planned h place.page horizon page actions
+    → CanApply (length page.slots) actions → (IsTrue named ↔ IsSome (action_of actions place.slot)) → IsFalse named → VersionIsThere h place → IsPlanAround h place actions
+plan-around {h = h} place horizon page actions named p can says unnamed there = record {
+  planned = (h.statuses, horizon, p.plan);
+  can_apply = can-at h place.page page actions p.at can;
+  stays = unnamed-stays h.statuses horizon (page_on h place.page) actions place.slot p.plan (none-unnamed actions place.slot named says unnamed) there;
+}
 
 pub can-kept : (h h1 : HeapView) (n : ℕ) (actions : List (ℕ × Action)) → Keeps h h1 → CanApply (length (page_on h n).slots) actions → CanApply (length (page_on h1 n).slots) actions
 can-kept h h1 n actions keeps can = subst (λ (l : List Slot). CanApply (length l) actions) (sym (kept-slots h h1 n keeps)) can

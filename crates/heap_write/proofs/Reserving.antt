@@ -8,7 +8,7 @@ use Rattle.xid_circle.specs.declared.Xid.{Xid}
 use Rattle.tuple_header.specs.declared.version.Row.{Row}
 use Rattle.tuple_header.specs.Version.{rounded_size_of}
 use Rattle.snapshot.specs.Own.{Own}
-use Rattle.page_slots.specs.View.{PageView}
+use Rattle.page_slots.specs.View.{PageView, HasSlot}
 use Rattle.page_slots.specs.Slots.{room_of}
 use Rattle.heap_pages.specs.View.{PagesView, with_page}
 use Rattle.heap_pages.specs.Choice.{HasRoom, IsPlaceFor}
@@ -21,7 +21,7 @@ use Rattle.heap_write.specs.declared.heap.WriteFault.{WriteFault}
 use Rattle.heap_write.specs.declared.heap.WriteFault.TheVariants.{NoMemory}
 use Rattle.heap_write.specs.Writes.{NeedsFreeze, TableIsFull}
 use Rattle.heap_write.specs.Refusals.{NeedsSlot, NeedsIds, RootNeedsMemory, LacksForInsert}
-use Rattle.heap_write.specs.Growth.{page_in, HasSlot, SamePage, GrowsPage, place_of_target, IsReserved, Reserves, PlaceNeedsMemory}
+use Rattle.heap_write.specs.Growth.{page_in, SamePage, GrowsPage, place_of_target, IsReserved, Reserves, PlaceNeedsMemory}
 use Rattle.heap_write.specs.Steps.{IsChosen}
 use Rattle.heap_write.proofs.PageLemmas.{page-at, page-set, page-set_other}
 use Rattle.heap_write.proofs.PlaceLemmas.{alike-same, alike-full, place-set, page-place, new-place}

@@ -5,7 +5,7 @@ use Rattle.std.proofs.lemmas.Bool.{cases_lt, true≢false, lt-ltb, eqb-true}
 use Rattle.std.proofs.lemmas.List.Sums.{fails_before_first}
 use Rattle.std.proofs.lemmas.Option.{slice_get-get_or, slice_get_within, same_Some}
 use Rattle.std.specs.List.{position_or_len, list_any}
-use Rattle.page_slots.specs.View.{PageView}
+use Rattle.page_slots.specs.View.{PageView, HasSlot}
 use Rattle.page_slots.specs.declared.slot.Slot.{Slot}
 use Rattle.page_slots.specs.declared.slot.Slot.TheVariants.{Unused}
 use Rattle.page_slots.specs.Slots.{slot_at, header_at, is_unused, has_unused, free_number}
@@ -18,7 +18,6 @@ use Rattle.prune.specs.declared.action.Action.TheVariants as action
 use Rattle.prune.specs.Actions.{acted}
 use Rattle.prune.specs.Pruning.{root_action, loose_in, PrunesSlot, by_root, by_none, IsPruned}
 use Rattle.heap_write.specs.Heap.{HeapView, page_on}
-use Rattle.heap_write.specs.Growth.{HasSlot}
 use Rattle.heap_write.specs.Refusals.{VersionIsThere}
 use Rattle.heap_write.proofs.PageLemmas.{page-at, there-at, no-version}
 use Rattle.xid_circle.specs.declared.Tid.{Tid}

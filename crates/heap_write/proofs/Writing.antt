@@ -9,7 +9,7 @@ use Rattle.page_slots.specs.View.{PageView}
 use Rattle.page_slots.specs.Slots.{room_of, free_number, next_change, row_at, IsNormalAt}
 use Rattle.snapshot.specs.Own.{Own}
 use Rattle.std.proofs.lemmas.Option.{slice_get_within}
-use Rattle.tuple_writes.specs.Writes.{with_root, with_replaced, with_updated, replaced_change}
+use Rattle.tuple_writes.specs.Writes.{with_root, with_updated, replaced_change, PutsXmax, AddsToPage}
 use Rattle.space_maps.specs.declared.mark.Mark.TheVariants.{Nothing}
 use Rattle.heap_pages.specs.View.{PagesView, with_page}
 use Rattle.heap_pages.specs.declared.pages.Placement.TheVariants as to
@@ -165,16 +165,14 @@ replaces-elsewhere h h' place x row target there full chosen replaces =
     let goes = goes-elsewhere h place (rounded_size_of row) target there full chosen in
     elsewhere full (target_number h.pages.pages target) goes.0 goes.1 replaces
 
--- what was done to the page of the old version
-pub record MarksColdUpdated (before after : PageView) (place successor : Tid) (x : ℕ) : Type 0 where
-  pub slots : after.slots ≡ with_replaced before.slots place.slot x successor.page successor.slot false
-  pub change : after.change ≡ replaced_change before.slots place.slot x successor.page successor.slot false before.change
-  pub flag : after.flag ≡ false
+-- a session's write takes the version at a place away on its page, of which nothing is noted any more
+abbrev pub WritesXmax : PageView → PageView → Tid → Tid → ℕ → Type 0
+WritesXmax before after place successor x = PutsXmax (record before { flag = false }) after place.slot x successor false
 
 pub moves : (h h1 middle h' : HeapView) (place successor : Tid) (x : ℕ) (row : Row) (target : Target) (before after : PageView)
     → h1.pages ≡ h.pages → h1.indexes ≡ h.indexes → PutsRoot h1 middle true x row successor.page
     → successor.page ≡ target_number h1.pages.pages target → successor.slot ≡ free_number (page_on h1 successor.page).slots
-    → slice_get middle.pages.pages place.page ≡ Some before → MarksColdUpdated before after place successor x
+    → slice_get middle.pages.pages place.page ≡ Some before → WritesXmax before after place successor x
     → h'.pages.pages ≡ set middle.pages.pages place.page after → h'.pages.marks ≡ set middle.pages.marks place.page Nothing → h'.indexes ≡ middle.indexes → ColdUpdates h h' place x row (target_number h.pages.pages target)
 moves h h1 middle h' place successor x row target before after same_pages same_indexes root page slot at away pages marks indexes =
     let same = ap (λ (p : PagesView). p.pages) same_pages in
@@ -182,7 +180,7 @@ moves h h1 middle h' place successor x row target before after same_pages same_i
     let free : successor.slot ≡ free_number (page_on h successor.page).slots = slot ∙ ap (λ (p : PagesView). free_number (page_in p.pages successor.page).slots) same_pages in
     let grown = grown-none h h1 successor.page same (ap (λ (p : PagesView). p.marks) same_pages) (λ n. ap (λ is. entries_at is n) same_indexes) in
     let is = page-at middle.pages.pages place.page before at in
-    let T : PageView → Tid → Type 0 = λ page to. MarksColdUpdated page after place to x in
+    let T : PageView → Tid → Type 0 = λ page to. WritesXmax page after place to x in
     let moved : T (page_on middle place.page) (record { page = successor.page; slot = free_number (page_on h successor.page).slots }) =
     subst (λ page. T page (record { page = successor.page; slot = free_number (page_on h successor.page).slots })) (sym is) (subst (λ n. T before (record { page = successor.page; slot = n })) free away) in
     subst (λ n. ColdUpdates h h' place x row n) number (record {
@@ -239,18 +237,18 @@ on_page-grown h h1 h' place x row grown (as_root changes replaces) =
 -- An update on the page.
 
 pub replaces-here : (h h' : HeapView) (place : Tid) (x : ℕ) (row : Row) (before after : PageView) → slice_get h.pages.pages place.page ≡ Some before
-    → after.slots ≡ with_updated before.slots place.slot x place.page row
-    → after.change ≡ replaced_change before.slots place.slot x place.page (free_number before.slots) true (next_change before.change)
-    → after.flag ≡ false → free_number before.slots ≤ 291
+    → AddsToPage (record before { flag = false }) after (with_updated before.slots place.slot x place.page row)
+    (replaced_change before.slots place.slot x place.page (free_number before.slots) true (next_change before.change))
+    → free_number before.slots ≤ 291
     → h'.pages.pages ≡ set h.pages.pages place.page after → h'.pages.marks ≡ set h.pages.marks place.page Nothing → SameEntries h.indexes h'.indexes → HotUpdates h h' place x row
-replaces-here h h' place x row before after at slots change flag within pages marks entries =
+replaces-here h h' place x row before after at adds within pages marks entries =
     let same : before ≡ page_on h place.page = sym (page-at h.pages.pages place.page before at) in
     record {
       page = after;
       puts = in_use (slice_get_within h.pages.pages place.page before at) pages marks;
-      slots = subst (λ (p : PageView). after.slots ≡ with_updated p.slots place.slot x place.page row) same slots;
-      change = subst (λ (p : PageView). after.change ≡ replaced_change p.slots place.slot x place.page (free_number p.slots) true (next_change p.change)) same change;
-      flag = flag;
+      slots = subst (λ (p : PageView). after.slots ≡ with_updated p.slots place.slot x place.page row) same adds.slots;
+      change = subst (λ (p : PageView). after.change ≡ replaced_change p.slots place.slot x place.page (free_number p.slots) true (next_change p.change)) same adds.change;
+      flag = adds.flag;
       within = subst (λ (p : PageView). free_number p.slots ≤ 291) same within;
       entries = entries;
     }
@@ -258,10 +256,10 @@ replaces-here h h' place x row before after at slots change flag within pages ma
 -- A delete.
 
 pub deletes : (h h' : HeapView) (own own' : Own) (place : Tid) (x : ℕ) (before after : PageView) → ¬ NeedsFreeze h.statuses own → TakesIds h.statuses h'.statuses own own' x
-    → VersionIsThere h place → slice_get h.pages.pages place.page ≡ Some before → MarksColdUpdated before after place place x
+    → VersionIsThere h place → slice_get h.pages.pages place.page ≡ Some before → WritesXmax before after place place x
     → h'.pages.pages ≡ set h.pages.pages place.page after → h'.pages.marks ≡ set h.pages.marks place.page Nothing → SameEntries h.indexes h'.indexes → h'.max_pages ≡ h.max_pages → Deletes h h' own own' place x
 deletes h h' own own' place x before after free takes there at away pages marks entries max_pages =
-    let moved : MarksColdUpdated (page_on h place.page) after place place x = subst (λ page. MarksColdUpdated page after place place x) (sym (page-at h.pages.pages place.page before at)) away in
+    let moved : WritesXmax (page_on h place.page) after place place x = subst (λ page. WritesXmax page after place place x) (sym (page-at h.pages.pages place.page before at)) away in
     record {
       free = free;
       takes_ids = takes;

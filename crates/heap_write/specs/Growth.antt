@@ -1,8 +1,8 @@
 -- What stands ready before a write changes anything: memory for ids, a slot and a page. (For entries: `HasEntries` of Indexes.)
-use Rattle.std.specs.Prelude.{◌≡◌, ◌⊎◌, ℕ, ◌<◌, ◌≤◌, Bool, true, false, List, [], length, map, Option, Some, None, slice_index_or}
+use Rattle.std.specs.Prelude.{◌≡◌, ℕ, ◌<◌, ◌≤◌, Bool, false, List, [], length, map, Option, Some, None, slice_index_or}
 use Rattle.tuple_header.specs.declared.version.Row.{Row}
-use Rattle.page_slots.specs.View.{PageView}
-use Rattle.page_slots.specs.Slots.{room_of, has_unused, free_number, next_change}
+use Rattle.page_slots.specs.View.{PageView, HasSlot}
+use Rattle.page_slots.specs.Slots.{room_of, free_number, next_change}
 use Rattle.commit_status.specs.Window.{Window}
 use Rattle.snapshot.specs.Own.{Own, unassigned_levels}
 use Rattle.tuple_writes.specs.Writes.{with_root}
@@ -29,10 +29,6 @@ pub record HasIds (w : Window) (own : Own) : Type 0 where
 -- the page of a number, or one that was never used
 abbrev pub page_in : List PageView → ℕ → PageView
 page_in pages n = slice_index_or pages n unused_page
-
--- a slot is unused, or there is memory for one more, or there may be no more: a page has at most 291
-abbrev pub HasSlot : PageView → Type 0
-HasSlot page = (has_unused page.slots ≡ true) ⊎ (0 < page.spare) ⊎ (MOST_SLOTS ≤ length page.slots)
 
 -- the page is as it was, though there may be more memory
 pub record SamePage (page page' : PageView) : Type 0 where

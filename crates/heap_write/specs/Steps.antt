@@ -6,8 +6,10 @@ use Rattle.heap_pages.specs.Choice.{IsPlaceFor}
 use Rattle.heap_write.specs.declared.target.Target.{Target}
 use Rattle.sound_page.specs.Dead.{HasDead}
 use Rattle.prune.specs.declared.action.Action.{Action}
-use Rattle.prune.specs.Actions.{applied}
+use Rattle.prune.specs.Actions.{CanApply, applied}
 use Rattle.prune.specs.Pruning.{IsPlan}
+use Rattle.prune.specs.Room.{IsPlanOf}
+use Rattle.page_slots.specs.Slots.{IsNormalAt}
 use Rattle.heap_pages.specs.View.{with_page}
 use Rattle.heap_write.specs.Heap.{HeapView, page_on}
 use Rattle.heap_write.specs.Growth.{place_of_target}
@@ -43,6 +45,12 @@ pub record HasNoneDead (h : HeapView) (number horizon : ℕ) : Type 0 where
 -- the actions are those of pruning the page of this number at a horizon
 abbrev pub IsPlanOn : HeapView → PageNo → (horizon : Id) → List (SlotNo × Action) → Type 0
 IsPlanOn h number horizon actions = IsPlan h.statuses horizon (page_on h number).slots actions
+
+-- the actions are a plan of pruning the page of the version at a place, and leave the version there
+pub record IsPlanAround (h : HeapView) (place : Tid) (actions : List (SlotNo × Action)) : Type 0 where
+  pub planned : IsPlanOf (page_on h place.page).slots actions
+  pub can_apply : CanApply (length (page_on h place.page).slots) actions
+  pub stays : IsNormalAt (applied actions (page_on h place.page)).slots place.slot
 
 -- no pruning is done for an update of the version at a place: it would change nothing, or take the version away
 abbrev pub IsLeftAlone : HeapView → Tid → ℕ → Type 0

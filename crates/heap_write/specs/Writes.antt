@@ -2,7 +2,7 @@
 -- version and no index entry; any other makes a root of its own, with an entry in each index. PostgreSQL, heap_insert, heap_update and
 -- heap_delete in src/backend/access/heap/heapam.c.)
 use Rattle.std.specs.Prelude.{◌≡◌, ◌≢◌, ℕ, ◌<◌, ◌≤◌, Bool, true, false, List, [], ◌∷◌, ◌++◌, length, slice_set, slice_get, Option, Some, None}
-use Rattle.xid_circle.specs.Numbers.{Id, PageNo, Count}
+use Rattle.xid_circle.specs.Numbers.{Id, Count}
 use Rattle.xid_circle.specs.declared.Tid.{Tid}
 use Rattle.tuple_header.specs.declared.version.Row.{Row}
 use Rattle.tuple_header.specs.Version.{rounded_size_of}

@@ -3,19 +3,18 @@
 //! The page's plan says, before anything changes, what pruning takes from it and how much room that makes; so memory is made
 //! ready for one place alone, on the page or elsewhere, before the plan is applied.
 
-ghost use Rattle.std.specs.Prelude.{◌≡◌, ℕ, ◌≤◌, ◌<◌, length, IfErr, IfOk, IfSome, IsSome, IsTrue, OnErr, OnOk, ◌↔◌};
+ghost use Rattle.std.specs.Prelude.{◌≡◌, ℕ, ◌≤◌, ◌<◌, IfErr, IfOk, IfSome, IsSome, IsTrue, OnErr, OnOk, ◌↔◌};
 ghost use Rattle.commit_status.specs.Window.{IsWindow};
 ghost use Rattle.snapshot.specs.Own.{unassigned_levels};
-ghost use Rattle.page_slots.specs.Slots.{room_of, IsNormalAt};
+ghost use Rattle.page_slots.specs.Slots.{room_of};
 ghost use Rattle.tuple_header.specs.Version.{rounded_size_of};
-ghost use Rattle.prune.specs.Actions.{CanApply, action_of, applied};
-ghost use Rattle.prune.specs.Room.{IsPlanOf};
+ghost use Rattle.prune.specs.Actions.{action_of, applied};
 ghost use Rattle.table_indexes.specs.Indexes.{HasEntries};
 ghost use Rattle.heap_write.specs.Heap.{page_on, Keeps};
 ghost use Rattle.heap_write.specs.Writes.{NewestIsGiven, SameOwn, Replaces, TableIsFull};
 ghost use Rattle.heap_write.specs.Refusals.{RootNeedsMemory, VersionIsThere, AnswersUpdate};
 ghost use Rattle.heap_write.specs.Growth.{HasIds, IsReserved};
-ghost use Rattle.heap_write.specs.Steps.{IsChosen, IsPlanOn, IsLeftAlone, IsReplaceable, IsDoneUnder};
+ghost use Rattle.heap_write.specs.Steps.{IsChosen, IsPlanOn, IsPlanAround, IsLeftAlone, IsReplaceable, IsDoneUnder};
 
 use crate::heap::{HeapState, WriteFault};
 use crate::ids::{needs_freeze, reserve_ids};
@@ -133,12 +132,7 @@ impl HeapState {
     ) -> Result<Xid, WriteFault>
         requires may { IsReplaceable self.old own.old place }
         requires room { room_of (page_on self.old place.page).slots < rounded_size_of row.now }
-        requires planned { IsPlanOf (page_on self.old place.page).slots
-            plan.now.actions.items }
-        requires can_apply { CanApply (length (page_on self.old place.page).slots)
-            plan.now.actions.items }
-        requires stays { IsNormalAt
-            (applied plan.now.actions.items (page_on self.old place.page)).slots place.slot }
+        requires around { IsPlanAround self.old place plan.now.actions.items }
         requires fits { rounded_size_of row.now
             ≤ room_of (applied plan.now.actions.items (page_on self.old place.page)).slots }
         ensures { (horizon : ℕ)
@@ -169,10 +163,7 @@ impl HeapState {
     ) -> Result<Xid, WriteFault>
         requires may { IsReplaceable self.old own.old place }
         requires room { room_of (page_on self.old place.page).slots < rounded_size_of row.now }
-        requires can_apply { CanApply (length (page_on self.old place.page).slots)
-            plan.now.actions.items }
-        requires stays { IsNormalAt
-            (applied plan.now.actions.items (page_on self.old place.page)).slots place.slot }
+        requires around { IsPlanAround self.old place plan.now.actions.items }
         requires full { room_of (applied plan.now.actions.items (page_on self.old place.page)).slots
             < rounded_size_of row.now }
         ensures { (horizon : ℕ)

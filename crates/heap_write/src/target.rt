@@ -2,11 +2,11 @@
 
 ghost use Rattle.std.specs.Prelude.{◌≡◌, ◌≤◌, ◌<◌, length, IsTrue, IsFalse, IfOk, IfSome, OnOk, OnErr};
 ghost use Rattle.xid_circle.specs.Circle.{IsNormal};
-ghost use Rattle.page_slots.specs.Slots.{room_of, free_number, next_change};
-ghost use Rattle.tuple_writes.specs.Writes.{with_root};
+ghost use Rattle.page_slots.specs.Slots.{free_number};
 ghost use Rattle.tuple_header.specs.Version.{rounded_size_of};
 ghost use Rattle.heap_write.specs.Refusals.{NeedsSlot};
-ghost use Rattle.heap_write.specs.Growth.{HasSlot, SamePage, SamePages, GrowsPage, page_in, IsFreshPage, IsReserved, Reserves, PlaceNeedsMemory, target_number, PutsVersion};
+ghost use Rattle.page_slots.specs.View.{HasSlot};
+ghost use Rattle.heap_write.specs.Growth.{SamePage, SamePages, GrowsPage, page_in, IsFreshPage, IsReserved, Reserves, PlaceNeedsMemory, target_number, PutsVersion};
 ghost use Rattle.heap_pages.specs.declared.pages.TheConstants.{MOST_PAGES};
 
 use heap_pages::{Pages, Placement};
@@ -115,21 +115,6 @@ pub(crate) fn reserve_place(
     }
 }
 
-/// Makes a version of the row on a page as a root, by an update or an insert, and answers its slot. A page with room for it that has
-/// no memory for a further slot has one that is unused.
-fn make_root(page: &mut Page, number: u32, updated: bool, x: Xid, row: &Row) -> u16
-    requires normal { IsNormal x.0 }
-    requires room { rounded_size_of row.now ≤ room_of page.old.slots }
-    requires memory { HasSlot page.old }
-    ensures number { result ≡ free_number page.old.slots }
-    ensures limit { result ≤ MOST_SLOTS }
-    ensures slots { page.new.slots ≡ with_root page.old.slots updated x.0 number row.now }
-    ensures change { page.new.change ≡ next_change page.old.change }
-    ensures flag { page.new.flag ≡ page.old.flag }
-{
-    add_root(page, number, updated, x, row)
-}
-
 /// Makes a version of the row as a root where one goes, and answers its place.
 pub(crate) fn put_version(
     pages: &mut Pages,
@@ -147,13 +132,13 @@ pub(crate) fn put_version(
 {
     match target {
         Target::Page(number) => {
-            let slot = pages.write(number, |page| make_root(page, number, updated, x, row));
+            let slot = pages.write(number, |page| add_root(page, number, updated, x, row));
             Tid { page: number, slot }
         }
         Target::New(page) => {
             let mut page = Box::into_inner(page);
             let number = pages.len();
-            let slot = make_root(&mut page, number, updated, x, row);
+            let slot = add_root(&mut page, number, updated, x, row);
             pages.push_page(page);
             Tid { page: number, slot }
         }

@@ -8,7 +8,8 @@ ghost use Rattle.table_indexes.specs.Indexes.{HasEntries, NeedsEntry};
 ghost use Rattle.heap_write.specs.Heap.{page_on, Keeps};
 ghost use Rattle.heap_write.specs.Writes.{NewestIsGiven, SameOwn, KeepsValues, HotUpdates, ColdUpdates, UpdatesOnPage};
 ghost use Rattle.heap_write.specs.Refusals.{VersionIsThere, NeedsIds, AnswersUpdate};
-ghost use Rattle.heap_write.specs.Growth.{HasIds, HasSlot, IsReserved, target_number};
+ghost use Rattle.page_slots.specs.View.{HasSlot};
+ghost use Rattle.heap_write.specs.Growth.{HasIds, IsReserved, target_number};
 ghost use Rattle.heap_write.specs.Steps.{IsReplaceable, IsDoneUnder};
 
 use crate::heap::{HeapState, WriteFault};

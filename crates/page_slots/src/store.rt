@@ -293,7 +293,7 @@ impl Store {
     }
 
     /// Adds a version behind all slots, for which there is memory.
-    fn push_ready(&mut self, header: Header, row: &Row)
+    pub(crate) fn push_version(&mut self, header: Header, row: &Row)
         requires memory { 0 < self.old.spare }
         requires faultless { header_fault header ≡ None }
         requires room { sum_by bytes_taken self.old.slots + length row.now.body.items ≤ MOST_BYTES }
@@ -303,24 +303,5 @@ impl Store {
     {
         let item = keep_version(&mut self.items, &mut self.bytes, header, row);
         self.items.push_reserved(item);
-    }
-
-    /// Adds a version behind all slots.
-    pub(crate) fn push_version(&mut self, header: Header, row: &Row) -> Result<(), AllocError>
-        requires faultless { header_fault header ≡ None }
-        requires room { sum_by bytes_taken self.old.slots + length row.now.body.items ≤ MOST_BYTES }
-        ensures slots { OnOk result
-            (self.new.slots
-            ≡ self.old.slots ++ Slot.Normal (record { header = header; row = row.now }) ∷ []) }
-        ensures spare { OnOk result (self.old.spare ≤ self.new.spare + 1) }
-        ensures refused { OnErr result (self.old.spare ≡ 0) }
-        ensures grows { OnErr result
-            ((length self.old.slots ≡ 0) ⊎ (MOST_SLOTS ≤ length self.old.slots)) }
-        ensures err { OnErr result (self.new.slots ≡ self.old.slots) }
-        ensures err_spare { OnErr result (self.old.spare ≤ self.new.spare) }
-    {
-        self.make_room(1)?;
-        self.push_ready(header, row);
-        Ok(())
     }
 }

@@ -9,7 +9,7 @@ use tuple_writes::laws::{
     hot_updating_keeps_sound, later_horizon_keeps_sound, setting_xmax_is_counted,
     setting_xmax_keeps_sound,
 };
-use tuple_writes::{heap_only, replaced, root};
+use tuple_writes::{heap_only, replace_header, root};
 use xid_circle::{Tid, Xid};
 
 /// A snapshot that lists 4 is open at the first pruning, and is closed at the second.
@@ -138,7 +138,7 @@ fn header_of(xmin: u32, xmax: u32, mask2: u16, mask: u16) -> Header {
 fn after_update(hot: bool) -> Option<Header> {
     let old = header_of(3, 4, 0xc006, 0x2b00);
     match fault_of(&old) {
-        None => Some(replaced(&old, Xid(5), PLACE, hot)),
+        None => Some(replace_header(&old, Xid(5), PLACE, hot)),
         Some(_) => None,
     }
 }

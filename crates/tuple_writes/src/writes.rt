@@ -1,37 +1,18 @@
 //! Writes. None takes memory, and each fits: whoever calls one has tested the page's room, and asked for memory by
-//! `Page::make_room` where no slot is unused.
+//! `Page::make_room` where the page has no slot.
 
-ghost use Rattle.std.specs.Prelude.{◌≡◌, ◌≤◌, ◌<◌, ◌+◌, ◌⊎◌, None, true, false};
+ghost use Rattle.std.specs.Prelude.{◌≡◌, ◌≤◌, false, true};
 ghost use Rattle.xid_circle.specs.Circle.{IsNormal};
-ghost use Rattle.page_slots.specs.Slots.{room_of, free_number, with_added, has_unused, next_change, IsNormalAt};
-ghost use Rattle.page_slots.specs.declared.slot.Slot.{Slot};
+ghost use Rattle.page_slots.specs.View.{HasSlot};
+ghost use Rattle.page_slots.specs.Slots.{room_of, free_number, next_change, IsNormalAt};
 ghost use Rattle.tuple_header.specs.Version.{rounded_size_of};
-ghost use Rattle.tuple_header.specs.Faults.{header_fault};
-ghost use Rattle.tuple_writes.specs.Writes.{with_replaced, replaced_change, with_deleted, with_root, with_updated};
+ghost use Rattle.tuple_writes.specs.Writes.{replaced_change, with_root, with_updated, PutsXmax, AddsToPage};
 ghost use Rattle.tuple_header.specs.declared.version.TheConstants.{MOST_SLOTS};
 
 use crate::headers::{heap_only, replace_header, root};
 use page_slots::Page;
-use tuple_header::{Header, Row};
+use tuple_header::Row;
 use xid_circle::{Tid, Xid};
-
-/// Adds a version.
-fn add(page: &mut Page, header: Header, row: &Row)
-    requires faultless { header_fault header ≡ None }
-    requires room { rounded_size_of row.now ≤ room_of page.old.slots }
-    requires memory { (has_unused page.old.slots ≡ true) ⊎ (0 < page.old.spare) }
-    ensures slots { page.new.slots
-        ≡ with_added page.old.slots (Slot.Normal (record { header = header; row = row.now })) }
-    ensures change { page.new.change ≡ next_change page.old.change }
-    ensures flag { page.new.flag ≡ page.old.flag }
-    ensures spare { page.old.spare ≤ page.new.spare + 1 }
-    ensures spare_kept { has_unused page.old.slots ≡ true → page.old.spare ≤ page.new.spare }
-{
-    match page.add_row(header, row) {
-        Ok(_) => {}
-        Err(_) => unreachable!(),
-    }
-}
 
 /// Adds a version of the row, made by `x`, a normal id, as a root in the lowest unused slot, else in a new last one, and
 /// answers the slot's number. It is marked as made by an update, if it is, or else by an insert. The page has the number
@@ -40,14 +21,12 @@ fn add(page: &mut Page, header: Header, row: &Row)
 pub fn add_root(page: &mut Page, number_of_page: u32, updated: bool, x: Xid, row: &Row) -> u16
     requires normal { IsNormal x.0 }
     requires room { rounded_size_of row.now ≤ room_of page.old.slots }
-    requires memory { (has_unused page.old.slots ≡ true) ⊎ (0 < page.old.spare) }
+    requires memory { HasSlot page.old }
     ensures number { result ≡ free_number page.old.slots }
     ensures limit { result ≤ MOST_SLOTS }
-    ensures slots { page.new.slots ≡ with_root page.old.slots updated x.0 number_of_page row.now }
-    ensures change { page.new.change ≡ next_change page.old.change }
-    ensures flag { page.new.flag ≡ page.old.flag }
-    ensures spare { page.old.spare ≤ page.new.spare + 1 }
-    ensures spare_kept { has_unused page.old.slots ≡ true → page.old.spare ≤ page.new.spare }
+    ensures adds { AddsToPage page.old page.new
+        (with_root page.old.slots updated x.0 number_of_page row.now)
+        (next_change page.old.change) }
 {
     let _room = page.room();
     let slot = page.free_number();
@@ -56,8 +35,7 @@ pub fn add_root(page: &mut Page, number_of_page: u32, updated: bool, x: Xid, row
         slot,
     };
     let header = root(updated, x, place);
-    add(page, header, row);
-    slot
+    page.add(header, row)
 }
 
 /// Notes that `x` took away the version in a slot, and where its successor is.
@@ -66,12 +44,7 @@ fn set_xmax(page: &mut Page, slot: u16, x: Xid, place: Tid, hot: bool)
     requires normal { IsNormal x.0 }
     requires from { 1 ≤ place.slot }
     requires to { place.slot ≤ MOST_SLOTS }
-    ensures slots { page.new.slots
-        ≡ with_replaced page.old.slots slot x.0 place.page place.slot hot }
-    ensures change { page.new.change
-        ≡ replaced_change page.old.slots slot x.0 place.page place.slot hot page.old.change }
-    ensures flag { page.new.flag ≡ page.old.flag }
-    ensures spare { page.new.spare ≡ page.old.spare }
+    ensures { PutsXmax page.old page.new slot x.0 place hot }
 {
     match page.header(slot) {
         Some(header) => page.set_header(slot, replace_header(&header, x, place, hot)),
@@ -84,11 +57,8 @@ fn set_xmax(page: &mut Page, slot: u16, x: Xid, place: Tid, hot: bool)
 pub fn delete_version(page: &mut Page, number_of_page: u32, slot: u16, x: Xid)
     requires version { IsNormalAt page.old.slots slot }
     requires normal { IsNormal x.0 }
-    ensures slots { page.new.slots ≡ with_deleted page.old.slots slot x.0 number_of_page }
-    ensures change { page.new.change
-        ≡ replaced_change page.old.slots slot x.0 number_of_page slot false page.old.change }
-    ensures flag { page.new.flag ≡ page.old.flag }
-    ensures spare { page.new.spare ≡ page.old.spare }
+    ensures { PutsXmax page.old page.new slot x.0
+        (record { page = number_of_page; slot = slot }) false }
 {
     let _slots = page.slots();
     let own = Tid {
@@ -105,12 +75,7 @@ pub fn mark_cold_updated(page: &mut Page, slot: u16, x: Xid, place: Tid)
     requires normal { IsNormal x.0 }
     requires from { 1 ≤ place.slot }
     requires to { place.slot ≤ MOST_SLOTS }
-    ensures slots { page.new.slots
-        ≡ with_replaced page.old.slots slot x.0 place.page place.slot false }
-    ensures change { page.new.change
-        ≡ replaced_change page.old.slots slot x.0 place.page place.slot false page.old.change }
-    ensures flag { page.new.flag ≡ page.old.flag }
-    ensures spare { page.new.spare ≡ page.old.spare }
+    ensures { PutsXmax page.old page.new slot x.0 place false }
 {
     set_xmax(page, slot, x, place, false);
 }
@@ -122,16 +87,13 @@ pub fn hot_update(page: &mut Page, number_of_page: u32, slot: u16, x: Xid, row: 
     requires version { IsNormalAt page.old.slots slot }
     requires normal { IsNormal x.0 }
     requires room { rounded_size_of row.now ≤ room_of page.old.slots }
-    requires memory { (has_unused page.old.slots ≡ true) ⊎ (0 < page.old.spare) }
+    requires memory { HasSlot page.old }
     ensures number { result ≡ free_number page.old.slots }
     ensures limit { result ≤ MOST_SLOTS }
-    ensures slots { page.new.slots ≡ with_updated page.old.slots slot x.0 number_of_page row.now }
-    ensures change { page.new.change
-        ≡ replaced_change page.old.slots slot x.0 number_of_page (free_number page.old.slots) true
-        (next_change page.old.change) }
-    ensures flag { page.new.flag ≡ page.old.flag }
-    ensures spare { page.old.spare ≤ page.new.spare + 1 }
-    ensures spare_kept { has_unused page.old.slots ≡ true → page.old.spare ≤ page.new.spare }
+    ensures adds { AddsToPage page.old page.new
+        (with_updated page.old.slots slot x.0 number_of_page row.now)
+        (replaced_change page.old.slots slot x.0 number_of_page (free_number page.old.slots) true
+        (next_change page.old.change)) }
 {
     let _room = page.room();
     let number = page.free_number();
@@ -140,7 +102,7 @@ pub fn hot_update(page: &mut Page, number_of_page: u32, slot: u16, x: Xid, row: 
         slot: number,
     };
     let header = heap_only(x, place);
-    add(page, header, row);
+    page.add(header, row);
     set_xmax(page, slot, x, place, true);
     number
 }

@@ -4,7 +4,8 @@ use Rattle.std.specs.Option.{option_copied}
 use Rattle.std.proofs.lemmas.Result.{on_ok_weaker, on_err_weaker}
 use Rattle.heap_pages.specs.View.{PagesView}
 use Rattle.heap_write.specs.Refusals.{NeedsSlot}
-use Rattle.heap_write.specs.Growth.{HasSlot, SamePage, SamePages, GrowsPage}
+use Rattle.page_slots.specs.View.{HasSlot}
+use Rattle.heap_write.specs.Growth.{SamePage, SamePages, GrowsPage}
 use Rattle.heap_write.proofs.PageLemmas.{same-set, page-back}
 use Rattle.heap_write.proofs.Reserving.{same-at, needs-at, grows}
 use Rattle.heap_write.proofs.target.reserve_slot.Goals as goal

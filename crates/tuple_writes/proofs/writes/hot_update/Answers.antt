@@ -1,12 +1,22 @@
-use Rattle.std.proofs.Common.{◌∙◌}
+use Rattle.std.proofs.Common.{◌≡◌, ◌≤◌, true, rules, arith, ◌∙◌}
 use Rattle.page_slots.specs.declared.slot.Slot.TheVariants.{Normal}
+use Rattle.page_slots.specs.Slots.{has_unused}
+use Rattle.tuple_writes.specs.Writes.{with_updated}
 use Rattle.tuple_writes.proofs.Altered.{change-updated}
 use Rattle.tuple_writes.proofs.writes.hot_update.Goals as goal
 
-pub returns-clause-change : goal.returns-clause-change
-returns-clause-change c =
-    let now = c.args.page.now in
-    c.set_xmax.ensures.change
-    ∙ change-updated now.slots c.add.new.page.slots (Normal (record { header = c.heap_only-header.result; row = c.args.row.now })) c.args.slot c.args.x.0
-    c.args.number_of_page c.free_number-number.result now.change c.add.new.page.change
-    c.requires.version c.add.ensures.slots c.free_number-number.ensures.value c.add.ensures.change
+pub returns-clause-adds : goal.returns-clause-adds
+returns-clause-adds c =
+    let was = c.args.page.now in
+    let now : c.set_xmax.new.page.slots ≡ with_updated was.slots c.args.slot c.args.x.0 c.args.number_of_page c.args.row.now = search rules in
+    let kept : has_unused was.slots ≡ true → was.spare ≤ c.set_xmax.new.page.spare = λ some. omega (arith, c.add.ensures.spare_kept some, c.set_xmax.ensures.spare) in
+    record {
+      slots = now;
+      change = c.set_xmax.ensures.change
+          ∙ change-updated was.slots c.add.new.self.slots (Normal (record { header = c.heap_only-header.result; row = c.args.row.now })) c.args.slot c.args.x.0
+          c.args.number_of_page c.free_number-number.result was.change c.add.new.self.change
+          c.requires.version c.add.ensures.slots c.free_number-number.ensures.value c.add.ensures.change;
+      flag = c.set_xmax.ensures.flag ∙ c.add.ensures.flag;
+      spare = omega (arith, c.add.ensures.spare, c.set_xmax.ensures.spare);
+      spare_kept = kept;
+    }

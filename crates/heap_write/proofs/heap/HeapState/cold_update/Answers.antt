@@ -6,7 +6,7 @@ use Rattle.space_maps.specs.declared.mark.Mark.TheVariants.{Nothing}
 use Rattle.heap_pages.specs.View.{PagesView}
 use Rattle.heap_write.specs.Heap.{HeapView}
 use Rattle.heap_write.proofs.PageLemmas.{there-within}
-use Rattle.heap_write.proofs.Writing.{MarksColdUpdated, moves, puts-within, stays-there}
+use Rattle.heap_write.proofs.Writing.{WritesXmax, moves, puts-within, stays-there}
 use Rattle.heap_write.proofs.HintLemmas.{hints-taken, hints-taken_away}
 use Rattle.heap_write.proofs.heap.HeapState.cold_update.Goals as goal
 
@@ -33,7 +33,7 @@ returns-clause-replaces c =
     let x = c.take_ids-x.result.0 in
     let successor = c.put_root-successor.result in
     let e = c.write.ensures.writes in
-    let away : MarksColdUpdated e.0 e.1 place successor x = search rules in
+    let away : WritesXmax e.0 e.1 place successor x = search rules in
     moves c.args.self.now (record { pages = c.self.inside.pages; statuses = c.take_ids-x.new.statuses; indexes = c.self.inside.indexes; max_pages = c.self.inside.max_pages }) c.put_root-successor.new.self _
     place successor x c.args.row.now c.args.target e.0 e.1
     (ap (λ (h : HeapView). h.pages) c.self.view_is) (ap (λ (h : HeapView). h.indexes) c.self.view_is)
@@ -56,7 +56,7 @@ invariant_of-self-2 c =
     let x = c.take_ids-x.result.0 in
     let successor = c.put_root-successor.result in
     let e = c.write.ensures.writes in
-    let away : MarksColdUpdated e.0 e.1 place successor x = search rules in
+    let away : WritesXmax e.0 e.1 place successor x = search rules in
     let at = sym (ap (λ (h : HeapView). slice_get h.pages.pages place.page) c.self-2.view_is) ∙ e.2 in
     let normal = stays-there c.args.self.now (record { pages = c.self.inside.pages; statuses = c.take_ids-x.new.statuses; indexes = c.self.inside.indexes; max_pages = c.self.inside.max_pages }) c.put_root-successor.new.self
     place x c.args.row.now successor.page e.0 (ap (λ (h : HeapView). h.pages) c.self.view_is) c.requires.may.there c.put_root-successor.ensures.root at in (

@@ -9,7 +9,7 @@ use Rattle.heap_write.specs.Writes.{Deletes}
 use Rattle.heap_write.specs.Refusals.{VersionIsThere}
 use Rattle.heap_write.specs.contracts.heap.HeapState.{the_view}
 use Rattle.heap_write.proofs.IdLemmas.{takes-grown}
-use Rattle.heap_write.proofs.Writing.{MarksColdUpdated, deletes}
+use Rattle.heap_write.proofs.Writing.{WritesXmax, deletes}
 use Rattle.heap_write.proofs.PageLemmas.{there-at}
 use Rattle.heap_write.proofs.HintLemmas.{hints-same_ids, hints-taken, hints-taken_away}
 use Rattle.heap_write.proofs.heap.HeapState.delete.Goals as goal
@@ -21,7 +21,7 @@ returns-clause-ok c =
     let x = c.take_ids-x.result.0 in
     let reserved = c.reserve_ids.ensures in
     let e = c.write.ensures.writes in
-    let away : MarksColdUpdated e.0 e.1 c.args.place c.args.place x = search rules in
+    let away : WritesXmax e.0 e.1 c.args.place c.args.place x = search rules in
     let free = iff_false c.needs_freeze.ensures c.if-needs_freeze.false in
     let takes = takes-grown h.statuses c.reserve_ids.new.statuses c.take_ids-x.new.statuses own c.reserve_ids.new.own c.take_ids-x.new.own x reserved.ids reserved.own reserved.none c.take_ids-x.ensures.takes in
     let h' : HeapView = record { pages = c.write.new.self; statuses = c.take_ids-x.new.statuses; indexes = c.self.inside.indexes; max_pages = c.self.inside.max_pages } in
@@ -50,7 +50,7 @@ invariant_of-self-2 c =
     let e = c.write.ensures.writes in
     let pages = c.self.inside.pages.pages in
     let hints = c.self.inside.hints.turns in
-    let away : MarksColdUpdated e.0 e.1 place place x = search rules in
+    let away : WritesXmax e.0 e.1 place place x = search rules in
     let there : VersionIsThere (the_view c.self.inside) place = subst (λ (h : HeapView). VersionIsThere h place) (sym c.self.view_is) c.requires.there in
     let ready = hints-same_ids c.self.inside.statuses reserved.new.statuses pages hints reserved.ensures.ids c.self.invariant.1 in
     let given = hints-taken reserved.new.statuses taken.new.statuses reserved.new.own taken.new.own x pages hints taken.ensures.takes taken.ensures.window ready in (

@@ -1,8 +1,8 @@
 use Rattle.std.proofs.Common.{subst, inl}
-use Rattle.std.proofs.lemmas.Bool.{iff_false}
 use Rattle.commit_status.specs.Window.{IsWindow}
 use Rattle.heap_write.specs.Heap.{HeapView}
 use Rattle.heap_write.specs.Writes.{NeedsFreeze}
+use Rattle.heap_write.proofs.Replacing.{is-replaceable}
 use Rattle.heap_write.proofs.Updating.{answers-freeze}
 use Rattle.heap_write.proofs.Plans.{idle-plan_on}
 use Rattle.heap_write.proofs.heap.HeapState.update_full_page.Goals as goal
@@ -15,13 +15,11 @@ returns-then-needs_freeze c =
 
 pub update_unpruned-requires-clause-may : goal.update_unpruned-requires-clause-may
 update_unpruned-requires-clause-may c =
-    let free = subst (λ (h : HeapView). ¬ NeedsFreeze h.statuses c.args.own.now) c.self.view_is (iff_false c.needs_freeze.ensures c.if-needs_freeze.false) in
-    record { newest = c.requires.newest; free = free; there = c.requires.there }
+    is-replaceable c.args.own.now c.args.place c.needs_freeze.result c.self.view_is c.requires.newest c.needs_freeze.ensures c.if-needs_freeze.false c.requires.there
 
 pub update_by_plan-requires-clause-may : goal.update_by_plan-requires-clause-may
 update_by_plan-requires-clause-may c =
-    let free = subst (λ (h : HeapView). ¬ NeedsFreeze h.statuses c.args.own.now) c.self.view_is (iff_false c.needs_freeze.ensures c.if-needs_freeze.false) in
-    record { newest = c.requires.newest; free = free; there = c.requires.there }
+    is-replaceable c.args.own.now c.args.place c.needs_freeze.result c.self.view_is c.requires.newest c.needs_freeze.ensures c.if-needs_freeze.false c.requires.there
 
 pub returns-then-knows_none_dead : goal.returns-then-knows_none_dead
 returns-then-knows_none_dead c =

@@ -1,15 +1,15 @@
-use Rattle.std.proofs.Common.{◌<◌, List, ap, sym, subst}
+use Rattle.std.proofs.Common.{◌<◌, List, sym, subst}
 use Rattle.tuple_header.specs.Version.{rounded_size_of}
 use Rattle.page_slots.specs.declared.slot.Slot.{Slot}
 use Rattle.page_slots.specs.Slots.{room_of}
+use Rattle.commit_status.specs.Window.{IsWindow}
 use Rattle.heap_write.specs.Heap.{HeapView}
 use Rattle.heap_write.specs.Growth.{IsReserved}
 use Rattle.heap_write.specs.Steps.{IsChosen}
-use Rattle.commit_status.specs.Window.{IsWindow}
 use Rattle.heap_write.proofs.PageLemmas.{there-within}
-use Rattle.heap_write.proofs.Replacing.{replaceable-kept, replaceable-applied}
+use Rattle.heap_write.proofs.Replacing.{replaceable-kept, once-pruned}
 use Rattle.heap_write.proofs.Updating.{some-weaker, answers-memory, answers-elsewhere}
-use Rattle.heap_write.proofs.Plans.{can-kept, planned-slots, applied-chosen, applied-ready, applied-readies, moves-needs}
+use Rattle.heap_write.proofs.Plans.{can-kept, applied-chosen, applied-ready, moves-needs}
 use Rattle.heap_write.proofs.heap.HeapState.update_off_pruned.Goals as goal
 
 pub apply_plan-requires-clause-within : goal.apply_plan-requires-clause-within
@@ -20,34 +20,27 @@ apply_plan-requires-clause-within c =
 
 pub apply_plan-requires-clause-can_apply : goal.apply_plan-requires-clause-can_apply
 apply_plan-requires-clause-can_apply c =
-    can-kept c.args.self.now c.reserve_root-reserved.new.self c.args.place.page c.args.plan.now.actions.items c.reserve_root-reserved.ensures.keeps c.requires.can_apply
+    can-kept c.args.self.now c.reserve_root-reserved.new.self c.args.place.page c.args.plan.now.actions.items c.reserve_root-reserved.ensures.keeps c.requires.around.can_apply
 
 pub update_elsewhere-requires-clause-may : goal.update_elsewhere-requires-clause-may
 update_elsewhere-requires-clause-may c =
-    let reserved = c.reserve_root-reserved in
-    replaceable-applied c.args.self.now reserved.new.self c.apply_plan.new.self c.args.own.now reserved.new.own c.args.place c.args.plan.now.actions.items reserved.ensures.keeps reserved.ensures.own
-    c.apply_plan.ensures c.requires.stays c.requires.may
+    let grown = c.reserve_root-reserved.ensures in
+    (once-pruned c.apply_plan.new.self grown.keeps grown.own c.apply_plan.ensures c.requires.around c.requires.may).may
 
 pub update_elsewhere-requires-clause-room : goal.update_elsewhere-requires-clause-room
 update_elsewhere-requires-clause-room c =
-    let h = c.args.self.now in
-    let reserved = c.reserve_root-reserved in
-    let grown = reserved.new.self in
-    let keeps = reserved.ensures.keeps in
-    let within = there-within grown c.args.place (replaceable-kept h grown c.args.own.now reserved.new.own c.args.place keeps reserved.ensures.own c.requires.may).there in
-    subst (λ (l : List Slot). room_of l < rounded_size_of c.args.row.now)
-    (sym (planned-slots h grown c.apply_plan.new.self c.args.place.page c.args.plan.now.actions.items within keeps c.apply_plan.ensures)) c.requires.full
+    let grown = c.reserve_root-reserved.ensures in
+    let pruned = once-pruned c.apply_plan.new.self grown.keeps grown.own c.apply_plan.ensures c.requires.around c.requires.may in
+    subst (λ (l : List Slot). room_of l < rounded_size_of c.args.row.now) (sym pruned.slots) c.requires.full
 
 pub update_elsewhere-requires-clause-chosen : goal.update_elsewhere-requires-clause-chosen
 update_elsewhere-requires-clause-chosen c =
-    let h = c.args.self.now in
     let reserved = c.reserve_root-reserved in
-    let grown = reserved.new.self in
-    let keeps = reserved.ensures.keeps in
-    let within = there-within grown c.args.place (replaceable-kept h grown c.args.own.now reserved.new.own c.args.place keeps reserved.ensures.own c.requires.may).there in
-    let chosen = subst (λ n. IsChosen grown n c.in-Ok.target) c.row_size.ensures.value c.in-Ok.ensures.chosen in
-    applied-chosen h grown c.apply_plan.new.self c.args.place.page (rounded_size_of c.args.row.now) c.args.plan.now.actions.items c.in-Ok.target within keeps c.apply_plan.ensures
-    c.requires.room c.requires.full chosen
+    let grown = reserved.ensures in
+    let pruned = once-pruned c.apply_plan.new.self grown.keeps grown.own c.apply_plan.ensures c.requires.around c.requires.may in
+    let chosen = subst (λ n. IsChosen reserved.new.self n c.in-Ok.target) c.row_size.ensures.value c.in-Ok.ensures.chosen in
+    applied-chosen c.args.self.now reserved.new.self c.apply_plan.new.self c.args.place.page (rounded_size_of c.args.row.now) c.args.plan.now.actions.items c.in-Ok.target pruned.within grown.keeps
+    c.apply_plan.ensures c.requires.room c.requires.full chosen
 
 pub update_elsewhere-requires-clause-ready : goal.update_elsewhere-requires-clause-ready
 update_elsewhere-requires-clause-ready c =
@@ -60,20 +53,12 @@ update_elsewhere-requires-clause-ready c =
 
 pub returns-in-Ok : goal.returns-in-Ok
 returns-in-Ok c = λ horizon plan.
-    let h = c.args.self.now in
-    let own = c.args.own.now in
-    let place = c.args.place in
-    let actions = c.args.plan.now.actions.items in
     let reserved = c.reserve_root-reserved in
-    let grown = reserved.new.self in
-    let ready = c.apply_plan.new.self in
-    let keeps = reserved.ensures.keeps in
+    let grown = reserved.ensures in
     let done = c.update_elsewhere in
-    let is = c.apply_plan.ensures in
-    let may = replaceable-applied h grown ready own reserved.new.own place actions keeps reserved.ensures.own is c.requires.stays c.requires.may in
-    let readies = applied-readies h grown ready place horizon (rounded_size_of c.args.row.now) actions c.requires.may.there c.requires.room keeps is plan in
-    answers-elsewhere h grown ready done.new.self own reserved.new.own done.new.own place c.args.row.now horizon done.result c.requires.may.free readies
-    (ap (λ (v : HeapView). v.statuses) is) (ap (λ (v : HeapView). v.max_pages) is) keeps reserved.ensures.own reserved.ensures.none may.there
+    let pruned = once-pruned c.apply_plan.new.self grown.keeps grown.own c.apply_plan.ensures c.requires.around c.requires.may in
+    answers-elsewhere c.args.self.now reserved.new.self c.apply_plan.new.self done.new.self c.args.own.now reserved.new.own done.new.own c.args.place c.args.row.now horizon done.result
+    c.requires.may.free (pruned.readies horizon (rounded_size_of c.args.row.now) c.requires.room plan) pruned.statuses pruned.max_pages grown.keeps grown.own grown.none pruned.may.there
     done.ensures.under done.ensures.replaces done.ensures.fault done.ensures.err done.ensures.window
 
 pub returns-in-Err : goal.returns-in-Err

@@ -1,69 +1,58 @@
-use Rattle.std.proofs.Common.{◌≤◌, List, ap, sym, subst}
+use Rattle.std.proofs.Common.{◌≤◌, List, sym, subst}
+use Rattle.std.specs.Prelude.{IsFalse}
 use Rattle.tuple_header.specs.Version.{rounded_size_of}
+use Rattle.page_slots.specs.View.{HasSlot}
 use Rattle.page_slots.specs.declared.slot.Slot.{Slot}
 use Rattle.page_slots.specs.Slots.{room_of}
+use Rattle.commit_status.specs.Window.{IsWindow}
 use Rattle.prune.specs.Room.{IsPlanOf}
 use Rattle.heap_pages.specs.View.{PagesView}
-use Rattle.std.specs.Prelude.{IsFalse}
 use Rattle.table_indexes.specs.Indexes.{HasEntries, SameEntries}
 use Rattle.heap_write.specs.Heap.{HeapView}
-use Rattle.heap_write.specs.Growth.{HasSlot, page_in}
+use Rattle.heap_write.specs.Growth.{page_in}
 use Rattle.heap_write.specs.Writes.Replaces.{on_page}
-use Rattle.commit_status.specs.Window.{IsWindow}
-use Rattle.heap_write.proofs.PageLemmas.{there-within}
-use Rattle.heap_write.proofs.Replacing.{replaceable-kept, replaceable-applied}
+use Rattle.heap_write.proofs.Replacing.{once-pruned}
 use Rattle.heap_write.proofs.Writing.{values-on}
 use Rattle.heap_write.proofs.Updating.{kept-slots, answers-memory, answers-done}
-use Rattle.heap_write.proofs.Plans.{can-kept, plan-kept, planned-slots, applied-slot_ready, applied-row, applied-readies, stays-applied, stays-needs}
+use Rattle.heap_write.proofs.Plans.{can-kept, applied-slot_ready, applied-row, stays-needs}
 use Rattle.heap_write.proofs.heap.HeapState.update_on_pruned.Goals as goal
 
 pub apply_plan-requires-clause-can_apply : goal.apply_plan-requires-clause-can_apply
 apply_plan-requires-clause-can_apply c =
-    can-kept c.args.self.now c.reserve_ids_for-reserved.new.self c.args.place.page c.args.plan.now.actions.items c.reserve_ids_for-reserved.ensures.keeps c.requires.can_apply
+    can-kept c.args.self.now c.reserve_ids_for-reserved.new.self c.args.place.page c.args.plan.now.actions.items c.reserve_ids_for-reserved.ensures.keeps c.requires.around.can_apply
 
 pub replace_on_page-requires-clause-may : goal.replace_on_page-requires-clause-may
 replace_on_page-requires-clause-may c =
-    let reserved = c.reserve_ids_for-reserved in
-    replaceable-applied c.args.self.now reserved.new.self c.apply_plan.new.self c.args.own.now reserved.new.own c.args.place c.args.plan.now.actions.items reserved.ensures.keeps reserved.ensures.own
-    c.apply_plan.ensures c.requires.stays c.requires.may
+    let grown = c.reserve_ids_for-reserved.ensures in
+    (once-pruned c.apply_plan.new.self grown.keeps grown.own c.apply_plan.ensures c.requires.around c.requires.may).may
 
 pub replace_on_page-requires-clause-room : goal.replace_on_page-requires-clause-room
 replace_on_page-requires-clause-room c =
-    let h = c.args.self.now in
-    let reserved = c.reserve_ids_for-reserved in
-    let grown = reserved.new.self in
-    let keeps = reserved.ensures.keeps in
-    let within = there-within grown c.args.place (replaceable-kept h grown c.args.own.now reserved.new.own c.args.place keeps reserved.ensures.own c.requires.may).there in
-    subst (λ (l : List Slot). rounded_size_of c.args.row.now ≤ room_of l)
-    (sym (planned-slots h grown c.apply_plan.new.self c.args.place.page c.args.plan.now.actions.items within keeps c.apply_plan.ensures)) c.requires.fits
+    let grown = c.reserve_ids_for-reserved.ensures in
+    let pruned = once-pruned c.apply_plan.new.self grown.keeps grown.own c.apply_plan.ensures c.requires.around c.requires.may in
+    subst (λ (l : List Slot). rounded_size_of c.args.row.now ≤ room_of l) (sym pruned.slots) c.requires.fits
 
 pub replace_on_page-requires-clause-has_slot : goal.replace_on_page-requires-clause-has_slot
 replace_on_page-requires-clause-has_slot c =
-    let h = c.args.self.now in
     let n = c.args.place.page in
     let actions = c.args.plan.now.actions.items in
-    let reserved = c.reserve_ids_for-reserved in
-    let grown = reserved.new.self in
-    let keeps = reserved.ensures.keeps in
-    let within = there-within grown c.args.place (replaceable-kept h grown c.args.own.now reserved.new.own c.args.place keeps reserved.ensures.own c.requires.may).there in
-    let planned = subst (λ (l : List Slot). IsPlanOf l actions) (sym (kept-slots h grown n keeps)) c.requires.planned in
-    let has_slot = subst (λ (p : PagesView). HasSlot (page_in p.pages n)) (sym reserved.ensures.pages) c.fact_slot_beside.ensures in
-    applied-slot_ready grown c.apply_plan.new.self n actions within planned c.apply_plan.ensures has_slot
+    let h1 = c.reserve_ids_for-reserved.new.self in
+    let grown = c.reserve_ids_for-reserved.ensures in
+    let pruned = once-pruned c.apply_plan.new.self grown.keeps grown.own c.apply_plan.ensures c.requires.around c.requires.may in
+    let plan = subst (λ (l : List Slot). IsPlanOf l actions) (sym (kept-slots c.args.self.now h1 n grown.keeps)) c.requires.around.planned in
+    let has_slot = subst (λ (p : PagesView). HasSlot (page_in p.pages n)) (sym grown.pages) c.fact_slot_beside.ensures in
+    applied-slot_ready h1 c.apply_plan.new.self n actions pruned.within plan c.apply_plan.ensures has_slot
 
 pub replace_on_page-requires-clause-heap_only : goal.replace_on_page-requires-clause-heap_only
 replace_on_page-requires-clause-heap_only c =
     let h = c.args.self.now in
     let place = c.args.place in
     let row = c.args.row.now in
-    let actions = c.args.plan.now.actions.items in
-    let reserved = c.reserve_ids_for-reserved in
-    let grown = reserved.new.self in
     let after = c.apply_plan.new.self in
-    let keeps = reserved.ensures.keeps in
-    let within = there-within grown place (replaceable-kept h grown c.args.own.now reserved.new.own place keeps reserved.ensures.own c.requires.may).there in
-    let there = stays-applied h grown after place actions within keeps c.apply_plan.ensures c.requires.stays in
-    let same = applied-row h grown after place actions within keeps c.requires.planned c.apply_plan.ensures there in
-    let entries : SameEntries h.indexes after.indexes = subst (λ (v : HeapView). SameEntries h.indexes v.indexes) (sym c.apply_plan.ensures) keeps.entries in
+    let grown = c.reserve_ids_for-reserved.ensures in
+    let pruned = once-pruned after grown.keeps grown.own c.apply_plan.ensures c.requires.around c.requires.may in
+    let same = applied-row h c.reserve_ids_for-reserved.new.self after place c.args.plan.now.actions.items pruned.within grown.keeps c.requires.around.planned c.apply_plan.ensures pruned.may.there in
+    let entries : SameEntries h.indexes after.indexes = subst (λ (v : HeapView). SameEntries h.indexes v.indexes) (sym c.apply_plan.ensures) grown.keeps.entries in
     let says = c.keeps_values-heap_only.ensures in
     (λ yes. values-on h after place row same entries (says.0 yes), λ kept. says.1 (values-on after h place row (sym same) (λ n. sym (entries n)) kept))
 
@@ -73,22 +62,14 @@ replace_on_page-requires-clause-has_entries c =
 
 pub returns-in-Ok : goal.returns-in-Ok
 returns-in-Ok c = λ horizon plan.
-    let h = c.args.self.now in
-    let own = c.args.own.now in
-    let place = c.args.place in
-    let actions = c.args.plan.now.actions.items in
     let reserved = c.reserve_ids_for-reserved in
-    let grown = reserved.new.self in
-    let ready = c.apply_plan.new.self in
-    let keeps = reserved.ensures.keeps in
+    let grown = reserved.ensures in
     let done = c.replace_on_page in
-    let is = c.apply_plan.ensures in
-    let may = replaceable-applied h grown ready own reserved.new.own place actions keeps reserved.ensures.own is c.requires.stays c.requires.may in
-    let readies = applied-readies h grown ready place horizon (rounded_size_of c.args.row.now) actions c.requires.may.there c.requires.room keeps is plan in
-    let within = there-within grown place (replaceable-kept h grown own reserved.new.own place keeps reserved.ensures.own c.requires.may).there in
-    let room = subst (λ (l : List Slot). rounded_size_of c.args.row.now ≤ room_of l) (sym (planned-slots h grown ready place.page actions within keeps is)) c.requires.fits in
-    answers-done h grown ready done.new.self own reserved.new.own done.new.own place c.args.row.now horizon done.result c.requires.may.free readies
-    (ap (λ (v : HeapView). v.statuses) is) (ap (λ (v : HeapView). v.max_pages) is) keeps reserved.ensures.own reserved.ensures.none may.there done.ensures.under (on_page room done.ensures.replaces)
+    let pruned = once-pruned c.apply_plan.new.self grown.keeps grown.own c.apply_plan.ensures c.requires.around c.requires.may in
+    let room = subst (λ (l : List Slot). rounded_size_of c.args.row.now ≤ room_of l) (sym pruned.slots) c.requires.fits in
+    answers-done c.args.self.now reserved.new.self c.apply_plan.new.self done.new.self c.args.own.now reserved.new.own done.new.own c.args.place c.args.row.now horizon done.result c.requires.may.free
+    (pruned.readies horizon (rounded_size_of c.args.row.now) c.requires.room plan) pruned.statuses pruned.max_pages grown.keeps grown.own grown.none pruned.may.there done.ensures.under
+    (on_page room done.ensures.replaces)
 
 pub returns-in-Err : goal.returns-in-Err
 returns-in-Err c = λ horizon plan.

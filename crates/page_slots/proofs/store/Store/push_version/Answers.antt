@@ -2,7 +2,7 @@ use Rattle.std.proofs.Common.{◌≡◌, ◌++◌, ◌∷◌, [], List, length, 
 use Rattle.page_slots.specs.declared.item.Item.{Item}
 use Rattle.page_slots.specs.Store.{AreWithin}
 use Rattle.page_slots.proofs.BodyLemmas.{refilled, within-push}
-use Rattle.page_slots.proofs.store.Store.push_ready.Goals as goal
+use Rattle.page_slots.proofs.store.Store.push_version.Goals as goal
 
 pub invariant_of-self : goal.invariant_of-self
 invariant_of-self c =
