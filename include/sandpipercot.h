@@ -39,7 +39,7 @@ struct sandpiper {
 };
 
 struct sandpiper_settings {
-    uint32_t most_pages;      /* how many pages, of 8168 bytes for rows, the table may have: 1 to 65536 */
+    uint32_t max_pages;      /* how many pages, of 8168 bytes for rows, the table may have: 1 to 65536 */
     uint32_t stop_age;       /* a write that needs an id is refused once the next one is this far from the oldest: 1 to 2144483648 */
     uint32_t freeze_min_age; /* a vacuum freezes versions whose id is more than this many ids old: 0 to 1000000000 */
     uint32_t first_xid;      /* the first transaction's id: 3 to 4294967295 */
@@ -84,7 +84,7 @@ enum sandpiper_status {
     SANDPIPER_TOO_DEEP = 24,          /* the session has 32 savepoints */
     SANDPIPER_NO_SAVEPOINT = 25,      /* the session has no savepoint */
     SANDPIPER_TOO_LARGE = 26,         /* the body has more than 1024 bytes */
-    SANDPIPER_NO_ROOM = 27,           /* no page has room, and most_pages are in use */
+    SANDPIPER_NO_ROOM = 27,           /* no page has room, and max_pages are in use */
     SANDPIPER_NEEDS_FREEZE = 28,      /* no id can be given until an aggressive vacuum has ended: see stop_age */
     SANDPIPER_BAD_BOUNDS = 29,        /* the lower bound is over the upper */
     SANDPIPER_NO_MEMORY = 30,         /* memory was refused */
@@ -97,7 +97,7 @@ enum sandpiper_status {
     SANDPIPER_HAS_ENGINE = 49,        /* sandpiper_open: the handle has a table already */
     SANDPIPER_NO_PLACE = 50,          /* sandpiper_next: there is no place for a row */
     /* sandpiper_open: the first setting that is out of its range */
-    SANDPIPER_BAD_MOST_PAGES = 64,
+    SANDPIPER_BAD_MAX_PAGES = 64,
     SANDPIPER_BAD_STOP_AGE = 65,
     SANDPIPER_BAD_FREEZE_MIN_AGE = 66,
     SANDPIPER_BAD_FIRST_XID = 67,
@@ -246,7 +246,7 @@ static inline const char *sandpiper_words(uint32_t status) {
     case SANDPIPER_TOO_DEEP: return "the session has 32 savepoints";
     case SANDPIPER_NO_SAVEPOINT: return "the session has no savepoint";
     case SANDPIPER_TOO_LARGE: return "the body has more than 1024 bytes";
-    case SANDPIPER_NO_ROOM: return "no page has room, and most_pages are in use";
+    case SANDPIPER_NO_ROOM: return "no page has room, and max_pages are in use";
     case SANDPIPER_NEEDS_FREEZE: return "no id can be given until an aggressive vacuum has ended";
     case SANDPIPER_BAD_BOUNDS: return "the lower bound is over the upper";
     case SANDPIPER_NO_MEMORY: return "memory was refused";
@@ -258,7 +258,7 @@ static inline const char *sandpiper_words(uint32_t status) {
     case SANDPIPER_NO_ENGINE: return "the handle has no table";
     case SANDPIPER_HAS_ENGINE: return "the handle has a table already";
     case SANDPIPER_NO_PLACE: return "there is no place for a row";
-    case SANDPIPER_BAD_MOST_PAGES: return "the setting most_pages is out of its range";
+    case SANDPIPER_BAD_MAX_PAGES: return "the setting max_pages is out of its range";
     case SANDPIPER_BAD_STOP_AGE: return "the setting stop_age is out of its range";
     case SANDPIPER_BAD_FREEZE_MIN_AGE: return "the setting freeze_min_age is out of its range";
     case SANDPIPER_BAD_FIRST_XID: return "the setting first_xid is out of its range";

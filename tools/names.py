@@ -2,8 +2,8 @@
 """Looks at names and clauses: tools/names.py, at the top of the repository. Ends with 1 where something is wrong.
 
 It reports each definition of specs/, and each public type, that has the name of another, or one that differs in case or underscores
-alone and means something else; each clause and each ghost line over 100 columns; and each limit that a clause or a definition writes as
-a number where a constant of its crate, or a public one of a crate below, has a name for it.
+alone and means something else; each function named by a participle alone; each clause and each ghost line over 100 columns; and each
+limit that a clause or a definition writes as a number where a constant of its crate, or a public one of a crate below, has a name for it.
 """
 import collections
 import glob
@@ -15,7 +15,9 @@ DEFINITION = re.compile(r"(?:pub |abbrev |record |data )*(?:abbrev|record|data|p
 TYPE = re.compile(r"pub (?:struct|enum|trait|type) (\w+)")
 CLAUSE = re.compile(r"\s*(?:(?:requires|ensures\*?)\b|(?:pub )?ghost (?!use\b)\w+ ?[=:])")
 PROMISE = re.compile(r"\s*(?:requires|ensures\*?|ghost (?:invariant|view))\b")
-LIMIT = re.compile(r"(pub )?(?:pub\(crate\) )?const (MOST_\w+|MAX_\w+|HALF|GROUP): \w+ = (\d+);")
+LIMIT = re.compile(r"(pub )?(?:pub\(crate\) )?const (MOST_\w+|HALF|GROUP): \w+ = (\d+);")
+FUNCTION = re.compile(r"\s*(?:pub(?:\(crate\))? )?(?:const )?fn (\w+)")
+PARTICIPLE = re.compile(r"[a-z]+ed|begun|done|found|given|held|kept|known|left|made|seen|shown|sought|taken|told|written")
 # pairs of which one is a Bool or a lemma and the other the proposition; a dead slot and a dead version are PostgreSQL's words
 SAME = {"comesbefore", "hasaborted", "isaborted", "iscommitted", "isdead", "isentryin", "isfrozen"}
 NUMBER = re.compile(r"(?<![\w.])(?<!\^ )(\d+)(?![\w.])")
@@ -35,6 +37,15 @@ def definitions():
             found = TYPE.match(line)
             if found:
                 yield found.group(1), f"{path}:{number}"
+
+
+def participles():
+    """Each function whose name is a participle and nothing else, which doesn't say what it does."""
+    for path in sorted(glob.glob("crates/*/src/**/*.rt", recursive=True)):
+        for number, line in enumerate(open(path, encoding="utf-8"), 1):
+            found = FUNCTION.match(line)
+            if found and PARTICIPLE.fullmatch(found.group(1)):
+                yield f"{path}:{number}: {found.group(1)} is a participle"
 
 
 def long_lines():
@@ -101,6 +112,7 @@ def main():
     for name in places:
         folded[re.sub("[_-]", "", name).lower()].add(name)
     wrong += [f"{' and '.join(sorted(names))} differ in case alone" for fold, names in sorted(folded.items()) if len(names) > 1 and fold not in SAME]
+    wrong += list(participles())
     wrong += [f"{place}: a clause or a ghost line over {COLUMNS} columns" for place in long_lines()]
     wrong += list(bare_limits())
     print("\n".join(wrong + [f"{len(places)} names, {len(wrong)} wrong"]))

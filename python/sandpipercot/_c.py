@@ -20,7 +20,7 @@ class Handle(Structure):
 
 class Settings(Structure):
     _fields_ = [
-        ("most_pages", c_uint32),
+        ("max_pages", c_uint32),
         ("stop_age", c_uint32),
         ("freeze_min_age", c_uint32),
         ("first_xid", c_uint32),

@@ -40,7 +40,7 @@ class Status(enum.IntEnum):
     NO_ENGINE = 48
     HAS_ENGINE = 49
     NO_PLACE = 50
-    BAD_MOST_PAGES = 64
+    BAD_MAX_PAGES = 64
     BAD_STOP_AGE = 65
     BAD_FREEZE_MIN_AGE = 66
     BAD_FIRST_XID = 67
@@ -203,9 +203,9 @@ class NoPlace(Refused):
 
 
 class BadMaxPages(Refused):
-    """most_pages is not from 1 to 65536"""
+    """max_pages is not from 1 to 65536"""
 
-    status = Status.BAD_MOST_PAGES
+    status = Status.BAD_MAX_PAGES
 
 
 class BadStopAge(Refused):

@@ -91,14 +91,14 @@ class Table:
     def __init__(
         self,
         *,
-        most_pages: int = 65536,
+        max_pages: int = 65536,
         stop_age: int = 2144483648,
         freeze_min_age: int = 0,
         first_xid: int = 3,
         dead_limit: int = 64,
         indexed: Sequence[bool] = (False, False, False, False),
     ) -> None:
-        numbers = [fits(it, 32) for it in (most_pages, stop_age, freeze_min_age, first_xid, dead_limit)]
+        numbers = [fits(it, 32) for it in (max_pages, stop_age, freeze_min_age, first_xid, dead_limit)]
         if len(indexed) != 4:
             raise ValueError("indexed has one flag for each of the four columns")
         settings = _c.Settings(*numbers, (ctypes.c_bool * 4)(*indexed))

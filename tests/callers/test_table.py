@@ -16,7 +16,7 @@ class TableTest(unittest.TestCase):
     """On a table with an index by column 0, in which the keys 1 to 10 have ten times the key in column 0."""
 
     def setUp(self) -> None:
-        self.table = Table(most_pages=64, indexed=(True, False, False, False))
+        self.table = Table(max_pages=64, indexed=(True, False, False, False))
         self.addCleanup(self.table.close)
         with self.table.begin() as session:
             for key in range(1, 11):
@@ -349,14 +349,14 @@ class TableTest(unittest.TestCase):
 
     def test_settings_are_refused(self) -> None:
         for name, value, refusal in [
-            ("most_pages", 0, sp.BadMaxPages),
+            ("max_pages", 0, sp.BadMaxPages),
             ("stop_age", 0, sp.BadStopAge),
             ("freeze_min_age", 1000000001, sp.BadFreezeMinAge),
             ("first_xid", 2, sp.BadFirstXid),
             ("dead_limit", 0, sp.BadDeadLimit),
         ]:
             self.assertRaises(refusal, Table, **{name: value})
-        self.assertRaises(OverflowError, Table, most_pages=-1)
+        self.assertRaises(OverflowError, Table, max_pages=-1)
         self.assertRaises(ValueError, Table, indexed=(True,))
 
     def test_a_table_stays_on_its_thread(self) -> None:

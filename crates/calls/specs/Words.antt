@@ -22,7 +22,7 @@ row_of row = record { key = row.key; cols = row.cols; body = record { items = ro
 
 -- each setting is in its range
 pub record AreSettings (s : Settings) : Type 0 where
-  pub most_pages : (1 ≤ s.most_pages) × (s.most_pages ≤ 65536)
+  pub max_pages : (1 ≤ s.max_pages) × (s.max_pages ≤ 65536)
   pub stop_age : (1 ≤ s.stop_age) × (s.stop_age ≤ 2144483648)
   pub freeze_min_age : s.freeze_min_age ≤ 1000000000
   pub first_xid : (3 ≤ s.first_xid) × (s.first_xid ≤ 4294967295)
@@ -30,7 +30,7 @@ pub record AreSettings (s : Settings) : Type 0 where
 
 -- the fault names a setting that is out of its range
 abbrev pub IsOut : Settings → SettingsFault → Type 0
-IsOut s MaxPages = (s.most_pages < 1) ⊎ (65536 < s.most_pages)
+IsOut s MaxPages = (s.max_pages < 1) ⊎ (65536 < s.max_pages)
 IsOut s StopAge = (s.stop_age < 1) ⊎ (2144483648 < s.stop_age)
 IsOut s FreezeMinAge = 1000000000 < s.freeze_min_age
 IsOut s FirstXid = s.first_xid < 3

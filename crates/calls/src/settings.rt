@@ -9,7 +9,7 @@ use thiserror::Error;
 #[derive(Clone, Copy, Debug, PartialEq, Eq)]
 pub struct Settings {
     /// How many pages the table may have: 1 to 65,536.
-    pub most_pages: u32,
+    pub max_pages: u32,
     /// How far from the oldest remembered id no id is given any more: 1 to 2,144,483,648.
     pub stop_age: u32,
     /// A vacuum freezes what was made by an id more numbers than this before the next one: 0 to 1,000,000,000.
@@ -25,7 +25,7 @@ pub struct Settings {
 /// Why an engine is not made: the first setting that is out of its range (see [`Settings`]), or memory.
 #[derive(Clone, Copy, Debug, PartialEq, Eq, Error)]
 pub enum SettingsFault {
-    /// `most_pages`.
+    /// `max_pages`.
     #[error("the number of pages is not from 1 to 65536")]
     MaxPages,
     /// `stop_age`.
@@ -51,7 +51,7 @@ impl Settings {
         ensures fault { IfSome result (λ fault. FirstFault self.now fault) }
         ensures none { (result ≡ None) ↔ AreSettings self.now }
     {
-        if self.most_pages < 1 || self.most_pages > 65_536 {
+        if self.max_pages < 1 || self.max_pages > 65_536 {
             return Some(SettingsFault::MaxPages);
         }
         if self.stop_age < 1 || self.stop_age > 2_144_483_648 {

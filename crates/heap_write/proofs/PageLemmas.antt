@@ -87,15 +87,15 @@ same-then a b c first second = record {
   marks = second.marks ∙ first.marks;
 }
 
-pub keeps : (h h' : HeapView) → SamePages h.pages h'.pages → SameIds h.statuses h'.statuses → SameEntries h.indexes h'.indexes → h'.most_pages ≡ h.most_pages → Keeps h h'
-keeps h h' same ids entries most_pages = record {
+pub keeps : (h h' : HeapView) → SamePages h.pages h'.pages → SameIds h.statuses h'.statuses → SameEntries h.indexes h'.indexes → h'.max_pages ≡ h.max_pages → Keeps h h'
+keeps h h' same ids entries max_pages = record {
   slots = same.slots;
   changes = same.changes;
   flags = same.flags;
   marks = same.marks;
   statuses = ids;
   entries = entries;
-  most_pages = most_pages;
+  max_pages = max_pages;
 }
 
 pub keeps-all : (h : HeapView) → Keeps h h
@@ -109,7 +109,7 @@ keeps-then h h1 h2 first second = record {
   marks = second.marks ∙ first.marks;
   statuses = record { first = second.statuses.first ∙ first.statuses.first; stop_age = second.statuses.stop_age ∙ first.statuses.stop_age; entries = second.statuses.entries ∙ first.statuses.entries };
   entries = λ n. second.entries n ∙ first.entries n;
-  most_pages = second.most_pages ∙ first.most_pages;
+  max_pages = second.max_pages ∙ first.max_pages;
 }
 
 -- A page in the place of another, twice.
@@ -128,8 +128,8 @@ puts-grown pages middle pages' n grown page within is marks (after_all over e m)
     absurd (let long : length middle.pages ≡ length pages.pages = ap length is ∙ length-set pages.pages n grown in let no : 1 ≤ 0 = omega (arith, within, over, long) in omega (arith, no))
 
 -- the same, of a table whose view is known
-pub keeps-viewed : (v h h' : HeapView) → v ≡ h → SamePages v.pages h'.pages → SameIds v.statuses h'.statuses → SameEntries v.indexes h'.indexes → h'.most_pages ≡ v.most_pages → Keeps h h'
-keeps-viewed v h h' view_is same ids entries most_pages = subst (λ u. Keeps u h') view_is (keeps v h' same ids entries most_pages)
+pub keeps-viewed : (v h h' : HeapView) → v ≡ h → SamePages v.pages h'.pages → SameIds v.statuses h'.statuses → SameEntries v.indexes h'.indexes → h'.max_pages ≡ v.max_pages → Keeps h h'
+keeps-viewed v h h' view_is same ids entries max_pages = subst (λ u. Keeps u h') view_is (keeps v h' same ids entries max_pages)
 
 -- a page in its own place
 pub page-back : (p : PagesView) (n : ℕ) (page : PageView) → slice_get p.pages n ≡ Some page → with_page p n page ≡ p

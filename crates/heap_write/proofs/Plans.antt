@@ -120,7 +120,7 @@ pub applied-chosen : (h h1 h' : HeapView) (n size : ℕ) (actions : List (ℕ ×
 applied-chosen h h1 h' n size actions found within keeps is full still =
     let after = applied actions (page_on h1 n) in
     let same = applied-slots actions (page_on h1 n) (page_on h n) (kept-slots h h1 n keeps) in
-    chosen-set h1 h' size n after found within (ap (λ (v : HeapView). v.pages.pages) is) (ap (λ (v : HeapView). v.most_pages) is) (kept-full h h1 n size keeps full)
+    chosen-set h1 h' size n after found within (ap (λ (v : HeapView). v.pages.pages) is) (ap (λ (v : HeapView). v.max_pages) is) (kept-full h h1 n size keeps full)
     (no-room size (room_of after.slots) (subst (λ slots. room_of slots < size) (sym same) still))
 
 pub applied-ready : (h h1 h' : HeapView) (n size : ℕ) (actions : List (ℕ × Action)) (target : Target) → Keeps h h1 → h' ≡ with_applied h1 n actions

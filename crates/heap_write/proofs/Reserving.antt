@@ -56,21 +56,21 @@ ready-grows pages pages' limit size n chosen grown =
 
 -- Why memory was needed.
 
-pub needs-memory : (h : HeapView) (own : Own) (size : ℕ) → PlaceNeedsMemory h.pages.pages h.most_pages size → (¬ TableIsFull h size) × RootNeedsMemory h own size
+pub needs-memory : (h : HeapView) (own : Own) (size : ℕ) → PlaceNeedsMemory h.pages.pages h.max_pages size → (¬ TableIsFull h size) × RootNeedsMemory h own size
 needs-memory h own size (PlaceNeedsMemory.for_page chosen) = (
-  λ full. let few = new-place h.pages.pages h.most_pages size chosen in let over = full.all_used in let no : 1 ≤ 0 = omega (arith, few, over) in omega (arith, no),
+  λ full. let few = new-place h.pages.pages h.max_pages size chosen in let over = full.all_used in let no : 1 ≤ 0 = omega (arith, few, over) in omega (arith, no),
   RootNeedsMemory.for_page chosen,
 )
 needs-memory h own size (PlaceNeedsMemory.for_slot n chosen slot) =
-    let at = page-place h.pages.pages h.most_pages size n chosen in
+    let at = page-place h.pages.pages h.max_pages size n chosen in
     (λ full. full.no_room n (page_on h n) (slice_get-get_or h.pages.pages n unused_page at.0) at.1, RootNeedsMemory.for_slot n chosen slot)
 
 pub room-left : (h : HeapView) (size : ℕ) (target : Target) → IsChosen h size (Some target) → ¬ TableIsFull h size
 room-left h size (Page n) chosen full =
-    let at = page-place h.pages.pages h.most_pages size n chosen in
+    let at = page-place h.pages.pages h.max_pages size n chosen in
     full.no_room n (page_on h n) (slice_get-get_or h.pages.pages n unused_page at.0) at.1
 room-left h size (New page) chosen full =
-    let few = new-place h.pages.pages h.most_pages size chosen in let over = full.all_used in let no : 1 ≤ 0 = omega (arith, few, over) in omega (arith, no)
+    let few = new-place h.pages.pages h.max_pages size chosen in let over = full.all_used in let no : 1 ≤ 0 = omega (arith, few, over) in omega (arith, no)
 
 -- an insert for which there is room
 pub insert-refused : (h : HeapView) (own : Own) (row : Row) (r : Result Xid WriteFault) → ¬ NeedsFreeze h.statuses own → ¬ TableIsFull h (rounded_size_of row)
@@ -80,20 +80,20 @@ insert-refused h own row (Err fault) free room no_memory needs =
     subst (λ f. LacksForInsert h own row f) (sym no_memory) (free, room, ⊎_elim RootNeedsMemory.for_entry RootNeedsMemory.for_ids needs)
 
 -- what was chosen before its page grew is chosen after
-pub reserves-chosen : (pages : PagesView) (h : HeapView) (size : ℕ) (found : Option Target) → Reserves pages h.pages h.most_pages size found → IsChosen h size found
-reserves-chosen pages h size None (chosen, same) = subst (λ (p : PagesView). IsPlaceFor p.pages h.most_pages size to.Nowhere) (sym same) chosen
+pub reserves-chosen : (pages : PagesView) (h : HeapView) (size : ℕ) (found : Option Target) → Reserves pages h.pages h.max_pages size found → IsChosen h size found
+reserves-chosen pages h size None (chosen, same) = subst (λ (p : PagesView). IsPlaceFor p.pages h.max_pages size to.Nowhere) (sym same) chosen
 reserves-chosen pages h size (Some (Page n)) (chosen, grown) =
-    subst (λ (p : PagesView). IsPlaceFor p.pages h.most_pages size (to.Page n)) (sym grown.pages_are)
-    (place-set pages.pages h.most_pages size n grown.page (to.Page n) (page-place pages.pages h.most_pages size n chosen).0
+    subst (λ (p : PagesView). IsPlaceFor p.pages h.max_pages size (to.Page n)) (sym grown.pages_are)
+    (place-set pages.pages h.max_pages size n grown.page (to.Page n) (page-place pages.pages h.max_pages size n chosen).0
     (alike-same size (page_in pages.pages n) grown.page grown.same.slots) chosen)
-reserves-chosen pages h size (Some (New page)) (chosen, (same, marks)) = subst (λ ps. IsPlaceFor ps h.most_pages size to.NewPage) (sym same) chosen
+reserves-chosen pages h size (Some (New page)) (chosen, (same, marks)) = subst (λ ps. IsPlaceFor ps h.max_pages size to.NewPage) (sym same) chosen
 
 -- A page without room, and without room after it has changed.
 
 pub chosen-set : (h h' : HeapView) (size m : ℕ) (after : PageView) (found : Option Target) → m < length h.pages.pages → h'.pages.pages ≡ set h.pages.pages m after
-    → h'.most_pages ≡ h.most_pages → ¬ HasRoom size (page_on h m) → ¬ HasRoom size after → IsChosen h size found → IsChosen h' size found
-chosen-set h h' size m after found within is most_pages full still chosen =
-    rw (is, most_pages) (place-set h.pages.pages h.most_pages size m after (place_of_target found) within (alike-full size (page_on h m) after full still) chosen)
+    → h'.max_pages ≡ h.max_pages → ¬ HasRoom size (page_on h m) → ¬ HasRoom size after → IsChosen h size found → IsChosen h' size found
+chosen-set h h' size m after found within is max_pages full still chosen =
+    rw (is, max_pages) (place-set h.pages.pages h.max_pages size m after (place_of_target found) within (alike-full size (page_on h m) after full still) chosen)
 
 pub ready-set : (pages pages' : PagesView) (size m : ℕ) (after : PageView) (target : Target) → pages'.pages ≡ set pages.pages m after → pages'.spare ≡ pages.spare
     → ¬ HasRoom size (page_in pages.pages m) → IsReserved pages size target → IsReserved pages' size target

@@ -66,7 +66,7 @@ answers-here h grown h' own grown_own own' place row horizon x free there room k
       readies = has_room room refl;
       there = there;
       replaces = on_page room replaces;
-      most_pages = under.most_pages ∙ keeps.most_pages;
+      max_pages = under.max_pages ∙ keeps.max_pages;
     },
     under.normal,
   );
@@ -78,7 +78,7 @@ answers-here h grown h' own grown_own own' place row horizon x free there room k
 -- The update after the page was made ready.
 
 pub answers-done : (h grown ready h' : HeapView) (own grown_own own' : Own) (place : Tid) (row : Row) (horizon : ℕ) (x : Xid) → ¬ NeedsFreeze h.statuses own
-    → PrunesIfFull h ready place horizon (rounded_size_of row) → ready.statuses ≡ grown.statuses → ready.most_pages ≡ grown.most_pages
+    → PrunesIfFull h ready place horizon (rounded_size_of row) → ready.statuses ≡ grown.statuses → ready.max_pages ≡ grown.max_pages
     → Keeps h grown → SameOwn own grown_own → (unassigned_levels own.ids own.saved ≡ 0 → grown.statuses ≡ h.statuses)
     → VersionIsThere ready place → IsDoneUnder ready h' grown_own own' x.0 → Replaces ready h' place x.0 row → AnswersUpdate h h' own own' place row horizon (Ok x)
 answers-done h grown ready h' own grown_own own' place row horizon x free readies ids limit keeps same none there under replaces = record {
@@ -90,7 +90,7 @@ answers-done h grown ready h' own grown_own own' place row horizon x free readie
       readies = readies;
       there = there;
       replaces = replaces;
-      most_pages = under.most_pages ∙ limit ∙ keeps.most_pages;
+      max_pages = under.max_pages ∙ limit ∙ keeps.max_pages;
     },
     under.normal,
   );
@@ -101,7 +101,7 @@ answers-done h grown ready h' own grown_own own' place row horizon x free readie
 
 -- The same where a new root goes, if that is anywhere.
 pub answers-elsewhere : (h grown ready h' : HeapView) (own grown_own own' : Own) (place : Tid) (row : Row) (horizon : ℕ) (r : Result Xid WriteFault) → ¬ NeedsFreeze h.statuses own
-    → PrunesIfFull h ready place horizon (rounded_size_of row) → ready.statuses ≡ grown.statuses → ready.most_pages ≡ grown.most_pages
+    → PrunesIfFull h ready place horizon (rounded_size_of row) → ready.statuses ≡ grown.statuses → ready.max_pages ≡ grown.max_pages
     → Keeps h grown → SameOwn own grown_own → (unassigned_levels own.ids own.saved ≡ 0 → grown.statuses ≡ h.statuses)
     → VersionIsThere ready place → IfOk r (λ x. IsDoneUnder ready h' grown_own own' x.0) → IfOk r (λ x. Replaces ready h' place x.0 row)
     → IfErr r (λ fault. (fault ≡ NoRoom) × TableIsFull ready (rounded_size_of row)) → OnErr r ((h' ≡ ready) × SameOwn grown_own own') → IsWindow h'.statuses

@@ -109,10 +109,10 @@ values-back h h1 place row slots entries keeps old at =
 -- An insert.
 
 -- where the place for a new version stands ready, it goes to the number of the target
-reserved-grown : (h h1 : HeapView) (size : ℕ) (target : Target) → Reserves h.pages h1.pages h.most_pages size (Some target) → SameEntries h.indexes h1.indexes
+reserved-grown : (h h1 : HeapView) (size : ℕ) (target : Target) → Reserves h.pages h1.pages h.max_pages size (Some target) → SameEntries h.indexes h1.indexes
     → Grown h h1 (target_number h1.pages.pages target) × GoesTo h size (target_number h1.pages.pages target)
 reserved-grown h h1 size (Page n) (chosen, grows) entries = (
-  grown-set h h1 n grows.page (page-place h.pages.pages h.most_pages size n chosen).0 grows.pages_are grows.same entries,
+  grown-set h h1 n grows.page (page-place h.pages.pages h.max_pages size n chosen).0 grows.pages_are grows.same entries,
   record { place = to.Page n; chosen = chosen; number = refl },
 )
 reserved-grown h h1 size (New page) (chosen, (same, marks)) entries = (
@@ -121,9 +121,9 @@ reserved-grown h h1 size (New page) (chosen, (same, marks)) entries = (
 )
 
 pub inserts : (h h1 h' : HeapView) (own own' : Own) (row : Row) (x : ℕ) (target : Target) → ¬ NeedsFreeze h.statuses own
-    → Reserves h.pages h1.pages h.most_pages (rounded_size_of row) (Some target) → SameEntries h.indexes h1.indexes
-    → TakesIds h.statuses h'.statuses own own' x → PutsRoot h1 h' false x row (target_number h1.pages.pages target) → h'.most_pages ≡ h.most_pages → Inserts h h' own own' row x
-inserts h h1 h' own own' row x target free reserves entries takes root most_pages =
+    → Reserves h.pages h1.pages h.max_pages (rounded_size_of row) (Some target) → SameEntries h.indexes h1.indexes
+    → TakesIds h.statuses h'.statuses own own' x → PutsRoot h1 h' false x row (target_number h1.pages.pages target) → h'.max_pages ≡ h.max_pages → Inserts h h' own own' row x
+inserts h h1 h' own own' row x target free reserves entries takes root max_pages =
     let number = target_number h1.pages.pages target in
     let at = reserved-grown h h1 (rounded_size_of row) target reserves entries in
     record {
@@ -132,7 +132,7 @@ inserts h h1 h' own own' row x target free reserves entries takes root most_page
       number = number;
       goes_to = at.1;
       root = root-grown h h1 h' false x row number at.0 root;
-      most_pages = most_pages;
+      max_pages = max_pages;
     }
 
 -- An update by a root.
@@ -149,7 +149,7 @@ puts-same pages pages' n page within (after_all over is marks) = absurd (let no 
 pub goes-elsewhere : (h : HeapView) (place : Tid) (size : ℕ) (target : Target) → VersionIsThere h place → room_of (page_on h place.page).slots < size
     → IsChosen h size (Some target) → (target_number h.pages.pages target ≢ place.page) × GoesTo h size (target_number h.pages.pages target)
 goes-elsewhere h place size (Page n) there full chosen = (
-  λ same. let room = (page-place h.pages.pages h.most_pages size n chosen).1 in
+  λ same. let room = (page-place h.pages.pages h.max_pages size n chosen).1 in
       let here : size ≤ room_of (page_on h place.page).slots = subst (λ m. size ≤ room_of (page_on h m).slots) same room in let no : 1 ≤ 0 = omega (arith, here, full) in omega (arith, no),
   record { place = to.Page n; chosen = chosen; number = refl },
 )
@@ -259,8 +259,8 @@ replaces-here h h' place x row before after at slots change flag within pages ma
 
 pub deletes : (h h' : HeapView) (own own' : Own) (place : Tid) (x : ℕ) (before after : PageView) → ¬ NeedsFreeze h.statuses own → TakesIds h.statuses h'.statuses own own' x
     → VersionIsThere h place → slice_get h.pages.pages place.page ≡ Some before → MarksColdUpdated before after place place x
-    → h'.pages.pages ≡ set h.pages.pages place.page after → h'.pages.marks ≡ set h.pages.marks place.page Nothing → SameEntries h.indexes h'.indexes → h'.most_pages ≡ h.most_pages → Deletes h h' own own' place x
-deletes h h' own own' place x before after free takes there at away pages marks entries most_pages =
+    → h'.pages.pages ≡ set h.pages.pages place.page after → h'.pages.marks ≡ set h.pages.marks place.page Nothing → SameEntries h.indexes h'.indexes → h'.max_pages ≡ h.max_pages → Deletes h h' own own' place x
+deletes h h' own own' place x before after free takes there at away pages marks entries max_pages =
     let moved : MarksColdUpdated (page_on h place.page) after place place x = subst (λ page. MarksColdUpdated page after place place x) (sym (page-at h.pages.pages place.page before at)) away in
     record {
       free = free;
@@ -274,5 +274,5 @@ deletes h h' own own' place x before after free takes there at away pages marks 
         flag = moved.flag;
         entries = entries;
       };
-      most_pages = most_pages;
+      max_pages = max_pages;
     }

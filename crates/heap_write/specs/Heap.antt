@@ -16,7 +16,7 @@ pub record HeapView : Type 0 where
   -- by their numbers: each one in use has an entry for the root of each chain
   pub indexes : List (Option IndexView)
   -- how many pages may be in use
-  pub most_pages : ℕ
+  pub max_pages : ℕ
 
 abbrev pub slots_of : HeapView → List (List Slot)
 slots_of h = lists.page_slots_of h.pages
@@ -48,7 +48,7 @@ pub record Keeps (h h' : HeapView) : Type 0 where
   pub marks : h'.pages.marks ≡ h.pages.marks
   pub statuses : SameIds h.statuses h'.statuses
   pub entries : SameEntries h.indexes h'.indexes
-  pub most_pages : h'.most_pages ≡ h.most_pages
+  pub max_pages : h'.max_pages ≡ h.max_pages
 
 -- this becomes the page of the number, in the place of one that is in use or after all others, and nothing is noted of it any more; no
 -- other page changes, nor what is noted of one (the manual's "Visibility Map")

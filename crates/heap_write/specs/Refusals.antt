@@ -32,8 +32,8 @@ NeedsIds h own = (h.statuses.spare < unassigned_levels own.ids own.saved) ⊎ (o
 -- something has to grow for a new root: the ids, the list of pages, a page's list of slots, or an index
 pub data RootNeedsMemory (h : HeapView) (own : Own) (size : ℕ) : Type 0 where
   for_ids : NeedsIds h own → RootNeedsMemory h own size
-  for_page : IsPlaceFor h.pages.pages h.most_pages size NewPage → RootNeedsMemory h own size
-  for_slot : (n : ℕ) → IsPlaceFor h.pages.pages h.most_pages size (Page n) → NeedsSlot (page_on h n) → RootNeedsMemory h own size
+  for_page : IsPlaceFor h.pages.pages h.max_pages size NewPage → RootNeedsMemory h own size
+  for_slot : (n : ℕ) → IsPlaceFor h.pages.pages h.max_pages size (Page n) → NeedsSlot (page_on h n) → RootNeedsMemory h own size
   for_entry : NeedsEntry h.indexes → RootNeedsMemory h own size
 
 abbrev pub LacksForInsert : HeapView → Own → Row → WriteFault → Type 0

@@ -27,13 +27,13 @@ pub record IsReplaceable (h : HeapView) (own : Own) (place : Tid) : Type 0 where
 -- each level has an id now, the newest x
 pub record IsDoneUnder (h h' : HeapView) (own own' : Own) (x : ℕ) : Type 0 where
   pub takes : TakesIds h.statuses h'.statuses own own' x
-  pub most_pages : h'.most_pages ≡ h.most_pages
+  pub max_pages : h'.max_pages ≡ h.max_pages
   pub window : IsWindow h'.statuses
   pub normal : IsNormal x
 
 -- a new version of this size goes there, or nowhere
 abbrev pub IsChosen : HeapView → ℕ → Option Target → Type 0
-IsChosen h size found = IsPlaceFor h.pages.pages h.most_pages size (place_of_target found)
+IsChosen h size found = IsPlaceFor h.pages.pages h.max_pages size (place_of_target found)
 
 -- no version on the page of this number is dead, so that pruning leaves it as it is
 pub record HasNoneDead (h : HeapView) (number horizon : ℕ) : Type 0 where

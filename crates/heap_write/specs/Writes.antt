@@ -60,7 +60,7 @@ pub record SameOwn (own own' : Own) : Type 0 where
 
 -- all pages that there may be are in use, and none has room
 pub record TableIsFull (h : HeapView) (size : ℕ) : Type 0 where
-  pub all_used : h.most_pages ≤ length h.pages.pages
+  pub all_used : h.max_pages ≤ length h.pages.pages
   pub no_room : NoPage h.pages.pages (HasRoom size)
 
 abbrev pub number_of : ℕ → Placement → Option ℕ
@@ -71,7 +71,7 @@ number_of count Nowhere = None
 -- a new version of this size goes to the page of this number
 pub record GoesTo (h : HeapView) (size n : ℕ) : Type 0 where
   pub place : Placement
-  pub chosen : IsPlaceFor h.pages.pages h.most_pages size place
+  pub chosen : IsPlaceFor h.pages.pages h.max_pages size place
   pub number : number_of (length h.pages.pages) place ≡ Some n
 
 -- Changes of a page and the indexes.
@@ -131,7 +131,7 @@ pub record Inserts (h h' : HeapView) (own own' : Own) (row : Row) (x : ℕ) : Ty
   pub number : ℕ
   pub goes_to : GoesTo h (rounded_size_of row) number
   pub root : PutsRoot h h' false x row number
-  pub most_pages : h'.most_pages ≡ h.most_pages
+  pub max_pages : h'.max_pages ≡ h.max_pages
 
 -- pruning its page at a horizon would take the version at a place away
 pub record WouldGo (h : HeapView) (place : Tid) (horizon : ℕ) : Type 0 where
@@ -140,7 +140,7 @@ pub record WouldGo (h : HeapView) (place : Tid) (horizon : ℕ) : Type 0 where
 
 -- The page of the old version is pruned where the row has no room on it, when there may be more memory; but it is left as it is
 -- where the version would go with that.
-pub data PrunesIfFull (h h' : HeapView) (number : PageNo) (horizon : Id) (size : Count) : Type 0 where
+pub data PrunesIfFull (h h' : HeapView) (place : Tid) (horizon : Id) (size : Count) : Type 0 where
   has_room : size ≤ room_of (page_on h place.page).slots → h' ≡ h → PrunesIfFull h h' place horizon size
   is_pruned : room_of (page_on h place.page).slots < size → (grown : HeapView) → Keeps h grown → Prunes grown h' place.page horizon
       → PrunesIfFull h h' place horizon size
@@ -169,7 +169,7 @@ pub record Updates (h h' : HeapView) (own own' : Own) (place : Tid) (row : Row) 
   pub readies : PrunesIfFull h ready place horizon (rounded_size_of row)
   pub there : IsNormalAt (page_on ready place.page).slots place.slot
   pub replaces : Replaces ready h' place x row
-  pub most_pages : h'.most_pages ≡ h.most_pages
+  pub max_pages : h'.max_pages ≡ h.max_pages
 
 -- the version at a place is deleted
 pub record Deletes (h h' : HeapView) (own own' : Own) (place : Tid) (x : ℕ) : Type 0 where
@@ -177,4 +177,4 @@ pub record Deletes (h h' : HeapView) (own own' : Own) (place : Tid) (x : ℕ) : 
   pub takes_ids : TakesIds h.statuses h'.statuses own own' x
   pub there : IsNormalAt (page_on h place.page).slots place.slot
   pub away : SetsXmax h h' place x place
-  pub most_pages : h'.most_pages ≡ h.most_pages
+  pub max_pages : h'.max_pages ≡ h.max_pages

@@ -212,7 +212,7 @@ impl HeapState {
             &mut self.pages,
             &mut self.hints,
             size,
-            self.most_pages,
+            self.max_pages,
         )
     }
 

@@ -42,7 +42,7 @@ pub struct HeapState {
     // from which turn on a version on a page may be dead, as far as it is known: it changes no answer
     pub(crate) hints: PruneHints,
     pub(crate) indexes: Indexes,
-    pub(crate) most_pages: u32,
+    pub(crate) max_pages: u32,
 }
 
 impl Model for HeapState {
@@ -57,31 +57,25 @@ impl Model for HeapState {
       pages = h.pages;
       statuses = h.statuses;
       indexes = h.indexes;
-      most_pages = h.most_pages;
+      max_pages = h.max_pages;
     } };
 
     ghost invariant = { λ h.
-        (h.most_pages ≤ MOST_PAGES) × AreTrueHints h.statuses h.pages.pages h.hints.turns };
+        (h.max_pages ≤ MOST_PAGES) × AreTrueHints h.statuses h.pages.pages h.hints.turns };
 }
 
 impl HeapState {
-    /// A table without pages, of which there may be `most_pages`, up to 65,536, and whose first id is `first`, a normal one. No
+    /// A table without pages, of which there may be `max_pages`, up to 65,536, and whose first id is `first`, a normal one. No
     /// id is given `stop_age` numbers, at most 2,144,483,648, from the oldest that is remembered, or further. It has an index by key, and one by each column of
     /// which `indexed` says so.
-    pub fn new(
-        alloc: Global,
-        first: Xid,
-        stop_age: u32,
-        most_pages: u32,
-        indexed: [bool; 4],
-    ) -> Self
+    pub fn new(alloc: Global, first: Xid, stop_age: u32, max_pages: u32, indexed: [bool; 4]) -> Self
         requires normal { IsNormal first.0 }
         requires limit { stop_age ≤ 2144483648 }
-        requires few { most_pages ≤ MOST_PAGES }
+        requires few { max_pages ≤ MOST_PAGES }
         ensures pages { result.pages.pages ≡ [] }
         ensures marks { result.pages.marks ≡ [] }
         ensures indexes { (n : ℕ) → entries_at result.indexes n ≡ new_entries indexed n }
-        ensures most_pages { result.most_pages ≡ most_pages }
+        ensures max_pages { result.max_pages ≡ max_pages }
         ensures first { result.statuses.first ≡ first.0 }
         ensures stop_age { result.statuses.stop_age ≡ stop_age }
         ensures entries { result.statuses.entries ≡ [] }
@@ -95,7 +89,7 @@ impl HeapState {
             statuses,
             hints: PruneHints::new(alloc),
             indexes: Indexes::new(alloc, indexed),
-            most_pages,
+            max_pages,
         }
     }
 
@@ -126,7 +120,7 @@ impl HeapState {
         requires { (x : ℕ) → Contains (numbers ids.now) x → IsActive self.old.statuses x }
         ensures pages { self.new.pages ≡ self.old.pages }
         ensures indexes { self.new.indexes ≡ self.old.indexes }
-        ensures most_pages { self.new.most_pages ≡ self.old.most_pages }
+        ensures max_pages { self.new.max_pages ≡ self.old.max_pages }
         ensures finishes { Finishes self.old.statuses self.new.statuses (numbers ids.now) status }
         ensures window { IsWindow self.new.statuses }
     {

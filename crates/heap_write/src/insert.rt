@@ -44,7 +44,7 @@ impl HeapState {
             &mut self.pages,
             &mut self.hints,
             row_size(row),
-            self.most_pages,
+            self.max_pages,
         ) {
             Ok(Some(target)) => self.insert_at(target, own, row),
             Ok(None) => Err(WriteFault::NoRoom),
@@ -62,7 +62,7 @@ impl HeapState {
         ensures root { IfOk result
             (λ x. PutsRoot self.old self.new false x.0 row.now
             (target_number self.old.pages.pages target)) }
-        ensures most_pages { self.new.most_pages ≡ self.old.most_pages }
+        ensures max_pages { self.new.max_pages ≡ self.old.max_pages }
         ensures needs { OnErr result (NeedsEntry self.old.indexes ⊎ NeedsIds self.old own.old) }
         ensures fault { IfErr result (λ fault. fault ≡ WriteFault.NoMemory) }
         ensures err { OnErr result (Keeps self.old self.new) }
@@ -89,7 +89,7 @@ impl HeapState {
         ensures slot { result.slot ≡ free_number (page_on self.old result.page).slots }
         ensures limit { result.slot ≤ MOST_SLOTS }
         ensures statuses { self.new.statuses ≡ self.old.statuses }
-        ensures most_pages { self.new.most_pages ≡ self.old.most_pages }
+        ensures max_pages { self.new.max_pages ≡ self.old.max_pages }
     {
         let (key, cols) = (row.key, row.cols);
         let tid = put_version(&mut self.pages, target, updated, x, row);

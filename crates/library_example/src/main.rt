@@ -12,7 +12,7 @@ use std::process::ExitCode;
 
 /// A table of at most 4 pages, with an index by key alone.
 const SETTINGS: Settings = Settings {
-    most_pages: 4,
+    max_pages: 4,
     stop_age: 1000,
     freeze_min_age: 0,
     first_xid: 3,

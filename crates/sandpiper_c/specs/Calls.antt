@@ -25,7 +25,7 @@ abbrev pub held_by : Sandpiper → Option Held
 held_by table = table.handle.held
 
 abbrev pub settings_of : SandpiperSettings → Settings
-settings_of s = record { most_pages = s.most_pages; stop_age = s.stop_age; freeze_min_age = s.freeze_min_age; first_xid = s.first_xid; dead_limit = s.dead_limit; indexed = s.indexed }
+settings_of s = record { max_pages = s.max_pages; stop_age = s.stop_age; freeze_min_age = s.freeze_min_age; first_xid = s.first_xid; dead_limit = s.dead_limit; indexed = s.indexed }
 
 -- a new engine of these settings, which has answered nothing yet, or the first fault
 abbrev pub OpensHeld : Settings → Option Held → ℕ → Option Held → Type 0

@@ -85,7 +85,7 @@ pub struct SandpiperSlot {
 }
 
 /// What C reads of a slot.
-fn shown(slot: Slot) -> SandpiperSlot
+fn of_slot(slot: Slot) -> SandpiperSlot
     ensures { result ≡ shown_slot slot }
 {
     let unused = SandpiperSlot {
@@ -129,7 +129,7 @@ fn put_slot(found: Option<Slot>, place: &mut SandpiperSlot) -> u32
 {
     match found {
         Some(slot) => {
-            *place = shown(slot);
+            *place = of_slot(slot);
             CallStatus::Found.number()
         }
         None => CallStatus::NoRow.number(),

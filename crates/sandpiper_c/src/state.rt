@@ -63,7 +63,7 @@ fn number_of(mode: Option<Mode>) -> u32
 }
 
 /// What C reads of the engine.
-fn shown(engine: &Engine) -> SandpiperState
+fn of_engine(engine: &Engine) -> SandpiperState
     ensures { ShowsState engine.now result }
 {
     let (next, oldest) = engine.ids();
@@ -103,7 +103,7 @@ pub extern "C" fn sandpiper_state(
 {
     match table.take(alloc) {
         Some(held) => {
-            *state = shown(&held.engine);
+            *state = of_engine(&held.engine);
             table.put(held);
             CallStatus::Done.number()
         }

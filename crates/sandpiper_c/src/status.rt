@@ -36,7 +36,7 @@ pub enum CallStatus {
     HasEngine,
     /// There is no place for a row.
     NoPlace,
-    /// The setting `most_pages` is out of its range.
+    /// The setting `max_pages` is out of its range.
     BadMaxPages,
     /// The setting `stop_age` is.
     BadStopAge,

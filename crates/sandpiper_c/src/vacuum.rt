@@ -34,7 +34,7 @@ fn mode(aggressive: bool) -> Mode
 }
 
 /// What C reads of what a step did.
-fn shown(piece: Piece) -> SandpiperPiece
+fn of_piece(piece: Piece) -> SandpiperPiece
     ensures { result ≡ shown_piece piece }
 {
     match piece {
@@ -61,7 +61,7 @@ fn put_piece(reply: &Reply, piece: &mut SandpiperPiece)
     ensures { ShowsPiece (piece_in reply.now) piece.old piece.new }
 {
     match reply {
-        Reply::Worked(did) => *piece = shown(*did),
+        Reply::Worked(did) => *piece = of_piece(*did),
         Reply::Ended(oldest) => {
             *piece = SandpiperPiece {
                 kind: 0,

@@ -157,7 +157,7 @@ outside a low high (inl below) r = let at = r.0 in omega arith
 outside a low high (inr above) r = let at = r.1 in omega arith
 
 pub out_of_range : (s : Settings) (f : SettingsFault) → FirstFault s f → (f ≡ NoMemoryForSettings → ⊥) → AreSettings s → ⊥
-out_of_range s MaxPages h other k = outside s.most_pages 1 65536 h.0 k.most_pages
+out_of_range s MaxPages h other k = outside s.max_pages 1 65536 h.0 k.max_pages
 out_of_range s StopAge h other k = outside s.stop_age 1 2144483648 h.0 k.stop_age
 out_of_range s FreezeMinAge h other k = let out = h.0 in let least = k.freeze_min_age in omega arith
 out_of_range s FirstXid h other k = let out = h.0 in let first = k.first_xid.0 in omega arith

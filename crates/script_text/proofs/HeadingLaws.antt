@@ -83,7 +83,7 @@ settings_at_says w s h =
     let f_is = flags4_of_says e.0.1 f.0 f.1 in
     rw (← same_Some _ s f.2) (
       record {
-        most_pages = omega (arith, a_is.1);
+        max_pages = omega (arith, a_is.1);
         stop_age = omega (arith, b_is.1);
         freeze_min_age = omega (arith, c_is.1);
         first_xid = omega (arith, d_is.1);
@@ -97,10 +97,10 @@ settings_at_says w s h =
 pub settings_at-heading : (s : Settings) → SettingsFit s → settings_at (heading s) ≡ Some s
 unfolding settings_at heading_of
 settings_at-heading s h =
-    let pages = h.most_pages in let stop = h.stop_age in let least = h.freeze_min_age in let first = h.first_xid in let dead = h.dead_limit in
+    let pages = h.max_pages in let stop = h.stop_age in let least = h.freeze_min_age in let first = h.first_xid in let dead = h.dead_limit in
     rw (
-      cut-free (codes "heap") (decimal s.most_pages ++ spaced (decimal s.stop_age ++ spaced (decimal s.freeze_min_age ++ spaced (decimal s.first_xid ++ spaced (decimal s.dead_limit ++ spaced (flat_map flag_text s.indexed)))))) (refl, (refl, (refl, (refl, tt)))),
-      number_then-decimal 4294967295 s.most_pages (decimal s.stop_age ++ spaced (decimal s.freeze_min_age ++ spaced (decimal s.first_xid ++ spaced (decimal s.dead_limit ++ spaced (flat_map flag_text s.indexed))))) (omega arith) (omega arith),
+      cut-free (codes "heap") (decimal s.max_pages ++ spaced (decimal s.stop_age ++ spaced (decimal s.freeze_min_age ++ spaced (decimal s.first_xid ++ spaced (decimal s.dead_limit ++ spaced (flat_map flag_text s.indexed)))))) (refl, (refl, (refl, (refl, tt)))),
+      number_then-decimal 4294967295 s.max_pages (decimal s.stop_age ++ spaced (decimal s.freeze_min_age ++ spaced (decimal s.first_xid ++ spaced (decimal s.dead_limit ++ spaced (flat_map flag_text s.indexed))))) (omega arith) (omega arith),
       number_then-decimal 4294967295 s.stop_age (decimal s.freeze_min_age ++ spaced (decimal s.first_xid ++ spaced (decimal s.dead_limit ++ spaced (flat_map flag_text s.indexed)))) (omega arith) (omega arith),
       number_then-decimal 4294967295 s.freeze_min_age (decimal s.first_xid ++ spaced (decimal s.dead_limit ++ spaced (flat_map flag_text s.indexed))) (omega arith) (omega arith),
       number_then-decimal 4294967295 s.first_xid (decimal s.dead_limit ++ spaced (flat_map flag_text s.indexed)) (omega arith) (omega arith),
@@ -119,9 +119,9 @@ heading_once s t fit other e = same_Some s t (sym (settings_at-heading s fit) �
 -- settings in range fit
 pub settings_fit : (s : Settings) → AreSettings s → length s.indexed ≡ 4 → SettingsFit s
 settings_fit s h columns =
-    let pages = h.most_pages in let stop = h.stop_age in let least = h.freeze_min_age in let first = h.first_xid in let dead = h.dead_limit in
+    let pages = h.max_pages in let stop = h.stop_age in let least = h.freeze_min_age in let first = h.first_xid in let dead = h.dead_limit in
     record {
-      most_pages = omega arith;
+      max_pages = omega arith;
       stop_age = omega arith;
       freeze_min_age = omega arith;
       first_xid = omega arith;
@@ -139,7 +139,7 @@ then_free n r h k = Free-append 10 (decimal n) (spaced r) (decimal_free 10 n (om
 
 pub Free-heading : (s : Settings) → AreSettings s → Free 10 (heading s)
 Free-heading s h =
-    let pages = h.most_pages in let stop = h.stop_age in let least = h.freeze_min_age in let first = h.first_xid in let dead = h.dead_limit in (
+    let pages = h.max_pages in let stop = h.stop_age in let least = h.freeze_min_age in let first = h.first_xid in let dead = h.dead_limit in (
       refl,
       (
         refl,
@@ -149,7 +149,7 @@ Free-heading s h =
             refl,
             (
               refl,
-              then_free s.most_pages _ (omega arith) (then_free s.stop_age _ (omega arith) (then_free s.freeze_min_age _ (omega arith) (then_free s.first_xid _ (omega arith) (then_free s.dead_limit _ (omega arith) (flags_free s.indexed))))),
+              then_free s.max_pages _ (omega arith) (then_free s.stop_age _ (omega arith) (then_free s.freeze_min_age _ (omega arith) (then_free s.first_xid _ (omega arith) (then_free s.dead_limit _ (omega arith) (flags_free s.indexed))))),
             ),
           ),
         ),

@@ -52,12 +52,12 @@ flag_text b = (if b then 49 else 48) ∷ []
 
 -- the first line: `heap PAGES STOP MIN FIRST DEAD COLS`
 abbrev pub heading : Settings → List ℕ
-heading s = codes "heap" ++ spaced (decimal s.most_pages ++ spaced (decimal s.stop_age ++ spaced (decimal s.freeze_min_age
+heading s = codes "heap" ++ spaced (decimal s.max_pages ++ spaced (decimal s.stop_age ++ spaced (decimal s.freeze_min_age
     ++ spaced (decimal s.first_xid ++ spaced (decimal s.dead_limit ++ spaced (flat_map flag_text s.indexed))))))
 
 -- each number of the settings has 32 bits, and there are four columns
 pub record SettingsFit (s : Settings) : Type 0 where
-  pub most_pages : s.most_pages < 2 ^ 32
+  pub max_pages : s.max_pages < 2 ^ 32
   pub stop_age : s.stop_age < 2 ^ 32
   pub freeze_min_age : s.freeze_min_age < 2 ^ 32
   pub first_xid : s.first_xid < 2 ^ 32

@@ -134,7 +134,7 @@ heading_of xs = do
   first ← number_then 4294967295 min.1
   dead ← number_then 4294967295 first.1
   flags ← flags4_of dead.1
-  Some (record { most_pages = pages.0; stop_age = stop.0; freeze_min_age = min.0; first_xid = first.0; dead_limit = dead.0; indexed = flags })
+  Some (record { max_pages = pages.0; stop_age = stop.0; freeze_min_age = min.0; first_xid = first.0; dead_limit = dead.0; indexed = flags })
 
 unfoldable pub settings_at : List ℕ → Option Settings
 settings_at line = cut line >>= λ parts. if bytes_eq parts.0 (codes "heap") then heading_of parts.1 else None

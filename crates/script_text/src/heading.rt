@@ -44,14 +44,14 @@ fn number32_then(text: &[u8]) -> Option<(u32, &[u8])>
 fn heading(text: &[u8]) -> Option<Settings>
     ensures { result ≡ heading_of text.now }
 {
-    let (most_pages, rest) = number32_then(text)?;
+    let (max_pages, rest) = number32_then(text)?;
     let (stop_age, rest) = number32_then(rest)?;
     let (freeze_min_age, rest) = number32_then(rest)?;
     let (first_xid, rest) = number32_then(rest)?;
     let (dead_limit, rest) = number32_then(rest)?;
     let indexed = flags(rest)?;
     Some(Settings {
-        most_pages,
+        max_pages,
         stop_age,
         freeze_min_age,
         first_xid,

@@ -138,10 +138,10 @@ pruned st h p w prunes agrees =
     let stays = pruned-stays st.heap h p (horizon_of st) agrees.sound.table prunes in
     let f = theory.Follows-prune (seen st) p (version_in (slots_of h)) (removes-past st w (version_in (slots_of h)) p agrees (prunes-stand st.heap h p (horizon_of st) prunes)) w agrees.found in
     let statuses : h.statuses ≡ st.heap.statuses = ap (λ (g : HeapView). g.statuses) prunes.is in
-    let limit : h.most_pages ≡ st.heap.most_pages = ap (λ (g : HeapView). g.most_pages) prunes.is in
+    let limit : h.max_pages ≡ st.heap.max_pages = ap (λ (g : HeapView). g.max_pages) prunes.is in
     agree agrees refl refl (subst (λ t. relation_agrees.HeapAgrees (seen_in (slots_of h) t st.sessions) w) (sym statuses) f.1) (record {
       count = agrees.sound.count;
-      most_pages = limit ∙ agrees.sound.most_pages;
+      max_pages = limit ∙ agrees.sound.max_pages;
       stop_age = rw statuses agrees.sound.stop_age;
       window = rw statuses agrees.sound.window;
       sessions = rw statuses agrees.sound.sessions;

@@ -203,7 +203,7 @@ pub record Ended (st st' : State) (s : ℕ) (now : Option Session) (ids : List �
   pub settings : st'.settings ≡ st.settings
   pub pages : st'.heap.pages ≡ st.heap.pages
   pub indexes : st'.heap.indexes ≡ st.heap.indexes
-  pub most_pages : st'.heap.most_pages ≡ st.heap.most_pages
+  pub max_pages : st'.heap.max_pages ≡ st.heap.max_pages
   pub sessions : st'.sessions ≡ set st.sessions s now
   pub finishes : Finishes st.heap.statuses st'.heap.statuses ids end
   pub window : IsWindow st'.heap.statuses
@@ -244,7 +244,7 @@ module _ (st st' : State) (s : ℕ) (e : Session) (now : Option Session) (ids : 
       → StaysSoundTable st.heap st'.heap (horizon_of st) → Sound st'
   Sound-ended keeps along with_tops stays = record {
     count = ap length change.sessions ∙ (length-set st.sessions s now ∙ agrees.sound.count);
-    most_pages = change.most_pages ∙ agrees.sound.most_pages ∙ ap (λ (g : Settings). g.most_pages) (sym change.settings);
+    max_pages = change.max_pages ∙ agrees.sound.max_pages ∙ ap (λ (g : Settings). g.max_pages) (sym change.settings);
     stop_age = change.finishes.stop_age ∙ agrees.sound.stop_age ∙ ap (λ (g : Settings). g.stop_age) (sym change.settings);
     window = change.window;
     sessions = λ o f bt. elim (still o f bt) [
@@ -265,7 +265,7 @@ module _ (st st' : State) (s : ℕ) (e : Session) (now : Option Session) (ids : 
 -- A session closes.
 
 ended-closed : (st st' : State) (s : ℕ) (e : Session) (end : Status) → session_at st s ≡ Some e → Closes st st' s end → Ended st st' s None e.own.ids end
-ended-closed st st' s e end at closes = record { settings = closes.settings; pages = closes.pages; indexes = closes.indexes; most_pages = closes.most_pages; sessions = closes.sessions; finishes = closes.finishes e at; window = closes.window e at }
+ended-closed st st' s e end at closes = record { settings = closes.settings; pages = closes.pages; indexes = closes.indexes; max_pages = closes.max_pages; sessions = closes.sessions; finishes = closes.finishes e at; window = closes.window e at }
 
 nobody : {A : Type 0} (f : Session) → None ≡ Some f → A
 nobody f is = absurd (none-some f is)
@@ -294,7 +294,7 @@ rolls-back-sound st st' s before saved w back is agrees =
     let e = back.session in
     let ids : back.now.own.ids ≡ before = back.back.returns.ids ∙ ap newest is in
     let were : e.own.ids ≡ before ++ back.back.since = back.back.ids ∙ ap (λ xs. xs ++ back.back.since) ids in
-    let change : Ended st st' s (Some back.now) back.back.since Aborted = record { settings = back.settings; pages = back.back.pages; indexes = back.back.indexes; most_pages = back.back.most_pages; sessions = back.sessions; finishes = back.back.finishes; window = back.back.window } in
+    let change : Ended st st' s (Some back.now) back.back.since Aborted = record { settings = back.settings; pages = back.back.pages; indexes = back.back.indexes; max_pages = back.back.max_pages; sessions = back.sessions; finishes = back.back.finishes; window = back.back.window } in
     let mine : (x : ℕ) → Contains back.back.since x → Contains e.own.ids x = λ x late. subst (λ xs. Contains xs x) (sym were) (Contains-append_right before back.back.since x late) in
     let stays = aborted-stays st.heap st'.heap (horizon_of st) back.back.since agrees.sound.table
     (table-finishes st st' s e (Some back.now) back.back.since Aborted (λ e. cc) back.at change less w agrees mine) (since-alone st w agrees s e before back.back.since saved back.at is were) in

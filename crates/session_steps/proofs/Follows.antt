@@ -137,7 +137,7 @@ opened_reader e snapshot a b c d f = rw (a, b, c, d, f) refl
 pub Sound-opens : (st : State) (w : World) (s : ℕ) (e : Session) → s < 64 → e.snapshot ≡ now_taken st → e.own.ids ≡ [] → e.own.saved ≡ [] → e.cursor ≡ None → Agrees st w → Sound (put_session st s (Some e))
 Sound-opens st w s e within snapshot ids saved bare agrees = record {
   count = length-set st.sessions s (Some e) ∙ agrees.sound.count;
-  most_pages = agrees.sound.most_pages;
+  max_pages = agrees.sound.max_pages;
   stop_age = agrees.sound.stop_age;
   window = agrees.sound.window;
   sessions = λ o f at. elim (open-set_cases st.sessions s o (Some e) f (let count = agrees.sound.count in omega arith) at) [
@@ -265,7 +265,7 @@ same-back (Some f ∷ xs) (suc s) e now at same = ap (λ ys. holds_back f ++ ys)
 pub Sound-put : (st : State) (s : ℕ) (e now : Session) → session_at st s ≡ Some e → holds_back now ≡ holds_back e → SessionKeeps st.heap.statuses now → GoesAlong st.heap.indexes now.cursor → Sound st → Sound (put_session st s (Some now))
 Sound-put st s e now at same keeps along sound = record {
   count = length-set st.sessions s (Some now) ∙ sound.count;
-  most_pages = sound.most_pages;
+  max_pages = sound.max_pages;
   stop_age = sound.stop_age;
   window = sound.window;
   sessions = λ o f bt. elim (open-set_cases st.sessions s o (Some now) f (open-within st.sessions s e at) bt) [

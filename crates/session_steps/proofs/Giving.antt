@@ -231,7 +231,7 @@ module _ (st : State) (w : World) (h : HeapView) (s : ℕ) (e e' : Session) (at 
       held = held-then {P = λ y. IsUpToNext h.statuses y} st.sessions s e e' at (λ o f y bt among. upto y (held-in st w agrees o f y bt among)) (λ y among. (mine y among).0)
 
   -- the session's ids stay
-  pub Sound-kept : SameSession e e' → SameIds st.heap.statuses h.statuses → h.most_pages ≡ st.heap.most_pages → StaysSoundTable st.heap h (horizon_of st) → Sound (with_write st h s e')
+  pub Sound-kept : SameSession e e' → SameIds st.heap.statuses h.statuses → h.max_pages ≡ st.heap.max_pages → StaysSoundTable st.heap h (horizon_of st) → Sound (with_write st h s e')
   Sound-kept same ids limit stays =
       let sound = stays.sound in
       let is = spared-is st.heap.statuses h.statuses ids in
@@ -239,7 +239,7 @@ module _ (st : State) (w : World) (h : HeapView) (s : ℕ) (e e' : Session) (at 
       let statuses = st.heap.statuses in
       record {
         count = length-set st.sessions s (Some e') ∙ agrees.sound.count;
-        most_pages = limit ∙ agrees.sound.most_pages;
+        max_pages = limit ∙ agrees.sound.max_pages;
         stop_age = ids.stop_age ∙ agrees.sound.stop_age;
         window = rw is (window-spared statuses k agrees.sound.window);
         sessions = λ o f bt. rw is (elim (open-set_cases st.sessions s o (Some e') f (open-within st.sessions s e at) bt) [
@@ -257,7 +257,7 @@ module _ (st : State) (w : World) (h : HeapView) (s : ℕ) (e e' : Session) (at 
       }
 
   -- the session has taken ids
-  pub Sound-given : (own : Own) (x : ℕ) → TakesIds st.heap.statuses h.statuses e.own own x → e' ≡ with_own e own → IsWindow h.statuses → h.most_pages ≡ st.heap.most_pages → StaysSoundTable st.heap h (horizon_of st) → Sound (with_write st h s e')
+  pub Sound-given : (own : Own) (x : ℕ) → TakesIds st.heap.statuses h.statuses e.own own x → e' ≡ with_own e own → IsWindow h.statuses → h.max_pages ≡ st.heap.max_pages → StaysSoundTable st.heap h (horizon_of st) → Sound (with_write st h s e')
   Sound-given own x takes is window limit stays =
       let sound = stays.sound in
       let statuses = st.heap.statuses in
@@ -266,7 +266,7 @@ module _ (st : State) (w : World) (h : HeapView) (s : ℕ) (e e' : Session) (at 
       λ o f bt y mine. (active-to statuses y ((agrees.found.opened o (reader_of f) (reader-is st o f bt)).2.own_active y mine)).is_given in
       record {
         count = length-set st.sessions s (Some e') ∙ agrees.sound.count;
-        most_pages = limit ∙ agrees.sound.most_pages;
+        max_pages = limit ∙ agrees.sound.max_pages;
         stop_age = given-stop_age takes.given statuses h.statuses parent takes.gives ∙ agrees.sound.stop_age;
         window = window;
         sessions = λ o f bt. elim (open-set_cases st.sessions s o (Some e') f (open-within st.sessions s e at) bt) [

@@ -40,8 +40,8 @@ no-version : (pages : List (List Slot)) (p : Tid) → pages ≡ [] → version_i
 no-version pages p bare = ap (λ (pages : List (List Slot)). version_in pages p) bare ∙ (ap (λ (slots : List Slot). version_at slots p.slot) (no-slots p.page) ∙ none-at p.slot)
 
 pub Agrees-new : (st : State) → st.heap.pages.pages ≡ [] → ((n : ℕ) → entries_at st.heap.indexes n ≡ new_entries st.settings.indexed n) → st.heap.statuses.entries ≡ [] → IsWindow st.heap.statuses
-    → st.heap.most_pages ≡ st.settings.most_pages → st.heap.statuses.stop_age ≡ st.settings.stop_age → st.sessions ≡ replicate 64 None → Agrees st (beginning st.settings.indexed)
-Agrees-new st pages index entries window most_pages stop_age idle = record {
+    → st.heap.max_pages ≡ st.settings.max_pages → st.heap.statuses.stop_age ≡ st.settings.stop_age → st.sessions ≡ replicate 64 None → Agrees st (beginning st.settings.indexed)
+Agrees-new st pages index entries window max_pages stop_age idle = record {
   found = Agrees-beginning (seen st) st.settings.indexed
       (λ p. no-version (slots_of st.heap) p (ap (λ (pages : List PageView). map (λ (p : PageView). p.slots) pages) pages))
       (λ x. ap (λ o. option_map (λ _. status_of st.heap.statuses x) o) (no-place st.heap.statuses x entries))
@@ -50,7 +50,7 @@ Agrees-new st pages index entries window most_pages stop_age idle = record {
       (λ h. has.0 (used.0 h), λ h. used.1 (has.1 h));
   sound = record {
     count = ap length idle ∙ length-replicate {A = Option Session} 64 None;
-    most_pages = most_pages;
+    max_pages = max_pages;
     stop_age = stop_age;
     window = window;
     sessions = λ s e at. absurd (none-some e (sym (closed s) ∙ at));

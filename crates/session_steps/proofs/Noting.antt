@@ -29,12 +29,12 @@ keeps-returned xs h h' s e e' at back k = record {
 }
 
 -- what the heap and the session's own ids say of a return
-pub rolls-back-on : (h h' : HeapView) (e : Session) (own : Own) (since : List ℕ) → h'.pages ≡ h.pages → h'.indexes ≡ h.indexes → h'.most_pages ≡ h.most_pages → e.own.ids ≡ newest e.own.saved ++ since → own.ids ≡ newest e.own.saved
+pub rolls-back-on : (h h' : HeapView) (e : Session) (own : Own) (since : List ℕ) → h'.pages ≡ h.pages → h'.indexes ≡ h.indexes → h'.max_pages ≡ h.max_pages → e.own.ids ≡ newest e.own.saved ++ since → own.ids ≡ newest e.own.saved
     → own.saved ≡ e.own.saved → Finishes h.statuses h'.statuses since Aborted → IsWindow h'.statuses → RollsBackOn h h' e (record e { own = own; failed = false })
-rolls-back-on h h' e own since pages indexes most_pages were ids saved finishes window = record {
+rolls-back-on h h' e own since pages indexes max_pages were ids saved finishes window = record {
   pages = pages;
   indexes = indexes;
-  most_pages = most_pages;
+  max_pages = max_pages;
   returns = record { snapshot = refl; ids = ids; saved = saved; sound = refl; cursor = refl };
   since = since;
   ids = were ∙ ap (λ xs. xs ++ since) (sym ids);

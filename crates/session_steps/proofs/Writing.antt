@@ -73,7 +73,7 @@ module _ (st : State) (w : World) (s : ℕ) (e e' : Session) (at : session_at st
         agree agrees refl had
             (subst (λ slots. theory.HeapAgrees (seen_in slots h.statuses (set st.sessions s (Some e'))) w') (sym keeps.slots)
             (found-kept (slots_of st.heap) st.heap.statuses h.statuses st.sessions s e e' w' at same keeps.statuses found))
-            (Sound-kept st w h s e e' at agrees same keeps.statuses keeps.most_pages stays),
+            (Sound-kept st w h s e e' at agrees same keeps.statuses keeps.max_pages stays),
         stays.led,
       )
 
@@ -89,7 +89,7 @@ module _ (st : State) (w : World) (s : ℕ) (e e' : Session) (at : session_at st
         agree agrees refl had
             (subst (λ slots. theory.HeapAgrees (seen_in slots h.statuses (set st.sessions s (Some e'))) w') (sym keeps.slots)
             (found-kept (slots_of ready) st.heap.statuses h.statuses st.sessions s e e' w' at same ids pruned))
-            (Sound-kept st w h s e e' at agrees same ids (keeps.most_pages ∙ ready-limit readies) stays),
+            (Sound-kept st w h s e e' at agrees same ids (keeps.max_pages ∙ ready-limit readies) stays),
         stays.led,
       )
     where
@@ -101,10 +101,10 @@ module _ (st : State) (w : World) (s : ℕ) (e e' : Session) (at : session_at st
       ready-ids (PrunesIfFull.is_pruned full grown keeps prunes) = rw prunes.is keeps.statuses
       ready-ids (PrunesIfFull.is_left full goes keeps) = keeps.statuses
 
-      ready-limit : PrunesIfFull st.heap ready place (horizon_of st) size → ready.most_pages ≡ st.heap.most_pages
-      ready-limit (PrunesIfFull.has_room room is) = ap (λ (g : HeapView). g.most_pages) is
-      ready-limit (PrunesIfFull.is_pruned full grown keeps prunes) = ap (λ (g : HeapView). g.most_pages) prunes.is ∙ keeps.most_pages
-      ready-limit (PrunesIfFull.is_left full goes keeps) = keeps.most_pages
+      ready-limit : PrunesIfFull st.heap ready place (horizon_of st) size → ready.max_pages ≡ st.heap.max_pages
+      ready-limit (PrunesIfFull.has_room room is) = ap (λ (g : HeapView). g.max_pages) is
+      ready-limit (PrunesIfFull.is_pruned full grown keeps prunes) = ap (λ (g : HeapView). g.max_pages) prunes.is ∙ keeps.max_pages
+      ready-limit (PrunesIfFull.is_left full goes keeps) = keeps.max_pages
 
 -- Inserts.
 
@@ -124,7 +124,7 @@ module _ (st : State) (w : World) (s : ℕ) (text : RowToWrite) (e : Session) (f
       let done = insert_done (seen st) (seen_in (slots_of st.heap) h.statuses (set st.sessions s (Some e'))) w s (reader_of e) (reader_of e') text x (free_place st.heap i.number) new (version_in (slots_of h))
       free fits agrees.found still (reader-now st w h.statuses s e own x at i.takes_ids window agrees) (current-now st w h.statuses s e own x at i.takes_ids window agrees)
       (adds-from (version_in (slots_of st.heap)) (version_in (slots_of h)) (free_place st.heap i.number) new (inserts-stand st.heap h e.own own row x i)) (is-new x row new (root-new st.heap false x row i.number)) refl in
-      (done.0, agree agrees refl refl done.1 (Sound-given st w h s e e' at agrees own x i.takes_ids refl window i.most_pages stays), stays.led)
+      (done.0, agree agrees refl refl done.1 (Sound-given st w h s e e' at agrees own x i.takes_ids refl window i.max_pages stays), stays.led)
 
   insert-fails : (h : HeapView) (e' : Session) (f : WriteFault) → SameSession e e' → LacksForInsert st.heap e.own (row_of text) f → Keeps st.heap h
       → Allows w (step.Insert s text) (reply_for (Err f)) × Agrees (with_write st h s e') (next w (step.Insert s text) (reply_for (Err f))) × KeepsAllTargets st (with_write st h s e')
@@ -185,7 +185,7 @@ module _ (st : State) (w : World) (s : ℕ) (text : RowToWrite) (e : Session) (p
       (updates-ready st.heap h e.own own place row (horizon_of st) x t u target.there) (seen-now st w s text.key e place t target at agrees h.statuses own x u.takes_ids window) target.of_key
       (adds-from (version_in (slots_of u.ready)) put.added put.to put.new put.adds) (is-new x row put.new put.is_new) put.is_new.of_row
       (alters-from put.added (version_in (slots_of h)) place t (taken_version t x put.to put.hot) put.alters) (is-deleted h.statuses x t put.to put.hot active) in
-      (done.0, agree agrees refl refl done.1 (Sound-given st w h s e e' at agrees own x u.takes_ids refl window u.most_pages stays), stays.led)
+      (done.0, agree agrees refl refl done.1 (Sound-given st w h s e e' at agrees own x u.takes_ids refl window u.max_pages stays), stays.led)
 
   update-fails : (h : HeapView) (e' : Session) (f : WriteFault) → SameSession e e' → FailsUpdate st.heap h e.own place (row_of text) (horizon_of st) f
       → Allows w (step.Update s text) (reply_for (Err f)) × Agrees (with_write st h s e') (next w (step.Update s text) (reply_for (Err f))) × KeepsAllTargets st (with_write st h s e')
@@ -233,7 +233,7 @@ module _ (st : State) (w : World) (s key : ℕ) (e : Session) (place : Tid) (t :
       free refl agrees.found still (reader-now st w h.statuses s e own x at d.takes_ids window agrees) (current-now st w h.statuses s e own x at d.takes_ids window agrees)
       (seen-now st w s key e place t target at agrees h.statuses own x d.takes_ids window) target.of_key
       (alters-from (version_in (slots_of st.heap)) (version_in (slots_of h)) place t (taken_version t x place false) alters) (is-deleted h.statuses x t place false active) in
-      (done.0, agree agrees refl refl done.1 (Sound-given st w h s e e' at agrees own x d.takes_ids refl window d.most_pages stays), stays.led)
+      (done.0, agree agrees refl refl done.1 (Sound-given st w h s e e' at agrees own x d.takes_ids refl window d.max_pages stays), stays.led)
 
   delete-fails : (h : HeapView) (e' : Session) (f : WriteFault) → SameSession e e' → FailsDelete st.heap h e.own f
       → Allows w (step.Delete s key) (reply_for (Err f)) × Agrees (with_write st h s e') (next w (step.Delete s key) (reply_for (Err f))) × KeepsAllTargets st (with_write st h s e')

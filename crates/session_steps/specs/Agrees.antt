@@ -33,7 +33,7 @@ pub record SessionKeeps (w : Window) (e : Session) : Type 0 where
 pub record Sound (st : State) : Type 0 where
   pub count : length st.sessions ≡ MOST_SESSIONS
   -- no more pages may be in use, and no id is given further from the first, than the settings say
-  pub most_pages : st.heap.most_pages ≡ st.settings.most_pages
+  pub max_pages : st.heap.max_pages ≡ st.settings.max_pages
   pub stop_age : st.heap.statuses.stop_age ≡ st.settings.stop_age
   -- the window is shorter than half the circle
   pub window : IsWindow st.heap.statuses

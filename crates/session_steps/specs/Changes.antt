@@ -25,7 +25,7 @@ pub record Closes (old new : State) (s : ℕ) (status : Status) : Type 0 where
   pub settings : new.settings ≡ old.settings
   pub pages : new.heap.pages ≡ old.heap.pages
   pub indexes : new.heap.indexes ≡ old.heap.indexes
-  pub most_pages : new.heap.most_pages ≡ old.heap.most_pages
+  pub max_pages : new.heap.max_pages ≡ old.heap.max_pages
   pub sessions : new.sessions ≡ slice_set old.sessions s None
   pub finishes : (e : Session) → session_at old s ≡ Some e → Finishes old.heap.statuses new.heap.statuses e.own.ids status
   pub window : (e : Session) → session_at old s ≡ Some e → IsWindow new.heap.statuses
@@ -69,7 +69,7 @@ pub record SessionBecomes (old new : State) (s : ℕ) (changes : Session → Ses
 pub record RollsBackOn (h h' : HeapView) (e e' : Session) : Type 0 where
   pub pages : h'.pages ≡ h.pages
   pub indexes : h'.indexes ≡ h.indexes
-  pub most_pages : h'.most_pages ≡ h.most_pages
+  pub max_pages : h'.max_pages ≡ h.max_pages
   pub returns : Returns e e'
   pub since : List ℕ
   pub ids : e.own.ids ≡ e'.own.ids ++ since

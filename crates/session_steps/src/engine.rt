@@ -81,7 +81,7 @@ impl SessionEngine {
                 alloc,
                 first,
                 settings.stop_age,
-                settings.most_pages,
+                settings.max_pages,
                 settings.indexed,
             ),
             sessions,

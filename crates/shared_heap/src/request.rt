@@ -17,7 +17,7 @@ pub(crate) trait Request {
 
 impl Request for Brand {
     ghost settings = { record {
-      most_pages = 1;
+      max_pages = 1;
       stop_age = 1;
       freeze_min_age = 0;
       first_xid = 3;

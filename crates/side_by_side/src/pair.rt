@@ -246,7 +246,7 @@ impl Pair {
     /// How many slots there are on all pages.
     pub fn slots(&self) -> u64 {
         let mut slots: u64 = 0;
-        for number in 0..self.settings.most_pages {
+        for number in 0..self.settings.max_pages {
             if let Some(page) = self.engine.page(number) {
                 slots = slots.saturating_add(u64::from(page.slots()));
             }
@@ -277,9 +277,9 @@ impl Pair {
     // Whether a version of this size fits on no page, and there may be no further page.
     fn is_full(&self, size: usize) -> bool
         ensures { IsTrue result
-            ↔ AreFull self.now.engine.core.heap.pages.pages self.now.settings.most_pages size }
+            ↔ AreFull self.now.engine.core.heap.pages.pages self.now.settings.max_pages size }
     {
-        for number in 0..self.settings.most_pages {
+        for number in 0..self.settings.max_pages {
             if !is_full_page(self.engine.page(number), size) {
                 return false;
             }
@@ -460,7 +460,7 @@ impl Pair {
 
     /// Looks at what is noted of the pages, and at the entries of the indexes, beside the pages.
     pub fn look(&self) -> Result<(), Difference> {
-        let pages = self.settings.most_pages;
+        let pages = self.settings.max_pages;
         if let Some(number) = first_misnoted(&self.engine, pages) {
             return Err(Difference::Noted(number));
         }
@@ -479,7 +479,7 @@ impl Pair {
                 rows = rows.saturating_add(1);
             }
         }
-        let pages = self.settings.most_pages;
+        let pages = self.settings.max_pages;
         let counts = count_slots(&self.engine, pages);
         if self.vacuum.is_some() {
             return Err(Difference::NotBare);

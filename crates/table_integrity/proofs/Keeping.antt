@@ -107,7 +107,7 @@ abbrev pub with_table : HeapView → Window → HeapView
 with_table h w = record h { statuses = w }
 
 as-was : (h : HeapView) (w : Window) (horizon : ℕ) → SameIds h.statuses w → SoundTable h horizon → StaysSoundTable h (with_table h w) horizon
-as-was h w horizon ids s = kept-stays h (with_table h w) horizon s (record { slots = refl; changes = refl; flags = refl; marks = refl; statuses = ids; entries = λ n. refl; most_pages = refl })
+as-was h w horizon ids s = kept-stays h (with_table h w) horizon s (record { slots = refl; changes = refl; flags = refl; marks = refl; statuses = ids; entries = λ n. refl; max_pages = refl })
 
 pub ready-come : (h h' : HeapView) (place : Tid) (horizon size : ℕ) → PrunesIfFull h h' place horizon size → OnlyCome h.indexes h'.indexes
 ready-come h h' place horizon size (PrunesIfFull.has_room room is) = same-come h.indexes h'.indexes (same-indexes h.indexes h'.indexes (ap (λ (g : HeapView). g.indexes) is))

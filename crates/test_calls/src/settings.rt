@@ -5,7 +5,7 @@ use std::alloc::{AllocError, Global};
 use std::test::Fail;
 
 const LEAST: Settings = Settings {
-    most_pages: 1,
+    max_pages: 1,
     stop_age: 1,
     freeze_min_age: 0,
     first_xid: 3,
@@ -14,7 +14,7 @@ const LEAST: Settings = Settings {
 };
 
 const MOST: Settings = Settings {
-    most_pages: 65_536,
+    max_pages: 65_536,
     stop_age: 2_144_483_648,
     freeze_min_age: 1_000_000_000,
     first_xid: 4_294_967_295,
@@ -28,14 +28,14 @@ static RANGES: [(Settings, Option<SettingsFault>); 11] = [
     (MOST, None),
     (
         Settings {
-            most_pages: 0,
+            max_pages: 0,
             ..LEAST
         },
         Some(SettingsFault::MaxPages),
     ),
     (
         Settings {
-            most_pages: 65_537,
+            max_pages: 65_537,
             ..MOST
         },
         Some(SettingsFault::MaxPages),

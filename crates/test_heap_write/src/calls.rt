@@ -75,12 +75,12 @@ fn parts(entry: Option<Entry>) -> Option<Parts> {
 }
 
 /// A table without rows, whose first id is 3.
-pub fn empty(alloc: Global, stop_age: u16, most_pages: u16, indexed: [bool; 4]) -> HeapState {
+pub fn empty(alloc: Global, stop_age: u16, max_pages: u16, indexed: [bool; 4]) -> HeapState {
     HeapState::new(
         alloc,
         Xid(3),
         u32::from(stop_age),
-        u32::from(most_pages),
+        u32::from(max_pages),
         indexed,
     )
 }

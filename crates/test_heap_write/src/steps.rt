@@ -230,8 +230,8 @@ fn first_wrong(
 pub type Settings = (u16, u16, [bool; 4]);
 
 fn wrong_from_empty(alloc: Global, settings: Settings, lines: &[Line]) -> Option<usize> {
-    let (stop_age, most_pages, indexed) = settings;
-    let mut heap = empty(alloc, stop_age, most_pages, indexed);
+    let (stop_age, max_pages, indexed) = settings;
+    let mut heap = empty(alloc, stop_age, max_pages, indexed);
     let mut sessions = [
         OwnIds::new(alloc),
         OwnIds::new(alloc),

@@ -80,7 +80,7 @@ fn freeze_min_age_of(run: u64) -> u32 {
 fn settings_of(run: u64) -> Settings {
     Settings {
         // The session that makes many levels keeps old rows from being pruned.
-        most_pages: if is_nested(run) {
+        max_pages: if is_nested(run) {
             8
         } else {
             1 + (run % 4) as u32
@@ -136,7 +136,7 @@ fn draw_ask(generator: &mut Generator, pair: &mut Pair, run: u64) -> Ask {
     let key = draw_key(generator);
     let standing = pair.standing(s, key);
     let has_cursor = pair.has_cursor(s);
-    let pages = settings_of(run).most_pages;
+    let pages = settings_of(run).max_pages;
     draw_step(generator, s, key, standing, has_cursor, pages)
 }
 
@@ -309,7 +309,7 @@ impl Run {
     }
 
     fn count_pages(&self, counts: &mut Counts) {
-        for number in 0..settings_of(self.number).most_pages {
+        for number in 0..settings_of(self.number).max_pages {
             if let Some(page) = self.pair.page(number) {
                 counts.add_page(page, number);
             }

@@ -6,7 +6,7 @@ use std::test::Fail;
 
 /// The ids end with 7: the next one would be 5 away from the first.
 const SETTINGS: Settings = Settings {
-    most_pages: 1,
+    max_pages: 1,
     stop_age: 5,
     freeze_min_age: 0,
     first_xid: 3,

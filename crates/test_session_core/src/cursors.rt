@@ -5,7 +5,7 @@ use session_core::{Refusal, Settings};
 use std::test::Fail;
 
 const SETTINGS: Settings = Settings {
-    most_pages: 1,
+    max_pages: 1,
     stop_age: 1000,
     freeze_min_age: 0,
     first_xid: 3,
@@ -19,7 +19,7 @@ const BY_KEY_ALONE: Settings = Settings {
 };
 
 const TWO_PAGES: Settings = Settings {
-    most_pages: 2,
+    max_pages: 2,
     ..SETTINGS
 };
 

@@ -6,7 +6,7 @@ use std::test::Fail;
 
 /// There is no index but the primary one.
 const SETTINGS: Settings = Settings {
-    most_pages: 2,
+    max_pages: 2,
     stop_age: 1000,
     freeze_min_age: 0,
     first_xid: 3,

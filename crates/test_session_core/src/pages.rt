@@ -6,7 +6,7 @@ use session_steps::laws::{horizon_is_earliest, views_by_index};
 use std::test::Fail;
 
 const SETTINGS: Settings = Settings {
-    most_pages: 1,
+    max_pages: 1,
     stop_age: 1000,
     freeze_min_age: 0,
     first_xid: 4_294_967_295,
@@ -132,7 +132,7 @@ fn each_level_is_given_an_id(rt: HostRuntime) -> Result<(), Fail> {
 }
 
 const FOUR_PAGES: Settings = Settings {
-    most_pages: 4,
+    max_pages: 4,
     first_xid: 3,
     ..SETTINGS
 };

@@ -6,7 +6,7 @@ use std::alloc::Global;
 use std::test::Fail;
 
 const SETTINGS: Settings = Settings {
-    most_pages: 1,
+    max_pages: 1,
     stop_age: 1000,
     freeze_min_age: 0,
     first_xid: 4_294_967_295,

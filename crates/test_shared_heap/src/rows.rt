@@ -4,7 +4,7 @@ use session_core::{Reply, Row, RowIn, Settings};
 use std::alloc::Global;
 
 pub(crate) const SETTINGS: Settings = Settings {
-    most_pages: 16,
+    max_pages: 16,
     stop_age: 1000,
     freeze_min_age: 0,
     first_xid: 3,

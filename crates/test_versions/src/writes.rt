@@ -124,7 +124,7 @@ fn what_is_known_of_a_deleter_goes(rt: HostRuntime) -> Result<(), Fail> {
 const PLACE: Tid = Tid { page: 0, slot: 9 };
 
 /// The header of a version that id 5 has just made there, or has replaced by one there.
-fn made(xmin: u32, xmax: u32, mask2: u16, mask: u16) -> Header {
+fn header_of(xmin: u32, xmax: u32, mask2: u16, mask: u16) -> Header {
     Header {
         xmin: Xid(xmin),
         xmax: Xid(xmax),
@@ -136,7 +136,7 @@ fn made(xmin: u32, xmax: u32, mask2: u16, mask: u16) -> Header {
 
 /// What becomes of the header of a version that is frozen, made by an update, and with an aborted deleter.
 fn after_update(hot: bool) -> Option<Header> {
-    let old = made(3, 4, 0xc006, 0x2b00);
+    let old = header_of(3, 4, 0xc006, 0x2b00);
     match fault_of(&old) {
         None => Some(replaced(&old, Xid(5), PLACE, hot)),
         Some(_) => None,
@@ -153,11 +153,11 @@ fn new_heap_only() -> Header {
 
 #[test]
 fn headers_of_versions(rt: HostRuntime) {
-    assert_eq!(rt; after_update(true), Some(made(3, 5, 0xc006, 0x2300)));
-    assert_eq!(rt; after_update(false), Some(made(3, 5, 0x8006, 0x2300)));
-    assert_eq!(rt; new_root(false), made(5, 0, 0x0006, 0x0800));
-    assert_eq!(rt; new_root(true), made(5, 0, 0x0006, 0x2800));
-    assert_eq!(rt; new_heap_only(), made(5, 0, 0x8006, 0x2800));
+    assert_eq!(rt; after_update(true), Some(header_of(3, 5, 0xc006, 0x2300)));
+    assert_eq!(rt; after_update(false), Some(header_of(3, 5, 0x8006, 0x2300)));
+    assert_eq!(rt; new_root(false), header_of(5, 0, 0x0006, 0x0800));
+    assert_eq!(rt; new_root(true), header_of(5, 0, 0x0006, 0x2800));
+    assert_eq!(rt; new_heap_only(), header_of(5, 0, 0x8006, 0x2800));
 }
 
 #[test]

@@ -278,7 +278,7 @@ module _ (st : State) (u : Window) (w : World) (v : VacuumView) (agrees : Agrees
   pub forgotten-agrees : Agrees (with_heap st after) w
   forgotten-agrees = agree agrees refl refl found (record {
     count = agrees.sound.count;
-    most_pages = agrees.sound.most_pages;
+    max_pages = agrees.sound.max_pages;
     stop_age = t.stop_age ∙ agrees.sound.stop_age;
     window = iv;
     sessions = session-keeps;

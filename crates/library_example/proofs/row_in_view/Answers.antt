@@ -1,7 +1,7 @@
 use Rattle.std.proofs.Common.{◌≡◌, ℕ, Option, Some, None, IfSome}
 use Rattle.tuple_header.specs.declared.version.Row.{Row}
 use Rattle.history.specs.World.{World, OpenSession, view}
-use Rattle.library_example.proofs.seen.Goals as goal
+use Rattle.library_example.proofs.row_in_view.Goals as goal
 
 -- a row that is the view's is one that the view has
 of-view : (o : Option Row) (w : World) (s key : ℕ) (m : OpenSession) → w.session s ≡ Some m → o ≡ view w.history m key

@@ -1,5 +1,5 @@
 use Rattle.tuple_writes.proofs.Bits.{replaced-faultless}
-use Rattle.tuple_writes.proofs.headers.replaced.Goals as goal
+use Rattle.tuple_writes.proofs.headers.replace_header.Goals as goal
 
 pub returns-clause-faultless : goal.returns-clause-faultless
 returns-clause-faultless c = rw c.marked_hot.ensures

@@ -23,6 +23,6 @@ returns c =
     let pages = c.self.inside.pages in
     let actions = c.args.plan.now.actions.items in
     let done : e.1 ≡ applied actions e.0 = search rules in
-    let after : HeapView = record { pages = c.edit.new.self; statuses = c.self.inside.statuses; indexes = c.self.inside.indexes; most_pages = c.self.inside.most_pages } in
+    let after : HeapView = record { pages = c.edit.new.self; statuses = c.self.inside.statuses; indexes = c.self.inside.indexes; max_pages = c.self.inside.max_pages } in
     subst (λ (h : HeapView). after ≡ with_applied h n actions) c.self.view_is
     (ap (λ (p : PagesView). record after { pages = p }) (e.4 ∙ ap (λ (page : PageView). with_page pages n page) (done ∙ ap (applied actions) (sym (page-at pages.pages n e.0 e.2)))))

@@ -21,7 +21,7 @@ write-requires-clause-within c =
 pub write-requires-clause-ready : goal.write-requires-clause-ready
 write-requires-clause-ready c =
     let version : (page : PageView) → slice_get c.self-2.inside.pages.pages c.args.place.page ≡ Some page → IsNormalAt page.slots c.args.place.slot = λ page at.
-    stays-there c.args.self.now (record { pages = c.self.inside.pages; statuses = c.take_ids-x.new.statuses; indexes = c.self.inside.indexes; most_pages = c.self.inside.most_pages }) c.put_root-successor.new.self
+    stays-there c.args.self.now (record { pages = c.self.inside.pages; statuses = c.take_ids-x.new.statuses; indexes = c.self.inside.indexes; max_pages = c.self.inside.max_pages }) c.put_root-successor.new.self
     c.args.place c.take_ids-x.result.0 c.args.row.now c.put_root-successor.result.page page
     (ap (λ (h : HeapView). h.pages) c.self.view_is) c.requires.may.there c.put_root-successor.ensures.root
     (sym (ap (λ (h : HeapView). slice_get h.pages.pages c.args.place.page) c.self-2.view_is) ∙ at) in
@@ -34,7 +34,7 @@ returns-clause-replaces c =
     let successor = c.put_root-successor.result in
     let e = c.write.ensures.writes in
     let away : MarksColdUpdated e.0 e.1 place successor x = search rules in
-    moves c.args.self.now (record { pages = c.self.inside.pages; statuses = c.take_ids-x.new.statuses; indexes = c.self.inside.indexes; most_pages = c.self.inside.most_pages }) c.put_root-successor.new.self _
+    moves c.args.self.now (record { pages = c.self.inside.pages; statuses = c.take_ids-x.new.statuses; indexes = c.self.inside.indexes; max_pages = c.self.inside.max_pages }) c.put_root-successor.new.self _
     place successor x c.args.row.now c.args.target e.0 e.1
     (ap (λ (h : HeapView). h.pages) c.self.view_is) (ap (λ (h : HeapView). h.indexes) c.self.view_is)
     c.put_root-successor.ensures.root c.put_root-successor.ensures.page c.put_root-successor.ensures.slot
@@ -58,7 +58,7 @@ invariant_of-self-2 c =
     let e = c.write.ensures.writes in
     let away : MarksColdUpdated e.0 e.1 place successor x = search rules in
     let at = sym (ap (λ (h : HeapView). slice_get h.pages.pages place.page) c.self-2.view_is) ∙ e.2 in
-    let normal = stays-there c.args.self.now (record { pages = c.self.inside.pages; statuses = c.take_ids-x.new.statuses; indexes = c.self.inside.indexes; most_pages = c.self.inside.most_pages }) c.put_root-successor.new.self
+    let normal = stays-there c.args.self.now (record { pages = c.self.inside.pages; statuses = c.take_ids-x.new.statuses; indexes = c.self.inside.indexes; max_pages = c.self.inside.max_pages }) c.put_root-successor.new.self
     place x c.args.row.now successor.page e.0 (ap (λ (h : HeapView). h.pages) c.self.view_is) c.requires.may.there c.put_root-successor.ensures.root at in (
       c.self-2.invariant.0,
       hints-taken_away c.self-2.inside.statuses x place successor c.self-2.inside.pages.pages c.write.new.self.pages e.0 e.1 c.self-2.inside.hints.turns c.expect_write.new.hints.turns e.2

@@ -22,7 +22,7 @@ returns-clause-replaces c =
     let change : e.1.change ≡ replaced_change e.0.slots place.slot x place.page (free_number e.0.slots) true (next_change e.0.change) = search rules in
     let flag : e.1.flag ≡ false = search rules in
     let within : free_number e.0.slots ≤ 291 = search rules in
-    let h' : HeapView = record { pages = c.write-slot.new.self; statuses = c.take_ids-x.new.statuses; indexes = c.self.inside.indexes; most_pages = c.self.inside.most_pages } in
+    let h' : HeapView = record { pages = c.write-slot.new.self; statuses = c.take_ids-x.new.statuses; indexes = c.self.inside.indexes; max_pages = c.self.inside.max_pages } in
     subst (λ (v : HeapView). HotUpdates v h' place x row) c.self.view_is
     (replaces-here h h' place x row e.0 e.1 e.2 slots change flag within (ap (λ (p : PagesView). p.pages) e.4) (ap (λ (p : PagesView). p.marks) e.4) (λ n. refl))
 

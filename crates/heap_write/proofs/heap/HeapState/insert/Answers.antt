@@ -20,10 +20,10 @@ pub returns-in-Ok-Some-clause-ok : goal.returns-in-Ok-Some-clause-ok
 returns-in-Ok-Some-clause-ok c =
     let h = the_view c.self.inside in
     let free = iff_false c.needs_freeze.ensures c.if-needs_freeze.false in
-    let R : ℕ → Option Target → Type 0 = λ size found. Reserves c.self.inside.pages c.reserve_place.new.pages c.self.inside.most_pages size found in
+    let R : ℕ → Option Target → Type 0 = λ size found. Reserves c.self.inside.pages c.reserve_place.new.pages c.self.inside.max_pages size found in
     let reserves = subst (λ found. R (rounded_size_of c.args.row.now) found) c.in-Ok-Some.field-0-is (subst (λ size. R size c.in-Ok-Some.field-0) c.row_size.ensures.value c.in-Ok-Some.ensures.reserves) in
     both-ok c.insert_at.result (λ x takes root. subst (λ v. Inserts v c.insert_at.new.self c.args.own.now c.insert_at.new.own c.args.row.now x.0) c.self.view_is
-    (inserts h _ c.insert_at.new.self c.args.own.now c.insert_at.new.own c.args.row.now x.0 c.in-Ok-Some.target free reserves (λ n. refl) takes root c.insert_at.ensures.most_pages)) c.insert_at.ensures.takes c.insert_at.ensures.root
+    (inserts h _ c.insert_at.new.self c.args.own.now c.insert_at.new.own c.args.row.now x.0 c.in-Ok-Some.target free reserves (λ n. refl) takes root c.insert_at.ensures.max_pages)) c.insert_at.ensures.takes c.insert_at.ensures.root
 
 pub returns-in-Err-clause-fault : goal.returns-in-Err-clause-fault
 returns-in-Err-clause-fault c =
@@ -39,7 +39,7 @@ returns-in-Ok-Some-clause-fault c =
     let own = c.args.own.now in
     let size = rounded_size_of c.args.row.now in
     let free = iff_false c.needs_freeze.ensures c.if-needs_freeze.false in
-    let R : ℕ → Option Target → Type 0 = λ n found. Reserves c.self.inside.pages c.reserve_place.new.pages c.self.inside.most_pages n found in
+    let R : ℕ → Option Target → Type 0 = λ n found. Reserves c.self.inside.pages c.reserve_place.new.pages c.self.inside.max_pages n found in
     let reserves = subst (λ found. R size found) c.in-Ok-Some.field-0-is (subst (λ n. R n c.in-Ok-Some.field-0) c.row_size.ensures.value c.in-Ok-Some.ensures.reserves) in
     let failed = c.insert_at.ensures in
     subst (λ v. IfErr c.insert_at.result (λ fault. LacksForInsert v own c.args.row.now fault)) c.self.view_is

@@ -16,8 +16,8 @@ returns-clause-keeps c = keeps-viewed (the_view c.self.inside) _ _ c.self.view_i
 
 pub returns-clause-chosen : goal.returns-clause-chosen
 returns-clause-chosen c =
-    let h : HeapView = record { pages = c.reserve_place.new.pages; statuses = c.reserve_ids.new.statuses; indexes = c.make_room.new.self; most_pages = c.self.inside.most_pages } in
-    IfOk-weaker c.reserve_place.result (λ found. Reserves c.self.inside.pages c.reserve_place.new.pages c.self.inside.most_pages c.args.size found) (λ found. IsChosen h c.args.size found)
+    let h : HeapView = record { pages = c.reserve_place.new.pages; statuses = c.reserve_ids.new.statuses; indexes = c.make_room.new.self; max_pages = c.self.inside.max_pages } in
+    IfOk-weaker c.reserve_place.result (λ found. Reserves c.self.inside.pages c.reserve_place.new.pages c.self.inside.max_pages c.args.size found) (λ found. IsChosen h c.args.size found)
     (λ found reserves. reserves-chosen c.self.inside.pages h c.args.size found reserves) c.reserve_place.ensures.reserves
 
 pub returns-clause-needs : goal.returns-clause-needs

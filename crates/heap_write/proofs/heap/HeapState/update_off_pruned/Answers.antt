@@ -73,7 +73,7 @@ returns-in-Ok c = λ horizon plan.
     let may = replaceable-applied h grown ready own reserved.new.own place actions keeps reserved.ensures.own is c.requires.stays c.requires.may in
     let readies = applied-readies h grown ready place horizon (rounded_size_of c.args.row.now) actions c.requires.may.there c.requires.room keeps is plan in
     answers-elsewhere h grown ready done.new.self own reserved.new.own done.new.own place c.args.row.now horizon done.result c.requires.may.free readies
-    (ap (λ (v : HeapView). v.statuses) is) (ap (λ (v : HeapView). v.most_pages) is) keeps reserved.ensures.own reserved.ensures.none may.there
+    (ap (λ (v : HeapView). v.statuses) is) (ap (λ (v : HeapView). v.max_pages) is) keeps reserved.ensures.own reserved.ensures.none may.there
     done.ensures.under done.ensures.replaces done.ensures.fault done.ensures.err done.ensures.window
 
 pub returns-in-Err : goal.returns-in-Err

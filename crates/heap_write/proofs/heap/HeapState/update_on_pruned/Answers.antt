@@ -88,7 +88,7 @@ returns-in-Ok c = λ horizon plan.
     let within = there-within grown place (replaceable-kept h grown own reserved.new.own place keeps reserved.ensures.own c.requires.may).there in
     let room = subst (λ (l : List Slot). rounded_size_of c.args.row.now ≤ room_of l) (sym (planned-slots h grown ready place.page actions within keeps is)) c.requires.fits in
     answers-done h grown ready done.new.self own reserved.new.own done.new.own place c.args.row.now horizon done.result c.requires.may.free readies
-    (ap (λ (v : HeapView). v.statuses) is) (ap (λ (v : HeapView). v.most_pages) is) keeps reserved.ensures.own reserved.ensures.none may.there done.ensures.under (on_page room done.ensures.replaces)
+    (ap (λ (v : HeapView). v.statuses) is) (ap (λ (v : HeapView). v.max_pages) is) keeps reserved.ensures.own reserved.ensures.none may.there done.ensures.under (on_page room done.ensures.replaces)
 
 pub returns-in-Err : goal.returns-in-Err
 returns-in-Err c = λ horizon plan.

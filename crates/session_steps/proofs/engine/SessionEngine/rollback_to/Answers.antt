@@ -60,7 +60,7 @@ invariant_of-self c =
     let own = c.roll_back.new.self in
     let f = c.finish in
     let since = numbers c.since_savepoint.result.now in
-    let back = rolls-back-on c.self.inside.heap f.new.self e own since f.ensures.pages f.ensures.indexes f.ensures.most_pages c.since_savepoint.ensures c.roll_back.ensures.ids c.roll_back.ensures.saved f.ensures.finishes f.ensures.window in
+    let back = rolls-back-on c.self.inside.heap f.new.self e own since f.ensures.pages f.ensures.indexes f.ensures.max_pages c.since_savepoint.ensures c.roll_back.ensures.ids c.roll_back.ensures.saved f.ensures.finishes f.ensures.window in
     keeps-returned c.self.inside.sessions c.self.inside.heap f.new.self c.args.s e (record e { own = own; failed = false }) c.open_mut-session.ensures.value back c.self.invariant
 
 pub returns : goal.returns
@@ -69,7 +69,7 @@ returns c =
     let own = c.roll_back.new.self in
     let f = c.finish in
     let since = numbers c.since_savepoint.result.now in
-    let back = rolls-back-on c.self.inside.heap f.new.self e own since f.ensures.pages f.ensures.indexes f.ensures.most_pages c.since_savepoint.ensures c.roll_back.ensures.ids c.roll_back.ensures.saved f.ensures.finishes f.ensures.window in
+    let back = rolls-back-on c.self.inside.heap f.new.self e own since f.ensures.pages f.ensures.indexes f.ensures.max_pages c.since_savepoint.ensures c.roll_back.ensures.ids c.roll_back.ensures.saved f.ensures.finishes f.ensures.window in
     let now : Session = record e { own = own; failed = false } in
     let before : State = record { settings = c.self.inside.settings; heap = c.self.inside.heap; sessions = c.self.inside.sessions } in
     let after = with_session before f.new.self c.args.s now in

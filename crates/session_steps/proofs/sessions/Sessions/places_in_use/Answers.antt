@@ -2,7 +2,7 @@ use Rattle.std.proofs.Common.{List, Option, take, subst}
 use Rattle.session_steps.specs.declared.session.Session.{Session}
 use Rattle.session_steps.specs.Sessions.{HoldsOpen}
 use Rattle.session_steps.proofs.Idle.{Holds-used}
-use Rattle.session_steps.proofs.sessions.Sessions.used.Goals as goal
+use Rattle.session_steps.proofs.sessions.Sessions.places_in_use.Goals as goal
 
 pub returns : goal.returns
 returns c =
