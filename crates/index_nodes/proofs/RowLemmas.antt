@@ -10,7 +10,7 @@ use Rattle.index_nodes.specs.Sets.{IsAt, IsGapFor}
 use Rattle.index_nodes.specs.Lists.{list_of, IsLastBetween}
 use Rattle.index_nodes.specs.Nodes.{all, AreNeat, list_place, rank_in, inner_rank, IsPositionIn}
 use Rattle.index_nodes.specs.Rows.{inner_is}
-use Rattle.index_nodes.proofs.JoinedLemmas.{IsFilled, IsPlaceIn, start, start_next, start_within, found_joined, absent_joined, entry_in_list, entry_in_next, none_behind, ascending_list}
+use Rattle.index_nodes.proofs.JoinedLemmas.{IsFilled, IsPlaceIn, start, start_next, start_within, joined_get, found_joined, absent_joined, entry_in_list, entry_in_next, none_behind, ascending_list}
 
 -- an item that a loop reads
 pub item : {X : Type 0} (xs : List X) (i : ℕ) (x : X) → i < length xs → x ≡ slice_index_or xs i x → slice_get xs i ≡ Some x
@@ -64,6 +64,16 @@ module _ {N : Type 0} (entries : N → List Entry) where
         (subst (IsAt (entries n) x) (sym (inner_is rank nodes position n at)) found) in
         let joined = found_joined (map entries nodes) x (list_place rank nodes position) (list_within nodes position.node n at) there in
         joined.at
+
+    pub found_back : (nodes : List N) (x : Entry) (position : TreePosition S) (n : N) → slice_get nodes position.node ≡ Some n → rank n position.inner < length (entries n)
+        → IsAt (all entries nodes) x (rank_in entries rank nodes position) → IsAt (entries n) x (rank n position.inner)
+    found_back nodes x position n at inside found =
+        let place : ℕ = inner_rank rank (slice_get nodes position.node) position.inner in
+        let is : place ≡ rank n position.inner = inner_is rank nodes position n at in
+        let list = list_is nodes position.node n at in
+        let size : length (list_of (map entries nodes) position.node) ≡ length (entries n) = ap (λ (l : List Entry). length l) list in
+        let there = sym (joined_get (map entries nodes) position.node place (list_within nodes position.node n at) (omega (arith, is, size, inside))) ∙ found in
+        subst (IsAt (entries n) x) is (subst (λ (l : List Entry). IsAt l x place) list there)
 
     pub gap_in : (nodes : List N) (x : Entry) (position : TreePosition S) (n : N) → IsFilled (map entries nodes) → IsAscending (all entries nodes)
         → IsLastBetween (map entries nodes) x position.node (position.node + 1) → slice_get nodes position.node ≡ Some n → IsGapFor (entries n) x (rank n position.inner)

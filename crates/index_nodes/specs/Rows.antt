@@ -46,6 +46,9 @@ position_in {N} IsPosition nodes position n at inner = record {
 pub is_entry_in : {N S : Type 0} (IsEntry : N → S → Type 0) (nodes : List N) (position : TreePosition S) (n : N) → slice_get nodes position.node ≡ Some n → IsEntry n position.inner → IsEntryIn IsEntry nodes position
 is_entry_in {N} IsEntry nodes position n at inner = subst (λ (o : Option N). IsSomeAnd o (λ n. IsEntry n position.inner)) (sym at) inner
 
+pub entry_of_node : {N S : Type 0} (IsEntry : N → S → Type 0) (nodes : List N) (position : TreePosition S) (n : N) → slice_get nodes position.node ≡ Some n → IsEntryIn IsEntry nodes position → IsEntry n position.inner
+entry_of_node {N} IsEntry nodes position n at entry = subst (λ (o : Option N). IsSomeAnd o (λ n. IsEntry n position.inner)) at entry
+
 pub entry_is_position : {N S : Type 0} (IsPosition IsEntry : N → S → Type 0) (before : (n : N) (s : S) → IsEntry n s → IsPosition n s) (nodes : List N) (position : TreePosition S)
     → IsEntryIn IsEntry nodes position → IsPositionIn IsPosition nodes position
 entry_is_position {N} IsPosition IsEntry before nodes position entry = by_node (slice_get nodes position.node) refl entry
@@ -94,3 +97,16 @@ rank_within {N} {S} entries rank IsPosition within nodes position in_range = by_
         let inner : IsPosition n position.inner = subst (λ (o : Option N). IfSome o (λ n. IsPosition n position.inner)) at in_range.inner in
         let short : inner_rank rank (slice_get nodes position.node) position.inner ≤ length (entries n) = omega (arith, is, within n position.inner inner) in
         front_and entries nodes position.node (inner_rank rank (slice_get nodes position.node) position.inner) n at short
+
+-- an entry stands before the end of all
+
+pub rank_inside : {N S : Type 0} (entries : N → List Entry) (rank : N → S → ℕ) (IsEntry : N → S → Type 0) (inside : (n : N) (s : S) → IsEntry n s → rank n s < length (entries n))
+    (nodes : List N) (position : TreePosition S) → IsEntryIn IsEntry nodes position → rank_in entries rank nodes position < length (all entries nodes)
+rank_inside {N} entries rank IsEntry inside nodes position entry = by_node (slice_get nodes position.node) refl entry
+  where
+    by_node : (o : Option N) → slice_get nodes position.node ≡ o → IsSomeAnd o (λ n. IsEntry n position.inner) → rank_in entries rank nodes position < length (all entries nodes)
+    by_node None at entry = absurd entry
+    by_node (Some n) at entry =
+        let is = inner_is rank nodes position n at in
+        let whole = front_and entries nodes position.node (rank n position.inner + 1) n at (omega (arith, inside n position.inner entry)) in
+        omega (arith, is, whole)

@@ -2,7 +2,7 @@
 
 ghost use Rattle.std.specs.Prelude.{◌≡◌, ◌≤◌, ◌++◌, [], suc, length, sum_by, vec_len, vec_capacity};
 ghost use Rattle.std.proofs.Common.{arith};
-ghost use Rattle.index_nodes.specs.Rows.{none_without, some_with, many_with, rank_within, entry_is_position};
+ghost use Rattle.index_nodes.specs.Rows.{none_without, some_with, many_with, rank_within, rank_inside, entry_is_position};
 ghost use Rattle.index_nodes.specs.Nodes.{all, rank_in, AreNeat, IsPositionIn, IsEntryIn, AreLeft, HavePlaces};
 
 use crate::entry::Entry;
@@ -167,6 +167,9 @@ impl<N: Node> Node for Branch<N> {
     ghost many = { λ b neat. many_with N.entries N.IsNeat N.size N.some b neat };
 
     ghost itself = { λ b. omega arith };
+
+    ghost inside = { λ b position entry. rank_inside N.entries N.rank N.IsEntry N.inside b position
+        entry };
 
     ghost before = { λ b position entry. entry_is_position N.IsPosition N.IsEntry N.before b
         position entry };

@@ -208,6 +208,8 @@ impl Node for Leaf {
 
     ghost itself = { λ l. omega arith };
 
+    ghost inside = { λ l position entry. entry.0 };
+
     ghost before = { λ l position entry. omega (arith, entry.0) };
 
     ghost within = { λ l position within. within };

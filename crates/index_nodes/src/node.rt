@@ -112,7 +112,9 @@ pub trait Node: Drop {
     fn stands_at(&self, sought: &Entry, position: Self::Position) -> bool
         ensures entry { OnTrue result (IsEntry self.now position) }
         ensures found { OnTrue result
-            (IsAt (entries self.now) sought.now (rank self.now position)) };
+            (IsAt (entries self.now) sought.now (rank self.now position)) }
+        ensures exact { IsEntry self.now position
+            → IsAt (entries self.now) sought.now (rank self.now position) → IsTrue result };
 
     /// The first position of any node.
     fn first() -> Self::Position
@@ -244,6 +246,10 @@ pub trait Node: Drop {
 
     // it is a node itself
     ghost itself: { (node : Self) → 0 < nodes node };
+
+    // an entry stands before the end of the node
+    ghost inside: { (node : Self) (position : Self.Position) → IsEntry node position
+        → rank node position < length (entries node) };
 
     // where an entry stands another may be put
     ghost before: { (node : Self) (position : Self.Position) → IsEntry node position

@@ -115,6 +115,9 @@ pub fn stands_at<N: Node>(nodes: &[N], sought: &Entry, position: TreePosition<N:
     ensures entry { OnTrue result (IsEntryIn N.IsEntry nodes.now position) }
     ensures found { OnTrue result
         (IsAt (all N.entries nodes.now) sought.now (rank_in N.entries N.rank nodes.now position)) }
+    ensures exact { IsEntryIn N.IsEntry nodes.now position
+        → IsAt (all N.entries nodes.now) sought.now (rank_in N.entries N.rank nodes.now position)
+        → IsTrue result }
 {
     match node_of(nodes, position.node) {
         Some(node) => node.stands_at(sought, position.inner),

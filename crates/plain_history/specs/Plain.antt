@@ -15,6 +15,13 @@ pub record Plain : Type 0 where
   pub waits : List (Option ℕ)
   pub indexed : List Bool
 
+-- there are so many places: one for each number of a u8, be it a session's or not
+pub record HasAllPlaces (sessions waits : ℕ) : Type 0 where
+  -- to sit
+  pub to_sit : sessions ≡ 256
+  -- to note for whom one waits
+  pub to_wait : waits ≡ 256
+
 abbrev pub plain_order_of : PlainOrder → Order
 plain_order_of (Index index) = by_index index
 plain_order_of Heap = by_heap

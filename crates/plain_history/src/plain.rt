@@ -67,8 +67,8 @@ pub struct PlainHistory {
 }
 
 impl Model for PlainHistory {
-    ghost use Rattle.std.specs.Prelude.{◌≡◌, length};
-    ghost use Rattle.plain_history.specs.Plain.{Plain};
+    ghost use Rattle.std.specs.Prelude.{length};
+    ghost use Rattle.plain_history.specs.Plain.{Plain, HasAllPlaces};
 
     ghost Value = { Plain };
 
@@ -79,7 +79,7 @@ impl Model for PlainHistory {
       indexed = p.indexed;
     } };
 
-    ghost invariant = { λ p. (length p.sessions.items ≡ 256) × (length p.waits.items ≡ 256) };
+    ghost invariant = { λ p. HasAllPlaces (length p.sessions.items) (length p.waits.items) };
 }
 
 impl PlainLevel {

@@ -5,7 +5,7 @@ use Rattle.index_nodes.specs.declared.entry.Entry.{Entry}
 use Rattle.index_nodes.specs.Nodes.{all, AreNeat}
 use Rattle.root_index.specs.View.{free_places}
 use Rattle.index_nodes.specs.Rows.{some_with}
-use Rattle.root_index.proofs.SoundLemmas.{Tree, tree_entries, among}
+use Rattle.root_index.specs.Trees.{Tree, tree_entries, among, IsNeatBranch, IsNeatTree}
 
 pub full_among : (trees : List Tree) → (length trees ≡ 0) ⊎ (128 ≤ length (among trees)) → (length (among trees) ≡ 0) ⊎ (128 ≤ length (among trees))
 full_among [] full = inl refl
@@ -33,12 +33,6 @@ room_less promised promised' n n' less more =
     omega (arith, less, free, is)
 
 -- trees that are there have entries
-
-abbrev IsNeatBranch : List (List Entry) → Type 0
-IsNeatBranch branch = AreNeat (λ (leaf : List Entry). Unit {0}) (λ leaf. length leaf) branch
-
-abbrev IsNeatTree : Tree → Type 0
-IsNeatTree tree = AreNeat IsNeatBranch (λ branch. length branch) tree
 
 pub some_among : (trees : List Tree) → AreNeat IsNeatTree (λ tree. length tree) trees → 0 < length trees → 0 < length (among trees)
 some_among = some_with tree_entries IsNeatTree (λ tree. length tree)

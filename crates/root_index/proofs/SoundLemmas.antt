@@ -8,7 +8,7 @@ use Rattle.index_nodes.specs.Order.{IsAscending}
 use Rattle.index_nodes.specs.Sets.{AddsEntry, IsAt, IsGapFor, IsLeast}
 use Rattle.index_nodes.specs.declared.nodes.TreePosition.{TreePosition}
 use Rattle.index_nodes.specs.Nodes.{all, rank_in, AreNeat, IsStartIn}
-use Rattle.root_index.specs.Trees.{IsSoundIndex}
+use Rattle.root_index.specs.Trees.{Tree, among, IsNeatTree, SetAside, IsSoundIndex}
 use Rattle.index_nodes.proofs.SetLemmas.{ascending-insert, adds-inserted, first_is_least}
 
 -- what is left for one insert fewer
@@ -19,18 +19,17 @@ left_after HasLeft HasLeft' next none (suc k) left =
     let less : k ≡ suc k - 1 = omega arith in
     subst HasLeft' less (next k (subst HasLeft is left))
 
-module _ {N : Type 0} (entries : N → List Entry) (IsNeat : N → Type 0) (size : N → ℕ) (nodes new : List N) (room room' spare spare' : ℕ) (HasLeft HasLeft' : ℕ → Type 0) (Places Places' : Type 0)
-    (count promised : ℕ) (sound : IsSoundIndex entries IsNeat size nodes room spare HasLeft Places count promised) where
-  pub sound_inserted : (x : Entry) (rank count' promised' : ℕ) → IsGapFor (all entries nodes) x rank → all entries new ≡ insert (all entries nodes) rank x → AreNeat IsNeat size new → Places'
-      → room ≤ room' + 1 → spare ≤ spare' + 1 → ((k : ℕ) → HasLeft (k + 1) → HasLeft' k) → HasLeft' 0 → count' ≡ count + 1 → promised' ≡ promised - 1 → count' < 2 ^ 64
-      → IsSoundIndex entries IsNeat size new room' spare' HasLeft' Places' count' promised'
+module _ (trees new : List Tree) (aside aside' : SetAside) (count promised : ℕ) (sound : IsSoundIndex trees aside count promised) where
+  pub sound_inserted : (x : Entry) (rank count' promised' : ℕ) → IsGapFor (among trees) x rank → among new ≡ insert (among trees) rank x → AreNeat IsNeatTree (λ tree. length tree) new → aside'.HasPlaces
+      → aside.places ≤ aside'.places + 1 → aside.trees ≤ aside'.trees + 1 → ((k : ℕ) → aside.HasLeft (k + 1) → aside'.HasLeft k) → aside'.HasLeft 0 → count' ≡ count + 1 → promised' ≡ promised - 1 → count' < 2 ^ 64
+      → IsSoundIndex new aside' count' promised'
   sound_inserted x rank count' promised' gap made neat places in_room in_spare next none counted kept fits =
-      let up = ascending-insert (all entries nodes) x rank sound.ascending gap in
-      let longer = length-insert (all entries nodes) rank x gap.in_range in
+      let up = ascending-insert (among trees) x rank sound.ascending gap in
+      let longer = length-insert (among trees) rank x gap.in_range in
       let before = sound.counted in
-      let after : length (all entries new) ≡ length (insert (all entries nodes) rank x) = ap length made in
-      let list = sound.in_list in
-      let trees = sound.in_trees in
+      let after : length (among new) ≡ length (insert (among trees) rank x) = ap length made in
+      let in_list = sound.in_list in
+      let in_trees = sound.in_trees in
       let bound = sound.countable in
       record {
         ascending = subst IsAscending (sym made) up;
@@ -38,68 +37,56 @@ module _ {N : Type 0} (entries : N → List Entry) (IsNeat : N → Type 0) (size
         counted = omega arith;
         in_list = omega arith;
         in_trees = omega arith;
-        below = subst HasLeft' (sym kept) (left_after HasLeft HasLeft' next none promised sound.below);
+        below = subst aside'.HasLeft (sym kept) (left_after aside.HasLeft aside'.HasLeft next none promised sound.below);
         places = λ some. places;
         countable = omega arith;
       }
 
   -- what was promised for others is kept where it is still enough
-  pub sound_unspent : (x : Entry) (rank count' promised' : ℕ) → IsGapFor (all entries nodes) x rank → all entries new ≡ insert (all entries nodes) rank x → AreNeat IsNeat size new → Places'
-      → count' ≡ count + 1 → promised ≤ room' → promised ≤ spare' → HasLeft' promised → count' + promised < 2 ^ 64 → promised' ≡ promised
-      → IsSoundIndex entries IsNeat size new room' spare' HasLeft' Places' count' promised'
+  pub sound_unspent : (x : Entry) (rank count' promised' : ℕ) → IsGapFor (among trees) x rank → among new ≡ insert (among trees) rank x → AreNeat IsNeatTree (λ tree. length tree) new → aside'.HasPlaces
+      → count' ≡ count + 1 → promised ≤ aside'.places → promised ≤ aside'.trees → aside'.HasLeft promised → count' + promised < 2 ^ 64 → promised' ≡ promised
+      → IsSoundIndex new aside' count' promised'
   sound_unspent x rank count' promised' gap made neat places counted in_list in_trees below countable is =
-      let up = ascending-insert (all entries nodes) x rank sound.ascending gap in
-      let longer = length-insert (all entries nodes) rank x gap.in_range in
+      let up = ascending-insert (among trees) x rank sound.ascending gap in
+      let longer = length-insert (among trees) rank x gap.in_range in
       let before = sound.counted in
-      let after : length (all entries new) ≡ length (insert (all entries nodes) rank x) = ap length made in
+      let after : length (among new) ≡ length (insert (among trees) rank x) = ap length made in
       record {
         ascending = subst IsAscending (sym made) up;
         neat = neat;
         counted = omega arith;
         in_list = omega (arith, is, in_list);
         in_trees = omega (arith, is, in_trees);
-        below = subst HasLeft' (sym is) below;
+        below = subst aside'.HasLeft (sym is) below;
         places = λ some. places;
         countable = omega (arith, is, countable);
       }
 
 -- Of an index alone: entries that go, and calls that may be refused.
 
-module _ {N : Type 0} (entries : N → List Entry) (IsNeat : N → Type 0) (size : N → ℕ) (nodes : List N) (room spare : ℕ) (HasLeft : ℕ → Type 0) (Places : Type 0) (count promised : ℕ)
-    (sound : IsSoundIndex entries IsNeat size nodes room spare HasLeft Places count promised) where
+module _ (trees : List Tree) (aside : SetAside) (count promised : ℕ) (sound : IsSoundIndex trees aside count promised) where
   -- Where nothing is promised a call may be refused.
 
-  pub one_left : ((k : ℕ) → HasLeft (k + 1) → HasLeft k) → ¬ HasLeft 1 → promised ≡ 0
+  pub one_left : ((k : ℕ) → aside.HasLeft (k + 1) → aside.HasLeft k) → ¬ aside.HasLeft 1 → promised ≡ 0
   one_left less none = by_case promised sound.below
     where
-      down : (k : ℕ) → HasLeft (suc k) → HasLeft 1
+      down : (k : ℕ) → aside.HasLeft (suc k) → aside.HasLeft 1
       down zero left = left
       down (suc k) left =
           let is : suc (suc k) ≡ suc k + 1 = omega arith in
-          down k (less (suc k) (subst HasLeft is left))
+          down k (less (suc k) (subst aside.HasLeft is left))
 
-      by_case : (p : ℕ) → HasLeft p → p ≡ 0
+      by_case : (p : ℕ) → aside.HasLeft p → p ≡ 0
       by_case zero left = refl
       by_case (suc k) left = absurd (none (down k left))
 
-  pub none_promised : ((k : ℕ) → HasLeft (k + 1) → HasLeft k) → (room ≡ 0) ⊎ ((spare ≡ 0) ⊎ (¬ HasLeft 1)) → promised ≡ 0
-  none_promised less (inl none) = let list = sound.in_list in omega arith
-  none_promised less (inr (inl none)) = let trees = sound.in_trees in omega arith
+  pub none_promised : ((k : ℕ) → aside.HasLeft (k + 1) → aside.HasLeft k) → (aside.places ≡ 0) ⊎ ((aside.trees ≡ 0) ⊎ (¬ aside.HasLeft 1)) → promised ≡ 0
+  none_promised less (inl none) = let in_list = sound.in_list in omega arith
+  none_promised less (inr (inl none)) = let in_trees = sound.in_trees in omega arith
   none_promised less (inr (inr none)) = one_left less none
 
   pub none_countable : count + 1 ≡ 2 ^ 64 → promised ≡ 0
   none_countable full = let bound = sound.countable in omega arith
-
--- A tree as contracts see it: its branches, each the list of its leaves, and these the lists of their entries.
-
-abbrev pub Tree : Type 0
-Tree = List (List (List Entry))
-
-abbrev pub tree_entries : Tree → List Entry
-tree_entries tree = all (λ (branch : List (List Entry)). all (λ (leaf : List Entry). leaf) branch) tree
-
-abbrev pub among : List Tree → List Entry
-among trees = all tree_entries trees
 
 -- what a call reads through a reference
 pub ascending_there : (trees there : List Tree) → there ≡ trees → IsAscending (among trees) → IsAscending (among there)
@@ -133,22 +120,21 @@ most_is : (a b most : ℕ) → most ≡ max a b → (most ≡ a) ⊎ (most ≡ b
 most_is a b most is = elim (cases_lt a b) [ inl less ↦ inr (omega (arith, is)) | inr more ↦ inl (omega (arith, is)) ]
 
 -- an index that has room for more
-pub sound_roomier : {N : Type 0} (entries : N → List Entry) (IsNeat : N → Type 0) (size : N → ℕ) (nodes new : List N) (room room' spare spare' : ℕ) (HasLeft HasLeft' : ℕ → Type 0)
-    (Places Places' : Type 0) (count promised given most : ℕ) → IsSoundIndex entries IsNeat size nodes room spare HasLeft Places count promised → new ≡ nodes → room ≤ room' → given ≤ room' → spare ≤ spare' → given ≤ spare'
-    → ((k : ℕ) → HasLeft k → HasLeft' k) → HasLeft' given → (Places → Places') → most ≡ max promised given → count + given < 2 ^ 64
-    → IsSoundIndex entries IsNeat size new room' spare' HasLeft' Places' count most
-sound_roomier {N} entries IsNeat size nodes new room room' spare spare' HasLeft HasLeft' Places Places' count promised given most sound same kept_room in_room kept_spare in_spare kept left places is fits =
+pub sound_roomier : (trees new : List Tree) (aside aside' : SetAside) (count promised given most : ℕ) → IsSoundIndex trees aside count promised → new ≡ trees
+    → aside.places ≤ aside'.places → given ≤ aside'.places → aside.trees ≤ aside'.trees → given ≤ aside'.trees → ((k : ℕ) → aside.HasLeft k → aside'.HasLeft k) → aside'.HasLeft given
+    → (aside.HasPlaces → aside'.HasPlaces) → most ≡ max promised given → count + given < 2 ^ 64 → IsSoundIndex new aside' count most
+sound_roomier trees new aside aside' count promised given most sound same kept_room in_room kept_spare in_spare kept left places is fits =
     let which = most_is promised given most is in
-    let list = sound.in_list in
-    let trees = sound.in_trees in
+    let in_list = sound.in_list in
+    let in_trees = sound.in_trees in
     let bound = sound.countable in
     record {
-      ascending = subst (λ (ns : List N). IsAscending (all entries ns)) (sym same) sound.ascending;
-      neat = subst (AreNeat IsNeat size) (sym same) sound.neat;
-      counted = sound.counted ∙ ap (λ (ns : List N). length (all entries ns)) (sym same);
+      ascending = subst (λ (ts : List Tree). IsAscending (among ts)) (sym same) sound.ascending;
+      neat = subst (AreNeat IsNeatTree (λ tree. length tree)) (sym same) sound.neat;
+      counted = sound.counted ∙ ap (λ (ts : List Tree). length (among ts)) (sym same);
       in_list = omega arith;
       in_trees = omega arith;
-      below = max_left HasLeft' promised given most (kept promised sound.below) left which;
+      below = max_left aside'.HasLeft promised given most (kept promised sound.below) left which;
       places = λ some. places (sound.places some);
       countable = omega arith;
     }

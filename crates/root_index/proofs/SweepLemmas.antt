@@ -19,7 +19,7 @@ use Rattle.index_nodes.specs.Lists.{stays}
 use Rattle.index_nodes.specs.Nodes.{all, rank_in, AreNeat, IsStartIn}
 use Rattle.index_nodes.specs.Rows.{none_without}
 use Rattle.index_nodes.specs.Sweeps.{IsSwept}
-use Rattle.root_index.specs.Trees.{IsSoundIndex}
+use Rattle.root_index.specs.Trees.{Tree, tree_entries, among, IsNeatTree, SetAside, IsSoundIndex}
 use Rattle.root_index.specs.Pieces.{RemovesPiece}
 use Rattle.root_index.specs.View.{free_places}
 use Rattle.index_nodes.proofs.OrderLemmas.{Precedes-not_back, not_before_itself, ascending-tail, ascending-head}
@@ -56,12 +56,12 @@ ascending_filtered test (x ∷ piece) back up = by_case (test x) refl (ascending
     by_case false is rest = rw is rest
 
 ascending_front : (prefix xs ys : List Entry) → IsAscending (prefix ++ xs) → IsAscending ys → ((e : Entry) → Contains ys e → Contains xs e) → IsAscending (prefix ++ ys)
-ascending_front [] xs ys up up_ys among = up_ys
-ascending_front (x ∷ prefix) xs ys up up_ys among =
+ascending_front [] xs ys up up_ys more = up_ys
+ascending_front (x ∷ prefix) xs ys up up_ys more =
     AllPairs-cons EntryPrecedes x (prefix ++ ys)
     (all-from (EntryPrecedes x) (prefix ++ ys) (λ e h. ascending-head x e (prefix ++ xs) up
-    (⊎_elim (λ first. Contains-append_left prefix xs e first) (λ second. Contains-append_right prefix xs e (among e second)) (Contains-append_cases prefix ys e h))))
-    (ascending_front prefix xs ys (ascending-tail x (prefix ++ xs) up) up_ys among)
+    (⊎_elim (λ first. Contains-append_left prefix xs e first) (λ second. Contains-append_right prefix xs e (more e second)) (Contains-append_cases prefix ys e h))))
+    (ascending_front prefix xs ys (ascending-tail x (prefix ++ xs) up) up_ys more)
 
 module _ (prefix piece back : List Entry) (dead : List Tid) (up : IsAscending (prefix ++ (piece ++ back))) where
   up_rest : IsAscending (piece ++ back)
@@ -210,19 +210,17 @@ some_nodes entries (n ∷ nodes) some = omega arith
 abbrev pub IsPromisedAfter : ℕ → ℕ → ℕ → Type 0
 IsPromisedAfter nodes promised promised' = (0 < nodes → promised' ≡ promised) × (nodes ≡ 0 → promised' ≡ max promised 1)
 
-pub sound_swept : {N S : Type 0} (entries : N → List Entry) (IsNeat : N → Type 0) (size : N → ℕ) (nodes new : List N) (room room' spare spare' : ℕ) (HasLeft HasLeft' : ℕ → Type 0)
-    (Places Places' : Type 0) (count count' promised promised' rank : ℕ) (dead : List Tid) (swept : Swept S) → IsSoundIndex entries IsNeat size nodes room spare HasLeft Places count promised
-    → IsSwept (all entries nodes) (all entries new) rank dead swept → AreNeat IsNeat size new → room ≤ room' → spare ≤ spare' → ((k : ℕ) → HasLeft k → HasLeft' k) → (Places → Places')
-    → (length new ≡ 0 → Places → (1 ≤ room') × (1 ≤ spare') × HasLeft' 1) → count' ≡ count - swept.removed → IsPromisedAfter (length new) promised promised'
-    → IsSoundIndex entries IsNeat size new room' spare' HasLeft' Places' count' promised'
-sound_swept {N} entries IsNeat size nodes new room room' spare spare' HasLeft HasLeft' Places Places' count count' promised promised' rank dead swept sound s neat in_room in_spare kept places emptied
-    counted after = elim (cases_lt 0 (length new)) [
+pub sound_swept : {S : Type 0} (old new : List Tree) (aside aside' : SetAside) (count count' promised promised' rank : ℕ) (dead : List Tid) (swept : Swept S) → IsSoundIndex old aside count promised
+    → IsSwept (among old) (among new) rank dead swept → AreNeat IsNeatTree (λ tree. length tree) new → aside.places ≤ aside'.places → aside.trees ≤ aside'.trees
+    → ((k : ℕ) → aside.HasLeft k → aside'.HasLeft k) → (aside.HasPlaces → aside'.HasPlaces) → (length new ≡ 0 → aside.HasPlaces → (1 ≤ aside'.places) × (1 ≤ aside'.trees) × aside'.HasLeft 1)
+    → count' ≡ count - swept.removed → IsPromisedAfter (length new) promised promised' → IsSoundIndex new aside' count' promised'
+sound_swept old new aside aside' count count' promised promised' rank dead swept sound s neat in_room in_spare kept places emptied counted after = elim (cases_lt 0 (length new)) [
       | inl some ↦ of_promised promised' (inl (after.0 some)) (omega (arith, after.0 some, list, in_room)) (omega (arith, after.0 some, trees, in_spare)) (omega (arith, after.0 some, bound, whole, before, counted))
       | inr none ↦
           let empty : length new ≡ 0 = omega (arith, none) in
-          let one = emptied empty (sound.places (omega (arith, before, some_swept (all entries nodes) (all entries new) rank dead swept s))) in
+          let one = emptied empty (sound.places (omega (arith, before, some_swept (among old) (among new) rank dead swept s))) in
           let is = after.1 empty in
-          let no_entry = ap length (none_without entries new empty) in
+          let no_entry = ap length (none_without tree_entries new empty) in
           elim (cases_lt 0 promised) [
             | inl more ↦ of_promised promised' (inl (omega (arith, is, more))) (omega (arith, is, more, list, in_room)) (omega (arith, is, more, trees, in_spare))
                 (omega (arith, is, more, bound, whole, before, counted))
@@ -230,31 +228,31 @@ sound_swept {N} entries IsNeat size nodes new room room' spare spare' HasLeft Ha
           ]
     ]
   where
-    before : count ≡ length (all entries nodes)
+    before : count ≡ length (among old)
     before = sound.counted
 
-    list : promised ≤ room
+    list : promised ≤ aside.places
     list = sound.in_list
 
-    trees : promised ≤ spare
+    trees : promised ≤ aside.trees
     trees = sound.in_trees
 
     bound : count + promised < 2 ^ 64
     bound = sound.countable
 
-    whole : swept.removed + length (all entries new) ≡ length (all entries nodes)
-    whole = fewer_swept (all entries nodes) (all entries new) rank dead swept s
+    whole : swept.removed + length (among new) ≡ length (among old)
+    whole = fewer_swept (among old) (among new) rank dead swept s
 
-    of_promised : (p : ℕ) → (p ≡ promised) ⊎ ((p ≡ 1) × HasLeft' 1) → p ≤ room' → p ≤ spare' → count' + p < 2 ^ 64
-        → IsSoundIndex entries IsNeat size new room' spare' HasLeft' Places' count' p
+    of_promised : (p : ℕ) → (p ≡ promised) ⊎ ((p ≡ 1) × aside'.HasLeft 1) → p ≤ aside'.places → p ≤ aside'.trees → count' + p < 2 ^ 64
+        → IsSoundIndex new aside' count' p
     of_promised p which fits enough countable = record {
       ascending = subst IsAscending (sym s.is) (ascending_left s.prefix s.piece s.back dead (subst IsAscending s.was sound.ascending));
       neat = neat;
       counted = omega (arith, counted, whole, before);
       in_list = fits;
       in_trees = enough;
-      below = ⊎_elim (λ is. subst HasLeft' (sym is) (kept promised sound.below)) (λ one. subst HasLeft' (sym one.0) one.1) which;
-      places = λ some. places (sound.places (omega (arith, before, some_swept (all entries nodes) (all entries new) rank dead swept s)));
+      below = ⊎_elim (λ is. subst aside'.HasLeft (sym is) (kept promised sound.below)) (λ one. subst aside'.HasLeft (sym one.0) one.1) which;
+      places = λ some. places (sound.places (omega (arith, before, some_swept (among old) (among new) rank dead swept s)));
       countable = countable;
     }
 

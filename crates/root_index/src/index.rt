@@ -68,11 +68,13 @@ impl Model for RootIndex {
       nodes = sum_by ⟦<Tree as Node>⟧.nodes x.trees.items;
     } };
 
-    ghost invariant = { λ x. IsSoundIndex ⟦<Tree as Node>⟧.entries ⟦<Tree as Node>⟧.IsNeat
-        ⟦<Tree as Node>⟧.size x.trees.items (vec_capacity x.trees - vec_len x.trees)
-        (vec_len x.spares.nodes) (⟦<Tree as Node>⟧.HasLeft x.spares.below)
-        (HavePlaces ⟦<Tree as Node>⟧.HasPlaces (vec_capacity x.spares.nodes) x.spares.below) x.count
-        x.promised };
+    ghost invariant = { λ x. IsSoundIndex x.trees.items (record {
+        places = vec_capacity x.trees - vec_len x.trees;
+        trees = vec_len x.spares.nodes;
+        HasLeft = ⟦<Tree as Node>⟧.HasLeft x.spares.below;
+        HasPlaces = HavePlaces ⟦<Tree as Node>⟧.HasPlaces (vec_capacity x.spares.nodes)
+            x.spares.below;
+    }) x.count x.promised };
 }
 
 impl RootIndex {

@@ -1,7 +1,16 @@
 -- How bytes come in and go out in pieces.
-use Rattle.std.specs.Prelude.{◌≡◌, ℕ, ◌<◌, ◌==◌, ◌⊎◌, List, ◌++◌, length, Option, None, Some, position}
+use Rattle.std.specs.Prelude.{◌≡◌, ℕ, ◌<◌, ◌≤◌, ◌==◌, ◌⊎◌, List, ◌++◌, length, Option, None, Some, position}
 use Rattle.std.specs.Io.KnownBytes.{Appends, Consumes, IsAtEnd}
 use Rattle.script_text.specs.declared.line.TheConstants.{MOST_LINE_BYTES}
+
+-- what is pending, from start to end of a buffer of so many bytes
+pub record LiesInBuffer (start end size : ℕ) : Type 0 where
+  -- it ends where it begins, or behind
+  pub order : start ≤ end
+  -- and in the buffer
+  pub within : end ≤ size
+  -- which never grows: it takes the longest line, and more behind it
+  pub fixed : size ≡ 65536
 
 -- the reader gave more, which stands behind what was pending
 abbrev pub TakesText : Option (List ℕ) → Option (List ℕ) → List ℕ → List ℕ → Type 0

@@ -21,16 +21,14 @@ pub(crate) struct Pending {
 }
 
 impl Model for Pending {
-    ghost use Rattle.std.specs.Prelude.{◌≡◌, ◌-◌, ◌≤◌, ℕ, List, length, take, drop};
+    ghost use Rattle.std.specs.Prelude.{◌-◌, ℕ, List, length, take, drop};
+    ghost use Rattle.script.specs.Pieces.{LiesInBuffer};
 
     ghost Value = { List ℕ };
 
     ghost view = { λ p. take (p.end - p.start) (drop p.start p.bytes.items) };
 
-    ghost invariant = { λ p.
-        (p.start ≤ p.end)
-        × (p.end ≤ length p.bytes.items)
-        × (length p.bytes.items ≡ 65536) };
+    ghost invariant = { λ p. LiesInBuffer p.start p.end (length p.bytes.items) };
 }
 
 // Reads once, and again as long as the read is interrupted.

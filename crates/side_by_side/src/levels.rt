@@ -1,7 +1,8 @@
 //! Which levels of a session have ids of their own, and which ids hold the horizon back.
 
-use crate::ask::Ask;
+use crate::written::writer_of;
 use arrayvec::ArrayVec;
+use session_core::Step;
 use xid_circle::{Xid, precedes};
 
 /// The levels of an open session: it has one, and one more for each savepoint.
@@ -44,6 +45,15 @@ pub(crate) fn horizon_of(sessions: &[Levels], next: Xid) -> Xid {
         }
     }
     horizon
+}
+
+/// The session whose levels the step may change, if it may change any.
+pub(crate) fn session_of_levels(step: &Step) -> Option<u8> {
+    match step {
+        Step::Begin(s) | Step::Commit(s) | Step::Abort(s) => Some(*s),
+        Step::Savepoint(s) | Step::RollbackTo(s) | Step::Release(s) => Some(*s),
+        _ => writer_of(step),
+    }
 }
 
 impl Levels {
@@ -107,20 +117,20 @@ impl Levels {
     }
 
     /// Follows a step of the session that was done, where this was the next id, and says how many ids it gives.
-    pub(crate) fn follow(&mut self, ask: Ask, next: Xid) -> usize {
-        match ask {
-            Ask::Begin(_) | Ask::Commit(_) | Ask::Abort(_) => *self = Levels::new(),
-            Ask::Savepoint(_) => self.push(0),
-            Ask::RollbackTo(_) => {
+    pub(crate) fn follow(&mut self, step: &Step, next: Xid) -> usize {
+        match step {
+            Step::Begin(_) | Step::Commit(_) | Step::Abort(_) => *self = Levels::new(),
+            Step::Savepoint(_) => self.push(0),
+            Step::RollbackTo(_) => {
                 self.pop();
                 self.push(0);
             }
-            Ask::Release(_) => {
+            Step::Release(_) => {
                 let released = self.pop();
                 let below = self.pop();
                 self.push(below.saturating_add(released));
             }
-            Ask::Insert(_, _) | Ask::Update(_, _) | Ask::Delete(_, _) => {
+            Step::Insert(_, _) | Step::Update(_, _) | Step::Delete(_, _) => {
                 let lacking = self.lacking();
                 self.fill(next);
                 return lacking;

@@ -6,7 +6,6 @@
 //! which the history knows nothing, with whether one runs. What is noted of pages and in indexes is looked at after each of its steps.
 #![tactic(auto)]
 
-mod ask;
 mod compare;
 mod cursors;
 mod levels;
@@ -14,6 +13,6 @@ mod look;
 mod pair;
 mod plain_side;
 mod vacuum;
+mod written;
 
-pub use ask::{Ask, Bodies, WrittenRow};
 pub use pair::{Difference, Pair, Standing, Views};

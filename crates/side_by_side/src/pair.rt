@@ -1,20 +1,21 @@
 //! The engine and the plain program side by side.
 
-ghost use Rattle.std.specs.Prelude.{◌≡◌, ◌<◌, ◌≤◌, ◌↔◌, IsTrue, IfOk};
+ghost use Rattle.std.specs.Prelude.{◌≡◌, ◌<◌, ◌≤◌, ◌↔◌, IsTrue, IfOk, length};
 ghost use Rattle.std.specs.Prelude.{option_copied};
 ghost use Rattle.side_by_side.specs.Rooms.{PageIsFull, AreFull};
+ghost use Rattle.tuple_header.specs.declared.version.TheConstants.{MOST_BODY};
 ghost use Rattle.xid_circle.specs.Circle.{IsNormal, distance_of};
 
-use crate::ask::{Ask, Bodies};
 use crate::compare::{same_found, same_reply};
 use crate::cursors::{Cursor, hand_out};
-use crate::levels::{Levels, horizon_of, xmin_of};
+use crate::levels::{Levels, horizon_of, session_of_levels, xmin_of};
 use crate::look::{are_all_visible, count_slots, first_astray, first_misnoted};
 use crate::plain_side::{all_rows, answer, answer_without_writing, refused_or};
 use crate::vacuum::{RunningVacuum, expected_of_vacuum};
+use crate::written::{is_too_large, row_to_write, size_on_page, writer_of};
 use page_slots::Page;
 use plain_history::PlainHistory;
-use session_core::{Engine, Mode, Refusal, Reply, Row, Settings};
+use session_core::{Engine, Mode, Refusal, Reply, Row, RowIn, Settings, Step};
 use std::alloc::{AllocError, Global};
 use xid_circle::{Xid, distance, next};
 
@@ -255,20 +256,20 @@ impl Pair {
     }
 
     // Whether the step would need ids, and not as many may be given.
-    fn needs_freeze(&self, ask: Ask) -> bool {
-        let Some(s) = ask.writer() else {
+    fn needs_freeze(&self, step: &Step) -> bool {
+        let Some(s) = writer_of(step) else {
             return false;
         };
         let (next, first) = self.engine.ids();
         is_short(first, next, self.settings.stop_age, self.lacking(s))
     }
 
-    fn before(&self, ask: Ask) -> Before {
+    fn before(&self, step: &Step) -> Before {
         Before {
             ids: self.engine.ids(),
-            needs_freeze: self.needs_freeze(ask),
-            has_page: match ask {
-                Ask::Prune(page) => self.engine.page(page).is_some(),
+            needs_freeze: self.needs_freeze(step),
+            has_page: match step {
+                Step::Prune(page) => self.engine.page(*page).is_some(),
                 _ => false,
             },
         }
@@ -287,10 +288,12 @@ impl Pair {
         true
     }
 
-    // Whether the reply is that there is no room, and there is none.
-    fn is_without_room(&self, ask: Ask, reply: &Reply) -> bool {
-        match (reply, ask.row_to_write()) {
-            (Reply::Refused(Refusal::NoRoom), Some(written)) => self.is_full(written.size()),
+    // Whether the reply is that there is no room, and there is none for the row.
+    fn is_without_room(&self, row: &RowIn, reply: &Reply) -> bool
+        requires { length row.now.body ≤ MOST_BODY }
+    {
+        match reply {
+            Reply::Refused(Refusal::NoRoom) => self.is_full(size_on_page(row)),
             _ => false,
         }
     }
@@ -298,25 +301,26 @@ impl Pair {
     // What the engine has to reply to a write, where it has replied this: which write finds no room is left to it.
     fn expected_of_write(
         &mut self,
-        bodies: &Bodies,
         s: u8,
-        ask: Ask,
+        step: &Step,
         before: Before,
         reply: &Reply,
     ) -> Option<Reply> {
-        if let Some(written) = ask.row_to_write() {
-            if written.is_too_large() {
+        let is_without_room = match row_to_write(step) {
+            Some(row) if is_too_large(row) => {
                 return refused_or(&mut self.plain, s, Refusal::TooLarge);
             }
-        }
+            Some(row) => self.is_without_room(row, reply),
+            None => false,
+        };
         let lack = if before.needs_freeze {
             Refusal::NeedsFreeze
-        } else if self.is_without_room(ask, reply) {
+        } else if is_without_room {
             Refusal::NoRoom
         } else {
-            return answer(&mut self.plain, bodies, ask);
+            return answer(&mut self.plain, step);
         };
-        match answer_without_writing(&mut self.plain, bodies, ask) {
+        match answer_without_writing(&mut self.plain, step) {
             Some(Reply::Done) => Some(Reply::Refused(lack)),
             other => other,
         }
@@ -327,12 +331,11 @@ impl Pair {
     fn expected_of_next(
         &mut self,
         alloc: Global,
-        bodies: &Bodies,
         s: u8,
-        ask: Ask,
+        step: &Step,
         reply: &Reply,
     ) -> Option<Reply> {
-        let answered = answer(&mut self.plain, bodies, ask);
+        let answered = answer(&mut self.plain, step);
         match (&answered, self.cursors.get_mut(s as usize)) {
             (Some(Reply::End), Some(Cursor::Heap(rest))) => hand_out(alloc, rest, reply).ok(),
             _ => answered,
@@ -343,57 +346,59 @@ impl Pair {
     fn expect(
         &mut self,
         alloc: Global,
-        bodies: &Bodies,
-        ask: Ask,
+        step: &Step,
         before: Before,
         reply: &Reply,
     ) -> Option<Reply> {
-        if let Some(s) = ask.writer() {
-            return self.expected_of_write(bodies, s, ask, before, reply);
+        if let Some(s) = writer_of(step) {
+            return self.expected_of_write(s, step, before, reply);
         }
-        match ask {
-            Ask::Prune(_) => {
+        match step {
+            Step::Prune(_) => {
                 if before.has_page {
                     Some(Reply::Done)
                 } else {
                     Some(Reply::Refused(Refusal::NoSuchPage))
                 }
             }
-            Ask::VacuumBegin(_) | Ask::VacuumStep | Ask::VacuumCancel => {
-                expected_of_vacuum(self.vacuum, before.ids.1, ask, reply)
+            Step::VacuumBegin(_) | Step::VacuumStep | Step::VacuumCancel => {
+                expected_of_vacuum(self.vacuum, before.ids.1, step, reply)
             }
-            Ask::Next(s, _) => self.expected_of_next(alloc, bodies, s, ask, reply),
-            _ => answer(&mut self.plain, bodies, ask),
+            Step::Next(s, _) => self.expected_of_next(alloc, *s, step, reply),
+            _ => answer(&mut self.plain, step),
         }
     }
 
-    // The cursor that the session has after a step that was done, if the step says so.
-    fn cursor_after(&mut self, alloc: Global, ask: Ask) -> Option<Cursor> {
-        match ask {
-            Ask::OpenIndex(_, _, _, _) => Some(Cursor::Index),
-            Ask::OpenHeap(s) => Some(Cursor::Heap(all_rows(alloc, &mut self.plain, s))),
-            Ask::Begin(_) | Ask::Close(_) | Ask::Commit(_) | Ask::Abort(_) => Some(Cursor::None),
+    // The session whose cursor a step that was done has changed, and its cursor now, if there is such a session.
+    fn cursor_after(&mut self, alloc: Global, step: &Step) -> Option<(u8, Cursor)> {
+        match step {
+            Step::OpenIndex(s, _, _, _) => Some((*s, Cursor::Index)),
+            Step::OpenHeap(s) => Some((*s, Cursor::Heap(all_rows(alloc, &mut self.plain, *s)))),
+            Step::Begin(s) | Step::Close(s) | Step::Commit(s) | Step::Abort(s) => {
+                Some((*s, Cursor::None))
+            }
             _ => None,
         }
     }
 
-    fn note_cursor(&mut self, alloc: Global, ask: Ask, reply: &Reply) {
-        if let (true, Some(s)) = (is_done(reply), ask.session()) {
-            if let Some(now) = self.cursor_after(alloc, ask) {
-                if let Some(cursor) = self.cursors.get_mut(s as usize) {
-                    *cursor = now;
-                }
+    fn note_cursor(&mut self, alloc: Global, step: &Step, reply: &Reply) {
+        if !is_done(reply) {
+            return;
+        }
+        if let Some((s, now)) = self.cursor_after(alloc, step) {
+            if let Some(cursor) = self.cursors.get_mut(s as usize) {
+                *cursor = now;
             }
         }
     }
 
     // The ids that there have to be. A write that is done gives an id to each level of its session that has none, at the end of an
     // aggressive vacuum old ones are forgotten, and no other step changes them.
-    fn expected_ids(&mut self, ask: Ask, before: Before, reply: &Reply) -> (Xid, Xid) {
+    fn expected_ids(&mut self, step: &Step, before: Before, reply: &Reply) -> (Xid, Xid) {
         let mut given = 0;
-        if let (true, Some(s)) = (is_done(reply), ask.session()) {
+        if let (true, Some(s)) = (is_done(reply), session_of_levels(step)) {
             if let Some(levels) = self.levels.get_mut(s as usize) {
-                given = levels.follow(ask, before.ids.0);
+                given = levels.follow(step, before.ids.0);
             }
         }
         let first = match (reply, self.vacuum) {
@@ -404,10 +409,10 @@ impl Pair {
     }
 
     // A session that begins keeps the horizon back to its snapshot's xmin.
-    fn note_snapshot(&mut self, ask: Ask, reply: &Reply) {
-        if let (Ask::Begin(s), Reply::Done) = (ask, reply) {
+    fn note_snapshot(&mut self, step: &Step, reply: &Reply) {
+        if let (Step::Begin(s), Reply::Done) = (step, reply) {
             let xmin = xmin_of(self.levels.as_slice(), self.engine.ids().0);
-            if let Some(levels) = self.levels.get_mut(s as usize) {
+            if let Some(levels) = self.levels.get_mut(*s as usize) {
                 levels.begin(xmin);
             }
         }
@@ -419,40 +424,40 @@ impl Pair {
         RunningVacuum::new(mode, ids, horizon, self.settings.freeze_min_age)
     }
 
-    fn note_vacuum(&mut self, ask: Ask, reply: &Reply) {
-        match (ask, reply) {
-            (Ask::VacuumBegin(mode), Reply::Done) => self.vacuum = Some(self.new_vacuum(mode)),
-            (Ask::VacuumCancel, _) | (_, Reply::Ended(_)) => self.vacuum = None,
+    fn note_vacuum(&mut self, step: &Step, reply: &Reply) {
+        match (step, reply) {
+            (Step::VacuumBegin(mode), Reply::Done) => self.vacuum = Some(self.new_vacuum(*mode)),
+            (Step::VacuumCancel, _) | (_, Reply::Ended(_)) => self.vacuum = None,
             _ => {}
         }
     }
 
-    /// Does the step on both sides, and gives the reply, where it is as it has to be.
-    pub fn step(&mut self, alloc: Global, bodies: &Bodies, ask: Ask) -> Result<Reply, Difference> {
-        let before = self.before(ask);
-        let Ok(step) = ask.step(alloc, bodies) else {
+    /// Does the step on both sides, and gives the reply, where it is as it has to be. The engine gets a copy.
+    pub fn step(&mut self, alloc: Global, step: &Step) -> Result<Reply, Difference> {
+        let before = self.before(step);
+        let Ok(copy) = step.copy(alloc) else {
             return Err(Difference::NoMemory);
         };
-        let reply = self.engine.step(step);
-        if let (Reply::Refused(Refusal::Conflict), Some(s)) = (&reply, ask.writer()) {
+        let reply = self.engine.step(copy);
+        if let (Reply::Refused(Refusal::Conflict), Some(s)) = (&reply, writer_of(step)) {
             // The engine's session has failed, and reads on. That of the plain program has not yet.
             self.compare_views(&[s])?;
         }
-        let Some(expected) = self.expect(alloc, bodies, ask, before, &reply) else {
+        let Some(expected) = self.expect(alloc, step, before, &reply) else {
             return Err(Difference::Reply(reply, None));
         };
         if !same_reply(&reply, &expected) {
             return Err(Difference::Reply(reply, Some(expected)));
         }
         let ids = self.engine.ids();
-        let expected_ids = self.expected_ids(ask, before, &reply);
+        let expected_ids = self.expected_ids(step, before, &reply);
         if ids != expected_ids {
             return Err(Difference::Ids(ids, expected_ids));
         }
-        self.note_cursor(alloc, ask, &reply);
-        self.note_snapshot(ask, &reply);
-        self.note_vacuum(ask, &reply);
-        if let Ask::VacuumStep = ask {
+        self.note_cursor(alloc, step, &reply);
+        self.note_snapshot(step, &reply);
+        self.note_vacuum(step, &reply);
+        if let Step::VacuumStep = step {
             self.look()?;
         }
         Ok(reply)

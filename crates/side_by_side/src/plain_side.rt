@@ -2,9 +2,9 @@
 
 ghost use Rattle.std.specs.Prelude.{◌≡◌, ◌≢◌, Some, None};
 
-use crate::ask::{Ask, Bodies};
+use crate::written::table_row;
 use plain_history::{Handed, Outcome, PlainHistory, Refused};
-use session_core::{Refusal, Reply, Row};
+use session_core::{Refusal, Reply, Row, Step};
 use std::alloc::Global;
 
 // A refused step's reply. That the plain program has no memory says nothing of the engine.
@@ -75,50 +75,48 @@ fn answer_of_write(
 
 /// Does the step, whose row is not too large. Nothing is answered where the engine has no word for the answer, and to
 /// the pruning of a page and the steps of a vacuum, of which the history knows nothing.
-pub(crate) fn answer(plain: &mut PlainHistory, bodies: &Bodies, ask: Ask) -> Option<Reply> {
-    match ask {
-        Ask::Begin(s) => reply_done(plain.begin(s)),
-        Ask::Get(s, key) => reply_found(plain.get(s, key)),
-        Ask::Insert(s, written) => {
-            let answered = plain.insert(s, written.row(bodies));
-            answer_of_write(plain, s, answered)
+pub(crate) fn answer(plain: &mut PlainHistory, step: &Step) -> Option<Reply> {
+    match step {
+        Step::Begin(s) => reply_done(plain.begin(*s)),
+        Step::Get(s, key) => reply_found(plain.get(*s, *key)),
+        Step::Insert(s, row) => {
+            let answered = plain.insert(*s, table_row(row));
+            answer_of_write(plain, *s, answered)
         }
-        Ask::Update(s, written) => {
-            let answered = plain.update(s, written.row(bodies));
-            answer_of_write(plain, s, answered)
+        Step::Update(s, row) => {
+            let answered = plain.update(*s, table_row(row));
+            answer_of_write(plain, *s, answered)
         }
-        Ask::Delete(s, key) => {
-            let answered = plain.delete(s, key);
-            answer_of_write(plain, s, answered)
+        Step::Delete(s, key) => {
+            let answered = plain.delete(*s, *key);
+            answer_of_write(plain, *s, answered)
         }
-        Ask::Savepoint(s) => reply_done(plain.savepoint(s)),
-        Ask::RollbackTo(s) => reply_done(plain.roll_back_to(s)),
-        Ask::Release(s) => reply_done(plain.release(s)),
-        Ask::Commit(s) => reply_ended(plain.commit(s)),
-        Ask::Abort(s) => rolled_back(plain.abort(s)),
-        Ask::OpenIndex(s, index, low, high) => reply_done(plain.open_index(s, index, low, high)),
-        Ask::OpenHeap(s) => reply_done(plain.open_heap(s)),
-        Ask::Next(s, count) => reply_rows(plain.next(s, count)),
-        Ask::Close(s) => reply_done(plain.close(s)),
-        Ask::Prune(_) | Ask::VacuumBegin(_) | Ask::VacuumStep | Ask::VacuumCancel => None,
+        Step::Savepoint(s) => reply_done(plain.savepoint(*s)),
+        Step::RollbackTo(s) => reply_done(plain.roll_back_to(*s)),
+        Step::Release(s) => reply_done(plain.release(*s)),
+        Step::Commit(s) => reply_ended(plain.commit(*s)),
+        Step::Abort(s) => rolled_back(plain.abort(*s)),
+        Step::OpenIndex(s, index, low, high) => {
+            reply_done(plain.open_index(*s, *index, *low, *high))
+        }
+        Step::OpenHeap(s) => reply_done(plain.open_heap(*s)),
+        Step::Next(s, count) => reply_rows(plain.next(*s, *count)),
+        Step::Close(s) => reply_done(plain.close(*s)),
+        Step::Prune(_) | Step::VacuumBegin(_) | Step::VacuumStep | Step::VacuumCancel => None,
     }
 }
 
 /// What the plain program answers to a write, which it does only where it refuses it: a conflict makes the session fail.
-pub(crate) fn answer_without_writing(
-    plain: &mut PlainHistory,
-    bodies: &Bodies,
-    ask: Ask,
-) -> Option<Reply> {
-    let checked = match ask {
-        Ask::Insert(s, written) => plain.check_insert(s, written.key),
-        Ask::Update(s, written) => plain.check_replace(s, written.key),
-        Ask::Delete(s, key) => plain.check_replace(s, key),
+pub(crate) fn answer_without_writing(plain: &mut PlainHistory, step: &Step) -> Option<Reply> {
+    let checked = match step {
+        Step::Insert(s, row) => plain.check_insert(*s, row.key),
+        Step::Update(s, row) => plain.check_replace(*s, row.key),
+        Step::Delete(s, key) => plain.check_replace(*s, *key),
         _ => return None,
     };
     match checked {
         Ok(()) => Some(Reply::Done),
-        Err(_) => answer(plain, bodies, ask),
+        Err(_) => answer(plain, step),
     }
 }
 

@@ -1,8 +1,7 @@
 //! The vacuum that runs, of which the history knows nothing.
 
-use crate::ask::Ask;
 use crate::levels::earlier;
-use session_core::{Mode, Refusal, Reply};
+use session_core::{Mode, Refusal, Reply, Step};
 use xid_circle::{Xid, precedes};
 
 /// A vacuum that is running.
@@ -68,14 +67,14 @@ fn expected_of_step(vacuum: RunningVacuum, first: Xid, reply: &Reply) -> Reply {
 pub(crate) fn expected_of_vacuum(
     running: Option<RunningVacuum>,
     first: Xid,
-    ask: Ask,
+    step: &Step,
     reply: &Reply,
 ) -> Option<Reply> {
-    match (ask, running) {
-        (Ask::VacuumBegin(_), None) | (Ask::VacuumCancel, Some(_)) => Some(Reply::Done),
-        (Ask::VacuumBegin(_), Some(_)) => Some(Reply::Refused(Refusal::VacuumRunning)),
-        (Ask::VacuumStep, Some(vacuum)) => Some(expected_of_step(vacuum, first, reply)),
-        (Ask::VacuumStep | Ask::VacuumCancel, None) => Some(Reply::Refused(Refusal::NoVacuum)),
+    match (step, running) {
+        (Step::VacuumBegin(_), None) | (Step::VacuumCancel, Some(_)) => Some(Reply::Done),
+        (Step::VacuumBegin(_), Some(_)) => Some(Reply::Refused(Refusal::VacuumRunning)),
+        (Step::VacuumStep, Some(vacuum)) => Some(expected_of_step(vacuum, first, reply)),
+        (Step::VacuumStep | Step::VacuumCancel, None) => Some(Reply::Refused(Refusal::NoVacuum)),
         _ => None,
     }
 }

@@ -3,8 +3,8 @@
 ghost use Rattle.std.specs.Prelude.{◌<◌, IfSome};
 
 use page_slots::{Page, Slot};
-use session_core::{Piece, Refusal, Reply};
-use side_by_side::{Ask, Views};
+use session_core::{Piece, Refusal, Reply, Step};
+use side_by_side::Views;
 use std::io;
 use tuple_header::Tuple;
 
@@ -175,10 +175,10 @@ impl Counts {
     }
 
     /// Counts a step with its reply.
-    pub(crate) fn add_step(&mut self, ask: Ask, reply: &Reply) {
+    pub(crate) fn add_step(&mut self, step: &Step, reply: &Reply) {
         self.steps = self.steps.saturating_add(1);
         self.add(place_of_reply(reply));
-        if let (Ask::VacuumCancel, Reply::Done) = (ask, reply) {
+        if let (Step::VacuumCancel, Reply::Done) = (step, reply) {
             self.add(Some(37));
         }
     }

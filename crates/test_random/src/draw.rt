@@ -2,9 +2,10 @@
 
 ghost use Rattle.std.specs.Prelude.{◌⊎◌, ◌≤◌, Contains};
 
+use crate::bodies::Bodies;
 use crate::generator::Generator;
-use session_core::Mode;
-use side_by_side::{Ask, Bodies, Standing, WrittenRow};
+use session_core::{Mode, RowIn, Step};
+use side_by_side::Standing;
 use std::alloc::{AllocError, Global};
 
 /// The keys: few, so that sessions meet.
@@ -22,15 +23,6 @@ pub(crate) const KEYS: [u64; 12] = [
     18_446_744_073_709_551_614,
     18_446_744_073_709_551_615,
 ];
-
-/// Bytes of which bodies are parts.
-pub(crate) fn draw_bodies(alloc: Global, generator: &mut Generator) -> Result<Bodies, AllocError> {
-    let mut bytes = Vec::new(alloc);
-    for _ in 0..4096usize {
-        bytes.push(generator.below(256) as u8)?;
-    }
-    Ok(Bodies { bytes })
-}
 
 /// One of the keys.
 pub(crate) fn draw_key(generator: &mut Generator) -> u64 {
@@ -74,44 +66,56 @@ fn draw_column(generator: &mut Generator) -> i64 {
     }
 }
 
-fn draw_row(generator: &mut Generator, key: u64, length: u16) -> WrittenRow {
-    WrittenRow {
+fn draw_row(
+    generator: &mut Generator,
+    bodies: &Bodies,
+    key: u64,
+    length: u16,
+) -> Result<RowIn, AllocError> {
+    let cols = [
+        draw_column(generator),
+        draw_column(generator),
+        draw_column(generator),
+        draw_column(generator),
+    ];
+    let from = generator.below(3000) as u16;
+    Ok(RowIn {
         key,
-        cols: [
-            draw_column(generator),
-            draw_column(generator),
-            draw_column(generator),
-            draw_column(generator),
-        ],
-        from: generator.below(3000) as u16,
-        length,
-    }
+        cols,
+        body: bodies.body(from, length)?,
+    })
 }
 
 // A write of the key, with a body of this length. One in eight asks for what the session doesn't read: a row, or none.
-fn draw_write(generator: &mut Generator, s: u8, key: u64, reads: bool, length: u16) -> Ask {
+fn draw_write(
+    generator: &mut Generator,
+    bodies: &Bodies,
+    s: u8,
+    key: u64,
+    reads: bool,
+    length: u16,
+) -> Result<Step, AllocError> {
     let has_row = reads != (generator.below(8) == 0);
     if !has_row {
-        Ask::Insert(s, draw_row(generator, key, length))
+        Ok(Step::Insert(s, draw_row(generator, bodies, key, length)?))
     } else if generator.below(4) == 0 {
-        Ask::Delete(s, key)
+        Ok(Step::Delete(s, key))
     } else {
-        Ask::Update(s, draw_row(generator, key, length))
+        Ok(Step::Update(s, draw_row(generator, bodies, key, length)?))
     }
 }
 
 /// A write of the key that the session can do, with an empty body: it deletes the row, or inserts one.
-pub(crate) fn write_of(s: u8, key: u64, reads: bool) -> Ask {
+pub(crate) fn write_of(alloc: Global, s: u8, key: u64, reads: bool) -> Step {
     if reads {
-        Ask::Delete(s, key)
+        Step::Delete(s, key)
     } else {
-        Ask::Insert(
+        Step::Insert(
             s,
-            WrittenRow {
+            RowIn {
                 key,
                 cols: [0; 4],
-                from: 0,
-                length: 0,
+                body: Vec::new(alloc),
             },
         )
     }
@@ -128,7 +132,7 @@ fn draw_bound(generator: &mut Generator) -> i128 {
 }
 
 // A cursor, often in the primary index. One in eight has its bounds as they come.
-fn draw_open_index(generator: &mut Generator, s: u8) -> Ask {
+fn draw_open_index(generator: &mut Generator, s: u8) -> Step {
     let index = match generator.below(16) {
         0 => generator.below(256) as u8,
         1..=6 => 1 + generator.below(4) as u8,
@@ -137,87 +141,110 @@ fn draw_open_index(generator: &mut Generator, s: u8) -> Ask {
     let low = draw_bound(generator);
     let high = draw_bound(generator);
     if high < low && generator.below(8) > 0 {
-        Ask::OpenIndex(s, index, high, low)
+        Step::OpenIndex(s, index, high, low)
     } else {
-        Ask::OpenIndex(s, index, low, high)
+        Step::OpenIndex(s, index, low, high)
     }
 }
 
-fn draw_next(generator: &mut Generator, s: u8) -> Ask {
+fn draw_next(generator: &mut Generator, s: u8) -> Step {
     let count = match generator.below(16) {
         0 => 0,
         1 => 65535,
         _ => 1 + generator.below(4) as u16,
     };
-    Ask::Next(s, count)
+    Step::Next(s, count)
 }
 
 // Any step, but a beginning seldom.
-fn draw_any(generator: &mut Generator, s: u8, key: u64, reads: bool, pages: u32) -> Ask {
-    match generator.below(100) {
-        0..=8 => Ask::Get(s, key),
+fn draw_any(
+    generator: &mut Generator,
+    bodies: &Bodies,
+    s: u8,
+    key: u64,
+    reads: bool,
+    pages: u32,
+) -> Result<Step, AllocError> {
+    Ok(match generator.below(100) {
+        0..=8 => Step::Get(s, key),
         9..=12 => draw_open_index(generator, s),
-        13..=14 => Ask::OpenHeap(s),
+        13..=14 => Step::OpenHeap(s),
         15..=69 => {
             let length = draw_length(generator);
-            draw_write(generator, s, key, reads, length)
+            draw_write(generator, bodies, s, key, reads, length)?
         }
-        70..=74 => Ask::Savepoint(s),
-        75..=77 => Ask::RollbackTo(s),
-        78..=80 => Ask::Release(s),
-        81..=87 => Ask::Commit(s),
-        88..=90 => Ask::Abort(s),
-        91 => Ask::Begin(s),
+        70..=74 => Step::Savepoint(s),
+        75..=77 => Step::RollbackTo(s),
+        78..=80 => Step::Release(s),
+        81..=87 => Step::Commit(s),
+        88..=90 => Step::Abort(s),
+        91 => Step::Begin(s),
         92 => draw_next(generator, s),
-        93 => Ask::Close(s),
-        _ => Ask::Prune(generator.below(pages.saturating_add(1))),
-    }
+        93 => Step::Close(s),
+        _ => Step::Prune(generator.below(pages.saturating_add(1))),
+    })
 }
 
 // A step of a session that has a cursor open: it can read, and seldom asks for anything else.
-fn draw_with_cursor(generator: &mut Generator, s: u8, key: u64, reads: bool, pages: u32) -> Ask {
+fn draw_with_cursor(
+    generator: &mut Generator,
+    bodies: &Bodies,
+    s: u8,
+    key: u64,
+    reads: bool,
+    pages: u32,
+) -> Result<Step, AllocError> {
     match generator.below(16) {
-        0..=10 => draw_next(generator, s),
-        11 => Ask::Get(s, key),
-        12 | 13 => Ask::Close(s),
-        _ => draw_any(generator, s, key, reads, pages),
+        0..=10 => Ok(draw_next(generator, s)),
+        11 => Ok(Step::Get(s, key)),
+        12 | 13 => Ok(Step::Close(s)),
+        _ => draw_any(generator, bodies, s, key, reads, pages),
     }
 }
 
 /// A step of the session, or the pruning of a page. A closed session mostly begins, and one that has failed is often ended.
 pub(crate) fn draw_step(
     generator: &mut Generator,
+    bodies: &Bodies,
     s: u8,
     key: u64,
     standing: Standing,
     has_cursor: bool,
     pages: u32,
-) -> Ask {
+) -> Result<Step, AllocError> {
     let choice = generator.below(8);
+    let reads = matches!(standing, Standing::Reads);
     match standing {
-        Standing::Closed if choice < 7 => Ask::Begin(s),
-        Standing::Failed if choice < 2 => Ask::Commit(s),
-        Standing::Failed if choice < 4 => Ask::Abort(s),
-        Standing::Failed if choice < 6 => Ask::RollbackTo(s),
-        Standing::Reads if has_cursor => draw_with_cursor(generator, s, key, true, pages),
-        Standing::ReadsNone if has_cursor => draw_with_cursor(generator, s, key, false, pages),
-        Standing::Reads => draw_any(generator, s, key, true, pages),
-        _ => draw_any(generator, s, key, false, pages),
+        Standing::Closed if choice < 7 => Ok(Step::Begin(s)),
+        Standing::Failed if choice < 2 => Ok(Step::Commit(s)),
+        Standing::Failed if choice < 4 => Ok(Step::Abort(s)),
+        Standing::Failed if choice < 6 => Ok(Step::RollbackTo(s)),
+        Standing::Reads | Standing::ReadsNone if has_cursor => {
+            draw_with_cursor(generator, bodies, s, key, reads, pages)
+        }
+        _ => draw_any(generator, bodies, s, key, reads, pages),
     }
 }
 
 // A step of a session that stays open for long. Once its newest level has an id, it soon sets a savepoint or releases one.
-fn draw_in_level(generator: &mut Generator, s: u8, key: u64, reads: bool, lacks_id: bool) -> Ask {
+fn draw_in_level(
+    generator: &mut Generator,
+    bodies: &Bodies,
+    s: u8,
+    key: u64,
+    reads: bool,
+    lacks_id: bool,
+) -> Result<Step, AllocError> {
     match (generator.below(1000), lacks_id) {
-        (0, _) => Ask::Commit(s),
-        (1..=2, _) => Ask::Abort(s),
-        (3..=19, _) => Ask::RollbackTo(s),
-        (20..=89, _) => Ask::Get(s, key),
-        (90..=579, false) | (90..=189, true) => Ask::Savepoint(s),
-        (580..=929, false) | (190..=229, true) => Ask::Release(s),
+        (0, _) => Ok(Step::Commit(s)),
+        (1..=2, _) => Ok(Step::Abort(s)),
+        (3..=19, _) => Ok(Step::RollbackTo(s)),
+        (20..=89, _) => Ok(Step::Get(s, key)),
+        (90..=579, false) | (90..=189, true) => Ok(Step::Savepoint(s)),
+        (580..=929, false) | (190..=229, true) => Ok(Step::Release(s)),
         _ => {
             let length = generator.below(7) as u16;
-            draw_write(generator, s, key, reads, length)
+            draw_write(generator, bodies, s, key, reads, length)
         }
     }
 }
@@ -225,17 +252,18 @@ fn draw_in_level(generator: &mut Generator, s: u8, key: u64, reads: bool, lacks_
 /// A step of a session that makes many levels. After a conflict it goes back to a savepoint, or else ends.
 pub(crate) fn draw_step_in_levels(
     generator: &mut Generator,
+    bodies: &Bodies,
     s: u8,
     key: u64,
     standing: Standing,
     lacks_id: bool,
-) -> Ask {
+) -> Result<Step, AllocError> {
     match standing {
-        Standing::Closed => Ask::Begin(s),
-        Standing::Failed if generator.below(8) == 0 => Ask::Abort(s),
-        Standing::Failed => Ask::RollbackTo(s),
-        Standing::Reads => draw_in_level(generator, s, key, true, lacks_id),
-        Standing::ReadsNone => draw_in_level(generator, s, key, false, lacks_id),
+        Standing::Closed => Ok(Step::Begin(s)),
+        Standing::Failed if generator.below(8) == 0 => Ok(Step::Abort(s)),
+        Standing::Failed => Ok(Step::RollbackTo(s)),
+        Standing::Reads => draw_in_level(generator, bodies, s, key, true, lacks_id),
+        Standing::ReadsNone => draw_in_level(generator, bodies, s, key, false, lacks_id),
     }
 }
 
@@ -250,12 +278,12 @@ fn draw_mode(generator: &mut Generator) -> Mode {
 
 /// A step of a vacuum: mostly the next of the one that runs, or a beginning where none does. Now and then it is broken off, or the step is
 /// refused.
-pub(crate) fn draw_vacuum(generator: &mut Generator, is_running: bool) -> Ask {
+pub(crate) fn draw_vacuum(generator: &mut Generator, is_running: bool) -> Step {
     match generator.below(64) {
-        0 => Ask::VacuumCancel,
-        1 => Ask::VacuumBegin(draw_mode(generator)),
-        2 => Ask::VacuumStep,
-        _ if is_running => Ask::VacuumStep,
-        _ => Ask::VacuumBegin(draw_mode(generator)),
+        0 => Step::VacuumCancel,
+        1 => Step::VacuumBegin(draw_mode(generator)),
+        2 => Step::VacuumStep,
+        _ if is_running => Step::VacuumStep,
+        _ => Step::VacuumBegin(draw_mode(generator)),
     }
 }

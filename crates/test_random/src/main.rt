@@ -6,14 +6,15 @@
 //! ends with status 1, as it does where a kind of reply never came.
 #![tactic(auto)]
 
+mod bodies;
 mod counts;
 mod draw;
 mod generator;
 mod passage;
 mod run;
 
+use bodies::Bodies;
 use counts::Counts;
-use draw::draw_bodies;
 use generator::Generator;
 use run::{RUNS, do_run};
 use side_by_side::Views;
@@ -37,7 +38,7 @@ fn report(rt: &impl Print, counts: &Counts) -> io::Result<bool> {
 
 // Whether each reply was as the history has it, and each kind came.
 fn do_all_runs(rt: &impl Print, alloc: Global) -> io::Result<bool> {
-    let bodies = draw_bodies(alloc, &mut Generator::new(RUNS))?;
+    let bodies = Bodies::draw(alloc, &mut Generator::new(RUNS))?;
     let mut counts = Counts::new();
     for run in 0..RUNS {
         if let Err(failure) = do_run(alloc, &bodies, run, &mut counts) {

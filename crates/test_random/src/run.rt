@@ -1,5 +1,6 @@
 //! Runs of steps on a new engine.
 
+use crate::bodies::Bodies;
 use crate::counts::Counts;
 use crate::draw::{
     KEYS, draw_key, draw_key_of_few, draw_session, draw_step, draw_step_in_levels, draw_vacuum,
@@ -7,9 +8,9 @@ use crate::draw::{
 };
 use crate::generator::Generator;
 use crate::passage::{HALF, Passage};
-use session_core::{Mode, Reply, Settings};
-use side_by_side::{Ask, Bodies, Difference, Pair, Standing};
-use std::alloc::Global;
+use session_core::{Mode, Reply, Settings, Step};
+use side_by_side::{Difference, Pair, Standing};
+use std::alloc::{AllocError, Global};
 use xid_circle::Xid;
 
 /// How many runs there are.
@@ -30,11 +31,11 @@ const MOST_VACUUM_STEPS: u32 = 20_000;
 // The ids end in the runs of the second: the next one after them is 3.
 const FIRST_IDS: [u32; 4] = [3, 4_294_967_290, 2_147_483_640, 1000];
 
-/// Where a run ended early: the number of the step, the step, and what differed.
+/// Where a run ended early: how many steps were done, the step after these, and what differed.
 #[derive(Debug, Drop)]
 pub(crate) struct Failure {
-    pub(crate) step: u64,
-    pub(crate) ask: Option<Ask>,
+    pub(crate) done: u64,
+    pub(crate) step: Option<Step>,
     pub(crate) difference: Difference,
 }
 
@@ -119,33 +120,38 @@ fn vacuum_share(run: u64) -> u32 {
 }
 
 // The next step: whose it is, and what the session asks for as it stands.
-fn draw_ask(generator: &mut Generator, pair: &mut Pair, run: u64) -> Ask {
+fn draw_next_step(
+    generator: &mut Generator,
+    bodies: &Bodies,
+    pair: &mut Pair,
+    run: u64,
+) -> Result<Step, AllocError> {
     if generator.below(100) < vacuum_share(run) {
-        return draw_vacuum(generator, pair.has_vacuum());
+        return Ok(draw_vacuum(generator, pair.has_vacuum()));
     }
     if is_nested(run) && generator.below(4) > 0 {
         let key = draw_key_of_few(generator);
         let standing = pair.standing(NESTING, key);
         let lacks_id = pair.lacking(NESTING) > 0;
-        return draw_step_in_levels(generator, NESTING, key, standing, lacks_id);
+        return draw_step_in_levels(generator, bodies, NESTING, key, standing, lacks_id);
     }
     let s = draw_session(generator, sessions_of(run));
     if is_turning(run) && generator.below(4) == 0 {
-        return Ask::Commit(s);
+        return Ok(Step::Commit(s));
     }
     let key = draw_key(generator);
     let standing = pair.standing(s, key);
     let has_cursor = pair.has_cursor(s);
     let pages = settings_of(run).max_pages;
-    draw_step(generator, s, key, standing, has_cursor, pages)
+    draw_step(generator, bodies, s, key, standing, has_cursor, pages)
 }
 
 fn new_pair(alloc: Global, settings: Settings) -> Result<Pair, Failure> {
     match Pair::new(alloc, settings, &KEYS) {
         Ok(pair) => Ok(pair),
         Err(difference) => Err(Failure {
-            step: 0,
-            ask: None,
+            done: 0,
+            step: None,
             difference,
         }),
     }
@@ -156,7 +162,7 @@ fn new_pair(alloc: Global, settings: Settings) -> Result<Pair, Failure> {
 struct Run {
     number: u64,
     pair: Pair,
-    step: u64,
+    done: u64,
     passage: Passage,
 }
 
@@ -166,25 +172,25 @@ impl Run {
         Ok(Run {
             number,
             pair: new_pair(alloc, settings)?,
-            step: 0,
+            done: 0,
             passage: Passage::new(Xid(settings.first_xid)),
         })
     }
 
-    fn failure(&self, ask: Option<Ask>, difference: Difference) -> Failure {
+    fn failure(&self, step: Option<Step>, difference: Difference) -> Failure {
         Failure {
-            step: self.step,
-            ask,
+            done: self.done,
+            step,
             difference,
         }
     }
 
-    fn count(&mut self, counts: &mut Counts, ask: Ask, reply: &Reply, slots: u64) {
-        counts.add_step(ask, reply);
+    fn count(&mut self, counts: &mut Counts, step: &Step, reply: &Reply, slots: u64) {
+        counts.add_step(step, reply);
         self.passage.follow(reply, self.pair.next_id());
-        match (ask, reply) {
-            (Ask::Begin(_), Reply::Done) => counts.add_begun(self.pair.children(NESTING)),
-            (Ask::Insert(_, _) | Ask::Update(_, _), Reply::Done) => {
+        match (step, reply) {
+            (Step::Begin(_), Reply::Done) => counts.add_begun(self.pair.children(NESTING)),
+            (Step::Insert(_, _) | Step::Update(_, _), Reply::Done) => {
                 if self.pair.slots() == slots {
                     counts.add_reused();
                 }
@@ -194,19 +200,13 @@ impl Run {
     }
 
     // Does the step, compares its reply and counts it.
-    fn do_step(
-        &mut self,
-        alloc: Global,
-        bodies: &Bodies,
-        counts: &mut Counts,
-        ask: Ask,
-    ) -> Result<(), Failure> {
+    fn do_step(&mut self, alloc: Global, counts: &mut Counts, step: Step) -> Result<(), Failure> {
         let slots = self.pair.slots();
-        match self.pair.step(alloc, bodies, ask) {
-            Ok(reply) => self.count(counts, ask, &reply, slots),
-            Err(difference) => return Err(self.failure(Some(ask), difference)),
+        match self.pair.step(alloc, &step) {
+            Ok(reply) => self.count(counts, &step, &reply, slots),
+            Err(difference) => return Err(self.failure(Some(step), difference)),
         }
-        self.step = self.step.saturating_add(1);
+        self.done = self.done.saturating_add(1);
         Ok(())
     }
 
@@ -229,10 +229,13 @@ impl Run {
         counts: &mut Counts,
     ) -> Result<(), Failure> {
         let mut generator = Generator::new(self.number);
-        for step in 0..steps_of(self.number) {
-            let ask = draw_ask(&mut generator, &mut self.pair, self.number);
-            self.do_step(alloc, bodies, counts, ask)?;
-            if step % 50 == 49 {
+        for i in 0..steps_of(self.number) {
+            let drawn = draw_next_step(&mut generator, bodies, &mut self.pair, self.number);
+            let Ok(step) = drawn else {
+                return Err(self.failure(None, Difference::NoMemory));
+            };
+            self.do_step(alloc, counts, step)?;
+            if i % 50 == 49 {
                 self.compare(sessions_of(self.number))?;
                 self.compare(&[NESTING])?;
             }
@@ -241,68 +244,52 @@ impl Run {
     }
 
     // Ends all sessions, and the vacuum that runs.
-    fn end_all(
-        &mut self,
-        alloc: Global,
-        bodies: &Bodies,
-        counts: &mut Counts,
-    ) -> Result<(), Failure> {
+    fn end_all(&mut self, alloc: Global, counts: &mut Counts) -> Result<(), Failure> {
         for s in 0..64u8 {
             if self.pair.is_open(s) {
-                self.do_step(alloc, bodies, counts, Ask::Abort(s))?;
+                self.do_step(alloc, counts, Step::Abort(s))?;
             }
         }
-        self.do_step(alloc, bodies, counts, Ask::VacuumCancel)
+        self.do_step(alloc, counts, Step::VacuumCancel)
     }
 
     // Does a whole vacuum while no session is open, and compares what it leaves with the rows.
-    fn clear(
-        &mut self,
-        alloc: Global,
-        bodies: &Bodies,
-        counts: &mut Counts,
-    ) -> Result<(), Failure> {
-        self.do_step(alloc, bodies, counts, Ask::VacuumBegin(Mode::Aggressive))?;
+    fn clear(&mut self, alloc: Global, counts: &mut Counts) -> Result<(), Failure> {
+        self.do_step(alloc, counts, Step::VacuumBegin(Mode::Aggressive))?;
         for _ in 0..MOST_VACUUM_STEPS {
             if self.pair.has_vacuum() {
-                self.do_step(alloc, bodies, counts, Ask::VacuumStep)?;
+                self.do_step(alloc, counts, Step::VacuumStep)?;
             }
         }
-        self.do_step(alloc, bodies, counts, Ask::Begin(0))?;
+        self.do_step(alloc, counts, Step::Begin(0))?;
         if let Err(difference) = self.pair.compare_bare(0) {
             return Err(self.failure(None, difference));
         }
         self.compare(&[0])?;
-        self.do_step(alloc, bodies, counts, Ask::Commit(0))
+        self.do_step(alloc, counts, Step::Commit(0))
     }
 
     // A transaction of session 0 that writes the key, and so takes an id.
     fn do_transaction(
         &mut self,
         alloc: Global,
-        bodies: &Bodies,
         counts: &mut Counts,
         key: u64,
     ) -> Result<(), Failure> {
-        self.do_step(alloc, bodies, counts, Ask::Begin(0))?;
+        self.do_step(alloc, counts, Step::Begin(0))?;
         let reads = matches!(self.pair.standing(0, key), Standing::Reads);
-        self.do_step(alloc, bodies, counts, write_of(0, key, reads))?;
-        self.do_step(alloc, bodies, counts, Ask::Commit(0))
+        self.do_step(alloc, counts, write_of(alloc, 0, key, reads))?;
+        self.do_step(alloc, counts, Step::Commit(0))
     }
 
     // Takes ids until they have passed the turn, and vacuums where no more are given. No session is open before and after.
-    fn pass_turn(
-        &mut self,
-        alloc: Global,
-        bodies: &Bodies,
-        counts: &mut Counts,
-    ) -> Result<(), Failure> {
+    fn pass_turn(&mut self, alloc: Global, counts: &mut Counts) -> Result<(), Failure> {
         for i in 0..MOST_TRANSACTIONS {
             if !self.passage.is_whole() {
-                self.do_transaction(alloc, bodies, counts, KEYS[i % 12])?;
+                self.do_transaction(alloc, counts, KEYS[i % 12])?;
             }
             if self.passage.is_stopped() {
-                self.clear(alloc, bodies, counts)?;
+                self.clear(alloc, counts)?;
             }
         }
         Ok(())
@@ -338,10 +325,10 @@ pub(crate) fn do_run(
     let mut run = Run::new(alloc, number)?;
     run.do_drawn(alloc, bodies, counts)?;
     run.count_pages(counts);
-    run.end_all(alloc, bodies, counts)?;
-    run.clear(alloc, bodies, counts)?;
+    run.end_all(alloc, counts)?;
+    run.clear(alloc, counts)?;
     if is_turning(number) {
-        run.pass_turn(alloc, bodies, counts)?;
+        run.pass_turn(alloc, counts)?;
         counts.add_turning(run.passage.is_whole());
     }
     run.count_views(counts)

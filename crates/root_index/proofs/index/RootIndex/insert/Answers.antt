@@ -3,7 +3,8 @@ use Rattle.std.proofs.lemmas.List.Edits.{length-insert}
 use Rattle.root_index.specs.View.{IndexView, room_in, free_places}
 use Rattle.index_nodes.specs.Sets.{AddsEntry}
 use Rattle.index_nodes.proofs.SetLemmas.{adds-there, absent_in_gap}
-use Rattle.root_index.proofs.SoundLemmas.{among, ascending_there, found_there, gap_there, adds_in_gap, sound_inserted, sound_unspent, none_promised, none_countable}
+use Rattle.root_index.specs.Trees.{among}
+use Rattle.root_index.proofs.SoundLemmas.{ascending_there, found_there, gap_there, adds_in_gap, sound_inserted, sound_unspent, none_promised, none_countable}
 use Rattle.index_nodes.proofs.FullLemmas.{on_err}
 use Rattle.root_index.proofs.FullLemmas.{full_among, no_room, room_less, places_after, nodes_of}
 use Rattle.root_index.proofs.index.RootIndex.insert.Goals as goal
@@ -22,7 +23,7 @@ pub returns-then-self-clause-memory : goal.returns-then-self-clause-memory
 returns-then-self-clause-memory c =
     let trees = c.self.inside.trees.items in
     let gap = gap_there _ _ trees c.deref.result.now c.args.entry c.in-Err.position c.deref.ensures.value c.in-Err.ensures.absent in
-    let none = none_countable _ _ _ _ _ _ _ _ _ _ c.self.invariant (omega (arith, c.if-self.true)) in
+    let none = none_countable _ _ _ _ c.self.invariant (omega (arith, c.if-self.true)) in
     let counted : c.self.inside.count ≡ length (among trees) = c.self.invariant.counted in
     on_err c.ask_for_too_much.result ((room_in c.args.self.now ≡ 0) × (¬ Contains c.args.self.now.entries c.args.entry))
     (subst (λ (v : IndexView). (room_in v ≡ 0) × (¬ Contains v.entries c.args.entry)) c.self.view_is
@@ -32,7 +33,7 @@ pub returns-in_err-insert-clause-memory : goal.returns-in_err-insert-clause-memo
 returns-in_err-insert-clause-memory c =
     let trees = c.self.inside.trees.items in
     let gap = gap_there _ _ trees c.deref.result.now c.args.entry c.in-Err.position c.deref.ensures.value c.in-Err.ensures.absent in
-    let none = none_promised _ _ _ _ _ _ _ _ _ _ c.self.invariant (λ k left. (omega (arith, left.0), (omega (arith, left.1.0), tt))) c.in_err-insert.ensures.refused in
+    let none = none_promised _ _ _ _ c.self.invariant (λ k left. (omega (arith, left.0), (omega (arith, left.1.0), tt))) c.in_err-insert.ensures.refused in
     on_err c.from_residual.result ((room_in c.args.self.now ≡ 0) × (¬ Contains c.args.self.now.entries c.args.entry))
     (subst (λ (v : IndexView). (room_in v ≡ 0) × (¬ Contains v.entries c.args.entry)) c.self.view_is
     (no_room c.self.inside.promised (length (among trees)) none (full_among trees c.in_err-insert.ensures.full), absent_in_gap (among trees) c.args.entry _ gap))
@@ -45,11 +46,11 @@ invariant_of-self-2 c =
     let places = places_after c.self.inside.trees.items c.self.inside.count _ _ c.self.invariant.neat c.self.invariant.counted c.self.invariant.places now.places now.first in
     elim c.still_promised-self-inside.ensures.fewer [
       | inl fewer ↦
-          sound_inserted _ _ _ c.self.inside.trees.items c.insert.new.nodes.items _ _ _ _ _ _ _ _ c.self.inside.count c.self.inside.promised c.self.invariant
+          sound_inserted c.self.inside.trees.items c.insert.new.nodes.items _ _ c.self.inside.count c.self.inside.promised c.self.invariant
           c.args.entry _ (c.self.inside.count + 1) _ gap now.entries now.neat places now.room now.spare now.below (omega arith, (omega arith, tt)) refl fewer
           (omega (arith, c.self.invariant.countable, c.if-self.false))
       | inr kept ↦
-          sound_unspent _ _ _ c.self.inside.trees.items c.insert.new.nodes.items _ _ _ _ _ _ _ _ c.self.inside.count c.self.inside.promised c.self.invariant
+          sound_unspent c.self.inside.trees.items c.insert.new.nodes.items _ _ c.self.inside.count c.self.inside.promised c.self.invariant
           c.args.entry _ (c.self.inside.count + 1) _ gap now.entries now.neat places refl kept.0.0 kept.0.1 kept.0.2 kept.0.3 kept.1
     ]
 

@@ -1,7 +1,7 @@
 use Rattle.std.proofs.Common.{◌≤◌, max, length, ap, refl, subst, arith}
 use Rattle.root_index.specs.View.{IndexView, free_places, room_in}
 use Rattle.root_index.specs.Pieces.{RemovesPiece}
-use Rattle.root_index.proofs.SoundLemmas.{tree_entries, among}
+use Rattle.root_index.specs.Trees.{tree_entries, among}
 use Rattle.root_index.proofs.FullLemmas.{some_among}
 use Rattle.root_index.proofs.SweepLemmas.{start_there, removes_swept, removes_none, sound_swept, some_swept, some_nodes, room_swept}
 use Rattle.root_index.proofs.index.RootIndex.remove_where.Goals as goal
@@ -12,7 +12,7 @@ invariant_of-self c =
     let now = c.in-Some.ensures in
     let kept = c.sweep_from.ensures.kept in
     let some = some_nodes tree_entries c.self.inside.trees.items (some_swept _ _ _ _ _ now.swept) in
-    sound_swept _ _ _ c.self.inside.trees.items c.sweep_from.new.nodes.items _ _ _ _ _ _ _ _ c.self.inside.count _ c.self.inside.promised _ _ c.args.dead.now c.in-Some.swept
+    sound_swept c.self.inside.trees.items c.sweep_from.new.nodes.items _ _ c.self.inside.count _ c.self.inside.promised _ _ c.args.dead.now c.in-Some.swept
     c.self.invariant now.swept now.neat (omega (arith, now.shorter, now.capacity)) kept.nodes kept.left (λ places. (omega (arith, kept.list, places.0), kept.places places.1))
     (λ empty places. let left = c.sweep_from.ensures.emptied some empty places in
     (omega (arith, empty, c.sweep_from.ensures.room (omega (arith, empty, some))), left.0, left.1))

@@ -1,0 +1,50 @@
+//! The rows of writes, as the plain program takes them and as they stand on pages.
+
+ghost use Rattle.std.specs.Prelude.{◌≡◌, ◌<◌, ◌≤◌, ◌+◌, ◌↔◌, IsTrue, length};
+ghost use Rattle.std.specs.Int.{next_multiple_of};
+
+use arrayvec::ArrayVec;
+use session_core::{Row, RowIn, Step};
+use tuple_header::MOST_BODY;
+
+/// The session that would write, if the step is a write.
+pub(crate) fn writer_of(step: &Step) -> Option<u8> {
+    match step {
+        Step::Insert(s, _) | Step::Update(s, _) | Step::Delete(s, _) => Some(*s),
+        _ => None,
+    }
+}
+
+/// The row that would be written, if the step is a write of one.
+pub(crate) fn row_to_write(step: &Step) -> Option<&RowIn> {
+    match step {
+        Step::Insert(_, row) | Step::Update(_, row) => Some(row),
+        _ => None,
+    }
+}
+
+/// The row of the table. A body of more than 1024 bytes is left out.
+pub(crate) fn table_row(row: &RowIn) -> Row {
+    let mut body = ArrayVec::new();
+    let _ = body.try_extend_from_slice(row.body.as_slice());
+    Row {
+        key: row.key,
+        cols: row.cols,
+        body,
+    }
+}
+
+/// Whether its body has more bytes than a row of the table may have.
+pub(crate) fn is_too_large(row: &RowIn) -> bool
+    ensures { IsTrue result ↔ (MOST_BODY < length row.now.body) }
+{
+    row.body.len() > MOST_BODY
+}
+
+/// How many bytes a version of the row takes on a page: 66 and its body, rounded up to a multiple of 8.
+pub(crate) fn size_on_page(row: &RowIn) -> usize
+    requires { length row.now.body ≤ MOST_BODY }
+    ensures { result ≡ next_multiple_of (66 + length row.now.body) 8 }
+{
+    (66 + row.body.len()).next_multiple_of(8)
+}
