@@ -19,8 +19,8 @@ use Rattle.refinement.specs.Allowed.{Allows, next}
 use Rattle.refinement.proofs.Steps.{OnlyIs}
 use Rattle.refinement.proofs.FollowsCursors as cursors
 use Rattle.session_steps.specs.declared.session.Session.{Session}
-use Rattle.session_steps.specs.declared.cursor.Cursor.{Cursor}
-use Rattle.session_steps.specs.declared.cursor.Cursor.TheVariants.{Index, Heap}
+use Rattle.table_scans.specs.declared.progress.Scan.{Scan}
+use Rattle.table_scans.specs.declared.progress.Scan.TheVariants.{Index, Heap}
 use Rattle.index_lookup.specs.declared.index_scan.IndexRange.{IndexRange}
 use Rattle.session_steps.specs.State.{State, session_at, put_session, map_session, with_cursor, seen, position_of, reader_of, engine_sessions}
 use Rattle.session_steps.specs.Agrees.{Agrees, Sound, SessionKeeps, Follows, KeepsAllTargets}
@@ -64,10 +64,10 @@ Follows-bad_bounds st s e index low high at sound bare used order w agrees =
 
 -- A session's cursor changes, and nothing else.
 
-keeps-cursor : (st : State) (e : Session) (cursor : Option Cursor) → SessionKeeps st.heap.statuses e → SessionKeeps st.heap.statuses (with_cursor cursor e)
+keeps-cursor : (st : State) (e : Session) (cursor : Option Scan) → SessionKeeps st.heap.statuses e → SessionKeeps st.heap.statuses (with_cursor cursor e)
 keeps-cursor st e cursor h = record { snapshot = h.snapshot; topmost = h.topmost; prefixes = h.prefixes; distinct = h.distinct }
 
-module _ (st st' : State) (s : ℕ) (e : Session) (cursor : Option Cursor) (at : session_at st s ≡ Some e) (is : st' ≡ put_session st s (map_session (with_cursor cursor) (session_at st s))) where
+module _ (st st' : State) (s : ℕ) (e : Session) (cursor : Option Scan) (at : session_at st s ≡ Some e) (is : st' ≡ put_session st s (map_session (with_cursor cursor) (session_at st s))) where
   pub moved : st' ≡ put_session st s (Some (with_cursor cursor e))
   moved = is ∙ ap (λ o. put_session st s (map_session (with_cursor cursor) o)) at
 

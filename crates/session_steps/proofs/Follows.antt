@@ -46,8 +46,8 @@ use Rattle.visibility.specs.Visible.{state_of}
 use Rattle.session_steps.specs.State.{State, session_at, put_session, seen, position_of, reader_of, failed_session, holds_back, held_back, horizon_of, engine_sessions}
 use Rattle.session_steps.specs.Keeps.{open_at}
 use Rattle.session_steps.specs.Agrees.{Agrees, Sound, Follows, SessionKeeps, KeepsAllTargets}
-use Rattle.session_steps.specs.declared.cursor.Cursor.{Cursor}
-use Rattle.session_steps.specs.declared.cursor.Cursor.TheVariants.{Index, Heap}
+use Rattle.table_scans.specs.declared.progress.Scan.{Scan}
+use Rattle.table_scans.specs.declared.progress.Scan.TheVariants.{Index, Heap}
 use Rattle.session_steps.specs.Changes.{Opens, Closes}
 use Rattle.refinement.proofs.Runs.{same_indexes}
 use Rattle.refinement.specs.Heap.{seen_sessions}
@@ -81,8 +81,8 @@ Follows-same st step r follows w agrees = stays-so st w step r agrees (follows w
 
 -- a cursor as readers see it
 
-pub some-position : (o : Option Cursor) → IsSome o → IsSome (position_of o)
-some-position None some = absurd (let e : IsSome {T = Cursor} None = some in cc)
+pub some-position : (o : Option Scan) → IsSome o → IsSome (position_of o)
+some-position None some = absurd (let e : IsSome {T = Scan} None = some in cc)
 some-position (Some (Index span)) some = refl
 some-position (Some (Heap from)) some = refl
 

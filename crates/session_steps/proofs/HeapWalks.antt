@@ -1,184 +1,94 @@
--- A walk of a cursor over a page, slot by slot.
-use Rattle.std.proofs.Common.{◌≡◌, ℕ, zero, suc, ◌+◌, ◌-◌, ◌<◌, ◌≤◌, max, List, [], ◌∷◌, ◌++◌, length, set, get_or, Some, None, slice_get, refl, sym, ap, ◌∙◌, subst, arith}
-use Rattle.std.proofs.lemmas.List.{length-append}
+-- A scan of the heap is a walk, as the relation has it.
+use Rattle.std.proofs.Common.{◌≡◌, ℕ, zero, suc, ◌+◌, ◌<◌, ◌≤◌, List, [], ◌∷◌, length, map, Some, sym, ap, ◌∙◌, inl, inr, arith}
+use Rattle.std.proofs.lemmas.Bool.{cases_lt}
+use Rattle.std.proofs.lemmas.Option.{none-some}
 use Rattle.xid_circle.specs.declared.Tid.{Tid}
-use Rattle.tuple_header.specs.declared.row_place.RowPlace.{RowPlace}
 use Rattle.tuple_header.specs.declared.version.Row.{Row}
-use Rattle.tuple_header.specs.declared.version.TheConstants.{MOST_SLOTS}
-use Rattle.tuple_header.specs.Places.{place_with, places_with}
-use Rattle.tuple_header.proofs.PlaceLemmas.{places-length, places-push}
+use Rattle.tuple_header.specs.Version.{Version}
+use Rattle.page_slots.specs.Slots.{version_at}
 use Rattle.page_slots.specs.View.{PageView}
-use Rattle.refinement.proofs.CursorWalks.{Gathers-none, Gathers-pass_slot, Gathers-one, Gathers-after}
+use Rattle.page_slots.proofs.SlotLemmas.{version_at-none}
+use Rattle.index_lookup.specs.Pages.{slots_on}
+use Rattle.heap_write.specs.Heap.{slots_of}
+use Rattle.refinement.specs.Cursors.{IsFrom, Stands, Gathers}
+use Rattle.refinement.proofs.CursorWalks.{Gathers-none, Gathers-pass, Gathers-pass_slot, Gathers-one, Gathers-after}
+use Rattle.table_scans.specs.declared.progress.Scan.TheVariants.{Heap}
+use Rattle.table_scans.specs.Scans.{SeesRow, SeesNone, start_of, NoneToPageEnd, ScansHeap, heap_begins, heap_passes, heap_finds, heap_turns}
+use Rattle.table_scans.specs.Takes.{IsAtEnd, TakesPage, TakesPart}
 use Rattle.session_steps.specs.declared.session.Session.{Session}
-use Rattle.session_steps.specs.declared.cursor.Cursor.TheVariants.{Heap}
-use Rattle.session_steps.specs.State.{State}
-use Rattle.session_steps.specs.Takes.{IsAtEnd, WalksHeap, AreBare, start_of, TakesAll, TakesPart}
-use Rattle.session_steps.specs.Puts.{HasPut, PutsOfHeap, PutsOfPage}
-use Rattle.session_steps.proofs.WriteCheck.{StandsOn, slot_on, IsBareFrom, bare-behind, bare-unused, bare-page, walks-out, HasPassed, bare-passed, bare-before, all-passed}
+use Rattle.session_steps.specs.State.{State, seen}
+use Rattle.session_steps.specs.Takes.{session_sight}
+use Rattle.session_steps.proofs.AtCursor.{seen_by, NoneToCome, SomeToCome, first-row}
 
--- Rows in a list.
+abbrev StandsOn : State → Session → Tid → Row → Type 0
+StandsOn st e p row = Stands (seen st).version (seen_by st e) p row
 
--- the rows of the slots up to this one, of which the page has so many
-pub record HasGathered (st : State) (e : Session) (from : Tid) (slot slots : ℕ) (rows : List Row) : Type 0 where
-  pub walks : WalksHeap st e from (slot_on from slot) rows
-  pub below : length rows ≤ slot - 1
-  pub few : length rows ≤ slots
+-- a walk from the one place up to the other meets these rows, which the session sees
+abbrev pub WalksHeap : State → Session → Tid → Tid → List Row → Type 0
+WalksHeap st e from to rows = Gathers (seen st).version (seen_by st e) from to rows
 
-pub gathers-none : (st : State) (e : Session) (from : Tid) (slots : ℕ) → HasGathered st e from from.slot slots []
-gathers-none st e from slots = record { walks = Gathers-none from; below = omega arith; few = omega arith }
+-- Where versions are.
 
-module _ (st : State) (e : Session) (from : Tid) (slot slots : ℕ) (rows : List Row) (h : HasGathered st e from slot slots rows) where
-  pub gathers-pass : ((row : Row) → ¬ StandsOn st e (slot_on from slot) row) → HasGathered st e from (slot + 1) slots rows
-  gathers-pass none = record { walks = Gathers-pass_slot none h.walks; below = (let below = h.below in omega arith); few = h.few }
+-- on a page in use
+page-within : (pages : List PageView) (page slot : ℕ) (v : Version) → version_at (slots_on (map (λ (p : PageView). p.slots) pages) page) slot ≡ Some v → page < length pages
+page-within [] page slot v is = absurd (version_at-none slot v is)
+page-within (p ∷ ps) zero slot v is = omega arith
+page-within (p ∷ ps) (suc n) slot v is = let within = page-within ps n slot v is in omega arith
 
-  pub gathers-one : (row : Row) → StandsOn st e (slot_on from slot) row → 0 < slot → slot < slots + 1 → HasGathered st e from (slot + 1) slots (rows ++ row ∷ [])
-  gathers-one row here above within =
-      let below = h.below in let long = length-append rows (row ∷ []) in
-      record { walks = Gathers-one row here h.walks; below = omega arith; few = omega arith }
+-- what is at a place or behind it is on its page or a later one
+page-from : (p q : Tid) → IsFrom p q → p.page ≤ q.page
+page-from p q (inl lt) = omega arith
+page-from p q (inr (same, le)) = omega arith
 
-  pub gathers-all : (page : PageView) → slice_get st.heap.pages.pages from.page ≡ Some page → length page.slots ≡ slots → slots ≤ MOST_SLOTS → slots + 1 ≤ slot → TakesAll st e from rows
-  gathers-all page at count limit past = record {
-    walks = walks-out st e from from slot rows (bare-page st e from slot (bare-behind st e from page at slot (omega arith))) h.walks;
-    few = (let few = h.few in omega arith);
-  }
+page-onward : (p q : Tid) → IsFrom (start_of (p.page + 1)) q → IsFrom p q
+page-onward p q (inl later) = inl (let lt : p.page + 1 < q.page = later in omega arith)
+page-onward p q (inr (same, le)) = inl (let is : p.page + 1 ≡ q.page = same in omega arith)
 
--- a page that is not in use has none
-pub gathers-unused : (st : State) (e : Session) (from : Tid) → slice_get st.heap.pages.pages from.page ≡ None → TakesAll st e from []
-gathers-unused st e from none = record {
-  walks = walks-out st e from from from.slot [] (bare-page st e from from.slot (bare-unused st e from none from.slot)) (Gathers-none from);
-  few = omega arith;
-}
+later-page : (p q : Tid) → p.page < q.page → IsFrom (start_of (p.page + 1)) q
+later-page p q lt = elim (cases_lt (p.page + 1) q.page) [ inl further ↦ inl further | inr near ↦ inr (omega arith, omega arith) ]
 
--- Rows in places.
+module _ (st : State) (e : Session) where
+  row-stands : (p : Tid) (row : Row) → SeesRow (session_sight st e) p row → StandsOn st e p row
+  row-stands p row is = record { version = is.version; here = is.there; shown = is.shown; same_row = sym is.is_row }
 
--- the same, written to the first places
-pub record HasPutOn (st : State) (e : Session) (from : Tid) (places : List RowPlace) (slot end count : ℕ) (after : List RowPlace) : Type 0 where
-  pub rows : List Row
-  pub put : HasPut places count after rows
-  pub walks : WalksHeap st e from (slot_on from slot) rows
-  pub above : from.slot ≤ slot
-  pub within : slot ≤ max from.slot end
-  pub room : count < length places
+  none-stands : (p : Tid) → SeesNone (session_sight st e) p → (row : Row) → ¬ StandsOn st e p row
+  none-stands p none row stands = none stands.version stands.here stands.shown
 
-pub puts-none : (st : State) (e : Session) (from : Tid) (places : List RowPlace) (end : ℕ) → 0 < length places → HasPutOn st e from places from.slot end 0 places
-puts-none st e from places end some = record {
-  rows = [];
-  put = record { number = refl; written = refl };
-  walks = Gathers-none from;
-  above = omega arith;
-  within = omega arith;
-  room = some;
-}
+  -- a walk goes on to the next page where the session sees nothing up to the end of this one
+  walk-turns : (from p : Tid) (rows : List Row) → NoneToPageEnd (session_sight st e) p → WalksHeap st e from p rows → WalksHeap st e from (start_of (p.page + 1)) rows
+  walk-turns from p rows none walks = Gathers-pass (page-onward p) (λ q row past stands. elim past [
+    | inl later ↦ later-page p q later
+    | inr here ↦ absurd (none q.slot here.1 stands.version (ap (λ (m : ℕ). version_at (slots_on (slots_of st.heap) m) q.slot) here.0 ∙ stands.here) stands.shown)
+  ]) walks
 
--- within a list it doesn't matter what would stand behind it
-get_or-same : (xs : List RowPlace) (i : ℕ) (d d' : RowPlace) → i < length xs → get_or xs i d ≡ get_or xs i d'
-get_or-same [] i d d' within = absurd (omega arith)
-get_or-same (x ∷ xs) zero d d' within = refl
-get_or-same (x ∷ xs) (suc i) d d' within = get_or-same xs i d d' (omega arith)
+pub scans-gather : (st : State) (e : Session) {from to : Tid} {rows : List Row} → ScansHeap (session_sight st e) from to rows → WalksHeap st e from to rows
+scans-gather st e {from} heap_begins = Gathers-none from
+scans-gather st e {from} (heap_passes p rows scans none) = Gathers-pass_slot (none-stands st e p none) (scans-gather st e scans)
+scans-gather st e {from} (heap_finds p rows row scans shows) = Gathers-one row (row-stands st e p row shows) (scans-gather st e scans)
+scans-gather st e {from} (heap_turns p rows scans none) = walk-turns st e from p rows none (scans-gather st e scans)
 
--- one row more is written
-pub put-one : (places : List RowPlace) (count : ℕ) (after : List RowPlace) (rows : List Row) (row : Row) (d new : RowPlace) → HasPut places count after rows → count < length places
-    → new ≡ place_with row (get_or after count d) → HasPut places (count + 1) (set after count new) (rows ++ row ∷ [])
-put-one places count after rows row d new h room is = record {
-  number = length-append rows (row ∷ []) ∙ ap (λ n. n + 1) h.number;
-  written = ap (set after count) is
-      ∙ (ap (λ ps. set ps count (place_with row (get_or ps count d))) h.written
-      ∙ (ap (λ n. set (places_with rows places) n (place_with row (get_or (places_with rows places) n d))) (sym h.number)
-      ∙ places-push rows places row (get_or (places_with rows places) (length rows) d) within
-      (get_or-same (places_with rows places) (length rows) d (get_or (places_with rows places) (length rows) d) (omega (arith, within, places-length rows places)))));
-}
-  where
-    within : length rows < length places
-    within = (let number = h.number in omega arith)
+-- What is taken is met on a walk.
 
-module _ (st : State) (e : Session) (from : Tid) (places : List RowPlace) (slot end count : ℕ) (after : List RowPlace) (h : HasPutOn st e from places slot end count after) where
-  pub puts-pass : slot < end → ((row : Row) → ¬ StandsOn st e (slot_on from slot) row) → HasPutOn st e from places (slot + 1) end count after
-  puts-pass less none = record {
-    rows = h.rows;
-    put = h.put;
-    walks = Gathers-pass_slot none h.walks;
-    above = (let above = h.above in omega arith);
-    within = omega arith;
-    room = h.room;
-  }
+module _ (st : State) (e : Session) (from : Tid) where
+  pub page-walk : (page : ℕ) (rows : List Row) → TakesPage (session_sight st e) from page rows → WalksHeap st e from (start_of (page + 1)) rows
+  page-walk page rows takes = Gathers-after (scans-gather st e takes.comes.scans) (scans-gather st e takes.scans)
 
-  module _ (row : Row) (d new : RowPlace) (less : slot < end) (here : StandsOn st e (slot_on from slot) row) (is : new ≡ place_with row (get_or after count d)) where
-    -- and there is place for another
-    pub puts-one : count + 1 < length places → HasPutOn st e from places (slot + 1) end (count + 1) (set after count new)
-    puts-one more = record {
-      rows = h.rows ++ row ∷ [];
-      put = put-one places count after h.rows row d new h.put h.room is;
-      walks = Gathers-one row here h.walks;
-      above = (let above = h.above in omega arith);
-      within = omega arith;
-      room = more;
-    }
-
-    -- or there is none
-    pub puts-last : count + 1 ≡ length places → PutsOfPage st e from places (count + 1) (slot + 1) (set after count new)
-    puts-last full = record {
-      rows = h.rows ++ row ∷ [];
-      put = put-one places count after h.rows row d new h.put h.room is;
-      walks = Gathers-one row here h.walks;
-      at_most = (let put = h.put.number in let long = length-append h.rows (row ∷ []) in omega arith);
-      all = λ less. absurd (let put = h.put.number in let long = length-append h.rows (row ∷ []) in omega arith);
-    }
-
-  -- the page has no more
-  pub puts-all : (page : PageView) → slice_get st.heap.pages.pages from.page ≡ Some page → length page.slots + 1 ≡ end → end ≤ slot → PutsOfPage st e from places count (max from.slot end) after
-  puts-all page at count' past =
-      let same : slot ≡ max from.slot end = (let above = h.above in let within = h.within in omega arith) in record {
-        rows = h.rows;
-        put = h.put;
-        walks = subst (λ n. WalksHeap st e from (slot_on from n) h.rows) same h.walks;
-        at_most = (let put = h.put.number in let room = h.room in omega arith);
-        all = λ less. bare-page st e from (max from.slot end) (bare-behind st e from page at (max from.slot end) (omega arith));
-      }
-
-pub puts-unused : (st : State) (e : Session) (from : Tid) (places : List RowPlace) → slice_get st.heap.pages.pages from.page ≡ None → PutsOfPage st e from places 0 from.slot places
-puts-unused st e from places none = record {
-  rows = [];
-  put = record { number = refl; written = refl };
-  walks = Gathers-none from;
-  at_most = omega arith;
-  all = λ less. bare-page st e from from.slot (bare-unused st e from none from.slot);
-}
-
--- Pages.
-
-pub no-rows : (rows : List Row) (count : ℕ) → length rows ≡ count → count ≡ 0 → rows ≡ []
-no-rows [] count is none = refl
-no-rows (row ∷ rows) count is none = absurd (omega arith)
-
-module _ (st : State) (e : Session) (from : Tid) (page : ℕ) (at : Tid) (h : HasPassed st e from page at) (places : List RowPlace) (some : 0 < length places) where
-  -- this one has none either, and nothing was written
-  pub none-put : (slot count : ℕ) (after : List RowPlace) → PutsOfPage st e at places count slot after → count ≡ 0 → HasPassed st e from (page + 1) (start_of (page + 1)) × (after ≡ places)
-  none-put slot count after puts none =
-      let empty = no-rows puts.rows count puts.put.number none in (
-        bare-passed st e from page at h
-            (walks-out st e at at slot [] (puts.all (subst (λ (rows : List Row). length rows < length places) (sym empty) some)) (subst (WalksHeap st e at (slot_on at slot)) empty puts.walks)),
-        puts.put.written ∙ ap (λ rows. places_with rows places) empty,
-      )
-
-  -- it has some
-  pub some-put : (slot count : ℕ) (after : List RowPlace) → PutsOfPage st e at places count slot after → 0 < count → PutsOfHeap st e from places count (record { page = page; slot = slot }) after
-  some-put slot count after puts above = record {
-    rows = puts.rows;
-    put = puts.put;
-    at_end = λ none. absurd (omega arith);
-    takes = λ _. record {
-      bare = bare-before st e from page at h;
-      walks = subst (λ n. WalksHeap st e from (record { page = n; slot = slot }) puts.rows) h.here (Gathers-after h.walks puts.walks);
-      at_most = puts.at_most;
-      all = λ less. subst (λ n. AreBare st e (record { page = n; slot = slot }) (n + 1)) h.here (puts.all less);
-    };
-  }
+  pub part-walk : (most : ℕ) (rows : List Row) (to : Tid) → TakesPart (session_sight st e) from most rows to → WalksHeap st e from to rows
+  part-walk most rows to takes = Gathers-after (scans-gather st e takes.comes.scans) (scans-gather st e takes.scans)
 
   -- no page in use is left
-  pub none-left : length st.heap.pages.pages ≤ page → PutsOfHeap st e from places 0 at places
-  none-left all = record {
-    rows = [];
-    put = record { number = refl; written = refl };
-    at_end = λ _. all-passed st e from page at h all;
-    takes = λ above. absurd (omega arith);
-  }
+  pub none-on : IsAtEnd (session_sight st e) (Heap from) → NoneToCome st e (Heap from)
+  none-on (to, scans, all) row comes =
+      let within = page-within st.heap.pages.pages comes.place.page comes.place.slot comes.version comes.here in
+      elim ((scans-gather st e scans).met comes.place row comes.to_come (record { version = comes.version; here = comes.here; shown = comes.shown; same_row = comes.same_row })) [
+        | inl behind ↦ absurd (let le = page-from to comes.place behind in omega arith)
+        | inr some ↦ none-some row some.1
+      ]
+
+  -- some row comes
+  pub some-on : (to : Tid) (rows : List Row) → ScansHeap (session_sight st e) from to rows → 0 < length rows → SomeToCome st e (Heap from)
+  some-on to rows scans some =
+      let first = first-row rows some in
+      let met = (scans-gather st e scans).theirs 0 first.0 first.1 in
+      let stands = met.3 in
+      (first.0, record { place = met.0; version = stands.version; here = stands.here; shown = stands.shown; same_row = stands.same_row; to_come = met.1 })

@@ -13,8 +13,8 @@ use Rattle.history.specs.World.{World, is_indexed}
 use Rattle.calls.specs.declared.settings.Settings.{Settings}
 use Rattle.refinement.specs.Agrees as relation
 use Rattle.session_steps.specs.declared.session.Session.{Session}
-use Rattle.session_steps.specs.declared.cursor.Cursor.{Cursor}
-use Rattle.session_steps.specs.declared.cursor.Cursor.TheVariants.{Index}
+use Rattle.table_scans.specs.declared.progress.Scan.{Scan}
+use Rattle.table_scans.specs.declared.progress.Scan.TheVariants.{Index}
 use Rattle.session_steps.specs.Keeps.{open_at}
 use Rattle.session_steps.specs.State.{State, horizon_of, seen}
 use Rattle.session_steps.specs.Agrees.{Sound, Agrees}
@@ -74,14 +74,14 @@ there-used before st n index is at = subst (λ (st : State). IsInUse st.heap.ind
 -- Cursors.
 
 -- the session's cursor goes along an index in use, if it goes along one
-abbrev pub GoesAlong : List (Option IndexView) → Option Cursor → Type 0
+abbrev pub GoesAlong : List (Option IndexView) → Option Scan → Type 0
 GoesAlong indexes cursor = (span : IndexRange) → cursor ≡ Some (Index span) → IsInUse indexes span.index
 
 -- so does each open session's
 abbrev pub AllGoAlong : List (Option IndexView) → List (Option Session) → Type 0
 AllGoAlong indexes sessions = (s : ℕ) (e : Session) (span : IndexRange) → open_at sessions s ≡ Some e → e.cursor ≡ Some (Index span) → IsInUse indexes span.index
 
-pub no-cursor : (indexes : List (Option IndexView)) (cursor : Option Cursor) → cursor ≡ None → GoesAlong indexes cursor
+pub no-cursor : (indexes : List (Option IndexView)) (cursor : Option Scan) → cursor ≡ None → GoesAlong indexes cursor
 no-cursor indexes cursor none span is = absurd (none-some (Index span) (sym none ∙ is))
 
 -- one session becomes another, or opens, and the same indexes stay in use

@@ -17,10 +17,10 @@ pub mod Savepoints
 pub mod Counting
 pub mod CursorSteps
 pub mod Outcomes
+pub mod AtCursor
 pub mod Walks
 pub mod WalkSteps
 pub mod SessionReader
-pub mod WriteCheck
 pub mod HeapWalks
 pub mod NextSteps
 pub mod NextRowsSteps

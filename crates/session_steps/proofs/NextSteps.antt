@@ -18,53 +18,67 @@ use Rattle.refinement.specs.Heap.{Position, in_index, in_heap}
 use Rattle.refinement.specs.Finds as finds
 use Rattle.refinement.proofs.Steps.{OnlyIs}
 use Rattle.refinement.proofs.FollowsCursors as cursors
+use Rattle.table_scans.specs.Scans.{Sight, start_of}
+use Rattle.table_scans.specs.Takes.{IsAtEnd, MeetsSome, TakesRows, Takes, TakesUpTo, TakesSome}
 use Rattle.session_steps.specs.declared.session.Session.{Session}
-use Rattle.session_steps.specs.declared.cursor.Cursor.{Cursor}
-use Rattle.session_steps.specs.declared.cursor.Cursor.TheVariants.{Index, Heap}
+use Rattle.table_scans.specs.declared.progress.Scan.{Scan}
+use Rattle.table_scans.specs.declared.progress.Scan.TheVariants.{Index, Heap}
 use Rattle.session_steps.specs.State.{State, session_at, put_session, map_session, with_cursor, seen, seen_position, position_of, reader_of, engine_sessions}
 use Rattle.session_steps.specs.Agrees.{Agrees, Follows, KeepsAllTargets}
-use Rattle.session_steps.specs.Takes.{IsAtCursor, IsAtEnd, IsNotAtEnd, TakesRows, WalksHeap, start_of, Takes, TakesUpTo, TakesSome, HandsOutBy}
+use Rattle.session_steps.specs.Takes.{session_sight, HandsOutBy}
 use Rattle.session_steps.specs.NextRows.{ExactNextRows}
 use Rattle.session_steps.proofs.InUse.{agree}
 use Rattle.session_steps.proofs.Owns.{reader-is}
 use Rattle.session_steps.proofs.Follows.{Follows-same, bare_by, led-same}
 use Rattle.session_steps.proofs.CursorSteps.{moved, only-cursor, sound-cursor}
-use Rattle.session_steps.proofs.WalkSteps.{used-at, left-in}
+use Rattle.session_steps.proofs.AtCursor.{IsAtCursor, NoneToCome, SomeToCome}
+use Rattle.session_steps.proofs.WalkSteps.{used-at, left-in, scans-walk, none-left, none-in, some-in}
+use Rattle.session_steps.proofs.HeapWalks.{WalksHeap, page-walk, part-walk, none-on, some-on}
 
 pub Follows-bare_next : (st : State) (s n : ℕ) (r : Refusal) → BarsWithCursor (engine_sessions st) s r → Follows st (step.Next s n) (reply.Refused r) st
 Follows-bare_next st s n r is = Follows-same st (step.Next s n) (reply.Refused r) (cursors.Follows-bare_next (seen st) s n r (bare_by st s r is))
 
 -- The session is open and has not failed, and its cursor is here.
 
-at-cursor : (st : State) (w : World) (s : ℕ) (e : Session) (cursor : Cursor) → Agrees st w → session_at st s ≡ Some e → e.cursor ≡ Some cursor → IsAtCursor st e cursor
+at-cursor : (st : State) (w : World) (s : ℕ) (e : Session) (cursor : Scan) → Agrees st w → session_at st s ≡ Some e → e.cursor ≡ Some cursor → IsAtCursor st e cursor
 at-cursor st w s e cursor agrees at opened = record { world = w; agrees = agrees; number = s; there = at; opened = opened }
 
-pub Follows-end : (st : State) (s n : ℕ) (e : Session) (cursor : Cursor) → session_at st s ≡ Some e → e.failed ≡ false → e.cursor ≡ Some cursor → (IsAtCursor st e cursor → IsAtEnd st e cursor)
+-- nothing is to come where a scan is at its end
+none-to-come : (st : State) (e : Session) (cursor : Scan) → IsAtEnd (session_sight st e) cursor → IsAtCursor st e cursor → NoneToCome st e cursor
+none-to-come st e (Index span) none at = none-in st e span none at
+none-to-come st e (Heap from) none at = none-on st e from none
+
+-- something is where one meets a row
+some-to-come : (st : State) (e : Session) (cursor : Scan) → MeetsSome (session_sight st e) cursor → IsAtCursor st e cursor → SomeToCome st e cursor
+some-to-come st e (Index span) (left, rows, scans, some) at = some-in st e span left rows scans some at
+some-to-come st e (Heap from) (to, rows, scans, some) at = some-on st e from to rows scans some
+
+pub Follows-end : (st : State) (s n : ℕ) (e : Session) (cursor : Scan) → session_at st s ≡ Some e → e.failed ≡ false → e.cursor ≡ Some cursor → IsAtEnd (session_sight st e) cursor
     → Follows st (step.Next s n) reply.End st
 Follows-end st s n e (Index span) at sound opened none w agrees =
     Follows-same st (step.Next s n) reply.End
     (cursors.Follows-end (seen st) s (reader_of e) (in_index span.index span.low span.high (seen_position span.last)) n (reader-is st s e at) sound (ap position_of opened)
-    (none (at-cursor st w s e (Index span) agrees at opened)))
+    (none-to-come st e (Index span) none (at-cursor st w s e (Index span) agrees at opened)))
     w agrees
 Follows-end st s n e (Heap from) at sound opened none w agrees =
     Follows-same st (step.Next s n) reply.End
-    (cursors.Follows-end (seen st) s (reader_of e) (in_heap from) n (reader-is st s e at) sound (ap position_of opened) (none (at-cursor st w s e (Heap from) agrees at opened)))
+    (cursors.Follows-end (seen st) s (reader_of e) (in_heap from) n (reader-is st s e at) sound (ap position_of opened) (none-to-come st e (Heap from) none (at-cursor st w s e (Heap from) agrees at opened)))
     w agrees
 
-pub Follows-no_memory : (st : State) (s n : ℕ) (e : Session) (cursor : Cursor) → session_at st s ≡ Some e → e.failed ≡ false → e.cursor ≡ Some cursor → (IsAtCursor st e cursor → IsNotAtEnd st e cursor)
+pub Follows-no_memory : (st : State) (s n : ℕ) (e : Session) (cursor : Scan) → session_at st s ≡ Some e → e.failed ≡ false → e.cursor ≡ Some cursor → MeetsSome (session_sight st e) cursor
     → Follows st (step.Next s n) (reply.Refused refusal.NoMemory) st
 Follows-no_memory st s n e (Index span) at sound opened some w agrees =
-    let comes = some (at-cursor st w s e (Index span) agrees at opened) in
+    let comes = some-to-come st e (Index span) some (at-cursor st w s e (Index span) agrees at opened) in
     Follows-same st (step.Next s n) (reply.Refused refusal.NoMemory)
     (cursors.Follows-next_no_memory (seen st) s (reader_of e) (in_index span.index span.low span.high (seen_position span.last)) n comes.0 (reader-is st s e at) sound (ap position_of opened) comes.1)
     w agrees
 Follows-no_memory st s n e (Heap from) at sound opened some w agrees =
-    let comes = some (at-cursor st w s e (Heap from) agrees at opened) in
+    let comes = some-to-come st e (Heap from) some (at-cursor st w s e (Heap from) agrees at opened) in
     Follows-same st (step.Next s n) (reply.Refused refusal.NoMemory) (cursors.Follows-next_no_memory (seen st) s (reader_of e) (in_heap from) n comes.0 (reader-is st s e at) sound (ap position_of opened) comes.1) w agrees
 
 -- Rows are handed out: the cursor alone moves.
 
-module _ (st st' : State) (s n : ℕ) (e : Session) (after : Cursor) (rows : Vec Row Global) (at : session_at st s ≡ Some e)
+module _ (st st' : State) (s n : ℕ) (e : Session) (after : Scan) (rows : Vec Row Global) (at : session_at st s ≡ Some e)
     (is : st' ≡ put_session st s (map_session (with_cursor (Some after)) (session_at st s))) where
   abbrev now : State
   now = put_session st s (Some (with_cursor (Some after) e))
@@ -89,15 +103,16 @@ along-left : (st : State) (span left other : IndexRange) → left ≡ record spa
 along-left st span left other same used is = (let here : left ≡ other = cc in subst (λ (sp : IndexRange). IsInUse st.heap.indexes sp.index) here (subst (λ n. IsInUse st.heap.indexes n) (sym (ap (λ (sp : IndexRange). sp.index) same)) used))
 
 module _ (st st' : State) (s n : ℕ) (e : Session) (rows : Vec Row Global) (at : session_at st s ≡ Some e) (sound : e.failed ≡ false) (some : 0 < length rows.items) where
-  Follows-rows_in_index : (span left : IndexRange) → e.cursor ≡ Some (Index span) → TakesRows st e span left (max 1 n) rows.items
+  Follows-rows_in_index : (span left : IndexRange) → e.cursor ≡ Some (Index span) → TakesRows (session_sight st e) span left (max 1 n) rows.items
       → st' ≡ put_session st s (map_session (with_cursor (Some (Index left))) (session_at st s)) → Follows st (step.Next s n) (reply.Rows rows) st'
   Follows-rows_in_index span left opened takes is w agrees =
       let here = at-cursor st w s e (Index span) agrees at opened in
-      let same = takes.walks.same in
+      let walks = scans-walk takes.scans in
+      let same = walks.same in
       let f = cursors.Follows-next_in_index (seen st) s (reader_of e) span.index span.low span.high (seen_position span.last) (seen_position left.last) n rows (seen (now st st' s n e (Index left) rows at is)).session
       (only-at st st' s n e (Index left) rows at is (in_index span.index span.low span.high (seen_position left.last)) (walked-to span left same))
-      (reader-is st s e at) sound (ap position_of opened) (takes.walks.meets here) some takes.at_most
-      (λ fewer row comes. takes.all here fewer row (left-in st e span left row same comes)) in
+      (reader-is st s e at) sound (ap position_of opened) (walks.meets here) some takes.at_most
+      (λ fewer row comes. none-left st e span left rows.items walks (takes.all fewer) here row (left-in st e span left row same comes)) in
       put-after st st' s n e (Index left) rows at is (λ other is'. along-left st span left other same (used-at st e span here) is') (λ w' agrees'. f) w agrees
 
   Follows-rows_in_heap : (from to : Tid) → e.cursor ≡ Some (Heap from) → WalksHeap st e from to rows.items
@@ -107,34 +122,34 @@ module _ (st st' : State) (s n : ℕ) (e : Session) (rows : Vec Row Global) (at 
       (λ w agrees. cursors.Follows-next_in_heap (seen st) s (reader_of e) from to n rows (seen (now st st' s n e (Heap to) rows at is)).session
       (only-at st st' s n e (Heap to) rows at is (in_heap to) refl) (reader-is st s e at) sound (ap position_of opened) walks some)
 
-  moved-as : (after after' : Cursor) → after ≡ after' → st' ≡ put_session st s (map_session (with_cursor (Some after)) (session_at st s))
+  moved-as : (after after' : Scan) → after ≡ after' → st' ≡ put_session st s (map_session (with_cursor (Some after)) (session_at st s))
       → st' ≡ put_session st s (map_session (with_cursor (Some after')) (session_at st s))
-  moved-as after after' same is = is ∙ ap (λ (c : Cursor). put_session st s (map_session (with_cursor (Some c)) (session_at st s))) same
+  moved-as after after' same is = is ∙ ap (λ (c : Scan). put_session st s (map_session (with_cursor (Some c)) (session_at st s))) same
 
-  Follows-taken : (cursor after : Cursor) → e.cursor ≡ Some cursor → Takes st e cursor n rows.items after
+  Follows-taken : (cursor after : Scan) → e.cursor ≡ Some cursor → Takes (session_sight st e) cursor n rows.items after
       → st' ≡ put_session st s (map_session (with_cursor (Some after)) (session_at st s)) → Follows st (step.Next s n) (reply.Rows rows) st'
   Follows-taken (Index span) after opened (left, same, takes) is = Follows-rows_in_index span left opened takes (moved-as after (Index left) same is)
-  Follows-taken (Heap from) after opened (page, same, takes) is = Follows-rows_in_heap from (start_of (page + 1)) opened takes.walks (moved-as after (Heap (start_of (page + 1))) same is)
+  Follows-taken (Heap from) after opened (page, same, takes) is = Follows-rows_in_heap from (start_of (page + 1)) opened (page-walk st e from page rows.items takes) (moved-as after (Heap (start_of (page + 1))) same is)
 
   -- so many at most
-  Follows-taken_up_to : (cursor after : Cursor) → 0 < n → e.cursor ≡ Some cursor → TakesUpTo st e cursor n rows.items after
+  Follows-taken_up_to : (cursor after : Scan) → 0 < n → e.cursor ≡ Some cursor → TakesUpTo (session_sight st e) cursor n rows.items after
       → st' ≡ put_session st s (map_session (with_cursor (Some after)) (session_at st s)) → Follows st (step.Next s n) (reply.Rows rows) st'
   Follows-taken_up_to (Index span) after above opened (left, same, takes) is =
-      Follows-rows_in_index span left opened (subst (λ most. TakesRows st e span left most rows.items) (omega arith) takes) (moved-as after (Index left) same is)
-  Follows-taken_up_to (Heap from) after above opened (to, same, takes) is = Follows-rows_in_heap from to opened takes.walks (moved-as after (Heap to) same is)
+      Follows-rows_in_index span left opened (subst (λ most. TakesRows (session_sight st e) span left most rows.items) (omega arith) takes) (moved-as after (Index left) same is)
+  Follows-taken_up_to (Heap from) after above opened (to, same, takes) is = Follows-rows_in_heap from to opened (part-walk st e from n rows.items to takes) (moved-as after (Heap to) same is)
 
-pub Follows-rows : (st st' : State) (s n : ℕ) (e : Session) (cursor after : Cursor) (rows : Vec Row Global) → session_at st s ≡ Some e → e.failed ≡ false → e.cursor ≡ Some cursor
-    → TakesSome st e cursor n rows.items after → st' ≡ put_session st s (map_session (with_cursor (Some after)) (session_at st s)) → Follows st (step.Next s n) (reply.Rows rows) st'
+pub Follows-rows : (st st' : State) (s n : ℕ) (e : Session) (cursor after : Scan) (rows : Vec Row Global) → session_at st s ≡ Some e → e.failed ≡ false → e.cursor ≡ Some cursor
+    → TakesSome (session_sight st e) cursor n rows.items after → st' ≡ put_session st s (map_session (with_cursor (Some after)) (session_at st s)) → Follows st (step.Next s n) (reply.Rows rows) st'
 Follows-rows st st' s n e cursor after rows at sound opened taken is = Follows-taken st st' s n e rows at sound taken.some cursor after opened taken.takes is
 
-pub Follows-rows_up_to : (st st' : State) (s n : ℕ) (e : Session) (cursor after : Cursor) (rows : Vec Row Global) → session_at st s ≡ Some e → e.failed ≡ false → e.cursor ≡ Some cursor → 0 < length rows.items → 0 < n
-    → TakesUpTo st e cursor n rows.items after → st' ≡ put_session st s (map_session (with_cursor (Some after)) (session_at st s)) → Follows st (step.Next s n) (reply.Rows rows) st'
+pub Follows-rows_up_to : (st st' : State) (s n : ℕ) (e : Session) (cursor after : Scan) (rows : Vec Row Global) → session_at st s ≡ Some e → e.failed ≡ false → e.cursor ≡ Some cursor → 0 < length rows.items → 0 < n
+    → TakesUpTo (session_sight st e) cursor n rows.items after → st' ≡ put_session st s (map_session (with_cursor (Some after)) (session_at st s)) → Follows st (step.Next s n) (reply.Rows rows) st'
 Follows-rows_up_to st st' s n e cursor after rows at sound opened some above takes is = Follows-taken_up_to st st' s n e rows at sound some cursor after above opened takes is
 
 -- And so exactly.
 
-pub hands-out : (takes : State → Session → Cursor → ℕ → List Row → Cursor → Type 0) (st st' : State) (s n : ℕ) (e : Session) (cursor after : Cursor) (rows : List Row) → session_at st s ≡ Some e → e.cursor ≡ Some cursor
-    → takes st e cursor n rows after → st' ≡ put_session st s (map_session (with_cursor (Some after)) (session_at st s)) → HandsOutBy takes st st' s n rows
+pub hands-out : (takes : Sight → Scan → ℕ → List Row → Scan → Type 0) (st st' : State) (s n : ℕ) (e : Session) (cursor after : Scan) (rows : List Row) → session_at st s ≡ Some e → e.cursor ≡ Some cursor
+    → takes (session_sight st e) cursor n rows after → st' ≡ put_session st s (map_session (with_cursor (Some after)) (session_at st s)) → HandsOutBy takes st st' s n rows
 hands-out takes st st' s n e cursor after rows at opened taken is = record {
   session = e;
   there = at;

@@ -1,6 +1,5 @@
 -- What is so of a session's reader is so of the session.
-use Rattle.std.proofs.Common.{◌≡◌, ℕ, Option, pos, ap, subst}
-use Rattle.std.specs.Prelude.{MatchOption}
+use Rattle.std.proofs.Common.{◌≡◌, ℕ, Option, pos, subst}
 use Rattle.xid_circle.specs.declared.Tid.{Tid}
 use Rattle.xid_circle.specs.declared.Xid.{Xid}
 use Rattle.tuple_header.specs.declared.version.Row.{Row}
@@ -11,17 +10,15 @@ use Rattle.visibility.specs.declared.reader.Reader.{Reader}
 use Rattle.visibility.specs.Reading.{IsSeenBy, IsNewerCommitFor, IsOtherWriterFor}
 use Rattle.visibility.specs.Visible.{IsVisible, IsNewerCommitIn, IsOtherWriterIn}
 use Rattle.index_lookup.specs.Looking.{FirstFound, FirstPlace, IsIdOf}
-use Rattle.index_lookup.specs.Walking.{IsNextRow, NoneLeft}
-use Rattle.index_lookup.specs.declared.index_scan.IndexPosition.{IndexPosition}
-use Rattle.index_lookup.specs.declared.index_scan.IndexRange.{IndexRange}
 use Rattle.table_indexes.specs.Indexes.{entries_in}
 use Rattle.heap_write.specs.Heap.{HeapView, slots_of}
+use Rattle.table_scans.specs.Scans.{Sight, sight_of}
 use Rattle.session_steps.specs.declared.session.Session.{Session}
 use Rattle.session_steps.specs.State.{State}
-use Rattle.session_steps.specs.Takes.{ReadsAs}
+use Rattle.session_steps.specs.Takes.{ReadsAs, session_sight}
 use Rattle.session_steps.specs.Tests.{FindsPlace}
 use Rattle.session_steps.proofs.Searches.{Misses, Holds}
-use Rattle.session_steps.proofs.Walks.{FindsBy, IsNextFor, NoneIsLeft}
+use Rattle.session_steps.proofs.Walks.{FindsBy}
 
 pub as-session : (st : State) (e : Session) (r : Reader) (P : Window → Snap → Own → Type 0) → ReadsAs st e r → P r.statuses.now r.snapshot.now r.own.now → P st.heap.statuses e.snapshot e.own
 as-session st e r P reads is = subst (λ (w : Window). P w e.snapshot e.own) reads.statuses
@@ -44,9 +41,6 @@ module _ (parts st : State) (e : Session) (r : Reader) (same : parts ≡ st) (re
   pub held-read : (key : ℕ) (id : Option Xid) → IsIdOf r.statuses.now (IsOtherWriterFor r) (slots_of parts.heap) (entries_in parts.heap.indexes 0) (pos key) key id → Holds st.heap e key id
   held-read key id = read-as (λ h w s own. IsIdOf w (IsOtherWriterIn w own.ids) (slots_of h) (entries_in h.indexes 0) (pos key) key id)
 
-  pub next-read : (span : IndexRange) (position : IndexPosition) (row : Row) → IsNextRow r.statuses.now (IsSeenBy r) (slots_of parts.heap) (entries_in parts.heap.indexes span.index) span position row
-      → IsNextFor st e span position row
-  next-read span position row = read-as (λ h w s own. IsNextRow w (IsVisible w s own.ids) (slots_of h) (entries_in h.indexes span.index) span position row)
-
-  pub none-read : (span : IndexRange) → NoneLeft r.statuses.now (IsSeenBy r) (slots_of parts.heap) (entries_in parts.heap.indexes span.index) span → NoneIsLeft st e span
-  none-read span = read-as (λ h w s own. NoneLeft w (IsVisible w s own.ids) (slots_of h) (entries_in h.indexes span.index) span)
+  -- what is so of the reader's sight is so of the session's
+  pub sight-read : (P : Sight → Type 0) → P (sight_of parts.heap r) → P (session_sight st e)
+  sight-read P = read-as (λ h w s own. P (record { heap = h; statuses = w; sees = IsVisible w s own.ids }))

@@ -1,7 +1,6 @@
--- A walk of a cursor along an index, row by row.
-use Rattle.std.proofs.Common.{◌≡◌, ℕ, ◌+◌, ◌<◌, ◌≤◌, List, [], ◌∷◌, ◌++◌, length, Some, sym, ap, ◌∙◌, subst, inl, inr, arith}
-use Rattle.std.proofs.lemmas.List.{length-append}
-use Rattle.std.proofs.lemmas.Option.{slice_get_within}
+-- A scan of an index is a walk, as the relation has it.
+use Rattle.std.proofs.Common.{◌≡◌, ◌<◌, List, [], ◌∷◌, ◌++◌, length, Some, refl, sym, ap, ◌∙◌, subst, inl}
+use Rattle.std.proofs.lemmas.Option.{none-some}
 use Rattle.tuple_header.specs.declared.version.Row.{Row}
 use Rattle.index_lookup.specs.declared.index_scan.IndexPosition.{IndexPosition}
 use Rattle.index_lookup.specs.declared.index_scan.IndexRange.{IndexRange}
@@ -10,12 +9,19 @@ use Rattle.history.specs.Cursors.{ComesBefore}
 use Rattle.refinement.specs.Heap.{in_index}
 use Rattle.refinement.specs.Cursors.{Comes, WalksOver}
 use Rattle.refinement.specs.Cursors as cursors
-use Rattle.refinement.proofs.CursorWalks.{Comes-back, Comes-from, Meets-one}
+use Rattle.refinement.proofs.CursorWalks.{Meets-one}
+use Rattle.table_scans.specs.declared.progress.Scan.TheVariants.{Index}
+use Rattle.table_scans.specs.Scans.{NoneIsIn, range_after, ScansIndex, index_begins, index_goes_on}
 use Rattle.session_steps.specs.declared.session.Session.{Session}
-use Rattle.session_steps.specs.declared.cursor.Cursor.TheVariants.{Index}
 use Rattle.session_steps.specs.State.{State, seen, seen_position}
-use Rattle.session_steps.specs.Takes.{seen_by, IsAtCursor, IsAtEnd, IsNotAtEnd, Walks, TakesRows}
-use Rattle.session_steps.proofs.Walks.{IsNextFor, NoneIsLeft, next-comes, next-position, next-first, none-comes}
+use Rattle.session_steps.specs.Takes.{session_sight}
+use Rattle.session_steps.proofs.AtCursor.{seen_by, IsAtCursor, NoneToCome, SomeToCome, first-row}
+use Rattle.session_steps.proofs.Walks.{IsNextFor, next-comes, next-position, next-first, none-comes}
+
+-- the first rows of a span that the session sees there, and what is left of the span behind them
+pub record Walks (st : State) (e : Session) (span left : IndexRange) (rows : List Row) : Type 0 where
+  pub same : left ≡ record span { last = left.last }
+  pub meets : IsAtCursor st e (Index span) → WalksOver (seen st).version (seen_by st e) span.index span.low span.high (seen_position span.last) (seen_position left.last) rows
 
 -- the cursor goes along an index in use
 pub used-at : (st : State) (e : Session) (span : IndexRange) → IsAtCursor st e (Index span) → IsInUse st.heap.indexes span.index
@@ -39,50 +45,50 @@ pub left-in : (st : State) (e : Session) (span left : IndexRange) (row : Row) �
 left-in st e span left row same comes =
     subst (λ (sp : IndexRange). Comes (seen st).version (seen_by st e) (in_index sp.index sp.low sp.high (seen_position left.last)) row) (sym same) comes
 
--- so many rows are met
-pub record HasMet (st : State) (e : Session) (span left : IndexRange) (count : ℕ) (rows : List Row) : Type 0 where
-  pub walks : Walks st e span left rows
-  pub met : length rows ≡ count
-
-module _ (st : State) (e : Session) (span left : IndexRange) (count : ℕ) (rows : List Row) (h : HasMet st e span left count rows) where
+module _ (st : State) (e : Session) (span left : IndexRange) (rows : List Row) (h : Walks st e span left rows) where
   -- the next row comes, and none comes before it
   comes-next : (position : IndexPosition) (row : Row) → IsNextFor st e left position row → IsAtCursor st e (Index span)
       → Comes (seen st).version (seen_by st e) (in_index span.index span.low span.high (seen_position left.last)) row
   comes-next position row next at =
-      in-left st e span left row h.walks.same (next-comes st at.world at.number e at.agrees at.there left (used-left st e span left rows h.walks at) position row next)
+      in-left st e span left row h.same (next-comes st at.world at.number e at.agrees at.there left (used-left st e span left rows h at) position row next)
 
-  one-walks : (position : IndexPosition) (row : Row) → IsNextFor st e left position row → Walks st e span (record left { last = Some position }) (rows ++ row ∷ [])
+  one-walks : (position : IndexPosition) (row : Row) → IsNextFor st e left position row → Walks st e span (range_after left position) (rows ++ row ∷ [])
   one-walks position row next = record {
-    same = ap (λ (sp : IndexRange). record sp { last = Some position }) h.walks.same;
+    same = ap (λ (sp : IndexRange). record sp { last = Some position }) h.same;
     meets = λ at.
-        let used = used-left st e span left rows h.walks at in
-        let index : left.index ≡ span.index = ap (λ (sp : IndexRange). sp.index) h.walks.same in
+        let used = used-left st e span left rows h at in
+        let index : left.index ≡ span.index = ap (λ (sp : IndexRange). sp.index) h.same in
         subst (λ to. WalksOver (seen st).version (seen_by st e) span.index span.low span.high (seen_position span.last) to (rows ++ row ∷ []))
         (ap (λ n. Some (cursors.index_position_of n row)) (sym index) ∙ next-position st at.world at.number e at.agrees at.there left used position row next)
         (Meets-one row (comes-next position row next at)
         (λ other comes ne. subst (λ n. ComesBefore n row other) index
-        (next-first st at.world at.number e at.agrees at.there left used position row next other (left-in st e span left other h.walks.same comes) ne))
-        (h.walks.meets at));
+        (next-first st at.world at.number e at.agrees at.there left used position row next other (left-in st e span left other h.same comes) ne))
+        (h.meets at));
   }
 
-  pub one-met : (position : IndexPosition) (row : Row) → IsNextFor st e left position row → HasMet st e span (record left { last = Some position }) (count + 1) (rows ++ row ∷ [])
-  one-met position row next = record { walks = one-walks position row next; met = length-append rows (row ∷ []) ∙ ap (λ n. n + 1) h.met }
+  -- nothing comes in what is left, where none is seen in it
+  pub none-left : NoneIsIn (session_sight st e) left → IsAtCursor st e (Index span) → (row : Row) → ¬ ComesIn st e left row
+  none-left none at row comes = none-comes st at.world at.number e at.agrees at.there left (used-left st e span left rows h at) none row comes
 
-  -- there is a row to hand out, whether or not memory is
-  pub not-at_end : (position : IndexPosition) (row : Row) → IsNextFor st e left position row → IsAtCursor st e (Index span) → IsNotAtEnd st e (Index span)
-  not-at_end position row next at = (row, Comes-back ((h.walks.meets at).onward row) (comes-next position row next at))
+pub none-walks : (st : State) (e : Session) (span : IndexRange) → Walks st e span span []
+none-walks st e span = record {
+  same = refl;
+  meets = λ at. record {
+    theirs = λ i row is. absurd (none-some row is);
+    in_order = λ i j a b is bs lt. absurd (none-some a is);
+    met = λ row coming. inl coming.to_come.after;
+    onward = λ row past. past;
+  };
+}
 
-  -- none is left
-  pub all-met : (most : ℕ) → count ≤ most → NoneIsLeft st e left → TakesRows st e span left most rows
-  all-met most within none = record {
-    walks = h.walks;
-    at_most = (let met = h.met in omega arith);
-    all = λ at fewer row comes. none-comes st at.world at.number e at.agrees at.there left (used-left st e span left rows h.walks at) none row comes;
-  }
+pub scans-walk : {st : State} {e : Session} {span left : IndexRange} {rows : List Row} → ScansIndex (session_sight st e) span left rows → Walks st e span left rows
+scans-walk {st} {e} {span} index_begins = none-walks st e span
+scans-walk {st} {e} {span} (index_goes_on before rows position row scans next) = one-walks st e span before rows (scans-walk scans) position row next
 
--- None is met: nothing comes in the whole span.
-pub none-taken : (st : State) (e : Session) (span left : IndexRange) (most : ℕ) (rows : List Row) → TakesRows st e span left most rows → length rows ≡ 0 → 0 < most → IsAtCursor st e (Index span) → IsAtEnd st e (Index span)
-none-taken st e span left most rows h none some at row comes = elim ((h.walks.meets at).met row comes) [
-  | inl after ↦ h.all at (omega arith) row (left-in st e span left row h.walks.same (Comes-from after comes))
-  | inr met ↦ (let within = slice_get_within rows met.0 met.1 met.2 in absurd (omega arith))
-]
+-- none comes in the whole span
+pub none-in : (st : State) (e : Session) (span : IndexRange) → NoneIsIn (session_sight st e) span → IsAtCursor st e (Index span) → NoneToCome st e (Index span)
+none-in st e span none at row comes = none-left st e span span [] (none-walks st e span) none at row comes
+
+-- some row comes
+pub some-in : (st : State) (e : Session) (span left : IndexRange) (rows : List Row) → ScansIndex (session_sight st e) span left rows → 0 < length rows → IsAtCursor st e (Index span) → SomeToCome st e (Index span)
+some-in st e span left rows scans some at = let first = first-row rows some in (first.0, (((scans-walk scans).meets at).theirs 0 first.0 first.1).0)

@@ -30,7 +30,7 @@ use Rattle.refinement.specs.Cursors as cursors
 use Rattle.session_steps.specs.declared.session.Session.{Session}
 use Rattle.session_steps.specs.State.{State, session_at, seen, seen_position, horizon_of}
 use Rattle.session_steps.specs.Agrees.{Agrees}
-use Rattle.session_steps.specs.Takes.{seen_by}
+use Rattle.session_steps.proofs.AtCursor.{seen_by}
 use Rattle.session_steps.proofs.Searches.{own-active}
 
 -- Places in the order of an index.
@@ -106,7 +106,7 @@ abbrev pub NoneIsLeft : State → Session → IndexRange → Type 0
 NoneIsLeft st e span = NoneLeft st.heap.statuses (visibility.IsVisible st.heap.statuses e.snapshot e.own.ids) (slots_of st.heap) (entries_in st.heap.indexes span.index) span
 
 -- a version of the row is seen, and it has this value and key
-record ShowsRow (st : State) (e : Session) (index : ℕ) (value : ℤ) (key : ℕ) (row : Row) : Type 0 where
+record SeesRow (st : State) (e : Session) (index : ℕ) (value : ℤ) (key : ℕ) (row : Row) : Type 0 where
   pub place : Tid
   pub version : Version
   pub here : At (seen st).version place version
@@ -126,7 +126,7 @@ module _ (st : State) (w : World) (s : ℕ) (e : Session) (agrees : Agrees st w)
   sound-in : EntriesAreSound (value_in index) st.heap.statuses (horizon_of st) (slots_of st.heap) (entries_in st.heap.indexes index)
   sound-in = index-sound st.heap (horizon_of st) agrees.sound.table index used
 
-  row-shown : (value : ℤ) (key : ℕ) (row : Row) → FindsBy st e index value key (Some row) → ShowsRow st e index value key row
+  row-shown : (value : ℤ) (key : ℕ) (row : Row) → FindsBy st e index value key (Some row) → SeesRow st e index value key row
   row-shown value key row finds =
       let h = found-on_heap (value_in index) st.heap.statuses (horizon_of st) (slots_of st.heap) (entries_in st.heap.indexes index) e.snapshot e.own.ids sound-in (own-active st w s e agrees at) value key (Some row) finds in
       record {
@@ -139,7 +139,7 @@ module _ (st : State) (w : World) (s : ℕ) (e : Session) (agrees : Agrees st w)
         of_key = ap (λ (r : Row). r.key) h.3 ∙ h.2.of_key;
       }
 
-  none-shown : (value : ℤ) (key : ℕ) (row : Row) → FindsBy st e index value key None → ShowsRow st e index value key row → ⊥
+  none-shown : (value : ℤ) (key : ℕ) (row : Row) → FindsBy st e index value key None → SeesRow st e index value key row → ⊥
   none-shown value key row finds shows =
       found-on_heap (value_in index) st.heap.statuses (horizon_of st) (slots_of st.heap) (entries_in st.heap.indexes index) e.snapshot e.own.ids sound-in (own-active st w s e agrees at) value key None finds
       shows.place shows.version (record {
@@ -158,7 +158,7 @@ module _ (st : State) (w : World) (s : ℕ) (e : Session) (agrees : Agrees st w)
 module _ (st : State) (w : World) (s : ℕ) (e : Session) (agrees : Agrees st w) (at : session_at st s ≡ Some e) (span : IndexRange) (used : IsInUse st.heap.indexes span.index) where
   -- a row that comes has an entry in the span, by whose value and key it is found
   come-by : (row : Row) → Comes (seen st).version (seen_by st e) (in_index span.index span.low span.high (seen_position span.last)) row
-      → (h : HasEntry st span.index row) × LiesIn span h.entry × ShowsRow st e span.index h.entry.value h.entry.key row
+      → (h : HasEntry st span.index row) × LiesIn span h.entry × SeesRow st e span.index h.entry.value h.entry.key row
   come-by row c =
       let h = subst (HasEntry st span.index) c.same_row (has-entry st w s e agrees at span.index used c.place c.version c.here c.shown) in (
         h,

@@ -1,6 +1,6 @@
 -- A write follows the history: it is done, or it is refused for want of an id, of room or of memory.
-use Rattle.std.proofs.Common.{◌≡◌, ℕ, set, Some, None, false, refl, sym, ap, ◌∙◌, subst, inl, inr}
-use Rattle.std.specs.Prelude.{IsSome, Result, Ok, Err}
+use Rattle.std.proofs.Common.{◌≡◌, ℕ, set, Some, None, false, refl, sym, ap, ◌∙◌, subst}
+use Rattle.std.specs.Prelude.{Result, Ok, Err}
 use Rattle.xid_circle.specs.declared.Tid.{Tid}
 use Rattle.tuple_header.specs.declared.version.Row.{Row}
 use Rattle.tuple_header.specs.Version.{Version, rounded_size_of}
@@ -13,8 +13,8 @@ use Rattle.heap_write.specs.declared.heap.WriteFault.{WriteFault}
 use Rattle.heap_write.specs.declared.heap.WriteFault.TheVariants as fault
 use Rattle.heap_write.specs.Heap.{HeapView, SameIds, Keeps, slots_of}
 use Rattle.heap_write.specs.Writes.{TakesIds, PrunesIfFull, Inserts, Updates, Deletes}
-use Rattle.heap_write.specs.Refusals.{LacksForInsert, FailsUpdate, FailsDelete, VersionIsThere}
-use Rattle.table_integrity.proofs.Places.{readies-stand, version-on, root-new, root_version, free_place, taken_version, inserts-stand, deletes-stand, updates-ready, updates-stand}
+use Rattle.heap_write.specs.Refusals.{LacksForInsert, FailsUpdate, FailsDelete}
+use Rattle.table_integrity.proofs.Places.{readies-stand, root-new, root_version, free_place, taken_version, inserts-stand, deletes-stand, updates-ready, updates-stand}
 use Rattle.table_integrity.proofs.Keeping.{kept-stays, readied-stays, ready-come, given-stays}
 use Rattle.table_integrity.proofs.InUse.{stays-then}
 use Rattle.table_integrity.proofs.Writing.{inserted-stays, updated-stays, deleted-stays}
@@ -31,7 +31,6 @@ use Rattle.refinement.specs.Heap as relation
 use Rattle.refinement.specs.Finds.{Free}
 use Rattle.refinement.proofs.Follows as follows
 use Rattle.refinement.proofs.Hindrances as hindrances
-use Rattle.refinement.proofs.Targets as targets
 use Rattle.refinement.proofs.GivenBelow.{visible_given_each}
 use Rattle.refinement.proofs.FollowsWrites.{insert_done, update_done, delete_done}
 use Rattle.session_steps.specs.declared.session.Session.{Session}

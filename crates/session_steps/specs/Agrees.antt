@@ -15,7 +15,7 @@ use Rattle.heap_write.specs.Heap.{slots_of}
 use Rattle.index_lookup.specs.declared.index_scan.IndexRange.{IndexRange}
 use Rattle.table_integrity.specs.Table.{SoundTable}
 use Rattle.session_steps.specs.declared.session.Session.{Session}
-use Rattle.session_steps.specs.declared.cursor.Cursor.TheVariants.{Index}
+use Rattle.table_scans.specs.declared.progress.Scan.TheVariants.{Index}
 use Rattle.session_steps.specs.State.{State, session_at, seen, horizon_of}
 use Rattle.calls.specs.declared.step.TheConstants.{MOST_SESSIONS}
 

@@ -19,8 +19,8 @@ use Rattle.calls.specs.declared.reply.Refusal.TheVariants as refusal
 use Rattle.calls.specs.Words.{row_of}
 use Rattle.refinement.specs.Cursors.{heap_start}
 use Rattle.session_steps.specs.declared.session.Session.{Session}
-use Rattle.session_steps.specs.declared.cursor.Cursor.{Cursor}
-use Rattle.session_steps.specs.declared.cursor.Cursor.TheVariants.{Index, Heap}
+use Rattle.table_scans.specs.declared.progress.Scan.{Scan}
+use Rattle.table_scans.specs.declared.progress.Scan.TheVariants.{Index, Heap}
 use Rattle.session_steps.specs.State.{State, session_at, engine_index, put_session, map_session, with_cursor, failed_session, owns_of, horizon_of}
 use Rattle.session_steps.specs.Agrees.{Follows}
 use Rattle.session_steps.specs.Changes.{Opens, Closes, SetsSavepoint, Releases, SessionBecomes, RollsBack}
@@ -94,7 +94,7 @@ abbrev pub MustNote : State → ℕ → Type 0
 MustNote st s = (e : Session) × (session_at st s ≡ Some e) × (4 ≤ length e.own.saved) × (e.own.spare_marks ≡ 0)
 
 -- the session has this cursor now, or none, and nothing else changes
-abbrev pub HasCursor : State → State → ℕ → Option Cursor → Type 0
+abbrev pub HasCursor : State → State → ℕ → Option Scan → Type 0
 HasCursor old new s cursor = new ≡ put_session old s (map_session (with_cursor cursor) (session_at old s))
 
 -- Beside what the history says of a reply: a read and a refusal leave all as it was, but for a page that an update has pruned;

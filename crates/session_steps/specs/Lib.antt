@@ -9,7 +9,6 @@ pub mod Writes
 pub mod Vacuums
 pub mod Takes
 pub mod NextRows
-pub mod Puts
 pub mod Exact
 pub mod Follows
 pub mod New

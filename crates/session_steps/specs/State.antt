@@ -18,8 +18,8 @@ use Rattle.calls.specs.Bars.{SessionLooks}
 use Rattle.refinement.specs.Heap as relation
 use Rattle.session_steps.specs.declared.session.Session.{Session}
 use Rattle.index_lookup.specs.declared.index_scan.IndexPosition.{IndexPosition}
-use Rattle.session_steps.specs.declared.cursor.Cursor.{Cursor}
-use Rattle.session_steps.specs.declared.cursor.Cursor.TheVariants.{Index, Heap}
+use Rattle.table_scans.specs.declared.progress.Scan.{Scan}
+use Rattle.table_scans.specs.declared.progress.Scan.TheVariants.{Index, Heap}
 
 pub record State : Type 0 where
   pub settings : Settings
@@ -30,7 +30,7 @@ abbrev pub session_at : State → ℕ → Option Session
 session_at st s = option_flatten (slice_get st.sessions s)
 
 -- the sessions, as far as what bars one from a step looks at them
-abbrev pub engine_sessions : State → SessionLooks Session Cursor
+abbrev pub engine_sessions : State → SessionLooks Session Scan
 engine_sessions st = record { session = session_at st; failed = λ e. e.failed; cursor = λ e. e.cursor }
 
 -- the index of this number, if there is one
@@ -48,7 +48,7 @@ abbrev pub seen_position : Option IndexPosition → Option relation.RowPosition
 seen_position None = None
 seen_position (Some m) = Some (record { value = m.value; key = m.key })
 
-abbrev pub position_of : Option Cursor → Option relation.Position
+abbrev pub position_of : Option Scan → Option relation.Position
 position_of None = None
 position_of (Some (Index span)) = Some (relation.in_index span.index span.low span.high (seen_position span.last))
 position_of (Some (Heap from)) = Some (relation.in_heap from)
@@ -102,7 +102,7 @@ put_session st s e = record st { sessions = slice_set st.sessions s e }
 abbrev pub map_session : (Session → Session) → Option Session → Option Session
 map_session f o = option_map f o
 
-abbrev pub with_cursor : Option Cursor → Session → Session
+abbrev pub with_cursor : Option Scan → Session → Session
 with_cursor cursor e = record e { cursor = cursor }
 
 abbrev pub failed_session : Session → Session

@@ -11,20 +11,10 @@ ghost use Rattle.calls.specs.declared.step.TheConstants.{MOST_SESSIONS};
 use crate::engine::SessionEngine;
 use crate::outcome::Ack;
 use crate::session::Session;
-use arrayvec::ArrayVec;
 use calls::{Refusal, Row, RowIn};
 use root_index::PositionHint;
 use tuple_header::MOST_BODY;
 use xid_circle::{Tid, Xid};
-
-/// A row of the table without a body, to be filled: it has over a kilobyte, and is made where it stays.
-pub(crate) fn empty_row() -> Row {
-    Row {
-        key: 0,
-        cols: [0; 4],
-        body: ArrayVec::new(),
-    }
-}
 
 /// Writes the row of the table in the place of another, unless the body has more than 1024 bytes. Refusals: TooLarge.
 pub(crate) fn fill_row(place: &mut Row, row: &RowIn) -> Result<(), Refusal>

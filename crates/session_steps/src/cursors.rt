@@ -6,16 +6,15 @@ ghost use Rattle.session_steps.specs.State.{session_at};
 ghost use Rattle.session_steps.specs.Exact.{HasCursor, AnswersStep};
 ghost use Rattle.session_steps.specs.Replies.{reply_to};
 
-use crate::cursor::Cursor;
 use crate::engine::SessionEngine;
-use crate::next::start_of;
 use crate::outcome::Ack;
 use calls::Refusal;
 use heap_write::IndexRange;
+use table_scans::{Scan, start_of};
 
 impl SessionEngine {
     /// Puts another cursor, or none, in the place of that of an open session.
-    pub(crate) fn move_cursor(&mut self, s: u8, cursor: Option<Cursor>)
+    pub(crate) fn move_cursor(&mut self, s: u8, cursor: Option<Scan>)
         requires { session_at self.old s ≢ None }
         ensures { HasCursor self.old self.new s cursor }
     {
@@ -48,7 +47,7 @@ impl SessionEngine {
             high,
             last: None,
         };
-        self.move_cursor(s, Some(Cursor::Index(span)));
+        self.move_cursor(s, Some(Scan::Index(span)));
         Ok(Ack::Done)
     }
 
@@ -58,7 +57,7 @@ impl SessionEngine {
         ensures { AnswersStep self.old (Step.OpenHeap s) (reply_to result) self.new }
     {
         self.free(s)?;
-        self.move_cursor(s, Some(Cursor::Heap(start_of(0))));
+        self.move_cursor(s, Some(Scan::Heap(start_of(0))));
         Ok(Ack::Done)
     }
 

@@ -13,7 +13,6 @@ ghost use Rattle.session_steps.specs.New.{IsNew};
 ghost use Rattle.calls.specs.declared.step.TheConstants.{MOST_SESSIONS};
 
 use crate::checked::CheckedSettings;
-use crate::cursor::Cursor;
 use crate::session::Session;
 use crate::sessions::Sessions;
 use calls::{Refusal, Settings, SettingsFault};
@@ -25,6 +24,7 @@ use snapshot::{OwnIds, Snapshot};
 use space_maps::Mark;
 use std::alloc::Global;
 use std::marker::Model;
+use table_scans::Scan;
 use xid_circle::Xid;
 
 /// A table with its sessions, of which there may be 64 open at a time.
@@ -165,7 +165,7 @@ impl SessionEngine {
     }
 
     /// The session and its cursor, if it is open, has not failed and has one.
-    pub(crate) fn with_cursor(&self, s: u8) -> Result<(&Session, Cursor), Refusal>
+    pub(crate) fn with_cursor(&self, s: u8) -> Result<(&Session, Scan), Refusal>
         ensures { MatchResult result
             (λ found. (s < MOST_SESSIONS) × (session_at self.now s ≡ Some found.0.now)
             × (found.0.now.failed ≡ false) × (found.0.now.cursor ≡ Some found.1))

@@ -6,8 +6,8 @@ ghost use Rattle.calls.specs.declared.step.Step.{Step};
 ghost use Rattle.session_steps.specs.Exact.{AnswersStep};
 
 use crate::engine::SessionEngine;
-use arrayvec::ArrayVec;
 use calls::{Reply, Row};
+use table_scans::no_row;
 use tuple_header::RowRef;
 
 impl SessionEngine {
@@ -37,15 +37,6 @@ fn put_found(found: Option<RowRef<'_>>, reply: &mut Reply)
     }
     if let Reply::Found(Some(place)) = reply {
         row.copy_to(place);
-    }
-}
-
-/// A row with an empty body, to be written over.
-pub(crate) fn no_row() -> Row {
-    Row {
-        key: 0,
-        cols: [0; 4],
-        body: ArrayVec::new(),
     }
 }
 

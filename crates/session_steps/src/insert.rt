@@ -7,10 +7,11 @@ ghost use Rattle.session_steps.specs.Replies.{reply_to};
 ghost use Rattle.session_steps.specs.Follows.{FollowsInsert};
 ghost use Rattle.session_steps.specs.Tests.{MayWriteKey};
 
-use crate::checks::{empty_row, fill_row};
+use crate::checks::fill_row;
 use crate::engine::SessionEngine;
 use crate::outcome::{Ack, write_answer};
 use calls::{Refusal, Row, RowIn};
+use table_scans::no_row;
 
 impl SessionEngine {
     /// Inserts the row, which nothing keeps the session from writing, under the id of its newest level; each level that
@@ -32,7 +33,7 @@ impl SessionEngine {
         ensures { AnswersStep self.old (Step.Insert s row) (reply_to result) self.new }
     {
         let session = self.free(s)?;
-        let mut written = empty_row();
+        let mut written = no_row();
         fill_row(&mut written, &row)?;
         match self.check_insert(session, row.key) {
             Ok(near) => {

@@ -1,48 +1,25 @@
-//! A session asks its cursor for rows.
+//! A session asks its cursor for rows, in a list or in places of the caller's.
 
-ghost use Rattle.std.specs.Prelude.{◌≡◌, ◌++◌, ◌∷◌, [], IfOk, OnOk, OnErr};
+ghost use Rattle.std.specs.Prelude.{◌<◌, ◌^◌, length, IfOk, OnErr};
 ghost use Rattle.calls.specs.declared.step.Step.{Step};
-ghost use Rattle.session_steps.specs.declared.cursor.Cursor.TheVariants.{Index, Heap};
+ghost use Rattle.table_scans.specs.Takes.{MeetsSome, TakesNext};
+ghost use Rattle.table_scans.specs.Puts.{PutsNext};
 ghost use Rattle.session_steps.specs.Exact.{AnswersStep};
-ghost use Rattle.session_steps.specs.Takes.{IsAtCursor, IsNotAtEnd, TakesRows, SomeStands, TakesAll, TakesNextPage, TakesNext, start_of};
+ghost use Rattle.session_steps.specs.NextRows.{AnswersNextRows};
+ghost use Rattle.session_steps.specs.Takes.{session_sight};
 
-use crate::cursor::Cursor;
 use crate::engine::SessionEngine;
-use crate::get::no_row;
 use crate::session::Session;
 use calls::{Refusal, Reply, Row};
-use heap_write::IndexRange;
-use index_lookup::seen_row;
 use std::alloc::AllocError;
-use tuple_header::RowRef;
-use xid_circle::Tid;
+use table_scans::{Scan, put_next, take_next};
+use tuple_header::RowPlace;
 
-/// For how many rows memory is asked for with the first, at most.
-const AT_ONCE: usize = 128;
-
-/// Adds a copy of a row to those that are handed out, of which there may be so many in all.
-fn add_row(rows: &mut Vec<Row>, row: &RowRef<'_>, most: u16) -> Result<(), AllocError>
-    ensures { OnOk result (rows.new.items ≡ rows.old.items ++ row.now ∷ []) }
+/// That there are no more places than rows fit into a list. It does nothing; its contract is the fact.
+fn fact_few(places: &[RowPlace])
+    ensures { length places.now < 2 ^ 63 }
 {
-    // a row has over a kilobyte, and is copied whenever the list grows
-    let more = if rows.is_empty() {
-        usize::from(most).clamp(1, AT_ONCE)
-    } else {
-        1
-    };
-    rows.try_reserve(more)?;
-    // and is written where it stays
-    let place = rows.as_slice().len();
-    rows.push_reserved(no_row());
-    row.copy_to(&mut rows[place]);
-    Ok(())
-}
-
-/// The place before all slots of a page.
-pub(crate) fn start_of(page: u32) -> Tid
-    ensures { result ≡ start_of page }
-{
-    Tid { page, slot: 0 }
+    let _count = places.len();
 }
 
 impl SessionEngine {
@@ -76,92 +53,48 @@ impl SessionEngine {
         *reply = self.next(s, n);
     }
 
-    /// The next rows of the session's cursor, and where it is after them; none where nothing is left.
+    /// Writes the next rows of the session's cursor to the first places, and answers how many there are: none exactly where nothing
+    /// is left, and the cursor stays open then. Of an index they are as many as there are places, or all that are left. Of the heap
+    /// they are those of the next page on which the session sees any, from where the cursor is, up to so many; what the page has
+    /// left over is handed out by the next call. Refusals in order: NoSuchSession, NotOpen, Failed, NoCursor. It takes no memory.
+    pub fn next_rows(&mut self, s: u8, places: &mut [RowPlace]) -> Result<usize, Refusal>
+        requires { 0 < length places.old }
+        ensures { AnswersNextRows self.old s places.old result places.new self.new }
+    {
+        let (session, cursor) = match self.with_cursor(s) {
+            Ok(found) => found,
+            Err(refusal) => return Err(refusal),
+        };
+        fact_few(places);
+        let (count, after) = self.put(session, cursor, places);
+        if count == 0 {
+            return Ok(0);
+        }
+        self.move_cursor(s, Some(after));
+        Ok(count)
+    }
+
+    /// The next rows of a scan as the session sees them, and what is left of it.
     fn take(
         &self,
         session: &Session,
-        cursor: Cursor,
+        cursor: Scan,
         n: u16,
-    ) -> Result<Option<(Vec<Row>, Cursor)>, AllocError>
-        ensures taken { IfOk result (TakesNext self.now session.now cursor n) }
-        ensures refused { OnErr result
-            (IsAtCursor self.now session.now cursor → IsNotAtEnd self.now session.now cursor) }
-    {
-        match cursor {
-            Cursor::Index(span) => {
-                let (rows, left) = self.take_rows(session, span, n.max(1))?;
-                if rows.is_empty() {
-                    return Ok(None);
-                }
-                Ok(Some((rows, Cursor::Index(left))))
-            }
-            Cursor::Heap(from) => match self.take_page(session, from)? {
-                Some((rows, page)) => Ok(Some((rows, Cursor::Heap(start_of(page + 1))))),
-                None => Ok(None),
-            },
-        }
-    }
-
-    /// The first rows of the span that the session sees, up to a count, and what is left of the span.
-    fn take_rows(
-        &self,
-        session: &Session,
-        span: IndexRange,
-        count: u16,
-    ) -> Result<(Vec<Row>, IndexRange), AllocError>
+    ) -> Result<Option<(Vec<Row>, Scan)>, AllocError>
         ensures taken { IfOk result
-            (λ taken. TakesRows self.now session.now span taken.1 count taken.0.items) }
+            (TakesNext (session_sight self.now session.now) cursor n) }
         ensures refused { OnErr result
-            (IsAtCursor self.now session.now (Index span)
-            → IsNotAtEnd self.now session.now (Index span)) }
+            (MeetsSome (session_sight self.now session.now) cursor) }
     {
-        let mut rows = Vec::new(self.alloc);
-        let mut left = span;
-        let reader = self.reader(session);
-        for _ in 0..count {
-            match self.heap.next_row(&left, &reader) {
-                Some((position, row)) => {
-                    add_row(&mut rows, &row, count)?;
-                    left.last = Some(position);
-                }
-                None => return Ok((rows, left)),
-            }
-        }
-        Ok((rows, left))
+        take_next(self.alloc, &self.heap, &self.reader(session), cursor, n)
     }
 
-    /// The rows of the first page from this place on, on which the session sees any, and that page's number, below 65536.
-    fn take_page(&self, session: &Session, from: Tid) -> Result<Option<(Vec<Row>, u32)>, AllocError>
-        ensures taken { IfOk result (TakesNextPage self.now session.now from) }
-        ensures refused { OnErr result (IsNotAtEnd self.now session.now (Heap from)) }
+    /// Writes them to the first places, and answers how many there are, and what is left.
+    fn put(&self, session: &Session, cursor: Scan, places: &mut [RowPlace]) -> (usize, Scan)
+        requires { 0 < length places.old }
+        ensures { PutsNext (session_sight self.now session.now) cursor places.old
+            result.0 result.1 places.new }
     {
-        let mut at = from;
-        for page in from.page..self.heap.page_count() {
-            let rows = self.rows_on(session, at)?;
-            if !rows.is_empty() {
-                return Ok(Some((rows, page)));
-            }
-            at = start_of(page + 1);
-        }
-        Ok(None)
-    }
-
-    /// The rows that the session sees from this place on, up to the end of its page.
-    fn rows_on(&self, session: &Session, from: Tid) -> Result<Vec<Row>, AllocError>
-        ensures taken { IfOk result (λ rows. TakesAll self.now session.now from rows.items) }
-        ensures refused { OnErr result (SomeStands self.now session.now from) }
-    {
-        let mut rows = Vec::new(self.alloc);
-        let Some(page) = self.heap.page(from.page) else {
-            return Ok(rows);
-        };
-        let slots = page.slots();
-        let reader = self.reader(session);
-        for slot in from.slot..slots + 1 {
-            if let Some(row) = seen_row(page, slot, &reader) {
-                add_row(&mut rows, &row, slots)?;
-            }
-        }
-        Ok(rows)
+        put_next(&self.heap, &self.reader(session), cursor, places)
     }
 }

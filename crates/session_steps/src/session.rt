@@ -2,9 +2,9 @@
 
 ghost use Rattle.session_steps.specs.Takes.{ReadsAs};
 
-use crate::cursor::Cursor;
 use crate::engine::SessionEngine;
 use snapshot::{OwnIds, Snapshot};
+use table_scans::Scan;
 use visibility::Reader;
 
 /// An open session: what it sees of others, its own ids, whether it can only be rolled back, and its cursor if it has one.
@@ -13,7 +13,7 @@ pub struct Session {
     pub(crate) snapshot: Snapshot,
     pub(crate) own: OwnIds,
     pub(crate) failed: bool,
-    pub(crate) cursor: Option<Cursor>,
+    pub(crate) cursor: Option<Scan>,
 }
 
 impl SessionEngine {

@@ -18,15 +18,15 @@ pub(crate) struct Sessions {
 }
 
 impl Model for Sessions {
-    ghost use Rattle.std.specs.Prelude.{◌≤◌, List, Option, length};
+    ghost use Rattle.std.specs.Prelude.{List, Option};
     ghost use Rattle.session_steps.specs.declared.session.Session.{Session};
-    ghost use Rattle.session_steps.specs.Keeps.{AreIdleFrom};
+    ghost use Rattle.session_steps.specs.Keeps.{ArePlaces};
 
     ghost Value = { List (Option Session) };
 
     ghost view = { λ s. s.places.items };
 
-    ghost invariant = { λ s. (s.used ≤ length s.places.items) × AreIdleFrom s.used s.places.items };
+    ghost invariant = { λ s. ArePlaces s.used s.places.items };
 }
 
 impl Sessions {

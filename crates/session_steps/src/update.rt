@@ -10,10 +10,11 @@ ghost use Rattle.session_steps.specs.Replies.{reply_to};
 ghost use Rattle.session_steps.specs.Follows.{FollowsUpdate};
 ghost use Rattle.session_steps.specs.Tests.{MayWriteKey};
 
-use crate::checks::{empty_row, fill_row};
+use crate::checks::fill_row;
 use crate::engine::SessionEngine;
 use crate::outcome::{Ack, write_answer};
 use calls::{Refusal, Row, RowIn};
+use table_scans::no_row;
 use xid_circle::Tid;
 
 impl SessionEngine {
@@ -55,7 +56,7 @@ impl SessionEngine {
         ensures { AnswersStep self.old (Step.Update s row) (reply_to result) self.new }
     {
         let session = self.free(s)?;
-        let mut written = empty_row();
+        let mut written = no_row();
         fill_row(&mut written, &row)?;
         match self.check_update(session, row.key) {
             Ok((place, near)) => {

@@ -9,11 +9,11 @@ use Rattle.calls.specs.declared.step.Step.TheVariants as step
 use Rattle.calls.specs.declared.reply.Reply.{Reply}
 use Rattle.calls.specs.declared.reply.Reply.TheVariants as reply
 use Rattle.refinement.specs.Allowed.{Allows}
-use Rattle.session_steps.specs.State as core
-use Rattle.session_steps.specs.declared.session.Session.{Session}
-use Rattle.session_steps.specs.declared.cursor.Cursor.{Cursor}
-use Rattle.session_steps.specs.declared.cursor.Cursor.TheVariants.{Index, Heap}
-use Rattle.session_steps.specs.Takes.{Takes, HandsOut}
+use Rattle.table_scans.specs.declared.progress.Scan.{Scan}
+use Rattle.table_scans.specs.declared.progress.Scan.TheVariants.{Index, Heap}
+use Rattle.table_scans.specs.Scans.{Sight}
+use Rattle.table_scans.specs.Takes.{Takes}
+use Rattle.session_steps.specs.Takes.{session_sight}
 use Rattle.vacuum_engine.specs.State.{EngineView}
 use Rattle.vacuum_engine.specs.Exact.{EngineExact}
 use Rattle.vacuum_engine.specs.Agrees.{EngineAgrees}
@@ -28,14 +28,14 @@ no_rows : (w : World) (step : Step) (rows : Vec Row Global) → Allows w step (r
 no_rows w (step.Next s n) rows allows = next s n
 no_rows w _ rows allows = absurd allows
 
-few : (st : core.State) (e : Session) (cursor : Cursor) (n : ℕ) (rows : List Row) (after : Cursor) → Takes st e cursor n rows after → length rows ≤ max n MOST_SLOTS
-few st e (Index span) n rows after takes = let most = takes.2.at_most in omega arith
-few st e (Heap from) n rows after takes = let most = takes.2.few in omega arith
+few : (t : Sight) (scan : Scan) (n : ℕ) (rows : List Row) (after : Scan) → Takes t scan n rows after → length rows ≤ max n MOST_SLOTS
+few t (Index range) n rows after takes = let most = takes.2.at_most in omega arith
+few t (Heap from) n rows after takes = let most = takes.2.few in omega arith
 
 pub room-next : (s n room : ℕ) → max n MOST_SLOTS ≤ room → HasRoomFor (step.Next s n) room
 room-next s n room enough w old new (reply.Rows rows) agrees follows exact =
     let hands = exact.core in
-    let most = few old.core hands.session hands.before n rows.items hands.after hands.takes in omega arith
+    let most = few (session_sight old.core hands.session) hands.before n rows.items hands.after hands.takes in omega arith
 room-next s n room enough w old new _ agrees follows exact = tt
 
 pub room-other : (step : Step) (room : ℕ) → (IsNext step → ⊥) → HasRoomFor step room

@@ -1,5 +1,6 @@
 use Rattle.std.proofs.Common.{rules, subst}
-use Rattle.session_steps.specs.Takes.{Takes, TakesNext}
+use Rattle.table_scans.specs.Takes.{Takes, TakesNext}
+use Rattle.session_steps.specs.Takes.{session_sight}
 use Rattle.session_steps.proofs.NextSteps.{Follows-bare_next, Follows-end, Follows-no_memory, Follows-rows, hands-out}
 use Rattle.session_steps.proofs.engine.SessionEngine.next.Goals as goal
 
@@ -10,20 +11,21 @@ returns-in-Err c = record {
 }
 
 pub returns-in-Ok-Some : goal.returns-in-Ok-Some
-returns-in-Ok-Some c = record {
-  follows = (
-      Follows-rows c.args.self.now _ c.args.s c.args.n c.in-Ok.found.0.now c.in-Ok.found.1 c.in-Ok-Some.after c.in-Ok-Some.rows c.in-Ok.ensures.1 c.in-Ok.ensures.2 c.in-Ok.ensures.3
-      (subst (TakesNext c.args.self.now c.in-Ok.found.0.now c.in-Ok.found.1 c.args.n) c.in-Ok-Some.field-0-is c.in-Ok-Some.ensures.taken) c.move_cursor.ensures);
-  exact = (
-      let taken = subst (TakesNext c.args.self.now c.in-Ok.found.0.now c.in-Ok.found.1 c.args.n) c.in-Ok-Some.field-0-is c.in-Ok-Some.ensures.taken in
-      hands-out Takes c.args.self.now _ c.args.s c.args.n c.in-Ok.found.0.now c.in-Ok.found.1 c.in-Ok-Some.after c.in-Ok-Some.rows.items c.in-Ok.ensures.1 c.in-Ok.ensures.3 taken.takes c.move_cursor.ensures);
-}
+returns-in-Ok-Some c =
+    let st = c.args.self.now in
+    let e = c.in-Ok.found.0.now in
+    let taken = subst (TakesNext (session_sight st e) c.in-Ok.found.1 c.args.n) c.in-Ok-Some.field-0-is c.in-Ok-Some.ensures.taken in
+    record {
+      follows = Follows-rows st _ c.args.s c.args.n e c.in-Ok.found.1 c.in-Ok-Some.after c.in-Ok-Some.rows c.in-Ok.ensures.1 c.in-Ok.ensures.2 c.in-Ok.ensures.3 taken c.move_cursor.ensures;
+      exact = hands-out Takes st _ c.args.s c.args.n e c.in-Ok.found.1 c.in-Ok-Some.after c.in-Ok-Some.rows.items c.in-Ok.ensures.1 c.in-Ok.ensures.3 taken.takes c.move_cursor.ensures;
+    }
 
 pub returns-in-Ok-None : goal.returns-in-Ok-None
 returns-in-Ok-None c = record {
   follows = (
-      Follows-end c.args.self.now c.args.s c.args.n c.in-Ok.found.0.now c.in-Ok.found.1 c.in-Ok.ensures.1 c.in-Ok.ensures.2 c.in-Ok.ensures.3
-      (subst (TakesNext c.args.self.now c.in-Ok.found.0.now c.in-Ok.found.1 c.args.n) c.in-Ok-None.field-0-is c.in-Ok-None.ensures.taken));
+      let e = c.in-Ok.found.0.now in
+      Follows-end c.args.self.now c.args.s c.args.n e c.in-Ok.found.1 c.in-Ok.ensures.1 c.in-Ok.ensures.2 c.in-Ok.ensures.3
+      (subst (TakesNext (session_sight c.args.self.now e) c.in-Ok.found.1 c.args.n) c.in-Ok-None.field-0-is c.in-Ok-None.ensures.taken));
   exact = search rules;
 }
 

@@ -1,5 +1,5 @@
 use Rattle.std.proofs.Common.{rules, Some, subst}
-use Rattle.session_steps.specs.declared.cursor.Cursor.TheVariants.{Heap}
+use Rattle.table_scans.specs.declared.progress.Scan.TheVariants.{Heap}
 use Rattle.session_steps.specs.Exact.{HasCursor}
 use Rattle.session_steps.proofs.Outcomes.{handed-on}
 use Rattle.session_steps.proofs.CursorSteps.{Follows-barred_open_heap, Follows-opened_heap}

@@ -2,7 +2,7 @@ use Rattle.std.proofs.Common.{rules, ◌≡◌, Some, None, refl, sym, ap, ◌�
 use Rattle.std.specs.Prelude.{option_copied}
 use Rattle.index_lookup.specs.declared.index_scan.IndexRange.{IndexRange}
 use Rattle.session_steps.specs.State.{State, session_at, engine_index, put_session, map_session, with_cursor}
-use Rattle.session_steps.specs.declared.cursor.Cursor.TheVariants.{Index}
+use Rattle.table_scans.specs.declared.progress.Scan.TheVariants.{Index}
 use Rattle.session_steps.proofs.InUse.{there-used}
 use Rattle.session_steps.proofs.Outcomes.{handed-on}
 use Rattle.session_steps.proofs.CursorSteps.{Follows-barred_open_index, Follows-no_such_index, Follows-bad_bounds, Follows-opened_index, over-bounds, in-bounds, stored-span}

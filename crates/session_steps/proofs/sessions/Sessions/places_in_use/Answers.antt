@@ -8,4 +8,4 @@ pub returns : goal.returns
 returns c =
     let places = c.self.inside.places.items in
     let first = take c.self.inside.used places in
-    rw c.deref.ensures.value (subst (λ (xs : List (Option Session)). HoldsOpen first xs) c.self.view_is (Holds-used c.self.inside.used places c.self.invariant.1))
+    rw c.deref.ensures.value (subst (λ (xs : List (Option Session)). HoldsOpen first xs) c.self.view_is (Holds-used c.self.inside.used places c.self.invariant.idle))

@@ -1,5 +1,0 @@
-use Rattle.session_steps.proofs.WriteCheck.{HasPassed}
-use Rattle.session_steps.proofs.engine.SessionEngine.take_page.Given as goal
-
-abbrev pub invariant-loop-page : goal.invariant-loop-page
-invariant-loop-page l = HasPassed l.self l.session l.fn.from l.page l.at

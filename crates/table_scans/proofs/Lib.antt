@@ -1,0 +1,4 @@
+pub mod Outcomes
+pub mod ScanLemmas
+pub mod TakeLemmas
+pub mod PutLemmas
