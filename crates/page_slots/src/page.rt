@@ -15,8 +15,20 @@ use crate::slot::{Slot, SlotHead};
 use crate::store::Store;
 use std::alloc::{AllocError, Global};
 use std::marker::Model;
-use tuple_header::{Header, MOST_SLOTS, Row, RowRef, row_size};
+use thiserror::Error;
+use tuple_header::{Header, MOST_SLOTS, Row, RowRef, Tuple, row_size};
 use xid_circle::Xid;
+
+/// Why a version was not added.
+#[derive(Clone, Copy, Debug, PartialEq, Eq, Error)]
+pub enum AddFault {
+    /// The version's size is over the page's room.
+    #[error("there is no room on the page")]
+    Full,
+    /// A new slot was needed, and memory for it was refused.
+    #[error("there is no memory")]
+    NoMemory,
+}
 
 /// A page of the table: at most 291 slots, whose pointers and versions take at most 8168 bytes.
 #[derive(Debug, Drop)]
@@ -254,11 +266,42 @@ fn raise(change: &mut u64)
 }
 
 impl Page {
+    /// Adds a version in the lowest unused slot, or else in a new last one, and answers the slot's number. It answers Full
+    /// exactly where the version's size is over the room, and NoMemory only where the page has no slot and no room was made for
+    /// one: with the first slot a page gets memory for all that it may have. Both change no slot.
+    pub fn add(&mut self, version: Tuple) -> Result<u16, AddFault>
+        ensures full { (result ≡ Err AddFault.Full)
+            ↔ (room_of self.old.slots < rounded_size_of version.row) }
+        ensures memory { result ≡ Err AddFault.NoMemory → self.old.spare ≡ 0 }
+        ensures memory_only_to_grow { result ≡ Err AddFault.NoMemory
+            → has_unused self.old.slots ≡ false }
+        ensures memory_for_the_first { result ≡ Err AddFault.NoMemory → length self.old.slots ≡ 0 }
+        ensures number { IfOk result (λ n. n ≡ free_number self.old.slots) }
+        ensures limit { IfOk result (λ n. n ≤ MOST_SLOTS) }
+        ensures slots { OnOk result
+            (self.new.slots ≡ with_added self.old.slots (Slot.Normal version)) }
+        ensures change { OnOk result (self.new.change ≡ next_change self.old.change) }
+        ensures spare { OnOk result (self.old.spare ≤ self.new.spare + 1) }
+        ensures spare_kept { has_unused self.old.slots ≡ true → self.old.spare ≤ self.new.spare }
+        ensures flag { self.new.flag ≡ self.old.flag }
+        ensures err_slots { OnErr result (self.new.slots ≡ self.old.slots) }
+        ensures err_change { OnErr result (self.new.change ≡ self.old.change) }
+        ensures err_spare { OnErr result (self.old.spare ≤ self.new.spare) }
+    {
+        if row_size(&version.row) > self.room() {
+            return Err(AddFault::Full);
+        }
+        if self.free >= self.slots.len() {
+            self.make_room(1).map_err(|_| AddFault::NoMemory)?;
+        }
+        Ok(self.add_row(version.header, &version.row))
+    }
+
     /// Adds a version with this header of this row, which it copies nowhere but into its place: in the lowest unused slot, or else
     /// in a new last one, and answers the slot's number. The header has no fault, and the version's size is not over the room.
     /// It takes no memory: a slot is unused, or there is memory for one more, as after [`Page::make_room`].
     #[tactic(auto, using(crate::proofs::SlotLemmas::first_within))]
-    pub fn add(&mut self, header: Header, row: &Row) -> u16
+    pub fn add_row(&mut self, header: Header, row: &Row) -> u16
         requires faultless { header_fault header ≡ None }
         requires room { rounded_size_of row.now ≤ room_of self.old.slots }
         requires memory { HasSlot self.old }

@@ -6,7 +6,7 @@ use heap_pages::{MOST_PAGES, Pages, Placement, free_byte};
 use page_slots::Page;
 use std::alloc::{AllocError, Global};
 use std::test::Fail;
-use tuple_header::{Header, Row, Tuple, row_size};
+use tuple_header::{Header, Row, Tuple};
 use xid_circle::{Tid, Xid};
 
 /// The body of the largest version, which takes 1096 bytes, and its pointer 4.
@@ -50,19 +50,11 @@ fn version_of(length: usize) -> Tuple {
     }
 }
 
-/// Adds a version of the largest size, if there is room for it.
-fn put(page: &mut Page) {
-    let version = version_of(LARGEST);
-    if page.make_room(1).is_ok() && row_size(&version.row) <= page.room() {
-        let _number = page.add(version.header, &version.row);
-    }
-}
-
 fn page_of(alloc: Global, versions: u8) -> Result<Page, AllocError> {
     let mut page = Page::new(alloc);
     page.make_room(usize::from(versions))?;
     for _ in 0..versions {
-        put(&mut page);
+        let _ = page.add(version_of(LARGEST));
     }
     Ok(page)
 }
@@ -96,7 +88,7 @@ fn empty(pages: &mut Pages, number: u32) {
 
 fn fill(pages: &mut Pages, number: u32) {
     if number < pages.len() {
-        pages.edit(number, |page| put(page));
+        let _ = pages.edit(number, |page| page.add(version_of(LARGEST)));
     }
 }
 

@@ -2,7 +2,7 @@
 
 use crate::steps::{Step, run};
 use arrayvec::ArrayVec;
-use page_slots::{Page, Slot};
+use page_slots::{AddFault, Page, Slot};
 use std::alloc::{AllocError, Global};
 use std::test::Fail;
 use tuple_header::{Header, Row, Tuple, fault_of, row_size};
@@ -13,8 +13,10 @@ use xid_circle::{Tid, Xid};
 enum PageStep {
     /// So many more slots are to take no memory.
     MakeRoom(usize),
-    /// A version is added, of this key and with a body of so many bytes, if there is room for it.
-    Add(u8, usize, Option<u16>),
+    /// A version is added, of this key and with a body of so many bytes.
+    Add(u8, usize, Result<u16, AddFault>),
+    /// The same, but of a row that stands elsewhere.
+    AddRow(u8, usize, Result<u16, AddFault>),
     SetDead(u16),
     SetUnused(u16),
     SetRedirect(u16, u16),
@@ -62,13 +64,17 @@ fn version(key: u8, length: usize) -> Tuple {
 
 // Each of these calls what it is named after where that may be called, and promises nothing.
 
-fn add(page: &mut Page, key: u8, length: usize) -> Option<u16> {
+fn add(page: &mut Page, key: u8, length: usize) -> Result<u16, AddFault> {
+    page.add(version(key, length))
+}
+
+fn add_row(page: &mut Page, key: u8, length: usize) -> Result<u16, AddFault> {
     let version = version(key, length);
-    if page.make_room(1).is_ok() && row_size(&version.row) <= page.room() {
-        Some(page.add(version.header, &version.row))
-    } else {
-        None
+    if row_size(&version.row) > page.room() {
+        return Err(AddFault::Full);
     }
+    page.make_room(1).map_err(|_| AddFault::NoMemory)?;
+    Ok(page.add_row(version.header, &version.row))
 }
 
 fn set_dead(page: &mut Page, number: u16) {
@@ -194,6 +200,7 @@ impl Step for PageStep {
         match *self {
             PageStep::MakeRoom(count) => page.make_room(count)?,
             PageStep::Add(key, length, told) => return Ok(add(page, key, length) == told),
+            PageStep::AddRow(key, length, told) => return Ok(add_row(page, key, length) == told),
             PageStep::SetDead(number) => set_dead(page, number),
             PageStep::SetUnused(number) => set_unused(page, number),
             PageStep::SetRedirect(number, target) => set_redirect(page, number, target),
@@ -211,22 +218,22 @@ static ROOM: [PageStep; 20] = [
     PageStep::FreeBytes(8168),
     // 8168 less a new pointer's 4
     PageStep::Room(8164),
-    PageStep::Add(1, 1024, Some(1)),
-    PageStep::Add(1, 1024, Some(2)),
-    PageStep::Add(1, 1024, Some(3)),
-    PageStep::Add(1, 1024, Some(4)),
-    PageStep::Add(1, 1024, Some(5)),
-    PageStep::Add(1, 1024, Some(6)),
-    PageStep::Add(1, 1024, Some(7)),
+    PageStep::Add(1, 1024, Ok(1)),
+    PageStep::Add(1, 1024, Ok(2)),
+    PageStep::Add(1, 1024, Ok(3)),
+    PageStep::Add(1, 1024, Ok(4)),
+    PageStep::Add(1, 1024, Ok(5)),
+    PageStep::Add(1, 1024, Ok(6)),
+    PageStep::Add(1, 1024, Ok(7)),
     // 66 + 1024, rounded up to a multiple of 8
     PageStep::Taken(7, 1096),
     // 8168 - 7 * (1096 + 4), and 4 less
     PageStep::FreeBytes(468),
     PageStep::Room(464),
-    PageStep::Add(1, 1024, None),
+    PageStep::Add(1, 1024, Err(AddFault::Full)),
     // 66 + 398 is 464
-    PageStep::Add(1, 399, None),
-    PageStep::Add(1, 398, Some(8)),
+    PageStep::Add(1, 399, Err(AddFault::Full)),
+    PageStep::Add(1, 398, Ok(8)),
     PageStep::Taken(8, 464),
     PageStep::FreeBytes(0),
     PageStep::Room(0),
@@ -243,10 +250,10 @@ static NUMBERS_AND_CHANGES: [PageStep; 40] = [
     PageStep::MakeRoom(5),
     PageStep::State(0, false),
     PageStep::Change(0),
-    PageStep::Add(1, 0, Some(1)),
-    PageStep::Add(2, 2, Some(2)),
-    PageStep::Add(3, 0, Some(3)),
-    PageStep::Add(4, 0, Some(4)),
+    PageStep::Add(1, 0, Ok(1)),
+    PageStep::Add(2, 2, Ok(2)),
+    PageStep::Add(3, 0, Ok(3)),
+    PageStep::AddRow(4, 0, Ok(4)),
     PageStep::Change(4),
     PageStep::SetDead(1),
     PageStep::Change(5),
@@ -265,10 +272,10 @@ static NUMBERS_AND_CHANGES: [PageStep; 40] = [
     PageStep::Dead(1),
     PageStep::Taken(1, 0),
     PageStep::Row(4, 4, 0),
-    PageStep::Add(5, 0, Some(2)),
+    PageStep::Add(5, 0, Ok(2)),
     PageStep::Change(8),
-    PageStep::Add(6, 0, Some(3)),
-    PageStep::Add(7, 0, Some(5)),
+    PageStep::Add(6, 0, Ok(3)),
+    PageStep::Add(7, 0, Ok(5)),
     PageStep::Change(10),
     // slot 1 is dead, and all others hold versions of 3
     PageStep::NextUnlike(0, Xid(3), 1),
@@ -291,7 +298,7 @@ fn numbers_of_slots_and_changes(rt: HostRuntime) -> Result<(), Fail> {
 
 /// A hint, then both marks of the inserter, then a deleter, then a hint.
 static CHANGES_OF_A_HEADER: [PageStep; 11] = [
-    PageStep::Add(8, 2, Some(1)),
+    PageStep::Add(8, 2, Ok(1)),
     PageStep::SetHeader(1, 0x0900, Xid(0)),
     PageStep::Change(1),
     PageStep::SetHeader(1, 0x0b00, Xid(0)),
@@ -311,10 +318,10 @@ fn changes_of_a_header(rt: HostRuntime) -> Result<(), Fail> {
 
 /// Slots with a row, unused, that lead elsewhere, dead, and that are not there.
 static KINDS_OF_SLOTS: [PageStep; 18] = [
-    PageStep::Add(8, 1024, Some(1)),
-    PageStep::Add(9, 0, Some(2)),
-    PageStep::Add(10, 0, Some(3)),
-    PageStep::Add(11, 0, Some(4)),
+    PageStep::Add(8, 1024, Ok(1)),
+    PageStep::Add(9, 0, Ok(2)),
+    PageStep::Add(10, 0, Ok(3)),
+    PageStep::Add(11, 0, Ok(4)),
     PageStep::SetUnused(2),
     PageStep::SetRedirect(3, 1),
     PageStep::SetDead(4),
@@ -338,18 +345,18 @@ fn looks_into_a_page(rt: HostRuntime) -> Result<(), Fail> {
 
 /// Seven versions, without the second and the fourth.
 static GAPS: [PageStep; 18] = [
-    PageStep::Add(1, 1024, Some(1)),
-    PageStep::Add(2, 1024, Some(2)),
-    PageStep::Add(3, 1024, Some(3)),
-    PageStep::Add(4, 1024, Some(4)),
-    PageStep::Add(5, 1024, Some(5)),
-    PageStep::Add(6, 1024, Some(6)),
-    PageStep::Add(7, 1024, Some(7)),
+    PageStep::Add(1, 1024, Ok(1)),
+    PageStep::Add(2, 1024, Ok(2)),
+    PageStep::Add(3, 1024, Ok(3)),
+    PageStep::Add(4, 1024, Ok(4)),
+    PageStep::Add(5, 1024, Ok(5)),
+    PageStep::Add(6, 1024, Ok(6)),
+    PageStep::Add(7, 1024, Ok(7)),
     PageStep::SetUnused(2),
     PageStep::SetUnused(4),
     // 1000 bytes are left behind the bodies, and then none
-    PageStep::Add(9, 1000, Some(2)),
-    PageStep::Add(10, 1024, Some(4)),
+    PageStep::Add(9, 1000, Ok(2)),
+    PageStep::AddRow(10, 1024, Ok(4)),
     PageStep::Row(1, 1, 1024),
     PageStep::Row(2, 9, 1000),
     PageStep::Row(3, 3, 1024),

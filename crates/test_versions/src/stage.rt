@@ -14,7 +14,7 @@ use page_slots::{Page, Slot};
 use prune::{Action, PrunePlan, apply, check_plan, first_death, plan, prune, room_after};
 use std::alloc::Global;
 use std::test::Fail;
-use tuple_header::{Header, Row, fault_of};
+use tuple_header::{Header, Row, Tuple, fault_of};
 use tuple_writes::{add_root, delete_version, hot_update, mark_cold_updated};
 use visibility::Fate;
 use xid_circle::{Tid, Xid};
@@ -130,8 +130,8 @@ fn finish_all(statuses: &mut StatusTable, ids: &[u32], status: Status) {
 }
 
 fn put(page: &mut Page, life: Life) -> bool {
-    let (header, row) = (header_of(0, life), row());
-    fault_of(&header).is_none() && has_place(page, &row) && page.add(header, &row) > 0
+    let header = header_of(0, life);
+    fault_of(&header).is_none() && page.add(Tuple { header, row: row() }).is_ok()
 }
 
 fn set_redirect(page: &mut Page, number: u16, target: u16) {

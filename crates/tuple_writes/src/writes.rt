@@ -35,7 +35,7 @@ pub fn add_root(page: &mut Page, number_of_page: u32, updated: bool, x: Xid, row
         slot,
     };
     let header = root(updated, x, place);
-    page.add(header, row)
+    page.add_row(header, row)
 }
 
 /// Notes that `x` took away the version in a slot, and where its successor is.
@@ -102,7 +102,7 @@ pub fn hot_update(page: &mut Page, number_of_page: u32, slot: u16, x: Xid, row: 
         slot: number,
     };
     let header = heap_only(x, place);
-    page.add(header, row);
+    page.add_row(header, row);
     set_xmax(page, slot, x, place, true);
     number
 }
