@@ -16,8 +16,8 @@ pub record HasWorked (from state : EngineView) (last : Reply) (count : ℕ) : Ty
 pub HasWorked-first : (from state : EngineView) (reply : Reply) → EngineFollows from step.VacuumStep reply state → EngineExact from step.VacuumStep reply state → HasWorked from state reply 1
 HasWorked-first from state reply follows exact = record { pieces = []; leads = (state, follows, exact, refl); count_is = refl }
 
-Leads-push : (from : EngineView) (pieces : List Piece) (mid : EngineView) (piece : Piece) (reply : Reply) (new : EngineView) → RepliesLead from (vacuum_steps pieces) (vacuum_replies pieces (reply.Worked piece)) mid
-    → EngineFollows mid step.VacuumStep reply new → EngineExact mid step.VacuumStep reply new → RepliesLead from (vacuum_steps (pieces ++ piece ∷ [])) (vacuum_replies (pieces ++ piece ∷ []) reply) new
+Leads-push : (from : EngineView) (pieces : List Piece) (mid : EngineView) (piece : Piece) (answer : Reply) (new : EngineView) → RepliesLead from (vacuum_steps pieces) (vacuum_replies pieces (reply.Worked piece)) mid
+    → EngineFollows mid step.VacuumStep answer new → EngineExact mid step.VacuumStep answer new → RepliesLead from (vacuum_steps (pieces ++ piece ∷ [])) (vacuum_replies (pieces ++ piece ∷ []) answer) new
 Leads-push from [] mid piece reply new led follows exact = (
   led.0,
   led.1,
@@ -32,8 +32,8 @@ Leads-push from [] mid piece reply new led follows exact = (
 Leads-push from (p ∷ pieces) mid piece reply new led follows exact =
     (led.0, led.1, led.2, Leads-push led.0 pieces mid piece reply new led.3 follows exact)
 
-pub HasWorked-more : (from mid state : EngineView) (piece : Piece) (last reply : Reply) (count : ℕ) → HasWorked from mid last count → last ≡ reply.Worked piece
-    → EngineFollows mid step.VacuumStep reply state → EngineExact mid step.VacuumStep reply state → HasWorked from state reply (count + 1)
+pub HasWorked-more : (from mid state : EngineView) (piece : Piece) (last answer : Reply) (count : ℕ) → HasWorked from mid last count → last ≡ reply.Worked piece
+    → EngineFollows mid step.VacuumStep answer state → EngineExact mid step.VacuumStep answer state → HasWorked from state answer (count + 1)
 HasWorked-more from mid state piece last reply count h is follows exact =
     let led = subst (λ (r : Reply). RepliesLead from (vacuum_steps h.pieces) (vacuum_replies h.pieces r) mid) is h.leads in
     record {

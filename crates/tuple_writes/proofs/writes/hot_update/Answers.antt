@@ -9,14 +9,14 @@ pub returns-clause-adds : goal.returns-clause-adds
 returns-clause-adds c =
     let was = c.args.page.now in
     let now : c.set_xmax.new.page.slots ≡ with_updated was.slots c.args.slot c.args.x.0 c.args.number_of_page c.args.row.now = search rules in
-    let kept : has_unused was.slots ≡ true → was.spare ≤ c.set_xmax.new.page.spare = λ some. omega (arith, c.add.ensures.spare_kept some, c.set_xmax.ensures.spare) in
+    let kept : has_unused was.slots ≡ true → was.spare ≤ c.set_xmax.new.page.spare = λ some. omega (arith, c.add_row.ensures.spare_kept some, c.set_xmax.ensures.spare) in
     record {
       slots = now;
       change = c.set_xmax.ensures.change
-          ∙ change-updated was.slots c.add.new.self.slots (Normal (record { header = c.heap_only-header.result; row = c.args.row.now })) c.args.slot c.args.x.0
-          c.args.number_of_page c.free_number-number.result was.change c.add.new.self.change
-          c.requires.version c.add.ensures.slots c.free_number-number.ensures.value c.add.ensures.change;
-      flag = c.set_xmax.ensures.flag ∙ c.add.ensures.flag;
-      spare = omega (arith, c.add.ensures.spare, c.set_xmax.ensures.spare);
+          ∙ change-updated was.slots c.add_row.new.self.slots (Normal (record { header = c.heap_only-header.result; row = c.args.row.now })) c.args.slot c.args.x.0
+          c.args.number_of_page c.free_number-number.result was.change c.add_row.new.self.change
+          c.requires.version c.add_row.ensures.slots c.free_number-number.ensures.value c.add_row.ensures.change;
+      flag = c.set_xmax.ensures.flag ∙ c.add_row.ensures.flag;
+      spare = omega (arith, c.add_row.ensures.spare, c.set_xmax.ensures.spare);
       spare_kept = kept;
     }
