@@ -69,11 +69,11 @@ impl Model for RootIndex {
     } };
 
     ghost invariant = { λ x. IsSoundIndex x.trees.items (record {
-        places = vec_capacity x.trees - vec_len x.trees;
-        trees = vec_len x.spares.nodes;
-        HasLeft = ⟦<Tree as Node>⟧.HasLeft x.spares.below;
-        HasPlaces = HavePlaces ⟦<Tree as Node>⟧.HasPlaces (vec_capacity x.spares.nodes)
-            x.spares.below;
+      places = vec_capacity x.trees - vec_len x.trees;
+      trees = vec_len x.spares.nodes;
+      HasLeft = ⟦<Tree as Node>⟧.HasLeft x.spares.below;
+      HasPlaces = HavePlaces ⟦<Tree as Node>⟧.HasPlaces (vec_capacity x.spares.nodes)
+          x.spares.below;
     }) x.count x.promised };
 }
 
