@@ -60,7 +60,7 @@ pub record Appends (old : BookView) (step : Step) (reply : Reply) (new : BookVie
 
 -- or it was not stepped, and memory was refused
 abbrev pub Calls : BookView → Step → Reply → BookView → Type 0
-Calls old step reply new = Appends old step reply new ⊎ ((reply ≡ reply.Refused refusal.NoMemory) × (new ≡ old))
+Calls old step answer new = Appends old step answer new ⊎ ((answer ≡ reply.Refused refusal.NoMemory) × (new ≡ old))
 
 -- a setting is the first out of its range, or all are in theirs and memory was refused
 abbrev pub FirstThreadsFault : Settings → RunFault → Type 0
