@@ -15,7 +15,7 @@ use heap_pages::Pages;
 use hot_chain::list_chain;
 use page_slots::Page;
 use root_index::PositionHint;
-use tuple_header::Header;
+use tuple_header::{Header, MOST_SLOT_NUMBERS};
 use visibility::Reader;
 use xid_circle::{Tid, Xid};
 
@@ -148,7 +148,7 @@ fn with_chain(before: WriteCheck, pages: &Pages, root: Tid, reader: &Reader<'_>)
         // it is its whole chain, which need not be listed
         Some(header) if !header.is_hot_updated() => with_version(before, root, &header, reader),
         _ => {
-            let mut listed: ArrayVec<u16, 292> = ArrayVec::new();
+            let mut listed: ArrayVec<u16, MOST_SLOT_NUMBERS> = ArrayVec::new();
             list_chain(page, root.slot, reader.statuses, &mut listed);
             with_versions(before, root.page, page, listed.as_slice(), reader)
         }

@@ -1,9 +1,9 @@
 //! Steps of four sessions on one table, each beside what has to come of it.
 
 use crate::calls::{
-    Met, Part, Parts, Place, Values, begun, check_write, count, delete, empty, entry_after, finish,
-    first, forget, free, freeze, from_key, insert, marks_at, note, page_at, prune, release, row_at,
-    sweeps, update, walks,
+    Met, Part, Parts, Place, Values, check_write, count, delete, empty, entry_after, finish, first,
+    forget, free, freeze, from_key, insert, marks_at, note, page_at, prune, release, row_at,
+    snapshot_at, sweeps, update, walks,
 };
 use commit_status::Status;
 use heap_write::{HeapState, PruneFault, WriteFault};
