@@ -3,6 +3,7 @@
 use crate::runs::none_wrong;
 use commit_status::GiveFault;
 use heap_write::{PruneFault, WriteFault};
+use page_slots::AddFault;
 use script::ShellFault;
 use session_core::{RunFault, SettingsFault};
 use std::alloc::{AllocError, Global};
@@ -20,6 +21,11 @@ static TUPLE_FAULTS: [(TupleFault, &str); 9] = [
     (TupleFault::Xmin, "the inserting id is not normal"),
     (TupleFault::Xmax, "the deleting id is not as its marks say"),
     (TupleFault::Ctid, "there is no such slot"),
+];
+
+static ADD_FAULTS: [(AddFault, &str); 2] = [
+    (AddFault::Full, "there is no room on the page"),
+    (AddFault::NoMemory, "there is no memory"),
 ];
 
 static GIVE_FAULTS: [(GiveFault, &str); 2] = [
@@ -90,6 +96,11 @@ fn first_wrong<T: Display>(
 #[test]
 fn why_bytes_are_no_version(rt: HostRuntime) -> Result<(), Fail> {
     none_wrong(first_wrong(rt.alloc(), &TUPLE_FAULTS)?)
+}
+
+#[test]
+fn why_nothing_is_added_to_a_page(rt: HostRuntime) -> Result<(), Fail> {
+    none_wrong(first_wrong(rt.alloc(), &ADD_FAULTS)?)
 }
 
 #[test]
