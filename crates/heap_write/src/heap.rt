@@ -33,6 +33,9 @@ pub enum WriteFault {
     NoMemory,
 }
 
+/// What a write answers: its id, or why it was not done.
+pub type Written = Result<Xid, WriteFault>;
+
 /// The pages of a table, what became of each id, and the indexes.
 #[derive(Debug, Drop)]
 pub struct HeapState {

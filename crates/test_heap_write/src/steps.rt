@@ -6,16 +6,13 @@ use crate::calls::{
     snapshot_at, sweeps, update, walks,
 };
 use commit_status::Status;
-use heap_write::{HeapState, PruneFault, WriteFault};
+use heap_write::{HeapState, PruneFault, Written};
 use page_slots::Slot;
 use snapshot::OwnIds;
 use space_maps::Mark;
 use std::alloc::Global;
 use std::test::Fail;
 use xid_circle::Xid;
-
-/// What a write answers.
-type Written = Result<Xid, WriteFault>;
 
 /// A session that writes nothing.
 pub const NOBODY: usize = 3;
