@@ -27,6 +27,6 @@ mod target;
 mod update;
 mod visiting;
 
-pub use heap::{HeapState, WriteFault, Written};
+pub use heap::{HeapState, WriteFault, WriteResult};
 pub use index_lookup::{IndexPosition, IndexRange};
 pub use pruning::PruneFault;
