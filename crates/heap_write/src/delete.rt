@@ -6,7 +6,7 @@ ghost use Rattle.commit_status.specs.Window.{IsWindow};
 ghost use Rattle.heap_write.specs.Writes.{NewestIsGiven, SameOwn, Deletes};
 ghost use Rattle.heap_write.specs.Refusals.{FailsDelete, VersionIsThere};
 
-use crate::heap::{HeapState, WriteFault, WriteResult};
+use crate::heap::{Answer, HeapState, WriteFault};
 use crate::hints::expect_write;
 use crate::ids::{needs_freeze, reserve_ids, take_ids};
 use snapshot::OwnIds;
@@ -19,7 +19,7 @@ impl HeapState {
     /// the levels lack more ids than can be given, else NoMemory only where the table of ids or the session's own list has
     /// to grow. A refused delete changes nothing and gives no id. (PostgreSQL, `heap_delete` in
     /// src/backend/access/heap/heapam.c.)
-    pub fn delete(&mut self, own: &mut OwnIds, place: Tid) -> WriteResult
+    pub fn delete(&mut self, own: &mut OwnIds, place: Tid) -> Answer
         requires newest { NewestIsGiven self.old.statuses own.old }
         requires there { VersionIsThere self.old place }
         ensures ok { IfOk result (λ x. Deletes self.old self.new own.old own.new place x.0) }

@@ -16,7 +16,7 @@ ghost use Rattle.heap_write.specs.Refusals.{RootNeedsMemory, VersionIsThere, Ans
 ghost use Rattle.heap_write.specs.Growth.{HasIds, IsReserved};
 ghost use Rattle.heap_write.specs.Steps.{IsChosen, IsPlanOn, IsPlanAround, IsLeftAlone, IsReplaceable, IsDoneUnder};
 
-use crate::heap::{HeapState, WriteFault, WriteResult};
+use crate::heap::{Answer, HeapState, WriteFault};
 use crate::ids::{needs_freeze, reserve_ids};
 use crate::target::{Target, reserve_place};
 use prune::{PrunePlan, plan, room_after};
@@ -50,7 +50,7 @@ impl HeapState {
         place: Tid,
         row: &Row,
         horizon: Xid,
-    ) -> WriteResult
+    ) -> Answer
         requires newest { NewestIsGiven self.old.statuses own.old }
         requires there { VersionIsThere self.old place }
         requires room { room_of (page_on self.old place.page).slots < rounded_size_of row.now }
@@ -71,13 +71,7 @@ impl HeapState {
     /// Updates a version whose page has no room for the row, by the plan of its pruning. It stands alone, so that the plan's
     /// array is cleared only where it is made.
     #[inline(never)]
-    fn update_by_plan(
-        &mut self,
-        own: &mut OwnIds,
-        place: Tid,
-        row: &Row,
-        horizon: Xid,
-    ) -> WriteResult
+    fn update_by_plan(&mut self, own: &mut OwnIds, place: Tid, row: &Row, horizon: Xid) -> Answer
         requires may { IsReplaceable self.old own.old place }
         requires room { room_of (page_on self.old place.page).slots < rounded_size_of row.now }
         ensures { AnswersUpdate self.old self.new own.old own.new place row.now horizon.0 result }
@@ -103,7 +97,7 @@ impl HeapState {
     }
 
     /// Updates a version whose page has no room for the row, and is left as it is: a new root goes elsewhere.
-    fn update_unpruned(&mut self, own: &mut OwnIds, place: Tid, row: &Row) -> WriteResult
+    fn update_unpruned(&mut self, own: &mut OwnIds, place: Tid, row: &Row) -> Answer
         requires may { IsReplaceable self.old own.old place }
         requires room { room_of (page_on self.old place.page).slots < rounded_size_of row.now }
         ensures { (horizon : ℕ) → IsLeftAlone self.old place horizon
@@ -124,7 +118,7 @@ impl HeapState {
         place: Tid,
         row: &Row,
         plan: &PrunePlan,
-    ) -> WriteResult
+    ) -> Answer
         requires may { IsReplaceable self.old own.old place }
         requires room { room_of (page_on self.old place.page).slots < rounded_size_of row.now }
         requires around { IsPlanAround self.old place plan.now.actions.items }
@@ -155,7 +149,7 @@ impl HeapState {
         place: Tid,
         row: &Row,
         plan: &PrunePlan,
-    ) -> WriteResult
+    ) -> Answer
         requires may { IsReplaceable self.old own.old place }
         requires room { room_of (page_on self.old place.page).slots < rounded_size_of row.now }
         requires around { IsPlanAround self.old place plan.now.actions.items }
@@ -209,7 +203,7 @@ impl HeapState {
         place: Tid,
         row: &Row,
         target: Option<Target>,
-    ) -> WriteResult
+    ) -> Answer
         requires may { IsReplaceable self.old own.old place }
         requires has_ids { HasIds self.old.statuses own.old }
         requires has_entries { HasEntries self.old.indexes }

@@ -34,7 +34,7 @@ pub enum WriteFault {
 }
 
 /// What a write answers: its id, or why it was not done.
-pub type WriteResult = Result<Xid, WriteFault>;
+pub type Answer = Result<Xid, WriteFault>;
 
 /// The pages of a table, what became of each id, and the indexes.
 #[derive(Debug, Drop)]

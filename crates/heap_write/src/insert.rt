@@ -12,7 +12,7 @@ ghost use Rattle.heap_write.specs.Refusals.{LacksForInsert, NeedsIds};
 ghost use Rattle.heap_write.specs.Growth.{IsReserved, target_number};
 ghost use Rattle.tuple_header.specs.declared.version.TheConstants.{MOST_SLOTS};
 
-use crate::heap::{HeapState, WriteFault, WriteResult};
+use crate::heap::{Answer, HeapState, WriteFault};
 use crate::hints::expect_root;
 use crate::ids::{needs_freeze, reserve_ids, take_ids};
 use crate::target::{Target, put_version, reserve_place};
@@ -26,7 +26,7 @@ impl HeapState {
     /// than can be given, else NoRoom exactly where all pages that there may be are in use and none has room, else
     /// NoMemory only where something has to grow. A refused insert changes nothing and gives no id. (PostgreSQL,
     /// `heap_insert` in src/backend/access/heap/heapam.c.)
-    pub fn insert(&mut self, own: &mut OwnIds, row: &Row) -> WriteResult
+    pub fn insert(&mut self, own: &mut OwnIds, row: &Row) -> Answer
         requires newest { NewestIsGiven self.old.statuses own.old }
         ensures ok { IfOk result (λ x. Inserts self.old self.new own.old own.new row.now x.0) }
         ensures fault { IfErr result (λ fault. LacksForInsert self.old own.old row.now fault) }
@@ -53,7 +53,7 @@ impl HeapState {
     }
 
     /// Inserts a version of the row where it goes, unless an index or a list of ids has to grow and cannot.
-    fn insert_at(&mut self, target: Target, own: &mut OwnIds, row: &Row) -> WriteResult
+    fn insert_at(&mut self, target: Target, own: &mut OwnIds, row: &Row) -> Answer
         requires free { ¬ NeedsFreeze self.old.statuses own.old }
         requires newest { NewestIsGiven self.old.statuses own.old }
         requires ready { IsReserved self.old.pages (rounded_size_of row.now) target }

@@ -27,6 +27,6 @@ mod target;
 mod update;
 mod visiting;
 
-pub use heap::{HeapState, WriteFault, WriteResult};
+pub use heap::{Answer, HeapState, WriteFault};
 pub use index_lookup::{IndexPosition, IndexRange};
 pub use pruning::PruneFault;

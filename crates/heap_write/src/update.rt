@@ -12,7 +12,7 @@ ghost use Rattle.page_slots.specs.View.{HasSlot};
 ghost use Rattle.heap_write.specs.Growth.{HasIds, IsReserved, target_number};
 ghost use Rattle.heap_write.specs.Steps.{IsReplaceable, IsDoneUnder};
 
-use crate::heap::{HeapState, WriteFault, WriteResult};
+use crate::heap::{Answer, HeapState, WriteFault};
 use crate::hints::expect_write;
 use crate::ids::{needs_freeze, reserve_ids, take_ids};
 use crate::target::Target;
@@ -41,7 +41,7 @@ impl HeapState {
     /// answers NeedsFreeze exactly where the levels lack more ids than can be given, else NoMemory only where something has
     /// to grow. A refused update changes nothing and gives no id. (README.HOT; PostgreSQL, `heap_update` in
     /// src/backend/access/heap/heapam.c.)
-    pub fn update_on_page(&mut self, own: &mut OwnIds, place: Tid, row: &Row) -> WriteResult
+    pub fn update_on_page(&mut self, own: &mut OwnIds, place: Tid, row: &Row) -> Answer
         requires newest { NewestIsGiven self.old.statuses own.old }
         requires there { VersionIsThere self.old place }
         requires room { rounded_size_of row.now ≤ room_of (page_on self.old place.page).slots }

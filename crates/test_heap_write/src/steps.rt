@@ -6,7 +6,7 @@ use crate::calls::{
     snapshot_at, sweeps, update, walks,
 };
 use commit_status::Status;
-use heap_write::{HeapState, PruneFault, WriteResult};
+use heap_write::{Answer, HeapState, PruneFault};
 use page_slots::Slot;
 use snapshot::OwnIds;
 use space_maps::Mark;
@@ -25,12 +25,12 @@ pub type Line = (usize, HeapStep);
 #[derive(Clone, Copy)]
 pub enum HeapStep {
     /// A row is inserted.
-    Insert(Values, WriteResult),
+    Insert(Values, Answer),
     /// Keys 1 to 7 are inserted, with bodies of 1024 bytes: each takes 1096 bytes, and its pointer 4.
     InsertSeven,
     /// The version at a place is updated by this row, at a horizon.
-    Update(Place, Values, u32, WriteResult),
-    Delete(Place, WriteResult),
+    Update(Place, Values, u32, Answer),
+    Delete(Place, Answer),
     Save,
     Release,
     Finish(Xid, Status),
