@@ -1,7 +1,8 @@
 -- A session's own ids: those of its open transaction that are not rolled back.
-use Rattle.std.specs.Prelude.{◌≡◌, ℕ, zero, suc, ◌≤◌, ◌==◌, if◌then◌else◌, List, [], ◌∷◌, ◌++◌, length, map, take, Option, Some, Contains, slice_get}
+use Rattle.std.specs.Prelude.{◌≡◌, ℕ, zero, suc, ◌≤◌, ◌==◌, if◌then◌else◌, List, [], ◌∷◌, ◌++◌, length, map, reverse, take, Option, Some, Contains, slice_get}
 use Rattle.xid_circle.specs.Circle.{IsNormal}
 use Rattle.xid_circle.specs.declared.Xid.{Xid}
+use Rattle.snapshot.specs.declared.own.TheConstants.{MOST_SAVEPOINTS}
 
 pub record Own : Type 0 where
   -- in order of giving, the topmost first
@@ -71,3 +72,12 @@ saved_with_each (x ∷ xs) saved = saved_with_each xs (saved_with (length xs) x 
 
 abbrev pub AreNormal : List Xid → Type 0
 AreNormal ids = (i : ℕ) (x : Xid) → slice_get ids i ≡ Some x → IsNormal x.0
+
+-- what own ids keep that have these marks of savepoints, the oldest first: how many ids there were at each
+pub record AreOwnIds (ids : List Xid) (marks : List ℕ) : Type 0 where
+  -- no id is one of the three special ones
+  pub normal : AreNormal ids
+  -- no mark is over a later one, nor over the number of ids
+  pub marked : AreMarks (length ids) (reverse marks)
+  -- there are no more savepoints than there may be
+  pub few : length marks ≤ MOST_SAVEPOINTS

@@ -34,10 +34,9 @@ pub struct OwnIds {
 }
 
 impl Model for OwnIds {
-    ghost use Rattle.std.specs.Prelude.{◌-◌, ◌≤◌, length, reverse};
+    ghost use Rattle.std.specs.Prelude.{◌-◌, length, reverse};
     ghost use Rattle.commit_status.specs.Changes.{numbers};
-    ghost use Rattle.snapshot.specs.Own.{Own, prefixes, AreMarks, AreNormal};
-    ghost use Rattle.snapshot.specs.declared.own.TheConstants.{MOST_SAVEPOINTS};
+    ghost use Rattle.snapshot.specs.Own.{Own, prefixes, AreOwnIds};
 
     ghost Value = { Own };
 
@@ -48,10 +47,7 @@ impl Model for OwnIds {
       spare_marks = o.marks.capacity - length o.marks.items;
     } };
 
-    ghost invariant = { λ o.
-        AreNormal o.ids.items
-        × AreMarks (length o.ids.items) (reverse o.marks.items)
-        × (length o.marks.items ≤ MOST_SAVEPOINTS) };
+    ghost invariant = { λ o. AreOwnIds o.ids.items o.marks.items };
 }
 
 impl OwnIds {

@@ -10,11 +10,11 @@ returns-clause-prefixes c =
     let ids = c.self.inside.ids.items in
     let marks = reverse c.self.inside.marks.items in
     let P : Own → Type 0 = λ o. ArePrefixes o.ids o.saved in
-    subst P c.self.view_is (prefixes-marks (numbers ids) marks (marks-numbers ids marks c.self.invariant.1))
+    subst P c.self.view_is (prefixes-marks (numbers ids) marks (marks-numbers ids marks c.self.invariant.marked))
 
 pub returns-clause-few : goal.returns-clause-few
 returns-clause-few c =
-    let few = c.self.invariant.2 in
+    let few = c.self.invariant.few in
     let long = length-reverse c.self.inside.marks.items in
     let same = length-map (reverse c.self.inside.marks.items) (λ mark. take mark (numbers c.self.inside.ids.items)) in
     let P : Own → Type 0 = λ o. length o.saved ≤ 32 in

@@ -15,4 +15,4 @@ returns c =
     let start : c.loop-mark.start ≡ start_by (length ids) (reverse marks) =
     c.loop-mark.invariant ∙ ap (λ l. start_by c.len-count.result (reverse l)) all ∙ ap (λ n. start_by n (reverse marks)) long in
     let P : Own → Type 0 = λ o. current_xid o.ids o.saved ≡ slice_get o.ids c.loop-mark.start in
-    subst P c.self.view_is (level-kept ids marks c.self.invariant.1 ∙ ap (slice_get (numbers ids)) (sym start))
+    subst P c.self.view_is (level-kept ids marks c.self.invariant.marked ∙ ap (slice_get (numbers ids)) (sym start))

@@ -10,8 +10,8 @@ pub invariant_of-self : goal.invariant_of-self
 invariant_of-self c =
     let fewer = length-append c.pop.new.self.items (option_to_list c.pop.result) in
     let old = ap length c.pop.ensures.items in
-    let few = c.self.invariant.2 in
-    (c.self.invariant.0, marks-popped c.self.inside.marks.items c.pop.new.self.items c.pop.result _ c.pop.ensures.items c.self.invariant.1, (omega arith))
+    let few = c.self.invariant.few in
+    record { normal = c.self.invariant.normal; marked = marks-popped c.self.inside.marks.items c.pop.new.self.items c.pop.result _ c.pop.ensures.items c.self.invariant.marked; few = omega arith }
 
 pub returns-clause-spare_marks : goal.returns-clause-spare_marks
 returns-clause-spare_marks c =

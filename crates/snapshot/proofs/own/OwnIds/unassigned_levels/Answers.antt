@@ -15,4 +15,4 @@ returns c =
     subst P c.self.view_is
     (c.loop-mark.invariant.0 ∙ ap (λ l. lacks_by c.len-count.result (reverse l)) all
     ∙ ap (λ n. lacks_by n (reverse marks)) long
-    ∙ sym (unassigned_levels-kept ids marks c.self.invariant.1))
+    ∙ sym (unassigned_levels-kept ids marks c.self.invariant.marked))
