@@ -22,6 +22,14 @@ pub record IsCarried (w : WorkView) : Type 0 where
   pub merges : Merges (list_at w.lists) w.workers w.book.journal (left_of w.lists w.done)
   pub counted : length w.done ≡ length w.lists
 
+-- what workers are given by a request of these settings and lists
+pub record IsWorkOf (settings : Settings) (lists : List (List WorkerLine)) (w : WorkView) : Type 0 where
+  -- the book holds what is done of their lists, and nothing else
+  pub carried : IsCarried w
+  -- the settings and the lists are those that were asked for
+  pub of_settings : w.settings ≡ settings
+  pub of_lists : w.lists ≡ lists
+
 -- no line is left
 abbrev pub AllDone : WorkView → Type 0
 AllDone w = (worker : ℕ) → left_of w.lists w.done worker ≡ []

@@ -47,8 +47,7 @@ pub(crate) struct Work<J: Request> {
 }
 
 impl<J: Request> Model for Work<J> {
-    ghost use Rattle.std.specs.Prelude.{◌≡◌};
-    ghost use Rattle.shared_heap.specs.Work.{WorkView, IsCarried};
+    ghost use Rattle.shared_heap.specs.Work.{WorkView, IsWorkOf};
     ghost use Rattle.shared_heap.specs.Merge.{lines_in};
 
     ghost Value = { WorkView };
@@ -61,16 +60,13 @@ impl<J: Request> Model for Work<J> {
       done = w.done.items;
     } };
 
-    ghost invariant = { λ w.
-        IsCarried (record {
-          settings = w.settings;
-          lists = lines_in w.lists.items;
-          book = w.book;
-          workers = w.workers.items;
-          done = w.done.items;
-        })
-        × (w.settings ≡ J.settings)
-        × (lines_in w.lists.items ≡ J.lists) };
+    ghost invariant = { λ w. IsWorkOf J.settings J.lists (record {
+      settings = w.settings;
+      lists = lines_in w.lists.items;
+      book = w.book;
+      workers = w.workers.items;
+      done = w.done.items;
+    }) };
 }
 
 impl<J: Request> Work<J> {

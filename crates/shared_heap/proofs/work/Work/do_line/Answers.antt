@@ -7,10 +7,10 @@ use Rattle.shared_heap.proofs.work.Work.do_line.Goals as goal
 
 pub invariant_of-self-then-is_done_by : goal.invariant_of-self-then-is_done_by
 invariant_of-self-then-is_done_by g c =
-    let old : WorkView = record { settings = c.self.inside.settings; lists = lines_in c.self.inside.lists.items; book = c.self.inside.book; workers = c.self.inside.workers.items; done = c.self.inside.done.items } in (
-      carries-done old _ c.args.worker c.in-Some.line c.in-Some.line.step c.in_ok-reply.reply
+    let old : WorkView = record { settings = c.self.inside.settings; lists = lines_in c.self.inside.lists.items; book = c.self.inside.book; workers = c.self.inside.workers.items; done = c.self.inside.done.items } in record {
+      carried = carries-done old _ c.args.worker c.in-Some.line c.in-Some.line.step c.in_ok-reply.reply
           (record {
-            carried = c.self.invariant.0;
+            carried = c.self.invariant.carried;
             appends = c.in_ok-reply.ensures;
             of_line = refl;
             within = (let P : WorkView → Type 0 = λ w. c.args.worker < length w.done in subst P (sym c.self.view_is) (rw c.in-Some.is at c.in_ok-line.ensures.counted));
@@ -21,17 +21,17 @@ invariant_of-self-then-is_done_by g c =
           })
           (sym c.is_done_by.ensures ∙ c.if-is_done_by.true)
           (let within : c.args.worker < length c.self.inside.done.items = (let P : WorkView → Type 0 = λ w. c.args.worker < length w.done in subst P (sym c.self.view_is) (rw c.in-Some.is at c.in_ok-line.ensures.counted)) in
-          ap (λ (n : ℕ). set c.self.inside.done.items c.args.worker (n + 1)) (c.index_mut.ensures.value ∙ get_or_default c.self.inside.done.items c.args.worker c.index_mut.result.now 0 within)),
-      c.self.invariant.1,
-      c.self.invariant.2,
-    )
+          ap (λ (n : ℕ). set c.self.inside.done.items c.args.worker (n + 1)) (c.index_mut.ensures.value ∙ get_or_default c.self.inside.done.items c.args.worker c.index_mut.result.now 0 within));
+      of_settings = c.self.invariant.of_settings;
+      of_lists = c.self.invariant.of_lists;
+    }
 
 pub invariant_of-self-else-is_done_by : goal.invariant_of-self-else-is_done_by
 invariant_of-self-else-is_done_by g c =
-    let old : WorkView = record { settings = c.self.inside.settings; lists = lines_in c.self.inside.lists.items; book = c.self.inside.book; workers = c.self.inside.workers.items; done = c.self.inside.done.items } in (
-      carries-waits old _ c.args.worker c.in-Some.line c.in-Some.line.step c.in_ok-reply.reply
+    let old : WorkView = record { settings = c.self.inside.settings; lists = lines_in c.self.inside.lists.items; book = c.self.inside.book; workers = c.self.inside.workers.items; done = c.self.inside.done.items } in record {
+      carried = carries-waits old _ c.args.worker c.in-Some.line c.in-Some.line.step c.in_ok-reply.reply
           (record {
-            carried = c.self.invariant.0;
+            carried = c.self.invariant.carried;
             appends = c.in_ok-reply.ensures;
             of_line = refl;
             within = (let P : WorkView → Type 0 = λ w. c.args.worker < length w.done in subst P (sym c.self.view_is) (rw c.in-Some.is at c.in_ok-line.ensures.counted));
@@ -41,7 +41,7 @@ invariant_of-self-else-is_done_by g c =
             workers = c.push_reserved.ensures.items ∙ ap (λ (ws : List ℕ). ws ++ c.args.worker ∷ []) c.reserve.ensures.items;
           })
           (sym c.is_done_by.ensures ∙ c.if-is_done_by.false)
-          refl,
-      c.self.invariant.1,
-      c.self.invariant.2,
-    )
+          refl;
+      of_settings = c.self.invariant.of_settings;
+      of_lists = c.self.invariant.of_lists;
+    }
