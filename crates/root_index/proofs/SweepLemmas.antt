@@ -215,18 +215,18 @@ pub sound_swept : {S : Type 0} (old new : List Tree) (aside aside' : SetAside) (
     → ((k : ℕ) → aside.HasLeft k → aside'.HasLeft k) → (aside.HasPlaces → aside'.HasPlaces) → (length new ≡ 0 → aside.HasPlaces → (1 ≤ aside'.places) × (1 ≤ aside'.trees) × aside'.HasLeft 1)
     → count' ≡ count - swept.removed → IsPromisedAfter (length new) promised promised' → IsSoundIndex new aside' count' promised'
 sound_swept old new aside aside' count count' promised promised' rank dead swept sound s neat in_room in_spare kept places emptied counted after = elim (cases_lt 0 (length new)) [
-      | inl some ↦ of_promised promised' (inl (after.0 some)) (omega (arith, after.0 some, list, in_room)) (omega (arith, after.0 some, trees, in_spare)) (omega (arith, after.0 some, bound, whole, before, counted))
-      | inr none ↦
-          let empty : length new ≡ 0 = omega (arith, none) in
-          let one = emptied empty (sound.places (omega (arith, before, some_swept (among old) (among new) rank dead swept s))) in
-          let is = after.1 empty in
-          let no_entry = ap length (none_without tree_entries new empty) in
-          elim (cases_lt 0 promised) [
-            | inl more ↦ of_promised promised' (inl (omega (arith, is, more))) (omega (arith, is, more, list, in_room)) (omega (arith, is, more, trees, in_spare))
-                (omega (arith, is, more, bound, whole, before, counted))
-            | inr less ↦ of_promised promised' (inr (omega (arith, is, less), one.2)) (omega (arith, is, less, one.0)) (omega (arith, is, less, one.1)) (omega (arith, is, less, whole, before, counted, no_entry))
-          ]
-    ]
+  | inl some ↦ of_promised promised' (inl (after.0 some)) (omega (arith, after.0 some, list, in_room)) (omega (arith, after.0 some, trees, in_spare)) (omega (arith, after.0 some, bound, whole, before, counted))
+  | inr none ↦
+      let empty : length new ≡ 0 = omega (arith, none) in
+      let one = emptied empty (sound.places (omega (arith, before, some_swept (among old) (among new) rank dead swept s))) in
+      let is = after.1 empty in
+      let no_entry = ap length (none_without tree_entries new empty) in
+      elim (cases_lt 0 promised) [
+        | inl more ↦ of_promised promised' (inl (omega (arith, is, more))) (omega (arith, is, more, list, in_room)) (omega (arith, is, more, trees, in_spare))
+            (omega (arith, is, more, bound, whole, before, counted))
+        | inr less ↦ of_promised promised' (inr (omega (arith, is, less), one.2)) (omega (arith, is, less, one.0)) (omega (arith, is, less, one.1)) (omega (arith, is, less, whole, before, counted, no_entry))
+      ]
+]
   where
     before : count ≡ length (among old)
     before = sound.counted
