@@ -1,4 +1,4 @@
-/* Does steps of one kind, for step_costs.sh, which counts what `measured` takes: get, full, prunes, prune or pruned (see README.md). */
+/* Does steps of one kind, for step_costs.sh, which counts what `measured` takes: one of KINDS, below. */
 #include <sandpipercot.h>
 
 #include <stdio.h>
@@ -8,7 +8,8 @@
 #define ON_A_PAGE 88 /* rows with a body of 16 bytes take 92 of a page's 8168 bytes */
 
 static struct sandpiper table;
-static struct sandpiper_row row;
+static struct sandpiper_row row, rows[100];
+static struct sandpiper_piece piece;
 static int failed;
 
 static void expect(uint32_t wanted, uint32_t status) {
@@ -23,21 +24,30 @@ static void commit(uint8_t session) {
     expect(SANDPIPER_COMMITTED, sandpiper_commit(&table, session));
 }
 
-/* Rows of these keys, from 0 on, committed. */
-static void load(uint64_t rows) {
-    const struct sandpiper_settings settings = SANDPIPER_WIDEST;
-    expect(SANDPIPER_DONE, sandpiper_open(&settings, &table));
+/* A table of these settings, and rows of these keys, from 0 on, committed. */
+static void load_in(const struct sandpiper_settings *settings, uint64_t rows) {
+    expect(SANDPIPER_DONE, sandpiper_open(settings, &table));
     begin(0);
     row.length = 16;
     for (row.key = 0; row.key < rows; row.key++) expect(SANDPIPER_DONE, sandpiper_insert(&table, 0, &row));
     commit(0);
 }
 
+static void load(uint64_t rows) {
+    const struct sandpiper_settings settings = SANDPIPER_WIDEST;
+    load_in(&settings, rows);
+}
+
 static __attribute__((noinline)) uint32_t measured(char kind, uint64_t key) {
+    size_t count;
     row.key = key;
     switch (kind) {
     case 'g': return sandpiper_get(&table, 0, key, &row);
+    case 'i': return sandpiper_insert(&table, 0, &row);
     case 'u': return sandpiper_update(&table, 0, &row);
+    case 'd': return sandpiper_delete(&table, 0, key);
+    case 'n': return sandpiper_next(&table, 0, rows, 100, &count);
+    case 'v': return sandpiper_vacuum_step(&table, &piece);
     default: return sandpiper_prune(&table, 0);
     }
 }
@@ -46,6 +56,12 @@ static void update(uint64_t key) {
     begin(0);
     row.key = key;
     expect(SANDPIPER_DONE, sandpiper_update(&table, 0, &row));
+    commit(0);
+}
+
+static void delete(uint64_t key) {
+    begin(0);
+    expect(SANDPIPER_DONE, sandpiper_delete(&table, 0, key));
     commit(0);
 }
 
@@ -64,6 +80,38 @@ static long gets(void) {
         expect(SANDPIPER_FOUND, measured('g', (seed >> 8) % 1000));
     }
     return 10000;
+}
+
+static long inserts(void) {
+    load(ROWS);
+    begin(0);
+    for (uint64_t key = ROWS; key < 2 * ROWS; key++) expect(SANDPIPER_DONE, measured('i', key));
+    return ROWS;
+}
+
+/* Updates of the first row of pages that have room for it. */
+static long hot_updates(void) {
+    load(ROWS);
+    for (uint64_t key = 1; key < ROWS; key += ON_A_PAGE) delete(key);
+    for (uint64_t key = 0; key < ROWS; key += ON_A_PAGE) expect(SANDPIPER_DONE, sandpiper_prune(&table, key / ON_A_PAGE));
+    for (uint64_t key = 0; key < ROWS; key += ON_A_PAGE) measured_update(key);
+    return ROWS / ON_A_PAGE;
+}
+
+static long deletes(void) {
+    load(ROWS);
+    begin(0);
+    for (uint64_t key = 0; key < ROWS; key++) expect(SANDPIPER_DONE, measured('d', key));
+    return ROWS;
+}
+
+/* Calls that hand out 100 rows each, in the order of keys. */
+static long scans(void) {
+    load(ROWS);
+    begin(0);
+    expect(SANDPIPER_DONE, sandpiper_open_by_key(&table, 0, 0, UINT64_MAX));
+    for (long count = 0; count < ROWS / 100; count++) expect(SANDPIPER_ROWS, measured('n', 0));
+    return ROWS / 100;
 }
 
 /* Updates on full pages, while an open session still sees what they replace. The first on each page is not counted. */
@@ -97,19 +145,58 @@ static long prunes(void) {
 static long pruned(void) {
     for (long count = 0; count < 1000; count++) {
         load(1);
-        begin(0);
-        expect(SANDPIPER_DONE, sandpiper_delete(&table, 0, 0));
-        commit(0);
+        delete(0);
         expect(SANDPIPER_DONE, measured('p', 0));
         expect(SANDPIPER_DONE, sandpiper_close(&table));
     }
     return 1000;
 }
 
+/* A vacuum's visits of all pages but the last. */
+static long visits(void) {
+    expect(SANDPIPER_DONE, sandpiper_vacuum_begin(&table, false));
+    for (long page = 0; page < ROWS / ON_A_PAGE - 1; page++) {
+        expect(SANDPIPER_WORKED, measured('v', 0));
+        failed |= piece.kind != 1;
+    }
+    return ROWS / ON_A_PAGE - 1;
+}
+
+/* All versions are seen by everybody, and too young to be frozen. */
+static long young_visits(void) {
+    const struct sandpiper_settings settings = {65536, 2144483648u, 1000000000, 3, 64, {false, false, false, false}};
+    load_in(&settings, ROWS);
+    return visits();
+}
+
+/* Each visit freezes all versions of its page. */
+static long freezing_visits(void) {
+    load(ROWS);
+    return visits();
+}
+
+/* An open session still sees a version of each page that was replaced. */
+static long held_visits(void) {
+    load(ROWS);
+    begin(1);
+    for (uint64_t key = 0; key < ROWS; key += ON_A_PAGE) update(key);
+    return visits();
+}
+
+/* Every tenth row was deleted. */
+static long cleaning_visits(void) {
+    const struct sandpiper_settings settings = {65536, 2144483648u, 0, 3, 4096, {false, false, false, false}};
+    load_in(&settings, ROWS);
+    for (uint64_t key = 0; key < ROWS; key += 10) delete(key);
+    return visits();
+}
+
 static const struct {
     const char *name;
     long (*run)(void);
-} KINDS[] = {{"get", gets}, {"full", full_updates}, {"prunes", pruning_updates}, {"prune", prunes}, {"pruned", pruned}};
+} KINDS[] = {{"get", gets},           {"insert", inserts},       {"hot", hot_updates},          {"delete", deletes},      {"scan", scans},
+             {"full", full_updates},  {"prunes", pruning_updates}, {"prune", prunes},          {"pruned", pruned},
+             {"young", young_visits}, {"freezing", freezing_visits}, {"held", held_visits},    {"cleaning", cleaning_visits}};
 
 /* step_costs KIND prints how many steps were measured. */
 int main(int argc, char **argv) {
