@@ -2,6 +2,7 @@
 -- "Routine Vacuuming"; src/backend/access/heap/vacuumlazy.c: versions are frozen, entries that lead to dead slots go, and then these slots
 -- become unused.)
 use Rattle.std.specs.Prelude.{◌≡◌, ◌≢◌, ◌↔◌, ℕ, List, length, Option, Some, slice_get, slice_set, Contains}
+use Rattle.xid_circle.specs.Numbers.{Id, PageNo, SlotNo}
 use Rattle.xid_circle.specs.declared.Tid.{Tid}
 use Rattle.page_slots.specs.declared.slot.Slot.{Slot}
 use Rattle.page_slots.specs.declared.slot.Slot.TheVariants.{Unused, Dead}
@@ -45,14 +46,14 @@ pub record Notes (h h' : HeapView) (p horizon : ℕ) : Type 0 where
   }
 
 -- it is frozen, and then its exact mark is noted; these are its dead slots
-pub record FreezesAndNotes (h h' : HeapView) (p cutoff horizon : ℕ) (dead : List ℕ) : Type 0 where
+pub record FreezesAndNotes (h h' : HeapView) (p : PageNo) (cutoff horizon : Id) (dead : List SlotNo) : Type 0 where
   pub frozen : HeapView
   pub freezes : FreezesAt h frozen p cutoff
   pub notes : Notes frozen h' p horizon
   pub lists : ListsDead notes.page.slots dead
 
 -- it is pruned at a horizon before
-pub record PrunesAndFreezes (h h' : HeapView) (p cutoff horizon : ℕ) (dead : List ℕ) : Type 0 where
+pub record PrunesAndFreezes (h h' : HeapView) (p : PageNo) (cutoff horizon : Id) (dead : List SlotNo) : Type 0 where
   pub pruned : HeapView
   pub prunes : Prunes h pruned p horizon
   pub freezes : FreezesAndNotes pruned h' p cutoff horizon dead
