@@ -1,6 +1,6 @@
 -- The first page that has a property, looked for from the beginning on.
 use Rattle.std.proofs.Common.{◌≡◌, ◌∙◌, ℕ, ◌+◌, ◌<◌, ◌≤◌, inl, inr, List, length, get_or, Some, slice_get, sym, ap, subst, arith}
-use Rattle.std.proofs.lemmas.Bool.{cases_lt, true≢false}
+use Rattle.std.proofs.lemmas.Bool.{cases_lt}
 use Rattle.std.proofs.lemmas.Option.{slice_get-get_or, slice_get_within}
 use Rattle.page_slots.specs.View.{PageView}
 use Rattle.heap_pages.specs.Choice.{NoPage, IsFirstPage}

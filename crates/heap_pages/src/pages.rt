@@ -111,8 +111,12 @@ impl Pages {
             → FnOnceTakesAtMut F.FnOnce change (record page { flag = false }) }
         ensures writes { WritesOn F.FnOnce change self.old self.new number result }
     {
-        self.note(number, Mark::Nothing);
-        self.edit(number, change)
+        let target = &mut self.pages[number as usize];
+        target.set_flag(false);
+        let result = change(target);
+        self.free.note(number, free_byte(target));
+        self.marks.note(number, Mark::Nothing);
+        result
     }
 
     /// Makes room in memory for `count` more pages, so that the next `count` pages are added without asking for any. Where

@@ -1,5 +1,4 @@
-use Rattle.std.proofs.Common.{◌≡◌, ◌∙◌, ◌<◌, Some, length, set, get_or, slice_get, sym, ap, refl, subst, arith}
-use Rattle.std.specs.Fn.{FnOnceReturnsAtMut}
+use Rattle.std.proofs.Common.{◌≡◌, ◌∙◌, ◌<◌, Some, length, slice_get, sym, ap, refl, arith}
 use Rattle.std.proofs.lemmas.List.{length-set}
 use Rattle.heap_pages.specs.View.{PagesView, with_page}
 use Rattle.heap_pages.proofs.FirstLemmas.{read_at}
