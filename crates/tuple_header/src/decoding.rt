@@ -1,16 +1,18 @@
 //! A version from its bytes.
 
 ghost use Rattle.std.specs.Prelude.{◌≡◌, ◌≤◌, ◌+◌, length, Some, None, IfOk};
-ghost use Rattle.tuple_header.specs.Layout.{decoded_header, column_at, columns_at, decoded_row, encoding};
-ghost use Rattle.tuple_header.specs.Faults.{header_fault, layout_fault, decoding};
+ghost use Rattle.tuple_header.specs.Layout.{number_at, decoded_version, decoded_header, column_at, columns_at, decoded_row, encoding};
+ghost use Rattle.tuple_header.specs.Faults.{header_fault, layout_fault, first_fault, decoding};
 
-use crate::{Header, MOST_BODY, MOST_SLOTS, Row, Tuple, TupleFault};
+use crate::{Header, MOST_BODY, MOST_SLOTS, Row, RowRef, Tuple, TupleFault};
 use arrayvec::ArrayVec;
 use byteorder::{ByteOrder, LittleEndian};
 use xid_circle::{Tid, Xid};
 
+/// The header that stands in the first 24 of these bytes, read where it is.
+#[inline(always)]
 #[tactic(auto, unfolding(crate::specs::Layout::number_at))]
-fn header_of(bytes: &[u8]) -> Header
+pub fn header_of(bytes: &[u8]) -> Header
     requires { 24 ≤ length bytes.now }
     ensures { result ≡ decoded_header bytes.now }
 {
@@ -26,6 +28,25 @@ fn header_of(bytes: &[u8]) -> Header
         mask2: LittleEndian::read_u16(&bytes[18..]),
         mask: LittleEndian::read_u16(&bytes[20..]),
     }
+}
+
+/// The key that stands in these bytes of a version, read where it is.
+#[inline(always)]
+#[tactic(auto, unfolding(crate::specs::Layout::number_at))]
+pub fn key_of(bytes: &[u8]) -> u64
+    requires { 32 ≤ length bytes.now }
+    ensures { result ≡ number_at 24 8 bytes.now }
+{
+    LittleEndian::read_u64(&bytes[24..])
+}
+
+/// The row that stands in these bytes of a version, where it is. Its body is copied nowhere.
+pub fn row_in(bytes: &[u8]) -> RowRef<'_>
+    requires from { 66 ≤ length bytes.now }
+    requires to { length bytes.now ≤ 1090 }
+    ensures { result ≡ decoded_row bytes.now }
+{
+    RowRef::new(key_of(bytes), columns_of(bytes), &bytes[66..])
 }
 
 fn body_of(bytes: &[u8]) -> ArrayVec<u8, MOST_BODY>
@@ -141,4 +162,15 @@ pub fn decode(bytes: &[u8]) -> Result<Tuple, TupleFault>
     }
     let row = row_of(bytes);
     Ok(Tuple { header, row })
+}
+
+/// The version that stands in these bytes, which have no fault.
+pub fn version_of(bytes: &[u8]) -> Tuple
+    requires { first_fault bytes.now ≡ None }
+    ensures { result ≡ decoded_version bytes.now }
+{
+    Tuple {
+        header: header_of(bytes),
+        row: row_of(bytes),
+    }
 }

@@ -14,8 +14,8 @@ mod row_place;
 mod row_ref;
 mod version;
 
-pub use decoding::{decode, fault_of};
-pub use encoding::{encode, reads_back};
+pub use decoding::{decode, fault_of, header_of, key_of, row_in, version_of};
+pub use encoding::{encode, put_header, put_version, reads_back};
 pub use fault::TupleFault;
 pub use row_place::RowPlace;
 pub use row_ref::RowRef;

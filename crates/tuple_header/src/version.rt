@@ -4,7 +4,7 @@ ghost use Rattle.std.specs.Prelude.{◌≡◌, ◌≤◌, ◌+◌, length, None}
 ghost use Rattle.std.specs.Prelude.{FitsSigned, slice_index_or, pos};
 ghost use Rattle.std.specs.Int.{w64};
 ghost use Rattle.tuple_header.specs.Version.{rounded_size_of};
-ghost use Rattle.tuple_header.specs.Faults.{header_fault};
+ghost use Rattle.tuple_header.specs.Faults.{header_fault, HeaderFits, IsVersion};
 ghost use Rattle.tuple_header.specs.Marks.{is_hot_updated, is_heap_only, is_frozen, inserted_header};
 
 use arrayvec::ArrayVec;
@@ -147,21 +147,11 @@ impl Model for Tuple {
 }
 
 impl Tuple {
-    ghost use Rattle.tuple_header.specs.Faults.{IsVersion};
-
     /// That the values of the program are such as are read back from their bytes.
     pub fn is_version(&self)
         ensures { IsVersion self.now }
     {
-        let _xmin = self.header.xmin.0;
-        let _xmax = self.header.xmax.0;
-        let _page = self.header.ctid.page;
-        let _slot = self.header.ctid.slot;
-        let _mask2 = self.header.mask2;
-        let _mask = self.header.mask;
-        let _key = self.row.key;
-        let _cols = columns(&self.row.cols);
-        let _body = self.row.body.as_slice();
+        fact_version(&self.header, &self.row);
     }
 
     /// An equal version. It takes no memory.
@@ -175,8 +165,31 @@ impl Tuple {
     }
 }
 
-// That an array of columns has four.
-fn columns(cols: &[i64; 4])
+/// That the numbers of a header fit their fields. It does nothing; its contract is the fact.
+pub(crate) fn fact_header_fits(header: &Header)
+    ensures { HeaderFits header.now }
+{
+    let _xmin = header.xmin.0;
+    let _xmax = header.xmax.0;
+    let _page = header.ctid.page;
+    let _slot = header.ctid.slot;
+    let _mask2 = header.mask2;
+    let _mask = header.mask;
+}
+
+/// That a header without a fault and a row are such as are read back from their bytes. It does nothing.
+pub(crate) fn fact_version(header: &Header, row: &Row)
+    requires { header_fault header.now ≡ None }
+    ensures { IsVersion (record { header = header.now; row = row.now }) }
+{
+    fact_header_fits(header);
+    let _key = row.key;
+    let _cols = fact_columns(&row.cols);
+    let _body = row.body.as_slice();
+}
+
+/// That an array of columns has four. It does nothing.
+pub(crate) fn fact_columns(cols: &[i64; 4])
     ensures four { length cols.now ≡ 4 }
     ensures fit_0 { FitsSigned w64 (slice_index_or cols.now 0 (pos 0)) }
     ensures fit_1 { FitsSigned w64 (slice_index_or cols.now 1 (pos 0)) }
