@@ -9,6 +9,7 @@ use std::test::Fail;
 use tuple_header::{Tuple, fault_of};
 use visibility::laws::{
     dead_is_unseen, finishing_unseen_ids_changes_no_verdict, giving_changes_no_verdict,
+    listing_nobody_counts_committed,
 };
 use visibility::{Fate, Reader, fate, fate_of, hints_change_no_verdict, set_hints};
 
@@ -122,5 +123,6 @@ fn laws() {
     finishing_unseen_ids_changes_no_verdict();
     giving_changes_no_verdict();
     dead_is_unseen();
+    listing_nobody_counts_committed();
     hints_change_no_verdict();
 }

@@ -4,3 +4,4 @@ pub mod Verdicts
 pub mod Parts
 pub mod HintLemmas
 pub mod Dead
+pub mod Statements

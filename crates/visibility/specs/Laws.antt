@@ -2,12 +2,12 @@
 use Rattle.std.specs.Prelude.{◌≤◌, ℕ, List, Contains, Option, ◌↔◌}
 use Rattle.tuple_header.specs.declared.version.Header.{Header}
 use Rattle.commit_status.specs.declared.status.Status.{Status}
-use Rattle.commit_status.specs.Window.{Window, IsWindow, IsActive, IsGiven, IsUpToNext, turns}
+use Rattle.commit_status.specs.Window.{Window, IsWindow, IsActive, IsGiven, IsUpToNext, next_id, turns}
 use Rattle.commit_status.specs.Changes.{Gives, Finishes}
-use Rattle.snapshot.specs.Snap.{Snap, Sees}
+use Rattle.snapshot.specs.Snap.{Snap, Sees, empty_at}
 use Rattle.snapshot.specs.Laws.{IsBounded}
-use Rattle.visibility.specs.Seeing.{Touches}
-use Rattle.visibility.specs.Visible.{ReadsIn, IsVisible, IsDead}
+use Rattle.visibility.specs.Seeing.{HasCommitted, Reads, Touches}
+use Rattle.visibility.specs.Visible.{ReadsIn, IsVisible, IsDead, state_of}
 
 -- an id of the first window is one of the second
 abbrev pub StaysKnown : Window → Window → ℕ → Type 0
@@ -35,3 +35,8 @@ GivingIsUnseen = (w v : Window) (parent : Option ℕ) (s : Snap) (own : List ℕ
 abbrev pub DeadIsUnseen : Type 0
 DeadIsUnseen = (w : Window) (s : Snap) (own : List ℕ) (horizon : ℕ) (h : Header) → IsWindow w → IsBounded w s → IsUpToNext w horizon
     → turns w.first horizon ≤ turns w.first s.xmin → ((x : ℕ) → Contains own x → IsActive w x) → IsDead w horizon h → ¬ IsVisible w s own h
+
+-- Who reads by the snapshot that lists nobody, at the next id, counts its own ids and all that has committed.
+abbrev pub ListingNobodyCountsCommitted : Type 0
+ListingNobodyCountsCommitted = (w : Window) (own : List ℕ) (x : ℕ) → IsWindow w
+    → ReadsIn w (empty_at (next_id w)) own x ↔ Reads (state_of w) (λ x. HasCommitted (state_of w) x) own x
